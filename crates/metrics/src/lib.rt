@@ -1,0 +1,18 @@
+//! Names, handles and the `Recorder` trait, with the definitions of what a recorder means.
+#![tactic(auto)]
+
+mod common;
+mod items;
+mod key;
+mod kind;
+mod label;
+mod refused;
+mod text;
+
+pub use common::Unit;
+pub use items::Items;
+pub use key::{CompositeKey, Key, KeyName};
+pub use kind::MetricKind;
+pub use label::Label;
+pub use refused::Refused;
+pub use text::Text;
