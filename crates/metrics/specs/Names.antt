@@ -1,6 +1,8 @@
 -- Names and keys. A name is a list of bytes.
-use Rattle.std.specs.Prelude.{ℕ, List}
+use Rattle.std.specs.Prelude.{ℕ, Bool, ◌&&◌, List, bytes_eq, nat_eq}
+use Rattle.std.specs.Cmp.Lexicographic.{pointwise}
 use Rattle.metrics.specs.declared.kind.MetricKind.{MetricKind}
+use Rattle.metrics.specs.declared.kind.MetricKind.TheVariants.{Counter, Gauge, Histogram}
 
 -- a label: its key and its value
 abbrev pub LabelParts : Type 0
@@ -15,3 +17,22 @@ pub record KeyParts : Type 0 where
 pub record SeriesKey : Type 0 where
   pub kind : MetricKind
   pub key : KeyParts
+
+-- the order of the kinds
+abbrev pub kind_number : MetricKind → ℕ
+kind_number Counter = 0
+kind_number Gauge = 1
+kind_number Histogram = 2
+
+-- equality is that of all parts
+abbrev pub kind_eq : MetricKind → MetricKind → Bool
+kind_eq a b = nat_eq (kind_number a) (kind_number b)
+
+abbrev pub label_eq : List ℕ × List ℕ → List ℕ × List ℕ → Bool
+label_eq a b = bytes_eq a.0 b.0 && bytes_eq a.1 b.1
+
+abbrev pub key_eq : KeyParts → KeyParts → Bool
+key_eq a b = bytes_eq a.name b.name && pointwise label_eq a.labels b.labels
+
+abbrev pub series_key_eq : SeriesKey → SeriesKey → Bool
+series_key_eq a b = kind_eq a.kind b.kind && key_eq a.key b.key

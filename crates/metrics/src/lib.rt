@@ -1,18 +1,26 @@
 //! Names, handles and the `Recorder` trait, with the definitions of what a recorder means.
 #![tactic(auto)]
 
+mod calls;
 mod common;
+mod debugging;
+mod handles;
 mod items;
 mod key;
 mod kind;
 mod label;
+mod recorder;
 mod refused;
 mod text;
 
+pub use calls::{Answer, Call};
 pub use common::Unit;
+pub use debugging::{DebugValue, Row, Snapshot};
+pub use handles::{Address, Update};
 pub use items::Items;
 pub use key::{CompositeKey, Key, KeyName};
 pub use kind::MetricKind;
 pub use label::Label;
+pub use recorder::{Boxed, NoopRecorder, Recorder};
 pub use refused::Refused;
 pub use text::Text;

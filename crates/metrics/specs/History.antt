@@ -1,0 +1,226 @@
+-- What a list of calls with their answers means: filters over the whole list.
+use Rattle.std.specs.Prelude.{◌≡◌, ℕ, ◌<◌, ◌≤◌, Bool, true, false, ◌&&◌, cond, List, [], ◌∷◌, ◌++◌, map, length, take, Option, None, Some, nat_eq, nat_lt, bytes_eq, slice_get, option_and_then}
+use Rattle.std.specs.List.{list_any, filter_map, position_or_len}
+use Rattle.metrics.specs.declared.kind.MetricKind.{MetricKind}
+use Rattle.metrics.specs.declared.common.Unit.{Unit as Measure}
+use Rattle.metrics.specs.declared.handles.Update.{Update}
+use Rattle.metrics.specs.declared.handles.Address.{Address}
+use Rattle.metrics.specs.declared.refused.Refused.{Refused}
+use Rattle.metrics.specs.declared.refused.Refused.TheVariants.{Memory, NoSuchAddress, NoSuchBook, BadHandle}
+use Rattle.metrics.specs.declared.calls.Call.{Call}
+use Rattle.metrics.specs.declared.calls.Call.TheVariants.{Describe, Register, Update as Change, Snapshot as Take}
+use Rattle.metrics.specs.declared.calls.Answer.{Answer}
+use Rattle.metrics.specs.declared.calls.Answer.TheVariants.{Described, Registered, Updated, Snapshot, Refused as Denied}
+use Rattle.metrics.specs.Names.{KeyParts, SeriesKey, kind_eq, series_key_eq}
+use Rattle.metrics.specs.Targets.{in_book}
+use Rattle.metrics.specs.Book.{Content, Series, Description, RowParts, kind_of, new_value, value_from, rows}
+use Rattle.metrics.specs.Meaning.{Targets, key_there, TakesMemory}
+
+-- the calls with their answers, in order
+abbrev pub Log : Type 0
+Log = List (Call × Answer)
+
+-- on how many targets a call has acted, by its answer
+abbrev pub acted : Answer → ℕ
+acted (Described n) = n
+acted (Registered found) = length found
+acted (Updated n) = n
+acted (Snapshot found) = 0
+acted (Denied (Memory n)) = n
+acted (Denied NoSuchAddress) = 0
+acted (Denied NoSuchBook) = 0
+acted (Denied BadHandle) = 0
+
+-- ---- the register calls, by their numbers
+
+-- a register call: its kind, its key and its answer
+pub record Registration : Type 0 where
+  pub kind : MetricKind
+  pub key : KeyParts
+  pub answer : Answer
+
+abbrev pub registration_of : Call × Answer → Option Registration
+registration_of (Register kind key, a) = Some (record { kind = kind; key = key; answer = a })
+registration_of (Describe kind name unit text, a) = None
+registration_of (Change n u, a) = None
+registration_of (Take b, a) = None
+
+-- the register call of a number, the refused ones counted too
+abbrev pub registration : ℕ → Log → Option Registration
+registration n log = slice_get (filter_map registration_of log) n
+
+-- ---- what reached a book
+
+-- what a call means in a book that it reached
+pub data Event : Type 0 where
+  describes : MetricKind → Option Measure → List ℕ → List ℕ → Event
+  registers : SeriesKey → Event
+  updates : SeriesKey → Update → Event
+  snapshots : Event
+
+-- the names of a call's targets in one book, among the targets that it acted on
+abbrev pub names_there : ℕ → Answer → List (ℕ × List ℕ) → List (List ℕ)
+names_there b a ts = in_book b (take (acted a) ts)
+
+-- an update reaches the series of its own kind, with the labels of the register call that it names
+abbrev pub updates_by : Targets → ℕ → Update → Answer → Option Registration → List Event
+updates_by targets b u a None = []
+updates_by targets b u a (Some r) = map (λ n. updates (key_there (kind_of u) r.key.labels n) u) (names_there b a (targets r.kind r.key.name))
+
+abbrev pub snapshots_by : Answer → List Event
+snapshots_by (Snapshot found) = snapshots ∷ []
+snapshots_by (Described n) = []
+snapshots_by (Registered found) = []
+snapshots_by (Updated n) = []
+snapshots_by (Denied e) = []
+
+-- what of one call reached a book
+abbrev pub reached_by : Targets → Log → ℕ → Call × Answer → List Event
+reached_by targets before b (Describe kind name unit text, a) = map (describes kind unit text) (names_there b a (targets kind name))
+reached_by targets before b (Register kind key, a) = map (λ n. registers (key_there kind key.labels n)) (names_there b a (targets kind key.name))
+reached_by targets before b (Change n u, a) = updates_by targets b u a (registration n before)
+reached_by targets before b (Take k, a) = cond (nat_eq k b) (snapshots_by a) []
+
+abbrev pub reached_from : Targets → Log → ℕ → Log → List Event
+reached_from targets before b [] = []
+reached_from targets before b (e ∷ log) = reached_by targets before b e ++ reached_from targets (before ++ e ∷ []) b log
+
+-- all that reached a book, in order
+abbrev pub reached : Targets → ℕ → Log → List Event
+reached targets b log = reached_from targets [] b log
+
+-- ---- the series of a book
+
+abbrev pub key_of : Event → Option SeriesKey
+key_of (registers k) = Some k
+key_of (describes kind unit text name) = None
+key_of (updates k u) = None
+key_of snapshots = None
+
+-- the keys without those that stand earlier
+abbrev pub firsts_from : List SeriesKey → List SeriesKey → List SeriesKey
+firsts_from seen [] = []
+firsts_from seen (k ∷ ks) = cond (list_any (series_key_eq k) seen) (firsts_from seen ks) (k ∷ firsts_from (seen ++ k ∷ []) ks)
+
+-- the composite keys that were registered there, later doubles dropped
+abbrev pub series : List Event → List SeriesKey
+series events = firsts_from [] (filter_map key_of events)
+
+-- ---- the description of a name
+
+abbrev pub last : {A : Type 0} → List A → Option A
+last [] = None
+last (x ∷ []) = Some x
+last (x ∷ y ∷ ys) = last (y ∷ ys)
+
+abbrev pub description_of : MetricKind → List ℕ → Event → Option (Option Measure × List ℕ)
+description_of kind name (describes k unit text n) = cond (kind_eq k kind && bytes_eq n name) (Some (unit, text)) None
+description_of kind name (registers k) = None
+description_of kind name (updates k u) = None
+description_of kind name snapshots = None
+
+-- the text of the last describe call of that kind and name, and the last unit among those of them that gave one
+abbrev pub description : List Event → MetricKind → List ℕ → Description
+description events kind name =
+    let ds = filter_map (description_of kind name) events in
+    record { unit = last (filter_map (λ d. d.0) ds); text = last (map (λ d. d.1) ds) }
+
+-- ---- the updates since the last snapshot
+
+abbrev pub is_snapshot : Event → Bool
+is_snapshot snapshots = true
+is_snapshot (describes kind unit text name) = false
+is_snapshot (registers k) = false
+is_snapshot (updates k u) = false
+
+-- the events after the last snapshot
+abbrev pub after_snapshot : List Event → List Event
+after_snapshot [] = []
+after_snapshot (e ∷ events) = cond (list_any is_snapshot events) (after_snapshot events) (cond (is_snapshot e) events (e ∷ events))
+
+abbrev pub update_of : SeriesKey → Event → Option Update
+update_of s (updates k u) = cond (series_key_eq k s) (Some u) None
+update_of s (describes kind unit text name) = None
+update_of s (registers k) = None
+update_of s snapshots = None
+
+-- the updates of a series that stand after the book's last successful snapshot
+abbrev pub since : List Event → SeriesKey → List Update
+since events s = filter_map (update_of s) (after_snapshot events)
+
+-- ---- contents and plain answers
+
+-- a series with the value of its updates since the last snapshot
+abbrev pub series_now : List Event → SeriesKey → Series
+series_now events k = record { key = k; value = value_from (new_value k.kind) (since events k) }
+
+-- the content of a book after all that reached it
+abbrev pub content : List Event → Content
+content events = record { series = map (series_now events) (series events); described = description events }
+
+-- the address of a name's series in a target: the book, and the place in the list of its series
+abbrev pub plain_address : Targets → Log → MetricKind → KeyParts → ℕ × List ℕ → Address
+plain_address targets before kind key t =
+    record { book = t.0; series = position_or_len (series_key_eq (key_there kind key.labels t.1)) (series (reached targets t.0 before)) }
+
+abbrev pub is_registered : Answer → Bool
+is_registered (Registered found) = true
+is_registered (Described n) = false
+is_registered (Updated n) = false
+is_registered (Snapshot found) = false
+is_registered (Denied e) = false
+
+-- an earlier successful register call of the update's kind
+abbrev pub is_handle : Update → Registration → Bool
+is_handle u r = is_registered r.answer && kind_eq (kind_of u) r.kind
+
+abbrev pub plain_update : Targets → Update → Option Registration → Answer
+plain_update targets u None = Denied BadHandle
+plain_update targets u (Some r) = cond (is_handle u r) (Updated (length (targets r.kind r.key.name))) (Denied BadHandle)
+
+-- the plain answer of a call after these calls, of a recorder with this many books
+abbrev pub plain_answer : Targets → ℕ → Log → Call → Answer
+plain_answer targets books before (Describe kind name unit text) = Described (length (targets kind name))
+plain_answer targets books before (Register kind key) = Registered (map (plain_address targets before kind key) (targets kind key.name))
+plain_answer targets books before (Change n u) = plain_update targets u (registration n before)
+plain_answer targets books before (Take b) = cond (nat_lt b books) (Snapshot (rows (content (reached targets b before)))) (Denied NoSuchBook)
+
+abbrev pub UpdateMayMeet : Targets → Update → ℕ → Option Registration → Type 0
+UpdateMayMeet targets u n None = ⊥
+UpdateMayMeet targets u n (Some r) = (is_handle u r ≡ true) × TakesMemory u × (n ≤ length (targets r.kind r.key.name))
+
+-- a call may meet a want of memory after a front of its targets, where its plain answer is no refusal; updates of counters and gauges never do
+abbrev pub MayMeetMemory : Targets → ℕ → Log → Call → ℕ → Type 0
+MayMeetMemory targets books before (Describe kind name unit text) n = n ≤ length (targets kind name)
+MayMeetMemory targets books before (Register kind key) n = n ≤ length (targets kind key.name)
+MayMeetMemory targets books before (Change m u) n = UpdateMayMeet targets u n (registration m before)
+MayMeetMemory targets books before (Take b) n = (b < books) × (n ≡ 0)
+
+-- the plain answer, or want of memory where it may be met
+abbrev pub IsPlain : Targets → ℕ → Log → Call → Answer → Type 0
+IsPlain targets books before c (Denied (Memory n)) = MayMeetMemory targets books before c n
+IsPlain targets books before c (Denied NoSuchAddress) = Denied NoSuchAddress ≡ plain_answer targets books before c
+IsPlain targets books before c (Denied NoSuchBook) = Denied NoSuchBook ≡ plain_answer targets books before c
+IsPlain targets books before c (Denied BadHandle) = Denied BadHandle ≡ plain_answer targets books before c
+IsPlain targets books before c (Described n) = Described n ≡ plain_answer targets books before c
+IsPlain targets books before c (Registered found) = Registered found ≡ plain_answer targets books before c
+IsPlain targets books before c (Updated n) = Updated n ≡ plain_answer targets books before c
+IsPlain targets books before c (Snapshot found) = Snapshot found ≡ plain_answer targets books before c
+
+abbrev pub ArePlainFrom : Targets → ℕ → Log → Log → Type 0
+ArePlainFrom targets books before [] = Unit {0}
+ArePlainFrom targets books before (e ∷ log) = IsPlain targets books before e.0 e.1 × ArePlainFrom targets books (before ++ e ∷ []) log
+
+-- each answer is the plain one after the calls before it
+abbrev pub ArePlain : Targets → ℕ → Log → Type 0
+ArePlain targets books log = ArePlainFrom targets books [] log
+
+-- ---- all answers, where no memory is wanted
+
+abbrev pub plain_log_from : Targets → ℕ → Log → List Call → Log
+plain_log_from targets books before [] = before
+plain_log_from targets books before (c ∷ calls) = plain_log_from targets books (before ++ (c, plain_answer targets books before c) ∷ []) calls
+
+-- the calls with their plain answers
+abbrev pub plain_log : Targets → ℕ → List Call → Log
+plain_log targets books calls = plain_log_from targets books [] calls

@@ -1,0 +1,146 @@
+//! The `Recorder` trait, and the recorders that keep nothing of their own.
+ghost use Rattle.std.specs.Prelude.{◌≡◌, ◌≤◌, length};
+ghost use Rattle.std.specs.Result.{result_map_both};
+ghost use Rattle.metrics.specs.Meaning.{Meaning, Keeps, Describes, Registers, Updates, Snapshots, holds_at, nothing};
+
+use crate::common::Unit;
+use crate::debugging::Snapshot;
+use crate::handles::{Address, Update};
+use crate::key::{Key, KeyName};
+use crate::kind::MetricKind;
+use crate::refused::Refused;
+use std::alloc::Global;
+
+/// What takes names and updates, and tells what it kept of them.
+///
+/// A recorder has books, numbered from 0, each a list of series. A name of some kind has targets: the books
+/// that a metric of that name goes to, each with its name there. No call changes the number of books or the
+/// targets of a name.
+pub trait Recorder: Drop {
+    /// The contents of the books, and the targets of each kind and name.
+    ghost meaning: { Self → Meaning };
+
+    /// The number of books.
+    fn books(&self) -> usize
+        ensures count { result ≡ length (meaning self.now).contents }
+        ensures most { result ≤ 65536 };
+
+    /// Describes a name in each of its targets, for all labels, and answers the number of targets.
+    ///
+    /// The text replaces the one before it, the unit only where one is given. Refused for memory alone.
+    fn describe(
+        &mut self,
+        alloc: Global,
+        kind: MetricKind,
+        name: &KeyName,
+        unit: Option<Unit>,
+        text: &str,
+    ) -> Result<usize, Refused>
+        ensures keeps { Keeps (meaning self.old) (meaning self.new) }
+        ensures describes { Describes (meaning self.old) (meaning self.new) kind name.now unit text.now result };
+
+    /// Registers a key in each of its name's targets, and answers the address in each of them, in order.
+    ///
+    /// A key that a book has already keeps its place and its value. Refused for memory alone; `acted` then
+    /// also counts targets that had the key already, or whose address could not be kept afterwards.
+    fn register(&mut self, alloc: Global, kind: MetricKind, key: &Key) -> Result<Vec<Address>, Refused>
+        ensures keeps { Keeps (meaning self.old) (meaning self.new) }
+        ensures registers { Registers (meaning self.old) (meaning self.new) kind key.now (result_map_both (λ v. v.items) (λ e. e) result) };
+
+    /// Whether a series of that kind stands at the address.
+    fn holds(&self, kind: MetricKind, at: Address) -> bool
+        ensures { result ≡ holds_at kind at (meaning self.now).contents };
+
+    /// Updates the series at the address.
+    ///
+    /// `NoSuchAddress` where no series of the update's kind stands there. Only `Record` can be refused for
+    /// memory.
+    fn update(&mut self, at: Address, by: Update) -> Result<(), Refused>
+        ensures keeps { Keeps (meaning self.old) (meaning self.new) }
+        ensures updates { Updates (meaning self.old) (meaning self.new) at by result };
+
+    /// The rows of a book. Its counters and gauges then stand at 0, and its histograms have no samples.
+    ///
+    /// `NoSuchBook` where the number is not below that of the books. Where memory is refused nothing changed.
+    fn snapshot(&mut self, alloc: Global, book: usize) -> Result<Snapshot, Refused>
+        ensures keeps { Keeps (meaning self.old) (meaning self.new) }
+        ensures snapshots { Snapshots (meaning self.old) (meaning self.new) book result };
+}
+
+/// Any recorder, so that recorders of several types can stand in one tree.
+#[derive(Drop)]
+pub struct Boxed(pub Box<dyn Recorder + Send>);
+
+impl Recorder for Boxed {
+    ghost meaning = { λ b. (Recorder-box b.0).meaning b.0.value };
+
+    fn books(&self) -> usize {
+        self.0.books()
+    }
+
+    fn describe(
+        &mut self,
+        alloc: Global,
+        kind: MetricKind,
+        name: &KeyName,
+        unit: Option<Unit>,
+        text: &str,
+    ) -> Result<usize, Refused> {
+        self.0.describe(alloc, kind, name, unit, text)
+    }
+
+    fn register(&mut self, alloc: Global, kind: MetricKind, key: &Key) -> Result<Vec<Address>, Refused> {
+        self.0.register(alloc, kind, key)
+    }
+
+    fn holds(&self, kind: MetricKind, at: Address) -> bool {
+        self.0.holds(kind, at)
+    }
+
+    fn update(&mut self, at: Address, by: Update) -> Result<(), Refused> {
+        self.0.update(at, by)
+    }
+
+    fn snapshot(&mut self, alloc: Global, book: usize) -> Result<Snapshot, Refused> {
+        self.0.snapshot(alloc, book)
+    }
+}
+
+/// Takes each call and keeps nothing: it has neither books nor targets.
+#[derive(Clone, Copy, Debug, Default)]
+pub struct NoopRecorder;
+
+impl Recorder for NoopRecorder {
+    ghost meaning = { λ _. nothing };
+
+    fn books(&self) -> usize {
+        0
+    }
+
+    fn describe(
+        &mut self,
+        _alloc: Global,
+        _kind: MetricKind,
+        _name: &KeyName,
+        _unit: Option<Unit>,
+        _text: &str,
+    ) -> Result<usize, Refused> {
+        Ok(0)
+    }
+
+    fn register(&mut self, alloc: Global, _kind: MetricKind, _key: &Key) -> Result<Vec<Address>, Refused> {
+        Ok(Vec::new(alloc))
+    }
+
+    fn holds(&self, _kind: MetricKind, _at: Address) -> bool {
+        false
+    }
+
+    fn update(&mut self, _at: Address, _by: Update) -> Result<(), Refused> {
+        Err(Refused::NoSuchAddress)
+    }
+
+    fn snapshot(&mut self, _alloc: Global, _book: usize) -> Result<Snapshot, Refused> {
+        Err(Refused::NoSuchBook)
+    }
+}
