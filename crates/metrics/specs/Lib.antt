@@ -5,3 +5,4 @@ pub mod Book
 pub mod Meaning
 pub mod Layers
 pub mod History
+pub mod Answering

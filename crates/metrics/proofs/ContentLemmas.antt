@@ -1,0 +1,315 @@
+-- The content after one more event is one step of the content before.
+use Rattle.std.proofs.Common.{◌≡◌, ℕ, zero, suc, ◌+◌, ◌<◌, ◌≤◌, Bool, true, false, cond, not, ◌&&◌, ◌||◌, List, [], ◌∷◌, ◌++◌, length, map, Option, None, Some, refl, ap, sym, ◌∙◌, subst, arith, append_assoc, append-nil, length-append, true≢false, bytes_eq}
+use Rattle.std.proofs.lemmas.List.Folds.{list_any-append}
+use Rattle.std.proofs.lemmas.List.Elements.{filter_map-append}
+use Rattle.std.specs.List.{list_any, filter_map, position_or_len, cons_option}
+use mathlib.Core.Path.{fun_ext}
+use Rattle.metrics.specs.declared.kind.MetricKind.{MetricKind}
+use Rattle.metrics.specs.declared.common.Unit.{Unit as Measure}
+use Rattle.metrics.specs.declared.handles.Update.{Update}
+use Rattle.metrics.specs.declared.debugging.DebugValue.{DebugValue}
+use Rattle.metrics.specs.Names.{KeyParts, SeriesKey, kind_eq, series_key_eq}
+use Rattle.metrics.specs.Targets.{at_book}
+use Rattle.metrics.specs.Book.{Content, Series, Description, new_value, new_series, updated, value_from, with_update, is_of, reset, later, described_again, describe_in, register_in, update_in, reset_in, place}
+use Rattle.metrics.specs.History.{Event, describes, registers, updates, snapshots, key_of, firsts_from, series, last, description_of, description, is_snapshot, after_snapshot, update_of, since, series_now, content}
+use Rattle.metrics.proofs.NamesLemmas.{key_exact, key_same}
+
+pub or_true : (b : Bool) → (b || true) ≡ true
+or_true true = refl
+or_true false = refl
+
+pub or_false : (b : Bool) → (b || false) ≡ b
+or_false true = refl
+or_false false = refl
+
+cond-push : {A : Type 0} (b : Bool) (xs ys zs : List A) → cond b (xs ++ zs) (ys ++ zs) ≡ cond b xs ys ++ zs
+cond-push true xs ys zs = refl
+cond-push false xs ys zs = refl
+
+-- ---- the updates since the last snapshot
+
+after-snapshot : (es : List Event) (e : Event) → is_snapshot e ≡ true → after_snapshot (es ++ e ∷ []) ≡ []
+after-snapshot [] e t = ap (λ b. cond b [] (e ∷ [])) t
+after-snapshot (x ∷ es) e t =
+    let b : list_any is_snapshot (es ++ e ∷ []) ≡ true = list_any-append is_snapshot es (e ∷ []) ∙ ap (λ c. list_any is_snapshot es || (c || false)) t ∙ or_true (list_any is_snapshot es) in
+    ap (λ c. cond c (after_snapshot (es ++ e ∷ [])) (cond (is_snapshot x) (es ++ e ∷ []) (x ∷ (es ++ e ∷ [])))) b ∙ after-snapshot es e t
+
+after-other : (es : List Event) (e : Event) → is_snapshot e ≡ false → after_snapshot (es ++ e ∷ []) ≡ after_snapshot es ++ e ∷ []
+after-other [] e t = ap (λ b. cond b [] (e ∷ [])) t
+after-other (x ∷ es) e t =
+    let la = list_any is_snapshot es in
+    let b : list_any is_snapshot (es ++ e ∷ []) ≡ la = list_any-append is_snapshot es (e ∷ []) ∙ ap (λ c. la || (c || false)) t ∙ or_false la in
+    ap (λ c. cond c (after_snapshot (es ++ e ∷ [])) (cond (is_snapshot x) (es ++ e ∷ []) (x ∷ (es ++ e ∷ [])))) b
+    ∙ ap (λ a. cond la a (cond (is_snapshot x) (es ++ e ∷ []) (x ∷ (es ++ e ∷ [])))) (after-other es e t)
+    ∙ ap (λ d. cond la (after_snapshot es ++ e ∷ []) d) (cond-push (is_snapshot x) es (x ∷ es) (e ∷ []))
+    ∙ cond-push la (after_snapshot es) (cond (is_snapshot x) es (x ∷ es)) (e ∷ [])
+
+since-snapshot : (es : List Event) (s : SeriesKey) → since (es ++ snapshots ∷ []) s ≡ []
+since-snapshot es s = ap (filter_map (update_of s)) (after-snapshot es snapshots refl)
+
+since-other : (es : List Event) (e : Event) (s : SeriesKey) → is_snapshot e ≡ false → since (es ++ e ∷ []) s ≡ since es s ++ filter_map (update_of s) (e ∷ [])
+since-other es e s t = ap (filter_map (update_of s)) (after-other es e t) ∙ filter_map-append (update_of s) (after_snapshot es) (e ∷ [])
+
+since-quiet : (es : List Event) (e : Event) (s : SeriesKey) → is_snapshot e ≡ false → update_of s e ≡ None → since (es ++ e ∷ []) s ≡ since es s
+since-quiet es e s t n = since-other es e s t ∙ ap (λ o. since es s ++ cons_option o []) n ∙ append-nil (since es s)
+
+since-update : (es : List Event) (k : SeriesKey) (u : Update) (s : SeriesKey) → since (es ++ updates k u ∷ []) s ≡ since es s ++ cond (series_key_eq k s) (u ∷ []) []
+since-update es k u s = since-other es (updates k u) s refl ∙ ap (λ us. since es s ++ us) (of_bool (series_key_eq k s))
+  where
+    of_bool : (b : Bool) → cons_option (cond b (Some u) None) [] ≡ cond b (u ∷ []) []
+    of_bool true = refl
+    of_bool false = refl
+
+-- ---- the series
+
+firsts-push : (seen ks : List SeriesKey) (k : SeriesKey) →
+    firsts_from seen (ks ++ k ∷ []) ≡ firsts_from seen ks ++ cond (list_any (series_key_eq k) (seen ++ firsts_from seen ks)) [] (k ∷ [])
+firsts-push seen [] k = ap (λ xs. cond (list_any (series_key_eq k) xs) [] (k ∷ [])) (sym (append-nil seen))
+firsts-push seen (q ∷ ks) k =
+    let A = firsts_from seen (ks ++ k ∷ []) in
+    let B = firsts_from (seen ++ q ∷ []) (ks ++ k ∷ []) in
+    let C = firsts_from seen ks in
+    let D = firsts_from (seen ++ q ∷ []) ks in
+    elim (list_any (series_key_eq q) seen) as (λ b. cond b A (q ∷ B) ≡ cond b C (q ∷ D) ++ cond (list_any (series_key_eq k) (seen ++ cond b C (q ∷ D))) [] (k ∷ [])) [
+        true ↦ firsts-push seen ks k
+      | false ↦ ap (λ xs. q ∷ xs) (firsts-push (seen ++ q ∷ []) ks k ∙ ap (λ xs. D ++ cond (list_any (series_key_eq k) xs) [] (k ∷ [])) (append_assoc seen (q ∷ []) D)) ]
+
+pub series-register : (es : List Event) (k : SeriesKey) → series (es ++ registers k ∷ []) ≡ series es ++ cond (list_any (series_key_eq k) (series es)) [] (k ∷ [])
+series-register es k = ap (firsts_from []) (filter_map-append key_of es (registers k ∷ [])) ∙ firsts-push [] (filter_map key_of es) k
+
+pub series-other : (es : List Event) (e : Event) → key_of e ≡ None → series (es ++ e ∷ []) ≡ series es
+series-other es e n =
+    ap (firsts_from []) (filter_map-append key_of es (e ∷ []) ∙ ap (λ o. filter_map key_of es ++ cons_option o []) n ∙ append-nil (filter_map key_of es))
+
+-- no key of the list is among those seen
+abbrev AllNew : List SeriesKey → List SeriesKey → Type 0
+AllNew seen [] = Unit {0}
+AllNew seen (k ∷ ks) = (list_any (series_key_eq k) seen ≡ false) × AllNew seen ks
+
+-- no key stands twice
+abbrev AreUnique : List SeriesKey → Type 0
+AreUnique [] = Unit {0}
+AreUnique (k ∷ ks) = AllNew (k ∷ []) ks × AreUnique ks
+
+or_none : (a b : Bool) → (a || b) ≡ false → (a ≡ false) × (b ≡ false)
+or_none true b e = absurd (true≢false e)
+or_none false b e = (refl, e)
+
+new-fewer : (seen more ks : List SeriesKey) → AllNew (seen ++ more) ks → AllNew seen ks × AllNew more ks
+new-fewer seen more [] h = (tt, tt)
+new-fewer seen more (k ∷ ks) h =
+    let both = or_none (list_any (series_key_eq k) seen) (list_any (series_key_eq k) more) (sym (list_any-append (series_key_eq k) seen more) ∙ h.0) in
+    let rest = new-fewer seen more ks h.1 in
+    ((both.0, rest.0), (both.1, rest.1))
+
+firsts_new : (seen ks : List SeriesKey) → AllNew seen (firsts_from seen ks) × AreUnique (firsts_from seen ks)
+firsts_new seen [] = (tt, tt)
+firsts_new seen (k ∷ ks) =
+    let D = firsts_from (seen ++ k ∷ []) ks in
+    elim (list_any (series_key_eq k) seen) as (λ b. list_any (series_key_eq k) seen ≡ b → AllNew seen (cond b (firsts_from seen ks) (k ∷ D)) × AreUnique (cond b (firsts_from seen ks) (k ∷ D))) [
+        true ↦ λ e. firsts_new seen ks
+      | false ↦ λ e.
+          let rest = firsts_new (seen ++ k ∷ []) ks in
+          let fewer = new-fewer seen (k ∷ []) D rest.0 in
+          ((e, fewer.0), (fewer.1, rest.1)) ] refl
+
+-- ---- the series with their values
+
+value-push : (v : DebugValue) (us : List Update) (u : Update) → value_from v (us ++ u ∷ []) ≡ updated u (value_from v us)
+value-push v [] u = refl
+value-push v (w ∷ us) u = value-push (updated w v) us u
+
+map-same : {A : Type 0} (f g : SeriesKey → A) (ks : List SeriesKey) → ((k : SeriesKey) → f k ≡ g k) → map f ks ≡ map g ks
+map-same f g [] h = refl
+map-same f g (k ∷ ks) h = ap (λ x. x ∷ map f ks) (h k) ∙ ap (λ xs. g k ∷ xs) (map-same f g ks h)
+
+pub map-push : {A B : Type 0} (f : A → B) (xs : List A) (x : A) → map f (xs ++ x ∷ []) ≡ map f xs ++ f x ∷ []
+map-push f [] x = refl
+map-push f (y ∷ xs) x = ap (λ zs. f y ∷ zs) (map-push f xs x)
+
+abbrev of_updates : SeriesKey → List Update → Series
+of_updates k us = record { key = k; value = value_from (new_value k.kind) us }
+
+now-same : (es fs : List Event) (k : SeriesKey) → since fs k ≡ since es k → series_now fs k ≡ series_now es k
+now-same es fs k h = ap (of_updates k) h
+
+-- the series at the key's place changes, and no other
+changed-past : (es : List Event) (k : SeriesKey) (u : Update) (ks : List SeriesKey) → AllNew (k ∷ []) ks →
+    map (series_now (es ++ updates k u ∷ [])) ks ≡ map (series_now es) ks
+changed-past es k u [] h = refl
+changed-past es k u (q ∷ ks) h =
+    let other : series_key_eq k q ≡ false = flip k q (sym (or_false (series_key_eq q k)) ∙ h.0) in
+    let same : since (es ++ updates k u ∷ []) q ≡ since es q = since-update es k u q ∙ ap (λ b. since es q ++ cond b (u ∷ []) []) other ∙ append-nil (since es q) in
+    ap (λ s. s ∷ map (series_now (es ++ updates k u ∷ [])) ks) (now-same es (es ++ updates k u ∷ []) q same)
+    ∙ ap (λ ss. series_now es q ∷ ss) (changed-past es k u ks h.1)
+  where
+    flip : (k q : SeriesKey) → series_key_eq q k ≡ false → series_key_eq k q ≡ false
+    flip k q n = elim (series_key_eq k q) as (λ b. series_key_eq k q ≡ b → b ≡ false) [
+        true ↦ λ e. sym (key_same k) ∙ ap (λ x. series_key_eq x k) (key_exact k q e) ∙ n
+      | false ↦ λ e. refl ] refl
+
+changed-at : (es : List Event) (k : SeriesKey) (u : Update) (ks : List SeriesKey) → AreUnique ks →
+    map (series_now (es ++ updates k u ∷ [])) ks ≡ at_book (position_or_len (is_of k) (map (series_now es) ks)) (with_update u) (map (series_now es) ks)
+changed-at es k u [] h = refl
+changed-at es k u (q ∷ ks) h =
+    let es' = es ++ updates k u ∷ [] in
+    let rest = map (series_now es) ks in
+    let p = position_or_len (is_of k) rest in
+    elim (series_key_eq k q) as (λ b. series_key_eq k q ≡ b →
+        series_now es' q ∷ map (series_now es') ks ≡ at_book (cond (not b) (1 + p) 0) (with_update u) (series_now es q ∷ rest)) [
+        true ↦ λ e.
+          let is : k ≡ q = key_exact k q e in
+          let more : since es' q ≡ since es q ++ u ∷ [] = since-update es k u q ∙ ap (λ b. since es q ++ cond b (u ∷ []) []) e in
+          let others : AllNew (k ∷ []) ks = subst (λ x. AllNew (x ∷ []) ks) (sym is) h.0 in
+          ap (λ s. s ∷ map (series_now es') ks) (ap (of_updates q) more ∙ ap (λ v. record { key = q; value = v }) (value-push (new_value q.kind) (since es q) u))
+          ∙ ap (λ ss. with_update u (series_now es q) ∷ ss) (changed-past es k u ks others)
+      | false ↦ λ e.
+          let same : since es' q ≡ since es q = since-update es k u q ∙ ap (λ b. since es q ++ cond b (u ∷ []) []) e ∙ append-nil (since es q) in
+          let n : 1 + p ≡ suc p = omega arith in
+          ap (λ s. s ∷ map (series_now es') ks) (now-same es es' q same)
+          ∙ ap (λ ss. series_now es q ∷ ss) (changed-at es k u ks h.1)
+          ∙ ap (λ i. at_book i (with_update u) (series_now es q ∷ rest)) (sym n) ] refl
+
+pub any-now : (es : List Event) (k : SeriesKey) (ks : List SeriesKey) → list_any (is_of k) (map (series_now es) ks) ≡ list_any (series_key_eq k) ks
+any-now es k [] = refl
+any-now es k (q ∷ ks) = ap (λ b. series_key_eq k q || b) (any-now es k ks)
+
+pub place-now : (es : List Event) (k : SeriesKey) (ks : List SeriesKey) → position_or_len (is_of k) (map (series_now es) ks) ≡ position_or_len (series_key_eq k) ks
+place-now es k [] = refl
+place-now es k (q ∷ ks) = ap (λ n. cond (not (series_key_eq k q)) (1 + n) 0) (place-now es k ks)
+
+now-reset : (es : List Event) (ks : List SeriesKey) → map (series_now (es ++ snapshots ∷ [])) ks ≡ map reset (map (series_now es) ks)
+now-reset es [] = refl
+now-reset es (k ∷ ks) =
+    ap (λ us. of_updates k us ∷ map (series_now (es ++ snapshots ∷ [])) ks) (since-snapshot es k)
+    ∙ ap (λ ss. new_series k ∷ ss) (now-reset es ks)
+
+-- ---- the descriptions
+
+last-push : {A : Type 0} (xs : List A) (x : A) → last (xs ++ x ∷ []) ≡ Some x
+last-push [] x = refl
+last-push (y ∷ []) x = refl
+last-push (y ∷ z ∷ zs) x = last-push (z ∷ zs) x
+
+last-later : {A : Type 0} (xs : List A) (o : Option A) → last (xs ++ cons_option o []) ≡ later o (last xs)
+last-later xs None = ap last (append-nil xs)
+last-later xs (Some x) = last-push xs x
+
+abbrev described_by : List (Option Measure × List ℕ) → Description
+described_by ds = record { unit = last (filter_map (λ d. d.0) ds); text = last (map (λ d. d.1) ds) }
+
+description-other : (es : List Event) (e : Event) → ((k : MetricKind) (n : List ℕ) → description_of k n e ≡ None) → description (es ++ e ∷ []) ≡ description es
+description-other es e h = fun_ext (λ k. fun_ext (λ n.
+    ap described_by
+      (filter_map-append (description_of k n) es (e ∷ []) ∙ ap (λ o. filter_map (description_of k n) es ++ cons_option o []) (h k n) ∙ append-nil (filter_map (description_of k n) es))))
+
+description-push : (es : List Event) (kind : MetricKind) (unit : Option Measure) (text name : List ℕ) (k : MetricKind) (n : List ℕ) →
+    description (es ++ describes kind unit text name ∷ []) k n ≡ cond (kind_eq kind k && bytes_eq name n) (described_again unit text (description es k n)) (description es k n)
+description-push es kind unit text name k n =
+    let ds = filter_map (description_of k n) es in
+    ap described_by (filter_map-append (description_of k n) es (describes kind unit text name ∷ []))
+    ∙ elim (kind_eq kind k && bytes_eq name n) as (λ b.
+        described_by (ds ++ cons_option (cond b (Some (unit, text)) None) []) ≡ cond b (described_again unit text (described_by ds)) (described_by ds)) [
+        true ↦
+          ap (λ us. record { unit = last us; text = last (map (λ d. d.1) (ds ++ (unit, text) ∷ [])) }) (filter_map-append (λ d. d.0) ds ((unit, text) ∷ []))
+          ∙ ap (λ o. record { unit = o; text = last (map (λ d. d.1) (ds ++ (unit, text) ∷ [])) }) (last-later (filter_map (λ d. d.0) ds) unit)
+          ∙ ap (λ ts. record { unit = later unit (last (filter_map (λ d. d.0) ds)); text = last ts }) (map-push (λ d. d.1) ds (unit, text))
+          ∙ ap (λ o. record { unit = later unit (last (filter_map (λ d. d.0) ds)); text = o }) (last-push (map (λ d. d.1) ds) text)
+      | false ↦ ap described_by (append-nil ds) ]
+
+-- ---- one step of an event
+
+-- what an event does to a content
+abbrev pub step : Event → Content → Content
+step (describes kind unit text name) = describe_in kind unit text name
+step (registers k) = register_in k
+step (updates k u) = λ c. update_in u (place k c) c
+step snapshots = reset_in
+
+-- a series that isn't there has no update
+abbrev pub IsSound : List Event → Type 0
+IsSound es = (k : SeriesKey) → list_any (series_key_eq k) (series es) ≡ false → since es k ≡ []
+
+-- an update is of a series that is there
+abbrev pub Reaches : List Event → Event → Type 0
+Reaches es (updates k u) = list_any (series_key_eq k) (series es) ≡ true
+Reaches es (describes kind unit text name) = Unit {0}
+Reaches es (registers k) = Unit {0}
+Reaches es snapshots = Unit {0}
+
+abbrev made : List Series → (MetricKind → List ℕ → Description) → Content
+made ss d = record { series = ss; described = d }
+
+series_added : (es : List Event) (k : SeriesKey) → IsSound es → (b : Bool) → list_any (series_key_eq k) (series es) ≡ b →
+    map (series_now es) (series es ++ cond b [] (k ∷ [])) ≡ cond b (map (series_now es) (series es)) (map (series_now es) (series es) ++ new_series k ∷ [])
+series_added es k sound true e = ap (map (series_now es)) (append-nil (series es))
+series_added es k sound false e =
+    map-push (series_now es) (series es) k
+    ∙ ap (λ us. map (series_now es) (series es) ++ of_updates k us ∷ []) (sound k e)
+
+-- THE STEP: the content after one more event
+pub content-push : (es : List Event) (e : Event) → IsSound es → content (es ++ e ∷ []) ≡ step e (content es)
+content-push es (describes kind unit text name) sound =
+    let e = describes kind unit text name in
+    ap (λ ss. made ss (description (es ++ e ∷ [])))
+      (ap (map (series_now (es ++ e ∷ []))) (series-other es e refl) ∙ map-same _ _ (series es) (λ k. now-same es (es ++ e ∷ []) k (since-quiet es e k refl refl)))
+    ∙ ap (made (map (series_now es) (series es))) (fun_ext (λ k. fun_ext (λ n. description-push es kind unit text name k n)))
+content-push es (registers k) sound =
+    let e = registers k in
+    let ss = map (series_now es) (series es) in
+    ap (λ ss. made ss (description (es ++ e ∷ [])))
+      (ap (map (series_now (es ++ e ∷ []))) (series-register es k)
+        ∙ map-same _ _ (series es ++ cond (list_any (series_key_eq k) (series es)) [] (k ∷ [])) (λ q. now-same es (es ++ e ∷ []) q (since-quiet es e q refl refl))
+        ∙ series_added es k sound (list_any (series_key_eq k) (series es)) refl
+        ∙ ap (λ b. cond b ss (ss ++ new_series k ∷ [])) (sym (any-now es k (series es))))
+    ∙ ap (made (cond (list_any (is_of k) ss) ss (ss ++ new_series k ∷ []))) (description-other es e (λ k n. refl))
+content-push es (updates k u) sound =
+    let e = updates k u in
+    let ss = map (series_now es) (series es) in
+    ap (λ ss. made ss (description (es ++ e ∷ [])))
+      (ap (map (series_now (es ++ e ∷ []))) (series-other es e refl) ∙ changed-at es k u (series es) (firsts_new [] (filter_map key_of es)).1)
+    ∙ ap (made (at_book (position_or_len (is_of k) ss) (with_update u) ss)) (description-other es e (λ k n. refl))
+content-push es snapshots sound =
+    let ss = map (series_now es) (series es) in
+    ap (λ ss. made ss (description (es ++ snapshots ∷ []))) (ap (map (series_now (es ++ snapshots ∷ []))) (series-other es snapshots refl) ∙ now-reset es (series es))
+    ∙ ap (made (map reset ss)) (description-other es snapshots (λ k n. refl))
+
+pub sound-push : (es : List Event) (e : Event) → IsSound es → Reaches es e → IsSound (es ++ e ∷ [])
+sound-push es (describes kind unit text name) sound r k n =
+    let e = describes kind unit text name in
+    since-quiet es e k refl refl ∙ sound k (subst (λ ks. list_any (series_key_eq k) ks ≡ false) (series-other es e refl) n)
+sound-push es (registers q) sound r k n =
+    let more : List SeriesKey = cond (list_any (series_key_eq q) (series es)) [] (q ∷ []) in
+    let both = or_none (list_any (series_key_eq k) (series es)) (list_any (series_key_eq k) more)
+      (sym (list_any-append (series_key_eq k) (series es) more) ∙ ap (list_any (series_key_eq k)) (sym (series-register es q)) ∙ n) in
+    since-quiet es (registers q) k refl refl ∙ sound k both.0
+sound-push es (updates q u) sound r k n =
+    let n' : list_any (series_key_eq k) (series es) ≡ false = subst (λ ks. list_any (series_key_eq k) ks ≡ false) (series-other es (updates q u) refl) n in
+    let other : series_key_eq q k ≡ false = elim (series_key_eq q k) as (λ b. series_key_eq q k ≡ b → b ≡ false) [
+        true ↦ λ e. sym r ∙ ap (λ x. list_any (series_key_eq x) (series es)) (key_exact q k e) ∙ n'
+      | false ↦ λ e. refl ] refl in
+    since-update es q u k ∙ ap (λ b. since es k ++ cond b (u ∷ []) []) other ∙ append-nil (since es k) ∙ sound k n'
+sound-push es snapshots sound r k n = since-snapshot es k
+
+-- ---- steps in a row
+
+abbrev pub run : {X : Type 0} → (X → Content → Content) → List X → Content → Content
+run f [] c = c
+run f (x ∷ xs) c = run f xs (f x c)
+
+abbrev pub ReachesAll : List Event → List Event → Type 0
+ReachesAll es [] = Unit {0}
+ReachesAll es (e ∷ rest) = Reaches es e × ReachesAll (es ++ e ∷ []) rest
+
+pub content-run : {X : Type 0} (event : X → Event) (es : List Event) (xs : List X) → IsSound es → ReachesAll es (map event xs) →
+    content (es ++ map event xs) ≡ run (λ x. step (event x)) xs (content es)
+content-run event es [] sound r = ap content (append-nil es)
+content-run event es (x ∷ xs) sound r =
+    ap content (sym (append_assoc es (event x ∷ []) (map event xs)))
+    ∙ content-run event (es ++ event x ∷ []) xs (sound-push es (event x) sound r.0) r.1
+    ∙ ap (run (λ x. step (event x)) xs) (content-push es (event x) sound)
+
+pub sound-run : {X : Type 0} (event : X → Event) (es : List Event) (xs : List X) → IsSound es → ReachesAll es (map event xs) → IsSound (es ++ map event xs)
+sound-run event es [] sound r = subst IsSound (sym (append-nil es)) sound
+sound-run event es (x ∷ xs) sound r =
+    subst IsSound (append_assoc es (event x ∷ []) (map event xs)) (sound-run event (es ++ event x ∷ []) xs (sound-push es (event x) sound r.0) r.1)

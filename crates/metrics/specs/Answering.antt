@@ -1,0 +1,106 @@
+-- What one call of a recorder does and answers, after a list of calls: the step beside the definitions over the whole list.
+use Rattle.std.specs.Prelude.{◌≡◌, ℕ, ◌≤◌, List, [], ◌∷◌, map, length, take, Bool, true, Option, None, Some, Result, Ok, Err, MatchBool, option_and_then}
+use Rattle.metrics.specs.declared.kind.MetricKind.{MetricKind}
+use Rattle.metrics.specs.declared.common.Unit.{Unit as Measure}
+use Rattle.metrics.specs.declared.handles.Update.{Update}
+use Rattle.metrics.specs.declared.handles.Address.{Address}
+use Rattle.metrics.specs.declared.refused.Refused.{Refused}
+use Rattle.metrics.specs.declared.refused.Refused.TheVariants.{Memory, NoSuchAddress, NoSuchBook, BadHandle}
+use Rattle.metrics.specs.declared.calls.Call.{Call}
+use Rattle.metrics.specs.declared.calls.Call.TheVariants.{Describe, Register, Update as Change, Snapshot as Take}
+use Rattle.metrics.specs.declared.calls.Answer.{Answer}
+use Rattle.metrics.specs.declared.calls.Answer.TheVariants.{Described, Registered, Updated, Snapshot, Refused as Denied}
+use Rattle.metrics.specs.Names.{KeyParts, kind_eq}
+use Rattle.metrics.specs.Targets.{act}
+use Rattle.metrics.specs.Book.{Content, kind_of, update_in}
+use Rattle.metrics.specs.Meaning.{Meaning, Acts, Describes, Registers, Snapshots, TakesMemory, holds_at}
+use Rattle.metrics.specs.History.{Log, Registration, registration}
+
+-- what a successful register call gives: its kind and the addresses
+abbrev pub Handle : Type 0
+Handle = MetricKind × List Address
+
+abbrev pub handle_given : MetricKind → Answer → Option Handle
+handle_given kind (Registered found) = Some (kind, found)
+handle_given kind (Described n) = None
+handle_given kind (Updated n) = None
+handle_given kind (Snapshot found) = None
+handle_given kind (Denied e) = None
+
+abbrev pub handle_of : Registration → Option Handle
+handle_of r = handle_given r.kind r.answer
+
+-- the handle of a number, where that register call was successful
+abbrev pub handle : ℕ → Log → Option Handle
+handle n log = option_and_then handle_of (registration n log)
+
+-- the handle that a call names
+abbrev pub handle_named : Call → Log → Option Handle
+handle_named (Change n u) log = handle n log
+handle_named (Describe kind name unit text) log = None
+handle_named (Register kind key) log = None
+handle_named (Take b) log = None
+
+-- each address is of a series of the kind
+abbrev pub AllHeld : MetricKind → List Address → List Content → Type 0
+AllHeld kind [] cs = Unit {0}
+AllHeld kind (a ∷ rest) cs = (holds_at kind a cs ≡ true) × AllHeld kind rest cs
+
+abbrev pub IsHeld : Option Handle → List Content → Type 0
+IsHeld None cs = Unit {0}
+IsHeld (Some h) cs = AllHeld h.0 h.1 cs
+
+-- the addresses as books, each with a place there
+abbrev pub places : List Address → List (ℕ × ℕ)
+places found = map (λ a. (a.book, a.series)) found
+
+abbrev pub DescribesCall : Meaning → Meaning → MetricKind → List ℕ → Option Measure → List ℕ → Answer → Type 0
+DescribesCall old new kind name unit text (Described n) = Describes old new kind name unit text (Ok n)
+DescribesCall old new kind name unit text (Denied e) = Describes old new kind name unit text (Err e)
+DescribesCall old new kind name unit text (Registered found) = ⊥
+DescribesCall old new kind name unit text (Updated n) = ⊥
+DescribesCall old new kind name unit text (Snapshot found) = ⊥
+
+abbrev pub RegistersCall : Meaning → Meaning → MetricKind → KeyParts → Answer → Type 0
+RegistersCall old new kind key (Registered found) = Registers old new kind key (Ok found)
+RegistersCall old new kind key (Denied e) = Registers old new kind key (Err e)
+RegistersCall old new kind key (Described n) = ⊥
+RegistersCall old new kind key (Updated n) = ⊥
+RegistersCall old new kind key (Snapshot found) = ⊥
+
+-- an update of each place in order; only samples meet a want of memory
+abbrev pub UpdatesAll : Meaning → Meaning → List (ℕ × ℕ) → Update → Result ℕ Refused → Type 0
+UpdatesAll old new ts u (Ok n) = Acts (update_in u) ts old new (Ok n) (λ n. n ≡ length ts)
+UpdatesAll old new ts u (Err (Memory n)) = TakesMemory u × (n ≤ length ts) × (new.contents ≡ act (update_in u) (take n ts) old.contents)
+UpdatesAll old new ts u (Err NoSuchAddress) = ⊥
+UpdatesAll old new ts u (Err NoSuchBook) = ⊥
+UpdatesAll old new ts u (Err BadHandle) = ⊥
+
+abbrev pub UpdatesHeld : Meaning → Meaning → List (ℕ × ℕ) → Update → Answer → Type 0
+UpdatesHeld old new ts u (Updated n) = UpdatesAll old new ts u (Ok n)
+UpdatesHeld old new ts u (Denied e) = UpdatesAll old new ts u (Err e)
+UpdatesHeld old new ts u (Described n) = ⊥
+UpdatesHeld old new ts u (Registered found) = ⊥
+UpdatesHeld old new ts u (Snapshot found) = ⊥
+
+-- a call that is answered as a bad handle changes nothing
+abbrev pub IsBadHandle : Meaning → Meaning → Answer → Type 0
+IsBadHandle old new a = (a ≡ Denied BadHandle) × (new.contents ≡ old.contents)
+
+abbrev pub UpdatesCall : Meaning → Meaning → Option Handle → Update → Answer → Type 0
+UpdatesCall old new None u a = IsBadHandle old new a
+UpdatesCall old new (Some h) u a = MatchBool (kind_eq (kind_of u) h.0) (UpdatesHeld old new (places h.1) u a) (IsBadHandle old new a)
+
+abbrev pub SnapshotsCall : Meaning → Meaning → ℕ → Answer → Type 0
+SnapshotsCall old new b (Snapshot found) = Snapshots old new b (Ok found)
+SnapshotsCall old new b (Denied e) = Snapshots old new b (Err e)
+SnapshotsCall old new b (Described n) = ⊥
+SnapshotsCall old new b (Registered found) = ⊥
+SnapshotsCall old new b (Updated n) = ⊥
+
+-- what one call does and answers, given the handle that it names
+abbrev pub Answers : Meaning → Meaning → Option Handle → Call → Answer → Type 0
+Answers old new h (Describe kind name unit text) a = DescribesCall old new kind name unit text a
+Answers old new h (Register kind key) a = RegistersCall old new kind key a
+Answers old new h (Change n u) a = UpdatesCall old new h u a
+Answers old new h (Take b) a = SnapshotsCall old new b a
