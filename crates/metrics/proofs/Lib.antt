@@ -1,2 +1,3 @@
 pub mod NamesLemmas
 pub mod ContentLemmas
+pub mod HistoryLemmas

@@ -196,16 +196,20 @@ MayMeetMemory targets books before (Register kind key) n = n ≤ length (targets
 MayMeetMemory targets books before (Change m u) n = UpdateMayMeet targets u n (registration m before)
 MayMeetMemory targets books before (Take b) n = (b < books) × (n ≡ 0)
 
+-- this answer, or want of memory where it may be met
+abbrev pub IsOrMeets : Answer → (ℕ → Type 0) → Answer → Type 0
+IsOrMeets plain MayMeet (Denied (Memory n)) = MayMeet n
+IsOrMeets plain MayMeet (Denied NoSuchAddress) = Denied NoSuchAddress ≡ plain
+IsOrMeets plain MayMeet (Denied NoSuchBook) = Denied NoSuchBook ≡ plain
+IsOrMeets plain MayMeet (Denied BadHandle) = Denied BadHandle ≡ plain
+IsOrMeets plain MayMeet (Described n) = Described n ≡ plain
+IsOrMeets plain MayMeet (Registered found) = Registered found ≡ plain
+IsOrMeets plain MayMeet (Updated n) = Updated n ≡ plain
+IsOrMeets plain MayMeet (Snapshot found) = Snapshot found ≡ plain
+
 -- the plain answer, or want of memory where it may be met
 abbrev pub IsPlain : Targets → ℕ → Log → Call → Answer → Type 0
-IsPlain targets books before c (Denied (Memory n)) = MayMeetMemory targets books before c n
-IsPlain targets books before c (Denied NoSuchAddress) = Denied NoSuchAddress ≡ plain_answer targets books before c
-IsPlain targets books before c (Denied NoSuchBook) = Denied NoSuchBook ≡ plain_answer targets books before c
-IsPlain targets books before c (Denied BadHandle) = Denied BadHandle ≡ plain_answer targets books before c
-IsPlain targets books before c (Described n) = Described n ≡ plain_answer targets books before c
-IsPlain targets books before c (Registered found) = Registered found ≡ plain_answer targets books before c
-IsPlain targets books before c (Updated n) = Updated n ≡ plain_answer targets books before c
-IsPlain targets books before c (Snapshot found) = Snapshot found ≡ plain_answer targets books before c
+IsPlain targets books before c a = IsOrMeets (plain_answer targets books before c) (MayMeetMemory targets books before c) a
 
 abbrev pub ArePlainFrom : Targets → ℕ → Log → Log → Type 0
 ArePlainFrom targets books before [] = Unit {0}

@@ -1,0 +1,340 @@
+-- What a step on contents keeps of the definitions over the whole list of calls.
+use Rattle.std.proofs.Common.{◌≡◌, ℕ, zero, suc, ◌+◌, ◌<◌, ◌≤◌, Bool, true, false, cond, not, ◌&&◌, ◌||◌, List, [], ◌∷◌, ◌++◌, length, map, take, Option, None, Some, refl, ap, sym, ◌∙◌, subst, arith, append_assoc, append-nil, nat_eq, nat_lt, slice_get, true≢false}
+use Rattle.std.proofs.lemmas.Bool.{eqb-true, eq-eqb, ltb-true, lt-ltb}
+use Rattle.std.proofs.lemmas.Bool.Decides.{nat_tests}
+use Rattle.std.proofs.lemmas.List.Folds.{list_any-append}
+use Rattle.std.proofs.lemmas.List.Elements.{filter_map-append}
+use Rattle.std.specs.List.{list_any, filter_map, position_or_len}
+use Rattle.std.specs.Option.{option_map}
+use Rattle.metrics.specs.declared.kind.MetricKind.{MetricKind}
+use Rattle.metrics.specs.declared.common.Unit.{Unit as Measure}
+use Rattle.metrics.specs.declared.handles.Update.{Update}
+use Rattle.metrics.specs.declared.handles.Address.{Address}
+use Rattle.metrics.specs.declared.calls.Call.{Call}
+use Rattle.metrics.specs.declared.calls.Answer.{Answer}
+use Rattle.metrics.specs.declared.calls.Answer.TheVariants.{Described, Registered, Updated, Snapshot, Refused as Denied}
+use Rattle.metrics.specs.Names.{KeyParts, SeriesKey, kind_eq, key_eq, series_key_eq}
+use Rattle.metrics.specs.Targets.{act, at_book, in_book, AllBelow}
+use Rattle.metrics.specs.TargetsLaws.{length-act, length-at_book}
+use Rattle.metrics.specs.Book.{Content, Series, new_series, with_update, is_of, reset, describe_in, register_in, update_in, reset_in, place, content_at, kind_at}
+use Rattle.metrics.specs.Meaning.{Targets, is_kind, holds_at, key_there, address_in, addresses}
+use Rattle.metrics.specs.History.{Log, Registration, registration_of, Event, describes, registers, updates, snapshots, reached, reached_from, reached_by, series, series_now, content, IsPlain, ArePlainFrom}
+use Rattle.metrics.specs.Answering.{AllHeld, places}
+use Rattle.metrics.proofs.NamesLemmas.{and_left, and_right, and_both, key_same}
+use Rattle.metrics.proofs.ContentLemmas.{or_true, step, IsSound, Reaches, ReachesAll, run, content-run, sound-run, any-now, series-other}
+
+-- ---- one more call
+
+reached_from-push : (targets : Targets) (before : Log) (b : ℕ) (log : Log) (e : Call × Answer) →
+    reached_from targets before b (log ++ e ∷ []) ≡ reached_from targets before b log ++ reached_by targets (before ++ log) b e
+reached_from-push targets before b [] e = append-nil (reached_by targets before b e) ∙ ap (λ l. reached_by targets l b e) (sym (append-nil before))
+reached_from-push targets before b (x ∷ log) e =
+    ap (λ es. reached_by targets before b x ++ es) (reached_from-push targets (before ++ x ∷ []) b log e
+      ∙ ap (λ l. reached_from targets (before ++ x ∷ []) b log ++ reached_by targets l b e) (append_assoc before (x ∷ []) log))
+    ∙ sym (append_assoc (reached_by targets before b x) (reached_from targets (before ++ x ∷ []) b log) (reached_by targets (before ++ x ∷ log) b e))
+
+pub reached-push : (targets : Targets) (b : ℕ) (log : Log) (e : Call × Answer) → reached targets b (log ++ e ∷ []) ≡ reached targets b log ++ reached_by targets log b e
+reached-push targets b log e = reached_from-push targets [] b log e
+
+pub plain-push : (targets : Targets) (books : ℕ) (before log : Log) (e : Call × Answer) → ArePlainFrom targets books before log → IsPlain targets books (before ++ log) e.0 e.1 →
+    ArePlainFrom targets books before (log ++ e ∷ [])
+plain-push targets books before [] e h p = (subst (λ l. IsPlain targets books l e.0 e.1) (append-nil before) p, tt)
+plain-push targets books before (x ∷ log) e h p =
+    (h.0, plain-push targets books (before ++ x ∷ []) log e h.1 (subst (λ l. IsPlain targets books l e.0 e.1) (sym (append_assoc before (x ∷ []) log)) p))
+
+-- ---- one book among the contents
+
+pub content_at-at_book : (b k : ℕ) (g : Content → Content) (cs : List Content) → b < length cs →
+    content_at b (at_book k g cs) ≡ cond (nat_eq k b) (g (content_at b cs)) (content_at b cs)
+content_at-at_book b k g [] h = absurd (omega arith)
+content_at-at_book zero zero g (c ∷ cs) h = refl
+content_at-at_book (suc b) zero g (c ∷ cs) h =
+    let ne : nat_eq zero (suc b) ≡ false = grind_ne b in
+    ap (λ t. cond t (g (content_at (suc b) (c ∷ cs))) (content_at (suc b) (c ∷ cs))) (sym ne)
+  where
+    grind_ne : (b : ℕ) → nat_eq zero (suc b) ≡ false
+    grind_ne b = grind (arith, nat_tests)
+content_at-at_book zero (suc k) g (c ∷ cs) h =
+    let ne : nat_eq (suc k) zero ≡ false = grind_ne k in
+    ap (λ t. cond t (g c) c) (sym ne)
+  where
+    grind_ne : (k : ℕ) → nat_eq (suc k) zero ≡ false
+    grind_ne k = grind (arith, nat_tests)
+content_at-at_book (suc b) (suc k) g (c ∷ cs) h =
+    content_at-at_book b k g cs (omega arith) ∙ ap (λ t. cond t (g (content_at b cs)) (content_at b cs)) (grind_same b k)
+  where
+    grind_same : (b k : ℕ) → nat_eq k b ≡ nat_eq (suc k) (suc b)
+    grind_same b k = grind (arith, nat_tests)
+
+-- acting on targets is, seen in one book, running what is meant there
+pub content_at-act : {X : Type 0} (f : X → Content → Content) (ts : List (ℕ × X)) (b : ℕ) (cs : List Content) → b < length cs →
+    content_at b (act f ts cs) ≡ run f (in_book b ts) (content_at b cs)
+content_at-act f [] b cs h = refl
+content_at-act f (t ∷ ts) b cs h =
+    content_at-act f ts b (at_book t.0 (f t.1) cs) (omega (arith, h, length-at_book t.0 (f t.1) cs))
+    ∙ ap (run f (in_book b ts)) (content_at-at_book b t.0 (f t.1) cs h)
+    ∙ elim (nat_eq t.0 b) as (λ q. run f (in_book b ts) (cond q (f t.1 (content_at b cs)) (content_at b cs)) ≡ run f (cond q (t.1 ∷ in_book b ts) (in_book b ts)) (content_at b cs)) [
+        true ↦ refl | false ↦ refl ]
+
+at_book-same : (b : ℕ) (g h : Content → Content) (cs : List Content) → g (content_at b cs) ≡ h (content_at b cs) → at_book b g cs ≡ at_book b h cs
+at_book-same b g h [] e = refl
+at_book-same zero g h (c ∷ cs) e = ap (λ x. x ∷ cs) e
+at_book-same (suc b) g h (c ∷ cs) e = ap (λ xs. c ∷ xs) (at_book-same b g h cs e)
+
+-- ---- a series that is there stays at its place
+
+abbrev pub is_there : SeriesKey → Content → Bool
+is_there k c = list_any (is_of k) c.series
+
+-- each step leaves the series that are there at their places
+pub record Stays {X : Type 0} (f : X → Content → Content) : Type 0 where
+  pub there : (x : X) (c : Content) (k : SeriesKey) → is_there k c ≡ true → is_there k (f x c) ≡ true
+  pub placed : (x : X) (c : Content) (k : SeriesKey) → is_there k c ≡ true → place k (f x c) ≡ place k c
+
+there-run : {X : Type 0} (f : X → Content → Content) → Stays f → (xs : List X) (c : Content) (k : SeriesKey) → is_there k c ≡ true → is_there k (run f xs c) ≡ true
+there-run f s [] c k h = h
+there-run f s (x ∷ xs) c k h = there-run f s xs (f x c) k (s.there x c k h)
+
+placed-run : {X : Type 0} (f : X → Content → Content) → Stays f → (xs : List X) (c : Content) (k : SeriesKey) → is_there k c ≡ true → place k (run f xs c) ≡ place k c
+placed-run f s [] c k h = refl
+placed-run f s (x ∷ xs) c k h = placed-run f s xs (f x c) k (s.there x c k h) ∙ s.placed x c k h
+
+-- each key is there in its target's book
+abbrev pub AllThere : {X : Type 0} → (X → SeriesKey) → List (ℕ × X) → List Content → Type 0
+AllThere key [] cs = Unit {0}
+AllThere key (t ∷ ts) cs = (is_there (key t.1) (content_at t.0 cs) ≡ true) × AllThere key ts cs
+
+there-act : {X Y : Type 0} (f : X → Content → Content) → Stays f → (key : Y → SeriesKey) (us : List (ℕ × X)) (ts : List (ℕ × Y)) (cs : List Content) → AllBelow (length cs) ts →
+    AllThere key ts cs → AllThere key ts (act f us cs)
+there-act f s key us [] cs b h = tt
+there-act f s key us (t ∷ ts) cs b h =
+    (ap (is_there (key t.1)) (content_at-act f us t.0 cs b.0) ∙ there-run f s (in_book t.0 us) (content_at t.0 cs) (key t.1) h.0,
+     there-act f s key us ts cs b.1 h.1)
+
+addresses-act : {X : Type 0} (f : X → Content → Content) → Stays f → (kind : MetricKind) (labels : List (List ℕ × List ℕ)) (us : List (ℕ × X)) (ts : List (ℕ × List ℕ)) (cs : List Content) →
+    AllBelow (length cs) ts → AllThere (key_there kind labels) ts cs → addresses kind labels ts (act f us cs) ≡ addresses kind labels ts cs
+addresses-act f s kind labels us [] cs b h = refl
+addresses-act f s kind labels us (t ∷ ts) cs b h =
+    let k = key_there kind labels t.1 in
+    let same : place k (content_at t.0 (act f us cs)) ≡ place k (content_at t.0 cs) =
+        ap (place k) (content_at-act f us t.0 cs b.0) ∙ placed-run f s (in_book t.0 us) (content_at t.0 cs) k h.0 in
+    ap (λ p. record { book = t.0; series = p } ∷ addresses kind labels ts (act f us cs)) same
+    ∙ ap (λ as'. address_in kind labels cs t ∷ as') (addresses-act f s kind labels us ts cs b.1 h.1)
+
+pub stays-describe : (kind : MetricKind) (unit : Option Measure) (text : List ℕ) → Stays (describe_in kind unit text)
+stays-describe kind unit text = record { there = λ x c k h. h; placed = λ x c k h. refl }
+
+or_left : (a b : Bool) → a ≡ true → (a || b) ≡ true
+or_left a b h = ap (λ x. x || b) h
+
+or_right : (a b : Bool) → b ≡ true → (a || b) ≡ true
+or_right true b h = refl
+or_right false b h = h
+
+place-append : (k : SeriesKey) (xs ys : List Series) → list_any (is_of k) xs ≡ true → position_or_len (is_of k) (xs ++ ys) ≡ position_or_len (is_of k) xs
+place-append k [] ys h = absurd (true≢false (sym h))
+place-append k (x ∷ xs) ys h =
+    elim (is_of k x) as (λ b. (b || list_any (is_of k) xs) ≡ true → cond (not b) (1 + position_or_len (is_of k) (xs ++ ys)) 0 ≡ cond (not b) (1 + position_or_len (is_of k) xs) 0) [
+        true ↦ λ e. refl
+      | false ↦ λ e. ap (λ n. 1 + n) (place-append k xs ys e) ] h
+
+pub stays-register : {X : Type 0} (key : X → SeriesKey) → Stays (λ x. register_in (key x))
+stays-register key = record {
+  there = λ x c k h. there x c k h (list_any (is_of (key x)) c.series);
+  placed = λ x c k h. placed x c k h (list_any (is_of (key x)) c.series) }
+  where
+    there : (x : _) (c : Content) (k : SeriesKey) → is_there k c ≡ true → (b : Bool) → list_any (is_of k) (cond b c.series (c.series ++ new_series (key x) ∷ [])) ≡ true
+    there x c k h true = h
+    there x c k h false = list_any-append (is_of k) c.series (new_series (key x) ∷ []) ∙ or_left (is_there k c) _ h
+
+    placed : (x : _) (c : Content) (k : SeriesKey) → is_there k c ≡ true → (b : Bool) → position_or_len (is_of k) (cond b c.series (c.series ++ new_series (key x) ∷ [])) ≡ place k c
+    placed x c k h true = refl
+    placed x c k h false = place-append k c.series (new_series (key x) ∷ []) h
+
+any-changed : (k : SeriesKey) (u : Update) (p : ℕ) (xs : List Series) → list_any (is_of k) (at_book p (with_update u) xs) ≡ list_any (is_of k) xs
+any-changed k u p [] = refl
+any-changed k u zero (x ∷ xs) = refl
+any-changed k u (suc p) (x ∷ xs) = ap (λ b. is_of k x || b) (any-changed k u p xs)
+
+place-changed : (k : SeriesKey) (u : Update) (p : ℕ) (xs : List Series) → position_or_len (is_of k) (at_book p (with_update u) xs) ≡ position_or_len (is_of k) xs
+place-changed k u p [] = refl
+place-changed k u zero (x ∷ xs) = refl
+place-changed k u (suc p) (x ∷ xs) = ap (λ n. cond (not (is_of k x)) (1 + n) 0) (place-changed k u p xs)
+
+pub stays-update : {X : Type 0} (key : X → SeriesKey) (u : Update) → Stays (λ x. step (updates (key x) u))
+stays-update key u = record {
+  there = λ x c k h. any-changed k u (place (key x) c) c.series ∙ h;
+  placed = λ x c k h. place-changed k u (place (key x) c) c.series }
+
+any-reset : (k : SeriesKey) (xs : List Series) → list_any (is_of k) (map reset xs) ≡ list_any (is_of k) xs
+any-reset k [] = refl
+any-reset k (x ∷ xs) = ap (λ b. is_of k x || b) (any-reset k xs)
+
+place-reset : (k : SeriesKey) (xs : List Series) → position_or_len (is_of k) (map reset xs) ≡ position_or_len (is_of k) xs
+place-reset k [] = refl
+place-reset k (x ∷ xs) = ap (λ n. cond (not (is_of k x)) (1 + n) 0) (place-reset k xs)
+
+pub stays-reset : {X : Type 0} → Stays {X = X} (λ x. reset_in)
+stays-reset = record { there = λ x c k h. any-reset k c.series ∙ h; placed = λ x c k h. place-reset k c.series }
+
+-- ---- addresses lead to their series
+
+-- the addresses of a successful register call are those of its series, which are there
+abbrev pub LeadsTo : Targets → List Content → MetricKind → KeyParts → Answer → Type 0
+LeadsTo targets cs kind key (Registered found) = (found ≡ addresses kind key.labels (targets kind key.name) cs) × AllThere (key_there kind key.labels) (targets kind key.name) cs
+LeadsTo targets cs kind key (Described n) = Unit {0}
+LeadsTo targets cs kind key (Updated n) = Unit {0}
+LeadsTo targets cs kind key (Snapshot found) = Unit {0}
+LeadsTo targets cs kind key (Denied e) = Unit {0}
+
+abbrev pub AllLead : Targets → List Content → List Registration → Type 0
+AllLead targets cs [] = Unit {0}
+AllLead targets cs (r ∷ rs) = LeadsTo targets cs r.kind r.key r.answer × AllLead targets cs rs
+
+abbrev BelowAll : Targets → List Content → Type 0
+BelowAll targets cs = (kind : MetricKind) (name : List ℕ) → AllBelow (length cs) (targets kind name)
+
+leads-act : {X : Type 0} (f : X → Content → Content) → Stays f → (us : List (ℕ × X)) (targets : Targets) (cs : List Content) → BelowAll targets cs → (kind : MetricKind) (key : KeyParts) (a : Answer) →
+    LeadsTo targets cs kind key a → LeadsTo targets (act f us cs) kind key a
+leads-act f s us targets cs below kind key (Registered found) h =
+    (h.0 ∙ sym (addresses-act f s kind key.labels us (targets kind key.name) cs (below kind key.name) h.1),
+     there-act f s (key_there kind key.labels) us (targets kind key.name) cs (below kind key.name) h.1)
+leads-act f s us targets cs below kind key (Described n) h = tt
+leads-act f s us targets cs below kind key (Updated n) h = tt
+leads-act f s us targets cs below kind key (Snapshot found) h = tt
+leads-act f s us targets cs below kind key (Denied e) h = tt
+
+all_lead-act : {X : Type 0} (f : X → Content → Content) → Stays f → (us : List (ℕ × X)) (targets : Targets) (cs : List Content) → BelowAll targets cs → (rs : List Registration) →
+    AllLead targets cs rs → AllLead targets (act f us cs) rs
+all_lead-act f s us targets cs below [] h = tt
+all_lead-act f s us targets cs below (r ∷ rs) h = (leads-act f s us targets cs below r.kind r.key r.answer h.0, all_lead-act f s us targets cs below rs h.1)
+
+lead-append : (targets : Targets) (cs : List Content) (rs qs : List Registration) → AllLead targets cs rs → AllLead targets cs qs → AllLead targets cs (rs ++ qs)
+lead-append targets cs [] qs h g = g
+lead-append targets cs (r ∷ rs) qs h g = (h.0, lead-append targets cs rs qs h.1 g)
+
+pub lead-at : (targets : Targets) (cs : List Content) (rs : List Registration) (n : ℕ) (r : Registration) → slice_get rs n ≡ Some r → AllLead targets cs rs → LeadsTo targets cs r.kind r.key r.answer
+lead-at targets cs [] n r e h = absurd (cc)
+lead-at targets cs (q ∷ rs) zero r e h = let same : q ≡ r = cc in subst (λ (x : Registration). LeadsTo targets cs x.kind x.key x.answer) same h.0
+lead-at targets cs (q ∷ rs) (suc n) r e h = lead-at targets cs rs n r e h.1
+
+-- ---- what is kept
+
+-- the contents are those of the definitions over the calls so far
+pub record Kept (targets : Targets) (log : Log) (cs : List Content) : Type 0 where
+  pub each : (b : ℕ) → b < length cs → content_at b cs ≡ content (reached targets b log)
+  pub sound : (b : ℕ) → b < length cs → IsSound (reached targets b log)
+  pub lead : AllLead targets cs (filter_map registration_of log)
+
+module _ {X : Type 0} (targets : Targets) (log : Log) (e : Call × Answer) (cs : List Content) (event : X → Event) (ts : List (ℕ × X))
+    (below : (kind : MetricKind) (name : List ℕ) → AllBelow (length cs) (targets kind name))
+    (meets : (b : ℕ) → reached_by targets log b e ≡ map event (in_book b ts))
+    (reaches : (b : ℕ) → b < length cs → ReachesAll (reached targets b log) (map event (in_book b ts)))
+    (stays : Stays (λ x. step (event x)))
+    (h : Kept targets log cs) where
+  abbrev new : List Content
+  new = act (λ x. step (event x)) ts cs
+
+  each_then : (b : ℕ) → b < length cs → content_at b new ≡ content (reached targets b (log ++ e ∷ []))
+  each_then b lt =
+      content_at-act (λ x. step (event x)) ts b cs lt
+      ∙ ap (run (λ x. step (event x)) (in_book b ts)) (h.each b lt)
+      ∙ sym (content-run event (reached targets b log) (in_book b ts) (h.sound b lt) (reaches b lt))
+      ∙ ap content (sym (reached-push targets b log e ∙ ap (λ es. reached targets b log ++ es) (meets b)))
+
+  sound_then : (b : ℕ) → b < length cs → IsSound (reached targets b (log ++ e ∷ []))
+  sound_then b lt = subst IsSound (sym (reached-push targets b log e ∙ ap (λ es. reached targets b log ++ es) (meets b))) (sound-run event (reached targets b log) (in_book b ts) (h.sound b lt) (reaches b lt))
+
+  pub kept_then : AllLead targets new (filter_map registration_of (e ∷ [])) → Kept targets (log ++ e ∷ []) new
+  kept_then own = record {
+    each = λ b lt. each_then b (omega (arith, lt, length-act (λ x. step (event x)) ts cs));
+    sound = λ b lt. sound_then b (omega (arith, lt, length-act (λ x. step (event x)) ts cs));
+    lead = subst (AllLead targets new) (sym (filter_map-append registration_of log (e ∷ [])))
+      (lead-append targets new (filter_map registration_of log) (filter_map registration_of (e ∷ [])) (all_lead-act (λ x. step (event x)) stays ts targets cs below (filter_map registration_of log) h.lead) own) }
+
+-- nothing happened
+pub kept_same : (targets : Targets) (log : Log) (e : Call × Answer) (cs : List Content) → ((b : ℕ) → reached_by targets log b e ≡ []) → AllLead targets cs (filter_map registration_of (e ∷ [])) → Kept targets log cs →
+    Kept targets (log ++ e ∷ []) cs
+kept_same targets log e cs none own h =
+    let same : (b : ℕ) → reached targets b log ≡ reached targets b (log ++ e ∷ []) = λ b. sym (reached-push targets b log e ∙ ap (λ es. reached targets b log ++ es) (none b) ∙ append-nil (reached targets b log)) in
+    record {
+      each = λ b lt. h.each b lt ∙ ap content (same b);
+      sound = λ b lt. subst IsSound (same b) (h.sound b lt);
+      lead = subst (AllLead targets cs) (sym (filter_map-append registration_of log (e ∷ [])))
+        (lead-append targets cs (filter_map registration_of log) (filter_map registration_of (e ∷ [])) h.lead own) }
+
+-- ---- a registered key is there
+
+there_now : (k : SeriesKey) (c : Content) → is_there k (register_in k c) ≡ true
+there_now k c =
+    elim (list_any (is_of k) c.series) as (λ b. list_any (is_of k) c.series ≡ b → list_any (is_of k) (cond b c.series (c.series ++ new_series k ∷ [])) ≡ true) [
+        true ↦ λ e. e
+      | false ↦ λ e. list_any-append (is_of k) c.series (new_series k ∷ []) ∙ or_right (list_any (is_of k) c.series) _ (or_left (series_key_eq k k) false (key_same k)) ] refl
+
+pub all_there : {X : Type 0} (key : X → SeriesKey) (ts : List (ℕ × X)) (cs : List Content) → AllBelow (length cs) ts → AllThere key ts (act (λ x. register_in (key x)) ts cs)
+all_there key [] cs b = tt
+all_there {X = X} key (t ∷ ts) cs b =
+    let f : X → Content → Content = λ x. register_in (key x) in
+    let cs1 = at_book t.0 (f t.1) cs in
+    let len : length cs1 ≡ length cs = length-at_book t.0 (f t.1) cs in
+    let own : content_at t.0 cs1 ≡ f t.1 (content_at t.0 cs) =
+        content_at-at_book t.0 t.0 (f t.1) cs b.0 ∙ ap (λ q. cond q (f t.1 (content_at t.0 cs)) (content_at t.0 cs)) (eq-eqb t.0 t.0 refl) in
+    (ap (is_there (key t.1)) (content_at-act f ts t.0 cs1 (omega (arith, b.0, len)))
+      ∙ there-run f (stays-register key) (in_book t.0 ts) (content_at t.0 cs1) (key t.1) (ap (is_there (key t.1)) own ∙ there_now (key t.1) (content_at t.0 cs)),
+     all_there key ts cs1 (subst (λ n. AllBelow n ts) (sym len) b.1))
+
+-- a key's place after it was registered is its place before, or the end
+pub place-registered : (k : SeriesKey) (c : Content) → place k (register_in k c) ≡ place k c
+place-registered k c =
+    elim (list_any (is_of k) c.series) as (λ b. list_any (is_of k) c.series ≡ b → position_or_len (is_of k) (cond b c.series (c.series ++ new_series k ∷ [])) ≡ place k c) [
+        true ↦ λ e. refl
+      | false ↦ λ e. at_end c.series e ] refl
+  where
+    at_end : (xs : List Series) → list_any (is_of k) xs ≡ false → position_or_len (is_of k) (xs ++ new_series k ∷ []) ≡ position_or_len (is_of k) xs
+    at_end [] e = ap (λ b. cond (not b) (1 + 0) 0) (key_same k)
+    at_end (x ∷ xs) e =
+        elim (is_of k x) as (λ b. (b || list_any (is_of k) xs) ≡ false → cond (not b) (1 + position_or_len (is_of k) (xs ++ new_series k ∷ [])) 0 ≡ cond (not b) (1 + position_or_len (is_of k) xs) 0) [
+            true ↦ λ g. absurd (true≢false g)
+          | false ↦ λ g. ap (λ n. 1 + n) (at_end xs g) ] e
+
+-- ---- held addresses
+
+place_kind : (k : SeriesKey) (xs : List Series) → list_any (is_of k) xs ≡ true → is_kind k.kind (option_map (λ x. x.key.kind) (slice_get xs (position_or_len (is_of k) xs))) ≡ true
+place_kind k [] h = absurd (true≢false (sym h))
+place_kind k (x ∷ xs) h =
+    elim (is_of k x) as (λ b. is_of k x ≡ b → (b || list_any (is_of k) xs) ≡ true →
+        is_kind k.kind (option_map (λ (x : Series). x.key.kind) (slice_get (x ∷ xs) (cond (not b) (1 + position_or_len (is_of k) xs) 0))) ≡ true) [
+        true ↦ λ e g. and_left (kind_eq k.kind x.key.kind) (key_eq k.key x.key.key) e
+      | false ↦ λ e g.
+          let n : 1 + position_or_len (is_of k) xs ≡ suc (position_or_len (is_of k) xs) = omega arith in
+          ap (λ i. is_kind k.kind (option_map (λ (x : Series). x.key.kind) (slice_get (x ∷ xs) i))) n ∙ place_kind k xs g ] refl h
+
+pub all_held : (kind : MetricKind) (labels : List (List ℕ × List ℕ)) (ts : List (ℕ × List ℕ)) (cs : List Content) → AllBelow (length cs) ts → AllThere (key_there kind labels) ts cs → AllHeld kind (addresses kind labels ts cs) cs
+all_held kind labels [] cs b h = tt
+all_held kind labels (t ∷ ts) cs b h =
+    (and_both _ _ (place_kind (key_there kind labels t.1) (content_at t.0 cs).series h.0) (lt-ltb t.0 (length cs) b.0), all_held kind labels ts cs b.1 h.1)
+
+-- ---- updates by address are updates by key
+
+pub act-places : (u : Update) (kind : MetricKind) (labels : List (List ℕ × List ℕ)) (was : List Content) (n : ℕ) (ts : List (ℕ × List ℕ)) (cs : List Content) →
+    ((k : SeriesKey) (b : ℕ) → b < length cs → place k (content_at b cs) ≡ place k (content_at b was)) → AllBelow (length cs) ts →
+    act (update_in u) (take n (places (addresses kind labels ts was))) cs ≡ act (λ name. step (updates (key_there kind labels name) u)) (take n ts) cs
+act-places u kind labels was zero ts cs same b = refl
+act-places u kind labels was (suc n) [] cs same b = refl
+act-places u kind labels was (suc n) (t ∷ ts) cs same b =
+    let k = key_there kind labels t.1 in
+    let p = place k (content_at t.0 was) in
+    let f : Content → Content = step (updates k u) in
+    let one : at_book t.0 (update_in u p) cs ≡ at_book t.0 f cs =
+        at_book-same t.0 (update_in u p) f cs (ap (λ i. update_in u i (content_at t.0 cs)) (sym (same k t.0 b.0))) in
+    let len : length (at_book t.0 f cs) ≡ length cs = length-at_book t.0 f cs in
+    ap (act (update_in u) (take n (places (addresses kind labels ts was)))) one
+    ∙ act-places u kind labels was n ts (at_book t.0 f cs)
+        (λ q d lt.
+          let lt' : d < length cs = omega (arith, lt, len) in
+          ap (place q) (content_at-at_book d t.0 f cs lt')
+          ∙ elim (nat_eq t.0 d) as (λ r. place q (cond r (f (content_at d cs)) (content_at d cs)) ≡ place q (content_at d cs)) [
+              true ↦ place-changed q u (place k (content_at d cs)) (content_at d cs).series
+            | false ↦ refl ]
+          ∙ same q d lt')
+        (subst (λ m. AllBelow m ts) (sym len) b.1)
