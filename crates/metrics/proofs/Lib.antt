@@ -1,3 +1,4 @@
 pub mod NamesLemmas
 pub mod ContentLemmas
 pub mod HistoryLemmas
+pub mod AnsweringLemmas
