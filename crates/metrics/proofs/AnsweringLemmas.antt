@@ -49,16 +49,16 @@ front_described old new kind name unit text (Registered found) r = absurd r
 front_described old new kind name unit text (Updated n) r = absurd r
 front_described old new kind name unit text (Snapshot found) r = absurd r
 
-describe_kept : (old new : Meaning) (log : Log) (kind : MetricKind) (name : List ℕ) (unit : Option Measure) (text : List ℕ) (a : Answer) →
-    Kept old.targets log old.contents → DescribesCall old new kind name unit text a →
-    Kept old.targets (log ++ (Describe kind name unit text, a) ∷ []) new.contents × IsPlain old.targets (length old.contents) log (Describe kind name unit text) a
-describe_kept old new log kind name unit text a h r =
+describe_kept : {New : Type 0} (old new : Meaning) (log : Log) (kind : MetricKind) (name : List ℕ) (unit : Option Measure) (text : List ℕ) (a : Answer) →
+    Kept New old.targets log old.contents → DescribesCall old new kind name unit text a →
+    Kept New old.targets (log ++ (Describe kind name unit text, a) ∷ []) new.contents × (New → IsPlain old.targets (length old.contents) log (Describe kind name unit text) a)
+describe_kept {New = New} old new log kind name unit text a h r =
     let front = front_described old new kind name unit text a r in
-    (subst (λ cs. Kept old.targets (log ++ (Describe kind name unit text, a) ∷ []) cs) (sym front.0)
+    (subst (λ cs. Kept New old.targets (log ++ (Describe kind name unit text, a) ∷ []) cs) (sym front.0)
       (kept_then old.targets log (Describe kind name unit text, a) old.contents (describes kind unit text) (take (acted a) (old.targets kind name)) old.below (λ b. refl)
-        (λ b lt. reaches_describes kind unit text (reached old.targets b log) (in_book b (take (acted a) (old.targets kind name))))
+        (λ n b lt. reaches_describes kind unit text (reached old.targets b log) (in_book b (take (acted a) (old.targets kind name))))
         (stays-describe kind unit text) h tt),
-     front.1)
+     λ n. front.1)
 
 -- ---- register
 
@@ -66,15 +66,15 @@ reaches_registers : {X : Type 0} (key : X → SeriesKey) (es : List Event) (xs :
 reaches_registers key es [] = tt
 reaches_registers key es (x ∷ xs) = (tt, reaches_registers key (es ++ registers (key x) ∷ []) xs)
 
-register_with : (old new : Meaning) (log : Log) (kind : MetricKind) (key : KeyParts) (a : Answer) (ts : List (ℕ × List ℕ)) →
+register_with : {New : Type 0} (old new : Meaning) (log : Log) (kind : MetricKind) (key : KeyParts) (a : Answer) (ts : List (ℕ × List ℕ)) →
     ts ≡ take (acted a) (old.targets kind key.name) → new.contents ≡ act (λ n. register_in (key_there kind key.labels n)) ts old.contents →
-    LeadsTo old.targets new.contents kind key a → Kept old.targets log old.contents →
-    Kept old.targets (log ++ (Register kind key, a) ∷ []) new.contents
-register_with old new log kind key a ts e c own h =
-    subst (λ cs. Kept old.targets (log ++ (Register kind key, a) ∷ []) cs) (sym c)
+    LeadsTo old.targets new.contents kind key a → Kept New old.targets log old.contents →
+    Kept New old.targets (log ++ (Register kind key, a) ∷ []) new.contents
+register_with {New = New} old new log kind key a ts e c own h =
+    subst (λ cs. Kept New old.targets (log ++ (Register kind key, a) ∷ []) cs) (sym c)
       (kept_then old.targets log (Register kind key, a) old.contents (λ n. registers (key_there kind key.labels n)) ts old.below
         (λ b. ap (λ us. map (λ n. registers (key_there kind key.labels n)) (in_book b us)) (sym e))
-        (λ b lt. reaches_registers (key_there kind key.labels) (reached old.targets b log) (in_book b ts))
+        (λ n b lt. reaches_registers (key_there kind key.labels) (reached old.targets b log) (in_book b ts))
         (stays-register (key_there kind key.labels)) h (subst (λ cs. LeadsTo old.targets cs kind key a) c own, tt))
 
 in_book-none : {X : Type 0} (b : ℕ) (ts : List (ℕ × X)) → IsNot b ts → in_book b ts ≡ []
@@ -120,17 +120,17 @@ map_below f g k [] b h = refl
 map_below f g k (t ∷ ts) b h = ap (λ x. x ∷ map f ts) (h t b.0) ∙ ap (λ xs. g t ∷ xs) (map_below f g k ts b.1 h)
 
 -- the place of a series in its book is its place in the list of the book's series
-plain_addresses : (old : Meaning) (log : Log) (kind : MetricKind) (key : KeyParts) → Kept old.targets log old.contents →
+plain_addresses : {New : Type 0} (old : Meaning) (log : Log) (kind : MetricKind) (key : KeyParts) → Kept New old.targets log old.contents → New →
     addresses kind key.labels (old.targets kind key.name) old.contents ≡ map (plain_address old.targets log kind key) (old.targets kind key.name)
-plain_addresses old log kind key h =
+plain_addresses old log kind key h n =
     map_below (address_in kind key.labels old.contents) (plain_address old.targets log kind key) (length old.contents) (old.targets kind key.name) (old.below kind key.name)
       (λ t lt. ap (λ s. record { book = t.0; series = s })
-        (ap (place (key_there kind key.labels t.1)) (h.each t.0 lt)
+        (ap (place (key_there kind key.labels t.1)) (h.each n t.0 lt)
          ∙ place-now (reached old.targets t.0 log) (key_there kind key.labels t.1) (series (reached old.targets t.0 log))))
 
-register_kept : (old new : Meaning) (log : Log) (kind : MetricKind) (key : KeyParts) (a : Answer) →
-    Kept old.targets log old.contents → RegistersCall old new kind key a →
-    Kept old.targets (log ++ (Register kind key, a) ∷ []) new.contents × IsPlain old.targets (length old.contents) log (Register kind key) a
+register_kept : {New : Type 0} (old new : Meaning) (log : Log) (kind : MetricKind) (key : KeyParts) (a : Answer) →
+    Kept New old.targets log old.contents → RegistersCall old new kind key a →
+    Kept New old.targets (log ++ (Register kind key, a) ∷ []) new.contents × (New → IsPlain old.targets (length old.contents) log (Register kind key) a)
 register_kept old new log kind key (Registered found) h r =
     let ts = old.targets kind key.name in
     let below = old.below kind key.name in
@@ -139,8 +139,8 @@ register_kept old new log kind key (Registered found) h r =
     let own : found ≡ addresses kind key.labels ts new.contents =
         r.0 ∙ sym (addresses_after kind key.labels ts old.contents below (old.distinct kind key.name)) ∙ ap (addresses kind key.labels ts) (sym r.1) in
     (register_with old new log kind key (Registered found) ts all r.1 (own, there) h,
-     ap Registered (r.0 ∙ plain_addresses old log kind key h))
-register_kept old new log kind key (Denied (Memory n)) h r = (register_with old new log kind key (Denied (Memory n)) _ refl r.1 tt h, r.0)
+     λ n. ap Registered (r.0 ∙ plain_addresses old log kind key h n))
+register_kept old new log kind key (Denied (Memory n)) h r = (register_with old new log kind key (Denied (Memory n)) _ refl r.1 tt h, λ n. r.0)
 register_kept old new log kind key (Denied NoSuchAddress) h r = absurd r
 register_kept old new log kind key (Denied NoSuchBook) h r = absurd r
 register_kept old new log kind key (Denied BadHandle) h r = absurd r
@@ -197,16 +197,16 @@ bad_plain : (plain a : Answer) (P : ℕ → Type 0) → a ≡ Denied BadHandle �
 bad_plain plain a P e g = subst (IsOrMeets plain P) (sym e) (sym g)
 
 -- the events of an update, by the register call that it names
-abbrev UpdateKept : Meaning → Meaning → Log → ℕ → Update → Answer → Option Registration → Type 0
-UpdateKept old new log n u a o =
-    Kept old.targets (log ++ (Change n u, a) ∷ []) new.contents × IsOrMeets (plain_update old.targets u o) (λ m. UpdateMayMeet old.targets u m o) a
+abbrev UpdateKept : Type 0 → Meaning → Meaning → Log → ℕ → Update → Answer → Option Registration → Type 0
+UpdateKept New old new log n u a o =
+    Kept New old.targets (log ++ (Change n u, a) ∷ []) new.contents × (New → IsOrMeets (plain_update old.targets u o) (λ m. UpdateMayMeet old.targets u m o) a)
 
-bad_kept : (old new : Meaning) (log : Log) (n : ℕ) (u : Update) (a : Answer) (o : Option Registration) → registration n log ≡ o → Kept old.targets log old.contents → IsBadHandle old new a → plain_update old.targets u o ≡ Denied BadHandle →
-    UpdateKept old new log n u a o
-bad_kept old new log n u a o e h r p =
-    (subst (λ cs. Kept old.targets (log ++ (Change n u, a) ∷ []) cs) (sym r.1)
+bad_kept : {New : Type 0} (old new : Meaning) (log : Log) (n : ℕ) (u : Update) (a : Answer) (o : Option Registration) → registration n log ≡ o → Kept New old.targets log old.contents → IsBadHandle old new a → plain_update old.targets u o ≡ Denied BadHandle →
+    UpdateKept New old new log n u a o
+bad_kept {New = New} old new log n u a o e h r p =
+    (subst (λ cs. Kept New old.targets (log ++ (Change n u, a) ∷ []) cs) (sym r.1)
       (kept_same old.targets log (Change n u, a) old.contents (λ b. ap (λ x. updates_by old.targets b u x (registration n log)) r.0 ∙ none b (registration n log)) tt h),
-     bad_plain (plain_update old.targets u o) a (λ m. UpdateMayMeet old.targets u m o) r.0 p)
+     λ w. bad_plain (plain_update old.targets u o) a (λ m. UpdateMayMeet old.targets u m o) r.0 p)
   where
     none : (b : ℕ) (q : Option Registration) → updates_by old.targets b u (Denied BadHandle) q ≡ []
     none b None = refl
@@ -216,16 +216,16 @@ bad_kept old new log n u a o e h r p =
 abbrev success : MetricKind → KeyParts → List Address → Registration
 success kind key found = record { kind = kind; key = key; answer = Registered found }
 
-given_kept : (old new : Meaning) (log : Log) (n : ℕ) (u : Update) (a : Answer) (kind : MetricKind) (key : KeyParts) (given : Answer) →
-    registration n log ≡ Some (record { kind = kind; key = key; answer = given }) → Kept old.targets log old.contents → LeadsTo old.targets old.contents kind key given →
-    UpdatesCall old new (handle_given kind given) u a → UpdateKept old new log n u a (Some (record { kind = kind; key = key; answer = given }))
-given_kept old new log n u a kind key (Described m) e h l r = bad_kept old new log n u a _ e h r refl
-given_kept old new log n u a kind key (Updated m) e h l r = bad_kept old new log n u a _ e h r refl
-given_kept old new log n u a kind key (Snapshot found) e h l r = bad_kept old new log n u a _ e h r refl
-given_kept old new log n u a kind key (Denied d) e h l r = bad_kept old new log n u a _ e h r refl
-given_kept old new log n u a kind key (Registered found) e h l r = by_kind (kind_eq (kind_of u) kind) refl r
+given_kept : {New : Type 0} (old new : Meaning) (log : Log) (n : ℕ) (u : Update) (a : Answer) (kind : MetricKind) (key : KeyParts) (given : Answer) →
+    registration n log ≡ Some (record { kind = kind; key = key; answer = given }) → Kept New old.targets log old.contents → LeadsTo old.targets old.contents kind key given →
+    UpdatesCall old new (handle_given kind given) u a → UpdateKept New old new log n u a (Some (record { kind = kind; key = key; answer = given }))
+given_kept {New = New} old new log n u a kind key (Described m) e h l r = bad_kept old new log n u a _ e h r refl
+given_kept {New = New} old new log n u a kind key (Updated m) e h l r = bad_kept old new log n u a _ e h r refl
+given_kept {New = New} old new log n u a kind key (Snapshot found) e h l r = bad_kept old new log n u a _ e h r refl
+given_kept {New = New} old new log n u a kind key (Denied d) e h l r = bad_kept old new log n u a _ e h r refl
+given_kept {New = New} old new log n u a kind key (Registered found) e h l r = by_kind (kind_eq (kind_of u) kind) refl r
   where
-    by_kind : (b : Bool) → kind_eq (kind_of u) kind ≡ b → MatchBool b (UpdatesHeld old new (places found) u a) (IsBadHandle old new a) → UpdateKept old new log n u a (Some (success kind key found))
+    by_kind : (b : Bool) → kind_eq (kind_of u) kind ≡ b → MatchBool b (UpdatesHeld old new (places found) u a) (IsBadHandle old new a) → UpdateKept New old new log n u a (Some (success kind key found))
     by_kind false k r = bad_kept old new log n u a (Some (success kind key found)) e h r (ap (λ q. cond q (Updated (length (old.targets kind key.name))) (Denied BadHandle)) k)
     by_kind true k r =
         let reg = success kind key found in
@@ -239,19 +239,19 @@ given_kept old new log n u a kind key (Registered found) e h l r = by_kind (kind
             front.0 ∙ ap (λ f. act (update_in u) (take (acted a) (places f)) old.contents) here
             ∙ act-places u (kind_of u) key.labels old.contents (acted a) ts old.contents (λ q b lt. refl) (old.below kind key.name) in
         let many : length (places found) ≡ length ts = length-map _ found ∙ ap length l.0 ∙ length-map _ ts in
-        (subst (λ cs. Kept old.targets (log ++ (Change n u, a) ∷ []) cs) (sym done)
+        (subst (λ cs. Kept New old.targets (log ++ (Change n u, a) ∷ []) cs) (sym done)
           (kept_then old.targets log (Change n u, a) old.contents (λ name. updates (there_key name) u) (take (acted a) ts) old.below
             (λ b. ap (updates_by old.targets b u a) e)
-            (λ b lt. reaches_updates there_key u (reached old.targets b log) (in_book b (take (acted a) ts)) (there_in_book there_key (reached old.targets b log) b (acted a) ts old.contents (h.each b lt) there))
+            (λ w b lt. reaches_updates there_key u (reached old.targets b log) (in_book b (take (acted a) ts)) (there_in_book there_key (reached old.targets b log) b (acted a) ts old.contents (h.each w b lt) there))
             (stays-update there_key u) h tt),
-         meets-same (Updated (length (places found))) (plain_update old.targets u (Some reg)) (λ m. TakesMemory u × (m ≤ length (places found))) (λ m. UpdateMayMeet old.targets u m (Some reg)) a
+         λ w. meets-same (Updated (length (places found))) (plain_update old.targets u (Some reg)) (λ m. TakesMemory u × (m ≤ length (places found))) (λ m. UpdateMayMeet old.targets u m (Some reg)) a
            (ap Updated many ∙ ap (λ q. cond q (Updated (length ts)) (Denied BadHandle)) (sym k))
            (λ m g. (k, g.0, subst (λ i. m ≤ i) many g.1)) front.1)
 
-update_kept : (old new : Meaning) (log : Log) (n : ℕ) (u : Update) (a : Answer) → Kept old.targets log old.contents → UpdatesCall old new (handle n log) u a →
-    Kept old.targets (log ++ (Change n u, a) ∷ []) new.contents × IsPlain old.targets (length old.contents) log (Change n u) a
-update_kept old new log n u a h r =
-    elim (registration n log) as (λ o. registration n log ≡ o → UpdatesCall old new (option_and_then handle_of o) u a → UpdateKept old new log n u a o) [
+update_kept : {New : Type 0} (old new : Meaning) (log : Log) (n : ℕ) (u : Update) (a : Answer) → Kept New old.targets log old.contents → UpdatesCall old new (handle n log) u a →
+    Kept New old.targets (log ++ (Change n u, a) ∷ []) new.contents × (New → IsPlain old.targets (length old.contents) log (Change n u) a)
+update_kept {New = New} old new log n u a h r =
+    elim (registration n log) as (λ o. registration n log ≡ o → UpdatesCall old new (option_and_then handle_of o) u a → UpdateKept New old new log n u a o) [
         None ↦ λ e r. bad_kept old new log n u a None e h r refl
       | Some q ↦ λ e r. given_kept old new log n u a q.kind q.key q.answer e h (lead-at old.targets old.contents (filter_map registration_of log) n q e h.lead) r ] refl r
 
@@ -272,37 +272,37 @@ reaches_snapshots : (es : List Event) (xs : List (Prim.Unit {0})) → ReachesAll
 reaches_snapshots es [] = tt
 reaches_snapshots es (x ∷ xs) = (tt, reaches_snapshots (es ++ snapshots ∷ []) xs)
 
-snapshot_kept : (old new : Meaning) (log : Log) (b : ℕ) (a : Answer) →
-    Kept old.targets log old.contents → SnapshotsCall old new b a →
-    Kept old.targets (log ++ (Take b, a) ∷ []) new.contents × IsPlain old.targets (length old.contents) log (Take b) a
-snapshot_kept old new log b (Snapshot found) h r =
-    (subst (λ cs. Kept old.targets (log ++ (Take b, Snapshot found) ∷ []) cs) (sym r.2)
+snapshot_kept : {New : Type 0} (old new : Meaning) (log : Log) (b : ℕ) (a : Answer) →
+    Kept New old.targets log old.contents → SnapshotsCall old new b a →
+    Kept New old.targets (log ++ (Take b, a) ∷ []) new.contents × (New → IsPlain old.targets (length old.contents) log (Take b) a)
+snapshot_kept {New = New} old new log b (Snapshot found) h r =
+    (subst (λ cs. Kept New old.targets (log ++ (Take b, Snapshot found) ∷ []) cs) (sym r.2)
       (kept_then old.targets log (Take b, Snapshot found) old.contents (λ (x : Prim.Unit {0}). snapshots) ((b, tt) ∷ []) old.below (λ c. take_bool (nat_eq b c))
-        (λ c lt. reaches_snapshots (reached old.targets c log) (in_book c ((b, tt) ∷ []))) stays-reset h tt),
-     ap Snapshot (r.1 ∙ ap rows (h.each b r.0)) ∙ ap (λ q. cond q (Snapshot (rows (content (reached old.targets b log)))) (Denied NoSuchBook)) (sym (lt-ltb b (length old.contents) r.0)))
-snapshot_kept old new log b (Denied (Memory n)) h r =
-    (subst (λ cs. Kept old.targets (log ++ (Take b, Denied (Memory n)) ∷ []) cs) (sym r.2)
+        (λ w c lt. reaches_snapshots (reached old.targets c log) (in_book c ((b, tt) ∷ []))) stays-reset h tt),
+     λ w. ap Snapshot (r.1 ∙ ap rows (h.each w b r.0)) ∙ ap (λ q. cond q (Snapshot (rows (content (reached old.targets b log)))) (Denied NoSuchBook)) (sym (lt-ltb b (length old.contents) r.0)))
+snapshot_kept {New = New} old new log b (Denied (Memory n)) h r =
+    (subst (λ cs. Kept New old.targets (log ++ (Take b, Denied (Memory n)) ∷ []) cs) (sym r.2)
       (kept_same old.targets log (Take b, Denied (Memory n)) old.contents (λ c. none_bool (nat_eq b c)) tt h),
-     (r.0, r.1))
-snapshot_kept old new log b (Denied NoSuchBook) h r =
+     λ w. (r.0, r.1))
+snapshot_kept {New = New} old new log b (Denied NoSuchBook) h r =
     let past : nat_lt b (length old.contents) ≡ false = not_below b (length old.contents) r.0 in
-    (subst (λ cs. Kept old.targets (log ++ (Take b, Denied NoSuchBook) ∷ []) cs) (sym r.1)
+    (subst (λ cs. Kept New old.targets (log ++ (Take b, Denied NoSuchBook) ∷ []) cs) (sym r.1)
       (kept_same old.targets log (Take b, Denied NoSuchBook) old.contents (λ c. none_bool (nat_eq b c)) tt h),
-     ap (λ q. cond q (Snapshot (rows (content (reached old.targets b log)))) (Denied NoSuchBook)) (sym past))
+     λ w. ap (λ q. cond q (Snapshot (rows (content (reached old.targets b log)))) (Denied NoSuchBook)) (sym past))
   where
     not_below : (a k : ℕ) → k ≤ a → nat_lt a k ≡ false
     not_below a k le = grind (arith, nat_tests)
-snapshot_kept old new log b (Denied NoSuchAddress) h r = absurd r
-snapshot_kept old new log b (Denied BadHandle) h r = absurd r
-snapshot_kept old new log b (Described n) h r = absurd r
-snapshot_kept old new log b (Registered found) h r = absurd r
-snapshot_kept old new log b (Updated n) h r = absurd r
+snapshot_kept {New = New} old new log b (Denied NoSuchAddress) h r = absurd r
+snapshot_kept {New = New} old new log b (Denied BadHandle) h r = absurd r
+snapshot_kept {New = New} old new log b (Described n) h r = absurd r
+snapshot_kept {New = New} old new log b (Registered found) h r = absurd r
+snapshot_kept {New = New} old new log b (Updated n) h r = absurd r
 
 -- ---- each call
 
 -- THE CALL: it keeps what the definitions say, and is answered plainly
-pub call_kept : (old new : Meaning) (log : Log) (c : Call) (a : Answer) → Kept old.targets log old.contents → Answers old new (handle_named c log) c a →
-    Kept old.targets (log ++ (c, a) ∷ []) new.contents × IsPlain old.targets (length old.contents) log c a
+pub call_kept : {New : Type 0} (old new : Meaning) (log : Log) (c : Call) (a : Answer) → Kept New old.targets log old.contents → Answers old new (handle_named c log) c a →
+    Kept New old.targets (log ++ (c, a) ∷ []) new.contents × (New → IsPlain old.targets (length old.contents) log c a)
 call_kept old new log (Describe kind name unit text) a h r = describe_kept old new log kind name unit text a h r
 call_kept old new log (Register kind key) a h r = register_kept old new log kind key a h r
 call_kept old new log (Change n u) a h r = update_kept old new log n u a h r
@@ -336,11 +336,11 @@ length_answers old new o (Take b) (Registered found) r = absurd r
 length_answers old new o (Take b) (Updated n) r = absurd r
 
 -- at the start nothing has reached new books
-pub kept_none : (targets : Targets) (cs : List Content) → AreNew cs → Kept targets [] cs
-kept_none targets cs new = record { each = λ b lt. new b lt; sound = λ b lt k e. refl; lead = tt }
+pub kept_none : (targets : Targets) (cs : List Content) → Kept (AreNew cs) targets [] cs
+kept_none targets cs = record { each = λ new b lt. new b lt; sound = λ new b lt k e. refl; lead = tt }
 
 -- the handle of a number leads to held addresses
-pub handle_held : (old : Meaning) (log : Log) (n : ℕ) → Kept old.targets log old.contents → IsHeld (handle n log) old.contents
+pub handle_held : {New : Type 0} (old : Meaning) (log : Log) (n : ℕ) → Kept New old.targets log old.contents → IsHeld (handle n log) old.contents
 handle_held old log n h =
     elim (registration n log) as (λ o. registration n log ≡ o → IsHeld (option_and_then handle_of o) old.contents) [
         None ↦ λ e. tt

@@ -220,46 +220,46 @@ lead-at targets cs (q ∷ rs) (suc n) r e h = lead-at targets cs rs n r e h.1
 
 -- ---- what is kept
 
--- the contents are those of the definitions over the calls so far
-pub record Kept (targets : Targets) (log : Log) (cs : List Content) : Type 0 where
-  pub each : (b : ℕ) → b < length cs → content_at b cs ≡ content (reached targets b log)
-  pub sound : (b : ℕ) → b < length cs → IsSound (reached targets b log)
+-- where the books were new (New), the contents are those of the definitions over the calls so far; and addresses lead to their series
+pub record Kept (New : Type 0) (targets : Targets) (log : Log) (cs : List Content) : Type 0 where
+  pub each : New → (b : ℕ) → b < length cs → content_at b cs ≡ content (reached targets b log)
+  pub sound : New → (b : ℕ) → b < length cs → IsSound (reached targets b log)
   pub lead : AllLead targets cs (filter_map registration_of log)
 
-module _ {X : Type 0} (targets : Targets) (log : Log) (e : Call × Answer) (cs : List Content) (event : X → Event) (ts : List (ℕ × X))
+module _ {X New : Type 0} (targets : Targets) (log : Log) (e : Call × Answer) (cs : List Content) (event : X → Event) (ts : List (ℕ × X))
     (below : (kind : MetricKind) (name : List ℕ) → AllBelow (length cs) (targets kind name))
     (meets : (b : ℕ) → reached_by targets log b e ≡ map event (in_book b ts))
-    (reaches : (b : ℕ) → b < length cs → ReachesAll (reached targets b log) (map event (in_book b ts)))
+    (reaches : New → (b : ℕ) → b < length cs → ReachesAll (reached targets b log) (map event (in_book b ts)))
     (stays : Stays (λ x. step (event x)))
-    (h : Kept targets log cs) where
+    (h : Kept New targets log cs) where
   abbrev new : List Content
   new = act (λ x. step (event x)) ts cs
 
-  each_then : (b : ℕ) → b < length cs → content_at b new ≡ content (reached targets b (log ++ e ∷ []))
-  each_then b lt =
+  each_then : New → (b : ℕ) → b < length cs → content_at b new ≡ content (reached targets b (log ++ e ∷ []))
+  each_then n b lt =
       content_at-act (λ x. step (event x)) ts b cs lt
-      ∙ ap (run (λ x. step (event x)) (in_book b ts)) (h.each b lt)
-      ∙ sym (content-run event (reached targets b log) (in_book b ts) (h.sound b lt) (reaches b lt))
+      ∙ ap (run (λ x. step (event x)) (in_book b ts)) (h.each n b lt)
+      ∙ sym (content-run event (reached targets b log) (in_book b ts) (h.sound n b lt) (reaches n b lt))
       ∙ ap content (sym (reached-push targets b log e ∙ ap (λ es. reached targets b log ++ es) (meets b)))
 
-  sound_then : (b : ℕ) → b < length cs → IsSound (reached targets b (log ++ e ∷ []))
-  sound_then b lt = subst IsSound (sym (reached-push targets b log e ∙ ap (λ es. reached targets b log ++ es) (meets b))) (sound-run event (reached targets b log) (in_book b ts) (h.sound b lt) (reaches b lt))
+  sound_then : New → (b : ℕ) → b < length cs → IsSound (reached targets b (log ++ e ∷ []))
+  sound_then n b lt = subst IsSound (sym (reached-push targets b log e ∙ ap (λ es. reached targets b log ++ es) (meets b))) (sound-run event (reached targets b log) (in_book b ts) (h.sound n b lt) (reaches n b lt))
 
-  pub kept_then : AllLead targets new (filter_map registration_of (e ∷ [])) → Kept targets (log ++ e ∷ []) new
+  pub kept_then : AllLead targets new (filter_map registration_of (e ∷ [])) → Kept New targets (log ++ e ∷ []) new
   kept_then own = record {
-    each = λ b lt. each_then b (omega (arith, lt, length-act (λ x. step (event x)) ts cs));
-    sound = λ b lt. sound_then b (omega (arith, lt, length-act (λ x. step (event x)) ts cs));
+    each = λ n b lt. each_then n b (omega (arith, lt, length-act (λ x. step (event x)) ts cs));
+    sound = λ n b lt. sound_then n b (omega (arith, lt, length-act (λ x. step (event x)) ts cs));
     lead = subst (AllLead targets new) (sym (filter_map-append registration_of log (e ∷ [])))
       (lead-append targets new (filter_map registration_of log) (filter_map registration_of (e ∷ [])) (all_lead-act (λ x. step (event x)) stays ts targets cs below (filter_map registration_of log) h.lead) own) }
 
 -- nothing happened
-pub kept_same : (targets : Targets) (log : Log) (e : Call × Answer) (cs : List Content) → ((b : ℕ) → reached_by targets log b e ≡ []) → AllLead targets cs (filter_map registration_of (e ∷ [])) → Kept targets log cs →
-    Kept targets (log ++ e ∷ []) cs
+pub kept_same : {New : Type 0} (targets : Targets) (log : Log) (e : Call × Answer) (cs : List Content) → ((b : ℕ) → reached_by targets log b e ≡ []) → AllLead targets cs (filter_map registration_of (e ∷ [])) → Kept New targets log cs →
+    Kept New targets (log ++ e ∷ []) cs
 kept_same targets log e cs none own h =
     let same : (b : ℕ) → reached targets b log ≡ reached targets b (log ++ e ∷ []) = λ b. sym (reached-push targets b log e ∙ ap (λ es. reached targets b log ++ es) (none b) ∙ append-nil (reached targets b log)) in
     record {
-      each = λ b lt. h.each b lt ∙ ap content (same b);
-      sound = λ b lt. subst IsSound (same b) (h.sound b lt);
+      each = λ n b lt. h.each n b lt ∙ ap content (same b);
+      sound = λ n b lt. subst IsSound (same b) (h.sound n b lt);
       lead = subst (AllLead targets cs) (sym (filter_map-append registration_of log (e ∷ [])))
         (lead-append targets cs (filter_map registration_of log) (filter_map registration_of (e ∷ [])) h.lead own) }
 

@@ -1,0 +1,50 @@
+-- The calls of a replay.
+use Rattle.std.specs.Prelude.{◌≡◌, ℕ, zero, suc, ◌+◌, ◌<◌, ◌^◌, List, [], ◌∷◌, Option, None, Some, Bor}
+use Rattle.metrics.specs.declared.kind.MetricKind.{MetricKind}
+use Rattle.metrics.specs.declared.handles.Address.{Address}
+use Rattle.metrics.specs.declared.refused.Refused.{Refused}
+use Rattle.metrics.specs.declared.refused.Refused.TheVariants.{Memory, NoSuchAddress, NoSuchBook, BadHandle}
+use Rattle.metrics.specs.declared.calls.Call.{Call}
+use Rattle.metrics.specs.declared.calls.Call.TheVariants.{Describe, Register, Update as Change, Snapshot as Take}
+use Rattle.metrics.specs.declared.calls.Answer.{Answer}
+use Rattle.metrics.specs.History.{Log}
+use Rattle.metrics.specs.Answering.{Handle}
+
+-- the refusal of a call that had acted on this many targets before
+abbrev pub after_front : ℕ → Refused → Refused
+after_front front (Memory acted) = Memory (front + acted)
+after_front front NoSuchAddress = NoSuchAddress
+after_front front NoSuchBook = NoSuchBook
+after_front front BadHandle = BadHandle
+
+-- the count of targets fits
+abbrev pub CanFollow : ℕ → Refused → Type 0
+CanFollow front (Memory acted) = front + acted < 2 ^ 64
+CanFollow front NoSuchAddress = Unit {0}
+CanFollow front NoSuchBook = Unit {0}
+CanFollow front BadHandle = Unit {0}
+
+-- a handle that lends its addresses
+abbrev pub handle_seen : MetricKind × Bor (List Address) → Handle
+handle_seen h = (h.0, h.1.now)
+
+-- the calls with their answers
+abbrev pub log_of : List Call → List Answer → Log
+log_of [] as' = []
+log_of (c ∷ cs) [] = []
+log_of (c ∷ cs) (a ∷ as') = (c, a) ∷ log_of cs as'
+
+abbrev pub register_kind : Call → Option MetricKind
+register_kind (Register kind key) = Some kind
+register_kind (Describe kind name unit text) = None
+register_kind (Change n u) = None
+register_kind (Take b) = None
+
+abbrev pub place_in_front : Option MetricKind → ℕ → List ℕ → List ℕ
+place_in_front None i is = is
+place_in_front (Some kind) i is = i ∷ is
+
+-- the places of the register calls in a list of calls that begins at a place
+abbrev pub register_places : ℕ → List Call → List ℕ
+register_places i [] = []
+register_places i (c ∷ cs) = place_in_front (register_kind c) i (register_places (suc i) cs)
