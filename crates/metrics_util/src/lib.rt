@@ -1,9 +1,7 @@
 //! Layers over recorders, and replays of lists of calls.
 #![tactic(auto)]
 
-mod layers;
-mod replay;
+mod replaying;
 
-pub use layers::{Child, PrefixLayer};
 pub use metrics::{CompositeKey, MetricKind};
-pub use replay::{answer_of, replay};
+pub use replaying::{answer_of, replay};
