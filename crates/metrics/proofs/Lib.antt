@@ -2,3 +2,4 @@ pub mod NamesLemmas
 pub mod ContentLemmas
 pub mod HistoryLemmas
 pub mod AnsweringLemmas
+pub mod MeaningLemmas

@@ -1,0 +1,10 @@
+use Rattle.std.proofs.Common.{arith}
+use Rattle.metrics.proofs.MeaningLemmas.{length-registers}
+use Rattle.metrics_util.specs.Nodes.{node_meaning}
+use Rattle.metrics_util.proofs.layers.child.ChildRecorder.register.Goals as goal
+
+pub invariant_of-self : goal.invariant_of-self
+invariant_of-self g c =
+    let M = node_meaning g.B.Recorder.meaning in
+    let same = length-registers (M c.args.self.now.node) (M c.register.new.self) c.args.kind c.args.key.now _ c.register.ensures.registers in
+    record { most = omega (arith, same, c.args.self.now.most) }

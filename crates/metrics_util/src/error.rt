@@ -1,0 +1,30 @@
+//! What the library refuses.
+ghost use Rattle.std.specs.Prelude.{◌≡◌};
+ghost use Rattle.metrics_util.specs.declared.error.Error.TheVariants.{Memory as MemoryRefused};
+
+use std::alloc::{AllocError, AllocFailed};
+use thiserror::Error as ThisError;
+
+/// Why a call of the library was refused. What was handed in comes back where the call says so.
+#[derive(Clone, Copy, Debug, PartialEq, Eq, ThisError)]
+pub enum Error {
+    /// A growth found no memory. Nothing changed.
+    #[error("memory")]
+    Memory,
+}
+
+impl From<AllocError> for Error {
+    ghost from_gives = { λ e r. r ≡ MemoryRefused };
+
+    fn from(_error: AllocError) -> Error {
+        Error::Memory
+    }
+}
+
+impl<T: Drop> From<AllocFailed<T>> for Error {
+    ghost from_gives = { λ e r. r ≡ MemoryRefused };
+
+    fn from(_error: AllocFailed<T>) -> Error {
+        Error::Memory
+    }
+}
