@@ -6,3 +6,4 @@ pub mod Meaning
 pub mod Layers
 pub mod History
 pub mod Answering
+pub mod Examples

@@ -4,6 +4,7 @@
 mod calls;
 mod common;
 mod debugging;
+mod examples;
 mod handles;
 mod items;
 mod key;
@@ -16,6 +17,7 @@ mod text;
 pub use calls::{Answer, Call};
 pub use common::Unit;
 pub use debugging::{DebugValue, Row, Snapshot};
+pub use examples::worked_examples;
 pub use handles::{Address, Update};
 pub use items::Items;
 pub use key::{CompositeKey, Key, KeyName};
