@@ -3,3 +3,5 @@ pub mod ContentLemmas
 pub mod HistoryLemmas
 pub mod AnsweringLemmas
 pub mod MeaningLemmas
+pub mod LayersLemmas
+pub mod BookLemmas

@@ -110,6 +110,10 @@ pub record Route : Type 0 where
 abbrev pub fits : MetricKind → List ℕ → Route → Bool
 fits kind name r = mask_has kind r.mask && starts_with nat_eq name r.pattern
 
+-- no route fits
+abbrev pub NoneFits : List Route → MetricKind → List ℕ → Type 0
+NoneFits routes kind name = (i : ℕ) (r : Route) → slice_get routes i ≡ Some r → fits kind name r ≡ false
+
 -- the winner: a fitting route such that no fitting route has a longer pattern, and no later one has the same
 pub record IsWinner (routes : List Route) (kind : MetricKind) (name : List ℕ) (r : Route) : Type 0 where
   pub at : ℕ

@@ -7,3 +7,4 @@ pub mod Layers
 pub mod History
 pub mod Answering
 pub mod Examples
+pub mod Laws
