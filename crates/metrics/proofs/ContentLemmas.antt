@@ -11,7 +11,9 @@ use Rattle.metrics.specs.declared.debugging.DebugValue.{DebugValue}
 use Rattle.metrics.specs.Names.{KeyParts, SeriesKey, kind_eq, series_key_eq}
 use Rattle.metrics.specs.Targets.{at_book}
 use Rattle.metrics.specs.Book.{Content, Series, Description, new_value, new_series, updated, value_from, with_update, is_of, reset, later, described_again, describe_in, register_in, update_in, reset_in, place}
-use Rattle.metrics.specs.History.{Event, describes, registers, updates, snapshots, key_of, firsts_from, series, last, description_of, description, is_snapshot, after_snapshot, update_of, since, series_now, content}
+use Rattle.metrics.specs.Rows.{last}
+use Rattle.metrics.specs.History.{Event, describes, registers, updates, snapshots, key_of, firsts_from, series, description_of, description, is_snapshot, after_snapshot, update_of, since, series_now, content}
+use Rattle.metrics.proofs.RowsLemmas.{last-push}
 use Rattle.metrics.proofs.NamesLemmas.{key_exact, key_same}
 
 pub or_true : (b : Bool) → (b || true) ≡ true
@@ -185,11 +187,6 @@ now-reset es (k ∷ ks) =
     ∙ ap (λ ss. new_series k ∷ ss) (now-reset es ks)
 
 -- ---- the descriptions
-
-last-push : {A : Type 0} (xs : List A) (x : A) → last (xs ++ x ∷ []) ≡ Some x
-last-push [] x = refl
-last-push (y ∷ []) x = refl
-last-push (y ∷ z ∷ zs) x = last-push (z ∷ zs) x
 
 last-later : {A : Type 0} (xs : List A) (o : Option A) → last (xs ++ cons_option o []) ≡ later o (last xs)
 last-later xs None = ap last (append-nil xs)

@@ -1,4 +1,5 @@
 pub mod NamesLemmas
+pub mod RowsLemmas
 pub mod ContentLemmas
 pub mod HistoryLemmas
 pub mod AnsweringLemmas

@@ -14,6 +14,7 @@ use Rattle.metrics.specs.declared.calls.Answer.TheVariants.{Described, Registere
 use Rattle.metrics.specs.Names.{KeyParts, SeriesKey, kind_eq, series_key_eq}
 use Rattle.metrics.specs.Targets.{in_book}
 use Rattle.metrics.specs.Book.{Content, Series, Description, RowParts, kind_of, new_value, value_from, rows}
+use Rattle.metrics.specs.Rows.{last}
 use Rattle.metrics.specs.Meaning.{Targets, key_there, TakesMemory}
 
 -- the calls with their answers, in order
@@ -107,11 +108,6 @@ abbrev pub series : List Event → List SeriesKey
 series events = firsts_from [] (filter_map key_of events)
 
 -- ---- the description of a name
-
-abbrev pub last : {A : Type 0} → List A → Option A
-last [] = None
-last (x ∷ []) = Some x
-last (x ∷ y ∷ ys) = last (y ∷ ys)
 
 abbrev pub description_of : MetricKind → List ℕ → Event → Option (Option Measure × List ℕ)
 description_of kind name (describes k unit text n) = cond (kind_eq k kind && bytes_eq n name) (Some (unit, text)) None

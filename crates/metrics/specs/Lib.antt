@@ -2,6 +2,7 @@ pub mod Names
 pub mod Targets
 pub mod TargetsLaws
 pub mod Book
+pub mod Rows
 pub mod Meaning
 pub mod Layers
 pub mod History

@@ -1,10 +1,15 @@
 //! Values and rows of a snapshot.
-ghost use Rattle.std.specs.Prelude.{◌≡◌};
+ghost use Rattle.std.specs.Prelude.{◌≡◌, ◌≤◌, ◌<◌, ◌+◌, IfOk, IfErr, Some, cond};
+ghost use Rattle.std.specs.HashMap.{get, spare};
+ghost use Rattle.metrics.specs.Names.{SeriesKey, series_key_eq};
+ghost use Rattle.metrics.specs.Rows.{last_row};
 
 use crate::common::Unit;
 use crate::items::Items;
 use crate::key::CompositeKey;
 use crate::text::Text;
+use std::alloc::Global;
+use std::collections::HashMap;
 use std::marker::Model;
 
 /// The value of a series.
@@ -19,6 +24,9 @@ pub enum DebugValue {
 
 /// A row of a snapshot: composite key, unit, description and value.
 pub type Row = (CompositeKey, Option<Unit>, Option<Text>, DebugValue);
+
+/// The rest of a row, behind its composite key.
+pub type RowValue = (Option<Unit>, Option<Text>, DebugValue);
 
 /// The rows of a book, in order of first registration.
 #[derive(Debug, Drop)]
@@ -56,4 +64,31 @@ impl Snapshot {
         let Snapshot { rows } = self;
         rows
     }
+
+    /// The rows by their composite keys. Of rows of one key, which no snapshot of a recorder has, the last one
+    /// stays. Where memory is refused the snapshot comes back.
+    pub fn into_hashmap(self, alloc: Global) -> Result<HashMap<CompositeKey, RowValue>, Snapshot>
+        ensures ok { IfOk result (λ m. (k : SeriesKey) → get series_key_eq m k ≡ last_row k self) }
+        ensures err { IfErr result (λ s. s ≡ self) }
+    {
+        let Ok(mut map) = HashMap::with_capacity(alloc, self.rows.len()) else {
+            return Err(self);
+        };
+        let Snapshot { rows } = self;
+        for (key, unit, text, value) in rows {
+            put(&mut map, key, (unit, text, value));
+        }
+        Ok(map)
+    }
+}
+
+/// Puts a row into a map that has room for it.
+fn put(map: &mut HashMap<CompositeKey, RowValue>, key: CompositeKey, value: RowValue)
+    requires { 0 < spare map.old }
+    ensures rows { (k : SeriesKey) → get series_key_eq map.new k ≡ cond (series_key_eq key k) (Some value) (get series_key_eq map.old k) }
+    ensures room { spare map.old ≤ spare map.new + 1 }
+{
+    let Ok(_) = map.insert(key, value) else {
+        unreachable!()
+    };
 }

@@ -17,7 +17,7 @@ mod text;
 
 pub use calls::{Answer, Call};
 pub use common::Unit;
-pub use debugging::{DebugValue, Row, Snapshot};
+pub use debugging::{DebugValue, Row, RowValue, Snapshot};
 pub use examples::worked_examples;
 pub use handles::{Address, Update};
 pub use items::Items;

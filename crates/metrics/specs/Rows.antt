@@ -1,0 +1,24 @@
+-- The rows of a snapshot by their keys.
+use Rattle.std.specs.Prelude.{ℕ, cond, List, [], ◌∷◌, Option, None, Some}
+use Rattle.std.specs.List.{filter_map}
+use Rattle.metrics.specs.declared.common.Unit.{Unit as Measure}
+use Rattle.metrics.specs.declared.debugging.DebugValue.{DebugValue}
+use Rattle.metrics.specs.Names.{SeriesKey, series_key_eq}
+use Rattle.metrics.specs.Book.{RowParts}
+
+-- what stands behind the key of a row
+abbrev pub RowRest : Type 0
+RowRest = Option Measure × Option (List ℕ) × DebugValue
+
+abbrev pub row_at : SeriesKey → RowParts → Option RowRest
+row_at k r = cond (series_key_eq r.0 k) (Some (r.1, r.2, r.3)) None
+
+-- the last element of a list
+abbrev pub last : {A : Type 0} → List A → Option A
+last [] = None
+last (x ∷ []) = Some x
+last (x ∷ y ∷ ys) = last (y ∷ ys)
+
+-- the last row of a key
+abbrev pub last_row : SeriesKey → List RowParts → Option RowRest
+last_row k rows = last (filter_map (row_at k) rows)
