@@ -1,1 +1,4 @@
 pub mod ReplayLemmas
+pub mod SamplesLemmas
+pub mod SeriesLemmas
+pub mod DescriptionsLemmas

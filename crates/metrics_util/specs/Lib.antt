@@ -1,2 +1,7 @@
 pub mod Replaying
 pub mod Nodes
+pub mod DebuggingValues
+pub mod DebuggingPlaces
+pub mod DebuggingSeries
+pub mod DebuggingUpdates
+pub mod Debugging

@@ -1,11 +1,11 @@
-//! Layers over recorders, and replays of lists of calls.
+//! Layers over recorders, books in memory, and replays of lists of calls.
 #![tactic(auto)]
 
+pub mod debugging;
 mod error;
-mod layers;
+pub mod layers;
 mod replaying;
 
 pub use error::Error;
-pub use layers::{Child, PrefixLayer};
 pub use metrics::{CompositeKey, MetricKind};
 pub use replaying::{answer_of, replay};

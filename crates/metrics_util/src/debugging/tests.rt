@@ -1,0 +1,179 @@
+use super::{DebuggingRecorder, Snapshotter};
+use metrics::{
+    Address, DebugValue, Key, KeyName, Label, MetricKind, Recorder, Refused, Row, Snapshot, Unit,
+    Update,
+};
+use std::alloc::Global;
+use std::process::Abort;
+use std::test::Fail;
+
+fn registered(
+    alloc: Global,
+    on: &mut DebuggingRecorder,
+    kind: MetricKind,
+    name: &str,
+) -> Result<Address, Fail> {
+    let key = Key::from_name(alloc, name)?;
+    let found = on.register(alloc, kind, &key)?;
+    Ok(*found.as_slice().first().ok_or("no address")?)
+}
+
+fn snapped(alloc: Global, on: &mut DebuggingRecorder) -> Result<Vec<Row>, Fail> {
+    Ok(on.snapshot(alloc, 0)?.into_vec())
+}
+
+fn value_at(rows: &[Row], place: usize) -> Result<&DebugValue, Fail> {
+    Ok(&rows.get(place).ok_or("no row")?.3)
+}
+
+fn one_round(rt: &impl Abort, alloc: Global, on: &mut DebuggingRecorder) -> Result<(), Fail> {
+    let mut labels = Vec::new(alloc);
+    labels.push(Label::new(alloc, "counter.key", "counter.value")?)?;
+    let key = Key::from_parts(alloc, "test.counter", labels)?;
+    let found = on.register(alloc, MetricKind::Counter, &key)?;
+    on.update(
+        *found.as_slice().first().ok_or("no address")?,
+        Update::Increment(123),
+    )?;
+    let incr = registered(alloc, on, MetricKind::Gauge, "test.gauge.incr")?;
+    on.update(incr, Update::Add(456))?;
+    let set = registered(alloc, on, MetricKind::Gauge, "test.gauge.set")?;
+    on.update(set, Update::Set(654))?;
+    let histogram = registered(alloc, on, MetricKind::Histogram, "test.histogram")?;
+    on.update(histogram, Update::Record(789))?;
+    let rows = snapped(alloc, on)?;
+    assert_eq!(rt; rows.len(), 4);
+    for (_, unit, text, _) in rows.as_slice() {
+        assert!(rt; unit.is_none());
+        assert!(rt; text.is_none());
+    }
+    let first = rows.as_slice().first().ok_or("no row")?;
+    assert!(rt; first.0.kind() == MetricKind::Counter);
+    assert!(rt; *first.0.key() == key);
+    assert!(rt; *value_at(rows.as_slice(), 0)? == DebugValue::Counter(123));
+    assert!(rt; *value_at(rows.as_slice(), 1)? == DebugValue::Gauge(456));
+    assert!(rt; *value_at(rows.as_slice(), 2)? == DebugValue::Gauge(654));
+    match value_at(rows.as_slice(), 3)? {
+        DebugValue::Histogram(samples) => assert!(rt; samples.as_slice() == [789].as_slice()),
+        _ => panic!(rt; "no histogram"),
+    }
+    Ok(())
+}
+
+#[test]
+fn two_rounds(rt: HostRuntime) -> Result<(), Fail> {
+    let alloc = rt.alloc();
+    let mut on = DebuggingRecorder::new(alloc)?;
+    one_round(&rt, alloc, &mut on)?;
+    one_round(&rt, alloc, &mut on)
+}
+
+#[test]
+fn descriptions_stay(rt: HostRuntime) -> Result<(), Fail> {
+    let alloc = rt.alloc();
+    let mut on = DebuggingRecorder::new(alloc)?;
+    let name = KeyName::new(alloc, "c")?;
+    assert_eq!(rt;
+        on.describe(alloc, MetricKind::Counter, &name, Some(Unit::Bytes), "one")?,
+        1
+    );
+    assert_eq!(rt;
+        on.describe(alloc, MetricKind::Counter, &name, None, "two")?,
+        1
+    );
+    assert_eq!(rt; snapped(alloc, &mut on)?.len(), 0);
+    registered(alloc, &mut on, MetricKind::Counter, "c")?;
+    let rows = snapped(alloc, &mut on)?;
+    assert_eq!(rt; rows.len(), 1);
+    let row = rows.as_slice().first().ok_or("no row")?;
+    assert!(rt; row.1 == Some(Unit::Bytes));
+    let text = row.2.as_ref().ok_or("no text")?;
+    assert!(rt; text.as_str() == "two");
+    assert!(rt; row.3 == DebugValue::Counter(0));
+    Ok(())
+}
+
+#[test]
+fn counters_wrap(rt: HostRuntime) -> Result<(), Fail> {
+    let alloc = rt.alloc();
+    let mut on = DebuggingRecorder::new(alloc)?;
+    let at = registered(alloc, &mut on, MetricKind::Counter, "c")?;
+    on.update(at, Update::Increment(18446744073709551615))?;
+    on.update(at, Update::Increment(2))?;
+    assert!(rt; *value_at(snapped(alloc, &mut on)?.as_slice(), 0)? == DebugValue::Counter(1));
+    on.update(at, Update::Absolute(7))?;
+    on.update(at, Update::Absolute(5))?;
+    assert!(rt; *value_at(snapped(alloc, &mut on)?.as_slice(), 0)? == DebugValue::Counter(7));
+    Ok(())
+}
+
+#[test]
+fn gauges_stop_at_the_end(rt: HostRuntime) -> Result<(), Fail> {
+    let alloc = rt.alloc();
+    let mut on = DebuggingRecorder::new(alloc)?;
+    let at = registered(alloc, &mut on, MetricKind::Gauge, "g")?;
+    on.update(at, Update::Set(9223372036854775807))?;
+    on.update(at, Update::Add(1))?;
+    assert!(rt;
+        *value_at(snapped(alloc, &mut on)?.as_slice(), 0)? == DebugValue::Gauge(9223372036854775807)
+    );
+    Ok(())
+}
+
+#[test]
+fn blocks_come_newest_first(rt: HostRuntime) -> Result<(), Fail> {
+    let alloc = rt.alloc();
+    let mut on = DebuggingRecorder::new(alloc)?;
+    let at = registered(alloc, &mut on, MetricKind::Histogram, "h")?;
+    for i in 0..65i64 {
+        on.update(at, Update::Record(i))?;
+    }
+    let mut expected = Vec::new(alloc);
+    expected.push(64i64)?;
+    for i in 0..64i64 {
+        expected.push(i)?;
+    }
+    match value_at(snapped(alloc, &mut on)?.as_slice(), 0)? {
+        DebugValue::Histogram(samples) => assert!(rt; samples.as_slice() == expected.as_slice()),
+        _ => panic!(rt; "no histogram"),
+    }
+    match value_at(snapped(alloc, &mut on)?.as_slice(), 0)? {
+        DebugValue::Histogram(samples) => assert!(rt; samples.as_slice().is_empty()),
+        _ => panic!(rt; "no histogram"),
+    }
+    Ok(())
+}
+
+#[test]
+fn other_addresses_are_refused(rt: HostRuntime) -> Result<(), Fail> {
+    let alloc = rt.alloc();
+    let mut on = DebuggingRecorder::new(alloc)?;
+    let at = registered(alloc, &mut on, MetricKind::Counter, "c")?;
+    assert!(rt; on.holds(MetricKind::Counter, at));
+    assert!(rt; !on.holds(MetricKind::Gauge, at));
+    let other = Address { book: 1, series: 0 };
+    assert!(rt; on.update(other, Update::Increment(1)) == Err(Refused::NoSuchAddress));
+    assert!(rt; on.update(at, Update::Set(1)) == Err(Refused::NoSuchAddress));
+    let again = registered(alloc, &mut on, MetricKind::Counter, "c")?;
+    assert!(rt; again == at);
+    let gauge = registered(alloc, &mut on, MetricKind::Gauge, "c")?;
+    assert_eq!(rt; gauge.series, 1);
+    Ok(())
+}
+
+#[test]
+fn a_snapshotter_takes_its_book(rt: HostRuntime) -> Result<(), Fail> {
+    let alloc = rt.alloc();
+    let mut on = DebuggingRecorder::new(alloc)?;
+    registered(alloc, &mut on, MetricKind::Counter, "c")?;
+    let rows = Snapshotter::of(0).snapshot(alloc, &mut on)?;
+    assert_eq!(rt; rows.as_slice().len(), 1);
+    assert!(rt; on.snapshotter() == Snapshotter::of(0));
+    assert!(rt;
+        matches!(
+            &Snapshotter::of(1).snapshot(alloc, &mut on),
+            Err(Refused::NoSuchBook)
+        )
+    );
+    Ok(())
+}
