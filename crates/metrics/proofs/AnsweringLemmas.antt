@@ -53,12 +53,13 @@ describe_kept : {New : Type 0} (old new : Meaning) (log : Log) (kind : MetricKin
     Kept New old.targets log old.contents → DescribesCall old new kind name unit text a →
     Kept New old.targets (log ++ (Describe kind name unit text, a) ∷ []) new.contents × (New → IsPlain old.targets (length old.contents) log (Describe kind name unit text) a)
 describe_kept {New = New} old new log kind name unit text a h r =
-    let front = front_described old new kind name unit text a r in
-    (subst (λ cs. Kept New old.targets (log ++ (Describe kind name unit text, a) ∷ []) cs) (sym front.0)
-      (kept_then old.targets log (Describe kind name unit text, a) old.contents (describes kind unit text) (take (acted a) (old.targets kind name)) old.below (λ b. refl)
-        (λ n b lt. reaches_describes kind unit text (reached old.targets b log) (in_book b (take (acted a) (old.targets kind name))))
-        (stays-describe kind unit text) h tt),
-     λ n. front.1)
+    let front = front_described old new kind name unit text a r in (
+      subst (λ cs. Kept New old.targets (log ++ (Describe kind name unit text, a) ∷ []) cs) (sym front.0)
+          (kept_then old.targets log (Describe kind name unit text, a) old.contents (describes kind unit text) (take (acted a) (old.targets kind name)) old.below (λ b. refl)
+          (λ n b lt. reaches_describes kind unit text (reached old.targets b log) (in_book b (take (acted a) (old.targets kind name))))
+          (stays-describe kind unit text) h tt),
+      λ n. front.1,
+    )
 
 -- ---- register
 
@@ -72,17 +73,18 @@ register_with : {New : Type 0} (old new : Meaning) (log : Log) (kind : MetricKin
     Kept New old.targets (log ++ (Register kind key, a) ∷ []) new.contents
 register_with {New = New} old new log kind key a ts e c own h =
     subst (λ cs. Kept New old.targets (log ++ (Register kind key, a) ∷ []) cs) (sym c)
-      (kept_then old.targets log (Register kind key, a) old.contents (λ n. registers (key_there kind key.labels n)) ts old.below
-        (λ b. ap (λ us. map (λ n. registers (key_there kind key.labels n)) (in_book b us)) (sym e))
-        (λ n b lt. reaches_registers (key_there kind key.labels) (reached old.targets b log) (in_book b ts))
-        (stays-register (key_there kind key.labels)) h (subst (λ cs. LeadsTo old.targets cs kind key a) c own, tt))
+    (kept_then old.targets log (Register kind key, a) old.contents (λ n. registers (key_there kind key.labels n)) ts old.below
+    (λ b. ap (λ us. map (λ n. registers (key_there kind key.labels n)) (in_book b us)) (sym e))
+    (λ n b lt. reaches_registers (key_there kind key.labels) (reached old.targets b log) (in_book b ts))
+    (stays-register (key_there kind key.labels)) h (subst (λ cs. LeadsTo old.targets cs kind key a) c own, tt))
 
 in_book-none : {X : Type 0} (b : ℕ) (ts : List (ℕ × X)) → IsNot b ts → in_book b ts ≡ []
 in_book-none b [] h = refl
 in_book-none b (t ∷ ts) h =
     elim (nat_eq t.0 b) as (λ q. nat_eq t.0 b ≡ q → cond q (t.1 ∷ in_book b ts) (in_book b ts) ≡ []) [
-        true ↦ λ e. absurd (h.0 (eqb-true t.0 b e))
-      | false ↦ λ e. in_book-none b ts h.1 ] refl
+      | true ↦ λ e. absurd (h.0 (eqb-true t.0 b e))
+      | false ↦ λ e. in_book-none b ts h.1
+    ] refl
 
 addresses-other : (kind : MetricKind) (labels : List (List ℕ × List ℕ)) (b : ℕ) (g : Content → Content) (ts : List (ℕ × List ℕ)) (cs : List Content) → AllBelow (length cs) ts → IsNot b ts →
     addresses kind labels ts (at_book b g cs) ≡ addresses kind labels ts cs
@@ -107,13 +109,13 @@ addresses_after kind labels (t ∷ ts) cs b d =
     let len : length cs1 ≡ length cs = length-at_book t.0 (f t.1) cs in
     let b1 : AllBelow (length cs1) ts = subst (λ n. AllBelow n ts) (sym len) b.1 in
     let own : content_at t.0 cs1 ≡ f t.1 (content_at t.0 cs) =
-        content_at-at_book t.0 t.0 (f t.1) cs b.0 ∙ ap (λ q. cond q (f t.1 (content_at t.0 cs)) (content_at t.0 cs)) (eq-eqb t.0 t.0 refl) in
+    content_at-at_book t.0 t.0 (f t.1) cs b.0 ∙ ap (λ q. cond q (f t.1 (content_at t.0 cs)) (content_at t.0 cs)) (eq-eqb t.0 t.0 refl) in
     let here : place k (content_at t.0 (act f ts cs1)) ≡ place k (content_at t.0 cs) =
-        ap (place k) (content_at-act f ts t.0 cs1 (omega (arith, b.0, len)) ∙ ap (λ xs. run f xs (content_at t.0 cs1)) (in_book-none t.0 ts d.0) ∙ own)
-        ∙ place-registered k (content_at t.0 cs) in
+    ap (place k) (content_at-act f ts t.0 cs1 (omega (arith, b.0, len)) ∙ ap (λ xs. run f xs (content_at t.0 cs1)) (in_book-none t.0 ts d.0) ∙ own)
+    ∙ place-registered k (content_at t.0 cs) in
     ap (λ p. record { book = t.0; series = p } ∷ addresses kind labels ts (act f ts cs1)) here
     ∙ ap (λ as'. address_in kind labels cs t ∷ as')
-        (addresses_after kind labels ts cs1 b1 d.1 ∙ addresses-other kind labels t.0 (f t.1) ts cs b.1 d.0)
+    (addresses_after kind labels ts cs1 b1 d.1 ∙ addresses-other kind labels t.0 (f t.1) ts cs b.1 d.0)
 
 map_below : {A : Type 0} (f g : ℕ × List ℕ → A) (k : ℕ) (ts : List (ℕ × List ℕ)) → AllBelow k ts → ((t : ℕ × List ℕ) → t.0 < k → f t ≡ g t) → map f ts ≡ map g ts
 map_below f g k [] b h = refl
@@ -124,9 +126,9 @@ plain_addresses : {New : Type 0} (old : Meaning) (log : Log) (kind : MetricKind)
     addresses kind key.labels (old.targets kind key.name) old.contents ≡ map (plain_address old.targets log kind key) (old.targets kind key.name)
 plain_addresses old log kind key h n =
     map_below (address_in kind key.labels old.contents) (plain_address old.targets log kind key) (length old.contents) (old.targets kind key.name) (old.below kind key.name)
-      (λ t lt. ap (λ s. record { book = t.0; series = s })
-        (ap (place (key_there kind key.labels t.1)) (h.each n t.0 lt)
-         ∙ place-now (reached old.targets t.0 log) (key_there kind key.labels t.1) (series (reached old.targets t.0 log))))
+    (λ t lt. ap (λ s. record { book = t.0; series = s })
+    (ap (place (key_there kind key.labels t.1)) (h.each n t.0 lt)
+    ∙ place-now (reached old.targets t.0 log) (key_there kind key.labels t.1) (series (reached old.targets t.0 log))))
 
 register_kept : {New : Type 0} (old new : Meaning) (log : Log) (kind : MetricKind) (key : KeyParts) (a : Answer) →
     Kept New old.targets log old.contents → RegistersCall old new kind key a →
@@ -137,9 +139,10 @@ register_kept old new log kind key (Registered found) h r =
     let all : ts ≡ take (length found) ts = sym (ap (λ k. take k ts) (ap length r.0 ∙ length-map _ ts) ∙ take-length ts) in
     let there : AllThere (key_there kind key.labels) ts new.contents = subst (AllThere (key_there kind key.labels) ts) (sym r.1) (all_there (key_there kind key.labels) ts old.contents below) in
     let own : found ≡ addresses kind key.labels ts new.contents =
-        r.0 ∙ sym (addresses_after kind key.labels ts old.contents below (old.distinct kind key.name)) ∙ ap (addresses kind key.labels ts) (sym r.1) in
-    (register_with old new log kind key (Registered found) ts all r.1 (own, there) h,
-     λ n. ap Registered (r.0 ∙ plain_addresses old log kind key h n))
+    r.0 ∙ sym (addresses_after kind key.labels ts old.contents below (old.distinct kind key.name)) ∙ ap (addresses kind key.labels ts) (sym r.1) in (
+      register_with old new log kind key (Registered found) ts all r.1 (own, there) h,
+      λ n. ap Registered (r.0 ∙ plain_addresses old log kind key h n),
+    )
 register_kept old new log kind key (Denied (Memory n)) h r = (register_with old new log kind key (Denied (Memory n)) _ refl r.1 tt h, λ n. r.0)
 register_kept old new log kind key (Denied NoSuchAddress) h r = absurd r
 register_kept old new log kind key (Denied NoSuchBook) h r = absurd r
@@ -167,8 +170,9 @@ there_in_book key es b (suc n) [] cs e h = tt
 there_in_book key es b (suc n) (t ∷ ts) cs e h =
     let more = there_in_book key es b n ts cs e h.1 in
     elim (nat_eq t.0 b) as (λ q. nat_eq t.0 b ≡ q → AllIn key (series es) (cond q (t.1 ∷ in_book b (take n ts)) (in_book b (take n ts)))) [
-        true ↦ λ g. (sym (any-now es (key t.1) (series es)) ∙ ap (is_there (key t.1)) (sym (ap (λ d. content_at d cs) (eqb-true t.0 b g) ∙ e)) ∙ h.0, more)
-      | false ↦ λ g. more ] refl
+      | true ↦ λ g. (sym (any-now es (key t.1) (series es)) ∙ ap (is_there (key t.1)) (sym (ap (λ d. content_at d cs) (eqb-true t.0 b g) ∙ e)) ∙ h.0, more)
+      | false ↦ λ g. more
+    ] refl
 
 front_updated : (old new : Meaning) (ts : List (ℕ × ℕ)) (u : Update) (a : Answer) → UpdatesHeld old new ts u a →
     (new.contents ≡ act (update_in u) (take (acted a) ts) old.contents) × IsOrMeets (Updated (length ts)) (λ n. TakesMemory u × (n ≤ length ts)) a
@@ -203,10 +207,11 @@ UpdateKept New old new log n u a o =
 
 bad_kept : {New : Type 0} (old new : Meaning) (log : Log) (n : ℕ) (u : Update) (a : Answer) (o : Option Registration) → registration n log ≡ o → Kept New old.targets log old.contents → IsBadHandle old new a → plain_update old.targets u o ≡ Denied BadHandle →
     UpdateKept New old new log n u a o
-bad_kept {New = New} old new log n u a o e h r p =
-    (subst (λ cs. Kept New old.targets (log ++ (Change n u, a) ∷ []) cs) (sym r.1)
+bad_kept {New = New} old new log n u a o e h r p = (
+  subst (λ cs. Kept New old.targets (log ++ (Change n u, a) ∷ []) cs) (sym r.1)
       (kept_same old.targets log (Change n u, a) old.contents (λ b. ap (λ x. updates_by old.targets b u x (registration n log)) r.0 ∙ none b (registration n log)) tt h),
-     λ w. bad_plain (plain_update old.targets u o) a (λ m. UpdateMayMeet old.targets u m o) r.0 p)
+  λ w. bad_plain (plain_update old.targets u o) a (λ m. UpdateMayMeet old.targets u m o) r.0 p,
+)
   where
     none : (b : ℕ) (q : Option Registration) → updates_by old.targets b u (Denied BadHandle) q ≡ []
     none b None = refl
@@ -236,24 +241,26 @@ given_kept {New = New} old new log n u a kind key (Registered found) e h l r = b
         let there : AllThere there_key ts old.contents = subst (λ j. AllThere (key_there j key.labels) ts old.contents) (sym same) l.1 in
         let here : found ≡ addresses (kind_of u) key.labels ts old.contents = l.0 ∙ ap (λ j. addresses j key.labels ts old.contents) (sym same) in
         let done : new.contents ≡ act (λ name. step (updates (there_key name) u)) (take (acted a) ts) old.contents =
-            front.0 ∙ ap (λ f. act (update_in u) (take (acted a) (places f)) old.contents) here
-            ∙ act-places u (kind_of u) key.labels old.contents (acted a) ts old.contents (λ q b lt. refl) (old.below kind key.name) in
-        let many : length (places found) ≡ length ts = length-map _ found ∙ ap length l.0 ∙ length-map _ ts in
-        (subst (λ cs. Kept New old.targets (log ++ (Change n u, a) ∷ []) cs) (sym done)
-          (kept_then old.targets log (Change n u, a) old.contents (λ name. updates (there_key name) u) (take (acted a) ts) old.below
-            (λ b. ap (updates_by old.targets b u a) e)
-            (λ w b lt. reaches_updates there_key u (reached old.targets b log) (in_book b (take (acted a) ts)) (there_in_book there_key (reached old.targets b log) b (acted a) ts old.contents (h.each w b lt) there))
-            (stays-update there_key u) h tt),
-         λ w. meets-same (Updated (length (places found))) (plain_update old.targets u (Some reg)) (λ m. TakesMemory u × (m ≤ length (places found))) (λ m. UpdateMayMeet old.targets u m (Some reg)) a
-           (ap Updated many ∙ ap (λ q. cond q (Updated (length ts)) (Denied BadHandle)) (sym k))
-           (λ m g. (k, g.0, subst (λ i. m ≤ i) many g.1)) front.1)
+        front.0 ∙ ap (λ f. act (update_in u) (take (acted a) (places f)) old.contents) here
+        ∙ act-places u (kind_of u) key.labels old.contents (acted a) ts old.contents (λ q b lt. refl) (old.below kind key.name) in
+        let many : length (places found) ≡ length ts = length-map _ found ∙ ap length l.0 ∙ length-map _ ts in (
+          subst (λ cs. Kept New old.targets (log ++ (Change n u, a) ∷ []) cs) (sym done)
+              (kept_then old.targets log (Change n u, a) old.contents (λ name. updates (there_key name) u) (take (acted a) ts) old.below
+              (λ b. ap (updates_by old.targets b u a) e)
+              (λ w b lt. reaches_updates there_key u (reached old.targets b log) (in_book b (take (acted a) ts)) (there_in_book there_key (reached old.targets b log) b (acted a) ts old.contents (h.each w b lt) there))
+              (stays-update there_key u) h tt),
+          λ w. meets-same (Updated (length (places found))) (plain_update old.targets u (Some reg)) (λ m. TakesMemory u × (m ≤ length (places found))) (λ m. UpdateMayMeet old.targets u m (Some reg)) a
+              (ap Updated many ∙ ap (λ q. cond q (Updated (length ts)) (Denied BadHandle)) (sym k))
+              (λ m g. (k, g.0, subst (λ i. m ≤ i) many g.1)) front.1,
+        )
 
 update_kept : {New : Type 0} (old new : Meaning) (log : Log) (n : ℕ) (u : Update) (a : Answer) → Kept New old.targets log old.contents → UpdatesCall old new (handle n log) u a →
     Kept New old.targets (log ++ (Change n u, a) ∷ []) new.contents × (New → IsPlain old.targets (length old.contents) log (Change n u) a)
 update_kept {New = New} old new log n u a h r =
     elim (registration n log) as (λ o. registration n log ≡ o → UpdatesCall old new (option_and_then handle_of o) u a → UpdateKept New old new log n u a o) [
-        None ↦ λ e r. bad_kept old new log n u a None e h r refl
-      | Some q ↦ λ e r. given_kept old new log n u a q.kind q.key q.answer e h (lead-at old.targets old.contents (filter_map registration_of log) n q e h.lead) r ] refl r
+      | None ↦ λ e r. bad_kept old new log n u a None e h r refl
+      | Some q ↦ λ e r. given_kept old new log n u a q.kind q.key q.answer e h (lead-at old.targets old.contents (filter_map registration_of log) n q e h.lead) r
+    ] refl r
 
 -- ---- snapshot
 
@@ -275,20 +282,23 @@ reaches_snapshots es (x ∷ xs) = (tt, reaches_snapshots (es ++ snapshots ∷ []
 snapshot_kept : {New : Type 0} (old new : Meaning) (log : Log) (b : ℕ) (a : Answer) →
     Kept New old.targets log old.contents → SnapshotsCall old new b a →
     Kept New old.targets (log ++ (Take b, a) ∷ []) new.contents × (New → IsPlain old.targets (length old.contents) log (Take b) a)
-snapshot_kept {New = New} old new log b (Snapshot found) h r =
-    (subst (λ cs. Kept New old.targets (log ++ (Take b, Snapshot found) ∷ []) cs) (sym r.2)
+snapshot_kept {New = New} old new log b (Snapshot found) h r = (
+  subst (λ cs. Kept New old.targets (log ++ (Take b, Snapshot found) ∷ []) cs) (sym r.2)
       (kept_then old.targets log (Take b, Snapshot found) old.contents (λ (x : Prim.Unit {0}). snapshots) ((b, tt) ∷ []) old.below (λ c. take_bool (nat_eq b c))
-        (λ w c lt. reaches_snapshots (reached old.targets c log) (in_book c ((b, tt) ∷ []))) stays-reset h tt),
-     λ w. ap Snapshot (r.1 ∙ ap rows (h.each w b r.0)) ∙ ap (λ q. cond q (Snapshot (rows (content (reached old.targets b log)))) (Denied NoSuchBook)) (sym (lt-ltb b (length old.contents) r.0)))
-snapshot_kept {New = New} old new log b (Denied (Memory n)) h r =
-    (subst (λ cs. Kept New old.targets (log ++ (Take b, Denied (Memory n)) ∷ []) cs) (sym r.2)
+      (λ w c lt. reaches_snapshots (reached old.targets c log) (in_book c ((b, tt) ∷ []))) stays-reset h tt),
+  λ w. ap Snapshot (r.1 ∙ ap rows (h.each w b r.0)) ∙ ap (λ q. cond q (Snapshot (rows (content (reached old.targets b log)))) (Denied NoSuchBook)) (sym (lt-ltb b (length old.contents) r.0)),
+)
+snapshot_kept {New = New} old new log b (Denied (Memory n)) h r = (
+  subst (λ cs. Kept New old.targets (log ++ (Take b, Denied (Memory n)) ∷ []) cs) (sym r.2)
       (kept_same old.targets log (Take b, Denied (Memory n)) old.contents (λ c. none_bool (nat_eq b c)) tt h),
-     λ w. (r.0, r.1))
+  λ w. (r.0, r.1),
+)
 snapshot_kept {New = New} old new log b (Denied NoSuchBook) h r =
-    let past : nat_lt b (length old.contents) ≡ false = not_below b (length old.contents) r.0 in
-    (subst (λ cs. Kept New old.targets (log ++ (Take b, Denied NoSuchBook) ∷ []) cs) (sym r.1)
-      (kept_same old.targets log (Take b, Denied NoSuchBook) old.contents (λ c. none_bool (nat_eq b c)) tt h),
-     λ w. ap (λ q. cond q (Snapshot (rows (content (reached old.targets b log)))) (Denied NoSuchBook)) (sym past))
+    let past : nat_lt b (length old.contents) ≡ false = not_below b (length old.contents) r.0 in (
+      subst (λ cs. Kept New old.targets (log ++ (Take b, Denied NoSuchBook) ∷ []) cs) (sym r.1)
+          (kept_same old.targets log (Take b, Denied NoSuchBook) old.contents (λ c. none_bool (nat_eq b c)) tt h),
+      λ w. ap (λ q. cond q (Snapshot (rows (content (reached old.targets b log)))) (Denied NoSuchBook)) (sym past),
+    )
   where
     not_below : (a k : ℕ) → k ≤ a → nat_lt a k ≡ false
     not_below a k le = grind (arith, nat_tests)
@@ -343,8 +353,9 @@ kept_none targets cs = record { each = λ new b lt. new b lt; sound = λ new b l
 pub handle_held : {New : Type 0} (old : Meaning) (log : Log) (n : ℕ) → Kept New old.targets log old.contents → IsHeld (handle n log) old.contents
 handle_held old log n h =
     elim (registration n log) as (λ o. registration n log ≡ o → IsHeld (option_and_then handle_of o) old.contents) [
-        None ↦ λ e. tt
-      | Some q ↦ λ e. given q.kind q.key q.answer (lead-at old.targets old.contents (filter_map registration_of log) n q e h.lead) ] refl
+      | None ↦ λ e. tt
+      | Some q ↦ λ e. given q.kind q.key q.answer (lead-at old.targets old.contents (filter_map registration_of log) n q e h.lead)
+    ] refl
   where
     given : (kind : MetricKind) (key : KeyParts) (a : Answer) → LeadsTo old.targets old.contents kind key a → IsHeld (handle_given kind a) old.contents
     given kind key (Registered found) l =

@@ -73,8 +73,9 @@ firsts-push seen (q ∷ ks) k =
     let C = firsts_from seen ks in
     let D = firsts_from (seen ++ q ∷ []) ks in
     elim (list_any (series_key_eq q) seen) as (λ b. cond b A (q ∷ B) ≡ cond b C (q ∷ D) ++ cond (list_any (series_key_eq k) (seen ++ cond b C (q ∷ D))) [] (k ∷ [])) [
-        true ↦ firsts-push seen ks k
-      | false ↦ ap (λ xs. q ∷ xs) (firsts-push (seen ++ q ∷ []) ks k ∙ ap (λ xs. D ++ cond (list_any (series_key_eq k) xs) [] (k ∷ [])) (append_assoc seen (q ∷ []) D)) ]
+      | true ↦ firsts-push seen ks k
+      | false ↦ ap (λ xs. q ∷ xs) (firsts-push (seen ++ q ∷ []) ks k ∙ ap (λ xs. D ++ cond (list_any (series_key_eq k) xs) [] (k ∷ [])) (append_assoc seen (q ∷ []) D))
+    ]
 
 pub series-register : (es : List Event) (k : SeriesKey) → series (es ++ registers k ∷ []) ≡ series es ++ cond (list_any (series_key_eq k) (series es)) [] (k ∷ [])
 series-register es k = ap (firsts_from []) (filter_map-append key_of es (registers k ∷ [])) ∙ firsts-push [] (filter_map key_of es) k
@@ -109,11 +110,12 @@ firsts_new seen [] = (tt, tt)
 firsts_new seen (k ∷ ks) =
     let D = firsts_from (seen ++ k ∷ []) ks in
     elim (list_any (series_key_eq k) seen) as (λ b. list_any (series_key_eq k) seen ≡ b → AllNew seen (cond b (firsts_from seen ks) (k ∷ D)) × AreUnique (cond b (firsts_from seen ks) (k ∷ D))) [
-        true ↦ λ e. firsts_new seen ks
+      | true ↦ λ e. firsts_new seen ks
       | false ↦ λ e.
           let rest = firsts_new (seen ++ k ∷ []) ks in
           let fewer = new-fewer seen (k ∷ []) D rest.0 in
-          ((e, fewer.0), (fewer.1, rest.1)) ] refl
+          ((e, fewer.0), (fewer.1, rest.1))
+    ] refl
 
 -- ---- the series with their values
 
@@ -147,8 +149,9 @@ changed-past es k u (q ∷ ks) h =
   where
     flip : (k q : SeriesKey) → series_key_eq q k ≡ false → series_key_eq k q ≡ false
     flip k q n = elim (series_key_eq k q) as (λ b. series_key_eq k q ≡ b → b ≡ false) [
-        true ↦ λ e. sym (key_same k) ∙ ap (λ x. series_key_eq x k) (key_exact k q e) ∙ n
-      | false ↦ λ e. refl ] refl
+      | true ↦ λ e. sym (key_same k) ∙ ap (λ x. series_key_eq x k) (key_exact k q e) ∙ n
+      | false ↦ λ e. refl
+    ] refl
 
 changed-at : (es : List Event) (k : SeriesKey) (u : Update) (ks : List SeriesKey) → AreUnique ks →
     map (series_now (es ++ updates k u ∷ [])) ks ≡ at_book (position_or_len (is_of k) (map (series_now es) ks)) (with_update u) (map (series_now es) ks)
@@ -158,8 +161,8 @@ changed-at es k u (q ∷ ks) h =
     let rest = map (series_now es) ks in
     let p = position_or_len (is_of k) rest in
     elim (series_key_eq k q) as (λ b. series_key_eq k q ≡ b →
-        series_now es' q ∷ map (series_now es') ks ≡ at_book (cond (not b) (1 + p) 0) (with_update u) (series_now es q ∷ rest)) [
-        true ↦ λ e.
+    series_now es' q ∷ map (series_now es') ks ≡ at_book (cond (not b) (1 + p) 0) (with_update u) (series_now es q ∷ rest)) [
+      | true ↦ λ e.
           let is : k ≡ q = key_exact k q e in
           let more : since es' q ≡ since es q ++ u ∷ [] = since-update es k u q ∙ ap (λ b. since es q ++ cond b (u ∷ []) []) e in
           let others : AllNew (k ∷ []) ks = subst (λ x. AllNew (x ∷ []) ks) (sym is) h.0 in
@@ -170,7 +173,8 @@ changed-at es k u (q ∷ ks) h =
           let n : 1 + p ≡ suc p = omega arith in
           ap (λ s. s ∷ map (series_now es') ks) (now-same es es' q same)
           ∙ ap (λ ss. series_now es q ∷ ss) (changed-at es k u ks h.1)
-          ∙ ap (λ i. at_book i (with_update u) (series_now es q ∷ rest)) (sym n) ] refl
+          ∙ ap (λ i. at_book i (with_update u) (series_now es q ∷ rest)) (sym n)
+    ] refl
 
 pub any-now : (es : List Event) (k : SeriesKey) (ks : List SeriesKey) → list_any (is_of k) (map (series_now es) ks) ≡ list_any (series_key_eq k) ks
 any-now es k [] = refl
@@ -198,7 +202,7 @@ described_by ds = record { unit = last (filter_map (λ d. d.0) ds); text = last 
 description-other : (es : List Event) (e : Event) → ((k : MetricKind) (n : List ℕ) → description_of k n e ≡ None) → description (es ++ e ∷ []) ≡ description es
 description-other es e h = fun_ext (λ k. fun_ext (λ n.
     ap described_by
-      (filter_map-append (description_of k n) es (e ∷ []) ∙ ap (λ o. filter_map (description_of k n) es ++ cons_option o []) (h k n) ∙ append-nil (filter_map (description_of k n) es))))
+    (filter_map-append (description_of k n) es (e ∷ []) ∙ ap (λ o. filter_map (description_of k n) es ++ cons_option o []) (h k n) ∙ append-nil (filter_map (description_of k n) es))))
 
 description-push : (es : List Event) (kind : MetricKind) (unit : Option Measure) (text name : List ℕ) (k : MetricKind) (n : List ℕ) →
     description (es ++ describes kind unit text name ∷ []) k n ≡ cond (kind_eq kind k && bytes_eq name n) (described_again unit text (description es k n)) (description es k n)
@@ -206,13 +210,14 @@ description-push es kind unit text name k n =
     let ds = filter_map (description_of k n) es in
     ap described_by (filter_map-append (description_of k n) es (describes kind unit text name ∷ []))
     ∙ elim (kind_eq kind k && bytes_eq name n) as (λ b.
-        described_by (ds ++ cons_option (cond b (Some (unit, text)) None) []) ≡ cond b (described_again unit text (described_by ds)) (described_by ds)) [
-        true ↦
+    described_by (ds ++ cons_option (cond b (Some (unit, text)) None) []) ≡ cond b (described_again unit text (described_by ds)) (described_by ds)) [
+      | true ↦
           ap (λ us. record { unit = last us; text = last (map (λ d. d.1) (ds ++ (unit, text) ∷ [])) }) (filter_map-append (λ d. d.0) ds ((unit, text) ∷ []))
           ∙ ap (λ o. record { unit = o; text = last (map (λ d. d.1) (ds ++ (unit, text) ∷ [])) }) (last-later (filter_map (λ d. d.0) ds) unit)
           ∙ ap (λ ts. record { unit = later unit (last (filter_map (λ d. d.0) ds)); text = last ts }) (map-push (λ d. d.1) ds (unit, text))
           ∙ ap (λ o. record { unit = later unit (last (filter_map (λ d. d.0) ds)); text = o }) (last-push (map (λ d. d.1) ds) text)
-      | false ↦ ap described_by (append-nil ds) ]
+      | false ↦ ap described_by (append-nil ds)
+    ]
 
 -- ---- one step of an event
 
@@ -249,22 +254,22 @@ pub content-push : (es : List Event) (e : Event) → IsSound es → content (es 
 content-push es (describes kind unit text name) sound =
     let e = describes kind unit text name in
     ap (λ ss. made ss (description (es ++ e ∷ [])))
-      (ap (map (series_now (es ++ e ∷ []))) (series-other es e refl) ∙ map-same _ _ (series es) (λ k. now-same es (es ++ e ∷ []) k (since-quiet es e k refl refl)))
+    (ap (map (series_now (es ++ e ∷ []))) (series-other es e refl) ∙ map-same _ _ (series es) (λ k. now-same es (es ++ e ∷ []) k (since-quiet es e k refl refl)))
     ∙ ap (made (map (series_now es) (series es))) (fun_ext (λ k. fun_ext (λ n. description-push es kind unit text name k n)))
 content-push es (registers k) sound =
     let e = registers k in
     let ss = map (series_now es) (series es) in
     ap (λ ss. made ss (description (es ++ e ∷ [])))
-      (ap (map (series_now (es ++ e ∷ []))) (series-register es k)
-        ∙ map-same _ _ (series es ++ cond (list_any (series_key_eq k) (series es)) [] (k ∷ [])) (λ q. now-same es (es ++ e ∷ []) q (since-quiet es e q refl refl))
-        ∙ series_added es k sound (list_any (series_key_eq k) (series es)) refl
-        ∙ ap (λ b. cond b ss (ss ++ new_series k ∷ [])) (sym (any-now es k (series es))))
+    (ap (map (series_now (es ++ e ∷ []))) (series-register es k)
+    ∙ map-same _ _ (series es ++ cond (list_any (series_key_eq k) (series es)) [] (k ∷ [])) (λ q. now-same es (es ++ e ∷ []) q (since-quiet es e q refl refl))
+    ∙ series_added es k sound (list_any (series_key_eq k) (series es)) refl
+    ∙ ap (λ b. cond b ss (ss ++ new_series k ∷ [])) (sym (any-now es k (series es))))
     ∙ ap (made (cond (list_any (is_of k) ss) ss (ss ++ new_series k ∷ []))) (description-other es e (λ k n. refl))
 content-push es (updates k u) sound =
     let e = updates k u in
     let ss = map (series_now es) (series es) in
     ap (λ ss. made ss (description (es ++ e ∷ [])))
-      (ap (map (series_now (es ++ e ∷ []))) (series-other es e refl) ∙ changed-at es k u (series es) (firsts_new [] (filter_map key_of es)).1)
+    (ap (map (series_now (es ++ e ∷ []))) (series-other es e refl) ∙ changed-at es k u (series es) (firsts_new [] (filter_map key_of es)).1)
     ∙ ap (made (at_book (position_or_len (is_of k) ss) (with_update u) ss)) (description-other es e (λ k n. refl))
 content-push es snapshots sound =
     let ss = map (series_now es) (series es) in
@@ -278,13 +283,14 @@ sound-push es (describes kind unit text name) sound r k n =
 sound-push es (registers q) sound r k n =
     let more : List SeriesKey = cond (list_any (series_key_eq q) (series es)) [] (q ∷ []) in
     let both = or_none (list_any (series_key_eq k) (series es)) (list_any (series_key_eq k) more)
-      (sym (list_any-append (series_key_eq k) (series es) more) ∙ ap (list_any (series_key_eq k)) (sym (series-register es q)) ∙ n) in
+    (sym (list_any-append (series_key_eq k) (series es) more) ∙ ap (list_any (series_key_eq k)) (sym (series-register es q)) ∙ n) in
     since-quiet es (registers q) k refl refl ∙ sound k both.0
 sound-push es (updates q u) sound r k n =
     let n' : list_any (series_key_eq k) (series es) ≡ false = subst (λ ks. list_any (series_key_eq k) ks ≡ false) (series-other es (updates q u) refl) n in
     let other : series_key_eq q k ≡ false = elim (series_key_eq q k) as (λ b. series_key_eq q k ≡ b → b ≡ false) [
-        true ↦ λ e. sym r ∙ ap (λ x. list_any (series_key_eq x) (series es)) (key_exact q k e) ∙ n'
-      | false ↦ λ e. refl ] refl in
+      | true ↦ λ e. sym r ∙ ap (λ x. list_any (series_key_eq x) (series es)) (key_exact q k e) ∙ n'
+      | false ↦ λ e. refl
+    ] refl in
     since-update es q u k ∙ ap (λ b. since es k ++ cond b (u ∷ []) []) other ∙ append-nil (since es k) ∙ sound k n'
 sound-push es snapshots sound r k n = since-snapshot es k
 

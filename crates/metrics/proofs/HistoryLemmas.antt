@@ -30,7 +30,7 @@ reached_from-push : (targets : Targets) (before : Log) (b : ℕ) (log : Log) (e 
 reached_from-push targets before b [] e = append-nil (reached_by targets before b e) ∙ ap (λ l. reached_by targets l b e) (sym (append-nil before))
 reached_from-push targets before b (x ∷ log) e =
     ap (λ es. reached_by targets before b x ++ es) (reached_from-push targets (before ++ x ∷ []) b log e
-      ∙ ap (λ l. reached_from targets (before ++ x ∷ []) b log ++ reached_by targets l b e) (append_assoc before (x ∷ []) log))
+    ∙ ap (λ l. reached_from targets (before ++ x ∷ []) b log ++ reached_by targets l b e) (append_assoc before (x ∷ []) log))
     ∙ sym (append_assoc (reached_by targets before b x) (reached_from targets (before ++ x ∷ []) b log) (reached_by targets (before ++ x ∷ log) b e))
 
 pub reached-push : (targets : Targets) (b : ℕ) (log : Log) (e : Call × Answer) → reached targets b (log ++ e ∷ []) ≡ reached targets b log ++ reached_by targets log b e
@@ -74,7 +74,9 @@ content_at-act f (t ∷ ts) b cs h =
     content_at-act f ts b (at_book t.0 (f t.1) cs) (omega (arith, h, length-at_book t.0 (f t.1) cs))
     ∙ ap (run f (in_book b ts)) (content_at-at_book b t.0 (f t.1) cs h)
     ∙ elim (nat_eq t.0 b) as (λ q. run f (in_book b ts) (cond q (f t.1 (content_at b cs)) (content_at b cs)) ≡ run f (cond q (t.1 ∷ in_book b ts) (in_book b ts)) (content_at b cs)) [
-        true ↦ refl | false ↦ refl ]
+      | true ↦ refl
+      | false ↦ refl
+    ]
 
 at_book-same : (b : ℕ) (g h : Content → Content) (cs : List Content) → g (content_at b cs) ≡ h (content_at b cs) → at_book b g cs ≡ at_book b h cs
 at_book-same b g h [] e = refl
@@ -107,9 +109,10 @@ AllThere key (t ∷ ts) cs = (is_there (key t.1) (content_at t.0 cs) ≡ true) �
 there-act : {X Y : Type 0} (f : X → Content → Content) → Stays f → (key : Y → SeriesKey) (us : List (ℕ × X)) (ts : List (ℕ × Y)) (cs : List Content) → AllBelow (length cs) ts →
     AllThere key ts cs → AllThere key ts (act f us cs)
 there-act f s key us [] cs b h = tt
-there-act f s key us (t ∷ ts) cs b h =
-    (ap (is_there (key t.1)) (content_at-act f us t.0 cs b.0) ∙ there-run f s (in_book t.0 us) (content_at t.0 cs) (key t.1) h.0,
-     there-act f s key us ts cs b.1 h.1)
+there-act f s key us (t ∷ ts) cs b h = (
+  ap (is_there (key t.1)) (content_at-act f us t.0 cs b.0) ∙ there-run f s (in_book t.0 us) (content_at t.0 cs) (key t.1) h.0,
+  there-act f s key us ts cs b.1 h.1,
+)
 
 addresses-act : {X : Type 0} (f : X → Content → Content) → Stays f → (kind : MetricKind) (labels : List (List ℕ × List ℕ)) (us : List (ℕ × X)) (ts : List (ℕ × List ℕ)) (cs : List Content) →
     AllBelow (length cs) ts → AllThere (key_there kind labels) ts cs → addresses kind labels ts (act f us cs) ≡ addresses kind labels ts cs
@@ -117,7 +120,7 @@ addresses-act f s kind labels us [] cs b h = refl
 addresses-act f s kind labels us (t ∷ ts) cs b h =
     let k = key_there kind labels t.1 in
     let same : place k (content_at t.0 (act f us cs)) ≡ place k (content_at t.0 cs) =
-        ap (place k) (content_at-act f us t.0 cs b.0) ∙ placed-run f s (in_book t.0 us) (content_at t.0 cs) k h.0 in
+    ap (place k) (content_at-act f us t.0 cs b.0) ∙ placed-run f s (in_book t.0 us) (content_at t.0 cs) k h.0 in
     ap (λ p. record { book = t.0; series = p } ∷ addresses kind labels ts (act f us cs)) same
     ∙ ap (λ as'. address_in kind labels cs t ∷ as') (addresses-act f s kind labels us ts cs b.1 h.1)
 
@@ -135,13 +138,15 @@ place-append : (k : SeriesKey) (xs ys : List Series) → list_any (is_of k) xs �
 place-append k [] ys h = absurd (true≢false (sym h))
 place-append k (x ∷ xs) ys h =
     elim (is_of k x) as (λ b. (b || list_any (is_of k) xs) ≡ true → cond (not b) (1 + position_or_len (is_of k) (xs ++ ys)) 0 ≡ cond (not b) (1 + position_or_len (is_of k) xs) 0) [
-        true ↦ λ e. refl
-      | false ↦ λ e. ap (λ n. 1 + n) (place-append k xs ys e) ] h
+      | true ↦ λ e. refl
+      | false ↦ λ e. ap (λ n. 1 + n) (place-append k xs ys e)
+    ] h
 
 pub stays-register : {X : Type 0} (key : X → SeriesKey) → Stays (λ x. register_in (key x))
 stays-register key = record {
   there = λ x c k h. there x c k h (list_any (is_of (key x)) c.series);
-  placed = λ x c k h. placed x c k h (list_any (is_of (key x)) c.series) }
+  placed = λ x c k h. placed x c k h (list_any (is_of (key x)) c.series);
+}
   where
     there : (x : _) (c : Content) (k : SeriesKey) → is_there k c ≡ true → (b : Bool) → list_any (is_of k) (cond b c.series (c.series ++ new_series (key x) ∷ [])) ≡ true
     there x c k h true = h
@@ -164,7 +169,8 @@ place-changed k u (suc p) (x ∷ xs) = ap (λ n. cond (not (is_of k x)) (1 + n) 
 pub stays-update : {X : Type 0} (key : X → SeriesKey) (u : Update) → Stays (λ x. step (updates (key x) u))
 stays-update key u = record {
   there = λ x c k h. any-changed k u (place (key x) c) c.series ∙ h;
-  placed = λ x c k h. place-changed k u (place (key x) c) c.series }
+  placed = λ x c k h. place-changed k u (place (key x) c) c.series;
+}
 
 any-reset : (k : SeriesKey) (xs : List Series) → list_any (is_of k) (map reset xs) ≡ list_any (is_of k) xs
 any-reset k [] = refl
@@ -196,9 +202,10 @@ BelowAll targets cs = (kind : MetricKind) (name : List ℕ) → AllBelow (length
 
 leads-act : {X : Type 0} (f : X → Content → Content) → Stays f → (us : List (ℕ × X)) (targets : Targets) (cs : List Content) → BelowAll targets cs → (kind : MetricKind) (key : KeyParts) (a : Answer) →
     LeadsTo targets cs kind key a → LeadsTo targets (act f us cs) kind key a
-leads-act f s us targets cs below kind key (Registered found) h =
-    (h.0 ∙ sym (addresses-act f s kind key.labels us (targets kind key.name) cs (below kind key.name) h.1),
-     there-act f s (key_there kind key.labels) us (targets kind key.name) cs (below kind key.name) h.1)
+leads-act f s us targets cs below kind key (Registered found) h = (
+  h.0 ∙ sym (addresses-act f s kind key.labels us (targets kind key.name) cs (below kind key.name) h.1),
+  there-act f s (key_there kind key.labels) us (targets kind key.name) cs (below kind key.name) h.1,
+)
 leads-act f s us targets cs below kind key (Described n) h = tt
 leads-act f s us targets cs below kind key (Updated n) h = tt
 leads-act f s us targets cs below kind key (Snapshot found) h = tt
@@ -250,7 +257,8 @@ module _ {X New : Type 0} (targets : Targets) (log : Log) (e : Call × Answer) (
     each = λ n b lt. each_then n b (omega (arith, lt, length-act (λ x. step (event x)) ts cs));
     sound = λ n b lt. sound_then n b (omega (arith, lt, length-act (λ x. step (event x)) ts cs));
     lead = subst (AllLead targets new) (sym (filter_map-append registration_of log (e ∷ [])))
-      (lead-append targets new (filter_map registration_of log) (filter_map registration_of (e ∷ [])) (all_lead-act (λ x. step (event x)) stays ts targets cs below (filter_map registration_of log) h.lead) own) }
+        (lead-append targets new (filter_map registration_of log) (filter_map registration_of (e ∷ [])) (all_lead-act (λ x. step (event x)) stays ts targets cs below (filter_map registration_of log) h.lead) own);
+  }
 
 -- nothing happened
 pub kept_same : {New : Type 0} (targets : Targets) (log : Log) (e : Call × Answer) (cs : List Content) → ((b : ℕ) → reached_by targets log b e ≡ []) → AllLead targets cs (filter_map registration_of (e ∷ [])) → Kept New targets log cs →
@@ -261,15 +269,17 @@ kept_same targets log e cs none own h =
       each = λ n b lt. h.each n b lt ∙ ap content (same b);
       sound = λ n b lt. subst IsSound (same b) (h.sound n b lt);
       lead = subst (AllLead targets cs) (sym (filter_map-append registration_of log (e ∷ [])))
-        (lead-append targets cs (filter_map registration_of log) (filter_map registration_of (e ∷ [])) h.lead own) }
+          (lead-append targets cs (filter_map registration_of log) (filter_map registration_of (e ∷ [])) h.lead own);
+    }
 
 -- ---- a registered key is there
 
 there_now : (k : SeriesKey) (c : Content) → is_there k (register_in k c) ≡ true
 there_now k c =
     elim (list_any (is_of k) c.series) as (λ b. list_any (is_of k) c.series ≡ b → list_any (is_of k) (cond b c.series (c.series ++ new_series k ∷ [])) ≡ true) [
-        true ↦ λ e. e
-      | false ↦ λ e. list_any-append (is_of k) c.series (new_series k ∷ []) ∙ or_right (list_any (is_of k) c.series) _ (or_left (series_key_eq k k) false (key_same k)) ] refl
+      | true ↦ λ e. e
+      | false ↦ λ e. list_any-append (is_of k) c.series (new_series k ∷ []) ∙ or_right (list_any (is_of k) c.series) _ (or_left (series_key_eq k k) false (key_same k))
+    ] refl
 
 pub all_there : {X : Type 0} (key : X → SeriesKey) (ts : List (ℕ × X)) (cs : List Content) → AllBelow (length cs) ts → AllThere key ts (act (λ x. register_in (key x)) ts cs)
 all_there key [] cs b = tt
@@ -278,24 +288,27 @@ all_there {X = X} key (t ∷ ts) cs b =
     let cs1 = at_book t.0 (f t.1) cs in
     let len : length cs1 ≡ length cs = length-at_book t.0 (f t.1) cs in
     let own : content_at t.0 cs1 ≡ f t.1 (content_at t.0 cs) =
-        content_at-at_book t.0 t.0 (f t.1) cs b.0 ∙ ap (λ q. cond q (f t.1 (content_at t.0 cs)) (content_at t.0 cs)) (eq-eqb t.0 t.0 refl) in
-    (ap (is_there (key t.1)) (content_at-act f ts t.0 cs1 (omega (arith, b.0, len)))
-      ∙ there-run f (stays-register key) (in_book t.0 ts) (content_at t.0 cs1) (key t.1) (ap (is_there (key t.1)) own ∙ there_now (key t.1) (content_at t.0 cs)),
-     all_there key ts cs1 (subst (λ n. AllBelow n ts) (sym len) b.1))
+    content_at-at_book t.0 t.0 (f t.1) cs b.0 ∙ ap (λ q. cond q (f t.1 (content_at t.0 cs)) (content_at t.0 cs)) (eq-eqb t.0 t.0 refl) in (
+      ap (is_there (key t.1)) (content_at-act f ts t.0 cs1 (omega (arith, b.0, len)))
+          ∙ there-run f (stays-register key) (in_book t.0 ts) (content_at t.0 cs1) (key t.1) (ap (is_there (key t.1)) own ∙ there_now (key t.1) (content_at t.0 cs)),
+      all_there key ts cs1 (subst (λ n. AllBelow n ts) (sym len) b.1),
+    )
 
 -- a key's place after it was registered is its place before, or the end
 pub place-registered : (k : SeriesKey) (c : Content) → place k (register_in k c) ≡ place k c
 place-registered k c =
     elim (list_any (is_of k) c.series) as (λ b. list_any (is_of k) c.series ≡ b → position_or_len (is_of k) (cond b c.series (c.series ++ new_series k ∷ [])) ≡ place k c) [
-        true ↦ λ e. refl
-      | false ↦ λ e. at_end c.series e ] refl
+      | true ↦ λ e. refl
+      | false ↦ λ e. at_end c.series e
+    ] refl
   where
     at_end : (xs : List Series) → list_any (is_of k) xs ≡ false → position_or_len (is_of k) (xs ++ new_series k ∷ []) ≡ position_or_len (is_of k) xs
     at_end [] e = ap (λ b. cond (not b) (1 + 0) 0) (key_same k)
     at_end (x ∷ xs) e =
         elim (is_of k x) as (λ b. (b || list_any (is_of k) xs) ≡ false → cond (not b) (1 + position_or_len (is_of k) (xs ++ new_series k ∷ [])) 0 ≡ cond (not b) (1 + position_or_len (is_of k) xs) 0) [
-            true ↦ λ g. absurd (true≢false g)
-          | false ↦ λ g. ap (λ n. 1 + n) (at_end xs g) ] e
+          | true ↦ λ g. absurd (true≢false g)
+          | false ↦ λ g. ap (λ n. 1 + n) (at_end xs g)
+        ] e
 
 -- ---- held addresses
 
@@ -303,11 +316,12 @@ place_kind : (k : SeriesKey) (xs : List Series) → list_any (is_of k) xs ≡ tr
 place_kind k [] h = absurd (true≢false (sym h))
 place_kind k (x ∷ xs) h =
     elim (is_of k x) as (λ b. is_of k x ≡ b → (b || list_any (is_of k) xs) ≡ true →
-        is_kind k.kind (option_map (λ (x : Series). x.key.kind) (slice_get (x ∷ xs) (cond (not b) (1 + position_or_len (is_of k) xs) 0))) ≡ true) [
-        true ↦ λ e g. and_left (kind_eq k.kind x.key.kind) (key_eq k.key x.key.key) e
+    is_kind k.kind (option_map (λ (x : Series). x.key.kind) (slice_get (x ∷ xs) (cond (not b) (1 + position_or_len (is_of k) xs) 0))) ≡ true) [
+      | true ↦ λ e g. and_left (kind_eq k.kind x.key.kind) (key_eq k.key x.key.key) e
       | false ↦ λ e g.
           let n : 1 + position_or_len (is_of k) xs ≡ suc (position_or_len (is_of k) xs) = omega arith in
-          ap (λ i. is_kind k.kind (option_map (λ (x : Series). x.key.kind) (slice_get (x ∷ xs) i))) n ∙ place_kind k xs g ] refl h
+          ap (λ i. is_kind k.kind (option_map (λ (x : Series). x.key.kind) (slice_get (x ∷ xs) i))) n ∙ place_kind k xs g
+    ] refl h
 
 pub all_held : (kind : MetricKind) (labels : List (List ℕ × List ℕ)) (ts : List (ℕ × List ℕ)) (cs : List Content) → AllBelow (length cs) ts → AllThere (key_there kind labels) ts cs → AllHeld kind (addresses kind labels ts cs) cs
 all_held kind labels [] cs b h = tt
@@ -326,15 +340,16 @@ act-places u kind labels was (suc n) (t ∷ ts) cs same b =
     let p = place k (content_at t.0 was) in
     let f : Content → Content = step (updates k u) in
     let one : at_book t.0 (update_in u p) cs ≡ at_book t.0 f cs =
-        at_book-same t.0 (update_in u p) f cs (ap (λ i. update_in u i (content_at t.0 cs)) (sym (same k t.0 b.0))) in
+    at_book-same t.0 (update_in u p) f cs (ap (λ i. update_in u i (content_at t.0 cs)) (sym (same k t.0 b.0))) in
     let len : length (at_book t.0 f cs) ≡ length cs = length-at_book t.0 f cs in
     ap (act (update_in u) (take n (places (addresses kind labels ts was)))) one
     ∙ act-places u kind labels was n ts (at_book t.0 f cs)
-        (λ q d lt.
-          let lt' : d < length cs = omega (arith, lt, len) in
-          ap (place q) (content_at-at_book d t.0 f cs lt')
-          ∙ elim (nat_eq t.0 d) as (λ r. place q (cond r (f (content_at d cs)) (content_at d cs)) ≡ place q (content_at d cs)) [
-              true ↦ place-changed q u (place k (content_at d cs)) (content_at d cs).series
-            | false ↦ refl ]
-          ∙ same q d lt')
-        (subst (λ m. AllBelow m ts) (sym len) b.1)
+    (λ q d lt.
+    let lt' : d < length cs = omega (arith, lt, len) in
+    ap (place q) (content_at-at_book d t.0 f cs lt')
+    ∙ elim (nat_eq t.0 d) as (λ r. place q (cond r (f (content_at d cs)) (content_at d cs)) ≡ place q (content_at d cs)) [
+      | true ↦ place-changed q u (place k (content_at d cs)) (content_at d cs).series
+      | false ↦ refl
+    ]
+    ∙ same q d lt')
+    (subst (λ m. AllBelow m ts) (sym len) b.1)

@@ -38,14 +38,15 @@ substring_found : (p text : List ℕ) → is_substring p text ≡ true → IsSub
 substring_found p [] h = ([], drop (length p) [], starts_at [] p h)
 substring_found p (x ∷ text) h =
     elim (starts_with nat_eq (x ∷ text) p) as (λ q. starts_with nat_eq (x ∷ text) p ≡ q → (q || is_substring p text) ≡ true → IsSubstring p (x ∷ text)) [
-        true ↦ λ e g. ([], drop (length p) (x ∷ text), starts_at (x ∷ text) p e)
-      | false ↦ λ e g. let s = substring_found p text g in (x ∷ s.0, s.1, ap (λ t. x ∷ t) s.2) ] refl h
+      | true ↦ λ e g. ([], drop (length p) (x ∷ text), starts_at (x ∷ text) p e)
+      | false ↦ λ e g. let s = substring_found p text g in (x ∷ s.0, s.1, ap (λ t. x ∷ t) s.2)
+    ] refl h
 
 substring_made : (p a b text : List ℕ) → text ≡ (a ++ p) ++ b → is_substring p text ≡ true
 substring_made p [] b text e = subst (λ t. is_substring p t ≡ true) (sym e) (found_front p (p ++ b) (starts_with-append p b))
 substring_made p (x ∷ a) b text e =
     subst (λ t. is_substring p t ≡ true) (sym e)
-      (or_right (starts_with nat_eq (x ∷ ((a ++ p) ++ b)) p) (is_substring p ((a ++ p) ++ b)) (substring_made p a b ((a ++ p) ++ b) refl))
+    (or_right (starts_with nat_eq (x ∷ ((a ++ p) ++ b)) p) (is_substring p ((a ++ p) ++ b)) (substring_made p a b ((a ++ p) ++ b) refl))
 
 pub is_substring-Decides : (p text : List ℕ) → Decides (is_substring p text) (IsSubstring p text)
 is_substring-Decides p text = (substring_found p text, λ s. substring_made p s.0 s.1 text s.2)
@@ -54,8 +55,9 @@ any_found : {A : Type 0} (test : A → Bool) (xs : List A) → list_any test xs 
 any_found test [] h = absurd (true≢false (sym h))
 any_found test (x ∷ xs) h =
     elim (test x) as (λ q. test x ≡ q → (q || list_any test xs) ≡ true → (y : _) × Contains (x ∷ xs) y × (test y ≡ true)) [
-        true ↦ λ e g. (x, (0, omega arith, refl), e)
-      | false ↦ λ e g. let s = any_found test xs g in (s.0, (suc s.1.0, (let l = s.1.1 in omega arith), s.1.2), s.2) ] refl h
+      | true ↦ λ e g. (x, (0, omega arith, refl), e)
+      | false ↦ λ e g. let s = any_found test xs g in (s.0, (suc s.1.0, (let l = s.1.1 in omega arith), s.1.2), s.2)
+    ] refl h
 
 any_made : {A : Type 0} (test : A → Bool) (xs : List A) (x : A) (k : ℕ) → k < length xs → get_or xs k x ≡ x → test x ≡ true → list_any test xs ≡ true
 any_made test [] x k lt e h = absurd (omega arith)
@@ -64,11 +66,12 @@ any_made test (y ∷ xs) x (suc k) lt e h = or_right (test y) (list_any test xs)
 
 -- the test of a filter is the existence of a listed pattern that is a substring
 pub matches-Decides : (fold : Bool) (patterns : List (List ℕ)) (name : List ℕ) → Decides (matches fold patterns name) (Matches fold patterns name)
-matches-Decides fold patterns name =
-    (λ h.
+matches-Decides fold patterns name = (
+  λ h.
       let s = any_found (λ p. is_substring (folded fold p) (folded fold name)) patterns h in
       (s.0, s.1, (is_substring-Decides (folded fold s.0) (folded fold name)).0 s.2),
-     λ m. any_made (λ p. is_substring (folded fold p) (folded fold name)) patterns m.0 m.1.0 m.1.1 m.1.2 ((is_substring-Decides (folded fold m.0) (folded fold name)).1 m.2))
+  λ m. any_made (λ p. is_substring (folded fold p) (folded fold name)) patterns m.0 m.1.0 m.1.1 m.1.2 ((is_substring-Decides (folded fold m.0) (folded fold name)).1 m.2),
+)
 
 -- ---- the winner of routes
 
@@ -110,8 +113,9 @@ first_fits seen kind name r h f = record {
   stands = slice_get-end seen r;
   fitting = f;
   longest = λ i s e g. ⊎_elim (λ (l : slice_get seen i ≡ Some s). absurd (true≢false (sym g ∙ h i s l)))
-    (λ (n : (i ≡ length seen) × (r ≡ s)). subst (λ (x : Route). length x.pattern ≤ length r.pattern) n.1 (same_le (length r.pattern))) (slice_get-push seen r s i e);
-  last = λ i s e g p. let lt = within (seen ++ r ∷ []) i s e in omega (arith, length-append seen (r ∷ [])) }
+      (λ (n : (i ≡ length seen) × (r ≡ s)). subst (λ (x : Route). length x.pattern ≤ length r.pattern) n.1 (same_le (length r.pattern))) (slice_get-push seen r s i e);
+  last = λ i s e g p. let lt = within (seen ++ r ∷ []) i s e in omega (arith, length-append seen (r ∷ []));
+}
   where
     same_le : (n : ℕ) → n ≤ n
     same_le n = omega arith
@@ -123,8 +127,9 @@ wins seen kind name best r h f le = record {
   stands = slice_get-end seen r;
   fitting = f;
   longest = λ i s e g. ⊎_elim (λ (l : slice_get seen i ≡ Some s). let m = h.longest i s l g in omega (arith, m))
-    (λ (n : (i ≡ length seen) × (r ≡ s)). subst (λ (x : Route). length x.pattern ≤ length r.pattern) n.1 (same_le (length r.pattern))) (slice_get-push seen r s i e);
-  last = λ i s e g p. let lt = within (seen ++ r ∷ []) i s e in omega (arith, length-append seen (r ∷ [])) }
+      (λ (n : (i ≡ length seen) × (r ≡ s)). subst (λ (x : Route). length x.pattern ≤ length r.pattern) n.1 (same_le (length r.pattern))) (slice_get-push seen r s i e);
+  last = λ i s e g p. let lt = within (seen ++ r ∷ []) i s e in omega (arith, length-append seen (r ∷ []));
+}
   where
     same_le : (n : ℕ) → n ≤ n
     same_le n = omega arith
@@ -136,9 +141,10 @@ stays seen kind name best r h less = record {
   stands = slice_get-front seen (r ∷ []) h.at (within seen h.at best h.stands) ∙ h.stands;
   fitting = h.fitting;
   longest = λ i s e g. ⊎_elim (λ (l : slice_get seen i ≡ Some s). h.longest i s l g)
-    (λ (n : (i ≡ length seen) × (r ≡ s)). subst (λ (x : Route). length x.pattern ≤ length best.pattern) n.1 (under (length r.pattern) (length best.pattern) (less (ap (fits kind name) n.1 ∙ g)))) (slice_get-push seen r s i e);
+      (λ (n : (i ≡ length seen) × (r ≡ s)). subst (λ (x : Route). length x.pattern ≤ length best.pattern) n.1 (under (length r.pattern) (length best.pattern) (less (ap (fits kind name) n.1 ∙ g)))) (slice_get-push seen r s i e);
   last = λ i s e g p. ⊎_elim (λ (l : slice_get seen i ≡ Some s). h.last i s l g p)
-    (λ (n : (i ≡ length seen) × (r ≡ s)). absurd (apart (length r.pattern) (length best.pattern) (less (ap (fits kind name) n.1 ∙ g)) (ap (λ (x : Route). length x.pattern) n.1 ∙ ap length p))) (slice_get-push seen r s i e) }
+      (λ (n : (i ≡ length seen) × (r ≡ s)). absurd (apart (length r.pattern) (length best.pattern) (less (ap (fits kind name) n.1 ∙ g)) (ap (λ (x : Route). length x.pattern) n.1 ∙ ap length p))) (slice_get-push seen r s i e);
+}
   where
     under : (a b : ℕ) → a < b → a ≤ b
     under a b l = omega arith
@@ -149,13 +155,15 @@ stays seen kind name best r h less = record {
 best_more : (seen : List Route) (kind : MetricKind) (name : List ℕ) (best : Option Route) (r : Route) → IsBest seen kind name best → IsBest (seen ++ r ∷ []) kind name (better kind name best r)
 best_more seen kind name None r h =
     elim (fits kind name r) as (λ q. fits kind name r ≡ q → IsBest (seen ++ r ∷ []) kind name (cond q (Some r) None)) [
-        true ↦ λ f. first_fits seen kind name r h f
-      | false ↦ λ f. none_more seen kind name r h f ] refl
+      | true ↦ λ f. first_fits seen kind name r h f
+      | false ↦ λ f. none_more seen kind name r h f
+    ] refl
 best_more seen kind name (Some best) r h =
     let test = fits kind name r && nat_le (length best.pattern) (length r.pattern) in
     elim test as (λ q. test ≡ q → IsBest (seen ++ r ∷ []) kind name (cond q (Some r) (Some best))) [
-        true ↦ λ e. wins seen kind name best r h (and_left _ _ e) (le_of (length best.pattern) (length r.pattern) (and_right (fits kind name r) _ e))
-      | false ↦ λ e. stays seen kind name best r h (λ f. less_of (length best.pattern) (length r.pattern) (sym (ap (λ x. x && nat_le (length best.pattern) (length r.pattern)) f) ∙ e)) ] refl
+      | true ↦ λ e. wins seen kind name best r h (and_left _ _ e) (le_of (length best.pattern) (length r.pattern) (and_right (fits kind name r) _ e))
+      | false ↦ λ e. stays seen kind name best r h (λ f. less_of (length best.pattern) (length r.pattern) (sym (ap (λ x. x && nat_le (length best.pattern) (length r.pattern)) f) ∙ e))
+    ] refl
   where
     le_of : (a b : ℕ) → nat_le a b ≡ true → a ≤ b
     le_of a b e = grind (arith, nat_tests)
@@ -167,7 +175,7 @@ best_all : (seen rest : List Route) (kind : MetricKind) (name : List ℕ) (best 
 best_all seen [] kind name best h = subst (λ rs. IsBest rs kind name best) (sym (append-nil seen)) h
 best_all seen (r ∷ rest) kind name best h =
     subst (λ rs. IsBest rs kind name (winner_from kind name (better kind name best r) rest)) (append_assoc seen (r ∷ []) rest)
-      (best_all (seen ++ r ∷ []) rest kind name (better kind name best r) (best_more seen kind name best r h))
+    (best_all (seen ++ r ∷ []) rest kind name (better kind name best r) (best_more seen kind name best r h))
 
 -- the winner that is found is the winner; where none is found no route fits
 pub winner-IsBest : (routes : List Route) (kind : MetricKind) (name : List ℕ) → IsBest routes kind name (winner routes kind name)

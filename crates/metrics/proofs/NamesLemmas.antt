@@ -30,12 +30,13 @@ kind_eq-Decides Histogram Counter = (λ e. absurd (true≢false (sym e)), λ e. 
 kind_eq-Decides Histogram Gauge = (λ e. absurd (true≢false (sym e)), λ e. absurd (cc))
 
 label_eq-Decides : (a b : List ℕ × List ℕ) → Decides (label_eq a b) (a ≡ b)
-label_eq-Decides a b =
-    (λ e.
+label_eq-Decides a b = (
+  λ e.
       let l : a.0 ≡ b.0 = (bytes_eq-Decides a.0 b.0).0 (and_left _ _ e) in
       let r : a.1 ≡ b.1 = (bytes_eq-Decides a.1 b.1).0 (and_right _ _ e) in
       ap (λ x. (x, a.1)) l ∙ ap (λ x. (b.0, x)) r,
-     λ e. and_both _ _ ((bytes_eq-Decides a.0 b.0).1 (ap (λ (x : List ℕ × List ℕ). x.0) e)) ((bytes_eq-Decides a.1 b.1).1 (ap (λ (x : List ℕ × List ℕ). x.1) e)))
+  λ e. and_both _ _ ((bytes_eq-Decides a.0 b.0).1 (ap (λ (x : List ℕ × List ℕ). x.0) e)) ((bytes_eq-Decides a.1 b.1).1 (ap (λ (x : List ℕ × List ℕ). x.1) e)),
+)
 
 labels_exact : (xs ys : List (List ℕ × List ℕ)) → pointwise label_eq xs ys ≡ true → xs ≡ ys
 labels_exact [] [] e = refl
@@ -51,21 +52,23 @@ labels_same [] = refl
 labels_same (x ∷ xs) = and_both (label_eq x x) (pointwise label_eq xs xs) ((label_eq-Decides x x).1 refl) (labels_same xs)
 
 pub key_eq-Decides : (a b : KeyParts) → Decides (key_eq a b) (a ≡ b)
-key_eq-Decides a b =
-    (λ e.
+key_eq-Decides a b = (
+  λ e.
       let l : a.name ≡ b.name = (bytes_eq-Decides a.name b.name).0 (and_left _ _ e) in
       let r : a.labels ≡ b.labels = labels_exact a.labels b.labels (and_right _ _ e) in
       ap (λ x. record { name = x; labels = a.labels }) l ∙ ap (λ x. record { name = b.name; labels = x }) r,
-     λ e. and_both _ _ ((bytes_eq-Decides a.name b.name).1 (ap (λ (k : KeyParts). k.name) e)) (ap (λ (k : KeyParts). pointwise label_eq k.labels b.labels) e ∙ labels_same b.labels))
+  λ e. and_both _ _ ((bytes_eq-Decides a.name b.name).1 (ap (λ (k : KeyParts). k.name) e)) (ap (λ (k : KeyParts). pointwise label_eq k.labels b.labels) e ∙ labels_same b.labels),
+)
 
 -- equality of composite keys is that of all parts
 pub series_key_eq-Decides : (a b : SeriesKey) → Decides (series_key_eq a b) (a ≡ b)
-series_key_eq-Decides a b =
-    (λ e.
+series_key_eq-Decides a b = (
+  λ e.
       let l : a.kind ≡ b.kind = (kind_eq-Decides a.kind b.kind).0 (and_left _ _ e) in
       let r : a.key ≡ b.key = (key_eq-Decides a.key b.key).0 (and_right _ _ e) in
       ap (λ x. record { kind = x; key = a.key }) l ∙ ap (λ x. record { kind = b.kind; key = x }) r,
-     λ e. and_both _ _ ((kind_eq-Decides a.kind b.kind).1 (ap (λ (k : SeriesKey). k.kind) e)) ((key_eq-Decides a.key b.key).1 (ap (λ (k : SeriesKey). k.key) e)))
+  λ e. and_both _ _ ((kind_eq-Decides a.kind b.kind).1 (ap (λ (k : SeriesKey). k.kind) e)) ((key_eq-Decides a.key b.key).1 (ap (λ (k : SeriesKey). k.key) e)),
+)
 
 pub key_exact : (a b : SeriesKey) → series_key_eq a b ≡ true → a ≡ b
 key_exact a b e = (series_key_eq-Decides a b).0 e

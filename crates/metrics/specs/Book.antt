@@ -134,8 +134,10 @@ described_again unit text d = record { unit = later unit d.unit; text = Some tex
 
 -- a describe call in a book
 abbrev pub describe_in : MetricKind → Option Measure → List ℕ → List ℕ → Content → Content
-describe_in kind unit text name c = record c { described = λ k n.
-    cond (kind_eq kind k && bytes_eq name n) (described_again unit text (c.described k n)) (c.described k n) }
+describe_in kind unit text name c = record c {
+  described = λ k n.
+      cond (kind_eq kind k && bytes_eq name n) (described_again unit text (c.described k n)) (c.described k n);
+}
 
 abbrev pub new_series : SeriesKey → Series
 new_series k = record { key = k; value = new_value k.kind }

@@ -69,10 +69,10 @@ round_answers =
     ∷ Registered (at 0 2 ∷ []) ∷ Updated 1
     ∷ Registered (at 0 3 ∷ []) ∷ Updated 1
     ∷ Snapshot (
-        row Counter (codes "test.counter") round_labels (CounterValue 123)
-        ∷ row Gauge (codes "test.gauge.incr") [] (GaugeValue (pos 456))
-        ∷ row Gauge (codes "test.gauge.set") [] (GaugeValue (pos 654))
-        ∷ row Histogram (codes "test.histogram") [] (HistogramValue (pos 789 ∷ [])) ∷ []) ∷ []
+    row Counter (codes "test.counter") round_labels (CounterValue 123)
+    ∷ row Gauge (codes "test.gauge.incr") [] (GaugeValue (pos 456))
+    ∷ row Gauge (codes "test.gauge.set") [] (GaugeValue (pos 654))
+    ∷ row Histogram (codes "test.histogram") [] (HistogramValue (pos 789 ∷ [])) ∷ []) ∷ []
 
 abbrev pub TwoRounds : Type 0
 TwoRounds = answers book (round ++ round) ≡ round_answers ++ round_answers
@@ -83,7 +83,7 @@ abbrev pub DescriptionKeepsUnit : Type 0
 DescriptionKeepsUnit =
     answers book (Describe Counter (codes "c") (Some Bytes) (codes "one") ∷ Describe Counter (codes "c") None (codes "two") ∷ Take 0 ∷ Register Counter (key (codes "c") []) ∷ Take 0 ∷ [])
     ≡ Described 1 ∷ Described 1 ∷ Snapshot [] ∷ Registered (at 0 0 ∷ [])
-      ∷ Snapshot ((record { kind = Counter; key = key (codes "c") [] }, Some Bytes, Some (codes "two"), CounterValue 0) ∷ []) ∷ []
+    ∷ Snapshot ((record { kind = Counter; key = key (codes "c") [] }, Some Bytes, Some (codes "two"), CounterValue 0) ∷ []) ∷ []
 
 -- ---- counters wrap, gauges stop
 
@@ -91,14 +91,14 @@ abbrev pub CountersWrap : Type 0
 CountersWrap =
     answers book (Register Counter (key (codes "c") []) ∷ Change 0 (Increment 18446744073709551615) ∷ Change 0 (Increment 2) ∷ Take 0 ∷ Change 0 (Absolute 7) ∷ Change 0 (Absolute 5) ∷ Take 0 ∷ [])
     ≡ Registered (at 0 0 ∷ []) ∷ Updated 1 ∷ Updated 1 ∷ Snapshot (row Counter (codes "c") [] (CounterValue 1) ∷ []) ∷ Updated 1 ∷ Updated 1
-      ∷ Snapshot (row Counter (codes "c") [] (CounterValue 7) ∷ []) ∷ []
+    ∷ Snapshot (row Counter (codes "c") [] (CounterValue 7) ∷ []) ∷ []
 
 abbrev pub GaugesStop : Type 0
 GaugesStop =
     answers book (Register Gauge (key (codes "g") []) ∷ Change 0 (Set (pos 9223372036854775807)) ∷ Change 0 (Add (pos 1)) ∷ Take 0
-      ∷ Change 0 (Subtract (pos 1)) ∷ Change 0 (Subtract (negsuc 9223372036854775807)) ∷ Take 0 ∷ [])
+    ∷ Change 0 (Subtract (pos 1)) ∷ Change 0 (Subtract (negsuc 9223372036854775807)) ∷ Take 0 ∷ [])
     ≡ Registered (at 0 0 ∷ []) ∷ Updated 1 ∷ Updated 1 ∷ Snapshot (row Gauge (codes "g") [] (GaugeValue (pos 9223372036854775807)) ∷ []) ∷ Updated 1 ∷ Updated 1
-      ∷ Snapshot (row Gauge (codes "g") [] (GaugeValue (pos 9223372036854775807)) ∷ []) ∷ []
+    ∷ Snapshot (row Gauge (codes "g") [] (GaugeValue (pos 9223372036854775807)) ∷ []) ∷ []
 
 -- ---- samples in bucket order
 

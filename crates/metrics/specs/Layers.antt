@@ -20,7 +20,8 @@ prefixed front a = record {
   contents = a.contents;
   targets = λ kind name. a.targets kind (dotted front name);
   below = λ kind name. a.below kind (dotted front name);
-  distinct = λ kind name. a.distinct kind (dotted front name) }
+  distinct = λ kind name. a.distinct kind (dotted front name);
+}
 
 -- ---- filter
 
@@ -58,7 +59,8 @@ filtered fold patterns a = record {
   contents = a.contents;
   targets = λ kind name. cond (matches fold patterns name) [] (a.targets kind name);
   below = λ kind name. below_unless (matches fold patterns name) (length a.contents) (a.targets kind name) (a.below kind name);
-  distinct = λ kind name. distinct_unless (matches fold patterns name) (a.targets kind name) (a.distinct kind name) }
+  distinct = λ kind name. distinct_unless (matches fold patterns name) (a.targets kind name) (a.distinct kind name);
+}
 
 -- ---- several recorders
 
@@ -68,7 +70,8 @@ joined a b = record {
   contents = a.contents ++ b.contents;
   targets = λ kind name. a.targets kind name ++ raise (length a.contents) (b.targets kind name);
   below = λ kind name. below_joined a.contents b.contents (a.targets kind name) (b.targets kind name) (a.below kind name) (b.below kind name);
-  distinct = λ kind name. distinct_joined (length a.contents) (a.targets kind name) (b.targets kind name) (a.below kind name) (a.distinct kind name) (b.distinct kind name) }
+  distinct = λ kind name. distinct_joined (length a.contents) (a.targets kind name) (b.targets kind name) (a.below kind name) (a.distinct kind name) (b.distinct kind name);
+}
 
 -- a fanout: all children, each beside those before it
 abbrev pub joined_all : List Meaning → Meaning
@@ -146,4 +149,5 @@ routed routes all = record {
   contents = (joined_all all).contents;
   targets = λ kind name. targets_of (chosen (winner routes kind name)) all kind name;
   below = λ kind name. below_of (chosen (winner routes kind name)) all kind name;
-  distinct = λ kind name. distinct_of (chosen (winner routes kind name)) all kind name }
+  distinct = λ kind name. distinct_of (chosen (winner routes kind name)) all kind name;
+}

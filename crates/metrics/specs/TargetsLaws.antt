@@ -119,15 +119,17 @@ without-not : {X : Type 0} (k : ℕ) (ts : List (ℕ × X)) → IsNot k ts → w
 without-not k [] h = refl
 without-not k (t ∷ ts) h =
     elim (nat_eq t.0 k) as (λ q. nat_eq t.0 k ≡ q → cond q (without k ts) (t ∷ without k ts) ≡ t ∷ ts) [
-        true ↦ λ e. absurd (h.0 (eqb-true t.0 k e))
-      | false ↦ λ e. ap (λ us. t ∷ us) (without-not k ts h.1) ] refl
+      | true ↦ λ e. absurd (h.0 (eqb-true t.0 k e))
+      | false ↦ λ e. ap (λ us. t ∷ us) (without-not k ts h.1)
+    ] refl
 
 below-without : {X : Type 0} (k : ℕ) (ts : List (ℕ × X)) → AllBelow (suc k) ts → AllBelow k (without k ts)
 below-without k [] h = tt
 below-without k (t ∷ ts) h =
     elim (nat_eq t.0 k) as (λ q. nat_eq t.0 k ≡ q → AllBelow k (cond q (without k ts) (t ∷ without k ts))) [
-        true ↦ λ e. below-without k ts h.1
-      | false ↦ λ e. (less t.0 k e h.0, below-without k ts h.1) ] refl
+      | true ↦ λ e. below-without k ts h.1
+      | false ↦ λ e. (less t.0 k e h.0, below-without k ts h.1)
+    ] refl
   where
     less : (a b : ℕ) → nat_eq a b ≡ false → a < suc b → a < b
     less a b e l = grind (arith, nat_tests)
@@ -136,24 +138,27 @@ is_not-without : {X : Type 0} (b k : ℕ) (ts : List (ℕ × X)) → IsNot b ts 
 is_not-without b k [] h = tt
 is_not-without b k (t ∷ ts) h =
     elim (nat_eq t.0 k) as (λ q. IsNot b (cond q (without k ts) (t ∷ without k ts))) [
-        true ↦ is_not-without b k ts h.1
-      | false ↦ (h.0, is_not-without b k ts h.1) ]
+      | true ↦ is_not-without b k ts h.1
+      | false ↦ (h.0, is_not-without b k ts h.1)
+    ]
 
 distinct-without : {X : Type 0} (k : ℕ) (ts : List (ℕ × X)) → AreDistinct ts → AreDistinct (without k ts)
 distinct-without k [] h = tt
 distinct-without k (t ∷ ts) h =
     elim (nat_eq t.0 k) as (λ q. AreDistinct (cond q (without k ts) (t ∷ without k ts))) [
-        true ↦ distinct-without k ts h.1
-      | false ↦ (is_not-without t.0 k ts h.0, distinct-without k ts h.1) ]
+      | true ↦ distinct-without k ts h.1
+      | false ↦ (is_not-without t.0 k ts h.0, distinct-without k ts h.1)
+    ]
 
 length-without : {X : Type 0} (k : ℕ) (ts : List (ℕ × X)) → AreDistinct ts → length ts ≤ suc (length (without k ts))
 length-without k [] h = omega arith
 length-without k (t ∷ ts) h =
     elim (nat_eq t.0 k) as (λ q. nat_eq t.0 k ≡ q → length (t ∷ ts) ≤ suc (length (cond q (without k ts) (t ∷ without k ts)))) [
-        true ↦ λ e.
+      | true ↦ λ e.
           let same : without k ts ≡ ts = without-not k ts (subst (λ b. IsNot b ts) (eqb-true t.0 k e) h.0) in
           omega (arith, ap length same)
-      | false ↦ λ e. omega (arith, length-without k ts h.1) ] refl
+      | false ↦ λ e. omega (arith, length-without k ts h.1)
+    ] refl
 
 pub few : {X : Type 0} (k : ℕ) (ts : List (ℕ × X)) → AllBelow k ts → AreDistinct ts → length ts ≤ k
 few k [] b d = omega arith

@@ -19,5 +19,4 @@ pub fn worked_examples()
     ensures longest_pattern_wins { LongestPatternWins }
     ensures later_route_replaces { LaterRouteReplaces }
     ensures fanout_stops { FanoutStops }
-{
-}
+{}

@@ -147,6 +147,7 @@ impl CompositeKey {
     pub fn into_parts(self) -> (MetricKind, Key)
         ensures { result ≡ (self.kind, self.key) }
     {
-        (self.kind, self.key)
+        let Self { kind, key } = self;
+        (kind, key)
     }
 }

@@ -16,5 +16,4 @@ pub fn definition_laws()
     ensures filter { FilterTestsSubstrings }
     ensures router { WinnerIsWinner }
     ensures chunks { ChunksAreTheList }
-{
-}
+{}

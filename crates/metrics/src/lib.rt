@@ -13,6 +13,8 @@ mod label;
 mod laws;
 mod recorder;
 mod refused;
+#[cfg(test)]
+mod tests;
 mod text;
 
 pub use calls::{Answer, Call};
@@ -23,8 +25,8 @@ pub use handles::{Address, Update};
 pub use items::Items;
 pub use key::{CompositeKey, Key, KeyName};
 pub use kind::MetricKind;
-pub use laws::definition_laws;
 pub use label::Label;
+pub use laws::definition_laws;
 pub use recorder::{Boxed, NoopRecorder, Recorder};
 pub use refused::Refused;
 pub use text::Text;

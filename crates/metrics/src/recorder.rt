@@ -43,7 +43,12 @@ pub trait Recorder: Drop {
     ///
     /// A key that a book has already keeps its place and its value. Refused for memory alone; `acted` then
     /// also counts targets that had the key already, or whose address could not be kept afterwards.
-    fn register(&mut self, alloc: Global, kind: MetricKind, key: &Key) -> Result<Vec<Address>, Refused>
+    fn register(
+        &mut self,
+        alloc: Global,
+        kind: MetricKind,
+        key: &Key,
+    ) -> Result<Vec<Address>, Refused>
         ensures keeps { Keeps (meaning self.old) (meaning self.new) }
         ensures registers { Registers (meaning self.old) (meaning self.new) kind key.now (result_map_both (λ v. v.items) (λ e. e) result) };
 
@@ -89,7 +94,12 @@ impl Recorder for Boxed {
         self.0.describe(alloc, kind, name, unit, text)
     }
 
-    fn register(&mut self, alloc: Global, kind: MetricKind, key: &Key) -> Result<Vec<Address>, Refused> {
+    fn register(
+        &mut self,
+        alloc: Global,
+        kind: MetricKind,
+        key: &Key,
+    ) -> Result<Vec<Address>, Refused> {
         self.0.register(alloc, kind, key)
     }
 
@@ -128,7 +138,12 @@ impl Recorder for NoopRecorder {
         Ok(0)
     }
 
-    fn register(&mut self, alloc: Global, _kind: MetricKind, _key: &Key) -> Result<Vec<Address>, Refused> {
+    fn register(
+        &mut self,
+        alloc: Global,
+        _kind: MetricKind,
+        _key: &Key,
+    ) -> Result<Vec<Address>, Refused> {
         Ok(Vec::new(alloc))
     }
 

@@ -68,11 +68,12 @@ held_still u b p cs kind a h =
     let below = and_right (is_kind kind (kind_at a.series (content_at a.book cs))) (nat_lt a.book (length cs)) h in
     let lt = ltb-true a.book (length cs) below in
     and_both _ _
-      (ap (λ c. is_kind kind (kind_at a.series c)) (content_at-at_book a.book b (update_in u p) cs lt)
-        ∙ elim (nat_eq b a.book) as (λ q. is_kind kind (kind_at a.series (cond q (update_in u p (content_at a.book cs)) (content_at a.book cs))) ≡ true) [
-            true ↦ slice_changed kind u (content_at a.book cs).series p a.series there
-          | false ↦ there ])
-      (ap (nat_lt a.book) (length-at_book b (update_in u p) cs) ∙ below)
+    (ap (λ c. is_kind kind (kind_at a.series c)) (content_at-at_book a.book b (update_in u p) cs lt)
+    ∙ elim (nat_eq b a.book) as (λ q. is_kind kind (kind_at a.series (cond q (update_in u p (content_at a.book cs)) (content_at a.book cs))) ≡ true) [
+      | true ↦ slice_changed kind u (content_at a.book cs).series p a.series there
+      | false ↦ there
+    ])
+    (ap (nat_lt a.book) (length-at_book b (update_in u p) cs) ∙ below)
 
 pub all_held_more : (kind : MetricKind) (found : List Address) (by : Update) (at : Address) (now new : List Content) → new ≡ at_book at.book (update_in by at.series) now → AllHeld kind found now → AllHeld kind found new
 all_held_more kind [] by at now new g h = tt
@@ -107,8 +108,9 @@ places-suc : (i : ℕ) (cs : List Call) → register_places (suc i) cs ≡ map s
 places-suc i [] = refl
 places-suc i (c ∷ cs) =
     elim (register_kind c) as (λ o. place_in_front o (suc i) (register_places (suc (suc i)) cs) ≡ map suc (place_in_front o i (register_places (suc i) cs))) [
-        None ↦ places-suc (suc i) cs
-      | Some k ↦ ap (λ is. suc i ∷ is) (places-suc (suc i) cs) ]
+      | None ↦ places-suc (suc i) cs
+      | Some k ↦ ap (λ is. suc i ∷ is) (places-suc (suc i) cs)
+    ]
 
 -- where each register call stands
 pub registration-places : (cs : List Call) (as' : List Answer) (n : ℕ) → length cs ≡ length as' →
@@ -123,7 +125,7 @@ registration-places (c ∷ cs) (a ∷ as') n e = by_call (λ m. registration-pla
 
     skipped : ((m : ℕ) → registration m (log_of cs as') ≡ option_and_then (registration_at cs as') (slice_get (register_places 0 cs) m)) → (c : Call) (n : ℕ) → slice_get (filter_map registration_of (log_of cs as')) n ≡ option_and_then (registration_at (c ∷ cs) (a ∷ as')) (slice_get (register_places 1 cs) n)
     skipped rest c n = rest n ∙ shifted c (slice_get (register_places 0 cs) n)
-      ∙ ap (option_and_then (registration_at (c ∷ cs) (a ∷ as'))) (sym (slice_get-suc (register_places 0 cs) n) ∙ ap (λ is. slice_get is n) (sym (places-suc 0 cs)))
+        ∙ ap (option_and_then (registration_at (c ∷ cs) (a ∷ as'))) (sym (slice_get-suc (register_places 0 cs) n) ∙ ap (λ is. slice_get is n) (sym (places-suc 0 cs)))
 
     by_call : ((m : ℕ) → registration m (log_of cs as') ≡ option_and_then (registration_at cs as') (slice_get (register_places 0 cs) m)) → (c : Call) (n : ℕ) → registration n (log_of (c ∷ cs) (a ∷ as')) ≡ option_and_then (registration_at (c ∷ cs) (a ∷ as')) (slice_get (register_places 0 (c ∷ cs)) n)
     by_call rest (Register kind key) zero = refl
@@ -156,8 +158,9 @@ places_under : (n i : ℕ) (cs : List Call) → i + length cs ≤ n → AllUnder
 places_under n i [] le = tt
 places_under n i (c ∷ cs) le =
     elim (register_kind c) as (λ o. AllUnder n (place_in_front o i (register_places (suc i) cs))) [
-        None ↦ places_under n (suc i) cs (omega arith)
-      | Some k ↦ (omega arith, places_under n (suc i) cs (omega arith)) ]
+      | None ↦ places_under n (suc i) cs (omega arith)
+      | Some k ↦ (omega arith, places_under n (suc i) cs (omega arith))
+    ]
 
 under_at : (n : ℕ) (is : List ℕ) (k i : ℕ) → k < length is → i ≡ get_or is k i → AllUnder n is → i < n
 under_at n [] k i lt e h = absurd (omega arith)
@@ -176,8 +179,8 @@ handle_at : (cs : List Call) (as' : List Answer) (is : List ℕ) (n i : ℕ) (c 
     i < length cs → c ≡ get_or cs i c → a ≡ get_or as' i a → handle n (log_of cs as') ≡ option_and_then handle_of (registration_of (c, a))
 handle_at cs as' is n i c a l e lt at li ce ae =
     ap (option_and_then handle_of) (registration-places cs as' n l
-      ∙ ap (option_and_then (registration_at cs as')) (ap (λ js. slice_get js n) (sym e) ∙ slice_get-at is n i lt at)
-      ∙ ap (option_and_then registration_of) (slice_get-log cs as' i c a li (omega arith) ce ae))
+    ∙ ap (option_and_then (registration_at cs as')) (ap (λ js. slice_get js n) (sym e) ∙ slice_get-at is n i lt at)
+    ∙ ap (option_and_then registration_of) (slice_get-log cs as' i c a li (omega arith) ce ae))
 
 pub handle-other : (cs : List Call) (as' : List Answer) (is : List ℕ) (n i : ℕ) (c : Call) (a : Answer) → length cs ≡ length as' → is ≡ register_places 0 cs → n < length is → i ≡ get_or is n i →
     i < length cs → c ≡ get_or cs i c → a ≡ get_or as' i a → register_kind c ≡ None → handle n (log_of cs as') ≡ None
@@ -248,8 +251,9 @@ replayed_more first old new calls answers c a h k r =
       books = length_answers old new (handle_named c log) c a r ∙ h.books;
       kept = subst (λ (t : Targets). Kept (AreNew first.contents) t (log_of (calls ++ c ∷ []) (answers ++ a ∷ [])) new.contents) h.keeps (subst (λ g. Kept (AreNew first.contents) old.targets g new.contents) (sym push) both.0);
       plain = λ n. subst (ArePlain first.targets (length first.contents)) (sym push)
-        (plain-push first.targets (length first.contents) [] log (c, a) (h.plain n)
-          (subst (λ m. IsPlain first.targets m log c a) h.books (subst (λ (t : Targets). IsPlain t (length old.contents) log c a) h.keeps (both.1 n)))) }
+          (plain-push first.targets (length first.contents) [] log (c, a) (h.plain n)
+          (subst (λ m. IsPlain first.targets m log c a) h.books (subst (λ (t : Targets). IsPlain t (length old.contents) log c a) h.keeps (both.1 n))));
+    }
   where
     length_push : {A : Type 0} (xs : List A) (x : A) → length (xs ++ x ∷ []) ≡ suc (length xs)
     length_push [] x = refl

@@ -14,7 +14,8 @@ mod tests;
 mod value;
 
 use descriptions::Descriptions;
-use metrics::{Address, Key, KeyName, MetricKind, Recorder, Refused, Snapshot, Unit, Update};
+pub use metrics::{DebugValue, Snapshot};
+use metrics::{Address, Key, KeyName, MetricKind, Recorder, Refused, Unit, Update};
 use series::SeriesList;
 use std::alloc::Global;
 use std::marker::Model;

@@ -5,6 +5,8 @@ pub mod debugging;
 mod error;
 pub mod layers;
 mod replaying;
+#[cfg(test)]
+mod tests;
 
 pub use error::Error;
 pub use metrics::{CompositeKey, MetricKind};

@@ -29,7 +29,9 @@ pub(crate) fn after(front: usize, refused: Refused) -> Refused
     ensures { result ≡ after_front front refused }
 {
     match refused {
-        Refused::Memory { acted } => Refused::Memory { acted: front + acted },
+        Refused::Memory { acted } => Refused::Memory {
+            acted: front + acted,
+        },
         Refused::NoSuchAddress => Refused::NoSuchAddress,
         Refused::NoSuchBook => Refused::NoSuchBook,
         Refused::BadHandle => Refused::BadHandle,
@@ -65,7 +67,13 @@ pub fn answer_of<R: Recorder>(
     ensures answers { Answers (R.meaning on.old) (R.meaning on.new) (option_map handle_seen handle.entry) call.now result }
 {
     match call {
-        Call::Describe(kind, name, unit, text) => match on.describe(alloc, *kind, name, *unit, text.as_str()) {
+        Call::Describe(kind, name, unit, text) => match on.describe(
+            alloc,
+            *kind,
+            name,
+            *unit,
+            text.as_str(),
+        ) {
             Ok(count) => Answer::Described(count),
             Err(refused) => Answer::Refused(refused),
         },
@@ -82,7 +90,11 @@ pub fn answer_of<R: Recorder>(
 }
 
 /// Updates the addresses of a handle, if it is of the update's kind.
-fn update_of<R: Recorder>(on: &mut R, by: Update, handle: Option<(MetricKind, &[Address])>) -> Answer
+fn update_of<R: Recorder>(
+    on: &mut R,
+    by: Update,
+    handle: Option<(MetricKind, &[Address])>,
+) -> Answer
     requires { IsHeld (option_map handle_seen handle) (R.meaning on.old).contents }
     ensures keeps { Keeps (R.meaning on.old) (R.meaning on.new) }
     ensures updates { UpdatesCall (R.meaning on.old) (R.meaning on.new) (option_map handle_seen handle.entry) by result }
@@ -184,7 +196,11 @@ fn note_register(registers: &mut Vec<usize>, call: &Call, place: usize)
 ///
 /// Room for the list of answers is made first. `Err` comes only where it is refused, and then nothing was
 /// called.
-pub fn replay<R: Recorder>(alloc: Global, on: &mut R, calls: &[Call]) -> Result<Vec<Answer>, Refused>
+pub fn replay<R: Recorder>(
+    alloc: Global,
+    on: &mut R,
+    calls: &[Call],
+) -> Result<Vec<Answer>, Refused>
     ensures number { IfOk result (λ answers. length answers.items ≡ length calls.now) }
 
     // Where the books are new, each answer is the plain one, and the books hold what the calls and answers give.

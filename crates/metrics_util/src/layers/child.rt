@@ -41,7 +41,12 @@ impl<B: Recorder> Child<B> {
             Ok(inner) => Ok(Child {
                 node: Node::Prefixed(prefix, inner),
             }),
-            Err(refused) => Err((Error::Memory, Child { node: refused.value })),
+            Err(refused) => Err((
+                Error::Memory,
+                Child {
+                    node: refused.value,
+                },
+            )),
         }
     }
 }
@@ -64,7 +69,12 @@ impl<B: Recorder> Recorder for Child<B> {
         self.node.describe(alloc, kind, name, unit, text)
     }
 
-    fn register(&mut self, alloc: Global, kind: MetricKind, key: &Key) -> Result<Vec<Address>, Refused> {
+    fn register(
+        &mut self,
+        alloc: Global,
+        kind: MetricKind,
+        key: &Key,
+    ) -> Result<Vec<Address>, Refused> {
         self.node.register(alloc, kind, key)
     }
 

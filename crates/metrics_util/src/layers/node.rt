@@ -47,7 +47,12 @@ impl<B: Recorder> Node<B> {
         }
     }
 
-    pub(crate) fn register(&mut self, alloc: Global, kind: MetricKind, key: &Key) -> Result<Vec<Address>, Refused>
+    pub(crate) fn register(
+        &mut self,
+        alloc: Global,
+        kind: MetricKind,
+        key: &Key,
+    ) -> Result<Vec<Address>, Refused>
         requires most { length (node_meaning B.meaning self.old).contents ≤ 65536 }
         ensures keeps { Keeps (node_meaning B.meaning self.old) (node_meaning B.meaning self.new) }
         ensures registers { Registers (node_meaning B.meaning self.old) (node_meaning B.meaning self.new) kind key.now (result_map_both (λ v. v.items) (λ e. e) result) }

@@ -20,7 +20,7 @@ offset_bounds-calls-place c =
     let registers = c.args.registers.now in
     let i = get_or registers c.args.number 0 in
     let lt : i < length c.args.calls.now =
-        place_less c.args.calls.now registers c.args.number i c.requires.places c.if-number-registers.false (default_same registers c.args.number 0 i c.if-number-registers.false) in
+    place_less c.args.calls.now registers c.args.number i c.requires.places c.if-number-registers.false (default_same registers c.args.number 0 i c.if-number-registers.false) in
     search rules
 
 pub bounds-answers-place : goal.bounds-answers-place
@@ -28,7 +28,7 @@ bounds-answers-place c =
     let registers = c.args.registers.now in
     let i = get_or registers c.args.number 0 in
     let lt : i < length c.args.calls.now =
-        place_less c.args.calls.now registers c.args.number i c.requires.places c.if-number-registers.false (default_same registers c.args.number 0 i c.if-number-registers.false) in
+    place_less c.args.calls.now registers c.args.number i c.requires.places c.if-number-registers.false (default_same registers c.args.number 0 i c.if-number-registers.false) in
     omega (arith, c.requires.same)
 
 pub offset_bounds-answers-place : goal.offset_bounds-answers-place
@@ -36,7 +36,7 @@ offset_bounds-answers-place c =
     let registers = c.args.registers.now in
     let i = get_or registers c.args.number 0 in
     let lt : i < length c.args.calls.now =
-        place_less c.args.calls.now registers c.args.number i c.requires.places c.if-number-registers.false (default_same registers c.args.number 0 i c.if-number-registers.false) in
+    place_less c.args.calls.now registers c.args.number i c.requires.places c.if-number-registers.false (default_same registers c.args.number 0 i c.if-number-registers.false) in
     let la : i < length c.args.answers.now = omega (arith, c.requires.same) in
     search rules
 
@@ -51,7 +51,7 @@ returns-in-None c =
     let la : i < length answers = omega (arith, c.requires.same) in
     let a : Answer = get_or answers i (Refused BadHandle) in
     sym (handle-other calls answers registers c.args.number i c.index-calls-place.result a
-      c.requires.same c.requires.places c.if-number-registers.false at lt c.index-calls-place.is (default_same answers i (Refused BadHandle) a la) (sym c.registered_kind.ensures ∙ c.in-None.is))
+    c.requires.same c.requires.places c.if-number-registers.false at lt c.index-calls-place.is (default_same answers i (Refused BadHandle) a la) (sym c.registered_kind.ensures ∙ c.in-None.is))
 
 pub returns-in-Some : goal.returns-in-Some
 returns-in-Some c =
@@ -62,4 +62,4 @@ returns-in-Some c =
     let at : i ≡ get_or registers c.args.number i = default_same registers c.args.number 0 i c.if-number-registers.false in
     let lt : i < length calls = place_less calls registers c.args.number i c.requires.places c.if-number-registers.false at in
     c.given.ensures ∙ sym (handle-given calls answers registers c.args.number i c.index-calls-place.result c.index-answers-place.result c.in-Some.kind
-      c.requires.same c.requires.places c.if-number-registers.false at lt c.index-calls-place.is c.index-answers-place.is (sym c.registered_kind.ensures ∙ c.in-Some.is))
+    c.requires.same c.requires.places c.if-number-registers.false at lt c.index-calls-place.is c.index-answers-place.is (sym c.registered_kind.ensures ∙ c.in-Some.is))

@@ -10,8 +10,8 @@ pub answer_of-answer-requires : goal.answer_of-answer-requires
 answer_of-answer-requires g c =
     let M = g.R.Recorder.meaning in
     subst (λ h. IsHeld h (M c.loop-i.on).contents) (sym c.named_handle-handle.ensures)
-      (subst (λ told. IsHeld (handle_named c.index-calls-i.result (log_of (take c.loop-i.i c.args.calls.now) told)) (M c.loop-i.on).contents) (sym c.as_slice.ensures.value)
-        (named_held (M c.args.on.now) (M c.loop-i.on) (take c.loop-i.i c.args.calls.now) c.loop-i.answers.items c.index-calls-i.result c.loop-i.invariant.replayed))
+    (subst (λ told. IsHeld (handle_named c.index-calls-i.result (log_of (take c.loop-i.i c.args.calls.now) told)) (M c.loop-i.on).contents) (sym c.as_slice.ensures.value)
+    (named_held (M c.args.on.now) (M c.loop-i.on) (take c.loop-i.i c.args.calls.now) c.loop-i.answers.items c.index-calls-i.result c.loop-i.invariant.replayed))
 
 pub loop-i-preserved : goal.loop-i-preserved
 loop-i-preserved g c =
@@ -20,7 +20,7 @@ loop-i-preserved g c =
     let i = c.loop-i.i in
     let call = c.index-calls-i.result in
     let more : take (i + 1) calls ≡ take i calls ++ call ∷ [] =
-        take_more calls i call c.loop-i-test.true ∙ ap (λ x. take i calls ++ x ∷ []) (sym c.index-calls-i.is) in
+    take_more calls i call c.loop-i-test.true ∙ ap (λ x. take i calls ++ x ∷ []) (sym c.index-calls-i.is) in
     let told = c.loop-i.answers.items in
     let log = log_of (take i calls) told in
     let named = c.named_handle-handle.ensures ∙ ap (λ as'. handle_named call (log_of (take i calls) as')) c.as_slice.ensures.value in
@@ -33,11 +33,12 @@ loop-i-preserved g c =
       register_room = omega (arith, c.note_register.ensures.capacity, c.loop-i.invariant.register_room);
       register_len = omega (arith, c.note_register.ensures.len, c.loop-i.invariant.register_len);
       places =
-        c.note_register.ensures.items
-        ∙ ap (λ is. is ++ place_in_front (register_kind call) i []) c.loop-i.invariant.places
-        ∙ ap (λ n. register_places 0 (take i calls) ++ place_in_front (register_kind call) n []) (sym zero_more)
-        ∙ sym (places-push 0 (take i calls) call)
-        ∙ ap (register_places 0) (sym more);
+          c.note_register.ensures.items
+          ∙ ap (λ is. is ++ place_in_front (register_kind call) i []) c.loop-i.invariant.places
+          ∙ ap (λ n. register_places 0 (take i calls) ++ place_in_front (register_kind call) n []) (sym zero_more)
+          ∙ sym (places-push 0 (take i calls) call)
+          ∙ ap (register_places 0) (sym more);
       replayed = rw (more, c.push_reserved.ensures.items)
-        (replayed_more (M c.args.on.now) (M c.loop-i.on) (M c.answer_of-answer.new.on) (take i calls) told call c.answer_of-answer.result
-          c.loop-i.invariant.replayed c.answer_of-answer.ensures.keeps r) }
+          (replayed_more (M c.args.on.now) (M c.loop-i.on) (M c.answer_of-answer.new.on) (take i calls) told call c.answer_of-answer.result
+          c.loop-i.invariant.replayed c.answer_of-answer.ensures.keeps r);
+    }

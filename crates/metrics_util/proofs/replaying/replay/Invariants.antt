@@ -10,4 +10,5 @@ invariant-loop-i g l = record {
   register_room : length l.calls ≤ vec_capacity l.registers;
   register_len : vec_len l.registers ≤ l.i;
   places : l.registers.items ≡ register_places 0 (take l.i l.calls);
-  replayed : Replayed (g.R.Recorder.meaning l.initial.on) (g.R.Recorder.meaning l.on) (take l.i l.calls) l.answers.items }
+  replayed : Replayed (g.R.Recorder.meaning l.initial.on) (g.R.Recorder.meaning l.on) (take l.i l.calls) l.answers.items;
+}

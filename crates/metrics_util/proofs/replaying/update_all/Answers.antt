@@ -13,7 +13,7 @@ returns-in-Err-clause-updates g c =
     let is : at ≡ get_or found c.loop-i.i at = default_same found c.loop-i.i _ at c.loop-i-test.true in
     let r = rw c.in-Err.is at c.update.ensures.updates in
     rw c.after.ensures (update_err (M c.args.on.now) (M c.loop-i.on) (M c.update.new.self) found c.args.by c.loop-i.i at c.in-Err.refused r
-        (held_at (kind_of c.args.by) found (M c.loop-i.on).contents c.loop-i.i at c.loop-i-test.true is c.loop-i.invariant.held) c.loop-i.invariant.updated c.loop-i-test.true)
+    (held_at (kind_of c.args.by) found (M c.loop-i.on).contents c.loop-i.i at c.loop-i-test.true is c.loop-i.invariant.held) c.loop-i.invariant.updated c.loop-i-test.true)
 
 pub loop-i-preserved : goal.loop-i-preserved
 loop-i-preserved g c =
@@ -25,4 +25,5 @@ loop-i-preserved g c =
     record {
       keeps = c.update.ensures.keeps ∙ c.loop-i.invariant.keeps;
       updated = update_more found c.args.by c.loop-i.i at _ _ _ c.loop-i-test.true is c.loop-i.invariant.updated r.1;
-      held = all_held_more (kind_of c.args.by) found c.args.by at (M c.loop-i.on).contents (M c.update.new.self).contents r.1 c.loop-i.invariant.held }
+      held = all_held_more (kind_of c.args.by) found c.args.by at (M c.loop-i.on).contents (M c.update.new.self).contents r.1 c.loop-i.invariant.held;
+    }

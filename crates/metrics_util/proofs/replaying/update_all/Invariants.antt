@@ -11,4 +11,5 @@ invariant-loop-i g l =
     record {
       keeps : Keeps (M l.initial.on) (M l.on);
       updated : (M l.on).contents ≡ act (update_in l.by) (take l.i (places l.found)) (M l.initial.on).contents;
-      held : AllHeld (kind_of l.by) l.found (M l.on).contents }
+      held : AllHeld (kind_of l.by) l.found (M l.on).contents;
+    }

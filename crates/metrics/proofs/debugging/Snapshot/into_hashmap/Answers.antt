@@ -13,5 +13,6 @@ loop-key-preserved c =
       room = omega (arith, c.loop-key.invariant.room, c.put.ensures.room, ap length next);
       all = c.loop-key.invariant.all ∙ ap (λ xs. c.loop-key.yielded ++ xs) next ∙ sym (append_assoc c.loop-key.yielded _ _);
       rows = λ k. c.put.ensures.rows k
-        ∙ ap (λ o. cond (series_key_eq c.in-Some.key k) (Some (c.in-Some.unit, c.in-Some.text, c.in-Some.value)) o) (c.loop-key.invariant.rows k)
-        ∙ sym (last_row-push k c.loop-key.yielded (c.in-Some.key, c.in-Some.unit, c.in-Some.text, c.in-Some.value)) }
+          ∙ ap (λ o. cond (series_key_eq c.in-Some.key k) (Some (c.in-Some.unit, c.in-Some.text, c.in-Some.value)) o) (c.loop-key.invariant.rows k)
+          ∙ sym (last_row-push k c.loop-key.yielded (c.in-Some.key, c.in-Some.unit, c.in-Some.text, c.in-Some.value));
+    }

@@ -10,4 +10,5 @@ invariant-loop-key l = record {
   ready : (goal.iterator-loop-key).can_next l.key-iterator × (goal.iterator-loop-key).is_finite l.key-iterator;
   room : length (into_iter_items l.key-iterator) ≤ spare l.map;
   all : l.fn.self ≡ l.yielded ++ into_iter_items l.key-iterator;
-  rows : (k : SeriesKey) → get series_key_eq l.map k ≡ last_row k l.yielded }
+  rows : (k : SeriesKey) → get series_key_eq l.map k ≡ last_row k l.yielded;
+}

@@ -1,0 +1,222 @@
+//! Replays at each kind of recorder, with expected values from outside.
+
+use crate::debugging::{DebuggingRecorder, Snapshotter};
+use crate::layers::{Child, PrefixLayer};
+use crate::{Error, replay};
+use metrics::{
+    Answer, Boxed, Call, CompositeKey, DebugValue, Key, KeyName, Label, MetricKind, Recorder,
+    Refused, Snapshot, Text, Unit, Update,
+};
+use std::alloc::{AllocError, Global};
+use std::process::Abort;
+use std::test::Fail;
+
+fn register(alloc: Global, kind: MetricKind, name: &str) -> Result<Call, Refused> {
+    Ok(Call::Register(kind, Key::from_name(alloc, name)?))
+}
+
+fn describe(alloc: Global, name: &str, unit: Option<Unit>, text: &str) -> Result<Call, Refused> {
+    Ok(Call::Describe(
+        MetricKind::Counter,
+        KeyName::new(alloc, name)?,
+        unit,
+        Text::new(alloc, text)?,
+    ))
+}
+
+/// A counter with a label, two gauges and a histogram, each updated once, and a snapshot.
+fn round(alloc: Global, first: usize, calls: &mut Vec<Call>) -> Result<(), Refused> {
+    let mut labels = Vec::new(alloc);
+    labels.push(Label::new(alloc, "counter.key", "counter.value")?)?;
+    let counter = Key::from_parts(alloc, "test.counter", labels)?;
+    calls.push(Call::Register(MetricKind::Counter, counter))?;
+    calls.push(register(alloc, MetricKind::Gauge, "test.gauge.incr")?)?;
+    calls.push(register(alloc, MetricKind::Gauge, "test.gauge.set")?)?;
+    calls.push(register(alloc, MetricKind::Histogram, "test.histogram")?)?;
+    calls.push(Call::Update(first, Update::Increment(123)))?;
+    calls.push(Call::Update(first + 1, Update::Add(456)))?;
+    calls.push(Call::Update(first + 2, Update::Set(654)))?;
+    calls.push(Call::Update(first + 3, Update::Record(789)))?;
+    calls.push(Call::Snapshot(0))?;
+    Ok(())
+}
+
+/// The snapshots among the answers, in order.
+fn taken(alloc: Global, answers: Vec<Answer>) -> Result<Vec<Snapshot>, AllocError> {
+    let mut all = Vec::new(alloc);
+    for answer in answers {
+        if let Answer::Snapshot(snapshot) = answer {
+            all.push(snapshot)?;
+        }
+    }
+    Ok(all)
+}
+
+fn is_value(value: &DebugValue, kind: MetricKind, want: i64) -> bool {
+    match value {
+        DebugValue::Counter(n) => kind == MetricKind::Counter && i64::try_from(*n) == Ok(want),
+        DebugValue::Gauge(n) => kind == MetricKind::Gauge && *n == want,
+        DebugValue::Histogram(samples) => kind == MetricKind::Histogram
+            && samples.as_slice() == [want].as_slice(),
+    }
+}
+
+const ROUND: [(&str, MetricKind, i64); 4] = [
+    ("test.counter", MetricKind::Counter, 123),
+    ("test.gauge.incr", MetricKind::Gauge, 456),
+    ("test.gauge.set", MetricKind::Gauge, 654),
+    ("test.histogram", MetricKind::Histogram, 789),
+];
+
+#[test]
+fn two_rounds_read_as_lists(rt: HostRuntime) -> Result<(), Fail> {
+    let alloc = rt.alloc();
+    let mut calls = Vec::new(alloc);
+    round(alloc, 0, &mut calls)?;
+    round(alloc, 4, &mut calls)?;
+    let mut book = DebuggingRecorder::new(alloc)?;
+    let answers = replay(alloc, &mut book, calls.as_slice())?;
+    assert_eq!(rt; answers.len(), 18);
+    let snapshots = taken(alloc, answers)?;
+    assert_eq!(rt; snapshots.len(), 2);
+    for snapshot in snapshots {
+        let rows = snapshot.into_vec();
+        assert_eq!(rt; rows.len(), 4);
+        for (row, (name, kind, want)) in rows.iter().zip(ROUND) {
+            assert_eq!(rt; row.0.key().name(), name);
+            assert_eq!(rt; row.1, None);
+            assert!(rt; row.2.is_none());
+            assert!(rt; is_value(&row.3, kind, want), "{name}");
+        }
+    }
+    Ok(())
+}
+
+#[test]
+fn two_rounds_read_as_maps(rt: HostRuntime) -> Result<(), Fail> {
+    let alloc = rt.alloc();
+    let mut calls = Vec::new(alloc);
+    round(alloc, 0, &mut calls)?;
+    round(alloc, 4, &mut calls)?;
+    let mut book = Boxed(Box::new(alloc, DebuggingRecorder::new(alloc)?)?);
+    let snapshots = taken(alloc, replay(alloc, &mut book, calls.as_slice())?)?;
+    assert_eq!(rt; snapshots.len(), 2);
+    for snapshot in snapshots {
+        let Ok(map) = snapshot.into_hashmap(alloc) else {
+            panic!(rt; "memory");
+        };
+        assert_eq!(rt; map.len(), 4);
+        let key = CompositeKey::new(MetricKind::Gauge, Key::from_name(alloc, "test.gauge.set")?);
+        let found = map.get(&key).ok_or("no row")?;
+        assert!(rt; is_value(&found.2, MetricKind::Gauge, 654));
+    }
+    Ok(())
+}
+
+/// The name that a counter `name` has in book 0, by a replay.
+fn name_there<R: Recorder>(
+    alloc: Global,
+    on: &mut R,
+    name: &str,
+) -> Result<Vec<Snapshot>, Refused> {
+    let mut calls = Vec::new(alloc);
+    calls.push(register(alloc, MetricKind::Counter, name)?)?;
+    calls.push(Call::Snapshot(0))?;
+    Ok(taken(alloc, replay(alloc, on, calls.as_slice())?)?)
+}
+
+fn expect_name<R: Recorder>(
+    rt: &impl Abort,
+    alloc: Global,
+    on: &mut R,
+    name: &str,
+    want: &str,
+) -> Result<(), Refused> {
+    let snapshots = name_there(alloc, on, name)?;
+    assert_eq!(rt; snapshots.len(), 1);
+    let rows = snapshots[0].as_slice();
+    assert_eq!(rt; rows.len(), 1);
+    assert_eq!(rt; rows[0].0.key().name(), want);
+    Ok(())
+}
+
+fn under(alloc: Global, tree: Child<Boxed>, prefix: &str) -> Result<Child<Boxed>, Error> {
+    let layer = PrefixLayer::new(alloc, prefix)?;
+    match tree.prefix(alloc, &layer) {
+        Ok(tree) => Ok(tree),
+        Err((error, _)) => Err(error),
+    }
+}
+
+fn boxed_book(alloc: Global) -> Result<Child<Boxed>, Refused> {
+    Ok(Child::leaf(Boxed(Box::new(alloc, DebuggingRecorder::new(alloc)?)?)))
+}
+
+#[test]
+fn prefixes(rt: HostRuntime) -> Result<(), Fail> {
+    let alloc = rt.alloc();
+    let mut tree = under(alloc, boxed_book(alloc)?, "testing")?;
+    expect_name(&rt, alloc, &mut tree, "counter_key", "testing.counter_key")?;
+    let mut tree = under(alloc, boxed_book(alloc)?, "")?;
+    expect_name(&rt, alloc, &mut tree, "x", ".x")?;
+    // The prefix that was put on last sees a name first.
+    let mut tree = under(alloc, under(alloc, boxed_book(alloc)?, "a")?, "b")?;
+    expect_name(&rt, alloc, &mut tree, "x", "a.b.x")?;
+    Ok(())
+}
+
+#[test]
+fn every_call_below_two_prefixes(rt: HostRuntime) -> Result<(), Fail> {
+    let alloc = rt.alloc();
+    let inner = PrefixLayer::new(alloc, "a")?;
+    let outer = PrefixLayer::new(alloc, "b")?;
+    let tree = Child::leaf(DebuggingRecorder::new(alloc)?);
+    let Ok(tree) = tree.prefix(alloc, &inner) else {
+        panic!(rt; "memory");
+    };
+    let Ok(mut tree) = tree.prefix(alloc, &outer) else {
+        panic!(rt; "memory");
+    };
+    assert_eq!(rt; tree.books(), 1);
+    let mut calls = Vec::new(alloc);
+    calls.push(describe(alloc, "c", Some(Unit::Bytes), "one")?)?;
+    calls.push(describe(alloc, "c", None, "two")?)?;
+    calls.push(Call::Snapshot(0))?;
+    calls.push(register(alloc, MetricKind::Counter, "c")?)?;
+    calls.push(Call::Update(0, Update::Increment(u64::MAX)))?;
+    calls.push(Call::Update(0, Update::Increment(2)))?;
+    calls.push(Call::Snapshot(0))?;
+    calls.push(Call::Update(0, Update::Add(1)))?;
+    calls.push(Call::Update(1, Update::Increment(1)))?;
+    calls.push(Call::Snapshot(1))?;
+    let answers = replay(alloc, &mut tree, calls.as_slice())?;
+    assert_eq!(rt; answers.len(), 10);
+    assert!(rt; matches!(&answers[0], Answer::Described(1)));
+    assert!(rt; matches!(&answers[1], Answer::Described(1)));
+    assert!(rt; matches!(&answers[4], Answer::Updated(1)));
+    assert!(rt; matches!(&answers[7], Answer::Refused(Refused::BadHandle)));
+    assert!(rt; matches!(&answers[8], Answer::Refused(Refused::BadHandle)));
+    assert!(rt; matches!(&answers[9], Answer::Refused(Refused::NoSuchBook)));
+    let snapshots = taken(alloc, answers)?;
+    assert_eq!(rt; snapshots.len(), 2);
+    assert_eq!(rt; snapshots[0].as_slice().len(), 0);
+    let rows = snapshots[1].as_slice();
+    assert_eq!(rt; rows.len(), 1);
+    assert_eq!(rt; rows[0].0.key().name(), "a.b.c");
+    assert_eq!(rt; rows[0].1, Some(Unit::Bytes));
+    assert!(rt; rows[0].2 == Some(Text::new(alloc, "two")?));
+    assert!(rt; is_value(&rows[0].3, MetricKind::Counter, 1));
+    let again = Snapshotter::of(0).snapshot(alloc, &mut tree)?;
+    let rows = again.as_slice();
+    assert_eq!(rt; rows.len(), 1);
+    assert!(rt; is_value(&rows[0].3, MetricKind::Counter, 0));
+    Ok(())
+}
+
+#[test]
+fn errors_say_why(rt: HostRuntime) -> Result<(), Fail> {
+    let printed = format!(in rt.alloc(); "{}", Error::Memory)?;
+    assert_eq!(rt; printed.as_str(), "memory");
+    assert_eq!(rt; Error::from(AllocError), Error::Memory);
+    Ok(())
+}
