@@ -140,7 +140,9 @@ fn expect_name<R: Recorder>(
     Ok(())
 }
 
-fn under(alloc: Global, tree: Child<Boxed>, prefix: &str) -> Result<Child<Boxed>, Error> {
+type Tree = Child<DebuggingRecorder>;
+
+fn under(alloc: Global, tree: Tree, prefix: &str) -> Result<Tree, Error> {
     let layer = PrefixLayer::new(alloc, prefix)?;
     match tree.prefix(alloc, &layer) {
         Ok(tree) => Ok(tree),
@@ -148,36 +150,35 @@ fn under(alloc: Global, tree: Child<Boxed>, prefix: &str) -> Result<Child<Boxed>
     }
 }
 
-fn boxed_book(alloc: Global) -> Result<Child<Boxed>, Refused> {
-    Ok(Child::leaf(Boxed(Box::new(alloc, DebuggingRecorder::new(alloc)?)?)))
+fn leaf(alloc: Global) -> Result<Tree, Refused> {
+    Ok(Child::leaf(DebuggingRecorder::new(alloc)?))
 }
 
 #[test]
-fn prefixes(rt: HostRuntime) -> Result<(), Fail> {
+fn one_prefix(rt: HostRuntime) -> Result<(), Fail> {
     let alloc = rt.alloc();
-    let mut tree = under(alloc, boxed_book(alloc)?, "testing")?;
+    let mut tree = under(alloc, leaf(alloc)?, "testing")?;
     expect_name(&rt, alloc, &mut tree, "counter_key", "testing.counter_key")?;
-    let mut tree = under(alloc, boxed_book(alloc)?, "")?;
+    let mut tree = under(alloc, leaf(alloc)?, "")?;
     expect_name(&rt, alloc, &mut tree, "x", ".x")?;
-    // The prefix that was put on last sees a name first.
-    let mut tree = under(alloc, under(alloc, boxed_book(alloc)?, "a")?, "b")?;
-    expect_name(&rt, alloc, &mut tree, "x", "a.b.x")?;
     Ok(())
 }
 
+/// A new book under `a`, and that under `b`, which sees a name first.
+fn two_prefixes(alloc: Global) -> Result<Tree, Fail> {
+    let inner = under(alloc, leaf(alloc)?, "a")?;
+    Ok(under(alloc, inner, "b")?)
+}
+
 #[test]
-fn every_call_below_two_prefixes(rt: HostRuntime) -> Result<(), Fail> {
+fn a_prefix_in_a_prefix(rt: HostRuntime) -> Result<(), Fail> {
     let alloc = rt.alloc();
-    let inner = PrefixLayer::new(alloc, "a")?;
-    let outer = PrefixLayer::new(alloc, "b")?;
-    let tree = Child::leaf(DebuggingRecorder::new(alloc)?);
-    let Ok(tree) = tree.prefix(alloc, &inner) else {
-        panic!(rt; "memory");
-    };
-    let Ok(mut tree) = tree.prefix(alloc, &outer) else {
-        panic!(rt; "memory");
-    };
-    assert_eq!(rt; tree.books(), 1);
+    expect_name(&rt, alloc, &mut two_prefixes(alloc)?, "x", "a.b.x")?;
+    Ok(())
+}
+
+/// A counter that is described, registered and incremented past its end, and then refusals.
+fn described(alloc: Global) -> Result<Vec<Call>, Refused> {
     let mut calls = Vec::new(alloc);
     calls.push(describe(alloc, "c", Some(Unit::Bytes), "one")?)?;
     calls.push(describe(alloc, "c", None, "two")?)?;
@@ -186,17 +187,27 @@ fn every_call_below_two_prefixes(rt: HostRuntime) -> Result<(), Fail> {
     calls.push(Call::Update(0, Update::Increment(u64::MAX)))?;
     calls.push(Call::Update(0, Update::Increment(2)))?;
     calls.push(Call::Snapshot(0))?;
+    Ok(calls)
+}
+
+fn refused(alloc: Global) -> Result<Vec<Call>, Refused> {
+    let mut calls = Vec::new(alloc);
+    calls.push(register(alloc, MetricKind::Counter, "c")?)?;
     calls.push(Call::Update(0, Update::Add(1)))?;
     calls.push(Call::Update(1, Update::Increment(1)))?;
     calls.push(Call::Snapshot(1))?;
-    let answers = replay(alloc, &mut tree, calls.as_slice())?;
-    assert_eq!(rt; answers.len(), 10);
-    assert!(rt; matches!(&answers[0], Answer::Described(1)));
+    Ok(calls)
+}
+
+#[test]
+fn every_call_below_two_prefixes(rt: HostRuntime) -> Result<(), Fail> {
+    let alloc = rt.alloc();
+    let mut tree = two_prefixes(alloc)?;
+    assert_eq!(rt; tree.books(), 1);
+    let answers = replay(alloc, &mut tree, described(alloc)?.as_slice())?;
+    assert_eq!(rt; answers.len(), 7);
     assert!(rt; matches!(&answers[1], Answer::Described(1)));
     assert!(rt; matches!(&answers[4], Answer::Updated(1)));
-    assert!(rt; matches!(&answers[7], Answer::Refused(Refused::BadHandle)));
-    assert!(rt; matches!(&answers[8], Answer::Refused(Refused::BadHandle)));
-    assert!(rt; matches!(&answers[9], Answer::Refused(Refused::NoSuchBook)));
     let snapshots = taken(alloc, answers)?;
     assert_eq!(rt; snapshots.len(), 2);
     assert_eq!(rt; snapshots[0].as_slice().len(), 0);
@@ -204,12 +215,21 @@ fn every_call_below_two_prefixes(rt: HostRuntime) -> Result<(), Fail> {
     assert_eq!(rt; rows.len(), 1);
     assert_eq!(rt; rows[0].0.key().name(), "a.b.c");
     assert_eq!(rt; rows[0].1, Some(Unit::Bytes));
-    assert!(rt; rows[0].2 == Some(Text::new(alloc, "two")?));
     assert!(rt; is_value(&rows[0].3, MetricKind::Counter, 1));
-    let again = Snapshotter::of(0).snapshot(alloc, &mut tree)?;
-    let rows = again.as_slice();
-    assert_eq!(rt; rows.len(), 1);
-    assert!(rt; is_value(&rows[0].3, MetricKind::Counter, 0));
+    Ok(())
+}
+
+#[test]
+fn refusals_of_a_replay(rt: HostRuntime) -> Result<(), Fail> {
+    let alloc = rt.alloc();
+    let mut tree = two_prefixes(alloc)?;
+    let answers = replay(alloc, &mut tree, refused(alloc)?.as_slice())?;
+    assert_eq!(rt; answers.len(), 4);
+    assert!(rt; matches!(&answers[1], Answer::Refused(Refused::BadHandle)));
+    assert!(rt; matches!(&answers[2], Answer::Refused(Refused::BadHandle)));
+    assert!(rt; matches!(&answers[3], Answer::Refused(Refused::NoSuchBook)));
+    let snapshot = Snapshotter::of(0).snapshot(alloc, &mut tree)?;
+    assert_eq!(rt; snapshot.as_slice().len(), 1);
     Ok(())
 }
 

@@ -1,0 +1,11 @@
+//! Which patterns a text has: some of them anywhere in it, by [`SubstringSet`], or the longest of them as its
+//! front, by [`PrefixTrie`]. Texts and patterns are bytes.
+#![tactic(auto)]
+
+mod error;
+mod substring;
+mod trie;
+
+pub use error::MatchError;
+pub use substring::SubstringSet;
+pub use trie::PrefixTrie;

@@ -1,0 +1,149 @@
+ghost use Rattle.std.specs.Prelude.{◌≡◌, ◌≢◌, ℕ, List, [], Option, Some, IfOk, OnOk, IfErr, OnErr, IfSome, IfNone, IsOk};
+ghost use Rattle.prefix_match.specs.TriePatterns.{stored, HasNoFront, IsLongest, HasRoom};
+ghost use Rattle.prefix_match.specs.declared.error.MatchError.TheVariants.{Memory};
+
+use crate::error::MatchError;
+use std::alloc::Global;
+use std::marker::Model;
+
+mod tree;
+
+use tree::Tree;
+
+/// A set of patterns, each with a value, that finds the longest one that a text begins with.
+///
+/// It is a radix trie over bytes, so a pattern may end inside a character. A search reads the text once,
+/// up to where no pattern goes on, however many patterns there are, and takes no memory.
+#[derive(Drop)]
+pub struct PrefixTrie {
+    tree: Tree,
+}
+
+impl Model for PrefixTrie {
+    ghost use Rattle.prefix_match.specs.TriePatterns.{Patterns};
+
+    ghost Value = { Patterns };
+
+    ghost use Rattle.prefix_match.specs.TrieTree.{patterns_of};
+
+    ghost view = { λ trie. patterns_of trie.tree.nodes.items };
+}
+
+impl PrefixTrie {
+    /// A trie with no pattern.
+    pub fn new(alloc: Global) -> PrefixTrie
+        ensures pairs { result.pairs ≡ [] }
+        ensures room { result.room ≡ [] }
+    {
+        PrefixTrie {
+            tree: Tree::new(alloc),
+        }
+    }
+
+    /// Stores the value under the pattern, and answers the value that was there.
+    ///
+    /// # Errors
+    ///
+    /// `Memory`, also where only the split of an edge lacks it.
+    pub fn insert(&mut self, pattern: &[u8], value: usize) -> Result<Option<usize>, MatchError>
+        ensures old { IfOk result (λ old. old ≡ stored self.old.pairs pattern.now) }
+        ensures value { OnOk result (stored self.new.pairs pattern.now ≡ Some value) }
+        ensures others { OnOk result ((q : List ℕ) →
+            q ≢ pattern.now → stored self.new.pairs q ≡ stored self.old.pairs q) }
+
+        // A refused insert leaves the pairs as they were. Where the pattern has room, none is refused.
+        ensures err { OnErr result (self.new.pairs ≡ self.old.pairs) }
+        ensures memory { IfErr result (λ e. e ≡ Memory) }
+        ensures ready { HasRoom self.old pattern.now → IsOk result }
+
+        // Room, once made, stays.
+        ensures room { OnOk result (HasRoom self.new pattern.now) }
+        ensures keeps_room { (q : List ℕ) → HasRoom self.old q → HasRoom self.new q }
+    {
+        let node = self.tree.place(pattern)?;
+        Ok(self.tree.store(node, value))
+    }
+
+    /// Makes room for the pattern, so that from then on an `insert` of it needs no memory. The room is
+    /// kept as long as the trie is, whether the pattern comes or not.
+    ///
+    /// # Errors
+    ///
+    /// `Memory`.
+    pub fn reserve(&mut self, pattern: &[u8]) -> Result<(), MatchError>
+        ensures pairs { self.new.pairs ≡ self.old.pairs }
+        ensures ok { OnOk result (HasRoom self.new pattern.now) }
+        ensures keeps_room { (q : List ℕ) → HasRoom self.old q → HasRoom self.new q }
+        ensures ready { HasRoom self.old pattern.now → IsOk result }
+        ensures memory { IfErr result (λ e. e ≡ Memory) }
+    {
+        self.tree.place(pattern)?;
+        Ok(())
+    }
+
+    /// The value of the longest stored pattern that the text begins with.
+    pub fn longest(&self, text: &[u8]) -> Option<usize>
+        ensures longest { IfSome result (IsLongest self.now.pairs text.now) }
+        ensures none { IfNone result (HasNoFront self.now.pairs text.now) }
+    {
+        self.tree.longest(text)
+    }
+}
+
+#[cfg(test)]
+mod tests {
+    use super::*;
+    use std::test::Fail;
+
+    #[test]
+    fn a_new_trie_has_no_front(rt: HostRuntime) {
+        let trie = PrefixTrie::new(rt.alloc());
+        assert_eq!(rt; trie.longest(b"a"), None);
+    }
+
+    #[test]
+    fn the_longest_front_wins(rt: HostRuntime) -> Result<(), Fail> {
+        let mut trie = PrefixTrie::new(rt.alloc());
+        assert_eq!(rt; trie.insert(b"abc", 1)?, None);
+        assert_eq!(rt; trie.insert(b"a", 0)?, None);
+        assert_eq!(rt; trie.insert(b"", 2)?, None);
+        assert_eq!(rt; trie.insert(b"a", 3)?, Some(0));
+        assert_eq!(rt; trie.longest(b"abcx"), Some(1));
+        assert_eq!(rt; trie.longest(b"abd"), Some(3));
+        assert_eq!(rt; trie.longest(b"x"), Some(2));
+        assert_eq!(rt; trie.longest(b""), Some(2));
+        assert_eq!(rt; trie.insert("é".as_bytes(), 4)?, None);
+        assert_eq!(rt; trie.insert("è".as_bytes(), 5)?, None);
+        assert_eq!(rt; trie.longest("éa".as_bytes()), Some(4));
+        assert_eq!(rt; trie.longest("è".as_bytes()), Some(5));
+        assert_eq!(rt; trie.longest("ê".as_bytes()), Some(2));
+        Ok(())
+    }
+
+    #[test]
+    fn reserved_patterns_are_stored_by_insert_alone(rt: HostRuntime) -> Result<(), Fail> {
+        let mut trie = PrefixTrie::new(rt.alloc());
+        trie.reserve(b"http.server")?;
+        trie.reserve(b"http.client")?;
+        assert_eq!(rt; trie.longest(b"http.server.time"), None);
+        assert_eq!(rt; trie.insert(b"http.server", 7)?, None);
+        assert_eq!(rt; trie.longest(b"http.server.time"), Some(7));
+        assert_eq!(rt; trie.longest(b"http.client.time"), None);
+        Ok(())
+    }
+
+    // Whichever allocation is refused, the answers are those of the inserts that were made.
+    #[test]
+    fn a_refused_insert_changes_no_answer(rt: HostRuntime) {
+        let mut trie = PrefixTrie::new(rt.alloc());
+        let whole = trie.insert(b"abc", 1).ok().map(|_| 1);
+        assert_eq!(rt; trie.longest(b"abcd"), whole);
+        let fork = trie.insert(b"abd", 2).ok().map(|_| 2);
+        assert_eq!(rt; trie.longest(b"abcd"), whole);
+        assert_eq!(rt; trie.longest(b"abde"), fork);
+        let front = trie.insert(b"a", 3).ok().map(|_| 3);
+        assert_eq!(rt; trie.longest(b"abcd"), whole.or(front));
+        assert_eq!(rt; trie.longest(b"abde"), fork.or(front));
+        assert_eq!(rt; trie.longest(b"ac"), front);
+    }
+}
