@@ -1,5 +1,5 @@
 //! A recorder that keeps one book in memory.
-ghost use Rattle.std.specs.Prelude.{◌≡◌, ◌≤◌, [], MatchResult, vec_capacity};
+ghost use Rattle.std.specs.Prelude.{◌≡◌, ◌≤◌, [], MatchResult, IsOk, vec_capacity};
 ghost use Rattle.metrics.specs.declared.refused.Refused.TheVariants.{Memory};
 ghost use Rattle.metrics.specs.Meaning.{one_book, Keeps, Snapshots};
 ghost use Rattle.metrics_util.specs.Debugging.{content_of, IsNewBook};
@@ -30,7 +30,8 @@ pub struct DebuggingRecorder {
 impl DebuggingRecorder {
     /// A new book. It takes no memory yet.
     pub fn new(alloc: Global) -> Result<DebuggingRecorder, Refused>
-        ensures { MatchResult result (λ r. IsNewBook (⟦<DebuggingRecorder as Recorder>⟧.meaning r)) (λ e. e ≡ Memory 0) }
+        ensures new_book { MatchResult result (λ r. IsNewBook (⟦<DebuggingRecorder as Recorder>⟧.meaning r)) (λ e. e ≡ Memory 0) }
+        ensures succeeds { IsOk result }
     {
         Ok(DebuggingRecorder {
             series: SeriesList::new(alloc),

@@ -5,7 +5,7 @@ use crate::layers::{Child, PrefixLayer};
 use crate::{Error, replay};
 use metrics::{
     Answer, Boxed, Call, CompositeKey, DebugValue, Key, KeyName, Label, MetricKind, Recorder,
-    Refused, Snapshot, Text, Unit, Update,
+    Refused, Row, Snapshot, Text, Unit, Update,
 };
 use std::alloc::{AllocError, Global};
 use std::process::Abort;
@@ -68,43 +68,56 @@ const ROUND: [(&str, MetricKind, i64); 4] = [
     ("test.histogram", MetricKind::Histogram, 789),
 ];
 
-#[test]
-fn two_rounds_read_as_lists(rt: HostRuntime) -> Result<(), Fail> {
-    let alloc = rt.alloc();
+fn two_rounds(alloc: Global) -> Result<Vec<Call>, Refused> {
     let mut calls = Vec::new(alloc);
     round(alloc, 0, &mut calls)?;
     round(alloc, 4, &mut calls)?;
+    Ok(calls)
+}
+
+fn expect_row(rt: &impl Abort, row: &Row, name: &str, kind: MetricKind, want: i64) {
+    assert_eq!(rt; row.0.key().name(), name);
+    assert!(rt; row.1.is_none());
+    assert!(rt; row.2.is_none());
+    assert!(rt; is_value(&row.3, kind, want), "{name}");
+}
+
+fn expect_round(rt: &impl Abort, rows: &[Row]) {
+    assert_eq!(rt; rows.len(), 4);
+    for (row, (name, kind, want)) in rows.iter().zip(ROUND) {
+        expect_row(rt, row, name, kind, want);
+    }
+}
+
+#[test]
+fn two_rounds_read_as_lists(rt: HostRuntime) -> Result<(), Fail> {
+    let alloc = rt.alloc();
     let mut book = DebuggingRecorder::new(alloc)?;
-    let answers = replay(alloc, &mut book, calls.as_slice())?;
+    let answers = replay(alloc, &mut book, two_rounds(alloc)?.as_slice())?;
     assert_eq!(rt; answers.len(), 18);
     let snapshots = taken(alloc, answers)?;
     assert_eq!(rt; snapshots.len(), 2);
     for snapshot in snapshots {
-        let rows = snapshot.into_vec();
-        assert_eq!(rt; rows.len(), 4);
-        for (row, (name, kind, want)) in rows.iter().zip(ROUND) {
-            assert_eq!(rt; row.0.key().name(), name);
-            assert_eq!(rt; row.1, None);
-            assert!(rt; row.2.is_none());
-            assert!(rt; is_value(&row.3, kind, want), "{name}");
-        }
+        expect_round(&rt, snapshot.into_vec().as_slice());
     }
     Ok(())
+}
+
+fn boxed_book(alloc: Global) -> Result<Boxed, Refused> {
+    Ok(Boxed(Box::new(alloc, DebuggingRecorder::new(alloc)?)?))
 }
 
 #[test]
 fn two_rounds_read_as_maps(rt: HostRuntime) -> Result<(), Fail> {
     let alloc = rt.alloc();
-    let mut calls = Vec::new(alloc);
-    round(alloc, 0, &mut calls)?;
-    round(alloc, 4, &mut calls)?;
-    let mut book = Boxed(Box::new(alloc, DebuggingRecorder::new(alloc)?)?);
-    let snapshots = taken(alloc, replay(alloc, &mut book, calls.as_slice())?)?;
+    let mut book = boxed_book(alloc)?;
+    let snapshots = taken(
+        alloc,
+        replay(alloc, &mut book, two_rounds(alloc)?.as_slice())?,
+    )?;
     assert_eq!(rt; snapshots.len(), 2);
     for snapshot in snapshots {
-        let Ok(map) = snapshot.into_hashmap(alloc) else {
-            panic!(rt; "memory");
-        };
+        let map = snapshot.into_hashmap(alloc).ok().ok_or("memory")?;
         assert_eq!(rt; map.len(), 4);
         let key = CompositeKey::new(MetricKind::Gauge, Key::from_name(alloc, "test.gauge.set")?);
         let found = map.get(&key).ok_or("no row")?;
@@ -199,24 +212,38 @@ fn refused(alloc: Global) -> Result<Vec<Call>, Refused> {
     Ok(calls)
 }
 
+fn expect_described(rt: &impl Abort, answers: &[Answer]) {
+    assert_eq!(rt; answers.len(), 7);
+    assert!(rt; matches!(&answers[1], Answer::Described(1)));
+    assert!(rt; matches!(&answers[4], Answer::Updated(1)));
+}
+
+fn expect_wrapped(rt: &impl Abort, rows: &[Row]) {
+    assert_eq!(rt; rows.len(), 1);
+    assert_eq!(rt; rows[0].0.key().name(), "a.b.c");
+    assert_eq!(rt; rows[0].1, Some(Unit::Bytes));
+    assert!(rt; is_value(&rows[0].3, MetricKind::Counter, 1));
+}
+
 #[test]
 fn every_call_below_two_prefixes(rt: HostRuntime) -> Result<(), Fail> {
     let alloc = rt.alloc();
     let mut tree = two_prefixes(alloc)?;
     assert_eq!(rt; tree.books(), 1);
     let answers = replay(alloc, &mut tree, described(alloc)?.as_slice())?;
-    assert_eq!(rt; answers.len(), 7);
-    assert!(rt; matches!(&answers[1], Answer::Described(1)));
-    assert!(rt; matches!(&answers[4], Answer::Updated(1)));
+    expect_described(&rt, answers.as_slice());
     let snapshots = taken(alloc, answers)?;
     assert_eq!(rt; snapshots.len(), 2);
     assert_eq!(rt; snapshots[0].as_slice().len(), 0);
-    let rows = snapshots[1].as_slice();
-    assert_eq!(rt; rows.len(), 1);
-    assert_eq!(rt; rows[0].0.key().name(), "a.b.c");
-    assert_eq!(rt; rows[0].1, Some(Unit::Bytes));
-    assert!(rt; is_value(&rows[0].3, MetricKind::Counter, 1));
+    expect_wrapped(&rt, snapshots[1].as_slice());
     Ok(())
+}
+
+fn expect_refusals(rt: &impl Abort, answers: &[Answer]) {
+    assert_eq!(rt; answers.len(), 4);
+    assert!(rt; matches!(&answers[1], Answer::Refused(Refused::BadHandle)));
+    assert!(rt; matches!(&answers[2], Answer::Refused(Refused::BadHandle)));
+    assert!(rt; matches!(&answers[3], Answer::Refused(Refused::NoSuchBook)));
 }
 
 #[test]
@@ -224,10 +251,7 @@ fn refusals_of_a_replay(rt: HostRuntime) -> Result<(), Fail> {
     let alloc = rt.alloc();
     let mut tree = two_prefixes(alloc)?;
     let answers = replay(alloc, &mut tree, refused(alloc)?.as_slice())?;
-    assert_eq!(rt; answers.len(), 4);
-    assert!(rt; matches!(&answers[1], Answer::Refused(Refused::BadHandle)));
-    assert!(rt; matches!(&answers[2], Answer::Refused(Refused::BadHandle)));
-    assert!(rt; matches!(&answers[3], Answer::Refused(Refused::NoSuchBook)));
+    expect_refusals(&rt, answers.as_slice());
     let snapshot = Snapshotter::of(0).snapshot(alloc, &mut tree)?;
     assert_eq!(rt; snapshot.as_slice().len(), 1);
     Ok(())

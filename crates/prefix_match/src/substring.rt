@@ -74,7 +74,7 @@ impl SubstringSet {
     }
 
     /// Whether some pattern stands in the text.
-    #[inline]
+    #[inline(always)]
     pub fn is_match(&self, text: &[u8]) -> bool
         ensures { IsTrue result ↔ Occurs self.now text.now }
     {
@@ -83,7 +83,7 @@ impl SubstringSet {
 
     /// The answer of `is_match`, and how many moves the walk made: in the table a change of state,
     /// and along the links a step down a fail link or to a child.
-    #[inline]
+    #[inline(always)]
     pub fn is_match_counted(&self, text: &[u8]) -> (bool, u64)
         ensures found { IsTrue result.0 ↔ Occurs self.now text.now }
         ensures least { IsTrue result.0 → OccursWithin self.now text.now result.1 }

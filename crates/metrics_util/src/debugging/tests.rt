@@ -1,6 +1,6 @@
 use super::{DebuggingRecorder, Snapshotter};
 use metrics::{
-    Address, DebugValue, Key, KeyName, Label, MetricKind, Recorder, Refused, Row, Snapshot, Unit,
+    Address, DebugValue, Items, Key, KeyName, Label, MetricKind, Recorder, Refused, Row, Unit,
     Update,
 };
 use std::alloc::Global;
@@ -26,38 +26,85 @@ fn value_at(rows: &[Row], place: usize) -> Result<&DebugValue, Fail> {
     Ok(&rows.get(place).ok_or("no row")?.3)
 }
 
-fn one_round(rt: &impl Abort, alloc: Global, on: &mut DebuggingRecorder) -> Result<(), Fail> {
+fn updated(
+    alloc: Global,
+    on: &mut DebuggingRecorder,
+    kind: MetricKind,
+    name: &str,
+    by: Update,
+) -> Result<(), Fail> {
+    let at = registered(alloc, on, kind, name)?;
+    Ok(on.update(at, by)?)
+}
+
+fn told(rt: &impl Abort, rows: &[Row], place: usize, expected: &DebugValue) -> Result<(), Fail> {
+    let value = value_at(rows, place)?;
+    assert!(rt; *value == *expected);
+    Ok(())
+}
+
+fn samples(alloc: Global, of: &[i64]) -> Result<DebugValue, Fail> {
+    Ok(DebugValue::Histogram(Items::from(of.to_vec(alloc)?)))
+}
+
+fn labelled_key(alloc: Global) -> Result<Key, Fail> {
     let mut labels = Vec::new(alloc);
     labels.push(Label::new(alloc, "counter.key", "counter.value")?)?;
-    let key = Key::from_parts(alloc, "test.counter", labels)?;
-    let found = on.register(alloc, MetricKind::Counter, &key)?;
-    on.update(
-        *found.as_slice().first().ok_or("no address")?,
-        Update::Increment(123),
+    Ok(Key::from_parts(alloc, "test.counter", labels)?)
+}
+
+fn change_all(alloc: Global, on: &mut DebuggingRecorder, key: &Key) -> Result<(), Fail> {
+    let found = on.register(alloc, MetricKind::Counter, key)?;
+    let at = *found.as_slice().first().ok_or("no address")?;
+    on.update(at, Update::Increment(123))?;
+    updated(
+        alloc,
+        on,
+        MetricKind::Gauge,
+        "test.gauge.incr",
+        Update::Add(456),
     )?;
-    let incr = registered(alloc, on, MetricKind::Gauge, "test.gauge.incr")?;
-    on.update(incr, Update::Add(456))?;
-    let set = registered(alloc, on, MetricKind::Gauge, "test.gauge.set")?;
-    on.update(set, Update::Set(654))?;
-    let histogram = registered(alloc, on, MetricKind::Histogram, "test.histogram")?;
-    on.update(histogram, Update::Record(789))?;
+    updated(
+        alloc,
+        on,
+        MetricKind::Gauge,
+        "test.gauge.set",
+        Update::Set(654),
+    )?;
+    updated(
+        alloc,
+        on,
+        MetricKind::Histogram,
+        "test.histogram",
+        Update::Record(789),
+    )
+}
+
+fn is_plain(rt: &impl Abort, row: &Row) {
+    assert!(rt; row.1.is_none());
+    assert!(rt; row.2.is_none());
+}
+
+fn has_key(rt: &impl Abort, rows: &[Row], key: &Key) -> Result<(), Fail> {
+    let first = rows.first().ok_or("no row")?;
+    assert!(rt; first.0.kind() == MetricKind::Counter);
+    assert!(rt; *first.0.key() == *key);
+    Ok(())
+}
+
+fn one_round(rt: &impl Abort, alloc: Global, on: &mut DebuggingRecorder) -> Result<(), Fail> {
+    let key = labelled_key(alloc)?;
+    change_all(alloc, on, &key)?;
     let rows = snapped(alloc, on)?;
     assert_eq!(rt; rows.len(), 4);
-    for (_, unit, text, _) in rows.as_slice() {
-        assert!(rt; unit.is_none());
-        assert!(rt; text.is_none());
+    for row in rows.as_slice() {
+        is_plain(rt, row);
     }
-    let first = rows.as_slice().first().ok_or("no row")?;
-    assert!(rt; first.0.kind() == MetricKind::Counter);
-    assert!(rt; *first.0.key() == key);
-    assert!(rt; *value_at(rows.as_slice(), 0)? == DebugValue::Counter(123));
-    assert!(rt; *value_at(rows.as_slice(), 1)? == DebugValue::Gauge(456));
-    assert!(rt; *value_at(rows.as_slice(), 2)? == DebugValue::Gauge(654));
-    match value_at(rows.as_slice(), 3)? {
-        DebugValue::Histogram(samples) => assert!(rt; samples.as_slice() == [789].as_slice()),
-        _ => panic!(rt; "no histogram"),
-    }
-    Ok(())
+    has_key(rt, rows.as_slice(), &key)?;
+    told(rt, rows.as_slice(), 0, &DebugValue::Counter(123))?;
+    told(rt, rows.as_slice(), 1, &DebugValue::Gauge(456))?;
+    told(rt, rows.as_slice(), 2, &DebugValue::Gauge(654))?;
+    told(rt, rows.as_slice(), 3, &samples(alloc, &[789])?)
 }
 
 #[test]
@@ -133,15 +180,18 @@ fn blocks_come_newest_first(rt: HostRuntime) -> Result<(), Fail> {
     for i in 0..64i64 {
         expected.push(i)?;
     }
-    match value_at(snapped(alloc, &mut on)?.as_slice(), 0)? {
-        DebugValue::Histogram(samples) => assert!(rt; samples.as_slice() == expected.as_slice()),
-        _ => panic!(rt; "no histogram"),
-    }
-    match value_at(snapped(alloc, &mut on)?.as_slice(), 0)? {
-        DebugValue::Histogram(samples) => assert!(rt; samples.as_slice().is_empty()),
-        _ => panic!(rt; "no histogram"),
-    }
-    Ok(())
+    told(
+        &rt,
+        snapped(alloc, &mut on)?.as_slice(),
+        0,
+        &DebugValue::Histogram(Items::from(expected)),
+    )?;
+    told(
+        &rt,
+        snapped(alloc, &mut on)?.as_slice(),
+        0,
+        &samples(alloc, &[])?,
+    )
 }
 
 #[test]

@@ -36,7 +36,7 @@ struct Step {
 }
 
 /// Walks from the root to the first match, or else over the whole text, and counts the moves.
-#[inline]
+#[inline(always)]
 pub fn walk(nodes: &[Node], roots: &[u32], fold_case: bool, text: &[u8]) -> (bool, u64)
     requires linked { (ps : List (List ℕ)) × IsLinked ps nodes.now }
     requires roots { IsRootRow nodes.now roots.now }
@@ -59,7 +59,7 @@ pub fn walk(nodes: &[Node], roots: &[u32], fold_case: bool, text: &[u8]) -> (boo
 }
 
 /// Goes on by `byte`: along fail links to the first state that has such a child, or else to the root.
-#[inline]
+#[inline(always)]
 fn follow(nodes: &[Node], roots: &[u32], from: usize, byte: u8) -> Step
     requires tree { IsTree nodes.now }
     requires roots { IsRootRow nodes.now roots.now }

@@ -21,7 +21,7 @@ pub struct Table {
 }
 
 impl Table {
-    #[inline]
+    #[inline(always)]
     pub fn walk(&self, text: &[u8]) -> (bool, u64)
         requires { IsSomeTable self.now.classes self.now.next.items self.now.matches_empty }
         ensures { WalksTable self.now.classes self.now.next.items self.now.matches_empty text.now result.0
@@ -35,7 +35,7 @@ impl Table {
 }
 
 /// Walks from the root, which is no match.
-#[inline]
+#[inline(always)]
 fn walk(classes: &[u16; 256], next: &[u32], text: &[u8]) -> (bool, u64)
     requires { IsSomeTable classes.now next.now false }
     ensures { WalksTable classes.now next.now false text.now result.0 result.1 }

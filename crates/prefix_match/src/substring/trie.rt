@@ -32,8 +32,8 @@ const ROOT: Node = Node {
     fail: 0,
 };
 
-/// The state that `byte` leads to from `state`.
-#[inline]
+/// The state that `byte` leads to from `state`. It reads the children one by one, of which there are at most 256.
+#[inline(always)]
 pub fn child(nodes: &[Node], state: usize, byte: u8) -> Option<usize>
     requires tree { IsTree nodes.now }
     requires state { state < length nodes.now }

@@ -5,8 +5,8 @@ use Rattle.metrics_util.specs.DebuggingSeries.{all_series}
 use Rattle.metrics_util.proofs.SeriesLemmas.{content_same}
 use Rattle.metrics_util.proofs.debugging.DebuggingRecorder.new.Goals as goal
 
-pub returns : goal.returns
-returns c = record {
+pub returns-clause-new_book : goal.returns-clause-new_book
+returns-clause-new_book c = record {
   contents = ap (λ (x : Content). x ∷ []) (content_same (all_series c.new.result.entries.items) [] (described_by c.new-2.result) (λ _ _. no_description) c.new.ensures c.new-2.ensures);
   targets = λ kind name. refl;
 }
