@@ -1,15 +1,14 @@
 -- Each call keeps what the definitions over the list of calls say, and is answered plainly.
-use Rattle.std.proofs.Common.{◌≡◌, ℕ, zero, suc, ◌+◌, ◌<◌, ◌≤◌, Bool, true, false, cond, not, ◌&&◌, ◌||◌, List, [], ◌∷◌, ◌++◌, length, map, take, Option, None, Some, Result, Ok, Err, refl, ap, sym, ◌∙◌, subst, arith, nat_eq, nat_lt, slice_get, true≢false, MatchBool}
+use Rattle.std.proofs.Common.{◌≡◌, ℕ, zero, suc, ◌<◌, ◌≤◌, Bool, true, false, cond, List, [], ◌∷◌, ◌++◌, length, map, take, Option, None, Some, refl, ap, sym, ◌∙◌, subst, arith, nat_eq, nat_lt, MatchBool}
 use Rattle.std.proofs.lemmas.Bool.{eqb-true, eq-eqb, lt-ltb}
 use Rattle.std.proofs.lemmas.Bool.Decides.{nat_tests}
 use Rattle.std.proofs.Math.Seq.{take-length}
-use Rattle.std.specs.List.{list_any, filter_map, position_or_len}
+use Rattle.std.specs.List.{list_any, filter_map}
 use Rattle.std.specs.Option.{option_and_then}
 use Rattle.metrics.specs.declared.kind.MetricKind.{MetricKind}
 use Rattle.metrics.specs.declared.common.Unit.{Unit as Measure}
 use Rattle.metrics.specs.declared.handles.Update.{Update}
 use Rattle.metrics.specs.declared.handles.Address.{Address}
-use Rattle.metrics.specs.declared.refused.Refused.{Refused}
 use Rattle.metrics.specs.declared.refused.Refused.TheVariants.{Memory, NoSuchAddress, NoSuchBook, BadHandle}
 use Rattle.metrics.specs.declared.calls.Call.{Call}
 use Rattle.metrics.specs.declared.calls.Call.TheVariants.{Describe, Register, Update as Change, Snapshot as Take}
@@ -18,13 +17,13 @@ use Rattle.metrics.specs.declared.calls.Answer.TheVariants.{Described, Registere
 use Rattle.metrics.specs.Names.{KeyParts, SeriesKey, kind_eq, series_key_eq}
 use Rattle.metrics.specs.Targets.{act, at_book, in_book, AllBelow, AreDistinct, IsNot}
 use Rattle.metrics.specs.TargetsLaws.{length-act, length-at_book}
-use Rattle.metrics.specs.Book.{Content, RowParts, rows, is_of, describe_in, register_in, update_in, reset_in, place, content_at, kind_of, new_book}
-use Rattle.metrics.specs.Meaning.{Meaning, Targets, TakesMemory, Acts, AreNew, key_there, address_in, addresses}
-use Rattle.metrics.specs.History.{Log, Registration, registration_of, registration, Event, describes, registers, updates, snapshots, snapshots_by, updates_by, names_there, reached, reached_by, series, content, acted, is_handle, is_registered, plain_address, plain_update, plain_answer, UpdateMayMeet, IsOrMeets, IsPlain}
+use Rattle.metrics.specs.Book.{Content, rows, describe_in, register_in, update_in, reset_in, place, content_at, kind_of}
+use Rattle.metrics.specs.Meaning.{Meaning, Targets, TakesMemory, AreNew, key_there, address_in, addresses}
+use Rattle.metrics.specs.History.{Log, Registration, registration_of, registration, Event, describes, registers, updates, snapshots, updates_by, reached, series, content, acted, plain_address, plain_update, UpdateMayMeet, IsOrMeets, IsPlain}
 use Rattle.metrics.specs.Answering.{Handle, handle_given, handle_of, handle, handle_named, AllHeld, IsHeld, places, DescribesCall, RegistersCall, UpdatesHeld, UpdatesCall, IsBadHandle, SnapshotsCall, Answers}
 use Rattle.metrics.proofs.NamesLemmas.{kind_eq-Decides}
-use Rattle.metrics.proofs.ContentLemmas.{step, ReachesAll, Reaches, run, any-now, place-now, series-other}
-use Rattle.metrics.proofs.HistoryLemmas.{Kept, AllThere, AllLead, LeadsTo, lead-at, is_there, stays-describe, stays-register, stays-update, stays-reset, kept_then, kept_same, all_there, all_held, act-places, place-registered, content_at-at_book, content_at-act}
+use Rattle.metrics.proofs.ContentLemmas.{step, ReachesAll, run, any-now, place-now, series-other}
+use Rattle.metrics.proofs.HistoryLemmas.{Kept, AllThere, LeadsTo, lead-at, is_there, stays-describe, stays-register, stays-update, stays-reset, kept_then, kept_same, all_there, all_held, act-places, place-registered, content_at-at_book, content_at-act}
 
 length-map : {A B : Type 0} (f : A → B) (xs : List A) → length (map f xs) ≡ length xs
 length-map f [] = refl

@@ -1,5 +1,5 @@
 -- Chunks of a list.
-use Rattle.std.proofs.Common.{◌≡◌, ℕ, zero, suc, ◌-◌, ◌≤◌, List, [], ◌∷◌, ◌++◌, length, take, drop, refl, ap, ◌∙◌, arith, length-drop, take-append-drop}
+use Rattle.std.proofs.Common.{◌≡◌, ℕ, zero, suc, ◌≤◌, List, [], ◌∷◌, ◌++◌, length, take, drop, refl, ap, ◌∙◌, arith, length-drop, take-append-drop}
 use Rattle.metrics.specs.Book.{chunks_within, chunks, joined_lists}
 
 joined-chunks_within : {A : Type 0} (n : ℕ) (xs : List A) → length xs ≤ n → joined_lists (chunks_within n xs) ≡ xs

@@ -1,5 +1,5 @@
 -- The content after one more event is one step of the content before.
-use Rattle.std.proofs.Common.{◌≡◌, ℕ, zero, suc, ◌+◌, ◌<◌, ◌≤◌, Bool, true, false, cond, not, ◌&&◌, ◌||◌, List, [], ◌∷◌, ◌++◌, length, map, Option, None, Some, refl, ap, sym, ◌∙◌, subst, arith, append_assoc, append-nil, length-append, true≢false, bytes_eq}
+use Rattle.std.proofs.Common.{◌≡◌, ℕ, suc, ◌+◌, Bool, true, false, cond, not, ◌&&◌, ◌||◌, List, [], ◌∷◌, ◌++◌, map, Option, None, Some, refl, ap, sym, ◌∙◌, subst, arith, append_assoc, append-nil, true≢false, bytes_eq}
 use Rattle.std.proofs.lemmas.List.Folds.{list_any-append}
 use Rattle.std.proofs.lemmas.List.Elements.{filter_map-append}
 use Rattle.std.specs.List.{list_any, filter_map, position_or_len, cons_option}
@@ -8,7 +8,7 @@ use Rattle.metrics.specs.declared.kind.MetricKind.{MetricKind}
 use Rattle.metrics.specs.declared.common.Unit.{Unit as Measure}
 use Rattle.metrics.specs.declared.handles.Update.{Update}
 use Rattle.metrics.specs.declared.debugging.DebugValue.{DebugValue}
-use Rattle.metrics.specs.Names.{KeyParts, SeriesKey, kind_eq, series_key_eq}
+use Rattle.metrics.specs.Names.{SeriesKey, kind_eq, series_key_eq}
 use Rattle.metrics.specs.Targets.{at_book}
 use Rattle.metrics.specs.Book.{Content, Series, Description, new_value, new_series, updated, value_from, with_update, is_of, reset, later, described_again, describe_in, register_in, update_in, reset_in, place}
 use Rattle.metrics.specs.Rows.{last}

@@ -1,6 +1,6 @@
 -- What a step on contents keeps of the definitions over the whole list of calls.
-use Rattle.std.proofs.Common.{◌≡◌, ℕ, zero, suc, ◌+◌, ◌<◌, ◌≤◌, Bool, true, false, cond, not, ◌&&◌, ◌||◌, List, [], ◌∷◌, ◌++◌, length, map, take, Option, None, Some, refl, ap, sym, ◌∙◌, subst, arith, append_assoc, append-nil, nat_eq, nat_lt, slice_get, true≢false}
-use Rattle.std.proofs.lemmas.Bool.{eqb-true, eq-eqb, ltb-true, lt-ltb}
+use Rattle.std.proofs.Common.{◌≡◌, ℕ, zero, suc, ◌+◌, ◌<◌, Bool, true, false, cond, not, ◌||◌, List, [], ◌∷◌, ◌++◌, length, map, take, Option, Some, refl, ap, sym, ◌∙◌, subst, arith, append_assoc, append-nil, nat_eq, slice_get, true≢false}
+use Rattle.std.proofs.lemmas.Bool.{eq-eqb, lt-ltb}
 use Rattle.std.proofs.lemmas.Bool.Decides.{nat_tests}
 use Rattle.std.proofs.lemmas.List.Folds.{list_any-append}
 use Rattle.std.proofs.lemmas.List.Elements.{filter_map-append}
@@ -9,19 +9,18 @@ use Rattle.std.specs.Option.{option_map}
 use Rattle.metrics.specs.declared.kind.MetricKind.{MetricKind}
 use Rattle.metrics.specs.declared.common.Unit.{Unit as Measure}
 use Rattle.metrics.specs.declared.handles.Update.{Update}
-use Rattle.metrics.specs.declared.handles.Address.{Address}
 use Rattle.metrics.specs.declared.calls.Call.{Call}
 use Rattle.metrics.specs.declared.calls.Answer.{Answer}
 use Rattle.metrics.specs.declared.calls.Answer.TheVariants.{Described, Registered, Updated, Snapshot, Refused as Denied}
 use Rattle.metrics.specs.Names.{KeyParts, SeriesKey, kind_eq, key_eq, series_key_eq}
 use Rattle.metrics.specs.Targets.{act, at_book, in_book, AllBelow}
 use Rattle.metrics.specs.TargetsLaws.{length-act, length-at_book}
-use Rattle.metrics.specs.Book.{Content, Series, new_series, with_update, is_of, reset, describe_in, register_in, update_in, reset_in, place, content_at, kind_at}
-use Rattle.metrics.specs.Meaning.{Targets, is_kind, holds_at, key_there, address_in, addresses}
-use Rattle.metrics.specs.History.{Log, Registration, registration_of, Event, describes, registers, updates, snapshots, reached, reached_from, reached_by, series, series_now, content, IsPlain, ArePlainFrom}
+use Rattle.metrics.specs.Book.{Content, Series, new_series, with_update, is_of, reset, describe_in, register_in, update_in, reset_in, place, content_at}
+use Rattle.metrics.specs.Meaning.{Targets, is_kind, key_there, address_in, addresses}
+use Rattle.metrics.specs.History.{Log, Registration, registration_of, Event, updates, reached, reached_from, reached_by, content, IsPlain, ArePlainFrom}
 use Rattle.metrics.specs.Answering.{AllHeld, places}
-use Rattle.metrics.proofs.NamesLemmas.{and_left, and_right, and_both, key_same}
-use Rattle.metrics.proofs.ContentLemmas.{or_true, step, IsSound, Reaches, ReachesAll, run, content-run, sound-run, any-now, series-other}
+use Rattle.metrics.proofs.NamesLemmas.{and_left, and_both, key_same}
+use Rattle.metrics.proofs.ContentLemmas.{step, IsSound, ReachesAll, run, content-run, sound-run}
 
 -- ---- one more call
 

@@ -1,17 +1,16 @@
 -- What the tests of layers decide.
-use Rattle.std.proofs.Common.{◌≡◌, ℕ, zero, suc, ◌+◌, ◌<◌, ◌≤◌, Bool, true, false, cond, ◌&&◌, ◌||◌, List, [], ◌∷◌, ◌++◌, length, map, take, drop, get_or, Option, None, Some, refl, ap, sym, ◌∙◌, subst, arith, append_assoc, append-nil, length-append, nat_eq, nat_lt, slice_get, true≢false, take-append-drop, inl, inr, ⊎_elim}
+use Rattle.std.proofs.Common.{◌≡◌, ℕ, zero, suc, ◌<◌, ◌≤◌, Bool, true, false, cond, ◌&&◌, ◌||◌, List, [], ◌∷◌, ◌++◌, length, take, drop, get_or, Option, None, Some, refl, ap, sym, ◌∙◌, subst, arith, append_assoc, append-nil, length-append, nat_eq, slice_get, true≢false, take-append-drop, inl, inr, ⊎_elim}
 use Rattle.std.specs.Prelude.{◌⊎◌}
 use Rattle.std.specs.Bool.{Decides}
 use Rattle.std.specs.Prelude.{Contains, nat_le}
 use Rattle.std.specs.Option.{MatchOption}
 use Rattle.std.specs.List.{list_any, starts_with}
-use Rattle.std.specs.Cmp.Lexicographic.{pointwise}
 use Rattle.std.proofs.lemmas.Slice.Eq.{bytes_eq-Decides}
 use Rattle.std.proofs.lemmas.Bool.Decides.{nat_tests}
 use Rattle.std.proofs.Math.Seq.{take-append_seam}
 use Rattle.metrics.specs.declared.kind.MetricKind.{MetricKind}
 use Rattle.metrics.specs.Layers.{folded, IsSubstring, Matches, is_substring, matches, Route, fits, NoneFits, IsWinner, better, winner_from, winner}
-use Rattle.metrics.proofs.NamesLemmas.{and_left, and_right, and_both}
+use Rattle.metrics.proofs.NamesLemmas.{and_left, and_right}
 
 -- ---- substrings
 

@@ -1,10 +1,10 @@
 -- One more row.
-use Rattle.std.proofs.Common.{◌≡◌, Bool, true, false, cond, List, [], ◌∷◌, ◌++◌, Option, None, Some, refl, ap, sym, ◌∙◌, append-nil}
+use Rattle.std.proofs.Common.{◌≡◌, Bool, true, false, cond, List, [], ◌∷◌, ◌++◌, None, Some, refl, ap, ◌∙◌, append-nil}
 use Rattle.std.proofs.lemmas.List.Elements.{filter_map-append}
 use Rattle.std.specs.List.{filter_map, cons_option}
 use Rattle.metrics.specs.Names.{SeriesKey, series_key_eq}
 use Rattle.metrics.specs.Book.{RowParts}
-use Rattle.metrics.specs.Rows.{RowRest, row_at, last, last_row}
+use Rattle.metrics.specs.Rows.{row_at, last, last_row}
 
 pub last-push : {A : Type 0} (xs : List A) (x : A) → last (xs ++ x ∷ []) ≡ Some x
 last-push [] x = refl

@@ -1,5 +1,5 @@
 -- What one call of a recorder does and answers, after a list of calls: the step beside the definitions over the whole list.
-use Rattle.std.specs.Prelude.{◌≡◌, ℕ, ◌≤◌, List, [], ◌∷◌, map, length, take, Bool, true, Option, None, Some, Result, Ok, Err, MatchBool, option_and_then}
+use Rattle.std.specs.Prelude.{◌≡◌, ℕ, ◌≤◌, List, [], ◌∷◌, map, length, take, true, Option, None, Some, Result, Ok, Err, MatchBool, option_and_then}
 use Rattle.metrics.specs.declared.kind.MetricKind.{MetricKind}
 use Rattle.metrics.specs.declared.common.Unit.{Unit as Measure}
 use Rattle.metrics.specs.declared.handles.Update.{Update}

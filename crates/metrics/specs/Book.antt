@@ -1,5 +1,5 @@
 -- The content of a book, its rows, and one step of each call on it.
-use Rattle.std.specs.Prelude.{ℕ, zero, suc, ◌+◌, ◌%◌, ◌^◌, max, Bool, ◌&&◌, cond, List, [], ◌∷◌, ◌++◌, map, length, take, drop, reverse, Option, None, Some, option_map, ℤ, pos, ◌+ℤ◌, ◌-ℤ◌, bytes_eq, get_or, slice_get}
+use Rattle.std.specs.Prelude.{ℕ, zero, suc, ◌+◌, ◌%◌, ◌^◌, max, Bool, ◌&&◌, cond, List, [], ◌∷◌, ◌++◌, map, length, take, drop, reverse, Option, None, Some, option_map, pos, ◌+ℤ◌, ◌-ℤ◌, bytes_eq, get_or, slice_get}
 use Rattle.std.specs.Int.{saturate_signed, w64}
 use Rattle.std.specs.List.{position_or_len, list_any}
 use Rattle.metrics.specs.declared.kind.MetricKind.{MetricKind}
@@ -9,7 +9,7 @@ use Rattle.metrics.specs.declared.debugging.DebugValue.{DebugValue}
 use Rattle.metrics.specs.declared.debugging.DebugValue.TheVariants.{Counter as CounterValue, Gauge as GaugeValue, Histogram as HistogramValue}
 use Rattle.metrics.specs.declared.handles.Update.{Update}
 use Rattle.metrics.specs.declared.handles.Update.TheVariants.{Increment, Absolute, Add, Subtract, Set, Record}
-use Rattle.metrics.specs.Names.{KeyParts, SeriesKey, kind_eq, series_key_eq}
+use Rattle.metrics.specs.Names.{SeriesKey, kind_eq, series_key_eq}
 use Rattle.metrics.specs.Targets.{at_book}
 
 -- ---- values

@@ -1,12 +1,10 @@
 -- Worked examples: what the definitions give, with the expected values written out.
-use Rattle.std.specs.Prelude.{◌≡◌, ℕ, zero, suc, ◌+◌, Bool, true, false, List, [], ◌∷◌, ◌++◌, map, length, Option, None, Some, ℤ, pos, negsuc, codes, nat_eq}
+use Rattle.std.specs.Prelude.{◌≡◌, ℕ, zero, suc, ◌+◌, true, false, List, [], ◌∷◌, ◌++◌, map, length, None, Some, ℤ, pos, negsuc, codes}
 use Rattle.metrics.specs.declared.kind.MetricKind.{MetricKind}
 use Rattle.metrics.specs.declared.kind.MetricKind.TheVariants.{Counter, Gauge, Histogram}
-use Rattle.metrics.specs.declared.common.Unit.{Unit as Measure}
 use Rattle.metrics.specs.declared.common.Unit.TheVariants.{Bytes}
 use Rattle.metrics.specs.declared.debugging.DebugValue.{DebugValue}
 use Rattle.metrics.specs.declared.debugging.DebugValue.TheVariants.{Counter as CounterValue, Gauge as GaugeValue, Histogram as HistogramValue}
-use Rattle.metrics.specs.declared.handles.Update.{Update}
 use Rattle.metrics.specs.declared.handles.Update.TheVariants.{Increment, Absolute, Add, Subtract, Set, Record}
 use Rattle.metrics.specs.declared.handles.Address.{Address}
 use Rattle.metrics.specs.declared.refused.Refused.TheVariants.{Memory, NoSuchBook, BadHandle}
@@ -14,10 +12,10 @@ use Rattle.metrics.specs.declared.calls.Call.{Call}
 use Rattle.metrics.specs.declared.calls.Call.TheVariants.{Describe, Register, Update as Change, Snapshot as Take}
 use Rattle.metrics.specs.declared.calls.Answer.{Answer}
 use Rattle.metrics.specs.declared.calls.Answer.TheVariants.{Described, Registered, Updated, Snapshot, Refused as Denied}
-use Rattle.metrics.specs.Names.{KeyParts, SeriesKey}
-use Rattle.metrics.specs.Book.{RowParts, new_book, rows, blocks, value_from, new_value}
-use Rattle.metrics.specs.Meaning.{Meaning, Targets, one_book}
-use Rattle.metrics.specs.Layers.{prefixed, filtered, joined_all, Route, routed}
+use Rattle.metrics.specs.Names.{KeyParts}
+use Rattle.metrics.specs.Book.{RowParts, new_book, rows, blocks}
+use Rattle.metrics.specs.Meaning.{Meaning, one_book}
+use Rattle.metrics.specs.Layers.{prefixed, filtered, joined_all, routed}
 use Rattle.metrics.specs.History.{Log, reached, content, plain_log}
 
 -- ---- words of the examples

@@ -1,11 +1,10 @@
 -- What a list of calls with their answers means: filters over the whole list.
-use Rattle.std.specs.Prelude.{◌≡◌, ℕ, ◌<◌, ◌≤◌, Bool, true, false, ◌&&◌, cond, List, [], ◌∷◌, ◌++◌, map, length, take, Option, None, Some, nat_eq, nat_lt, bytes_eq, slice_get, option_and_then}
+use Rattle.std.specs.Prelude.{◌≡◌, ℕ, ◌<◌, ◌≤◌, Bool, true, false, ◌&&◌, cond, List, [], ◌∷◌, ◌++◌, map, length, take, Option, None, Some, nat_eq, nat_lt, bytes_eq, slice_get}
 use Rattle.std.specs.List.{list_any, filter_map, position_or_len}
 use Rattle.metrics.specs.declared.kind.MetricKind.{MetricKind}
 use Rattle.metrics.specs.declared.common.Unit.{Unit as Measure}
 use Rattle.metrics.specs.declared.handles.Update.{Update}
 use Rattle.metrics.specs.declared.handles.Address.{Address}
-use Rattle.metrics.specs.declared.refused.Refused.{Refused}
 use Rattle.metrics.specs.declared.refused.Refused.TheVariants.{Memory, NoSuchAddress, NoSuchBook, BadHandle}
 use Rattle.metrics.specs.declared.calls.Call.{Call}
 use Rattle.metrics.specs.declared.calls.Call.TheVariants.{Describe, Register, Update as Change, Snapshot as Take}
@@ -13,7 +12,7 @@ use Rattle.metrics.specs.declared.calls.Answer.{Answer}
 use Rattle.metrics.specs.declared.calls.Answer.TheVariants.{Described, Registered, Updated, Snapshot, Refused as Denied}
 use Rattle.metrics.specs.Names.{KeyParts, SeriesKey, kind_eq, series_key_eq}
 use Rattle.metrics.specs.Targets.{in_book}
-use Rattle.metrics.specs.Book.{Content, Series, Description, RowParts, kind_of, new_value, value_from, rows}
+use Rattle.metrics.specs.Book.{Content, Series, Description, kind_of, new_value, value_from, rows}
 use Rattle.metrics.specs.Rows.{last}
 use Rattle.metrics.specs.Meaning.{Targets, key_there, TakesMemory}
 

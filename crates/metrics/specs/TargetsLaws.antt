@@ -1,8 +1,8 @@
 -- Laws of lists of targets and of what acts on them.
-use Rattle.std.proofs.Common.{◌≡◌, ℕ, zero, suc, ◌+◌, ◌<◌, ◌≤◌, List, [], ◌∷◌, ◌++◌, length, take, nat_eq, cond, Bool, true, false, refl, ap, sym, ◌∙◌, subst, arith, length-append, add-zero, zero-add}
+use Rattle.std.proofs.Common.{◌≡◌, ℕ, zero, suc, ◌+◌, ◌<◌, ◌≤◌, List, [], ◌∷◌, ◌++◌, length, take, nat_eq, cond, true, false, refl, ap, sym, ◌∙◌, subst, arith, length-append, zero-add}
 use Rattle.std.proofs.lemmas.Bool.{eqb-true}
 use Rattle.std.proofs.lemmas.Bool.Decides.{nat_tests}
-use Rattle.metrics.specs.Targets.{raise, act, at_book, in_book, AllBelow, AreDistinct, IsNot}
+use Rattle.metrics.specs.Targets.{raise, act, at_book, AllBelow, AreDistinct, IsNot}
 
 pub zero_below_one : 0 < 1
 zero_below_one = omega arith

@@ -1,7 +1,7 @@
 -- The loops of a replay.
-use Rattle.std.proofs.Common.{◌≡◌, ℕ, zero, suc, ◌+◌, ◌-◌, ◌<◌, ◌≤◌, Bool, true, false, ◌&&◌, cond, List, [], ◌∷◌, ◌++◌, length, map, take, drop, get_or, Option, None, Some, Result, Ok, Err, refl, ap, sym, ◌∙◌, subst, arith, slice_get, nat_eq, nat_lt, true≢false, add-zero}
+use Rattle.std.proofs.Common.{◌≡◌, ℕ, zero, suc, ◌+◌, ◌<◌, ◌≤◌, true, false, cond, List, [], ◌∷◌, ◌++◌, length, map, take, get_or, Option, None, Some, Err, refl, ap, sym, ◌∙◌, subst, arith, slice_get, nat_eq, nat_lt, true≢false}
 use Rattle.std.proofs.Math.Seq.{take-length}
-use Rattle.std.proofs.lemmas.Bool.{ltb-true, lt-ltb}
+use Rattle.std.proofs.lemmas.Bool.{ltb-true}
 use Rattle.std.specs.Option.{option_map, option_and_then}
 use Rattle.std.specs.List.{filter_map}
 use Rattle.metrics.specs.declared.kind.MetricKind.{MetricKind}
@@ -15,9 +15,9 @@ use Rattle.metrics.specs.declared.calls.Answer.{Answer}
 use Rattle.metrics.specs.Targets.{act, at_book}
 use Rattle.metrics.specs.TargetsLaws.{act-append, length-at_book}
 use Rattle.metrics.specs.Book.{Content, Series, with_update, update_in, kind_of, kind_at, content_at}
-use Rattle.metrics.specs.Meaning.{Meaning, Targets, Acts, Updates, Keeps, AreNew, TakesMemory, is_kind, holds_at}
-use Rattle.metrics.specs.History.{Log, Registration, registration_of, registration, IsPlain, ArePlain, ArePlainFrom, reached, content}
-use Rattle.metrics.specs.Answering.{Handle, handle, handle_of, handle_given, handle_named, AllHeld, IsHeld, places, UpdatesAll, Answers}
+use Rattle.metrics.specs.Meaning.{Meaning, Targets, Updates, Keeps, AreNew, is_kind, holds_at}
+use Rattle.metrics.specs.History.{Registration, registration_of, registration, IsPlain, ArePlain}
+use Rattle.metrics.specs.Answering.{handle, handle_of, handle_given, handle_named, AllHeld, IsHeld, places, UpdatesAll, Answers}
 use Rattle.metrics.proofs.NamesLemmas.{and_left, and_right, and_both}
 use Rattle.metrics.proofs.HistoryLemmas.{Kept, plain-push, content_at-at_book}
 use Rattle.metrics.proofs.AnsweringLemmas.{call_kept, length_answers, kept_none, handle_held}

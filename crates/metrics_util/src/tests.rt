@@ -25,7 +25,8 @@ fn describe(alloc: Global, name: &str, unit: Option<Unit>, text: &str) -> Result
 }
 
 /// A counter with a label, two gauges and a histogram, each updated once, and a snapshot.
-fn round(alloc: Global, first: usize, calls: &mut Vec<Call>) -> Result<(), Refused> {
+fn round(alloc: Global, first: u8, calls: &mut Vec<Call>) -> Result<(), Refused> {
+    let first = usize::from(first);
     let mut labels = Vec::new(alloc);
     labels.push(Label::new(alloc, "counter.key", "counter.value")?)?;
     let counter = Key::from_parts(alloc, "test.counter", labels)?;

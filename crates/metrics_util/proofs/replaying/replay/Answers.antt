@@ -1,9 +1,8 @@
-use Rattle.std.proofs.Common.{◌≡◌, ◌+◌, ◌++◌, ◌∷◌, ◌<◌, [], length, sym, ◌∙◌, ap, arith, take, subst, refl, length-take-le}
+use Rattle.std.proofs.Common.{◌≡◌, ◌+◌, ◌++◌, ◌∷◌, [], length, sym, ◌∙◌, ap, arith, take, subst, length-take-le}
 use Rattle.std.proofs.lemmas.List.{take_more}
-use Rattle.metrics.specs.declared.handles.Address.{Address}
 use Rattle.metrics.specs.Answering.{IsHeld, Answers, handle_named}
 use Rattle.metrics_util.specs.Replaying.{log_of, register_kind, register_places, place_in_front}
-use Rattle.metrics_util.proofs.ReplayLemmas.{Replayed, replayed_more, named_held, places-push}
+use Rattle.metrics_util.proofs.ReplayLemmas.{replayed_more, named_held, places-push}
 use Rattle.metrics_util.proofs.replaying.replay.Goals as goal
 
 pub answer_of-answer-requires : goal.answer_of-answer-requires

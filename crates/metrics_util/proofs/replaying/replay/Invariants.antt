@@ -1,4 +1,4 @@
-use Rattle.std.proofs.Common.{◌≡◌, take, vec_len, vec_capacity, length, ◌+◌, ◌-◌, ◌≤◌}
+use Rattle.std.proofs.Common.{◌≡◌, take, vec_len, vec_capacity, length, ◌≤◌}
 use Rattle.metrics_util.specs.Replaying.{register_places}
 use Rattle.metrics_util.proofs.ReplayLemmas.{Replayed}
 use Rattle.metrics_util.proofs.replaying.replay.Given as goal

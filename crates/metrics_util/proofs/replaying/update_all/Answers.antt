@@ -1,7 +1,6 @@
-use Rattle.std.proofs.Common.{◌≡◌, length, get_or, ◌∙◌, arith}
+use Rattle.std.proofs.Common.{◌≡◌, get_or, ◌∙◌}
 use Rattle.metrics.specs.declared.handles.Address.{Address}
-use Rattle.metrics.specs.Book.{kind_of, update_in}
-use Rattle.metrics.specs.Answering.{places}
+use Rattle.metrics.specs.Book.{kind_of}
 use Rattle.metrics_util.proofs.ReplayLemmas.{update_more, update_err, held_at, all_held_more, default_same}
 use Rattle.metrics_util.proofs.replaying.update_all.Goals as goal
 
