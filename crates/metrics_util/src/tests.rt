@@ -258,6 +258,27 @@ fn refusals_of_a_replay(rt: HostRuntime) -> Result<(), Fail> {
     Ok(())
 }
 
+/// The example of the README.
+fn counted(alloc: Global) -> Result<Snapshot, Refused> {
+    let mut book = DebuggingRecorder::new(alloc)?;
+    let labels = vec![in alloc; Label::new(alloc, "host", "a")?]?;
+    let hits = Key::from_parts(alloc, "hits", labels)?;
+    let found = book.register(alloc, MetricKind::Counter, &hits)?;
+    for at in &found {
+        book.update(*at, Update::Increment(2))?;
+    }
+    book.snapshot(alloc, 0)
+}
+
+#[test]
+fn the_example_of_the_readme(rt: HostRuntime) -> Result<(), Fail> {
+    let snapshot = counted(rt.alloc())?;
+    let rows = snapshot.as_slice();
+    assert_eq!(rt; rows.len(), 1);
+    assert!(rt; is_value(&rows[0].3, MetricKind::Counter, 2));
+    Ok(())
+}
+
 #[test]
 fn errors_say_why(rt: HostRuntime) -> Result<(), Fail> {
     let printed = format!(in rt.alloc(); "{}", Error::Memory)?;
