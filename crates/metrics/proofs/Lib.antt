@@ -6,3 +6,4 @@ pub mod AnsweringLemmas
 pub mod MeaningLemmas
 pub mod LayersLemmas
 pub mod BookLemmas
+pub mod HandlesLemmas

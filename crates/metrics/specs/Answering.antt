@@ -1,5 +1,6 @@
 -- What one call of a recorder does and answers, after a list of calls: the step beside the definitions over the whole list.
-use Rattle.std.specs.Prelude.{◌≡◌, ℕ, ◌≤◌, List, [], ◌∷◌, map, length, take, true, Option, None, Some, Result, Ok, Err, MatchBool, option_and_then}
+use Rattle.std.specs.Prelude.{◌≡◌, ℕ, ◌≤◌, List, [], ◌∷◌, map, length, take, true, Option, None, Some, Result, Ok, Err, MatchBool, option_and_then, ◌+◌, ◌<◌, ◌^◌, Bool, false}
+use Rattle.std.specs.List.{list_all}
 use Rattle.metrics.specs.declared.kind.MetricKind.{MetricKind}
 use Rattle.metrics.specs.declared.common.Unit.{Unit as Measure}
 use Rattle.metrics.specs.declared.handles.Update.{Update}
@@ -41,6 +42,24 @@ handle_named (Describe kind name unit text) log = None
 handle_named (Register kind key) log = None
 handle_named (Take b) log = None
 
+-- the refusal of a call that had acted on this many targets before
+abbrev pub after_front : ℕ → Refused → Refused
+after_front front (Memory acted) = Memory (front + acted)
+after_front front NoSuchAddress = NoSuchAddress
+after_front front NoSuchBook = NoSuchBook
+after_front front BadHandle = BadHandle
+
+-- the count of targets fits
+abbrev pub CanFollow : ℕ → Refused → Type 0
+CanFollow front (Memory acted) = front + acted < 2 ^ 64
+CanFollow front NoSuchAddress = Unit {0}
+CanFollow front NoSuchBook = Unit {0}
+CanFollow front BadHandle = Unit {0}
+
+-- whether a series of the kind stands at each address
+abbrev pub holds_all : MetricKind → List Address → List Content → Bool
+holds_all kind found cs = list_all (λ a. holds_at kind a cs) found
+
 -- each address is of a series of the kind
 abbrev pub AllHeld : MetricKind → List Address → List Content → Type 0
 AllHeld kind [] cs = Unit {0}
@@ -75,6 +94,14 @@ UpdatesAll old new ts u (Err (Memory n)) = TakesMemory u × (n ≤ length ts) ×
 UpdatesAll old new ts u (Err NoSuchAddress) = ⊥
 UpdatesAll old new ts u (Err NoSuchBook) = ⊥
 UpdatesAll old new ts u (Err BadHandle) = ⊥
+
+-- an update of a handle: of all its addresses, if each of them is held, and else of none
+abbrev pub UpdatesHandle : Meaning → Meaning → List Address → Update → Result ℕ Refused → Type 0
+UpdatesHandle old new found u (Ok n) = (holds_all (kind_of u) found old.contents ≡ true) × UpdatesAll old new (places found) u (Ok n)
+UpdatesHandle old new found u (Err (Memory n)) = (holds_all (kind_of u) found old.contents ≡ true) × UpdatesAll old new (places found) u (Err (Memory n))
+UpdatesHandle old new found u (Err NoSuchAddress) = (holds_all (kind_of u) found old.contents ≡ false) × (new.contents ≡ old.contents)
+UpdatesHandle old new found u (Err NoSuchBook) = ⊥
+UpdatesHandle old new found u (Err BadHandle) = ⊥
 
 abbrev pub UpdatesHeld : Meaning → Meaning → List (ℕ × ℕ) → Update → Answer → Type 0
 UpdatesHeld old new ts u (Updated n) = UpdatesAll old new ts u (Ok n)

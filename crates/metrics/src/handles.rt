@@ -1,4 +1,16 @@
-//! Addresses of series, and updates.
+//! Addresses of series, updates, and typed handles.
+ghost use Rattle.std.specs.Prelude.{◌≡◌, ◌≤◌, ◌<◌, ◌+◌, ◌^◌, [], true};
+ghost use Rattle.metrics.specs.declared.handles.Update.TheVariants.{Increment, Absolute, Add, Subtract, Set, Record};
+ghost use Rattle.metrics.specs.Book.{kind_of};
+ghost use Rattle.metrics.specs.Meaning.{Keeps};
+ghost use Rattle.metrics.specs.Answering.{AllHeld, places, UpdatesAll, UpdatesHandle, holds_all, after_front, CanFollow};
+
+use crate::items::Items;
+use crate::kind::MetricKind;
+use crate::recorder::Recorder;
+use crate::refused::Refused;
+use std::alloc::Global;
+use std::marker::Model;
 
 /// The place of a series: the number of its book, and its place there in order of first registration.
 #[derive(Clone, Copy, Debug, PartialEq, Eq, PartialOrd, Ord, Hash)]
@@ -25,4 +37,271 @@ pub enum Update {
     Set(i64),
     /// Adds a sample.
     Record(i64),
+}
+
+/// The refusal of a call that had acted on `front` targets before.
+pub fn refused_after(front: usize, refused: Refused) -> Refused
+    requires { CanFollow front refused }
+    ensures { result ≡ after_front front refused }
+{
+    match refused {
+        Refused::Memory { acted } => Refused::Memory {
+            acted: front + acted,
+        },
+        Refused::NoSuchAddress => Refused::NoSuchAddress,
+        Refused::NoSuchBook => Refused::NoSuchBook,
+        Refused::BadHandle => Refused::BadHandle,
+    }
+}
+
+/// Updates the series at each address, in order. The addresses are known to be held.
+pub fn update_all<R: Recorder>(on: &mut R, found: &[Address], by: Update) -> Result<usize, Refused>
+    requires { AllHeld (kind_of by) found.now (R.meaning on.old).contents }
+    ensures keeps { Keeps (R.meaning on.old) (R.meaning on.new) }
+    ensures updates { UpdatesAll (R.meaning on.old) (R.meaning on.new) (places found.now) by result }
+{
+    for (i, at) in found.iter().enumerate() {
+        match on.update(*at, by) {
+            Ok(()) => {}
+            Err(refused) => return Err(refused_after(i, refused)),
+        }
+    }
+    Ok(found.len())
+}
+
+/// Whether a series of the kind stands at each address.
+fn are_held<R: Recorder>(on: &R, kind: MetricKind, found: &[Address]) -> bool
+    ensures { result ≡ holds_all kind found.now (R.meaning on.now).contents }
+{
+    for at in found {
+        if !on.holds(kind, *at) {
+            return false;
+        }
+    }
+    true
+}
+
+/// Updates each address of a handle, if all of them are held.
+fn update_handle<R: Recorder>(
+    on: &mut R,
+    kind: MetricKind,
+    found: &[Address],
+    by: Update,
+) -> Result<usize, Refused>
+    requires { kind ≡ kind_of by }
+    ensures keeps { Keeps (R.meaning on.old) (R.meaning on.new) }
+    ensures updates { UpdatesHandle (R.meaning on.old) (R.meaning on.new) found.now by result }
+{
+    if are_held(on, kind, found) {
+        update_all(on, found, by)
+    } else {
+        Err(Refused::NoSuchAddress)
+    }
+}
+
+/// A handle of a counter: the addresses that a register call gave.
+#[derive(Clone, Debug, PartialEq, Eq, Drop)]
+pub struct Counter {
+    addresses: Items<Address>,
+}
+
+impl Model for Counter {
+    ghost use Rattle.std.specs.Prelude.{List};
+    ghost use Rattle.metrics.specs.declared.handles.Address.{Address};
+
+    ghost Value = { List Address };
+
+    ghost view = { λ a. a.addresses };
+
+    ghost inverse = { λ as'. record { addresses = as' } };
+}
+
+impl From<Vec<Address>> for Counter {
+    ghost from_gives = { λ v h. h ≡ v.items };
+
+    fn from(addresses: Vec<Address>) -> Counter {
+        Counter {
+            addresses: Items::from(addresses),
+        }
+    }
+}
+
+impl Counter {
+    /// A handle of no series: each call updates none.
+    pub fn noop(alloc: Global) -> Counter
+        ensures { result ≡ [] }
+    {
+        Counter {
+            addresses: Items::from(Vec::new(alloc)),
+        }
+    }
+
+    pub fn addresses(&self) -> &[Address]
+        ensures { result.now ≡ self.now }
+    {
+        self.addresses.as_slice()
+    }
+
+    /// Adds, modulo 2^64.
+    ///
+    /// Answers how many series it updated; `NoSuchAddress` where some address isn't held, with nothing changed.
+    pub fn increment<R: Recorder>(&self, on: &mut R, n: u64) -> Result<usize, Refused>
+        ensures keeps { Keeps (R.meaning on.old) (R.meaning on.new) }
+        ensures updates { UpdatesHandle (R.meaning on.old) (R.meaning on.new) self.now (Increment n) result }
+    {
+        update_handle(
+            on,
+            MetricKind::Counter,
+            self.addresses(),
+            Update::Increment(n),
+        )
+    }
+
+    /// Keeps the greater of the value and this one.
+    ///
+    /// Answers how many series it updated; `NoSuchAddress` where some address isn't held, with nothing changed.
+    pub fn absolute<R: Recorder>(&self, on: &mut R, n: u64) -> Result<usize, Refused>
+        ensures keeps { Keeps (R.meaning on.old) (R.meaning on.new) }
+        ensures updates { UpdatesHandle (R.meaning on.old) (R.meaning on.new) self.now (Absolute n) result }
+    {
+        update_handle(
+            on,
+            MetricKind::Counter,
+            self.addresses(),
+            Update::Absolute(n),
+        )
+    }
+}
+
+/// A handle of a gauge: the addresses that a register call gave.
+#[derive(Clone, Debug, PartialEq, Eq, Drop)]
+pub struct Gauge {
+    addresses: Items<Address>,
+}
+
+impl Model for Gauge {
+    ghost use Rattle.std.specs.Prelude.{List};
+    ghost use Rattle.metrics.specs.declared.handles.Address.{Address};
+
+    ghost Value = { List Address };
+
+    ghost view = { λ a. a.addresses };
+
+    ghost inverse = { λ as'. record { addresses = as' } };
+}
+
+impl From<Vec<Address>> for Gauge {
+    ghost from_gives = { λ v h. h ≡ v.items };
+
+    fn from(addresses: Vec<Address>) -> Gauge {
+        Gauge {
+            addresses: Items::from(addresses),
+        }
+    }
+}
+
+impl Gauge {
+    /// A handle of no series: each call updates none.
+    pub fn noop(alloc: Global) -> Gauge
+        ensures { result ≡ [] }
+    {
+        Gauge {
+            addresses: Items::from(Vec::new(alloc)),
+        }
+    }
+
+    pub fn addresses(&self) -> &[Address]
+        ensures { result.now ≡ self.now }
+    {
+        self.addresses.as_slice()
+    }
+
+    /// Adds, and stops at the ends of `i64`.
+    ///
+    /// Answers how many series it updated; `NoSuchAddress` where some address isn't held, with nothing changed.
+    pub fn increment<R: Recorder>(&self, on: &mut R, n: i64) -> Result<usize, Refused>
+        ensures keeps { Keeps (R.meaning on.old) (R.meaning on.new) }
+        ensures updates { UpdatesHandle (R.meaning on.old) (R.meaning on.new) self.now (Add n) result }
+    {
+        update_handle(on, MetricKind::Gauge, self.addresses(), Update::Add(n))
+    }
+
+    /// Subtracts, and stops at the ends of `i64`.
+    ///
+    /// Answers how many series it updated; `NoSuchAddress` where some address isn't held, with nothing changed.
+    pub fn decrement<R: Recorder>(&self, on: &mut R, n: i64) -> Result<usize, Refused>
+        ensures keeps { Keeps (R.meaning on.old) (R.meaning on.new) }
+        ensures updates { UpdatesHandle (R.meaning on.old) (R.meaning on.new) self.now (Subtract n) result }
+    {
+        update_handle(on, MetricKind::Gauge, self.addresses(), Update::Subtract(n))
+    }
+
+    /// Replaces the value.
+    ///
+    /// Answers how many series it updated; `NoSuchAddress` where some address isn't held, with nothing changed.
+    pub fn set<R: Recorder>(&self, on: &mut R, n: i64) -> Result<usize, Refused>
+        ensures keeps { Keeps (R.meaning on.old) (R.meaning on.new) }
+        ensures updates { UpdatesHandle (R.meaning on.old) (R.meaning on.new) self.now (Set n) result }
+    {
+        update_handle(on, MetricKind::Gauge, self.addresses(), Update::Set(n))
+    }
+}
+
+/// A handle of a histogram: the addresses that a register call gave.
+#[derive(Clone, Debug, PartialEq, Eq, Drop)]
+pub struct Histogram {
+    addresses: Items<Address>,
+}
+
+impl Model for Histogram {
+    ghost use Rattle.std.specs.Prelude.{List};
+    ghost use Rattle.metrics.specs.declared.handles.Address.{Address};
+
+    ghost Value = { List Address };
+
+    ghost view = { λ a. a.addresses };
+
+    ghost inverse = { λ as'. record { addresses = as' } };
+}
+
+impl From<Vec<Address>> for Histogram {
+    ghost from_gives = { λ v h. h ≡ v.items };
+
+    fn from(addresses: Vec<Address>) -> Histogram {
+        Histogram {
+            addresses: Items::from(addresses),
+        }
+    }
+}
+
+impl Histogram {
+    /// A handle of no series: each call updates none.
+    pub fn noop(alloc: Global) -> Histogram
+        ensures { result ≡ [] }
+    {
+        Histogram {
+            addresses: Items::from(Vec::new(alloc)),
+        }
+    }
+
+    pub fn addresses(&self) -> &[Address]
+        ensures { result.now ≡ self.now }
+    {
+        self.addresses.as_slice()
+    }
+
+    /// Adds a sample. Where memory is refused, `acted` tells how many series have it.
+    ///
+    /// Answers how many series it updated; `NoSuchAddress` where some address isn't held, with nothing changed.
+    pub fn record<R: Recorder>(&self, on: &mut R, sample: i64) -> Result<usize, Refused>
+        ensures keeps { Keeps (R.meaning on.old) (R.meaning on.new) }
+        ensures updates { UpdatesHandle (R.meaning on.old) (R.meaning on.new) self.now (Record sample) result }
+    {
+        update_handle(
+            on,
+            MetricKind::Histogram,
+            self.addresses(),
+            Update::Record(sample),
+        )
+    }
 }

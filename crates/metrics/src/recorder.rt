@@ -5,7 +5,7 @@ ghost use Rattle.metrics.specs.Meaning.{Meaning, Keeps, Describes, Registers, Up
 
 use crate::common::Unit;
 use crate::debugging::Snapshot;
-use crate::handles::{Address, Update};
+use crate::handles::{Address, Counter, Gauge, Histogram, Update};
 use crate::key::{Key, KeyName};
 use crate::kind::MetricKind;
 use crate::refused::Refused;
@@ -70,6 +70,81 @@ pub trait Recorder: Drop {
     fn snapshot(&mut self, alloc: Global, book: usize) -> Result<Snapshot, Refused>
         ensures keeps { Keeps (meaning self.old) (meaning self.new) }
         ensures snapshots { Snapshots (meaning self.old) (meaning self.new) book result };
+
+    /// `describe` of a counter.
+    fn describe_counter(
+        &mut self,
+        alloc: Global,
+        name: &KeyName,
+        unit: Option<Unit>,
+        text: &str,
+    ) -> Result<usize, Refused>
+        ensures keeps { Keeps (meaning self.old) (meaning self.new) }
+        ensures describes { Describes (meaning self.old) (meaning self.new) MetricKind.Counter name.now unit text.now result }
+    {
+        self.describe(alloc, MetricKind::Counter, name, unit, text)
+    }
+
+    /// `describe` of a gauge.
+    fn describe_gauge(
+        &mut self,
+        alloc: Global,
+        name: &KeyName,
+        unit: Option<Unit>,
+        text: &str,
+    ) -> Result<usize, Refused>
+        ensures keeps { Keeps (meaning self.old) (meaning self.new) }
+        ensures describes { Describes (meaning self.old) (meaning self.new) MetricKind.Gauge name.now unit text.now result }
+    {
+        self.describe(alloc, MetricKind::Gauge, name, unit, text)
+    }
+
+    /// `describe` of a histogram.
+    fn describe_histogram(
+        &mut self,
+        alloc: Global,
+        name: &KeyName,
+        unit: Option<Unit>,
+        text: &str,
+    ) -> Result<usize, Refused>
+        ensures keeps { Keeps (meaning self.old) (meaning self.new) }
+        ensures describes { Describes (meaning self.old) (meaning self.new) MetricKind.Histogram name.now unit text.now result }
+    {
+        self.describe(alloc, MetricKind::Histogram, name, unit, text)
+    }
+
+    /// `register` of a counter, which answers a handle.
+    fn register_counter(&mut self, alloc: Global, key: &Key) -> Result<Counter, Refused>
+        ensures keeps { Keeps (meaning self.old) (meaning self.new) }
+        ensures registers { Registers (meaning self.old) (meaning self.new) MetricKind.Counter key.now result }
+    {
+        match self.register(alloc, MetricKind::Counter, key) {
+            Ok(found) => Ok(Counter::from(found)),
+            Err(refused) => Err(refused),
+        }
+    }
+
+    /// `register` of a gauge, which answers a handle.
+    fn register_gauge(&mut self, alloc: Global, key: &Key) -> Result<Gauge, Refused>
+        ensures keeps { Keeps (meaning self.old) (meaning self.new) }
+        ensures registers { Registers (meaning self.old) (meaning self.new) MetricKind.Gauge key.now result }
+    {
+        match self.register(alloc, MetricKind::Gauge, key) {
+            Ok(found) => Ok(Gauge::from(found)),
+            Err(refused) => Err(refused),
+        }
+    }
+
+    /// `register` of a histogram, which answers a handle.
+    fn register_histogram(&mut self, alloc: Global, key: &Key) -> Result<Histogram, Refused>
+        ensures keeps { Keeps (meaning self.old) (meaning self.new) }
+        ensures registers { Registers (meaning self.old) (meaning self.new) MetricKind.Histogram key.now result }
+    {
+        match self.register(alloc, MetricKind::Histogram, key) {
+            Ok(found) => Ok(Histogram::from(found)),
+            Err(refused) => Err(refused),
+        }
+    }
 }
 
 /// Any recorder, so that recorders of several types can stand in one tree.

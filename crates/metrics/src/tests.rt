@@ -1,9 +1,9 @@
 //! Each call once, with expected values from outside.
 
 use crate::{
-    Address, Answer, Boxed, Call, CompositeKey, DebugValue, Items, Key, KeyName, Label, MetricKind,
-    NoopRecorder, Recorder, Refused, Row, Snapshot, Text, Unit, Update, definition_laws,
-    worked_examples,
+    Address, Answer, Boxed, Call, CompositeKey, Counter, DebugValue, Gauge, Histogram, Items, Key,
+    KeyName, Label, MetricKind, NoopRecorder, Recorder, Refused, Row, Snapshot, Text, Unit, Update,
+    definition_laws, worked_examples,
 };
 use std::alloc::{AllocError, Global};
 use std::cmp::Ordering;
@@ -232,6 +232,33 @@ fn keeps_nothing<R: Recorder>(rt: &impl Abort, alloc: Global, on: &mut R) -> Res
 fn recorders_that_keep_nothing(rt: HostRuntime) -> Result<(), Fail> {
     keeps_nothing(&rt, rt.alloc(), &mut NoopRecorder)?;
     keeps_nothing(&rt, rt.alloc(), &mut boxed(rt.alloc())?)?;
+    Ok(())
+}
+
+#[test]
+fn handles_of_no_series(rt: HostRuntime) -> Result<(), Fail> {
+    let alloc = rt.alloc();
+    let on = &mut NoopRecorder;
+    assert_eq!(rt; Counter::noop(alloc).increment(on, 1), Ok(0));
+    assert_eq!(rt; Counter::noop(alloc).absolute(on, 1), Ok(0));
+    assert_eq!(rt; Gauge::noop(alloc).increment(on, 1), Ok(0));
+    assert_eq!(rt; Gauge::noop(alloc).decrement(on, 1), Ok(0));
+    assert_eq!(rt; Gauge::noop(alloc).set(on, 1), Ok(0));
+    assert_eq!(rt; Histogram::noop(alloc).record(on, 1), Ok(0));
+    assert_eq!(rt; Histogram::noop(alloc).addresses().len(), 0);
+    Ok(())
+}
+
+#[test]
+fn handles_of_another_recorder(rt: HostRuntime) -> Result<(), Fail> {
+    let alloc = rt.alloc();
+    let handle = Counter::from(vec![in alloc; Address { book: 0, series: 0 }]?);
+    assert_eq!(rt; handle.addresses().len(), 1);
+    assert!(rt; handle.clone()? == handle);
+    assert_eq!(rt;
+        handle.increment(&mut NoopRecorder, 1),
+        Err(Refused::NoSuchAddress)
+    );
     Ok(())
 }
 

@@ -11,20 +11,6 @@ use Rattle.metrics.specs.declared.calls.Answer.{Answer}
 use Rattle.metrics.specs.History.{Log}
 use Rattle.metrics.specs.Answering.{Handle}
 
--- the refusal of a call that had acted on this many targets before
-abbrev pub after_front : ℕ → Refused → Refused
-after_front front (Memory acted) = Memory (front + acted)
-after_front front NoSuchAddress = NoSuchAddress
-after_front front NoSuchBook = NoSuchBook
-after_front front BadHandle = BadHandle
-
--- the count of targets fits
-abbrev pub CanFollow : ℕ → Refused → Type 0
-CanFollow front (Memory acted) = front + acted < 2 ^ 64
-CanFollow front NoSuchAddress = Unit {0}
-CanFollow front NoSuchBook = Unit {0}
-CanFollow front BadHandle = Unit {0}
-
 -- a handle that lends its addresses
 abbrev pub handle_seen : MetricKind × Bor (List Address) → Handle
 handle_seen h = (h.0, h.1.now)

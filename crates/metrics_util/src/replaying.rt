@@ -7,9 +7,9 @@ ghost use Rattle.metrics.specs.Book.{kind_of, content_at};
 ghost use Rattle.metrics.specs.Meaning.{Meaning, Keeps, AreNew};
 ghost use Rattle.metrics.specs.History.{reached, content, ArePlain};
 ghost use Rattle.metrics.specs.Answering.{Handle, handle_given, handle_named, handle, UpdatesCall, AllHeld, IsHeld, places, UpdatesAll, Answers};
-ghost use Rattle.metrics_util.specs.Replaying.{log_of, register_places, place_in_front, handle_seen, register_kind, after_front, CanFollow};
+ghost use Rattle.metrics_util.specs.Replaying.{log_of, register_places, place_in_front, handle_seen, register_kind};
 
-use metrics::{Address, Answer, Call, Items, MetricKind, Recorder, Refused, Update};
+use metrics::{Address, Answer, Call, Items, MetricKind, Recorder, Refused, Update, update_all};
 use std::alloc::Global;
 
 /// Whether a handle of the kind takes the update.
@@ -21,36 +21,6 @@ fn takes(kind: MetricKind, by: Update) -> bool
         Update::Add(_) | Update::Subtract(_) | Update::Set(_) => matches!(kind, MetricKind::Gauge),
         Update::Record(_) => matches!(kind, MetricKind::Histogram),
     }
-}
-
-/// The refusal of a call that had acted on `front` targets before.
-pub(crate) fn after(front: usize, refused: Refused) -> Refused
-    requires { CanFollow front refused }
-    ensures { result ≡ after_front front refused }
-{
-    match refused {
-        Refused::Memory { acted } => Refused::Memory {
-            acted: front + acted,
-        },
-        Refused::NoSuchAddress => Refused::NoSuchAddress,
-        Refused::NoSuchBook => Refused::NoSuchBook,
-        Refused::BadHandle => Refused::BadHandle,
-    }
-}
-
-/// Updates the series at each address, in order.
-fn update_all<R: Recorder>(on: &mut R, found: &[Address], by: Update) -> Result<usize, Refused>
-    requires { AllHeld (kind_of by) found.now (R.meaning on.old).contents }
-    ensures keeps { Keeps (R.meaning on.old) (R.meaning on.new) }
-    ensures updates { UpdatesAll (R.meaning on.old) (R.meaning on.new) (places found.now) by result }
-{
-    for (i, at) in found.iter().enumerate() {
-        match on.update(*at, by) {
-            Ok(()) => {}
-            Err(refused) => return Err(after(i, refused)),
-        }
-    }
-    Ok(found.len())
 }
 
 /// Makes one call on a recorder.

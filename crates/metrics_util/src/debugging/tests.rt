@@ -227,3 +227,51 @@ fn a_snapshotter_takes_its_book(rt: HostRuntime) -> Result<(), Fail> {
     );
     Ok(())
 }
+
+fn hits(alloc: Global) -> Result<Key, Fail> {
+    Ok(Key::from_name(alloc, "hits")?)
+}
+
+#[test]
+fn typed_calls_of_a_counter(rt: HostRuntime) -> Result<(), Fail> {
+    let alloc = rt.alloc();
+    let mut on = DebuggingRecorder::new(alloc)?;
+    let name = KeyName::new(alloc, "hits")?;
+    assert_eq!(rt;
+        on.describe_counter(alloc, &name, Some(Unit::Count), "all")?,
+        1
+    );
+    let counter = on.register_counter(alloc, &hits(alloc)?)?;
+    assert_eq!(rt; counter.increment(&mut on, 2)?, 1);
+    assert_eq!(rt; counter.absolute(&mut on, 7)?, 1);
+    let rows = snapped(alloc, &mut on)?;
+    assert!(rt; *value_at(rows.as_slice(), 0)? == DebugValue::Counter(7));
+    Ok(())
+}
+
+#[test]
+fn typed_calls_of_a_gauge(rt: HostRuntime) -> Result<(), Fail> {
+    let alloc = rt.alloc();
+    let mut on = DebuggingRecorder::new(alloc)?;
+    let name = KeyName::new(alloc, "hits")?;
+    assert_eq!(rt; on.describe_gauge(alloc, &name, None, "all")?, 1);
+    let gauge = on.register_gauge(alloc, &hits(alloc)?)?;
+    assert_eq!(rt; gauge.set(&mut on, 5)?, 1);
+    assert_eq!(rt; gauge.increment(&mut on, 4)?, 1);
+    assert_eq!(rt; gauge.decrement(&mut on, 2)?, 1);
+    let rows = snapped(alloc, &mut on)?;
+    assert!(rt; *value_at(rows.as_slice(), 0)? == DebugValue::Gauge(7));
+    Ok(())
+}
+
+#[test]
+fn typed_calls_of_a_histogram(rt: HostRuntime) -> Result<(), Fail> {
+    let alloc = rt.alloc();
+    let mut on = DebuggingRecorder::new(alloc)?;
+    let name = KeyName::new(alloc, "hits")?;
+    assert_eq!(rt; on.describe_histogram(alloc, &name, None, "all")?, 1);
+    let histogram = on.register_histogram(alloc, &hits(alloc)?)?;
+    assert_eq!(rt; histogram.record(&mut on, 3)?, 1);
+    assert_eq!(rt; histogram.addresses().len(), 1);
+    Ok(())
+}

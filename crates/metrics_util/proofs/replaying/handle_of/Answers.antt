@@ -2,7 +2,8 @@ use Rattle.std.proofs.Common.{◌≡◌, ◌<◌, length, get_or, sym, ◌∙◌
 use Rattle.metrics.specs.declared.calls.Answer.{Answer}
 use Rattle.metrics.specs.declared.calls.Answer.TheVariants.{Refused}
 use Rattle.metrics.specs.declared.refused.Refused.TheVariants.{BadHandle}
-use Rattle.metrics_util.proofs.ReplayLemmas.{place_less, handle-past, handle-other, handle-given, default_same}
+use Rattle.metrics_util.proofs.ReplayLemmas.{place_less, handle-past, handle-other, handle-given}
+use Rattle.metrics.proofs.HandlesLemmas.{default_same}
 use Rattle.metrics_util.proofs.replaying.handle_of.Goals as goal
 
 pub returns-then-number-registers : goal.returns-then-number-registers

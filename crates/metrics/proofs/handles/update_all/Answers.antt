@@ -1,8 +1,8 @@
 use Rattle.std.proofs.Common.{◌≡◌, get_or, ◌∙◌}
 use Rattle.metrics.specs.declared.handles.Address.{Address}
 use Rattle.metrics.specs.Book.{kind_of}
-use Rattle.metrics_util.proofs.ReplayLemmas.{update_more, update_err, held_at, all_held_more, default_same}
-use Rattle.metrics_util.proofs.replaying.update_all.Goals as goal
+use Rattle.metrics.proofs.HandlesLemmas.{update_more, update_err, held_at, all_held_more, default_same}
+use Rattle.metrics.proofs.handles.update_all.Goals as goal
 
 pub returns-in-Err-clause-updates : goal.returns-in-Err-clause-updates
 returns-in-Err-clause-updates g c =
@@ -11,7 +11,7 @@ returns-in-Err-clause-updates g c =
     let at : Address = get_or found c.loop-i.i (record { book = 0; series = 0 }) in
     let is : at ≡ get_or found c.loop-i.i at = default_same found c.loop-i.i _ at c.loop-i-test.true in
     let r = rw c.in-Err.is at c.update.ensures.updates in
-    rw c.after.ensures (update_err (M c.args.on.now) (M c.loop-i.on) (M c.update.new.self) found c.args.by c.loop-i.i at c.in-Err.refused r
+    rw c.refused_after.ensures (update_err (M c.args.on.now) (M c.loop-i.on) (M c.update.new.self) found c.args.by c.loop-i.i at c.in-Err.refused r
     (held_at (kind_of c.args.by) found (M c.loop-i.on).contents c.loop-i.i at c.loop-i-test.true is c.loop-i.invariant.held) c.loop-i.invariant.updated c.loop-i-test.true)
 
 pub loop-i-preserved : goal.loop-i-preserved
