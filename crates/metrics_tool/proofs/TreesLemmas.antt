@@ -1,0 +1,39 @@
+-- Trees of new books.
+use Rattle.std.proofs.Common.{◌≡◌, zero, suc, List, [], ◌∷◌, ◌++◌, All, refl, sym, subst, ap, ◌∙◌, arith}
+use Rattle.std.specs.List.{AllByRecursion}
+use Rattle.std.proofs.lemmas.List.Elements.{recursion_from_All, All-from_recursion}
+use Rattle.metrics.specs.Book.{Content, new_book}
+use Rattle.metrics.specs.Meaning.{Meaning, AreNew, one_book}
+use Rattle.metrics_util.specs.Nodes.{node_meaning}
+use Rattle.metrics_util.specs.Debugging.{IsNewBook, content_of}
+use Rattle.metrics_util.specs.declared.debugging.DebuggingRecorder.{DebuggingRecorder}
+use Rattle.metrics_tool.specs.declared.trees.Level.{Level}
+
+abbrev pub book_meaning : DebuggingRecorder → Meaning
+book_meaning r = one_book (content_of r.series.entries.items r.descriptions)
+
+-- a level whose books are new
+abbrev pub IsNewTree : Level → Type 0
+IsNewTree l = AreNew (node_meaning book_meaning l.child.node).contents
+
+one_new : (cs : List Content) → cs ≡ new_book ∷ [] → AreNew cs
+one_new cs e = subst AreNew (sym e) each
+  where
+    each : AreNew (new_book ∷ [])
+    each zero lt = refl
+    each (suc b) lt = absurd (omega arith)
+
+-- a leaf that is a new book
+pub leaf_new : (m n : Meaning) → IsNewBook m → n ≡ m → AreNew n.contents
+leaf_new m n h e = one_new n.contents (ap (λ (k : Meaning). k.contents) e ∙ h.contents)
+
+-- the last of the levels, and the others
+pub new_split : (others all : List Level) (level : Level) → all ≡ others ++ level ∷ [] → All IsNewTree all → All IsNewTree others × IsNewTree level
+new_split others all level e h =
+    let each = recursion_from_All IsNewTree (others ++ level ∷ []) (subst (All IsNewTree) e h) in
+    let both = parted others each in
+    (All-from_recursion IsNewTree others both.0, both.1)
+  where
+    parted : (xs : List Level) → AllByRecursion IsNewTree (xs ++ level ∷ []) → AllByRecursion IsNewTree xs × IsNewTree level
+    parted [] h = (tt, h.0)
+    parted (x ∷ xs) h = let both = parted xs h.1 in ((h.0, both.0), both.1)

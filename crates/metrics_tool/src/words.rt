@@ -1,0 +1,112 @@
+//! The words of a line: names, numbers, kinds and units.
+ghost use Rattle.std.specs.Prelude.{◌≡◌, ◌≢◌, ℕ, List, [], ◌∷◌, ◌++◌, ◌<◌, ◌^◌, IsUtf8, MatchOption, Option, Some, decimal};
+ghost use Rattle.metrics.specs.declared.kind.MetricKind.{MetricKind};
+ghost use Rattle.metrics.specs.declared.common.Unit.{Unit as Measure};
+ghost use Rattle.metrics_tool.specs.Lines.{Lacks, StartsAt};
+ghost use Rattle.metrics_tool.specs.Grammar.{kind_word, unit_word, name_word, IsNamedKind, IsName};
+
+use crate::stream::place_of;
+use itoa::Buffer;
+use metrics::{MetricKind, Unit};
+
+/// What stands behind the front, if that is the line's.
+pub fn behind<'a>(line: &'a [u8], front: &[u8]) -> Option<&'a [u8]>
+    ensures { MatchOption result ((rest : List ℕ) → line.now ≡ front.now ++ rest → ⊥)
+        (λ rest. line.now ≡ front.now ++ rest.now) }
+{
+    line.strip_prefix(front)
+}
+
+/// The bytes before the first such byte, and the others.
+pub fn split_before(bytes: &[u8], byte: u8) -> (&[u8], &[u8])
+    ensures whole { bytes.now ≡ result.0.now ++ result.1.now }
+    ensures before { Lacks byte result.0.now }
+    ensures others { StartsAt byte result.1.now }
+{
+    let place = place_of(bytes, byte);
+    (&bytes[..place], &bytes[place..])
+}
+
+/// The bytes before the first such byte, and those behind it.
+pub fn split_at_first(bytes: &[u8], byte: u8) -> Option<(&[u8], &[u8])>
+    ensures { MatchOption result ((front back : List ℕ) → bytes.now ≡ front ++ byte ∷ back → ⊥)
+        (λ parts. (bytes.now ≡ parts.0.now ++ byte ∷ parts.1.now) × Lacks byte parts.0.now) }
+{
+    let place = place_of(bytes, byte);
+    if place < bytes.len() {
+        Some((&bytes[..place], &bytes[place + 1..]))
+    } else {
+        None
+    }
+}
+
+/// The text of a word, where a dash is the empty text.
+pub fn name_of(word: &[u8]) -> Option<&str>
+    requires { Lacks 32 word.now }
+    ensures { MatchOption result ((name : List ℕ) → IsName name → word.now ≡ name_word name → ⊥)
+        (λ name. IsName name.now × (word.now ≡ name_word name.now)) }
+{
+    if word == b"-".as_slice() {
+        return Some("");
+    }
+    if word.is_empty() {
+        return None;
+    }
+    match str::from_utf8(word) {
+        Ok(name) => Some(name),
+        Err(_) => None,
+    }
+}
+
+/// A kind that a line can name.
+pub fn kind_of(word: &[u8]) -> Option<MetricKind>
+    ensures { MatchOption result ((kind : MetricKind) → IsNamedKind kind → word.now ≡ kind_word kind → ⊥)
+        (λ kind. IsNamedKind kind × (word.now ≡ kind_word kind)) }
+{
+    if word == b"counter".as_slice() {
+        return Some(MetricKind::Counter);
+    }
+    None
+}
+
+/// A unit, or a dash for none.
+pub fn unit_of(word: &[u8]) -> Option<Option<Unit>>
+    ensures { MatchOption result ((unit : Option Measure) → word.now ≡ unit_word unit → ⊥)
+        (λ unit. word.now ≡ unit_word unit) }
+{
+    if word == b"milliseconds".as_slice() {
+        return Some(Some(Unit::Milliseconds));
+    }
+    if word == b"microseconds".as_slice() {
+        return Some(Some(Unit::Microseconds));
+    }
+    match word {
+        b"-" => Some(None),
+        b"count" => Some(Some(Unit::Count)),
+        b"percent" => Some(Some(Unit::Percent)),
+        b"seconds" => Some(Some(Unit::Seconds)),
+        b"nanoseconds" => Some(Some(Unit::Nanoseconds)),
+        b"bytes" => Some(Some(Unit::Bytes)),
+        _ => None,
+    }
+}
+
+/// A number below 2^64 as it is printed, and nothing else.
+pub fn number_of(digits: &[u8]) -> Option<u64>
+    ensures { MatchOption result ((n : ℕ) → n < 2 ^ 64 → digits.now ≡ decimal n → ⊥) (λ n. digits.now ≡ decimal n) }
+{
+    let Ok(text) = str::from_utf8(digits) else {
+        return None;
+    };
+    match text.parse::<u64>() {
+        Ok(n) => {
+            let mut buffer = Buffer::new();
+            if buffer.format(n) == text {
+                Some(n)
+            } else {
+                None
+            }
+        }
+        Err(_) => None,
+    }
+}
