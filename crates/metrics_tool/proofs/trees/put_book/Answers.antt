@@ -5,6 +5,6 @@ use Rattle.metrics_tool.proofs.trees.put_book.Goals as goal
 
 pub returns : goal.returns
 returns c = elim c.match-push.branch [
-  | in-Ok-push w ↦ rw (w.result-is, w.in-Ok-push.ensures.items) (All-push IsNewTree _ _ c.requires (leaf_new _ _ c.in-Ok.ensures c.leaf.ensures))
+  | in-Ok-push w ↦ rw (w.result-is, w.in-Ok-push.ensures.items) (All-push IsNewTree _ _ c.requires (leaf_new _ _ c.in-Ok.ensures.new_book c.leaf.ensures))
   | in-Err w ↦ rw w.result-is tt
 ]
