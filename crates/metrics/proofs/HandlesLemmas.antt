@@ -1,5 +1,5 @@
 -- Updates of each address of a handle.
-use Rattle.std.proofs.Common.{◌&&◌, drop, ◌≡◌, ℕ, zero, suc, ◌+◌, ◌<◌, ◌≤◌, true, false, cond, List, [], ◌∷◌, ◌++◌, length, map, take, get_or, Option, None, Some, Err, refl, ap, sym, ◌∙◌, subst, arith, slice_get, nat_eq, nat_lt, true≢false}
+use Rattle.std.proofs.Common.{◌&&◌, drop, ◌≡◌, ℕ, zero, suc, ◌+◌, ◌<◌, ◌≤◌, true, false, cond, List, [], ◌∷◌, ◌++◌, length, map, take, get_or, Option, None, Some, Err, refl, ap, sym, ◌∙◌, subst, arith, slice_get, nat_eq, nat_lt, true≢false, Result, Ok}
 use Rattle.std.proofs.Math.Seq.{take-length}
 use Rattle.std.proofs.lemmas.Bool.{ltb-true}
 use Rattle.std.specs.Option.{option_map, option_and_then}
@@ -17,7 +17,7 @@ use Rattle.metrics.specs.TargetsLaws.{act-append, length-at_book}
 use Rattle.metrics.specs.Book.{Content, Series, with_update, update_in, kind_of, kind_at, content_at}
 use Rattle.metrics.specs.Meaning.{Meaning, Targets, Updates, Keeps, AreNew, is_kind, holds_at}
 use Rattle.metrics.specs.History.{Registration, registration_of, registration, IsPlain, ArePlain}
-use Rattle.metrics.specs.Answering.{handle, handle_of, handle_given, handle_named, AllHeld, IsHeld, places, UpdatesAll, holds_all, after_front, Answers}
+use Rattle.metrics.specs.Answering.{handle, handle_of, handle_given, handle_named, AllHeld, IsHeld, places, UpdatesAll, holds_all, after_front, Answers, UpdatesHandle}
 use Rattle.metrics.proofs.NamesLemmas.{and_left, and_right, and_both}
 use Rattle.metrics.proofs.HistoryLemmas.{Kept, plain-push, content_at-at_book}
 
@@ -113,3 +113,15 @@ drop-all [] zero le = refl
 drop-all [] (suc i) le = refl
 drop-all (a ∷ rest) zero le = absurd (omega arith)
 drop-all (a ∷ rest) (suc i) le = drop-all rest i (omega arith)
+
+all-held : (kind : MetricKind) (found : List Address) (cs : List Content) → AllHeld kind found cs → holds_all kind found cs ≡ true
+all-held kind [] cs h = refl
+all-held kind (a ∷ rest) cs h = and_both (holds_at kind a cs) (holds_all kind rest cs) h.0 (all-held kind rest cs h.1)
+
+-- an update of held addresses is one of each of them
+pub handled : (old new : Meaning) (found : List Address) (u : Update) (r : Result ℕ Refused) → AllHeld (kind_of u) found old.contents → UpdatesHandle old new found u r → UpdatesAll old new (places found) u r
+handled old new found u (Ok n) h g = g.1
+handled old new found u (Err (Memory n)) h g = g.1
+handled old new found u (Err NoSuchAddress) h g = absurd (true≢false (sym (all-held (kind_of u) found old.contents h) ∙ g.0))
+handled old new found u (Err NoSuchBook) h g = absurd g
+handled old new found u (Err BadHandle) h g = absurd g

@@ -40,7 +40,7 @@ pub enum Update {
 }
 
 /// The refusal of a call that had acted on `front` targets before.
-pub fn refused_after(front: usize, refused: Refused) -> Refused
+fn refused_after(front: usize, refused: Refused) -> Refused
     requires { CanFollow front refused }
     ensures { result ≡ after_front front refused }
 {
@@ -55,7 +55,7 @@ pub fn refused_after(front: usize, refused: Refused) -> Refused
 }
 
 /// Updates the series at each address, in order. The addresses are known to be held.
-pub fn update_all<R: Recorder>(on: &mut R, found: &[Address], by: Update) -> Result<usize, Refused>
+fn update_held<R: Recorder>(on: &mut R, found: &[Address], by: Update) -> Result<usize, Refused>
     requires { AllHeld (kind_of by) found.now (R.meaning on.old).contents }
     ensures keeps { Keeps (R.meaning on.old) (R.meaning on.new) }
     ensures updates { UpdatesAll (R.meaning on.old) (R.meaning on.new) (places found.now) by result }
@@ -81,19 +81,26 @@ fn are_held<R: Recorder>(on: &R, kind: MetricKind, found: &[Address]) -> bool
     true
 }
 
-/// Updates each address of a handle, if all of them are held.
-fn update_handle<R: Recorder>(
-    on: &mut R,
-    kind: MetricKind,
-    found: &[Address],
-    by: Update,
-) -> Result<usize, Refused>
-    requires { kind ≡ kind_of by }
+/// The kind that an update is for.
+fn kind_of_update(by: Update) -> MetricKind
+    ensures { result ≡ kind_of by }
+{
+    match by {
+        Update::Increment(_) | Update::Absolute(_) => MetricKind::Counter,
+        Update::Add(_) | Update::Subtract(_) | Update::Set(_) => MetricKind::Gauge,
+        Update::Record(_) => MetricKind::Histogram,
+    }
+}
+
+/// Updates the series at each address, in order, if each address is held.
+///
+/// Answers how many series it updated; `NoSuchAddress` where some address isn't held, with nothing changed.
+pub fn update_all<R: Recorder>(on: &mut R, found: &[Address], by: Update) -> Result<usize, Refused>
     ensures keeps { Keeps (R.meaning on.old) (R.meaning on.new) }
     ensures updates { UpdatesHandle (R.meaning on.old) (R.meaning on.new) found.now by result }
 {
-    if are_held(on, kind, found) {
-        update_all(on, found, by)
+    if are_held(on, kind_of_update(by), found) {
+        update_held(on, found, by)
     } else {
         Err(Refused::NoSuchAddress)
     }
@@ -149,12 +156,7 @@ impl Counter {
         ensures keeps { Keeps (R.meaning on.old) (R.meaning on.new) }
         ensures updates { UpdatesHandle (R.meaning on.old) (R.meaning on.new) self.now (Increment n) result }
     {
-        update_handle(
-            on,
-            MetricKind::Counter,
-            self.addresses(),
-            Update::Increment(n),
-        )
+        update_all(on, self.addresses(), Update::Increment(n))
     }
 
     /// Keeps the greater of the value and this one.
@@ -164,12 +166,7 @@ impl Counter {
         ensures keeps { Keeps (R.meaning on.old) (R.meaning on.new) }
         ensures updates { UpdatesHandle (R.meaning on.old) (R.meaning on.new) self.now (Absolute n) result }
     {
-        update_handle(
-            on,
-            MetricKind::Counter,
-            self.addresses(),
-            Update::Absolute(n),
-        )
+        update_all(on, self.addresses(), Update::Absolute(n))
     }
 }
 
@@ -223,7 +220,7 @@ impl Gauge {
         ensures keeps { Keeps (R.meaning on.old) (R.meaning on.new) }
         ensures updates { UpdatesHandle (R.meaning on.old) (R.meaning on.new) self.now (Add n) result }
     {
-        update_handle(on, MetricKind::Gauge, self.addresses(), Update::Add(n))
+        update_all(on, self.addresses(), Update::Add(n))
     }
 
     /// Subtracts, and stops at the ends of `i64`.
@@ -233,7 +230,7 @@ impl Gauge {
         ensures keeps { Keeps (R.meaning on.old) (R.meaning on.new) }
         ensures updates { UpdatesHandle (R.meaning on.old) (R.meaning on.new) self.now (Subtract n) result }
     {
-        update_handle(on, MetricKind::Gauge, self.addresses(), Update::Subtract(n))
+        update_all(on, self.addresses(), Update::Subtract(n))
     }
 
     /// Replaces the value.
@@ -243,7 +240,7 @@ impl Gauge {
         ensures keeps { Keeps (R.meaning on.old) (R.meaning on.new) }
         ensures updates { UpdatesHandle (R.meaning on.old) (R.meaning on.new) self.now (Set n) result }
     {
-        update_handle(on, MetricKind::Gauge, self.addresses(), Update::Set(n))
+        update_all(on, self.addresses(), Update::Set(n))
     }
 }
 
@@ -297,11 +294,6 @@ impl Histogram {
         ensures keeps { Keeps (R.meaning on.old) (R.meaning on.new) }
         ensures updates { UpdatesHandle (R.meaning on.old) (R.meaning on.new) self.now (Record sample) result }
     {
-        update_handle(
-            on,
-            MetricKind::Histogram,
-            self.addresses(),
-            Update::Record(sample),
-        )
+        update_all(on, self.addresses(), Update::Record(sample))
     }
 }

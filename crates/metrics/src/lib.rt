@@ -21,7 +21,7 @@ pub use calls::{Answer, Call};
 pub use common::Unit;
 pub use debugging::{DebugValue, Row, RowValue, Snapshot};
 pub use examples::worked_examples;
-pub use handles::{Address, Counter, Gauge, Histogram, Update, refused_after, update_all};
+pub use handles::{Address, Counter, Gauge, Histogram, Update, update_all};
 pub use items::Items;
 pub use key::{CompositeKey, Key, KeyName};
 pub use kind::MetricKind;

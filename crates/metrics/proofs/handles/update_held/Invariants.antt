@@ -3,7 +3,7 @@ use Rattle.metrics.specs.Targets.{act}
 use Rattle.metrics.specs.Book.{kind_of, update_in}
 use Rattle.metrics.specs.Meaning.{Keeps}
 use Rattle.metrics.specs.Answering.{AllHeld, places}
-use Rattle.metrics.proofs.handles.update_all.Given as goal
+use Rattle.metrics.proofs.handles.update_held.Given as goal
 
 abbrev pub invariant-loop-i : goal.invariant-loop-i
 invariant-loop-i g l =
