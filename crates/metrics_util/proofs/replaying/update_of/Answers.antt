@@ -25,4 +25,4 @@ returns-in-Err-clause-updates g c =
     let updates = rw c.in-Err.is at c.update_all.ensures.updates in
     let each = handled old new found by (Err c.in-Err.refused) held_kind updates in
     subst (λ (o : Option Handle). UpdatesCall old new o by (Refused c.in-Err.refused)) (sym seen)
-      (subst (λ (b : Bool). MatchBool b (UpdatesHeld old new (places found) by (Refused c.in-Err.refused)) (IsBadHandle old new (Refused c.in-Err.refused))) (sym tested) each)
+    (subst (λ (b : Bool). MatchBool b (UpdatesHeld old new (places found) by (Refused c.in-Err.refused)) (IsBadHandle old new (Refused c.in-Err.refused))) (sym tested) each)
