@@ -143,11 +143,15 @@ abbrev pub chosen : Option Route → ℕ
 chosen None = 0
 chosen (Some r) = suc r.target
 
+-- one of several recorders for each kind and name. The books are those of all, each recorder's after those before it
+abbrev pub choosing : (MetricKind → List ℕ → ℕ) → List Meaning → Meaning
+choosing number all = record {
+  contents = (joined_all all).contents;
+  targets = λ kind name. targets_of (number kind name) all kind name;
+  below = λ kind name. below_of (number kind name) all kind name;
+  distinct = λ kind name. distinct_of (number kind name) all kind name;
+}
+
 -- a router has the winner's target's list, or the default's where no route fits. Its books are the default's, then the targets'
 abbrev pub routed : List Route → List Meaning → Meaning
-routed routes all = record {
-  contents = (joined_all all).contents;
-  targets = λ kind name. targets_of (chosen (winner routes kind name)) all kind name;
-  below = λ kind name. below_of (chosen (winner routes kind name)) all kind name;
-  distinct = λ kind name. distinct_of (chosen (winner routes kind name)) all kind name;
-}
+routed routes all = choosing (λ kind name. chosen (winner routes kind name)) all

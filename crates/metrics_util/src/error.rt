@@ -11,6 +11,18 @@ pub enum Error {
     /// A growth found no memory. Nothing changed.
     #[error("memory")]
     Memory,
+    /// The mask has no kind.
+    #[error("empty mask")]
+    EmptyMask,
+    /// No earlier call gave that target number.
+    #[error("no such target")]
+    NoSuchTarget,
+    /// There would be more than 65,536 books.
+    #[error("too many books")]
+    TooManyBooks,
+    /// The patterns have more than 1,048,576 bytes together.
+    #[error("patterns too long")]
+    PatternsTooLong,
 }
 
 impl From<AllocError> for Error {
