@@ -3,7 +3,7 @@ ghost use Rattle.std.specs.Prelude.{◌≡◌, ◌≤◌, ◌<◌, ◌+◌, ◌^
 ghost use Rattle.metrics.specs.declared.handles.Update.TheVariants.{Increment, Absolute, Add, Subtract, Set, Record};
 ghost use Rattle.metrics.specs.Book.{kind_of};
 ghost use Rattle.metrics.specs.Meaning.{Keeps};
-ghost use Rattle.metrics.specs.Answering.{AllHeld, places, UpdatesAll, UpdatesHandle, holds_all, after_front, CanFollow};
+ghost use Rattle.metrics.specs.Answering.{AllHeld, places, UpdatesAll, UpdatesHandle, holds_all};
 
 use crate::items::Items;
 use crate::kind::MetricKind;
@@ -39,21 +39,6 @@ pub enum Update {
     Record(i64),
 }
 
-/// The refusal of a call that had acted on `front` targets before.
-fn refused_after(front: usize, refused: Refused) -> Refused
-    requires { CanFollow front refused }
-    ensures { result ≡ after_front front refused }
-{
-    match refused {
-        Refused::Memory { acted } => Refused::Memory {
-            acted: front + acted,
-        },
-        Refused::NoSuchAddress => Refused::NoSuchAddress,
-        Refused::NoSuchBook => Refused::NoSuchBook,
-        Refused::BadHandle => Refused::BadHandle,
-    }
-}
-
 /// Updates the series at each address, in order. The addresses are known to be held.
 fn update_held<R: Recorder>(on: &mut R, found: &[Address], by: Update) -> Result<usize, Refused>
     requires { AllHeld (kind_of by) found.now (R.meaning on.old).contents }
@@ -63,7 +48,7 @@ fn update_held<R: Recorder>(on: &mut R, found: &[Address], by: Update) -> Result
     for (i, at) in found.iter().enumerate() {
         match on.update(*at, by) {
             Ok(()) => {}
-            Err(refused) => return Err(refused_after(i, refused)),
+            Err(refused) => return Err(refused.after(i)),
         }
     }
     Ok(found.len())

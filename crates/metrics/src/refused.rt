@@ -23,6 +23,23 @@ pub enum Refused {
     BadHandle,
 }
 
+impl Refused {
+    ghost use Rattle.metrics.specs.Answering.{after_front, CanFollow};
+
+    /// The refusal of a call that had acted on `front` targets before.
+    pub fn after(self, front: usize) -> Refused
+        requires { CanFollow front self }
+        ensures { result ≡ after_front front self }
+    {
+        match self {
+            Refused::Memory { acted } => Refused::Memory {
+                acted: front + acted,
+            },
+            other => other,
+        }
+    }
+}
+
 impl From<AllocError> for Refused {
     ghost from_gives = { λ e r. r ≡ MemoryRefused 0 };
 

@@ -2,3 +2,11 @@ pub mod ReplayLemmas
 pub mod SamplesLemmas
 pub mod SeriesLemmas
 pub mod DescriptionsLemmas
+pub mod MaskLemmas
+pub mod RoutingLemmas
+pub mod FilterLemmas
+pub mod PlacesLemmas
+pub mod JoinedLemmas
+pub mod NodesLemmas
+pub mod ChildrenLemmas
+pub mod OneChildLemmas

@@ -1,4 +1,7 @@
 pub mod Replaying
+pub mod Filters
+pub mod Routing
+pub mod Places
 pub mod Nodes
 pub mod DebuggingValues
 pub mod DebuggingPlaces

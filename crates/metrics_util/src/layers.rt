@@ -1,8 +1,17 @@
 //! Layers over recorders.
 
 mod child;
+mod choice;
+mod filter;
+mod layer;
 mod node;
+mod place;
 mod prefix;
+mod routes;
+mod stack;
 
 pub use child::Child;
-pub use prefix::PrefixLayer;
+pub use filter::{Filter, FilterLayer};
+pub use layer::Layer;
+pub use prefix::{Prefix, PrefixLayer};
+pub use stack::Stack;

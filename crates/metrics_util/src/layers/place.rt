@@ -1,0 +1,66 @@
+//! Where the books of several recorders stand.
+ghost use Rattle.std.specs.Prelude.{◌≡◌, ◌≤◌, ◌<◌, ◌++◌, ℕ, List, All, length, take, MatchOption, OnOk};
+ghost use Rattle.metrics_util.specs.Places.{ends_from, total, IsPlace, raised};
+
+use metrics::Address;
+use std::alloc::AllocError;
+
+/// The number of books of all recorders. `ends` has the number of books up to the end of each.
+pub(crate) fn all_books(ends: &[usize]) -> usize
+    ensures { (sizes : List ℕ) → ends.now ≡ ends_from 0 sizes → result ≡ total sizes }
+{
+    match ends.last() {
+        Some(end) => *end,
+        None => 0,
+    }
+}
+
+/// The number of books before a recorder.
+pub(crate) fn books_before(ends: &[usize], recorder: usize) -> usize
+    requires within { recorder ≤ length ends.now }
+    ensures { (sizes : List ℕ) → ends.now ≡ ends_from 0 sizes → result ≡ total (take recorder sizes) }
+{
+    all_books(&ends[..recorder])
+}
+
+/// The recorder that has a book, and the book's number there.
+pub(crate) fn place_of(ends: &[usize], book: usize) -> Option<(usize, usize)>
+    requires ends { (sizes : List ℕ) × (ends.now ≡ ends_from 0 sizes) }
+    ensures { (sizes : List ℕ) → ends.now ≡ ends_from 0 sizes → MatchOption result (total sizes ≤ book) (IsPlace sizes book) }
+{
+    let recorder = ends.partition_point(|end| *end <= book);
+    if recorder == ends.len() {
+        return None;
+    }
+    Some((recorder, book - books_before(ends, recorder)))
+}
+
+/// Adds the addresses of a recorder that stands behind `front` books.
+pub(crate) fn append_raised(
+    found: &mut Vec<Address>,
+    front: usize,
+    there: &[Address],
+) -> Result<(), AllocError>
+    requires front { front ≤ 65536 }
+    requires below { All (λ a. a.book < 65536) there.now }
+    ensures { OnOk result (found.new.items ≡ found.old.items ++ raised front there.now) }
+{
+    for at in there {
+        found.push(Address {
+            book: front + at.book,
+            series: at.series,
+        })?;
+    }
+    Ok(())
+}
+
+/// Raises the addresses of a recorder that stands behind `front` books.
+pub(crate) fn raise(found: &mut [Address], front: usize)
+    requires front { front ≤ 65536 }
+    requires below { All (λ a. a.book < 65536) found.old }
+    ensures { found.new ≡ raised front found.old }
+{
+    for at in found {
+        at.book += front;
+    }
+}
