@@ -2,3 +2,5 @@ pub mod ReplayLemmas
 pub mod SamplesLemmas
 pub mod SeriesLemmas
 pub mod DescriptionsLemmas
+pub mod RoutingLemmas
+pub mod MaskLemmas

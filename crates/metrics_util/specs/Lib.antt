@@ -1,5 +1,6 @@
 pub mod Replaying
 pub mod Nodes
+pub mod Routing
 pub mod DebuggingValues
 pub mod DebuggingPlaces
 pub mod DebuggingSeries

@@ -3,11 +3,13 @@
 
 pub mod debugging;
 mod error;
+mod kind;
 pub mod layers;
 mod replaying;
 #[cfg(test)]
 mod tests;
 
 pub use error::Error;
+pub use kind::MetricKindMask;
 pub use metrics::{CompositeKey, MetricKind};
 pub use replaying::{answer_of, replay};
