@@ -2,3 +2,4 @@ pub mod ReplayLemmas
 pub mod SamplesLemmas
 pub mod SeriesLemmas
 pub mod DescriptionsLemmas
+pub mod FilterLemmas

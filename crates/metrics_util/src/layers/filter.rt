@@ -1,0 +1,128 @@
+//! A filter of names by the patterns that stand in them.
+ghost use Rattle.std.specs.Prelude.{◌≡◌, ◌↔◌, ◌<◌, ◌≤◌, true, false, [], ◌∷◌, ◌++◌, map, length, IsTrue, IfOk, IfErr, MatchResult};
+ghost use Rattle.std.specs.List.{sum_by};
+ghost use Rattle.metrics.specs.Layers.{matches};
+ghost use Rattle.prefix_match.specs.Substring.{Patterns, pattern_limit};
+ghost use Rattle.metrics_util.specs.declared.error.Error.TheVariants.{Memory, PatternsTooLong};
+
+use crate::error::Error;
+use metrics::Text;
+use prefix_match::{MatchError, SubstringSet};
+use std::alloc::{AllocError, Global};
+use std::marker::Model;
+
+/// How many bytes the patterns may have together.
+const LIMIT: usize = 1_048_576;
+
+/// Refuses each name that a listed pattern stands in, by an automaton with fail links or with a full table.
+///
+/// Where case is folded, ASCII letters are compared as if lowered.
+#[derive(Debug, Drop)]
+pub struct FilterLayer {
+    patterns: Vec<Text>,
+    case_insensitive: bool,
+    use_dfa: bool,
+}
+
+impl Model for FilterLayer {
+    ghost use Rattle.prefix_match.specs.Substring.{Patterns};
+
+    ghost Value = { Patterns };
+
+    ghost view = { λ a. record { listed = a.patterns.items; fold_case = a.case_insensitive; table = a.use_dfa } };
+}
+
+impl FilterLayer {
+    /// A layer without patterns, which refuses no name. It tells letters of either case apart, and takes the table.
+    pub fn default(alloc: Global) -> FilterLayer
+        ensures { result ≡ record { listed = []; fold_case = false; table = true } }
+    {
+        FilterLayer {
+            patterns: Vec::new(alloc),
+            case_insensitive: false,
+            use_dfa: true,
+        }
+    }
+
+    /// A layer with copies of the patterns, and else as `default`.
+    pub fn from_patterns(alloc: Global, patterns: &[&str]) -> Result<FilterLayer, Error>
+        ensures { MatchResult result
+            (λ l. l ≡ record { listed = map (λ p. p.now) patterns.now; fold_case = false; table = true })
+            (λ e. e ≡ Memory) }
+    {
+        Ok(FilterLayer {
+            patterns: copied(alloc, patterns)?,
+            case_insensitive: false,
+            use_dfa: true,
+        })
+    }
+
+    /// The automaton of the listed patterns.
+    ///
+    /// `PatternsTooLong` where they have more than 1,048,576 bytes together, and else refused for memory alone.
+    pub(crate) fn automaton(&self, alloc: Global) -> Result<SubstringSet, Error>
+        ensures set { IfOk result (λ s. s ≡ self.now) }
+        ensures too_long { (result ≡ Err PatternsTooLong) ↔ (pattern_limit < sum_by length self.now.listed) }
+        ensures memory { IfErr result (λ e. sum_by length self.now.listed ≤ pattern_limit → e ≡ Memory) }
+    {
+        if !are_within_limit(self.patterns.as_slice()) {
+            return Err(Error::PatternsTooLong);
+        }
+        match self.built(alloc) {
+            Ok(set) => Ok(set),
+            Err(_) => Err(Error::Memory),
+        }
+    }
+
+    /// The automaton of patterns that are within the limit.
+    fn built(&self, alloc: Global) -> Result<SubstringSet, MatchError>
+        ensures { IfOk result (λ s. s ≡ self.now) }
+    {
+        let Ok(texts) = borrowed(alloc, self.patterns.as_slice()) else {
+            return Err(MatchError::Memory);
+        };
+        SubstringSet::new(alloc, texts.as_slice(), self.case_insensitive, self.use_dfa)
+    }
+}
+
+/// Whether the patterns have at most `LIMIT` bytes together.
+fn are_within_limit(patterns: &[Text]) -> bool
+    ensures { IsTrue result ↔ (sum_by length patterns.now ≤ pattern_limit) }
+{
+    let mut left = LIMIT;
+    for pattern in patterns {
+        let len = pattern.as_str().len();
+        if len > left {
+            return false;
+        }
+        left -= len;
+    }
+    true
+}
+
+/// Whether some of the patterns stands in the name.
+pub(crate) fn is_refused(patterns: &SubstringSet, name: &str) -> bool
+    ensures { result ≡ matches patterns.now.fold_case patterns.now.listed name.now }
+{
+    patterns.is_match(name.as_bytes())
+}
+
+fn copied(alloc: Global, patterns: &[&str]) -> Result<Vec<Text>, AllocError>
+    ensures { IfOk result (λ v. v.items ≡ map (λ p. p.now) patterns.now) }
+{
+    let mut kept = Vec::new(alloc);
+    for pattern in patterns {
+        kept.push(Text::new(alloc, pattern)?)?;
+    }
+    Ok(kept)
+}
+
+fn borrowed(alloc: Global, patterns: &[Text]) -> Result<Vec<&str>, AllocError>
+    ensures { IfOk result (λ v. map (λ p. p.now) v.items ≡ patterns.now) }
+{
+    let mut texts = Vec::new(alloc);
+    for pattern in patterns {
+        texts.push(pattern.as_str())?;
+    }
+    Ok(texts)
+}
