@@ -5,3 +5,4 @@ pub mod DebuggingPlaces
 pub mod DebuggingSeries
 pub mod DebuggingUpdates
 pub mod Debugging
+pub mod Filters

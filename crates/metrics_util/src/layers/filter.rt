@@ -1,12 +1,13 @@
 //! A filter of names by the patterns that stand in them.
 ghost use Rattle.std.specs.Prelude.{◌≡◌, ◌↔◌, ◌<◌, ◌≤◌, true, false, [], ◌∷◌, ◌++◌, map, length, IsTrue, IfOk, IfErr, MatchResult};
 ghost use Rattle.std.specs.List.{sum_by};
-ghost use Rattle.metrics.specs.Layers.{matches};
+ghost use Rattle.metrics.specs.Layers.{matches, filtered};
+ghost use Rattle.metrics_util.specs.Filters.{with_pattern, with_folding, with_table};
 ghost use Rattle.prefix_match.specs.Substring.{Patterns, pattern_limit};
 ghost use Rattle.metrics_util.specs.declared.error.Error.TheVariants.{Memory, PatternsTooLong};
 
 use crate::error::Error;
-use metrics::Text;
+use metrics::{Address, Key, KeyName, MetricKind, Recorder, Refused, Snapshot, Text, Unit, Update};
 use prefix_match::{MatchError, SubstringSet};
 use std::alloc::{AllocError, Global};
 use std::marker::Model;
@@ -55,6 +56,35 @@ impl FilterLayer {
             case_insensitive: false,
             use_dfa: true,
         })
+    }
+
+    /// Adds a pattern at the end. Where memory is refused the layer is as before.
+    pub fn add_pattern(&mut self, pattern: &str) -> Result<(), Error>
+        ensures { MatchResult result
+            (λ _. self.new ≡ with_pattern self.old pattern.now)
+            (λ e. (self.new ≡ self.old) × (e ≡ Memory)) }
+    {
+        let pattern = Text::new(*self.patterns.allocator(), pattern)?;
+        self.patterns.push(pattern)?;
+        Ok(())
+    }
+
+    /// Whether ASCII letters of either case are one.
+    pub fn case_insensitive(&mut self, case_insensitive: bool) -> &mut FilterLayer
+        ensures same_reference { result.ghost_name ≡ self.entry.ghost_name }
+        ensures value { result.now ≡ with_folding self.old case_insensitive }
+    {
+        self.case_insensitive = case_insensitive;
+        self
+    }
+
+    /// Whether the automaton is a full table. What is refused is the same.
+    pub fn use_dfa(&mut self, use_dfa: bool) -> &mut FilterLayer
+        ensures same_reference { result.ghost_name ≡ self.entry.ghost_name }
+        ensures value { result.now ≡ with_table self.old use_dfa }
+    {
+        self.use_dfa = use_dfa;
+        self
     }
 
     /// The automaton of the listed patterns.
@@ -125,4 +155,57 @@ fn borrowed(alloc: Global, patterns: &[Text]) -> Result<Vec<&str>, AllocError>
         texts.push(pattern.as_str())?;
     }
     Ok(texts)
+}
+
+/// A filter over a recorder: a name that is refused reaches no book.
+#[derive(Drop)]
+pub struct Filter<R> {
+    patterns: SubstringSet,
+    inner: R,
+}
+
+impl<R: Recorder> Recorder for Filter<R> {
+    ghost meaning = { λ f. filtered f.patterns.fold_case f.patterns.listed (R.meaning f.inner) };
+
+    fn books(&self) -> usize {
+        self.inner.books()
+    }
+
+    fn describe(
+        &mut self,
+        alloc: Global,
+        kind: MetricKind,
+        name: &KeyName,
+        unit: Option<Unit>,
+        text: &str,
+    ) -> Result<usize, Refused> {
+        if is_refused(&self.patterns, name.as_str()) {
+            return Ok(0);
+        }
+        self.inner.describe(alloc, kind, name, unit, text)
+    }
+
+    fn register(
+        &mut self,
+        alloc: Global,
+        kind: MetricKind,
+        key: &Key,
+    ) -> Result<Vec<Address>, Refused> {
+        if is_refused(&self.patterns, key.name()) {
+            return Ok(Vec::new(alloc));
+        }
+        self.inner.register(alloc, kind, key)
+    }
+
+    fn holds(&self, kind: MetricKind, at: Address) -> bool {
+        self.inner.holds(kind, at)
+    }
+
+    fn update(&mut self, at: Address, by: Update) -> Result<(), Refused> {
+        self.inner.update(at, by)
+    }
+
+    fn snapshot(&mut self, alloc: Global, book: usize) -> Result<Snapshot, Refused> {
+        self.inner.snapshot(alloc, book)
+    }
 }

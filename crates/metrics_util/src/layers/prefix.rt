@@ -1,11 +1,11 @@
 //! A prefix before each name.
 ghost use Rattle.std.specs.Prelude.{◌≡◌, IfOk, MatchResult, string_bytes};
 ghost use Rattle.metrics.specs.declared.refused.Refused.TheVariants.{Memory as MemoryRefused};
-ghost use Rattle.metrics.specs.Layers.{dotted};
+ghost use Rattle.metrics.specs.Layers.{dotted, prefixed};
 ghost use Rattle.metrics_util.specs.declared.error.Error.TheVariants.{Memory};
 
 use crate::error::Error;
-use metrics::{KeyName, Refused, Text};
+use metrics::{Address, Key, KeyName, MetricKind, Recorder, Refused, Snapshot, Text, Unit, Update};
 use std::alloc::{AllocError, Global};
 use std::marker::Model;
 
@@ -56,4 +56,54 @@ fn dotted_text(alloc: Global, prefix: &str, name: &str) -> Result<String, AllocE
     text.push_str(".")?;
     text.push_str(name)?;
     Ok(text)
+}
+
+/// A prefix over a recorder: each name reaches it as prefix, dot, name.
+#[derive(Drop)]
+pub struct Prefix<R> {
+    prefix: Text,
+    inner: R,
+}
+
+impl<R: Recorder> Recorder for Prefix<R> {
+    ghost meaning = { λ p. prefixed p.prefix (R.meaning p.inner) };
+
+    fn books(&self) -> usize {
+        self.inner.books()
+    }
+
+    fn describe(
+        &mut self,
+        alloc: Global,
+        kind: MetricKind,
+        name: &KeyName,
+        unit: Option<Unit>,
+        text: &str,
+    ) -> Result<usize, Refused> {
+        let full = dotted_name(alloc, self.prefix.as_str(), name.as_str())?;
+        self.inner.describe(alloc, kind, &full, unit, text)
+    }
+
+    fn register(
+        &mut self,
+        alloc: Global,
+        kind: MetricKind,
+        key: &Key,
+    ) -> Result<Vec<Address>, Refused> {
+        let full = dotted_name(alloc, self.prefix.as_str(), key.name())?;
+        let there = key.renamed(full)?;
+        self.inner.register(alloc, kind, &there)
+    }
+
+    fn holds(&self, kind: MetricKind, at: Address) -> bool {
+        self.inner.holds(kind, at)
+    }
+
+    fn update(&mut self, at: Address, by: Update) -> Result<(), Refused> {
+        self.inner.update(at, by)
+    }
+
+    fn snapshot(&mut self, alloc: Global, book: usize) -> Result<Snapshot, Refused> {
+        self.inner.snapshot(alloc, book)
+    }
 }
