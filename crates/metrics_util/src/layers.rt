@@ -2,9 +2,13 @@
 
 mod child;
 mod filter;
+mod layer;
 mod node;
 mod prefix;
+mod stack;
 
 pub use child::Child;
-pub use filter::FilterLayer;
-pub use prefix::PrefixLayer;
+pub use filter::{Filter, FilterLayer};
+pub use layer::Layer;
+pub use prefix::{Prefix, PrefixLayer};
+pub use stack::Stack;

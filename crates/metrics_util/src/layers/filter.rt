@@ -2,11 +2,12 @@
 ghost use Rattle.std.specs.Prelude.{◌≡◌, ◌↔◌, ◌<◌, ◌≤◌, true, false, [], ◌∷◌, ◌++◌, map, length, IsTrue, IfOk, IfErr, MatchResult};
 ghost use Rattle.std.specs.List.{sum_by};
 ghost use Rattle.metrics.specs.Layers.{matches, filtered};
-ghost use Rattle.metrics_util.specs.Filters.{with_pattern, with_folding, with_table};
+ghost use Rattle.metrics_util.specs.Filters.{with_pattern, with_folding, with_table, fault_of};
 ghost use Rattle.prefix_match.specs.Substring.{Patterns, pattern_limit};
 ghost use Rattle.metrics_util.specs.declared.error.Error.TheVariants.{Memory, PatternsTooLong};
 
 use crate::error::Error;
+use crate::layers::layer::Layer;
 use metrics::{Address, Key, KeyName, MetricKind, Recorder, Refused, Snapshot, Text, Unit, Update};
 use prefix_match::{MatchError, SubstringSet};
 use std::alloc::{AllocError, Global};
@@ -155,6 +156,21 @@ fn borrowed(alloc: Global, patterns: &[Text]) -> Result<Vec<&str>, AllocError>
         texts.push(pattern.as_str())?;
     }
     Ok(texts)
+}
+
+impl<R: Recorder> Layer<R> for FilterLayer {
+    type Output = Filter<R>;
+
+    ghost over = { λ s. filtered s.fold_case s.listed };
+
+    ghost fault = { fault_of };
+
+    fn layer(&self, alloc: Global, inner: R) -> Result<Filter<R>, (Error, R)> {
+        match self.automaton(alloc) {
+            Ok(patterns) => Ok(Filter { patterns, inner }),
+            Err(error) => Err((error, inner)),
+        }
+    }
 }
 
 /// A filter over a recorder: a name that is refused reaches no book.

@@ -1,10 +1,11 @@
 //! A prefix before each name.
-ghost use Rattle.std.specs.Prelude.{◌≡◌, IfOk, MatchResult, string_bytes};
+ghost use Rattle.std.specs.Prelude.{◌≡◌, None, IfOk, MatchResult, string_bytes};
 ghost use Rattle.metrics.specs.declared.refused.Refused.TheVariants.{Memory as MemoryRefused};
 ghost use Rattle.metrics.specs.Layers.{dotted, prefixed};
 ghost use Rattle.metrics_util.specs.declared.error.Error.TheVariants.{Memory};
 
 use crate::error::Error;
+use crate::layers::layer::Layer;
 use metrics::{Address, Key, KeyName, MetricKind, Recorder, Refused, Snapshot, Text, Unit, Update};
 use std::alloc::{AllocError, Global};
 use std::marker::Model;
@@ -56,6 +57,21 @@ fn dotted_text(alloc: Global, prefix: &str, name: &str) -> Result<String, AllocE
     text.push_str(".")?;
     text.push_str(name)?;
     Ok(text)
+}
+
+impl<R: Recorder> Layer<R> for PrefixLayer {
+    type Output = Prefix<R>;
+
+    ghost over = { prefixed };
+
+    ghost fault = { λ _. None };
+
+    fn layer(&self, _alloc: Global, inner: R) -> Result<Prefix<R>, (Error, R)> {
+        match self.prefix() {
+            Ok(prefix) => Ok(Prefix { prefix, inner }),
+            Err(_) => Err((Error::Memory, inner)),
+        }
+    }
 }
 
 /// A prefix over a recorder: each name reaches it as prefix, dot, name.
