@@ -6,6 +6,8 @@ mod layer;
 mod node;
 mod prefix;
 mod stack;
+#[cfg(test)]
+mod tests;
 
 pub use child::Child;
 pub use filter::{Filter, FilterLayer};

@@ -9,7 +9,7 @@ ghost use Rattle.metrics_util.specs.declared.error.Error.TheVariants.{Memory, Pa
 use crate::error::Error;
 use crate::layers::layer::Layer;
 use metrics::{Address, Key, KeyName, MetricKind, Recorder, Refused, Snapshot, Text, Unit, Update};
-use prefix_match::{MatchError, SubstringSet};
+use prefix_match::SubstringSet;
 use std::alloc::{AllocError, Global};
 use std::marker::Model;
 
@@ -99,20 +99,18 @@ impl FilterLayer {
         if !are_within_limit(self.patterns.as_slice()) {
             return Err(Error::PatternsTooLong);
         }
-        match self.built(alloc) {
-            Ok(set) => Ok(set),
-            Err(_) => Err(Error::Memory),
-        }
+        Ok(self.built(alloc)?)
     }
 
     /// The automaton of patterns that are within the limit.
-    fn built(&self, alloc: Global) -> Result<SubstringSet, MatchError>
+    fn built(&self, alloc: Global) -> Result<SubstringSet, AllocError>
         ensures { IfOk result (λ s. s ≡ self.now) }
     {
-        let Ok(texts) = borrowed(alloc, self.patterns.as_slice()) else {
-            return Err(MatchError::Memory);
-        };
-        SubstringSet::new(alloc, texts.as_slice(), self.case_insensitive, self.use_dfa)
+        let texts = borrowed(alloc, self.patterns.as_slice())?;
+        match SubstringSet::new(alloc, texts.as_slice(), self.case_insensitive, self.use_dfa) {
+            Ok(set) => Ok(set),
+            Err(_) => Err(AllocError),
+        }
     }
 }
 
