@@ -52,11 +52,9 @@ impl FilterLayer {
             (λ l. l ≡ record { listed = map (λ p. p.now) patterns.now; fold_case = false; table = true })
             (λ e. e ≡ Memory) }
     {
-        Ok(FilterLayer {
-            patterns: copied(alloc, patterns)?,
-            case_insensitive: false,
-            use_dfa: true,
-        })
+        let mut layer = FilterLayer::default(alloc);
+        layer.patterns = copied(alloc, patterns)?;
+        Ok(layer)
     }
 
     /// Adds a pattern at the end. Where memory is refused the layer is as before.
