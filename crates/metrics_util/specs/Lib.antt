@@ -3,7 +3,6 @@ pub mod Filters
 pub mod Routing
 pub mod Places
 pub mod Nodes
-pub mod Routing
 pub mod DebuggingValues
 pub mod DebuggingPlaces
 pub mod DebuggingSeries

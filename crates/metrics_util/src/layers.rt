@@ -9,6 +9,8 @@ mod place;
 mod prefix;
 mod routes;
 mod stack;
+#[cfg(test)]
+mod tests;
 
 pub use child::Child;
 pub use filter::{Filter, FilterLayer};

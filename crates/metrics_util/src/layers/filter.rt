@@ -9,7 +9,7 @@ ghost use Rattle.metrics_util.specs.declared.error.Error.TheVariants.{Memory, Pa
 use crate::error::Error;
 use crate::layers::layer::Layer;
 use metrics::{Address, Key, KeyName, MetricKind, Recorder, Refused, Snapshot, Text, Unit, Update};
-use prefix_match::{MatchError, SubstringSet};
+use prefix_match::SubstringSet;
 use std::alloc::{AllocError, Global};
 use std::marker::Model;
 
@@ -52,11 +52,9 @@ impl FilterLayer {
             (λ l. l ≡ record { listed = map (λ p. p.now) patterns.now; fold_case = false; table = true })
             (λ e. e ≡ Memory) }
     {
-        Ok(FilterLayer {
-            patterns: copied(alloc, patterns)?,
-            case_insensitive: false,
-            use_dfa: true,
-        })
+        let mut layer = FilterLayer::default(alloc);
+        layer.patterns = copied(alloc, patterns)?;
+        Ok(layer)
     }
 
     /// Adds a pattern at the end. Where memory is refused the layer is as before.
@@ -99,20 +97,18 @@ impl FilterLayer {
         if !are_within_limit(self.patterns.as_slice()) {
             return Err(Error::PatternsTooLong);
         }
-        match self.built(alloc) {
-            Ok(set) => Ok(set),
-            Err(_) => Err(Error::Memory),
-        }
+        Ok(self.built(alloc)?)
     }
 
     /// The automaton of patterns that are within the limit.
-    fn built(&self, alloc: Global) -> Result<SubstringSet, MatchError>
+    fn built(&self, alloc: Global) -> Result<SubstringSet, AllocError>
         ensures { IfOk result (λ s. s ≡ self.now) }
     {
-        let Ok(texts) = borrowed(alloc, self.patterns.as_slice()) else {
-            return Err(MatchError::Memory);
-        };
-        SubstringSet::new(alloc, texts.as_slice(), self.case_insensitive, self.use_dfa)
+        let texts = borrowed(alloc, self.patterns.as_slice())?;
+        match SubstringSet::new(alloc, texts.as_slice(), self.case_insensitive, self.use_dfa) {
+            Ok(set) => Ok(set),
+            Err(_) => Err(AllocError),
+        }
     }
 }
 

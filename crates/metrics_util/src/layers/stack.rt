@@ -30,7 +30,7 @@ impl<R: Recorder> Stack<R> {
         ensures refused { IfErr result (λ e. (e.0 ≡ unwrap_or (L.fault layer) Memory) × (e.1 ≡ self.inner)) }
     {
         match layer.layer(alloc, self.inner) {
-            Ok(inner) => Ok(Stack { inner }),
+            Ok(inner) => Ok(Stack::new(inner)),
             Err(refused) => Err(refused),
         }
     }
