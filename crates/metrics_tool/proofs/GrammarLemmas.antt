@@ -14,7 +14,7 @@ no_space line fails (Register kind key) s = fails (codes "register") (kind_word 
 no_space line fails (Change h by) s = fails (update_word by) (decimal h ++ 32 ∷ amount_word by) s.1
 no_space line fails (Take b) s = fails (codes "snapshot") (decimal b) s.1
 
--- the first word is an update's, or one of the others
+-- a line whose first word is none of the other three, and which spells no update
 pub no_update : (line word rest : List ℕ) → line ≡ word ++ 32 ∷ rest → Lacks 32 word → (word ≡ codes "describe" → ⊥) → (word ≡ codes "register" → ⊥) → (word ≡ codes "snapshot" → ⊥) →
     ((h : ℕ) (by : Update) → h < 2 ^ 64 → IsInRange by → word ≡ update_word by → rest ≡ decimal h ++ 32 ∷ amount_word by → ⊥) → IsBad line
 no_update line word rest whole before describes registers takes fails (Describe kind name unit text) s =
@@ -27,14 +27,14 @@ no_update line word rest whole before describes registers takes fails (Change h 
 no_update line word rest whole before describes registers takes fails (Take b) s =
     takes (first_same 32 line word rest (codes "snapshot") _ before (lacks_literal 32 (codes "snapshot") refl) whole s.1).0
 
--- the same of whatever was found for an update
+-- what was found as an update is found as a call
 pub update_line : (line word rest : List ℕ) (found : Option Call) → line ≡ word ++ 32 ∷ rest → Lacks 32 word → (word ≡ codes "describe" → ⊥) → (word ≡ codes "register" → ⊥) → (word ≡ codes "snapshot" → ⊥) →
     MatchOption found ((h : ℕ) (by : Update) → h < 2 ^ 64 → IsInRange by → word ≡ update_word by → rest ≡ decimal h ++ 32 ∷ amount_word by → ⊥) (Spells (word ++ 32 ∷ rest)) →
     MatchOption found (IsBad line) (Spells line)
 update_line line word rest None whole before describes registers takes h = no_update line word rest whole before describes registers takes h
 update_line line word rest (Some c) whole before describes registers takes h = subst (λ l. Spells l c) (sym whole) h
 
--- the amount is none of the word's
+-- the handle is read, and the amount is none of the word's updates
 pub no_amount : (bytes word : List ℕ) (handle : ℕ) (amount : List ℕ) → handle < 2 ^ 64 → bytes ≡ decimal handle ++ 32 ∷ amount →
     ((by : Update) → IsInRange by → word ≡ update_word by → amount ≡ amount_word by → ⊥) →
     (h : ℕ) (by : Update) → h < 2 ^ 64 → IsInRange by → word ≡ update_word by → bytes ≡ decimal h ++ 32 ∷ amount_word by → ⊥

@@ -61,7 +61,7 @@ pub fn name_of(word: &[u8]) -> Option<&str>
     }
 }
 
-/// A kind.
+/// The kind that a word names.
 pub fn kind_of(word: &[u8]) -> Option<MetricKind>
     ensures { MatchOption result ((kind : MetricKind) → word.now ≡ kind_word kind → ⊥) (λ kind. word.now ≡ kind_word kind) }
 {
@@ -115,7 +115,7 @@ pub fn number_of(digits: &[u8]) -> Option<u64>
     }
 }
 
-/// A number from -2^63 up and below 2^63 as it is printed, and nothing else.
+/// A number from -2^63 to 2^63 - 1 as it is printed, and nothing else.
 pub fn signed_number_of(word: &[u8]) -> Option<i64>
     ensures { MatchOption result ((n : ℤ) → FitsSigned w64 n → word.now ≡ signed_decimal n → ⊥) (λ n. word.now ≡ signed_decimal n) }
 {
