@@ -9,9 +9,11 @@ use Rattle.metrics.specs.declared.kind.MetricKind.{MetricKind}
 use Rattle.metrics.specs.declared.kind.MetricKind.TheVariants.{Counter, Gauge, Histogram}
 use Rattle.metrics.specs.declared.common.Unit.{Unit as Measure}
 use Rattle.metrics.specs.declared.common.Unit.TheVariants.{Count, Percent, Seconds, Milliseconds, Microseconds, Nanoseconds, Bytes}
+use Rattle.metrics.specs.declared.handles.Update.{Update}
+use Rattle.metrics.specs.declared.handles.Update.TheVariants.{Increment, Absolute, Add, Subtract, Set, Record}
 use Rattle.metrics.specs.Names.{KeyParts}
 use Rattle.metrics_tool.specs.Lines.{Lacks, StartsAt}
-use Rattle.metrics_tool.specs.Grammar.{kind_word, unit_word, name_word, label_word, label_words, IsNamedKind, IsName, IsLabel, AreLabels}
+use Rattle.metrics_tool.specs.Grammar.{kind_word, unit_word, name_word, label_word, label_words, update_word, IsName, IsLabel, AreLabels}
 
 -- ---- cuts
 
@@ -71,7 +73,7 @@ lacks_tested : (c : ℕ) (xs : List ℕ) → lacks_test c xs ≡ true → LacksB
 lacks_tested c [] h = tt
 lacks_tested c (x ∷ xs) h = let both = not_equal x c (lacks_test c xs) h in (both.0, lacks_tested c xs both.1)
 
-lacks_literal : (c : ℕ) (xs : List ℕ) → lacks_test c xs ≡ true → Lacks c xs
+pub lacks_literal : (c : ℕ) (xs : List ℕ) → lacks_test c xs ≡ true → Lacks c xs
 lacks_literal c xs h = All-from_recursion _ xs (lacks_tested c xs h)
 
 pub lacks_kind : (k : MetricKind) → Lacks 32 (kind_word k)
@@ -88,6 +90,14 @@ lacks_unit (Some Milliseconds) = lacks_literal 32 (unit_word (Some Milliseconds)
 lacks_unit (Some Microseconds) = lacks_literal 32 (unit_word (Some Microseconds)) refl
 lacks_unit (Some Nanoseconds) = lacks_literal 32 (unit_word (Some Nanoseconds)) refl
 lacks_unit (Some Bytes) = lacks_literal 32 (unit_word (Some Bytes)) refl
+
+pub lacks_update : (by : Update) → Lacks 32 (update_word by)
+lacks_update (Increment n) = lacks_literal 32 (update_word (Increment n)) refl
+lacks_update (Absolute n) = lacks_literal 32 (update_word (Absolute n)) refl
+lacks_update (Add n) = lacks_literal 32 (update_word (Add n)) refl
+lacks_update (Subtract n) = lacks_literal 32 (update_word (Subtract n)) refl
+lacks_update (Set n) = lacks_literal 32 (update_word (Set n)) refl
+lacks_update (Record n) = lacks_literal 32 (update_word (Record n)) refl
 
 pub lacks_name : (n : List ℕ) → IsName n → Lacks 32 (name_word n)
 lacks_name [] h = lacks_literal 32 (name_word []) refl
@@ -207,8 +217,8 @@ module _ (bytes word rest : List ℕ) (whole : bytes ≡ word ++ 32 ∷ rest) (b
   pub no_handle : ((n : ℕ) → n < 2 ^ 64 → word ≡ decimal n → ⊥) → (h : ℕ) (others : List ℕ) → h < 2 ^ 64 → bytes ≡ decimal h ++ 32 ∷ others → ⊥
   no_handle fails h others lt e = fails h lt (first_same 32 bytes word rest (decimal h) others before (lacks_decimal h lt) whole e).0
 
-  pub no_kind : ((k : MetricKind) → IsNamedKind k → word ≡ kind_word k → ⊥) → (k : MetricKind) (others : List ℕ) → IsNamedKind k → bytes ≡ kind_word k ++ 32 ∷ others → ⊥
-  no_kind fails k others named e = fails k named (first_same 32 bytes word rest (kind_word k) others before (lacks_kind k) whole e).0
+  pub no_kind : ((k : MetricKind) → word ≡ kind_word k → ⊥) → (k : MetricKind) (others : List ℕ) → bytes ≡ kind_word k ++ 32 ∷ others → ⊥
+  no_kind fails k others e = fails k (first_same 32 bytes word rest (kind_word k) others before (lacks_kind k) whole e).0
 
   pub no_unit : ((u : Option Measure) → word ≡ unit_word u → ⊥) → (u : Option Measure) (text : List ℕ) → bytes ≡ unit_word u ++ 32 ∷ text → ⊥
   no_unit fails u text e = fails u (first_same 32 bytes word rest (unit_word u) text before (lacks_unit u) whole e).0

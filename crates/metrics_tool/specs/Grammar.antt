@@ -1,5 +1,6 @@
--- The call lines: what each spells. A line more is a case more of `spelling` and of `CanBeSpelled`.
-use Rattle.std.specs.Prelude.{◌≡◌, ◌≢◌, ℕ, ◌<◌, ◌^◌, List, [], ◌∷◌, ◌++◌, codes, decimal, IsUtf8, flat_map, Option, None, Some}
+-- The call lines: what each spells.
+use Rattle.std.specs.Prelude.{◌≡◌, ◌≢◌, ℕ, ◌<◌, ◌^◌, List, [], ◌∷◌, ◌++◌, codes, decimal, IsUtf8, FitsSigned, flat_map, Option, None, Some}
+use Rattle.std.specs.Int.{w64}
 use Rattle.std.specs.Fmt.{signed_decimal}
 use Rattle.metrics.specs.declared.kind.MetricKind.{MetricKind}
 use Rattle.metrics.specs.declared.kind.MetricKind.TheVariants.{Counter, Gauge, Histogram}
@@ -67,12 +68,6 @@ spelling (Register kind key) = codes "register " ++ (kind_word kind ++ 32 ∷ (n
 spelling (Change h u) = update_word u ++ 32 ∷ (decimal h ++ 32 ∷ amount_word u)
 spelling (Take b) = codes "snapshot " ++ decimal b
 
--- the kinds that a line can name
-abbrev pub IsNamedKind : MetricKind → Type 0
-IsNamedKind Counter = Unit {0}
-IsNamedKind Gauge = ⊥
-IsNamedKind Histogram = ⊥
-
 -- a text in one word, save for the dash
 abbrev pub IsName : List ℕ → Type 0
 IsName name = IsUtf8 name × Lacks 32 name × (name ≢ codes "-")
@@ -85,19 +80,20 @@ abbrev pub AreLabels : List (List ℕ × List ℕ) → Type 0
 AreLabels [] = Unit {0}
 AreLabels (l ∷ ls) = IsLabel l × AreLabels ls
 
-abbrev pub IsNamedUpdate : Update → Type 0
-IsNamedUpdate (Increment n) = n < 2 ^ 64
-IsNamedUpdate (Absolute n) = ⊥
-IsNamedUpdate (Add n) = ⊥
-IsNamedUpdate (Subtract n) = ⊥
-IsNamedUpdate (Set n) = ⊥
-IsNamedUpdate (Record n) = ⊥
+-- the amount is a u64 for a counter, and an i64 for a gauge or a sample
+abbrev pub IsInRange : Update → Type 0
+IsInRange (Increment n) = n < 2 ^ 64
+IsInRange (Absolute n) = n < 2 ^ 64
+IsInRange (Add n) = FitsSigned w64 n
+IsInRange (Subtract n) = FitsSigned w64 n
+IsInRange (Set n) = FitsSigned w64 n
+IsInRange (Record n) = FitsSigned w64 n
 
 -- the calls that have a line
 abbrev pub CanBeSpelled : Call → Type 0
-CanBeSpelled (Describe kind name unit text) = IsNamedKind kind × IsName name × IsUtf8 text
-CanBeSpelled (Register kind key) = IsNamedKind kind × IsName key.name × AreLabels key.labels
-CanBeSpelled (Change h u) = (h < 2 ^ 64) × IsNamedUpdate u
+CanBeSpelled (Describe kind name unit text) = IsName name × IsUtf8 text
+CanBeSpelled (Register kind key) = IsName key.name × AreLabels key.labels
+CanBeSpelled (Change h u) = (h < 2 ^ 64) × IsInRange u
 CanBeSpelled (Take b) = b < 2 ^ 64
 
 -- the line spells the call

@@ -3,12 +3,15 @@ ghost use Rattle.std.specs.Prelude.{◌≡◌, ◌≢◌, ℕ, List, [], ◌∷�
 ghost use Rattle.metrics.specs.declared.kind.MetricKind.{MetricKind};
 ghost use Rattle.metrics.specs.declared.refused.Refused.TheVariants.{Memory};
 ghost use Rattle.metrics.specs.declared.common.Unit.{Unit as Measure};
+ghost use Rattle.metrics.specs.declared.handles.Update.{Update as Change};
 ghost use Rattle.metrics.specs.Names.{KeyParts};
 ghost use Rattle.metrics_tool.specs.Lines.{Lacks, StartsAt};
-ghost use Rattle.metrics_tool.specs.Grammar.{kind_word, unit_word, name_word, label_word, label_words, IsNamedKind, IsName, IsLabel, AreLabels, Spells, IsBad};
+ghost use Rattle.metrics_tool.specs.Grammar.{kind_word, unit_word, name_word, label_word, label_words, update_word, amount_word, IsName, IsLabel, AreLabels, IsInRange, Spells, IsBad};
 
-use crate::words::{behind, kind_of, name_of, number_of, split_at_first, split_before, unit_of};
-use metrics::{Call, Key, KeyName, Label, MetricKind, Refused, Text, Unit, Update};
+use crate::words::{
+    behind, kind_of, name_of, number_of, split_at_first, split_before, unit_of, update_of,
+};
+use metrics::{Call, Key, KeyName, Label, MetricKind, Refused, Text, Unit};
 use std::alloc::Global;
 
 /// Unit and text of a describe line.
@@ -42,8 +45,8 @@ fn described(bytes: &[u8]) -> Option<(&str, Option<Unit>, &str)>
 /// The kind of a line, and what stands behind it.
 fn kind_and_rest(bytes: &[u8]) -> Option<(MetricKind, &[u8])>
     ensures { MatchOption result
-        ((kind : MetricKind) (rest : List ℕ) → IsNamedKind kind → bytes.now ≡ kind_word kind ++ 32 ∷ rest → ⊥)
-        (λ found. IsNamedKind found.0 × (bytes.now ≡ kind_word found.0 ++ 32 ∷ found.1.now)) }
+        ((kind : MetricKind) (rest : List ℕ) → bytes.now ≡ kind_word kind ++ 32 ∷ rest → ⊥)
+        (λ found. bytes.now ≡ kind_word found.0 ++ 32 ∷ found.1.now) }
 {
     let (word, rest) = split_at_first(bytes, b' ')?;
     let kind = kind_of(word)?;
@@ -146,13 +149,15 @@ fn handle_and_rest(bytes: &[u8]) -> Option<(u64, &[u8])>
     Some((handle, rest))
 }
 
-/// The call of an increment line, from the bytes behind its first word.
-fn increment_of(bytes: &[u8]) -> Option<Call>
-    ensures { MatchOption result (IsBad (codes "increment " ++ bytes.now)) (Spells (codes "increment " ++ bytes.now)) }
+/// The call of an update line, from its first word and the bytes behind it.
+fn update_call_of(word: &[u8], bytes: &[u8]) -> Option<Call>
+    ensures { MatchOption result
+        ((h : ℕ) (by : Change) → h < 2 ^ 64 → IsInRange by → word.now ≡ update_word by → bytes.now ≡ decimal h ++ 32 ∷ amount_word by → ⊥)
+        (Spells (word.now ++ 32 ∷ bytes.now)) }
 {
-    let (handle, rest) = handle_and_rest(bytes)?;
-    let amount = number_of(rest)?;
-    Some(Call::Update(handle as usize, Update::Increment(amount)))
+    let (handle, amount) = handle_and_rest(bytes)?;
+    let by = update_of(word, amount)?;
+    Some(Call::Update(handle as usize, by))
 }
 
 /// The call of a snapshot line, from the bytes behind its first word.
@@ -167,17 +172,17 @@ fn snapshot_of(bytes: &[u8]) -> Option<Call>
 pub fn call_of(alloc: Global, line: &[u8]) -> Result<Option<Call>, Refused>
     ensures { MatchResult result (λ found. MatchOption found (IsBad line.now) (Spells line.now)) (λ e. e ≡ Memory 0) }
 {
-    if let Some(rest) = behind(line, b"increment ") {
-        return Ok(increment_of(rest));
-    }
-    if let Some(rest) = behind(line, b"register ") {
-        return register_of(alloc, rest);
-    }
-    if let Some(rest) = behind(line, b"describe ") {
+    let Some((word, rest)) = split_at_first(line, b' ') else {
+        return Ok(None);
+    };
+    if word == b"describe".as_slice() {
         return describe_of(alloc, rest);
     }
-    if let Some(rest) = behind(line, b"snapshot ") {
+    if word == b"register".as_slice() {
+        return register_of(alloc, rest);
+    }
+    if word == b"snapshot".as_slice() {
         return Ok(snapshot_of(rest));
     }
-    Ok(None)
+    Ok(update_call_of(word, rest))
 }

@@ -1,13 +1,16 @@
-//! The words of a line: names, numbers, kinds and units.
-ghost use Rattle.std.specs.Prelude.{◌≡◌, ◌≢◌, ℕ, List, [], ◌∷◌, ◌++◌, ◌<◌, ◌^◌, IsUtf8, MatchOption, Option, Some, decimal};
+//! The words of a line: names, numbers, kinds, units and updates.
+ghost use Rattle.std.specs.Prelude.{◌≡◌, ◌≢◌, ℕ, List, [], ◌∷◌, ◌++◌, ◌<◌, ◌^◌, ℤ, FitsSigned, IsUtf8, MatchOption, Option, Some, decimal};
+ghost use Rattle.std.specs.Int.{w64};
+ghost use Rattle.std.specs.Fmt.{signed_decimal};
 ghost use Rattle.metrics.specs.declared.kind.MetricKind.{MetricKind};
 ghost use Rattle.metrics.specs.declared.common.Unit.{Unit as Measure};
+ghost use Rattle.metrics.specs.declared.handles.Update.{Update as Change};
 ghost use Rattle.metrics_tool.specs.Lines.{Lacks, StartsAt};
-ghost use Rattle.metrics_tool.specs.Grammar.{kind_word, unit_word, name_word, IsNamedKind, IsName};
+ghost use Rattle.metrics_tool.specs.Grammar.{kind_word, unit_word, name_word, update_word, amount_word, IsName, IsInRange};
 
 use crate::stream::place_of;
 use itoa::Buffer;
-use metrics::{MetricKind, Unit};
+use metrics::{MetricKind, Unit, Update};
 
 /// What stands behind the front, if that is the line's.
 pub fn behind<'a>(line: &'a [u8], front: &[u8]) -> Option<&'a [u8]>
@@ -58,15 +61,16 @@ pub fn name_of(word: &[u8]) -> Option<&str>
     }
 }
 
-/// A kind that a line can name.
+/// The kind that a word names.
 pub fn kind_of(word: &[u8]) -> Option<MetricKind>
-    ensures { MatchOption result ((kind : MetricKind) → IsNamedKind kind → word.now ≡ kind_word kind → ⊥)
-        (λ kind. IsNamedKind kind × (word.now ≡ kind_word kind)) }
+    ensures { MatchOption result ((kind : MetricKind) → word.now ≡ kind_word kind → ⊥) (λ kind. word.now ≡ kind_word kind) }
 {
-    if word == b"counter".as_slice() {
-        return Some(MetricKind::Counter);
+    match word {
+        b"counter" => Some(MetricKind::Counter),
+        b"gauge" => Some(MetricKind::Gauge),
+        b"histogram" => Some(MetricKind::Histogram),
+        _ => None,
     }
-    None
 }
 
 /// A unit, or a dash for none.
@@ -108,5 +112,42 @@ pub fn number_of(digits: &[u8]) -> Option<u64>
             }
         }
         Err(_) => None,
+    }
+}
+
+/// A number from -2^63 to 2^63 - 1 as it is printed, and nothing else.
+pub fn signed_number_of(word: &[u8]) -> Option<i64>
+    ensures { MatchOption result ((n : ℤ) → FitsSigned w64 n → word.now ≡ signed_decimal n → ⊥) (λ n. word.now ≡ signed_decimal n) }
+{
+    let Ok(text) = str::from_utf8(word) else {
+        return None;
+    };
+    match text.parse::<i64>() {
+        Ok(amount) => {
+            let mut buffer = Buffer::new();
+            if buffer.format(amount) == text {
+                Some(amount)
+            } else {
+                None
+            }
+        }
+        Err(_) => None,
+    }
+}
+
+/// The update that a line's first word names, by the amount in the last one.
+pub fn update_of(word: &[u8], amount: &[u8]) -> Option<Update>
+    ensures { MatchOption result
+        ((by : Change) → IsInRange by → word.now ≡ update_word by → amount.now ≡ amount_word by → ⊥)
+        (λ by. IsInRange by × (word.now ≡ update_word by) × (amount.now ≡ amount_word by)) }
+{
+    match word {
+        b"increment" => Some(Update::Increment(number_of(amount)?)),
+        b"absolute" => Some(Update::Absolute(number_of(amount)?)),
+        b"add" => Some(Update::Add(signed_number_of(amount)?)),
+        b"sub" => Some(Update::Subtract(signed_number_of(amount)?)),
+        b"set" => Some(Update::Set(signed_number_of(amount)?)),
+        b"record" => Some(Update::Record(signed_number_of(amount)?)),
+        _ => None,
     }
 }

@@ -1,6 +1,7 @@
 use super::*;
 use std::io;
 use std::io::{BufReader, ErrorKind, Read};
+use std::process::Abort;
 use std::test::Fail;
 
 const FIRST: &[u8] =
@@ -12,6 +13,24 @@ const FIRST_TEXT: &[u8] =
 const SECOND: &[u8] = b"book\nend\nincrement 0 1\njump\n";
 
 const SECOND_TEXT: &[u8] = b"refused E18 bad handle\n";
+
+// Calls of every kind.
+const KINDS: &[u8] =
+    b"book\nend\ndescribe gauge level bytes how full\ndescribe histogram wait - how long\ndescribe counter hits count all hits\nregister counter hits host=a\nregister gauge level host=a zone=\nregister histogram wait host=a\nregister gauge -\nregister histogram - =x\nincrement 0 5\nabsolute 0 7\nabsolute 0 5\nadd 1 9\nsub 1 12\nset 3 -9223372036854775808\nrecord 2 3\nrecord 2 -40\nrecord 2 0\nsnapshot 0\nsnapshot 0\n";
+
+const KINDS_TEXT: &[u8] =
+    b"described 1\ndescribed 1\ndescribed 1\nregistered 0 1\nregistered 1 1\nregistered 2 1\nregistered 3 1\nregistered 4 1\nupdated 1\nupdated 1\nupdated 1\nupdated 1\nupdated 1\nupdated 1\nupdated 1\nupdated 1\nupdated 1\nsnapshot 0 5\ncounter hits host=a unit count value 7 text all hits\ngauge level host=a zone= unit bytes value -3 text how full\nhistogram wait host=a unit - value [3,-40,0] text how long\ngauge - unit - value -9223372036854775808\nhistogram - =x unit - value []\nsnapshot 0 5\ncounter hits host=a unit count value 0 text all hits\ngauge level host=a zone= unit bytes value 0 text how full\nhistogram wait host=a unit - value [] text how long\ngauge - unit - value 0\nhistogram - =x unit - value []\n";
+
+// Each handle with the updates of the other kinds, and handles that nothing gave.
+const MIXED: &[u8] =
+    b"book\nend\nregister counter c\nregister gauge g\nregister histogram h\nadd 0 1\nsub 0 1\nset 0 1\nrecord 0 1\nincrement 1 1\nabsolute 1 1\nrecord 1 1\nincrement 2 1\nabsolute 2 1\nadd 2 1\nsub 2 1\nset 2 1\nset 3 1\nrecord 18446744073709551615 1\nsnapshot 0\n";
+
+const MIXED_TEXT: &[u8] =
+    b"registered 0 1\nregistered 1 1\nregistered 2 1\nrefused E18 bad handle\nrefused E18 bad handle\nrefused E18 bad handle\nrefused E18 bad handle\nrefused E18 bad handle\nrefused E18 bad handle\nrefused E18 bad handle\nrefused E18 bad handle\nrefused E18 bad handle\nrefused E18 bad handle\nrefused E18 bad handle\nrefused E18 bad handle\nrefused E18 bad handle\nrefused E18 bad handle\nsnapshot 0 3\ncounter c unit - value 0\ngauge g unit - value 0\nhistogram h unit - value []\n";
+
+// The sample 64 stands in a bucket of its own, which is the newest.
+const SAMPLES: &str =
+    "64,0,1,2,3,4,5,6,7,8,9,10,11,12,13,14,15,16,17,18,19,20,21,22,23,24,25,26,27,28,29,30,31,32,33,34,35,36,37,38,39,40,41,42,43,44,45,46,47,48,49,50,51,52,53,54,55,56,57,58,59,60,61,62,63";
 
 // Gives at most `most` bytes a read, and fails at the read before which `left` is 0.
 #[derive(Drop)]
@@ -91,6 +110,29 @@ fn told(
     Ok((held, status))
 }
 
+// The line is a bad one, and nothing behind it is answered.
+fn is_bad(rt: &impl Abort, alloc: Global, line: &[u8]) -> Result<(), Fail> {
+    let mut text = Vec::from_slice(alloc, b"book\nend\nregister counter x\n")?;
+    text.extend_from_slice(line)?;
+    text.extend_from_slice(b"\nsnapshot 0\n")?;
+    let mut output = writer(alloc, 1000, 1000, true);
+    let (errors, status) = told(alloc, &text, 1000, &mut output)?;
+    assert_eq!(rt; output.held.as_slice(), b"registered 0 1\n".as_slice());
+    assert_eq!(rt; errors.as_slice(), b"line 4: bad line\n".as_slice());
+    assert_eq!(rt; status, 2);
+    Ok(())
+}
+
+// A good run over the text writes what is wanted.
+fn is_answered(rt: &impl Abort, alloc: Global, text: &[u8], want: &[u8]) -> Result<(), Fail> {
+    let mut output = writer(alloc, 1000, 1000, true);
+    let (errors, status) = told(alloc, text, 100000, &mut output)?;
+    assert_eq!(rt; output.held.as_slice(), want);
+    assert_eq!(rt; errors.as_slice(), b"".as_slice());
+    assert_eq!(rt; status, 0);
+    Ok(())
+}
+
 #[test]
 fn answers_each_line(rt: HostRuntime) -> Result<(), Fail> {
     for most in [1, 2, 1000] {
@@ -123,18 +165,74 @@ fn last_line_without_feed(rt: HostRuntime) -> Result<(), Fail> {
         ),
     ];
     for (text, want) in cases {
-        let mut output = writer(rt.alloc(), 1000, 1000, true);
-        let (errors, status) = told(rt.alloc(), text, 1000, &mut output)?;
-        assert_eq!(rt; output.held.as_slice(), want);
-        assert_eq!(rt; errors.as_slice(), b"".as_slice());
-        assert_eq!(rt; status, 0);
+        is_answered(&rt, rt.alloc(), text, want)?;
     }
     Ok(())
 }
 
 #[test]
+fn lines_of_each_kind(rt: HostRuntime) -> Result<(), Fail> {
+    is_answered(&rt, rt.alloc(), KINDS, KINDS_TEXT)
+}
+
+#[test]
+fn gauges_stop_at_the_ends(rt: HostRuntime) -> Result<(), Fail> {
+    let cases: [(&[u8], &[u8]); 6] = [
+        (
+            b"book\nend\nregister gauge g\nset 0 9223372036854775807\nadd 0 1\nsnapshot 0\n",
+            b"registered 0 1\nupdated 1\nupdated 1\nsnapshot 0 1\ngauge g unit - value 9223372036854775807\n",
+        ),
+        (
+            b"book\nend\nregister gauge g\nset 0 -9223372036854775808\nsub 0 1\nsnapshot 0\n",
+            b"registered 0 1\nupdated 1\nupdated 1\nsnapshot 0 1\ngauge g unit - value -9223372036854775808\n",
+        ),
+        (
+            b"book\nend\nregister gauge g\nset 0 -9223372036854775808\nadd 0 -1\nsnapshot 0\n",
+            b"registered 0 1\nupdated 1\nupdated 1\nsnapshot 0 1\ngauge g unit - value -9223372036854775808\n",
+        ),
+        (
+            b"book\nend\nregister gauge g\nset 0 -1\nsub 0 -9223372036854775808\nsnapshot 0\n",
+            b"registered 0 1\nupdated 1\nupdated 1\nsnapshot 0 1\ngauge g unit - value 9223372036854775807\n",
+        ),
+        (
+            b"book\nend\nregister gauge g\nsub 0 -9223372036854775808\nsnapshot 0\n",
+            b"registered 0 1\nupdated 1\nsnapshot 0 1\ngauge g unit - value 9223372036854775807\n",
+        ),
+        (
+            b"book\nend\nregister gauge g\nsub 0 9223372036854775807\nadd 0 9223372036854775807\nadd 0 -10\nsnapshot 0\n",
+            b"registered 0 1\nupdated 1\nupdated 1\nupdated 1\nsnapshot 0 1\ngauge g unit - value -10\n",
+        ),
+    ];
+    for (text, want) in cases {
+        is_answered(&rt, rt.alloc(), text, want)?;
+    }
+    Ok(())
+}
+
+#[test]
+fn updates_of_another_kind(rt: HostRuntime) -> Result<(), Fail> {
+    is_answered(&rt, rt.alloc(), MIXED, MIXED_TEXT)
+}
+
+#[test]
+fn samples_stand_in_bucket_order(rt: HostRuntime) -> Result<(), Fail> {
+    let alloc = rt.alloc();
+    let mut text = String::from_str(alloc, "book\nend\nregister histogram h\n")?;
+    let mut want = String::from_str(alloc, "registered 0 1\n")?;
+    for n in 0..65 {
+        write!(text, "record 0 {n}\n")?;
+        want.push_str("updated 1\n")?;
+    }
+    text.push_str("snapshot 0\n")?;
+    want.push_str("snapshot 0 1\nhistogram h unit - value [")?;
+    want.push_str(SAMPLES)?;
+    want.push_str("]\n")?;
+    is_answered(&rt, alloc, text.as_bytes(), want.as_bytes())
+}
+
+#[test]
 fn bad_call_lines(rt: HostRuntime) -> Result<(), Fail> {
-    let bad: [&[u8]; 44] = [
+    let bad: [&[u8]; 55] = [
         b"",
         b"jump",
         b" snapshot 0",
@@ -165,7 +263,12 @@ fn bad_call_lines(rt: HostRuntime) -> Result<(), Fail> {
         b"increment 18446744073709551616 0",
         b"register counter",
         b"register counter ",
-        b"register gauge x",
+        b"register Gauge x",
+        b"register gauges x",
+        b"register gaug x",
+        b"register  gauge x",
+        b"register timer x",
+        b"register histogram",
         b"register counter x ",
         b"register counter x  a=b",
         b"register counter x a",
@@ -179,16 +282,54 @@ fn bad_call_lines(rt: HostRuntime) -> Result<(), Fail> {
         b"describe counter x  text",
         b"describe counter x count \xff",
         b"describe counters x count text",
+        b"describe timer x - t",
+        b"describe gauge x",
+        b"describe histogram x sec t",
+        b"absolute 0 -1",
+        b"absolute 0 01",
+        b"absolute 0 18446744073709551616",
     ];
     for line in bad {
-        let mut text = Vec::from_slice(rt.alloc(), b"book\nend\nregister counter x\n")?;
-        text.extend_from_slice(line)?;
-        text.extend_from_slice(b"\nsnapshot 0\n")?;
-        let mut output = writer(rt.alloc(), 1000, 1000, true);
-        let (errors, status) = told(rt.alloc(), &text, 1000, &mut output)?;
-        assert_eq!(rt; output.held.as_slice(), b"registered 0 1\n".as_slice());
-        assert_eq!(rt; errors.as_slice(), b"line 4: bad line\n".as_slice());
-        assert_eq!(rt; status, 2);
+        is_bad(&rt, rt.alloc(), line)?;
+    }
+    Ok(())
+}
+
+#[test]
+fn bad_signed_lines(rt: HostRuntime) -> Result<(), Fail> {
+    let bad: [&[u8]; 29] = [
+        b"add",
+        b"add 0",
+        b"add 0 ",
+        b"add  0 1",
+        b"add 0 01",
+        b"add 0 +1",
+        b"add 0 -0",
+        b"add 0 -",
+        b"add 0 --1",
+        b"add 0 -01",
+        b"add 0 - 1",
+        b"add 0 1.5",
+        b"add 0 \xff",
+        b"add 0 9223372036854775808",
+        b"add -1 0",
+        b"add 18446744073709551616 0",
+        b"Add 0 1",
+        b"adds 0 1",
+        b"sub 0",
+        b"sub 0 -9223372036854775809",
+        b"sub 0 -00",
+        b"subtract 0 1",
+        b"set 0 1 ",
+        b"set 0 1 2",
+        b"se 0 1",
+        b"record 0 ",
+        b"record 0 -9223372036854775809",
+        b"record 0 1,2",
+        b"records 0 1",
+    ];
+    for line in bad {
+        is_bad(&rt, rt.alloc(), line)?;
     }
     Ok(())
 }
