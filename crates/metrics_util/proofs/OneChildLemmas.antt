@@ -183,3 +183,7 @@ module _ (c : Choice) (all : List Meaning) (book : ℕ) (past : total (map books
 
   pub snapshots-none : Snapshots whole whole book (Err NoSuchBook)
   snapshots-none = (no-more, refl)
+
+-- a place is in one of the children
+pub place-within : {Y : Type 0} (M : Y → Meaning) (ys : List Y) (book : ℕ) (p : ℕ × ℕ) → IsPlace (map books_of (map M ys)) book p → p.0 < length ys
+place-within M ys book p h = let l = length-map books_of (map M ys) in let k = length-map M ys in omega (arith, h.recorder, l, k)

@@ -45,7 +45,7 @@ impl<B: Recorder> Node<B> {
             Node::Noop => 0,
             Node::Prefixed(_, inner) => inner.books(),
             Node::Filtered(_, inner) => inner.books(),
-            Node::Several(_, ends, _) => all_books(ends),
+            Node::Several(_children, ends, _choice) => all_books(ends),
         }
     }
 
@@ -159,7 +159,7 @@ impl<B: Recorder> Node<B> {
             Node::Noop => false,
             Node::Prefixed(_, inner) => inner.holds(kind, at),
             Node::Filtered(_, inner) => inner.holds(kind, at),
-            Node::Several(children, ends, _) => match place_of(ends, at.book) {
+            Node::Several(children, ends, _choice) => match place_of(ends, at.book) {
                 None => false,
                 Some((number, book)) => children[number].holds(
                     kind,
@@ -184,7 +184,7 @@ impl<B: Recorder> Node<B> {
             Node::Noop => Err(Refused::NoSuchAddress),
             Node::Prefixed(_, inner) => inner.update(at, by),
             Node::Filtered(_, inner) => inner.update(at, by),
-            Node::Several(children, ends, _) => match place_of(ends, at.book) {
+            Node::Several(children, ends, _choice) => match place_of(ends, at.book) {
                 None => Err(Refused::NoSuchAddress),
                 Some((number, book)) => children[number].update(
                     Address {
@@ -209,7 +209,7 @@ impl<B: Recorder> Node<B> {
             Node::Noop => Err(Refused::NoSuchBook),
             Node::Prefixed(_, inner) => inner.snapshot(alloc, book),
             Node::Filtered(_, inner) => inner.snapshot(alloc, book),
-            Node::Several(children, ends, _) => match place_of(ends, book) {
+            Node::Several(children, ends, _choice) => match place_of(ends, book) {
                 None => Err(Refused::NoSuchBook),
                 Some((number, there)) => children[number].snapshot(alloc, there),
             },
