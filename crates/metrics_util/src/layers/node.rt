@@ -6,7 +6,7 @@ ghost use Rattle.metrics_util.specs.Nodes.{node_meaning, recorder_of, IsSound};
 
 use crate::layers::choice::Choice;
 use crate::layers::filter::is_refused;
-use crate::layers::place::{all_books, append_raised, books_before, place_of, raise};
+use crate::layers::place::{all_books, append_answer, books_before, place_of, raise_answer};
 use crate::layers::prefix::dotted_name;
 use metrics::{Address, Key, KeyName, MetricKind, Recorder, Refused, Snapshot, Text, Unit, Update};
 use prefix_match::SubstringSet;
@@ -127,23 +127,20 @@ impl<B: Recorder> Node<B> {
                 Choice::All => {
                     let mut found = Vec::new(alloc);
                     for i in 0..children.len() {
-                        let there = match children[i].register(alloc, kind, key) {
-                            Ok(there) => there,
-                            Err(refused) => return Err(refused.after(found.len())),
-                        };
-                        let acted = found.len() + there.len();
-                        match append_raised(&mut found, books_before(ends, i), &there) {
+                        let front = books_before(ends, i);
+                        let answer = children[i].register(alloc, kind, key);
+                        match append_answer(&mut found, front, answer) {
                             Ok(()) => {}
-                            Err(_) => return Err(Refused::Memory { acted }),
+                            Err(refused) => return Err(refused),
                         }
                     }
                     Ok(found)
                 }
                 Choice::Winner(routes) => {
                     let number = recorder_of_target(routes.target(kind, key.name()));
-                    let mut found = children[number].register(alloc, kind, key)?;
-                    raise(&mut found, books_before(ends, number));
-                    Ok(found)
+                    let front = books_before(ends, number);
+                    let answer = children[number].register(alloc, kind, key);
+                    raise_answer(front, answer)
                 }
             },
         }

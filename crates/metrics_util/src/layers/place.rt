@@ -1,8 +1,9 @@
 //! Where the books of several recorders stand.
 ghost use Rattle.std.specs.Prelude.{◌≡◌, ◌≤◌, ◌<◌, ◌++◌, ℕ, List, All, length, take, MatchOption, OnOk};
-ghost use Rattle.metrics_util.specs.Places.{ends_from, total, IsPlace, raised};
+ghost use Rattle.std.specs.Result.{result_map_both};
+ghost use Rattle.metrics_util.specs.Places.{ends_from, total, IsPlace, raised, IsRaised, IsAppended, CanRaise, CanAppend};
 
-use metrics::Address;
+use metrics::{Address, Refused};
 use std::alloc::AllocError;
 
 /// The number of books of all recorders. `ends` has the number of books up to the end of each.
@@ -36,7 +37,7 @@ pub(crate) fn place_of(ends: &[usize], book: usize) -> Option<(usize, usize)>
 }
 
 /// Adds the addresses of a recorder that stands behind `front` books.
-pub(crate) fn append_raised(
+fn append_raised(
     found: &mut Vec<Address>,
     front: usize,
     there: &[Address],
@@ -55,7 +56,7 @@ pub(crate) fn append_raised(
 }
 
 /// Raises the addresses of a recorder that stands behind `front` books.
-pub(crate) fn raise(found: &mut [Address], front: usize)
+fn raise(found: &mut [Address], front: usize)
     requires front { front ≤ 65536 }
     requires below { All (λ a. a.book < 65536) found.old }
     ensures { found.new ≡ raised front found.old }
@@ -63,4 +64,37 @@ pub(crate) fn raise(found: &mut [Address], front: usize)
     for at in found {
         at.book += front;
     }
+}
+
+/// Adds what a register call of a recorder behind `front` books answered to what those before it did.
+pub(crate) fn append_answer(
+    found: &mut Vec<Address>,
+    front: usize,
+    answer: Result<Vec<Address>, Refused>,
+) -> Result<(), Refused>
+    requires { CanAppend found.old.items front (result_map_both (λ v. v.items) (λ e. e) answer) }
+    ensures { IsAppended found.old.items found.new.items front (result_map_both (λ v. v.items) (λ e. e) answer) result }
+{
+    let there = match answer {
+        Ok(there) => there,
+        Err(refused) => return Err(refused.after(found.len())),
+    };
+    let acted = found.len() + there.len();
+    match append_raised(found, front, &there) {
+        Ok(()) => Ok(()),
+        Err(_) => Err(Refused::Memory { acted }),
+    }
+}
+
+/// Raises what a register call of a recorder behind `front` books answered.
+pub(crate) fn raise_answer(
+    front: usize,
+    answer: Result<Vec<Address>, Refused>,
+) -> Result<Vec<Address>, Refused>
+    requires { CanRaise front (result_map_both (λ v. v.items) (λ e. e) answer) }
+    ensures { IsRaised front (result_map_both (λ v. v.items) (λ e. e) answer) (result_map_both (λ v. v.items) (λ e. e) result) }
+{
+    let mut found = answer?;
+    raise(&mut found, front);
+    Ok(found)
 }

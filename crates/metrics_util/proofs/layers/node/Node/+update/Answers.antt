@@ -58,7 +58,7 @@ returns-in-None-clause-updates g t c =
     let past = c.in-None.ensures {u = tt} (map books_of (map M v.items)) ends in
     let is = meaning-is m v e ch c.args.self.now c.in-Several.is in
     let R : Meaning → Meaning → Type 0 = λ a b. Updates {A = Prim.Unit {0}} a b c.args.at c.args.by (Err NoSuchAddress) in
-    let none : R (M c.args.self.now) (M c.args.self.now) = subst (λ a. R a a) (sym is) (updates-none (Prim.Unit {0}) ch (map M v.items) c.args.at.book past c.args.at.series c.args.by) in
+    let none : R (M c.args.self.now) (M c.args.self.now) = subst (λ a. R a a) (sym is) (updates-none ch (map M v.items) c.args.at.book past (Prim.Unit {0}) c.args.at.series c.args.by) in
     let done : R (M c.args.self.now) (M (Several v e ch)) = subst (λ n. R (M c.args.self.now) (M n)) c.in-Several.is none in
     let both : (z : Vec (Node g.row.B.Denot) Global) (chosen : Choice) → z ≡ v → chosen ≡ ch → R (M c.args.self.now) (M (Several z e chosen)) =
         λ z chosen p q. subst (λ o. R (M c.args.self.now) (M (Several z e o))) (sym q) (subst (λ u. R (M c.args.self.now) (M (Several u e ch))) (sym p) done) in
