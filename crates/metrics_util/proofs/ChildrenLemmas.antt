@@ -6,13 +6,17 @@ use Rattle.std.proofs.lemmas.Grind.{take-set_at, drop-set_at}
 use Rattle.metrics.specs.declared.kind.MetricKind.{MetricKind}
 use Rattle.metrics.specs.Targets.{raise, act, at_book, AllBelow}
 use Rattle.metrics.specs.TargetsLaws.{act-append, length-act, length-raise, below_take, few}
-use Rattle.metrics.specs.Book.{Content}
-use Rattle.metrics.specs.Meaning.{Meaning, Keeps, Acts}
+use Rattle.metrics.specs.declared.handles.Address.{Address}
+use Rattle.metrics.specs.Book.{Content, register_in}
+use Rattle.std.specs.List.{All as Every}
+use Rattle.metrics.specs.Meaning.{Meaning, Keeps, Acts, Registers, addresses, key_there}
+use Rattle.metrics_util.specs.Places.{raised, IsAppended, CanAppend}
+use Rattle.metrics_util.specs.Nodes.{books_of}
 use Rattle.metrics.specs.Layers.{joined_all}
 use Rattle.metrics.specs.declared.refused.Refused.{Refused}
 use Rattle.metrics.specs.declared.refused.Refused.TheVariants.{Memory, NoSuchAddress, NoSuchBook, BadHandle}
 use Rattle.metrics.specs.Answering.{after_front, CanFollow}
-use Rattle.metrics_util.proofs.JoinedLemmas.{contents-append, targets-append, same_targets, acts_within, take_within}
+use Rattle.metrics_util.proofs.JoinedLemmas.{addresses-more, addresses-below, length-addresses, contents-append, targets-append, same_targets, acts_within, take_within}
 
 -- no name has more targets than there are books
 pub fits_in : (a : Meaning) (kind : MetricKind) (name : List ℕ) → length (a.targets kind name) ≤ length a.contents
@@ -201,12 +205,22 @@ module _ {Y : Type 0} (M : Y → Meaning) (kind : MetricKind) (name : List ℕ) 
             r ∙ ap (λ ts. act f ts (M x).contents) (sym (ap (λ k. take k ((M x).targets kind name)) n ∙ take-length ((M x).targets kind name))) in
         through_more M kind name f was now i acted a x y lt (sym at) keeps (omega (arith, n)) taken h n
 
+    pub ok_fits : (a : ℕ) → a ≡ length ((M x).targets kind name) → (M y).contents ≡ act f ((M x).targets kind name) (M x).contents → acted + a ≤ length (named M kind name f was)
+    ok_fits a n r =
+        let taken : (M y).contents ≡ act f (take a ((M x).targets kind name)) (M x).contents =
+            r ∙ ap (λ ts. act f ts (M x).contents) (sym (ap (λ k. take k ((M x).targets kind name)) n ∙ take-length ((M x).targets kind name))) in
+        few_then M kind name f was now i acted a x y lt (sym at) keeps (omega (arith, n)) taken h
+
     pub ok_few : (a : ℕ) → a ≡ length ((M x).targets kind name) → (M y).contents ≡ act f ((M x).targets kind name) (M x).contents →
         length (all_of M kind name f was).contents ≤ 65536 → acted + a ≤ 65536
     ok_few a n r le =
         let taken : (M y).contents ≡ act f (take a ((M x).targets kind name)) (M x).contents =
             r ∙ ap (λ ts. act f ts (M x).contents) (sym (ap (λ k. take k ((M x).targets kind name)) n ∙ take-length ((M x).targets kind name))) in
         omega (arith, few_then M kind name f was now i acted a x y lt (sym at) keeps (omega (arith, n)) taken h, le, fits_in (all_of M kind name f was) kind name)
+
+length-raised : (k : ℕ) (as' : List Address) → length (raised k as') ≡ length as'
+length-raised k [] = refl
+length-raised k (a ∷ as') = ap suc (length-raised k as')
 
 module _ {Y : Type 0} (M : Y → Meaning) where
   abbrev pub books_in : List Y → ℕ
@@ -226,3 +240,89 @@ module _ {Y : Type 0} (M : Y → Meaning) where
       let e : map M ys ≡ fs ++ M x ∷ rs = ap (map M) (split_at ys i x lt) ∙ ap (λ z. map M (take i ys ++ z ∷ drop (i + 1) ys)) (sym at) ∙ map_split M (take i ys) (drop (i + 1) ys) x in
       omega (arith, ap (λ (ms : List Meaning). length (joined_all ms).contents) e, ap length (contents-append fs (M x ∷ rs)),
           length-append (joined_all fs).contents ((M x).contents ++ (joined_all rs).contents), length-append (M x).contents (joined_all rs).contents)
+
+-- ---- a register call that goes from child to child
+
+module _ {Y : Type 0} (M : Y → Meaning) (kind : MetricKind) (name : List ℕ) (labels : List (List ℕ × List ℕ)) where
+  abbrev pub registers : List ℕ → Content → Content
+  registers there = register_in (key_there kind labels there)
+
+  abbrev of_all : List Y → Meaning
+  of_all ys = joined_all (map M ys)
+
+  -- the addresses in the children before the i-th
+  abbrev pub found_in : List Y → ℕ → List Address
+  found_in was i = addresses kind labels ((of_all (take i was)).targets kind name) (of_all was).contents
+
+  pub found-none : (was : List Y) → [] ≡ found_in was 0
+  found-none was = refl
+
+  length-found : (was : List Y) (i : ℕ) → length (found_in was i) ≡ length ((of_all (take i was)).targets kind name)
+  length-found was i = length-addresses kind labels ((of_all (take i was)).targets kind name) (of_all was).contents
+
+  module _ (was now : List Y) (i : ℕ) (found : List Address) (x y : Y) (lt : i < length now) (at : x ≡ get_or now i x) (lt' : i < length was) (at' : x ≡ get_or was i x)
+      (keeps : Keeps (M x) (M y)) (h : Through M kind name registers was now i (length found)) (is : found ≡ found_in was i) where
+    abbrev ahead : ℕ
+    ahead = books_in M (take i was)
+
+    pub found-more : (there : List Address) → there ≡ addresses kind labels ((M x).targets kind name) (M x).contents →
+        found ++ raised ahead there ≡ found_in was (i + 1)
+    found-more there t =
+        let fs = map M (take i was) in
+        let rs = map M (drop (i + 1) was) in
+        let whole : map M was ≡ fs ++ M x ∷ rs = ap (map M) (split_at was i x lt') ∙ ap (λ z. map M (take i was ++ z ∷ drop (i + 1) was)) (sym at') ∙ map_split M (take i was) (drop (i + 1) was) x in
+        let next : map M (take (i + 1) was) ≡ fs ++ M x ∷ [] =
+            ap (map M) (take_more was i x lt' ∙ ap (λ z. take i was ++ z ∷ []) (sym at')) ∙ map_split M (take i was) [] x in
+        ap (λ as'. as' ++ raised ahead there) is
+        ∙ ap (λ c. addresses kind labels ((of_all (take i was)).targets kind name) c ++ raised ahead there) (ap (λ ms. (joined_all ms).contents) whole)
+        ∙ ap (λ as'. addresses kind labels ((of_all (take i was)).targets kind name) (joined_all (fs ++ M x ∷ rs)).contents ++ raised ahead as') t
+        ∙ sym (addresses-more kind labels fs rs (M x) name)
+        ∙ ap (λ ms. addresses kind labels ((joined_all ms).targets kind name) (joined_all (fs ++ M x ∷ rs)).contents) (sym next)
+        ∙ ap (λ ms. addresses kind labels ((of_all (take (i + 1) was)).targets kind name) (joined_all ms).contents) (sym whole)
+
+    -- one child answered, and its addresses were appended
+    pub appended : {A : Type 0} (after : List Address) (r : Result (List Address) Refused) (done : A) → Registers (M x) (M y) kind (record { name = name; labels = labels }) r →
+        IsAppended {A = A} found after ahead r (Ok done) →
+        Through M kind name registers was (set now i y) (i + 1) (length after) × (after ≡ found_in was (i + 1))
+    appended after (Ok there) done g a =
+        let n : length there ≡ length ((M x).targets kind name) = ap length g.0 ∙ length-addresses kind labels ((M x).targets kind name) (M x).contents in
+        let l : length after ≡ length found + length there = ap length a ∙ length-append found (raised ahead there) ∙ ap (λ k. length found + k) (length-raised ahead there) in
+        (subst (λ k. Through M kind name registers was (set now i y) (i + 1) k) (sym l)
+          (ok_more M kind name registers was now i (length found) x y lt at keeps h (length there) n g.1),
+        a ∙ found-more there g.0)
+    appended after (Err e) done g a = absurd a
+
+    -- one child refused, or its addresses found no memory
+    pub refused_after : {B : Type 0} (A : Type 0) (after : List Address) (r : Result (List Address) Refused) (e : Refused) (P : B → Type 0) →
+        Registers (M x) (M y) kind (record { name = name; labels = labels }) r → IsAppended {A = A} found after ahead r (Err e) →
+        Acts registers ((of_all was).targets kind name) (of_all was) (of_all (set now i y)) (Err e) P
+    refused_after A after (Ok there) e P g a =
+        let n : length there ≡ length ((M x).targets kind name) = ap length g.0 ∙ length-addresses kind labels ((M x).targets kind name) (M x).contents in
+        let s = ok_more M kind name registers was now i (length found) x y lt at keeps h (length there) n g.1 in
+        let f = ok_fits M kind name registers was now i (length found) x y lt at keeps h (length there) n g.1 in
+        subst (λ z. Acts registers ((of_all was).targets kind name) (of_all was) (of_all (set now i y)) (Err z) P) (sym a) (f, s.contents)
+    refused_after A after (Err d) e P g a =
+        subst (λ z. Acts registers ((of_all was).targets kind name) (of_all was) (of_all (set now i y)) (Err z) P) (sym a)
+        (err_acts M kind name registers was now i (length found) x y lt at keeps h (λ b. b ≡ addresses kind labels ((M x).targets kind name) (M x).contents) P d g)
+
+    pub can-append : (r : Result (List Address) Refused) → length (of_all was).contents ≤ 65536 → Registers (M x) (M y) kind (record { name = name; labels = labels }) r → CanAppend found ahead r
+    can-append (Ok there) le g =
+        let n : length there ≡ length ((M x).targets kind name) = ap length g.0 ∙ length-addresses kind labels ((M x).targets kind name) (M x).contents in
+        let f = ok_few M kind name registers was now i (length found) x y lt at keeps h (length there) n g.1 le in
+        let b = books_le M was i x lt' at' in
+        let k = addresses-below kind labels ((M x).targets kind name) (M x).contents (books_of (M x)) ((M x).below kind name) in
+        (omega (arith, b, le), subst (λ as'. Every (λ a. a.book < 65536) as') (sym g.0) (weaker (addresses kind labels ((M x).targets kind name) (M x).contents) (books_of (M x)) (omega (arith, b, le)) k), f)
+      where
+        weaker : (as' : List Address) (n : ℕ) → n ≤ 65536 → Every (λ a. a.book < n) as' → Every (λ a. a.book < 65536) as'
+        weaker as' n le h = λ k d lt. (let z = h k d lt in omega (arith, z, le))
+    can-append (Err e) le g = err_follows M kind name registers was now i (length found) x y lt at keeps h (λ b. b ≡ addresses kind labels ((M x).targets kind name) (M x).contents) e le g
+
+  -- all children answered
+  pub found-all : (was : List Y) (i : ℕ) (found : List Address) → length was ≤ i → found ≡ found_in was i → found ≡ addresses kind labels ((of_all was).targets kind name) (of_all was).contents
+  found-all was i found le is = is ∙ ap (λ ys. addresses kind labels ((of_all ys).targets kind name) (of_all was).contents) (take-all was i le)
+    where
+      take-all : (ys : List Y) (k : ℕ) → length ys ≤ k → take k ys ≡ ys
+      take-all [] zero le = refl
+      take-all [] (suc k) le = refl
+      take-all (y ∷ ys) zero le = absurd (omega arith)
+      take-all (y ∷ ys) (suc k) le = ap (λ zs. y ∷ zs) (take-all ys k (omega arith))

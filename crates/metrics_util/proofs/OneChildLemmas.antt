@@ -15,9 +15,11 @@ use Rattle.metrics.specs.Layers.{joined_all, targets_of}
 use Rattle.metrics_util.specs.declared.layers.choice.Choice.{Choice}
 use Rattle.metrics_util.specs.declared.layers.choice.Choice.TheVariants.{All, Winner}
 use Rattle.metrics_util.specs.Routing.{Stored, target_of}
-use Rattle.metrics_util.specs.Places.{total, IsPlace, raised, ends_from}
+use Rattle.std.specs.List.{All as Every}
+use Rattle.metrics_util.specs.Places.{total, IsPlace, raised, ends_from, IsRaised, CanRaise}
+use Rattle.metrics_util.proofs.PlacesLemmas.{length-ends}
 use Rattle.metrics_util.specs.Nodes.{recorder_of, passed, books_of, AreEnds}
-use Rattle.metrics_util.proofs.JoinedLemmas.{same_passed, contents-passed, targets_of-middle, IsMapped, acts-one, holds-there, updates-one, snapshots-one, holds-past, addresses-one, books-append}
+use Rattle.metrics_util.proofs.JoinedLemmas.{same_passed, contents-passed, targets_of-middle, IsMapped, acts-one, holds-there, updates-one, snapshots-one, holds-past, addresses-one, addresses-below, books-append}
 use Rattle.metrics_util.proofs.ChildrenLemmas.{split_at, set_split, map_split}
 
 length-take : {A : Type 0} (xs : List A) (i : ℕ) → i ≤ length xs → length (take i xs) ≡ i
@@ -132,6 +134,14 @@ module _ {Y : Type 0} (M : Y → Meaning) (ys : List Y) (n : ℕ) (x : Y) (lt : 
           subst (λ k. Snapshots (passed c (map M ys)) (passed c (map M (set ys n y))) k r) number
           (snapshots-one front rest (M x) b below (M y) (passed c (map M ys)) (passed c (map M (set ys n y))) old_contents new_contents r h)
 
+  -- the child's addresses can be raised
+  pub can-raise : (kind : MetricKind) (key : KeyParts) (y : Y) (r : Result (List Address) Refused) → books_of (joined_all (map M ys)) ≤ 65536 → Registers (M x) (M y) kind key r → CanRaise before r
+  can-raise kind key y (Ok there) le g =
+      let p = child-most 65536 le in
+      let k = addresses-below kind key.labels ((M x).targets kind key.name) (M x).contents (books_of (M x)) ((M x).below kind key.name) in
+      (omega (arith, p), subst (λ as'. Every (λ a. a.book < 65536) as') (sym g.0) (λ j d lt. (let z = k j d lt in omega (arith, z, p))))
+  can-raise kind key y (Err e) le g = tt
+
   -- ---- the recorder of the winning route
 
   module _ (y : Y) (keeps : Keeps (M x) (M y)) (books : books_of (M y) ≡ books_of (M x)) (routes : Stored) (kind : MetricKind) (name : List ℕ) (is : n ≡ recorder_of (target_of routes kind name)) where
@@ -155,7 +165,7 @@ module _ {Y : Type 0} (M : Y → Meaning) (ys : List Y) (n : ℕ) (x : Y) (lt : 
         mapped (Err e) = refl
 
     -- a refused call answers the same, and else the child's addresses raised
-    pub registers-winner : (labels : List (List ℕ × List ℕ)) (r s : Result (List Address) Refused) → IsMapped (raised before) r s →
+    pub registers-winner : (labels : List (List ℕ × List ℕ)) (r s : Result (List Address) Refused) → IsRaised before r s →
         Registers (M x) (M y) kind (record { name = name; labels = labels }) r → Registers was now kind (record { name = name; labels = labels }) s
     registers-winner labels r s m h =
         let f : List ℕ → Content → Content = λ there. register_in (key_there kind labels there) in
@@ -164,7 +174,13 @@ module _ {Y : Type 0} (M : Y → Meaning) (ys : List Y) (n : ℕ) (x : Y) (lt : 
           (λ found. found ≡ addresses kind labels (raise before ((M x).targets kind name)) was.contents) (raised before)
           (old_contents y keeps books (Winner routes)) (new_contents y keeps books (Winner routes))
           (λ a p. ap (raised before) p ∙ addresses-one kind labels front rest (M x) name ∙ ap (addresses kind labels (raise before ((M x).targets kind name))) (sym (old_contents y keeps books (Winner routes))))
-          r h s m)
+          r h s (mapped r s m))
+      where
+        mapped : (r s : Result (List Address) Refused) → IsRaised before r s → IsMapped (raised before) r s
+        mapped (Ok a) (Ok b) m = m
+        mapped (Err e) (Err f) m = m
+        mapped (Ok a) (Err f) m = absurd m
+        mapped (Err e) (Ok b) m = absurd m
 
 -- ---- numbers that no book has
 
@@ -183,6 +199,10 @@ module _ (c : Choice) (all : List Meaning) (book : ℕ) (past : total (map books
 
   pub snapshots-none : Snapshots whole whole book (Err NoSuchBook)
   snapshots-none = (no-more, refl)
+
+-- there are as many ends as children
+pub length-ends-of : {Y : Type 0} (M : Y → Meaning) (ys : List Y) (ends : List ℕ) → ends ≡ ends_from 0 (map books_of (map M ys)) → length ends ≡ length ys
+length-ends-of M ys ends e = ap length e ∙ length-ends 0 (map books_of (map M ys)) ∙ length-map books_of (map M ys) ∙ length-map M ys
 
 -- a place is in one of the children
 pub place-within : {Y : Type 0} (M : Y → Meaning) (ys : List Y) (book : ℕ) (p : ℕ × ℕ) → IsPlace (map books_of (map M ys)) book p → p.0 < length ys
