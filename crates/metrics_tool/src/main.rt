@@ -7,6 +7,7 @@ mod commands;
 mod printing;
 mod running;
 mod stream;
+mod tree_lines;
 mod trees;
 mod words;
 

@@ -10,6 +10,8 @@ mod prefix;
 mod routes;
 mod stack;
 #[cfg(test)]
+mod several_tests;
+#[cfg(test)]
 mod tests;
 
 pub use child::Child;
