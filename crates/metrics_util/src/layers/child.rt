@@ -13,7 +13,7 @@ use std::alloc::Global;
 /// A tree of layers over leaves of one type `B`. `Boxed` leaves mix recorders of several types.
 #[derive(Drop)]
 pub struct Child<B: Recorder> {
-    node: Node<B>,
+    pub(crate) node: Node<B>,
     ghost sound: { IsSound B.meaning node } by { IsSound-prop B.meaning node },
     ghost most: { length (node_meaning B.meaning node).contents ≤ 65536 },
 }
