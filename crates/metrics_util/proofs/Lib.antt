@@ -10,3 +10,4 @@ pub mod JoinedLemmas
 pub mod NodesLemmas
 pub mod ChildrenLemmas
 pub mod OneChildLemmas
+pub mod BuildersLemmas

@@ -8,3 +8,4 @@ pub mod DebuggingPlaces
 pub mod DebuggingSeries
 pub mod DebuggingUpdates
 pub mod Debugging
+pub mod Builders

@@ -1,5 +1,6 @@
 -- The meaning of a tree of recorders, and what is true of each of its nodes.
-use Rattle.std.specs.Prelude.{◌≡◌, ℕ, zero, suc, ◌<◌, List, [], ◌∷◌, length, map, Option, None, Some}
+use Rattle.std.specs.Prelude.{◌≡◌, ℕ, suc, ◌<◌, List, [], ◌∷◌, length, map, Option, None, Some}
+use Rattle.std.specs.Coded.{Coded-set, coded_list, coded_ℕ, le_prop, ×_prop, Π_prop, Unit-prop}
 use Rattle.metrics.specs.declared.kind.MetricKind.{MetricKind}
 use Rattle.metrics.specs.Meaning.{Meaning, nothing}
 use Rattle.metrics.specs.Layers.{prefixed, filtered, joined_all, choosing}
@@ -56,3 +57,21 @@ abbrev mutual
   pub IsRowSound : {B : Type 0} {k : _} → (B → Meaning) → Row_of-Node B k → Type 0
   IsRowSound m end_of-Node = Unit {0}
   IsRowSound m (more_of-Node c rest) = IsSound m c × IsRowSound m rest
+
+IsWithin-prop : (choice : Choice) (n : ℕ) → IsProp (IsWithin choice n)
+IsWithin-prop All n = Unit-prop
+IsWithin-prop (Winner routes) n = Π_prop (λ kind. Π_prop (λ name. le_prop))
+
+-- there is one proof at most
+mutual
+  pub IsSound-prop : {B : Type 0} (m : B → Meaning) (n : Node B) → IsProp (IsSound m n)
+  IsSound-prop m (Leaf b) = Unit-prop
+  IsSound-prop m Noop = Unit-prop
+  IsSound-prop m (Prefixed' front p c) = IsSound-prop m c
+  IsSound-prop m (Filtered' patterns p c) = IsSound-prop m c
+  IsSound-prop m (Several' shape all ends choice) =
+      λ x y i. (Coded-set (coded_list coded_ℕ) ends.items (ends_from 0 (map books_of (row_meanings m all))) x.0 y.0 i, IsWithin-prop choice (length (row_meanings m all)) x.1 y.1 i, IsRowSound-prop m all x.2 y.2 i)
+
+  IsRowSound-prop : {B : Type 0} {k : _} (m : B → Meaning) (all : Row_of-Node B k) → IsProp (IsRowSound m all)
+  IsRowSound-prop m end_of-Node = Unit-prop
+  IsRowSound-prop m (more_of-Node c rest) = ×_prop (IsSound-prop m c) (IsRowSound-prop m rest)

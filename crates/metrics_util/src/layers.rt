@@ -2,11 +2,13 @@
 
 mod child;
 mod choice;
+mod fanout;
 mod filter;
 mod layer;
 mod node;
 mod place;
 mod prefix;
+mod recorders;
 mod routes;
 mod stack;
 #[cfg(test)]
@@ -15,6 +17,7 @@ mod several_tests;
 mod tests;
 
 pub use child::Child;
+pub use fanout::{Fanout, FanoutBuilder};
 pub use filter::{Filter, FilterLayer};
 pub use layer::Layer;
 pub use prefix::{Prefix, PrefixLayer};

@@ -1,7 +1,7 @@
 //! A recorder of any kind over leaves of one type.
 ghost use Rattle.std.specs.Prelude.{◌≡◌, ◌≤◌, length, MatchResult};
 ghost use Rattle.metrics.specs.Layers.{prefixed};
-ghost use Rattle.metrics_util.specs.Nodes.{node_meaning, IsSound};
+ghost use Rattle.metrics_util.specs.Nodes.{node_meaning, IsSound, IsSound-prop};
 ghost use Rattle.metrics_util.specs.declared.error.Error.TheVariants.{Memory};
 
 use crate::error::Error;
@@ -13,8 +13,8 @@ use std::alloc::Global;
 /// A tree of layers over leaves of one type `B`. `Boxed` leaves mix recorders of several types.
 #[derive(Drop)]
 pub struct Child<B: Recorder> {
-    node: Node<B>,
-    ghost sound: { IsSound B.meaning node },
+    pub(crate) node: Node<B>,
+    ghost sound: { IsSound B.meaning node } by { IsSound-prop B.meaning node },
     ghost most: { length (node_meaning B.meaning node).contents ≤ 65536 },
 }
 

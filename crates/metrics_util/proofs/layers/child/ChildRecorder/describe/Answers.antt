@@ -7,4 +7,4 @@ pub invariant_of-self : goal.invariant_of-self
 invariant_of-self g c =
     let M = node_meaning g.B.Recorder.meaning in
     let same = length-describes (M c.args.self.now.node) (M c.describe.new.self) c.args.kind c.args.name.now c.args.unit c.args.text.now c.describe.result c.describe.ensures.describes in
-    record { most = omega (arith, same, c.args.self.now.most) }
+    record { sound = c.describe.ensures.sound; most = omega (arith, same, c.args.self.now.most) }

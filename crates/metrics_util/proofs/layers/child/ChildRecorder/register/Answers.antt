@@ -7,4 +7,4 @@ pub invariant_of-self : goal.invariant_of-self
 invariant_of-self g c =
     let M = node_meaning g.B.Recorder.meaning in
     let same = length-registers (M c.args.self.now.node) (M c.register.new.self) c.args.kind c.args.key.now _ c.register.ensures.registers in
-    record { most = omega (arith, same, c.args.self.now.most) }
+    record { sound = c.register.ensures.sound; most = omega (arith, same, c.args.self.now.most) }

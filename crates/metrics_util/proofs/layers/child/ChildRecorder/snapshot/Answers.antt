@@ -7,4 +7,4 @@ pub invariant_of-self : goal.invariant_of-self
 invariant_of-self g c =
     let M = node_meaning g.B.Recorder.meaning in
     let same = length-snapshots (M c.args.self.now.node) (M c.snapshot.new.self) c.args.book c.snapshot.result c.snapshot.ensures.snapshots in
-    record { most = omega (arith, same, c.args.self.now.most) }
+    record { sound = c.snapshot.ensures.sound; most = omega (arith, same, c.args.self.now.most) }

@@ -7,4 +7,4 @@ pub invariant_of-self : goal.invariant_of-self
 invariant_of-self g c =
     let M = node_meaning g.B.Recorder.meaning in
     let same = length-updates (M c.args.self.now.node) (M c.update.new.self) c.args.at c.args.by c.update.result c.update.ensures.updates in
-    record { most = omega (arith, same, c.args.self.now.most) }
+    record { sound = c.update.ensures.sound; most = omega (arith, same, c.args.self.now.most) }
