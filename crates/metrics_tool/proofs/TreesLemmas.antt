@@ -7,7 +7,7 @@ use Rattle.metrics.specs.Meaning.{Meaning, AreNew, one_book}
 use Rattle.metrics_util.specs.Nodes.{node_meaning}
 use Rattle.metrics_util.specs.Debugging.{IsNewBook, content_of}
 use Rattle.metrics_util.specs.declared.debugging.DebuggingRecorder.{DebuggingRecorder}
-use Rattle.metrics_tool.specs.declared.trees.Level.{Level}
+use Rattle.metrics_tool.specs.declared.levels.Level.{Level}
 
 abbrev pub book_meaning : DebuggingRecorder → Meaning
 book_meaning r = one_book (content_of r.series.entries.items r.descriptions)

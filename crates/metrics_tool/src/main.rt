@@ -4,6 +4,7 @@
 
 mod calls;
 mod commands;
+mod levels;
 mod printing;
 mod running;
 mod stream;
