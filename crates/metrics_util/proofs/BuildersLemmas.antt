@@ -127,8 +127,8 @@ module _ (s : Stored) (rs : List Route) (h : StandsFor s rs) where
   alone-routed b d =
       let all = routed rs (d ∷ []) in
       same_meaning d all.contents all.targets (sym (append-nil d.contents))
-        (fun_ext (λ kind. fun_ext (λ name. ap (λ k. targets_of k (d ∷ []) kind name) (sym (no_target (target_of s kind name) (λ t e. target-below s 0 kind name t b e)) ∙ same_choice kind name))))
-        all.below all.distinct
+      (fun_ext (λ kind. fun_ext (λ name. ap (λ k. targets_of k (d ∷ []) kind name) (sym (no_target (target_of s kind name) (λ t e. target-below s 0 kind name t b e)) ∙ same_choice kind name))))
+      all.below all.distinct
     where
       no_target : (o : Option ℕ) → ((t : ℕ) → o ≡ Some t → t < 0) → recorder_of o ≡ 0
       no_target None h = refl

@@ -38,9 +38,7 @@ impl<B: Recorder> Child<B> {
     pub fn noop() -> Child<B>
         ensures { ⟦<Child<B> as Recorder>⟧.meaning result ≡ nothing }
     {
-        Child {
-            node: Node::Noop,
-        }
+        Child { node: Node::Noop }
     }
 
     /// A fanout as it is.
@@ -90,7 +88,7 @@ impl<B: Recorder> Child<B> {
     pub fn filter(self, alloc: Global, layer: &FilterLayer) -> Result<Child<B>, (Error, Child<B>)>
         ensures { MatchResult result
             (λ c. (fault_of layer.now ≡ None)
-                × (⟦<Child<B> as Recorder>⟧.meaning c ≡ filtered layer.now.fold_case layer.now.listed (⟦<Child<B> as Recorder>⟧.meaning self)))
+            × (⟦<Child<B> as Recorder>⟧.meaning c ≡ filtered layer.now.fold_case layer.now.listed (⟦<Child<B> as Recorder>⟧.meaning self)))
             (λ e. (e.0 ≡ unwrap_or (fault_of layer.now) Memory) × (e.1 ≡ self)) }
     {
         let patterns = match layer.automaton(alloc) {

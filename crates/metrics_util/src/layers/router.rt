@@ -53,14 +53,13 @@ impl<B: Recorder> RouterBuilder<B> {
         pattern: &str,
         target: Child<B>,
     ) -> Result<usize, (Error, Child<B>)>
-        ensures {
-            let old = all_meanings B.meaning (option_map (λ c. c.node) self.old.default) self.old.recorders.children.items in
+        ensures { let old = all_meanings B.meaning (option_map (λ c. c.node) self.old.default) self.old.recorders.children.items in
             let new = all_meanings B.meaning (option_map (λ c. c.node) self.new.default) self.new.recorders.children.items in
             let added = ⟦<Child<B> as Recorder>⟧.meaning target in
             MatchResult result
-                (λ n. (suc n ≡ length old) × (nat_eq mask 0 ≡ false) × IsFew old added × Gains old new added
-                    × GainsRoute self.old.routes self.new.routes mask pattern.now n)
-                (λ e. (e.0 ≡ route_refusal mask old added) × (e.1 ≡ target) × (new ≡ old) × (self.new.routes ≡ self.old.routes)) }
+            (λ n. (suc n ≡ length old) × (nat_eq mask 0 ≡ false) × IsFew old added × Gains old new added
+            × GainsRoute self.old.routes self.new.routes mask pattern.now n)
+            (λ e. (e.0 ≡ route_refusal mask old added) × (e.1 ≡ target) × (new ≡ old) × (self.new.routes ≡ self.old.routes)) }
     {
         if mask.is_empty() {
             return Err((Error::EmptyMask, target));
@@ -90,13 +89,12 @@ impl<B: Recorder> RouterBuilder<B> {
         pattern: &str,
         target: usize,
     ) -> Result<(), Error>
-        ensures {
-            let old = all_meanings B.meaning (option_map (λ c. c.node) self.old.default) self.old.recorders.children.items in
+        ensures { let old = all_meanings B.meaning (option_map (λ c. c.node) self.old.default) self.old.recorders.children.items in
             let new = all_meanings B.meaning (option_map (λ c. c.node) self.new.default) self.new.recorders.children.items in
             (new ≡ old) × MatchResult result
-                (λ done. (nat_eq mask 0 ≡ false) × (suc target < length old)
-                    × GainsRoute self.old.routes self.new.routes mask pattern.now target)
-                (λ e. (e ≡ target_refusal mask target (length old - 1)) × (self.new.routes ≡ self.old.routes)) }
+            (λ done. (nat_eq mask 0 ≡ false) × (suc target < length old)
+            × GainsRoute self.old.routes self.new.routes mask pattern.now target)
+            (λ e. (e ≡ target_refusal mask target (length old - 1)) × (self.new.routes ≡ self.old.routes)) }
     {
         if mask.is_empty() {
             return Err(Error::EmptyMask);
