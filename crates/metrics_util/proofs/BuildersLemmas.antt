@@ -1,16 +1,29 @@
 -- Recorders as they are put together.
-use Rattle.std.proofs.Common.{◌≡◌, ℕ, ◌+◌, ◌≤◌, List, [], ◌∷◌, ◌++◌, length, map, Vec, Global, ap, sym, ◌∙◌, arith, append-nil}
+use Rattle.std.proofs.Common.{◌≡◌, ℕ, zero, suc, ◌+◌, ◌-◌, ◌<◌, ◌≤◌, Bool, true, false, List, [], ◌∷◌, ◌++◌, length, map, Option, None, Some, Vec, Global, refl, ap, sym, ◌∙◌, subst, arith, append-nil}
+use Rattle.metrics_util.specs.Nodes.{node_meaning, recorder_of, passed, books_of, AreEnds, IsWithin, IsSound}
 use Rattle.std.proofs.lemmas.List.{map-append}
 use Rattle.std.proofs.lemmas.List.Elements.{All-push}
 use Rattle.metrics.specs.Meaning.{Meaning}
 use Rattle.metrics_util.specs.Places.{total, ends_from}
-use Rattle.metrics_util.specs.Nodes.{node_meaning, books_of, AreEnds, IsWithin, IsSound}
 use Rattle.metrics_util.specs.Builders.{meanings, books_in, AreSound, IsFew}
 use Rattle.metrics_util.specs.declared.layers.choice.Choice.{Choice}
 use Rattle.metrics_util.specs.declared.layers.node.Node.{Node, Several}
 use Rattle.metrics_util.proofs.JoinedLemmas.{books-append, contents-passed}
 use Rattle.metrics_util.proofs.NodesLemmas.{meaning-Several, sound-of-row}
 use Rattle.metrics_util.proofs.OneChildLemmas.{books-total}
+use Rattle.std.specs.Prelude.{is_some, nat_eq}
+use Rattle.std.specs.Option.{option_map}
+use Rattle.std.specs.Coded.{le_prop}
+use Rattle.std.proofs.lemmas.Bool.Decides.{nat_tests}
+use mathlib.Core.Path.{fun_ext}
+use Rattle.metrics.specs.declared.kind.MetricKind.{MetricKind}
+use Rattle.metrics.specs.Targets.{AllBelow, AreDistinct, IsNot}
+use Rattle.metrics.specs.Book.{Content}
+use Rattle.metrics.specs.Layers.{Route, winner, chosen, choosing, routed, targets_of}
+use Rattle.metrics_util.specs.Routing.{Stored, StandsFor, TargetsBelow, target_of}
+use Rattle.metrics_util.specs.Builders.{all_meanings}
+use Rattle.metrics_util.specs.declared.layers.choice.Choice.TheVariants.{Winner}
+use Rattle.metrics_util.proofs.RoutingLemmas.{winner-target, target-below}
 
 ends-more : (k : ℕ) (ns : List ℕ) (n : ℕ) → ends_from k (ns ++ n ∷ []) ≡ ends_from k ns ++ (k + (total ns + n)) ∷ []
 ends-more k [] n = ap (λ e. e ∷ []) (let e : k + n ≡ k + (0 + n) = omega arith in e)
@@ -57,3 +70,101 @@ module _ {B : Type 0} (m : B → Meaning) (children : Vec (Node B) Global) (ends
   most-several h =
       let e = ap (λ (a : Meaning). length a.contents) (meaning-Several m children ends choice) ∙ ap length (contents-passed choice (meanings m children.items)) in
       omega (arith, e, h)
+
+-- ---- one meaning
+
+below_prop : {X : Type 0} (k : ℕ) (ts : List (ℕ × X)) → IsProp (AllBelow k ts)
+below_prop k [] = λ x y. refl
+below_prop k (t ∷ ts) = λ x y i. (le_prop x.0 y.0 i, below_prop k ts x.1 y.1 i)
+
+is_not_prop : {X : Type 0} (b : ℕ) (ts : List (ℕ × X)) → IsProp (IsNot b ts)
+is_not_prop b [] = λ x y. refl
+is_not_prop b (t ∷ ts) = λ x y i. (fun_ext {f = x.0} {g = y.0} (λ e. absurd (x.0 e)) i, is_not_prop b ts x.1 y.1 i)
+
+distinct_prop : {X : Type 0} (ts : List (ℕ × X)) → IsProp (AreDistinct ts)
+distinct_prop [] = λ x y. refl
+distinct_prop (t ∷ ts) = λ x y i. (is_not_prop t.0 ts x.0 y.0 i, distinct_prop ts x.1 y.1 i)
+
+abbrev AreBelow : List Content → (MetricKind → List ℕ → List (ℕ × List ℕ)) → Type 0
+AreBelow cs ts = (kind : MetricKind) (name : List ℕ) → AllBelow (length cs) (ts kind name)
+
+abbrev AllDistinct : (MetricKind → List ℕ → List (ℕ × List ℕ)) → Type 0
+AllDistinct ts = (kind : MetricKind) (name : List ℕ) → AreDistinct (ts kind name)
+
+-- recorders of the same books and targets mean the same
+same_meaning : (a : Meaning) (cs : List Content) (ts : MetricKind → List ℕ → List (ℕ × List ℕ)) → a.contents ≡ cs → a.targets ≡ ts →
+    (b : AreBelow cs ts) (d : AllDistinct ts) → ◌≡◌ {A = Meaning} a (record { contents = cs; targets = ts; below = b; distinct = d })
+same_meaning a cs ts c t b d =
+    subst (λ cs. (b : AreBelow cs ts) → ◌≡◌ {A = Meaning} a (record { contents = cs; targets = ts; below = b; distinct = d })) c (with_targets d) b
+  where
+    plain : (b : AreBelow a.contents a.targets) (d : AllDistinct a.targets) → ◌≡◌ {A = Meaning} a (record { contents = a.contents; targets = a.targets; below = b; distinct = d })
+    plain b d =
+        let p : a.below ≡ b = fun_ext (λ kind. fun_ext (λ name. below_prop (length a.contents) (a.targets kind name) (a.below kind name) (b kind name))) in
+        let q : a.distinct ≡ d = fun_ext (λ kind. fun_ext (λ name. distinct_prop (a.targets kind name) (a.distinct kind name) (d kind name))) in
+        ap {B = Meaning} (λ x. record { contents = a.contents; targets = a.targets; below = x; distinct = a.distinct }) p
+        ∙ ap {B = Meaning} (λ x. record { contents = a.contents; targets = a.targets; below = b; distinct = x }) q
+
+    with_targets : (d : AllDistinct ts) (b : AreBelow a.contents ts) → ◌≡◌ {A = Meaning} a (record { contents = a.contents; targets = ts; below = b; distinct = d })
+    with_targets = subst (λ ts. (d : AllDistinct ts) (b : AreBelow a.contents ts) → ◌≡◌ {A = Meaning} a (record { contents = a.contents; targets = ts; below = b; distinct = d })) t (λ d b. plain b d)
+
+-- ---- a router
+
+of_target : (w : Option Route) → recorder_of (option_map (λ (r : Route). r.target) w) ≡ chosen w
+of_target None = refl
+of_target (Some r) = refl
+
+module _ (s : Stored) (rs : List Route) (h : StandsFor s rs) where
+  same_choice : (kind : MetricKind) (name : List ℕ) → recorder_of (target_of s kind name) ≡ chosen (winner rs kind name)
+  same_choice kind name = ap recorder_of (winner-target s rs h kind name) ∙ of_target (winner rs kind name)
+
+  -- what is stored chooses as the list of routes does
+  pub winner-routed : (all : List Meaning) → passed (Winner s) all ≡ routed rs all
+  winner-routed all =
+      ap (λ (f : MetricKind → List ℕ → ℕ). choosing f all) (fun_ext (λ kind. fun_ext (λ name. same_choice kind name)))
+
+  -- where there is no target no route wins, and the default stands for all
+  pub alone-routed : TargetsBelow s 0 → (d : Meaning) → d ≡ routed rs (d ∷ [])
+  alone-routed b d =
+      let all = routed rs (d ∷ []) in
+      same_meaning d all.contents all.targets (sym (append-nil d.contents))
+      (fun_ext (λ kind. fun_ext (λ name. ap (λ k. targets_of k (d ∷ []) kind name) (sym (no_target (target_of s kind name) (λ t e. target-below s 0 kind name t b e)) ∙ same_choice kind name))))
+      all.below all.distinct
+    where
+      no_target : (o : Option ℕ) → ((t : ℕ) → o ≡ Some t → t < 0) → recorder_of o ≡ 0
+      no_target None h = refl
+      no_target (Some t) h = absurd (let l = h t refl in omega (arith, l))
+
+-- the default is one of the recorders, and so is each target
+pub choice-within : (s : Stored) (n : ℕ) → TargetsBelow s (n - 1) → 0 < n → IsWithin (Winner s) n
+choice-within s n b p = λ kind name. within (target_of s kind name) (λ t e. target-below s (n - 1) kind name t b e)
+  where
+    within : (o : Option ℕ) → ((t : ℕ) → o ≡ Some t → t < n - 1) → recorder_of o < n
+    within None h = p
+    within (Some t) h = let l = h t refl in omega (arith, l)
+
+length-map : {A C : Type 0} (f : A → C) (xs : List A) → length (map f xs) ≡ length xs
+length-map f [] = refl
+length-map f (x ∷ xs) = ap suc (length-map f xs)
+
+is_zero : (n : ℕ) → true ≡ nat_eq n 0 → n ≡ 0
+is_zero n h = grind (arith, nat_tests)
+
+-- the targets are all recorders but the default
+pub count-all : {B C : Type 0} (m : B → Meaning) (node : C → Node B) (d : Option C) (children : List (Node B)) → is_some d ≡ nat_eq (length children) 0 →
+    suc (length children - 1) ≡ length (all_meanings m (option_map node d) children)
+count-all m node (Some c) children h = some (length children) h
+  where
+    some : (n : ℕ) → true ≡ nat_eq n 0 → suc (n - 1) ≡ 1
+    some n h = let e = is_zero n h in omega (arith, e)
+count-all m node None children h = none (length children) h ∙ sym (length-map (node_meaning m) children)
+  where
+    none : (n : ℕ) → false ≡ nat_eq n 0 → suc (n - 1) ≡ n
+    none zero h = absurd (cc)
+    none (suc n) h = omega arith
+
+pub no-children : (n : ℕ) → true ≡ nat_eq n 0 → n - 1 ≡ 0
+no-children n h = let e = is_zero n h in omega (arith, e)
+
+pub some-children : (n : ℕ) → false ≡ nat_eq n 0 → 0 < n
+some-children zero h = absurd (cc)
+some-children (suc n) h = omega arith

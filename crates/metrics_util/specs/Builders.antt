@@ -44,10 +44,10 @@ HasSpare n children ends = (vec_len children + n ≤ vec_capacity children) × (
 
 -- ---- routes
 
--- the recorders of a router: the default alone, or the default and then the targets
-abbrev pub all_meanings : Option Meaning → List Meaning → List Meaning
-all_meanings (Some d) rest = d ∷ []
-all_meanings None rest = rest
+-- the recorders of a router: the default alone, or else the default and then the targets
+abbrev pub all_meanings : {B : Type 0} → (B → Meaning) → Option (Node B) → List (Node B) → List Meaning
+all_meanings m (Some default) children = node_meaning m default ∷ []
+all_meanings m None children = meanings m children
 
 -- one route more, however the routes before it are listed
 abbrev pub GainsRoute : Stored → Stored → ℕ → List ℕ → ℕ → Type 0

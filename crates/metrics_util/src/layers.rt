@@ -9,6 +9,7 @@ mod node;
 mod place;
 mod prefix;
 mod recorders;
+mod router;
 mod routes;
 mod stack;
 #[cfg(test)]
@@ -21,4 +22,5 @@ pub use fanout::{Fanout, FanoutBuilder};
 pub use filter::{Filter, FilterLayer};
 pub use layer::Layer;
 pub use prefix::{Prefix, PrefixLayer};
+pub use router::{Router, RouterBuilder};
 pub use stack::Stack;

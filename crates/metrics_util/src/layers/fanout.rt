@@ -32,13 +32,12 @@ impl<B: Recorder> FanoutBuilder<B> {
     ///
     /// `TooManyBooks` where there would be more than 65,536 books, and else `Memory`.
     pub fn add_recorder(&mut self, child: Child<B>) -> Result<(), (Error, Child<B>)>
-        ensures {
-            let old = meanings B.meaning self.old.recorders.children.items in
+        ensures { let old = meanings B.meaning self.old.recorders.children.items in
             let new = meanings B.meaning self.new.recorders.children.items in
             let added = ⟦<Child<B> as Recorder>⟧.meaning child in
             MatchResult result
-                (λ done. IsFew old added × Gains old new added)
-                (λ e. (e.0 ≡ refusal old added) × (e.1 ≡ child) × (new ≡ old)) }
+            (λ done. IsFew old added × Gains old new added)
+            (λ e. (e.0 ≡ refusal old added) × (e.1 ≡ child) × (new ≡ old)) }
     {
         if child.books() > MOST_BOOKS - self.recorders.books() {
             return Err((Error::TooManyBooks, child));

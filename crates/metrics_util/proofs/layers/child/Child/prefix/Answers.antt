@@ -13,6 +13,6 @@ returns-in-Err g c =
     let s = c.args.self in
     let IsSelf : Node g.row.B.Denot → Type 0 = λ n. (h : IsSound m n) (p : length (node_meaning m n).contents ≤ 65536) → ◌≡◌ {A = T} (record { node = n; sound = h; most = p }) s in
     let same : IsSelf s.node = λ h p.
-        ap {B = T} (λ q. record { node = s.node; sound = q; most = p }) (IsSound-prop m s.node h s.sound)
-        ∙ ap {B = T} (λ q. record { node = s.node; sound = s.sound; most = q }) (le_prop p s.most) in
+    ap {B = T} (λ q. record { node = s.node; sound = q; most = p }) (IsSound-prop m s.node h s.sound)
+    ∙ ap {B = T} (λ q. record { node = s.node; sound = s.sound; most = q }) (le_prop p s.most) in
     (refl, subst IsSelf (sym c.in-Err.ensures.value_returned) same _ _)
