@@ -163,5 +163,9 @@ pub fn put_fanout(alloc: Global, stack: &mut Vec<Level>, count: u64) -> Result<(
             Err((error, _)) => return Err(line_error(error)),
         }
     }
-    put(stack, Child::fanout(builder.build()), most.saturating_add(1))
+    put(
+        stack,
+        Child::fanout(builder.build()),
+        most.saturating_add(1),
+    )
 }

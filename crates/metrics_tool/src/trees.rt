@@ -1,16 +1,94 @@
 //! The tree lines: a tree of new books.
 ghost use Rattle.std.specs.Prelude.{IfOk, IfSome, OnOk, All};
+ghost use Rattle.std.specs.Option.{option_map};
 ghost use Rattle.metrics.specs.Meaning.{AreNew};
+ghost use Rattle.metrics_util.specs.Builders.{all_meanings};
 
-use crate::levels::{Level, LineError, put, put_book, put_fanout, put_filter, put_prefix};
+use crate::levels::{
+    Level, LineError, line_error, put, put_book, put_fanout, put_filter, put_prefix, take_top,
+};
 use crate::running::{RunError, at_line};
 use crate::stream::{Found, next_line};
-use crate::tree_lines::{TreeLine, tree_line};
+use crate::tree_lines::{TreeLine, route_of, tree_line};
 use metrics::Recorder;
 use metrics_util::debugging::DebuggingRecorder;
-use metrics_util::layers::Child;
+use metrics_util::layers::{Child, RouterBuilder};
 use std::alloc::Global;
 use std::io::BufRead;
+
+/// Adds the routes of a router line, each word one, to targets from the end of the list. Each target is
+/// first named by the lowest number not yet named. Answers the greatest number of levels of a target.
+fn add_routes(
+    builder: &mut RouterBuilder<DebuggingRecorder>,
+    targets: &mut Vec<Level>,
+    words: &str,
+) -> Result<u64, LineError>
+    requires targets { All (λ l. AreNew (⟦<Child<DebuggingRecorder> as Recorder>⟧.meaning l.child).contents) targets.old.items }
+    requires built { All (λ m. AreNew m.contents) (all_meanings ⟦<DebuggingRecorder as Recorder>⟧.meaning (option_map (λ c. c.node) builder.old.default) builder.old.recorders.children.items) }
+    ensures { OnOk result (All (λ m. AreNew m.contents) (all_meanings ⟦<DebuggingRecorder as Recorder>⟧.meaning (option_map (λ c. c.node) builder.new.default) builder.new.recorders.children.items)) }
+{
+    let mut most = 0;
+    let mut named: u64 = 0;
+    for word in words.split(' ') {
+        let Some(route) = route_of(word) else {
+            return Err(LineError::Bad);
+        };
+        if route.target < named {
+            let target = route.target as usize;
+            match builder.add_route_to(route.mask, route.pattern, target) {
+                Ok(()) => {}
+                Err(error) => return Err(line_error(error)),
+            }
+        } else if route.target == named {
+            let Some(Level { child, levels }) = targets.pop() else {
+                return Err(LineError::Bad);
+            };
+            match builder.add_route(route.mask, route.pattern, child) {
+                Ok(_) => {}
+                Err((error, _)) => return Err(line_error(error)),
+            }
+            most = most.max(levels);
+            named = named.saturating_add(1);
+        } else {
+            return Err(LineError::Bad);
+        }
+    }
+    Ok(most)
+}
+
+/// Puts a router over recorders from the top of the stack; the deepest is the default, then the targets.
+fn put_router(
+    alloc: Global,
+    stack: &mut Vec<Level>,
+    targets: u64,
+    words: Option<&str>,
+) -> Result<(), LineError>
+    requires { All (λ l. AreNew (⟦<Child<DebuggingRecorder> as Recorder>⟧.meaning l.child).contents) stack.old.items }
+    ensures { OnOk result (All (λ l. AreNew (⟦<Child<DebuggingRecorder> as Recorder>⟧.meaning l.child).contents) stack.new.items) }
+{
+    let mut taken = match take_top(alloc, stack, targets.saturating_add(1)) {
+        Ok(taken) => taken,
+        Err(error) => return Err(error),
+    };
+    let Some(Level { child, levels }) = taken.pop() else {
+        return Err(LineError::Bad);
+    };
+    let mut builder = RouterBuilder::from_recorder(alloc, child);
+    let mut most = levels;
+    if let Some(words) = words {
+        match add_routes(&mut builder, &mut taken, words) {
+            Ok(found) => most = most.max(found),
+            Err(error) => return Err(error),
+        }
+    }
+    if !taken.is_empty() {
+        return Err(LineError::Bad);
+    }
+    match Child::router(alloc, builder.build()) {
+        Ok(child) => put(stack, child, most.saturating_add(1)),
+        Err((error, _)) => Err(line_error(error)),
+    }
+}
 
 /// The one recorder of the stack.
 fn only_one(mut stack: Vec<Level>) -> Option<Child<DebuggingRecorder>>
@@ -44,7 +122,7 @@ fn put_line(alloc: Global, stack: &mut Vec<Level>, line: TreeLine<'_>) -> Result
         TreeLine::Prefix(prefix) => put_prefix(alloc, stack, prefix),
         TreeLine::Filter(filter) => put_filter(alloc, stack, filter),
         TreeLine::Fanout(count) => put_fanout(alloc, stack, count),
-        TreeLine::Router(_targets, _routes) => Err(LineError::Bad),
+        TreeLine::Router(targets, routes) => put_router(alloc, stack, targets, routes),
         TreeLine::End => Err(LineError::Bad),
     }
 }

@@ -117,8 +117,8 @@ module _ {Y : Type 0} (M : Y → Meaning) (kind : MetricKind) (name : List ℕ) 
         let tr = raise (length (M x).contents) ((joined_all rest).targets kind name) in
         let n = length (joined_all front).contents in
         let all : length (named was) ≡ length (named (take i now) ++ raise n (tx ++ tr)) =
-            ap (λ (ts : MetricKind → List ℕ → List (ℕ × List ℕ)). length (ts kind name)) (sym h.same ∙ ap (λ ms. (joined_all ms).targets) now_is)
-            ∙ ap length (targets-append front (M x ∷ rest) kind name) in
+        ap (λ (ts : MetricKind → List ℕ → List (ℕ × List ℕ)). length (ts kind name)) (sym h.same ∙ ap (λ ms. (joined_all ms).targets) now_is)
+        ∙ ap length (targets-append front (M x ∷ rest) kind name) in
         omega (arith, all, length-append (named (take i now)) (raise n (tx ++ tr)), length-raise n (tx ++ tr), length-append tx tr, h.count, le)
 
     pub stopped : Stopped was (set now i y) (acted + a)
@@ -128,15 +128,24 @@ module _ {Y : Type 0} (M : Y → Meaning) (kind : MetricKind) (name : List ℕ) 
     through_more whole = record {
       same = targets_same;
       count =
-        let named_y = ap (λ (ts : MetricKind → List ℕ → List (ℕ × List ℕ)). ts kind name) keeps in
-        let ty = (M y).targets kind name in
-        let n = length (joined_all front).contents in
-        let es : named (take (i + 1) (set now i y)) ≡ named (take i now) ++ raise n (ty ++ raise (length (M y).contents) []) =
-            ap named (take_more_set now i y lt) ∙ ap (λ ms. (joined_all ms).targets kind name) (map_split M (take i now) [] y)
-            ∙ targets-append front (M y ∷ []) kind name in
-        omega (arith, ap length es, length-append (named (take i now)) (raise n (ty ++ raise (length (M y).contents) [])),
-            length-raise n (ty ++ raise (length (M y).contents) []), length-append ty (raise (length (M y).contents) []), ap length named_y, whole, h.count);
-      contents = contents_then }
+          let named_y = ap (λ (ts : MetricKind → List ℕ → List (ℕ × List ℕ)). ts kind name) keeps in
+          let ty = (M y).targets kind name in
+          let n = length (joined_all front).contents in
+          let es : named (take (i + 1) (set now i y)) ≡ named (take i now) ++ raise n (ty ++ raise (length (M y).contents) []) =
+          ap named (take_more_set now i y lt) ∙ ap (λ ms. (joined_all ms).targets kind name) (map_split M (take i now) [] y)
+          ∙ targets-append front (M y ∷ []) kind name in
+          omega (
+            arith,
+            ap length es,
+            length-append (named (take i now)) (raise n (ty ++ raise (length (M y).contents) [])),
+            length-raise n (ty ++ raise (length (M y).contents) []),
+            length-append ty (raise (length (M y).contents) []),
+            ap length named_y,
+            whole,
+            h.count,
+          );
+      contents = contents_then;
+    }
 
   -- when all were called
   pub through_all : (was now : List Y) (i acted : ℕ) → length now ≤ i → Through was now i acted →
@@ -162,8 +171,14 @@ module _ {Y : Type 0} (M : Y → Meaning) (kind : MetricKind) (name : List ℕ) 
       let fs = map M (take i now) in
       let rs = map M (drop (i + 1) now) in
       let e : map M now ≡ fs ++ M x ∷ rs = ap (map M) (split_at now i x lt) ∙ ap (λ z. map M (take i now ++ z ∷ drop (i + 1) now)) (sym at) ∙ map_split M (take i now) (drop (i + 1) now) x in
-      omega (arith, length_through M kind name f was now i acted h, ap (λ (ms : List Meaning). length (joined_all ms).contents) e, ap length (contents-append fs (M x ∷ rs)),
-          length-append (joined_all fs).contents ((M x).contents ++ (joined_all rs).contents), length-append (M x).contents (joined_all rs).contents)
+      omega (
+        arith,
+        length_through M kind name f was now i acted h,
+        ap (λ (ms : List Meaning). length (joined_all ms).contents) e,
+        ap length (contents-append fs (M x ∷ rs)),
+        length-append (joined_all fs).contents ((M x).contents ++ (joined_all rs).contents),
+        length-append (M x).contents (joined_all rs).contents,
+      )
 
   module _ (was now : List Y) (i acted : ℕ) (x y : Y) (lt : i < length now) (at : x ≡ get_or now i x)
       (keeps : Keeps (M x) (M y)) (h : Through M kind name f was now i acted) where
@@ -202,20 +217,20 @@ module _ {Y : Type 0} (M : Y → Meaning) (kind : MetricKind) (name : List ℕ) 
         Through M kind name f was (set now i y) (i + 1) (acted + a)
     ok_more a n r =
         let taken : (M y).contents ≡ act f (take a ((M x).targets kind name)) (M x).contents =
-            r ∙ ap (λ ts. act f ts (M x).contents) (sym (ap (λ k. take k ((M x).targets kind name)) n ∙ take-length ((M x).targets kind name))) in
+        r ∙ ap (λ ts. act f ts (M x).contents) (sym (ap (λ k. take k ((M x).targets kind name)) n ∙ take-length ((M x).targets kind name))) in
         through_more M kind name f was now i acted a x y lt (sym at) keeps (omega (arith, n)) taken h n
 
     pub ok_fits : (a : ℕ) → a ≡ length ((M x).targets kind name) → (M y).contents ≡ act f ((M x).targets kind name) (M x).contents → acted + a ≤ length (named M kind name f was)
     ok_fits a n r =
         let taken : (M y).contents ≡ act f (take a ((M x).targets kind name)) (M x).contents =
-            r ∙ ap (λ ts. act f ts (M x).contents) (sym (ap (λ k. take k ((M x).targets kind name)) n ∙ take-length ((M x).targets kind name))) in
+        r ∙ ap (λ ts. act f ts (M x).contents) (sym (ap (λ k. take k ((M x).targets kind name)) n ∙ take-length ((M x).targets kind name))) in
         few_then M kind name f was now i acted a x y lt (sym at) keeps (omega (arith, n)) taken h
 
     pub ok_few : (a : ℕ) → a ≡ length ((M x).targets kind name) → (M y).contents ≡ act f ((M x).targets kind name) (M x).contents →
         length (all_of M kind name f was).contents ≤ 65536 → acted + a ≤ 65536
     ok_few a n r le =
         let taken : (M y).contents ≡ act f (take a ((M x).targets kind name)) (M x).contents =
-            r ∙ ap (λ ts. act f ts (M x).contents) (sym (ap (λ k. take k ((M x).targets kind name)) n ∙ take-length ((M x).targets kind name))) in
+        r ∙ ap (λ ts. act f ts (M x).contents) (sym (ap (λ k. take k ((M x).targets kind name)) n ∙ take-length ((M x).targets kind name))) in
         omega (arith, few_then M kind name f was now i acted a x y lt (sym at) keeps (omega (arith, n)) taken h, le, fits_in (all_of M kind name f was) kind name)
 
 length-raised : (k : ℕ) (as' : List Address) → length (raised k as') ≡ length as'
@@ -229,17 +244,27 @@ module _ {Y : Type 0} (M : Y → Meaning) where
   pub books_more : (ys : List Y) (i : ℕ) (x : Y) → i < length ys → x ≡ get_or ys i x → books_in (take (i + 1) ys) ≡ books_in (take i ys) + length (M x).contents
   books_more ys i x lt at =
       let e : map M (take (i + 1) ys) ≡ map M (take i ys) ++ M x ∷ [] =
-          ap (map M) (take_more ys i x lt ∙ ap (λ z. take i ys ++ z ∷ []) (sym at)) ∙ map_split M (take i ys) [] x in
-      omega (arith, ap (λ (ms : List Meaning). length (joined_all ms).contents) e, ap length (contents-append (map M (take i ys)) (M x ∷ [])),
-          length-append (joined_all (map M (take i ys))).contents ((M x).contents ++ []), length-append (M x).contents [])
+      ap (map M) (take_more ys i x lt ∙ ap (λ z. take i ys ++ z ∷ []) (sym at)) ∙ map_split M (take i ys) [] x in
+      omega (
+        arith,
+        ap (λ (ms : List Meaning). length (joined_all ms).contents) e,
+        ap length (contents-append (map M (take i ys)) (M x ∷ [])),
+        length-append (joined_all (map M (take i ys))).contents ((M x).contents ++ []),
+        length-append (M x).contents [],
+      )
 
   pub books_le : (ys : List Y) (i : ℕ) (x : Y) → i < length ys → x ≡ get_or ys i x → books_in (take i ys) + length (M x).contents ≤ books_in ys
   books_le ys i x lt at =
       let fs = map M (take i ys) in
       let rs = map M (drop (i + 1) ys) in
       let e : map M ys ≡ fs ++ M x ∷ rs = ap (map M) (split_at ys i x lt) ∙ ap (λ z. map M (take i ys ++ z ∷ drop (i + 1) ys)) (sym at) ∙ map_split M (take i ys) (drop (i + 1) ys) x in
-      omega (arith, ap (λ (ms : List Meaning). length (joined_all ms).contents) e, ap length (contents-append fs (M x ∷ rs)),
-          length-append (joined_all fs).contents ((M x).contents ++ (joined_all rs).contents), length-append (M x).contents (joined_all rs).contents)
+      omega (
+        arith,
+        ap (λ (ms : List Meaning). length (joined_all ms).contents) e,
+        ap length (contents-append fs (M x ∷ rs)),
+        length-append (joined_all fs).contents ((M x).contents ++ (joined_all rs).contents),
+        length-append (M x).contents (joined_all rs).contents,
+      )
 
 -- ---- a register call that goes from child to child
 
@@ -272,7 +297,7 @@ module _ {Y : Type 0} (M : Y → Meaning) (kind : MetricKind) (name : List ℕ) 
         let rs = map M (drop (i + 1) was) in
         let whole : map M was ≡ fs ++ M x ∷ rs = ap (map M) (split_at was i x lt') ∙ ap (λ z. map M (take i was ++ z ∷ drop (i + 1) was)) (sym at') ∙ map_split M (take i was) (drop (i + 1) was) x in
         let next : map M (take (i + 1) was) ≡ fs ++ M x ∷ [] =
-            ap (map M) (take_more was i x lt' ∙ ap (λ z. take i was ++ z ∷ []) (sym at')) ∙ map_split M (take i was) [] x in
+        ap (map M) (take_more was i x lt' ∙ ap (λ z. take i was ++ z ∷ []) (sym at')) ∙ map_split M (take i was) [] x in
         ap (λ as'. as' ++ raised ahead there) is
         ∙ ap (λ c. addresses kind labels ((of_all (take i was)).targets kind name) c ++ raised ahead there) (ap (λ ms. (joined_all ms).contents) whole)
         ∙ ap (λ as'. addresses kind labels ((of_all (take i was)).targets kind name) (joined_all (fs ++ M x ∷ rs)).contents ++ raised ahead as') t
@@ -286,10 +311,11 @@ module _ {Y : Type 0} (M : Y → Meaning) (kind : MetricKind) (name : List ℕ) 
         Through M kind name registers was (set now i y) (i + 1) (length after) × (after ≡ found_in was (i + 1))
     appended after (Ok there) done g a =
         let n : length there ≡ length ((M x).targets kind name) = ap length g.0 ∙ length-addresses kind labels ((M x).targets kind name) (M x).contents in
-        let l : length after ≡ length found + length there = ap length a ∙ length-append found (raised ahead there) ∙ ap (λ k. length found + k) (length-raised ahead there) in
-        (subst (λ k. Through M kind name registers was (set now i y) (i + 1) k) (sym l)
-          (ok_more M kind name registers was now i (length found) x y lt at keeps h (length there) n g.1),
-        a ∙ found-more there g.0)
+        let l : length after ≡ length found + length there = ap length a ∙ length-append found (raised ahead there) ∙ ap (λ k. length found + k) (length-raised ahead there) in (
+          subst (λ k. Through M kind name registers was (set now i y) (i + 1) k) (sym l)
+              (ok_more M kind name registers was now i (length found) x y lt at keeps h (length there) n g.1),
+          a ∙ found-more there g.0,
+        )
     appended after (Err e) done g a = absurd a
 
     -- one child refused, or its addresses found no memory

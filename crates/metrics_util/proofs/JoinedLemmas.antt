@@ -121,11 +121,12 @@ pub acts-one : {A B : Type 0} (f : List ℕ → Content → Content) (front rest
 acts-one f front rest x y old new kind name P Q g o n h (Ok a) r (Ok b) m =
     (subst Q m (h a r.0), n ∙ acts_within f front rest x y (x.targets kind name) (x.below kind name) r.1 ∙ ap (act f (raise (books_of (joined_all front)) (x.targets kind name))) (sym o))
 acts-one f front rest x y old new kind name P Q g o n h (Err (Memory a)) r (Err s) m =
-    subst (λ e. Acts f (raise (books_of (joined_all front)) (x.targets kind name)) old new (Err e) Q) m
-    ( (let l = length-raise (books_of (joined_all front)) (x.targets kind name) in omega (arith, r.0, l)),
+    subst (λ e. Acts f (raise (books_of (joined_all front)) (x.targets kind name)) old new (Err e) Q) m (
+      (let l = length-raise (books_of (joined_all front)) (x.targets kind name) in omega (arith, r.0, l)),
       n ∙ acts_within f front rest x y (take a (x.targets kind name)) (below_take (books_of x) a (x.targets kind name) (x.below kind name)) r.1
-      ∙ ap (act f (raise (books_of (joined_all front)) (take a (x.targets kind name)))) (sym o)
-      ∙ ap (λ ts. act f ts old.contents) (sym (take-raise (books_of (joined_all front)) a (x.targets kind name))))
+          ∙ ap (act f (raise (books_of (joined_all front)) (take a (x.targets kind name)))) (sym o)
+          ∙ ap (λ ts. act f ts old.contents) (sym (take-raise (books_of (joined_all front)) a (x.targets kind name))),
+    )
 acts-one f front rest x y old new kind name P Q g o n h (Err NoSuchAddress) r s m = absurd r
 acts-one f front rest x y old new kind name P Q g o n h (Err NoSuchBook) r s m = absurd r
 acts-one f front rest x y old new kind name P Q g o n h (Err BadHandle) r s m = absurd r
@@ -183,9 +184,10 @@ module _ (front rest : List Meaning) (x : Meaning) (b : ℕ) (lt : b < books_of 
   -- an update of one's book is one of all
   pub updates-one : {A : Type 0} (y old new : Meaning) (s : ℕ) (by : Update) → old.contents ≡ all_with x → new.contents ≡ all_with y → (r : Result A Refused) →
       Updates x y (record { book = b; series = s }) by r → Updates old new (record { book = there; series = s }) by r
-  updates-one y old new s by o n (Ok done) h =
-      (ap (holds_at (kind_of by) (record { book = there; series = s })) o ∙ holds-there (kind_of by) s ∙ h.0,
-      n ∙ at_book-there (update_in by s) y h.1 ∙ ap (at_book there (update_in by s)) (sym o))
+  updates-one y old new s by o n (Ok done) h = (
+    ap (holds_at (kind_of by) (record { book = there; series = s })) o ∙ holds-there (kind_of by) s ∙ h.0,
+    n ∙ at_book-there (update_in by s) y h.1 ∙ ap (at_book there (update_in by s)) (sym o),
+  )
   updates-one y old new s by o n (Err (Memory a)) h =
       (ap (holds_at (kind_of by) (record { book = there; series = s })) o ∙ holds-there (kind_of by) s ∙ h.0, h.1, h.2, n ∙ same-there y h.3 ∙ sym o)
   updates-one y old new s by o n (Err NoSuchAddress) h =
@@ -196,9 +198,11 @@ module _ (front rest : List Meaning) (x : Meaning) (b : ℕ) (lt : b < books_of 
   -- and so is a snapshot
   pub snapshots-one : (y old new : Meaning) → old.contents ≡ all_with x → new.contents ≡ all_with y → (r : Result (List RowParts) Refused) →
       Snapshots x y b r → Snapshots old new there r
-  snapshots-one y old new o n (Ok found) h =
-      (subst (λ k. there < k) (sym (ap length o)) within-there, h.1 ∙ ap rows (sym content-there ∙ ap (content_at there) (sym o)),
-      n ∙ at_book-there reset_in y h.2 ∙ ap (at_book there reset_in) (sym o))
+  snapshots-one y old new o n (Ok found) h = (
+    subst (λ k. there < k) (sym (ap length o)) within-there,
+    h.1 ∙ ap rows (sym content-there ∙ ap (content_at there) (sym o)),
+    n ∙ at_book-there reset_in y h.2 ∙ ap (at_book there reset_in) (sym o),
+  )
   snapshots-one y old new o n (Err (Memory a)) h =
       (subst (λ k. there < k) (sym (ap length o)) within-there, h.1, n ∙ same-there y h.2 ∙ sym o)
   snapshots-one y old new o n (Err NoSuchBook) h = absurd (omega (arith, h.0, lt))
@@ -250,7 +254,7 @@ module _ (kind : MetricKind) (labels : List (List ℕ × List ℕ)) where
   pub addresses-more : (front rest : List Meaning) (x : Meaning) (name : List ℕ) →
       addresses kind labels ((joined_all (front ++ x ∷ [])).targets kind name) (joined_all (front ++ x ∷ rest)).contents
       ≡ addresses kind labels ((joined_all front).targets kind name) (joined_all (front ++ x ∷ rest)).contents
-        ++ raised (books_of (joined_all front)) (addresses kind labels (x.targets kind name) x.contents)
+      ++ raised (books_of (joined_all front)) (addresses kind labels (x.targets kind name) x.contents)
   addresses-more front rest x name =
       let tf = (joined_all front).targets kind name in
       let all = (joined_all (front ++ x ∷ rest)).contents in

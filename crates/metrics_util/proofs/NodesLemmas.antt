@@ -94,8 +94,8 @@ module _ {B : Type 0} (m : B → Meaning) (v : Vec (Node B) Global) (ends : Vec 
       (new : Node B) (w : Vec (Node B) Global) → new ≡ Several w ends choice → w.items ≡ ws → R (node_meaning m old) (node_meaning m new)
   by-rows chosen c ws R h new w d i =
       let now : passed chosen (map (node_meaning m) ws) ≡ node_meaning m new =
-          ap (λ x. passed x (map (node_meaning m) ws)) (sym c) ∙ ap (λ xs. passed choice (map (node_meaning m) xs)) (sym i)
-          ∙ sym (meaning-Several m w ends choice) ∙ sym (ap (node_meaning m) d) in
+      ap (λ x. passed x (map (node_meaning m) ws)) (sym c) ∙ ap (λ xs. passed choice (map (node_meaning m) xs)) (sym i)
+      ∙ sym (meaning-Several m w ends choice) ∙ sym (ap (node_meaning m) d) in
       let was : passed chosen children_of ≡ node_meaning m old = ap (λ x. passed x children_of) (sym c) ∙ sym meaning-is in
       subst (λ a. R a (node_meaning m new)) was (subst (R (passed chosen children_of)) now h)
 
@@ -106,7 +106,7 @@ module _ {B : Type 0} (m : B → Meaning) (v : Vec (Node B) Global) (ends : Vec 
       let row = row-is h in
       let b' : map books_of (map (node_meaning m) w.items) ≡ map books_of children_of = ap (λ xs. map books_of (map (node_meaning m) xs)) i ∙ b in
       let l : length w.items ≡ length v.items =
-          sym (length-map (node_meaning m) w.items) ∙ sym (length-map books_of (map (node_meaning m) w.items)) ∙ ap length b' ∙ length-map books_of children_of ∙ length-map (node_meaning m) v.items in
+      sym (length-map (node_meaning m) w.items) ∙ sym (length-map books_of (map (node_meaning m) w.items)) ∙ ap length b' ∙ length-map books_of children_of ∙ length-map (node_meaning m) v.items in
       subst (IsSound m) (sym d) (sound-of-row m w ends choice (record {
         ends_are = row.ends_are ∙ ap (ends_from 0) (sym b');
         within = subst (IsWithin choice) (sym l) row.within;

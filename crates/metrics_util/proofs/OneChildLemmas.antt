@@ -158,7 +158,7 @@ module _ {Y : Type 0} (M : Y → Meaning) (ys : List Y) (n : ℕ) (x : Y) (lt : 
     describes-winner unit text r h =
         subst (λ ts. Acts (describe_in kind unit text) ts was now r (λ k. k ≡ length ts)) (sym targets-winner)
         (acts-one (describe_in kind unit text) front rest (M x) (M y) was now kind name (λ k. k ≡ length ((M x).targets kind name)) (λ k. k ≡ length (raise before ((M x).targets kind name))) (λ k. k)
-          (old_contents y keeps books (Winner routes)) (new_contents y keeps books (Winner routes)) (λ a p. p ∙ sym (length-raise before ((M x).targets kind name))) r h r (mapped r))
+        (old_contents y keeps books (Winner routes)) (new_contents y keeps books (Winner routes)) (λ a p. p ∙ sym (length-raise before ((M x).targets kind name))) r h r (mapped r))
       where
         mapped : (r : Result ℕ Refused) → IsMapped (λ k. k) r r
         mapped (Ok a) = refl
@@ -171,10 +171,10 @@ module _ {Y : Type 0} (M : Y → Meaning) (ys : List Y) (n : ℕ) (x : Y) (lt : 
         let f : List ℕ → Content → Content = λ there. register_in (key_there kind labels there) in
         subst (λ ts. Acts f ts was now s (λ found. found ≡ addresses kind labels ts was.contents)) (sym targets-winner)
         (acts-one f front rest (M x) (M y) was now kind name (λ found. found ≡ addresses kind labels ((M x).targets kind name) (M x).contents)
-          (λ found. found ≡ addresses kind labels (raise before ((M x).targets kind name)) was.contents) (raised before)
-          (old_contents y keeps books (Winner routes)) (new_contents y keeps books (Winner routes))
-          (λ a p. ap (raised before) p ∙ addresses-one kind labels front rest (M x) name ∙ ap (addresses kind labels (raise before ((M x).targets kind name))) (sym (old_contents y keeps books (Winner routes))))
-          r h s (mapped r s m))
+        (λ found. found ≡ addresses kind labels (raise before ((M x).targets kind name)) was.contents) (raised before)
+        (old_contents y keeps books (Winner routes)) (new_contents y keeps books (Winner routes))
+        (λ a p. ap (raised before) p ∙ addresses-one kind labels front rest (M x) name ∙ ap (addresses kind labels (raise before ((M x).targets kind name))) (sym (old_contents y keeps books (Winner routes))))
+        r h s (mapped r s m))
       where
         mapped : (r s : Result (List Address) Refused) → IsRaised before r s → IsMapped (raised before) r s
         mapped (Ok a) (Ok b) m = m

@@ -37,8 +37,6 @@ take-past [] (suc i) le = refl
 take-past (x ∷ xs) zero le = absurd (omega arith)
 take-past (x ∷ xs) (suc i) le = ap (λ ys. x ∷ ys) (take-past xs i (omega arith))
 
-
-
 pub rises-to : (ns : List ℕ) (i j : ℕ) → i ≤ j → total (take i ns) ≤ total (take j ns)
 rises-to ns zero j le = omega arith
 rises-to [] (suc i) zero le = absurd (omega arith)

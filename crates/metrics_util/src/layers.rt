@@ -11,9 +11,9 @@ mod prefix;
 mod recorders;
 mod router;
 mod routes;
-mod stack;
 #[cfg(test)]
 mod several_tests;
+mod stack;
 #[cfg(test)]
 mod tests;
 

@@ -12,6 +12,7 @@ use std::process::Abort;
 use std::test::Fail;
 
 type Book = DebuggingRecorder;
+
 type Builder = RouterBuilder<DebuggingRecorder>;
 
 fn book(alloc: Global) -> Result<Child<Book>, Refused> {
@@ -49,7 +50,7 @@ fn expect_in<R: Recorder>(
 ) -> Result<(), Refused> {
     let key = Key::from_name(alloc, name)?;
     let found = on.register(alloc, kind, &key)?;
-    assert_eq!(rt; found.as_slice(), &[Address { book, series: 0 }]);
+    assert_eq!(rt; found.as_slice(), [Address { book, series: 0 }].as_slice());
     Ok(())
 }
 
@@ -93,13 +94,25 @@ fn the_later_of_equal_patterns_wins(rt: HostRuntime) -> Result<(), Fail> {
 fn routes_are_by_kind(rt: HostRuntime) -> Result<(), Fail> {
     let alloc = rt.alloc();
     let mut builder = new_router(alloc)?;
-    add(alloc, &mut builder, MetricKindMask::COUNTER, "counter_override")?;
+    add(
+        alloc,
+        &mut builder,
+        MetricKindMask::COUNTER,
+        "counter_override",
+    )?;
     add(alloc, &mut builder, MetricKindMask::ALL, "all_override")?;
     let mut router = builder.build();
     counter_in(&rt, alloc, &mut router, "counter_default.foo", 0)?;
     counter_in(&rt, alloc, &mut router, "counter_override.foo", 1)?;
     counter_in(&rt, alloc, &mut router, "all_override.foo", 2)?;
-    expect_in(&rt, alloc, &mut router, MetricKind::Histogram, "all_override.foo", 2)?;
+    expect_in(
+        &rt,
+        alloc,
+        &mut router,
+        MetricKind::Histogram,
+        "all_override.foo",
+        2,
+    )?;
     Ok(())
 }
 
@@ -114,7 +127,10 @@ fn two_routes_to_one_target(rt: HostRuntime) -> Result<(), Fail> {
     expect_in(&rt, alloc, &mut router, MetricKind::Gauge, "bar.gauge", 0)?;
     let key = Key::from_name(alloc, "bar.counter")?;
     let found = router.register(alloc, MetricKind::Counter, &key)?;
-    assert_eq!(rt; found.as_slice(), &[Address { book: 1, series: 1 }]);
+    assert_eq!(rt;
+        found.as_slice(),
+        [Address { book: 1, series: 1 }].as_slice()
+    );
     counter_in(&rt, alloc, &mut new_router(alloc)?.build(), "default", 0)?;
     Ok(())
 }
@@ -170,10 +186,19 @@ fn a_fanout_reaches_each_child(rt: HostRuntime) -> Result<(), Fail> {
     let mut fanout = fanout_of(alloc, 2)?.build();
     let name = KeyName::new(alloc, "hits")?;
     let unit = Some(Unit::Count);
-    assert_eq!(rt; fanout.describe(alloc, MetricKind::Counter, &name, unit, "text")?, 2);
+    assert_eq!(rt;
+        fanout.describe(alloc, MetricKind::Counter, &name, unit, "text")?,
+        2
+    );
     let key = Key::from_name(alloc, "hits")?;
     let found = fanout.register(alloc, MetricKind::Counter, &key)?;
-    assert_eq!(rt; found.as_slice(), &[Address { book: 0, series: 0 }, Address { book: 1, series: 0 }]);
+    assert_eq!(rt;
+        found.as_slice(),
+        &[
+            Address { book: 0, series: 0 },
+            Address { book: 1, series: 0 }
+        ]
+    );
     assert_eq!(rt; fanout.snapshot(alloc, 0)?.as_slice().len(), 1);
     assert_eq!(rt; fanout.snapshot(alloc, 1)?.as_slice().len(), 1);
     Ok(())
@@ -272,7 +297,10 @@ fn a_refused_record_has_acted_on_its_front(rt: HostRuntime) -> Result<(), Fail> 
     let mut fanout = builder.build();
     let key = Key::from_name(alloc, "latency")?;
     let handle = fanout.register_histogram(alloc, &key)?;
-    assert_eq!(rt; handle.record(&mut fanout, 5), Err(Refused::Memory { acted: 1 }));
+    assert_eq!(rt;
+        handle.record(&mut fanout, 5),
+        Err(Refused::Memory { acted: 1 })
+    );
     assert_eq!(rt; samples(alloc, &mut fanout, 0)?, 1);
     assert_eq!(rt; samples(alloc, &mut fanout, 1)?, 0);
     assert_eq!(rt; samples(alloc, &mut fanout, 2)?, 0);
@@ -286,7 +314,7 @@ fn each_layer(alloc: Global) -> Result<Child<Book>, Fail> {
     let Ok(_) = routes.add_route(MetricKindMask::GAUGE, "p.", Child::noop()) else {
         return Err(Fail::new("refused"));
     };
-    let Ok(router) = Child::router(routes.build()) else {
+    let Ok(router) = Child::router(alloc, routes.build()) else {
         return Err(Fail::new("refused"));
     };
     let mut builder = fanout_of(alloc, 1)?;

@@ -87,10 +87,10 @@ returns-in-Err-clause-describes g t c =
     let lt : c.loop-i.i < length now = (let n = rw c.in-Several.children-is at c.len-i-end.ensures in let u = rw c.in-Several.children-is at c.loop-i.invariant.unvisited.0 in omega (arith, n, u, c.in-Several.children.ok.0)) in
     let r = rw c.in-Err.is at c.describe-in-loop-i.ensures.describes in
     let acts = err_acts M c.args.kind c.args.name.now (describe_in c.args.kind c.args.unit c.args.text.now) _ _ _ _ x y lt c.index_mut.ensures.value c.describe-in-loop-i.ensures.keeps c.loop-i.invariant.through
-        (λ n. n ≡ length ((M x).targets c.args.kind c.args.name.now)) (λ n. n ≡ length (named M c.args.kind c.args.name.now (describe_in c.args.kind c.args.unit c.args.text.now) c.in-Several.children.items)) c.in-Err.refused r in
+    (λ n. n ≡ length ((M x).targets c.args.kind c.args.name.now)) (λ n. n ≡ length (named M c.args.kind c.args.name.now (describe_in c.args.kind c.args.unit c.args.text.now) c.in-Several.children.items)) c.in-Err.refused r in
     let h = rw (c.in-Several.children-is, ← c.after.ensures) at acts in
     let by = by-rows m c.in-Several.children c.in-Several._ends c.in-Several.choice c.args.self.now c.in-Several.is All (rw c.in-Several.choice-is at c.in-All.is) (set now c.loop-i.i y)
-        (λ a b. Describes a b c.args.kind c.args.name.now c.args.unit c.args.text.now (Err c.after.result)) h in
+    (λ a b. Describes a b c.args.kind c.args.name.now c.args.unit c.args.text.now (Err c.after.result)) h in
     let w = with_item c.loop-i.children c.loop-i.i y in
     subst (λ chosen. Describes (M c.args.self.now) (M (Several w c.in-Several._ends chosen)) c.args.kind c.args.name.now c.args.unit c.args.text.now (Err c.after.result)) (sym c.in-Several.choice-is) (by (Several w c.in-Several._ends c.in-Several.choice) w refl refl)
 
@@ -115,13 +115,13 @@ loop-i-preserved g t c =
 pub recorder_of_target-number-requires : goal.recorder_of_target-number-requires
 recorder_of_target-number-requires g t c =
     let w = winner-within g.B.Recorder.meaning c.in-Several.children c.in-Several._ends c.in-Several.choice c.args.self.now c.in-Several.is (search rules) c.in-Winner.routes
-        (rw c.in-Several.choice-is at c.in-Winner.is) c.args.kind c.as_str-in-Winner.result.now in
+    (rw c.in-Several.choice-is at c.in-Winner.is) c.args.kind c.as_str-in-Winner.result.now in
     rw c.target.ensures (omega (arith, w, c.in-Several.children.ok.0))
 
 pub index_mut-requires-in-Winner : goal.index_mut-requires-in-Winner
 index_mut-requires-in-Winner g t c =
     let w = winner-within g.B.Recorder.meaning c.in-Several.children c.in-Several._ends c.in-Several.choice c.args.self.now c.in-Several.is (search rules) c.in-Winner.routes
-        (rw c.in-Several.choice-is at c.in-Winner.is) c.args.kind c.as_str-in-Winner.result.now in
+    (rw c.in-Several.choice-is at c.in-Winner.is) c.args.kind c.as_str-in-Winner.result.now in
     let n = c.recorder_of_target-number.ensures ∙ ap recorder_of c.target.ensures in
     rw c.in-Several.children-is (omega (arith, w, n, c.in-Several.children.ok.0))
 
@@ -133,7 +133,7 @@ describe-requires-in-Winner g t c κs within =
     let ys = c.in-Several.children.items in
     let at = rw c.in-Several.children-is at c.index_mut-in-Winner.ensures.value in
     let w = winner-within m c.in-Several.children c.in-Several._ends c.in-Several.choice c.args.self.now c.in-Several.is (search rules) c.in-Winner.routes
-        (rw c.in-Several.choice-is at c.in-Winner.is) c.args.kind c.as_str-in-Winner.result.now in
+    (rw c.in-Several.choice-is at c.in-Winner.is) c.args.kind c.as_str-in-Winner.result.now in
     let n = c.recorder_of_target-number.ensures ∙ ap recorder_of c.target.ensures in
     let lt : c.recorder_of_target-number.result < length ys = omega (arith, w, n) in
     let sound : IsSound m x = subst (IsSound m) (sym at) ((row-is m c.in-Several.children c.in-Several._ends c.in-Several.choice c.args.self.now c.in-Several.is (search rules)).sound c.recorder_of_target-number.result x lt) in
@@ -162,7 +162,7 @@ returns-after-loop-i-clause-describes g t c =
     let M = node_meaning m in
     let all = rw c.in-Several.children-is at (through_all M c.args.kind c.args.name.now (describe_in c.args.kind c.args.unit c.args.text.now) _ _ _ _ (let n = rw c.in-Several.children-is at c.len-i-end.ensures in let u = rw c.in-Several.children-is at c.loop-i.invariant.unvisited.0 in omega (arith, n, u, c.in-Several.children.ok.0)) c.loop-i.invariant.through) in
     let by = by-rows m c.in-Several.children c.in-Several._ends c.in-Several.choice c.args.self.now c.in-Several.is All (rw c.in-Several.choice-is at c.in-All.is) c.loop-i.children.items
-        (λ a b. Describes a b c.args.kind c.args.name.now c.args.unit c.args.text.now (Ok c.loop-i.acted)) all in
+    (λ a b. Describes a b c.args.kind c.args.name.now c.args.unit c.args.text.now (Ok c.loop-i.acted)) all in
     rw (c.in-Several.choice-is) (by (Several c.loop-i.children c.in-Several._ends c.in-Several.choice) c.loop-i.children refl refl)
 
 pub returns-in-Winner-clause-sound : goal.returns-in-Winner-clause-sound
@@ -227,7 +227,7 @@ returns-in-Winner-clause-describes g t c =
     let name = c.as_str-in-Winner.ensures in
     let told = describes-winner M v.items k x lt at y c.describe-in-Winner.ensures.keeps l c.in-Winner.routes c.args.kind c.args.name.now (rw name at n) c.args.unit c.args.text.now c.describe-in-Winner.result c.describe-in-Winner.ensures.describes in
     let by = by-rows m v e c.in-Several.choice c.args.self.now c.in-Several.is (Winner c.in-Winner.routes) is (set v.items k y)
-        (λ a b. Describes a b c.args.kind c.args.name.now c.args.unit c.args.text.now c.describe-in-Winner.result) told in
+    (λ a b. Describes a b c.args.kind c.args.name.now c.args.unit c.args.text.now c.describe-in-Winner.result) told in
     let after = with_item v k y in
     let done = subst (λ chosen. Describes (M c.args.self.now) (M (Several after e chosen)) c.args.kind c.args.name.now c.args.unit c.args.text.now c.describe-in-Winner.result) is (by (Several after e c.in-Several.choice) after refl refl) in
     subst (λ z. Describes (M c.args.self.now) (M (Several (with_item z k y) e (Winner c.in-Winner.routes))) c.args.kind c.args.name.now c.args.unit c.args.text.now c.describe-in-Winner.result) (sym c.in-Several.children-is) done

@@ -11,4 +11,5 @@ invariant-loop-i g l = record {
   unvisited : goal.unvisited-loop-i g l;
   through : Through (node_meaning g.B.Recorder.meaning) l.kind l.name (describe_in l.kind l.unit l.text) l.initial.children.items l.children.items l.i l.acted;
   sound : Every (IsSound g.B.Recorder.meaning) l.children.items;
-  books : map books_of (map (node_meaning g.B.Recorder.meaning) l.children.items) ≡ map books_of (map (node_meaning g.B.Recorder.meaning) l.initial.children.items) }
+  books : map books_of (map (node_meaning g.B.Recorder.meaning) l.children.items) ≡ map books_of (map (node_meaning g.B.Recorder.meaning) l.initial.children.items);
+}

@@ -200,7 +200,7 @@ returns-in-Err-clause-registers g t c =
     let l : books_of (M y) ≡ books_of (M x) = length-registers (M x) (M y) kind c.args.key.now r h.registers in
     let done = subst (λ k. IsAppended {A = Prim.Unit {0}} found after k r (Err c.in-Err.refused)) front (rw c.in-Err.is at c.append_answer.ensures) in
     let acts = refused_after M kind name labels v.items now i found x y lt at lt' at' h.keeps th is (Prim.Unit {0}) after r c.in-Err.refused
-        (λ a. a ≡ addresses kind labels ((all_of M kind name (registers M kind name labels) v.items).targets kind name) (all_of M kind name (registers M kind name labels) v.items).contents) h.registers done in
+    (λ a. a ≡ addresses kind labels ((all_of M kind name (registers M kind name labels) v.items).targets kind name) (all_of M kind name (registers M kind name labels) v.items).contents) h.registers done in
     let R : Meaning → Meaning → Type 0 = λ a b. Registers a b kind c.args.key.now (Err c.in-Err.refused) in
     let by = by-rows m v e ch c.args.self.now c.in-Several.is All (rw c.in-Several.choice-is at c.in-All.is) (set now i y) R acts in
     let w = with_item c.loop-i.children i y in

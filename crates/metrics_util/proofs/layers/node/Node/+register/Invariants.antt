@@ -14,4 +14,5 @@ invariant-loop-i g l = record {
   through : Through (node_meaning g.B.Recorder.meaning) l.kind l.key.name (registers (node_meaning g.B.Recorder.meaning) l.kind l.key.name l.key.labels) l.initial.children.items l.children.items l.i (length l.found.items);
   found : l.found.items ≡ found_in (node_meaning g.B.Recorder.meaning) l.kind l.key.name l.key.labels l.initial.children.items l.i;
   sound : Every (IsSound g.B.Recorder.meaning) l.children.items;
-  books : map books_of (map (node_meaning g.B.Recorder.meaning) l.children.items) ≡ map books_of (map (node_meaning g.B.Recorder.meaning) l.initial.children.items) }
+  books : map books_of (map (node_meaning g.B.Recorder.meaning) l.children.items) ≡ map books_of (map (node_meaning g.B.Recorder.meaning) l.initial.children.items);
+}

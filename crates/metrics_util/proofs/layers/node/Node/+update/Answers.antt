@@ -61,7 +61,7 @@ returns-in-None-clause-updates g t c =
     let none : R (M c.args.self.now) (M c.args.self.now) = subst (λ a. R a a) (sym is) (updates-none ch (map M v.items) c.args.at.book past (Prim.Unit {0}) c.args.at.series c.args.by) in
     let done : R (M c.args.self.now) (M (Several v e ch)) = subst (λ n. R (M c.args.self.now) (M n)) c.in-Several.is none in
     let both : (z : Vec (Node g.row.B.Denot) Global) (chosen : Choice) → z ≡ v → chosen ≡ ch → R (M c.args.self.now) (M (Several z e chosen)) =
-        λ z chosen p q. subst (λ o. R (M c.args.self.now) (M (Several z e o))) (sym q) (subst (λ u. R (M c.args.self.now) (M (Several u e ch))) (sym p) done) in
+    λ z chosen p q. subst (λ o. R (M c.args.self.now) (M (Several z e o))) (sym q) (subst (λ u. R (M c.args.self.now) (M (Several u e ch))) (sym p) done) in
     both _ _ c.in-Several.children-is c.in-Several._choice-is
 
 pub returns-in-Some-clause-sound : goal.returns-in-Some-clause-sound
@@ -132,5 +132,5 @@ returns-in-Some-clause-updates g t c =
     let by = by-rows m v e ch c.args.self.now c.in-Several.is ch refl (set v.items k y) R told in
     let done : R (M c.args.self.now) (M (Several w e ch)) = by (Several w e ch) w refl refl in
     let both : (z : Vec (Node g.row.B.Denot) Global) (chosen : Choice) → z ≡ v → chosen ≡ ch → R (M c.args.self.now) (M (Several (with_item z k y) e chosen)) =
-        λ z chosen p q. subst (λ o. R (M c.args.self.now) (M (Several (with_item z k y) e o))) (sym q) (subst (λ u. R (M c.args.self.now) (M (Several (with_item u k y) e ch))) (sym p) done) in
+    λ z chosen p q. subst (λ o. R (M c.args.self.now) (M (Several (with_item z k y) e o))) (sym q) (subst (λ u. R (M c.args.self.now) (M (Several (with_item u k y) e ch))) (sym p) done) in
     both _ _ c.in-Several.children-is c.in-Several._choice-is
