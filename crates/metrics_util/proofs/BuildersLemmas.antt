@@ -1,5 +1,5 @@
 -- Recorders as they are put together.
-use Rattle.std.proofs.Common.{◌≡◌, ℕ, zero, suc, ◌+◌, ◌-◌, ◌<◌, ◌≤◌, Bool, true, false, List, [], ◌∷◌, ◌++◌, length, map, Option, None, Some, Vec, Global, refl, ap, sym, ◌∙◌, subst, arith, append-nil}
+use Rattle.std.proofs.Common.{◌≡◌, ℕ, zero, suc, ◌+◌, ◌-◌, ◌<◌, ◌≤◌, Bool, true, false, List, [], ◌∷◌, ◌++◌, length, map, Option, None, Some, Vec, Global, refl, ap, sym, ◌∙◌, subst, arith, append-nil, length-append}
 use Rattle.metrics_util.specs.Nodes.{node_meaning, recorder_of, passed, books_of, AreEnds, IsWithin, IsSound}
 use Rattle.std.proofs.lemmas.List.{map-append}
 use Rattle.std.proofs.lemmas.List.Elements.{All-push}
@@ -20,10 +20,10 @@ use Rattle.metrics.specs.declared.kind.MetricKind.{MetricKind}
 use Rattle.metrics.specs.Targets.{AllBelow, AreDistinct, IsNot}
 use Rattle.metrics.specs.Book.{Content}
 use Rattle.metrics.specs.Layers.{Route, winner, chosen, choosing, routed, targets_of}
-use Rattle.metrics_util.specs.Routing.{Stored, StandsFor, TargetsBelow, target_of}
+use Rattle.metrics_util.specs.Routing.{Stored, StandsFor, TargetsBelow, Adds, target_of}
 use Rattle.metrics_util.specs.Builders.{all_meanings}
 use Rattle.metrics_util.specs.declared.layers.choice.Choice.TheVariants.{Winner}
-use Rattle.metrics_util.proofs.RoutingLemmas.{winner-target, target-below}
+use Rattle.metrics_util.proofs.RoutingLemmas.{winner-target, target-below, below-more}
 
 ends-more : (k : ℕ) (ns : List ℕ) (n : ℕ) → ends_from k (ns ++ n ∷ []) ≡ ends_from k ns ++ (k + (total ns + n)) ∷ []
 ends-more k [] n = ap (λ e. e ∷ []) (let e : k + n ≡ k + (0 + n) = omega arith in e)
@@ -168,3 +168,24 @@ no-children n h = let e = is_zero n h in omega (arith, e)
 pub some-children : (n : ℕ) → false ≡ nat_eq n 0 → 0 < n
 some-children zero h = absurd (cc)
 some-children (suc n) h = omega arith
+
+module _ {B C : Type 0} (m : B → Meaning) (node : C → Node B) (d : Option C) (children now : List (Node B)) (a : Meaning) (h : is_some d ≡ nat_eq (length children) 0)
+    (e : meanings m now ≡ all_meanings m (option_map node d) children ++ a ∷ []) where
+  -- one target more
+  pub count-more : length now ≡ suc (suc (length children - 1))
+  count-more =
+      let l = sym (length-map (node_meaning m) now) ∙ ap length e ∙ length-append (all_meanings m (option_map node d) children) (a ∷ []) in
+      let c = count-all m node d children h in
+      omega (arith, l, c)
+
+  pub none-alone : false ≡ nat_eq (length now) 0
+  none-alone = some (length now) count-more
+    where
+      some : (n : ℕ) → n ≡ suc (suc (length children - 1)) → false ≡ nat_eq n 0
+      some n e = grind (arith, nat_tests)
+
+  pub targets-more : (was is : Stored) (mask : ℕ) (pattern : List ℕ) (target : ℕ) → TargetsBelow was (length children - 1) → Adds was is mask pattern target → target ≡ length children - 1 →
+      TargetsBelow is (length now - 1)
+  targets-more was is mask pattern target b adds t =
+      let l = count-more in
+      below-more was is mask pattern target (length children - 1) (length now - 1) b adds (omega (arith, l, t)) (omega (arith, l))

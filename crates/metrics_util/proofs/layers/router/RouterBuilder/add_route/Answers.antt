@@ -1,7 +1,7 @@
 use Rattle.std.proofs.Common.{rules, arith, refl, ◌≡◌, sym, ◌∙◌, ap, suc}
 use Rattle.metrics_util.specs.Routing.{Adds}
 use Rattle.metrics_util.proofs.RoutingLemmas.{stands-more}
-use Rattle.metrics_util.proofs.BuildersLemmas.{count-all}
+use Rattle.metrics_util.proofs.BuildersLemmas.{count-all, none-alone, targets-more}
 use Rattle.metrics_util.proofs.layers.router.RouterBuilder.add_route.Goals as goal
 
 pub returns : goal.returns
@@ -15,3 +15,15 @@ returns g c =
       rw c.push_target.ensures.default (rw c.reserve.ensures.items at c.push_target.ensures.recorders),
       λ rs h. stands-more s.routes c.add.new.self rs c.args.mask c.args.pattern.now c.targets-number.result h adds,
     )
+
+pub invariant_of-self-2 : goal.invariant_of-self-2
+invariant_of-self-2 g c =
+    let m = g.B.Recorder.meaning in
+    let s = c.args.self.now in
+    let now = c.push_target.new.recorders.children.items in
+    let e = rw c.reserve.ensures.items at c.push_target.ensures.recorders in
+    let adds : Adds s.routes c.add.new.self c.args.mask c.args.pattern.now c.targets-number.result = search rules in
+    record {
+      alone = rw c.push_target.ensures.default (none-alone m (λ t. t.node) s.default s.recorders.children.items now _ s.alone e);
+      below = targets-more m (λ t. t.node) s.default s.recorders.children.items now _ s.alone e s.routes c.add.new.self c.args.mask c.args.pattern.now c.targets-number.result s.below adds c.targets-number.ensures;
+    }
