@@ -1,8 +1,10 @@
 //! The tree lines: a tree of new books.
-ghost use Rattle.std.specs.Prelude.{IfOk, IfSome, OnOk, All};
+ghost use Rattle.std.specs.Prelude.{IfOk, IfSome, OnOk, All, List};
 ghost use Rattle.std.specs.Option.{option_map};
 ghost use Rattle.metrics.specs.Meaning.{AreNew};
+ghost use Rattle.metrics.specs.Layers.{Route};
 ghost use Rattle.metrics_util.specs.Builders.{all_meanings};
+ghost use Rattle.metrics_util.specs.Routing.{StandsFor};
 
 use crate::levels::{
     Level, LineError, line_error, put, put_book, put_fanout, put_filter, put_prefix, take_top,
@@ -24,8 +26,10 @@ fn add_routes(
     words: &str,
 ) -> Result<u64, LineError>
     requires targets { All (λ l. AreNew (⟦<Child<DebuggingRecorder> as Recorder>⟧.meaning l.child).contents) targets.old.items }
+    requires listed { (rs : List Route) × StandsFor builder.old.routes rs }
     requires built { All (λ m. AreNew m.contents) (all_meanings ⟦<DebuggingRecorder as Recorder>⟧.meaning (option_map (λ c. c.node) builder.old.default) builder.old.recorders.children.items) }
-    ensures { OnOk result (All (λ m. AreNew m.contents) (all_meanings ⟦<DebuggingRecorder as Recorder>⟧.meaning (option_map (λ c. c.node) builder.new.default) builder.new.recorders.children.items)) }
+    ensures listed { OnOk result ((rs : List Route) × StandsFor builder.new.routes rs) }
+    ensures built { OnOk result (All (λ m. AreNew m.contents) (all_meanings ⟦<DebuggingRecorder as Recorder>⟧.meaning (option_map (λ c. c.node) builder.new.default) builder.new.recorders.children.items)) }
 {
     let mut most = 0;
     let mut named: u64 = 0;

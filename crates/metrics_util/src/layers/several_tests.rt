@@ -194,10 +194,11 @@ fn a_fanout_reaches_each_child(rt: HostRuntime) -> Result<(), Fail> {
     let found = fanout.register(alloc, MetricKind::Counter, &key)?;
     assert_eq!(rt;
         found.as_slice(),
-        &[
+        [
             Address { book: 0, series: 0 },
             Address { book: 1, series: 0 }
         ]
+        .as_slice()
     );
     assert_eq!(rt; fanout.snapshot(alloc, 0)?.as_slice().len(), 1);
     assert_eq!(rt; fanout.snapshot(alloc, 1)?.as_slice().len(), 1);
