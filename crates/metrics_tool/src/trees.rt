@@ -23,7 +23,7 @@ use std::io::BufRead;
 fn add_routes(
     builder: &mut RouterBuilder<DebuggingRecorder>,
     targets: &mut Vec<Level>,
-    words: &str,
+    words: Option<&str>,
 ) -> Result<u64, LineError>
     requires targets { All (λ l. AreNew (⟦<Child<DebuggingRecorder> as Recorder>⟧.meaning l.child).contents) targets.old.items }
     requires listed { (rs : List Route) × StandsFor builder.old.routes rs }
@@ -31,6 +31,9 @@ fn add_routes(
     ensures listed { OnOk result ((rs : List Route) × StandsFor builder.new.routes rs) }
     ensures built { OnOk result (All (λ m. AreNew m.contents) (all_meanings ⟦<DebuggingRecorder as Recorder>⟧.meaning (option_map (λ c. c.node) builder.new.default) builder.new.recorders.children.items)) }
 {
+    let Some(words) = words else {
+        return Ok(0);
+    };
     let mut most = 0;
     let mut named: u64 = 0;
     for word in words.split(' ') {
@@ -78,13 +81,10 @@ fn put_router(
         return Err(LineError::Bad);
     };
     let mut builder = RouterBuilder::from_recorder(alloc, child);
-    let mut most = levels;
-    if let Some(words) = words {
-        match add_routes(&mut builder, &mut taken, words) {
-            Ok(found) => most = most.max(found),
-            Err(error) => return Err(error),
-        }
-    }
+    let most = match add_routes(&mut builder, &mut taken, words) {
+        Ok(found) => levels.max(found),
+        Err(error) => return Err(error),
+    };
     if !taken.is_empty() {
         return Err(LineError::Bad);
     }

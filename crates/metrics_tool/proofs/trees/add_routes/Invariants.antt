@@ -11,4 +11,5 @@ abbrev pub invariant-loop-word : goal.invariant-loop-word
 invariant-loop-word l = record {
   targets : All IsNewTree l.targets.items;
   listed : (rs : List Route) × StandsFor l.builder.routes rs;
-  built : All HasNewBooks (all_meanings book_meaning (option_map (λ c. c.node) l.builder.default) l.builder.recorders.children.items) }
+  built : All HasNewBooks (all_meanings book_meaning (option_map (λ c. c.node) l.builder.default) l.builder.recorders.children.items);
+}

@@ -1,0 +1,10 @@
+use Rattle.std.proofs.Common.{◌∙◌, sym, subst, ap}
+use Rattle.metrics.specs.Meaning.{Meaning, AreNew}
+use Rattle.metrics_tool.proofs.TreesLemmas.{joined_new}
+use Rattle.metrics_tool.proofs.trees.put_router.Goals as goal
+
+pub put-requires-clause-child : goal.put-requires-clause-child
+put-requires-clause-child c =
+    let listed = c.in-Ok-add_routes.ensures.listed in
+    let same = c.in-Ok-router.ensures.meaning ∙ c.build.ensures listed.0 listed.1 in
+    subst AreNew (sym (ap (λ (m : Meaning). m.contents) same)) (joined_new _ c.in-Ok-add_routes.ensures.built)
