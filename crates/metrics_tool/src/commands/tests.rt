@@ -363,11 +363,92 @@ fn bad_tree_lines(rt: HostRuntime) -> Result<(), Fail> {
 }
 
 #[test]
+fn bad_lines_of_several(rt: HostRuntime) -> Result<(), Fail> {
+    let bad: [(&[u8], &[u8]); 19] = [
+        (b"book\nfanout 2\nend\n", b"line 2: bad line\n"),
+        (b"book\nfanout\nend\n", b"line 2: bad line\n"),
+        (b"book\nfanout 01\nend\n", b"line 2: bad line\n"),
+        (b"router 0\nend\n", b"line 1: bad line\n"),
+        (b"book\nrouter 1 c/0/a\nend\n", b"line 2: bad line\n"),
+        (b"book\nbook\nrouter 1\nend\n", b"line 3: bad line\n"),
+        (b"book\nbook\nrouter 1 c/1/a\nend\n", b"line 3: bad line\n"),
+        (b"book\nbook\nrouter 1 gc/0/a\nend\n", b"line 3: bad line\n"),
+        (b"book\nbook\nrouter 1 cc/0/a\nend\n", b"line 3: bad line\n"),
+        (b"book\nbook\nrouter 1 /0/a\nend\n", b"line 3: bad line\n"),
+        (b"book\nbook\nrouter 1 c/0\nend\n", b"line 3: bad line\n"),
+        (b"book\nbook\nrouter 1 c/0/a \nend\n", b"line 3: bad line\n"),
+        (b"book\nrouter 0 c/0/a\nend\n", b"line 2: bad line\n"),
+        (b"book\nfilter cs\nend\n", b"line 2: bad line\n"),
+        (b"book\nfilter Cs dfa\nend\n", b"line 2: bad line\n"),
+        (b"book\nfilter cs table\nend\n", b"line 2: bad line\n"),
+        (b"book\nfilter cs dfa a  b\nend\n", b"line 2: bad line\n"),
+        (b"filter cs dfa\nend\n", b"line 1: bad line\n"),
+        (b"noop x\nend\n", b"line 1: bad line\n"),
+    ];
+    for (text, want) in bad {
+        let mut output = writer(rt.alloc(), 1000, 1000, true);
+        let (errors, status) = told(rt.alloc(), text, 1000, &mut output)?;
+        assert_eq!(rt; output.held.as_slice(), b"".as_slice());
+        assert_eq!(rt; errors.as_slice(), want);
+        assert_eq!(rt; status, 2);
+    }
+    Ok(())
+}
+
+// A router, filters on either side of a prefix, and fanouts.
+const TREES: [(&[u8], &[u8]); 8] = [
+    (
+        b"book\nbook\nbook\nrouter 2 c/0/foo cgh/1/foo.b c/0/bar\nend\nregister counter foo.a\nregister gauge foo.a\nregister counter foo.bc\nsnapshot 1\n",
+        b"registered 0 1\nregistered 1 1\nregistered 2 1\nsnapshot 1 1\ncounter foo.a unit - value 0\n",
+    ),
+    (
+        b"book\nbook\nrouter 1 g/0/- h/0/x\nend\nregister gauge y\nregister histogram y\nsnapshot 1\n",
+        b"registered 0 1\nregistered 1 1\nsnapshot 1 1\ngauge y unit - value 0\n",
+    ),
+    (
+        b"book\nprefix a\nfilter cs dfa a.x\nend\nregister counter x\nsnapshot 0\n",
+        b"registered 0 1\nsnapshot 0 1\ncounter a.x unit - value 0\n",
+    ),
+    (
+        b"book\nfilter cs dfa a.x\nprefix a\nend\nregister counter x\nsnapshot 0\n",
+        b"registered 0 0\nsnapshot 0 0\n",
+    ),
+    (
+        b"book\nfilter ci links \xc3\x89\nend\nregister counter \xc3\xa9\nsnapshot 0\n",
+        b"registered 0 1\nsnapshot 0 1\ncounter \xc3\xa9 unit - value 0\n",
+    ),
+    (
+        b"noop\nbook\nbook\nfanout 3\nend\nregister counter x\nincrement 0 4\nsnapshot 0\nsnapshot 1\nsnapshot 2\n",
+        b"registered 0 2\nupdated 2\nsnapshot 0 1\ncounter x unit - value 4\nsnapshot 1 1\ncounter x unit - value 4\nrefused E3 no such book\n",
+    ),
+    (
+        b"fanout 0\nend\nregister counter x\nincrement 0 1\nsnapshot 0\n",
+        b"registered 0 0\nupdated 0\nrefused E3 no such book\n",
+    ),
+    (
+        b"book\nrouter 0\nend\nregister counter x\nsnapshot 0\n",
+        b"registered 0 1\nsnapshot 0 1\ncounter x unit - value 0\n",
+    ),
+];
+
+#[test]
+fn trees_of_several(rt: HostRuntime) -> Result<(), Fail> {
+    for (text, want) in TREES {
+        is_answered(&rt, rt.alloc(), text, want)?;
+    }
+    Ok(())
+}
+
+#[test]
 fn trees_have_a_thousand_levels(rt: HostRuntime) -> Result<(), Fail> {
-    for (prefixes, want) in [(999usize, 0), (1000usize, 2)] {
+    for (layers, want) in [(999usize, 0), (1000usize, 2)] {
         let mut text = Vec::from_slice(rt.alloc(), b"book\n")?;
-        for _ in 0..prefixes {
-            text.extend_from_slice(b"prefix -\n")?;
+        for i in 0..layers {
+            text.extend_from_slice(if i % 2 == 0 {
+                b"prefix -\n"
+            } else {
+                b"fanout 1\n"
+            })?;
         }
         text.extend_from_slice(b"end\nregister counter x\n")?;
         let mut output = writer(rt.alloc(), 1000, 1000, true);
