@@ -8,7 +8,9 @@ mod matching;
 
 use anyhow::Result;
 use books::{Increments, Registers, Snapshots};
-use layers::{Filtered, Reached, Registered, fanout_of_books, fanout_of_noops, names_of_routes, router};
+use layers::{
+    Filtered, Reached, Registered, fanout_of_books, fanout_of_noops, names_of_routes, router,
+};
 use matching::{Filter, Trie};
 use std::env;
 use std::rt::{Clock, Env};
@@ -119,13 +121,41 @@ fn book_calls<R: Clock + Print + AllocGlobal>(rt: &R, timed: bool) -> Result<()>
 fn layers<R: Clock + Print + AllocGlobal>(rt: &R, timed: bool) -> Result<()> {
     let alloc = rt.alloc();
     let mut bench = Filtered::new(alloc, true, false)?;
-    report(rt, timed, "filter_layer_table_passes", &mut bench, 5000, 100)?;
+    report(
+        rt,
+        timed,
+        "filter_layer_table_passes",
+        &mut bench,
+        5000,
+        100,
+    )?;
     let mut bench = Filtered::new(alloc, true, true)?;
-    report(rt, timed, "filter_layer_table_refused", &mut bench, 5000, 100)?;
+    report(
+        rt,
+        timed,
+        "filter_layer_table_refused",
+        &mut bench,
+        5000,
+        100,
+    )?;
     let mut bench = Filtered::new(alloc, false, false)?;
-    report(rt, timed, "filter_layer_links_passes", &mut bench, 5000, 100)?;
+    report(
+        rt,
+        timed,
+        "filter_layer_links_passes",
+        &mut bench,
+        5000,
+        100,
+    )?;
     let mut bench = Filtered::new(alloc, false, true)?;
-    report(rt, timed, "filter_layer_links_refused", &mut bench, 5000, 100)
+    report(
+        rt,
+        timed,
+        "filter_layer_links_refused",
+        &mut bench,
+        5000,
+        100,
+    )
 }
 
 fn trees<R: Clock + Print + AllocGlobal>(rt: &R, timed: bool) -> Result<()> {
@@ -134,9 +164,17 @@ fn trees<R: Clock + Print + AllocGlobal>(rt: &R, timed: bool) -> Result<()> {
     report(rt, timed, "router_100_match", &mut bench, 5000, 100)?;
     let mut bench = Registered::new(alloc, router(alloc)?, names_of_routes(alloc, false)?);
     report(rt, timed, "router_100_none", &mut bench, 5000, 100)?;
-    let mut bench = Registered::new(alloc, fanout_of_noops(alloc)?, names_of_routes(alloc, false)?);
+    let mut bench = Registered::new(
+        alloc,
+        fanout_of_noops(alloc)?,
+        names_of_routes(alloc, false)?,
+    );
     report(rt, timed, "fanout_of_4_noops", &mut bench, 5000, 100)?;
-    let mut bench = Registered::new(alloc, fanout_of_books(alloc, 4)?, names_of_routes(alloc, false)?);
+    let mut bench = Registered::new(
+        alloc,
+        fanout_of_books(alloc, 4)?,
+        names_of_routes(alloc, false)?,
+    );
     report(rt, timed, "fanout_of_4_books", &mut bench, 1000, 100)?;
     let mut bench = Reached::new(alloc)?;
     report(rt, timed, "increment_through_1000", &mut bench, 5000, 100)
