@@ -118,7 +118,7 @@ fn book_calls<R: Clock + Print + AllocGlobal>(rt: &R, timed: bool) -> Result<()>
     )
 }
 
-fn layers<R: Clock + Print + AllocGlobal>(rt: &R, timed: bool) -> Result<()> {
+fn layer_calls<R: Clock + Print + AllocGlobal>(rt: &R, timed: bool) -> Result<()> {
     let alloc = rt.alloc();
     let mut bench = Filtered::new(alloc, true, false)?;
     report(
@@ -185,6 +185,6 @@ fn main(rt: HostRuntime) -> Result<()> {
     filters(&rt, timed)?;
     tries(&rt, timed)?;
     book_calls(&rt, timed)?;
-    layers(&rt, timed)?;
+    layer_calls(&rt, timed)?;
     trees(&rt, timed)
 }

@@ -11,8 +11,6 @@ mod prefix;
 mod recorders;
 mod router;
 mod routes;
-#[cfg(test)]
-mod several_tests;
 mod stack;
 #[cfg(test)]
 mod tests;
