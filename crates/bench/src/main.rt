@@ -3,14 +3,10 @@
 #![tactic(auto)]
 
 mod books;
-mod layers;
 mod matching;
 
 use anyhow::Result;
 use books::{Increments, Registers, Snapshots};
-use layers::{
-    Filtered, Reached, Registered, fanout_of_books, fanout_of_noops, names_of_routes, router,
-};
 use matching::{Filter, Trie};
 use std::env;
 use std::rt::{Clock, Env};
@@ -118,73 +114,9 @@ fn book_calls<R: Clock + Print + AllocGlobal>(rt: &R, timed: bool) -> Result<()>
     )
 }
 
-fn layer_calls<R: Clock + Print + AllocGlobal>(rt: &R, timed: bool) -> Result<()> {
-    let alloc = rt.alloc();
-    let mut bench = Filtered::new(alloc, true, false)?;
-    report(
-        rt,
-        timed,
-        "filter_layer_table_passes",
-        &mut bench,
-        5000,
-        100,
-    )?;
-    let mut bench = Filtered::new(alloc, true, true)?;
-    report(
-        rt,
-        timed,
-        "filter_layer_table_refused",
-        &mut bench,
-        5000,
-        100,
-    )?;
-    let mut bench = Filtered::new(alloc, false, false)?;
-    report(
-        rt,
-        timed,
-        "filter_layer_links_passes",
-        &mut bench,
-        5000,
-        100,
-    )?;
-    let mut bench = Filtered::new(alloc, false, true)?;
-    report(
-        rt,
-        timed,
-        "filter_layer_links_refused",
-        &mut bench,
-        5000,
-        100,
-    )
-}
-
-fn trees<R: Clock + Print + AllocGlobal>(rt: &R, timed: bool) -> Result<()> {
-    let alloc = rt.alloc();
-    let mut bench = Registered::new(alloc, router(alloc)?, names_of_routes(alloc, true)?);
-    report(rt, timed, "router_100_match", &mut bench, 5000, 100)?;
-    let mut bench = Registered::new(alloc, router(alloc)?, names_of_routes(alloc, false)?);
-    report(rt, timed, "router_100_none", &mut bench, 5000, 100)?;
-    let mut bench = Registered::new(
-        alloc,
-        fanout_of_noops(alloc)?,
-        names_of_routes(alloc, false)?,
-    );
-    report(rt, timed, "fanout_of_4_noops", &mut bench, 5000, 100)?;
-    let mut bench = Registered::new(
-        alloc,
-        fanout_of_books(alloc, 4)?,
-        names_of_routes(alloc, false)?,
-    );
-    report(rt, timed, "fanout_of_4_books", &mut bench, 1000, 100)?;
-    let mut bench = Reached::new(alloc)?;
-    report(rt, timed, "increment_through_1000", &mut bench, 5000, 100)
-}
-
 fn main(rt: HostRuntime) -> Result<()> {
     let timed = is_timed(&rt)?;
     filters(&rt, timed)?;
     tries(&rt, timed)?;
-    book_calls(&rt, timed)?;
-    layer_calls(&rt, timed)?;
-    trees(&rt, timed)
+    book_calls(&rt, timed)
 }

@@ -6,7 +6,7 @@ use prefix_match::{PrefixTrie, SubstringSet};
 use std::alloc::{AllocError, Global};
 
 /// A hundred patterns of eight lower-case letters, the same each time.
-pub fn patterns(alloc: Global) -> Result<Vec<String>, AllocError> {
+fn patterns(alloc: Global) -> Result<Vec<String>, AllocError> {
     let mut all = Vec::new(alloc);
     let mut state: u64 = 1;
     for _ in 0..100 {
@@ -31,7 +31,7 @@ fn letter(number: u64) -> char {
 }
 
 /// A hundred names, each with a pattern in its middle, or without one.
-pub fn names(
+fn names(
     alloc: Global,
     patterns: &[String],
     with_pattern: bool,
@@ -48,7 +48,7 @@ pub fn names(
     Ok(all)
 }
 
-pub fn borrowed(alloc: Global, texts: &[String]) -> Result<Vec<&str>, AllocError> {
+fn borrowed(alloc: Global, texts: &[String]) -> Result<Vec<&str>, AllocError> {
     let mut all = Vec::new(alloc);
     for text in texts {
         all.push(text.as_str())?;
