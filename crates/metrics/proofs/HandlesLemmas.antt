@@ -1,25 +1,20 @@
 -- Updates of each address of a handle.
-use Rattle.std.proofs.Common.{◌&&◌, drop, ◌≡◌, ℕ, zero, suc, ◌+◌, ◌<◌, ◌≤◌, true, false, cond, List, [], ◌∷◌, ◌++◌, length, map, take, get_or, Option, None, Some, Err, refl, ap, sym, ◌∙◌, subst, arith, slice_get, nat_eq, nat_lt, true≢false, Result, Ok}
+use Rattle.std.proofs.Common.{◌&&◌, drop, ◌≡◌, ℕ, zero, suc, ◌+◌, ◌<◌, ◌≤◌, true, false, cond, List, [], ◌∷◌, ◌++◌, length, take, get_or, Err, refl, ap, sym, ◌∙◌, subst, arith, slice_get, nat_eq, nat_lt, true≢false, Result, Ok, ◌^◌}
 use Rattle.std.proofs.Math.Seq.{take-length}
 use Rattle.std.proofs.lemmas.Bool.{ltb-true}
-use Rattle.std.specs.Option.{option_map, option_and_then}
-use Rattle.std.specs.List.{filter_map}
+use Rattle.std.specs.Option.{option_map}
 use Rattle.metrics.specs.declared.kind.MetricKind.{MetricKind}
 use Rattle.metrics.specs.declared.handles.Update.{Update}
 use Rattle.metrics.specs.declared.handles.Address.{Address}
 use Rattle.metrics.specs.declared.refused.Refused.{Refused}
 use Rattle.metrics.specs.declared.refused.Refused.TheVariants.{Memory, NoSuchAddress, NoSuchBook, BadHandle}
-use Rattle.metrics.specs.declared.calls.Call.{Call}
-use Rattle.metrics.specs.declared.calls.Call.TheVariants.{Describe, Register, Update as Change, Snapshot as Take}
-use Rattle.metrics.specs.declared.calls.Answer.{Answer}
 use Rattle.metrics.specs.Targets.{act, at_book}
 use Rattle.metrics.specs.TargetsLaws.{act-append, length-at_book}
 use Rattle.metrics.specs.Book.{Content, Series, with_update, update_in, kind_of, kind_at, content_at}
-use Rattle.metrics.specs.Meaning.{Meaning, Targets, Updates, Keeps, AreNew, is_kind, holds_at}
-use Rattle.metrics.specs.History.{Registration, registration_of, registration, IsPlain, ArePlain}
-use Rattle.metrics.specs.Answering.{handle, handle_of, handle_given, handle_named, AllHeld, IsHeld, places, UpdatesAll, holds_all, after_front, Answers, UpdatesHandle}
+use Rattle.metrics.specs.Meaning.{Meaning, Updates, is_kind, holds_at}
+use Rattle.metrics.specs.Answering.{AllHeld, places, UpdatesAll, holds_all, after_front, CanFollow, UpdatesHandle}
 use Rattle.metrics.proofs.NamesLemmas.{and_left, and_right, and_both}
-use Rattle.metrics.proofs.HistoryLemmas.{Kept, plain-push, content_at-at_book}
+use Rattle.metrics.proofs.HistoryLemmas.{content_at-at_book}
 
 pub default_same : {A : Type 0} (xs : List A) (i : ℕ) (d e : A) → i < length xs → get_or xs i d ≡ get_or xs i e
 default_same [] i d e lt = absurd (omega arith)
@@ -87,6 +82,13 @@ update_err old x new found by i at (Memory a) r held h lt =
 update_err old x new found by i at NoSuchAddress r held h lt = absurd (true≢false (sym held ∙ r.0))
 update_err old x new found by i at NoSuchBook r held h lt = absurd r
 update_err old x new found by i at BadHandle r held h lt = absurd r
+
+-- a refused update has acted on nothing, so the count fits
+pub update_follows : (x new : Meaning) (by : Update) (i : ℕ) (at : Address) (e : Refused) → Updates {A = Prim.Unit {0}} x new at by (Err e) → i < 2 ^ 64 → CanFollow i e
+update_follows x new by i at (Memory a) r lt = omega (arith, r.2, lt)
+update_follows x new by i at NoSuchAddress r lt = tt
+update_follows x new by i at NoSuchBook r lt = tt
+update_follows x new by i at BadHandle r lt = tt
 
 pub update_end : (found : List Address) (by : Update) (n : ℕ) (was now : List Content) → n ≡ length found → now ≡ act (update_in by) (take n (places found)) was → now ≡ act (update_in by) (places found) was
 update_end found by n was now e h = h ∙ ap (λ ts. act (update_in by) ts was) (ap (λ k. take k (places found)) (e ∙ sym (length-places found)) ∙ take-length (places found))

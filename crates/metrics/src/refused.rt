@@ -26,14 +26,14 @@ pub enum Refused {
 impl Refused {
     ghost use Rattle.metrics.specs.Answering.{after_front, CanFollow};
 
-    /// The refusal of a call that had acted on `front` targets before.
+    /// The refusal of a call that had acted on `front` targets before. A count past `usize::MAX` stays there; no
+    /// recorder has so many targets.
     pub fn after(self, front: usize) -> Refused
-        requires { CanFollow front self }
-        ensures { result ≡ after_front front self }
+        ensures { CanFollow front self → result ≡ after_front front self }
     {
         match self {
             Refused::Memory { acted } => Refused::Memory {
-                acted: front + acted,
+                acted: front.saturating_add(acted),
             },
             other => other,
         }

@@ -1,4 +1,4 @@
-use Rattle.std.proofs.Common.{◌≡◌, ◌+◌, ◌<◌, ◌&&◌, length, get_or, drop, sym, ◌∙◌, ap, arith}
+use Rattle.std.proofs.Common.{◌+◌, ◌&&◌, get_or, drop, sym, ◌∙◌, ap}
 use Rattle.metrics.specs.declared.handles.Address.{Address}
 use Rattle.metrics.specs.Answering.{holds_all}
 use Rattle.metrics.proofs.HandlesLemmas.{holds-more, drop-all, default_same}

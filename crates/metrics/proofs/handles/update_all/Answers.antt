@@ -1,4 +1,4 @@
-use Rattle.std.proofs.Common.{◌≡◌, sym, ◌∙◌, subst}
+use Rattle.std.proofs.Common.{sym, ◌∙◌, subst}
 use Rattle.metrics.specs.Answering.{AllHeld}
 use Rattle.metrics.proofs.HandlesLemmas.{held-all}
 use Rattle.metrics.proofs.handles.update_all.Goals as goal

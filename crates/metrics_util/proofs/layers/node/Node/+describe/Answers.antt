@@ -44,12 +44,6 @@ overflow_add-acted g t c =
     let e = c.in-Ok.ensures {u = tt} in
     omega (arith, ok_few (node_meaning g.B.Recorder.meaning) c.args.kind c.args.name.now (describe_in c.args.kind c.args.unit c.args.text.now) _ _ _ _ c.index_mut.result.now c.describe-in-loop-i.new.self (let n = rw c.in-Several.children-is at c.len-i-end.ensures in let u = rw c.in-Several.children-is at c.loop-i.invariant.unvisited.0 in omega (arith, n, u, c.in-Several.children.ok.0)) c.index_mut.ensures.value e.keeps c.loop-i.invariant.through _ e.describes.0 e.describes.1 c.loop-i.invariant.most)
 
-pub after-requires : goal.after-requires
-after-requires g t c =
-    let M = node_meaning g.B.Recorder.meaning in
-    let r = rw c.in-Err.is at c.describe-in-loop-i.ensures.describes in
-    err_follows M c.args.kind c.args.name.now (describe_in c.args.kind c.args.unit c.args.text.now) _ _ _ _ c.index_mut.result.now c.describe-in-loop-i.new.self (let n = rw c.in-Several.children-is at c.len-i-end.ensures in let u = rw c.in-Several.children-is at c.loop-i.invariant.unvisited.0 in omega (arith, n, u, c.in-Several.children.ok.0)) c.index_mut.ensures.value c.describe-in-loop-i.ensures.keeps c.loop-i.invariant.through (λ n. n ≡ length ((M c.index_mut.result.now).targets c.args.kind c.args.name.now)) c.in-Err.refused c.loop-i.invariant.most r
-
 pub returns-in-Err-clause-sound : goal.returns-in-Err-clause-sound
 returns-in-Err-clause-sound g t c =
     let m = g.B.Recorder.meaning in
@@ -88,7 +82,9 @@ returns-in-Err-clause-describes g t c =
     let r = rw c.in-Err.is at c.describe-in-loop-i.ensures.describes in
     let acts = err_acts M c.args.kind c.args.name.now (describe_in c.args.kind c.args.unit c.args.text.now) _ _ _ _ x y lt c.index_mut.ensures.value c.describe-in-loop-i.ensures.keeps c.loop-i.invariant.through
     (λ n. n ≡ length ((M x).targets c.args.kind c.args.name.now)) (λ n. n ≡ length (named M c.args.kind c.args.name.now (describe_in c.args.kind c.args.unit c.args.text.now) c.in-Several.children.items)) c.in-Err.refused r in
-    let h = rw (c.in-Several.children-is, ← c.after.ensures) at acts in
+    let follows = err_follows M c.args.kind c.args.name.now (describe_in c.args.kind c.args.unit c.args.text.now) _ _ _ _ x y lt c.index_mut.ensures.value c.describe-in-loop-i.ensures.keeps c.loop-i.invariant.through
+    (λ n. n ≡ length ((M x).targets c.args.kind c.args.name.now)) c.in-Err.refused c.loop-i.invariant.most r in
+    let h = rw (c.in-Several.children-is, ← c.after.ensures follows) at acts in
     let by = by-rows m c.in-Several.children c.in-Several._ends c.in-Several.choice c.args.self.now c.in-Several.is All (rw c.in-Several.choice-is at c.in-All.is) (set now c.loop-i.i y)
     (λ a b. Describes a b c.args.kind c.args.name.now c.args.unit c.args.text.now (Err c.after.result)) h in
     let w = with_item c.loop-i.children c.loop-i.i y in
