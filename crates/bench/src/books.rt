@@ -1,16 +1,12 @@
-//! Books of a thousand series.
+//! Calls of a recorder.
 
 use crate::Bench;
-use anyhow::{Result, anyhow};
+use anyhow::Result;
 use metrics::{Address, Key, Label, MetricKind, Recorder, Refused, Update};
-use metrics_util::debugging::DebuggingRecorder;
-use metrics_util::layers::{Child, PrefixLayer};
 use std::alloc::Global;
 
-type Tree = Child<DebuggingRecorder>;
-
 /// A thousand keys of one name, each with a label of its own.
-fn keys(alloc: Global) -> Result<Vec<Key>, Refused> {
+pub fn thousand_keys(alloc: Global) -> Result<Vec<Key>, Refused> {
     let mut all = Vec::new(alloc);
     for i in 0..1000u32 {
         let mut labels = Vec::new(alloc);
@@ -21,88 +17,87 @@ fn keys(alloc: Global) -> Result<Vec<Key>, Refused> {
     Ok(all)
 }
 
-/// A new book, alone or under a prefix, that has all the keys as counters.
-fn filled(alloc: Global, keys: &[Key], prefixed: bool) -> Result<Tree> {
-    let mut tree = Child::leaf(DebuggingRecorder::new(alloc)?);
-    if prefixed {
-        let layer = PrefixLayer::new(alloc, "app")?;
-        tree = tree
-            .prefix(alloc, &layer)
-            .ok()
-            .ok_or_else(|| anyhow!("memory"))?;
-    }
+/// One key without labels.
+pub fn one_key(alloc: Global) -> Result<Vec<Key>, Refused> {
+    let mut all = Vec::new(alloc);
+    all.push(Key::from_name(alloc, "requests_total")?)?;
+    Ok(all)
+}
+
+/// Registers each key once.
+fn register_each<R: Recorder>(alloc: Global, on: &mut R, keys: &[Key]) -> Result<u64, Refused> {
+    let mut found: u64 = 0;
     for key in keys {
-        tree.register(alloc, MetricKind::Counter, key)?;
+        let there = on.register(alloc, MetricKind::Counter, key)?;
+        found = found.wrapping_add(there.len() as u64);
     }
-    Ok(tree)
+    Ok(found)
 }
 
-/// Registers keys that the book has.
+/// Registers keys that the recorder has.
 #[derive(Drop)]
-pub struct Registers {
+pub struct Registers<R> {
     alloc: Global,
+    on: R,
     keys: Vec<Key>,
-    tree: Tree,
 }
 
-impl Registers {
-    pub fn new(alloc: Global, prefixed: bool) -> Result<Registers> {
-        let keys = keys(alloc)?;
-        let tree = filled(alloc, keys.as_slice(), prefixed)?;
-        Ok(Registers { alloc, keys, tree })
+impl<R: Recorder> Registers<R> {
+    pub fn new(alloc: Global, mut on: R, keys: Vec<Key>) -> Result<Registers<R>> {
+        register_each(alloc, &mut on, &keys)?;
+        Ok(Registers { alloc, on, keys })
     }
 }
 
-impl Bench for Registers {
+impl<R: Recorder> Bench for Registers<R> {
     fn walk(&mut self) -> Result<u64> {
-        let mut found: u64 = 0;
-        for key in &self.keys {
-            let there = self.tree.register(self.alloc, MetricKind::Counter, key)?;
-            found = found.wrapping_add(there.len() as u64);
-        }
-        Ok(found)
+        Ok(register_each(self.alloc, &mut self.on, &self.keys)?)
     }
 }
 
-/// Increments each series by its address.
+/// Increments the first counters of a book by their addresses.
 #[derive(Drop)]
-pub struct Increments {
-    tree: Tree,
+pub struct Increments<R> {
+    on: R,
+    book: usize,
+    series: usize,
 }
 
-impl Increments {
-    pub fn new(alloc: Global) -> Result<Increments> {
-        let tree = filled(alloc, keys(alloc)?.as_slice(), false)?;
-        Ok(Increments { tree })
+impl<R: Recorder> Increments<R> {
+    pub fn new(alloc: Global, mut on: R, keys: &[Key], book: usize) -> Result<Increments<R>> {
+        register_each(alloc, &mut on, keys)?;
+        let series = keys.len();
+        Ok(Increments { on, book, series })
     }
 }
 
-impl Bench for Increments {
+impl<R: Recorder> Bench for Increments<R> {
     fn walk(&mut self) -> Result<u64> {
-        for series in 0..1000usize {
-            self.tree
-                .update(Address { book: 0, series }, Update::Increment(1))?;
+        let book = self.book;
+        for series in 0..self.series {
+            self.on
+                .update(Address { book, series }, Update::Increment(1))?;
         }
         Ok(1)
     }
 }
 
-/// Takes snapshots of the whole book.
+/// Takes snapshots of a whole book.
 #[derive(Drop)]
-pub struct Snapshots {
+pub struct Snapshots<R> {
     alloc: Global,
-    tree: Tree,
+    on: R,
 }
 
-impl Snapshots {
-    pub fn new(alloc: Global) -> Result<Snapshots> {
-        let tree = filled(alloc, keys(alloc)?.as_slice(), false)?;
-        Ok(Snapshots { alloc, tree })
+impl<R: Recorder> Snapshots<R> {
+    pub fn new(alloc: Global, mut on: R, keys: &[Key]) -> Result<Snapshots<R>> {
+        register_each(alloc, &mut on, keys)?;
+        Ok(Snapshots { alloc, on })
     }
 }
 
-impl Bench for Snapshots {
+impl<R: Recorder> Bench for Snapshots<R> {
     fn walk(&mut self) -> Result<u64> {
-        Ok(self.tree.snapshot(self.alloc, 0)?.as_slice().len() as u64)
+        Ok(self.on.snapshot(self.alloc, 0)?.as_slice().len() as u64)
     }
 }

@@ -3,11 +3,17 @@
 #![tactic(auto)]
 
 mod books;
+mod layers;
 mod matching;
 
-use anyhow::Result;
-use books::{Increments, Registers, Snapshots};
+use anyhow::{Result, anyhow};
+use books::{Increments, Registers, Snapshots, one_key, thousand_keys};
+use layers::{
+    fanout_of_books, fanout_of_noops, filter, names_of_patterns, names_of_routes, prefixed_book,
+    router,
+};
 use matching::{Filter, Trie};
+use metrics_util::debugging::DebuggingRecorder;
 use std::env;
 use std::rt::{Clock, Env};
 use std::time::Instant;
@@ -16,9 +22,17 @@ use std::time::Instant;
 const ROUNDS: usize = 9;
 
 /// A benchmark: one walk makes a fixed number of operations.
-trait Bench {
+trait Bench: Drop {
     /// One walk. What it answers hangs on what was found, so that no work is left out.
     fn walk(&mut self) -> Result<u64>;
+}
+
+/// What a call gave that must succeed.
+fn taken<T: Drop, E: Drop>(answer: Result<T, E>) -> Result<T> {
+    match answer {
+        Ok(value) => Ok(value),
+        Err(_) => Err(anyhow!("refused")),
+    }
 }
 
 /// The median time of one operation in tenths of a nanosecond.
@@ -45,17 +59,17 @@ fn round<B: Bench>(bench: &mut B, walks: u32) -> Result<u64> {
     Ok(seen)
 }
 
-/// Runs a benchmark once, or times it, and prints its line.
+/// Runs a benchmark once, or times it, and prints its line. One walk makes `operations` operations.
 fn report<R: Clock + Print, B: Bench>(
     rt: &R,
     timed: bool,
     name: &str,
-    bench: &mut B,
-    walks: u32,
+    mut bench: B,
     operations: u32,
 ) -> Result<()> {
     if timed {
-        let tenths = median(rt, bench, walks, operations)?;
+        let walks = 500_000 / operations.max(1);
+        let tenths = median(rt, &mut bench, walks, operations)?;
         let whole = tenths / 10;
         let part = tenths % 10;
         println!(rt; "{name} {whole}.{part}")?;
@@ -75,48 +89,89 @@ fn is_timed(rt: &(impl Env + AllocGlobal)) -> Result<bool> {
     Ok(false)
 }
 
-fn filters<R: Clock + Print + AllocGlobal>(rt: &R, timed: bool) -> Result<()> {
+/// What the layers ask `prefix_match`.
+fn questions<R: Clock + Print + AllocGlobal>(rt: &R, timed: bool) -> Result<()> {
     let alloc = rt.alloc();
-    let mut bench = Filter::new(alloc, true, false)?;
-    report(rt, timed, "filter_100_table_passes", &mut bench, 5000, 100)?;
-    let mut bench = Filter::new(alloc, true, true)?;
-    report(rt, timed, "filter_100_table_refused", &mut bench, 5000, 100)?;
-    let mut bench = Filter::new(alloc, false, false)?;
-    report(rt, timed, "filter_100_links_passes", &mut bench, 5000, 100)?;
-    let mut bench = Filter::new(alloc, false, true)?;
-    report(rt, timed, "filter_100_links_refused", &mut bench, 5000, 100)
+    let bench = Filter::new(alloc, true, false)?;
+    report(rt, timed, "filter_100_table_passes", bench, 100)?;
+    let bench = Filter::new(alloc, true, true)?;
+    report(rt, timed, "filter_100_table_refused", bench, 100)?;
+    let bench = Filter::new(alloc, false, false)?;
+    report(rt, timed, "filter_100_links_passes", bench, 100)?;
+    let bench = Filter::new(alloc, false, true)?;
+    report(rt, timed, "filter_100_links_refused", bench, 100)?;
+    let bench = Trie::new(alloc, true)?;
+    report(rt, timed, "trie_100_match", bench, 100)?;
+    let bench = Trie::new(alloc, false)?;
+    report(rt, timed, "trie_100_no_match", bench, 100)
 }
 
-fn tries<R: Clock + Print + AllocGlobal>(rt: &R, timed: bool) -> Result<()> {
+/// Register calls on new recorders.
+fn registers<R: Clock + Print + AllocGlobal>(rt: &R, timed: bool) -> Result<()> {
     let alloc = rt.alloc();
-    let mut bench = Trie::new(alloc, true)?;
-    report(rt, timed, "trie_100_match", &mut bench, 5000, 100)?;
-    let mut bench = Trie::new(alloc, false)?;
-    report(rt, timed, "trie_100_no_match", &mut bench, 5000, 100)
+    let bench = Registers::new(alloc, DebuggingRecorder::new(alloc)?, thousand_keys(alloc)?)?;
+    report(rt, timed, "register_held_of_1000", bench, 1000)?;
+    let bench = Registers::new(alloc, prefixed_book(alloc)?, thousand_keys(alloc)?)?;
+    report(rt, timed, "register_below_a_prefix", bench, 1000)?;
+    let bench = Registers::new(
+        alloc,
+        fanout_of_noops(alloc)?,
+        names_of_routes(alloc, false)?,
+    )?;
+    report(rt, timed, "fanout_of_4_noops", bench, 100)?;
+    let bench = Registers::new(
+        alloc,
+        fanout_of_books(alloc, 4)?,
+        names_of_routes(alloc, false)?,
+    )?;
+    report(rt, timed, "fanout_of_4_books", bench, 100)
 }
 
-fn book_calls<R: Clock + Print + AllocGlobal>(rt: &R, timed: bool) -> Result<()> {
+/// Register calls through a filter or a router.
+fn by_names<R: Clock + Print + AllocGlobal>(rt: &R, timed: bool) -> Result<()> {
     let alloc = rt.alloc();
-    let mut bench = Registers::new(alloc, false)?;
-    report(rt, timed, "register_held_of_1000", &mut bench, 500, 1000)?;
-    let mut bench = Registers::new(alloc, true)?;
-    report(rt, timed, "register_below_a_prefix", &mut bench, 500, 1000)?;
-    let mut bench = Increments::new(alloc)?;
-    report(rt, timed, "increment_by_address", &mut bench, 5000, 1000)?;
-    let mut bench = Snapshots::new(alloc)?;
-    report(
-        rt,
-        timed,
-        "snapshot_of_1000_per_series",
-        &mut bench,
-        200,
-        1000,
-    )
+    let bench = Registers::new(
+        alloc,
+        filter(alloc, true)?,
+        names_of_patterns(alloc, false)?,
+    )?;
+    report(rt, timed, "filter_layer_table_passes", bench, 100)?;
+    let bench = Registers::new(alloc, filter(alloc, true)?, names_of_patterns(alloc, true)?)?;
+    report(rt, timed, "filter_layer_table_refused", bench, 100)?;
+    let bench = Registers::new(
+        alloc,
+        filter(alloc, false)?,
+        names_of_patterns(alloc, false)?,
+    )?;
+    report(rt, timed, "filter_layer_links_passes", bench, 100)?;
+    let bench = Registers::new(
+        alloc,
+        filter(alloc, false)?,
+        names_of_patterns(alloc, true)?,
+    )?;
+    report(rt, timed, "filter_layer_links_refused", bench, 100)?;
+    let bench = Registers::new(alloc, router(alloc)?, names_of_routes(alloc, true)?)?;
+    report(rt, timed, "router_100_match", bench, 100)?;
+    let bench = Registers::new(alloc, router(alloc)?, names_of_routes(alloc, false)?)?;
+    report(rt, timed, "router_100_none", bench, 100)
+}
+
+/// Updates by address, and snapshots.
+fn updates<R: Clock + Print + AllocGlobal>(rt: &R, timed: bool) -> Result<()> {
+    let alloc = rt.alloc();
+    let keys = thousand_keys(alloc)?;
+    let bench = Increments::new(alloc, DebuggingRecorder::new(alloc)?, &keys, 0)?;
+    report(rt, timed, "increment_by_address", bench, 1000)?;
+    let bench = Increments::new(alloc, fanout_of_books(alloc, 1000)?, &one_key(alloc)?, 999)?;
+    report(rt, timed, "increment_through_1000", bench, 1)?;
+    let bench = Snapshots::new(alloc, DebuggingRecorder::new(alloc)?, &keys)?;
+    report(rt, timed, "snapshot_of_1000_per_series", bench, 1000)
 }
 
 fn main(rt: HostRuntime) -> Result<()> {
     let timed = is_timed(&rt)?;
-    filters(&rt, timed)?;
-    tries(&rt, timed)?;
-    book_calls(&rt, timed)
+    questions(&rt, timed)?;
+    registers(&rt, timed)?;
+    by_names(&rt, timed)?;
+    updates(&rt, timed)
 }

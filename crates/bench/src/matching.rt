@@ -6,7 +6,7 @@ use prefix_match::{PrefixTrie, SubstringSet};
 use std::alloc::{AllocError, Global};
 
 /// A hundred patterns of eight lower-case letters, the same each time.
-fn patterns(alloc: Global) -> Result<Vec<String>, AllocError> {
+pub fn patterns(alloc: Global) -> Result<Vec<String>, AllocError> {
     let mut all = Vec::new(alloc);
     let mut state: u64 = 1;
     for _ in 0..100 {
@@ -31,7 +31,7 @@ fn letter(number: u64) -> char {
 }
 
 /// A hundred names, each with a pattern in its middle, or without one.
-fn names(
+pub fn names(
     alloc: Global,
     patterns: &[String],
     with_pattern: bool,
@@ -48,7 +48,7 @@ fn names(
     Ok(all)
 }
 
-fn borrowed(alloc: Global, texts: &[String]) -> Result<Vec<&str>, AllocError> {
+pub fn borrowed(alloc: Global, texts: &[String]) -> Result<Vec<&str>, AllocError> {
     let mut all = Vec::new(alloc);
     for text in texts {
         all.push(text.as_str())?;

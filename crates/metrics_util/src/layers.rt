@@ -11,6 +11,8 @@ mod prefix;
 mod recorders;
 mod router;
 mod routes;
+#[cfg(test)]
+mod several_tests;
 mod stack;
 #[cfg(test)]
 mod tests;

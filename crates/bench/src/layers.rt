@@ -1,0 +1,93 @@
+//! Recorders below layers, handed to the benchmarks as some recorder.
+
+use crate::matching::{borrowed, names, patterns};
+use crate::taken;
+use anyhow::Result;
+use metrics::{Key, NoopRecorder, Refused};
+use metrics_util::MetricKindMask;
+use metrics_util::debugging::DebuggingRecorder;
+use metrics_util::layers::{
+    Child, Fanout, FanoutBuilder, Filter, FilterLayer, Layer, PrefixLayer, Router, RouterBuilder,
+};
+use std::alloc::Global;
+
+/// A key without labels for each name.
+fn keys(alloc: Global, names: &[String]) -> Result<Vec<Key>, Refused> {
+    let mut all = Vec::new(alloc);
+    for name in names {
+        all.push(Key::from_name(alloc, name.as_str())?)?;
+    }
+    Ok(all)
+}
+
+/// A new book below a prefix.
+pub fn prefixed_book(alloc: Global) -> Result<Child<DebuggingRecorder>> {
+    let layer = PrefixLayer::new(alloc, "app")?;
+    let book = Child::leaf(DebuggingRecorder::new(alloc)?);
+    taken(book.prefix(alloc, &layer))
+}
+
+/// A filter of a hundred patterns over a recorder that keeps nothing.
+pub fn filter(alloc: Global, table: bool) -> Result<Filter<NoopRecorder>> {
+    let patterns = patterns(alloc)?;
+    let listed = borrowed(alloc, patterns.as_slice())?;
+    let mut layer = FilterLayer::from_patterns(alloc, listed.as_slice())?;
+    layer.use_dfa(table);
+    taken(layer.layer(alloc, NoopRecorder))
+}
+
+/// A hundred keys, each with one of the patterns in its name, or none.
+pub fn names_of_patterns(alloc: Global, refused: bool) -> Result<Vec<Key>> {
+    let patterns = patterns(alloc)?;
+    let names = names(alloc, patterns.as_slice(), refused)?;
+    Ok(keys(alloc, names.as_slice())?)
+}
+
+fn add_routes(alloc: Global, builder: &mut RouterBuilder<NoopRecorder>) -> Result<()> {
+    for pattern in &patterns(alloc)? {
+        let target = Child::leaf(NoopRecorder);
+        taken(builder.add_route(MetricKindMask::ALL, pattern, target))?;
+    }
+    Ok(())
+}
+
+/// A router of a hundred routes to recorders that keep nothing.
+pub fn router(alloc: Global) -> Result<Router<NoopRecorder>> {
+    let mut builder = RouterBuilder::from_recorder(alloc, Child::leaf(NoopRecorder));
+    match add_routes(alloc, &mut builder) {
+        Ok(()) => Ok(builder.build()),
+        Err(error) => Err(error),
+    }
+}
+
+/// A hundred keys, each with the pattern of a route before its name, or none with one.
+pub fn names_of_routes(alloc: Global, matching: bool) -> Result<Vec<Key>> {
+    let mut names = Vec::new(alloc);
+    for (i, pattern) in patterns(alloc)?.iter().enumerate() {
+        if matching {
+            names.push(format!(in alloc; "{pattern}.http.requests_total")?)?;
+        } else {
+            names.push(format!(in alloc; "{i}.service.http.requests_total")?)?;
+        }
+    }
+    Ok(keys(alloc, names.as_slice())?)
+}
+
+/// A fanout of four recorders that keep nothing.
+pub fn fanout_of_noops(alloc: Global) -> Result<Fanout<NoopRecorder>> {
+    let mut builder = FanoutBuilder::default(alloc);
+    for _ in 0..4u32 {
+        taken(builder.add_recorder(Child::leaf(NoopRecorder)))?;
+    }
+    Ok(builder.build())
+}
+
+/// A fanout of new books.
+pub fn fanout_of_books(alloc: Global, count: u32) -> Result<Fanout<DebuggingRecorder>> {
+    let mut builder = FanoutBuilder::default(alloc);
+    for _ in 0..count {
+        let book = Child::leaf(DebuggingRecorder::new(alloc)?);
+        taken(builder.add_recorder(book))?;
+    }
+    Ok(builder.build())
+}
