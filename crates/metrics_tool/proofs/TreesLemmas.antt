@@ -3,7 +3,7 @@ use Rattle.std.proofs.Common.{◌≡◌, ℕ, zero, suc, ◌<◌, length, List, 
 use Rattle.std.specs.List.{AllByRecursion}
 use Rattle.std.proofs.lemmas.List.Elements.{recursion_from_All, All-from_recursion}
 use Rattle.metrics.specs.Book.{Content, new_book}
-use Rattle.metrics.specs.Layers.{Route, joined_all}
+use Rattle.metrics.specs.Layers.{joined_all}
 use Rattle.metrics.specs.Meaning.{Meaning, AreNew, one_book}
 use Rattle.metrics_util.specs.Nodes.{node_meaning}
 use Rattle.metrics_util.specs.Debugging.{IsNewBook, content_of}
@@ -48,10 +48,6 @@ all_joined (m ∷ ms) h = both_new m.contents (joined_all ms).contents h.0 (all_
 -- the books of recorders side by side are new
 pub joined_new : (ms : List Meaning) → All HasNewBooks ms → AreNew (joined_all ms).contents
 joined_new ms h = all_joined ms (recursion_from_All HasNewBooks ms h)
-
--- one route more
-abbrev pub with_route : List Route → ℕ → List ℕ → ℕ → List Route
-with_route rs mask pattern target = rs ++ record { mask = mask; pattern = pattern; target = target } ∷ []
 
 -- the last of the levels, and the others
 pub new_split : (others all : List Level) (level : Level) → all ≡ others ++ level ∷ [] → All IsNewTree all → All IsNewTree others × IsNewTree level

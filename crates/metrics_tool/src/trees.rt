@@ -1,10 +1,7 @@
 //! The tree lines: a tree of new books.
-ghost use Rattle.std.specs.Prelude.{IfOk, IfSome, OnOk, All, List};
-ghost use Rattle.std.specs.Option.{option_map};
+ghost use Rattle.std.specs.Prelude.{IfOk, IfSome, OnOk, All};
 ghost use Rattle.metrics.specs.Meaning.{AreNew};
-ghost use Rattle.metrics.specs.Layers.{Route};
-ghost use Rattle.metrics_util.specs.Builders.{all_meanings};
-ghost use Rattle.metrics_util.specs.Routing.{StandsFor};
+ghost use Rattle.metrics_util.specs.Building.{listed};
 
 use crate::levels::{
     Level, LineError, line_error, put, put_book, put_fanout, put_filter, put_prefix, take_top,
@@ -26,10 +23,8 @@ fn add_routes(
     words: Option<&str>,
 ) -> Result<u64, LineError>
     requires targets { All (λ l. AreNew (⟦<Child<DebuggingRecorder> as Recorder>⟧.meaning l.child).contents) targets.old.items }
-    requires listed { (rs : List Route) × StandsFor builder.old.routes rs }
-    requires built { All (λ m. AreNew m.contents) (all_meanings ⟦<DebuggingRecorder as Recorder>⟧.meaning (option_map (λ c. c.node) builder.old.default) builder.old.recorders.children.items) }
-    ensures listed { OnOk result ((rs : List Route) × StandsFor builder.new.routes rs) }
-    ensures built { OnOk result (All (λ m. AreNew m.contents) (all_meanings ⟦<DebuggingRecorder as Recorder>⟧.meaning (option_map (λ c. c.node) builder.new.default) builder.new.recorders.children.items)) }
+    requires built { All (λ m. AreNew m.contents) (listed builder.old) }
+    ensures { OnOk result (All (λ m. AreNew m.contents) (listed builder.new)) }
 {
     let Some(words) = words else {
         return Ok(0);
@@ -88,7 +83,7 @@ fn put_router(
     if !taken.is_empty() {
         return Err(LineError::Bad);
     }
-    match Child::router(alloc, builder.build()) {
+    match Child::router(builder.build()) {
         Ok(child) => put(stack, child, most.saturating_add(1)),
         Err((error, _)) => Err(line_error(error)),
     }

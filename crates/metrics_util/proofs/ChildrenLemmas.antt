@@ -1,10 +1,9 @@
 -- A call that goes from child to child, each acting on its own targets, and what is known after the first of them.
-use Rattle.std.proofs.Common.{◌≡◌, ℕ, zero, suc, ◌+◌, ◌<◌, ◌≤◌, List, [], ◌∷◌, ◌++◌, length, take, drop, map, get_or, set, refl, ap, sym, ◌∙◌, subst, arith, length-append, append_assoc, add-zero, zero-add, length-set, Result, Ok, Err}
-use Rattle.std.proofs.Math.Seq.{take-append_seam, take-append-add, take-length}
-use Rattle.std.proofs.lemmas.List.{take-append-le, take-append-drop, take_more_set, take_more}
-use Rattle.std.proofs.lemmas.Grind.{take-set_at, drop-set_at}
+use Rattle.std.proofs.Common.{◌≡◌, ℕ, zero, suc, ◌+◌, ◌<◌, ◌≤◌, List, [], ◌∷◌, ◌++◌, length, take, drop, map, get_or, set, refl, ap, sym, ◌∙◌, subst, arith, length-append, Result, Ok, Err}
+use Rattle.std.proofs.Math.Seq.{take-append_seam, take-length}
+use Rattle.std.proofs.lemmas.List.{take_more_set, take_more}
 use Rattle.metrics.specs.declared.kind.MetricKind.{MetricKind}
-use Rattle.metrics.specs.Targets.{raise, act, at_book, AllBelow}
+use Rattle.metrics.specs.Targets.{raise, act}
 use Rattle.metrics.specs.TargetsLaws.{act-append, length-act, length-raise, below_take, few}
 use Rattle.metrics.specs.declared.handles.Address.{Address}
 use Rattle.metrics.specs.Book.{Content, register_in}

@@ -1,21 +1,20 @@
 -- Recorders side by side: what one of them does, seen among all.
-use Rattle.std.proofs.Common.{◌≡◌, ℕ, zero, suc, ◌+◌, ◌<◌, ◌≤◌, Bool, true, false, ◌&&◌, List, [], ◌∷◌, ◌++◌, length, take, map, Result, Ok, Err, refl, ap, sym, ◌∙◌, subst, arith, length-append, append_assoc, append-nil, zero-add, nat_lt}
+use Rattle.std.proofs.Common.{◌≡◌, ℕ, zero, suc, ◌+◌, ◌<◌, ◌≤◌, Bool, true, false, ◌&&◌, List, [], ◌∷◌, ◌++◌, length, take, Result, Ok, Err, refl, ap, sym, ◌∙◌, subst, arith, length-append, append_assoc, append-nil, zero-add, nat_lt}
 use Rattle.std.specs.List.{All as Every}
 use Rattle.std.proofs.lemmas.List.Elements.{All-nil, All-cons}
-use Rattle.std.proofs.Math.Seq.{take-append_seam, take-append-add, take-length}
+use Rattle.std.proofs.Math.Seq.{take-append-add}
 use Rattle.std.proofs.lemmas.List.{take-append-le}
 use Rattle.std.proofs.lemmas.Bool.Decides.{nat_tests}
 use mathlib.Core.Path.{fun_ext}
 use Rattle.metrics.specs.declared.kind.MetricKind.{MetricKind}
-use Rattle.metrics.specs.declared.handles.Address.{Address}
 use Rattle.metrics.specs.declared.handles.Update.{Update}
 use Rattle.metrics.specs.declared.refused.Refused.{Refused}
 use Rattle.metrics.specs.declared.refused.Refused.TheVariants.{Memory, NoSuchAddress, NoSuchBook, BadHandle}
 use Rattle.metrics.specs.Targets.{raise, act, at_book, AllBelow}
-use Rattle.metrics.specs.TargetsLaws.{act-append, act-front, act-past, length-act, length-raise, take-raise, raise-append, raise-raise, raise-zero, below_take, at_book-front, at_book-past}
-use Rattle.metrics.specs.Book.{Content, RowParts, new_book, content_at, kind_at, kind_of, place, rows, update_in, reset_in}
+use Rattle.metrics.specs.TargetsLaws.{act-front, act-past, length-raise, take-raise, raise-append, raise-raise, raise-zero, below_take, at_book-front, at_book-past}
+use Rattle.metrics.specs.Book.{Content, RowParts, content_at, kind_at, kind_of, place, rows, update_in, reset_in}
 use Rattle.metrics.specs.Meaning.{Meaning, Keeps, Acts, Updates, Snapshots, holds_at, is_kind, addresses, address_in, key_there}
-use Rattle.metrics.specs.Layers.{joined, joined_all, targets_of}
+use Rattle.metrics.specs.Layers.{joined_all, targets_of}
 use Rattle.metrics_util.specs.declared.layers.choice.Choice.{Choice}
 use Rattle.metrics_util.specs.declared.layers.choice.Choice.TheVariants.{All, Winner}
 use Rattle.metrics_util.specs.Routing.{target_of}

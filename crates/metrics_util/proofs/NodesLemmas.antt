@@ -1,5 +1,5 @@
 -- A node with several children, by the list of its children.
-use Rattle.std.proofs.Common.{◌≡◌, ◌<◌, ◌≤◌, ℕ, zero, suc, List, [], ◌∷◌, map, length, take, drop, get_or, set, Result, Vec, Global, refl, ap, sym, ◌∙◌, subst, arith}
+use Rattle.std.proofs.Common.{◌≡◌, ◌<◌, ◌≤◌, ℕ, zero, suc, List, [], ◌∷◌, map, length, get_or, set, Vec, Global, refl, ap, sym, ◌∙◌, subst, arith}
 use Rattle.std.specs.List.{All as Every}
 use Rattle.std.proofs.lemmas.List.Elements.{All-nil, All-cons}
 use mathlib.Core.Former.{Count}
@@ -10,7 +10,7 @@ use Rattle.metrics_util.proofs.JoinedLemmas.{contents-passed}
 use Rattle.metrics.specs.declared.kind.MetricKind.{MetricKind}
 use Rattle.metrics_util.specs.Routing.{Stored, target_of}
 use Rattle.metrics_util.specs.declared.layers.choice.Choice.{Choice}
-use Rattle.metrics_util.specs.declared.layers.choice.Choice.TheVariants.{All, Winner}
+use Rattle.metrics_util.specs.declared.layers.choice.Choice.TheVariants.{Winner}
 use Rattle.metrics_util.specs.Nodes.{node_meaning, row_meanings, recorder_of, passed, books_of, AreEnds, IsWithin, IsSound, IsRowSound}
 use Rattle.metrics_util.specs.declared.layers.node.Node.{Node, Several, Several', Row_of-Node, end_of-Node, more_of-Node, items-the_row-Node, items_hidden-the_row-Node-0}
 

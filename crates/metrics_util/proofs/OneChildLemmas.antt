@@ -5,7 +5,7 @@ use Rattle.metrics.specs.declared.common.Unit.{Unit as Measure}
 use Rattle.metrics.specs.declared.handles.Address.{Address}
 use Rattle.metrics.specs.declared.handles.Update.{Update}
 use Rattle.metrics.specs.declared.refused.Refused.{Refused}
-use Rattle.metrics.specs.declared.refused.Refused.TheVariants.{Memory, NoSuchAddress, NoSuchBook, BadHandle}
+use Rattle.metrics.specs.declared.refused.Refused.TheVariants.{NoSuchAddress, NoSuchBook}
 use Rattle.metrics.specs.Names.{KeyParts}
 use Rattle.metrics.specs.Targets.{raise}
 use Rattle.metrics.specs.TargetsLaws.{length-raise}
@@ -13,12 +13,12 @@ use Rattle.metrics.specs.Book.{Content, RowParts, kind_of, describe_in, register
 use Rattle.metrics.specs.Meaning.{Meaning, Keeps, Acts, Describes, Registers, Updates, Snapshots, holds_at, addresses, key_there}
 use Rattle.metrics.specs.Layers.{joined_all, targets_of}
 use Rattle.metrics_util.specs.declared.layers.choice.Choice.{Choice}
-use Rattle.metrics_util.specs.declared.layers.choice.Choice.TheVariants.{All, Winner}
+use Rattle.metrics_util.specs.declared.layers.choice.Choice.TheVariants.{Winner}
 use Rattle.metrics_util.specs.Routing.{Stored, target_of}
 use Rattle.std.specs.List.{All as Every}
 use Rattle.metrics_util.specs.Places.{total, IsPlace, raised, ends_from, IsRaised, CanRaise}
 use Rattle.metrics_util.proofs.PlacesLemmas.{length-ends}
-use Rattle.metrics_util.specs.Nodes.{recorder_of, passed, books_of, AreEnds}
+use Rattle.metrics_util.specs.Nodes.{recorder_of, passed, books_of}
 use Rattle.metrics_util.proofs.JoinedLemmas.{same_passed, contents-passed, targets_of-middle, IsMapped, acts-one, holds-there, updates-one, snapshots-one, holds-past, addresses-one, addresses-below, books-append}
 use Rattle.metrics_util.proofs.ChildrenLemmas.{split_at, set_split, map_split}
 

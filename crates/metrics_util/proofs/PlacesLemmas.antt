@@ -1,5 +1,5 @@
 -- Ends and totals.
-use Rattle.std.proofs.Common.{◌≡◌, ℕ, zero, suc, ◌+◌, ◌-◌, ◌<◌, ◌≤◌, Bool, true, false, List, [], ◌∷◌, ◌++◌, length, take, drop, get_or, Option, None, Some, refl, ap, sym, ◌∙◌, subst, arith, slice_get, slice_set, append-nil}
+use Rattle.std.proofs.Common.{◌≡◌, ℕ, zero, suc, ◌+◌, ◌-◌, ◌<◌, ◌≤◌, true, false, List, [], ◌∷◌, ◌++◌, length, take, drop, get_or, Option, None, Some, refl, ap, sym, ◌∙◌, subst, arith, slice_get, slice_set, append-nil}
 use Rattle.std.specs.Prelude.{nat_le}
 use Rattle.metrics.specs.declared.handles.Address.{Address}
 use Rattle.std.specs.List.Sorted.{IsPartitionedBy, IsPartitionPoint}

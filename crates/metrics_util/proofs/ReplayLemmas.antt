@@ -1,26 +1,15 @@
 -- The loops of a replay.
-use Rattle.std.proofs.Common.{◌≡◌, ℕ, zero, suc, ◌+◌, ◌<◌, ◌≤◌, true, false, cond, List, [], ◌∷◌, ◌++◌, length, map, take, get_or, Option, None, Some, Err, refl, ap, sym, ◌∙◌, subst, arith, slice_get, nat_eq, nat_lt, true≢false}
-use Rattle.std.proofs.Math.Seq.{take-length}
-use Rattle.std.proofs.lemmas.Bool.{ltb-true}
+use Rattle.std.proofs.Common.{◌≡◌, ℕ, zero, suc, ◌+◌, ◌<◌, ◌≤◌, List, [], ◌∷◌, ◌++◌, length, map, get_or, Option, None, Some, refl, ap, sym, ◌∙◌, subst, arith, slice_get}
 use Rattle.std.specs.Option.{option_map, option_and_then}
 use Rattle.std.specs.List.{filter_map}
 use Rattle.metrics.specs.declared.kind.MetricKind.{MetricKind}
-use Rattle.metrics.specs.declared.handles.Update.{Update}
-use Rattle.metrics.specs.declared.handles.Address.{Address}
-use Rattle.metrics.specs.declared.refused.Refused.{Refused}
-use Rattle.metrics.specs.declared.refused.Refused.TheVariants.{Memory, NoSuchAddress, NoSuchBook, BadHandle}
 use Rattle.metrics.specs.declared.calls.Call.{Call}
 use Rattle.metrics.specs.declared.calls.Call.TheVariants.{Describe, Register, Update as Change, Snapshot as Take}
 use Rattle.metrics.specs.declared.calls.Answer.{Answer}
-use Rattle.metrics.specs.Targets.{act, at_book}
-use Rattle.metrics.specs.TargetsLaws.{act-append, length-at_book}
-use Rattle.metrics.specs.Book.{Content, Series, with_update, update_in, kind_of, kind_at, content_at}
-use Rattle.metrics.specs.Meaning.{Meaning, Targets, Updates, Keeps, AreNew, is_kind, holds_at}
+use Rattle.metrics.specs.Meaning.{Meaning, Targets, Keeps, AreNew}
 use Rattle.metrics.specs.History.{Registration, registration_of, registration, IsPlain, ArePlain}
-use Rattle.metrics.specs.Answering.{handle, handle_of, handle_given, handle_named, AllHeld, IsHeld, places, UpdatesAll, Answers}
-use Rattle.metrics.proofs.NamesLemmas.{and_left, and_right, and_both}
-use Rattle.metrics.proofs.HistoryLemmas.{Kept, plain-push, content_at-at_book}
-use Rattle.metrics.proofs.HandlesLemmas.{default_same}
+use Rattle.metrics.specs.Answering.{handle, handle_of, handle_given, handle_named, IsHeld, Answers}
+use Rattle.metrics.proofs.HistoryLemmas.{Kept, plain-push}
 use Rattle.metrics.proofs.AnsweringLemmas.{call_kept, length_answers, kept_none, handle_held}
 use Rattle.metrics_util.specs.Replaying.{log_of, register_kind, register_places, place_in_front}
 

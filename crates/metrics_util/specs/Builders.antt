@@ -4,9 +4,8 @@ use Rattle.std.specs.Global.{Global}
 use Rattle.std.specs.List.{All}
 use Rattle.std.specs.Vec.{vec_len, vec_capacity}
 use Rattle.metrics.specs.Meaning.{Meaning}
-use Rattle.metrics.specs.Layers.{Route, joined_all}
+use Rattle.metrics.specs.Layers.{joined_all}
 use Rattle.metrics_util.specs.Nodes.{node_meaning, books_of, IsSound, IsSound-prop}
-use Rattle.metrics_util.specs.Routing.{Stored, StandsFor}
 use Rattle.metrics_util.specs.declared.error.Error.{Error}
 use Rattle.metrics_util.specs.declared.error.Error.TheVariants.{Memory, EmptyMask, NoSuchTarget, TooManyBooks}
 use Rattle.metrics_util.specs.declared.layers.node.Node.{Node}
@@ -48,11 +47,6 @@ HasSpare n children ends = (vec_len children + n ≤ vec_capacity children) × (
 abbrev pub all_meanings : {B : Type 0} → (B → Meaning) → Option (Node B) → List (Node B) → List Meaning
 all_meanings m (Some default) children = node_meaning m default ∷ []
 all_meanings m None children = meanings m children
-
--- one route more, however the routes before it are listed
-abbrev pub GainsRoute : Stored → Stored → ℕ → List ℕ → ℕ → Type 0
-GainsRoute old new mask pattern target =
-    (rs : List Route) → StandsFor old rs → StandsFor new (rs ++ record { mask = mask; pattern = pattern; target = target } ∷ [])
 
 -- why a route to one recorder more is refused: for a mask without kinds, else as the recorder is
 abbrev pub route_refusal : ℕ → List Meaning → Meaning → Error

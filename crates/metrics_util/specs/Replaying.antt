@@ -1,10 +1,8 @@
 -- The calls of a replay.
-use Rattle.std.specs.Prelude.{ℕ, suc, ◌+◌, ◌<◌, ◌^◌, List, [], ◌∷◌, Option, None, Some}
+use Rattle.std.specs.Prelude.{ℕ, suc, List, [], ◌∷◌, Option, None, Some}
 use Rattle.std.specs.Borrow.{Bor}
 use Rattle.metrics.specs.declared.kind.MetricKind.{MetricKind}
 use Rattle.metrics.specs.declared.handles.Address.{Address}
-use Rattle.metrics.specs.declared.refused.Refused.{Refused}
-use Rattle.metrics.specs.declared.refused.Refused.TheVariants.{Memory, NoSuchAddress, NoSuchBook, BadHandle}
 use Rattle.metrics.specs.declared.calls.Call.{Call}
 use Rattle.metrics.specs.declared.calls.Call.TheVariants.{Describe, Register, Update as Change, Snapshot as Take}
 use Rattle.metrics.specs.declared.calls.Answer.{Answer}

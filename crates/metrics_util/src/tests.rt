@@ -108,23 +108,29 @@ fn boxed_book(alloc: Global) -> Result<Boxed, Refused> {
     Ok(Boxed(Box::new(alloc, DebuggingRecorder::new(alloc)?)?))
 }
 
+fn expect_map(rt: &impl Abort, alloc: Global, snapshot: Snapshot) -> Result<(), Fail> {
+    let map = snapshot.into_hashmap(alloc).ok().ok_or("memory")?;
+    assert_eq!(rt; map.len(), 4);
+    let key = CompositeKey::new(MetricKind::Gauge, Key::from_name(alloc, "test.gauge.set")?);
+    let found = map.get(&key).ok_or("no row")?;
+    assert!(rt; is_value(&found.2, MetricKind::Gauge, 654));
+    Ok(())
+}
+
+fn expect_maps<R: Recorder>(rt: &impl Abort, alloc: Global, mut on: R) -> Result<(), Fail> {
+    let answers = replay(alloc, &mut on, two_rounds(alloc)?.as_slice())?;
+    let snapshots = taken(alloc, answers)?;
+    assert_eq!(rt; snapshots.len(), 2);
+    for snapshot in snapshots {
+        expect_map(rt, alloc, snapshot)?;
+    }
+    Ok(())
+}
+
 #[test]
 fn two_rounds_read_as_maps(rt: HostRuntime) -> Result<(), Fail> {
     let alloc = rt.alloc();
-    let mut book = boxed_book(alloc)?;
-    let snapshots = taken(
-        alloc,
-        replay(alloc, &mut book, two_rounds(alloc)?.as_slice())?,
-    )?;
-    assert_eq!(rt; snapshots.len(), 2);
-    for snapshot in snapshots {
-        let map = snapshot.into_hashmap(alloc).ok().ok_or("memory")?;
-        assert_eq!(rt; map.len(), 4);
-        let key = CompositeKey::new(MetricKind::Gauge, Key::from_name(alloc, "test.gauge.set")?);
-        let found = map.get(&key).ok_or("no row")?;
-        assert!(rt; is_value(&found.2, MetricKind::Gauge, 654));
-    }
-    Ok(())
+    expect_maps(&rt, alloc, boxed_book(alloc)?)
 }
 
 /// The name that a counter `name` has in book 0, by a replay.

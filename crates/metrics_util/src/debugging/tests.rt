@@ -1,3 +1,5 @@
+//! A book by its calls, with expected values from outside.
+
 use super::{DebuggingRecorder, Snapshotter};
 use metrics::{
     Address, DebugValue, Items, Key, KeyName, Label, MetricKind, Recorder, Refused, Row, Unit,
@@ -7,136 +9,134 @@ use std::alloc::Global;
 use std::process::Abort;
 use std::test::Fail;
 
-fn registered(
+fn registered<R: Recorder>(
     alloc: Global,
-    on: &mut DebuggingRecorder,
+    on: &mut R,
     kind: MetricKind,
-    name: &str,
+    key: &Key,
 ) -> Result<Address, Fail> {
-    let key = Key::from_name(alloc, name)?;
-    let found = on.register(alloc, kind, &key)?;
+    let found = on.register(alloc, kind, key)?;
     Ok(*found.as_slice().first().ok_or("no address")?)
 }
 
-fn snapped(alloc: Global, on: &mut DebuggingRecorder) -> Result<Vec<Row>, Fail> {
-    Ok(on.snapshot(alloc, 0)?.into_vec())
+fn hits(alloc: Global) -> Result<Key, Refused> {
+    Key::from_name(alloc, "hits")
 }
 
-fn value_at(rows: &[Row], place: usize) -> Result<&DebugValue, Fail> {
-    Ok(&rows.get(place).ok_or("no row")?.3)
-}
-
-fn updated(
-    alloc: Global,
-    on: &mut DebuggingRecorder,
-    kind: MetricKind,
-    name: &str,
-    by: Update,
-) -> Result<(), Fail> {
-    let at = registered(alloc, on, kind, name)?;
-    Ok(on.update(at, by)?)
-}
-
-fn told(rt: &impl Abort, rows: &[Row], place: usize, expected: &DebugValue) -> Result<(), Fail> {
-    let value = value_at(rows, place)?;
-    assert!(rt; *value == *expected);
-    Ok(())
-}
-
-fn samples(alloc: Global, of: &[i64]) -> Result<DebugValue, Fail> {
-    Ok(DebugValue::Histogram(Items::from(of.to_vec(alloc)?)))
-}
-
-fn labelled_key(alloc: Global) -> Result<Key, Fail> {
-    let mut labels = Vec::new(alloc);
-    labels.push(Label::new(alloc, "counter.key", "counter.value")?)?;
-    Ok(Key::from_parts(alloc, "test.counter", labels)?)
-}
-
-fn change_all(alloc: Global, on: &mut DebuggingRecorder, key: &Key) -> Result<(), Fail> {
-    let found = on.register(alloc, MetricKind::Counter, key)?;
-    let at = *found.as_slice().first().ok_or("no address")?;
-    on.update(at, Update::Increment(123))?;
-    updated(
-        alloc,
-        on,
-        MetricKind::Gauge,
-        "test.gauge.incr",
-        Update::Add(456),
-    )?;
-    updated(
-        alloc,
-        on,
-        MetricKind::Gauge,
-        "test.gauge.set",
-        Update::Set(654),
-    )?;
-    updated(
-        alloc,
-        on,
+/// The series of a round: each kind and name, what it is updated by, and its value then.
+const ROUND: [(MetricKind, &str, Update, i64); 4] = [
+    (
+        MetricKind::Counter,
+        "test.counter",
+        Update::Increment(123),
+        123,
+    ),
+    (MetricKind::Gauge, "test.gauge.incr", Update::Add(456), 456),
+    (MetricKind::Gauge, "test.gauge.set", Update::Set(654), 654),
+    (
         MetricKind::Histogram,
         "test.histogram",
         Update::Record(789),
-    )
+        789,
+    ),
+];
+
+/// The counter has a label, the others have none.
+fn key_of(alloc: Global, kind: MetricKind, name: &str) -> Result<Key, Refused> {
+    let mut labels = Vec::new(alloc);
+    if kind == MetricKind::Counter {
+        labels.push(Label::new(alloc, "counter.key", "counter.value")?)?;
+    }
+    Key::from_parts(alloc, name, labels)
 }
 
-fn is_plain(rt: &impl Abort, row: &Row) {
-    assert!(rt; row.1.is_none());
-    assert!(rt; row.2.is_none());
-}
-
-fn has_key(rt: &impl Abort, rows: &[Row], key: &Key) -> Result<(), Fail> {
-    let first = rows.first().ok_or("no row")?;
-    assert!(rt; first.0.kind() == MetricKind::Counter);
-    assert!(rt; *first.0.key() == *key);
+fn change_all<R: Recorder>(alloc: Global, on: &mut R) -> Result<(), Fail> {
+    for (kind, name, by, _) in ROUND {
+        let at = registered(alloc, on, kind, &key_of(alloc, kind, name)?)?;
+        on.update(at, by)?;
+    }
     Ok(())
 }
 
-fn one_round(rt: &impl Abort, alloc: Global, on: &mut DebuggingRecorder) -> Result<(), Fail> {
-    let key = labelled_key(alloc)?;
-    change_all(alloc, on, &key)?;
-    let rows = snapped(alloc, on)?;
-    assert_eq!(rt; rows.len(), 4);
-    for row in rows.as_slice() {
-        is_plain(rt, row);
+fn is_value(value: &DebugValue, kind: MetricKind, want: i64) -> bool {
+    match value {
+        DebugValue::Counter(n) => kind == MetricKind::Counter && i64::try_from(*n) == Ok(want),
+        DebugValue::Gauge(n) => kind == MetricKind::Gauge && *n == want,
+        DebugValue::Histogram(samples) => kind == MetricKind::Histogram
+            && samples.as_slice() == [want].as_slice(),
     }
-    has_key(rt, rows.as_slice(), &key)?;
-    told(rt, rows.as_slice(), 0, &DebugValue::Counter(123))?;
-    told(rt, rows.as_slice(), 1, &DebugValue::Gauge(456))?;
-    told(rt, rows.as_slice(), 2, &DebugValue::Gauge(654))?;
-    told(rt, rows.as_slice(), 3, &samples(alloc, &[789])?)
+}
+
+fn expect_row(rt: &impl Abort, row: &Row, kind: MetricKind, key: &Key, want: i64) {
+    assert!(rt; row.0.kind() == kind);
+    assert!(rt; *row.0.key() == *key);
+    assert!(rt; row.1.is_none());
+    assert!(rt; row.2.is_none());
+    assert!(rt; is_value(&row.3, kind, want));
+}
+
+fn expect_round<R: Recorder>(rt: &impl Abort, alloc: Global, on: &mut R) -> Result<(), Fail> {
+    change_all(alloc, on)?;
+    let rows = on.snapshot(alloc, 0)?.into_vec();
+    assert_eq!(rt; rows.len(), 4);
+    for (row, (kind, name, _, want)) in rows.iter().zip(ROUND) {
+        expect_row(rt, row, kind, &key_of(alloc, kind, name)?, want);
+    }
+    Ok(())
 }
 
 #[test]
 fn two_rounds(rt: HostRuntime) -> Result<(), Fail> {
     let alloc = rt.alloc();
     let mut on = DebuggingRecorder::new(alloc)?;
-    one_round(&rt, alloc, &mut on)?;
-    one_round(&rt, alloc, &mut on)
+    expect_round(&rt, alloc, &mut on)?;
+    expect_round(&rt, alloc, &mut on)
+}
+
+fn describe_twice<R: Recorder>(rt: &impl Abort, alloc: Global, on: &mut R) -> Result<(), Fail> {
+    let name = KeyName::new(alloc, "hits")?;
+    for (unit, text) in [(Some(Unit::Bytes), "one"), (None, "two")] {
+        let targets = on.describe(alloc, MetricKind::Counter, &name, unit, text)?;
+        assert_eq!(rt; targets, 1);
+    }
+    assert!(rt; on.snapshot(alloc, 0)?.as_slice().is_empty());
+    Ok(())
+}
+
+fn expect_described<R: Recorder>(rt: &impl Abort, alloc: Global, on: &mut R) -> Result<(), Fail> {
+    let snapshot = on.snapshot(alloc, 0)?;
+    let row = snapshot.as_slice().first().ok_or("no row")?;
+    assert!(rt; row.1 == Some(Unit::Bytes));
+    assert!(rt; row.2.as_ref().is_some_and(|text| text.as_str() == "two"));
+    assert!(rt; row.3 == DebugValue::Counter(0));
+    Ok(())
 }
 
 #[test]
 fn descriptions_stay(rt: HostRuntime) -> Result<(), Fail> {
     let alloc = rt.alloc();
     let mut on = DebuggingRecorder::new(alloc)?;
-    let name = KeyName::new(alloc, "c")?;
-    assert_eq!(rt;
-        on.describe(alloc, MetricKind::Counter, &name, Some(Unit::Bytes), "one")?,
-        1
-    );
-    assert_eq!(rt;
-        on.describe(alloc, MetricKind::Counter, &name, None, "two")?,
-        1
-    );
-    assert_eq!(rt; snapped(alloc, &mut on)?.len(), 0);
-    registered(alloc, &mut on, MetricKind::Counter, "c")?;
-    let rows = snapped(alloc, &mut on)?;
-    assert_eq!(rt; rows.len(), 1);
-    let row = rows.as_slice().first().ok_or("no row")?;
-    assert!(rt; row.1 == Some(Unit::Bytes));
-    let text = row.2.as_ref().ok_or("no text")?;
-    assert!(rt; text.as_str() == "two");
-    assert!(rt; row.3 == DebugValue::Counter(0));
+    describe_twice(&rt, alloc, &mut on)?;
+    registered(alloc, &mut on, MetricKind::Counter, &hits(alloc)?)?;
+    expect_described(&rt, alloc, &mut on)
+}
+
+/// Makes the updates of the one series of a book, and looks at its value in a snapshot.
+fn expect_value<R: Recorder>(
+    rt: &impl Abort,
+    alloc: Global,
+    on: &mut R,
+    kind: MetricKind,
+    updates: &[Update],
+    want: &DebugValue,
+) -> Result<(), Fail> {
+    let at = registered(alloc, on, kind, &hits(alloc)?)?;
+    for by in updates {
+        on.update(at, *by)?;
+    }
+    let snapshot = on.snapshot(alloc, 0)?;
+    let row = snapshot.as_slice().first().ok_or("no row")?;
+    assert!(rt; row.3 == *want);
     Ok(())
 }
 
@@ -144,69 +144,69 @@ fn descriptions_stay(rt: HostRuntime) -> Result<(), Fail> {
 fn counters_wrap(rt: HostRuntime) -> Result<(), Fail> {
     let alloc = rt.alloc();
     let mut on = DebuggingRecorder::new(alloc)?;
-    let at = registered(alloc, &mut on, MetricKind::Counter, "c")?;
-    on.update(at, Update::Increment(18446744073709551615))?;
-    on.update(at, Update::Increment(2))?;
-    assert!(rt; *value_at(snapped(alloc, &mut on)?.as_slice(), 0)? == DebugValue::Counter(1));
-    on.update(at, Update::Absolute(7))?;
-    on.update(at, Update::Absolute(5))?;
-    assert!(rt; *value_at(snapped(alloc, &mut on)?.as_slice(), 0)? == DebugValue::Counter(7));
-    Ok(())
+    let wraps = [
+        Update::Increment(18446744073709551615),
+        Update::Increment(2),
+    ];
+    let want = DebugValue::Counter(1);
+    expect_value(&rt, alloc, &mut on, MetricKind::Counter, &wraps, &want)?;
+    let greatest = [Update::Absolute(7), Update::Absolute(5)];
+    let want = DebugValue::Counter(7);
+    expect_value(&rt, alloc, &mut on, MetricKind::Counter, &greatest, &want)
 }
 
 #[test]
 fn gauges_stop_at_the_end(rt: HostRuntime) -> Result<(), Fail> {
     let alloc = rt.alloc();
     let mut on = DebuggingRecorder::new(alloc)?;
-    let at = registered(alloc, &mut on, MetricKind::Gauge, "g")?;
-    on.update(at, Update::Set(9223372036854775807))?;
-    on.update(at, Update::Add(1))?;
-    assert!(rt;
-        *value_at(snapped(alloc, &mut on)?.as_slice(), 0)? == DebugValue::Gauge(9223372036854775807)
-    );
-    Ok(())
+    let updates = [Update::Set(9223372036854775807), Update::Add(1)];
+    let want = DebugValue::Gauge(9223372036854775807);
+    expect_value(&rt, alloc, &mut on, MetricKind::Gauge, &updates, &want)
+}
+
+/// 64, and then 0 to 63.
+fn newest_block_first(alloc: Global) -> Result<DebugValue, Fail> {
+    let mut expected = Vec::new(alloc);
+    expected.push(64i64)?;
+    for i in 0..64i64 {
+        expected.push(i)?;
+    }
+    Ok(DebugValue::Histogram(Items::from(expected)))
 }
 
 #[test]
 fn blocks_come_newest_first(rt: HostRuntime) -> Result<(), Fail> {
     let alloc = rt.alloc();
     let mut on = DebuggingRecorder::new(alloc)?;
-    let at = registered(alloc, &mut on, MetricKind::Histogram, "h")?;
+    let mut updates = Vec::new(alloc);
     for i in 0..65i64 {
-        on.update(at, Update::Record(i))?;
+        updates.push(Update::Record(i))?;
     }
-    let mut expected = Vec::new(alloc);
-    expected.push(64i64)?;
-    for i in 0..64i64 {
-        expected.push(i)?;
-    }
-    told(
-        &rt,
-        snapped(alloc, &mut on)?.as_slice(),
-        0,
-        &DebugValue::Histogram(Items::from(expected)),
-    )?;
-    told(
-        &rt,
-        snapped(alloc, &mut on)?.as_slice(),
-        0,
-        &samples(alloc, &[])?,
-    )
+    let want = newest_block_first(alloc)?;
+    expect_value(&rt, alloc, &mut on, MetricKind::Histogram, &updates, &want)?;
+    let none = DebugValue::Histogram(Items::from(Vec::new(alloc)));
+    expect_value(&rt, alloc, &mut on, MetricKind::Histogram, &[], &none)
+}
+
+/// What a counter's address holds, and what it is refused for.
+fn expect_held<R: Recorder>(rt: &impl Abort, on: &mut R, at: Address) {
+    assert!(rt; on.holds(MetricKind::Counter, at));
+    assert!(rt; !on.holds(MetricKind::Gauge, at));
+    let other = Address { book: 1, series: 0 };
+    assert!(rt; on.update(other, Update::Increment(1)) == Err(Refused::NoSuchAddress));
+    assert!(rt; on.update(at, Update::Set(1)) == Err(Refused::NoSuchAddress));
 }
 
 #[test]
 fn other_addresses_are_refused(rt: HostRuntime) -> Result<(), Fail> {
     let alloc = rt.alloc();
     let mut on = DebuggingRecorder::new(alloc)?;
-    let at = registered(alloc, &mut on, MetricKind::Counter, "c")?;
-    assert!(rt; on.holds(MetricKind::Counter, at));
-    assert!(rt; !on.holds(MetricKind::Gauge, at));
-    let other = Address { book: 1, series: 0 };
-    assert!(rt; on.update(other, Update::Increment(1)) == Err(Refused::NoSuchAddress));
-    assert!(rt; on.update(at, Update::Set(1)) == Err(Refused::NoSuchAddress));
-    let again = registered(alloc, &mut on, MetricKind::Counter, "c")?;
+    let key = hits(alloc)?;
+    let at = registered(alloc, &mut on, MetricKind::Counter, &key)?;
+    expect_held(&rt, &mut on, at);
+    let again = registered(alloc, &mut on, MetricKind::Counter, &key)?;
     assert!(rt; again == at);
-    let gauge = registered(alloc, &mut on, MetricKind::Gauge, "c")?;
+    let gauge = registered(alloc, &mut on, MetricKind::Gauge, &key)?;
     assert_eq!(rt; gauge.series, 1);
     Ok(())
 }
@@ -215,63 +215,71 @@ fn other_addresses_are_refused(rt: HostRuntime) -> Result<(), Fail> {
 fn a_snapshotter_takes_its_book(rt: HostRuntime) -> Result<(), Fail> {
     let alloc = rt.alloc();
     let mut on = DebuggingRecorder::new(alloc)?;
-    registered(alloc, &mut on, MetricKind::Counter, "c")?;
+    registered(alloc, &mut on, MetricKind::Counter, &hits(alloc)?)?;
+    assert!(rt; on.snapshotter() == Snapshotter::of(0));
     let rows = Snapshotter::of(0).snapshot(alloc, &mut on)?;
     assert_eq!(rt; rows.as_slice().len(), 1);
-    assert!(rt; on.snapshotter() == Snapshotter::of(0));
-    assert!(rt;
-        matches!(
-            &Snapshotter::of(1).snapshot(alloc, &mut on),
-            Err(Refused::NoSuchBook)
-        )
-    );
+    let other = Snapshotter::of(1).snapshot(alloc, &mut on);
+    assert!(rt; matches!(&other, Err(Refused::NoSuchBook)));
     Ok(())
 }
 
-fn hits(alloc: Global) -> Result<Key, Fail> {
-    Ok(Key::from_name(alloc, "hits")?)
-}
-
-#[test]
-fn typed_calls_of_a_counter(rt: HostRuntime) -> Result<(), Fail> {
-    let alloc = rt.alloc();
-    let mut on = DebuggingRecorder::new(alloc)?;
+fn counter_calls<R: Recorder>(rt: &impl Abort, alloc: Global, on: &mut R) -> Result<(), Fail> {
     let name = KeyName::new(alloc, "hits")?;
     assert_eq!(rt;
         on.describe_counter(alloc, &name, Some(Unit::Count), "all")?,
         1
     );
     let counter = on.register_counter(alloc, &hits(alloc)?)?;
-    assert_eq!(rt; counter.increment(&mut on, 2)?, 1);
-    assert_eq!(rt; counter.absolute(&mut on, 7)?, 1);
-    let rows = snapped(alloc, &mut on)?;
-    assert!(rt; *value_at(rows.as_slice(), 0)? == DebugValue::Counter(7));
+    assert_eq!(rt; counter.increment(on, 2)?, 1);
+    assert_eq!(rt; counter.absolute(on, 7)?, 1);
     Ok(())
+}
+
+fn gauge_calls<R: Recorder>(rt: &impl Abort, alloc: Global, on: &mut R) -> Result<(), Fail> {
+    let name = KeyName::new(alloc, "hits")?;
+    assert_eq!(rt; on.describe_gauge(alloc, &name, None, "all")?, 1);
+    let gauge = on.register_gauge(alloc, &hits(alloc)?)?;
+    assert_eq!(rt; gauge.set(on, 5)?, 1);
+    assert_eq!(rt; gauge.increment(on, 4)?, 1);
+    assert_eq!(rt; gauge.decrement(on, 2)?, 1);
+    Ok(())
+}
+
+fn histogram_calls<R: Recorder>(rt: &impl Abort, alloc: Global, on: &mut R) -> Result<(), Fail> {
+    let name = KeyName::new(alloc, "hits")?;
+    assert_eq!(rt; on.describe_histogram(alloc, &name, None, "all")?, 1);
+    let histogram = on.register_histogram(alloc, &hits(alloc)?)?;
+    assert_eq!(rt; histogram.record(on, 3)?, 1);
+    assert_eq!(rt; histogram.addresses().len(), 1);
+    Ok(())
+}
+
+#[test]
+fn typed_calls_of_a_counter(rt: HostRuntime) -> Result<(), Fail> {
+    let alloc = rt.alloc();
+    let mut on = DebuggingRecorder::new(alloc)?;
+    counter_calls(&rt, alloc, &mut on)?;
+    let want = DebugValue::Counter(7);
+    expect_value(&rt, alloc, &mut on, MetricKind::Counter, &[], &want)
 }
 
 #[test]
 fn typed_calls_of_a_gauge(rt: HostRuntime) -> Result<(), Fail> {
     let alloc = rt.alloc();
     let mut on = DebuggingRecorder::new(alloc)?;
-    let name = KeyName::new(alloc, "hits")?;
-    assert_eq!(rt; on.describe_gauge(alloc, &name, None, "all")?, 1);
-    let gauge = on.register_gauge(alloc, &hits(alloc)?)?;
-    assert_eq!(rt; gauge.set(&mut on, 5)?, 1);
-    assert_eq!(rt; gauge.increment(&mut on, 4)?, 1);
-    assert_eq!(rt; gauge.decrement(&mut on, 2)?, 1);
-    let rows = snapped(alloc, &mut on)?;
-    assert!(rt; *value_at(rows.as_slice(), 0)? == DebugValue::Gauge(7));
-    Ok(())
+    gauge_calls(&rt, alloc, &mut on)?;
+    let want = DebugValue::Gauge(7);
+    expect_value(&rt, alloc, &mut on, MetricKind::Gauge, &[], &want)
 }
 
 #[test]
 fn typed_calls_of_a_histogram(rt: HostRuntime) -> Result<(), Fail> {
     let alloc = rt.alloc();
     let mut on = DebuggingRecorder::new(alloc)?;
-    let name = KeyName::new(alloc, "hits")?;
-    assert_eq!(rt; on.describe_histogram(alloc, &name, None, "all")?, 1);
-    let histogram = on.register_histogram(alloc, &hits(alloc)?)?;
-    assert_eq!(rt; histogram.record(&mut on, 3)?, 1);
-    assert_eq!(rt; histogram.addresses().len(), 1);
-    Ok(())
+    histogram_calls(&rt, alloc, &mut on)?;
+    let mut samples = Vec::new(alloc);
+    samples.push(3i64)?;
+    let want = DebugValue::Histogram(Items::from(samples));
+    expect_value(&rt, alloc, &mut on, MetricKind::Histogram, &[], &want)
 }

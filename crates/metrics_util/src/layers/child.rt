@@ -28,6 +28,7 @@ impl<B: Recorder> Child<B> {
     pub fn leaf(recorder: B) -> Child<B>
         ensures { ⟦<Child<B> as Recorder>⟧.meaning result ≡ B.meaning recorder }
     {
+        // The trait bounds the number of books where it is asked for.
         let _books = recorder.books();
         Child {
             node: Node::Leaf(recorder),
@@ -49,7 +50,7 @@ impl<B: Recorder> Child<B> {
     }
 
     /// A router as it is. It takes no memory, and is never refused.
-    pub fn router(_alloc: Global, router: Router<B>) -> Result<Child<B>, (Error, Router<B>)>
+    pub fn router(router: Router<B>) -> Result<Child<B>, (Error, Router<B>)>
         ensures accepted { IsOk result }
         ensures meaning { MatchResult result
             (λ c. ⟦<Child<B> as Recorder>⟧.meaning c ≡ ⟦<Router<B> as Recorder>⟧.meaning router)

@@ -1,7 +1,8 @@
 //! A recorder that passes each name to several.
 ghost use Rattle.std.specs.Prelude.{◌≡◌, [], MatchResult};
 ghost use Rattle.metrics.specs.Layers.{joined_all};
-ghost use Rattle.metrics_util.specs.Builders.{meanings, IsFew, Gains, refusal};
+ghost use Rattle.metrics_util.specs.Builders.{IsFew, Gains, refusal};
+ghost use Rattle.metrics_util.specs.Building.{added};
 
 use crate::error::Error;
 use crate::layers::child::Child;
@@ -19,7 +20,7 @@ pub struct FanoutBuilder<B: Recorder> {
 impl<B: Recorder> FanoutBuilder<B> {
     /// A builder without recorders.
     pub fn default(alloc: Global) -> FanoutBuilder<B>
-        ensures { meanings B.meaning result.recorders.children.items ≡ [] }
+        ensures { added result ≡ [] }
     {
         FanoutBuilder {
             recorders: Recorders::new(alloc),
@@ -32,12 +33,9 @@ impl<B: Recorder> FanoutBuilder<B> {
     ///
     /// `TooManyBooks` where there would be more than 65,536 books, and else `Memory`.
     pub fn add_recorder(&mut self, child: Child<B>) -> Result<(), (Error, Child<B>)>
-        ensures { let old = meanings B.meaning self.old.recorders.children.items in
-            let new = meanings B.meaning self.new.recorders.children.items in
-            let added = ⟦<Child<B> as Recorder>⟧.meaning child in
-            MatchResult result
-            (λ done. IsFew old added × Gains old new added)
-            (λ e. (e.0 ≡ refusal old added) × (e.1 ≡ child) × (new ≡ old)) }
+        ensures { let one = ⟦<Child<B> as Recorder>⟧.meaning child in MatchResult result
+            (λ done. IsFew (added self.old) one × Gains (added self.old) (added self.new) one)
+            (λ e. (e.0 ≡ refusal (added self.old) one) × (e.1 ≡ child) × (added self.new ≡ added self.old)) }
     {
         if child.books() > MOST_BOOKS - self.recorders.books() {
             return Err((Error::TooManyBooks, child));
@@ -51,7 +49,7 @@ impl<B: Recorder> FanoutBuilder<B> {
 
     /// All that were added, as one recorder.
     pub fn build(self) -> Fanout<B>
-        ensures { ⟦<Fanout<B> as Recorder>⟧.meaning result ≡ joined_all (meanings B.meaning self.recorders.children.items) }
+        ensures { ⟦<Fanout<B> as Recorder>⟧.meaning result ≡ joined_all (added self) }
     {
         Fanout {
             child: self.recorders.into_child(Choice::All),

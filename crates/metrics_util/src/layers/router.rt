@@ -1,10 +1,10 @@
 //! A recorder that passes each name to one of several.
 ghost use Rattle.std.specs.Prelude.{◌≡◌, ◌≤◌, ◌<◌, ◌-◌, ◌++◌, ◌∷◌, [], List, suc, false, None, is_some, nat_eq, length, MatchResult};
 ghost use Rattle.std.specs.Option.{option_map};
-ghost use Rattle.metrics.specs.Layers.{Route, routed};
+ghost use Rattle.metrics.specs.Layers.{Route, routed, joined_all};
 ghost use Rattle.metrics_util.specs.Nodes.{node_meaning};
-ghost use Rattle.metrics_util.specs.Routing.{StandsFor, TargetsBelow};
-ghost use Rattle.metrics_util.specs.Builders.{meanings, all_meanings, books_in, IsFew, HasSpare, Gains, GainsRoute, route_refusal, target_refusal};
+ghost use Rattle.metrics_util.specs.Routing.{TargetsBelow};
+ghost use Rattle.metrics_util.specs.Builders.{meanings, all_meanings, books_in, IsFew, HasSpare, Gains, route_refusal, target_refusal};
 
 use crate::error::Error;
 use crate::kind::MetricKindMask;
@@ -28,10 +28,12 @@ pub struct RouterBuilder<B: Recorder> {
 }
 
 impl<B: Recorder> RouterBuilder<B> {
+    ghost use Rattle.metrics_util.specs.Building.{listed, HasRoutes, GainsRoute, IsUnchanged};
+
     /// A builder with a default, to which each name goes that no route fits. It takes no memory.
     pub fn from_recorder(alloc: Global, default: Child<B>) -> RouterBuilder<B>
-        ensures recorders { all_meanings B.meaning (option_map (λ c. c.node) result.default) result.recorders.children.items ≡ ⟦<Child<B> as Recorder>⟧.meaning default ∷ [] }
-        ensures routes { StandsFor result.routes [] }
+        ensures recorders { listed result ≡ ⟦<Child<B> as Recorder>⟧.meaning default ∷ [] }
+        ensures routes { HasRoutes result [] }
     {
         RouterBuilder {
             default: Some(default),
@@ -53,13 +55,10 @@ impl<B: Recorder> RouterBuilder<B> {
         pattern: &str,
         target: Child<B>,
     ) -> Result<usize, (Error, Child<B>)>
-        ensures { let old = all_meanings B.meaning (option_map (λ c. c.node) self.old.default) self.old.recorders.children.items in
-            let new = all_meanings B.meaning (option_map (λ c. c.node) self.new.default) self.new.recorders.children.items in
-            let added = ⟦<Child<B> as Recorder>⟧.meaning target in
-            MatchResult result
-            (λ n. (suc n ≡ length old) × (nat_eq mask 0 ≡ false) × IsFew old added × Gains old new added
-            × GainsRoute self.old.routes self.new.routes mask pattern.now n)
-            (λ e. (e.0 ≡ route_refusal mask old added) × (e.1 ≡ target) × (new ≡ old) × (self.new.routes ≡ self.old.routes)) }
+        ensures { let added = ⟦<Child<B> as Recorder>⟧.meaning target in MatchResult result
+            (λ n. (suc n ≡ length (listed self.old)) × (nat_eq mask 0 ≡ false) × IsFew (listed self.old) added
+            × Gains (listed self.old) (listed self.new) added × GainsRoute self.old self.new mask pattern.now n)
+            (λ e. (e.0 ≡ route_refusal mask (listed self.old) added) × (e.1 ≡ target) × IsUnchanged self.old self.new) }
     {
         if mask.is_empty() {
             return Err((Error::EmptyMask, target));
@@ -89,12 +88,10 @@ impl<B: Recorder> RouterBuilder<B> {
         pattern: &str,
         target: usize,
     ) -> Result<(), Error>
-        ensures { let old = all_meanings B.meaning (option_map (λ c. c.node) self.old.default) self.old.recorders.children.items in
-            let new = all_meanings B.meaning (option_map (λ c. c.node) self.new.default) self.new.recorders.children.items in
-            (new ≡ old) × MatchResult result
-            (λ done. (nat_eq mask 0 ≡ false) × (suc target < length old)
-            × GainsRoute self.old.routes self.new.routes mask pattern.now target)
-            (λ e. (e ≡ target_refusal mask target (length old - 1)) × (self.new.routes ≡ self.old.routes)) }
+        ensures { MatchResult result
+            (λ done. (nat_eq mask 0 ≡ false) × (suc target < length (listed self.old))
+            × (listed self.new ≡ listed self.old) × GainsRoute self.old self.new mask pattern.now target)
+            (λ e. (e ≡ target_refusal mask target (length (listed self.old) - 1)) × IsUnchanged self.old self.new) }
     {
         if mask.is_empty() {
             return Err(Error::EmptyMask);
@@ -110,8 +107,8 @@ impl<B: Recorder> RouterBuilder<B> {
 
     /// The default, the targets and the routes as one recorder.
     pub fn build(self) -> Router<B>
-        ensures { (rs : List Route) → StandsFor self.routes rs → ⟦<Router<B> as Recorder>⟧.meaning result
-            ≡ routed rs (all_meanings B.meaning (option_map (λ c. c.node) self.default) self.recorders.children.items) }
+        ensures routed { (rs : List Route) → HasRoutes self rs → ⟦<Router<B> as Recorder>⟧.meaning result ≡ routed rs (listed self) }
+        ensures contents { (⟦<Router<B> as Recorder>⟧.meaning result).contents ≡ (joined_all (listed self)).contents }
     {
         let RouterBuilder {
             default,
@@ -128,7 +125,7 @@ impl<B: Recorder> RouterBuilder<B> {
 
     /// The number of books of all, at most 65,536.
     fn books(&self) -> usize
-        ensures all { result ≡ books_in (all_meanings B.meaning (option_map (λ c. c.node) self.now.default) self.now.recorders.children.items) }
+        ensures all { result ≡ books_in (listed self.now) }
         ensures most { result ≤ 65536 }
     {
         match &self.default {

@@ -35,8 +35,14 @@ fn taken<T: Drop, E: Drop>(answer: Result<T, E>) -> Result<T, Fail> {
 /// What a call gave back that must be refused.
 fn given_back<T: Drop, G: Drop>(answer: Result<T, (Error, G)>, why: Error) -> Result<G, Fail> {
     match answer {
-        Err((error, given)) if error == why => Ok(given),
-        _ => Err(Fail::new("not refused so")),
+        Ok(_) => Err(Fail::new("taken")),
+        Err((error, given)) => {
+            if error == why {
+                Ok(given)
+            } else {
+                Err(Fail::new("refused for another reason"))
+            }
+        }
     }
 }
 
@@ -63,18 +69,18 @@ fn router_of(alloc: Global, routes: &[(MetricKindMask, &str)]) -> Result<Router<
     }
 }
 
-/// That each name is registered in one book alone, and gives the recorder back.
+/// That each name has one address, a book and a series there. Gives the recorder back.
 fn expect_in<R: Recorder>(
     rt: &impl Abort,
     alloc: Global,
     mut on: R,
-    wanted: &[(MetricKind, &str, usize)],
+    wanted: &[(MetricKind, &str, (usize, usize))],
 ) -> Result<R, Fail> {
-    for (kind, name, book) in wanted {
+    for (kind, name, (book, series)) in wanted {
         let key = Key::from_name(alloc, name)?;
         let found = on.register(alloc, *kind, &key)?;
         assert_eq!(rt; found.len(), 1);
-        assert_eq!(rt; found[0].book, *book);
+        assert_eq!(rt; (found[0].book, found[0].series), (*book, *series));
     }
     Ok(on)
 }
@@ -97,9 +103,9 @@ fn the_longest_pattern_wins(rt: HostRuntime) -> Result<(), Fail> {
     let alloc = rt.alloc();
     let routes = [(MetricKindMask::ALL, "a"), (MetricKindMask::COUNTER, "ab")];
     let wanted = [
-        (MetricKind::Counter, "abc", 2),
-        (MetricKind::Gauge, "abc", 1),
-        (MetricKind::Counter, "b", 0),
+        (MetricKind::Counter, "abc", (2, 0)),
+        (MetricKind::Gauge, "abc", (1, 0)),
+        (MetricKind::Counter, "b", (0, 0)),
     ];
     expect_in(&rt, alloc, router_of(alloc, &routes)?, &wanted)?;
     Ok(())
@@ -112,7 +118,7 @@ fn the_later_of_equal_patterns_wins(rt: HostRuntime) -> Result<(), Fail> {
         (MetricKindMask::COUNTER, "foo"),
         (MetricKindMask::COUNTER, "foo"),
     ];
-    let wanted = [(MetricKind::Counter, "foo.c", 2)];
+    let wanted = [(MetricKind::Counter, "foo.c", (2, 0))];
     let router = expect_in(&rt, alloc, router_of(alloc, &routes)?, &wanted)?;
     expect_empty(&rt, alloc, router, 3, 1)
 }
@@ -125,11 +131,11 @@ fn routes_are_by_kind(rt: HostRuntime) -> Result<(), Fail> {
         (MetricKindMask::ALL, "all_override"),
     ];
     let wanted = [
-        (MetricKind::Counter, "counter_default.foo", 0),
-        (MetricKind::Counter, "counter_override.foo", 1),
-        (MetricKind::Gauge, "counter_override.foo", 0),
-        (MetricKind::Counter, "all_override.foo", 2),
-        (MetricKind::Histogram, "all_override.foo", 2),
+        (MetricKind::Counter, "counter_default.foo", (0, 0)),
+        (MetricKind::Counter, "counter_override.foo", (1, 0)),
+        (MetricKind::Gauge, "counter_override.foo", (0, 1)),
+        (MetricKind::Counter, "all_override.foo", (2, 0)),
+        (MetricKind::Histogram, "all_override.foo", (2, 1)),
     ];
     expect_in(&rt, alloc, router_of(alloc, &routes)?, &wanted)?;
     Ok(())
@@ -154,10 +160,10 @@ fn two_to_one(alloc: Global) -> Result<Router<Book>, Fail> {
 fn two_routes_to_one_target(rt: HostRuntime) -> Result<(), Fail> {
     let alloc = rt.alloc();
     let wanted = [
-        (MetricKind::Counter, "foo.counter", 1),
-        (MetricKind::Gauge, "bar.gauge", 0),
-        (MetricKind::Counter, "bar.counter", 1),
-        (MetricKind::Counter, "default", 0),
+        (MetricKind::Counter, "foo.counter", (1, 0)),
+        (MetricKind::Gauge, "bar.gauge", (0, 0)),
+        (MetricKind::Counter, "bar.counter", (1, 1)),
+        (MetricKind::Counter, "default", (0, 1)),
     ];
     expect_in(&rt, alloc, two_to_one(alloc)?, &wanted)?;
     Ok(())
@@ -187,9 +193,9 @@ fn after_a_refusal(alloc: Global) -> Result<Router<Book>, Fail> {
 fn a_refused_route_gives_the_recorder_back(rt: HostRuntime) -> Result<(), Fail> {
     let alloc = rt.alloc();
     let wanted = [
-        (MetricKind::Counter, "q", 1),
-        (MetricKind::Gauge, "q", 1),
-        (MetricKind::Histogram, "q", 0),
+        (MetricKind::Counter, "q", (1, 0)),
+        (MetricKind::Gauge, "q", (1, 1)),
+        (MetricKind::Histogram, "q", (0, 0)),
     ];
     expect_in(&rt, alloc, after_a_refusal(alloc)?, &wanted)?;
     Ok(())
@@ -336,9 +342,11 @@ fn expect_samples<R: Recorder>(
     book: usize,
     wanted: &[i64],
 ) -> Result<(), Fail> {
-    match &on.snapshot(alloc, book)?.as_slice()[0].3 {
+    let snapshot = on.snapshot(alloc, book)?;
+    let row = snapshot.as_slice().first().ok_or("no row")?;
+    match &row.3 {
         DebugValue::Histogram(samples) => assert_eq!(rt; samples.as_slice(), wanted),
-        DebugValue::Counter(_) | DebugValue::Gauge(_) => return Err(Fail::new("no histogram")),
+        DebugValue::Counter(_) | DebugValue::Gauge(_) => assert!(rt; false, "no histogram"),
     }
     Ok(())
 }
@@ -374,7 +382,7 @@ fn without_gauges(alloc: Global) -> Result<Router<Book>, Fail> {
 
 /// A book beside that router.
 fn fanout_over_a_router(alloc: Global) -> Result<Fanout<Book>, Fail> {
-    let router = taken(Child::router(alloc, without_gauges(alloc)?))?;
+    let router = taken(Child::router(without_gauges(alloc)?))?;
     let mut builder = books(alloc, 1)?;
     taken(builder.add_recorder(router))?;
     Ok(builder.build())

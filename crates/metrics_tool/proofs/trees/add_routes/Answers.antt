@@ -1,6 +1,6 @@
 use Rattle.std.proofs.Common.{sym}
 use Rattle.std.proofs.lemmas.List.Elements.{All-push}
-use Rattle.metrics_tool.proofs.TreesLemmas.{HasNewBooks, new_split, with_route}
+use Rattle.metrics_tool.proofs.TreesLemmas.{HasNewBooks, new_split}
 use Rattle.metrics_tool.proofs.trees.add_routes.Goals as goal
 
 pub loop-word-preserved-in-Ok : goal.loop-word-preserved-in-Ok
@@ -8,8 +8,7 @@ loop-word-preserved-in-Ok c =
     let before = c.loop-word.invariant in
     record {
       targets = before.targets;
-      listed = (with_route before.listed.0 c.in-Some-route_of.route.mask c.in-Some-route_of.route.pattern.now c.in-Some-route_of.route.target, c.in-Ok.ensures.1.2 before.listed.0 before.listed.1);
-      built = rw c.in-Ok.ensures.0 before.built;
+      built = rw c.in-Ok.ensures.2 before.built;
     }
 
 pub loop-word-preserved : goal.loop-word-preserved
@@ -19,6 +18,5 @@ loop-word-preserved c =
     let both = new_split _ _ _ items before.targets in
     record {
       targets = both.0;
-      listed = (with_route before.listed.0 c.in-Some-route_of.route.mask c.in-Some-route_of.route.pattern.now c.in-Ok-add_route.field-0, c.in-Ok-add_route.ensures.4 before.listed.0 before.listed.1);
       built = rw c.in-Ok-add_route.ensures.3 (All-push HasNewBooks _ _ before.built both.1);
     }

@@ -5,6 +5,5 @@ use Rattle.metrics_tool.proofs.trees.put_router.Goals as goal
 
 pub put-requires-clause-child : goal.put-requires-clause-child
 put-requires-clause-child c =
-    let listed = c.in-Ok-add_routes.ensures.listed in
-    let same = c.in-Ok-router.ensures.meaning ∙ c.build.ensures listed.0 listed.1 in
-    subst AreNew (sym (ap (λ (m : Meaning). m.contents) same)) (joined_new _ c.in-Ok-add_routes.ensures.built)
+    let same = ap (λ (m : Meaning). m.contents) c.in-Ok-router.ensures.meaning ∙ c.build.ensures.contents in
+    subst AreNew (sym same) (joined_new _ c.in-Ok-add_routes.ensures)

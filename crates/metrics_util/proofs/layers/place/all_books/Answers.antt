@@ -1,4 +1,4 @@
-use Rattle.std.proofs.Common.{◌≡◌, sym}
+use Rattle.std.proofs.Common.{sym}
 use Rattle.metrics_util.proofs.PlacesLemmas.{last-is, none-is}
 use Rattle.metrics_util.proofs.layers.place.all_books.Goals as goal
 

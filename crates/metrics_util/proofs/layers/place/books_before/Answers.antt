@@ -1,5 +1,4 @@
-use Rattle.std.proofs.Common.{rules, ◌≡◌, ap, ◌∙◌, take}
-use Rattle.metrics_util.specs.Places.{ends_from}
+use Rattle.std.proofs.Common.{ap, ◌∙◌, take}
 use Rattle.metrics_util.proofs.PlacesLemmas.{take-ends}
 use Rattle.metrics_util.proofs.layers.place.books_before.Goals as goal
 

@@ -1,4 +1,3 @@
-use Rattle.metrics_util.proofs.OneChildLemmas.{no-more}
 use Rattle.std.proofs.Common.{rules, of_calls, arith}
 use Rattle.std.proofs.lemmas.Fn.{always_returns_same}
 use Rattle.std.specs.Prelude.{nat_le}

@@ -1,4 +1,4 @@
-use Rattle.std.proofs.Common.{rules, ◌≡◌, ◌+◌, suc, length, ◌≤◌, refl, ap, sym, ◌∙◌, arith, drop, take, ◌++◌}
+use Rattle.std.proofs.Common.{◌≡◌, ◌+◌, suc, refl, ap, sym, ◌∙◌, arith, drop, take, ◌++◌}
 use Rattle.metrics.specs.declared.handles.Address.{Address}
 use Rattle.metrics_util.specs.Places.{raised}
 use Rattle.metrics_util.proofs.PlacesLemmas.{raised-more, raised-all, next-is}

@@ -1,4 +1,4 @@
-use Rattle.std.proofs.Common.{rules, arith}
+use Rattle.std.proofs.Common.{arith}
 use Rattle.metrics_util.proofs.layers.router.push_target.Goals.{in-Some, in_default}
 use Rattle.metrics_util.proofs.layers.router.push_target.Goals as goal
 

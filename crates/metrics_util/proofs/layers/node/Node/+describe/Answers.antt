@@ -1,6 +1,6 @@
-use Rattle.std.proofs.Common.{rules, arith, ◌≡◌, ◌≤◌, ℕ, List, length, map, Result, Ok, Err, refl, ap, sym, ◌∙◌, get_or, set, subst, ◌<◌}
+use Rattle.std.proofs.Common.{rules, arith, ◌≡◌, ◌≤◌, length, Ok, Err, refl, ap, sym, ◌∙◌, get_or, set, subst, ◌<◌}
 use Rattle.metrics.specs.Book.{describe_in}
-use Rattle.metrics.specs.Meaning.{Meaning, Keeps, Describes}
+use Rattle.metrics.specs.Meaning.{Keeps, Describes}
 use Rattle.std.specs.Vec.{with_item}
 use Rattle.std.specs.List.{All as Every}
 use Rattle.std.proofs.lemmas.List.Elements.{All-set}
@@ -9,7 +9,7 @@ use Rattle.metrics_util.specs.Nodes.{node_meaning, recorder_of, books_of, IsSoun
 use Rattle.metrics_util.specs.declared.layers.node.Node.{Several, the_lemmas}
 use Rattle.metrics_util.specs.declared.layers.choice.Choice.TheVariants.{All, Winner}
 use Rattle.metrics_util.proofs.NodesLemmas.{most-are, row-is, by-rows, still-sound, same-books, winner-within}
-use Rattle.metrics_util.proofs.ChildrenLemmas.{Through, all_of, named, child_few, through_none, through_all, err_acts, err_follows, ok_more, ok_few, err_same, length_acts}
+use Rattle.metrics_util.proofs.ChildrenLemmas.{named, child_few, through_none, through_all, err_acts, err_follows, ok_more, ok_few, err_same}
 use Rattle.metrics_util.specs.Routing.{target_of}
 use Rattle.metrics_util.proofs.OneChildLemmas.{child-most, keeps-one, describes-winner}
 use Rattle.metrics_util.proofs.layers.node.Node.+describe.Goals as goal

@@ -1,4 +1,4 @@
-use Rattle.std.proofs.Common.{rules, arith, ◌≡◌, ◌≤◌, ◌<◌, ◌+◌, ℕ, List, length, map, Result, Ok, Err, Vec, Global, refl, ap, sym, ◌∙◌, get_or, set, subst}
+use Rattle.std.proofs.Common.{rules, arith, ◌≡◌, ◌≤◌, ◌<◌, List, length, map, Result, Ok, Err, refl, ap, sym, ◌∙◌, get_or, set, subst}
 use Rattle.std.specs.Result.{result_map_both}
 use Rattle.std.specs.Vec.{with_item}
 use Rattle.std.specs.List.{All as Every}
@@ -10,11 +10,10 @@ use Rattle.metrics.proofs.MeaningLemmas.{length-registers}
 use Rattle.metrics_util.specs.Routing.{target_of}
 use Rattle.metrics_util.specs.Places.{IsAppended, IsRaised, CanAppend, CanRaise}
 use Rattle.metrics_util.specs.Nodes.{node_meaning, recorder_of, books_of, IsSound}
-use Rattle.metrics_util.specs.declared.layers.choice.Choice.{Choice}
 use Rattle.metrics_util.specs.declared.layers.choice.Choice.TheVariants.{All, Winner}
-use Rattle.metrics_util.specs.declared.layers.node.Node.{Node, Several, the_lemmas}
+use Rattle.metrics_util.specs.declared.layers.node.Node.{Several, the_lemmas}
 use Rattle.metrics_util.proofs.NodesLemmas.{most-are, row-is, by-rows, still-sound, same-books, winner-within}
-use Rattle.metrics_util.proofs.ChildrenLemmas.{Through, all_of, registers, found_in, child_few, through_none, through_all, err_same, can-append, appended, refused_after, found-all}
+use Rattle.metrics_util.proofs.ChildrenLemmas.{all_of, registers, child_few, through_none, through_all, err_same, can-append, appended, refused_after, found-all}
 use Rattle.metrics_util.proofs.OneChildLemmas.{length-ends-of, before-is, child-most, keeps-one, registers-winner, can-raise}
 use Rattle.metrics_util.proofs.layers.node.Node.+register.Goals as goal
 

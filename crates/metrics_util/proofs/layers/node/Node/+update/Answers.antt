@@ -1,17 +1,15 @@
-use Rattle.std.proofs.Common.{rules, arith, ◌≡◌, ◌≤◌, ◌<◌, ◌+◌, ℕ, List, length, map, Result, Ok, Err, Vec, Global, refl, ap, sym, ◌∙◌, get_or, set, subst}
+use Rattle.std.proofs.Common.{rules, arith, ◌≡◌, ◌≤◌, length, map, Err, Vec, Global, refl, sym, ◌∙◌, set, subst}
 use Rattle.std.specs.Vec.{with_item}
 use Rattle.std.specs.List.{All as Every}
 use Rattle.std.proofs.lemmas.List.Elements.{All-set}
-use Rattle.metrics.specs.declared.handles.Address.{Address}
-use Rattle.metrics.specs.declared.refused.Refused.TheVariants.{NoSuchAddress, NoSuchBook}
-use Rattle.metrics.specs.Meaning.{Meaning, Keeps, Updates, Snapshots, holds_at}
-use Rattle.metrics_util.specs.Places.{IsPlace}
+use Rattle.metrics.specs.declared.refused.Refused.TheVariants.{NoSuchAddress}
+use Rattle.metrics.specs.Meaning.{Meaning, Keeps, Updates}
 use Rattle.metrics_util.specs.declared.layers.choice.Choice.{Choice}
-use Rattle.metrics_util.specs.Nodes.{node_meaning, passed, books_of, IsSound}
+use Rattle.metrics_util.specs.Nodes.{node_meaning, books_of, IsSound}
 use Rattle.metrics_util.specs.declared.layers.node.Node.{Node, Several, the_lemmas}
-use Rattle.metrics_util.proofs.NodesLemmas.{most-are, contents-are, meaning-is, row-is, by-rows, still-sound, same-books}
-use Rattle.metrics_util.proofs.OneChildLemmas.{books-total, place-within, child-most, keeps-one, holds-place, updates-place, snapshots-place, holds-none, updates-none, snapshots-none}
-use Rattle.metrics.proofs.MeaningLemmas.{length-updates, length-snapshots}
+use Rattle.metrics_util.proofs.NodesLemmas.{most-are, meaning-is, row-is, by-rows, still-sound, same-books}
+use Rattle.metrics_util.proofs.OneChildLemmas.{place-within, child-most, keeps-one, updates-place, updates-none}
+use Rattle.metrics.proofs.MeaningLemmas.{length-updates}
 use Rattle.metrics_util.proofs.layers.node.Node.+update.Goals as goal
 
 pub index_mut-requires : goal.index_mut-requires

@@ -1,4 +1,4 @@
-use Rattle.std.proofs.Common.{rules, arith, refl, ◌≡◌, sym, ◌∙◌, ap, suc}
+use Rattle.std.proofs.Common.{rules, arith, ◌∙◌, ap, suc}
 use Rattle.metrics_util.specs.Routing.{Adds}
 use Rattle.metrics_util.proofs.RoutingLemmas.{stands-more}
 use Rattle.metrics_util.proofs.BuildersLemmas.{count-all, none-alone, targets-more}

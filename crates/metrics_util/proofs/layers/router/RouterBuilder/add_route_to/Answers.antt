@@ -1,4 +1,4 @@
-use Rattle.std.proofs.Common.{rules, arith, refl, ◌≡◌, sym, ◌∙◌}
+use Rattle.std.proofs.Common.{rules, arith, refl}
 use Rattle.metrics_util.specs.Routing.{Adds}
 use Rattle.metrics_util.proofs.RoutingLemmas.{stands-more}
 use Rattle.metrics_util.proofs.BuildersLemmas.{count-all}
@@ -9,4 +9,4 @@ returns g c =
     let s = c.args.self.now in
     let n = count-all g.B.Recorder.meaning (λ t. t.node) s.default s.recorders.children.items s.alone in
     let adds : Adds s.routes c.add.new.self c.args.mask c.args.pattern.now c.args.target = search rules in
-    (refl, (search rules, (let t = c.targets.ensures in let l = c.if-target-targets.false in omega (arith, n, t, l)), λ rs h. stands-more s.routes c.add.new.self rs c.args.mask c.args.pattern.now c.args.target h adds))
+    (search rules, (let t = c.targets.ensures in let l = c.if-target-targets.false in omega (arith, n, t, l)), refl, λ rs h. stands-more s.routes c.add.new.self rs c.args.mask c.args.pattern.now c.args.target h adds)
