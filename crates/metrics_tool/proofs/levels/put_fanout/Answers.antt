@@ -1,7 +1,7 @@
 use Rattle.std.proofs.Common.{◌∙◌, sym, subst, ap}
 use Rattle.std.proofs.lemmas.List.Elements.{All-push}
 use Rattle.metrics.specs.Meaning.{Meaning, AreNew}
-use Rattle.metrics_tool.proofs.TreesLemmas.{IsNewTree, HasNewBooks, new_split, joined_new}
+use Rattle.metrics_tool.proofs.TreesLemmas.{HasNewBooks, new_split, joined_new}
 use Rattle.metrics_tool.proofs.levels.put_fanout.Goals as goal
 
 pub loop-child-preserved : goal.loop-child-preserved

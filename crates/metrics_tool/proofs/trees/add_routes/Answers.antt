@@ -1,4 +1,3 @@
-use Rattle.std.proofs.Common.{sym}
 use Rattle.std.proofs.lemmas.List.Elements.{All-push}
 use Rattle.metrics_tool.proofs.TreesLemmas.{HasNewBooks, new_split}
 use Rattle.metrics_tool.proofs.trees.add_routes.Goals as goal
