@@ -7,7 +7,8 @@ use metrics::{Key, NoopRecorder, Refused};
 use metrics_util::MetricKindMask;
 use metrics_util::debugging::DebuggingRecorder;
 use metrics_util::layers::{
-    Child, Fanout, FanoutBuilder, Filter, FilterLayer, Layer, PrefixLayer, Router, RouterBuilder,
+    Child, Fanout, FanoutBuilder, Filter, FilterLayer, Layer, Prefix, PrefixLayer, Router,
+    RouterBuilder,
 };
 use std::alloc::Global;
 
@@ -25,6 +26,12 @@ pub fn prefixed_book(alloc: Global) -> Result<Child<DebuggingRecorder>> {
     let layer = PrefixLayer::new(alloc, "app")?;
     let book = Child::leaf(DebuggingRecorder::new(alloc)?);
     taken(book.prefix(alloc, &layer))
+}
+
+/// A prefix over a recorder that keeps nothing.
+pub fn prefix(alloc: Global) -> Result<Prefix<NoopRecorder>> {
+    let layer = PrefixLayer::new(alloc, "app")?;
+    taken(layer.layer(alloc, NoopRecorder))
 }
 
 /// A filter of a hundred patterns over a recorder that keeps nothing.

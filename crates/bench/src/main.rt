@@ -9,8 +9,8 @@ mod matching;
 use anyhow::{Result, anyhow};
 use books::{Increments, Registers, Snapshots, one_key, thousand_keys};
 use layers::{
-    fanout_of_books, fanout_of_noops, filter, names_of_patterns, names_of_routes, prefixed_book,
-    router,
+    fanout_of_books, fanout_of_noops, filter, names_of_patterns, names_of_routes, prefix,
+    prefixed_book, router,
 };
 use matching::{Filter, Trie};
 use metrics_util::debugging::DebuggingRecorder;
@@ -113,6 +113,8 @@ fn registers<R: Clock + Print + AllocGlobal>(rt: &R, timed: bool) -> Result<()> 
     report(rt, timed, "register_held_of_1000", bench, 1000)?;
     let bench = Registers::new(alloc, prefixed_book(alloc)?, thousand_keys(alloc)?)?;
     report(rt, timed, "register_below_a_prefix", bench, 1000)?;
+    let bench = Registers::new(alloc, prefix(alloc)?, thousand_keys(alloc)?)?;
+    report(rt, timed, "prefix_over_a_noop", bench, 1000)?;
     let bench = Registers::new(
         alloc,
         fanout_of_noops(alloc)?,

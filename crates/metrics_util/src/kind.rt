@@ -7,7 +7,7 @@ use std::marker::Model;
 use std::ops::BitOr;
 
 /// A set of kinds of metrics.
-#[derive(Clone, Copy, Debug, PartialEq, Eq)]
+#[derive(Clone, Copy, Debug, PartialEq, Eq, PartialOrd, Ord, Hash)]
 pub struct MetricKindMask(u8);
 
 impl Model for MetricKindMask {
