@@ -7,8 +7,7 @@ use metrics::{Key, NoopRecorder, Refused};
 use metrics_util::MetricKindMask;
 use metrics_util::debugging::DebuggingRecorder;
 use metrics_util::layers::{
-    Child, Fanout, FanoutBuilder, Filter, FilterLayer, Layer, Prefix, PrefixLayer, Router,
-    RouterBuilder,
+    Child, Fanout, FanoutBuilder, FilterLayer, PrefixLayer, Router, RouterBuilder,
 };
 use std::alloc::Global;
 
@@ -29,18 +28,18 @@ pub fn prefixed_book(alloc: Global) -> Result<Child<DebuggingRecorder>> {
 }
 
 /// A prefix over a recorder that keeps nothing.
-pub fn prefix(alloc: Global) -> Result<Prefix<NoopRecorder>> {
+pub fn prefix(alloc: Global) -> Result<Child<NoopRecorder>> {
     let layer = PrefixLayer::new(alloc, "app")?;
-    taken(layer.layer(alloc, NoopRecorder))
+    taken(Child::leaf(NoopRecorder).prefix(alloc, &layer))
 }
 
 /// A filter of a hundred patterns over a recorder that keeps nothing.
-pub fn filter(alloc: Global, table: bool) -> Result<Filter<NoopRecorder>> {
+pub fn filter(alloc: Global, table: bool) -> Result<Child<NoopRecorder>> {
     let patterns = patterns(alloc)?;
     let listed = borrowed(alloc, patterns.as_slice())?;
     let mut layer = FilterLayer::from_patterns(alloc, listed.as_slice())?;
     layer.use_dfa(table);
-    taken(layer.layer(alloc, NoopRecorder))
+    taken(Child::leaf(NoopRecorder).filter(alloc, &layer))
 }
 
 /// A hundred keys, each with one of the patterns in its name, or none.

@@ -113,8 +113,8 @@ fn registers<R: Clock + Print + AllocGlobal>(rt: &R, timed: bool) -> Result<()> 
     report(rt, timed, "register_held_of_1000", bench, 1000)?;
     let bench = Registers::new(alloc, prefixed_book(alloc)?, thousand_keys(alloc)?)?;
     report(rt, timed, "register_below_a_prefix", bench, 1000)?;
-    let bench = Registers::new(alloc, prefix(alloc)?, thousand_keys(alloc)?)?;
-    report(rt, timed, "prefix_over_a_noop", bench, 1000)?;
+    let bench = Registers::new(alloc, prefix(alloc)?, names_of_routes(alloc, false)?)?;
+    report(rt, timed, "prefix_over_a_noop", bench, 100)?;
     let bench = Registers::new(
         alloc,
         fanout_of_noops(alloc)?,
