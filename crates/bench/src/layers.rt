@@ -7,7 +7,8 @@ use metrics::{Key, NoopRecorder, Refused};
 use metrics_util::MetricKindMask;
 use metrics_util::debugging::DebuggingRecorder;
 use metrics_util::layers::{
-    Child, Fanout, FanoutBuilder, FilterLayer, PrefixLayer, Router, RouterBuilder,
+    Child, Fanout, FanoutBuilder, Filter, FilterLayer, Layer, Prefix, PrefixLayer, Router,
+    RouterBuilder,
 };
 use std::alloc::Global;
 
@@ -27,19 +28,22 @@ pub fn prefixed_book(alloc: Global) -> Result<Child<DebuggingRecorder>> {
     taken(book.prefix(alloc, &layer))
 }
 
+/// A recorder that keeps nothing. It is a tree, so that the compiler can't leave its calls out.
+type Nothing = Child<NoopRecorder>;
+
 /// A prefix over a recorder that keeps nothing.
-pub fn prefix(alloc: Global) -> Result<Child<NoopRecorder>> {
+pub fn prefix(alloc: Global) -> Result<Prefix<Nothing>> {
     let layer = PrefixLayer::new(alloc, "app")?;
-    taken(Child::leaf(NoopRecorder).prefix(alloc, &layer))
+    taken(layer.layer(alloc, Child::leaf(NoopRecorder)))
 }
 
 /// A filter of a hundred patterns over a recorder that keeps nothing.
-pub fn filter(alloc: Global, table: bool) -> Result<Child<NoopRecorder>> {
+pub fn filter(alloc: Global, table: bool) -> Result<Filter<Nothing>> {
     let patterns = patterns(alloc)?;
     let listed = borrowed(alloc, patterns.as_slice())?;
     let mut layer = FilterLayer::from_patterns(alloc, listed.as_slice())?;
     layer.use_dfa(table);
-    taken(Child::leaf(NoopRecorder).filter(alloc, &layer))
+    taken(layer.layer(alloc, Child::leaf(NoopRecorder)))
 }
 
 /// A hundred keys, each with one of the patterns in its name, or none.
