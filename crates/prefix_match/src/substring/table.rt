@@ -34,6 +34,17 @@ impl Table {
     }
 }
 
+/// The entry in a column of the row that begins at `row`.
+///
+/// The row is added last: in a walk it is known later than the column.
+#[inline(always)]
+fn entry_at(next: &[u32], column: usize, row: usize) -> u32
+    requires { row + column < length next.now }
+    ensures { result ≡ get_or next.now (row + column) 0 }
+{
+    next[column..][row]
+}
+
 /// Walks from the root, which is no match.
 #[inline(always)]
 fn walk(classes: &[u16; 256], next: &[u32], text: &[u8]) -> (bool, u64)
@@ -43,7 +54,7 @@ fn walk(classes: &[u16; 256], next: &[u32], text: &[u8]) -> (bool, u64)
     let mut row = 0;
     let mut moves = 0;
     for byte in text {
-        let entry = next[row + classes[*byte as usize] as usize];
+        let entry = entry_at(next, classes[*byte as usize] as usize, row);
         if entry == MATCHED {
             return (true, moves + 1);
         }

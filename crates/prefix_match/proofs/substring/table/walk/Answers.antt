@@ -1,4 +1,4 @@
-use Rattle.std.proofs.Common.{ℕ, ◌+◌, ◌^◌, ◌<◌, arith, refl, get_or}
+use Rattle.std.proofs.Common.{ℕ, ◌+◌, ◌^◌, ◌<◌, arith, sym, ◌∙◌, get_or}
 use Rattle.prefix_match.proofs.SubstringTableWalks.{tabling_start, tabling_within, table_hit, table_go, table_stay, table_over}
 use Rattle.prefix_match.proofs.substring.table.walk.Goals as goal
 use Rattle.prefix_match.proofs.substring.table.walk.Goals.{then-to-row, else-to-row}
@@ -6,38 +6,27 @@ use Rattle.prefix_match.proofs.substring.table.walk.Goals.{then-to-row, else-to-
 pub loop-byte-init : goal.loop-byte-init
 loop-byte-init c = tabling_start _ _ _
 
-pub overflow_add-entry : goal.overflow_add-entry
-overflow_add-entry c =
-    let t = c.requires.2 in
-    let b : ℕ = get_or c.args.text.now c.loop-byte.byte-index 0 in
-    omega (arith, c.loop-byte.invariant.small, t.class b (omega (arith, c.type_inv.text c.loop-byte.byte-index)), t.narrow)
-
-pub offset_bounds-next-row : goal.offset_bounds-next-row
-offset_bounds-next-row c =
-    let t = c.requires.2 in
-    let b : ℕ = get_or c.args.text.now c.loop-byte.byte-index 0 in
-    omega (arith, c.loop-byte.invariant.small, t.class b (omega (arith, c.type_inv.text c.loop-byte.byte-index)), t.narrow)
-
-pub bounds-next-row : goal.bounds-next-row
-bounds-next-row c =
+pub entry_at-entry-requires : goal.entry_at-entry-requires
+entry_at-entry-requires c =
     let t = c.requires in
     let b : ℕ = get_or c.args.text.now c.loop-byte.byte-index 0 in
     tabling_within t.0 t.1 _ _ _ c.loop-byte.byte-index c.loop-byte.row c.loop-byte.moves b t.2 c.loop-byte.invariant (omega (arith, c.type_inv.text c.loop-byte.byte-index))
 
 pub returns-then-entry : goal.returns-then-entry
 returns-then-entry c = λ ps fold t.
-    table_hit ps fold _ _ _ c.loop-byte.byte-index c.loop-byte.row c.loop-byte.moves t c.loop-byte-test.true (omega (arith, c.type_inv.text c.loop-byte.byte-index)) c.loop-byte.invariant c.if-entry.true
+    table_hit ps fold _ _ _ c.loop-byte.byte-index c.loop-byte.row c.loop-byte.moves t c.loop-byte-test.true (omega (arith, c.type_inv.text c.loop-byte.byte-index)) c.loop-byte.invariant (sym c.entry_at-entry.ensures ∙ c.if-entry.true)
 
 pub loop-byte-preserved : goal.loop-byte-preserved
 loop-byte-preserved c =
     let i : ℕ = c.loop-byte.byte-index in
     let b : ℕ = get_or c.args.text.now i 0 in
     let fits : b < 256 = omega (arith, c.type_inv.text i) in
-    let entry : ℕ = get_or c.args.next.now (c.loop-byte.row + get_or c.args.classes.now b 0) 0 in
-    let low : entry < 2 ^ 32 = omega (arith, c.type_inv.next (c.loop-byte.row + get_or c.args.classes.now b 0)) in
+    let entry : ℕ = c.entry_at-entry.result in
+    let is = c.entry_at-entry.ensures in
+    let low : entry < 2 ^ 32 = omega (arith, is, c.type_inv.next (c.loop-byte.row + get_or c.args.classes.now b 0)) in
     elim c.if-to-row.branch [
-      | then-to-row w ↦ rw (w.row-is, w.moves-is) (table_go _ _ _ i c.loop-byte.row c.loop-byte.moves entry c.loop-byte-test.true fits c.loop-byte.invariant refl low c.if-entry.false w.if-to-row.true)
-      | else-to-row w ↦ rw (w.row-is, w.moves-is) (table_stay _ _ _ i c.loop-byte.row c.loop-byte.moves entry c.loop-byte-test.true fits c.loop-byte.invariant refl low c.if-entry.false w.if-to-row.false)
+      | then-to-row w ↦ rw (w.row-is, w.moves-is) (table_go _ _ _ i c.loop-byte.row c.loop-byte.moves entry c.loop-byte-test.true fits c.loop-byte.invariant is low c.if-entry.false w.if-to-row.true)
+      | else-to-row w ↦ rw (w.row-is, w.moves-is) (table_stay _ _ _ i c.loop-byte.row c.loop-byte.moves entry c.loop-byte-test.true fits c.loop-byte.invariant is low c.if-entry.false w.if-to-row.false)
     ]
 
 pub returns : goal.returns
