@@ -56,6 +56,13 @@ CanFollow front NoSuchAddress = Unit {0}
 CanFollow front NoSuchBook = Unit {0}
 CanFollow front BadHandle = Unit {0}
 
+-- the count of targets doesn't fit
+abbrev pub IsPast : ℕ → Refused → Type 0
+IsPast front (Memory acted) = 2 ^ 64 ≤ front + acted
+IsPast front NoSuchAddress = ⊥
+IsPast front NoSuchBook = ⊥
+IsPast front BadHandle = ⊥
+
 -- whether a series of the kind stands at each address
 abbrev pub holds_all : MetricKind → List Address → List Content → Bool
 holds_all kind found cs = list_all (λ a. holds_at kind a cs) found

@@ -1,5 +1,5 @@
 //! Why a call was refused.
-ghost use Rattle.std.specs.Prelude.{◌≡◌};
+ghost use Rattle.std.specs.Prelude.{◌≡◌, ◌^◌, ◌-◌};
 ghost use Rattle.metrics.specs.declared.refused.Refused.TheVariants.{Memory as MemoryRefused};
 
 use std::alloc::{AllocError, AllocFailed};
@@ -24,12 +24,13 @@ pub enum Refused {
 }
 
 impl Refused {
-    ghost use Rattle.metrics.specs.Answering.{after_front, CanFollow};
+    ghost use Rattle.metrics.specs.Answering.{after_front, CanFollow, IsPast};
 
     /// The refusal of a call that had acted on `front` targets before. A count past `usize::MAX` stays there; no
     /// recorder has so many targets.
     pub fn after(self, front: usize) -> Refused
-        ensures { CanFollow front self → result ≡ after_front front self }
+        ensures sum { CanFollow front self → result ≡ after_front front self }
+        ensures most { IsPast front self → result ≡ MemoryRefused (2 ^ 64 - 1) }
     {
         match self {
             Refused::Memory { acted } => Refused::Memory {

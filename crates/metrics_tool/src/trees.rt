@@ -1,7 +1,7 @@
 //! The tree lines: a tree of new books.
 ghost use Rattle.std.specs.Prelude.{IfOk, IfSome, OnOk, All};
 ghost use Rattle.metrics.specs.Meaning.{AreNew};
-ghost use Rattle.metrics_util.specs.Building.{listed};
+ghost use Rattle.metrics_util.specs.Given.{listed};
 
 use crate::levels::{
     Level, LineError, line_error, put, put_book, put_fanout, put_filter, put_prefix, take_top,

@@ -9,4 +9,4 @@ pub mod DebuggingSeries
 pub mod DebuggingUpdates
 pub mod Debugging
 pub mod Builders
-pub mod Building
+pub mod Given

@@ -2,7 +2,7 @@
 ghost use Rattle.std.specs.Prelude.{◌≡◌, [], MatchResult};
 ghost use Rattle.metrics.specs.Layers.{joined_all};
 ghost use Rattle.metrics_util.specs.Builders.{IsFew, Gains, refusal};
-ghost use Rattle.metrics_util.specs.Building.{added};
+ghost use Rattle.metrics_util.specs.Given.{added};
 
 use crate::error::Error;
 use crate::layers::child::Child;

@@ -12,7 +12,7 @@ returns-in-Err-clause-updates g c =
     let is : at ≡ get_or found c.loop-i.i at = default_same found c.loop-i.i _ at c.loop-i-test.true in
     let r = rw c.in-Err.is at c.update.ensures.updates in
     let follows = update_follows (M c.loop-i.on) (M c.update.new.self) c.args.by c.loop-i.i at c.in-Err.refused r (search (rules, arith)) in
-    rw (c.after.ensures follows) (update_err (M c.args.on.now) (M c.loop-i.on) (M c.update.new.self) found c.args.by c.loop-i.i at c.in-Err.refused r
+    rw (c.after.ensures.sum follows) (update_err (M c.args.on.now) (M c.loop-i.on) (M c.update.new.self) found c.args.by c.loop-i.i at c.in-Err.refused r
     (held_at (kind_of c.args.by) found (M c.loop-i.on).contents c.loop-i.i at c.loop-i-test.true is c.loop-i.invariant.held) c.loop-i.invariant.updated c.loop-i-test.true)
 
 pub loop-i-preserved : goal.loop-i-preserved

@@ -84,7 +84,7 @@ returns-in-Err-clause-describes g t c =
     (λ n. n ≡ length ((M x).targets c.args.kind c.args.name.now)) (λ n. n ≡ length (named M c.args.kind c.args.name.now (describe_in c.args.kind c.args.unit c.args.text.now) c.in-Several.children.items)) c.in-Err.refused r in
     let follows = err_follows M c.args.kind c.args.name.now (describe_in c.args.kind c.args.unit c.args.text.now) _ _ _ _ x y lt c.index_mut.ensures.value c.describe-in-loop-i.ensures.keeps c.loop-i.invariant.through
     (λ n. n ≡ length ((M x).targets c.args.kind c.args.name.now)) c.in-Err.refused c.loop-i.invariant.most r in
-    let h = rw (c.in-Several.children-is, ← c.after.ensures follows) at acts in
+    let h = rw (c.in-Several.children-is, ← c.after.ensures.sum follows) at acts in
     let by = by-rows m c.in-Several.children c.in-Several._ends c.in-Several.choice c.args.self.now c.in-Several.is All (rw c.in-Several.choice-is at c.in-All.is) (set now c.loop-i.i y)
     (λ a b. Describes a b c.args.kind c.args.name.now c.args.unit c.args.text.now (Err c.after.result)) h in
     let w = with_item c.loop-i.children c.loop-i.i y in
