@@ -9,8 +9,6 @@ mod entry;
 mod places;
 mod samples;
 mod series;
-#[cfg(test)]
-mod tests;
 mod value;
 
 use descriptions::Descriptions;

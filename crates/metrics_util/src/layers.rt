@@ -11,11 +11,7 @@ mod prefix;
 mod recorders;
 mod router;
 mod routes;
-#[cfg(test)]
-mod several_tests;
 mod stack;
-#[cfg(test)]
-mod tests;
 
 pub use child::Child;
 pub use fanout::{Fanout, FanoutBuilder};

@@ -6,8 +6,6 @@ mod error;
 mod kind;
 pub mod layers;
 mod replaying;
-#[cfg(test)]
-mod tests;
 
 pub use error::Error;
 pub use kind::MetricKindMask;

@@ -28,7 +28,7 @@ pub struct RouterBuilder<B: Recorder> {
 }
 
 impl<B: Recorder> RouterBuilder<B> {
-    ghost use Rattle.metrics_util.specs.Building.{listed, HasRoutes, GainsRoute, IsUnchanged};
+    ghost use Rattle.metrics_util.specs.Given.{listed, HasRoutes, GainsRoute, IsUnchanged};
 
     /// A builder with a default, to which each name goes that no route fits. It takes no memory.
     pub fn from_recorder(alloc: Global, default: Child<B>) -> RouterBuilder<B>

@@ -112,34 +112,3 @@ fn target_within(patterns: &PrefixTrie, name: &str) -> Option<usize>
 {
     patterns.longest(name.as_bytes())
 }
-
-#[cfg(test)]
-mod tests {
-    use super::*;
-    use std::test::Fail;
-
-    #[test]
-    fn the_longest_and_last_route_of_the_kind_wins(rt: HostRuntime) -> Result<(), Fail> {
-        let mut routes = Routes::new(rt.alloc());
-        let two = MetricKindMask::COUNTER | MetricKindMask::GAUGE;
-        routes.add(MetricKindMask::ALL, "http", 0)?;
-        routes.add(two, "http.server", 1)?;
-        routes.add(MetricKindMask::COUNTER, "http.server", 2)?;
-        let name = "http.server.time";
-        assert_eq!(rt; routes.target(MetricKind::Counter, name), Some(2));
-        assert_eq!(rt; routes.target(MetricKind::Gauge, name), Some(1));
-        assert_eq!(rt; routes.target(MetricKind::Histogram, name), Some(0));
-        assert_eq!(rt; routes.target(MetricKind::Counter, "htt"), None);
-        Ok(())
-    }
-
-    // Whichever allocation is refused, a route is there for all of its kinds or for none.
-    #[test]
-    fn a_refused_route_changes_no_answer(rt: HostRuntime) {
-        let mut routes = Routes::new(rt.alloc());
-        let target = routes.add(MetricKindMask::ALL, "abc", 7).ok().map(|_| 7);
-        assert_eq!(rt; routes.target(MetricKind::Counter, "abcd"), target);
-        assert_eq!(rt; routes.target(MetricKind::Gauge, "abcd"), target);
-        assert_eq!(rt; routes.target(MetricKind::Histogram, "abcd"), target);
-    }
-}

@@ -1,9 +1,9 @@
 //! Layers over a book, each order of them, and what they refuse.
 
-use crate::debugging::DebuggingRecorder;
-use crate::layers::{Filter, FilterLayer, Layer, Prefix, PrefixLayer, Stack};
-use crate::{Error, replay};
 use metrics::{Answer, Boxed, Call, Key, KeyName, MetricKind, Recorder, Refused};
+use metrics_util::debugging::DebuggingRecorder;
+use metrics_util::layers::{Filter, FilterLayer, Layer, Prefix, PrefixLayer, Stack};
+use metrics_util::{Error, replay};
 use std::alloc::Global;
 use std::process::Abort;
 use std::test::Fail;

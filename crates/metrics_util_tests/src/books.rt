@@ -1,10 +1,10 @@
 //! A book by its calls, with expected values from outside.
 
-use super::{DebuggingRecorder, Snapshotter};
+use crate::round::{ROUND, expect_row, key_of};
 use metrics::{
-    Address, DebugValue, Items, Key, KeyName, Label, MetricKind, Recorder, Refused, Row, Unit,
-    Update,
+    Address, DebugValue, Items, Key, KeyName, MetricKind, Recorder, Refused, Unit, Update,
 };
+use metrics_util::debugging::{DebuggingRecorder, Snapshotter};
 use std::alloc::Global;
 use std::process::Abort;
 use std::test::Fail;
@@ -23,56 +23,12 @@ fn hits(alloc: Global) -> Result<Key, Refused> {
     Key::from_name(alloc, "hits")
 }
 
-/// The series of a round: each kind and name, what it is updated by, and its value then.
-const ROUND: [(MetricKind, &str, Update, i64); 4] = [
-    (
-        MetricKind::Counter,
-        "test.counter",
-        Update::Increment(123),
-        123,
-    ),
-    (MetricKind::Gauge, "test.gauge.incr", Update::Add(456), 456),
-    (MetricKind::Gauge, "test.gauge.set", Update::Set(654), 654),
-    (
-        MetricKind::Histogram,
-        "test.histogram",
-        Update::Record(789),
-        789,
-    ),
-];
-
-/// The counter has a label, the others have none.
-fn key_of(alloc: Global, kind: MetricKind, name: &str) -> Result<Key, Refused> {
-    let mut labels = Vec::new(alloc);
-    if kind == MetricKind::Counter {
-        labels.push(Label::new(alloc, "counter.key", "counter.value")?)?;
-    }
-    Key::from_parts(alloc, name, labels)
-}
-
 fn change_all<R: Recorder>(alloc: Global, on: &mut R) -> Result<(), Fail> {
     for (kind, name, by, _) in ROUND {
         let at = registered(alloc, on, kind, &key_of(alloc, kind, name)?)?;
         on.update(at, by)?;
     }
     Ok(())
-}
-
-fn is_value(value: &DebugValue, kind: MetricKind, want: i64) -> bool {
-    match value {
-        DebugValue::Counter(n) => kind == MetricKind::Counter && i64::try_from(*n) == Ok(want),
-        DebugValue::Gauge(n) => kind == MetricKind::Gauge && *n == want,
-        DebugValue::Histogram(samples) => kind == MetricKind::Histogram
-            && samples.as_slice() == [want].as_slice(),
-    }
-}
-
-fn expect_row(rt: &impl Abort, row: &Row, kind: MetricKind, key: &Key, want: i64) {
-    assert!(rt; row.0.kind() == kind);
-    assert!(rt; *row.0.key() == *key);
-    assert!(rt; row.1.is_none());
-    assert!(rt; row.2.is_none());
-    assert!(rt; is_value(&row.3, kind, want));
 }
 
 fn expect_round<R: Recorder>(rt: &impl Abort, alloc: Global, on: &mut R) -> Result<(), Fail> {

@@ -1,12 +1,13 @@
 //! Replays at each kind of recorder, with expected values from outside.
 
-use crate::debugging::{DebuggingRecorder, Snapshotter};
-use crate::layers::{Child, PrefixLayer};
-use crate::{Error, replay};
+use crate::round::{ROUND, expect_row, is_value, key_of};
 use metrics::{
-    Answer, Boxed, Call, CompositeKey, DebugValue, Key, KeyName, Label, MetricKind, Recorder,
-    Refused, Row, Snapshot, Text, Unit, Update,
+    Answer, Boxed, Call, CompositeKey, Key, KeyName, Label, MetricKind, Recorder, Refused, Row,
+    Snapshot, Text, Unit, Update,
 };
+use metrics_util::debugging::{DebuggingRecorder, Snapshotter};
+use metrics_util::layers::{Child, PrefixLayer};
+use metrics_util::{Error, replay};
 use std::alloc::{AllocError, Global};
 use std::process::Abort;
 use std::test::Fail;
@@ -24,20 +25,15 @@ fn describe(alloc: Global, name: &str, unit: Option<Unit>, text: &str) -> Result
     ))
 }
 
-/// A counter with a label, two gauges and a histogram, each updated once, and a snapshot.
+/// A register and an update of each series of the round, and a snapshot. `first` is the register's number.
 fn round(alloc: Global, first: u8, calls: &mut Vec<Call>) -> Result<(), Refused> {
     let first = usize::from(first);
-    let mut labels = Vec::new(alloc);
-    labels.push(Label::new(alloc, "counter.key", "counter.value")?)?;
-    let counter = Key::from_parts(alloc, "test.counter", labels)?;
-    calls.push(Call::Register(MetricKind::Counter, counter))?;
-    calls.push(register(alloc, MetricKind::Gauge, "test.gauge.incr")?)?;
-    calls.push(register(alloc, MetricKind::Gauge, "test.gauge.set")?)?;
-    calls.push(register(alloc, MetricKind::Histogram, "test.histogram")?)?;
-    calls.push(Call::Update(first, Update::Increment(123)))?;
-    calls.push(Call::Update(first + 1, Update::Add(456)))?;
-    calls.push(Call::Update(first + 2, Update::Set(654)))?;
-    calls.push(Call::Update(first + 3, Update::Record(789)))?;
+    for (kind, name, _, _) in ROUND {
+        calls.push(Call::Register(kind, key_of(alloc, kind, name)?))?;
+    }
+    for (number, (_, _, by, _)) in (first..first + 4).zip(ROUND) {
+        calls.push(Call::Update(number, by))?;
+    }
     calls.push(Call::Snapshot(0))?;
     Ok(())
 }
@@ -53,22 +49,6 @@ fn taken(alloc: Global, answers: Vec<Answer>) -> Result<Vec<Snapshot>, AllocErro
     Ok(all)
 }
 
-fn is_value(value: &DebugValue, kind: MetricKind, want: i64) -> bool {
-    match value {
-        DebugValue::Counter(n) => kind == MetricKind::Counter && i64::try_from(*n) == Ok(want),
-        DebugValue::Gauge(n) => kind == MetricKind::Gauge && *n == want,
-        DebugValue::Histogram(samples) => kind == MetricKind::Histogram
-            && samples.as_slice() == [want].as_slice(),
-    }
-}
-
-const ROUND: [(&str, MetricKind, i64); 4] = [
-    ("test.counter", MetricKind::Counter, 123),
-    ("test.gauge.incr", MetricKind::Gauge, 456),
-    ("test.gauge.set", MetricKind::Gauge, 654),
-    ("test.histogram", MetricKind::Histogram, 789),
-];
-
 fn two_rounds(alloc: Global) -> Result<Vec<Call>, Refused> {
     let mut calls = Vec::new(alloc);
     round(alloc, 0, &mut calls)?;
@@ -76,18 +56,12 @@ fn two_rounds(alloc: Global) -> Result<Vec<Call>, Refused> {
     Ok(calls)
 }
 
-fn expect_row(rt: &impl Abort, row: &Row, name: &str, kind: MetricKind, want: i64) {
-    assert_eq!(rt; row.0.key().name(), name);
-    assert!(rt; row.1.is_none());
-    assert!(rt; row.2.is_none());
-    assert!(rt; is_value(&row.3, kind, want), "{name}");
-}
-
-fn expect_round(rt: &impl Abort, rows: &[Row]) {
+fn expect_round(rt: &impl Abort, alloc: Global, rows: &[Row]) -> Result<(), Refused> {
     assert_eq!(rt; rows.len(), 4);
-    for (row, (name, kind, want)) in rows.iter().zip(ROUND) {
-        expect_row(rt, row, name, kind, want);
+    for (row, (kind, name, _, want)) in rows.iter().zip(ROUND) {
+        expect_row(rt, row, kind, &key_of(alloc, kind, name)?, want);
     }
+    Ok(())
 }
 
 #[test]
@@ -99,7 +73,7 @@ fn two_rounds_read_as_lists(rt: HostRuntime) -> Result<(), Fail> {
     let snapshots = taken(alloc, answers)?;
     assert_eq!(rt; snapshots.len(), 2);
     for snapshot in snapshots {
-        expect_round(&rt, snapshot.into_vec().as_slice());
+        expect_round(&rt, alloc, snapshot.into_vec().as_slice())?;
     }
     Ok(())
 }
