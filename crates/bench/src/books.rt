@@ -10,7 +10,7 @@ pub fn thousand_keys(alloc: Global) -> Result<Vec<Key>, Refused> {
     let mut all = Vec::new(alloc);
     for i in 0..1000u32 {
         let mut labels = Vec::new(alloc);
-        let route = format!(in alloc; "/api/v1/item/{i}")?;
+        let route = format!(in alloc; "/api/v1/item/{i:03}")?;
         labels.push(Label::new(alloc, "route", route.as_str())?)?;
         all.push(Key::from_parts(alloc, "requests_total", labels)?)?;
     }

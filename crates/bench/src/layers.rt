@@ -1,9 +1,10 @@
 //! Recorders below layers, handed to the benchmarks as some recorder.
 
-use crate::matching::{borrowed, names, patterns};
+use crate::matching::{borrowed, names, names_of_routes, patterns, routes};
+use crate::sink::Sink;
 use crate::taken;
 use anyhow::Result;
-use metrics::{Key, NoopRecorder, Refused};
+use metrics::{Key, Refused};
 use metrics_util::MetricKindMask;
 use metrics_util::debugging::DebuggingRecorder;
 use metrics_util::layers::{
@@ -28,42 +29,39 @@ pub fn prefixed_book(alloc: Global) -> Result<Child<DebuggingRecorder>> {
     taken(book.prefix(alloc, &layer))
 }
 
-/// A recorder that keeps nothing. It is a tree, so that the compiler can't leave its calls out.
-type Nothing = Child<NoopRecorder>;
-
 /// A prefix over a recorder that keeps nothing.
-pub fn prefix(alloc: Global) -> Result<Prefix<Nothing>> {
-    let layer = PrefixLayer::new(alloc, "app")?;
-    taken(layer.layer(alloc, Child::leaf(NoopRecorder)))
+pub fn prefix(alloc: Global) -> Result<Prefix<Sink>> {
+    let layer = PrefixLayer::new(alloc, "testing")?;
+    taken(layer.layer(alloc, Sink::new()))
 }
 
 /// A filter of a hundred patterns over a recorder that keeps nothing.
-pub fn filter(alloc: Global, table: bool) -> Result<Filter<Nothing>> {
+pub fn filter(alloc: Global, table: bool) -> Result<Filter<Sink>> {
     let patterns = patterns(alloc)?;
     let listed = borrowed(alloc, patterns.as_slice())?;
     let mut layer = FilterLayer::from_patterns(alloc, listed.as_slice())?;
     layer.use_dfa(table);
-    taken(layer.layer(alloc, Child::leaf(NoopRecorder)))
+    taken(layer.layer(alloc, Sink::new()))
 }
 
 /// A hundred keys, each with one of the patterns in its name, or none.
-pub fn names_of_patterns(alloc: Global, refused: bool) -> Result<Vec<Key>> {
+pub fn keys_of_patterns(alloc: Global, refused: bool) -> Result<Vec<Key>> {
     let patterns = patterns(alloc)?;
     let names = names(alloc, patterns.as_slice(), refused)?;
     Ok(keys(alloc, names.as_slice())?)
 }
 
-fn add_routes(alloc: Global, builder: &mut RouterBuilder<NoopRecorder>) -> Result<()> {
-    for pattern in &patterns(alloc)? {
-        let target = Child::leaf(NoopRecorder);
-        taken(builder.add_route(MetricKindMask::ALL, pattern, target))?;
+fn add_routes(alloc: Global, builder: &mut RouterBuilder<Sink>) -> Result<()> {
+    for pattern in &routes(alloc)? {
+        let target = Child::leaf(Sink::new());
+        taken(builder.add_route(MetricKindMask::COUNTER, pattern, target))?;
     }
     Ok(())
 }
 
 /// A router of a hundred routes to recorders that keep nothing.
-pub fn router(alloc: Global) -> Result<Router<NoopRecorder>> {
-    let mut builder = RouterBuilder::from_recorder(alloc, Child::leaf(NoopRecorder));
+pub fn router(alloc: Global) -> Result<Router<Sink>> {
+    let mut builder = RouterBuilder::from_recorder(alloc, Child::leaf(Sink::new()));
     match add_routes(alloc, &mut builder) {
         Ok(()) => Ok(builder.build()),
         Err(error) => Err(error),
@@ -71,23 +69,16 @@ pub fn router(alloc: Global) -> Result<Router<NoopRecorder>> {
 }
 
 /// A hundred keys, each with the pattern of a route before its name, or none with one.
-pub fn names_of_routes(alloc: Global, matching: bool) -> Result<Vec<Key>> {
-    let mut names = Vec::new(alloc);
-    for (i, pattern) in patterns(alloc)?.iter().enumerate() {
-        if matching {
-            names.push(format!(in alloc; "{pattern}.http.requests_total")?)?;
-        } else {
-            names.push(format!(in alloc; "{i}.service.http.requests_total")?)?;
-        }
-    }
+pub fn keys_of_routes(alloc: Global, matching: bool) -> Result<Vec<Key>> {
+    let names = names_of_routes(alloc, matching)?;
     Ok(keys(alloc, names.as_slice())?)
 }
 
 /// A fanout of four recorders that keep nothing.
-pub fn fanout_of_noops(alloc: Global) -> Result<Fanout<NoopRecorder>> {
+pub fn fanout_of_sinks(alloc: Global) -> Result<Fanout<Sink>> {
     let mut builder = FanoutBuilder::default(alloc);
     for _ in 0..4u32 {
-        taken(builder.add_recorder(Child::leaf(NoopRecorder)))?;
+        taken(builder.add_recorder(Child::leaf(Sink::new())))?;
     }
     Ok(builder.build())
 }

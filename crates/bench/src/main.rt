@@ -5,11 +5,12 @@
 mod books;
 mod layers;
 mod matching;
+mod sink;
 
 use anyhow::{Result, anyhow};
 use books::{Increments, Registers, Snapshots, one_key, thousand_keys};
 use layers::{
-    fanout_of_books, fanout_of_noops, filter, names_of_patterns, names_of_routes, prefix,
+    fanout_of_books, fanout_of_sinks, filter, keys_of_patterns, keys_of_routes, prefix,
     prefixed_book, router,
 };
 use matching::{Filter, Trie};
@@ -113,48 +114,32 @@ fn registers<R: Clock + Print + AllocGlobal>(rt: &R, timed: bool) -> Result<()> 
     report(rt, timed, "register_held_of_1000", bench, 1000)?;
     let bench = Registers::new(alloc, prefixed_book(alloc)?, thousand_keys(alloc)?)?;
     report(rt, timed, "register_below_a_prefix", bench, 1000)?;
-    let bench = Registers::new(alloc, prefix(alloc)?, names_of_routes(alloc, false)?)?;
-    report(rt, timed, "prefix_over_a_noop", bench, 100)?;
-    let bench = Registers::new(
-        alloc,
-        fanout_of_noops(alloc)?,
-        names_of_routes(alloc, false)?,
-    )?;
-    report(rt, timed, "fanout_of_4_noops", bench, 100)?;
-    let bench = Registers::new(
-        alloc,
-        fanout_of_books(alloc, 4)?,
-        names_of_routes(alloc, false)?,
-    )?;
-    report(rt, timed, "fanout_of_4_books", bench, 100)
+    let bench = Registers::new(alloc, prefix(alloc)?, keys_of_patterns(alloc, false)?)?;
+    report(rt, timed, "prefix_over_a_sink", bench, 100)?;
+    let bench = Registers::new(alloc, fanout_of_sinks(alloc)?, thousand_keys(alloc)?)?;
+    report(rt, timed, "fanout_of_4_sinks", bench, 1000)?;
+    let bench = Registers::new(alloc, fanout_of_books(alloc, 4)?, thousand_keys(alloc)?)?;
+    report(rt, timed, "fanout_of_4_books", bench, 1000)
 }
 
 /// Register calls through a filter or a router.
 fn by_names<R: Clock + Print + AllocGlobal>(rt: &R, timed: bool) -> Result<()> {
     let alloc = rt.alloc();
-    let bench = Registers::new(
-        alloc,
-        filter(alloc, true)?,
-        names_of_patterns(alloc, false)?,
-    )?;
+    let bench = Registers::new(alloc, filter(alloc, true)?, keys_of_patterns(alloc, false)?)?;
     report(rt, timed, "filter_layer_table_passes", bench, 100)?;
-    let bench = Registers::new(alloc, filter(alloc, true)?, names_of_patterns(alloc, true)?)?;
+    let bench = Registers::new(alloc, filter(alloc, true)?, keys_of_patterns(alloc, true)?)?;
     report(rt, timed, "filter_layer_table_refused", bench, 100)?;
     let bench = Registers::new(
         alloc,
         filter(alloc, false)?,
-        names_of_patterns(alloc, false)?,
+        keys_of_patterns(alloc, false)?,
     )?;
     report(rt, timed, "filter_layer_links_passes", bench, 100)?;
-    let bench = Registers::new(
-        alloc,
-        filter(alloc, false)?,
-        names_of_patterns(alloc, true)?,
-    )?;
+    let bench = Registers::new(alloc, filter(alloc, false)?, keys_of_patterns(alloc, true)?)?;
     report(rt, timed, "filter_layer_links_refused", bench, 100)?;
-    let bench = Registers::new(alloc, router(alloc)?, names_of_routes(alloc, true)?)?;
+    let bench = Registers::new(alloc, router(alloc)?, keys_of_routes(alloc, true)?)?;
     report(rt, timed, "router_100_match", bench, 100)?;
-    let bench = Registers::new(alloc, router(alloc)?, names_of_routes(alloc, false)?)?;
+    let bench = Registers::new(alloc, router(alloc)?, keys_of_routes(alloc, false)?)?;
     report(rt, timed, "router_100_none", bench, 100)
 }
 

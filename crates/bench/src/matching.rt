@@ -15,7 +15,7 @@ pub fn patterns(alloc: Global) -> Result<Vec<String>, AllocError> {
             state ^= state >> 12;
             state ^= state << 25;
             state ^= state >> 27;
-            pattern.push(letter(state.wrapping_mul(0x2545_f491_4f6c_dd1d) >> 33))?;
+            pattern.push(letter((state.wrapping_mul(0x2545_f491_4f6c_dd1d) >> 33) & 0xff))?;
         }
         all.push(pattern)?;
     }
@@ -37,13 +37,32 @@ pub fn names(
     with_pattern: bool,
 ) -> Result<Vec<String>, AllocError> {
     let mut all = Vec::new(alloc);
-    for pattern in patterns {
+    for (i, pattern) in patterns.iter().enumerate() {
         let name = if with_pattern {
-            format!(in alloc; "service.http.{pattern}.requests")?
+            format!(in alloc; "http.server.{pattern}.requests.total")?
         } else {
-            format!(in alloc; "service.http.requests_total.{}", pattern.len())?
+            format!(in alloc; "http.server.{i:08}.requests.total")?
         };
         all.push(name)?;
+    }
+    Ok(all)
+}
+
+/// The patterns of a hundred routes.
+pub fn routes(alloc: Global) -> Result<Vec<String>, AllocError> {
+    let mut all = Vec::new(alloc);
+    for i in 0..100u32 {
+        all.push(format!(in alloc; "service_{i:02}")?)?;
+    }
+    Ok(all)
+}
+
+/// A hundred names, each with the pattern of a route as its front, or none with one.
+pub fn names_of_routes(alloc: Global, with_pattern: bool) -> Result<Vec<String>, AllocError> {
+    let mut all = Vec::new(alloc);
+    for i in 0..100u32 {
+        let service = if with_pattern { "service" } else { "process" };
+        all.push(format!(in alloc; "{service}_{i:02}.http.requests.total")?)?;
     }
     Ok(all)
 }
@@ -92,17 +111,11 @@ pub struct Trie {
 
 impl Trie {
     pub fn new(alloc: Global, matches: bool) -> Result<Trie> {
-        let patterns = patterns(alloc)?;
         let mut trie = PrefixTrie::new(alloc);
-        let mut names = Vec::new(alloc);
-        for (i, pattern) in patterns.iter().enumerate() {
+        for (i, pattern) in routes(alloc)?.iter().enumerate() {
             trie.insert(pattern.as_bytes(), i)?;
-            if matches {
-                names.push(format!(in alloc; "{pattern}.http.requests_total")?)?;
-            } else {
-                names.push(format!(in alloc; "{i}.service.http.requests_total")?)?;
-            }
         }
+        let names = names_of_routes(alloc, matches)?;
         Ok(Trie { trie, names })
     }
 }
