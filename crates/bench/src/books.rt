@@ -101,3 +101,28 @@ impl<R: Recorder> Bench for Snapshots<R> {
         Ok(self.on.snapshot(self.alloc, 0)?.as_slice().len() as u64)
     }
 }
+
+/// Registers each key of a book, increments its counter, and takes a snapshot at the end of the walk.
+#[derive(Drop)]
+pub struct Rounds<R> {
+    alloc: Global,
+    on: R,
+    keys: Vec<Key>,
+}
+
+impl<R: Recorder> Rounds<R> {
+    pub fn new(alloc: Global, mut on: R, keys: Vec<Key>) -> Result<Rounds<R>> {
+        register_each(alloc, &mut on, &keys)?;
+        Ok(Rounds { alloc, on, keys })
+    }
+}
+
+impl<R: Recorder> Bench for Rounds<R> {
+    fn walk(&mut self) -> Result<u64> {
+        for key in &self.keys {
+            let counter = self.on.register_counter(self.alloc, key)?;
+            counter.increment(&mut self.on, 1)?;
+        }
+        Ok(self.on.snapshot(self.alloc, 0)?.as_slice().len() as u64)
+    }
+}

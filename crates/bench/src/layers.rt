@@ -22,6 +22,16 @@ fn keys(alloc: Global, names: &[String]) -> Result<Vec<Key>, Refused> {
     Ok(all)
 }
 
+/// A hundred keys without labels.
+pub fn plain_keys(alloc: Global) -> Result<Vec<Key>, Refused> {
+    let mut all = Vec::new(alloc);
+    for i in 0..100u32 {
+        let name = format!(in alloc; "http.server.{i:02}.requests.total")?;
+        all.push(Key::from_name(alloc, name.as_str())?)?;
+    }
+    Ok(all)
+}
+
 /// A new book below a prefix.
 pub fn prefixed_book(alloc: Global) -> Result<Child<DebuggingRecorder>> {
     let layer = PrefixLayer::new(alloc, "app")?;

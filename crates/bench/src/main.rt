@@ -8,9 +8,9 @@ mod matching;
 mod sink;
 
 use anyhow::{Result, anyhow};
-use books::{Increments, Registers, Snapshots, one_key, thousand_keys};
+use books::{Increments, Registers, Rounds, Snapshots, one_key, thousand_keys};
 use layers::{
-    fanout_of_books, fanout_of_sinks, filter, keys_of_patterns, keys_of_routes, prefix,
+    fanout_of_books, fanout_of_sinks, filter, keys_of_patterns, keys_of_routes, plain_keys, prefix,
     prefixed_book, router,
 };
 use matching::{Filter, Trie};
@@ -65,11 +65,29 @@ fn report<R: Clock + Print, B: Bench>(
     rt: &R,
     timed: bool,
     name: &str,
-    mut bench: B,
+    bench: B,
     operations: u32,
 ) -> Result<()> {
+    report_walks(
+        rt,
+        timed,
+        name,
+        bench,
+        operations,
+        500_000 / operations.max(1),
+    )
+}
+
+/// The same, with so many walks in a round.
+fn report_walks<R: Clock + Print, B: Bench>(
+    rt: &R,
+    timed: bool,
+    name: &str,
+    mut bench: B,
+    operations: u32,
+    walks: u32,
+) -> Result<()> {
     if timed {
-        let walks = 500_000 / operations.max(1);
         let tenths = median(rt, &mut bench, walks, operations)?;
         let whole = tenths / 10;
         let part = tenths % 10;
@@ -94,71 +112,123 @@ fn is_timed(rt: &(impl Env + AllocGlobal)) -> Result<bool> {
 fn questions<R: Clock + Print + AllocGlobal>(rt: &R, timed: bool) -> Result<()> {
     let alloc = rt.alloc();
     let bench = Filter::new(alloc, true, false)?;
-    report(rt, timed, "filter_100_table_passes", bench, 100)?;
+    report(rt, timed, "substring_set_100_dfa_pass", bench, 100)?;
     let bench = Filter::new(alloc, true, true)?;
-    report(rt, timed, "filter_100_table_refused", bench, 100)?;
+    report(rt, timed, "substring_set_100_dfa_reject", bench, 100)?;
     let bench = Filter::new(alloc, false, false)?;
-    report(rt, timed, "filter_100_links_passes", bench, 100)?;
+    report(rt, timed, "substring_set_100_nfa_pass", bench, 100)?;
     let bench = Filter::new(alloc, false, true)?;
-    report(rt, timed, "filter_100_links_refused", bench, 100)?;
+    report(rt, timed, "substring_set_100_nfa_reject", bench, 100)?;
     let bench = Trie::new(alloc, true)?;
-    report(rt, timed, "trie_100_match", bench, 100)?;
+    report(rt, timed, "prefix_trie_100_match", bench, 100)?;
     let bench = Trie::new(alloc, false)?;
-    report(rt, timed, "trie_100_no_match", bench, 100)
+    report(rt, timed, "prefix_trie_100_no_match", bench, 100)
 }
 
-/// Register calls on new recorders.
-fn registers<R: Clock + Print + AllocGlobal>(rt: &R, timed: bool) -> Result<()> {
+/// Register calls through a prefix or a fanout.
+fn prefixes_and_fanouts<R: Clock + Print + AllocGlobal>(rt: &R, timed: bool) -> Result<()> {
     let alloc = rt.alloc();
-    let bench = Registers::new(alloc, DebuggingRecorder::new(alloc)?, thousand_keys(alloc)?)?;
-    report(rt, timed, "register_held_of_1000", bench, 1000)?;
-    let bench = Registers::new(alloc, prefixed_book(alloc)?, thousand_keys(alloc)?)?;
-    report(rt, timed, "register_below_a_prefix", bench, 1000)?;
-    let bench = Registers::new(alloc, prefix(alloc)?, keys_of_patterns(alloc, false)?)?;
-    report(rt, timed, "prefix_over_a_sink", bench, 100)?;
+    let bench = Registers::new(alloc, prefix(alloc)?, plain_keys(alloc)?)?;
+    report(rt, timed, "prefix_register_no_labels", bench, 100)?;
+    let bench = Registers::new(alloc, prefix(alloc)?, thousand_keys(alloc)?)?;
+    report(rt, timed, "prefix_register_1_label", bench, 1000)?;
     let bench = Registers::new(alloc, fanout_of_sinks(alloc)?, thousand_keys(alloc)?)?;
-    report(rt, timed, "fanout_of_4_sinks", bench, 1000)?;
+    report(rt, timed, "fanout4_register_sinks", bench, 1000)?;
     let bench = Registers::new(alloc, fanout_of_books(alloc, 4)?, thousand_keys(alloc)?)?;
-    report(rt, timed, "fanout_of_4_books", bench, 1000)
+    report(
+        rt,
+        timed,
+        "fanout4_register_debugging_existing",
+        bench,
+        1000,
+    )
 }
 
-/// Register calls through a filter or a router.
-fn by_names<R: Clock + Print + AllocGlobal>(rt: &R, timed: bool) -> Result<()> {
+/// Register calls through a filter.
+fn filters<R: Clock + Print + AllocGlobal>(rt: &R, timed: bool) -> Result<()> {
     let alloc = rt.alloc();
     let bench = Registers::new(alloc, filter(alloc, true)?, keys_of_patterns(alloc, false)?)?;
-    report(rt, timed, "filter_layer_table_passes", bench, 100)?;
+    report(
+        rt,
+        timed,
+        "filter_register_100_patterns_dfa_pass",
+        bench,
+        100,
+    )?;
     let bench = Registers::new(alloc, filter(alloc, true)?, keys_of_patterns(alloc, true)?)?;
-    report(rt, timed, "filter_layer_table_refused", bench, 100)?;
+    report(
+        rt,
+        timed,
+        "filter_register_100_patterns_dfa_reject",
+        bench,
+        100,
+    )?;
     let bench = Registers::new(
         alloc,
         filter(alloc, false)?,
         keys_of_patterns(alloc, false)?,
     )?;
-    report(rt, timed, "filter_layer_links_passes", bench, 100)?;
+    report(
+        rt,
+        timed,
+        "filter_register_100_patterns_nfa_pass",
+        bench,
+        100,
+    )?;
     let bench = Registers::new(alloc, filter(alloc, false)?, keys_of_patterns(alloc, true)?)?;
-    report(rt, timed, "filter_layer_links_refused", bench, 100)?;
-    let bench = Registers::new(alloc, router(alloc)?, keys_of_routes(alloc, true)?)?;
-    report(rt, timed, "router_100_match", bench, 100)?;
-    let bench = Registers::new(alloc, router(alloc)?, keys_of_routes(alloc, false)?)?;
-    report(rt, timed, "router_100_none", bench, 100)
+    report(
+        rt,
+        timed,
+        "filter_register_100_patterns_nfa_reject",
+        bench,
+        100,
+    )
 }
 
-/// Updates by address, and snapshots.
-fn updates<R: Clock + Print + AllocGlobal>(rt: &R, timed: bool) -> Result<()> {
+/// Register calls through a router.
+fn routers<R: Clock + Print + AllocGlobal>(rt: &R, timed: bool) -> Result<()> {
+    let alloc = rt.alloc();
+    let bench = Registers::new(alloc, router(alloc)?, keys_of_routes(alloc, true)?)?;
+    report(rt, timed, "router_register_100_routes_match", bench, 100)?;
+    let bench = Registers::new(alloc, router(alloc)?, keys_of_routes(alloc, false)?)?;
+    report(rt, timed, "router_register_100_routes_no_match", bench, 100)
+}
+
+/// Calls of a book of a thousand series.
+fn books_of_1000<R: Clock + Print + AllocGlobal>(rt: &R, timed: bool) -> Result<()> {
     let alloc = rt.alloc();
     let keys = thousand_keys(alloc)?;
+    let bench = Registers::new(alloc, DebuggingRecorder::new(alloc)?, thousand_keys(alloc)?)?;
+    report(rt, timed, "debugging_register_existing_1000", bench, 1000)?;
+    let bench = Registers::new(alloc, prefixed_book(alloc)?, thousand_keys(alloc)?)?;
+    report(
+        rt,
+        timed,
+        "debugging_register_existing_1000_prefixed",
+        bench,
+        1000,
+    )?;
     let bench = Increments::new(alloc, DebuggingRecorder::new(alloc)?, &keys, 0)?;
-    report(rt, timed, "increment_by_address", bench, 1000)?;
+    report(rt, timed, "debugging_increment_1000", bench, 1000)?;
     let bench = Increments::new(alloc, fanout_of_books(alloc, 1000)?, &one_key(alloc)?, 999)?;
-    report(rt, timed, "increment_through_1000", bench, 1)?;
+    report(rt, timed, "fanout1000_increment_last", bench, 1)?;
     let bench = Snapshots::new(alloc, DebuggingRecorder::new(alloc)?, &keys)?;
-    report(rt, timed, "snapshot_of_1000_per_series", bench, 1000)
+    report_walks(rt, timed, "debugging_snapshot_1000_per_call", bench, 1, 500)?;
+    let bench = Rounds::new(alloc, DebuggingRecorder::new(alloc)?, keys)?;
+    report(
+        rt,
+        timed,
+        "debugging_register_increment_snapshot_1000_per_series",
+        bench,
+        1000,
+    )
 }
 
 fn main(rt: HostRuntime) -> Result<()> {
     let timed = is_timed(&rt)?;
     questions(&rt, timed)?;
-    registers(&rt, timed)?;
-    by_names(&rt, timed)?;
-    updates(&rt, timed)
+    prefixes_and_fanouts(&rt, timed)?;
+    filters(&rt, timed)?;
+    routers(&rt, timed)?;
+    books_of_1000(&rt, timed)
 }

@@ -1,7 +1,8 @@
 //! A recorder that keeps nothing, for the cost of what stands above it.
 
 use metrics::{
-    Address, Key, KeyName, MetricKind, NoopRecorder, Recorder, Refused, Snapshot, Unit, Update,
+    Address, Key, KeyName, MetricKind, NoopRecorder, Recorder, Refused, Reset, Snapshot, Unit,
+    Update,
 };
 use std::alloc::Global;
 
@@ -57,7 +58,12 @@ impl Recorder for Sink {
         self.nothing.update(at, by)
     }
 
-    fn snapshot(&mut self, alloc: Global, book: usize) -> Result<Snapshot, Refused> {
-        self.nothing.snapshot(alloc, book)
+    fn snapshot_with(
+        &mut self,
+        alloc: Global,
+        book: usize,
+        reset: Reset,
+    ) -> Result<Snapshot, Refused> {
+        self.nothing.snapshot_with(alloc, book, reset)
     }
 }

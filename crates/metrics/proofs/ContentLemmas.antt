@@ -2,19 +2,21 @@
 use Rattle.std.proofs.Common.{◌≡◌, ℕ, suc, ◌+◌, Bool, true, false, cond, not, ◌&&◌, ◌||◌, List, [], ◌∷◌, ◌++◌, map, Option, None, Some, refl, ap, sym, ◌∙◌, subst, arith, append_assoc, append-nil, true≢false, bytes_eq}
 use Rattle.std.proofs.lemmas.List.Folds.{list_any-append}
 use Rattle.std.proofs.lemmas.List.Elements.{filter_map-append}
+use Rattle.std.specs.Option.{option_or}
 use Rattle.std.specs.List.{list_any, filter_map, position_or_len, cons_option}
 use mathlib.Core.Path.{fun_ext}
-use Rattle.metrics.specs.declared.kind.MetricKind.{MetricKind}
-use Rattle.metrics.specs.declared.common.Unit.{Unit as Measure}
+use Rattle.metrics_names.specs.declared.kind.MetricKind.{MetricKind}
+use Rattle.metrics_names.specs.declared.common.Unit.{Unit as Measure}
 use Rattle.metrics.specs.declared.handles.Update.{Update}
 use Rattle.metrics.specs.declared.debugging.DebugValue.{DebugValue}
-use Rattle.metrics.specs.Names.{SeriesKey, kind_eq, series_key_eq}
-use Rattle.metrics.specs.Targets.{at_book}
-use Rattle.metrics.specs.Book.{Content, Series, Description, new_value, new_series, updated, value_from, with_update, is_of, reset, later, described_again, describe_in, register_in, update_in, reset_in, place}
+use Rattle.metrics.specs.declared.debugging.Reset.{Reset}
+use Rattle.metrics_names.specs.Names.{SeriesKey, kind_eq, series_key_eq}
+use Rattle.metrics.specs.Targets.{change_at}
+use Rattle.metrics.specs.Book.{Content, Series, Description, new_value, new_series, updated, value_from, with_update, is_of, resets, after_reset, described_again, describe_in, register_in, update_in, reset_in, place}
 use Rattle.metrics.specs.Rows.{last}
-use Rattle.metrics.specs.History.{Event, describes, registers, updates, snapshots, key_of, firsts_from, series, description_of, description, is_snapshot, after_snapshot, update_of, since, series_now, content}
+use Rattle.metrics.specs.History.{Event, describes, registers, updates, snapshots, key_of, firsts_from, series_after, description_of, description, is_reset_of, after_snapshot, update_of, since, series_now, content_after}
 use Rattle.metrics.proofs.RowsLemmas.{last-push}
-use Rattle.metrics.proofs.NamesLemmas.{key_exact, key_same}
+use Rattle.metrics_names.proofs.NamesLemmas.{key_exact, key_same}
 
 pub or_true : (b : Bool) → (b || true) ≡ true
 or_true true = refl
@@ -28,32 +30,37 @@ cond-push : {A : Type 0} (b : Bool) (xs ys zs : List A) → cond b (xs ++ zs) (y
 cond-push true xs ys zs = refl
 cond-push false xs ys zs = refl
 
--- ---- the updates since the last snapshot
+-- ---- the updates since the last snapshot that reset their kind
 
-after-snapshot : (es : List Event) (e : Event) → is_snapshot e ≡ true → after_snapshot (es ++ e ∷ []) ≡ []
-after-snapshot [] e t = ap (λ b. cond b [] (e ∷ [])) t
-after-snapshot (x ∷ es) e t =
-    let b : list_any is_snapshot (es ++ e ∷ []) ≡ true = list_any-append is_snapshot es (e ∷ []) ∙ ap (λ c. list_any is_snapshot es || (c || false)) t ∙ or_true (list_any is_snapshot es) in
-    ap (λ c. cond c (after_snapshot (es ++ e ∷ [])) (cond (is_snapshot x) (es ++ e ∷ []) (x ∷ (es ++ e ∷ [])))) b ∙ after-snapshot es e t
+after-snapshot : (kind : MetricKind) (es : List Event) (e : Event) → is_reset_of kind e ≡ true → after_snapshot kind (es ++ e ∷ []) ≡ []
+after-snapshot kind [] e t = ap (λ b. cond b [] (e ∷ [])) t
+after-snapshot kind (x ∷ es) e t =
+    let test = is_reset_of kind in
+    let b : list_any test (es ++ e ∷ []) ≡ true = list_any-append test es (e ∷ []) ∙ ap (λ c. list_any test es || (c || false)) t ∙ or_true (list_any test es) in
+    ap (λ c. cond c (after_snapshot kind (es ++ e ∷ [])) (cond (test x) (es ++ e ∷ []) (x ∷ (es ++ e ∷ [])))) b ∙ after-snapshot kind es e t
 
-after-other : (es : List Event) (e : Event) → is_snapshot e ≡ false → after_snapshot (es ++ e ∷ []) ≡ after_snapshot es ++ e ∷ []
-after-other [] e t = ap (λ b. cond b [] (e ∷ [])) t
-after-other (x ∷ es) e t =
-    let la = list_any is_snapshot es in
-    let b : list_any is_snapshot (es ++ e ∷ []) ≡ la = list_any-append is_snapshot es (e ∷ []) ∙ ap (λ c. la || (c || false)) t ∙ or_false la in
-    ap (λ c. cond c (after_snapshot (es ++ e ∷ [])) (cond (is_snapshot x) (es ++ e ∷ []) (x ∷ (es ++ e ∷ [])))) b
-    ∙ ap (λ a. cond la a (cond (is_snapshot x) (es ++ e ∷ []) (x ∷ (es ++ e ∷ [])))) (after-other es e t)
-    ∙ ap (λ d. cond la (after_snapshot es ++ e ∷ []) d) (cond-push (is_snapshot x) es (x ∷ es) (e ∷ []))
-    ∙ cond-push la (after_snapshot es) (cond (is_snapshot x) es (x ∷ es)) (e ∷ [])
+after-other : (kind : MetricKind) (es : List Event) (e : Event) → is_reset_of kind e ≡ false → after_snapshot kind (es ++ e ∷ []) ≡ after_snapshot kind es ++ e ∷ []
+after-other kind [] e t = ap (λ b. cond b [] (e ∷ [])) t
+after-other kind (x ∷ es) e t =
+    let test = is_reset_of kind in
+    let la = list_any test es in
+    let b : list_any test (es ++ e ∷ []) ≡ la = list_any-append test es (e ∷ []) ∙ ap (λ c. la || (c || false)) t ∙ or_false la in
+    ap (λ c. cond c (after_snapshot kind (es ++ e ∷ [])) (cond (test x) (es ++ e ∷ []) (x ∷ (es ++ e ∷ [])))) b
+    ∙ ap (λ a. cond la a (cond (test x) (es ++ e ∷ []) (x ∷ (es ++ e ∷ [])))) (after-other kind es e t)
+    ∙ ap (λ d. cond la (after_snapshot kind es ++ e ∷ []) d) (cond-push (test x) es (x ∷ es) (e ∷ []))
+    ∙ cond-push la (after_snapshot kind es) (cond (test x) es (x ∷ es)) (e ∷ [])
 
-since-snapshot : (es : List Event) (s : SeriesKey) → since (es ++ snapshots ∷ []) s ≡ []
-since-snapshot es s = ap (filter_map (update_of s)) (after-snapshot es snapshots refl)
+since-reset : (reset : Reset) (es : List Event) (s : SeriesKey) → resets reset s.kind ≡ true → since (es ++ snapshots reset ∷ []) s ≡ []
+since-reset reset es s t = ap (filter_map (update_of s)) (after-snapshot s.kind es (snapshots reset) t)
 
-since-other : (es : List Event) (e : Event) (s : SeriesKey) → is_snapshot e ≡ false → since (es ++ e ∷ []) s ≡ since es s ++ filter_map (update_of s) (e ∷ [])
-since-other es e s t = ap (filter_map (update_of s)) (after-other es e t) ∙ filter_map-append (update_of s) (after_snapshot es) (e ∷ [])
+since-other : (es : List Event) (e : Event) (s : SeriesKey) → is_reset_of s.kind e ≡ false → since (es ++ e ∷ []) s ≡ since es s ++ filter_map (update_of s) (e ∷ [])
+since-other es e s t = ap (filter_map (update_of s)) (after-other s.kind es e t) ∙ filter_map-append (update_of s) (after_snapshot s.kind es) (e ∷ [])
 
-since-quiet : (es : List Event) (e : Event) (s : SeriesKey) → is_snapshot e ≡ false → update_of s e ≡ None → since (es ++ e ∷ []) s ≡ since es s
+since-quiet : (es : List Event) (e : Event) (s : SeriesKey) → is_reset_of s.kind e ≡ false → update_of s e ≡ None → since (es ++ e ∷ []) s ≡ since es s
 since-quiet es e s t n = since-other es e s t ∙ ap (λ o. since es s ++ cons_option o []) n ∙ append-nil (since es s)
+
+since-kept : (reset : Reset) (es : List Event) (s : SeriesKey) → resets reset s.kind ≡ false → since (es ++ snapshots reset ∷ []) s ≡ since es s
+since-kept reset es s t = since-quiet es (snapshots reset) s t refl
 
 since-update : (es : List Event) (k : SeriesKey) (u : Update) (s : SeriesKey) → since (es ++ updates k u ∷ []) s ≡ since es s ++ cond (series_key_eq k s) (u ∷ []) []
 since-update es k u s = since-other es (updates k u) s refl ∙ ap (λ us. since es s ++ us) (of_bool (series_key_eq k s))
@@ -77,10 +84,10 @@ firsts-push seen (q ∷ ks) k =
       | false ↦ ap (λ xs. q ∷ xs) (firsts-push (seen ++ q ∷ []) ks k ∙ ap (λ xs. D ++ cond (list_any (series_key_eq k) xs) [] (k ∷ [])) (append_assoc seen (q ∷ []) D))
     ]
 
-pub series-register : (es : List Event) (k : SeriesKey) → series (es ++ registers k ∷ []) ≡ series es ++ cond (list_any (series_key_eq k) (series es)) [] (k ∷ [])
+pub series-register : (es : List Event) (k : SeriesKey) → series_after (es ++ registers k ∷ []) ≡ series_after es ++ cond (list_any (series_key_eq k) (series_after es)) [] (k ∷ [])
 series-register es k = ap (firsts_from []) (filter_map-append key_of es (registers k ∷ [])) ∙ firsts-push [] (filter_map key_of es) k
 
-pub series-other : (es : List Event) (e : Event) → key_of e ≡ None → series (es ++ e ∷ []) ≡ series es
+pub series-other : (es : List Event) (e : Event) → key_of e ≡ None → series_after (es ++ e ∷ []) ≡ series_after es
 series-other es e n =
     ap (firsts_from []) (filter_map-append key_of es (e ∷ []) ∙ ap (λ o. filter_map key_of es ++ cons_option o []) n ∙ append-nil (filter_map key_of es))
 
@@ -154,14 +161,14 @@ changed-past es k u (q ∷ ks) h =
     ] refl
 
 changed-at : (es : List Event) (k : SeriesKey) (u : Update) (ks : List SeriesKey) → AreUnique ks →
-    map (series_now (es ++ updates k u ∷ [])) ks ≡ at_book (position_or_len (is_of k) (map (series_now es) ks)) (with_update u) (map (series_now es) ks)
+    map (series_now (es ++ updates k u ∷ [])) ks ≡ change_at (position_or_len (is_of k) (map (series_now es) ks)) (with_update u) (map (series_now es) ks)
 changed-at es k u [] h = refl
 changed-at es k u (q ∷ ks) h =
     let es' = es ++ updates k u ∷ [] in
     let rest = map (series_now es) ks in
     let p = position_or_len (is_of k) rest in
     elim (series_key_eq k q) as (λ b. series_key_eq k q ≡ b →
-    series_now es' q ∷ map (series_now es') ks ≡ at_book (cond (not b) (1 + p) 0) (with_update u) (series_now es q ∷ rest)) [
+    series_now es' q ∷ map (series_now es') ks ≡ change_at (cond (not b) (1 + p) 0) (with_update u) (series_now es q ∷ rest)) [
       | true ↦ λ e.
           let is : k ≡ q = key_exact k q e in
           let more : since es' q ≡ since es q ++ u ∷ [] = since-update es k u q ∙ ap (λ b. since es q ++ cond b (u ∷ []) []) e in
@@ -173,7 +180,7 @@ changed-at es k u (q ∷ ks) h =
           let n : 1 + p ≡ suc p = omega arith in
           ap (λ s. s ∷ map (series_now es') ks) (now-same es es' q same)
           ∙ ap (λ ss. series_now es q ∷ ss) (changed-at es k u ks h.1)
-          ∙ ap (λ i. at_book i (with_update u) (series_now es q ∷ rest)) (sym n)
+          ∙ ap (λ i. change_at i (with_update u) (series_now es q ∷ rest)) (sym n)
     ] refl
 
 pub any-now : (es : List Event) (k : SeriesKey) (ks : List SeriesKey) → list_any (is_of k) (map (series_now es) ks) ≡ list_any (series_key_eq k) ks
@@ -184,15 +191,22 @@ pub place-now : (es : List Event) (k : SeriesKey) (ks : List SeriesKey) → posi
 place-now es k [] = refl
 place-now es k (q ∷ ks) = ap (λ n. cond (not (series_key_eq k q)) (1 + n) 0) (place-now es k ks)
 
-now-reset : (es : List Event) (ks : List SeriesKey) → map (series_now (es ++ snapshots ∷ [])) ks ≡ map reset (map (series_now es) ks)
-now-reset es [] = refl
-now-reset es (k ∷ ks) =
-    ap (λ us. of_updates k us ∷ map (series_now (es ++ snapshots ∷ [])) ks) (since-snapshot es k)
-    ∙ ap (λ ss. new_series k ∷ ss) (now-reset es ks)
+one-reset : (reset : Reset) (es : List Event) (k : SeriesKey) → series_now (es ++ snapshots reset ∷ []) k ≡ after_reset reset (series_now es k)
+one-reset reset es k =
+    elim (resets reset k.kind) as (λ b. resets reset k.kind ≡ b → series_now (es ++ snapshots reset ∷ []) k ≡ cond b (new_series k) (series_now es k)) [
+      | true ↦ λ e. ap (of_updates k) (since-reset reset es k e)
+      | false ↦ λ e. ap (of_updates k) (since-kept reset es k e)
+    ] refl
+
+now-reset : (reset : Reset) (es : List Event) (ks : List SeriesKey) → map (series_now (es ++ snapshots reset ∷ [])) ks ≡ map (after_reset reset) (map (series_now es) ks)
+now-reset reset es [] = refl
+now-reset reset es (k ∷ ks) =
+    ap (λ s. s ∷ map (series_now (es ++ snapshots reset ∷ [])) ks) (one-reset reset es k)
+    ∙ ap (λ ss. after_reset reset (series_now es k) ∷ ss) (now-reset reset es ks)
 
 -- ---- the descriptions
 
-last-later : {A : Type 0} (xs : List A) (o : Option A) → last (xs ++ cons_option o []) ≡ later o (last xs)
+last-later : {A : Type 0} (xs : List A) (o : Option A) → last (xs ++ cons_option o []) ≡ option_or o (last xs)
 last-later xs None = ap last (append-nil xs)
 last-later xs (Some x) = last-push xs x
 
@@ -214,8 +228,8 @@ description-push es kind unit text name k n =
       | true ↦
           ap (λ us. record { unit = last us; text = last (map (λ d. d.1) (ds ++ (unit, text) ∷ [])) }) (filter_map-append (λ d. d.0) ds ((unit, text) ∷ []))
           ∙ ap (λ o. record { unit = o; text = last (map (λ d. d.1) (ds ++ (unit, text) ∷ [])) }) (last-later (filter_map (λ d. d.0) ds) unit)
-          ∙ ap (λ ts. record { unit = later unit (last (filter_map (λ d. d.0) ds)); text = last ts }) (map-push (λ d. d.1) ds (unit, text))
-          ∙ ap (λ o. record { unit = later unit (last (filter_map (λ d. d.0) ds)); text = o }) (last-push (map (λ d. d.1) ds) text)
+          ∙ ap (λ ts. record { unit = option_or unit (last (filter_map (λ d. d.0) ds)); text = last ts }) (map-push (λ d. d.1) ds (unit, text))
+          ∙ ap (λ o. record { unit = option_or unit (last (filter_map (λ d. d.0) ds)); text = o }) (last-push (map (λ d. d.1) ds) text)
       | false ↦ ap described_by (append-nil ds)
     ]
 
@@ -226,73 +240,78 @@ abbrev pub step : Event → Content → Content
 step (describes kind unit text name) = describe_in kind unit text name
 step (registers k) = register_in k
 step (updates k u) = λ c. update_in u (place k c) c
-step snapshots = reset_in
+step (snapshots reset) = reset_in reset
 
 -- a series that isn't there has no update
 abbrev pub IsSound : List Event → Type 0
-IsSound es = (k : SeriesKey) → list_any (series_key_eq k) (series es) ≡ false → since es k ≡ []
+IsSound es = (k : SeriesKey) → list_any (series_key_eq k) (series_after es) ≡ false → since es k ≡ []
 
 -- an update is of a series that is there
 abbrev pub Reaches : List Event → Event → Type 0
-Reaches es (updates k u) = list_any (series_key_eq k) (series es) ≡ true
+Reaches es (updates k u) = list_any (series_key_eq k) (series_after es) ≡ true
 Reaches es (describes kind unit text name) = Unit {0}
 Reaches es (registers k) = Unit {0}
-Reaches es snapshots = Unit {0}
+Reaches es (snapshots reset) = Unit {0}
 
 abbrev made : List Series → (MetricKind → List ℕ → Description) → Content
 made ss d = record { series = ss; described = d }
 
-series_added : (es : List Event) (k : SeriesKey) → IsSound es → (b : Bool) → list_any (series_key_eq k) (series es) ≡ b →
-    map (series_now es) (series es ++ cond b [] (k ∷ [])) ≡ cond b (map (series_now es) (series es)) (map (series_now es) (series es) ++ new_series k ∷ [])
-series_added es k sound true e = ap (map (series_now es)) (append-nil (series es))
+series_added : (es : List Event) (k : SeriesKey) → IsSound es → (b : Bool) → list_any (series_key_eq k) (series_after es) ≡ b →
+    map (series_now es) (series_after es ++ cond b [] (k ∷ [])) ≡ cond b (map (series_now es) (series_after es)) (map (series_now es) (series_after es) ++ new_series k ∷ [])
+series_added es k sound true e = ap (map (series_now es)) (append-nil (series_after es))
 series_added es k sound false e =
-    map-push (series_now es) (series es) k
-    ∙ ap (λ us. map (series_now es) (series es) ++ of_updates k us ∷ []) (sound k e)
+    map-push (series_now es) (series_after es) k
+    ∙ ap (λ us. map (series_now es) (series_after es) ++ of_updates k us ∷ []) (sound k e)
 
 -- THE STEP: the content after one more event
-pub content-push : (es : List Event) (e : Event) → IsSound es → content (es ++ e ∷ []) ≡ step e (content es)
+pub content-push : (es : List Event) (e : Event) → IsSound es → content_after (es ++ e ∷ []) ≡ step e (content_after es)
 content-push es (describes kind unit text name) sound =
     let e = describes kind unit text name in
     ap (λ ss. made ss (description (es ++ e ∷ [])))
-    (ap (map (series_now (es ++ e ∷ []))) (series-other es e refl) ∙ map-same _ _ (series es) (λ k. now-same es (es ++ e ∷ []) k (since-quiet es e k refl refl)))
-    ∙ ap (made (map (series_now es) (series es))) (fun_ext (λ k. fun_ext (λ n. description-push es kind unit text name k n)))
+    (ap (map (series_now (es ++ e ∷ []))) (series-other es e refl) ∙ map-same _ _ (series_after es) (λ k. now-same es (es ++ e ∷ []) k (since-quiet es e k refl refl)))
+    ∙ ap (made (map (series_now es) (series_after es))) (fun_ext (λ k. fun_ext (λ n. description-push es kind unit text name k n)))
 content-push es (registers k) sound =
     let e = registers k in
-    let ss = map (series_now es) (series es) in
+    let ss = map (series_now es) (series_after es) in
     ap (λ ss. made ss (description (es ++ e ∷ [])))
     (ap (map (series_now (es ++ e ∷ []))) (series-register es k)
-    ∙ map-same _ _ (series es ++ cond (list_any (series_key_eq k) (series es)) [] (k ∷ [])) (λ q. now-same es (es ++ e ∷ []) q (since-quiet es e q refl refl))
-    ∙ series_added es k sound (list_any (series_key_eq k) (series es)) refl
-    ∙ ap (λ b. cond b ss (ss ++ new_series k ∷ [])) (sym (any-now es k (series es))))
+    ∙ map-same _ _ (series_after es ++ cond (list_any (series_key_eq k) (series_after es)) [] (k ∷ [])) (λ q. now-same es (es ++ e ∷ []) q (since-quiet es e q refl refl))
+    ∙ series_added es k sound (list_any (series_key_eq k) (series_after es)) refl
+    ∙ ap (λ b. cond b ss (ss ++ new_series k ∷ [])) (sym (any-now es k (series_after es))))
     ∙ ap (made (cond (list_any (is_of k) ss) ss (ss ++ new_series k ∷ []))) (description-other es e (λ k n. refl))
 content-push es (updates k u) sound =
     let e = updates k u in
-    let ss = map (series_now es) (series es) in
+    let ss = map (series_now es) (series_after es) in
     ap (λ ss. made ss (description (es ++ e ∷ [])))
-    (ap (map (series_now (es ++ e ∷ []))) (series-other es e refl) ∙ changed-at es k u (series es) (firsts_new [] (filter_map key_of es)).1)
-    ∙ ap (made (at_book (position_or_len (is_of k) ss) (with_update u) ss)) (description-other es e (λ k n. refl))
-content-push es snapshots sound =
-    let ss = map (series_now es) (series es) in
-    ap (λ ss. made ss (description (es ++ snapshots ∷ []))) (ap (map (series_now (es ++ snapshots ∷ []))) (series-other es snapshots refl) ∙ now-reset es (series es))
-    ∙ ap (made (map reset ss)) (description-other es snapshots (λ k n. refl))
+    (ap (map (series_now (es ++ e ∷ []))) (series-other es e refl) ∙ changed-at es k u (series_after es) (firsts_new [] (filter_map key_of es)).1)
+    ∙ ap (made (change_at (position_or_len (is_of k) ss) (with_update u) ss)) (description-other es e (λ k n. refl))
+content-push es (snapshots reset) sound =
+    let e = snapshots reset in
+    let ss = map (series_now es) (series_after es) in
+    ap (λ ss. made ss (description (es ++ e ∷ []))) (ap (map (series_now (es ++ e ∷ []))) (series-other es e refl) ∙ now-reset reset es (series_after es))
+    ∙ ap (made (map (after_reset reset) ss)) (description-other es e (λ k n. refl))
 
 pub sound-push : (es : List Event) (e : Event) → IsSound es → Reaches es e → IsSound (es ++ e ∷ [])
 sound-push es (describes kind unit text name) sound r k n =
     let e = describes kind unit text name in
     since-quiet es e k refl refl ∙ sound k (subst (λ ks. list_any (series_key_eq k) ks ≡ false) (series-other es e refl) n)
 sound-push es (registers q) sound r k n =
-    let more : List SeriesKey = cond (list_any (series_key_eq q) (series es)) [] (q ∷ []) in
-    let both = or_none (list_any (series_key_eq k) (series es)) (list_any (series_key_eq k) more)
-    (sym (list_any-append (series_key_eq k) (series es) more) ∙ ap (list_any (series_key_eq k)) (sym (series-register es q)) ∙ n) in
+    let more : List SeriesKey = cond (list_any (series_key_eq q) (series_after es)) [] (q ∷ []) in
+    let both = or_none (list_any (series_key_eq k) (series_after es)) (list_any (series_key_eq k) more)
+    (sym (list_any-append (series_key_eq k) (series_after es) more) ∙ ap (list_any (series_key_eq k)) (sym (series-register es q)) ∙ n) in
     since-quiet es (registers q) k refl refl ∙ sound k both.0
 sound-push es (updates q u) sound r k n =
-    let n' : list_any (series_key_eq k) (series es) ≡ false = subst (λ ks. list_any (series_key_eq k) ks ≡ false) (series-other es (updates q u) refl) n in
+    let n' : list_any (series_key_eq k) (series_after es) ≡ false = subst (λ ks. list_any (series_key_eq k) ks ≡ false) (series-other es (updates q u) refl) n in
     let other : series_key_eq q k ≡ false = elim (series_key_eq q k) as (λ b. series_key_eq q k ≡ b → b ≡ false) [
-      | true ↦ λ e. sym r ∙ ap (λ x. list_any (series_key_eq x) (series es)) (key_exact q k e) ∙ n'
+      | true ↦ λ e. sym r ∙ ap (λ x. list_any (series_key_eq x) (series_after es)) (key_exact q k e) ∙ n'
       | false ↦ λ e. refl
     ] refl in
     since-update es q u k ∙ ap (λ b. since es k ++ cond b (u ∷ []) []) other ∙ append-nil (since es k) ∙ sound k n'
-sound-push es snapshots sound r k n = since-snapshot es k
+sound-push es (snapshots reset) sound r k n =
+    elim (resets reset k.kind) as (λ b. resets reset k.kind ≡ b → since (es ++ snapshots reset ∷ []) k ≡ []) [
+      | true ↦ λ e. since-reset reset es k e
+      | false ↦ λ e. since-kept reset es k e ∙ sound k (subst (λ ks. list_any (series_key_eq k) ks ≡ false) (series-other es (snapshots reset) refl) n)
+    ] refl
 
 -- ---- steps in a row
 
@@ -305,10 +324,10 @@ ReachesAll es [] = Unit {0}
 ReachesAll es (e ∷ rest) = Reaches es e × ReachesAll (es ++ e ∷ []) rest
 
 pub content-run : {X : Type 0} (event : X → Event) (es : List Event) (xs : List X) → IsSound es → ReachesAll es (map event xs) →
-    content (es ++ map event xs) ≡ run (λ x. step (event x)) xs (content es)
-content-run event es [] sound r = ap content (append-nil es)
+    content_after (es ++ map event xs) ≡ run (λ x. step (event x)) xs (content_after es)
+content-run event es [] sound r = ap content_after (append-nil es)
 content-run event es (x ∷ xs) sound r =
-    ap content (sym (append_assoc es (event x ∷ []) (map event xs)))
+    ap content_after (sym (append_assoc es (event x ∷ []) (map event xs)))
     ∙ content-run event (es ++ event x ∷ []) xs (sound-push es (event x) sound r.0) r.1
     ∙ ap (run (λ x. step (event x)) xs) (content-push es (event x) sound)
 

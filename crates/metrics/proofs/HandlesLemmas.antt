@@ -3,18 +3,19 @@ use Rattle.std.proofs.Common.{◌&&◌, drop, ◌≡◌, ℕ, zero, suc, ◌+◌
 use Rattle.std.proofs.Math.Seq.{take-length}
 use Rattle.std.proofs.lemmas.Bool.{ltb-true}
 use Rattle.std.specs.Option.{option_map}
-use Rattle.metrics.specs.declared.kind.MetricKind.{MetricKind}
+use Rattle.metrics_names.specs.declared.kind.MetricKind.{MetricKind}
 use Rattle.metrics.specs.declared.handles.Update.{Update}
 use Rattle.metrics.specs.declared.handles.Address.{Address}
-use Rattle.metrics.specs.declared.refused.Refused.{Refused}
-use Rattle.metrics.specs.declared.refused.Refused.TheVariants.{Memory, NoSuchAddress, NoSuchBook, BadHandle}
-use Rattle.metrics.specs.Targets.{act, at_book}
-use Rattle.metrics.specs.TargetsLaws.{act-append, length-at_book}
+use Rattle.metrics_names.specs.declared.refused.Refused.{Refused}
+use Rattle.metrics_names.specs.declared.refused.Refused.TheVariants.{Memory, NoSuchAddress, NoSuchBook, BadHandle}
+use Rattle.metrics.specs.Targets.{after_targets, change_at}
+use Rattle.metrics.specs.TargetsLaws.{after_targets-append, length-change_at}
 use Rattle.metrics.specs.Book.{Content, Series, with_update, update_in, kind_of, kind_at, content_at}
 use Rattle.metrics.specs.Meaning.{Meaning, Updates, is_kind, holds_at}
-use Rattle.metrics.specs.Answering.{AllHeld, places, UpdatesAll, holds_all, after_front, CanFollow, UpdatesHandle}
-use Rattle.metrics.proofs.NamesLemmas.{and_left, and_right, and_both}
-use Rattle.metrics.proofs.HistoryLemmas.{content_at-at_book}
+use Rattle.metrics_names.specs.Refusals.{after_front, CanFollow}
+use Rattle.metrics.specs.Answering.{AllHeld, places, UpdatesAll, holds_all, UpdatesHandle}
+use Rattle.metrics_names.proofs.NamesLemmas.{and_left, and_right, and_both}
+use Rattle.metrics.proofs.HistoryLemmas.{content_at-change_at}
 
 pub default_same : {A : Type 0} (xs : List A) (i : ℕ) (d e : A) → i < length xs → get_or xs i d ≡ get_or xs i e
 default_same [] i d e lt = absurd (omega arith)
@@ -35,11 +36,11 @@ length-places [] = refl
 length-places (a ∷ rest) = ap suc (length-places rest)
 
 pub update_more : (found : List Address) (by : Update) (i : ℕ) (at : Address) (was now new : List Content) → i < length found → at ≡ get_or found i at →
-    now ≡ act (update_in by) (take i (places found)) was → new ≡ at_book at.book (update_in by at.series) now → new ≡ act (update_in by) (take (i + 1) (places found)) was
+    now ≡ after_targets (update_in by) (take i (places found)) was → new ≡ change_at at.book (update_in by at.series) now → new ≡ after_targets (update_in by) (take (i + 1) (places found)) was
 update_more found by i at was now new lt e h g =
-    g ∙ ap (at_book at.book (update_in by at.series)) h
-    ∙ sym (act-append (update_in by) (take i (places found)) ((at.book, at.series) ∷ []) was)
-    ∙ ap (λ ts. act (update_in by) ts was) (sym (take_places found i at lt e))
+    g ∙ ap (change_at at.book (update_in by at.series)) h
+    ∙ sym (after_targets-append (update_in by) (take i (places found)) ((at.book, at.series) ∷ []) was)
+    ∙ ap (λ ts. after_targets (update_in by) ts was) (sym (take_places found i at lt e))
 
 pub held_at : (kind : MetricKind) (found : List Address) (cs : List Content) (i : ℕ) (at : Address) → i < length found → at ≡ get_or found i at → AllHeld kind found cs → holds_at kind at cs ≡ true
 held_at kind [] cs i at lt e h = absurd (omega arith)
@@ -47,7 +48,7 @@ held_at kind (a ∷ rest) cs zero at lt e h = subst (λ x. holds_at kind x cs �
 held_at kind (a ∷ rest) cs (suc i) at lt e h = held_at kind rest cs i at (omega arith) e h.1
 
 slice_changed : (k : MetricKind) (u : Update) (xs : List Series) (p s : ℕ) → is_kind k (option_map (λ x. x.key.kind) (slice_get xs s)) ≡ true →
-    is_kind k (option_map (λ x. x.key.kind) (slice_get (at_book p (with_update u) xs) s)) ≡ true
+    is_kind k (option_map (λ x. x.key.kind) (slice_get (change_at p (with_update u) xs) s)) ≡ true
 slice_changed k u [] p s h = h
 slice_changed k u (x ∷ xs) zero zero h = h
 slice_changed k u (x ∷ xs) zero (suc s) h = h
@@ -55,30 +56,30 @@ slice_changed k u (x ∷ xs) (suc p) zero h = h
 slice_changed k u (x ∷ xs) (suc p) (suc s) h = slice_changed k u xs p s h
 
 -- an update leaves what is held
-held_still : (u : Update) (b p : ℕ) (cs : List Content) (kind : MetricKind) (a : Address) → holds_at kind a cs ≡ true → holds_at kind a (at_book b (update_in u p) cs) ≡ true
+held_still : (u : Update) (b p : ℕ) (cs : List Content) (kind : MetricKind) (a : Address) → holds_at kind a cs ≡ true → holds_at kind a (change_at b (update_in u p) cs) ≡ true
 held_still u b p cs kind a h =
     let there = and_left (is_kind kind (kind_at a.series (content_at a.book cs))) (nat_lt a.book (length cs)) h in
     let below = and_right (is_kind kind (kind_at a.series (content_at a.book cs))) (nat_lt a.book (length cs)) h in
     let lt = ltb-true a.book (length cs) below in
     and_both _ _
-    (ap (λ c. is_kind kind (kind_at a.series c)) (content_at-at_book a.book b (update_in u p) cs lt)
+    (ap (λ c. is_kind kind (kind_at a.series c)) (content_at-change_at a.book b (update_in u p) cs lt)
     ∙ elim (nat_eq b a.book) as (λ q. is_kind kind (kind_at a.series (cond q (update_in u p (content_at a.book cs)) (content_at a.book cs))) ≡ true) [
       | true ↦ slice_changed kind u (content_at a.book cs).series p a.series there
       | false ↦ there
     ])
-    (ap (nat_lt a.book) (length-at_book b (update_in u p) cs) ∙ below)
+    (ap (nat_lt a.book) (length-change_at b (update_in u p) cs) ∙ below)
 
-pub all_held_more : (kind : MetricKind) (found : List Address) (by : Update) (at : Address) (now new : List Content) → new ≡ at_book at.book (update_in by at.series) now → AllHeld kind found now → AllHeld kind found new
+pub all_held_more : (kind : MetricKind) (found : List Address) (by : Update) (at : Address) (now new : List Content) → new ≡ change_at at.book (update_in by at.series) now → AllHeld kind found now → AllHeld kind found new
 all_held_more kind [] by at now new g h = tt
 all_held_more kind (a ∷ rest) by at now new g h =
     (subst (λ cs. holds_at kind a cs ≡ true) (sym g) (held_still by at.book at.series now kind a h.0), all_held_more kind rest by at now new g h.1)
 
 pub update_err : (old x new : Meaning) (found : List Address) (by : Update) (i : ℕ) (at : Address) (e : Refused) → Updates {A = Prim.Unit {0}} x new at by (Err e) →
-    holds_at (kind_of by) at x.contents ≡ true → x.contents ≡ act (update_in by) (take i (places found)) old.contents → i < length found →
+    holds_at (kind_of by) at x.contents ≡ true → x.contents ≡ after_targets (update_in by) (take i (places found)) old.contents → i < length found →
     UpdatesAll old new (places found) by (Err (after_front i e))
 update_err old x new found by i at (Memory a) r held h lt =
     let n : i + a ≡ i = omega (arith, r.2) in
-    (r.1, omega (arith, r.2, length-places found), r.3 ∙ h ∙ ap (λ k. act (update_in by) (take k (places found)) old.contents) (sym n))
+    (r.1, omega (arith, r.2, length-places found), r.3 ∙ h ∙ ap (λ k. after_targets (update_in by) (take k (places found)) old.contents) (sym n))
 update_err old x new found by i at NoSuchAddress r held h lt = absurd (true≢false (sym held ∙ r.0))
 update_err old x new found by i at NoSuchBook r held h lt = absurd r
 update_err old x new found by i at BadHandle r held h lt = absurd r
@@ -90,8 +91,8 @@ update_follows x new by i at NoSuchAddress r lt = tt
 update_follows x new by i at NoSuchBook r lt = tt
 update_follows x new by i at BadHandle r lt = tt
 
-pub update_end : (found : List Address) (by : Update) (n : ℕ) (was now : List Content) → n ≡ length found → now ≡ act (update_in by) (take n (places found)) was → now ≡ act (update_in by) (places found) was
-update_end found by n was now e h = h ∙ ap (λ ts. act (update_in by) ts was) (ap (λ k. take k (places found)) (e ∙ sym (length-places found)) ∙ take-length (places found))
+pub update_end : (found : List Address) (by : Update) (n : ℕ) (was now : List Content) → n ≡ length found → now ≡ after_targets (update_in by) (take n (places found)) was → now ≡ after_targets (update_in by) (places found) was
+update_end found by n was now e h = h ∙ ap (λ ts. after_targets (update_in by) ts was) (ap (λ k. take k (places found)) (e ∙ sym (length-places found)) ∙ take-length (places found))
 
 -- the test of all addresses
 pub held-all : (kind : MetricKind) (found : List Address) (cs : List Content) → holds_all kind found cs ≡ true → AllHeld kind found cs

@@ -8,9 +8,9 @@ use Rattle.std.specs.List.{list_any, starts_with}
 use Rattle.std.proofs.lemmas.Slice.Eq.{bytes_eq-Decides}
 use Rattle.std.proofs.lemmas.Bool.Decides.{nat_tests}
 use Rattle.std.proofs.Math.Seq.{take-append_seam}
-use Rattle.metrics.specs.declared.kind.MetricKind.{MetricKind}
+use Rattle.metrics_names.specs.declared.kind.MetricKind.{MetricKind}
 use Rattle.metrics.specs.Layers.{folded, IsSubstring, Matches, is_substring, matches, Route, fits, NoneFits, IsWinner, better, winner_from, winner}
-use Rattle.metrics.proofs.NamesLemmas.{and_left, and_right}
+use Rattle.metrics_names.proofs.NamesLemmas.{and_left, and_right}
 
 -- ---- substrings
 

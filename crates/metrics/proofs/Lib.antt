@@ -1,4 +1,3 @@
-pub mod NamesLemmas
 pub mod RowsLemmas
 pub mod ContentLemmas
 pub mod HistoryLemmas
@@ -7,3 +6,4 @@ pub mod MeaningLemmas
 pub mod LayersLemmas
 pub mod BookLemmas
 pub mod HandlesLemmas
+pub mod MaskLemmas

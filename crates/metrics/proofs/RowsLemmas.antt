@@ -2,7 +2,7 @@
 use Rattle.std.proofs.Common.{◌≡◌, Bool, true, false, cond, List, [], ◌∷◌, ◌++◌, None, Some, refl, ap, ◌∙◌, append-nil}
 use Rattle.std.proofs.lemmas.List.Elements.{filter_map-append}
 use Rattle.std.specs.List.{filter_map, cons_option}
-use Rattle.metrics.specs.Names.{SeriesKey, series_key_eq}
+use Rattle.metrics_names.specs.Names.{SeriesKey, series_key_eq}
 use Rattle.metrics.specs.Book.{RowParts}
 use Rattle.metrics.specs.Rows.{row_at, last, last_row}
 

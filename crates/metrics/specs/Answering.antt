@@ -1,18 +1,21 @@
 -- What one call of a recorder does and answers, after a list of calls: the step beside the definitions over the whole list.
 use Rattle.std.specs.Prelude.{◌≡◌, ℕ, ◌≤◌, List, [], ◌∷◌, map, length, take, true, Option, None, Some, Result, Ok, Err, MatchBool, option_and_then, ◌+◌, ◌<◌, ◌^◌, Bool, false}
 use Rattle.std.specs.List.{list_all}
-use Rattle.metrics.specs.declared.kind.MetricKind.{MetricKind}
-use Rattle.metrics.specs.declared.common.Unit.{Unit as Measure}
+use Rattle.metrics_names.specs.declared.kind.MetricKind.{MetricKind}
+use Rattle.metrics_names.specs.declared.common.Unit.{Unit as Measure}
+use Rattle.metrics.specs.declared.debugging.Reset.{Reset}
+use Rattle.metrics.specs.declared.debugging.Reset.TheVariants.{All}
 use Rattle.metrics.specs.declared.handles.Update.{Update}
 use Rattle.metrics.specs.declared.handles.Address.{Address}
-use Rattle.metrics.specs.declared.refused.Refused.{Refused}
-use Rattle.metrics.specs.declared.refused.Refused.TheVariants.{Memory, NoSuchAddress, NoSuchBook, BadHandle}
+use Rattle.metrics_names.specs.declared.refused.Refused.{Refused}
+use Rattle.metrics_names.specs.declared.refused.Refused.TheVariants.{Memory, NoSuchAddress, NoSuchBook, BadHandle}
 use Rattle.metrics.specs.declared.calls.Call.{Call}
-use Rattle.metrics.specs.declared.calls.Call.TheVariants.{Describe, Register, Update as Change, Snapshot as Take}
+use Rattle.metrics.specs.declared.calls.Call.TheVariants.{Describe, Register, Update as Change, Snapshot as Take, SnapshotWith as TakeWith}
 use Rattle.metrics.specs.declared.calls.Answer.{Answer}
 use Rattle.metrics.specs.declared.calls.Answer.TheVariants.{Described, Registered, Updated, Snapshot, Refused as Denied}
-use Rattle.metrics.specs.Names.{KeyParts, kind_eq}
-use Rattle.metrics.specs.Targets.{act}
+use Rattle.metrics_names.specs.Refusals.{IfMemory}
+use Rattle.metrics_names.specs.Names.{KeyParts, kind_eq}
+use Rattle.metrics.specs.Targets.{after_targets}
 use Rattle.metrics.specs.Book.{Content, kind_of, update_in}
 use Rattle.metrics.specs.Meaning.{Meaning, Acts, Describes, Registers, Snapshots, TakesMemory, holds_at}
 use Rattle.metrics.specs.History.{Log, Registration, registration}
@@ -23,10 +26,7 @@ Handle = MetricKind × List Address
 
 abbrev pub handle_given : MetricKind → Answer → Option Handle
 handle_given kind (Registered found) = Some (kind, found)
-handle_given kind (Described n) = None
-handle_given kind (Updated n) = None
-handle_given kind (Snapshot found) = None
-handle_given kind (Denied e) = None
+handle_given kind a = None
 
 abbrev pub handle_of : Registration → Option Handle
 handle_of r = handle_given r.kind r.answer
@@ -38,30 +38,7 @@ handle n log = option_and_then handle_of (registration n log)
 -- the handle that a call names
 abbrev pub handle_named : Call → Log → Option Handle
 handle_named (Change n u) log = handle n log
-handle_named (Describe kind name unit text) log = None
-handle_named (Register kind key) log = None
-handle_named (Take b) log = None
-
--- the refusal of a call that had acted on this many targets before
-abbrev pub after_front : ℕ → Refused → Refused
-after_front front (Memory acted) = Memory (front + acted)
-after_front front NoSuchAddress = NoSuchAddress
-after_front front NoSuchBook = NoSuchBook
-after_front front BadHandle = BadHandle
-
--- the count of targets fits
-abbrev pub CanFollow : ℕ → Refused → Type 0
-CanFollow front (Memory acted) = front + acted < 2 ^ 64
-CanFollow front NoSuchAddress = Unit {0}
-CanFollow front NoSuchBook = Unit {0}
-CanFollow front BadHandle = Unit {0}
-
--- the count of targets doesn't fit
-abbrev pub IsPast : ℕ → Refused → Type 0
-IsPast front (Memory acted) = 2 ^ 64 ≤ front + acted
-IsPast front NoSuchAddress = ⊥
-IsPast front NoSuchBook = ⊥
-IsPast front BadHandle = ⊥
+handle_named c log = None
 
 -- whether a series of the kind stands at each address
 abbrev pub holds_all : MetricKind → List Address → List Content → Bool
@@ -83,39 +60,29 @@ places found = map (λ a. (a.book, a.series)) found
 abbrev pub DescribesCall : Meaning → Meaning → MetricKind → List ℕ → Option Measure → List ℕ → Answer → Type 0
 DescribesCall old new kind name unit text (Described n) = Describes old new kind name unit text (Ok n)
 DescribesCall old new kind name unit text (Denied e) = Describes old new kind name unit text (Err e)
-DescribesCall old new kind name unit text (Registered found) = ⊥
-DescribesCall old new kind name unit text (Updated n) = ⊥
-DescribesCall old new kind name unit text (Snapshot found) = ⊥
+DescribesCall old new kind name unit text a = ⊥
 
 abbrev pub RegistersCall : Meaning → Meaning → MetricKind → KeyParts → Answer → Type 0
 RegistersCall old new kind key (Registered found) = Registers old new kind key (Ok found)
 RegistersCall old new kind key (Denied e) = Registers old new kind key (Err e)
-RegistersCall old new kind key (Described n) = ⊥
-RegistersCall old new kind key (Updated n) = ⊥
-RegistersCall old new kind key (Snapshot found) = ⊥
+RegistersCall old new kind key a = ⊥
 
 -- an update of each place in order; only samples meet a want of memory
 abbrev pub UpdatesAll : Meaning → Meaning → List (ℕ × ℕ) → Update → Result ℕ Refused → Type 0
 UpdatesAll old new ts u (Ok n) = Acts (update_in u) ts old new (Ok n) (λ n. n ≡ length ts)
-UpdatesAll old new ts u (Err (Memory n)) = TakesMemory u × (n ≤ length ts) × (new.contents ≡ act (update_in u) (take n ts) old.contents)
-UpdatesAll old new ts u (Err NoSuchAddress) = ⊥
-UpdatesAll old new ts u (Err NoSuchBook) = ⊥
-UpdatesAll old new ts u (Err BadHandle) = ⊥
+UpdatesAll old new ts u (Err e) = IfMemory e (λ n. TakesMemory u × (n ≤ length ts) × (new.contents ≡ after_targets (update_in u) (take n ts) old.contents))
 
 -- an update of a handle: of all its addresses, if each of them is held, and else of none
 abbrev pub UpdatesHandle : Meaning → Meaning → List Address → Update → Result ℕ Refused → Type 0
 UpdatesHandle old new found u (Ok n) = (holds_all (kind_of u) found old.contents ≡ true) × UpdatesAll old new (places found) u (Ok n)
 UpdatesHandle old new found u (Err (Memory n)) = (holds_all (kind_of u) found old.contents ≡ true) × UpdatesAll old new (places found) u (Err (Memory n))
 UpdatesHandle old new found u (Err NoSuchAddress) = (holds_all (kind_of u) found old.contents ≡ false) × (new.contents ≡ old.contents)
-UpdatesHandle old new found u (Err NoSuchBook) = ⊥
-UpdatesHandle old new found u (Err BadHandle) = ⊥
+UpdatesHandle old new found u (Err e) = ⊥
 
 abbrev pub UpdatesHeld : Meaning → Meaning → List (ℕ × ℕ) → Update → Answer → Type 0
 UpdatesHeld old new ts u (Updated n) = UpdatesAll old new ts u (Ok n)
 UpdatesHeld old new ts u (Denied e) = UpdatesAll old new ts u (Err e)
-UpdatesHeld old new ts u (Described n) = ⊥
-UpdatesHeld old new ts u (Registered found) = ⊥
-UpdatesHeld old new ts u (Snapshot found) = ⊥
+UpdatesHeld old new ts u a = ⊥
 
 -- a call that is answered as a bad handle changes nothing
 abbrev pub IsBadHandle : Meaning → Meaning → Answer → Type 0
@@ -125,16 +92,15 @@ abbrev pub UpdatesCall : Meaning → Meaning → Option Handle → Update → An
 UpdatesCall old new None u a = IsBadHandle old new a
 UpdatesCall old new (Some h) u a = MatchBool (kind_eq (kind_of u) h.0) (UpdatesHeld old new (places h.1) u a) (IsBadHandle old new a)
 
-abbrev pub SnapshotsCall : Meaning → Meaning → ℕ → Answer → Type 0
-SnapshotsCall old new b (Snapshot found) = Snapshots old new b (Ok found)
-SnapshotsCall old new b (Denied e) = Snapshots old new b (Err e)
-SnapshotsCall old new b (Described n) = ⊥
-SnapshotsCall old new b (Registered found) = ⊥
-SnapshotsCall old new b (Updated n) = ⊥
+abbrev pub SnapshotsCall : Meaning → Meaning → ℕ → Reset → Answer → Type 0
+SnapshotsCall old new b reset (Snapshot found) = Snapshots old new b reset (Ok found)
+SnapshotsCall old new b reset (Denied e) = Snapshots old new b reset (Err e)
+SnapshotsCall old new b reset a = ⊥
 
 -- what one call does and answers, given the handle that it names
 abbrev pub Answers : Meaning → Meaning → Option Handle → Call → Answer → Type 0
 Answers old new h (Describe kind name unit text) a = DescribesCall old new kind name unit text a
 Answers old new h (Register kind key) a = RegistersCall old new kind key a
 Answers old new h (Change n u) a = UpdatesCall old new h u a
-Answers old new h (Take b) a = SnapshotsCall old new b a
+Answers old new h (Take b) a = SnapshotsCall old new b All a
+Answers old new h (TakeWith b reset) a = SnapshotsCall old new b reset a

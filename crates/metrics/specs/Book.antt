@@ -1,16 +1,19 @@
 -- The content of a book, its rows, and one step of each call on it.
-use Rattle.std.specs.Prelude.{ℕ, zero, suc, ◌+◌, ◌%◌, ◌^◌, max, Bool, ◌&&◌, cond, List, [], ◌∷◌, ◌++◌, map, length, take, drop, reverse, Option, None, Some, option_map, pos, ◌+ℤ◌, ◌-ℤ◌, bytes_eq, get_or, slice_get}
+use Rattle.std.specs.Prelude.{ℕ, zero, suc, ◌+◌, ◌%◌, ◌^◌, max, Bool, true, false, ◌&&◌, cond, List, [], ◌∷◌, ◌++◌, map, length, take, drop, reverse, Option, None, Some, option_map, pos, ◌+ℤ◌, ◌-ℤ◌, bytes_eq, get_or, slice_get}
 use Rattle.std.specs.Int.{saturate_signed, w64}
 use Rattle.std.specs.List.{position_or_len, list_any}
-use Rattle.metrics.specs.declared.kind.MetricKind.{MetricKind}
-use Rattle.metrics.specs.declared.kind.MetricKind.TheVariants.{Counter, Gauge, Histogram}
-use Rattle.metrics.specs.declared.common.Unit.{Unit as Measure}
+use Rattle.std.specs.Option.{option_or}
+use Rattle.metrics_names.specs.declared.kind.MetricKind.{MetricKind}
+use Rattle.metrics_names.specs.declared.kind.MetricKind.TheVariants.{Counter, Gauge, Histogram}
+use Rattle.metrics_names.specs.declared.common.Unit.{Unit as Measure}
 use Rattle.metrics.specs.declared.debugging.DebugValue.{DebugValue}
+use Rattle.metrics.specs.declared.debugging.Reset.{Reset}
+use Rattle.metrics.specs.declared.debugging.Reset.TheVariants.{All, KeepGauges}
 use Rattle.metrics.specs.declared.debugging.DebugValue.TheVariants.{Counter as CounterValue, Gauge as GaugeValue, Histogram as HistogramValue}
 use Rattle.metrics.specs.declared.handles.Update.{Update}
 use Rattle.metrics.specs.declared.handles.Update.TheVariants.{Increment, Absolute, Add, Subtract, Set, Record}
-use Rattle.metrics.specs.Names.{SeriesKey, kind_eq, series_key_eq}
-use Rattle.metrics.specs.Targets.{at_book}
+use Rattle.metrics_names.specs.Names.{SeriesKey, kind_eq, series_key_eq}
+use Rattle.metrics.specs.Targets.{change_at}
 
 -- ---- values
 
@@ -109,13 +112,13 @@ abbrev pub RowParts : Type 0
 RowParts = SeriesKey × Option Measure × Option (List ℕ) × DebugValue
 
 -- a value as a snapshot tells it: samples stand in bucket order
-abbrev pub told : DebugValue → DebugValue
-told (CounterValue n) = CounterValue n
-told (GaugeValue n) = GaugeValue n
-told (HistogramValue xs) = HistogramValue (blocks xs)
+abbrev pub snapshot_value : DebugValue → DebugValue
+snapshot_value (CounterValue n) = CounterValue n
+snapshot_value (GaugeValue n) = GaugeValue n
+snapshot_value (HistogramValue xs) = HistogramValue (blocks xs)
 
 abbrev pub row_of : Content → Series → RowParts
-row_of c s = let d = c.described s.key.kind s.key.key.name in (s.key, d.unit, d.text, told s.value)
+row_of c s = let d = c.described s.key.kind s.key.key.name in (s.key, d.unit, d.text, snapshot_value s.value)
 
 -- the rows of a book
 abbrev pub rows : Content → List RowParts
@@ -123,14 +126,9 @@ rows c = map (row_of c) c.series
 
 -- ---- one step of each call
 
--- the later unit, where one was given
-abbrev pub later : {A : Type 0} → Option A → Option A → Option A
-later None old = old
-later (Some u) old = Some u
-
 -- a text replaces the old one always, and a unit only where one is given
 abbrev pub described_again : Option Measure → List ℕ → Description → Description
-described_again unit text d = record { unit = later unit d.unit; text = Some text }
+described_again unit text d = record { unit = option_or unit d.unit; text = Some text }
 
 -- a describe call in a book
 abbrev pub describe_in : MetricKind → Option Measure → List ℕ → List ℕ → Content → Content
@@ -151,11 +149,18 @@ with_update u s = record s { value = updated u s.value }
 
 -- an update in a book, of the series at a place
 abbrev pub update_in : Update → ℕ → Content → Content
-update_in u s c = record c { series = at_book s (with_update u) c.series }
+update_in u s c = record c { series = change_at s (with_update u) c.series }
 
-abbrev pub reset : Series → Series
-reset s = new_series s.key
+-- whether a snapshot resets the series of a kind: gauges may be kept
+abbrev pub resets : Reset → MetricKind → Bool
+resets All kind = true
+resets KeepGauges Counter = true
+resets KeepGauges Gauge = false
+resets KeepGauges Histogram = true
+
+abbrev pub after_reset : Reset → Series → Series
+after_reset reset s = cond (resets reset s.key.kind) (new_series s.key) s
 
 -- what a snapshot leaves: series, order and descriptions stay
-abbrev pub reset_in : Content → Content
-reset_in c = record c { series = map reset c.series }
+abbrev pub reset_in : Reset → Content → Content
+reset_in reset c = record c { series = map (after_reset reset) c.series }

@@ -1,20 +1,22 @@
 -- What a list of calls with their answers means: filters over the whole list.
 use Rattle.std.specs.Prelude.{◌≡◌, ℕ, ◌<◌, ◌≤◌, Bool, true, false, ◌&&◌, cond, List, [], ◌∷◌, ◌++◌, map, length, take, Option, None, Some, nat_eq, nat_lt, bytes_eq, slice_get}
 use Rattle.std.specs.List.{list_any, filter_map, position_or_len}
-use Rattle.metrics.specs.declared.kind.MetricKind.{MetricKind}
-use Rattle.metrics.specs.declared.common.Unit.{Unit as Measure}
+use Rattle.metrics_names.specs.declared.kind.MetricKind.{MetricKind}
+use Rattle.metrics_names.specs.declared.common.Unit.{Unit as Measure}
+use Rattle.metrics.specs.declared.debugging.Reset.{Reset}
+use Rattle.metrics.specs.declared.debugging.Reset.TheVariants.{All}
 use Rattle.metrics.specs.declared.handles.Update.{Update}
 use Rattle.metrics.specs.declared.handles.Address.{Address}
-use Rattle.metrics.specs.declared.refused.Refused.TheVariants.{Memory, NoSuchAddress, NoSuchBook, BadHandle}
+use Rattle.metrics_names.specs.declared.refused.Refused.TheVariants.{Memory, NoSuchAddress, NoSuchBook, BadHandle}
 use Rattle.metrics.specs.declared.calls.Call.{Call}
-use Rattle.metrics.specs.declared.calls.Call.TheVariants.{Describe, Register, Update as Change, Snapshot as Take}
+use Rattle.metrics.specs.declared.calls.Call.TheVariants.{Describe, Register, Update as Change, Snapshot as Take, SnapshotWith as TakeWith}
 use Rattle.metrics.specs.declared.calls.Answer.{Answer}
 use Rattle.metrics.specs.declared.calls.Answer.TheVariants.{Described, Registered, Updated, Snapshot, Refused as Denied}
-use Rattle.metrics.specs.Names.{KeyParts, SeriesKey, kind_eq, series_key_eq}
+use Rattle.metrics_names.specs.Names.{KeyParts, SeriesKey, kind_eq, series_key_eq}
 use Rattle.metrics.specs.Targets.{in_book}
-use Rattle.metrics.specs.Book.{Content, Series, Description, kind_of, new_value, value_from, rows}
+use Rattle.metrics.specs.Book.{Content, Series, Description, kind_of, new_value, value_from, rows, resets}
 use Rattle.metrics.specs.Rows.{last}
-use Rattle.metrics.specs.Meaning.{Targets, key_there, TakesMemory}
+use Rattle.metrics.specs.Meaning.{Targets, key_in_book, TakesMemory}
 
 -- the calls with their answers, in order
 abbrev pub Log : Type 0
@@ -25,11 +27,8 @@ abbrev pub acted : Answer → ℕ
 acted (Described n) = n
 acted (Registered found) = length found
 acted (Updated n) = n
-acted (Snapshot found) = 0
 acted (Denied (Memory n)) = n
-acted (Denied NoSuchAddress) = 0
-acted (Denied NoSuchBook) = 0
-acted (Denied BadHandle) = 0
+acted a = 0
 
 -- ---- the register calls, by their numbers
 
@@ -41,9 +40,7 @@ pub record Registration : Type 0 where
 
 abbrev pub registration_of : Call × Answer → Option Registration
 registration_of (Register kind key, a) = Some (record { kind = kind; key = key; answer = a })
-registration_of (Describe kind name unit text, a) = None
-registration_of (Change n u, a) = None
-registration_of (Take b, a) = None
+registration_of e = None
 
 -- the register call of a number, the refused ones counted too
 abbrev pub registration : ℕ → Log → Option Registration
@@ -56,30 +53,29 @@ pub data Event : Type 0 where
   describes : MetricKind → Option Measure → List ℕ → List ℕ → Event
   registers : SeriesKey → Event
   updates : SeriesKey → Update → Event
-  snapshots : Event
+  snapshots : Reset → Event
 
 -- the names of a call's targets in one book, among the targets that it acted on
-abbrev pub names_there : ℕ → Answer → List (ℕ × List ℕ) → List (List ℕ)
-names_there b a ts = in_book b (take (acted a) ts)
+abbrev pub names_in_book : ℕ → Answer → List (ℕ × List ℕ) → List (List ℕ)
+names_in_book b a ts = in_book b (take (acted a) ts)
 
 -- an update reaches the series of its own kind, with the labels of the register call that it names
 abbrev pub updates_by : Targets → ℕ → Update → Answer → Option Registration → List Event
 updates_by targets b u a None = []
-updates_by targets b u a (Some r) = map (λ n. updates (key_there (kind_of u) r.key.labels n) u) (names_there b a (targets r.kind r.key.name))
+updates_by targets b u a (Some r) = map (λ n. updates (key_in_book (kind_of u) r.key.labels n) u) (names_in_book b a (targets r.kind r.key.name))
 
-abbrev pub snapshots_by : Answer → List Event
-snapshots_by (Snapshot found) = snapshots ∷ []
-snapshots_by (Described n) = []
-snapshots_by (Registered found) = []
-snapshots_by (Updated n) = []
-snapshots_by (Denied e) = []
+-- a snapshot that was not refused
+abbrev pub snapshots_by : Reset → Answer → List Event
+snapshots_by reset (Snapshot found) = snapshots reset ∷ []
+snapshots_by reset a = []
 
 -- what of one call reached a book
 abbrev pub reached_by : Targets → Log → ℕ → Call × Answer → List Event
-reached_by targets before b (Describe kind name unit text, a) = map (describes kind unit text) (names_there b a (targets kind name))
-reached_by targets before b (Register kind key, a) = map (λ n. registers (key_there kind key.labels n)) (names_there b a (targets kind key.name))
+reached_by targets before b (Describe kind name unit text, a) = map (describes kind unit text) (names_in_book b a (targets kind name))
+reached_by targets before b (Register kind key, a) = map (λ n. registers (key_in_book kind key.labels n)) (names_in_book b a (targets kind key.name))
 reached_by targets before b (Change n u, a) = updates_by targets b u a (registration n before)
-reached_by targets before b (Take k, a) = cond (nat_eq k b) (snapshots_by a) []
+reached_by targets before b (Take k, a) = cond (nat_eq k b) (snapshots_by All a) []
+reached_by targets before b (TakeWith k reset, a) = cond (nat_eq k b) (snapshots_by reset a) []
 
 abbrev pub reached_from : Targets → Log → ℕ → Log → List Event
 reached_from targets before b [] = []
@@ -93,9 +89,7 @@ reached targets b log = reached_from targets [] b log
 
 abbrev pub key_of : Event → Option SeriesKey
 key_of (registers k) = Some k
-key_of (describes kind unit text name) = None
-key_of (updates k u) = None
-key_of snapshots = None
+key_of e = None
 
 -- the keys without those that stand earlier
 abbrev pub firsts_from : List SeriesKey → List SeriesKey → List SeriesKey
@@ -103,16 +97,14 @@ firsts_from seen [] = []
 firsts_from seen (k ∷ ks) = cond (list_any (series_key_eq k) seen) (firsts_from seen ks) (k ∷ firsts_from (seen ++ k ∷ []) ks)
 
 -- the composite keys that were registered there, later doubles dropped
-abbrev pub series : List Event → List SeriesKey
-series events = firsts_from [] (filter_map key_of events)
+abbrev pub series_after : List Event → List SeriesKey
+series_after events = firsts_from [] (filter_map key_of events)
 
 -- ---- the description of a name
 
 abbrev pub description_of : MetricKind → List ℕ → Event → Option (Option Measure × List ℕ)
 description_of kind name (describes k unit text n) = cond (kind_eq k kind && bytes_eq n name) (Some (unit, text)) None
-description_of kind name (registers k) = None
-description_of kind name (updates k u) = None
-description_of kind name snapshots = None
+description_of kind name e = None
 
 -- the text of the last describe call of that kind and name, and the last unit among those of them that gave one
 abbrev pub description : List Event → MetricKind → List ℕ → Description
@@ -120,50 +112,45 @@ description events kind name =
     let ds = filter_map (description_of kind name) events in
     record { unit = last (filter_map (λ d. d.0) ds); text = last (map (λ d. d.1) ds) }
 
--- ---- the updates since the last snapshot
+-- ---- the updates since the last snapshot that reset their kind
 
-abbrev pub is_snapshot : Event → Bool
-is_snapshot snapshots = true
-is_snapshot (describes kind unit text name) = false
-is_snapshot (registers k) = false
-is_snapshot (updates k u) = false
+-- whether an event is a snapshot that reset the series of a kind
+abbrev pub is_reset_of : MetricKind → Event → Bool
+is_reset_of kind (snapshots reset) = resets reset kind
+is_reset_of kind e = false
 
--- the events after the last snapshot
-abbrev pub after_snapshot : List Event → List Event
-after_snapshot [] = []
-after_snapshot (e ∷ events) = cond (list_any is_snapshot events) (after_snapshot events) (cond (is_snapshot e) events (e ∷ events))
+-- the events after the last snapshot that reset a kind
+abbrev pub after_snapshot : MetricKind → List Event → List Event
+after_snapshot kind [] = []
+after_snapshot kind (e ∷ events) =
+    cond (list_any (is_reset_of kind) events) (after_snapshot kind events) (cond (is_reset_of kind e) events (e ∷ events))
 
 abbrev pub update_of : SeriesKey → Event → Option Update
 update_of s (updates k u) = cond (series_key_eq k s) (Some u) None
-update_of s (describes kind unit text name) = None
-update_of s (registers k) = None
-update_of s snapshots = None
+update_of s e = None
 
--- the updates of a series that stand after the book's last successful snapshot
+-- the updates of a series that stand after the book's last successful snapshot that reset its kind
 abbrev pub since : List Event → SeriesKey → List Update
-since events s = filter_map (update_of s) (after_snapshot events)
+since events s = filter_map (update_of s) (after_snapshot s.kind events)
 
 -- ---- contents and plain answers
 
--- a series with the value of its updates since the last snapshot
+-- a series with the value of its updates since the last snapshot that reset its kind
 abbrev pub series_now : List Event → SeriesKey → Series
 series_now events k = record { key = k; value = value_from (new_value k.kind) (since events k) }
 
 -- the content of a book after all that reached it
-abbrev pub content : List Event → Content
-content events = record { series = map (series_now events) (series events); described = description events }
+abbrev pub content_after : List Event → Content
+content_after events = record { series = map (series_now events) (series_after events); described = description events }
 
 -- the address of a name's series in a target: the book, and the place in the list of its series
 abbrev pub plain_address : Targets → Log → MetricKind → KeyParts → ℕ × List ℕ → Address
 plain_address targets before kind key t =
-    record { book = t.0; series = position_or_len (series_key_eq (key_there kind key.labels t.1)) (series (reached targets t.0 before)) }
+    record { book = t.0; series = position_or_len (series_key_eq (key_in_book kind key.labels t.1)) (series_after (reached targets t.0 before)) }
 
 abbrev pub is_registered : Answer → Bool
 is_registered (Registered found) = true
-is_registered (Described n) = false
-is_registered (Updated n) = false
-is_registered (Snapshot found) = false
-is_registered (Denied e) = false
+is_registered a = false
 
 -- an earlier successful register call of the update's kind
 abbrev pub is_handle : Update → Registration → Bool
@@ -173,12 +160,16 @@ abbrev pub plain_update : Targets → Update → Option Registration → Answer
 plain_update targets u None = Denied BadHandle
 plain_update targets u (Some r) = cond (is_handle u r) (Updated (length (targets r.kind r.key.name))) (Denied BadHandle)
 
+abbrev pub plain_snapshot : Targets → ℕ → Log → ℕ → Answer
+plain_snapshot targets books before b = cond (nat_lt b books) (Snapshot (rows (content_after (reached targets b before)))) (Denied NoSuchBook)
+
 -- the plain answer of a call after these calls, of a recorder with this many books
 abbrev pub plain_answer : Targets → ℕ → Log → Call → Answer
 plain_answer targets books before (Describe kind name unit text) = Described (length (targets kind name))
 plain_answer targets books before (Register kind key) = Registered (map (plain_address targets before kind key) (targets kind key.name))
 plain_answer targets books before (Change n u) = plain_update targets u (registration n before)
-plain_answer targets books before (Take b) = cond (nat_lt b books) (Snapshot (rows (content (reached targets b before)))) (Denied NoSuchBook)
+plain_answer targets books before (Take b) = plain_snapshot targets books before b
+plain_answer targets books before (TakeWith b reset) = plain_snapshot targets books before b
 
 abbrev pub UpdateMayMeet : Targets → Update → ℕ → Option Registration → Type 0
 UpdateMayMeet targets u n None = ⊥
@@ -190,6 +181,7 @@ MayMeetMemory targets books before (Describe kind name unit text) n = n ≤ leng
 MayMeetMemory targets books before (Register kind key) n = n ≤ length (targets kind key.name)
 MayMeetMemory targets books before (Change m u) n = UpdateMayMeet targets u n (registration m before)
 MayMeetMemory targets books before (Take b) n = (b < books) × (n ≡ 0)
+MayMeetMemory targets books before (TakeWith b reset) n = (b < books) × (n ≡ 0)
 
 -- this answer, or want of memory where it may be met
 abbrev pub IsOrMeets : Answer → (ℕ → Type 0) → Answer → Type 0

@@ -1,11 +1,10 @@
-pub mod Names
+pub mod Kinds
 pub mod Targets
 pub mod TargetsLaws
 pub mod Book
+pub mod Cells
 pub mod Rows
 pub mod Meaning
 pub mod Layers
 pub mod History
 pub mod Answering
-pub mod Examples
-pub mod Laws

@@ -1,14 +1,16 @@
 -- What a recorder means, and what each of its calls does.
 use Rattle.std.specs.Prelude.{◌≡◌, ℕ, ◌<◌, ◌≤◌, List, [], ◌∷◌, length, map, take, Bool, true, false, Option, Some, None, Result, Ok, Err, ◌&&◌, nat_lt}
-use Rattle.metrics.specs.declared.kind.MetricKind.{MetricKind}
-use Rattle.metrics.specs.declared.kind.MetricKind.TheVariants.{Histogram}
-use Rattle.metrics.specs.declared.common.Unit.{Unit as Measure}
+use Rattle.metrics_names.specs.declared.kind.MetricKind.{MetricKind}
+use Rattle.metrics_names.specs.declared.kind.MetricKind.TheVariants.{Histogram}
+use Rattle.metrics_names.specs.declared.common.Unit.{Unit as Measure}
+use Rattle.metrics.specs.declared.debugging.Reset.{Reset}
 use Rattle.metrics.specs.declared.handles.Update.{Update}
 use Rattle.metrics.specs.declared.handles.Address.{Address}
-use Rattle.metrics.specs.declared.refused.Refused.{Refused}
-use Rattle.metrics.specs.declared.refused.Refused.TheVariants.{Memory, NoSuchAddress, NoSuchBook, BadHandle}
-use Rattle.metrics.specs.Names.{KeyParts, SeriesKey, kind_eq}
-use Rattle.metrics.specs.Targets.{act, at_book, AllBelow, AreDistinct}
+use Rattle.metrics_names.specs.declared.refused.Refused.{Refused}
+use Rattle.metrics_names.specs.declared.refused.Refused.TheVariants.{Memory, NoSuchAddress, NoSuchBook, BadHandle}
+use Rattle.metrics_names.specs.Refusals.{IfMemory}
+use Rattle.metrics_names.specs.Names.{KeyParts, SeriesKey, kind_eq}
+use Rattle.metrics.specs.Targets.{after_targets, change_at, AllBelow, AreDistinct}
 use Rattle.metrics.specs.TargetsLaws.{zero_below_one}
 use Rattle.metrics.specs.Book.{Content, RowParts, new_book, reset_in, describe_in, register_in, update_in, place, content_at, kind_at, kind_of, rows}
 
@@ -38,16 +40,13 @@ AreNew cs = (b : ℕ) → b < length cs → content_at b cs ≡ new_book
 -- ---- what each call does
 
 -- a call changed contents and nothing else
-abbrev pub Keeps : Meaning → Meaning → Type 0
-Keeps old new = new.targets ≡ old.targets
+abbrev pub KeepsTargets : Meaning → Meaning → Type 0
+KeepsTargets old new = new.targets ≡ old.targets
 
 -- a call that acts on a list of targets: on all of them, in order, or where memory was refused on the front that it tells
 abbrev pub Acts : {X A : Type 0} → (X → Content → Content) → List (ℕ × X) → Meaning → Meaning → Result A Refused → (A → Type 0) → Type 0
-Acts f ts old new (Ok a) P = P a × (new.contents ≡ act f ts old.contents)
-Acts f ts old new (Err (Memory acted)) P = (acted ≤ length ts) × (new.contents ≡ act f (take acted ts) old.contents)
-Acts f ts old new (Err NoSuchAddress) P = ⊥
-Acts f ts old new (Err NoSuchBook) P = ⊥
-Acts f ts old new (Err BadHandle) P = ⊥
+Acts f ts old new (Ok a) P = P a × (new.contents ≡ after_targets f ts old.contents)
+Acts f ts old new (Err e) P = IfMemory e (λ acted. (acted ≤ length ts) × (new.contents ≡ after_targets f (take acted ts) old.contents))
 
 -- a describe call acts on the targets of its name, and answers their number
 abbrev pub Describes : Meaning → Meaning → MetricKind → List ℕ → Option Measure → List ℕ → Result ℕ Refused → Type 0
@@ -55,11 +54,11 @@ Describes old new kind name unit text result =
     Acts (describe_in kind unit text) (old.targets kind name) old new result (λ n. n ≡ length (old.targets kind name))
 
 -- the composite key of a series, by its name in the book
-abbrev pub key_there : MetricKind → List (List ℕ × List ℕ) → List ℕ → SeriesKey
-key_there kind labels name = record { kind = kind; key = record { name = name; labels = labels } }
+abbrev pub key_in_book : MetricKind → List (List ℕ × List ℕ) → List ℕ → SeriesKey
+key_in_book kind labels name = record { kind = kind; key = record { name = name; labels = labels } }
 
 abbrev pub address_in : MetricKind → List (List ℕ × List ℕ) → List Content → ℕ × List ℕ → Address
-address_in kind labels cs t = record { book = t.0; series = place (key_there kind labels t.1) (content_at t.0 cs) }
+address_in kind labels cs t = record { book = t.0; series = place (key_in_book kind labels t.1) (content_at t.0 cs) }
 
 -- the address in each target: the place of the series in that book
 abbrev pub addresses : MetricKind → List (List ℕ × List ℕ) → List (ℕ × List ℕ) → List Content → List Address
@@ -68,7 +67,7 @@ addresses kind labels ts cs = map (address_in kind labels cs) ts
 -- a register call acts on the targets of its name, and answers the address in each of them
 abbrev pub Registers : Meaning → Meaning → MetricKind → KeyParts → Result (List Address) Refused → Type 0
 Registers old new kind key result =
-    Acts (λ name. register_in (key_there kind key.labels name)) (old.targets kind key.name) old new result
+    Acts (λ name. register_in (key_in_book kind key.labels name)) (old.targets kind key.name) old new result
     (λ found. found ≡ addresses kind key.labels (old.targets kind key.name) old.contents)
 
 abbrev pub is_kind : MetricKind → Option MetricKind → Bool
@@ -85,16 +84,14 @@ TakesMemory by = kind_of by ≡ Histogram
 
 -- an update changes the series at its address, if one of its kind stands there
 abbrev pub Updates : {A : Type 0} → Meaning → Meaning → Address → Update → Result A Refused → Type 0
-Updates old new at by (Ok done) = (holds_at (kind_of by) at old.contents ≡ true) × (new.contents ≡ at_book at.book (update_in by at.series) old.contents)
+Updates old new at by (Ok done) = (holds_at (kind_of by) at old.contents ≡ true) × (new.contents ≡ change_at at.book (update_in by at.series) old.contents)
 Updates old new at by (Err (Memory acted)) = (holds_at (kind_of by) at old.contents ≡ true) × TakesMemory by × (acted ≡ 0) × (new.contents ≡ old.contents)
 Updates old new at by (Err NoSuchAddress) = (holds_at (kind_of by) at old.contents ≡ false) × (new.contents ≡ old.contents)
-Updates old new at by (Err NoSuchBook) = ⊥
-Updates old new at by (Err BadHandle) = ⊥
+Updates old new at by (Err e) = ⊥
 
--- a snapshot answers the rows of the book, and resets its series
-abbrev pub Snapshots : Meaning → Meaning → ℕ → Result (List RowParts) Refused → Type 0
-Snapshots old new book (Ok found) = (book < length old.contents) × (found ≡ rows (content_at book old.contents)) × (new.contents ≡ at_book book reset_in old.contents)
-Snapshots old new book (Err (Memory acted)) = (book < length old.contents) × (acted ≡ 0) × (new.contents ≡ old.contents)
-Snapshots old new book (Err NoSuchBook) = (length old.contents ≤ book) × (new.contents ≡ old.contents)
-Snapshots old new book (Err NoSuchAddress) = ⊥
-Snapshots old new book (Err BadHandle) = ⊥
+-- a snapshot answers the rows of the book, and resets its series of the kinds that it is to reset
+abbrev pub Snapshots : Meaning → Meaning → ℕ → Reset → Result (List RowParts) Refused → Type 0
+Snapshots old new book reset (Ok found) = (book < length old.contents) × (found ≡ rows (content_at book old.contents)) × (new.contents ≡ change_at book (reset_in reset) old.contents)
+Snapshots old new book reset (Err (Memory acted)) = (book < length old.contents) × (acted ≡ 0) × (new.contents ≡ old.contents)
+Snapshots old new book reset (Err NoSuchBook) = (length old.contents ≤ book) × (new.contents ≡ old.contents)
+Snapshots old new book reset (Err e) = ⊥

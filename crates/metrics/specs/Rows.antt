@@ -1,9 +1,9 @@
 -- The rows of a snapshot by their keys.
 use Rattle.std.specs.Prelude.{ℕ, cond, List, [], ◌∷◌, Option, None, Some}
 use Rattle.std.specs.List.{filter_map}
-use Rattle.metrics.specs.declared.common.Unit.{Unit as Measure}
+use Rattle.metrics_names.specs.declared.common.Unit.{Unit as Measure}
 use Rattle.metrics.specs.declared.debugging.DebugValue.{DebugValue}
-use Rattle.metrics.specs.Names.{SeriesKey, series_key_eq}
+use Rattle.metrics_names.specs.Names.{SeriesKey, series_key_eq}
 use Rattle.metrics.specs.Book.{RowParts}
 
 -- what stands behind the key of a row

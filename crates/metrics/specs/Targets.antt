@@ -8,15 +8,15 @@ raise k [] = []
 raise k (t ∷ ts) = (k + t.0, t.1) ∷ raise k ts
 
 -- the contents with that of one book changed
-abbrev pub at_book : {C : Type 0} → ℕ → (C → C) → List C → List C
-at_book b f [] = []
-at_book zero f (c ∷ cs) = f c ∷ cs
-at_book (suc b) f (c ∷ cs) = c ∷ at_book b f cs
+abbrev pub change_at : {C : Type 0} → ℕ → (C → C) → List C → List C
+change_at b f [] = []
+change_at zero f (c ∷ cs) = f c ∷ cs
+change_at (suc b) f (c ∷ cs) = c ∷ change_at b f cs
 
 -- the contents after each target was acted on, in order
-abbrev pub act : {X C : Type 0} → (X → C → C) → List (ℕ × X) → List C → List C
-act f [] cs = cs
-act f (t ∷ ts) cs = act f ts (at_book t.0 (f t.1) cs)
+abbrev pub after_targets : {X C : Type 0} → (X → C → C) → List (ℕ × X) → List C → List C
+after_targets f [] cs = cs
+after_targets f (t ∷ ts) cs = after_targets f ts (change_at t.0 (f t.1) cs)
 
 -- what is meant in one book
 abbrev pub in_book : {X : Type 0} → ℕ → List (ℕ × X) → List X

@@ -2,7 +2,7 @@
 use Rattle.std.proofs.Common.{◌≡◌, ℕ, zero, suc, ◌+◌, ◌<◌, ◌≤◌, List, [], ◌∷◌, ◌++◌, length, take, nat_eq, cond, true, false, refl, ap, sym, ◌∙◌, subst, arith, length-append, zero-add}
 use Rattle.std.proofs.lemmas.Bool.{eqb-true}
 use Rattle.std.proofs.lemmas.Bool.Decides.{nat_tests}
-use Rattle.metrics.specs.Targets.{raise, act, at_book, AllBelow, AreDistinct, IsNot}
+use Rattle.metrics.specs.Targets.{raise, after_targets, change_at, AllBelow, AreDistinct, IsNot}
 
 pub zero_below_one : 0 < 1
 zero_below_one = omega arith
@@ -47,41 +47,41 @@ pub distinct_joined : {X : Type 0} (k : ℕ) (ts us : List (ℕ × X)) → AllBe
 distinct_joined k [] us b d e = distinct_raise k us e
 distinct_joined k (t ∷ ts) us b d e = (is_not_append t.0 ts (raise k us) d.0 (is_not_raise t.0 k us b.0), distinct_joined k ts us b.1 d.1 e)
 
-pub length-at_book : {C : Type 0} (b : ℕ) (f : C → C) (cs : List C) → length (at_book b f cs) ≡ length cs
-length-at_book b f [] = refl
-length-at_book zero f (c ∷ cs) = refl
-length-at_book (suc b) f (c ∷ cs) = ap suc (length-at_book b f cs)
+pub length-change_at : {C : Type 0} (b : ℕ) (f : C → C) (cs : List C) → length (change_at b f cs) ≡ length cs
+length-change_at b f [] = refl
+length-change_at zero f (c ∷ cs) = refl
+length-change_at (suc b) f (c ∷ cs) = ap suc (length-change_at b f cs)
 
-pub length-act : {X C : Type 0} (f : X → C → C) (ts : List (ℕ × X)) (cs : List C) → length (act f ts cs) ≡ length cs
-length-act f [] cs = refl
-length-act f (t ∷ ts) cs = length-act f ts (at_book t.0 (f t.1) cs) ∙ length-at_book t.0 (f t.1) cs
+pub length-after_targets : {X C : Type 0} (f : X → C → C) (ts : List (ℕ × X)) (cs : List C) → length (after_targets f ts cs) ≡ length cs
+length-after_targets f [] cs = refl
+length-after_targets f (t ∷ ts) cs = length-after_targets f ts (change_at t.0 (f t.1) cs) ∙ length-change_at t.0 (f t.1) cs
 
-pub act-append : {X C : Type 0} (f : X → C → C) (ts us : List (ℕ × X)) (cs : List C) → act f (ts ++ us) cs ≡ act f us (act f ts cs)
-act-append f [] us cs = refl
-act-append f (t ∷ ts) us cs = act-append f ts us (at_book t.0 (f t.1) cs)
+pub after_targets-append : {X C : Type 0} (f : X → C → C) (ts us : List (ℕ × X)) (cs : List C) → after_targets f (ts ++ us) cs ≡ after_targets f us (after_targets f ts cs)
+after_targets-append f [] us cs = refl
+after_targets-append f (t ∷ ts) us cs = after_targets-append f ts us (change_at t.0 (f t.1) cs)
 
-pub at_book-front : {C : Type 0} (b : ℕ) (f : C → C) (cs ds : List C) → b < length cs → at_book b f (cs ++ ds) ≡ at_book b f cs ++ ds
-at_book-front b f [] ds h = absurd (omega arith)
-at_book-front zero f (c ∷ cs) ds h = refl
-at_book-front (suc b) f (c ∷ cs) ds h = ap (λ xs. c ∷ xs) (at_book-front b f cs ds (omega arith))
+pub change_at-front : {C : Type 0} (b : ℕ) (f : C → C) (cs ds : List C) → b < length cs → change_at b f (cs ++ ds) ≡ change_at b f cs ++ ds
+change_at-front b f [] ds h = absurd (omega arith)
+change_at-front zero f (c ∷ cs) ds h = refl
+change_at-front (suc b) f (c ∷ cs) ds h = ap (λ xs. c ∷ xs) (change_at-front b f cs ds (omega arith))
 
-pub at_book-past : {C : Type 0} (b : ℕ) (f : C → C) (cs ds : List C) → at_book (length cs + b) f (cs ++ ds) ≡ cs ++ at_book b f ds
-at_book-past b f [] ds = ap (λ k. at_book k f ds) (zero-add b)
-at_book-past b f (c ∷ cs) ds =
+pub change_at-past : {C : Type 0} (b : ℕ) (f : C → C) (cs ds : List C) → change_at (length cs + b) f (cs ++ ds) ≡ cs ++ change_at b f ds
+change_at-past b f [] ds = ap (λ k. change_at k f ds) (zero-add b)
+change_at-past b f (c ∷ cs) ds =
     let e : length (c ∷ cs) + b ≡ suc (length cs + b) = omega arith in
-    ap (λ k. at_book k f (c ∷ (cs ++ ds))) e ∙ ap (λ xs. c ∷ xs) (at_book-past b f cs ds)
+    ap (λ k. change_at k f (c ∷ (cs ++ ds))) e ∙ ap (λ xs. c ∷ xs) (change_at-past b f cs ds)
 
 -- targets below the front's number leave the rest
-pub act-front : {X C : Type 0} (f : X → C → C) (ts : List (ℕ × X)) (cs ds : List C) → AllBelow (length cs) ts → act f ts (cs ++ ds) ≡ act f ts cs ++ ds
-act-front f [] cs ds h = refl
-act-front f (t ∷ ts) cs ds h =
-    ap (act f ts) (at_book-front t.0 (f t.1) cs ds h.0)
-    ∙ act-front f ts (at_book t.0 (f t.1) cs) ds (subst (λ k. AllBelow k ts) (sym (length-at_book t.0 (f t.1) cs)) h.1)
+pub after_targets-front : {X C : Type 0} (f : X → C → C) (ts : List (ℕ × X)) (cs ds : List C) → AllBelow (length cs) ts → after_targets f ts (cs ++ ds) ≡ after_targets f ts cs ++ ds
+after_targets-front f [] cs ds h = refl
+after_targets-front f (t ∷ ts) cs ds h =
+    ap (after_targets f ts) (change_at-front t.0 (f t.1) cs ds h.0)
+    ∙ after_targets-front f ts (change_at t.0 (f t.1) cs) ds (subst (λ k. AllBelow k ts) (sym (length-change_at t.0 (f t.1) cs)) h.1)
 
 -- raised targets leave the front
-pub act-past : {X C : Type 0} (f : X → C → C) (ts : List (ℕ × X)) (cs ds : List C) → act f (raise (length cs) ts) (cs ++ ds) ≡ cs ++ act f ts ds
-act-past f [] cs ds = refl
-act-past f (t ∷ ts) cs ds = ap (act f (raise (length cs) ts)) (at_book-past t.0 (f t.1) cs ds) ∙ act-past f ts cs (at_book t.0 (f t.1) ds)
+pub after_targets-past : {X C : Type 0} (f : X → C → C) (ts : List (ℕ × X)) (cs ds : List C) → after_targets f (raise (length cs) ts) (cs ++ ds) ≡ cs ++ after_targets f ts ds
+after_targets-past f [] cs ds = refl
+after_targets-past f (t ∷ ts) cs ds = ap (after_targets f (raise (length cs) ts)) (change_at-past t.0 (f t.1) cs ds) ∙ after_targets-past f ts cs (change_at t.0 (f t.1) ds)
 
 pub length-raise : {X : Type 0} (k : ℕ) (ts : List (ℕ × X)) → length (raise k ts) ≡ length ts
 length-raise k [] = refl

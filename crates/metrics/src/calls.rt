@@ -1,13 +1,8 @@
 //! Calls of a recorder as values, and what they were answered.
 
-use crate::common::Unit;
-use crate::debugging::Snapshot as Rows;
+use crate::debugging::{Reset, Snapshot as Rows};
 use crate::handles::{Address, Update as Change};
-use crate::items::Items;
-use crate::key::{Key, KeyName};
-use crate::kind::MetricKind;
-use crate::refused::Refused as Refusal;
-use crate::text::Text;
+use metrics_names::{Items, Key, KeyName, MetricKind, Refused as Refusal, Text, Unit};
 
 /// A call of a recorder.
 #[derive(Debug, Drop)]
@@ -18,8 +13,10 @@ pub enum Call {
     /// The number of a register call, from 0, refused ones counted too; and an update for each of its
     /// addresses.
     Update(usize, Change),
-    /// The number of a book.
+    /// The number of a book. Series of all kinds are reset.
     Snapshot(usize),
+    /// The number of a book, and which of its series are reset.
+    SnapshotWith(usize, Reset),
 }
 
 /// What a call was answered.

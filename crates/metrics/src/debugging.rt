@@ -1,13 +1,11 @@
 //! Values and rows of a snapshot.
 ghost use Rattle.std.specs.Prelude.{◌≡◌, ◌≤◌, ◌<◌, ◌+◌, IfOk, IfErr, Some, cond};
 ghost use Rattle.std.specs.HashMap.{get, spare};
-ghost use Rattle.metrics.specs.Names.{SeriesKey, series_key_eq};
+ghost use Rattle.metrics_names.specs.Names.{SeriesKey, series_key_eq};
+ghost use Rattle.metrics.specs.Book.{resets};
 ghost use Rattle.metrics.specs.Rows.{last_row};
 
-use crate::common::Unit;
-use crate::items::Items;
-use crate::key::CompositeKey;
-use crate::text::Text;
+use metrics_names::{CompositeKey, Items, MetricKind, Text, Unit};
 use std::alloc::Global;
 use std::collections::HashMap;
 use std::marker::Model;
@@ -27,6 +25,27 @@ pub type Row = (CompositeKey, Option<Unit>, Option<Text>, DebugValue);
 
 /// The rest of a row, behind its composite key.
 pub type RowValue = (Option<Unit>, Option<Text>, DebugValue);
+
+/// Which series a snapshot resets: counters and gauges to 0, histograms to no samples.
+#[derive(Clone, Copy, Debug, PartialEq, Eq)]
+pub enum Reset {
+    /// Those of all kinds.
+    All,
+    /// Counters and histograms; gauges stand as they are.
+    KeepGauges,
+}
+
+impl Reset {
+    /// Whether the series of a kind are reset.
+    pub fn resets(self, kind: MetricKind) -> bool
+        ensures { result ≡ resets self kind }
+    {
+        match self {
+            Reset::All => true,
+            Reset::KeepGauges => !matches!(kind, MetricKind::Gauge),
+        }
+    }
+}
 
 /// The rows of a book, in order of first registration.
 #[derive(Debug, Drop)]

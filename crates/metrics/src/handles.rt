@@ -2,13 +2,11 @@
 ghost use Rattle.std.specs.Prelude.{◌≡◌, ◌≤◌, ◌<◌, ◌+◌, ◌^◌, [], true};
 ghost use Rattle.metrics.specs.declared.handles.Update.TheVariants.{Increment, Absolute, Add, Subtract, Set, Record};
 ghost use Rattle.metrics.specs.Book.{kind_of};
-ghost use Rattle.metrics.specs.Meaning.{Keeps};
+ghost use Rattle.metrics.specs.Meaning.{KeepsTargets};
 ghost use Rattle.metrics.specs.Answering.{AllHeld, places, UpdatesAll, UpdatesHandle, holds_all};
 
-use crate::items::Items;
-use crate::kind::MetricKind;
 use crate::recorder::Recorder;
-use crate::refused::Refused;
+use metrics_names::{Items, MetricKind, Refused};
 use std::alloc::Global;
 use std::marker::Model;
 
@@ -42,7 +40,7 @@ pub enum Update {
 /// Updates the series at each address, in order. The addresses are known to be held.
 fn update_held<R: Recorder>(on: &mut R, found: &[Address], by: Update) -> Result<usize, Refused>
     requires { AllHeld (kind_of by) found.now (R.meaning on.old).contents }
-    ensures keeps { Keeps (R.meaning on.old) (R.meaning on.new) }
+    ensures keeps { KeepsTargets (R.meaning on.old) (R.meaning on.new) }
     ensures updates { UpdatesAll (R.meaning on.old) (R.meaning on.new) (places found.now) by result }
 {
     for (i, at) in found.iter().enumerate() {
@@ -81,7 +79,7 @@ fn kind_of_update(by: Update) -> MetricKind
 ///
 /// Answers how many series it updated; `NoSuchAddress` where some address isn't held, with nothing changed.
 pub fn update_all<R: Recorder>(on: &mut R, found: &[Address], by: Update) -> Result<usize, Refused>
-    ensures keeps { Keeps (R.meaning on.old) (R.meaning on.new) }
+    ensures keeps { KeepsTargets (R.meaning on.old) (R.meaning on.new) }
     ensures updates { UpdatesHandle (R.meaning on.old) (R.meaning on.new) found.now by result }
 {
     if are_held(on, kind_of_update(by), found) {
@@ -138,7 +136,7 @@ impl Counter {
     ///
     /// Answers how many series it updated; `NoSuchAddress` where some address isn't held, with nothing changed.
     pub fn increment<R: Recorder>(&self, on: &mut R, n: u64) -> Result<usize, Refused>
-        ensures keeps { Keeps (R.meaning on.old) (R.meaning on.new) }
+        ensures keeps { KeepsTargets (R.meaning on.old) (R.meaning on.new) }
         ensures updates { UpdatesHandle (R.meaning on.old) (R.meaning on.new) self.now (Increment n) result }
     {
         update_all(on, self.addresses(), Update::Increment(n))
@@ -148,7 +146,7 @@ impl Counter {
     ///
     /// Answers how many series it updated; `NoSuchAddress` where some address isn't held, with nothing changed.
     pub fn absolute<R: Recorder>(&self, on: &mut R, n: u64) -> Result<usize, Refused>
-        ensures keeps { Keeps (R.meaning on.old) (R.meaning on.new) }
+        ensures keeps { KeepsTargets (R.meaning on.old) (R.meaning on.new) }
         ensures updates { UpdatesHandle (R.meaning on.old) (R.meaning on.new) self.now (Absolute n) result }
     {
         update_all(on, self.addresses(), Update::Absolute(n))
@@ -202,7 +200,7 @@ impl Gauge {
     ///
     /// Answers how many series it updated; `NoSuchAddress` where some address isn't held, with nothing changed.
     pub fn increment<R: Recorder>(&self, on: &mut R, n: i64) -> Result<usize, Refused>
-        ensures keeps { Keeps (R.meaning on.old) (R.meaning on.new) }
+        ensures keeps { KeepsTargets (R.meaning on.old) (R.meaning on.new) }
         ensures updates { UpdatesHandle (R.meaning on.old) (R.meaning on.new) self.now (Add n) result }
     {
         update_all(on, self.addresses(), Update::Add(n))
@@ -212,7 +210,7 @@ impl Gauge {
     ///
     /// Answers how many series it updated; `NoSuchAddress` where some address isn't held, with nothing changed.
     pub fn decrement<R: Recorder>(&self, on: &mut R, n: i64) -> Result<usize, Refused>
-        ensures keeps { Keeps (R.meaning on.old) (R.meaning on.new) }
+        ensures keeps { KeepsTargets (R.meaning on.old) (R.meaning on.new) }
         ensures updates { UpdatesHandle (R.meaning on.old) (R.meaning on.new) self.now (Subtract n) result }
     {
         update_all(on, self.addresses(), Update::Subtract(n))
@@ -222,7 +220,7 @@ impl Gauge {
     ///
     /// Answers how many series it updated; `NoSuchAddress` where some address isn't held, with nothing changed.
     pub fn set<R: Recorder>(&self, on: &mut R, n: i64) -> Result<usize, Refused>
-        ensures keeps { Keeps (R.meaning on.old) (R.meaning on.new) }
+        ensures keeps { KeepsTargets (R.meaning on.old) (R.meaning on.new) }
         ensures updates { UpdatesHandle (R.meaning on.old) (R.meaning on.new) self.now (Set n) result }
     {
         update_all(on, self.addresses(), Update::Set(n))
@@ -276,7 +274,7 @@ impl Histogram {
     ///
     /// Answers how many series it updated; `NoSuchAddress` where some address isn't held, with nothing changed.
     pub fn record<R: Recorder>(&self, on: &mut R, sample: i64) -> Result<usize, Refused>
-        ensures keeps { Keeps (R.meaning on.old) (R.meaning on.new) }
+        ensures keeps { KeepsTargets (R.meaning on.old) (R.meaning on.new) }
         ensures updates { UpdatesHandle (R.meaning on.old) (R.meaning on.new) self.now (Record sample) result }
     {
         update_all(on, self.addresses(), Update::Record(sample))

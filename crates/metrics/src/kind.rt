@@ -1,9 +1,99 @@
-//! The kinds of metrics.
+//! Sets of kinds of metrics, and values for each kind.
+ghost use Rattle.std.specs.Prelude.{◌≡◌, nat_eq};
+ghost use Rattle.metrics.specs.Layers.{mask_has};
 
-/// The kind of a metric. Kinds are ordered as they stand here.
+use metrics_names::MetricKind;
+use std::marker::Model;
+use std::ops::BitOr;
+
+/// A set of kinds of metrics.
 #[derive(Clone, Copy, Debug, PartialEq, Eq, PartialOrd, Ord, Hash)]
-pub enum MetricKind {
-    Counter,
-    Gauge,
-    Histogram,
+pub struct MetricKindMask(u8);
+
+impl Model for MetricKindMask {
+    ghost use Rattle.std.specs.Prelude.{ℕ, ◌≤◌};
+
+    ghost Value = { ℕ };
+
+    ghost view = { λ a. a.0 };
+
+    ghost invariant = { λ a. a.0 ≤ 7 };
+
+    ghost inverse = { λ n. record { 0 = n } };
+}
+
+impl MetricKindMask {
+    /// No kind.
+    pub const NONE: MetricKindMask = MetricKindMask(0);
+
+    /// Counters alone.
+    pub const COUNTER: MetricKindMask = MetricKindMask(1);
+
+    /// Gauges alone.
+    pub const GAUGE: MetricKindMask = MetricKindMask(2);
+
+    /// Histograms alone.
+    pub const HISTOGRAM: MetricKindMask = MetricKindMask(4);
+
+    /// Every kind.
+    pub const ALL: MetricKindMask = MetricKindMask(7);
+
+    /// Whether the set has the kind.
+    pub fn matches(&self, kind: MetricKind) -> bool
+        ensures { result ≡ mask_has kind self.now }
+    {
+        let kinds = self.0;
+        let from_kind = match kind {
+            MetricKind::Counter => kinds,
+            MetricKind::Gauge => kinds >> 1,
+            MetricKind::Histogram => kinds >> 2,
+        };
+        from_kind & 1 == 1
+    }
+
+    /// Whether the set has no kind.
+    pub fn is_empty(&self) -> bool
+        ensures { result ≡ nat_eq self.now 0 }
+    {
+        self.0 == 0
+    }
+}
+
+impl BitOr for MetricKindMask {
+    ghost use Rattle.std.specs.Prelude.{◌≡◌, ◌||◌};
+    ghost use Rattle.metrics_names.specs.declared.kind.MetricKind.{MetricKind};
+    ghost use Rattle.metrics.specs.Layers.{mask_has};
+
+    type Output = MetricKindMask;
+
+    ghost bitor_gives = { λ a b both. (kind : MetricKind) → mask_has kind both ≡ (mask_has kind a || mask_has kind b) };
+
+    /// The kinds of both sets.
+    #[tactic(auto, using(crate::proofs::MaskLemmas::or_most, crate::proofs::MaskLemmas::or_has))]
+    fn bitor(self, other: MetricKindMask) -> MetricKindMask {
+        MetricKindMask(self.0 | other.0)
+    }
+}
+
+/// A value for each kind.
+#[derive(Clone, Debug, PartialEq, Eq, Drop)]
+pub struct PerKind<T> {
+    pub counter: T,
+    pub gauge: T,
+    pub histogram: T,
+}
+
+impl<T> PerKind<T> {
+    ghost use Rattle.metrics.specs.Kinds.{of_kind};
+
+    /// The value of a kind.
+    pub fn of(&self, kind: MetricKind) -> &T
+        ensures { result.now ≡ of_kind kind self.now }
+    {
+        match kind {
+            MetricKind::Counter => &self.counter,
+            MetricKind::Gauge => &self.gauge,
+            MetricKind::Histogram => &self.histogram,
+        }
+    }
 }

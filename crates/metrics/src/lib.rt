@@ -1,32 +1,22 @@
-//! Names, handles and the `Recorder` trait, with the definitions of what a recorder means.
+//! Handles and the `Recorder` trait, with the definitions of what a recorder means.
 #![tactic(auto)]
 
 mod calls;
-mod common;
+mod cells;
 mod debugging;
-mod examples;
+mod error;
 mod handles;
-mod items;
-mod key;
 mod kind;
-mod label;
-mod laws;
+mod one_of_two;
 mod recorder;
-mod refused;
-#[cfg(test)]
-mod tests;
-mod text;
 
 pub use calls::{Answer, Call};
-pub use common::Unit;
-pub use debugging::{DebugValue, Row, RowValue, Snapshot};
-pub use examples::worked_examples;
+pub use cells::{CounterCell, GaugeCell, HistogramCell};
+pub use debugging::{DebugValue, Reset, Row, RowValue, Snapshot};
+pub use error::Error;
 pub use handles::{Address, Counter, Gauge, Histogram, Update, update_all};
-pub use items::Items;
-pub use key::{CompositeKey, Key, KeyName};
-pub use kind::MetricKind;
-pub use label::Label;
-pub use laws::definition_laws;
+pub use kind::{MetricKindMask, PerKind};
+pub use metrics_names::{
+    CompositeKey, Items, Key, KeyName, Label, MetricKind, Refused, Text, Unit,
+};
 pub use recorder::{Boxed, NoopRecorder, Recorder};
-pub use refused::Refused;
-pub use text::Text;

@@ -1,14 +1,11 @@
 //! The `Recorder` trait, and the recorders that keep nothing of their own.
 ghost use Rattle.std.specs.Prelude.{◌≡◌, ◌≤◌, length};
 ghost use Rattle.std.specs.Result.{result_map_both};
-ghost use Rattle.metrics.specs.Meaning.{Meaning, Keeps, Describes, Registers, Updates, Snapshots, holds_at, nothing};
+ghost use Rattle.metrics.specs.Meaning.{Meaning, KeepsTargets, Describes, Registers, Updates, Snapshots, holds_at, nothing};
 
-use crate::common::Unit;
-use crate::debugging::Snapshot;
+use crate::debugging::{Reset, Snapshot};
 use crate::handles::{Address, Counter, Gauge, Histogram, Update};
-use crate::key::{Key, KeyName};
-use crate::kind::MetricKind;
-use crate::refused::Refused;
+use metrics_names::{Key, KeyName, MetricKind, Refused, Unit};
 use std::alloc::Global;
 
 /// What takes names and updates, and tells what it kept of them.
@@ -36,7 +33,7 @@ pub trait Recorder: Drop {
         unit: Option<Unit>,
         text: &str,
     ) -> Result<usize, Refused>
-        ensures keeps { Keeps (meaning self.old) (meaning self.new) }
+        ensures keeps { KeepsTargets (meaning self.old) (meaning self.new) }
         ensures describes { Describes (meaning self.old) (meaning self.new) kind name.now unit text.now result };
 
     /// Registers a key in each of its name's targets, and answers the address in each of them, in order.
@@ -49,7 +46,7 @@ pub trait Recorder: Drop {
         kind: MetricKind,
         key: &Key,
     ) -> Result<Vec<Address>, Refused>
-        ensures keeps { Keeps (meaning self.old) (meaning self.new) }
+        ensures keeps { KeepsTargets (meaning self.old) (meaning self.new) }
         ensures registers { Registers (meaning self.old) (meaning self.new) kind key.now (result_map_both (λ v. v.items) (λ e. e) result) };
 
     /// Whether a series of that kind stands at the address.
@@ -61,15 +58,29 @@ pub trait Recorder: Drop {
     /// `NoSuchAddress` where no series of the update's kind stands there. Only `Record` can be refused for
     /// memory.
     fn update(&mut self, at: Address, by: Update) -> Result<(), Refused>
-        ensures keeps { Keeps (meaning self.old) (meaning self.new) }
+        ensures keeps { KeepsTargets (meaning self.old) (meaning self.new) }
         ensures updates { Updates (meaning self.old) (meaning self.new) at by result };
 
-    /// The rows of a book. Its counters and gauges then stand at 0, and its histograms have no samples.
+    /// The rows of a book, as they were before the series of some kinds are reset: counters and gauges to 0,
+    /// histograms to no samples.
     ///
     /// `NoSuchBook` where the number is not below that of the books. Where memory is refused nothing changed.
+    fn snapshot_with(
+        &mut self,
+        alloc: Global,
+        book: usize,
+        reset: Reset,
+    ) -> Result<Snapshot, Refused>
+        ensures keeps { KeepsTargets (meaning self.old) (meaning self.new) }
+        ensures snapshots { Snapshots (meaning self.old) (meaning self.new) book reset result };
+
+    /// `snapshot_with` that resets the series of all kinds.
     fn snapshot(&mut self, alloc: Global, book: usize) -> Result<Snapshot, Refused>
-        ensures keeps { Keeps (meaning self.old) (meaning self.new) }
-        ensures snapshots { Snapshots (meaning self.old) (meaning self.new) book result };
+        ensures keeps { KeepsTargets (meaning self.old) (meaning self.new) }
+        ensures snapshots { Snapshots (meaning self.old) (meaning self.new) book Reset.All result }
+    {
+        self.snapshot_with(alloc, book, Reset::All)
+    }
 
     /// `describe` of a counter.
     fn describe_counter(
@@ -79,7 +90,7 @@ pub trait Recorder: Drop {
         unit: Option<Unit>,
         text: &str,
     ) -> Result<usize, Refused>
-        ensures keeps { Keeps (meaning self.old) (meaning self.new) }
+        ensures keeps { KeepsTargets (meaning self.old) (meaning self.new) }
         ensures describes { Describes (meaning self.old) (meaning self.new) MetricKind.Counter name.now unit text.now result }
     {
         self.describe(alloc, MetricKind::Counter, name, unit, text)
@@ -93,7 +104,7 @@ pub trait Recorder: Drop {
         unit: Option<Unit>,
         text: &str,
     ) -> Result<usize, Refused>
-        ensures keeps { Keeps (meaning self.old) (meaning self.new) }
+        ensures keeps { KeepsTargets (meaning self.old) (meaning self.new) }
         ensures describes { Describes (meaning self.old) (meaning self.new) MetricKind.Gauge name.now unit text.now result }
     {
         self.describe(alloc, MetricKind::Gauge, name, unit, text)
@@ -107,7 +118,7 @@ pub trait Recorder: Drop {
         unit: Option<Unit>,
         text: &str,
     ) -> Result<usize, Refused>
-        ensures keeps { Keeps (meaning self.old) (meaning self.new) }
+        ensures keeps { KeepsTargets (meaning self.old) (meaning self.new) }
         ensures describes { Describes (meaning self.old) (meaning self.new) MetricKind.Histogram name.now unit text.now result }
     {
         self.describe(alloc, MetricKind::Histogram, name, unit, text)
@@ -115,7 +126,7 @@ pub trait Recorder: Drop {
 
     /// `register` of a counter, which answers a handle.
     fn register_counter(&mut self, alloc: Global, key: &Key) -> Result<Counter, Refused>
-        ensures keeps { Keeps (meaning self.old) (meaning self.new) }
+        ensures keeps { KeepsTargets (meaning self.old) (meaning self.new) }
         ensures registers { Registers (meaning self.old) (meaning self.new) MetricKind.Counter key.now result }
     {
         match self.register(alloc, MetricKind::Counter, key) {
@@ -126,7 +137,7 @@ pub trait Recorder: Drop {
 
     /// `register` of a gauge, which answers a handle.
     fn register_gauge(&mut self, alloc: Global, key: &Key) -> Result<Gauge, Refused>
-        ensures keeps { Keeps (meaning self.old) (meaning self.new) }
+        ensures keeps { KeepsTargets (meaning self.old) (meaning self.new) }
         ensures registers { Registers (meaning self.old) (meaning self.new) MetricKind.Gauge key.now result }
     {
         match self.register(alloc, MetricKind::Gauge, key) {
@@ -137,7 +148,7 @@ pub trait Recorder: Drop {
 
     /// `register` of a histogram, which answers a handle.
     fn register_histogram(&mut self, alloc: Global, key: &Key) -> Result<Histogram, Refused>
-        ensures keeps { Keeps (meaning self.old) (meaning self.new) }
+        ensures keeps { KeepsTargets (meaning self.old) (meaning self.new) }
         ensures registers { Registers (meaning self.old) (meaning self.new) MetricKind.Histogram key.now result }
     {
         match self.register(alloc, MetricKind::Histogram, key) {
@@ -186,8 +197,13 @@ impl Recorder for Boxed {
         self.0.update(at, by)
     }
 
-    fn snapshot(&mut self, alloc: Global, book: usize) -> Result<Snapshot, Refused> {
-        self.0.snapshot(alloc, book)
+    fn snapshot_with(
+        &mut self,
+        alloc: Global,
+        book: usize,
+        reset: Reset,
+    ) -> Result<Snapshot, Refused> {
+        self.0.snapshot_with(alloc, book, reset)
     }
 }
 
@@ -230,7 +246,12 @@ impl Recorder for NoopRecorder {
         Err(Refused::NoSuchAddress)
     }
 
-    fn snapshot(&mut self, _alloc: Global, _book: usize) -> Result<Snapshot, Refused> {
+    fn snapshot_with(
+        &mut self,
+        _alloc: Global,
+        _book: usize,
+        _reset: Reset,
+    ) -> Result<Snapshot, Refused> {
         Err(Refused::NoSuchBook)
     }
 }

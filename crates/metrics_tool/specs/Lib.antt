@@ -1,5 +1,0 @@
-pub mod Lines
-pub mod Grammar
-pub mod Printing
-pub mod Handles
-pub mod Running

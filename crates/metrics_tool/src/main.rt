@@ -2,17 +2,7 @@
 //! and prints the answers.
 #![tactic(auto)]
 
-mod calls;
-mod commands;
-mod levels;
-mod printing;
-mod running;
-mod stream;
-mod tree_lines;
-mod trees;
-mod words;
-
-use commands::command;
+use metrics_lines::command;
 use std::io::BufReader;
 use std::process::ExitCode;
 use std::{env, io};

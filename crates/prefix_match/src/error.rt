@@ -1,3 +1,4 @@
+//! Why a set of patterns was not made, or a trie not changed.
 use thiserror::Error;
 
 /// Why a set of patterns was not made, or a trie not changed.

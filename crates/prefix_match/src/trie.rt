@@ -1,3 +1,4 @@
+//! The longest stored pattern that a text begins with.
 ghost use Rattle.std.specs.Prelude.{◌≡◌, ◌≢◌, ℕ, List, [], Option, Some, IfOk, OnOk, IfErr, OnErr, IfSome, IfNone, IsOk};
 ghost use Rattle.prefix_match.specs.TriePatterns.{stored, HasNoFront, IsLongest, HasRoom};
 ghost use Rattle.prefix_match.specs.declared.error.MatchError.TheVariants.{Memory};
@@ -134,7 +135,7 @@ mod tests {
 
     // Whichever allocation is refused, the answers are those of the inserts that were made.
     #[test]
-    fn a_refused_insert_changes_no_answer(rt: HostRuntime) {
+    fn each_insert_changes_its_own_answer(rt: HostRuntime) {
         let mut trie = PrefixTrie::new(rt.alloc());
         let whole = trie.insert(b"abc", 1).ok().map(|_| 1);
         assert_eq!(rt; trie.longest(b"abcd"), whole);

@@ -1,3 +1,4 @@
+//! Bytes as they are compared.
 ghost use Rattle.std.specs.Prelude.{◌≡◌};
 ghost use Rattle.prefix_match.specs.Substring.{lowered_byte};
 

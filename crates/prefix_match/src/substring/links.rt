@@ -1,3 +1,4 @@
+//! The automaton as a trie with fail links.
 ghost use Rattle.std.specs.Prelude.{◌≡◌, ◌≢◌, ℕ, ◌+◌, ◌*◌, ◌^◌, ◌<◌, ◌≤◌, List, [], ◌∷◌, ◌++◌, map, length, drop, IfOk};
 ghost use Rattle.std.specs.List.{sum_by};
 ghost use Rattle.std.specs.Vec.{vec_len};

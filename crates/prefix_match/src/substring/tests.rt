@@ -1,3 +1,4 @@
+//! Both forms of the automaton, with expected answers and counts from outside.
 use super::*;
 use std::process::Abort;
 use std::test::Fail;

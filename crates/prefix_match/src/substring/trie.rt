@@ -1,3 +1,4 @@
+//! The trie of the patterns, from which both forms are made.
 ghost use Rattle.std.specs.Prelude.{◌≡◌, ℕ, ◌+◌, ◌^◌, ◌<◌, ◌≤◌, List, [], ◌∷◌, ◌++◌, map, length, sum, IfSome, IfNone, IfOk, OnOk};
 ghost use Rattle.std.specs.Vec.{vec_len};
 ghost use Rattle.std.specs.List.{sum_by};

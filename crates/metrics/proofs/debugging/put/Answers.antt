@@ -2,10 +2,10 @@ use Rattle.std.proofs.Common.{◌≡◌, Bool, ◌&&◌, cond, Some, refl, ap, s
 use Rattle.std.specs.HashMap.{get}
 use denote.Enum.Bare.{sameb}
 use mathlib.Core.Path.{fun_ext}
-use Rattle.metrics.specs.contracts.kind.MetricKind.{the_type}
-use Rattle.metrics.specs.declared.kind.MetricKind.{MetricKind}
-use Rattle.metrics.specs.declared.kind.MetricKind.TheVariants.{Counter, Gauge, Histogram}
-use Rattle.metrics.specs.Names.{SeriesKey, kind_eq, key_eq, series_key_eq}
+use Rattle.metrics_names.specs.contracts.kind.MetricKind.{the_type}
+use Rattle.metrics_names.specs.declared.kind.MetricKind.{MetricKind}
+use Rattle.metrics_names.specs.declared.kind.MetricKind.TheVariants.{Counter, Gauge, Histogram}
+use Rattle.metrics_names.specs.Names.{SeriesKey, kind_eq, key_eq, series_key_eq}
 use Rattle.metrics.proofs.debugging.put.Goals as goal
 
 -- the derived test of kinds is the test of their numbers

@@ -1,6 +1,6 @@
 use Rattle.std.proofs.Common.{◌≡◌, ◌++◌, ◌∷◌, length, sym, ◌∙◌, ap, arith, append_assoc, cond, Some}
 use Rattle.std.specs.Vec.Iter.{into_iter_items}
-use Rattle.metrics.specs.Names.{series_key_eq}
+use Rattle.metrics_names.specs.Names.{series_key_eq}
 use Rattle.metrics.proofs.RowsLemmas.{last_row-push}
 use Rattle.metrics.proofs.debugging.Snapshot.into_hashmap.Goals as goal
 

@@ -1,7 +1,7 @@
 use Rattle.std.proofs.Common.{◌≡◌, ◌≤◌, ◌++◌, length}
 use Rattle.std.specs.HashMap.{get, spare}
 use Rattle.std.specs.Vec.Iter.{into_iter_items}
-use Rattle.metrics.specs.Names.{SeriesKey, series_key_eq}
+use Rattle.metrics_names.specs.Names.{SeriesKey, series_key_eq}
 use Rattle.metrics.specs.Rows.{last_row}
 use Rattle.metrics.proofs.debugging.Snapshot.into_hashmap.Given as goal
 

@@ -1,0 +1,17 @@
+//! Tests of `metrics_layers` and `metrics_trees`, through what they hand out.
+//!
+//! They stand in a crate of their own: a crate with tests is proved twice.
+#![tactic(auto)]
+
+#[cfg(test)]
+mod fanouts;
+#[cfg(test)]
+mod given;
+#[cfg(test)]
+mod layers;
+#[cfg(test)]
+mod mixed;
+#[cfg(test)]
+mod routers;
+#[cfg(test)]
+mod scarce;

@@ -1,0 +1,82 @@
+//! Cells that a caller owns and changes in place.
+ghost use Rattle.std.specs.Prelude.{◌≡◌, ℕ, ℤ, List, MatchResult};
+ghost use Rattle.metrics.specs.Cells.{IsCountAfter, IsGaugeAfter, AreSamplesAfter};
+ghost use Rattle.metrics.specs.declared.handles.Update.TheVariants.{Increment, Absolute, Add, Subtract, Set, Record};
+
+/// The cell of a counter.
+pub trait CounterCell {
+    /// The count that it holds.
+    ghost count: { Self → ℕ };
+
+    /// Adds to the count, modulo 2^64.
+    fn increment(&mut self, value: u64)
+        ensures { IsCountAfter (Increment value) (count self.old) (count self.new) };
+
+    /// Raises the count to the value, if it is below that.
+    fn absolute(&mut self, value: u64)
+        ensures { IsCountAfter (Absolute value) (count self.old) (count self.new) };
+}
+
+/// The cell of a gauge.
+pub trait GaugeCell {
+    /// The value that it holds.
+    ghost gauge: { Self → ℤ };
+
+    /// Adds to the value, which stops at the ends of `i64`.
+    fn increment(&mut self, value: i64)
+        ensures { IsGaugeAfter (Add value) (gauge self.old) (gauge self.new) };
+
+    /// Subtracts from the value, which stops at the ends of `i64`.
+    fn decrement(&mut self, value: i64)
+        ensures { IsGaugeAfter (Subtract value) (gauge self.old) (gauge self.new) };
+
+    /// Replaces the value.
+    fn set(&mut self, value: i64)
+        ensures { IsGaugeAfter (Set value) (gauge self.old) (gauge self.new) };
+}
+
+/// The cell of a histogram.
+pub trait HistogramCell {
+    /// Why a sample wasn't kept.
+    type Error: Drop;
+
+    /// The samples that it holds, in the order in which they were recorded.
+    ghost samples: { Self → List ℤ };
+
+    /// Which cells may refuse a sample, and with which error.
+    ghost refuses: { Self → Self.Error → Type 0 };
+
+    /// Keeps a sample. A cell that refuses it is as it was.
+    fn record(&mut self, value: i64) -> Result<(), Self::Error>
+        ensures { MatchResult result
+            (λ _. AreSamplesAfter (Record value) (samples self.old) (samples self.new))
+            (λ e. refuses self.old e × (self.new ≡ self.old)) };
+}
+
+impl CounterCell for u64 {
+    ghost count = { λ n. n };
+
+    fn increment(&mut self, value: u64) {
+        *self = self.wrapping_add(value);
+    }
+
+    fn absolute(&mut self, value: u64) {
+        *self = (*self).max(value);
+    }
+}
+
+impl GaugeCell for i64 {
+    ghost gauge = { λ n. n };
+
+    fn increment(&mut self, value: i64) {
+        *self = self.saturating_add(value);
+    }
+
+    fn decrement(&mut self, value: i64) {
+        *self = self.saturating_sub(value);
+    }
+
+    fn set(&mut self, value: i64) {
+        *self = value;
+    }
+}

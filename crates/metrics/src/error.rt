@@ -1,0 +1,45 @@
+//! What the library refuses.
+ghost use Rattle.std.specs.Prelude.{◌≡◌};
+ghost use Rattle.metrics.specs.declared.error.Error.TheVariants.{Memory as MemoryRefused};
+
+use std::alloc::{AllocError, AllocFailed};
+use thiserror::Error as ThisError;
+
+/// Why a call of the library was refused. What was handed in comes back where the call says so.
+#[derive(Clone, Copy, Debug, PartialEq, Eq, ThisError)]
+pub enum Error {
+    /// A growth found no memory. Nothing changed.
+    #[error("memory")]
+    Memory,
+    /// The mask has no kind.
+    #[error("empty mask")]
+    EmptyMask,
+    /// No earlier call gave that target number.
+    #[error("no such target")]
+    NoSuchTarget,
+    /// There would be more than 65,536 books.
+    #[error("too many books")]
+    TooManyBooks,
+    /// The patterns have more than 1,048,576 bytes together.
+    #[error("patterns too long")]
+    PatternsTooLong,
+    /// The count would pass 2^64 - 1. Nothing changed.
+    #[error("count full")]
+    CountFull,
+}
+
+impl From<AllocError> for Error {
+    ghost from_gives = { λ e r. r ≡ MemoryRefused };
+
+    fn from(_error: AllocError) -> Error {
+        Error::Memory
+    }
+}
+
+impl<T: Drop> From<AllocFailed<T>> for Error {
+    ghost from_gives = { λ e r. r ≡ MemoryRefused };
+
+    fn from(_error: AllocFailed<T>) -> Error {
+        Error::Memory
+    }
+}

@@ -1,0 +1,3 @@
+pub mod SeriesLemmas
+pub mod DescriptionsLemmas
+pub mod SamplesLemmas

@@ -1,0 +1,34 @@
+-- The running value of a series.
+use Rattle.std.specs.Prelude.{◌≡◌, true, false, Result, Ok, Err}
+use Rattle.metrics_names.specs.declared.kind.MetricKind.{MetricKind}
+use Rattle.metrics_names.specs.declared.kind.MetricKind.TheVariants.{Counter, Gauge, Histogram}
+use Rattle.metrics.specs.declared.debugging.DebugValue.{DebugValue}
+use Rattle.metrics.specs.declared.debugging.DebugValue.TheVariants.{Counter as CounterValue, Gauge as GaugeValue, Histogram as HistogramValue}
+use Rattle.metrics.specs.declared.handles.Update.{Update}
+use Rattle.metrics_names.specs.declared.refused.Refused.{Refused}
+use Rattle.metrics_names.specs.declared.refused.Refused.TheVariants.{Memory, NoSuchAddress, NoSuchBook, BadHandle}
+use Rattle.metrics_names.specs.Names.{kind_eq}
+use Rattle.metrics.specs.Book.{kind_of, updated}
+use Rattle.metrics.specs.Meaning.{TakesMemory}
+use Rattle.metrics_debugging.specs.declared.debugging.value.Value.{Value}
+use Rattle.metrics_debugging.specs.declared.debugging.value.Value.TheVariants.{Counter as Counted, Gauge as Gauged, Histogram as Sampled}
+
+-- a running value as a book has it
+abbrev pub value_of : Value → DebugValue
+value_of (Counted n) = CounterValue n
+value_of (Gauged n) = GaugeValue n
+value_of (Sampled v) = HistogramValue v.items
+
+-- the kind that a value is of
+abbrev pub kind_of_value : DebugValue → MetricKind
+kind_of_value (CounterValue n) = Counter
+kind_of_value (GaugeValue n) = Gauge
+kind_of_value (HistogramValue xs) = Histogram
+
+-- a value takes an update of its kind, and no other
+abbrev pub UpdatesValue : {A : Type 0} → DebugValue → DebugValue → Update → Result A Refused → Type 0
+UpdatesValue old new by (Ok done) = (kind_eq (kind_of by) (kind_of_value old) ≡ true) × (new ≡ updated by old)
+UpdatesValue old new by (Err (Memory acted)) = (kind_eq (kind_of by) (kind_of_value old) ≡ true) × TakesMemory by × (acted ≡ 0) × (new ≡ old)
+UpdatesValue old new by (Err NoSuchAddress) = (kind_eq (kind_of by) (kind_of_value old) ≡ false) × (new ≡ old)
+UpdatesValue old new by (Err NoSuchBook) = ⊥
+UpdatesValue old new by (Err BadHandle) = ⊥

@@ -1,0 +1,5 @@
+pub mod DebuggingValues
+pub mod DebuggingPlaces
+pub mod DebuggingSeries
+pub mod DebuggingUpdates
+pub mod Debugging

@@ -1,0 +1,168 @@
+//! A recorder that keeps one book in memory.
+ghost use Rattle.std.specs.Prelude.{◌≡◌, ◌≤◌, [], MatchResult, IsOk, vec_capacity};
+ghost use Rattle.metrics_names.specs.declared.refused.Refused.TheVariants.{Memory};
+ghost use Rattle.metrics.specs.Meaning.{one_book, KeepsTargets, Snapshots};
+ghost use Rattle.metrics_debugging.specs.Debugging.{content_of, IsNewBook};
+
+mod descriptions;
+mod entry;
+mod places;
+mod samples;
+mod series;
+mod value;
+
+use descriptions::Descriptions;
+use metrics::{
+    Address, Key, KeyName, MetricKind, Recorder, Refused, Reset, Snapshot, Unit, Update,
+};
+use series::SeriesList;
+use std::alloc::Global;
+use std::marker::Model;
+
+/// One book in memory. It has each name as it is, and keeps each series from its first registration on.
+#[derive(Drop)]
+pub struct DebuggingRecorder {
+    series: SeriesList,
+    descriptions: Descriptions,
+}
+
+impl DebuggingRecorder {
+    /// A new book. It takes no memory yet.
+    pub fn new(alloc: Global) -> Result<DebuggingRecorder, Refused>
+        ensures new_book { MatchResult result (λ r. IsNewBook (⟦<DebuggingRecorder as Recorder>⟧.meaning r)) (λ e. e ≡ Memory 0) }
+        ensures succeeds { IsOk result }
+    {
+        Ok(DebuggingRecorder {
+            series: SeriesList::new(alloc),
+            descriptions: Descriptions::new(alloc),
+        })
+    }
+
+    /// What takes snapshots of this book, also where the recorder is the first below another one.
+    pub fn snapshotter(&self) -> Snapshotter
+        ensures { result ≡ 0 }
+    {
+        Snapshotter::of(0)
+    }
+}
+
+impl Recorder for DebuggingRecorder {
+    ghost meaning = { λ r. one_book (content_of r.series.entries.items r.descriptions) };
+
+    fn books(&self) -> usize {
+        1
+    }
+
+    fn describe(
+        &mut self,
+        alloc: Global,
+        kind: MetricKind,
+        name: &KeyName,
+        unit: Option<Unit>,
+        text: &str,
+    ) -> Result<usize, Refused> {
+        self.descriptions
+            .describe(alloc, kind, name.as_str(), unit, text)?;
+        Ok(1)
+    }
+
+    fn register(
+        &mut self,
+        alloc: Global,
+        kind: MetricKind,
+        key: &Key,
+    ) -> Result<Vec<Address>, Refused> {
+        match self.series.find(kind, key) {
+            Some(series) => match room_for_one(alloc) {
+                Ok(mut found) => {
+                    found.push_reserved(Address { book: 0, series });
+                    Ok(found)
+                }
+                Err(_) => Err(Refused::Memory { acted: 1 }),
+            },
+            None => {
+                let mut found = room_for_one(alloc)?;
+                let series = self.series.add(alloc, kind, key)?;
+                found.push_reserved(Address { book: 0, series });
+                Ok(found)
+            }
+        }
+    }
+
+    fn holds(&self, kind: MetricKind, at: Address) -> bool {
+        at.book == 0 && self.series.kind_at(at.series) == Some(kind)
+    }
+
+    fn update(&mut self, at: Address, by: Update) -> Result<(), Refused> {
+        if at.book != 0 {
+            return Err(Refused::NoSuchAddress);
+        }
+        self.series.update(at.series, by)
+    }
+
+    fn snapshot_with(
+        &mut self,
+        alloc: Global,
+        book: usize,
+        reset: Reset,
+    ) -> Result<Snapshot, Refused> {
+        if book != 0 {
+            return Err(Refused::NoSuchBook);
+        }
+        let rows = self.series.rows(alloc, &self.descriptions)?;
+        self.series.reset(reset);
+        Ok(Snapshot::from(rows))
+    }
+}
+
+/// Takes snapshots of one book of a recorder, by the number that the book has there.
+#[derive(Clone, Copy, Debug, PartialEq, Eq, PartialOrd, Ord, Hash)]
+pub struct Snapshotter {
+    book: usize,
+}
+
+impl Model for Snapshotter {
+    ghost use Rattle.std.specs.Prelude.{ℕ};
+
+    ghost Value = { ℕ };
+
+    ghost view = { λ a. a.book };
+
+    ghost inverse = { λ n. record { book = n } };
+}
+
+impl Snapshotter {
+    pub fn of(book: usize) -> Snapshotter
+        ensures { result ≡ book }
+    {
+        Snapshotter { book }
+    }
+
+    /// The recorder's snapshot of the book, which resets the series of some kinds.
+    pub fn snapshot_with<R: Recorder>(
+        &self,
+        alloc: Global,
+        on: &mut R,
+        reset: Reset,
+    ) -> Result<Snapshot, Refused>
+        ensures keeps { KeepsTargets (R.meaning on.old) (R.meaning on.new) }
+        ensures snapshots { Snapshots (R.meaning on.old) (R.meaning on.new) self.now reset result }
+    {
+        on.snapshot_with(alloc, self.book, reset)
+    }
+
+    /// The recorder's snapshot of the book, which resets the series of all kinds.
+    pub fn snapshot<R: Recorder>(&self, alloc: Global, on: &mut R) -> Result<Snapshot, Refused>
+        ensures keeps { KeepsTargets (R.meaning on.old) (R.meaning on.new) }
+        ensures snapshots { Snapshots (R.meaning on.old) (R.meaning on.new) self.now Reset.All result }
+    {
+        on.snapshot(alloc, self.book)
+    }
+}
+
+/// An empty list with room for one address.
+fn room_for_one(alloc: Global) -> Result<Vec<Address>, Refused>
+    ensures { MatchResult result (λ v. (v.items ≡ []) × (1 ≤ vec_capacity v)) (λ e. e ≡ Memory 0) }
+{
+    Ok(Vec::with_capacity(alloc, 1)?)
+}

@@ -1,0 +1,23 @@
+//! What the definitions give, worked out.
+ghost use Rattle.metrics_laws.specs.Examples.{TwoRounds, DescriptionKeepsUnit, KeptGauges, CountersWrap, GaugesStop, BlocksOf65, BlocksOf130, PlainRefusals, PrefixInPrefix, EmptyPrefix, FilterWithoutPattern, FilterWithEmptyPattern, FilterFolded, LongestPatternWins, LaterRouteReplaces, FanoutStops};
+
+/// Takes nothing and does nothing: its contract has worked examples of what the definitions give, with the
+/// expected values written out.
+pub fn worked_examples()
+    ensures two_rounds { TwoRounds }
+    ensures description_keeps_unit { DescriptionKeepsUnit }
+    ensures kept_gauges { KeptGauges }
+    ensures counters_wrap { CountersWrap }
+    ensures gauges_stop { GaugesStop }
+    ensures blocks_of_65 { BlocksOf65 }
+    ensures blocks_of_130 { BlocksOf130 }
+    ensures plain_refusals { PlainRefusals }
+    ensures prefix_in_prefix { PrefixInPrefix }
+    ensures empty_prefix { EmptyPrefix }
+    ensures filter_without_pattern { FilterWithoutPattern }
+    ensures filter_with_empty_pattern { FilterWithEmptyPattern }
+    ensures filter_folded { FilterFolded }
+    ensures longest_pattern_wins { LongestPatternWins }
+    ensures later_route_replaces { LaterRouteReplaces }
+    ensures fanout_stops { FanoutStops }
+{}

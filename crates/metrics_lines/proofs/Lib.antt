@@ -1,0 +1,5 @@
+pub mod Known
+pub mod LinesLemmas
+pub mod LogLemmas
+pub mod Loop
+pub mod TreesLemmas

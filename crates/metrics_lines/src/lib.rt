@@ -1,0 +1,17 @@
+//! The line program as a library: a tree of recorders from tree lines, and calls from call lines.
+#![tactic(auto)]
+
+mod commands;
+mod handles;
+mod levels;
+mod running;
+mod stream;
+#[cfg(test)]
+mod tests;
+mod tree_lines;
+mod trees;
+
+pub use commands::command;
+pub use handles::Handles;
+pub use running::{RunError, run};
+pub use trees::tree;

@@ -1,0 +1,286 @@
+use crate::*;
+use metrics::{Call, MetricKind, Reset};
+use metrics_debugging::DebuggingRecorder;
+use std::alloc::Global;
+use std::io;
+use std::io::{BufReader, ErrorKind, Read, Write};
+use std::test::Fail;
+
+const GOOD: &[u8] = b"book\nend\nregister counter c\nincrement 0 2\nsnapshot 0 keep\nsnapshot 0\n";
+
+const GOOD_TEXT: &[u8] =
+    b"registered 0 1\nupdated 1\nsnapshot 0 1\ncounter c unit - value 2\nsnapshot 0 1\ncounter c unit - value 0\n";
+
+const BAD: &[u8] = b"book\nend\nincrement 0 1\njump\n";
+
+const BAD_TEXT: &[u8] = b"refused E18 bad handle\n";
+
+// Gives at most three bytes a read, and fails at the read before which `left` is 0.
+#[derive(Drop)]
+struct FaultyReader<'a> {
+    rest: &'a [u8],
+    left: usize,
+}
+
+impl Read for FaultyReader<'_> {
+    fn read(&mut self, buf: &mut [u8]) -> io::Result<usize> {
+        if self.left == 0 {
+            return Err(io::Error::from(ErrorKind::Other));
+        }
+        self.left -= 1;
+        let n = buf.len().min(self.rest.len()).min(3);
+        buf[..n].copy_from_slice(&self.rest[..n]);
+        self.rest = &self.rest[n..];
+        Ok(n)
+    }
+}
+
+// Takes at most `most` bytes a write, and fails at the write before which `left` is 0, or at a flush.
+#[derive(Drop)]
+struct FaultyWriter {
+    held: Vec<u8>,
+    most: usize,
+    left: usize,
+    is_flush_good: bool,
+}
+
+impl Write for FaultyWriter {
+    fn write(&mut self, buf: &[u8]) -> io::Result<usize> {
+        if self.left == 0 {
+            return Err(io::Error::from(ErrorKind::Other));
+        }
+        self.left -= 1;
+        let n = self.most.min(buf.len());
+        self.held.extend_from_slice(&buf[..n])?;
+        Ok(n)
+    }
+
+    fn flush(&mut self) -> io::Result<()> {
+        if self.is_flush_good {
+            Ok(())
+        } else {
+            Err(io::Error::from(ErrorKind::Other))
+        }
+    }
+}
+
+fn writer(alloc: Global, most: usize, left: usize, is_flush_good: bool) -> FaultyWriter {
+    FaultyWriter {
+        held: Vec::new(alloc),
+        most,
+        left,
+        is_flush_good,
+    }
+}
+
+// What the program writes to its errors, and its status.
+fn told(
+    alloc: Global,
+    text: &[u8],
+    reads: usize,
+    output: &mut FaultyWriter,
+) -> io::Result<(Vec<u8>, u8)> {
+    let reader = FaultyReader {
+        rest: text,
+        left: reads,
+    };
+    let mut input = BufReader::with_capacity(alloc, 4, reader)?;
+    let mut errors = writer(alloc, 1000, 1000, true);
+    let status = command(alloc, &["run"], &mut input, output, &mut errors);
+    let FaultyWriter { held, .. } = errors;
+    Ok((held, status))
+}
+
+// Whether the program stopped since the device failed, and a beginning of the text is out.
+fn is_cut(
+    alloc: Global,
+    text: &[u8],
+    reads: usize,
+    writes: usize,
+    whole: &[u8],
+) -> io::Result<bool> {
+    let mut output = writer(alloc, 1, writes, true);
+    let (errors, status) = told(alloc, text, reads, &mut output)?;
+    let said = errors.as_slice() == b"device failed\n".as_slice();
+    Ok(status == 1 && said && whole.starts_with(&output.held))
+}
+
+#[test]
+fn each_read_fails(rt: HostRuntime) -> Result<(), Fail> {
+    for (text, whole, good) in [(GOOD, GOOD_TEXT, 0), (BAD, BAD_TEXT, 2)] {
+        let most = text.len() / 3 + 2;
+        let mut output = writer(rt.alloc(), 1, 1000, true);
+        let (_, status) = told(rt.alloc(), text, most, &mut output)?;
+        assert_eq!(rt; status, good);
+        assert_eq!(rt; output.held.as_slice(), whole);
+        for reads in 0..text.len() / 3 {
+            assert!(rt;
+                is_cut(rt.alloc(), text, reads, 1000, whole)?,
+                "at read {reads}"
+            );
+        }
+    }
+    Ok(())
+}
+
+#[test]
+fn each_write_fails(rt: HostRuntime) -> Result<(), Fail> {
+    for (text, whole) in [(GOOD, GOOD_TEXT), (BAD, BAD_TEXT)] {
+        for writes in 0..whole.len() {
+            assert!(rt;
+                is_cut(rt.alloc(), text, 1000, writes, whole)?,
+                "at write {writes}"
+            );
+        }
+    }
+    Ok(())
+}
+
+#[test]
+fn the_flush_fails(rt: HostRuntime) -> Result<(), Fail> {
+    let before: &[u8] = b"book\njump\n";
+    for (text, whole) in [(GOOD, GOOD_TEXT), (BAD, BAD_TEXT), (before, b"".as_slice())] {
+        let mut output = writer(rt.alloc(), 1000, 1000, false);
+        let (errors, status) = told(rt.alloc(), text, 1000, &mut output)?;
+        assert_eq!(rt; errors.as_slice(), b"device failed\n".as_slice());
+        assert_eq!(rt; status, 1);
+        assert_eq!(rt; output.held.as_slice(), whole);
+    }
+    Ok(())
+}
+
+#[test]
+fn wrong_words(rt: HostRuntime) -> Result<(), Fail> {
+    let wrong: [&[&str]; 5] = [
+        &[],
+        &["walk"],
+        &["run", "run"],
+        &["storm", "1", "1", "1"],
+        &[""],
+    ];
+    for words in wrong {
+        let mut input = GOOD;
+        let mut output = writer(rt.alloc(), 1000, 1000, true);
+        let mut errors = writer(rt.alloc(), 1, 1000, true);
+        let status = command(rt.alloc(), words, &mut input, &mut output, &mut errors);
+        assert_eq!(rt; status, 2);
+        assert_eq!(rt; output.held.as_slice(), b"".as_slice());
+        assert_eq!(rt;
+            errors.held.as_slice(),
+            b"usage: metrics_tool run | storm P V B\n".as_slice()
+        );
+    }
+    Ok(())
+}
+
+#[test]
+fn faults_of_errors_are_ignored(rt: HostRuntime) -> Result<(), Fail> {
+    let mut input = BAD;
+    let mut output = writer(rt.alloc(), 1000, 1000, true);
+    let mut errors = writer(rt.alloc(), 1000, 0, false);
+    let status = command(rt.alloc(), &["run"], &mut input, &mut output, &mut errors);
+    assert_eq!(rt; status, 2);
+    assert_eq!(rt; output.held.as_slice(), BAD_TEXT);
+    Ok(())
+}
+
+// What a run over a new book answers, from a line on.
+fn answered(alloc: Global, text: &[u8], first: u64) -> Result<Result<u64, RunError>, Fail> {
+    let mut book = DebuggingRecorder::new(alloc)?;
+    let mut input = text;
+    let mut output = writer(alloc, 1000, 1000, true);
+    Ok(run(alloc, &mut book, &mut input, &mut output, first))
+}
+
+#[test]
+fn numbers_of_lines_stop(rt: HostRuntime) -> Result<(), Fail> {
+    let bad = b"snapshot 0\nsnapshot 0\njump\n".as_slice();
+    for (first, number) in [
+        (1, 3),
+        (u64::MAX - 3, u64::MAX - 1),
+        (u64::MAX - 2, u64::MAX),
+        (u64::MAX - 1, u64::MAX),
+        (u64::MAX, u64::MAX),
+    ] {
+        let found = answered(rt.alloc(), bad, first)?;
+        assert_eq!(rt; found, Err(RunError::BadLine(number)));
+    }
+    let found = answered(rt.alloc(), b"snapshot 0\nsnapshot 7".as_slice(), u64::MAX)?;
+    assert_eq!(rt; found, Ok(2));
+    Ok(())
+}
+
+#[test]
+fn a_tree_is_read_up_to_its_end(rt: HostRuntime) -> Result<(), Fail> {
+    let mut input = b"book\nprefix a\nend\nsnapshot 0\n".as_slice();
+    let Ok((mut books, first)) = tree(rt.alloc(), &mut input) else {
+        return Err(Fail::from("no tree"));
+    };
+    assert_eq!(rt; first, 4);
+    let mut output = writer(rt.alloc(), 1000, 1000, true);
+    let found = run(rt.alloc(), &mut books, &mut input, &mut output, first);
+    assert_eq!(rt; found, Ok(1));
+    assert_eq!(rt; output.held.as_slice(), b"snapshot 0 0\n".as_slice());
+    Ok(())
+}
+
+#[test]
+fn texts_of_errors(rt: HostRuntime) -> Result<(), Fail> {
+    let texts = [
+        (RunError::Memory(Some(7)), "line 7: memory"),
+        (RunError::Memory(None), "memory"),
+        (
+            RunError::BadLine(u64::MAX),
+            "line 18446744073709551615: bad line",
+        ),
+        (RunError::Device, "device failed"),
+    ];
+    for (error, want) in texts {
+        let text = format!(in rt.alloc(); "{error}")?;
+        assert_eq!(rt; text.as_str(), want);
+    }
+    Ok(())
+}
+
+// A fanout takes at most 65,536 recorders, of which none needs to be a book.
+#[test]
+fn fanouts_of_many_noops(rt: HostRuntime) -> Result<(), Fail> {
+    let mut nodes = Vec::new(rt.alloc());
+    for _ in 0..65_537 {
+        nodes.extend_from_slice(b"noop\n")?;
+    }
+    let cases: [(&[u8], u8); 2] = [
+        (b"fanout 65536\nfanout 2\nend\n", 0),
+        (b"fanout 65537\nend\n", 2),
+    ];
+    for (tail, want) in cases {
+        let mut text = Vec::from_slice(rt.alloc(), &nodes)?;
+        text.extend_from_slice(tail)?;
+        let mut input = text.as_slice();
+        let mut output = writer(rt.alloc(), 1000, 1000, true);
+        let mut errors = writer(rt.alloc(), 1000, 1000, true);
+        let status = command(rt.alloc(), &["run"], &mut input, &mut output, &mut errors);
+        assert_eq!(rt; status, want);
+    }
+    Ok(())
+}
+
+#[test]
+fn handles_are_numbered_by_register_calls(rt: HostRuntime) -> Result<(), Fail> {
+    let mut handles: Handles<usize> = Handles::new(rt.alloc());
+    let register = Call::Register(MetricKind::Gauge, metrics::Key::from_name(rt.alloc(), "g")?);
+    let calls = [Call::Snapshot(0), Call::SnapshotWith(0, Reset::KeepGauges)];
+    for call in &calls {
+        handles.reserve_for(call)?;
+        handles.note(call, Some(9));
+        assert!(rt; handles.named(call).is_none());
+    }
+    for given in [None, Some(4)] {
+        handles.reserve_for(&register)?;
+        handles.note(&register, given);
+    }
+    assert_eq!(rt; handles.len(), 2);
+    assert!(rt; handles.entry(0).is_none());
+    assert_eq!(rt; handles.entry(1), Some((MetricKind::Gauge, &4)));
+    Ok(())
+}

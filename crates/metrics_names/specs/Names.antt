@@ -1,0 +1,51 @@
+-- Names and keys. A name is a list of bytes.
+use Rattle.std.specs.Prelude.{ℕ, Bool, ◌&&◌, List, bytes_eq, nat_eq}
+use Rattle.std.specs.Cmp.Lexicographic.{pointwise, slice_cmp}
+use Rattle.std.specs.declared.cmp.Ordering.{Ordering}
+use Rattle.std.specs.Ordering.{nat_cmp, on, then_cmp}
+use Rattle.metrics_names.specs.declared.kind.MetricKind.{MetricKind}
+use Rattle.metrics_names.specs.declared.kind.MetricKind.TheVariants.{Counter, Gauge, Histogram}
+
+-- a label: its key and its value
+abbrev pub LabelParts : Type 0
+LabelParts = List ℕ × List ℕ
+
+-- a key: its name, and its labels in order
+pub record KeyParts : Type 0 where
+  pub name : List ℕ
+  pub labels : List (List ℕ × List ℕ)
+
+-- a composite key: a kind and a key. It names a series of a book
+pub record SeriesKey : Type 0 where
+  pub kind : MetricKind
+  pub key : KeyParts
+
+-- the order of the kinds
+abbrev pub kind_number : MetricKind → ℕ
+kind_number Counter = 0
+kind_number Gauge = 1
+kind_number Histogram = 2
+
+-- equality is that of all parts
+abbrev pub kind_eq : MetricKind → MetricKind → Bool
+kind_eq a b = nat_eq (kind_number a) (kind_number b)
+
+abbrev pub label_eq : List ℕ × List ℕ → List ℕ × List ℕ → Bool
+label_eq a b = bytes_eq a.0 b.0 && bytes_eq a.1 b.1
+
+abbrev pub key_eq : KeyParts → KeyParts → Bool
+key_eq a b = bytes_eq a.name b.name && pointwise label_eq a.labels b.labels
+
+abbrev pub series_key_eq : SeriesKey → SeriesKey → Bool
+series_key_eq a b = kind_eq a.kind b.kind && key_eq a.key b.key
+
+-- the order of composite keys: the kind, then the name's bytes, then the labels, one after another by key and value; a list
+-- comes before each longer one that it begins
+abbrev pub label_cmp : List ℕ × List ℕ → List ℕ × List ℕ → Ordering
+label_cmp = then_cmp (on (λ l. l.0) (slice_cmp nat_cmp)) (on (λ l. l.1) (slice_cmp nat_cmp))
+
+abbrev pub key_cmp : KeyParts → KeyParts → Ordering
+key_cmp = then_cmp (on (λ k. k.name) (slice_cmp nat_cmp)) (on (λ k. k.labels) (slice_cmp label_cmp))
+
+abbrev pub series_key_cmp : SeriesKey → SeriesKey → Ordering
+series_key_cmp = then_cmp (on (λ k. kind_number k.kind) nat_cmp) (on (λ k. k.key) key_cmp)

@@ -1,0 +1,9 @@
+//! The kinds of metrics.
+
+/// The kind of a metric. Kinds are ordered as they stand here.
+#[derive(Clone, Copy, Debug, PartialEq, Eq, PartialOrd, Ord, Hash)]
+pub enum MetricKind {
+    Counter,
+    Gauge,
+    Histogram,
+}

@@ -1,0 +1,19 @@
+//! Names, labels and keys of metrics, and why a call on them is refused.
+#![tactic(auto)]
+
+mod common;
+mod items;
+mod key;
+mod kind;
+mod label;
+mod refused;
+mod shared_items;
+mod text;
+
+pub use common::Unit;
+pub use items::Items;
+pub use key::{CompositeKey, Key, KeyName};
+pub use kind::MetricKind;
+pub use label::Label;
+pub use refused::Refused;
+pub use text::Text;

@@ -1,0 +1,202 @@
+//! Lists of calls, made one after another.
+ghost use Rattle.std.specs.Prelude.{◌≡◌, ◌≤◌, ◌<◌, ◌+◌, ◌++◌, [], ℕ, List, length, vec_len, vec_capacity, map, IfOk, IfErr, Option, None, Some, option_map};
+ghost use Rattle.std.specs.List.{filter_map};
+ghost use Rattle.metrics_names.specs.declared.refused.Refused.TheVariants.{Memory};
+ghost use Rattle.metrics_names.specs.Names.{kind_eq};
+ghost use Rattle.metrics.specs.Book.{kind_of, content_at};
+ghost use Rattle.metrics.specs.Meaning.{Meaning, KeepsTargets, AreNew};
+ghost use Rattle.metrics.specs.History.{reached, content_after, ArePlain};
+ghost use Rattle.metrics.specs.Answering.{Handle, handle_given, handle_named, handle, UpdatesCall, AllHeld, IsHeld, places, UpdatesAll, Answers};
+ghost use Rattle.metrics_replay.specs.Replaying.{log_of, register_places, place_in_front, handle_seen, register_kind};
+
+use metrics::{Address, Answer, Call, Items, MetricKind, Recorder, Refused, Update, update_all};
+use std::alloc::Global;
+
+/// Whether a handle of the kind takes the update.
+fn takes(kind: MetricKind, by: Update) -> bool
+    ensures { result ≡ kind_eq (kind_of by) kind }
+{
+    match by {
+        Update::Increment(_) | Update::Absolute(_) => matches!(kind, MetricKind::Counter),
+        Update::Add(_) | Update::Subtract(_) | Update::Set(_) => matches!(kind, MetricKind::Gauge),
+        Update::Record(_) => matches!(kind, MetricKind::Histogram),
+    }
+}
+
+/// Makes one call on a recorder.
+///
+/// `handle` is what the register call of an update's number gave, if it was successful; other calls name none.
+/// Its addresses are to be held: an update of a handle that isn't answers `NoSuchAddress`, and changes nothing.
+pub fn answer_of<R: Recorder>(
+    alloc: Global,
+    on: &mut R,
+    call: &Call,
+    handle: Option<(MetricKind, &[Address])>,
+) -> Answer
+    ensures keeps { KeepsTargets (R.meaning on.old) (R.meaning on.new) }
+    ensures answers { IsHeld (option_map handle_seen handle.entry) (R.meaning on.old).contents → Answers (R.meaning on.old) (R.meaning on.new) (option_map handle_seen handle.entry) call.now result }
+{
+    match call {
+        Call::Describe(kind, name, unit, text) => match on.describe(
+            alloc,
+            *kind,
+            name,
+            *unit,
+            text.as_str(),
+        ) {
+            Ok(count) => Answer::Described(count),
+            Err(refused) => Answer::Refused(refused),
+        },
+        Call::Register(kind, key) => match on.register(alloc, *kind, key) {
+            Ok(found) => Answer::Registered(Items::from(found)),
+            Err(refused) => Answer::Refused(refused),
+        },
+        Call::Update(_, by) => update_of(on, *by, handle),
+        Call::Snapshot(book) => match on.snapshot(alloc, *book) {
+            Ok(rows) => Answer::Snapshot(rows),
+            Err(refused) => Answer::Refused(refused),
+        },
+        Call::SnapshotWith(book, reset) => match on.snapshot_with(alloc, *book, *reset) {
+            Ok(rows) => Answer::Snapshot(rows),
+            Err(refused) => Answer::Refused(refused),
+        },
+    }
+}
+
+/// Updates the addresses of a handle, if it is of the update's kind.
+fn update_of<R: Recorder>(
+    on: &mut R,
+    by: Update,
+    handle: Option<(MetricKind, &[Address])>,
+) -> Answer
+    ensures keeps { KeepsTargets (R.meaning on.old) (R.meaning on.new) }
+    ensures updates { IsHeld (option_map handle_seen handle.entry) (R.meaning on.old).contents → UpdatesCall (R.meaning on.old) (R.meaning on.new) (option_map handle_seen handle.entry) by result }
+{
+    match handle {
+        None => Answer::Refused(Refused::BadHandle),
+        Some((kind, found)) => {
+            if takes(kind, by) {
+                match update_all(on, found, by) {
+                    Ok(count) => Answer::Updated(count),
+                    Err(refused) => Answer::Refused(refused),
+                }
+            } else {
+                Answer::Refused(Refused::BadHandle)
+            }
+        }
+    }
+}
+
+/// What a register call gave, if it was successful.
+fn given(kind: MetricKind, answer: &Answer) -> Option<(MetricKind, &[Address])>
+    ensures { option_map handle_seen result ≡ handle_given kind answer.now }
+{
+    match answer {
+        Answer::Registered(found) => Some((kind, found.as_slice())),
+        Answer::Described(_) => None,
+        Answer::Updated(_) => None,
+        Answer::Snapshot(_) => None,
+        Answer::Refused(_) => None,
+    }
+}
+
+/// The kind of a register call.
+fn registered_kind(call: &Call) -> Option<MetricKind>
+    ensures { result ≡ register_kind call.now }
+{
+    match call {
+        Call::Register(kind, _) => Some(*kind),
+        Call::Describe(..) => None,
+        Call::Update(..) => None,
+        Call::Snapshot(_) | Call::SnapshotWith(..) => None,
+    }
+}
+
+/// The handle of a number. `registers` has the places of the register calls.
+fn handle_of<'a>(
+    calls: &'a [Call],
+    answers: &'a [Answer],
+    registers: &[usize],
+    number: usize,
+) -> Option<(MetricKind, &'a [Address])>
+    requires same { length calls.now ≡ length answers.now }
+    requires places { registers.now ≡ register_places 0 calls.now }
+    ensures { option_map handle_seen result ≡ handle number (log_of calls.now answers.now) }
+{
+    if number >= registers.len() {
+        return None;
+    }
+    let place = registers[number];
+    match registered_kind(&calls[place]) {
+        None => None,
+        Some(kind) => given(kind, &answers[place]),
+    }
+}
+
+/// The handle that a call names.
+fn named_handle<'a>(
+    call: &Call,
+    calls: &'a [Call],
+    answers: &'a [Answer],
+    registers: &[usize],
+) -> Option<(MetricKind, &'a [Address])>
+    requires same { length calls.now ≡ length answers.now }
+    requires places { registers.now ≡ register_places 0 calls.now }
+    ensures { option_map handle_seen result ≡ handle_named call.now (log_of calls.now answers.now) }
+{
+    match call {
+        Call::Update(number, _) => handle_of(calls, answers, registers, *number),
+        Call::Describe(..) => None,
+        Call::Register(..) => None,
+        Call::Snapshot(_) | Call::SnapshotWith(..) => None,
+    }
+}
+
+/// Keeps the place of a register call.
+fn note_register(registers: &mut Vec<usize>, call: &Call, place: usize)
+    requires { vec_len registers.old < vec_capacity registers.old }
+    ensures items { registers.new.items ≡ registers.old.items ++ place_in_front (register_kind call.now) place [] }
+    ensures len { vec_len registers.new ≤ vec_len registers.old + 1 }
+    ensures capacity { vec_capacity registers.new ≡ vec_capacity registers.old }
+{
+    match registered_kind(call) {
+        None => {}
+        Some(_) => registers.push_reserved(place),
+    }
+}
+
+/// Makes the calls in order, and answers each of them.
+///
+/// Room for the list of answers is made first. `Err` comes only where it is refused, and then nothing was
+/// called.
+pub fn replay<R: Recorder>(
+    alloc: Global,
+    on: &mut R,
+    calls: &[Call],
+) -> Result<Vec<Answer>, Refused>
+    ensures number { IfOk result (λ answers. length answers.items ≡ length calls.now) }
+
+    // Where the books are new, each answer is the plain one, and the books hold what the calls and answers give.
+    ensures answers { AreNew (R.meaning on.old).contents → IfOk result (λ answers.
+        ArePlain (R.meaning on.old).targets (length (R.meaning on.old).contents) (log_of calls.now answers.items)) }
+    ensures contents { AreNew (R.meaning on.old).contents → IfOk result (λ answers. (b : ℕ) → b < length (R.meaning on.new).contents →
+        content_at b (R.meaning on.new).contents ≡ content_after (reached (R.meaning on.old).targets b (log_of calls.now answers.items))) }
+
+    // Books and targets stay.
+    ensures books { length (R.meaning on.new).contents ≡ length (R.meaning on.old).contents }
+    ensures keeps { KeepsTargets (R.meaning on.old) (R.meaning on.new) }
+    ensures err { IfErr result (λ e. (e ≡ Memory 0) × ((R.meaning on.new).contents ≡ (R.meaning on.old).contents)) }
+{
+    let mut answers = Vec::new(alloc);
+    answers.reserve(calls.len())?;
+    let mut registers = Vec::new(alloc);
+    registers.reserve(calls.len())?;
+    for i in 0..calls.len() {
+        let call = &calls[i];
+        let handle = named_handle(call, &calls[..i], answers.as_slice(), registers.as_slice());
+        let answer = answer_of(alloc, on, call, handle);
+        note_register(&mut registers, call, i);
+        answers.push_reserved(answer);
+    }
+    Ok(answers)
+}

@@ -1,0 +1,9 @@
+pub mod Counting
+pub mod Crossing
+pub mod Cuts
+pub mod Memory
+pub mod ReservoirCounts
+pub mod ReservoirPlaces
+pub mod ReservoirSums
+pub mod Sharing
+pub mod Walks

@@ -1,0 +1,63 @@
+-- A histogram over bounds, and what samples add to it.
+use Rattle.std.specs.Prelude.{ℕ, zero, suc, ◌+◌, ◌*◌, ◌^◌, ℤ, pos, neg_ℤ, ◌+ℤ◌, ◌≤ℤ◌, int_le, int_lt, List, [], ◌∷◌, map, length, fold, slice_set, slice_index}
+use Rattle.std.specs.List.{count_by}
+
+-- each bound with the number of samples at most it, and the count and the sum of all samples
+pub record Distribution : Type 0 where
+  pub buckets : List (ℤ × ℕ)
+  pub count : ℕ
+  pub sum : ℤ
+
+-- the number of samples that are at most the bound
+abbrev pub at_most : ℤ → List ℤ → ℕ
+at_most bound samples = count_by (λ x. int_le x bound) samples
+
+abbrev pub sum_of : List ℤ → ℤ
+sum_of samples = fold ◌+ℤ◌ (pos 0) samples
+
+-- no samples
+abbrev pub no_samples : List ℤ → Distribution
+no_samples bounds = record { buckets = map (λ bound. (bound, 0)) bounds; count = 0; sum = pos 0 }
+
+-- a bucket with more samples
+abbrev pub bucket_with : List ℤ → ℤ × ℕ → ℤ × ℕ
+bucket_with samples b = (b.0, b.1 + at_most b.0 samples)
+
+-- the same histogram with more samples
+abbrev pub with_samples : List ℤ → Distribution → Distribution
+with_samples samples h = record {
+  buckets = map (bucket_with samples) h.buckets;
+  count = h.count + length samples;
+  sum = h.sum +ℤ sum_of samples;
+}
+
+-- ---- the fields
+
+-- how many of the bounds are below x
+abbrev pub rank : List ℤ → ℤ → ℕ
+rank bounds x = count_by (λ bound. int_lt bound x) bounds
+
+-- the sum of the first n numbers, and of all
+abbrev pub sum_up_to : ℕ → List ℕ → ℕ
+sum_up_to zero ks = 0
+sum_up_to (suc n) [] = 0
+sum_up_to (suc n) (k ∷ ks) = k + sum_up_to n ks
+
+abbrev pub total : List ℕ → ℕ
+total ks = sum_up_to (length ks) ks
+
+-- the buckets, where the numbers tell at each rank how many samples have it
+abbrev pub buckets_of : List ℤ → List ℕ → List (ℤ × ℕ)
+buckets_of bounds ranks = map (λ bound. (bound, sum_up_to (rank bounds bound + 1) ranks)) bounds
+
+-- a sample is counted at its rank
+abbrev pub ranked : List ℤ → ℤ → List ℕ → List ℕ
+ranked bounds x ranks = slice_set ranks (rank bounds x) (slice_index ranks (rank bounds x) + 1)
+
+abbrev pub all_ranked : List ℤ → List ℤ → List ℕ → List ℕ
+all_ranked bounds [] ranks = ranks
+all_ranked bounds (x ∷ samples) ranks = all_ranked bounds samples (ranked bounds x ranks)
+
+-- a sum of so many i64
+abbrev pub IsSumOf : ℕ → ℤ → Type 0
+IsSumOf count sum = (neg_ℤ (pos (2 ^ 63 * count)) ≤ℤ sum) × (sum ≤ℤ pos (2 ^ 63 * count))

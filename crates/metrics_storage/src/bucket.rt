@@ -1,0 +1,200 @@
+//! A bucket of one owner: a list of blocks, of which only the last has room.
+ghost use Rattle.std.specs.Prelude.{◌≡◌, ◌==◌, ◌%◌, [], ◌∷◌, ◌++◌, length, reverse, IfOk, IfErr, OnOk, OnErr, MatchResult};
+ghost use Rattle.std.specs.List.{AllZip};
+ghost use Rattle.metrics.specs.Book.{chunks, blocks as bucket_order, joined_lists};
+ghost use Rattle.metrics_storage.specs.Bucket.{AddsToLast, HasNoRoom, IsCalledAtEach};
+ghost use Rattle.metrics.specs.declared.error.Error.TheVariants.{Memory as OutOfMemory};
+
+use crate::Block;
+use metrics::{Error, HistogramCell};
+use std::alloc::{AllocError, Global};
+use std::marker::Model;
+
+/// Adds a value to the last block, or gives it back where that has no room.
+fn push_last<T>(blocks: &mut Vec<Block<T>>, value: T) -> Result<(), T>
+    ensures ok { OnOk result (AddsToLast blocks.old.items value blocks.new.items) }
+    ensures err { IfErr result (λ back. (back ≡ value) × HasNoRoom blocks.old.items × (blocks.new.items ≡ blocks.old.items)) }
+{
+    match blocks.last_mut() {
+        Some(block) => block.push(value),
+        None => Err(value),
+    }
+}
+
+/// Adds an empty block at the end.
+fn add_block<T: Drop>(blocks: &mut Vec<Block<T>>) -> Result<(), Error>
+    ensures ok { OnOk result (blocks.new.items ≡ blocks.old.items ++ [] ∷ []) }
+    ensures err { OnErr result (blocks.new.items ≡ blocks.old.items) }
+{
+    let block = Block::new(*blocks.allocator())?;
+    blocks.push(block)?;
+    Ok(())
+}
+
+/// Adds a block with one value, or gives the value back where there is no memory.
+fn push_new<T: Drop>(blocks: &mut Vec<Block<T>>, value: T) -> Result<(), T>
+    ensures ok { OnOk result (blocks.new.items ≡ blocks.old.items ++ (value ∷ []) ∷ []) }
+    ensures err { IfErr result (λ back. (back ≡ value) × (blocks.new.items ≡ blocks.old.items)) }
+{
+    match add_block(blocks) {
+        Ok(()) => push_last(blocks, value),
+        Err(_) => Err(value),
+    }
+}
+
+/// Shows what each block holds, the newest first.
+fn show<T, F: FnMut(&[T])>(blocks: &[Block<T>], f: &mut F)
+    requires { F.IsAlwaysCallable f.old }
+    ensures calls { IsCalledAtEach F.FnMut f.old (reverse blocks.now) f.new }
+    ensures callable { F.IsAlwaysCallable f.new }
+{
+    let mut rest = blocks;
+    while let Some((newest, older)) = rest.split_last() {
+        f(newest.data());
+        rest = older;
+    }
+}
+
+/// Takes each block out, the newest first, and shows what it held before it is dropped.
+fn take_out<T: Drop, F: FnMut(&[T])>(blocks: &mut Vec<Block<T>>, f: &mut F)
+    requires { F.IsAlwaysCallable f.old }
+    ensures empty { blocks.new.items ≡ [] }
+    ensures calls { IsCalledAtEach F.FnMut f.old (reverse blocks.old.items) f.new }
+    ensures callable { F.IsAlwaysCallable f.new }
+{
+    while let Some(block) = blocks.pop() {
+        f(block.data());
+    }
+}
+
+/// A clone of each value: what each block holds, the newest block first.
+fn copied<T: Clone + Drop>(blocks: &[Block<T>], alloc: Global) -> Result<Vec<T>, AllocError>
+    ensures { IfOk result (λ v. AllZip T.is_clone (joined_lists (reverse blocks.now)) v.items) }
+{
+    let mut told = Vec::new(alloc);
+    let mut rest = blocks;
+    while let Some((newest, older)) = rest.split_last() {
+        told.extend_with_clones(newest.data())?;
+        rest = older;
+    }
+    Ok(told)
+}
+
+/// The values pushed since the last clear, in blocks of 64.
+///
+/// The walks and the clears go from block to block, the newest first, and through each block in the order of its
+/// pushes. That is the order of the lock-free bucket of metrics-util.
+#[derive(Drop)]
+pub struct OwnedBucket<T> {
+    blocks: Vec<Block<T>>,
+}
+
+impl<T> Model for OwnedBucket<T> {
+    ghost use Rattle.std.specs.Prelude.{List};
+    ghost use Rattle.metrics.specs.Book.{joined_lists};
+    ghost use Rattle.metrics_storage.specs.Bucket.{AreChunks};
+
+    ghost Value = { List T };
+
+    ghost view = { λ b. joined_lists b.blocks.items };
+
+    ghost invariant = { λ b. AreChunks b.blocks.items };
+}
+
+impl<T: Drop> OwnedBucket<T> {
+    /// An empty bucket, which takes no memory.
+    pub fn new(alloc: Global) -> Self
+        ensures { result ≡ [] }
+    {
+        OwnedBucket {
+            blocks: Vec::new(alloc),
+        }
+    }
+
+    /// Whether nothing was pushed since the last clear.
+    pub fn is_empty(&self) -> bool
+        ensures { result ≡ (length self.now == 0) }
+    {
+        self.blocks.is_empty()
+    }
+
+    /// Adds a value, or gives it back where a block is needed and there is no memory for it.
+    pub fn push(&mut self, value: T) -> Result<(), T>
+        ensures ok { OnOk result (self.new ≡ self.old ++ value ∷ []) }
+        ensures err { IfErr result (λ back. (back ≡ value) × (self.new ≡ self.old)) }
+        ensures refused { OnErr result (length self.old % 64 ≡ 0) }
+    {
+        match push_last(&mut self.blocks, value) {
+            Ok(()) => Ok(()),
+            Err(value) => push_new(&mut self.blocks, value),
+        }
+    }
+
+    /// A clone of each value, in bucket order. It is refused with `Error::Memory` where there is no room for them.
+    pub fn data(&self) -> Result<Vec<T>, Error>
+    where
+        T: Clone,
+        ensures clones { MatchResult result (λ v. AllZip T.is_clone (bucket_order self.now) v.items) (λ e. e ≡ OutOfMemory) }
+        ensures same { IfOk result (λ v. ((x y : T) → T.is_clone x y → y ≡ x) → v.items ≡ bucket_order self.now) }
+    {
+        Ok(copied(&self.blocks, *self.blocks.allocator())?)
+    }
+
+    /// Shows the values to `f`, once for each block, the newest first.
+    pub fn data_with<F: FnMut(&[T])>(&self, mut f: F)
+        requires { F.IsAlwaysCallable f }
+        ensures { (last : F) × IsCalledAtEach F.FnMut f (reverse (chunks self.now)) last }
+    {
+        self.data_to(&mut f);
+    }
+
+    /// As `data_with`, for a closure that the caller keeps: what it gathered is then known.
+    pub fn data_to<F: FnMut(&[T])>(&self, f: &mut F)
+        requires { F.IsAlwaysCallable f.old }
+        ensures calls { IsCalledAtEach F.FnMut f.old (reverse (chunks self.now)) f.new }
+        ensures callable { F.IsAlwaysCallable f.new }
+    {
+        show(&self.blocks, f);
+    }
+
+    /// Takes all values out.
+    pub fn clear(&mut self)
+        ensures { self.new ≡ [] }
+    {
+        self.blocks.clear();
+    }
+
+    /// Takes all values out, and shows them to `f` first, as `data_with` does.
+    pub fn clear_with<F: FnMut(&[T])>(&mut self, mut f: F)
+        requires { F.IsAlwaysCallable f }
+        ensures empty { self.new ≡ [] }
+        ensures calls { (last : F) × IsCalledAtEach F.FnMut f (reverse (chunks self.old)) last }
+    {
+        self.clear_to(&mut f);
+    }
+
+    /// As `clear_with`, for a closure that the caller keeps.
+    pub fn clear_to<F: FnMut(&[T])>(&mut self, f: &mut F)
+        requires { F.IsAlwaysCallable f.old }
+        ensures empty { self.new ≡ [] }
+        ensures calls { IsCalledAtEach F.FnMut f.old (reverse (chunks self.old)) f.new }
+        ensures callable { F.IsAlwaysCallable f.new }
+    {
+        take_out(&mut self.blocks, f);
+    }
+}
+
+impl HistogramCell for OwnedBucket<i64> {
+    type Error = Error;
+
+    ghost samples = { λ b. b };
+
+    ghost refuses = { λ b e. (e ≡ OutOfMemory) × (length b % 64 ≡ 0) };
+
+    fn record(&mut self, value: i64) -> Result<(), Error> {
+        match self.push(value) {
+            Ok(()) => Ok(()),
+            Err(_) => Err(Error::Memory),
+        }
+    }
+}

@@ -1,0 +1,197 @@
+//! A histogram over fixed bounds.
+ghost use Rattle.std.specs.Prelude.{◌≡◌, ◌+◌, ◌^◌, ◌<◌, ◌≤◌, [], ◌∷◌, length, replicate, None, IfOk, IsErr, MatchResult, MatchOption, Ok, ◌↔◌};
+ghost use Rattle.metrics_storage.specs.Histogram.{Distribution, sum_of, no_samples, with_samples, rank, sum_up_to, buckets_of, ranked, all_ranked, total, IsSumOf};
+ghost use Rattle.metrics.specs.declared.error.Error.TheVariants.{Memory as OutOfMemory, CountFull};
+
+#[cfg(test)]
+mod tests;
+
+use metrics::Error;
+use std::alloc::{AllocError, Global};
+use std::marker::Model;
+
+/// For each of its bounds the number of samples that are at most that bound, and the count and the sum of all.
+///
+/// The bounds keep the order in which they were given. They may fall, and they may be repeated.
+#[derive(Drop)]
+pub struct Histogram {
+    bounds: Vec<i64>,
+    /// At each rank the number of samples above so many bounds. A bucket is the sum up to its bound's own rank, so that
+    /// a sample changes one number, in whatever order the bounds stand.
+    ranks: Vec<u64>,
+    count: u64,
+    sum: i128,
+}
+
+impl Model for Histogram {
+    ghost Value = { Distribution };
+
+    ghost view = { λ h. record { buckets = buckets_of h.bounds.items h.ranks.items; count = h.count; sum = h.sum } };
+
+    ghost invariant = { λ h. (length h.ranks.items ≡ length h.bounds.items + 1) × (total h.ranks.items ≡ h.count) × (h.count < 2 ^ 64) × IsSumOf h.count h.sum };
+}
+
+impl Histogram {
+    /// A histogram without samples, and `None` where there are no bounds.
+    ///
+    /// It is refused with `Error::Memory` where the buckets find no room. No bounds need none.
+    pub fn new(alloc: Global, bounds: &[i64]) -> Result<Option<Histogram>, Error>
+        ensures { MatchResult result
+            (λ found. MatchOption found (bounds.now ≡ []) (λ h. (0 < length bounds.now) × (h ≡ no_samples bounds.now)))
+            (λ e. (e ≡ OutOfMemory) × (0 < length bounds.now)) }
+    {
+        if bounds.is_empty() {
+            return Ok(None);
+        }
+        let mut own = Vec::new(alloc);
+        own.extend_from_slice(bounds)?;
+        Ok(Some(Histogram {
+            bounds: own,
+            ranks: zeros(alloc, bounds.len() + 1)?,
+            count: 0,
+            sum: 0,
+        }))
+    }
+
+    /// The sum of all samples.
+    pub fn sum(&self) -> i128
+        ensures { result ≡ self.now.sum }
+    {
+        self.sum
+    }
+
+    /// The number of all samples.
+    pub fn count(&self) -> u64
+        ensures { result ≡ self.now.count }
+    {
+        self.count
+    }
+
+    /// Each bound with the number of samples at most that bound, in the order in which the bounds were given.
+    /// It is refused with `Error::Memory` where there is no room for them.
+    pub fn buckets(&self) -> Result<Vec<(i64, u64)>, Error>
+        ensures { MatchResult result (λ v. v.items ≡ self.now.buckets) (λ e. e ≡ OutOfMemory) }
+    {
+        Ok(told(*self.ranks.allocator(), &self.bounds, &self.ranks)?)
+    }
+
+    /// Adds a sample. It is refused with `Error::CountFull` where the count would pass 2^64 - 1.
+    pub fn record(&mut self, sample: i64) -> Result<(), Error>
+        ensures step { MatchResult result (λ _. self.new ≡ with_samples (sample ∷ []) self.old) (λ e. (e ≡ CountFull) × (self.new ≡ self.old)) }
+        ensures refused { IsErr result ↔ (u64.MAX < self.old.count + 1) }
+    {
+        if self.count == u64::MAX {
+            return Err(Error::CountFull);
+        }
+        add_sample(&self.bounds, &mut self.ranks, sample);
+        self.count += 1;
+        self.sum += i128::from(sample);
+        Ok(())
+    }
+
+    /// Adds samples, each as `record` does. They are refused together, with `Error::CountFull`, where the count would
+    /// pass 2^64 - 1.
+    pub fn record_many(&mut self, samples: &[i64]) -> Result<(), Error>
+        ensures step { MatchResult result (λ _. self.new ≡ with_samples samples.now self.old) (λ e. (e ≡ CountFull) × (self.new ≡ self.old)) }
+        ensures refused { IsErr result ↔ (u64.MAX < self.old.count + length samples.now) }
+    {
+        if u64::MAX - self.count < samples.len() as u64 {
+            return Err(Error::CountFull);
+        }
+        add_samples(&self.bounds, &mut self.ranks, samples);
+        self.sum += sum_all(samples);
+        self.count += samples.len() as u64;
+        Ok(())
+    }
+}
+
+impl Clone for Histogram {
+    ghost is_clone = { λ x y. y ≡ x };
+
+    fn clone(&self) -> Result<Histogram, AllocError> {
+        Ok(Histogram {
+            bounds: self.bounds.clone()?,
+            ranks: self.ranks.clone()?,
+            count: self.count,
+            sum: self.sum,
+        })
+    }
+}
+
+/// So many zeros.
+fn zeros(alloc: Global, len: usize) -> Result<Vec<u64>, AllocError>
+    ensures { IfOk result (λ v. v.items ≡ replicate len 0) }
+{
+    Vec::from_elem(alloc, 0, len)
+}
+
+/// Each bound with its count.
+fn told(alloc: Global, bounds: &[i64], ranks: &[u64]) -> Result<Vec<(i64, u64)>, AllocError>
+    requires same { length ranks.now ≡ length bounds.now + 1 }
+    requires fits { total ranks.now ≤ u64.MAX }
+    ensures { IfOk result (λ v. v.items ≡ buckets_of bounds.now ranks.now) }
+{
+    let mut told = Vec::with_capacity(alloc, bounds.len())?;
+    for bound in bounds {
+        told.push((*bound, up_to(ranks, rank_of(bounds, *bound))))?;
+    }
+    Ok(told)
+}
+
+/// The sum of the numbers up to a place.
+fn up_to(ranks: &[u64], last: usize) -> u64
+    requires within { last < length ranks.now }
+    requires fits { total ranks.now ≤ u64.MAX }
+    ensures { result ≡ sum_up_to (last + 1) ranks.now }
+{
+    let mut sum = 0u64;
+    for i in 0..last + 1 {
+        sum += ranks[i];
+    }
+    sum
+}
+
+/// How many of the bounds are below the sample.
+fn rank_of(bounds: &[i64], sample: i64) -> usize
+    ensures value { result ≡ rank bounds.now sample }
+    ensures most { result ≤ length bounds.now }
+{
+    let mut rank = 0usize;
+    for bound in bounds {
+        rank += usize::from(*bound < sample);
+    }
+    rank
+}
+
+/// Counts a sample at its rank.
+fn add_sample(bounds: &[i64], ranks: &mut [u64], sample: i64)
+    requires same { length ranks.old ≡ length bounds.now + 1 }
+    requires room { total ranks.old < u64.MAX }
+    ensures { ranks.new ≡ ranked bounds.now sample ranks.old }
+{
+    ranks[rank_of(bounds, sample)] += 1;
+}
+
+/// Counts each sample at its rank.
+fn add_samples(bounds: &[i64], ranks: &mut [u64], samples: &[i64])
+    requires same { length ranks.old ≡ length bounds.now + 1 }
+    requires room { total ranks.old + length samples.now ≤ u64.MAX }
+    ensures { ranks.new ≡ all_ranked bounds.now samples.now ranks.old }
+{
+    for sample in samples {
+        add_sample(bounds, ranks, *sample);
+    }
+}
+
+/// The sum of samples.
+fn sum_all(samples: &[i64]) -> i128
+    requires { length samples.now < 2 ^ 64 }
+    ensures value { result ≡ sum_of samples.now }
+    ensures fits { IsSumOf (length samples.now) result }
+{
+    let mut sum = 0i128;
+    for sample in samples {
+        sum += i128::from(*sample);
+    }
+    sum
+}

@@ -1,0 +1,20 @@
+//! Storage of samples that has one owner.
+#![tactic(auto)]
+
+mod block;
+mod bucket;
+mod histogram;
+mod laws;
+mod places;
+pub mod reservoir;
+#[cfg(test)]
+mod tests;
+
+pub use block::{BLOCK_SIZE, Block};
+pub use bucket::OwnedBucket;
+pub use histogram::Histogram;
+pub use laws::reservoir_law;
+pub use metrics::Error;
+// A contract that names a block can only be read where the types of its fields are exported.
+#[doc(hidden)]
+pub use places::{Allocation, BlockPtr, Places};

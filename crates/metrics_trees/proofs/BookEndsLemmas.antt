@@ -1,0 +1,153 @@
+-- Ends and totals.
+use Rattle.std.proofs.Common.{◌≡◌, ℕ, zero, suc, ◌+◌, ◌-◌, ◌<◌, ◌≤◌, true, false, List, [], ◌∷◌, ◌++◌, length, take, drop, get_or, Option, None, Some, refl, ap, sym, ◌∙◌, subst, arith, slice_get, slice_set, append-nil}
+use Rattle.std.specs.Prelude.{nat_le}
+use Rattle.std.proofs.lemmas.List.{take_all}
+use Rattle.std.proofs.Math.ListN.{drop_of_length-le}
+use Rattle.metrics.specs.declared.handles.Address.{Address}
+use Rattle.std.specs.List.Sorted.{IsPartitionedBy, IsPartitionPoint}
+use Rattle.std.proofs.lemmas.Bool.Decides.{nat_tests}
+use Rattle.metrics_trees.specs.BookEnds.{total, ends_from, IsPlace, raised}
+
+pub length-ends : (k : ℕ) (ns : List ℕ) → length (ends_from k ns) ≡ length ns
+length-ends k [] = refl
+length-ends k (n ∷ ns) = ap suc (length-ends (k + n) ns)
+
+-- the end of a recorder
+pub end-total : (k : ℕ) (ns : List ℕ) (i d : ℕ) → i < length ns → get_or (ends_from k ns) i d ≡ k + total (take (suc i) ns)
+end-total k [] i d lt = absurd (omega arith)
+end-total k (n ∷ ns) zero d lt = omega arith
+end-total k (n ∷ ns) (suc i) d lt = let e = end-total (k + n) ns i d (omega arith) in omega (arith, e)
+
+pub take-ends : (k : ℕ) (ns : List ℕ) (i : ℕ) → take i (ends_from k ns) ≡ ends_from k (take i ns)
+take-ends k ns zero = refl
+take-ends k [] (suc i) = refl
+take-ends k (n ∷ ns) (suc i) = ap (λ xs. (k + n) ∷ xs) (take-ends (k + n) ns i)
+
+pub total-more : (ns : List ℕ) (i d : ℕ) → i < length ns → total (take (suc i) ns) ≡ total (take i ns) + get_or ns i d
+total-more [] i d lt = absurd (omega arith)
+total-more (n ∷ ns) zero d lt = omega arith
+total-more (n ∷ ns) (suc i) d lt = let e = total-more ns i d (omega arith) in omega (arith, e)
+
+pub total-take : (ns : List ℕ) (i : ℕ) → total (take i ns) ≤ total ns
+total-take ns zero = omega arith
+total-take [] (suc i) = omega arith
+total-take (n ∷ ns) (suc i) = let e = total-take ns i in omega (arith, e)
+
+pub rises-to : (ns : List ℕ) (i j : ℕ) → i ≤ j → total (take i ns) ≤ total (take j ns)
+rises-to ns zero j le = omega arith
+rises-to [] (suc i) zero le = absurd (omega arith)
+rises-to [] (suc i) (suc j) le = omega arith
+rises-to (n ∷ ns) (suc i) zero le = absurd (omega arith)
+rises-to (n ∷ ns) (suc i) (suc j) le = let e = rises-to ns i j (omega arith) in omega (arith, e)
+
+-- the last end is the total
+last_from : (k : ℕ) (n : ℕ) (ns : List ℕ) → slice_get (ends_from k (n ∷ ns)) (length ns) ≡ Some (k + total (n ∷ ns))
+last_from k n [] = let e : k + n ≡ k + (n + 0) = omega arith in ap Some e
+last_from k n (m ∷ ns) =
+    let e : k + n + (m + total ns) ≡ k + (n + (m + total ns)) = omega arith in
+    last_from (k + n) m ns ∙ ap Some e
+
+abbrev total_if_any : List ℕ → Option ℕ
+total_if_any [] = None
+total_if_any (n ∷ ns) = Some (total (n ∷ ns))
+
+last-ends : (ns : List ℕ) → slice_get (ends_from 0 ns) (length (ends_from 0 ns) - 1) ≡ total_if_any ns
+last-ends [] = refl
+last-ends (n ∷ ns) =
+    let i : length (ends_from 0 (n ∷ ns)) - 1 ≡ length ns = (let l = length-ends (0 + n) ns in omega (arith, l)) in
+    let z : 0 + (n + total ns) ≡ n + total ns = omega arith in
+    ap (slice_get (ends_from 0 (n ∷ ns))) i ∙ last_from 0 n ns ∙ ap Some z
+
+if-some : (ns : List ℕ) (x : ℕ) → Some x ≡ total_if_any ns → x ≡ total ns
+if-some [] x h = absurd (cc)
+if-some (n ∷ ns) x h = cc
+
+if-none : (ns : List ℕ) → total_if_any ns ≡ None → 0 ≡ total ns
+if-none [] h = refl
+if-none (n ∷ ns) h = absurd (cc)
+
+pub last-is : (ends ns : List ℕ) (x : ℕ) → ends ≡ ends_from 0 ns → Some x ≡ slice_get ends (length ends - 1) → x ≡ total ns
+last-is ends ns x e h = if-some ns x (h ∙ ap (λ es. slice_get es (length es - 1)) e ∙ last-ends ns)
+
+pub none-is : (ends ns : List ℕ) → ends ≡ ends_from 0 ns → slice_get ends (length ends - 1) ≡ None → 0 ≡ total ns
+none-is ends ns e h = if-none ns (sym (last-ends ns) ∙ sym (ap (λ es. slice_get es (length es - 1)) e) ∙ h)
+
+-- the ends rise
+pub partitioned : (ends ns : List ℕ) (book : ℕ) → ends ≡ ends_from 0 ns → IsPartitionedBy (λ e. nat_le e book) ends
+partitioned ends ns book e = subst (IsPartitionedBy (λ e. nat_le e book)) (sym e) (by_ends ns)
+  where
+    under : (a b c : ℕ) → a ≤ b → nat_le b c ≡ true → nat_le a c ≡ true
+    under a b c l t = grind (arith, nat_tests)
+
+    by_ends : (ns : List ℕ) → IsPartitionedBy (λ e. nat_le e book) (ends_from 0 ns)
+    by_ends ns i j d le lt t =
+        let l = length-ends 0 ns in
+        let a = end-total 0 ns i d (omega (arith, l, le, lt)) in
+        let b = end-total 0 ns j d (omega (arith, l, lt)) in
+        let r = rises-to ns (suc i) (suc j) (omega (arith, le)) in
+        under (get_or (ends_from 0 ns) i d) (get_or (ends_from 0 ns) j d) book (omega (arith, a, b, r)) t
+
+module _ (ends ns : List ℕ) (book i : ℕ) (e : ends ≡ ends_from 0 ns) (h : IsPartitionPoint (λ y. nat_le y book ≡ true) (λ y. nat_le y book ≡ false) ends i) where
+  le_of : (a b : ℕ) → nat_le a b ≡ true → a ≤ b
+  le_of a b e = grind (arith, nat_tests)
+
+  lt_of : (a b : ℕ) → nat_le a b ≡ false → b < a
+  lt_of a b e = grind (arith, nat_tests)
+
+  same_length : length ends ≡ length ns
+  same_length = ap length e ∙ length-ends 0 ns
+
+  pub before-le : i ≤ length ends → total (take i ns) ≤ book
+  before-le le = elim_zero i le h
+    where
+      elim_zero : (i : ℕ) → i ≤ length ends → IsPartitionPoint (λ y. nat_le y book ≡ true) (λ y. nat_le y book ≡ false) ends i → total (take i ns) ≤ book
+      elim_zero zero le h = omega arith
+      elim_zero (suc i) le h =
+          let lt : i < length ns = omega (arith, same_length, le) in
+          let t = le_of _ _ (h.0 i 0 (omega arith) (omega arith)) in
+          let q = ap (λ es. get_or es i 0) e ∙ end-total 0 ns i 0 lt in
+          omega (arith, t, q)
+
+  pub past-all : i ≡ length ends → total ns ≤ book
+  past-all q =
+      let b = before-le (omega (arith, q)) in
+      let w = ap total (take_all i ns (omega (arith, q, same_length))) in
+      omega (arith, b, w)
+
+  pub place-is : (front : ℕ) → i ≤ length ends → (i ≡ length ends → ⊥) → front ≡ total (take i ns) → IsPlace ns book (i, book - front)
+  place-is front le ne f =
+      let lt : i < length ns = (let n = not_eq i (length ends) le ne in omega (arith, n, same_length)) in
+      let t = lt_of _ _ (h.1 i 0 (omega arith) (omega (arith, lt, same_length))) in
+      let q = ap (λ es. get_or es i 0) e ∙ end-total 0 ns i 0 lt in
+      let m = total-more ns i 0 lt in
+      let b = before-le le in
+      record { recorder = lt; number = omega (arith, b, f); below = omega (arith, t, q, m, b, f) }
+    where
+      not_eq : (a b : ℕ) → a ≤ b → (a ≡ b → ⊥) → a < b
+      not_eq a b le ne = grind arith
+
+-- ---- raised addresses
+
+pub raised-more : (front i : ℕ) (xs ys : List Address) (z : Address) → i < length xs → ys ≡ raised front (take i xs) ++ drop i xs →
+    slice_set ys i (record { book = (get_or ys i z).book + front; series = (get_or ys i z).series }) ≡ raised front (take (suc i) xs) ++ drop (suc i) xs
+raised-more front i xs ys z lt e =
+    ap (λ us. slice_set us i (record { book = (get_or us i z).book + front; series = (get_or us i z).series })) e ∙ one i xs lt
+  where
+    one : (i : ℕ) (xs : List Address) → i < length xs →
+        (let us = raised front (take i xs) ++ drop i xs in
+        slice_set us i (record { book = (get_or us i z).book + front; series = (get_or us i z).series })) ≡ raised front (take (suc i) xs) ++ drop (suc i) xs
+    one i [] lt = absurd (omega arith)
+    one zero (x ∷ xs) lt = let c : x.book + front ≡ front + x.book = omega arith in ap (λ b. record { book = b; series = x.series } ∷ xs) c
+    one (suc i) (x ∷ xs) lt = ap (λ us. record { book = front + x.book; series = x.series } ∷ us) (one i xs (omega arith))
+
+pub raised-all : (front i : ℕ) (xs : List Address) → length xs ≤ i → raised front (take i xs) ++ drop i xs ≡ raised front xs
+raised-all front i xs le = ap (λ us. raised front us ++ drop i xs) (take_all i xs le) ∙ ap (λ us. raised front xs ++ us) (drop_of_length-le xs le) ∙ append-nil (raised front xs)
+
+-- the next address is not raised yet
+pub next-is : (front i : ℕ) (xs ys : List Address) (z : Address) → i < length xs → ys ≡ raised front (take i xs) ++ drop i xs → get_or ys i z ≡ get_or xs i z
+next-is front i xs ys z lt e = ap (λ us. get_or us i z) e ∙ one i xs lt
+  where
+    one : (i : ℕ) (xs : List Address) → i < length xs → get_or (raised front (take i xs) ++ drop i xs) i z ≡ get_or xs i z
+    one i [] lt = absurd (omega arith)
+    one zero (x ∷ xs) lt = refl
+    one (suc i) (x ∷ xs) lt = one i xs (omega arith)

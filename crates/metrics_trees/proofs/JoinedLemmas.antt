@@ -1,0 +1,219 @@
+-- Recorders side by side: what one of them does, seen among all.
+use Rattle.std.proofs.Common.{◌≡◌, ℕ, zero, suc, ◌+◌, ◌<◌, ◌≤◌, Bool, true, false, ◌&&◌, List, [], ◌∷◌, ◌++◌, length, take, Result, Ok, Err, refl, ap, sym, ◌∙◌, subst, arith, length-append, append_assoc, append-nil, zero-add, nat_lt}
+use Rattle.std.specs.List.{All}
+use Rattle.std.proofs.lemmas.List.Elements.{All-nil, All-cons}
+use Rattle.std.proofs.lemmas.Bool.Decides.{nat_tests}
+use mathlib.Core.Path.{fun_ext}
+use Rattle.metrics_names.specs.declared.kind.MetricKind.{MetricKind}
+use Rattle.metrics.specs.declared.debugging.Reset.{Reset}
+use Rattle.metrics.specs.declared.handles.Update.{Update}
+use Rattle.metrics_names.specs.declared.refused.Refused.{Refused}
+use Rattle.metrics_names.specs.declared.refused.Refused.TheVariants.{Memory, NoSuchAddress, NoSuchBook, BadHandle}
+use Rattle.metrics.specs.Targets.{raise, after_targets, change_at, AllBelow}
+use Rattle.metrics.specs.TargetsLaws.{after_targets-front, after_targets-past, length-raise, take-raise, raise-append, raise-raise, raise-zero, below_take, change_at-front, change_at-past}
+use Rattle.metrics.specs.Book.{Content, RowParts, content_at, kind_at, kind_of, place, rows, update_in, reset_in}
+use Rattle.metrics.specs.Meaning.{Meaning, KeepsTargets, Acts, Updates, Snapshots, holds_at, is_kind, addresses, address_in, key_in_book}
+use Rattle.metrics.specs.Layers.{joined_all, targets_of}
+use Rattle.metrics_trees.specs.declared.reach.Reach.{Reach}
+use Rattle.metrics_trees.specs.declared.reach.Reach.TheVariants.{Every, ByRoute}
+use Rattle.metrics_trees.specs.Routing.{target_of, recorder_of}
+use Rattle.metrics_trees.specs.BookEnds.{raised}
+use Rattle.metrics_trees.specs.Nodes.{books_of}
+use Rattle.metrics_trees.specs.Reaches.{group_meaning}
+
+pub contents-append : (xs ys : List Meaning) → (joined_all (xs ++ ys)).contents ≡ (joined_all xs).contents ++ (joined_all ys).contents
+contents-append [] ys = refl
+contents-append (x ∷ xs) ys = ap (λ cs. x.contents ++ cs) (contents-append xs ys) ∙ sym (append_assoc x.contents (joined_all xs).contents (joined_all ys).contents)
+
+pub targets-append : (xs ys : List Meaning) (kind : MetricKind) (name : List ℕ) →
+    (joined_all (xs ++ ys)).targets kind name ≡ (joined_all xs).targets kind name ++ raise (books_of (joined_all xs)) ((joined_all ys).targets kind name)
+targets-append [] ys kind name = sym (raise-zero ((joined_all ys).targets kind name))
+targets-append (x ∷ xs) ys kind name =
+    let tx = x.targets kind name in
+    let ts = (joined_all xs).targets kind name in
+    let us = (joined_all ys).targets kind name in
+    let n = books_of x in
+    let m = books_of (joined_all xs) in
+    ap (λ vs. tx ++ raise n vs) (targets-append xs ys kind name)
+    ∙ ap (λ vs. tx ++ vs) (raise-append n ts (raise m us) ∙ ap (λ vs. raise n ts ++ vs) (raise-raise n m us))
+    ∙ sym (append_assoc tx (raise n ts) (raise (n + m) us))
+    ∙ ap (λ k. (tx ++ raise n ts) ++ raise k us) (sym (length-append x.contents (joined_all xs).contents))
+
+pub books-append : (xs ys : List Meaning) → books_of (joined_all (xs ++ ys)) ≡ books_of (joined_all xs) + books_of (joined_all ys)
+books-append xs ys = ap length (contents-append xs ys) ∙ length-append (joined_all xs).contents (joined_all ys).contents
+
+-- ---- another recorder in one's place, of the same targets and as many books
+
+pub same_targets : (front rest : List Meaning) (x y : Meaning) → KeepsTargets x y → books_of y ≡ books_of x →
+    (joined_all (front ++ y ∷ rest)).targets ≡ (joined_all (front ++ x ∷ rest)).targets
+same_targets [] rest x y k l =
+    ap (λ (ts : MetricKind → List ℕ → List (ℕ × List ℕ)). λ kind name. ts kind name ++ raise (books_of y) ((joined_all rest).targets kind name)) k
+    ∙ ap (λ (n : ℕ). λ kind name. x.targets kind name ++ raise n ((joined_all rest).targets kind name)) l
+same_targets (f ∷ fs) rest x y k l =
+    ap (λ (ts : MetricKind → List ℕ → List (ℕ × List ℕ)). λ kind name. f.targets kind name ++ raise (books_of f) (ts kind name)) (same_targets fs rest x y k l)
+
+same_chosen : (front rest : List Meaning) (x y : Meaning) → KeepsTargets x y → books_of y ≡ books_of x → (w : ℕ) (kind : MetricKind) (name : List ℕ) →
+    targets_of w (front ++ y ∷ rest) kind name ≡ targets_of w (front ++ x ∷ rest) kind name
+same_chosen [] rest x y k l zero kind name = ap (λ (ts : MetricKind → List ℕ → List (ℕ × List ℕ)). ts kind name) k
+same_chosen [] rest x y k l (suc w) kind name = ap (λ n. raise n (targets_of w rest kind name)) l
+same_chosen (f ∷ fs) rest x y k l zero kind name = refl
+same_chosen (f ∷ fs) rest x y k l (suc w) kind name = ap (raise (books_of f)) (same_chosen fs rest x y k l w kind name)
+
+pub same_group : (c : Reach) (front rest : List Meaning) (x y : Meaning) → KeepsTargets x y → books_of y ≡ books_of x →
+    (group_meaning c (front ++ y ∷ rest)).targets ≡ (group_meaning c (front ++ x ∷ rest)).targets
+same_group Every front rest x y k l = same_targets front rest x y k l
+same_group (ByRoute routes) front rest x y k l = fun_ext (λ kind. fun_ext (λ name. same_chosen front rest x y k l (recorder_of (target_of routes kind name)) kind name))
+
+-- however a name is passed on, the books are those of all
+pub contents-group : (c : Reach) (all : List Meaning) → (group_meaning c all).contents ≡ (joined_all all).contents
+contents-group Every all = refl
+contents-group (ByRoute routes) all = refl
+
+-- ---- calls on the targets of one
+
+-- acting on one's targets is acting on them where they stand among all
+pub acts_within : {X : Type 0} (f : X → Content → Content) (front rest : List Meaning) (x y : Meaning) (ts : List (ℕ × X)) →
+    AllBelow (books_of x) ts → y.contents ≡ after_targets f ts x.contents →
+    (joined_all (front ++ y ∷ rest)).contents ≡ after_targets f (raise (books_of (joined_all front)) ts) (joined_all (front ++ x ∷ rest)).contents
+acts_within f front rest x y ts b h =
+    let fs = (joined_all front).contents in
+    let rs = (joined_all rest).contents in
+    contents-append front (y ∷ rest)
+    ∙ ap (λ cs. fs ++ (cs ++ rs)) h
+    ∙ ap (λ cs. fs ++ cs) (sym (after_targets-front f ts x.contents rs b))
+    ∙ sym (after_targets-past f ts fs (x.contents ++ rs))
+    ∙ ap (after_targets f (raise (length fs) ts)) (sym (contents-append front (x ∷ rest)))
+
+-- the targets of one by its number
+pub targets_of-middle : (front rest : List Meaning) (x : Meaning) (kind : MetricKind) (name : List ℕ) →
+    targets_of (length front) (front ++ x ∷ rest) kind name ≡ raise (books_of (joined_all front)) (x.targets kind name)
+targets_of-middle [] rest x kind name = sym (raise-zero (x.targets kind name))
+targets_of-middle (f ∷ fs) rest x kind name =
+    ap (raise (books_of f)) (targets_of-middle fs rest x kind name) ∙ raise-raise (books_of f) (books_of (joined_all fs)) (x.targets kind name)
+    ∙ ap (λ k. raise k (x.targets kind name)) (sym (length-append f.contents (joined_all fs).contents))
+
+-- ---- books
+
+content_at-front : (b : ℕ) (cs ds : List Content) → b < length cs → content_at b (cs ++ ds) ≡ content_at b cs
+content_at-front b [] ds h = absurd (omega arith)
+content_at-front zero (c ∷ cs) ds h = refl
+content_at-front (suc b) (c ∷ cs) ds h = content_at-front b cs ds (omega arith)
+
+content_at-past : (b : ℕ) (cs ds : List Content) → content_at (length cs + b) (cs ++ ds) ≡ content_at b ds
+content_at-past b [] ds = ap (λ k. content_at k ds) (zero-add b)
+content_at-past b (c ∷ cs) ds =
+    let e : length (c ∷ cs) + b ≡ suc (length cs + b) = omega arith in
+    ap (λ k. content_at k (c ∷ (cs ++ ds))) e ∙ content_at-past b cs ds
+
+module _ (front rest : List Meaning) (x : Meaning) (b : ℕ) (lt : b < books_of x) where
+  -- the book's number among all
+  abbrev pub there : ℕ
+  there = books_of (joined_all front) + b
+
+  abbrev pub all_with : Meaning → List Content
+  all_with y = (joined_all (front ++ y ∷ rest)).contents
+
+  pub content-there : content_at there (all_with x) ≡ content_at b x.contents
+  content-there =
+      ap (content_at there) (contents-append front (x ∷ rest)) ∙ content_at-past b (joined_all front).contents (x.contents ++ (joined_all rest).contents)
+      ∙ content_at-front b x.contents (joined_all rest).contents lt
+
+  pub within-there : there < length (all_with x)
+  within-there = let l = books-append front (x ∷ rest) in let m = length-append x.contents (joined_all rest).contents in omega (arith, l, m, lt)
+
+  pub change_at-there : (f : Content → Content) (y : Meaning) → y.contents ≡ change_at b f x.contents → all_with y ≡ change_at there f (all_with x)
+  change_at-there f y h =
+      let fs = (joined_all front).contents in
+      let rs = (joined_all rest).contents in
+      contents-append front (y ∷ rest) ∙ ap (λ cs. fs ++ (cs ++ rs)) h ∙ ap (λ cs. fs ++ cs) (sym (change_at-front b f x.contents rs lt))
+      ∙ sym (change_at-past b f fs (x.contents ++ rs)) ∙ ap (change_at there f) (sym (contents-append front (x ∷ rest)))
+
+  pub same-there : (y : Meaning) → y.contents ≡ x.contents → all_with y ≡ all_with x
+  same-there y h =
+      contents-append front (y ∷ rest) ∙ ap (λ cs. (joined_all front).contents ++ (cs ++ (joined_all rest).contents)) h ∙ sym (contents-append front (x ∷ rest))
+
+  is_less : (a b : ℕ) → a < b → nat_lt a b ≡ true
+  is_less a b l = grind (arith, nat_tests)
+
+  pub holds-there : (kind : MetricKind) (s : ℕ) → holds_at kind (record { book = there; series = s }) (all_with x) ≡ holds_at kind (record { book = b; series = s }) x.contents
+  holds-there kind s =
+      ap (λ c. is_kind kind (kind_at s c) && nat_lt there (length (all_with x))) content-there
+      ∙ ap (λ q. is_kind kind (kind_at s (content_at b x.contents)) && q) (is_less there (length (all_with x)) within-there ∙ sym (is_less b (books_of x) lt))
+
+  -- an update of one's book is one of all
+  pub updates-one : {A : Type 0} (y old new : Meaning) (s : ℕ) (by : Update) → old.contents ≡ all_with x → new.contents ≡ all_with y → (r : Result A Refused) →
+      Updates x y (record { book = b; series = s }) by r → Updates old new (record { book = there; series = s }) by r
+  updates-one y old new s by o n (Ok done) h = (
+    ap (holds_at (kind_of by) (record { book = there; series = s })) o ∙ holds-there (kind_of by) s ∙ h.0,
+    n ∙ change_at-there (update_in by s) y h.1 ∙ ap (change_at there (update_in by s)) (sym o),
+  )
+  updates-one y old new s by o n (Err (Memory a)) h =
+      (ap (holds_at (kind_of by) (record { book = there; series = s })) o ∙ holds-there (kind_of by) s ∙ h.0, h.1, h.2, n ∙ same-there y h.3 ∙ sym o)
+  updates-one y old new s by o n (Err NoSuchAddress) h =
+      (ap (holds_at (kind_of by) (record { book = there; series = s })) o ∙ holds-there (kind_of by) s ∙ h.0, n ∙ same-there y h.1 ∙ sym o)
+  updates-one y old new s by o n (Err NoSuchBook) h = absurd h
+  updates-one y old new s by o n (Err BadHandle) h = absurd h
+
+  -- and so is a snapshot
+  pub snapshots-one : (y old new : Meaning) → old.contents ≡ all_with x → new.contents ≡ all_with y → (reset : Reset) (r : Result (List RowParts) Refused) →
+      Snapshots x y b reset r → Snapshots old new there reset r
+  snapshots-one y old new o n reset (Ok found) h = (
+    subst (λ k. there < k) (sym (ap length o)) within-there,
+    h.1 ∙ ap rows (sym content-there ∙ ap (content_at there) (sym o)),
+    n ∙ change_at-there (reset_in reset) y h.2 ∙ ap (change_at there (reset_in reset)) (sym o),
+  )
+  snapshots-one y old new o n reset (Err (Memory a)) h =
+      (subst (λ k. there < k) (sym (ap length o)) within-there, h.1, n ∙ same-there y h.2 ∙ sym o)
+  snapshots-one y old new o n reset (Err NoSuchBook) h = absurd (omega (arith, h.0, lt))
+  snapshots-one y old new o n reset (Err NoSuchAddress) h = absurd h
+  snapshots-one y old new o n reset (Err BadHandle) h = absurd h
+
+-- no series stands at a number that no book has
+pub holds-past : (kind : MetricKind) (b s : ℕ) (cs : List Content) → length cs ≤ b → holds_at kind (record { book = b; series = s }) cs ≡ false
+holds-past kind b s cs le = ap (λ q. is_kind kind (kind_at s (content_at b cs)) && q) (not_less b (length cs) le) ∙ never (is_kind kind (kind_at s (content_at b cs)))
+  where
+    not_less : (a b : ℕ) → b ≤ a → nat_lt a b ≡ false
+    not_less a b l = grind (arith, nat_tests)
+
+    never : (q : Bool) → (q && false) ≡ false
+    never true = refl
+    never false = refl
+
+-- ---- addresses
+
+module _ (kind : MetricKind) (labels : List (List ℕ × List ℕ)) where
+  addresses-front : (ts : List (ℕ × List ℕ)) (cs ds : List Content) → AllBelow (length cs) ts → addresses kind labels ts (cs ++ ds) ≡ addresses kind labels ts cs
+  addresses-front [] cs ds b = refl
+  addresses-front (t ∷ ts) cs ds b =
+      ap (λ c. record { book = t.0; series = place (key_in_book kind labels t.1) c } ∷ addresses kind labels ts (cs ++ ds)) (content_at-front t.0 cs ds b.0)
+      ∙ ap (λ as'. record { book = t.0; series = place (key_in_book kind labels t.1) (content_at t.0 cs) } ∷ as') (addresses-front ts cs ds b.1)
+
+  addresses-past : (ts : List (ℕ × List ℕ)) (cs ds : List Content) → addresses kind labels (raise (length cs) ts) (cs ++ ds) ≡ raised (length cs) (addresses kind labels ts ds)
+  addresses-past [] cs ds = refl
+  addresses-past (t ∷ ts) cs ds =
+      ap (λ c. record { book = length cs + t.0; series = place (key_in_book kind labels t.1) c } ∷ addresses kind labels (raise (length cs) ts) (cs ++ ds)) (content_at-past t.0 cs ds)
+      ∙ ap (λ as'. record { book = length cs + t.0; series = place (key_in_book kind labels t.1) (content_at t.0 ds) } ∷ as') (addresses-past ts cs ds)
+
+  pub addresses-append : (ts us : List (ℕ × List ℕ)) (cs : List Content) → addresses kind labels (ts ++ us) cs ≡ addresses kind labels ts cs ++ addresses kind labels us cs
+  addresses-append [] us cs = refl
+  addresses-append (t ∷ ts) us cs = ap (λ as'. address_in kind labels cs t ∷ as') (addresses-append ts us cs)
+
+  -- the addresses in one recorder's targets, raised, are those among all
+  pub addresses-one : (front rest : List Meaning) (x : Meaning) (name : List ℕ) →
+      raised (books_of (joined_all front)) (addresses kind labels (x.targets kind name) x.contents)
+      ≡ addresses kind labels (raise (books_of (joined_all front)) (x.targets kind name)) (joined_all (front ++ x ∷ rest)).contents
+  addresses-one front rest x name =
+      let fs = (joined_all front).contents in
+      let ts = x.targets kind name in
+      ap (raised (length fs)) (sym (addresses-front ts x.contents (joined_all rest).contents (x.below kind name)))
+      ∙ sym (addresses-past ts fs (x.contents ++ (joined_all rest).contents))
+      ∙ ap (addresses kind labels (raise (length fs) ts)) (sym (contents-append front (x ∷ rest)))
+
+  -- each address is in a book
+  pub addresses-below : (ts : List (ℕ × List ℕ)) (cs : List Content) (n : ℕ) → AllBelow n ts → All (λ a. a.book < n) (addresses kind labels ts cs)
+  addresses-below [] cs n b = All-nil _
+  addresses-below (t ∷ ts) cs n b = All-cons (λ a. a.book < n) (address_in kind labels cs t) (addresses kind labels ts cs) b.0 (addresses-below ts cs n b.1)
+
+  pub length-addresses : (ts : List (ℕ × List ℕ)) (cs : List Content) → length (addresses kind labels ts cs) ≡ length ts
+  length-addresses [] cs = refl
+  length-addresses (t ∷ ts) cs = ap suc (length-addresses ts cs)

@@ -1,0 +1,159 @@
+-- The loop over the children that a name goes to: the next child, and the node when the loop stops.
+use Rattle.std.proofs.Common.{◌≡◌, ◌+◌, ◌<◌, ◌≤◌, ℕ, List, map, length, take, get_or, set, Vec, Global, Result, Ok, Err, ap, ◌∙◌, subst, sym, arith, length-append}
+use Rattle.std.specs.List.{All}
+use Rattle.std.specs.Vec.{vec_len, with_item}
+use Rattle.std.proofs.lemmas.List.Elements.{All-set}
+use Rattle.metrics_names.specs.declared.kind.MetricKind.{MetricKind}
+use Rattle.metrics_names.specs.declared.refused.Refused.{Refused}
+use Rattle.metrics_names.specs.Refusals.{after_front, CanFollow}
+use Rattle.metrics.specs.declared.handles.Address.{Address}
+use Rattle.metrics.specs.Targets.{after_targets}
+use Rattle.metrics.specs.TargetsLaws.{length-raise}
+use Rattle.metrics.specs.Book.{Content}
+use Rattle.metrics.specs.Layers.{joined_all}
+use Rattle.metrics.specs.Meaning.{Meaning, KeepsTargets, Acts, Registers, addresses}
+use Rattle.metrics_trees.specs.BookEnds.{total, ends_from, IsAppended, CanAppend}
+use Rattle.metrics_trees.specs.Reaches.{group_meaning, range_of, IsWithin}
+use Rattle.metrics_trees.specs.Nodes.{node_meaning, books_of, most_books, IsSound}
+use Rattle.metrics_trees.specs.declared.reach.Reach.{Reach}
+use Rattle.metrics_trees.specs.declared.node.Node.{Node, Group}
+use Rattle.metrics_trees.proofs.JoinedLemmas.{contents-group}
+use Rattle.metrics_trees.proofs.OneChildLemmas.{before-is}
+use Rattle.metrics_trees.proofs.ChildrenLemmas.{Through, reached, reached-more, through-more, same-then, books-then, few-reached, acts-refused, can-follow, acted-all, range-within, registers, found_in, appended, refused-after, can-append}
+use Rattle.metrics_trees.proofs.NodesLemmas.{IsGroup, Visit, visit, row-is, few-are, by-rows, still-sound}
+
+-- the children that were not called yet are as they were
+abbrev pub Unvisited : {B : Type 0} → List (Node B) → List (Node B) → ℕ → Type 0
+Unvisited {B = B} was now i = (length now ≡ length was) × ((k : ℕ) (d : Node B) → i ≤ k → get_or now k d ≡ get_or was k d)
+
+-- the loop over the children that a name goes to, by their range
+pub record Loop {B : Type 0} (m : B → Meaning) (v : Vec (Node B) Global) (ends : Vec ℕ Global) (reach : Reach) (old : Node B) (kind : MetricKind) (name : List ℕ) (range : ℕ × ℕ) : Type 0 where
+  pub group : IsGroup m v ends reach old
+  pub range_is : range ≡ range_of reach kind name (length v.items)
+
+module _ {B : Type 0} {m : B → Meaning} {v : Vec (Node B) Global} {ends : Vec ℕ Global} {reach : Reach} {old : Node B} (group : IsGroup m v ends reach old) (len : ℕ) (l : len ≡ vec_len v) where
+  same_length : len ≡ length v.items
+  same_length = omega (arith, l, v.ok.0)
+
+  pub reach-within : IsWithin reach len
+  reach-within = subst (IsWithin reach) (sym same_length) (row-is group).within
+
+  pub loop-of : (kind : MetricKind) (name text : List ℕ) → text ≡ name → (range : ℕ × ℕ) → range ≡ range_of reach kind text len → Loop m v ends reach old kind name range
+  loop-of kind name text same range e =
+      record { group = group; range_is = e ∙ ap (λ q. range_of reach kind q len) same ∙ ap (range_of reach kind name) same_length }
+
+module _ {B : Type 0} {m : B → Meaning} {v : Vec (Node B) Global} {ends : Vec ℕ Global} {reach : Reach} {old : Node B} {kind : MetricKind} {name : List ℕ} {range : ℕ × ℕ}
+    (loop : Loop m v ends reach old kind name range) where
+  bounds : (range.0 ≤ range.1) × (range.1 ≤ length v.items)
+  bounds = range-within reach kind name (length v.items) range loop.range_is (row-is loop.group).within
+
+  -- the next child
+  pub visit-next : (now : List (Node B)) (i : ℕ) (x : Node B) → range.0 ≤ i → i < range.1 → Unvisited v.items now i → x ≡ get_or now i x → Visit loop.group i x
+  visit-next now i x past lt u at = let b = bounds.1 in visit loop.group i x (omega (arith, lt, b)) (at ∙ u.1 i x (omega arith))
+
+  pub next-within : (now : Vec (Node B) Global) (i : ℕ) → i < range.1 → Unvisited v.items now.items i → i < vec_len now
+  next-within now i lt u = let b = bounds.1 in omega (arith, lt, b, u.0, now.ok.0)
+
+  pub loop-end : (i : ℕ) → (range.0 ≤ range.1 → i ≤ range.1) → range.1 ≤ i → i ≡ range.1
+  loop-end i most least = same_number i range.1 (most bounds.0) least
+    where
+      same_number : (a b : ℕ) → a ≤ b → b ≤ a → a ≡ b
+      same_number a b le ge = omega (arith, le, ge)
+
+  module _ {f : List ℕ → Content → Content} (now : Vec (Node B) Global) {i : ℕ} (h : Through (node_meaning m) kind name f v.items now.items range.0 i) (sound : All (IsSound m) now.items) where
+    -- the targets that were acted on so far
+    abbrev pub got : List (ℕ × List ℕ)
+    got = reached (node_meaning m) kind name f v.items range.0 i
+
+    -- the node when the loop has come to its end
+    pub end-sound : IsSound m (Group now ends reach)
+    end-sound = still-sound loop.group now sound h.books
+
+    pub end-keeps : KeepsTargets (node_meaning m old) (node_meaning m (Group now ends reach))
+    end-keeps = by-rows loop.group KeepsTargets now (h.same reach)
+
+    pub all-acted : i ≡ range.1 →
+        ((node_meaning m old).targets kind name ≡ got) × ((node_meaning m (Group now ends reach)).contents ≡ after_targets f ((node_meaning m old).targets kind name) (node_meaning m old).contents)
+    all-acted e =
+        by-rows loop.group (λ a c. (a.targets kind name ≡ got) × (c.contents ≡ after_targets f (a.targets kind name) a.contents)) now
+        (acted-all (node_meaning m) kind name f v.items now.items reach range i loop.range_is e h)
+
+    -- the node after a call of the next child
+    module _ {x : Node B} (y : Node B) (at : Visit loop.group i x) (now-at : x ≡ get_or now.items i x) (past : range.0 ≤ i) (lt : i < range.1)
+        (sub : IsSound m y) (keeps : KeepsTargets (node_meaning m x) (node_meaning m y)) (books : books_of (node_meaning m y) ≡ books_of (node_meaning m x)) where
+      pub next-sound : All (IsSound m) (set now.items i y)
+      next-sound = All-set (IsSound m) now.items i y sub sound
+
+      pub node-sound : IsSound m (Group (with_item now i y) ends reach)
+      node-sound =
+          still-sound loop.group (with_item now i y) next-sound
+          (books-then (node_meaning m) kind name f v.items now.items range.0 i x y past at.within now-at at.same h keeps books)
+
+      pub next-keeps : KeepsTargets (node_meaning m old) (node_meaning m (Group (with_item now i y) ends reach))
+      next-keeps =
+          by-rows loop.group KeepsTargets (with_item now i y)
+          (same-then (node_meaning m) kind name f v.items now.items range.0 i x y past at.within now-at at.same h keeps books reach)
+
+      pub through-next : (node_meaning m y).contents ≡ after_targets f ((node_meaning m x).targets kind name) (node_meaning m x).contents →
+          Through (node_meaning m) kind name f v.items (set now.items i y) range.0 (i + 1)
+      through-next e = through-more (node_meaning m) kind name f v.items now.items range.0 i x y past at.within now-at at.same h keeps books e
+
+      pub count-next : length (reached (node_meaning m) kind name f v.items range.0 (i + 1)) ≡ length got + length ((node_meaning m x).targets kind name)
+      count-next =
+          ap length (reached-more (node_meaning m) kind name f v.items now.items range.0 i x y past at.within now-at at.same h)
+          ∙ length-append got _ ∙ ap (λ k. length got + k) (length-raise _ ((node_meaning m x).targets kind name))
+
+      pub few-next : (a : ℕ) → a ≤ length ((node_meaning m x).targets kind name) → length got + a ≤ most_books
+      few-next a le =
+          few-reached (node_meaning m) kind name f v.items now.items range.0 i x y past at.within now-at at.same h reach range.1 loop.range_is lt a le (few-are loop.group)
+
+      pub follow-next : {A : Type 0} (P : A → Type 0) (e : Refused) → Acts f ((node_meaning m x).targets kind name) (node_meaning m x) (node_meaning m y) (Err e) P → CanFollow (length got) e
+      follow-next P e r =
+          can-follow (node_meaning m) kind name f v.items now.items range.0 i x y past at.within now-at at.same h reach range.1 loop.range_is lt P e (few-are loop.group) r
+
+      pub refused-next : {A C : Type 0} (P : A → Type 0) (Q : Meaning → C → Type 0) (e : Refused) → Acts f ((node_meaning m x).targets kind name) (node_meaning m x) (node_meaning m y) (Err e) P →
+          (z : Refused) → z ≡ after_front (length got) e →
+          Acts f ((node_meaning m old).targets kind name) (node_meaning m old) (node_meaning m (Group (with_item now i y) ends reach)) (Err z) (Q (node_meaning m old))
+      refused-next P Q e r z s =
+          by-rows loop.group (λ a c. Acts f (a.targets kind name) a c (Err z) (Q a)) (with_item now i y)
+          (subst (λ u. Acts f ((group_meaning reach (map (node_meaning m) v.items)).targets kind name) (group_meaning reach (map (node_meaning m) v.items)) (group_meaning reach (map (node_meaning m) (set now.items i y))) (Err u) (Q (group_meaning reach (map (node_meaning m) v.items)))) (sym s)
+          (acts-refused (node_meaning m) kind name f v.items now.items range.0 i x y past at.within now-at at.same h reach range.1 loop.range_is lt P (Q (group_meaning reach (map (node_meaning m) v.items))) e r))
+
+  -- ---- a register call
+
+  module _ {labels : List (List ℕ × List ℕ)} (now : Vec (Node B) Global) {i : ℕ} (h : Through (node_meaning m) kind name (registers (node_meaning m) kind name labels) v.items now.items range.0 i)
+      {found : List Address} (is : found ≡ found_in (node_meaning m) kind name labels v.items range.0 i) where
+    pub found-whole : i ≡ range.1 → found ≡ addresses kind labels ((node_meaning m old).targets kind name) (node_meaning m old).contents
+    found-whole e =
+        by-rows loop.group (λ a c. found ≡ addresses kind labels (a.targets kind name) a.contents) now
+        (let was = map (node_meaning m) v.items in
+        let ts = (acted-all (node_meaning m) kind name (registers (node_meaning m) kind name labels) v.items now.items reach range i loop.range_is e h).0 in
+        is ∙ ap (λ us. addresses kind labels us (joined_all was).contents) (sym ts)
+        ∙ ap (addresses kind labels ((group_meaning reach was).targets kind name)) (sym (contents-group reach was)))
+
+    module _ {x : Node B} (y : Node B) (at : Visit loop.group i x) (now-at : x ≡ get_or now.items i x) (past : range.0 ≤ i) (lt : i < range.1)
+        (keeps : KeepsTargets (node_meaning m x) (node_meaning m y)) (books : books_of (node_meaning m y) ≡ books_of (node_meaning m x))
+        (es : List ℕ) (e : es ≡ ends.items) (front : ℕ) (f : (sizes : List ℕ) → es ≡ ends_from 0 sizes → front ≡ total (take i sizes))
+        (r : Result (List Address) Refused) (g : Registers (node_meaning m x) (node_meaning m y) kind (record { name = name; labels = labels }) r) where
+      front-is : books_of (joined_all (map (node_meaning m) (take i v.items))) ≡ front
+      front-is = before-is (node_meaning m) v.items i x at.within at.same ∙ sym (f (map books_of (map (node_meaning m) v.items)) (e ∙ (row-is loop.group).ends_are))
+
+      pub can-append-next : CanAppend found front r
+      can-append-next =
+          subst (λ k. CanAppend found k r) front-is
+          (can-append (node_meaning m) kind name labels v.items now.items range.0 i x y past at.within now-at at.same h found is keeps books reach range.1 loop.range_is lt r (few-are loop.group) g)
+
+      pub appended-next : {A : Type 0} (after : List Address) (done : A) → IsAppended {A = A} found after front r (Ok done) →
+          Through (node_meaning m) kind name (registers (node_meaning m) kind name labels) v.items (set now.items i y) range.0 (i + 1)
+          × (after ≡ found_in (node_meaning m) kind name labels v.items range.0 (i + 1))
+      appended-next {A = A} after done a =
+          appended (node_meaning m) kind name labels v.items now.items range.0 i x y past at.within now-at at.same h found is keeps books after r done g
+          (subst (λ k. IsAppended {A = A} found after k r (Ok done)) (sym front-is) a)
+
+      pub refused-append : (A : Type 0) (after : List Address) (e : Refused) → IsAppended {A = A} found after front r (Err e) →
+          Registers (node_meaning m old) (node_meaning m (Group (with_item now i y) ends reach)) kind (record { name = name; labels = labels }) (Err e)
+      refused-append A after e a =
+          by-rows loop.group (λ a c. Registers a c kind (record { name = name; labels = labels }) (Err e)) (with_item now i y)
+          (refused-after (node_meaning m) kind name labels v.items now.items range.0 i x y past at.within now-at at.same h found is keeps books reach range.1 loop.range_is lt A after r e
+          (λ b. b ≡ addresses kind labels ((group_meaning reach (map (node_meaning m) v.items)).targets kind name) (group_meaning reach (map (node_meaning m) v.items)).contents)
+          g (subst (λ k. IsAppended {A = A} found after k r (Err e)) (sym front-is) a))

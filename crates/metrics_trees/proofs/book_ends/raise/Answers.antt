@@ -1,0 +1,24 @@
+use Rattle.std.proofs.Common.{◌≡◌, ◌+◌, suc, refl, ap, sym, ◌∙◌, arith, drop, take, ◌++◌}
+use Rattle.metrics.specs.declared.handles.Address.{Address}
+use Rattle.metrics_trees.specs.BookEnds.{raised}
+use Rattle.metrics_trees.proofs.BookEndsLemmas.{raised-more, raised-all, next-is}
+use Rattle.metrics_trees.proofs.book_ends.raise.Goals as goal
+
+pub loop-at-init : goal.loop-at-init
+loop-at-init c = refl
+
+pub overflow_add-at : goal.overflow_add-at
+overflow_add-at c =
+    let z : Address = record { book = 0; series = 0 } in
+    let n = next-is c.args.front c.loop-at.at-index c.args.found.now c.loop-at.at-items z c.loop-at-test.true c.loop-at.invariant in
+    let b = c.requires.books_fit c.loop-at.at-index z c.loop-at-test.true in
+    omega (arith, ap (λ a. a.book) n, b, c.requires.front_fits)
+
+pub loop-at-preserved : goal.loop-at-preserved
+loop-at-preserved c =
+    let s : c.loop-at.at-index + 1 ≡ suc c.loop-at.at-index = omega arith in
+    raised-more c.args.front c.loop-at.at-index c.args.found.now c.loop-at.at-items (record { book = 0; series = 0 }) c.loop-at-test.true c.loop-at.invariant
+    ∙ ap (λ k. raised c.args.front (take k c.args.found.now) ++ drop k c.args.found.now) (sym s)
+
+pub returns : goal.returns
+returns c = c.loop-at.invariant ∙ raised-all c.args.front c.loop-at.at-index c.args.found.now (omega (arith, c.loop-at-test.false, c.loop-at.auto.at-index-end))

@@ -1,0 +1,119 @@
+use Rattle.std.proofs.Common.{rules, arith, ◌∙◌}
+use Rattle.std.specs.Result.{result_map_both}
+use Rattle.metrics.proofs.MeaningLemmas.{length-registers}
+use Rattle.metrics_trees.specs.Nodes.{node_meaning, IsTree}
+use Rattle.metrics_trees.specs.declared.node.Node.{the_lemmas}
+use Rattle.metrics_trees.proofs.NodesLemmas.{group-of, row-is, ends-within}
+use Rattle.metrics_trees.proofs.ChildrenLemmas.{through-none, found-none}
+use Rattle.metrics_trees.proofs.LoopLemmas.{reach-within, loop-of, visit-next, next-within, loop-end, end-sound, end-keeps, all-acted, next-sound, node-sound, next-keeps, found-whole, can-append-next, appended-next, refused-append}
+use Rattle.metrics_trees.proofs.node.Node.+register.Goals as goal
+
+pub range-first-requires : goal.range-first-requires
+range-first-requires g t c =
+    let tree : IsTree g.B.Recorder.meaning c.args.self.now = search rules in
+    let group = group-of g.B.Recorder.meaning c.in-Group.is tree c.in-Group.children-is c.in-Group.ends-is c.in-Group.reach-is in
+    reach-within group _ c.len.ensures
+
+pub index_mut-requires : goal.index_mut-requires
+index_mut-requires g t c =
+    let tree : IsTree g.B.Recorder.meaning c.args.self.now = search rules in
+    let group = group-of g.B.Recorder.meaning c.in-Group.is tree c.in-Group.children-is c.in-Group.ends-is c.in-Group.reach-is in
+    let loop = loop-of group _ c.len.ensures c.args.kind c.args.key.now.name _ c.name-in-Group.ensures _ c.range-first.ensures in
+    next-within loop c.loop-i.children c.loop-i.i c.loop-i-test.true c.loop-i.invariant.unvisited
+
+pub register-answer-requires : goal.register-answer-requires
+register-answer-requires g t c κs within =
+    let tree : IsTree g.B.Recorder.meaning c.args.self.now = search rules in
+    let group = group-of g.B.Recorder.meaning c.in-Group.is tree c.in-Group.children-is c.in-Group.ends-is c.in-Group.reach-is in
+    let loop = loop-of group _ c.len.ensures c.args.kind c.args.key.now.name _ c.name-in-Group.ensures _ c.range-first.ensures in
+    let at = visit-next loop _ c.loop-i.i c.index_mut.result.now c.loop-i.auto.i c.loop-i-test.true c.loop-i.invariant.unvisited c.index_mut.ensures.value in
+    (search (rules, the_lemmas), (search rules, at.subtree))
+
+pub loop-i-init : goal.loop-i-init
+loop-i-init g t c =
+    let tree : IsTree g.B.Recorder.meaning c.args.self.now = search rules in
+    let group = group-of g.B.Recorder.meaning c.in-Group.is tree c.in-Group.children-is c.in-Group.ends-is c.in-Group.reach-is in
+    record { unvisited = search rules; through = through-none _ _ _ _ _ _; found = c.new-found.ensures.items ∙ found-none (node_meaning g.B.Recorder.meaning) c.args.kind c.args.key.now.name c.args.key.now.labels _ c.range-first.result.0; sound = (row-is group).sound }
+
+pub books_before-front-requires : goal.books_before-front-requires
+books_before-front-requires g t c =
+    let tree : IsTree g.B.Recorder.meaning c.args.self.now = search rules in
+    let group = group-of g.B.Recorder.meaning c.in-Group.is tree c.in-Group.children-is c.in-Group.ends-is c.in-Group.reach-is in
+    let loop = loop-of group _ c.len.ensures c.args.kind c.args.key.now.name _ c.name-in-Group.ensures _ c.range-first.ensures in
+    let lt = next-within loop c.loop-i.children c.loop-i.i c.loop-i-test.true c.loop-i.invariant.unvisited in
+    let l = ends-within group _ c.deref.ensures.value in
+    let u = c.loop-i.invariant.unvisited.0 in
+    record { within = omega (arith, lt, l, u, c.loop-i.children.ok.0) }
+
+pub append_answer-requires : goal.append_answer-requires
+append_answer-requires g t c =
+    let tree : IsTree g.B.Recorder.meaning c.args.self.now = search rules in
+    let group = group-of g.B.Recorder.meaning c.in-Group.is tree c.in-Group.children-is c.in-Group.ends-is c.in-Group.reach-is in
+    let loop = loop-of group _ c.len.ensures c.args.kind c.args.key.now.name _ c.name-in-Group.ensures _ c.range-first.ensures in
+    let at = visit-next loop _ c.loop-i.i c.index_mut.result.now c.loop-i.auto.i c.loop-i-test.true c.loop-i.invariant.unvisited c.index_mut.ensures.value in
+    let h = c.register-answer.ensures in
+    let books = length-registers (node_meaning g.B.Recorder.meaning c.index_mut.result.now) (node_meaning g.B.Recorder.meaning c.register-answer.new.self) c.args.kind c.args.key.now (result_map_both (λ v. v.items) (λ e. e) c.register-answer.result) h.registers in
+    can-append-next loop c.loop-i.children c.loop-i.invariant.through c.loop-i.invariant.found c.register-answer.new.self at c.index_mut.ensures.value c.loop-i.auto.i c.loop-i-test.true h.keeps books _ c.deref.ensures.value _ c.books_before-front.ensures _ h.registers
+
+pub loop-i-preserved : goal.loop-i-preserved
+loop-i-preserved g t c =
+    let tree : IsTree g.B.Recorder.meaning c.args.self.now = search rules in
+    let group = group-of g.B.Recorder.meaning c.in-Group.is tree c.in-Group.children-is c.in-Group.ends-is c.in-Group.reach-is in
+    let loop = loop-of group _ c.len.ensures c.args.kind c.args.key.now.name _ c.name-in-Group.ensures _ c.range-first.ensures in
+    let at = visit-next loop _ c.loop-i.i c.index_mut.result.now c.loop-i.auto.i c.loop-i-test.true c.loop-i.invariant.unvisited c.index_mut.ensures.value in
+    let h = c.register-answer.ensures in
+    let books = length-registers (node_meaning g.B.Recorder.meaning c.index_mut.result.now) (node_meaning g.B.Recorder.meaning c.register-answer.new.self) c.args.kind c.args.key.now (result_map_both (λ v. v.items) (λ e. e) c.register-answer.result) h.registers in
+    let told = appended-next loop c.loop-i.children c.loop-i.invariant.through c.loop-i.invariant.found c.register-answer.new.self at c.index_mut.ensures.value c.loop-i.auto.i c.loop-i-test.true h.keeps books _ c.deref.ensures.value _ c.books_before-front.ensures _ h.registers _ tt (c.in-Ok.ensures {u = tt}) in
+    record { unvisited = search rules; through = told.0; found = told.1; sound = next-sound loop c.loop-i.children c.loop-i.invariant.through c.loop-i.invariant.sound c.register-answer.new.self at c.index_mut.ensures.value c.loop-i.auto.i c.loop-i-test.true h.sound h.keeps books }
+
+pub returns-in-Err-clause-registers : goal.returns-in-Err-clause-registers
+returns-in-Err-clause-registers g t c =
+    let tree : IsTree g.B.Recorder.meaning c.args.self.now = search rules in
+    let group = group-of g.B.Recorder.meaning c.in-Group.is tree c.in-Group.children-is c.in-Group.ends-is c.in-Group.reach-is in
+    let loop = loop-of group _ c.len.ensures c.args.kind c.args.key.now.name _ c.name-in-Group.ensures _ c.range-first.ensures in
+    let at = visit-next loop _ c.loop-i.i c.index_mut.result.now c.loop-i.auto.i c.loop-i-test.true c.loop-i.invariant.unvisited c.index_mut.ensures.value in
+    let h = c.register-answer.ensures in
+    let books = length-registers (node_meaning g.B.Recorder.meaning c.index_mut.result.now) (node_meaning g.B.Recorder.meaning c.register-answer.new.self) c.args.kind c.args.key.now (result_map_both (λ v. v.items) (λ e. e) c.register-answer.result) h.registers in
+    refused-append loop c.loop-i.children c.loop-i.invariant.through c.loop-i.invariant.found c.register-answer.new.self at c.index_mut.ensures.value c.loop-i.auto.i c.loop-i-test.true h.keeps books _ c.deref.ensures.value _ c.books_before-front.ensures _ h.registers (Prim.Unit {0}) _ c.in-Err.refused (c.in-Err.ensures {u = tt})
+
+pub returns-in-Err-clause-sound : goal.returns-in-Err-clause-sound
+returns-in-Err-clause-sound g t c =
+    let tree : IsTree g.B.Recorder.meaning c.args.self.now = search rules in
+    let group = group-of g.B.Recorder.meaning c.in-Group.is tree c.in-Group.children-is c.in-Group.ends-is c.in-Group.reach-is in
+    let loop = loop-of group _ c.len.ensures c.args.kind c.args.key.now.name _ c.name-in-Group.ensures _ c.range-first.ensures in
+    let at = visit-next loop _ c.loop-i.i c.index_mut.result.now c.loop-i.auto.i c.loop-i-test.true c.loop-i.invariant.unvisited c.index_mut.ensures.value in
+    let h = c.register-answer.ensures in
+    let books = length-registers (node_meaning g.B.Recorder.meaning c.index_mut.result.now) (node_meaning g.B.Recorder.meaning c.register-answer.new.self) c.args.kind c.args.key.now (result_map_both (λ v. v.items) (λ e. e) c.register-answer.result) h.registers in
+    node-sound loop c.loop-i.children c.loop-i.invariant.through c.loop-i.invariant.sound c.register-answer.new.self at c.index_mut.ensures.value c.loop-i.auto.i c.loop-i-test.true h.sound h.keeps books
+
+pub returns-in-Err-clause-keeps : goal.returns-in-Err-clause-keeps
+returns-in-Err-clause-keeps g t c =
+    let tree : IsTree g.B.Recorder.meaning c.args.self.now = search rules in
+    let group = group-of g.B.Recorder.meaning c.in-Group.is tree c.in-Group.children-is c.in-Group.ends-is c.in-Group.reach-is in
+    let loop = loop-of group _ c.len.ensures c.args.kind c.args.key.now.name _ c.name-in-Group.ensures _ c.range-first.ensures in
+    let at = visit-next loop _ c.loop-i.i c.index_mut.result.now c.loop-i.auto.i c.loop-i-test.true c.loop-i.invariant.unvisited c.index_mut.ensures.value in
+    let h = c.register-answer.ensures in
+    let books = length-registers (node_meaning g.B.Recorder.meaning c.index_mut.result.now) (node_meaning g.B.Recorder.meaning c.register-answer.new.self) c.args.kind c.args.key.now (result_map_both (λ v. v.items) (λ e. e) c.register-answer.result) h.registers in
+    next-keeps loop c.loop-i.children c.loop-i.invariant.through c.loop-i.invariant.sound c.register-answer.new.self at c.index_mut.ensures.value c.loop-i.auto.i c.loop-i-test.true h.sound h.keeps books
+
+pub returns-after-loop-i-clause-sound : goal.returns-after-loop-i-clause-sound
+returns-after-loop-i-clause-sound g t c =
+    let tree : IsTree g.B.Recorder.meaning c.args.self.now = search rules in
+    let group = group-of g.B.Recorder.meaning c.in-Group.is tree c.in-Group.children-is c.in-Group.ends-is c.in-Group.reach-is in
+    let loop = loop-of group _ c.len.ensures c.args.kind c.args.key.now.name _ c.name-in-Group.ensures _ c.range-first.ensures in
+    end-sound loop c.loop-i.children c.loop-i.invariant.through c.loop-i.invariant.sound
+
+pub returns-after-loop-i-clause-keeps : goal.returns-after-loop-i-clause-keeps
+returns-after-loop-i-clause-keeps g t c =
+    let tree : IsTree g.B.Recorder.meaning c.args.self.now = search rules in
+    let group = group-of g.B.Recorder.meaning c.in-Group.is tree c.in-Group.children-is c.in-Group.ends-is c.in-Group.reach-is in
+    let loop = loop-of group _ c.len.ensures c.args.kind c.args.key.now.name _ c.name-in-Group.ensures _ c.range-first.ensures in
+    end-keeps loop c.loop-i.children c.loop-i.invariant.through c.loop-i.invariant.sound
+
+pub returns-after-loop-i-clause-registers : goal.returns-after-loop-i-clause-registers
+returns-after-loop-i-clause-registers g t c =
+    let tree : IsTree g.B.Recorder.meaning c.args.self.now = search rules in
+    let group = group-of g.B.Recorder.meaning c.in-Group.is tree c.in-Group.children-is c.in-Group.ends-is c.in-Group.reach-is in
+    let loop = loop-of group _ c.len.ensures c.args.kind c.args.key.now.name _ c.name-in-Group.ensures _ c.range-first.ensures in
+    let end = loop-end loop c.loop-i.i c.loop-i.auto.i-end c.loop-i-test.false in
+    (found-whole loop c.loop-i.children c.loop-i.invariant.through c.loop-i.invariant.found end, (all-acted loop c.loop-i.children c.loop-i.invariant.through c.loop-i.invariant.sound end).1)

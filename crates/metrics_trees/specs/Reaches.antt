@@ -1,0 +1,26 @@
+-- Several recorders, by how a name is passed on among them.
+use Rattle.std.specs.Prelude.{ℕ, ◌+◌, ◌<◌, List}
+use Rattle.metrics_names.specs.declared.kind.MetricKind.{MetricKind}
+use Rattle.metrics.specs.Meaning.{Meaning}
+use Rattle.metrics.specs.Layers.{joined_all, choosing}
+use Rattle.metrics_trees.specs.Routing.{target_of, recorder_of}
+use Rattle.metrics_trees.specs.declared.reach.Reach.{Reach}
+use Rattle.metrics_trees.specs.declared.reach.Reach.TheVariants.{Every, ByRoute}
+
+-- several recorders as one
+abbrev pub group_meaning : Reach → List Meaning → Meaning
+group_meaning Every all = joined_all all
+group_meaning (ByRoute tables) all =
+    choosing (λ kind name. recorder_of (target_of tables kind name)) all
+
+-- the first of the recorders that a name goes to, among so many, and the end of them
+abbrev pub range_of : Reach → MetricKind → List ℕ → ℕ → ℕ × ℕ
+range_of Every kind name n = (0, n)
+range_of (ByRoute tables) kind name n =
+    (recorder_of (target_of tables kind name), recorder_of (target_of tables kind name) + 1)
+
+-- a name goes to none but so many recorders
+abbrev pub IsWithin : Reach → ℕ → Type 0
+IsWithin Every n = Unit {0}
+IsWithin (ByRoute tables) n =
+    (kind : MetricKind) (name : List ℕ) → recorder_of (target_of tables kind name) < n

@@ -1,0 +1,87 @@
+//! Where the books of several recorders stand.
+ghost use Rattle.std.specs.Prelude.{◌≡◌, ◌≤◌, ◌++◌, ℕ, List, length, take, MatchOption, OnOk};
+ghost use Rattle.std.specs.Result.{result_map_both};
+ghost use Rattle.metrics_trees.specs.BookEnds.{ends_from, total, IsPlace, raised, IsAppended, CanRaise, CanAppend};
+
+use metrics::{Address, Refused};
+use std::alloc::AllocError;
+
+/// The number of books of all recorders. `ends` has the number of books up to the end of each.
+pub(crate) fn all_books(ends: &[usize]) -> usize
+    ensures { (sizes : List ℕ) → ends.now ≡ ends_from 0 sizes → result ≡ total sizes }
+{
+    match ends.last() {
+        Some(end) => *end,
+        None => 0,
+    }
+}
+
+/// The number of books before a recorder.
+pub(crate) fn books_before(ends: &[usize], recorder: usize) -> usize
+    requires within { recorder ≤ length ends.now }
+    ensures { (sizes : List ℕ) → ends.now ≡ ends_from 0 sizes →
+        result ≡ total (take recorder sizes) }
+{
+    all_books(&ends[..recorder])
+}
+
+/// The recorder that has a book, and the book's number there.
+pub(crate) fn place_of(ends: &[usize], book: usize) -> Option<(usize, usize)>
+    requires ends { (sizes : List ℕ) × (ends.now ≡ ends_from 0 sizes) }
+    ensures { (sizes : List ℕ) → ends.now ≡ ends_from 0 sizes →
+        MatchOption result (total sizes ≤ book) (IsPlace sizes book) }
+{
+    let recorder = ends.partition_point(|end| *end <= book);
+    if recorder == ends.len() {
+        return None;
+    }
+    Some((recorder, book - books_before(ends, recorder)))
+}
+
+/// Raises the addresses of a recorder that stands behind `front` books.
+fn raise(found: &mut [Address], front: usize)
+    requires { CanRaise front found.old }
+    ensures { found.new ≡ raised front found.old }
+{
+    for at in found {
+        at.book += front;
+    }
+}
+
+/// Adds the addresses of a recorder that stands behind `front` books. The first are taken over, not copied.
+fn append_raised(
+    found: &mut Vec<Address>,
+    front: usize,
+    mut there: Vec<Address>,
+) -> Result<(), AllocError>
+    requires { CanRaise front there.items }
+    ensures { OnOk result (found.new.items ≡ found.old.items ++ raised front there.items) }
+{
+    raise(&mut there, front);
+    if found.is_empty() {
+        *found = there;
+        return Ok(());
+    }
+    found.extend_from_slice(&there)
+}
+
+/// Adds what a register call of a recorder behind `front` books answered to what those before it did.
+pub(crate) fn append_answer(
+    found: &mut Vec<Address>,
+    front: usize,
+    answer: Result<Vec<Address>, Refused>,
+) -> Result<(), Refused>
+    requires { CanAppend found.old.items front (result_map_both (λ v. v.items) (λ e. e) answer) }
+    ensures { IsAppended found.old.items found.new.items front
+        (result_map_both (λ v. v.items) (λ e. e) answer) result }
+{
+    let there = match answer {
+        Ok(there) => there,
+        Err(refused) => return Err(refused.after(found.len())),
+    };
+    let acted = found.len() + there.len();
+    match append_raised(found, front, there) {
+        Ok(()) => Ok(()),
+        Err(_) => Err(Refused::Memory { acted }),
+    }
+}

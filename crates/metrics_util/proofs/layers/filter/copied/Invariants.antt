@@ -1,5 +1,0 @@
-use Rattle.std.proofs.Common.{◌≡◌, map, take}
-use Rattle.metrics_util.proofs.layers.filter.copied.Given as goal
-
-abbrev pub invariant-loop-pattern : goal.invariant-loop-pattern
-invariant-loop-pattern l = l.kept.items ≡ map (λ p. p.now) (take l.pattern-index l.patterns)

@@ -1,0 +1,184 @@
+//! Replays of lists of calls, with expected values from outside.
+
+use crate::round::{ROUND, expect_row, is_value, key_of};
+use metrics::{
+    Address, Answer, Call, CompositeKey, Counter, Error, Key, MetricKind, Recorder, Refused, Reset,
+    RowValue, Snapshot, Update,
+};
+use metrics_debugging::DebuggingRecorder;
+use metrics_replay::{answer_of, replay};
+use std::alloc::{AllocError, Global};
+use std::collections::HashMap;
+use std::process::Abort;
+use std::test::Fail;
+
+/// A register and an update of each series of the round, and a snapshot. `first` is the register's number.
+fn round(alloc: Global, first: u8, calls: &mut Vec<Call>) -> Result<(), Refused> {
+    let first = usize::from(first);
+    for (kind, name, _, _) in ROUND {
+        calls.push(Call::Register(kind, key_of(alloc, kind, name)?))?;
+    }
+    for (number, (_, _, by, _)) in (first..first + 4).zip(ROUND) {
+        calls.push(Call::Update(number, by))?;
+    }
+    calls.push(Call::Snapshot(0))?;
+    Ok(())
+}
+
+fn two_rounds(alloc: Global) -> Result<Vec<Call>, Refused> {
+    let mut calls = Vec::new(alloc);
+    round(alloc, 0, &mut calls)?;
+    round(alloc, 4, &mut calls)?;
+    Ok(calls)
+}
+
+/// The snapshots among the answers, in order.
+fn snapshots(alloc: Global, answers: Vec<Answer>) -> Result<Vec<Snapshot>, AllocError> {
+    let mut all = Vec::new(alloc);
+    for answer in answers {
+        if let Answer::Snapshot(snapshot) = answer {
+            all.push(snapshot)?;
+        }
+    }
+    Ok(all)
+}
+
+/// The snapshots of the two rounds on a new book.
+fn both_rounds<R: Recorder>(
+    rt: &impl Abort,
+    alloc: Global,
+    mut book: R,
+) -> Result<Vec<Snapshot>, Fail> {
+    let answers = replay(alloc, &mut book, two_rounds(alloc)?.as_slice())?;
+    assert_eq!(rt; answers.len(), 18);
+    let found = snapshots(alloc, answers)?;
+    assert_eq!(rt; found.len(), 2);
+    Ok(found)
+}
+
+#[test]
+fn two_rounds_read_as_lists(rt: HostRuntime) -> Result<(), Fail> {
+    let alloc = rt.alloc();
+    for snapshot in both_rounds(&rt, alloc, DebuggingRecorder::new(alloc)?)? {
+        let rows = snapshot.into_vec();
+        assert_eq!(rt; rows.len(), 4);
+        for (row, (kind, name, _, want)) in rows.iter().zip(ROUND) {
+            expect_row(&rt, row, kind, &key_of(alloc, kind, name)?, want);
+        }
+    }
+    Ok(())
+}
+
+/// That each series of the round has its value in the map, and neither unit nor text.
+fn expect_map(
+    rt: &impl Abort,
+    alloc: Global,
+    map: &HashMap<CompositeKey, RowValue>,
+) -> Result<(), Fail> {
+    assert_eq!(rt; map.len(), 4);
+    for (kind, name, _, want) in ROUND {
+        let key = CompositeKey::new(kind, key_of(alloc, kind, name)?);
+        let found = map.get(&key).ok_or("no row")?;
+        assert!(rt; found.0.is_none() && found.1.is_none());
+        assert!(rt; is_value(&found.2, kind, want));
+    }
+    Ok(())
+}
+
+#[test]
+fn two_rounds_read_as_maps(rt: HostRuntime) -> Result<(), Fail> {
+    let alloc = rt.alloc();
+    for snapshot in both_rounds(&rt, alloc, DebuggingRecorder::new(alloc)?)? {
+        let map = snapshot.into_hashmap(alloc).ok().ok_or("memory")?;
+        expect_map(&rt, alloc, &map)?;
+    }
+    Ok(())
+}
+
+/// A gauge and a counter, and snapshots of which the first and the last keep the gauge.
+fn kept(alloc: Global) -> Result<Vec<Call>, Refused> {
+    let mut calls = Vec::new(alloc);
+    let gauge = Key::from_name(alloc, "g")?;
+    calls.push(Call::Register(MetricKind::Gauge, gauge))?;
+    let counter = Key::from_name(alloc, "c")?;
+    calls.push(Call::Register(MetricKind::Counter, counter))?;
+    calls.push(Call::Update(0, Update::Add(5)))?;
+    calls.push(Call::Update(1, Update::Increment(3)))?;
+    calls.push(Call::SnapshotWith(0, Reset::KeepGauges))?;
+    calls.push(Call::Update(0, Update::Add(2)))?;
+    calls.push(Call::Snapshot(0))?;
+    calls.push(Call::SnapshotWith(0, Reset::KeepGauges))?;
+    Ok(calls)
+}
+
+fn expect_values(rt: &impl Abort, snapshot: &Snapshot, gauge: i64, counter: i64) {
+    let rows = snapshot.as_slice();
+    assert_eq!(rt; rows.len(), 2);
+    assert!(rt; is_value(&rows[0].3, MetricKind::Gauge, gauge));
+    assert!(rt; is_value(&rows[1].3, MetricKind::Counter, counter));
+}
+
+fn expect_kept<R: Recorder>(rt: &impl Abort, alloc: Global, mut book: R) -> Result<(), Fail> {
+    let answers = replay(alloc, &mut book, kept(alloc)?.as_slice())?;
+    let found = snapshots(alloc, answers)?;
+    assert_eq!(rt; found.len(), 3);
+    expect_values(rt, &found[0], 5, 3);
+    expect_values(rt, &found[1], 7, 0);
+    expect_values(rt, &found[2], 0, 0);
+    Ok(())
+}
+
+#[test]
+fn a_replay_keeps_gauges(rt: HostRuntime) -> Result<(), Fail> {
+    expect_kept(&rt, rt.alloc(), DebuggingRecorder::new(rt.alloc())?)
+}
+
+/// An update of a handle, by `answer_of`.
+fn updated<R: Recorder>(alloc: Global, on: &mut R, found: &[Address]) -> Answer {
+    let call = Call::Update(0, Update::Increment(2));
+    answer_of(alloc, on, &call, Some((MetricKind::Counter, found)))
+}
+
+fn expect_one_by_one<R: Recorder>(rt: &impl Abort, alloc: Global, mut book: R) -> Result<(), Fail> {
+    let found = book.register(alloc, MetricKind::Counter, &Key::from_name(alloc, "c")?)?;
+    let held = updated(alloc, &mut book, &found);
+    assert!(rt; matches!(&held, Answer::Updated(1)));
+    let other = updated(alloc, &mut book, &[Address { book: 0, series: 9 }]);
+    assert!(rt; matches!(&other, Answer::Refused(Refused::NoSuchAddress)));
+    Ok(())
+}
+
+#[test]
+fn calls_one_by_one(rt: HostRuntime) -> Result<(), Fail> {
+    expect_one_by_one(&rt, rt.alloc(), DebuggingRecorder::new(rt.alloc())?)
+}
+
+/// Addresses (0, 0) and (1, 0) at a recorder of one book.
+fn past_the_books(alloc: Global) -> Result<Counter, AllocError> {
+    let mut found = Vec::new(alloc);
+    found.push(Address { book: 0, series: 0 })?;
+    found.push(Address { book: 1, series: 0 })?;
+    Ok(Counter::from(found))
+}
+
+fn expect_unchanged<R: Recorder>(rt: &impl Abort, alloc: Global, mut book: R) -> Result<(), Fail> {
+    book.register(alloc, MetricKind::Counter, &Key::from_name(alloc, "c")?)?;
+    let refused = past_the_books(alloc)?.increment(&mut book, 1);
+    assert_eq!(rt; refused, Err(Refused::NoSuchAddress));
+    let snapshot = book.snapshot(alloc, 0)?;
+    let row = snapshot.as_slice().first().ok_or("no row")?;
+    assert!(rt; is_value(&row.3, MetricKind::Counter, 0));
+    Ok(())
+}
+
+#[test]
+fn a_handle_with_an_address_that_is_not_held_changes_nothing(rt: HostRuntime) -> Result<(), Fail> {
+    expect_unchanged(&rt, rt.alloc(), DebuggingRecorder::new(rt.alloc())?)
+}
+
+#[test]
+fn errors_say_why(rt: HostRuntime) -> Result<(), Fail> {
+    let printed = format!(in rt.alloc(); "{}", Error::Memory)?;
+    assert_eq!(rt; printed.as_str(), "memory");
+    Ok(())
+}
