@@ -26,6 +26,27 @@ pub enum Error {
     /// The count would pass 2^64 - 1. Nothing changed.
     #[error("count full")]
     CountFull,
+    /// The live side of a bucket has no free place. Nothing changed.
+    #[error("full")]
+    Full,
+    /// Another thread changed the word between this call's load and its exchange. This call changed nothing.
+    #[error("raced")]
+    Raced,
+    /// Another walk holds the turn. This call changed nothing.
+    #[error("busy")]
+    Busy,
+    /// No pen is free, or a pen or tally of weight 1 was to be split. Nothing changed.
+    #[error("no pen")]
+    NoPen,
+    /// The number of shards is not a power of two from 1 to 1,024. Nothing was made.
+    #[error("bad number of shards")]
+    BadShards,
+    /// The slot is empty. Nothing changed.
+    #[error("gone")]
+    Gone,
+    /// The number of blocks is not from 1 to 1,024. Nothing was made.
+    #[error("bad number of blocks")]
+    BadBlocks,
 }
 
 impl From<AllocError> for Error {
