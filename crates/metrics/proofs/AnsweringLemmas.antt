@@ -14,9 +14,9 @@ use Rattle.metrics.specs.declared.handles.Address.{Address}
 use Rattle.metrics_names.specs.declared.refused.Refused.{Refused as Refusal}
 use Rattle.metrics_names.specs.declared.refused.Refused.TheVariants.{Memory, NoSuchAddress, NoSuchBook, BadHandle}
 use Rattle.metrics.specs.declared.calls.Call.{Call}
-use Rattle.metrics.specs.declared.calls.Call.TheVariants.{Describe, Register, Update as Change, Snapshot as Take, SnapshotWith as TakeWith}
+use Rattle.metrics.specs.declared.calls.Call.TheVariants as Call
 use Rattle.metrics.specs.declared.calls.Answer.{Answer}
-use Rattle.metrics.specs.declared.calls.Answer.TheVariants.{Described, Registered, Updated, Snapshot, Refused as Denied}
+use Rattle.metrics.specs.declared.calls.Answer.TheVariants as Answer
 use Rattle.metrics_names.specs.Names.{KeyParts, SeriesKey, kind_eq, series_key_eq}
 use Rattle.metrics.specs.Targets.{after_targets, change_at, in_book, AllBelow, AreDistinct, IsNot}
 use Rattle.metrics.specs.TargetsLaws.{length-after_targets, length-change_at}
@@ -40,24 +40,24 @@ reaches_describes kind unit text es (x ∷ xs) = (tt, reaches_describes kind uni
 
 front_described : (old new : Meaning) (kind : MetricKind) (name : List ℕ) (unit : Option Measure) (text : List ℕ) (a : Answer) → DescribesCall old new kind name unit text a →
     (new.contents ≡ after_targets (describe_in kind unit text) (take (acted a) (old.targets kind name)) old.contents)
-    × IsOrMeets (Described (length (old.targets kind name))) (λ n. n ≤ length (old.targets kind name)) a
-front_described old new kind name unit text (Described n) r =
-    (r.1 ∙ ap (λ ts. after_targets (describe_in kind unit text) ts old.contents) (sym (ap (λ k. take k (old.targets kind name)) r.0 ∙ take-length (old.targets kind name))), ap Described r.0)
-front_described old new kind name unit text (Denied (Memory n)) r = (r.1, r.0)
-front_described old new kind name unit text (Denied NoSuchAddress) r = absurd r
-front_described old new kind name unit text (Denied NoSuchBook) r = absurd r
-front_described old new kind name unit text (Denied BadHandle) r = absurd r
-front_described old new kind name unit text (Registered found) r = absurd r
-front_described old new kind name unit text (Updated n) r = absurd r
-front_described old new kind name unit text (Snapshot found) r = absurd r
+    × IsOrMeets (Answer.Described (length (old.targets kind name))) (λ n. n ≤ length (old.targets kind name)) a
+front_described old new kind name unit text (Answer.Described n) r =
+    (r.1 ∙ ap (λ ts. after_targets (describe_in kind unit text) ts old.contents) (sym (ap (λ k. take k (old.targets kind name)) r.0 ∙ take-length (old.targets kind name))), ap Answer.Described r.0)
+front_described old new kind name unit text (Answer.Refused (Memory n)) r = (r.1, r.0)
+front_described old new kind name unit text (Answer.Refused NoSuchAddress) r = absurd r
+front_described old new kind name unit text (Answer.Refused NoSuchBook) r = absurd r
+front_described old new kind name unit text (Answer.Refused BadHandle) r = absurd r
+front_described old new kind name unit text (Answer.Registered found) r = absurd r
+front_described old new kind name unit text (Answer.Updated n) r = absurd r
+front_described old new kind name unit text (Answer.Snapshot found) r = absurd r
 
 describe_kept : {New : Type 0} (old new : Meaning) (log : Log) (kind : MetricKind) (name : List ℕ) (unit : Option Measure) (text : List ℕ) (a : Answer) →
     Kept New old.targets log old.contents → DescribesCall old new kind name unit text a →
-    Kept New old.targets (log ++ (Describe kind name unit text, a) ∷ []) new.contents × (New → IsPlain old.targets (length old.contents) log (Describe kind name unit text) a)
+    Kept New old.targets (log ++ (Call.Describe kind name unit text, a) ∷ []) new.contents × (New → IsPlain old.targets (length old.contents) log (Call.Describe kind name unit text) a)
 describe_kept {New = New} old new log kind name unit text a h r =
     let front = front_described old new kind name unit text a r in (
-      subst (λ cs. Kept New old.targets (log ++ (Describe kind name unit text, a) ∷ []) cs) (sym front.0)
-          (kept_then old.targets log (Describe kind name unit text, a) old.contents (describes kind unit text) (take (acted a) (old.targets kind name)) old.below (λ b. refl)
+      subst (λ cs. Kept New old.targets (log ++ (Call.Describe kind name unit text, a) ∷ []) cs) (sym front.0)
+          (kept_then old.targets log (Call.Describe kind name unit text, a) old.contents (describes kind unit text) (take (acted a) (old.targets kind name)) old.below (λ b. refl)
           (λ n b lt. reaches_describes kind unit text (reached old.targets b log) (in_book b (take (acted a) (old.targets kind name))))
           (stays-describe kind unit text) h tt),
       λ n. front.1,
@@ -72,10 +72,10 @@ reaches_registers key es (x ∷ xs) = (tt, reaches_registers key (es ++ register
 register_with : {New : Type 0} (old new : Meaning) (log : Log) (kind : MetricKind) (key : KeyParts) (a : Answer) (ts : List (ℕ × List ℕ)) →
     ts ≡ take (acted a) (old.targets kind key.name) → new.contents ≡ after_targets (λ n. register_in (key_in_book kind key.labels n)) ts old.contents →
     LeadsTo old.targets new.contents kind key a → Kept New old.targets log old.contents →
-    Kept New old.targets (log ++ (Register kind key, a) ∷ []) new.contents
+    Kept New old.targets (log ++ (Call.Register kind key, a) ∷ []) new.contents
 register_with {New = New} old new log kind key a ts e c own h =
-    subst (λ cs. Kept New old.targets (log ++ (Register kind key, a) ∷ []) cs) (sym c)
-    (kept_then old.targets log (Register kind key, a) old.contents (λ n. registers (key_in_book kind key.labels n)) ts old.below
+    subst (λ cs. Kept New old.targets (log ++ (Call.Register kind key, a) ∷ []) cs) (sym c)
+    (kept_then old.targets log (Call.Register kind key, a) old.contents (λ n. registers (key_in_book kind key.labels n)) ts old.below
     (λ b. ap (λ us. map (λ n. registers (key_in_book kind key.labels n)) (in_book b us)) (sym e))
     (λ n b lt. reaches_registers (key_in_book kind key.labels) (reached old.targets b log) (in_book b ts))
     (stays-register (key_in_book kind key.labels)) h (subst (λ cs. LeadsTo old.targets cs kind key a) c own, tt))
@@ -134,24 +134,24 @@ plain_addresses old log kind key h n =
 
 register_kept : {New : Type 0} (old new : Meaning) (log : Log) (kind : MetricKind) (key : KeyParts) (a : Answer) →
     Kept New old.targets log old.contents → RegistersCall old new kind key a →
-    Kept New old.targets (log ++ (Register kind key, a) ∷ []) new.contents × (New → IsPlain old.targets (length old.contents) log (Register kind key) a)
-register_kept old new log kind key (Registered found) h r =
+    Kept New old.targets (log ++ (Call.Register kind key, a) ∷ []) new.contents × (New → IsPlain old.targets (length old.contents) log (Call.Register kind key) a)
+register_kept old new log kind key (Answer.Registered found) h r =
     let ts = old.targets kind key.name in
     let below = old.below kind key.name in
     let all : ts ≡ take (length found) ts = sym (ap (λ k. take k ts) (ap length r.0 ∙ length-map _ ts) ∙ take-length ts) in
     let there : AllThere (key_in_book kind key.labels) ts new.contents = subst (AllThere (key_in_book kind key.labels) ts) (sym r.1) (all_there (key_in_book kind key.labels) ts old.contents below) in
     let own : found ≡ addresses kind key.labels ts new.contents =
     r.0 ∙ sym (addresses_after kind key.labels ts old.contents below (old.distinct kind key.name)) ∙ ap (addresses kind key.labels ts) (sym r.1) in (
-      register_with old new log kind key (Registered found) ts all r.1 (own, there) h,
-      λ n. ap Registered (r.0 ∙ plain_addresses old log kind key h n),
+      register_with old new log kind key (Answer.Registered found) ts all r.1 (own, there) h,
+      λ n. ap Answer.Registered (r.0 ∙ plain_addresses old log kind key h n),
     )
-register_kept old new log kind key (Denied (Memory n)) h r = (register_with old new log kind key (Denied (Memory n)) _ refl r.1 tt h, λ n. r.0)
-register_kept old new log kind key (Denied NoSuchAddress) h r = absurd r
-register_kept old new log kind key (Denied NoSuchBook) h r = absurd r
-register_kept old new log kind key (Denied BadHandle) h r = absurd r
-register_kept old new log kind key (Described n) h r = absurd r
-register_kept old new log kind key (Updated n) h r = absurd r
-register_kept old new log kind key (Snapshot found) h r = absurd r
+register_kept old new log kind key (Answer.Refused (Memory n)) h r = (register_with old new log kind key (Answer.Refused (Memory n)) _ refl r.1 tt h, λ n. r.0)
+register_kept old new log kind key (Answer.Refused NoSuchAddress) h r = absurd r
+register_kept old new log kind key (Answer.Refused NoSuchBook) h r = absurd r
+register_kept old new log kind key (Answer.Refused BadHandle) h r = absurd r
+register_kept old new log kind key (Answer.Described n) h r = absurd r
+register_kept old new log kind key (Answer.Updated n) h r = absurd r
+register_kept old new log kind key (Answer.Snapshot found) h r = absurd r
 
 -- ---- update
 
@@ -177,63 +177,63 @@ there_in_book key es b (suc n) (t ∷ ts) cs e h =
     ] refl
 
 front_updated : (old new : Meaning) (ts : List (ℕ × ℕ)) (u : Update) (a : Answer) → UpdatesHeld old new ts u a →
-    (new.contents ≡ after_targets (update_in u) (take (acted a) ts) old.contents) × IsOrMeets (Updated (length ts)) (λ n. TakesMemory u × (n ≤ length ts)) a
-front_updated old new ts u (Updated n) r =
-    (r.1 ∙ ap (λ us. after_targets (update_in u) us old.contents) (sym (ap (λ k. take k ts) r.0 ∙ take-length ts)), ap Updated r.0)
-front_updated old new ts u (Denied (Memory n)) r = (r.2, (r.0, r.1))
-front_updated old new ts u (Denied NoSuchAddress) r = absurd r
-front_updated old new ts u (Denied NoSuchBook) r = absurd r
-front_updated old new ts u (Denied BadHandle) r = absurd r
-front_updated old new ts u (Described n) r = absurd r
-front_updated old new ts u (Registered found) r = absurd r
-front_updated old new ts u (Snapshot found) r = absurd r
+    (new.contents ≡ after_targets (update_in u) (take (acted a) ts) old.contents) × IsOrMeets (Answer.Updated (length ts)) (λ n. TakesMemory u × (n ≤ length ts)) a
+front_updated old new ts u (Answer.Updated n) r =
+    (r.1 ∙ ap (λ us. after_targets (update_in u) us old.contents) (sym (ap (λ k. take k ts) r.0 ∙ take-length ts)), ap Answer.Updated r.0)
+front_updated old new ts u (Answer.Refused (Memory n)) r = (r.2, (r.0, r.1))
+front_updated old new ts u (Answer.Refused NoSuchAddress) r = absurd r
+front_updated old new ts u (Answer.Refused NoSuchBook) r = absurd r
+front_updated old new ts u (Answer.Refused BadHandle) r = absurd r
+front_updated old new ts u (Answer.Described n) r = absurd r
+front_updated old new ts u (Answer.Registered found) r = absurd r
+front_updated old new ts u (Answer.Snapshot found) r = absurd r
 
 -- what is said of the plain answer, at what it is
 meets-same : (p q : Answer) (P Q : ℕ → Type 0) (a : Answer) → p ≡ q → ((n : ℕ) → P n → Q n) → IsOrMeets p P a → IsOrMeets q Q a
-meets-same p q P Q (Denied (Memory n)) e f h = f n h
-meets-same p q P Q (Denied NoSuchAddress) e f h = h ∙ e
-meets-same p q P Q (Denied NoSuchBook) e f h = h ∙ e
-meets-same p q P Q (Denied BadHandle) e f h = h ∙ e
-meets-same p q P Q (Described n) e f h = h ∙ e
-meets-same p q P Q (Registered found) e f h = h ∙ e
-meets-same p q P Q (Updated n) e f h = h ∙ e
-meets-same p q P Q (Snapshot found) e f h = h ∙ e
+meets-same p q P Q (Answer.Refused (Memory n)) e f h = f n h
+meets-same p q P Q (Answer.Refused NoSuchAddress) e f h = h ∙ e
+meets-same p q P Q (Answer.Refused NoSuchBook) e f h = h ∙ e
+meets-same p q P Q (Answer.Refused BadHandle) e f h = h ∙ e
+meets-same p q P Q (Answer.Described n) e f h = h ∙ e
+meets-same p q P Q (Answer.Registered found) e f h = h ∙ e
+meets-same p q P Q (Answer.Updated n) e f h = h ∙ e
+meets-same p q P Q (Answer.Snapshot found) e f h = h ∙ e
 
-bad_plain : (plain a : Answer) (P : ℕ → Type 0) → a ≡ Denied BadHandle → plain ≡ Denied BadHandle → IsOrMeets plain P a
+bad_plain : (plain a : Answer) (P : ℕ → Type 0) → a ≡ Answer.Refused BadHandle → plain ≡ Answer.Refused BadHandle → IsOrMeets plain P a
 bad_plain plain a P e g = subst (IsOrMeets plain P) (sym e) (sym g)
 
 -- the events of an update, by the register call that it names
 abbrev UpdateKept : Type 0 → Meaning → Meaning → Log → ℕ → Update → Answer → Option Registration → Type 0
 UpdateKept New old new log n u a o =
-    Kept New old.targets (log ++ (Change n u, a) ∷ []) new.contents × (New → IsOrMeets (plain_update old.targets u o) (λ m. UpdateMayMeet old.targets u m o) a)
+    Kept New old.targets (log ++ (Call.Update n u, a) ∷ []) new.contents × (New → IsOrMeets (plain_update old.targets u o) (λ m. UpdateMayMeet old.targets u m o) a)
 
-bad_kept : {New : Type 0} (old new : Meaning) (log : Log) (n : ℕ) (u : Update) (a : Answer) (o : Option Registration) → registration n log ≡ o → Kept New old.targets log old.contents → IsBadHandle old new a → plain_update old.targets u o ≡ Denied BadHandle →
+bad_kept : {New : Type 0} (old new : Meaning) (log : Log) (n : ℕ) (u : Update) (a : Answer) (o : Option Registration) → registration n log ≡ o → Kept New old.targets log old.contents → IsBadHandle old new a → plain_update old.targets u o ≡ Answer.Refused BadHandle →
     UpdateKept New old new log n u a o
 bad_kept {New = New} old new log n u a o e h r p = (
-  subst (λ cs. Kept New old.targets (log ++ (Change n u, a) ∷ []) cs) (sym r.1)
-      (kept_same old.targets log (Change n u, a) old.contents (λ b. ap (λ x. updates_by old.targets b u x (registration n log)) r.0 ∙ none b (registration n log)) tt h),
+  subst (λ cs. Kept New old.targets (log ++ (Call.Update n u, a) ∷ []) cs) (sym r.1)
+      (kept_same old.targets log (Call.Update n u, a) old.contents (λ b. ap (λ x. updates_by old.targets b u x (registration n log)) r.0 ∙ none b (registration n log)) tt h),
   λ w. bad_plain (plain_update old.targets u o) a (λ m. UpdateMayMeet old.targets u m o) r.0 p,
 )
   where
-    none : (b : ℕ) (q : Option Registration) → updates_by old.targets b u (Denied BadHandle) q ≡ []
+    none : (b : ℕ) (q : Option Registration) → updates_by old.targets b u (Answer.Refused BadHandle) q ≡ []
     none b None = refl
     none b (Some q) = refl
 
 -- a successful register call
 abbrev success : MetricKind → KeyParts → List Address → Registration
-success kind key found = record { kind = kind; key = key; answer = Registered found }
+success kind key found = record { kind = kind; key = key; answer = Answer.Registered found }
 
 given_kept : {New : Type 0} (old new : Meaning) (log : Log) (n : ℕ) (u : Update) (a : Answer) (kind : MetricKind) (key : KeyParts) (given : Answer) →
     registration n log ≡ Some (record { kind = kind; key = key; answer = given }) → Kept New old.targets log old.contents → LeadsTo old.targets old.contents kind key given →
     UpdatesCall old new (handle_given kind given) u a → UpdateKept New old new log n u a (Some (record { kind = kind; key = key; answer = given }))
-given_kept {New = New} old new log n u a kind key (Described m) e h l r = bad_kept old new log n u a _ e h r refl
-given_kept {New = New} old new log n u a kind key (Updated m) e h l r = bad_kept old new log n u a _ e h r refl
-given_kept {New = New} old new log n u a kind key (Snapshot found) e h l r = bad_kept old new log n u a _ e h r refl
-given_kept {New = New} old new log n u a kind key (Denied d) e h l r = bad_kept old new log n u a _ e h r refl
-given_kept {New = New} old new log n u a kind key (Registered found) e h l r = by_kind (kind_eq (kind_of u) kind) refl r
+given_kept {New = New} old new log n u a kind key (Answer.Described m) e h l r = bad_kept old new log n u a _ e h r refl
+given_kept {New = New} old new log n u a kind key (Answer.Updated m) e h l r = bad_kept old new log n u a _ e h r refl
+given_kept {New = New} old new log n u a kind key (Answer.Snapshot found) e h l r = bad_kept old new log n u a _ e h r refl
+given_kept {New = New} old new log n u a kind key (Answer.Refused d) e h l r = bad_kept old new log n u a _ e h r refl
+given_kept {New = New} old new log n u a kind key (Answer.Registered found) e h l r = by_kind (kind_eq (kind_of u) kind) refl r
   where
     by_kind : (b : Bool) → kind_eq (kind_of u) kind ≡ b → MatchBool b (UpdatesHeld old new (places found) u a) (IsBadHandle old new a) → UpdateKept New old new log n u a (Some (success kind key found))
-    by_kind false k r = bad_kept old new log n u a (Some (success kind key found)) e h r (ap (λ q. cond q (Updated (length (old.targets kind key.name))) (Denied BadHandle)) k)
+    by_kind false k r = bad_kept old new log n u a (Some (success kind key found)) e h r (ap (λ q. cond q (Answer.Updated (length (old.targets kind key.name))) (Answer.Refused BadHandle)) k)
     by_kind true k r =
         let reg = success kind key found in
         let ts = old.targets kind key.name in
@@ -246,18 +246,18 @@ given_kept {New = New} old new log n u a kind key (Registered found) e h l r = b
         front.0 ∙ ap (λ f. after_targets (update_in u) (take (acted a) (places f)) old.contents) here
         ∙ after_targets-places u (kind_of u) key.labels old.contents (acted a) ts old.contents (λ q b lt. refl) (old.below kind key.name) in
         let many : length (places found) ≡ length ts = length-map _ found ∙ ap length l.0 ∙ length-map _ ts in (
-          subst (λ cs. Kept New old.targets (log ++ (Change n u, a) ∷ []) cs) (sym done)
-              (kept_then old.targets log (Change n u, a) old.contents (λ name. updates (there_key name) u) (take (acted a) ts) old.below
+          subst (λ cs. Kept New old.targets (log ++ (Call.Update n u, a) ∷ []) cs) (sym done)
+              (kept_then old.targets log (Call.Update n u, a) old.contents (λ name. updates (there_key name) u) (take (acted a) ts) old.below
               (λ b. ap (updates_by old.targets b u a) e)
               (λ w b lt. reaches_updates there_key u (reached old.targets b log) (in_book b (take (acted a) ts)) (there_in_book there_key (reached old.targets b log) b (acted a) ts old.contents (h.each w b lt) there))
               (stays-update there_key u) h tt),
-          λ w. meets-same (Updated (length (places found))) (plain_update old.targets u (Some reg)) (λ m. TakesMemory u × (m ≤ length (places found))) (λ m. UpdateMayMeet old.targets u m (Some reg)) a
-              (ap Updated many ∙ ap (λ q. cond q (Updated (length ts)) (Denied BadHandle)) (sym k))
+          λ w. meets-same (Answer.Updated (length (places found))) (plain_update old.targets u (Some reg)) (λ m. TakesMemory u × (m ≤ length (places found))) (λ m. UpdateMayMeet old.targets u m (Some reg)) a
+              (ap Answer.Updated many ∙ ap (λ q. cond q (Answer.Updated (length ts)) (Answer.Refused BadHandle)) (sym k))
               (λ m g. (k, g.0, subst (λ i. m ≤ i) many g.1)) front.1,
         )
 
 update_kept : {New : Type 0} (old new : Meaning) (log : Log) (n : ℕ) (u : Update) (a : Answer) → Kept New old.targets log old.contents → UpdatesCall old new (handle n log) u a →
-    Kept New old.targets (log ++ (Change n u, a) ∷ []) new.contents × (New → IsPlain old.targets (length old.contents) log (Change n u) a)
+    Kept New old.targets (log ++ (Call.Update n u, a) ∷ []) new.contents × (New → IsPlain old.targets (length old.contents) log (Call.Update n u) a)
 update_kept {New = New} old new log n u a h r =
     elim (registration n log) as (λ o. registration n log ≡ o → UpdatesCall old new (option_and_then handle_of o) u a → UpdateKept New old new log n u a o) [
       | None ↦ λ e r. bad_kept old new log n u a None e h r refl
@@ -291,10 +291,10 @@ no_lead old c quiet a cs = subst (λ o. AllLead old.targets cs (cons_option o []
 
 -- a refused snapshot reaches no book
 unseen : {New : Type 0} (old : Meaning) (log : Log) (b : ℕ) (reset : Reset) (c : Call) → TakesSnapshot b reset c → (e : Refusal) →
-    Kept New old.targets log old.contents → Kept New old.targets (log ++ (c, Denied e) ∷ []) old.contents
+    Kept New old.targets log old.contents → Kept New old.targets (log ++ (c, Answer.Refused e) ∷ []) old.contents
 unseen old log b reset c takes e h =
-    kept_same old.targets log (c, Denied e) old.contents (λ k. takes.reaches old.targets log k (Denied e) ∙ none_bool (nat_eq b k))
-    (no_lead old c takes.quiet (Denied e) old.contents) h
+    kept_same old.targets log (c, Answer.Refused e) old.contents (λ k. takes.reaches old.targets log k (Answer.Refused e) ∙ none_bool (nat_eq b k))
+    (no_lead old c takes.quiet (Answer.Refused e) old.contents) h
 
 abbrev SnapshotKept : Type 0 → Meaning → Meaning → Log → ℕ → Call → Answer → Type 0
 SnapshotKept New old new log b c a =
@@ -303,36 +303,36 @@ SnapshotKept New old new log b c a =
 
 snapshot_kept : {New : Type 0} (old new : Meaning) (log : Log) (b : ℕ) (reset : Reset) (c : Call) → TakesSnapshot b reset c → (a : Answer) →
     Kept New old.targets log old.contents → SnapshotsCall old new b reset a → SnapshotKept New old new log b c a
-snapshot_kept {New = New} old new log b reset c takes (Snapshot found) h r = (
-  subst (λ cs. Kept New old.targets (log ++ (c, Snapshot found) ∷ []) cs) (sym r.2)
-      (kept_then old.targets log (c, Snapshot found) old.contents (λ (x : Prim.Unit {0}). snapshots reset) ((b, tt) ∷ []) old.below
-      (λ k. takes.reaches old.targets log k (Snapshot found) ∙ take_bool reset (nat_eq b k))
+snapshot_kept {New = New} old new log b reset c takes (Answer.Snapshot found) h r = (
+  subst (λ cs. Kept New old.targets (log ++ (c, Answer.Snapshot found) ∷ []) cs) (sym r.2)
+      (kept_then old.targets log (c, Answer.Snapshot found) old.contents (λ (x : Prim.Unit {0}). snapshots reset) ((b, tt) ∷ []) old.below
+      (λ k. takes.reaches old.targets log k (Answer.Snapshot found) ∙ take_bool reset (nat_eq b k))
       (λ w k lt. reaches_snapshots reset (reached old.targets k log) (in_book k ((b, tt) ∷ []))) (stays-reset reset) h
-      (no_lead old c takes.quiet (Snapshot found) (after_targets (λ (x : Prim.Unit {0}). reset_in reset) ((b, tt) ∷ []) old.contents))),
-  λ w. ap Snapshot (r.1 ∙ ap rows (h.each w b r.0)) ∙ ap (λ q. cond q (Snapshot (rows (content_after (reached old.targets b log)))) (Denied NoSuchBook)) (sym (lt-ltb b (length old.contents) r.0)),
+      (no_lead old c takes.quiet (Answer.Snapshot found) (after_targets (λ (x : Prim.Unit {0}). reset_in reset) ((b, tt) ∷ []) old.contents))),
+  λ w. ap Answer.Snapshot (r.1 ∙ ap rows (h.each w b r.0)) ∙ ap (λ q. cond q (Answer.Snapshot (rows (content_after (reached old.targets b log)))) (Answer.Refused NoSuchBook)) (sym (lt-ltb b (length old.contents) r.0)),
 )
-snapshot_kept {New = New} old new log b reset c takes (Denied (Memory n)) h r = (
-  subst (λ cs. Kept New old.targets (log ++ (c, Denied (Memory n)) ∷ []) cs) (sym r.2) (unseen old log b reset c takes (Memory n) h),
+snapshot_kept {New = New} old new log b reset c takes (Answer.Refused (Memory n)) h r = (
+  subst (λ cs. Kept New old.targets (log ++ (c, Answer.Refused (Memory n)) ∷ []) cs) (sym r.2) (unseen old log b reset c takes (Memory n) h),
   λ w. (r.0, r.1),
 )
-snapshot_kept {New = New} old new log b reset c takes (Denied NoSuchBook) h r =
+snapshot_kept {New = New} old new log b reset c takes (Answer.Refused NoSuchBook) h r =
     let past : nat_lt b (length old.contents) ≡ false = not_below b (length old.contents) r.0 in (
-      subst (λ cs. Kept New old.targets (log ++ (c, Denied NoSuchBook) ∷ []) cs) (sym r.1) (unseen old log b reset c takes NoSuchBook h),
-      λ w. ap (λ q. cond q (Snapshot (rows (content_after (reached old.targets b log)))) (Denied NoSuchBook)) (sym past),
+      subst (λ cs. Kept New old.targets (log ++ (c, Answer.Refused NoSuchBook) ∷ []) cs) (sym r.1) (unseen old log b reset c takes NoSuchBook h),
+      λ w. ap (λ q. cond q (Answer.Snapshot (rows (content_after (reached old.targets b log)))) (Answer.Refused NoSuchBook)) (sym past),
     )
   where
     not_below : (a k : ℕ) → k ≤ a → nat_lt a k ≡ false
     not_below a k le = grind (arith, nat_tests)
-snapshot_kept old new log b reset c takes (Denied NoSuchAddress) h r = absurd r
-snapshot_kept old new log b reset c takes (Denied BadHandle) h r = absurd r
-snapshot_kept old new log b reset c takes (Described n) h r = absurd r
-snapshot_kept old new log b reset c takes (Registered found) h r = absurd r
-snapshot_kept old new log b reset c takes (Updated n) h r = absurd r
+snapshot_kept old new log b reset c takes (Answer.Refused NoSuchAddress) h r = absurd r
+snapshot_kept old new log b reset c takes (Answer.Refused BadHandle) h r = absurd r
+snapshot_kept old new log b reset c takes (Answer.Described n) h r = absurd r
+snapshot_kept old new log b reset c takes (Answer.Registered found) h r = absurd r
+snapshot_kept old new log b reset c takes (Answer.Updated n) h r = absurd r
 
-takes_all : (b : ℕ) → TakesSnapshot b All (Take b)
+takes_all : (b : ℕ) → TakesSnapshot b All (Call.Snapshot b)
 takes_all b = record { reaches = λ targets before k a. refl; quiet = λ a. refl }
 
-takes_some : (b : ℕ) (reset : Reset) → TakesSnapshot b reset (TakeWith b reset)
+takes_some : (b : ℕ) (reset : Reset) → TakesSnapshot b reset (Call.SnapshotWith b reset)
 takes_some b reset = record { reaches = λ targets before k a. refl; quiet = λ a. refl }
 
 -- ---- each call
@@ -340,42 +340,42 @@ takes_some b reset = record { reaches = λ targets before k a. refl; quiet = λ 
 -- THE CALL: it keeps what the definitions say, and is answered plainly
 pub call_kept : {New : Type 0} (old new : Meaning) (log : Log) (c : Call) (a : Answer) → Kept New old.targets log old.contents → Answers old new (handle_named c log) c a →
     Kept New old.targets (log ++ (c, a) ∷ []) new.contents × (New → IsPlain old.targets (length old.contents) log c a)
-call_kept old new log (Describe kind name unit text) a h r = describe_kept old new log kind name unit text a h r
-call_kept old new log (Register kind key) a h r = register_kept old new log kind key a h r
-call_kept old new log (Change n u) a h r = update_kept old new log n u a h r
-call_kept old new log (Take b) a h r = snapshot_kept old new log b All (Take b) (takes_all b) a h r
-call_kept old new log (TakeWith b reset) a h r = snapshot_kept old new log b reset (TakeWith b reset) (takes_some b reset) a h r
+call_kept old new log (Call.Describe kind name unit text) a h r = describe_kept old new log kind name unit text a h r
+call_kept old new log (Call.Register kind key) a h r = register_kept old new log kind key a h r
+call_kept old new log (Call.Update n u) a h r = update_kept old new log n u a h r
+call_kept old new log (Call.Snapshot b) a h r = snapshot_kept old new log b All (Call.Snapshot b) (takes_all b) a h r
+call_kept old new log (Call.SnapshotWith b reset) a h r = snapshot_kept old new log b reset (Call.SnapshotWith b reset) (takes_some b reset) a h r
 
 length_taken : (old new : Meaning) (b : ℕ) (reset : Reset) (a : Answer) → SnapshotsCall old new b reset a → length new.contents ≡ length old.contents
-length_taken old new b reset (Snapshot found) r = ap length r.2 ∙ length-change_at b (reset_in reset) old.contents
-length_taken old new b reset (Denied (Memory n)) r = ap length r.2
-length_taken old new b reset (Denied NoSuchBook) r = ap length r.1
-length_taken old new b reset (Denied NoSuchAddress) r = absurd r
-length_taken old new b reset (Denied BadHandle) r = absurd r
-length_taken old new b reset (Described n) r = absurd r
-length_taken old new b reset (Registered found) r = absurd r
-length_taken old new b reset (Updated n) r = absurd r
+length_taken old new b reset (Answer.Snapshot found) r = ap length r.2 ∙ length-change_at b (reset_in reset) old.contents
+length_taken old new b reset (Answer.Refused (Memory n)) r = ap length r.2
+length_taken old new b reset (Answer.Refused NoSuchBook) r = ap length r.1
+length_taken old new b reset (Answer.Refused NoSuchAddress) r = absurd r
+length_taken old new b reset (Answer.Refused BadHandle) r = absurd r
+length_taken old new b reset (Answer.Described n) r = absurd r
+length_taken old new b reset (Answer.Registered found) r = absurd r
+length_taken old new b reset (Answer.Updated n) r = absurd r
 
 -- no call changes the number of books
 pub length_answers : (old new : Meaning) (o : Option Handle) (c : Call) (a : Answer) → Answers old new o c a → length new.contents ≡ length old.contents
-length_answers old new o (Describe kind name unit text) a r =
+length_answers old new o (Call.Describe kind name unit text) a r =
     ap length (front_described old new kind name unit text a r).0 ∙ length-after_targets (describe_in kind unit text) (take (acted a) (old.targets kind name)) old.contents
-length_answers old new o (Register kind key) (Registered found) r = ap length r.1 ∙ length-after_targets (λ n. register_in (key_in_book kind key.labels n)) (old.targets kind key.name) old.contents
-length_answers old new o (Register kind key) (Denied (Memory n)) r = ap length r.1 ∙ length-after_targets (λ m. register_in (key_in_book kind key.labels m)) (take n (old.targets kind key.name)) old.contents
-length_answers old new o (Register kind key) (Denied NoSuchAddress) r = absurd r
-length_answers old new o (Register kind key) (Denied NoSuchBook) r = absurd r
-length_answers old new o (Register kind key) (Denied BadHandle) r = absurd r
-length_answers old new o (Register kind key) (Described n) r = absurd r
-length_answers old new o (Register kind key) (Updated n) r = absurd r
-length_answers old new o (Register kind key) (Snapshot found) r = absurd r
-length_answers old new None (Change n u) a r = ap length r.1
-length_answers old new (Some k) (Change n u) a r = by_kind (kind_eq (kind_of u) k.0) r
+length_answers old new o (Call.Register kind key) (Answer.Registered found) r = ap length r.1 ∙ length-after_targets (λ n. register_in (key_in_book kind key.labels n)) (old.targets kind key.name) old.contents
+length_answers old new o (Call.Register kind key) (Answer.Refused (Memory n)) r = ap length r.1 ∙ length-after_targets (λ m. register_in (key_in_book kind key.labels m)) (take n (old.targets kind key.name)) old.contents
+length_answers old new o (Call.Register kind key) (Answer.Refused NoSuchAddress) r = absurd r
+length_answers old new o (Call.Register kind key) (Answer.Refused NoSuchBook) r = absurd r
+length_answers old new o (Call.Register kind key) (Answer.Refused BadHandle) r = absurd r
+length_answers old new o (Call.Register kind key) (Answer.Described n) r = absurd r
+length_answers old new o (Call.Register kind key) (Answer.Updated n) r = absurd r
+length_answers old new o (Call.Register kind key) (Answer.Snapshot found) r = absurd r
+length_answers old new None (Call.Update n u) a r = ap length r.1
+length_answers old new (Some k) (Call.Update n u) a r = by_kind (kind_eq (kind_of u) k.0) r
   where
     by_kind : (b : Bool) → MatchBool b (UpdatesHeld old new (places k.1) u a) (IsBadHandle old new a) → length new.contents ≡ length old.contents
     by_kind false r = ap length r.1
     by_kind true r = ap length (front_updated old new (places k.1) u a r).0 ∙ length-after_targets (update_in u) (take (acted a) (places k.1)) old.contents
-length_answers old new o (Take b) a r = length_taken old new b All a r
-length_answers old new o (TakeWith b reset) a r = length_taken old new b reset a r
+length_answers old new o (Call.Snapshot b) a r = length_taken old new b All a r
+length_answers old new o (Call.SnapshotWith b reset) a r = length_taken old new b reset a r
 
 -- at the start nothing has reached new books
 pub kept_none : (targets : Targets) (cs : List Content) → Kept (AreNew cs) targets [] cs
@@ -390,9 +390,9 @@ handle_held old log n h =
     ] refl
   where
     given : (kind : MetricKind) (key : KeyParts) (a : Answer) → LeadsTo old.targets old.contents kind key a → IsHeld (handle_given kind a) old.contents
-    given kind key (Registered found) l =
+    given kind key (Answer.Registered found) l =
         subst (λ xs. AllHeld kind xs old.contents) (sym l.0) (all_held kind key.labels (old.targets kind key.name) old.contents (old.below kind key.name) l.1)
-    given kind key (Described m) l = tt
-    given kind key (Updated m) l = tt
-    given kind key (Snapshot found) l = tt
-    given kind key (Denied d) l = tt
+    given kind key (Answer.Described m) l = tt
+    given kind key (Answer.Updated m) l = tt
+    given kind key (Answer.Snapshot found) l = tt
+    given kind key (Answer.Refused d) l = tt

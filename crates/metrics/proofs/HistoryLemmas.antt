@@ -12,7 +12,7 @@ use Rattle.metrics.specs.declared.debugging.Reset.{Reset}
 use Rattle.metrics.specs.declared.handles.Update.{Update}
 use Rattle.metrics.specs.declared.calls.Call.{Call}
 use Rattle.metrics.specs.declared.calls.Answer.{Answer}
-use Rattle.metrics.specs.declared.calls.Answer.TheVariants.{Described, Registered, Updated, Snapshot, Refused as Denied}
+use Rattle.metrics.specs.declared.calls.Answer.TheVariants as Answer
 use Rattle.metrics_names.specs.Names.{KeyParts, SeriesKey, kind_eq, key_eq, series_key_eq}
 use Rattle.metrics.specs.Targets.{after_targets, change_at, in_book, AllBelow}
 use Rattle.metrics.specs.TargetsLaws.{length-after_targets, length-change_at}
@@ -195,11 +195,11 @@ stays-reset reset = record { there = λ x c k h. any-reset reset k c.series ∙ 
 
 -- the addresses of a successful register call are those of its series, which are there
 abbrev pub LeadsTo : Targets → List Content → MetricKind → KeyParts → Answer → Type 0
-LeadsTo targets cs kind key (Registered found) = (found ≡ addresses kind key.labels (targets kind key.name) cs) × AllThere (key_in_book kind key.labels) (targets kind key.name) cs
-LeadsTo targets cs kind key (Described n) = Unit {0}
-LeadsTo targets cs kind key (Updated n) = Unit {0}
-LeadsTo targets cs kind key (Snapshot found) = Unit {0}
-LeadsTo targets cs kind key (Denied e) = Unit {0}
+LeadsTo targets cs kind key (Answer.Registered found) = (found ≡ addresses kind key.labels (targets kind key.name) cs) × AllThere (key_in_book kind key.labels) (targets kind key.name) cs
+LeadsTo targets cs kind key (Answer.Described n) = Unit {0}
+LeadsTo targets cs kind key (Answer.Updated n) = Unit {0}
+LeadsTo targets cs kind key (Answer.Snapshot found) = Unit {0}
+LeadsTo targets cs kind key (Answer.Refused e) = Unit {0}
 
 abbrev pub AllLead : Targets → List Content → List Registration → Type 0
 AllLead targets cs [] = Unit {0}
@@ -210,14 +210,14 @@ BelowAll targets cs = (kind : MetricKind) (name : List ℕ) → AllBelow (length
 
 leads-after_targets : {X : Type 0} (f : X → Content → Content) → Stays f → (us : List (ℕ × X)) (targets : Targets) (cs : List Content) → BelowAll targets cs → (kind : MetricKind) (key : KeyParts) (a : Answer) →
     LeadsTo targets cs kind key a → LeadsTo targets (after_targets f us cs) kind key a
-leads-after_targets f s us targets cs below kind key (Registered found) h = (
+leads-after_targets f s us targets cs below kind key (Answer.Registered found) h = (
   h.0 ∙ sym (addresses-after_targets f s kind key.labels us (targets kind key.name) cs (below kind key.name) h.1),
   there-after_targets f s (key_in_book kind key.labels) us (targets kind key.name) cs (below kind key.name) h.1,
 )
-leads-after_targets f s us targets cs below kind key (Described n) h = tt
-leads-after_targets f s us targets cs below kind key (Updated n) h = tt
-leads-after_targets f s us targets cs below kind key (Snapshot found) h = tt
-leads-after_targets f s us targets cs below kind key (Denied e) h = tt
+leads-after_targets f s us targets cs below kind key (Answer.Described n) h = tt
+leads-after_targets f s us targets cs below kind key (Answer.Updated n) h = tt
+leads-after_targets f s us targets cs below kind key (Answer.Snapshot found) h = tt
+leads-after_targets f s us targets cs below kind key (Answer.Refused e) h = tt
 
 all_lead-after_targets : {X : Type 0} (f : X → Content → Content) → Stays f → (us : List (ℕ × X)) (targets : Targets) (cs : List Content) → BelowAll targets cs → (rs : List Registration) →
     AllLead targets cs rs → AllLead targets (after_targets f us cs) rs

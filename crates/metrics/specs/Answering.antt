@@ -10,9 +10,9 @@ use Rattle.metrics.specs.declared.handles.Address.{Address}
 use Rattle.metrics_names.specs.declared.refused.Refused.{Refused}
 use Rattle.metrics_names.specs.declared.refused.Refused.TheVariants.{Memory, NoSuchAddress, NoSuchBook, BadHandle}
 use Rattle.metrics.specs.declared.calls.Call.{Call}
-use Rattle.metrics.specs.declared.calls.Call.TheVariants.{Describe, Register, Update as Change, Snapshot as Take, SnapshotWith as TakeWith}
+use Rattle.metrics.specs.declared.calls.Call.TheVariants as Call
 use Rattle.metrics.specs.declared.calls.Answer.{Answer}
-use Rattle.metrics.specs.declared.calls.Answer.TheVariants.{Described, Registered, Updated, Snapshot, Refused as Denied}
+use Rattle.metrics.specs.declared.calls.Answer.TheVariants as Answer
 use Rattle.metrics_names.specs.Refusals.{IfMemory}
 use Rattle.metrics_names.specs.Names.{KeyParts, kind_eq}
 use Rattle.metrics.specs.Targets.{after_targets}
@@ -25,7 +25,7 @@ abbrev pub Handle : Type 0
 Handle = MetricKind × List Address
 
 abbrev pub handle_given : MetricKind → Answer → Option Handle
-handle_given kind (Registered found) = Some (kind, found)
+handle_given kind (Answer.Registered found) = Some (kind, found)
 handle_given kind a = None
 
 abbrev pub handle_of : Registration → Option Handle
@@ -37,7 +37,7 @@ handle n log = option_and_then handle_of (registration n log)
 
 -- the handle that a call names
 abbrev pub handle_named : Call → Log → Option Handle
-handle_named (Change n u) log = handle n log
+handle_named (Call.Update n u) log = handle n log
 handle_named c log = None
 
 -- whether a series of the kind stands at each address
@@ -58,13 +58,13 @@ abbrev pub places : List Address → List (ℕ × ℕ)
 places found = map (λ a. (a.book, a.series)) found
 
 abbrev pub DescribesCall : Meaning → Meaning → MetricKind → List ℕ → Option Measure → List ℕ → Answer → Type 0
-DescribesCall old new kind name unit text (Described n) = Describes old new kind name unit text (Ok n)
-DescribesCall old new kind name unit text (Denied e) = Describes old new kind name unit text (Err e)
+DescribesCall old new kind name unit text (Answer.Described n) = Describes old new kind name unit text (Ok n)
+DescribesCall old new kind name unit text (Answer.Refused e) = Describes old new kind name unit text (Err e)
 DescribesCall old new kind name unit text a = ⊥
 
 abbrev pub RegistersCall : Meaning → Meaning → MetricKind → KeyParts → Answer → Type 0
-RegistersCall old new kind key (Registered found) = Registers old new kind key (Ok found)
-RegistersCall old new kind key (Denied e) = Registers old new kind key (Err e)
+RegistersCall old new kind key (Answer.Registered found) = Registers old new kind key (Ok found)
+RegistersCall old new kind key (Answer.Refused e) = Registers old new kind key (Err e)
 RegistersCall old new kind key a = ⊥
 
 -- an update of each place in order; only samples meet a want of memory
@@ -80,27 +80,27 @@ UpdatesHandle old new found u (Err NoSuchAddress) = (holds_all (kind_of u) found
 UpdatesHandle old new found u (Err e) = ⊥
 
 abbrev pub UpdatesHeld : Meaning → Meaning → List (ℕ × ℕ) → Update → Answer → Type 0
-UpdatesHeld old new ts u (Updated n) = UpdatesAll old new ts u (Ok n)
-UpdatesHeld old new ts u (Denied e) = UpdatesAll old new ts u (Err e)
+UpdatesHeld old new ts u (Answer.Updated n) = UpdatesAll old new ts u (Ok n)
+UpdatesHeld old new ts u (Answer.Refused e) = UpdatesAll old new ts u (Err e)
 UpdatesHeld old new ts u a = ⊥
 
 -- a call that is answered as a bad handle changes nothing
 abbrev pub IsBadHandle : Meaning → Meaning → Answer → Type 0
-IsBadHandle old new a = (a ≡ Denied BadHandle) × (new.contents ≡ old.contents)
+IsBadHandle old new a = (a ≡ Answer.Refused BadHandle) × (new.contents ≡ old.contents)
 
 abbrev pub UpdatesCall : Meaning → Meaning → Option Handle → Update → Answer → Type 0
 UpdatesCall old new None u a = IsBadHandle old new a
 UpdatesCall old new (Some h) u a = MatchBool (kind_eq (kind_of u) h.0) (UpdatesHeld old new (places h.1) u a) (IsBadHandle old new a)
 
 abbrev pub SnapshotsCall : Meaning → Meaning → ℕ → Reset → Answer → Type 0
-SnapshotsCall old new b reset (Snapshot found) = Snapshots old new b reset (Ok found)
-SnapshotsCall old new b reset (Denied e) = Snapshots old new b reset (Err e)
+SnapshotsCall old new b reset (Answer.Snapshot found) = Snapshots old new b reset (Ok found)
+SnapshotsCall old new b reset (Answer.Refused e) = Snapshots old new b reset (Err e)
 SnapshotsCall old new b reset a = ⊥
 
 -- what one call does and answers, given the handle that it names
 abbrev pub Answers : Meaning → Meaning → Option Handle → Call → Answer → Type 0
-Answers old new h (Describe kind name unit text) a = DescribesCall old new kind name unit text a
-Answers old new h (Register kind key) a = RegistersCall old new kind key a
-Answers old new h (Change n u) a = UpdatesCall old new h u a
-Answers old new h (Take b) a = SnapshotsCall old new b All a
-Answers old new h (TakeWith b reset) a = SnapshotsCall old new b reset a
+Answers old new h (Call.Describe kind name unit text) a = DescribesCall old new kind name unit text a
+Answers old new h (Call.Register kind key) a = RegistersCall old new kind key a
+Answers old new h (Call.Update n u) a = UpdatesCall old new h u a
+Answers old new h (Call.Snapshot b) a = SnapshotsCall old new b All a
+Answers old new h (Call.SnapshotWith b reset) a = SnapshotsCall old new b reset a

@@ -9,9 +9,9 @@ use Rattle.metrics.specs.declared.handles.Update.{Update}
 use Rattle.metrics.specs.declared.handles.Address.{Address}
 use Rattle.metrics_names.specs.declared.refused.Refused.TheVariants.{Memory, NoSuchAddress, NoSuchBook, BadHandle}
 use Rattle.metrics.specs.declared.calls.Call.{Call}
-use Rattle.metrics.specs.declared.calls.Call.TheVariants.{Describe, Register, Update as Change, Snapshot as Take, SnapshotWith as TakeWith}
+use Rattle.metrics.specs.declared.calls.Call.TheVariants as Call
 use Rattle.metrics.specs.declared.calls.Answer.{Answer}
-use Rattle.metrics.specs.declared.calls.Answer.TheVariants.{Described, Registered, Updated, Snapshot, Refused as Denied}
+use Rattle.metrics.specs.declared.calls.Answer.TheVariants as Answer
 use Rattle.metrics_names.specs.Names.{KeyParts, SeriesKey, kind_eq, series_key_eq}
 use Rattle.metrics.specs.Targets.{in_book}
 use Rattle.metrics.specs.Book.{Content, Series, Description, kind_of, new_value, value_from, rows, resets}
@@ -24,10 +24,10 @@ Log = List (Call × Answer)
 
 -- on how many targets a call has acted, by its answer
 abbrev pub acted : Answer → ℕ
-acted (Described n) = n
-acted (Registered found) = length found
-acted (Updated n) = n
-acted (Denied (Memory n)) = n
+acted (Answer.Described n) = n
+acted (Answer.Registered found) = length found
+acted (Answer.Updated n) = n
+acted (Answer.Refused (Memory n)) = n
 acted a = 0
 
 -- ---- the register calls, by their numbers
@@ -39,7 +39,7 @@ pub record Registration : Type 0 where
   pub answer : Answer
 
 abbrev pub registration_of : Call × Answer → Option Registration
-registration_of (Register kind key, a) = Some (record { kind = kind; key = key; answer = a })
+registration_of (Call.Register kind key, a) = Some (record { kind = kind; key = key; answer = a })
 registration_of e = None
 
 -- the register call of a number, the refused ones counted too
@@ -66,16 +66,16 @@ updates_by targets b u a (Some r) = map (λ n. updates (key_in_book (kind_of u) 
 
 -- a snapshot that was not refused
 abbrev pub snapshots_by : Reset → Answer → List Event
-snapshots_by reset (Snapshot found) = snapshots reset ∷ []
+snapshots_by reset (Answer.Snapshot found) = snapshots reset ∷ []
 snapshots_by reset a = []
 
 -- what of one call reached a book
 abbrev pub reached_by : Targets → Log → ℕ → Call × Answer → List Event
-reached_by targets before b (Describe kind name unit text, a) = map (describes kind unit text) (names_in_book b a (targets kind name))
-reached_by targets before b (Register kind key, a) = map (λ n. registers (key_in_book kind key.labels n)) (names_in_book b a (targets kind key.name))
-reached_by targets before b (Change n u, a) = updates_by targets b u a (registration n before)
-reached_by targets before b (Take k, a) = cond (nat_eq k b) (snapshots_by All a) []
-reached_by targets before b (TakeWith k reset, a) = cond (nat_eq k b) (snapshots_by reset a) []
+reached_by targets before b (Call.Describe kind name unit text, a) = map (describes kind unit text) (names_in_book b a (targets kind name))
+reached_by targets before b (Call.Register kind key, a) = map (λ n. registers (key_in_book kind key.labels n)) (names_in_book b a (targets kind key.name))
+reached_by targets before b (Call.Update n u, a) = updates_by targets b u a (registration n before)
+reached_by targets before b (Call.Snapshot k, a) = cond (nat_eq k b) (snapshots_by All a) []
+reached_by targets before b (Call.SnapshotWith k reset, a) = cond (nat_eq k b) (snapshots_by reset a) []
 
 abbrev pub reached_from : Targets → Log → ℕ → Log → List Event
 reached_from targets before b [] = []
@@ -149,7 +149,7 @@ plain_address targets before kind key t =
     record { book = t.0; series = position_or_len (series_key_eq (key_in_book kind key.labels t.1)) (series_after (reached targets t.0 before)) }
 
 abbrev pub is_registered : Answer → Bool
-is_registered (Registered found) = true
+is_registered (Answer.Registered found) = true
 is_registered a = false
 
 -- an earlier successful register call of the update's kind
@@ -157,19 +157,19 @@ abbrev pub is_handle : Update → Registration → Bool
 is_handle u r = is_registered r.answer && kind_eq (kind_of u) r.kind
 
 abbrev pub plain_update : Targets → Update → Option Registration → Answer
-plain_update targets u None = Denied BadHandle
-plain_update targets u (Some r) = cond (is_handle u r) (Updated (length (targets r.kind r.key.name))) (Denied BadHandle)
+plain_update targets u None = Answer.Refused BadHandle
+plain_update targets u (Some r) = cond (is_handle u r) (Answer.Updated (length (targets r.kind r.key.name))) (Answer.Refused BadHandle)
 
 abbrev pub plain_snapshot : Targets → ℕ → Log → ℕ → Answer
-plain_snapshot targets books before b = cond (nat_lt b books) (Snapshot (rows (content_after (reached targets b before)))) (Denied NoSuchBook)
+plain_snapshot targets books before b = cond (nat_lt b books) (Answer.Snapshot (rows (content_after (reached targets b before)))) (Answer.Refused NoSuchBook)
 
 -- the plain answer of a call after these calls, of a recorder with this many books
 abbrev pub plain_answer : Targets → ℕ → Log → Call → Answer
-plain_answer targets books before (Describe kind name unit text) = Described (length (targets kind name))
-plain_answer targets books before (Register kind key) = Registered (map (plain_address targets before kind key) (targets kind key.name))
-plain_answer targets books before (Change n u) = plain_update targets u (registration n before)
-plain_answer targets books before (Take b) = plain_snapshot targets books before b
-plain_answer targets books before (TakeWith b reset) = plain_snapshot targets books before b
+plain_answer targets books before (Call.Describe kind name unit text) = Answer.Described (length (targets kind name))
+plain_answer targets books before (Call.Register kind key) = Answer.Registered (map (plain_address targets before kind key) (targets kind key.name))
+plain_answer targets books before (Call.Update n u) = plain_update targets u (registration n before)
+plain_answer targets books before (Call.Snapshot b) = plain_snapshot targets books before b
+plain_answer targets books before (Call.SnapshotWith b reset) = plain_snapshot targets books before b
 
 abbrev pub UpdateMayMeet : Targets → Update → ℕ → Option Registration → Type 0
 UpdateMayMeet targets u n None = ⊥
@@ -177,22 +177,22 @@ UpdateMayMeet targets u n (Some r) = (is_handle u r ≡ true) × TakesMemory u �
 
 -- a call may meet a want of memory after a front of its targets, where its plain answer is no refusal; updates of counters and gauges never do
 abbrev pub MayMeetMemory : Targets → ℕ → Log → Call → ℕ → Type 0
-MayMeetMemory targets books before (Describe kind name unit text) n = n ≤ length (targets kind name)
-MayMeetMemory targets books before (Register kind key) n = n ≤ length (targets kind key.name)
-MayMeetMemory targets books before (Change m u) n = UpdateMayMeet targets u n (registration m before)
-MayMeetMemory targets books before (Take b) n = (b < books) × (n ≡ 0)
-MayMeetMemory targets books before (TakeWith b reset) n = (b < books) × (n ≡ 0)
+MayMeetMemory targets books before (Call.Describe kind name unit text) n = n ≤ length (targets kind name)
+MayMeetMemory targets books before (Call.Register kind key) n = n ≤ length (targets kind key.name)
+MayMeetMemory targets books before (Call.Update m u) n = UpdateMayMeet targets u n (registration m before)
+MayMeetMemory targets books before (Call.Snapshot b) n = (b < books) × (n ≡ 0)
+MayMeetMemory targets books before (Call.SnapshotWith b reset) n = (b < books) × (n ≡ 0)
 
 -- this answer, or want of memory where it may be met
 abbrev pub IsOrMeets : Answer → (ℕ → Type 0) → Answer → Type 0
-IsOrMeets plain MayMeet (Denied (Memory n)) = MayMeet n
-IsOrMeets plain MayMeet (Denied NoSuchAddress) = Denied NoSuchAddress ≡ plain
-IsOrMeets plain MayMeet (Denied NoSuchBook) = Denied NoSuchBook ≡ plain
-IsOrMeets plain MayMeet (Denied BadHandle) = Denied BadHandle ≡ plain
-IsOrMeets plain MayMeet (Described n) = Described n ≡ plain
-IsOrMeets plain MayMeet (Registered found) = Registered found ≡ plain
-IsOrMeets plain MayMeet (Updated n) = Updated n ≡ plain
-IsOrMeets plain MayMeet (Snapshot found) = Snapshot found ≡ plain
+IsOrMeets plain MayMeet (Answer.Refused (Memory n)) = MayMeet n
+IsOrMeets plain MayMeet (Answer.Refused NoSuchAddress) = Answer.Refused NoSuchAddress ≡ plain
+IsOrMeets plain MayMeet (Answer.Refused NoSuchBook) = Answer.Refused NoSuchBook ≡ plain
+IsOrMeets plain MayMeet (Answer.Refused BadHandle) = Answer.Refused BadHandle ≡ plain
+IsOrMeets plain MayMeet (Answer.Described n) = Answer.Described n ≡ plain
+IsOrMeets plain MayMeet (Answer.Registered found) = Answer.Registered found ≡ plain
+IsOrMeets plain MayMeet (Answer.Updated n) = Answer.Updated n ≡ plain
+IsOrMeets plain MayMeet (Answer.Snapshot found) = Answer.Snapshot found ≡ plain
 
 -- the plain answer, or want of memory where it may be met
 abbrev pub IsPlain : Targets → ℕ → Log → Call → Answer → Type 0

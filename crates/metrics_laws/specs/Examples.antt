@@ -10,9 +10,9 @@ use Rattle.metrics.specs.declared.handles.Update.TheVariants.{Increment, Absolut
 use Rattle.metrics.specs.declared.handles.Address.{Address}
 use Rattle.metrics_names.specs.declared.refused.Refused.TheVariants.{Memory, NoSuchBook, BadHandle}
 use Rattle.metrics.specs.declared.calls.Call.{Call}
-use Rattle.metrics.specs.declared.calls.Call.TheVariants.{Describe, Register, Update as Change, Snapshot as Take, SnapshotWith as TakeWith}
+use Rattle.metrics.specs.declared.calls.Call.TheVariants as Call
 use Rattle.metrics.specs.declared.calls.Answer.{Answer}
-use Rattle.metrics.specs.declared.calls.Answer.TheVariants.{Described, Registered, Updated, Snapshot, Refused as Denied}
+use Rattle.metrics.specs.declared.calls.Answer.TheVariants as Answer
 use Rattle.metrics_names.specs.Names.{KeyParts}
 use Rattle.metrics.specs.Book.{RowParts, new_book, rows, blocks}
 use Rattle.metrics.specs.Meaning.{Meaning, one_book}
@@ -55,19 +55,19 @@ round_labels = (codes "counter.key", codes "counter.value") ∷ []
 
 abbrev pub round : List Call
 round =
-    Register Counter (key (codes "test.counter") round_labels) ∷ Change 0 (Increment 123)
-    ∷ Register Gauge (key (codes "test.gauge.incr") []) ∷ Change 1 (Add (pos 456))
-    ∷ Register Gauge (key (codes "test.gauge.set") []) ∷ Change 2 (Set (pos 654))
-    ∷ Register Histogram (key (codes "test.histogram") []) ∷ Change 3 (Record (pos 789))
-    ∷ Take 0 ∷ []
+    Call.Register Counter (key (codes "test.counter") round_labels) ∷ Call.Update 0 (Increment 123)
+    ∷ Call.Register Gauge (key (codes "test.gauge.incr") []) ∷ Call.Update 1 (Add (pos 456))
+    ∷ Call.Register Gauge (key (codes "test.gauge.set") []) ∷ Call.Update 2 (Set (pos 654))
+    ∷ Call.Register Histogram (key (codes "test.histogram") []) ∷ Call.Update 3 (Record (pos 789))
+    ∷ Call.Snapshot 0 ∷ []
 
 abbrev pub round_answers : List Answer
 round_answers =
-    Registered (at 0 0 ∷ []) ∷ Updated 1
-    ∷ Registered (at 0 1 ∷ []) ∷ Updated 1
-    ∷ Registered (at 0 2 ∷ []) ∷ Updated 1
-    ∷ Registered (at 0 3 ∷ []) ∷ Updated 1
-    ∷ Snapshot (
+    Answer.Registered (at 0 0 ∷ []) ∷ Answer.Updated 1
+    ∷ Answer.Registered (at 0 1 ∷ []) ∷ Answer.Updated 1
+    ∷ Answer.Registered (at 0 2 ∷ []) ∷ Answer.Updated 1
+    ∷ Answer.Registered (at 0 3 ∷ []) ∷ Answer.Updated 1
+    ∷ Answer.Snapshot (
     row Counter (codes "test.counter") round_labels (CounterValue 123)
     ∷ row Gauge (codes "test.gauge.incr") [] (GaugeValue (pos 456))
     ∷ row Gauge (codes "test.gauge.set") [] (GaugeValue (pos 654))
@@ -80,47 +80,47 @@ TwoRounds = answers book (round ++ round) ≡ round_answers ++ round_answers
 
 abbrev pub DescriptionKeepsUnit : Type 0
 DescriptionKeepsUnit =
-    answers book (Describe Counter (codes "c") (Some Bytes) (codes "one") ∷ Describe Counter (codes "c") None (codes "two") ∷ Take 0 ∷ Register Counter (key (codes "c") []) ∷ Take 0 ∷ [])
-    ≡ Described 1 ∷ Described 1 ∷ Snapshot [] ∷ Registered (at 0 0 ∷ [])
-    ∷ Snapshot ((record { kind = Counter; key = key (codes "c") [] }, Some Bytes, Some (codes "two"), CounterValue 0) ∷ []) ∷ []
+    answers book (Call.Describe Counter (codes "c") (Some Bytes) (codes "one") ∷ Call.Describe Counter (codes "c") None (codes "two") ∷ Call.Snapshot 0 ∷ Call.Register Counter (key (codes "c") []) ∷ Call.Snapshot 0 ∷ [])
+    ≡ Answer.Described 1 ∷ Answer.Described 1 ∷ Answer.Snapshot [] ∷ Answer.Registered (at 0 0 ∷ [])
+    ∷ Answer.Snapshot ((record { kind = Counter; key = key (codes "c") [] }, Some Bytes, Some (codes "two"), CounterValue 0) ∷ []) ∷ []
 
 -- ---- gauges that a snapshot keeps
 
 -- a gauge, a counter and a histogram, of which a gauge is described
 abbrev pub three_kinds : List Call
 three_kinds =
-    Describe Gauge (codes "g") (Some Bytes) (codes "size")
-    ∷ Register Gauge (key (codes "g") []) ∷ Register Counter (key (codes "c") []) ∷ Register Histogram (key (codes "h") [])
-    ∷ Change 0 (Add (pos 5)) ∷ Change 1 (Increment 3) ∷ Change 2 (Record (pos 7)) ∷ []
+    Call.Describe Gauge (codes "g") (Some Bytes) (codes "size")
+    ∷ Call.Register Gauge (key (codes "g") []) ∷ Call.Register Counter (key (codes "c") []) ∷ Call.Register Histogram (key (codes "h") [])
+    ∷ Call.Update 0 (Add (pos 5)) ∷ Call.Update 1 (Increment 3) ∷ Call.Update 2 (Record (pos 7)) ∷ []
 
 -- their rows, with these values
 abbrev pub three_rows : ℤ → ℕ → List ℤ → Answer
-three_rows gauge counter samples = Snapshot (
+three_rows gauge counter samples = Answer.Snapshot (
     (record { kind = Gauge; key = key (codes "g") [] }, Some Bytes, Some (codes "size"), GaugeValue gauge)
     ∷ row Counter (codes "c") [] (CounterValue counter) ∷ row Histogram (codes "h") [] (HistogramValue samples) ∷ [])
 
 abbrev pub KeptGauges : Type 0
 KeptGauges =
-    answers book (three_kinds ++ TakeWith 0 KeepGauges ∷ Change 0 (Add (pos 2)) ∷ Change 2 (Record (pos 8)) ∷ TakeWith 0 KeepGauges
-    ∷ Take 0 ∷ Change 1 (Increment 1) ∷ TakeWith 0 KeepGauges ∷ TakeWith 0 All ∷ TakeWith 1 KeepGauges ∷ [])
-    ≡ Described 1 ∷ Registered (at 0 0 ∷ []) ∷ Registered (at 0 1 ∷ []) ∷ Registered (at 0 2 ∷ []) ∷ Updated 1 ∷ Updated 1 ∷ Updated 1
-    ∷ three_rows (pos 5) 3 (pos 7 ∷ []) ∷ Updated 1 ∷ Updated 1 ∷ three_rows (pos 7) 0 (pos 8 ∷ [])
-    ∷ three_rows (pos 7) 0 [] ∷ Updated 1 ∷ three_rows (pos 0) 1 [] ∷ three_rows (pos 0) 0 [] ∷ Denied NoSuchBook ∷ []
+    answers book (three_kinds ++ Call.SnapshotWith 0 KeepGauges ∷ Call.Update 0 (Add (pos 2)) ∷ Call.Update 2 (Record (pos 8)) ∷ Call.SnapshotWith 0 KeepGauges
+    ∷ Call.Snapshot 0 ∷ Call.Update 1 (Increment 1) ∷ Call.SnapshotWith 0 KeepGauges ∷ Call.SnapshotWith 0 All ∷ Call.SnapshotWith 1 KeepGauges ∷ [])
+    ≡ Answer.Described 1 ∷ Answer.Registered (at 0 0 ∷ []) ∷ Answer.Registered (at 0 1 ∷ []) ∷ Answer.Registered (at 0 2 ∷ []) ∷ Answer.Updated 1 ∷ Answer.Updated 1 ∷ Answer.Updated 1
+    ∷ three_rows (pos 5) 3 (pos 7 ∷ []) ∷ Answer.Updated 1 ∷ Answer.Updated 1 ∷ three_rows (pos 7) 0 (pos 8 ∷ [])
+    ∷ three_rows (pos 7) 0 [] ∷ Answer.Updated 1 ∷ three_rows (pos 0) 1 [] ∷ three_rows (pos 0) 0 [] ∷ Answer.Refused NoSuchBook ∷ []
 
 -- ---- counters wrap, gauges stop
 
 abbrev pub CountersWrap : Type 0
 CountersWrap =
-    answers book (Register Counter (key (codes "c") []) ∷ Change 0 (Increment 18446744073709551615) ∷ Change 0 (Increment 2) ∷ Take 0 ∷ Change 0 (Absolute 7) ∷ Change 0 (Absolute 5) ∷ Take 0 ∷ [])
-    ≡ Registered (at 0 0 ∷ []) ∷ Updated 1 ∷ Updated 1 ∷ Snapshot (row Counter (codes "c") [] (CounterValue 1) ∷ []) ∷ Updated 1 ∷ Updated 1
-    ∷ Snapshot (row Counter (codes "c") [] (CounterValue 7) ∷ []) ∷ []
+    answers book (Call.Register Counter (key (codes "c") []) ∷ Call.Update 0 (Increment 18446744073709551615) ∷ Call.Update 0 (Increment 2) ∷ Call.Snapshot 0 ∷ Call.Update 0 (Absolute 7) ∷ Call.Update 0 (Absolute 5) ∷ Call.Snapshot 0 ∷ [])
+    ≡ Answer.Registered (at 0 0 ∷ []) ∷ Answer.Updated 1 ∷ Answer.Updated 1 ∷ Answer.Snapshot (row Counter (codes "c") [] (CounterValue 1) ∷ []) ∷ Answer.Updated 1 ∷ Answer.Updated 1
+    ∷ Answer.Snapshot (row Counter (codes "c") [] (CounterValue 7) ∷ []) ∷ []
 
 abbrev pub GaugesStop : Type 0
 GaugesStop =
-    answers book (Register Gauge (key (codes "g") []) ∷ Change 0 (Set (pos 9223372036854775807)) ∷ Change 0 (Add (pos 1)) ∷ Take 0
-    ∷ Change 0 (Subtract (pos 1)) ∷ Change 0 (Subtract (negsuc 9223372036854775807)) ∷ Take 0 ∷ [])
-    ≡ Registered (at 0 0 ∷ []) ∷ Updated 1 ∷ Updated 1 ∷ Snapshot (row Gauge (codes "g") [] (GaugeValue (pos 9223372036854775807)) ∷ []) ∷ Updated 1 ∷ Updated 1
-    ∷ Snapshot (row Gauge (codes "g") [] (GaugeValue (pos 9223372036854775807)) ∷ []) ∷ []
+    answers book (Call.Register Gauge (key (codes "g") []) ∷ Call.Update 0 (Set (pos 9223372036854775807)) ∷ Call.Update 0 (Add (pos 1)) ∷ Call.Snapshot 0
+    ∷ Call.Update 0 (Subtract (pos 1)) ∷ Call.Update 0 (Subtract (negsuc 9223372036854775807)) ∷ Call.Snapshot 0 ∷ [])
+    ≡ Answer.Registered (at 0 0 ∷ []) ∷ Answer.Updated 1 ∷ Answer.Updated 1 ∷ Answer.Snapshot (row Gauge (codes "g") [] (GaugeValue (pos 9223372036854775807)) ∷ []) ∷ Answer.Updated 1 ∷ Answer.Updated 1
+    ∷ Answer.Snapshot (row Gauge (codes "g") [] (GaugeValue (pos 9223372036854775807)) ∷ []) ∷ []
 
 -- ---- samples in bucket order
 
@@ -134,8 +134,8 @@ BlocksOf130 = blocks (counting 130 0) ≡ pos 128 ∷ pos 129 ∷ (counting 64 6
 
 abbrev pub PlainRefusals : Type 0
 PlainRefusals =
-    answers book (Change 0 (Increment 1) ∷ Register Gauge (key (codes "g") []) ∷ Change 0 (Increment 1) ∷ Change 1 (Add (pos 1)) ∷ Take 1 ∷ [])
-    ≡ Denied BadHandle ∷ Registered (at 0 0 ∷ []) ∷ Denied BadHandle ∷ Denied BadHandle ∷ Denied NoSuchBook ∷ []
+    answers book (Call.Update 0 (Increment 1) ∷ Call.Register Gauge (key (codes "g") []) ∷ Call.Update 0 (Increment 1) ∷ Call.Update 1 (Add (pos 1)) ∷ Call.Snapshot 1 ∷ [])
+    ≡ Answer.Refused BadHandle ∷ Answer.Registered (at 0 0 ∷ []) ∷ Answer.Refused BadHandle ∷ Answer.Refused BadHandle ∷ Answer.Refused NoSuchBook ∷ []
 
 -- ---- prefixes
 
@@ -185,7 +185,7 @@ abbrev pub three : Meaning
 three = joined_all (book ∷ book ∷ book ∷ [])
 
 abbrev pub fanout_log : Log
-fanout_log = (Register Histogram (key (codes "h") []), Registered (at 0 0 ∷ at 1 0 ∷ at 2 0 ∷ [])) ∷ (Change 0 (Record (pos 5)), Denied (Memory 1)) ∷ []
+fanout_log = (Call.Register Histogram (key (codes "h") []), Answer.Registered (at 0 0 ∷ at 1 0 ∷ at 2 0 ∷ [])) ∷ (Call.Update 0 (Record (pos 5)), Answer.Refused (Memory 1)) ∷ []
 
 abbrev pub FanoutStops : Type 0
 FanoutStops =

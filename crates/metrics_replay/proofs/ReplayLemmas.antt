@@ -4,7 +4,7 @@ use Rattle.std.specs.Option.{option_map, option_and_then}
 use Rattle.std.specs.List.{filter_map}
 use Rattle.metrics_names.specs.declared.kind.MetricKind.{MetricKind}
 use Rattle.metrics.specs.declared.calls.Call.{Call}
-use Rattle.metrics.specs.declared.calls.Call.TheVariants.{Describe, Register, Update as Change, Snapshot as Take, SnapshotWith as TakeWith}
+use Rattle.metrics.specs.declared.calls.Call.TheVariants as Call
 use Rattle.metrics.specs.declared.calls.Answer.{Answer}
 use Rattle.metrics.specs.Meaning.{Meaning, Targets, KeepsTargets, AreNew}
 use Rattle.metrics.specs.History.{Registration, registration_of, registration, IsPlain, ArePlain}
@@ -48,12 +48,12 @@ registration-places (c ∷ cs) (a ∷ as') n e = by_call (λ m. registration-pla
         ∙ ap (option_and_then (registration_at (c ∷ cs) (a ∷ as'))) (sym (slice_get-suc (register_places 0 cs) n) ∙ ap (λ is. slice_get is n) (sym (places-suc 0 cs)))
 
     by_call : ((m : ℕ) → registration m (log_of cs as') ≡ option_and_then (registration_at cs as') (slice_get (register_places 0 cs) m)) → (c : Call) (n : ℕ) → registration n (log_of (c ∷ cs) (a ∷ as')) ≡ option_and_then (registration_at (c ∷ cs) (a ∷ as')) (slice_get (register_places 0 (c ∷ cs)) n)
-    by_call rest (Register kind key) zero = refl
-    by_call rest (Register kind key) (suc n) = skipped rest (Register kind key) n
-    by_call rest (Describe kind name unit text) n = skipped rest (Describe kind name unit text) n
-    by_call rest (Change m u) n = skipped rest (Change m u) n
-    by_call rest (Take b) n = skipped rest (Take b) n
-    by_call rest (TakeWith b reset) n = skipped rest (TakeWith b reset) n
+    by_call rest (Call.Register kind key) zero = refl
+    by_call rest (Call.Register kind key) (suc n) = skipped rest (Call.Register kind key) n
+    by_call rest (Call.Describe kind name unit text) n = skipped rest (Call.Describe kind name unit text) n
+    by_call rest (Call.Update m u) n = skipped rest (Call.Update m u) n
+    by_call rest (Call.Snapshot b) n = skipped rest (Call.Snapshot b) n
+    by_call rest (Call.SnapshotWith b reset) n = skipped rest (Call.SnapshotWith b reset) n
 
 slice_get-at : {A : Type 0} (xs : List A) (i : ℕ) (x : A) → i < length xs → x ≡ get_or xs i x → slice_get xs i ≡ Some x
 slice_get-at [] i x lt e = absurd (omega arith)
@@ -108,22 +108,22 @@ pub handle-other : (cs : List Call) (as' : List Answer) (is : List ℕ) (n i : �
 handle-other cs as' is n i c a l e lt at li ce ae k = handle_at cs as' is n i c a l e lt at li ce ae ∙ none c k
   where
     none : (c : Call) → register_kind c ≡ None → option_and_then handle_of (registration_of (c, a)) ≡ None
-    none (Register kind key) k = absurd (cc)
-    none (Describe kind name unit text) k = refl
-    none (Change m u) k = refl
-    none (Take b) k = refl
-    none (TakeWith b reset) k = refl
+    none (Call.Register kind key) k = absurd (cc)
+    none (Call.Describe kind name unit text) k = refl
+    none (Call.Update m u) k = refl
+    none (Call.Snapshot b) k = refl
+    none (Call.SnapshotWith b reset) k = refl
 
 pub handle-given : (cs : List Call) (as' : List Answer) (is : List ℕ) (n i : ℕ) (c : Call) (a : Answer) (kind : MetricKind) → length cs ≡ length as' → is ≡ register_places 0 cs → n < length is → i ≡ get_or is n i →
     i < length cs → c ≡ get_or cs i c → a ≡ get_or as' i a → register_kind c ≡ Some kind → handle n (log_of cs as') ≡ handle_given kind a
 handle-given cs as' is n i c a kind l e lt at li ce ae k = handle_at cs as' is n i c a l e lt at li ce ae ∙ given c k
   where
     given : (c : Call) → register_kind c ≡ Some kind → option_and_then handle_of (registration_of (c, a)) ≡ handle_given kind a
-    given (Register j key) k = let same : j ≡ kind = cc in ap (λ x. handle_given x a) same
-    given (Describe j name unit text) k = absurd (cc)
-    given (Change m u) k = absurd (cc)
-    given (Take b) k = absurd (cc)
-    given (TakeWith b reset) k = absurd (cc)
+    given (Call.Register j key) k = let same : j ≡ kind = cc in ap (λ x. handle_given x a) same
+    given (Call.Describe j name unit text) k = absurd (cc)
+    given (Call.Update m u) k = absurd (cc)
+    given (Call.Snapshot b) k = absurd (cc)
+    given (Call.SnapshotWith b reset) k = absurd (cc)
 
 -- ---- the calls
 
@@ -157,11 +157,11 @@ kept_now first old calls answers h = subst (λ (t : Targets). Kept (AreNew first
 
 -- the handle that a call names is held
 pub named_held : (first old : Meaning) (calls : List Call) (answers : List Answer) (c : Call) → Replayed first old calls answers → IsHeld (handle_named c (log_of calls answers)) old.contents
-named_held first old calls answers (Change n u) h = handle_held old (log_of calls answers) n (kept_now first old calls answers h)
-named_held first old calls answers (Describe kind name unit text) h = tt
-named_held first old calls answers (Register kind key) h = tt
-named_held first old calls answers (Take b) h = tt
-named_held first old calls answers (TakeWith b reset) h = tt
+named_held first old calls answers (Call.Update n u) h = handle_held old (log_of calls answers) n (kept_now first old calls answers h)
+named_held first old calls answers (Call.Describe kind name unit text) h = tt
+named_held first old calls answers (Call.Register kind key) h = tt
+named_held first old calls answers (Call.Snapshot b) h = tt
+named_held first old calls answers (Call.SnapshotWith b reset) h = tt
 
 pub replayed_more : (first old new : Meaning) (calls : List Call) (answers : List Answer) (c : Call) (a : Answer) → Replayed first old calls answers → KeepsTargets old new →
     Answers old new (handle_named c (log_of calls answers)) c a → Replayed first new (calls ++ c ∷ []) (answers ++ a ∷ [])

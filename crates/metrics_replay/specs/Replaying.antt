@@ -4,7 +4,7 @@ use Rattle.std.specs.Borrow.{Bor}
 use Rattle.metrics_names.specs.declared.kind.MetricKind.{MetricKind}
 use Rattle.metrics.specs.declared.handles.Address.{Address}
 use Rattle.metrics.specs.declared.calls.Call.{Call}
-use Rattle.metrics.specs.declared.calls.Call.TheVariants.{Describe, Register, Update as Change, Snapshot as Take, SnapshotWith as TakeWith}
+use Rattle.metrics.specs.declared.calls.Call.TheVariants as Call
 use Rattle.metrics.specs.declared.calls.Answer.{Answer}
 use Rattle.metrics.specs.History.{Log}
 use Rattle.metrics.specs.Answering.{Handle}
@@ -20,11 +20,11 @@ log_of (c ∷ cs) [] = []
 log_of (c ∷ cs) (a ∷ as') = (c, a) ∷ log_of cs as'
 
 abbrev pub register_kind : Call → Option MetricKind
-register_kind (Register kind key) = Some kind
-register_kind (Describe kind name unit text) = None
-register_kind (Change n u) = None
-register_kind (Take b) = None
-register_kind (TakeWith b reset) = None
+register_kind (Call.Register kind key) = Some kind
+register_kind (Call.Describe kind name unit text) = None
+register_kind (Call.Update n u) = None
+register_kind (Call.Snapshot b) = None
+register_kind (Call.SnapshotWith b reset) = None
 
 abbrev pub place_in_front : Option MetricKind → ℕ → List ℕ → List ℕ
 place_in_front None i is = is
