@@ -49,6 +49,7 @@ fn raise(found: &mut [Address], front: usize)
 }
 
 /// Adds the addresses of a recorder that stands behind `front` books. The first are taken over, not copied.
+#[inline(always)]
 fn append_raised(
     found: &mut Vec<Address>,
     front: usize,
@@ -66,6 +67,7 @@ fn append_raised(
 }
 
 /// Adds what a register call of a recorder behind `front` books answered to what those before it did.
+#[inline(always)]
 pub(crate) fn append_answer(
     found: &mut Vec<Address>,
     front: usize,
