@@ -1,5 +1,5 @@
 -- The content of a book, its rows, and one step of each call on it.
-use Rattle.std.specs.Prelude.{ℕ, zero, suc, ◌+◌, ◌%◌, ◌^◌, max, Bool, true, false, ◌&&◌, cond, List, [], ◌∷◌, ◌++◌, map, length, take, drop, reverse, Option, None, Some, option_map, pos, ◌+ℤ◌, ◌-ℤ◌, bytes_eq, get_or, slice_get}
+use Rattle.std.specs.Prelude.{if◌then◌else◌, ℕ, zero, suc, ◌+◌, ◌%◌, ◌^◌, max, Bool, true, false, ◌&&◌, List, [], ◌∷◌, ◌++◌, map, length, take, drop, reverse, Option, None, Some, option_map, pos, ◌+ℤ◌, ◌-ℤ◌, bytes_eq, get_or, slice_get}
 use Rattle.std.specs.Int.{saturate_signed, w64}
 use Rattle.std.specs.List.{position_or_len, list_any}
 use Rattle.std.specs.Option.{option_or}
@@ -134,7 +134,7 @@ described_again unit text d = record { unit = option_or unit d.unit; text = Some
 abbrev pub describe_in : MetricKind → Option Measure → List ℕ → List ℕ → Content → Content
 describe_in kind unit text name c = record c {
   described = λ k n.
-      cond (kind_eq kind k && bytes_eq name n) (described_again unit text (c.described k n)) (c.described k n);
+      if kind_eq kind k && bytes_eq name n then described_again unit text (c.described k n) else c.described k n;
 }
 
 abbrev pub new_series : SeriesKey → Series
@@ -142,7 +142,7 @@ new_series k = record { key = k; value = new_value k.kind }
 
 -- a register call in a book: a key is added at the end, if it isn't there
 abbrev pub register_in : SeriesKey → Content → Content
-register_in k c = record c { series = cond (list_any (is_of k) c.series) c.series (c.series ++ new_series k ∷ []) }
+register_in k c = record c { series = if list_any (is_of k) c.series then c.series else c.series ++ new_series k ∷ [] }
 
 abbrev pub with_update : Update → Series → Series
 with_update u s = record s { value = updated u s.value }
@@ -159,7 +159,7 @@ resets KeepGauges Gauge = false
 resets KeepGauges Histogram = true
 
 abbrev pub after_reset : Reset → Series → Series
-after_reset reset s = cond (resets reset s.key.kind) (new_series s.key) s
+after_reset reset s = if resets reset s.key.kind then new_series s.key else s
 
 -- what a snapshot leaves: series, order and descriptions stay
 abbrev pub reset_in : Reset → Content → Content

@@ -1,5 +1,5 @@
 -- What a list of calls with their answers means: filters over the whole list.
-use Rattle.std.specs.Prelude.{◌≡◌, ℕ, ◌<◌, ◌≤◌, Bool, true, false, ◌&&◌, cond, List, [], ◌∷◌, ◌++◌, map, length, take, Option, None, Some, nat_eq, nat_lt, bytes_eq, slice_get}
+use Rattle.std.specs.Prelude.{if◌then◌else◌, ◌≡◌, ℕ, ◌<◌, ◌≤◌, Bool, true, false, ◌&&◌, List, [], ◌∷◌, ◌++◌, map, length, take, Option, None, Some, nat_eq, nat_lt, bytes_eq, slice_get}
 use Rattle.std.specs.List.{list_any, filter_map, position_or_len}
 use Rattle.metrics_names.specs.declared.kind.MetricKind.{MetricKind}
 use Rattle.metrics_names.specs.declared.common.Unit.{Unit as Measure}
@@ -74,8 +74,8 @@ abbrev pub reached_by : Targets → Log → ℕ → Call × Answer → List Even
 reached_by targets before b (Call.Describe kind name unit text, a) = map (describes kind unit text) (names_in_book b a (targets kind name))
 reached_by targets before b (Call.Register kind key, a) = map (λ n. registers (key_in_book kind key.labels n)) (names_in_book b a (targets kind key.name))
 reached_by targets before b (Call.Update n u, a) = updates_by targets b u a (registration n before)
-reached_by targets before b (Call.Snapshot k, a) = cond (nat_eq k b) (snapshots_by All a) []
-reached_by targets before b (Call.SnapshotWith k reset, a) = cond (nat_eq k b) (snapshots_by reset a) []
+reached_by targets before b (Call.Snapshot k, a) = if nat_eq k b then snapshots_by All a else []
+reached_by targets before b (Call.SnapshotWith k reset, a) = if nat_eq k b then snapshots_by reset a else []
 
 abbrev pub reached_from : Targets → Log → ℕ → Log → List Event
 reached_from targets before b [] = []
@@ -94,7 +94,7 @@ key_of e = None
 -- the keys without those that stand earlier
 abbrev pub firsts_from : List SeriesKey → List SeriesKey → List SeriesKey
 firsts_from seen [] = []
-firsts_from seen (k ∷ ks) = cond (list_any (series_key_eq k) seen) (firsts_from seen ks) (k ∷ firsts_from (seen ++ k ∷ []) ks)
+firsts_from seen (k ∷ ks) = if list_any (series_key_eq k) seen then firsts_from seen ks else k ∷ firsts_from (seen ++ k ∷ []) ks
 
 -- the composite keys that were registered there, later doubles dropped
 abbrev pub series_after : List Event → List SeriesKey
@@ -103,7 +103,7 @@ series_after events = firsts_from [] (filter_map key_of events)
 -- ---- the description of a name
 
 abbrev pub description_of : MetricKind → List ℕ → Event → Option (Option Measure × List ℕ)
-description_of kind name (describes k unit text n) = cond (kind_eq k kind && bytes_eq n name) (Some (unit, text)) None
+description_of kind name (describes k unit text n) = if kind_eq k kind && bytes_eq n name then Some (unit, text) else None
 description_of kind name e = None
 
 -- the text of the last describe call of that kind and name, and the last unit among those of them that gave one
@@ -123,10 +123,10 @@ is_reset_of kind e = false
 abbrev pub after_snapshot : MetricKind → List Event → List Event
 after_snapshot kind [] = []
 after_snapshot kind (e ∷ events) =
-    cond (list_any (is_reset_of kind) events) (after_snapshot kind events) (cond (is_reset_of kind e) events (e ∷ events))
+    if list_any (is_reset_of kind) events then after_snapshot kind events else if is_reset_of kind e then events else e ∷ events
 
 abbrev pub update_of : SeriesKey → Event → Option Update
-update_of s (updates k u) = cond (series_key_eq k s) (Some u) None
+update_of s (updates k u) = if series_key_eq k s then Some u else None
 update_of s e = None
 
 -- the updates of a series that stand after the book's last successful snapshot that reset its kind
@@ -158,10 +158,10 @@ is_handle u r = is_registered r.answer && kind_eq (kind_of u) r.kind
 
 abbrev pub plain_update : Targets → Update → Option Registration → Answer
 plain_update targets u None = Answer.Refused BadHandle
-plain_update targets u (Some r) = cond (is_handle u r) (Answer.Updated (length (targets r.kind r.key.name))) (Answer.Refused BadHandle)
+plain_update targets u (Some r) = if is_handle u r then Answer.Updated (length (targets r.kind r.key.name)) else Answer.Refused BadHandle
 
 abbrev pub plain_snapshot : Targets → ℕ → Log → ℕ → Answer
-plain_snapshot targets books before b = cond (nat_lt b books) (Answer.Snapshot (rows (content_after (reached targets b before)))) (Answer.Refused NoSuchBook)
+plain_snapshot targets books before b = if nat_lt b books then Answer.Snapshot (rows (content_after (reached targets b before))) else Answer.Refused NoSuchBook
 
 -- the plain answer of a call after these calls, of a recorder with this many books
 abbrev pub plain_answer : Targets → ℕ → Log → Call → Answer

@@ -1,5 +1,5 @@
 -- What the layers mean: prefixed, filtered and routed targets, and books numbered after one another.
-use Rattle.std.specs.Prelude.{◌≡◌, ℕ, zero, suc, ◌/◌, ◌%◌, ◌≤◌, Bool, true, false, cond, ◌&&◌, ◌||◌, List, [], ◌∷◌, ◌++◌, length, Option, None, Some, IsTrue, Contains, nat_eq, nat_le, slice_get}
+use Rattle.std.specs.Prelude.{if◌then◌else◌, ◌≡◌, ℕ, zero, suc, ◌/◌, ◌%◌, ◌≤◌, Bool, true, false, ◌&&◌, ◌||◌, List, [], ◌∷◌, ◌++◌, length, Option, None, Some, IsTrue, Contains, nat_eq, nat_le, slice_get}
 use Rattle.std.specs.List.{starts_with, list_any}
 use Rattle.std.specs.Str.{str_to_ascii_lowercase}
 use Rattle.std.proofs.Common.{length-append}
@@ -27,7 +27,7 @@ prefixed front a = record {
 
 -- with ASCII letters lowered, where that is set; nothing else is folded
 abbrev pub folded : Bool → List ℕ → List ℕ
-folded fold name = cond fold (str_to_ascii_lowercase name) name
+folded fold name = if fold then str_to_ascii_lowercase name else name
 
 -- some a and b give text = a, pattern, b
 abbrev pub IsSubstring : List ℕ → List ℕ → Type 0
@@ -45,11 +45,11 @@ is_substring pattern (x ∷ text) = starts_with nat_eq (x ∷ text) pattern || i
 abbrev pub matches : Bool → List (List ℕ) → List ℕ → Bool
 matches fold patterns name = list_any (λ p. is_substring (folded fold p) (folded fold name)) patterns
 
-pub below_unless : (b : Bool) (k : ℕ) (ts : List (ℕ × List ℕ)) → AllBelow k ts → AllBelow k (cond b [] ts)
+pub below_unless : (b : Bool) (k : ℕ) (ts : List (ℕ × List ℕ)) → AllBelow k ts → AllBelow k (if b then [] else ts)
 below_unless true k ts h = tt
 below_unless false k ts h = h
 
-pub distinct_unless : (b : Bool) (ts : List (ℕ × List ℕ)) → AreDistinct ts → AreDistinct (cond b [] ts)
+pub distinct_unless : (b : Bool) (ts : List (ℕ × List ℕ)) → AreDistinct ts → AreDistinct (if b then [] else ts)
 distinct_unless true ts h = tt
 distinct_unless false ts h = h
 
@@ -57,7 +57,7 @@ distinct_unless false ts h = h
 abbrev pub filtered : Bool → List (List ℕ) → Meaning → Meaning
 filtered fold patterns a = record {
   contents = a.contents;
-  targets = λ kind name. cond (matches fold patterns name) [] (a.targets kind name);
+  targets = λ kind name. if matches fold patterns name then [] else a.targets kind name;
   below = λ kind name. below_unless (matches fold patterns name) (length a.contents) (a.targets kind name) (a.below kind name);
   distinct = λ kind name. distinct_unless (matches fold patterns name) (a.targets kind name) (a.distinct kind name);
 }
@@ -127,8 +127,8 @@ pub record IsWinner (routes : List Route) (kind : MetricKind) (name : List ℕ) 
 
 -- the better of the best so far and a later route
 abbrev pub better : MetricKind → List ℕ → Option Route → Route → Option Route
-better kind name None r = cond (fits kind name r) (Some r) None
-better kind name (Some best) r = cond (fits kind name r && nat_le (length best.pattern) (length r.pattern)) (Some r) (Some best)
+better kind name None r = if fits kind name r then Some r else None
+better kind name (Some best) r = if fits kind name r && nat_le (length best.pattern) (length r.pattern) then Some r else Some best
 
 abbrev pub winner_from : MetricKind → List ℕ → Option Route → List Route → Option Route
 winner_from kind name best [] = best

@@ -1,5 +1,5 @@
 -- The rows of a snapshot by their keys.
-use Rattle.std.specs.Prelude.{ℕ, cond, List, [], ◌∷◌, Option, None, Some}
+use Rattle.std.specs.Prelude.{if◌then◌else◌, ℕ, List, [], ◌∷◌, Option, None, Some}
 use Rattle.std.specs.List.{filter_map}
 use Rattle.metrics_names.specs.declared.common.Unit.{Unit as Measure}
 use Rattle.metrics.specs.declared.debugging.DebugValue.{DebugValue}
@@ -11,7 +11,7 @@ abbrev pub RowRest : Type 0
 RowRest = Option Measure × Option (List ℕ) × DebugValue
 
 abbrev pub row_at : SeriesKey → RowParts → Option RowRest
-row_at k r = cond (series_key_eq r.0 k) (Some (r.1, r.2, r.3)) None
+row_at k r = if series_key_eq r.0 k then Some (r.1, r.2, r.3) else None
 
 -- the last element of a list
 abbrev pub last : {A : Type 0} → List A → Option A

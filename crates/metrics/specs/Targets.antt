@@ -1,6 +1,6 @@
 -- Lists of targets, and what a call does to a list of contents, target by target. A target is the number of a book, and what
 -- is meant there: mostly the name that a metric has in that book.
-use Rattle.std.specs.Prelude.{ℕ, zero, suc, ◌+◌, ◌<◌, List, [], ◌∷◌, ◌≡◌, nat_eq, cond}
+use Rattle.std.specs.Prelude.{if◌then◌else◌, ℕ, zero, suc, ◌+◌, ◌<◌, List, [], ◌∷◌, ◌≡◌, nat_eq}
 
 -- the targets with their book numbers raised, for a recorder that stands behind others
 abbrev pub raise : {X : Type 0} → ℕ → List (ℕ × X) → List (ℕ × X)
@@ -21,7 +21,7 @@ after_targets f (t ∷ ts) cs = after_targets f ts (change_at t.0 (f t.1) cs)
 -- what is meant in one book
 abbrev pub in_book : {X : Type 0} → ℕ → List (ℕ × X) → List X
 in_book b [] = []
-in_book b (t ∷ ts) = cond (nat_eq t.0 b) (t.1 ∷ in_book b ts) (in_book b ts)
+in_book b (t ∷ ts) = if nat_eq t.0 b then t.1 ∷ in_book b ts else in_book b ts
 
 -- each book's number is below this one
 abbrev pub AllBelow : {X : Type 0} → ℕ → List (ℕ × X) → Type 0

@@ -1,5 +1,5 @@
 -- Laws of lists of targets and of what acts on them.
-use Rattle.std.proofs.Common.{◌≡◌, ℕ, zero, suc, ◌+◌, ◌<◌, ◌≤◌, List, [], ◌∷◌, ◌++◌, length, take, nat_eq, cond, true, false, refl, ap, sym, ◌∙◌, subst, arith, length-append, zero-add}
+use Rattle.std.proofs.Common.{if◌then◌else◌, ◌≡◌, ℕ, zero, suc, ◌+◌, ◌<◌, ◌≤◌, List, [], ◌∷◌, ◌++◌, length, take, nat_eq, true, false, refl, ap, sym, ◌∙◌, subst, arith, length-append, zero-add}
 use Rattle.std.proofs.lemmas.Bool.{eqb-true}
 use Rattle.std.proofs.lemmas.Bool.Decides.{nat_tests}
 use Rattle.metrics.specs.Targets.{raise, after_targets, change_at, AllBelow, AreDistinct, IsNot}
@@ -113,12 +113,12 @@ raise-zero (t ∷ ts) =
 -- the targets of other books than k
 abbrev without : {X : Type 0} → ℕ → List (ℕ × X) → List (ℕ × X)
 without k [] = []
-without k (t ∷ ts) = cond (nat_eq t.0 k) (without k ts) (t ∷ without k ts)
+without k (t ∷ ts) = if nat_eq t.0 k then without k ts else t ∷ without k ts
 
 without-not : {X : Type 0} (k : ℕ) (ts : List (ℕ × X)) → IsNot k ts → without k ts ≡ ts
 without-not k [] h = refl
 without-not k (t ∷ ts) h =
-    elim (nat_eq t.0 k) as (λ q. nat_eq t.0 k ≡ q → cond q (without k ts) (t ∷ without k ts) ≡ t ∷ ts) [
+    elim (nat_eq t.0 k) as (λ q. nat_eq t.0 k ≡ q → (if q then without k ts else t ∷ without k ts) ≡ t ∷ ts) [
       | true ↦ λ e. absurd (h.0 (eqb-true t.0 k e))
       | false ↦ λ e. ap (λ us. t ∷ us) (without-not k ts h.1)
     ] refl
@@ -126,7 +126,7 @@ without-not k (t ∷ ts) h =
 below-without : {X : Type 0} (k : ℕ) (ts : List (ℕ × X)) → AllBelow (suc k) ts → AllBelow k (without k ts)
 below-without k [] h = tt
 below-without k (t ∷ ts) h =
-    elim (nat_eq t.0 k) as (λ q. nat_eq t.0 k ≡ q → AllBelow k (cond q (without k ts) (t ∷ without k ts))) [
+    elim (nat_eq t.0 k) as (λ q. nat_eq t.0 k ≡ q → AllBelow k (if q then without k ts else t ∷ without k ts)) [
       | true ↦ λ e. below-without k ts h.1
       | false ↦ λ e. (less t.0 k e h.0, below-without k ts h.1)
     ] refl
@@ -137,7 +137,7 @@ below-without k (t ∷ ts) h =
 is_not-without : {X : Type 0} (b k : ℕ) (ts : List (ℕ × X)) → IsNot b ts → IsNot b (without k ts)
 is_not-without b k [] h = tt
 is_not-without b k (t ∷ ts) h =
-    elim (nat_eq t.0 k) as (λ q. IsNot b (cond q (without k ts) (t ∷ without k ts))) [
+    elim (nat_eq t.0 k) as (λ q. IsNot b (if q then without k ts else t ∷ without k ts)) [
       | true ↦ is_not-without b k ts h.1
       | false ↦ (h.0, is_not-without b k ts h.1)
     ]
@@ -145,7 +145,7 @@ is_not-without b k (t ∷ ts) h =
 distinct-without : {X : Type 0} (k : ℕ) (ts : List (ℕ × X)) → AreDistinct ts → AreDistinct (without k ts)
 distinct-without k [] h = tt
 distinct-without k (t ∷ ts) h =
-    elim (nat_eq t.0 k) as (λ q. AreDistinct (cond q (without k ts) (t ∷ without k ts))) [
+    elim (nat_eq t.0 k) as (λ q. AreDistinct (if q then without k ts else t ∷ without k ts)) [
       | true ↦ distinct-without k ts h.1
       | false ↦ (is_not-without t.0 k ts h.0, distinct-without k ts h.1)
     ]
@@ -153,7 +153,7 @@ distinct-without k (t ∷ ts) h =
 length-without : {X : Type 0} (k : ℕ) (ts : List (ℕ × X)) → AreDistinct ts → length ts ≤ suc (length (without k ts))
 length-without k [] h = omega arith
 length-without k (t ∷ ts) h =
-    elim (nat_eq t.0 k) as (λ q. nat_eq t.0 k ≡ q → length (t ∷ ts) ≤ suc (length (cond q (without k ts) (t ∷ without k ts)))) [
+    elim (nat_eq t.0 k) as (λ q. nat_eq t.0 k ≡ q → length (t ∷ ts) ≤ suc (length (if q then without k ts else t ∷ without k ts))) [
       | true ↦ λ e.
           let same : without k ts ≡ ts = without-not k ts (subst (λ b. IsNot b ts) (eqb-true t.0 k e) h.0) in
           omega (arith, ap length same)

@@ -1,5 +1,5 @@
 -- The patterns of a filter layer, and what a layer is refused for.
-use Rattle.std.specs.Prelude.{ℕ, Bool, cond, nat_lt, List, [], ◌∷◌, ◌++◌, length, Option, Some, None}
+use Rattle.std.specs.Prelude.{if◌then◌else◌, ℕ, Bool, nat_lt, List, [], ◌∷◌, ◌++◌, length, Option, Some, None}
 use Rattle.std.specs.List.{sum_by}
 use Rattle.prefix_match.specs.Substring.{Patterns, pattern_limit}
 use Rattle.metrics.specs.declared.error.Error.{Error}
@@ -16,4 +16,4 @@ with_table s table = record s { table = table }
 
 -- a filter is refused, however much memory there is, if its patterns have more bytes together than the limit
 abbrev pub fault_of : Patterns → Option Error
-fault_of s = cond (nat_lt pattern_limit (sum_by length s.listed)) (Some PatternsTooLong) None
+fault_of s = if nat_lt pattern_limit (sum_by length s.listed) then Some PatternsTooLong else None

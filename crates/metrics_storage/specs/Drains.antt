@@ -1,5 +1,5 @@
 -- What a drain of a reservoir tells.
-use Rattle.std.specs.Prelude.{◌≡◌, ℕ, cond, ℤ, List, [], ◌∷◌, length, Option, None, Some, nat_eq}
+use Rattle.std.specs.Prelude.{if◌then◌else◌, ◌≡◌, ℕ, ℤ, List, [], ◌∷◌, length, Option, None, Some, nat_eq}
 use Rattle.metrics_storage.specs.Sample.{Sampled}
 
 -- the values that are still to come, how many were held and pushed, and the sum of the pushed
@@ -14,7 +14,7 @@ drain_of s = record { left = s.held; held = length s.held; pushed = s.pushed; to
 
 -- how many of how many, and one of one where none was dropped
 abbrev pub rate_of : Drained → ℕ × ℕ
-rate_of d = cond (nat_eq d.held d.pushed) (1, 1) (d.held, d.pushed)
+rate_of d = if nat_eq d.held d.pushed then (1, 1) else (d.held, d.pushed)
 
 -- the next value
 abbrev pub drain_step : Drained → Option ℤ → Drained → Type 0

@@ -1,5 +1,5 @@
 -- Sampling is fair by count: the lists of draws under which an item is kept.
-use Rattle.std.specs.Prelude.{◌≡◌, ℕ, zero, suc, ◌*◌, ◌<◌, ◌≤◌, min, Bool, true, false, ◌||◌, cond, List, [], ◌∷◌, ◌++◌, length, Some, nat_eq}
+use Rattle.std.specs.Prelude.{if◌then◌else◌, ◌≡◌, ℕ, zero, suc, ◌*◌, ◌<◌, ◌≤◌, min, Bool, true, false, ◌||◌, List, [], ◌∷◌, ◌++◌, length, Some, nat_eq}
 use Rattle.std.specs.Bool.{Decides}
 use Rattle.std.specs.Int.{sum_through}
 use Rattle.std.specs.Option.{option_eq}
@@ -20,7 +20,7 @@ KeptHasPlace = (k j : ℕ) (draws : List ℕ) → Decides (is_kept k j draws) ((
 
 -- how many lists that lengthen a front of draws by m more pass a test: a front of i draws goes on by each of 0 to i
 abbrev pub count : ℕ → (List ℕ → Bool) → List ℕ → ℕ
-count zero test draws = cond (test draws) 1 0
+count zero test draws = if test draws then 1 else 0
 count (suc m) test draws = sum_through (λ d. count m test (draws ++ d ∷ [])) (length draws)
 
 -- the number of lists of n draws

@@ -1,5 +1,5 @@
 -- Recorders side by side, as they are put together, and what is refused.
-use Rattle.std.specs.Prelude.{◌≡◌, ℕ, ◌+◌, ◌≤◌, cond, nat_eq, nat_lt, List, [], ◌∷◌, map, Option, None, Some, Vec, slice_index_or}
+use Rattle.std.specs.Prelude.{if◌then◌else◌, ◌≡◌, ℕ, ◌+◌, ◌≤◌, nat_eq, nat_lt, List, [], ◌∷◌, map, Option, None, Some, Vec, slice_index_or}
 use Rattle.std.specs.Global.{Global}
 use Rattle.std.specs.List.{All}
 use Rattle.std.specs.Vec.{vec_len, vec_capacity}
@@ -31,7 +31,7 @@ BooksFit all a = books_in all + books_of a ≤ most_books
 
 -- why one recorder more is refused: for too many books exactly if there would be, and else for memory
 abbrev pub refusal : List Meaning → Meaning → Error
-refusal all a = cond (nat_lt most_books (books_in all + books_of a)) TooManyBooks Memory
+refusal all a = if nat_lt most_books (books_in all + books_of a) then TooManyBooks else Memory
 
 -- room for so many recorders more
 abbrev pub HasSpare : {B : Type 0} → ℕ → Vec (Node B) Global → Vec ℕ Global → Type 0
@@ -47,10 +47,10 @@ all_meanings m None children = meanings m children
 
 -- why a route to one recorder more is refused: for a mask without kinds, else as the recorder is
 abbrev pub route_refusal : ℕ → List Meaning → Meaning → Error
-route_refusal mask all a = cond (nat_eq mask 0) EmptyMask (refusal all a)
+route_refusal mask all a = if nat_eq mask 0 then EmptyMask else refusal all a
 
 -- why a route to an earlier target is refused: for a mask without kinds, else for a number that no target has,
 -- else for memory
 abbrev pub target_refusal : ℕ → ℕ → ℕ → Error
 target_refusal mask target targets =
-    cond (nat_eq mask 0) EmptyMask (cond (nat_lt target targets) Memory NoSuchTarget)
+    if nat_eq mask 0 then EmptyMask else if nat_lt target targets then Memory else NoSuchTarget

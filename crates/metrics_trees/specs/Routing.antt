@@ -1,5 +1,5 @@
 -- The routes of a router, as they are stored.
-use Rattle.std.specs.Prelude.{◌≡◌, ℕ, zero, suc, ◌<◌, cond, ◌&&◌, List, [], ◌∷◌, length, take, Option, None, Some}
+use Rattle.std.specs.Prelude.{if◌then◌else◌, ◌≡◌, ℕ, zero, suc, ◌<◌, ◌&&◌, List, [], ◌∷◌, length, take, Option, None, Some}
 use Rattle.std.specs.Option.{option_or}
 use Rattle.std.specs.Str.{bytes_eq}
 use Rattle.metrics_names.specs.declared.kind.MetricKind.{MetricKind}
@@ -35,14 +35,14 @@ abbrev pub AddsRoute : RouteTables → RouteTables → ℕ → List ℕ → ℕ 
 AddsRoute old new mask pattern target =
     (kind : MetricKind) (p : List ℕ) →
     stored (of_kind kind new) p ≡
-    cond (mask_has kind mask && bytes_eq p pattern) (Some target) (stored (of_kind kind old) p)
+    (if mask_has kind mask && bytes_eq p pattern then Some target else stored (of_kind kind old) p)
 
 -- the target of the last route with the kind and this very pattern
 abbrev pub last_target : List Route → MetricKind → List ℕ → Option ℕ
 last_target [] kind p = None
 last_target (r ∷ routes) kind p =
     option_or (last_target routes kind p)
-    (cond (mask_has kind r.mask && bytes_eq p r.pattern) (Some r.target) None)
+    (if mask_has kind r.mask && bytes_eq p r.pattern then Some r.target else None)
 
 -- what is stored is, for each kind and pattern, the target of the last route that has both
 abbrev pub AreTablesOf : RouteTables → List Route → Type 0

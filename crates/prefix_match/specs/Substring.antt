@@ -1,5 +1,5 @@
 -- The words of a substring search: which letters are one, where a pattern stands, and the moves of a walk.
-use Rattle.std.specs.Prelude.{◌≡◌, ℕ, ◌+◌, ◌-◌, ◌≤◌, Bool, ◌&&◌, cond, not, List, [], ◌∷◌, ◌++◌, map, length, take, drop, bytes_eq, nat_le}
+use Rattle.std.specs.Prelude.{if◌then◌else◌, ◌≡◌, ℕ, ◌+◌, ◌-◌, ◌≤◌, Bool, ◌&&◌, not, List, [], ◌∷◌, ◌++◌, map, length, take, drop, bytes_eq, nat_le}
 use Rattle.std.specs.List.{Contains, list_any, count_by, position_or_len, range_with_len}
 
 -- the most bytes that the patterns may have together
@@ -14,7 +14,7 @@ pub record Patterns : Type 0 where
 
 -- where case is folded, an ASCII capital letter is lowered; no other byte changes
 abbrev pub lowered_byte : Bool → ℕ → ℕ
-lowered_byte fold b = cond (fold && (nat_le 65 b && nat_le b 90)) (b + 32) b
+lowered_byte fold b = if fold && (nat_le 65 b && nat_le b 90) then b + 32 else b
 
 abbrev pub lowered : Bool → List ℕ → List ℕ
 lowered fold bs = map (lowered_byte fold) bs
@@ -46,7 +46,7 @@ some_ends ps w = list_any (λ p. bytes_eq (drop (length w - length p) w) p) ps
 -- the longest end of w that is a front of some pattern
 unfoldable pub longest_front : List (List ℕ) → List ℕ → List ℕ
 longest_front ps [] = []
-longest_front ps (b ∷ w) = cond (is_front ps (b ∷ w)) (b ∷ w) (longest_front ps w)
+longest_front ps (b ∷ w) = if is_front ps (b ∷ w) then b ∷ w else longest_front ps w
 
 -- the first place of the text at which some pattern ends, or else the text's length
 unfoldable pub walk_end : List (List ℕ) → List ℕ → ℕ

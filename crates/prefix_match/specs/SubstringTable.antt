@@ -1,5 +1,5 @@
 -- The table: a row for each state, and in it a column for each class of bytes.
-use Rattle.std.specs.Prelude.{◌≡◌, ℕ, ◌+◌, ◌*◌, ◌<◌, ◌≤◌, Bool, true, false, cond, ◌⊎◌, List, [], ◌∷◌, ◌++◌, length, get_or, take}
+use Rattle.std.specs.Prelude.{if◌then◌else◌, ◌≡◌, ℕ, ◌+◌, ◌*◌, ◌<◌, ◌≤◌, Bool, true, false, ◌⊎◌, List, [], ◌∷◌, ◌++◌, length, get_or, take}
 use Rattle.prefix_match.specs.declared.substring.trie.Node.{Node}
 use Rattle.prefix_match.specs.Substring.{lowered, lowered_byte, some_ends, longest_front, walk_end, moves}
 use Rattle.prefix_match.specs.SubstringStates.{node_at, text_of, IsLinked}
@@ -10,7 +10,7 @@ matched = 4294967295
 
 -- how a table names a state
 abbrev pub entry_of : List Node → ℕ → ℕ → ℕ
-entry_of nodes width x = cond (node_at nodes x).matching matched (x * width)
+entry_of nodes width x = if (node_at nodes x).matching then matched else x * width
 
 -- the column of the byte that leads to a state
 abbrev pub column_of : List ℕ → List Node → ℕ → ℕ
