@@ -1,5 +1,6 @@
 -- Each call keeps what the definitions over the list of calls say, and is answered plainly.
 use Rattle.std.proofs.Common.{◌≡◌, ℕ, zero, suc, ◌<◌, ◌≤◌, Bool, true, false, cond, List, [], ◌∷◌, ◌++◌, length, map, take, Option, None, Some, refl, ap, sym, ◌∙◌, subst, arith, nat_eq, nat_lt, MatchBool}
+use Rattle.std.proofs.lemmas.List.{length-map}
 use Rattle.std.proofs.lemmas.Bool.{eqb-true, eq-eqb, lt-ltb}
 use Rattle.std.proofs.lemmas.Bool.Decides.{nat_tests}
 use Rattle.std.proofs.Math.Seq.{take-length}
@@ -14,9 +15,7 @@ use Rattle.metrics.specs.declared.handles.Address.{Address}
 use Rattle.metrics_names.specs.declared.refused.Refused.{Refused as Refusal}
 use Rattle.metrics_names.specs.declared.refused.Refused.TheVariants.{Memory, NoSuchAddress, NoSuchBook, BadHandle}
 use Rattle.metrics.specs.declared.calls.Call.{Call}
-use Rattle.metrics.specs.declared.calls.Call.TheVariants as Call
 use Rattle.metrics.specs.declared.calls.Answer.{Answer}
-use Rattle.metrics.specs.declared.calls.Answer.TheVariants as Answer
 use Rattle.metrics_names.specs.Names.{KeyParts, SeriesKey, kind_eq, series_key_eq}
 use Rattle.metrics.specs.Targets.{after_targets, change_at, in_book, AllBelow, AreDistinct, IsNot}
 use Rattle.metrics.specs.TargetsLaws.{length-after_targets, length-change_at}
@@ -27,10 +26,6 @@ use Rattle.metrics.specs.Answering.{Handle, handle_given, handle_of, handle, han
 use Rattle.metrics_names.proofs.NamesLemmas.{kind_eq-Decides}
 use Rattle.metrics.proofs.ContentLemmas.{step, ReachesAll, run, any-now, place-now, series-other}
 use Rattle.metrics.proofs.HistoryLemmas.{Kept, AllLead, AllThere, LeadsTo, lead-at, is_there, stays-describe, stays-register, stays-update, stays-reset, kept_then, kept_same, all_there, all_held, after_targets-places, place-registered, content_at-change_at, content_at-after_targets}
-
-length-map : {A B : Type 0} (f : A → B) (xs : List A) → length (map f xs) ≡ length xs
-length-map f [] = refl
-length-map f (x ∷ xs) = ap suc (length-map f xs)
 
 -- ---- describe
 
@@ -138,7 +133,7 @@ register_kept : {New : Type 0} (old new : Meaning) (log : Log) (kind : MetricKin
 register_kept old new log kind key (Answer.Registered found) h r =
     let ts = old.targets kind key.name in
     let below = old.below kind key.name in
-    let all : ts ≡ take (length found) ts = sym (ap (λ k. take k ts) (ap length r.0 ∙ length-map _ ts) ∙ take-length ts) in
+    let all : ts ≡ take (length found) ts = sym (ap (λ k. take k ts) (ap length r.0 ∙ length-map ts _) ∙ take-length ts) in
     let there : AllThere (key_in_book kind key.labels) ts new.contents = subst (AllThere (key_in_book kind key.labels) ts) (sym r.1) (all_there (key_in_book kind key.labels) ts old.contents below) in
     let own : found ≡ addresses kind key.labels ts new.contents =
     r.0 ∙ sym (addresses_after kind key.labels ts old.contents below (old.distinct kind key.name)) ∙ ap (addresses kind key.labels ts) (sym r.1) in (
@@ -245,7 +240,7 @@ given_kept {New = New} old new log n u a kind key (Answer.Registered found) e h 
         let done : new.contents ≡ after_targets (λ name. step (updates (there_key name) u)) (take (acted a) ts) old.contents =
         front.0 ∙ ap (λ f. after_targets (update_in u) (take (acted a) (places f)) old.contents) here
         ∙ after_targets-places u (kind_of u) key.labels old.contents (acted a) ts old.contents (λ q b lt. refl) (old.below kind key.name) in
-        let many : length (places found) ≡ length ts = length-map _ found ∙ ap length l.0 ∙ length-map _ ts in (
+        let many : length (places found) ≡ length ts = length-map found _ ∙ ap length l.0 ∙ length-map ts _ in (
           subst (λ cs. Kept New old.targets (log ++ (Call.Update n u, a) ∷ []) cs) (sym done)
               (kept_then old.targets log (Call.Update n u, a) old.contents (λ name. updates (there_key name) u) (take (acted a) ts) old.below
               (λ b. ap (updates_by old.targets b u a) e)

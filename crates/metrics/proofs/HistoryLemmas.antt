@@ -1,5 +1,6 @@
 -- What a step on contents keeps of the definitions over the whole list of calls.
 use Rattle.std.proofs.Common.{◌≡◌, ℕ, zero, suc, ◌+◌, ◌<◌, Bool, true, false, cond, not, ◌||◌, List, [], ◌∷◌, ◌++◌, length, map, take, Option, Some, refl, ap, sym, ◌∙◌, subst, arith, append_assoc, append-nil, nat_eq, slice_get, true≢false}
+use Rattle.std.proofs.lemmas.Bool.{or_left, or_right}
 use Rattle.std.proofs.lemmas.Bool.{eq-eqb, lt-ltb}
 use Rattle.std.proofs.lemmas.Bool.Decides.{nat_tests}
 use Rattle.std.proofs.lemmas.List.Folds.{list_any-append}
@@ -12,7 +13,6 @@ use Rattle.metrics.specs.declared.debugging.Reset.{Reset}
 use Rattle.metrics.specs.declared.handles.Update.{Update}
 use Rattle.metrics.specs.declared.calls.Call.{Call}
 use Rattle.metrics.specs.declared.calls.Answer.{Answer}
-use Rattle.metrics.specs.declared.calls.Answer.TheVariants as Answer
 use Rattle.metrics_names.specs.Names.{KeyParts, SeriesKey, kind_eq, key_eq, series_key_eq}
 use Rattle.metrics.specs.Targets.{after_targets, change_at, in_book, AllBelow}
 use Rattle.metrics.specs.TargetsLaws.{length-after_targets, length-change_at}
@@ -126,13 +126,6 @@ addresses-after_targets f s kind labels us (t ∷ ts) cs b h =
 
 pub stays-describe : (kind : MetricKind) (unit : Option Measure) (text : List ℕ) → Stays (describe_in kind unit text)
 stays-describe kind unit text = record { there = λ x c k h. h; placed = λ x c k h. refl }
-
-or_left : (a b : Bool) → a ≡ true → (a || b) ≡ true
-or_left a b h = ap (λ x. x || b) h
-
-or_right : (a b : Bool) → b ≡ true → (a || b) ≡ true
-or_right true b h = refl
-or_right false b h = h
 
 place-append : (k : SeriesKey) (xs ys : List Series) → list_any (is_of k) xs ≡ true → position_or_len (is_of k) (xs ++ ys) ≡ position_or_len (is_of k) xs
 place-append k [] ys h = absurd (true≢false (sym h))

@@ -1,5 +1,6 @@
 -- What the tests of layers decide.
 use Rattle.std.proofs.Common.{◌≡◌, ℕ, zero, suc, ◌<◌, ◌≤◌, Bool, true, false, cond, ◌&&◌, ◌||◌, List, [], ◌∷◌, ◌++◌, length, take, drop, get_or, Option, None, Some, refl, ap, sym, ◌∙◌, subst, arith, append_assoc, append-nil, length-append, nat_eq, slice_get, true≢false, take-append-drop, inl, inr, ⊎_elim}
+use Rattle.std.proofs.lemmas.Bool.{or_left, or_right}
 use Rattle.std.specs.Prelude.{◌⊎◌}
 use Rattle.std.specs.Bool.{Decides}
 use Rattle.std.specs.Prelude.{Contains, nat_le}
@@ -13,13 +14,6 @@ use Rattle.metrics.specs.Layers.{folded, IsSubstring, Matches, is_substring, mat
 use Rattle.metrics_names.proofs.NamesLemmas.{and_left, and_right}
 
 -- ---- substrings
-
-or_left : (a b : Bool) → a ≡ true → (a || b) ≡ true
-or_left a b h = ap (λ x. x || b) h
-
-or_right : (a b : Bool) → b ≡ true → (a || b) ≡ true
-or_right true b h = refl
-or_right false b h = h
 
 starts_at : (text p : List ℕ) → starts_with nat_eq text p ≡ true → text ≡ p ++ drop (length p) text
 starts_at text p h =

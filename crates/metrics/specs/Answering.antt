@@ -1,5 +1,5 @@
 -- What one call of a recorder does and answers, after a list of calls: the step beside the definitions over the whole list.
-use Rattle.std.specs.Prelude.{◌≡◌, ℕ, ◌≤◌, List, [], ◌∷◌, map, length, take, true, Option, None, Some, Result, Ok, Err, MatchBool, option_and_then, ◌+◌, ◌<◌, ◌^◌, Bool, false}
+use Rattle.std.specs.Prelude.{◌≡◌, ℕ, ◌≤◌, List, [], ◌∷◌, map, length, take, true, Option, None, Some, Result, Ok, Err, MatchBool, option_and_then, Bool, false}
 use Rattle.std.specs.List.{list_all}
 use Rattle.metrics_names.specs.declared.kind.MetricKind.{MetricKind}
 use Rattle.metrics_names.specs.declared.common.Unit.{Unit as Measure}
@@ -8,11 +8,9 @@ use Rattle.metrics.specs.declared.debugging.Reset.TheVariants.{All}
 use Rattle.metrics.specs.declared.handles.Update.{Update}
 use Rattle.metrics.specs.declared.handles.Address.{Address}
 use Rattle.metrics_names.specs.declared.refused.Refused.{Refused}
-use Rattle.metrics_names.specs.declared.refused.Refused.TheVariants.{Memory, NoSuchAddress, NoSuchBook, BadHandle}
+use Rattle.metrics_names.specs.declared.refused.Refused.TheVariants.{Memory, NoSuchAddress, BadHandle}
 use Rattle.metrics.specs.declared.calls.Call.{Call}
-use Rattle.metrics.specs.declared.calls.Call.TheVariants as Call
 use Rattle.metrics.specs.declared.calls.Answer.{Answer}
-use Rattle.metrics.specs.declared.calls.Answer.TheVariants as Answer
 use Rattle.metrics_names.specs.Refusals.{IfMemory}
 use Rattle.metrics_names.specs.Names.{KeyParts, kind_eq}
 use Rattle.metrics.specs.Targets.{after_targets}

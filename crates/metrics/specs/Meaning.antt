@@ -7,7 +7,7 @@ use Rattle.metrics.specs.declared.debugging.Reset.{Reset}
 use Rattle.metrics.specs.declared.handles.Update.{Update}
 use Rattle.metrics.specs.declared.handles.Address.{Address}
 use Rattle.metrics_names.specs.declared.refused.Refused.{Refused}
-use Rattle.metrics_names.specs.declared.refused.Refused.TheVariants.{Memory, NoSuchAddress, NoSuchBook, BadHandle}
+use Rattle.metrics_names.specs.declared.refused.Refused.TheVariants.{Memory, NoSuchAddress, NoSuchBook}
 use Rattle.metrics_names.specs.Refusals.{IfMemory}
 use Rattle.metrics_names.specs.Names.{KeyParts, SeriesKey, kind_eq}
 use Rattle.metrics.specs.Targets.{after_targets, change_at, AllBelow, AreDistinct}

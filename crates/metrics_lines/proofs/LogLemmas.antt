@@ -1,5 +1,6 @@
 -- The calls of a run, their handles and their texts.
 use Rattle.std.proofs.Common.{◌≡◌, ℕ, zero, suc, List, [], ◌∷◌, ◌++◌, length, map, Option, refl, ap, sym, ◌∙◌, subst, append_assoc, append-nil, slice_get}
+use Rattle.std.proofs.lemmas.List.{length-map}
 use Rattle.std.specs.Option.{option_and_then}
 use Rattle.std.specs.List.{filter_map}
 use Rattle.metrics.specs.declared.calls.Call.{Call}
@@ -61,12 +62,8 @@ handles-push ((call.Register kind key, b) ∷ log) c a = ap (λ hs. handle_of (r
 handles-push ((call.Snapshot n, b) ∷ log) c a = handles-push log c a
 handles-push ((call.SnapshotWith n reset, b) ∷ log) c a = handles-push log c a
 
-length-map : {A B : Type 0} (f : A → B) (xs : List A) → length (map f xs) ≡ length xs
-length-map f [] = refl
-length-map f (x ∷ xs) = ap suc (length-map f xs)
-
 pub length-handles : (log : Log) → length (handles_of log) ≡ registers_in log
-length-handles log = length-map handle_of (filter_map registration_of log)
+length-handles log = length-map (filter_map registration_of log) handle_of
 
 -- ---- texts
 

@@ -1,7 +1,7 @@
 -- Trees of new books.
 use Rattle.std.proofs.Common.{◌≡◌, zero, suc, List, [], ◌∷◌, ◌++◌, All, refl, sym, subst, ap, ◌∙◌, arith}
 use Rattle.std.specs.List.{AllByRecursion}
-use Rattle.std.proofs.lemmas.List.Elements.{recursion_from_All, All-from_recursion}
+use Rattle.std.proofs.lemmas.List.Elements.{recursion_from_All}
 use Rattle.metrics.specs.Book.{Content, new_book}
 use Rattle.metrics.specs.Layers.{joined_all}
 use Rattle.metrics.specs.Meaning.{Meaning, AreNew, one_book}

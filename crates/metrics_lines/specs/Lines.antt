@@ -1,5 +1,5 @@
 -- Lines of a stream, and what a call that reads or writes did to the known bytes.
-use Rattle.std.specs.Prelude.{◌≡◌, ◌≢◌, ℕ, List, [], ◌∷◌, ◌++◌, All, ◌==◌, if◌then◌else◌, flat_map, length, ◌<◌, OnSome, Option, Result, Ok, Err}
+use Rattle.std.specs.Prelude.{◌≡◌, ℕ, List, [], ◌∷◌, ◌++◌, ◌==◌, if◌then◌else◌, flat_map, length, ◌<◌, OnSome, Option, Result, Ok, Err}
 use Rattle.std.specs.Io.KnownBytes.{Consumes, IsAtEnd}
 use Rattle.metrics_grammar.specs.Cuts.{Lacks}
 use Rattle.metrics_lines.specs.declared.stream.Fault.{Fault}

@@ -4,7 +4,6 @@ use Rattle.std.specs.Borrow.{Bor}
 use Rattle.metrics_names.specs.declared.kind.MetricKind.{MetricKind}
 use Rattle.metrics.specs.declared.handles.Address.{Address}
 use Rattle.metrics.specs.declared.calls.Call.{Call}
-use Rattle.metrics.specs.declared.calls.Call.TheVariants as Call
 use Rattle.metrics.specs.declared.calls.Answer.{Answer}
 use Rattle.metrics.specs.History.{Log}
 use Rattle.metrics.specs.Answering.{Handle}

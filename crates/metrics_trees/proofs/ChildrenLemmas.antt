@@ -1,5 +1,5 @@
 -- A call that goes from child to child: the targets that it has reached, and what the children are then.
-use Rattle.std.proofs.Common.{◌≡◌, ℕ, zero, suc, ◌+◌, ◌-◌, ◌<◌, ◌≤◌, ◌^◌, List, [], ◌∷◌, ◌++◌, length, take, map, get_or, set, refl, ap, sym, ◌∙◌, subst, arith, length-append, append-nil, append_assoc, Result, Ok, Err}
+use Rattle.std.proofs.Common.{◌≡◌, ℕ, zero, suc, ◌+◌, ◌-◌, ◌<◌, ◌≤◌, List, [], ◌∷◌, ◌++◌, length, take, map, get_or, set, refl, ap, sym, ◌∙◌, subst, arith, length-append, append-nil, append_assoc, Result, Ok, Err}
 use Rattle.std.specs.List.{All}
 use Rattle.std.proofs.Math.Seq.{take-append-add, take-length}
 use Rattle.std.proofs.lemmas.List.{take-append-le, length-map}
@@ -9,7 +9,7 @@ use Rattle.metrics_names.specs.declared.refused.Refused.TheVariants.{Memory, NoS
 use Rattle.metrics_names.specs.Refusals.{after_front, CanFollow}
 use Rattle.metrics.specs.declared.handles.Address.{Address}
 use Rattle.metrics.specs.Targets.{raise, after_targets, AllBelow}
-use Rattle.metrics.specs.TargetsLaws.{after_targets-append, length-after_targets, length-raise, raise-append, take-raise, below_take, few}
+use Rattle.metrics.specs.TargetsLaws.{after_targets-append, length-raise, raise-append, take-raise, below_take, few}
 use Rattle.metrics.specs.Book.{Content, register_in}
 use Rattle.metrics.specs.Meaning.{Meaning, KeepsTargets, Acts, Registers, addresses, key_in_book}
 use Rattle.metrics.specs.Layers.{joined_all, targets_of}

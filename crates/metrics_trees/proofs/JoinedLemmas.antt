@@ -1,5 +1,5 @@
 -- Recorders side by side: what one of them does, seen among all.
-use Rattle.std.proofs.Common.{◌≡◌, ℕ, zero, suc, ◌+◌, ◌<◌, ◌≤◌, Bool, true, false, ◌&&◌, List, [], ◌∷◌, ◌++◌, length, take, Result, Ok, Err, refl, ap, sym, ◌∙◌, subst, arith, length-append, append_assoc, append-nil, zero-add, nat_lt}
+use Rattle.std.proofs.Common.{◌≡◌, ℕ, zero, suc, ◌+◌, ◌<◌, ◌≤◌, Bool, true, false, ◌&&◌, List, [], ◌∷◌, ◌++◌, length, Result, Ok, Err, refl, ap, sym, ◌∙◌, subst, arith, length-append, append_assoc, zero-add, nat_lt}
 use Rattle.std.specs.List.{All}
 use Rattle.std.proofs.lemmas.List.Elements.{All-nil, All-cons}
 use Rattle.std.proofs.lemmas.Bool.Decides.{nat_tests}
@@ -10,9 +10,9 @@ use Rattle.metrics.specs.declared.handles.Update.{Update}
 use Rattle.metrics_names.specs.declared.refused.Refused.{Refused}
 use Rattle.metrics_names.specs.declared.refused.Refused.TheVariants.{Memory, NoSuchAddress, NoSuchBook, BadHandle}
 use Rattle.metrics.specs.Targets.{raise, after_targets, change_at, AllBelow}
-use Rattle.metrics.specs.TargetsLaws.{after_targets-front, after_targets-past, length-raise, take-raise, raise-append, raise-raise, raise-zero, below_take, change_at-front, change_at-past}
+use Rattle.metrics.specs.TargetsLaws.{after_targets-front, after_targets-past, raise-append, raise-raise, raise-zero, change_at-front, change_at-past}
 use Rattle.metrics.specs.Book.{Content, RowParts, content_at, kind_at, kind_of, place, rows, update_in, reset_in}
-use Rattle.metrics.specs.Meaning.{Meaning, KeepsTargets, Acts, Updates, Snapshots, holds_at, is_kind, addresses, address_in, key_in_book}
+use Rattle.metrics.specs.Meaning.{Meaning, KeepsTargets, Updates, Snapshots, holds_at, is_kind, addresses, address_in, key_in_book}
 use Rattle.metrics.specs.Layers.{joined_all, targets_of}
 use Rattle.metrics_trees.specs.declared.reach.Reach.{Reach}
 use Rattle.metrics_trees.specs.declared.reach.Reach.TheVariants.{Every, ByRoute}

@@ -1,5 +1,5 @@
 -- A node with several children, by the list of its children.
-use Rattle.std.proofs.Common.{◌≡◌, ◌<◌, ◌≤◌, ℕ, suc, List, [], ◌∷◌, map, length, get_or, set, Vec, Global, Result, Err, false, refl, ap, sym, ◌∙◌, subst, arith}
+use Rattle.std.proofs.Common.{◌≡◌, ◌<◌, ◌≤◌, ℕ, suc, List, ◌∷◌, map, length, get_or, Vec, Global, Result, Err, false, refl, ap, sym, ◌∙◌, subst, arith}
 use Rattle.std.specs.List.{All}
 use Rattle.std.specs.Vec.{vec_len, with_item}
 use Rattle.std.proofs.lemmas.List.{length-map}
@@ -19,7 +19,7 @@ use Rattle.metrics_trees.specs.Nodes.{node_meaning, row_meanings, books_of, most
 use Rattle.metrics_trees.specs.declared.reach.Reach.{Reach}
 use Rattle.metrics_trees.specs.declared.node.Node.{Node, Group, Group', Row_of-Node, end_of-Node, more_of-Node, items-the_row-Node, items_hidden-the_row-Node-0}
 use Rattle.metrics_trees.proofs.JoinedLemmas.{contents-group}
-use Rattle.metrics_trees.proofs.OneChildLemmas.{books-total, child-most, same-books, keeps-one, place-within, length-ends-of, holds-place, updates-place, snapshots-place, holds-none, updates-none, snapshots-none}
+use Rattle.metrics_trees.proofs.OneChildLemmas.{child-most, same-books, keeps-one, place-within, length-ends-of, holds-place, updates-place, snapshots-place, holds-none, updates-none, snapshots-none}
 
 abbrev row_of : {B : Type 0} → Node B → (n : Count) × Row_of-Node B n
 row_of (Group' _ row ends reach) = (_, row)

@@ -4,7 +4,6 @@ use Rattle.std.proofs.Math.Seq.{split_at}
 use Rattle.std.proofs.lemmas.List.{set_split, map-append, length-map, length-take-le, take-map, get_or-map}
 use Rattle.metrics_names.specs.declared.kind.MetricKind.{MetricKind}
 use Rattle.metrics.specs.declared.debugging.Reset.{Reset}
-use Rattle.metrics.specs.declared.handles.Address.{Address}
 use Rattle.metrics.specs.declared.handles.Update.{Update}
 use Rattle.metrics_names.specs.declared.refused.Refused.{Refused}
 use Rattle.metrics_names.specs.declared.refused.Refused.TheVariants.{NoSuchAddress, NoSuchBook}

@@ -1,4 +1,4 @@
-use Rattle.std.proofs.Common.{◌<◌, arith, length, get_or}
+use Rattle.std.proofs.Common.{◌<◌, arith, length}
 use Rattle.metrics_debugging.specs.declared.debugging.entry.Entry.{Entry}
 use Rattle.metrics_debugging.proofs.SeriesLemmas.{reset_more}
 use Rattle.metrics_debugging.proofs.debugging.entry.reset_all.Goals as goal

@@ -1,4 +1,4 @@
-use Rattle.std.proofs.Common.{rules, arith, ◌≡◌, length, ap, sym, ◌∙◌, subst, Err}
+use Rattle.std.proofs.Common.{rules, arith, ◌≡◌, length, ap, sym, ◌∙◌, subst}
 use Rattle.metrics_names.specs.Refusals.{after_front, CanFollow}
 use Rattle.metrics.specs.Book.{describe_in}
 use Rattle.metrics.proofs.MeaningLemmas.{length-describes}

@@ -1,4 +1,4 @@
-use Rattle.std.proofs.Common.{rules, arith}
+use Rattle.std.proofs.Common.{rules}
 use Rattle.metrics.proofs.MeaningLemmas.{length-updates}
 use Rattle.metrics_trees.specs.Nodes.{node_meaning}
 use Rattle.metrics_trees.specs.declared.node.Node.{the_lemmas}

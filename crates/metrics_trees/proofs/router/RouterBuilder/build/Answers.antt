@@ -1,8 +1,5 @@
-use Rattle.std.proofs.Common.{ap, sym, subst, ◌∙◌, length, append-nil}
-use Rattle.metrics.specs.Meaning.{Meaning}
+use Rattle.std.proofs.Common.{subst, ◌∙◌, length}
 use Rattle.metrics_trees.specs.Nodes.{node_meaning}
-use Rattle.metrics_trees.specs.declared.reach.Reach.TheVariants.{ByRoute}
-use Rattle.metrics_trees.proofs.JoinedLemmas.{contents-group}
 use Rattle.metrics_trees.specs.Routing.{TargetsBelow}
 use Rattle.metrics_trees.specs.Recorders.{meanings}
 use Rattle.metrics_trees.proofs.BuildersLemmas.{winner-routed, alone-routed, choice-within, some-children, no-children}
