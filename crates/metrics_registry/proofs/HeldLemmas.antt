@@ -1,5 +1,5 @@
 -- The shards of a map, seen as one list of entries.
-use Rattle.std.proofs.Common.{◌≡◌, ◌≢◌, ℕ, zero, suc, ◌+◌, ◌<◌, ◌%◌, Bool, true, false, cond, List, [], ◌∷◌, ◌++◌, Option, None, Some, IsSome, Result, Ok, Err, IfOk, IfErr, OnOk, refl, sym, ◌∙◌, ap, subst, length, get_or, set, take, ◌≤◌, add-one, arith, rules}
+use Rattle.std.proofs.Common.{◌≡◌, ◌≢◌, ℕ, zero, suc, ◌+◌, ◌<◌, ◌%◌, Bool, true, false, cond, List, [], ◌∷◌, ◌++◌, Option, None, Some, IsSome, Result, Ok, Err, IfOk, IfErr, OnOk, refl, sym, ◌∙◌, ap, subst, length, get_or, set, take, ◌≤◌, add-one, arith, rules, is_some, slice_get, nat_eq}
 use Rattle.std.specs.Cmp.{IsEquivalence}
 use Rattle.std.specs.List.{IsDistinct, AllByRecursion, All, FoldsTo}
 use Rattle.std.specs.Map.{lookup, keys_of, update}
@@ -8,7 +8,7 @@ use Rattle.std.proofs.lemmas.Bool.{cond-true, cond-false}
 use Rattle.std.proofs.lemmas.List.{get_or-set_same, get_or-set_other, get_or_default, length-set, take_all, append-nil, append_assoc}
 use Rattle.std.proofs.Math.Nat.{mod-lt}
 use Rattle.std.proofs.lemmas.Map.{NonePasses, none_passes_from_lookup}
-use Rattle.metrics_registry.specs.Held.{held, Sets, Calls, Adds, IsCellOf, CallsAt, entries_of, AreOf, ArePlaced}
+use Rattle.metrics_registry.specs.Held.{Cells, entry_at, held, Sets, Calls, Adds, Appends, IsCellOf, CallsAt, entries_of, AreOf, ArePlaced}
 
 pub by_answer : {P : Type 0} (b : Bool) → (b ≡ true → P) → (b ≡ false → P) → P
 by_answer true p q = p refl
@@ -24,8 +24,8 @@ pub lookup-append_none : {K C : Type 0} (test : K → Bool) (xs ys : List (K × 
 lookup-append_none test [] ys none = refl
 lookup-append_none test (x ∷ xs) ys none =
     by_answer (test x.0)
-      (λ t. cc (cond-true (test x.0) (Some x.1) (lookup test xs) t, none))
-      (λ f. cond-false (test x.0) (Some x.1) (lookup test (xs ++ ys)) f ∙ lookup-append_none test xs ys (sym (cond-false (test x.0) (Some x.1) (lookup test xs) f) ∙ none))
+    (λ t. cc (cond-true (test x.0) (Some x.1) (lookup test xs) t, none))
+    (λ f. cond-false (test x.0) (Some x.1) (lookup test (xs ++ ys)) f ∙ lookup-append_none test xs ys (sym (cond-false (test x.0) (Some x.1) (lookup test xs) f) ∙ none))
 
 pub lookup-append_rest : {K C : Type 0} (test : K → Bool) (xs ys : List (K × C)) → lookup test ys ≡ None → lookup test (xs ++ ys) ≡ lookup test xs
 lookup-append_rest test [] ys none = none
@@ -37,26 +37,25 @@ module _ {K C : Type 0} {eq : K → K → Bool} (laws : IsEquivalence eq) (numbe
   none-elsewhere shard [] q apart of = refl
   none-elsewhere shard (e ∷ es) q apart of =
       by_answer (eq q e.0)
-        (λ t. absurd (apart (ap (λ n. n % count) (same q e.0 t) ∙ of.0)))
-        (λ f. cond-false (eq q e.0) (Some e.1) (lookup (eq q) es) f ∙ none-elsewhere shard es q apart of.1)
+      (λ t. absurd (apart (ap (λ n. n % count) (same q e.0 t) ∙ of.0)))
+      (λ f. cond-false (eq q e.0) (Some e.1) (lookup (eq q) es) f ∙ none-elsewhere shard es q apart of.1)
 
   -- what is found tells where the keys belong
   pub are-of : (shard : ℕ) (es : List (K × C)) → ((q : K) → (lookup (eq q) es ≡ None → ⊥) → number q % count ≡ shard) → AreOf number count shard es
   are-of shard [] found = tt
-  are-of shard (e ∷ es) found =
-      (
-        found e.0 (λ none. cc (cond-true (eq e.0 e.0) (Some e.1) (lookup (eq e.0) es) (laws.refl e.0), none)),
-        are-of shard es (λ q some. found q (λ none. by_answer (eq q e.0)
-          (λ t. cc (cond-true (eq q e.0) (Some e.1) (lookup (eq q) es) t, none))
-          (λ f. some (sym (cond-false (eq q e.0) (Some e.1) (lookup (eq q) es) f) ∙ none)))),
-      )
+  are-of shard (e ∷ es) found = (
+    found e.0 (λ none. cc (cond-true (eq e.0 e.0) (Some e.1) (lookup (eq e.0) es) (laws.refl e.0), none)),
+    are-of shard es (λ q some. found q (λ none. by_answer (eq q e.0)
+        (λ t. cc (cond-true (eq q e.0) (Some e.1) (lookup (eq q) es) t, none))
+        (λ f. some (sym (cond-false (eq q e.0) (Some e.1) (lookup (eq q) es) f) ∙ none)))),
+  )
 
   pub are-of-set : (shard : ℕ) (old new : List (K × C)) (key : K) (w : Option C) → number key % count ≡ shard → AreOf number count shard old → Sets eq key w old new → AreOf number count shard new
   are-of-set shard old new key w at of sets =
       are-of shard new (λ q some. by_answer (eq key q)
-        (λ t. ap (λ n. n % count) (sym (same key q t)) ∙ at)
-        (λ f. by_place (number q % count) shard (λ e. e)
-          (λ apart. absurd (some (sets q ∙ (cond-false (eq key q) w (lookup (eq q) old) f ∙ none-elsewhere shard old q apart of))))))
+      (λ t. ap (λ n. n % count) (sym (same key q t)) ∙ at)
+      (λ f. by_place (number q % count) shard (λ e. e)
+      (λ apart. absurd (some (sets q ∙ (cond-false (eq key q) w (lookup (eq q) old) f ∙ none-elsewhere shard old q apart of))))))
 
 module _ {K C S : Type 0} {eq : K → K → Bool} (laws : IsEquivalence eq) (number : K → ℕ) (same : (x y : K) → eq x y ≡ true → number x ≡ number y) (count : ℕ) where
   pub none-later : (shard : ℕ) (ms : List (HashMap K C S)) (q : K) → number q % count < shard → ArePlaced eq number count shard ms → lookup (eq q) (entries_of ms) ≡ None
@@ -97,16 +96,16 @@ module _ {K C S : Type 0} {eq : K → K → Bool} (laws : IsEquivalence eq) (num
       let placed' = placed-set 0 i ms n placed (let P : ℕ → Type 0 = λ k. AreOf number count k n.entries in subst P (omega arith) of') distinct in
       let same_length : length (set ms i n) ≡ length ms = length-set ms i n in (
         (λ q. by_place (number q % count) i
-          (λ here.
-              lookup-placed 0 i (set ms i n) n q placed' (omega (arith, small, same_length)) (sym (get_or-set_same ms i n n small)) (omega (arith, here))
-              ∙ (sets q ∙ ap (λ l. cond (eq key q) w l) (sym (lookup-placed 0 i ms m q placed small is (omega (arith, here))))))
-          (λ apart.
-              let other : eq key q ≡ false = by_answer (eq key q) (λ t. absurd (apart (ap (λ k. k % count) (sym (same key q t)) ∙ at))) (λ f. f) in
-              let j = number q % count in
-              let within : j < length ms = subst (λ k. j < k) count_is (mod-lt (number q) (omega (arith, small, count_is))) in
-              let x = get_or ms j m in
-              lookup-placed 0 j (set ms i n) x q placed' (omega (arith, within, same_length)) (sym (get_or-set_other ms i j n x apart ∙ get_or_default ms j x m within)) (omega arith)
-              ∙ (sym (lookup-placed 0 j ms x q placed within (get_or_default ms j m x within) (omega arith)) ∙ sym (cond-false (eq key q) w (lookup (eq q) (entries_of ms)) other)))),
+            (λ here.
+            lookup-placed 0 i (set ms i n) n q placed' (omega (arith, small, same_length)) (sym (get_or-set_same ms i n n small)) (omega (arith, here))
+            ∙ (sets q ∙ ap (λ l. cond (eq key q) w l) (sym (lookup-placed 0 i ms m q placed small is (omega (arith, here))))))
+            (λ apart.
+            let other : eq key q ≡ false = by_answer (eq key q) (λ t. absurd (apart (ap (λ k. k % count) (sym (same key q t)) ∙ at))) (λ f. f) in
+            let j = number q % count in
+            let within : j < length ms = subst (λ k. j < k) count_is (mod-lt (number q) (omega (arith, small, count_is))) in
+            let x = get_or ms j m in
+            lookup-placed 0 j (set ms i n) x q placed' (omega (arith, within, same_length)) (sym (get_or-set_other ms i j n x apart ∙ get_or_default ms j x m within)) (omega arith)
+            ∙ (sym (lookup-placed 0 j ms x q placed within (get_or_default ms j m x within) (omega arith)) ∙ sym (cond-false (eq key q) w (lookup (eq q) (entries_of ms)) other)))),
         placed',
       )
 
@@ -197,30 +196,104 @@ module _ {K C S : Type 0} {eq : K → K → Bool} (laws : IsEquivalence eq) (num
 
 -- ---- what a call on one shard is to all
 
-module _ {K C S : Type 0} {eq : K → K → Bool} (laws : IsEquivalence eq) (number : K → ℕ) (same : (x y : K) → eq x y ≡ true → number x ≡ number y) (count i : ℕ) (ms : List (HashMap K C S)) (es : List (K × C)) (m n : HashMap K C S) (key : K)
-    (placed : ArePlaced eq number count 0 ms) (view : entries_of ms ≡ es) (count_is : count ≡ length ms) (small : i < length ms) (is : m ≡ get_or ms i m) (at : number key % count ≡ i) where
-  pub held-shard : held eq es key ≡ held eq m.entries key
-  held-shard = ap (λ xs. held eq xs key) (sym view) ∙ lookup-placed laws number same count 0 i ms m key placed small is (omega (arith, at))
+pub are-of-keys : {K C : Type 0} (number : K → ℕ) (count shard : ℕ) (xs ys : List (K × C)) → keys_of ys ≡ keys_of xs → AreOf number count shard xs → AreOf number count shard ys
+are-of-keys number count shard xs [] e of = tt
+are-of-keys number count shard [] (y ∷ ys) e of = cc
+are-of-keys number count shard (x ∷ xs) (y ∷ ys) e of =
+    let first : y.0 ≡ x.0 = cc in
+    let rest : keys_of ys ≡ keys_of xs = cc in
+    (ap (λ k. number k % count) first ∙ of.0, are-of-keys number count shard xs ys rest of.1)
 
-  pub sets-shard : (w : Option C) → Sets eq key w m.entries n.entries → IsDistinct eq (keys_of n.entries) → ArePlaced eq number count 0 (set ms i n) × Sets eq key w es (entries_of (set ms i n))
-  sets-shard w sets distinct =
-      let pair = sets-placed laws number same count i ms m n key w placed count_is small is at sets distinct in
-      (pair.1, λ q. pair.0 q ∙ ap (λ xs. update eq (held eq xs) key w q) view)
+pub keys-append : {K C : Type 0} (xs ys : List (K × C)) → keys_of (xs ++ ys) ≡ keys_of xs ++ keys_of ys
+keys-append [] ys = refl
+keys-append (x ∷ xs) ys = ap (λ ks. x.0 ∷ ks) (keys-append xs ys)
 
-  pub same-shard : n.entries ≡ m.entries → ArePlaced eq number count 0 (set ms i n) × (entries_of (set ms i n) ≡ es)
-  same-shard e = (placed-same eq number count 0 ms i m n is e placed, entries-same ms i m n is e ∙ view)
+-- a shard with the same keys
+pub keys-same : {K C S : Type 0} (ms : List (HashMap K C S)) (i : ℕ) (m n : HashMap K C S) → m ≡ get_or ms i m → keys_of n.entries ≡ keys_of m.entries → keys_of (entries_of (set ms i n)) ≡ keys_of (entries_of ms)
+keys-same [] i m n is same = refl
+keys-same (x ∷ ms) zero m n is same =
+    keys-append n.entries (entries_of ms)
+    ∙ (ap (λ ks. ks ++ keys_of (entries_of ms)) (same ∙ ap (λ (k : HashMap _ _ _). keys_of k.entries) is) ∙ sym (keys-append x.entries (entries_of ms)))
+keys-same (x ∷ ms) (suc i) m n is same =
+    keys-append x.entries (entries_of (set ms i n))
+    ∙ (ap (λ ks. keys_of x.entries ++ ks) (keys-same ms i m n is same) ∙ sym (keys-append x.entries (entries_of ms)))
 
-  pub changed-shard : {V E : Type 0} (r : Result V E) (call : C → V → C → Type 0) (Back : E → Type 0) → IfOk r (λ v. Calls eq call key v m.entries n.entries) → IfErr r (λ f. Back f × (held eq m.entries key ≡ None) × (n.entries ≡ m.entries)) → IsDistinct eq (keys_of n.entries)
-      → ArePlaced eq number count 0 (set ms i n) × IfOk r (λ v. Calls eq call key v es (entries_of (set ms i n))) × IfErr r (λ f. Back f × (held eq es key ≡ None) × (entries_of (set ms i n) ≡ es))
-  changed-shard (Ok v) call Back ok err distinct =
-      let all = sets-shard (Some ok.1) ok.4 distinct in
-      (all.0, (ok.0, ok.1, held-shard ∙ ok.2, ok.3, all.1), tt)
-  changed-shard (Err f) call Back ok err distinct = let all = same-shard err.2 in (all.0, tt, (err.0, held-shard ∙ err.1, all.1))
+-- the entries of a single shard
+pub entries-alone : {K C S : Type 0} (ms : List (HashMap K C S)) (i : ℕ) (m : HashMap K C S) → length ms ≡ 1 → i < length ms → m ≡ get_or ms i m → entries_of ms ≡ m.entries
+entries-alone [] i m one small is = absurd (omega (arith, one))
+entries-alone (x ∷ []) zero m one small is = append-nil x.entries ∙ ap (λ (k : HashMap _ _ _). k.entries) (sym is)
+entries-alone (x ∷ []) (suc i) m one small is = absurd (omega (arith, small))
+entries-alone (x ∷ y ∷ ms) i m one small is = absurd (omega (arith, one))
 
-  pub created-shard : {V E : Type 0} (r : Result V E) (call : C → V → C → Type 0) (cell : C) (Why : E → Type 0) → IfOk r (λ v. Adds eq call key cell v m.entries n.entries) → IfErr r (λ e. Why e × (n.entries ≡ m.entries)) → OnOk r (IsDistinct eq (keys_of n.entries))
-      → ArePlaced eq number count 0 (set ms i n) × IfOk r (λ v. Adds eq call key cell v es (entries_of (set ms i n))) × IfErr r (λ e. Why e × (entries_of (set ms i n) ≡ es))
-  created-shard (Ok v) call cell Why ok err distinct = let all = sets-shard (Some ok.0) ok.2 distinct in (all.0, (ok.0, ok.1, all.1), tt)
-  created-shard (Err e) call cell Why ok err distinct = let all = same-shard err.1 in (all.0, tt, (err.0, all.1))
+module _ {K C S : Type 0} {eq : K → K → Bool} (laws : IsEquivalence eq) (number : K → ℕ) (same : (x y : K) → eq x y ≡ true → number x ≡ number y) (count i : ℕ) (ms : List (HashMap K C S)) (old : Cells K C) (m n : HashMap K C S)
+    (placed : ArePlaced eq number count 0 ms) (view : ◌≡◌ {A = Cells K C} (record { count = count; entries = entries_of ms }) old) (count_is : count ≡ length ms) (small : i < length ms) (is : m ≡ get_or ms i m) where
+  the-entries : entries_of ms ≡ old.entries
+  the-entries = ap (λ (c : Cells K C). c.entries) view
+
+  pub same-shard : n.entries ≡ m.entries → ArePlaced eq number count 0 (set ms i n) × (◌≡◌ {A = Cells K C} (record { count = count; entries = entries_of (set ms i n) }) old)
+  same-shard e = (placed-same eq number count 0 ms i m n is e placed, ap (λ es. record { count = count; entries = es }) (entries-same ms i m n is e) ∙ view)
+
+  pub keys-shard : keys_of n.entries ≡ keys_of m.entries → keys_of (entries_of (set ms i n)) ≡ keys_of old.entries
+  keys-shard e = keys-same ms i m n is e ∙ ap (λ es. keys_of es) the-entries
+
+  pub placed-shard : keys_of n.entries ≡ keys_of m.entries → IsDistinct eq (keys_of n.entries) → ArePlaced eq number count 0 (set ms i n)
+  placed-shard e distinct = placed-set laws number same count 0 i ms n placed (are-of-keys number count (0 + i) m.entries n.entries e (placed-at laws number same count 0 i ms m placed small is)) distinct
+
+  -- where there is one shard
+  module _ (one : count ≡ 1) where
+    one-old : old.entries ≡ m.entries
+    one-old = sym the-entries ∙ entries-alone ms i m (omega (arith, one, count_is)) small is
+
+    one-new : entries_of (set ms i n) ≡ n.entries
+    one-new = entries-alone (set ms i n) i n (omega (arith, one, count_is, length-set ms i n)) (omega (arith, small, length-set ms i n)) (sym (get_or-set_same ms i n n small))
+
+    pub alone-shard : (R : List (K × C) → List (K × C) → Type 0) → R m.entries n.entries → R old.entries (entries_of (set ms i n))
+    alone-shard R r = subst (λ es. R es (entries_of (set ms i n))) (sym one-old) (subst (R m.entries) (sym one-new) r)
+
+    pub alone-count : old.count ≡ 1
+    alone-count = ap (λ (c : Cells K C). c.count) (sym view) ∙ one
+
+    pub alone-at : (place : ℕ) → entry_at old place ≡ slice_get m.entries place
+    alone-at place = ap (λ k. cond (nat_eq k 1) (slice_get old.entries place) None) alone-count ∙ ap (λ es. slice_get es place) one-old
+
+  -- where the shard is that of a key
+  module _ (key : K) (at : number key % count ≡ i) where
+    pub held-shard : held eq old.entries key ≡ held eq m.entries key
+    held-shard = ap (λ xs. held eq xs key) (sym the-entries) ∙ lookup-placed laws number same count 0 i ms m key placed small is (omega (arith, at))
+
+    pub sets-shard : (w : Option C) → Sets eq key w m.entries n.entries → IsDistinct eq (keys_of n.entries) → ArePlaced eq number count 0 (set ms i n) × Sets eq key w old.entries (entries_of (set ms i n))
+    sets-shard w sets distinct =
+        let pair = sets-placed laws number same count i ms m n key w placed count_is small is at sets distinct in
+        (pair.1, λ q. pair.0 q ∙ ap (λ xs. update eq (held eq xs) key w q) the-entries)
+
+    pub changed-shard : {V E : Type 0} (r : Result V E) (call : C → V → C → Type 0) (Back : E → Type 0) → IfOk r (λ v. Calls eq call key v m.entries n.entries) → IfErr r (λ f. Back f × (held eq m.entries key ≡ None) × (n.entries ≡ m.entries)) → IsDistinct eq (keys_of n.entries)
+        → ArePlaced eq number count 0 (set ms i n) × IfOk r (λ v. Calls eq call key v old.entries (entries_of (set ms i n)))
+        × IfErr r (λ f. Back f × (held eq old.entries key ≡ None) × (◌≡◌ {A = Cells K C} (record { count = count; entries = entries_of (set ms i n) }) old))
+    changed-shard (Ok v) call Back ok err distinct =
+        let all = sets-shard (Some ok.1) ok.4 distinct in
+        (all.0, (ok.0, ok.1, held-shard ∙ ok.2, ok.3, all.1), tt)
+    changed-shard (Err f) call Back ok err distinct = let all = same-shard err.2 in (all.0, tt, (err.0, held-shard ∙ err.1, all.1))
+
+    pub created-shard : {V E : Type 0} (r : Result V E) (call : C → V → C → Type 0) (cell : C) (Why : E → Type 0) → IfOk r (λ v. Adds eq call key cell v m.entries n.entries) → IfErr r (λ e. Why e × (n.entries ≡ m.entries)) → OnOk r (IsDistinct eq (keys_of n.entries))
+        → ArePlaced eq number count 0 (set ms i n) × IfOk r (λ v. Adds eq call key cell v old.entries (entries_of (set ms i n)))
+        × IfErr r (λ e. Why e × (◌≡◌ {A = Cells K C} (record { count = count; entries = entries_of (set ms i n) }) old))
+    created-shard (Ok v) call cell Why ok err distinct = let all = sets-shard (Some ok.0) ok.2 distinct in (all.0, (ok.0, ok.1, all.1), tt)
+    created-shard (Err e) call cell Why ok err distinct = let all = same-shard err.1 in (all.0, tt, (err.0, all.1))
+
+    pub appended-shard : {V E : Type 0} (r : Result V E) (clone : K → K → Type 0) (call : C → V → C → Type 0) (cell : C) → IfOk r (λ v. Appends clone call key cell v m.entries n.entries)
+        → IfOk r (λ v. old.count ≡ 1 → Appends clone call key cell v old.entries (entries_of (set ms i n)))
+    appended-shard (Ok v) clone call cell ok = λ one. alone-shard (ap (λ (c : Cells K C). c.count) view ∙ one) (λ es fs. Appends clone call key cell v es fs) ok
+    appended-shard (Err e) clone call cell ok = tt
+
+pub some-below : {A : Type 0} (xs : List A) (i : ℕ) → i < length xs → is_some (slice_get xs i) ≡ true
+some-below [] i small = absurd (omega (arith, small))
+some-below (x ∷ xs) zero small = refl
+some-below (x ∷ xs) (suc i) small = some-below xs i (omega (arith, small))
+
+-- equal keys are found alike
+pub lookup-equal : {K C : Type 0} (p q : K → Bool) (es : List (K × C)) → ((k : K) → p k ≡ q k) → lookup p es ≡ lookup q es
+lookup-equal p q [] e = refl
+lookup-equal p q (x ∷ es) e = ap (λ b. cond b (Some x.1) (lookup p es)) (e x.0) ∙ ap (λ l. cond (q x.0) (Some x.1) l) (lookup-equal p q es e)
 
 -- ---- get, or create
 

@@ -1,11 +1,17 @@
 -- A finite map from keys to cells, as the list of its entries, and how it lies in shards.
-use Rattle.std.specs.Prelude.{◌≡◌, ℕ, suc, ◌+◌, ◌%◌, Bool, ◌&&◌, nat_le, true, false, cond, List, [], ◌∷◌, ◌++◌, Option, None, Some, MatchOption, IsSomeAnd}
+use Rattle.std.specs.Prelude.{◌≡◌, ℕ, suc, ◌+◌, ◌%◌, Bool, ◌&&◌, nat_le, nat_eq, true, false, cond, List, [], ◌∷◌, ◌++◌, Option, None, Some, MatchOption, IsSome, IsSomeAnd, position, slice_get}
 use Rattle.std.specs.List.{AllByRecursion, IsDistinct}
-use Rattle.std.specs.Map.{lookup, keys_of, update}
+use Rattle.std.specs.Map.{lookup, keys_of, values_of, update}
+use Rattle.indexmap.specs.IndexMap.{set_value_at}
 use Rattle.std.specs.HashMap.{HashMap}
 use Rattle.std.specs.Int.{is_power_of_two}
 use Rattle.std.specs.Borrow.{Bor}
 use Rattle.std.specs.Fn.{Called, Mut}
+
+-- the cells of one kind: the number of their shards, and the entries of all of them, one shard after another
+pub record Cells (K C : Type 0) : Type 0 where
+  pub count : ℕ
+  pub entries : List (K × C)
 
 -- the cell of a key
 abbrev pub held : {K C : Type 0} → (K → K → Bool) → List (K × C) → K → Option C
@@ -32,6 +38,30 @@ IsCellOf Makes (Some old) c = c ≡ old
 abbrev pub CallsAt : {K C V : Type 0} → (K → K → Bool) → (K → C → Type 0) → (C → V → C → Type 0) → K → V → List (K × C) → List (K × C) → Type 0
 CallsAt {K} {C} {V} eq Makes call key v old new =
     (before : C) × (after : C) × IsCellOf (Makes key) (held eq old key) before × call before v after × Sets eq key (Some after) old new
+
+-- ---- places
+
+-- the place of a key among the entries, where they are in one shard
+abbrev pub place_of : {K C : Type 0} → (K → K → Bool) → Cells K C → K → Option ℕ
+place_of eq cells key = cond (nat_eq cells.count 1) (position (eq key) (keys_of cells.entries)) None
+
+-- the entry at a place, where they are in one shard
+abbrev pub entry_at : {K C : Type 0} → Cells K C → ℕ → Option (K × C)
+entry_at cells place = cond (nat_eq cells.count 1) (slice_get cells.entries place) None
+
+-- one call changed the cell at a place and gave v; keys and other cells stay
+abbrev pub ChangesAt : {K C V : Type 0} → (C → V → C → Type 0) → ℕ → V → List (K × C) → List (K × C) → Type 0
+ChangesAt {K} {C} call place v old new = (before : C) × (after : C) × (slice_get (values_of old) place ≡ Some before) × call before v after × (new ≡ set_value_at old place after)
+
+-- an entry was added at the end: a clone of the key, and the cell as one call left it, which gave v
+abbrev pub Appends : {K C V : Type 0} → (K → K → Type 0) → (C → V → C → Type 0) → K → C → V → List (K × C) → List (K × C) → Type 0
+Appends {K} {C} clone call key cell v old new = (k : K) × (after : C) × clone key k × call cell v after × (new ≡ old ++ (k, after) ∷ [])
+
+-- of a key that was held all keys stay where they are; in one shard a key that was not held comes to the end
+abbrev pub KeepsPlaces : {K C V : Type 0} → (K → K → Bool) → (K → K → Type 0) → (K → C → Type 0) → (C → V → C → Type 0) → K → V → Cells K C → Cells K C → Type 0
+KeepsPlaces {K} {C} eq clone Makes call key v old new =
+    (IsSome (held eq old.entries key) → keys_of new.entries ≡ keys_of old.entries)
+    × (held eq old.entries key ≡ None → old.count ≡ 1 → (cell : C) × Makes key cell × Appends clone call key cell v old.entries new.entries)
 
 -- ---- shards
 

@@ -1,12 +1,13 @@
 //! A registry that has one owner: for each kind a map from keys to cells, in shards.
-ghost use Rattle.std.specs.Prelude.{◌≡◌, true, false, [], None, Some, Ok, IfOk, IfErr, OnErr, MatchResult, is_some, cond};
+ghost use Rattle.std.specs.Prelude.{◌≡◌, true, false, [], None, Some, Ok, IfOk, IfErr, OnErr, IfSome, IfNone, MatchResult, is_some, option_map, cond};
 ghost use Rattle.std.specs.Option.{option_copied};
+ghost use Rattle.std.specs.Map.Iter.{deref_pair};
 ghost use Rattle.std.specs.Fn.{FnOnceReturnsAtMut};
 ghost use Rattle.std.specs.List.{FoldsTo, IsDistinct};
 ghost use Rattle.std.specs.Map.{keys_of};
 ghost use Rattle.std.specs.HashMap.{get};
 ghost use Rattle.metrics.specs.declared.error.Error.TheVariants.{Memory as OutOfMemory, BadShards as NotShards};
-ghost use Rattle.metrics_registry.specs.Held.{held, Sets, CallsAt, CallsAtEntry, Retains, Copies};
+ghost use Rattle.metrics_registry.specs.Held.{held, Sets, CallsAt, CallsAtEntry, Retains, Copies, KeepsPlaces, ChangesAt, place_of, entry_at};
 ghost use Rattle.metrics_registry.specs.Held.{is_shard_count};
 
 mod generation;
@@ -15,23 +16,25 @@ mod recency;
 mod shards;
 mod storage;
 
+use crate::common::Hashable;
 pub use generation::{Counted, Generation};
+use metrics::Error;
 pub use plain::PlainStorage;
 pub use recency::OwnedRecency;
-pub use storage::Storage;
-
-use crate::common::Hashable;
-use metrics::Error;
 use shards::Shards;
 use std::alloc::Global;
 use std::collections::HashMap;
 use std::marker::Model;
+pub use storage::Storage;
 
 /// A registry that has one owner: for each kind of metric a map from keys to cells.
 ///
-/// Contracts see its storage, and for each kind the list of its entries. No key stands twice among the entries of a kind.
-/// Each kind's map lies in shards, of which `Hashable::hashable` of a key picks one; within its shard a key is found by its
-/// own `Hash`.
+/// Contracts see its storage, and for each kind the number of its shards and the list of its entries. No key stands twice
+/// among the entries of a kind. Each kind's map lies in shards, of which `Hashable::hashable` of a key picks one; within its
+/// shard a key is found by its own `Hash`.
+///
+/// A registry of one shard has places: an entry's place is its number in the order in which the keys came. It stays until a
+/// key of the kind is removed. With more shards there are none, since a new key would move those of the shards behind its own.
 ///
 /// A call that copies keys asks that a key's clone is equal to the key.
 #[derive(Drop)]
@@ -50,7 +53,7 @@ where
 {
     /// A registry with nothing in it, and each kind's map in this many shards, a power of two from 1 to 1,024.
     pub fn new(alloc: Global, storage: S, shards: usize) -> Result<Self, Error>
-        ensures ok { IfOk result (λ r. (is_shard_count shards ≡ true) × (r.storage ≡ storage) × (r.counters ≡ []) × (r.gauges ≡ []) × (r.histograms ≡ [])) }
+        ensures ok { IfOk result (λ r. (is_shard_count shards ≡ true) × (r.storage ≡ storage) × (r.counters ≡ record { count = shards; entries = [] }) × (r.gauges ≡ record { count = shards; entries = [] }) × (r.histograms ≡ record { count = shards; entries = [] })) }
         ensures err { IfErr result (λ e. e ≡ cond (is_shard_count shards) OutOfMemory NotShards) }
     {
         if !shards.is_power_of_two() || shards > 1024 {
@@ -66,9 +69,9 @@ where
 
     /// Removes every entry of every kind.
     pub fn clear(&mut self)
-        ensures counters { self.new.counters ≡ [] }
-        ensures gauges { self.new.gauges ≡ [] }
-        ensures histograms { self.new.histograms ≡ [] }
+        ensures counters { (self.new.counters.entries ≡ []) × (self.new.counters.count ≡ self.old.counters.count) }
+        ensures gauges { (self.new.gauges.entries ≡ []) × (self.new.gauges.count ≡ self.old.gauges.count) }
+        ensures histograms { (self.new.histograms.entries ≡ []) × (self.new.histograms.count ≡ self.old.histograms.count) }
         ensures storage { self.new.storage ≡ self.old.storage }
     {
         self.counters.clear();
@@ -85,7 +88,7 @@ where
 
     /// The cell of a counter, if the key is held.
     pub fn get_counter(&self, key: &K) -> Option<&S::Counter>
-        ensures { option_copied result ≡ held K.eq self.now.counters key.now }
+        ensures { option_copied result ≡ held K.eq self.now.counters.entries key.now }
     {
         self.counters.get(key)
     }
@@ -100,8 +103,10 @@ where
     ) -> Result<V, Error>
         requires op { F.IsAlwaysCallable op }
         requires clones { (k c : K) → K.is_clone k c → K.eq k c ≡ true }
-        ensures ok { IfOk result (λ v. CallsAt K.eq (S.makes_counter self.old.storage) (λ b r a. FnOnceReturnsAtMut F.FnOnce op b r a) key.now v self.old.counters self.new.counters) }
-        ensures err { IfErr result (λ e. (e ≡ OutOfMemory) × (self.new ≡ self.old) × (held K.eq self.old.counters key.now ≡ None)) }
+        ensures ok { IfOk result (λ v. CallsAt K.eq (S.makes_counter self.old.storage) (λ b r a. FnOnceReturnsAtMut F.FnOnce op b r a) key.now v self.old.counters.entries self.new.counters.entries) }
+        ensures err { IfErr result (λ e. (e ≡ OutOfMemory) × (self.new ≡ self.old) × (held K.eq self.old.counters.entries key.now ≡ None)) }
+        ensures places { IfOk result (λ v. KeepsPlaces K.eq K.is_clone (S.makes_counter self.old.storage) (λ b r a. FnOnceReturnsAtMut F.FnOnce op b r a) key.now v self.old.counters self.new.counters) }
+        ensures count { self.new.counters.count ≡ self.old.counters.count }
         ensures rest { (self.new.storage ≡ self.old.storage) × (self.new.gauges ≡ self.old.gauges) × (self.new.histograms ≡ self.old.histograms) }
     {
         match self.counters.change(key, op) {
@@ -116,8 +121,8 @@ where
     /// Calls `f` once for each counter, in some order.
     pub fn visit_counters<F: FnMut(&K, &S::Counter) + Drop>(&self, f: F)
         requires { F.IsAlwaysCallable f }
-        ensures calls { (last : F) × FoldsTo (λ p e q. CallsAtEntry F.FnMut p e tt q) f self.now.counters last }
-        ensures once { IsDistinct K.eq (keys_of self.now.counters) }
+        ensures calls { (last : F) × FoldsTo (λ p e q. CallsAtEntry F.FnMut p e tt q) f self.now.counters.entries last }
+        ensures once { IsDistinct K.eq (keys_of self.now.counters.entries) }
     {
         self.counters.visit(f)
     }
@@ -127,7 +132,7 @@ where
     where
         S::Counter: Clone,
         requires { (k c : K) → K.is_clone k c → K.eq k c ≡ true }
-        ensures { MatchResult result (λ m. Copies K.eq S.Counter.is_clone self.now.counters (λ _. None) (get K.eq m)) (λ e. e ≡ OutOfMemory) }
+        ensures { MatchResult result (λ m. Copies K.eq S.Counter.is_clone self.now.counters.entries (λ _. None) (get K.eq m)) (λ e. e ≡ OutOfMemory) }
     {
         self.counters.handles(alloc)
     }
@@ -135,8 +140,9 @@ where
     /// Keeps the counters for which `f` answers true. It is called once for each counter, in some order.
     pub fn retain_counters<F: FnMut(&K, &S::Counter) -> bool + Drop>(&mut self, f: F)
         requires { F.IsAlwaysCallable f }
-        ensures retains { (last : F) × Retains (λ p e b q. CallsAtEntry F.FnMut p e b q) f self.old.counters self.new.counters last }
-        ensures once { IsDistinct K.eq (keys_of self.old.counters) }
+        ensures retains { (last : F) × Retains (λ p e b q. CallsAtEntry F.FnMut p e b q) f self.old.counters.entries self.new.counters.entries last }
+        ensures once { IsDistinct K.eq (keys_of self.old.counters.entries) }
+        ensures count { self.new.counters.count ≡ self.old.counters.count }
         ensures rest { (self.new.storage ≡ self.old.storage) × (self.new.gauges ≡ self.old.gauges) × (self.new.histograms ≡ self.old.histograms) }
     {
         self.counters.retain(f)
@@ -144,17 +150,48 @@ where
 
     /// Removes a counter, and tells whether it was there.
     pub fn delete_counter(&mut self, key: &K) -> bool
-        ensures removed { Sets K.eq key.now None self.old.counters self.new.counters }
-        ensures answer { result ≡ is_some (held K.eq self.old.counters key.now) }
+        ensures removed { Sets K.eq key.now None self.old.counters.entries self.new.counters.entries }
+        ensures answer { result ≡ is_some (held K.eq self.old.counters.entries key.now) }
         ensures absent { result ≡ false → self.new ≡ self.old }
+        ensures count { self.new.counters.count ≡ self.old.counters.count }
         ensures rest { (self.new.storage ≡ self.old.storage) × (self.new.gauges ≡ self.old.gauges) × (self.new.histograms ≡ self.old.histograms) }
     {
         self.counters.remove(key)
     }
 
+    /// The place of a counter, if the key is held and there is one shard.
+    pub fn counter_place(&self, key: &K) -> Option<usize>
+        ensures { result ≡ place_of K.eq self.now.counters key.now }
+    {
+        self.counters.place(key)
+    }
+
+    /// The key and the cell of the counter at a place.
+    pub fn counter_at(&self, place: usize) -> Option<(&K, &S::Counter)>
+        ensures { option_map deref_pair result ≡ entry_at self.now.counters place }
+    {
+        self.counters.at(place)
+    }
+
+    /// Calls `op` once on the cell of the counter at a place, and answers what it answers.
+    pub fn change_counter_at<V, F: FnOnce(&mut S::Counter) -> V + Drop>(
+        &mut self,
+        place: usize,
+        op: F,
+    ) -> Option<V>
+        requires { F.IsAlwaysCallable op }
+        ensures some { IfSome result (λ v. ChangesAt (λ b r a. FnOnceReturnsAtMut F.FnOnce op b r a) place v self.old.counters.entries self.new.counters.entries) }
+        ensures none { IfNone result (self.new ≡ self.old) }
+        ensures found { is_some result ≡ is_some (entry_at self.old.counters place) }
+        ensures count { self.new.counters.count ≡ self.old.counters.count }
+        ensures rest { (self.new.storage ≡ self.old.storage) × (self.new.gauges ≡ self.old.gauges) × (self.new.histograms ≡ self.old.histograms) }
+    {
+        self.counters.change_at(place, op)
+    }
+
     /// The cell of a gauge, if the key is held.
     pub fn get_gauge(&self, key: &K) -> Option<&S::Gauge>
-        ensures { option_copied result ≡ held K.eq self.now.gauges key.now }
+        ensures { option_copied result ≡ held K.eq self.now.gauges.entries key.now }
     {
         self.gauges.get(key)
     }
@@ -169,8 +206,10 @@ where
     ) -> Result<V, Error>
         requires op { F.IsAlwaysCallable op }
         requires clones { (k c : K) → K.is_clone k c → K.eq k c ≡ true }
-        ensures ok { IfOk result (λ v. CallsAt K.eq (S.makes_gauge self.old.storage) (λ b r a. FnOnceReturnsAtMut F.FnOnce op b r a) key.now v self.old.gauges self.new.gauges) }
-        ensures err { IfErr result (λ e. (e ≡ OutOfMemory) × (self.new ≡ self.old) × (held K.eq self.old.gauges key.now ≡ None)) }
+        ensures ok { IfOk result (λ v. CallsAt K.eq (S.makes_gauge self.old.storage) (λ b r a. FnOnceReturnsAtMut F.FnOnce op b r a) key.now v self.old.gauges.entries self.new.gauges.entries) }
+        ensures err { IfErr result (λ e. (e ≡ OutOfMemory) × (self.new ≡ self.old) × (held K.eq self.old.gauges.entries key.now ≡ None)) }
+        ensures places { IfOk result (λ v. KeepsPlaces K.eq K.is_clone (S.makes_gauge self.old.storage) (λ b r a. FnOnceReturnsAtMut F.FnOnce op b r a) key.now v self.old.gauges self.new.gauges) }
+        ensures count { self.new.gauges.count ≡ self.old.gauges.count }
         ensures rest { (self.new.storage ≡ self.old.storage) × (self.new.counters ≡ self.old.counters) × (self.new.histograms ≡ self.old.histograms) }
     {
         match self.gauges.change(key, op) {
@@ -185,8 +224,8 @@ where
     /// Calls `f` once for each gauge, in some order.
     pub fn visit_gauges<F: FnMut(&K, &S::Gauge) + Drop>(&self, f: F)
         requires { F.IsAlwaysCallable f }
-        ensures calls { (last : F) × FoldsTo (λ p e q. CallsAtEntry F.FnMut p e tt q) f self.now.gauges last }
-        ensures once { IsDistinct K.eq (keys_of self.now.gauges) }
+        ensures calls { (last : F) × FoldsTo (λ p e q. CallsAtEntry F.FnMut p e tt q) f self.now.gauges.entries last }
+        ensures once { IsDistinct K.eq (keys_of self.now.gauges.entries) }
     {
         self.gauges.visit(f)
     }
@@ -196,7 +235,7 @@ where
     where
         S::Gauge: Clone,
         requires { (k c : K) → K.is_clone k c → K.eq k c ≡ true }
-        ensures { MatchResult result (λ m. Copies K.eq S.Gauge.is_clone self.now.gauges (λ _. None) (get K.eq m)) (λ e. e ≡ OutOfMemory) }
+        ensures { MatchResult result (λ m. Copies K.eq S.Gauge.is_clone self.now.gauges.entries (λ _. None) (get K.eq m)) (λ e. e ≡ OutOfMemory) }
     {
         self.gauges.handles(alloc)
     }
@@ -204,8 +243,9 @@ where
     /// Keeps the gauges for which `f` answers true. It is called once for each gauge, in some order.
     pub fn retain_gauges<F: FnMut(&K, &S::Gauge) -> bool + Drop>(&mut self, f: F)
         requires { F.IsAlwaysCallable f }
-        ensures retains { (last : F) × Retains (λ p e b q. CallsAtEntry F.FnMut p e b q) f self.old.gauges self.new.gauges last }
-        ensures once { IsDistinct K.eq (keys_of self.old.gauges) }
+        ensures retains { (last : F) × Retains (λ p e b q. CallsAtEntry F.FnMut p e b q) f self.old.gauges.entries self.new.gauges.entries last }
+        ensures once { IsDistinct K.eq (keys_of self.old.gauges.entries) }
+        ensures count { self.new.gauges.count ≡ self.old.gauges.count }
         ensures rest { (self.new.storage ≡ self.old.storage) × (self.new.counters ≡ self.old.counters) × (self.new.histograms ≡ self.old.histograms) }
     {
         self.gauges.retain(f)
@@ -213,17 +253,48 @@ where
 
     /// Removes a gauge, and tells whether it was there.
     pub fn delete_gauge(&mut self, key: &K) -> bool
-        ensures removed { Sets K.eq key.now None self.old.gauges self.new.gauges }
-        ensures answer { result ≡ is_some (held K.eq self.old.gauges key.now) }
+        ensures removed { Sets K.eq key.now None self.old.gauges.entries self.new.gauges.entries }
+        ensures answer { result ≡ is_some (held K.eq self.old.gauges.entries key.now) }
         ensures absent { result ≡ false → self.new ≡ self.old }
+        ensures count { self.new.gauges.count ≡ self.old.gauges.count }
         ensures rest { (self.new.storage ≡ self.old.storage) × (self.new.counters ≡ self.old.counters) × (self.new.histograms ≡ self.old.histograms) }
     {
         self.gauges.remove(key)
     }
 
+    /// The place of a gauge, if the key is held and there is one shard.
+    pub fn gauge_place(&self, key: &K) -> Option<usize>
+        ensures { result ≡ place_of K.eq self.now.gauges key.now }
+    {
+        self.gauges.place(key)
+    }
+
+    /// The key and the cell of the gauge at a place.
+    pub fn gauge_at(&self, place: usize) -> Option<(&K, &S::Gauge)>
+        ensures { option_map deref_pair result ≡ entry_at self.now.gauges place }
+    {
+        self.gauges.at(place)
+    }
+
+    /// Calls `op` once on the cell of the gauge at a place, and answers what it answers.
+    pub fn change_gauge_at<V, F: FnOnce(&mut S::Gauge) -> V + Drop>(
+        &mut self,
+        place: usize,
+        op: F,
+    ) -> Option<V>
+        requires { F.IsAlwaysCallable op }
+        ensures some { IfSome result (λ v. ChangesAt (λ b r a. FnOnceReturnsAtMut F.FnOnce op b r a) place v self.old.gauges.entries self.new.gauges.entries) }
+        ensures none { IfNone result (self.new ≡ self.old) }
+        ensures found { is_some result ≡ is_some (entry_at self.old.gauges place) }
+        ensures count { self.new.gauges.count ≡ self.old.gauges.count }
+        ensures rest { (self.new.storage ≡ self.old.storage) × (self.new.counters ≡ self.old.counters) × (self.new.histograms ≡ self.old.histograms) }
+    {
+        self.gauges.change_at(place, op)
+    }
+
     /// The cell of a histogram, if the key is held.
     pub fn get_histogram(&self, key: &K) -> Option<&S::Histogram>
-        ensures { option_copied result ≡ held K.eq self.now.histograms key.now }
+        ensures { option_copied result ≡ held K.eq self.now.histograms.entries key.now }
     {
         self.histograms.get(key)
     }
@@ -238,8 +309,10 @@ where
     ) -> Result<V, Error>
         requires op { F.IsAlwaysCallable op }
         requires clones { (k c : K) → K.is_clone k c → K.eq k c ≡ true }
-        ensures ok { IfOk result (λ v. CallsAt K.eq (S.makes_histogram self.old.storage) (λ b r a. FnOnceReturnsAtMut F.FnOnce op b r a) key.now v self.old.histograms self.new.histograms) }
-        ensures err { IfErr result (λ e. (e ≡ OutOfMemory) × (self.new ≡ self.old) × (held K.eq self.old.histograms key.now ≡ None)) }
+        ensures ok { IfOk result (λ v. CallsAt K.eq (S.makes_histogram self.old.storage) (λ b r a. FnOnceReturnsAtMut F.FnOnce op b r a) key.now v self.old.histograms.entries self.new.histograms.entries) }
+        ensures err { IfErr result (λ e. (e ≡ OutOfMemory) × (self.new ≡ self.old) × (held K.eq self.old.histograms.entries key.now ≡ None)) }
+        ensures places { IfOk result (λ v. KeepsPlaces K.eq K.is_clone (S.makes_histogram self.old.storage) (λ b r a. FnOnceReturnsAtMut F.FnOnce op b r a) key.now v self.old.histograms self.new.histograms) }
+        ensures count { self.new.histograms.count ≡ self.old.histograms.count }
         ensures rest { (self.new.storage ≡ self.old.storage) × (self.new.counters ≡ self.old.counters) × (self.new.gauges ≡ self.old.gauges) }
     {
         match self.histograms.change(key, op) {
@@ -254,8 +327,8 @@ where
     /// Calls `f` once for each histogram, in some order.
     pub fn visit_histograms<F: FnMut(&K, &S::Histogram) + Drop>(&self, f: F)
         requires { F.IsAlwaysCallable f }
-        ensures calls { (last : F) × FoldsTo (λ p e q. CallsAtEntry F.FnMut p e tt q) f self.now.histograms last }
-        ensures once { IsDistinct K.eq (keys_of self.now.histograms) }
+        ensures calls { (last : F) × FoldsTo (λ p e q. CallsAtEntry F.FnMut p e tt q) f self.now.histograms.entries last }
+        ensures once { IsDistinct K.eq (keys_of self.now.histograms.entries) }
     {
         self.histograms.visit(f)
     }
@@ -265,7 +338,7 @@ where
     where
         S::Histogram: Clone,
         requires { (k c : K) → K.is_clone k c → K.eq k c ≡ true }
-        ensures { MatchResult result (λ m. Copies K.eq S.Histogram.is_clone self.now.histograms (λ _. None) (get K.eq m)) (λ e. e ≡ OutOfMemory) }
+        ensures { MatchResult result (λ m. Copies K.eq S.Histogram.is_clone self.now.histograms.entries (λ _. None) (get K.eq m)) (λ e. e ≡ OutOfMemory) }
     {
         self.histograms.handles(alloc)
     }
@@ -273,8 +346,9 @@ where
     /// Keeps the histograms for which `f` answers true. It is called once for each histogram, in some order.
     pub fn retain_histograms<F: FnMut(&K, &S::Histogram) -> bool + Drop>(&mut self, f: F)
         requires { F.IsAlwaysCallable f }
-        ensures retains { (last : F) × Retains (λ p e b q. CallsAtEntry F.FnMut p e b q) f self.old.histograms self.new.histograms last }
-        ensures once { IsDistinct K.eq (keys_of self.old.histograms) }
+        ensures retains { (last : F) × Retains (λ p e b q. CallsAtEntry F.FnMut p e b q) f self.old.histograms.entries self.new.histograms.entries last }
+        ensures once { IsDistinct K.eq (keys_of self.old.histograms.entries) }
+        ensures count { self.new.histograms.count ≡ self.old.histograms.count }
         ensures rest { (self.new.storage ≡ self.old.storage) × (self.new.counters ≡ self.old.counters) × (self.new.gauges ≡ self.old.gauges) }
     {
         self.histograms.retain(f)
@@ -282,11 +356,42 @@ where
 
     /// Removes a histogram, and tells whether it was there.
     pub fn delete_histogram(&mut self, key: &K) -> bool
-        ensures removed { Sets K.eq key.now None self.old.histograms self.new.histograms }
-        ensures answer { result ≡ is_some (held K.eq self.old.histograms key.now) }
+        ensures removed { Sets K.eq key.now None self.old.histograms.entries self.new.histograms.entries }
+        ensures answer { result ≡ is_some (held K.eq self.old.histograms.entries key.now) }
         ensures absent { result ≡ false → self.new ≡ self.old }
+        ensures count { self.new.histograms.count ≡ self.old.histograms.count }
         ensures rest { (self.new.storage ≡ self.old.storage) × (self.new.counters ≡ self.old.counters) × (self.new.gauges ≡ self.old.gauges) }
     {
         self.histograms.remove(key)
+    }
+
+    /// The place of a histogram, if the key is held and there is one shard.
+    pub fn histogram_place(&self, key: &K) -> Option<usize>
+        ensures { result ≡ place_of K.eq self.now.histograms key.now }
+    {
+        self.histograms.place(key)
+    }
+
+    /// The key and the cell of the histogram at a place.
+    pub fn histogram_at(&self, place: usize) -> Option<(&K, &S::Histogram)>
+        ensures { option_map deref_pair result ≡ entry_at self.now.histograms place }
+    {
+        self.histograms.at(place)
+    }
+
+    /// Calls `op` once on the cell of the histogram at a place, and answers what it answers.
+    pub fn change_histogram_at<V, F: FnOnce(&mut S::Histogram) -> V + Drop>(
+        &mut self,
+        place: usize,
+        op: F,
+    ) -> Option<V>
+        requires { F.IsAlwaysCallable op }
+        ensures some { IfSome result (λ v. ChangesAt (λ b r a. FnOnceReturnsAtMut F.FnOnce op b r a) place v self.old.histograms.entries self.new.histograms.entries) }
+        ensures none { IfNone result (self.new ≡ self.old) }
+        ensures found { is_some result ≡ is_some (entry_at self.old.histograms place) }
+        ensures count { self.new.histograms.count ≡ self.old.histograms.count }
+        ensures rest { (self.new.storage ≡ self.old.storage) × (self.new.counters ≡ self.old.counters) × (self.new.gauges ≡ self.old.gauges) }
+    {
+        self.histograms.change_at(place, op)
     }
 }

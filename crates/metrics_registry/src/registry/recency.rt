@@ -31,10 +31,10 @@ fn check<K: Hashable + Clone + Drop, C: Drop>(
     cells: &mut Shards<K, C>,
 ) -> Result<bool, Error>
     requires { (k c : K) → K.is_clone k c → K.eq k c ≡ true }
-    ensures answer { IfOk result (λ stays. stays ≡ (watch_step (Some timeout) seen (is_some (held K.eq cells.old key.now)) (get K.eq noted.old key.now)).0) }
+    ensures answer { IfOk result (λ stays. stays ≡ (watch_step (Some timeout) seen (is_some (held K.eq cells.old.entries key.now)) (get K.eq noted.old key.now)).0) }
     ensures ok { OnOk result ((q : K) → get K.eq noted.new q
-        ≡ cond (K.eq key.now q) ((watch_step (Some timeout) seen (is_some (held K.eq cells.old key.now)) (get K.eq noted.old key.now)).1) (get K.eq noted.old q)) }
-    ensures cells { IfOk result (λ stays. StaysOrGoes K.eq key.now stays cells.old cells.new) }
+        ≡ cond (K.eq key.now q) ((watch_step (Some timeout) seen (is_some (held K.eq cells.old.entries key.now)) (get K.eq noted.old key.now)).1) (get K.eq noted.old q)) }
+    ensures cells { IfOk result (λ stays. StaysOrGoes K.eq key.now stays cells.old.entries cells.new.entries × (cells.new.count ≡ cells.old.count)) }
     ensures err { IfErr result (λ e. (e ≡ OutOfMemory) × ((q : K) → get K.eq noted.new q ≡ get K.eq noted.old q) × (cells.new ≡ cells.old)) }
 {
     if let Some(entry) = noted.get(key) {
@@ -107,10 +107,10 @@ impl<K: Hashable + Clone + Drop> OwnedRecency<K> {
         S::Histogram: Drop,
         requires { (k c : K) → K.is_clone k c → K.eq k c ≡ true }
         ensures rules { rules_of self.new ≡ rules_of self.old }
-        ensures answer { IfOk result (λ stays. stays ≡ table_answer (rules_of self.old) (check_of CounterKind key.now generation now (is_some (held K.eq registry.old.counters key.now))) (table_of K.eq self.old)) }
+        ensures answer { IfOk result (λ stays. stays ≡ table_answer (rules_of self.old) (check_of CounterKind key.now generation now (is_some (held K.eq registry.old.counters.entries key.now))) (table_of K.eq self.old)) }
         ensures ok { OnOk result ((kind : AnyKind) (q : K) → table_of K.eq self.new kind q
-            ≡ table_after K.eq (rules_of self.old) (check_of CounterKind key.now generation now (is_some (held K.eq registry.old.counters key.now))) (table_of K.eq self.old) kind q) }
-        ensures cells { IfOk result (λ stays. StaysOrGoes K.eq key.now stays registry.old.counters registry.new.counters) }
+            ≡ table_after K.eq (rules_of self.old) (check_of CounterKind key.now generation now (is_some (held K.eq registry.old.counters.entries key.now))) (table_of K.eq self.old) kind q) }
+        ensures cells { IfOk result (λ stays. StaysOrGoes K.eq key.now stays registry.old.counters.entries registry.new.counters.entries × (registry.new.counters.count ≡ registry.old.counters.count)) }
         ensures err { IfErr result (λ e. (e ≡ OutOfMemory) × ((kind : AnyKind) (q : K) → table_of K.eq self.new kind q ≡ table_of K.eq self.old kind q) × (registry.new ≡ registry.old)) }
         ensures rest { (registry.new.storage ≡ registry.old.storage) × (registry.new.gauges ≡ registry.old.gauges) × (registry.new.histograms ≡ registry.old.histograms) }
     {
@@ -121,7 +121,13 @@ impl<K: Hashable + Clone + Drop> OwnedRecency<K> {
             generation,
             moment: now,
         };
-        check(&mut self.noted.counter, timeout, key, seen, &mut registry.counters)
+        check(
+            &mut self.noted.counter,
+            timeout,
+            key,
+            seen,
+            &mut registry.counters,
+        )
     }
 
     /// Whether a gauge that has this generation at this moment is still in use. One that isn't is removed from the registry.
@@ -140,10 +146,10 @@ impl<K: Hashable + Clone + Drop> OwnedRecency<K> {
         S::Histogram: Drop,
         requires { (k c : K) → K.is_clone k c → K.eq k c ≡ true }
         ensures rules { rules_of self.new ≡ rules_of self.old }
-        ensures answer { IfOk result (λ stays. stays ≡ table_answer (rules_of self.old) (check_of GaugeKind key.now generation now (is_some (held K.eq registry.old.gauges key.now))) (table_of K.eq self.old)) }
+        ensures answer { IfOk result (λ stays. stays ≡ table_answer (rules_of self.old) (check_of GaugeKind key.now generation now (is_some (held K.eq registry.old.gauges.entries key.now))) (table_of K.eq self.old)) }
         ensures ok { OnOk result ((kind : AnyKind) (q : K) → table_of K.eq self.new kind q
-            ≡ table_after K.eq (rules_of self.old) (check_of GaugeKind key.now generation now (is_some (held K.eq registry.old.gauges key.now))) (table_of K.eq self.old) kind q) }
-        ensures cells { IfOk result (λ stays. StaysOrGoes K.eq key.now stays registry.old.gauges registry.new.gauges) }
+            ≡ table_after K.eq (rules_of self.old) (check_of GaugeKind key.now generation now (is_some (held K.eq registry.old.gauges.entries key.now))) (table_of K.eq self.old) kind q) }
+        ensures cells { IfOk result (λ stays. StaysOrGoes K.eq key.now stays registry.old.gauges.entries registry.new.gauges.entries × (registry.new.gauges.count ≡ registry.old.gauges.count)) }
         ensures err { IfErr result (λ e. (e ≡ OutOfMemory) × ((kind : AnyKind) (q : K) → table_of K.eq self.new kind q ≡ table_of K.eq self.old kind q) × (registry.new ≡ registry.old)) }
         ensures rest { (registry.new.storage ≡ registry.old.storage) × (registry.new.counters ≡ registry.old.counters) × (registry.new.histograms ≡ registry.old.histograms) }
     {
@@ -154,7 +160,13 @@ impl<K: Hashable + Clone + Drop> OwnedRecency<K> {
             generation,
             moment: now,
         };
-        check(&mut self.noted.gauge, timeout, key, seen, &mut registry.gauges)
+        check(
+            &mut self.noted.gauge,
+            timeout,
+            key,
+            seen,
+            &mut registry.gauges,
+        )
     }
 
     /// Whether a histogram that has this generation at this moment is still in use. One that isn't is removed from the registry.
@@ -173,10 +185,10 @@ impl<K: Hashable + Clone + Drop> OwnedRecency<K> {
         S::Histogram: Drop,
         requires { (k c : K) → K.is_clone k c → K.eq k c ≡ true }
         ensures rules { rules_of self.new ≡ rules_of self.old }
-        ensures answer { IfOk result (λ stays. stays ≡ table_answer (rules_of self.old) (check_of HistogramKind key.now generation now (is_some (held K.eq registry.old.histograms key.now))) (table_of K.eq self.old)) }
+        ensures answer { IfOk result (λ stays. stays ≡ table_answer (rules_of self.old) (check_of HistogramKind key.now generation now (is_some (held K.eq registry.old.histograms.entries key.now))) (table_of K.eq self.old)) }
         ensures ok { OnOk result ((kind : AnyKind) (q : K) → table_of K.eq self.new kind q
-            ≡ table_after K.eq (rules_of self.old) (check_of HistogramKind key.now generation now (is_some (held K.eq registry.old.histograms key.now))) (table_of K.eq self.old) kind q) }
-        ensures cells { IfOk result (λ stays. StaysOrGoes K.eq key.now stays registry.old.histograms registry.new.histograms) }
+            ≡ table_after K.eq (rules_of self.old) (check_of HistogramKind key.now generation now (is_some (held K.eq registry.old.histograms.entries key.now))) (table_of K.eq self.old) kind q) }
+        ensures cells { IfOk result (λ stays. StaysOrGoes K.eq key.now stays registry.old.histograms.entries registry.new.histograms.entries × (registry.new.histograms.count ≡ registry.old.histograms.count)) }
         ensures err { IfErr result (λ e. (e ≡ OutOfMemory) × ((kind : AnyKind) (q : K) → table_of K.eq self.new kind q ≡ table_of K.eq self.old kind q) × (registry.new ≡ registry.old)) }
         ensures rest { (registry.new.storage ≡ registry.old.storage) × (registry.new.counters ≡ registry.old.counters) × (registry.new.gauges ≡ registry.old.gauges) }
     {
@@ -187,6 +199,12 @@ impl<K: Hashable + Clone + Drop> OwnedRecency<K> {
             generation,
             moment: now,
         };
-        check(&mut self.noted.histogram, timeout, key, seen, &mut registry.histograms)
+        check(
+            &mut self.noted.histogram,
+            timeout,
+            key,
+            seen,
+            &mut registry.histograms,
+        )
     }
 }

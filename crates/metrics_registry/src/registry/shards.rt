@@ -1,12 +1,13 @@
 //! The cells of one kind, in shards.
-ghost use Rattle.std.specs.Prelude.{◌≡◌, ◌<◌, ◌%◌, true, false, cond, ◌∷◌, [], None, Some, Ok, IfOk, IfErr, OnOk, OnErr, IfSome, is_some, MatchResult, length, vec_len};
+ghost use Rattle.std.specs.Prelude.{◌≡◌, ◌<◌, ◌%◌, true, false, cond, ◌∷◌, [], None, Some, Ok, IfOk, IfErr, OnOk, OnErr, IfSome, IfNone, is_some, MatchResult, length, vec_len, option_map, slice_get};
 ghost use Rattle.std.specs.Option.{option_copied};
+ghost use Rattle.std.specs.Map.Iter.{deref_pair};
 ghost use Rattle.std.specs.Fn.{FnOnceReturnsAtMut};
 ghost use Rattle.std.specs.List.{FoldsTo, IsDistinct};
 ghost use Rattle.std.specs.Map.{keys_of};
 ghost use Rattle.indexmap.specs.IndexMap.{IsUnique};
 ghost use Rattle.metrics.specs.declared.error.Error.TheVariants.{Memory as OutOfMemory};
-ghost use Rattle.metrics_registry.specs.Held.{held, Sets, Calls, Adds, CallsAtEntry, Retains, Copies};
+ghost use Rattle.metrics_registry.specs.Held.{held, Sets, Calls, Adds, CallsAtEntry, Retains, Copies, Appends, ChangesAt, place_of, entry_at};
 ghost use Rattle.std.specs.HashMap.{get};
 
 use crate::common::Hashable;
@@ -16,19 +17,19 @@ use std::alloc::Global;
 use std::collections::HashMap;
 use std::marker::Model;
 
-/// The cells of one kind by their keys. Contracts see the list of the entries.
+/// The cells of one kind by their keys. Contracts see the number of shards and the list of the entries.
 #[derive(Drop)]
 pub(crate) struct Shards<K: Hashable, C> {
     maps: Vec<IndexMap<K, C>>,
 }
 
 impl<K: Hashable, C> Model for Shards<K, C> {
-    ghost use Rattle.std.specs.Prelude.{◌<◌, List, vec_len};
-    ghost use Rattle.metrics_registry.specs.Held.{entries_of, ArePlaced};
+    ghost use Rattle.std.specs.Prelude.{◌<◌, vec_len};
+    ghost use Rattle.metrics_registry.specs.Held.{Cells, entries_of, ArePlaced};
 
-    ghost Value = { List (K × C) };
+    ghost Value = { Cells K C };
 
-    ghost view = { λ s. entries_of s.maps.items };
+    ghost view = { λ s. record { count = vec_len s.maps; entries = entries_of s.maps.items } };
 
     ghost invariant = { λ s. (0 < vec_len s.maps) × ArePlaced K.eq K.number (vec_len s.maps) 0 s.maps.items };
 }
@@ -42,6 +43,7 @@ fn change<K: Hashable, C, V, F: FnOnce(&mut C) -> V>(
     requires { F.IsAlwaysCallable op }
     ensures ok { IfOk result (λ v. Calls K.eq (λ b r a. FnOnceReturnsAtMut F.FnOnce op b r a) key.now v map.old.entries map.new.entries) }
     ensures err { IfErr result (λ f. (f ≡ op) × (held K.eq map.old.entries key.now ≡ None) × (map.new.entries ≡ map.old.entries)) }
+    ensures keys { keys_of map.new.entries ≡ keys_of map.old.entries }
     ensures unique { IsUnique K.eq map.new }
 {
     match map.get_mut(key) {
@@ -61,6 +63,7 @@ fn create<K: Hashable + Clone, C: Drop, V, F: FnOnce(&mut C) -> V + Drop>(
     requires absent { held K.eq map.old.entries key.now ≡ None }
     requires clones { (k c : K) → K.is_clone k c → K.eq k c ≡ true }
     ensures ok { IfOk result (λ v. Adds K.eq (λ b r a. FnOnceReturnsAtMut F.FnOnce op b r a) key.now cell v map.old.entries map.new.entries) }
+    ensures appends { IfOk result (λ v. Appends K.is_clone (λ b r a. FnOnceReturnsAtMut F.FnOnce op b r a) key.now cell v map.old.entries map.new.entries) }
     ensures err { IfErr result (λ e. (e ≡ OutOfMemory) × (map.new.entries ≡ map.old.entries)) }
     ensures unique { OnOk result (IsUnique K.eq map.new) }
 {
@@ -72,6 +75,23 @@ fn create<K: Hashable + Clone, C: Drop, V, F: FnOnce(&mut C) -> V + Drop>(
         unreachable!()
     };
     Ok(answer)
+}
+
+/// Calls `op` on the cell at a place, if there is one.
+fn change_at<K: Hashable, C, V, F: FnOnce(&mut C) -> V + Drop>(
+    map: &mut IndexMap<K, C>,
+    place: usize,
+    op: F,
+) -> Option<V>
+    requires { F.IsAlwaysCallable op }
+    ensures some { IfSome result (λ v. ChangesAt (λ b r a. FnOnceReturnsAtMut F.FnOnce op b r a) place v map.old.entries map.new.entries) }
+    ensures none { IfNone result (map.new.entries ≡ map.old.entries) }
+    ensures found { is_some result ≡ is_some (slice_get map.old.entries place) }
+    ensures keys { keys_of map.new.entries ≡ keys_of map.old.entries }
+    ensures unique { IsUnique K.eq map.new }
+{
+    let cell = map.get_index_mut(place)?;
+    Some(op(cell))
 }
 
 /// Removes a key, and tells whether it was held.
@@ -171,7 +191,7 @@ impl<K: Hashable + Drop, C: Drop> Shards<K, C> {
     /// As many shards as asked for, with nothing in them.
     pub fn new(alloc: Global, count: usize) -> Result<Shards<K, C>, Error>
         requires { 0 < count }
-        ensures { MatchResult result (λ s. s ≡ []) (λ e. e ≡ OutOfMemory) }
+        ensures { MatchResult result (λ s. s ≡ record { count = count; entries = [] }) (λ e. e ≡ OutOfMemory) }
     {
         let mut maps = Vec::new(alloc);
         maps.reserve(count)?;
@@ -182,7 +202,7 @@ impl<K: Hashable + Drop, C: Drop> Shards<K, C> {
     }
 
     pub fn get(&self, key: &K) -> Option<&C>
-        ensures { option_copied result ≡ held K.eq self.now key.now }
+        ensures { option_copied result ≡ held K.eq self.now.entries key.now }
     {
         let shard = shard_of(key, self.maps.len());
         self.maps[shard].get(key)
@@ -191,8 +211,10 @@ impl<K: Hashable + Drop, C: Drop> Shards<K, C> {
     /// Calls `op` on the cell of a key. Where the key isn't held `op` comes back.
     pub fn change<V, F: FnOnce(&mut C) -> V>(&mut self, key: &K, op: F) -> Result<V, F>
         requires { F.IsAlwaysCallable op }
-        ensures ok { IfOk result (λ v. Calls K.eq (λ b r a. FnOnceReturnsAtMut F.FnOnce op b r a) key.now v self.old self.new) }
-        ensures err { IfErr result (λ f. (f ≡ op) × (held K.eq self.old key.now ≡ None) × (self.new ≡ self.old)) }
+        ensures ok { IfOk result (λ v. Calls K.eq (λ b r a. FnOnceReturnsAtMut F.FnOnce op b r a) key.now v self.old.entries self.new.entries) }
+        ensures err { IfErr result (λ f. (f ≡ op) × (held K.eq self.old.entries key.now ≡ None) × (self.new ≡ self.old)) }
+        ensures keys { keys_of self.new.entries ≡ keys_of self.old.entries }
+        ensures count { self.new.count ≡ self.old.count }
     {
         let shard = shard_of(key, self.maps.len());
         change(&mut self.maps[shard], key, op)
@@ -208,10 +230,12 @@ impl<K: Hashable + Drop, C: Drop> Shards<K, C> {
     where
         K: Clone,
         requires op { F.IsAlwaysCallable op }
-        requires absent { held K.eq self.old key.now ≡ None }
+        requires absent { held K.eq self.old.entries key.now ≡ None }
         requires clones { (k c : K) → K.is_clone k c → K.eq k c ≡ true }
-        ensures ok { IfOk result (λ v. Adds K.eq (λ b r a. FnOnceReturnsAtMut F.FnOnce op b r a) key.now cell v self.old self.new) }
+        ensures ok { IfOk result (λ v. Adds K.eq (λ b r a. FnOnceReturnsAtMut F.FnOnce op b r a) key.now cell v self.old.entries self.new.entries) }
+        ensures appends { IfOk result (λ v. self.old.count ≡ 1 → Appends K.is_clone (λ b r a. FnOnceReturnsAtMut F.FnOnce op b r a) key.now cell v self.old.entries self.new.entries) }
         ensures err { IfErr result (λ e. (e ≡ OutOfMemory) × (self.new ≡ self.old)) }
+        ensures count { self.new.count ≡ self.old.count }
     {
         let shard = shard_of(key, self.maps.len());
         create(&mut self.maps[shard], key, cell, op)
@@ -220,8 +244,8 @@ impl<K: Hashable + Drop, C: Drop> Shards<K, C> {
     /// Calls `f` once for each entry, in the order of the entries.
     pub fn visit<F: FnMut(&K, &C) + Drop>(&self, f: F)
         requires { F.IsAlwaysCallable f }
-        ensures calls { (last : F) × FoldsTo (λ p e q. CallsAtEntry F.FnMut p e tt q) f self.now last }
-        ensures once { IsDistinct K.eq (keys_of self.now) }
+        ensures calls { (last : F) × FoldsTo (λ p e q. CallsAtEntry F.FnMut p e tt q) f self.now.entries last }
+        ensures once { IsDistinct K.eq (keys_of self.now.entries) }
     {
         let mut f = f;
         for map in &self.maps {
@@ -235,7 +259,7 @@ impl<K: Hashable + Drop, C: Drop> Shards<K, C> {
         K: Clone,
         C: Clone,
         requires { (k c : K) → K.is_clone k c → K.eq k c ≡ true }
-        ensures ok { IfOk result (λ m. Copies K.eq C.is_clone self.now (λ _. None) (get K.eq m)) }
+        ensures ok { IfOk result (λ m. Copies K.eq C.is_clone self.now.entries (λ _. None) (get K.eq m)) }
         ensures err { IfErr result (λ e. e ≡ OutOfMemory) }
     {
         let mut handles = HashMap::new(alloc);
@@ -248,8 +272,9 @@ impl<K: Hashable + Drop, C: Drop> Shards<K, C> {
     /// Keeps the entries for which `f` answers true. It is called once for each entry, in the order of the entries.
     pub fn retain<F: FnMut(&K, &C) -> bool + Drop>(&mut self, f: F)
         requires { F.IsAlwaysCallable f }
-        ensures retains { (last : F) × Retains (λ p e b q. CallsAtEntry F.FnMut p e b q) f self.old self.new last }
-        ensures once { IsDistinct K.eq (keys_of self.old) }
+        ensures retains { (last : F) × Retains (λ p e b q. CallsAtEntry F.FnMut p e b q) f self.old.entries self.new.entries last }
+        ensures once { IsDistinct K.eq (keys_of self.old.entries) }
+        ensures count { self.new.count ≡ self.old.count }
     {
         let mut f = f;
         for i in 0..self.maps.len() {
@@ -259,19 +284,55 @@ impl<K: Hashable + Drop, C: Drop> Shards<K, C> {
 
     /// Removes a key, and tells whether it was held.
     pub fn remove(&mut self, key: &K) -> bool
-        ensures removed { Sets K.eq key.now None self.old self.new }
-        ensures answer { result ≡ is_some (held K.eq self.old key.now) }
+        ensures removed { Sets K.eq key.now None self.old.entries self.new.entries }
+        ensures answer { result ≡ is_some (held K.eq self.old.entries key.now) }
         ensures absent { result ≡ false → self.new ≡ self.old }
+        ensures count { self.new.count ≡ self.old.count }
     {
         let shard = shard_of(key, self.maps.len());
         remove(&mut self.maps[shard], key)
     }
 
     pub fn clear(&mut self)
-        ensures { self.new ≡ [] }
+        ensures empty { self.new.entries ≡ [] }
+        ensures count { self.new.count ≡ self.old.count }
     {
         for i in 0..self.maps.len() {
             self.maps[i].clear();
         }
+    }
+
+    /// The place of a key among the entries, where there is one shard.
+    pub fn place(&self, key: &K) -> Option<usize>
+        ensures { result ≡ place_of K.eq self.now key.now }
+    {
+        if self.maps.len() != 1 {
+            return None;
+        }
+        self.maps[0].get_index_of(key)
+    }
+
+    /// The entry at a place, where there is one shard.
+    pub fn at(&self, place: usize) -> Option<(&K, &C)>
+        ensures { option_map deref_pair result ≡ entry_at self.now place }
+    {
+        if self.maps.len() != 1 {
+            return None;
+        }
+        self.maps[0].get_index(place)
+    }
+
+    /// Calls `op` on the cell at a place, where there is one shard and a cell stands there.
+    pub fn change_at<V, F: FnOnce(&mut C) -> V + Drop>(&mut self, place: usize, op: F) -> Option<V>
+        requires { F.IsAlwaysCallable op }
+        ensures some { IfSome result (λ v. ChangesAt (λ b r a. FnOnceReturnsAtMut F.FnOnce op b r a) place v self.old.entries self.new.entries) }
+        ensures none { IfNone result (self.new ≡ self.old) }
+        ensures found { is_some result ≡ is_some (entry_at self.old place) }
+        ensures count { self.new.count ≡ self.old.count }
+    {
+        if self.maps.len() != 1 {
+            return None;
+        }
+        change_at(&mut self.maps[0], place, op)
     }
 }
