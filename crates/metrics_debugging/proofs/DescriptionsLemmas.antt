@@ -4,11 +4,11 @@ use Rattle.std.specs.Option.{option_or}
 use Rattle.std.specs.Cmp.Lexicographic.{bytes_decides}
 use Rattle.metrics_names.specs.declared.common.Unit.{Unit as Measure}
 use Rattle.metrics.specs.Book.{described_again}
-use Rattle.metrics_debugging.specs.declared.debugging.descriptions.Note.{Note}
-use Rattle.metrics_debugging.specs.DebuggingPlaces.{description_of}
+use Rattle.metrics_debugging.specs.declared.debugging.descriptions.Described.{Described}
+use Rattle.metrics_debugging.specs.DebuggingDescriptions.{description_of}
 
--- a new note at a name, and no change elsewhere
-pub noted : (f g : List ℕ → Option Note) (name bs : List ℕ) (unit : Option Measure) (text : List ℕ) (x : Note) (n : List ℕ) →
+-- a new description of a name, and no change elsewhere
+pub noted : (f g : List ℕ → Option Described) (name bs : List ℕ) (unit : Option Measure) (text : List ℕ) (x : Described) (n : List ℕ) →
     g n ≡ cond (bytes_eq bs n) (Some x) (f n) → bs ≡ name → x.unit ≡ option_or unit (description_of (f name)).unit → x.text ≡ text →
     description_of (g n) ≡ cond (bytes_eq name n) (described_again unit text (description_of (f n))) (description_of (f n))
 noted f g name bs unit text x n e b u t =

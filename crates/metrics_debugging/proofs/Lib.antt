@@ -1,3 +1,4 @@
 pub mod SeriesLemmas
+pub mod CellsLemmas
 pub mod DescriptionsLemmas
-pub mod SamplesLemmas
+pub mod OrderLemmas

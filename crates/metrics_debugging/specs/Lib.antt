@@ -1,5 +1,4 @@
-pub mod DebuggingValues
-pub mod DebuggingPlaces
-pub mod DebuggingSeries
+pub mod DebuggingDescriptions
+pub mod DebuggingCells
 pub mod DebuggingUpdates
 pub mod Debugging

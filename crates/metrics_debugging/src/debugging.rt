@@ -3,13 +3,11 @@ ghost use Rattle.std.specs.Prelude.{◌≡◌, ◌≤◌, [], MatchResult, IsOk,
 ghost use Rattle.metrics_names.specs.declared.refused.Refused.TheVariants.{Memory};
 ghost use Rattle.metrics.specs.Meaning.{one_book, KeepsTargets, Snapshots};
 ghost use Rattle.metrics_debugging.specs.Debugging.{content_of, IsNewBook};
+ghost use Rattle.metrics_debugging.specs.DebuggingCells.{all_series};
 
+mod cells;
 mod descriptions;
-mod entry;
-mod places;
-mod samples;
 mod series;
-mod value;
 
 use descriptions::Descriptions;
 use metrics::{
@@ -47,7 +45,7 @@ impl DebuggingRecorder {
 }
 
 impl Recorder for DebuggingRecorder {
-    ghost meaning = { λ r. one_book (content_of r.series.entries.items r.descriptions) };
+    ghost meaning = { λ r. one_book (content_of (all_series r.series.cells r.series.order.items) r.descriptions) };
 
     fn books(&self) -> usize {
         1
@@ -82,7 +80,7 @@ impl Recorder for DebuggingRecorder {
             },
             None => {
                 let mut found = room_for_one(alloc)?;
-                let series = self.series.add(alloc, kind, key)?;
+                let series = self.series.add(kind, key)?;
                 found.push_reserved(Address { book: 0, series });
                 Ok(found)
             }

@@ -1,18 +1,18 @@
 //! The descriptions of names.
 ghost use Rattle.std.specs.Prelude.{◌≡◌, ◌&&◌, if◌then◌else◌, bytes_eq, OnOk, OnErr, IfOk, IfErr};
-ghost use Rattle.std.specs.HashMap.{get_by_text};
+ghost use Rattle.indexmap.specs.IndexMap.{get_by_text};
 ghost use Rattle.metrics_names.specs.declared.refused.Refused.TheVariants.{Memory};
 ghost use Rattle.metrics_names.specs.Names.{kind_eq};
 ghost use Rattle.metrics.specs.Book.{no_description, described_again};
-ghost use Rattle.metrics_debugging.specs.DebuggingPlaces.{described_by, description_of, notes_of};
+ghost use Rattle.metrics_debugging.specs.DebuggingDescriptions.{described_by, description_of};
 
-use metrics::{MetricKind, Refused, Text, Unit};
+use indexmap::IndexMap;
+use metrics::{MetricKind, PerKind, Refused, Text, Unit};
 use std::alloc::{AllocError, Global};
-use std::collections::HashMap;
 
 /// What is told of a name that was described.
 #[derive(Drop)]
-pub(crate) struct Note {
+pub(crate) struct Described {
     unit: Option<Unit>,
     text: Text,
 }
@@ -20,9 +20,7 @@ pub(crate) struct Note {
 /// The descriptions by name, with a map for each kind.
 #[derive(Drop)]
 pub(crate) struct Descriptions {
-    counters: HashMap<String, Note>,
-    gauges: HashMap<String, Note>,
-    histograms: HashMap<String, Note>,
+    names: PerKind<IndexMap<String, Described>>,
 }
 
 impl Descriptions {
@@ -30,9 +28,11 @@ impl Descriptions {
         ensures { (kind : _) (name : _) → described_by result kind name ≡ no_description }
     {
         Descriptions {
-            counters: HashMap::new(alloc),
-            gauges: HashMap::new(alloc),
-            histograms: HashMap::new(alloc),
+            names: PerKind {
+                counter: IndexMap::new(alloc),
+                gauge: IndexMap::new(alloc),
+                histogram: IndexMap::new(alloc),
+            },
         }
     }
 
@@ -44,19 +44,9 @@ impl Descriptions {
     ) -> Result<(Option<Unit>, Option<Text>), AllocError>
         ensures { IfOk result (λ d. record { unit = d.0; text = d.1 } ≡ described_by self.now kind name.now) }
     {
-        match self.of_kind(kind).get(name) {
-            Some(note) => Ok((note.unit, Some(note.text.clone()?))),
+        match self.names.of(kind).get(name) {
+            Some(described) => Ok((described.unit, Some(described.text.clone()?))),
             None => Ok((None, None)),
-        }
-    }
-
-    fn of_kind(&self, kind: MetricKind) -> &HashMap<String, Note>
-        ensures { result.now ≡ notes_of self.now kind }
-    {
-        match kind {
-            MetricKind::Counter => &self.counters,
-            MetricKind::Gauge => &self.gauges,
-            MetricKind::Histogram => &self.histograms,
         }
     }
 
@@ -74,36 +64,38 @@ impl Descriptions {
         ensures memory { IfErr result (λ e. e ≡ Memory 0) }
     {
         match kind {
-            MetricKind::Counter => note_down(alloc, &mut self.counters, name, unit, text),
-            MetricKind::Gauge => note_down(alloc, &mut self.gauges, name, unit, text),
-            MetricKind::Histogram => note_down(alloc, &mut self.histograms, name, unit, text),
+            MetricKind::Counter => describe_name(alloc, &mut self.names.counter, name, unit, text),
+            MetricKind::Gauge => describe_name(alloc, &mut self.names.gauge, name, unit, text),
+            MetricKind::Histogram => {
+                describe_name(alloc, &mut self.names.histogram, name, unit, text)
+            }
         }
     }
 }
 
-fn note_down(
+fn describe_name(
     alloc: Global,
-    notes: &mut HashMap<String, Note>,
+    names: &mut IndexMap<String, Described>,
     name: &str,
     unit: Option<Unit>,
     text: &str,
 ) -> Result<(), Refused>
-    ensures ok { OnOk result ((n : _) → description_of (get_by_text notes.new n) ≡ (if bytes_eq name.now n then described_again unit text.now (description_of (get_by_text notes.old n)) else description_of (get_by_text notes.old n))) }
-    ensures err { OnErr result ((n : _) → description_of (get_by_text notes.new n) ≡ description_of (get_by_text notes.old n)) }
+    ensures ok { OnOk result ((n : _) → description_of (get_by_text names.new n) ≡ (if bytes_eq name.now n then described_again unit text.now (description_of (get_by_text names.old n)) else description_of (get_by_text names.old n))) }
+    ensures err { OnErr result ((n : _) → description_of (get_by_text names.new n) ≡ description_of (get_by_text names.old n)) }
     ensures memory { IfErr result (λ e. e ≡ Memory 0) }
 {
-    let unit = unit.or(unit_of(notes, name));
+    let unit = unit.or(unit_of(names, name));
     let text = Text::new(alloc, text)?;
     let name = String::from_str(alloc, name)?;
-    notes.insert(name, Note { unit, text })?;
+    names.insert(name, Described { unit, text })?;
     Ok(())
 }
 
-fn unit_of(notes: &HashMap<String, Note>, name: &str) -> Option<Unit>
-    ensures { result ≡ (description_of (get_by_text notes.now name.now)).unit }
+fn unit_of(names: &IndexMap<String, Described>, name: &str) -> Option<Unit>
+    ensures { result ≡ (description_of (get_by_text names.now name.now)).unit }
 {
-    match notes.get(name) {
-        Some(note) => note.unit,
+    match names.get(name) {
+        Some(described) => described.unit,
         None => None,
     }
 }

@@ -1,29 +1,34 @@
-use Rattle.std.proofs.Common.{◌≡◌, ◌&&◌, cond, Some, arith, length, ap, ◌∙◌, ◌++◌, ◌∷◌, []}
-use Rattle.metrics_names.specs.Names.{kind_eq, key_eq}
-use Rattle.metrics.specs.Book.{new_series, Series}
-use Rattle.metrics_debugging.specs.declared.debugging.entry.Entry.{Entry}
-use Rattle.metrics_debugging.specs.DebuggingPlaces.{place_at}
-use Rattle.metrics_debugging.specs.DebuggingSeries.{all_series, series_key}
-use Rattle.metrics_debugging.proofs.SeriesLemmas.{places_push, length-all_series, new_entry}
+use Rattle.std.proofs.Common.{◌≡◌, ◌∙◌, ◌++◌, ◌∷◌, [], ap, sym, refl, length, cond, ℕ, List, arith}
+use Rattle.metrics_names.specs.declared.kind.MetricKind.{MetricKind}
+use Rattle.metrics_names.specs.Names.{kind_eq}
+use Rattle.metrics_debugging.specs.declared.debugging.series.Placed.{Placed}
+use Rattle.metrics_debugging.specs.DebuggingCells.{numbers_of}
+use Rattle.metrics_debugging.proofs.OrderLemmas.{no-cell, all-added, step-added}
 use Rattle.metrics_debugging.proofs.debugging.series.SeriesList.add.Goals as goal
 
-pub returns-clause-ok : goal.returns-clause-ok
-returns-clause-ok c =
-    let es = c.args.self.now.entries.items in
-    let f : Entry = record { key = c.in_ok-copy_of.field-0; value = c.new.result } in
-    let items : c.push_reserved.new.self.items ≡ es ++ f ∷ [] = c.push_reserved.ensures.items ∙ ap (λ xs. xs ++ f ∷ []) c.reserve.ensures.items in
-    new_entry es _ f c.args.kind c.args.key.now items c.in_ok-copy_of.ensures c.new.ensures
+pub create-requires : goal.create-requires
+create-requires c = no-cell c.args.self.now.cells c.args.self.now.order.items c.args.self.now.numbers c.args.kind c.args.key.now c.args.self.now.in_step c.requires
 
 pub invariant_of-self-2 : goal.invariant_of-self-2
 invariant_of-self-2 c =
-    let es = c.args.self.now.entries.items in
-    let f : Entry = record { key = c.in_ok-copy_of.field-0; value = c.new.result } in
-    let items : c.push_reserved.new.self.items ≡ es ++ f ∷ [] = c.push_reserved.ensures.items ∙ ap (λ xs. xs ++ f ∷ []) c.reserve.ensures.items in
-    let x : Series = new_series (series_key c.args.kind c.args.key.now) in
-    let all : all_series c.push_reserved.new.self.items ≡ all_series es ++ x ∷ [] = new_entry es _ f c.args.kind c.args.key.now items c.in_ok-copy_of.ensures c.new.ensures in
-    let n : c.len-place.result ≡ length (all_series es) = omega (arith, c.len-place.ensures, length-all_series es, c.args.self.now.entries.ok.0) in
-    record {
-      in_step = places_push c.args.self.now.places c.insert.new.self es _ x c.len-place.result c.args.self.now.in_step c.requires all n
-          (λ kind key. (c.in_ok-insert.ensures {u = tt}).ok kind key
-          ∙ ap (λ q. cond (kind_eq c.args.kind kind && key_eq q key) (Some c.len-place.result) (place_at c.args.self.now.places kind key)) c.in_ok-copy_of-2.ensures);
-    }
+    let old = c.args.self.now in
+    let p : Placed = record { kind = c.args.kind; place = c.len-place.result } in
+    let place : p.place ≡ length (numbers_of old.numbers c.args.kind) = omega (arith, c.len-place.ensures, c.of.result.now.ok.0, ap (λ v. length v.items) c.of.ensures) in
+    let placed : c.push_reserved.new.self.items ≡ old.order.items ++ p ∷ [] = c.push_reserved.ensures.items ∙ ap (λ xs. xs ++ p ∷ []) ((c.in_ok-reserve.ensures {u = tt}).items) in
+    let number : c.len-number.result ≡ length old.order.items = omega (arith, c.len-number.ensures, old.order.ok.0) in
+    let numbered : (k : MetricKind) → numbers_of c.push_number.new.numbers k ≡ cond (kind_eq c.args.kind k) (numbers_of old.numbers k ++ length old.order.items ∷ []) (numbers_of old.numbers k) =
+        λ k. c.push_number.ensures k ∙ ap (λ (xs : List ℕ). cond (kind_eq c.args.kind k) (xs ++ c.len-number.result ∷ []) xs) (c.make_room.ensures.same k)
+        ∙ ap (λ n. cond (kind_eq c.args.kind k) (numbers_of old.numbers k ++ n ∷ []) (numbers_of old.numbers k)) number in
+    record { in_step = step-added old.cells c.create.new.self old.order.items c.push_reserved.new.self.items old.numbers c.push_number.new.numbers c.args.kind c.args.key.now p old.in_step c.requires refl place placed ((c.in_ok-create.ensures {u = tt}).ok) numbered }
+
+pub returns-clause-ok : goal.returns-clause-ok
+returns-clause-ok c =
+    let old = c.args.self.now in
+    let p : Placed = record { kind = c.args.kind; place = c.len-place.result } in
+    let place : p.place ≡ length (numbers_of old.numbers c.args.kind) = omega (arith, c.len-place.ensures, c.of.result.now.ok.0, ap (λ v. length v.items) c.of.ensures) in
+    let placed : c.push_reserved.new.self.items ≡ old.order.items ++ p ∷ [] = c.push_reserved.ensures.items ∙ ap (λ xs. xs ++ p ∷ []) ((c.in_ok-reserve.ensures {u = tt}).items) in
+    let number : c.len-number.result ≡ length old.order.items = omega (arith, c.len-number.ensures, old.order.ok.0) in
+    let numbered : (k : MetricKind) → numbers_of c.push_number.new.numbers k ≡ cond (kind_eq c.args.kind k) (numbers_of old.numbers k ++ length old.order.items ∷ []) (numbers_of old.numbers k) =
+        λ k. c.push_number.ensures k ∙ ap (λ (xs : List ℕ). cond (kind_eq c.args.kind k) (xs ++ c.len-number.result ∷ []) xs) (c.make_room.ensures.same k)
+        ∙ ap (λ n. cond (kind_eq c.args.kind k) (numbers_of old.numbers k ++ n ∷ []) (numbers_of old.numbers k)) number in
+    all-added old.cells c.create.new.self old.order.items c.push_reserved.new.self.items old.numbers c.push_number.new.numbers c.args.kind c.args.key.now p old.in_step c.requires refl place placed ((c.in_ok-create.ensures {u = tt}).ok) numbered

@@ -1,9 +1,21 @@
-use Rattle.std.proofs.Common.{ap, map, ◌∙◌}
-use Rattle.metrics_debugging.specs.DebuggingSeries.{all_series}
-use Rattle.metrics_debugging.proofs.SeriesLemmas.{places_same, keys_reset, key_of}
+use Rattle.std.proofs.Common.{◌≡◌, ◌∙◌, ◌≤◌, ap, sym, length, arith}
+use Rattle.metrics.specs.Book.{after_reset}
+use Rattle.metrics.specs.Targets.{change_at}
+use Rattle.metrics_debugging.specs.DebuggingCells.{all_series, series_at}
+use Rattle.metrics_debugging.proofs.OrderLemmas.{first-more, first-all, length-map}
 use Rattle.metrics_debugging.proofs.debugging.series.SeriesList.reset.Goals as goal
 
-pub invariant_of-self : goal.invariant_of-self
-invariant_of-self c =
-    let es = c.args.self.now.entries.items in
-    record { in_step = places_same c.args.self.now.places es _ (ap (map key_of) c.reset_all.ensures ∙ keys_reset c.args.reset (all_series es)) c.args.self.now.in_step }
+pub loop-series-preserved : goal.loop-series-preserved
+loop-series-preserved c =
+    let i = c.loop-series.series in
+    let old = c.args.self.now in
+    record {
+      order = c.reset_one.ensures.order ∙ c.loop-series.invariant.order;
+      values = c.reset_one.ensures.values ∙ (ap (change_at i (after_reset c.args.reset)) c.loop-series.invariant.values ∙ first-more i (after_reset c.args.reset) (all_series old.cells old.order.items));
+    }
+
+pub returns : goal.returns
+returns c =
+    let old = c.args.self.now in
+    let past : length (all_series old.cells old.order.items) ≤ c.loop-series.series = omega (arith, c.loop-series-test.false, c.len-series-end.ensures, old.order.ok.0, length-map (series_at old.cells) old.order.items) in
+    c.loop-series.invariant.values ∙ first-all c.loop-series.series (after_reset c.args.reset) (all_series old.cells old.order.items) past
