@@ -1,5 +1,5 @@
 -- The cells of a kind as series, and what a call on one of them is to them.
-use Rattle.std.proofs.Common.{◌≡◌, ℕ, zero, suc, ◌+◌, ◌<◌, Bool, true, false, cond, not, ◌&&◌, List, [], ◌∷◌, ◌++◌, length, map, Option, Some, None, Result, Ok, Err, position, refl, ap, sym, ◌∙◌, subst, arith, nat_eq, nat_lt, slice_get, option_map, IfSome, is_some, IfOk, ◌||◌, true≢false, get_or}
+use Rattle.std.proofs.Common.{◌≡◌, ℕ, zero, suc, ◌+◌, ◌<◌, Bool, true, false, cond, not, ◌&&◌, List, [], ◌∷◌, ◌++◌, length, map, Option, Some, None, Result, Ok, Err, position, refl, ap, sym, ◌∙◌, subst, arith, nat_eq, nat_lt, slice_get, IfSome, is_some, ◌||◌, true≢false, get_or}
 use Rattle.std.specs.List.{position_or_len, list_any}
 use Rattle.std.proofs.lemmas.List.{map-append}
 use Rattle.metrics_debugging.proofs.SeriesLemmas.{none-absent, none-length}
@@ -9,13 +9,13 @@ use Rattle.metrics_names.specs.declared.kind.MetricKind.{MetricKind}
 use Rattle.metrics_names.specs.declared.kind.MetricKind.TheVariants.{Counter, Gauge, Histogram}
 use Rattle.metrics_names.specs.declared.refused.Refused.{Refused}
 use Rattle.metrics_names.specs.declared.refused.Refused.TheVariants.{Memory, NoSuchAddress, NoSuchBook, BadHandle}
-use Rattle.metrics_names.specs.Names.{KeyParts, SeriesKey, kind_eq, key_eq, series_key_eq}
+use Rattle.metrics_names.specs.Names.{KeyParts, kind_eq, key_eq, series_key_eq}
 use Rattle.metrics.specs.declared.debugging.DebugValue.{DebugValue}
 use Rattle.metrics.specs.declared.handles.Update.{Update}
-use Rattle.metrics.specs.Book.{Series, is_of, new_series, new_value, kind_of, updated, with_update}
+use Rattle.metrics.specs.Book.{Series, is_of, new_series, new_value, kind_of, with_update}
 use Rattle.metrics.specs.Targets.{change_at}
-use Rattle.metrics_registry.specs.Held.{Cells, place_of, entry_at, held, ChangesAt, Appends, KeepsPlaces, CallsAt}
-use Rattle.metrics_debugging.specs.DebuggingCells.{BookCells, series_key, series_in, counter_series, gauge_series, histogram_series, kind_of_value, UpdatesValue, Adds, Changes, KeepsOthers}
+use Rattle.metrics_registry.specs.Held.{Cells, place_of, entry_at, held, ChangesAt}
+use Rattle.metrics_debugging.specs.DebuggingCells.{BookCells, series_key, counter_series, gauge_series, histogram_series, kind_of_value, UpdatesValue, Adds, Changes}
 use Rattle.metrics_debugging.specs.DebuggingUpdates.{UpdatesAt, is_held}
 
 pub change-same : {A : Type 0} (f : A → A) (place : ℕ) (xs : List A) → ((x : A) → f x ≡ x) → change_at place f xs ≡ xs
@@ -51,7 +51,7 @@ module _ {C : Type 0} (kind : MetricKind) (val : C → DebugValue) where
   place-series key same cells one =
       ap (λ n. cond (nat_eq n 1) (position (key_eq key) (keys_of cells.entries)) None) one
       ∙ (ap (λ i. cond (nat_lt i (length (keys_of cells.entries))) (Some i) None) (by_keys key same cells.entries)
-        ∙ ap (λ n. cond (nat_lt (position_or_len (is_of (series_key kind key)) (map ser cells.entries)) n) (Some (position_or_len (is_of (series_key kind key)) (map ser cells.entries))) None) (as_long cells.entries))
+      ∙ ap (λ n. cond (nat_lt (position_or_len (is_of (series_key kind key)) (map ser cells.entries)) n) (Some (position_or_len (is_of (series_key kind key)) (map ser cells.entries))) None) (as_long cells.entries))
 
   -- a change of one cell
   pub set-change : (f : Series → Series) (es : List (KeyParts × C)) (place : ℕ) (b a : C) → slice_get (values_of es) place ≡ Some b → ((k : KeyParts) → f (ser (k, b)) ≡ ser (k, a)) → map ser (set_value_at es place a) ≡ change_at place f (map ser es)
@@ -69,23 +69,20 @@ module _ {C : Type 0} (kind : MetricKind) (val : C → DebugValue) where
   -- an update of a cell is one of its series
   pub update-series : {A : Type 0} (kinds : (c : C) → kind_of_value (val c) ≡ kind) (by : Update) (r : Result A Refused) (es fs : List (KeyParts × C)) (place : ℕ) (b a : C)
       → slice_get (values_of es) place ≡ Some b → UpdatesValue (val b) (val a) by r → fs ≡ set_value_at es place a → UpdatesAt (map ser es) (map ser fs) place by r
-  update-series kinds by (Ok done) es fs place b a at h set =
-      (
-        held-there by es place b at ∙ (ap (λ k. kind_eq (kind_of by) k) (sym (kinds b)) ∙ h.0),
-        ap (λ l. map ser l) set ∙ set-change (with_update by) es place b a at (λ k. ap (λ v. record { key = series_key kind k; value = v }) (sym h.1)),
-      )
-  update-series kinds by (Err (Memory acted)) es fs place b a at h set =
-      (
-        held-there by es place b at ∙ (ap (λ k. kind_eq (kind_of by) k) (sym (kinds b)) ∙ h.0),
-        h.1,
-        h.2,
-        ap (λ l. map ser l) set ∙ (set-change (λ s. s) es place b a at (λ k. ap (λ v. record { key = series_key kind k; value = v }) (sym h.3)) ∙ change-same (λ s. s) place (map ser es) (λ x. refl)),
-      )
-  update-series kinds by (Err NoSuchAddress) es fs place b a at h set =
-      (
-        held-there by es place b at ∙ (ap (λ k. kind_eq (kind_of by) k) (sym (kinds b)) ∙ h.0),
-        ap (λ l. map ser l) set ∙ (set-change (λ s. s) es place b a at (λ k. ap (λ v. record { key = series_key kind k; value = v }) (sym h.1)) ∙ change-same (λ s. s) place (map ser es) (λ x. refl)),
-      )
+  update-series kinds by (Ok done) es fs place b a at h set = (
+    held-there by es place b at ∙ (ap (λ k. kind_eq (kind_of by) k) (sym (kinds b)) ∙ h.0),
+    ap (λ l. map ser l) set ∙ set-change (with_update by) es place b a at (λ k. ap (λ v. record { key = series_key kind k; value = v }) (sym h.1)),
+  )
+  update-series kinds by (Err (Memory acted)) es fs place b a at h set = (
+    held-there by es place b at ∙ (ap (λ k. kind_eq (kind_of by) k) (sym (kinds b)) ∙ h.0),
+    h.1,
+    h.2,
+    ap (λ l. map ser l) set ∙ (set-change (λ s. s) es place b a at (λ k. ap (λ v. record { key = series_key kind k; value = v }) (sym h.3)) ∙ change-same (λ s. s) place (map ser es) (λ x. refl)),
+  )
+  update-series kinds by (Err NoSuchAddress) es fs place b a at h set = (
+    held-there by es place b at ∙ (ap (λ k. kind_eq (kind_of by) k) (sym (kinds b)) ∙ h.0),
+    ap (λ l. map ser l) set ∙ (set-change (λ s. s) es place b a at (λ k. ap (λ v. record { key = series_key kind k; value = v }) (sym h.1)) ∙ change-same (λ s. s) place (map ser es) (λ x. refl)),
+  )
   update-series kinds by (Err NoSuchBook) es fs place b a at h set = absurd h
   update-series kinds by (Err BadHandle) es fs place b a at h set = absurd h
 
@@ -139,7 +136,7 @@ module _ {C : Type 0} (kind : MetricKind) (val : C → DebugValue) where
   add-series key k a es fs all same made =
       ap (λ l. map ser l) all
       ∙ (map-append ser es ((k, a) ∷ [])
-        ∙ ap (λ x. map ser es ++ x ∷ []) (ap (λ q. record { key = series_key kind q; value = val a }) same ∙ ap (λ v. record { key = series_key kind key; value = v }) made))
+      ∙ ap (λ x. map ser es ++ x ∷ []) (ap (λ q. record { key = series_key kind q; value = val a }) same ∙ ap (λ v. record { key = series_key kind key; value = v }) made))
 
 -- ---- a change of one kind, seen in all
 

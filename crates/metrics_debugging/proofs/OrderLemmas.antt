@@ -1,5 +1,5 @@
 -- Series in order, by the places of their cells.
-use Rattle.std.proofs.Common.{◌≡◌, ℕ, zero, suc, ◌+◌, ◌<◌, ◌≤◌, Bool, true, false, cond, ◌&&◌, List, [], ◌∷◌, ◌++◌, length, map, get_or, Option, None, Some, Result, Ok, Err, position, refl, ap, sym, ◌∙◌, subst, arith, add-one, length-append, slice_get, option_map, true≢false, Vec, inl, inr}
+use Rattle.std.proofs.Common.{◌≡◌, ℕ, zero, suc, ◌+◌, ◌<◌, ◌≤◌, Bool, true, false, cond, List, [], ◌∷◌, ◌++◌, length, map, get_or, Option, None, Some, Result, Ok, Err, position, refl, ap, sym, ◌∙◌, subst, arith, add-one, length-append, slice_get, option_map, Vec, inl, inr}
 use Rattle.std.specs.Global.{Global}
 use Rattle.std.proofs.lemmas.Bool.{cases_lt}
 use Rattle.std.proofs.lemmas.List.{map-append, get_or_default}
@@ -8,7 +8,7 @@ use Rattle.metrics_names.specs.declared.kind.MetricKind.{MetricKind}
 use Rattle.metrics_names.specs.declared.kind.MetricKind.TheVariants.{Counter, Gauge, Histogram}
 use Rattle.metrics_names.specs.declared.refused.Refused.{Refused}
 use Rattle.metrics_names.specs.declared.refused.Refused.TheVariants.{Memory, NoSuchAddress, NoSuchBook, BadHandle}
-use Rattle.metrics_names.specs.Names.{KeyParts, SeriesKey, kind_eq, key_eq, series_key_eq}
+use Rattle.metrics_names.specs.Names.{KeyParts, SeriesKey, kind_eq, series_key_eq}
 use Rattle.metrics.specs.declared.debugging.Reset.{Reset}
 use Rattle.metrics.specs.declared.debugging.DebugValue.{DebugValue}
 use Rattle.metrics.specs.declared.debugging.DebugValue.TheVariants.{Counter as CounterValue, Gauge as GaugeValue, Histogram as HistogramValue}
@@ -152,22 +152,22 @@ kept-kind f kind k place old new changes other = changes k ∙ ap (λ b. cond b 
 pub changes-of : (f : Series → Series) (kind : MetricKind) (place : ℕ) (old new : BookCells) → series_in new kind ≡ change_at place f (series_in old kind) → KeepsOthers kind old new → Changes f kind place old new
 changes-of f kind place old new e keeps k =
     by_test (kind_eq kind k)
-      (λ t. subst (λ j. series_in new j ≡ change_at place f (series_in old j)) ((kind_exact kind k).0 t) e ∙ sym (ap (λ b. cond b (change_at place f (series_in old k)) (series_in old k)) t))
-      (λ t. keeps k t ∙ sym (ap (λ b. cond b (change_at place f (series_in old k)) (series_in old k)) t))
+    (λ t. subst (λ j. series_in new j ≡ change_at place f (series_in old j)) ((kind_exact kind k).0 t) e ∙ sym (ap (λ b. cond b (change_at place f (series_in old k)) (series_in old k)) t))
+    (λ t. keeps k t ∙ sym (ap (λ b. cond b (change_at place f (series_in old k)) (series_in old k)) t))
 
 module _ (f : Series → Series) (keeps : (x : Series) → (f x).key ≡ x.key) (old new : BookCells) (order : List Placed) (numbers : PerKind (Vec ℕ Global)) (s : ℕ) (p : Placed)
     (step : InStep old order numbers) (small : s < length order) (is : p ≡ get_or order s p) (changes : Changes f p.kind p.place old new) where
   lengths : (k : MetricKind) → length (series_in new k) ≡ length (series_in old k)
   lengths k =
       by_test (kind_eq p.kind k)
-        (λ t. subst (λ j. length (series_in new j) ≡ length (series_in old j)) ((kind_exact p.kind k).0 t) (ap length (changed-kind f p.kind p.place old new changes) ∙ change-length p.place f (series_in old p.kind)))
-        (λ t. ap length (kept-kind f p.kind k p.place old new changes t))
+      (λ t. subst (λ j. length (series_in new j) ≡ length (series_in old j)) ((kind_exact p.kind k).0 t) (ap length (changed-kind f p.kind p.place old new changes) ∙ change-length p.place f (series_in old p.kind)))
+      (λ t. ap length (kept-kind f p.kind k p.place old new changes t))
 
   keys : (k : MetricKind) → map key_of (series_in new k) ≡ map key_of (series_in old k)
   keys k =
       by_test (kind_eq p.kind k)
-        (λ t. subst (λ j. map key_of (series_in new j) ≡ map key_of (series_in old j)) ((kind_exact p.kind k).0 t) (ap (map key_of) (changed-kind f p.kind p.place old new changes) ∙ change-keys f keeps p.place (series_in old p.kind)))
-        (λ t. ap (map key_of) (kept-kind f p.kind k p.place old new changes t))
+      (λ t. subst (λ j. map key_of (series_in new j) ≡ map key_of (series_in old j)) ((kind_exact p.kind k).0 t) (ap (map key_of) (changed-kind f p.kind p.place old new changes) ∙ change-keys f keeps p.place (series_in old p.kind)))
+      (λ t. ap (map key_of) (kept-kind f p.kind k p.place old new changes t))
 
   within-p : p.place < length (series_in old p.kind)
   within-p = subst (λ (q : Placed). q.place < length (series_in old q.kind)) (sym is) (step.within s p small)
@@ -186,17 +186,17 @@ module _ (f : Series → Series) (keeps : (x : Series) → (f x).key ≡ x.key) 
   at-other t q number apart =
       let d = new_series (series_key q.kind no_key) in
       by_test (kind_eq p.kind q.kind)
-        (λ e.
-            let same : p.kind ≡ q.kind = (kind_exact p.kind q.kind).0 e in
-            ap (λ xs. get_or xs q.place d) (subst (λ j. series_in new j ≡ change_at p.place f (series_in old j)) same (changed-kind f p.kind p.place old new changes))
-            ∙ change-other p.place q.place f (series_in old q.kind) d (λ place. apart-place t q number apart (sym same) place))
-        (λ e. ap (λ xs. get_or xs q.place d) (kept-kind f p.kind q.kind p.place old new changes e))
+      (λ e.
+      let same : p.kind ≡ q.kind = (kind_exact p.kind q.kind).0 e in
+      ap (λ xs. get_or xs q.place d) (subst (λ j. series_in new j ≡ change_at p.place f (series_in old j)) same (changed-kind f p.kind p.place old new changes))
+      ∙ change-other p.place q.place f (series_in old q.kind) d (λ place. apart-place t q number apart (sym same) place))
+      (λ e. ap (λ xs. get_or xs q.place d) (kept-kind f p.kind q.kind p.place old new changes e))
 
   pub all-changed : all_series new order ≡ change_at s f (all_series old order)
   all-changed =
       map-change (series_at old) (series_at new) f order s
-        (λ t d less e. let same : p ≡ get_or order t d = is ∙ (ap (λ i. get_or order i p) (sym e) ∙ get_or_default order t p d less) in subst (λ q. series_at new q ≡ f (series_at old q)) same at-p)
-        (λ t d less apart. at-other t (get_or order t d) (step.numbered t d less) apart)
+      (λ t d less e. let same : p ≡ get_or order t d = is ∙ (ap (λ i. get_or order i p) (sym e) ∙ get_or_default order t p d less) in subst (λ q. series_at new q ≡ f (series_at old q)) same at-p)
+      (λ t d less apart. at-other t (get_or order t d) (step.numbered t d less) apart)
 
   pub step-changed : InStep new order numbers
   step-changed = record {
@@ -236,13 +236,13 @@ module _ (reset : Reset) (cells : BookCells) (order : List Placed) (s : ℕ) (p 
   pub reset-true : resets reset p.kind ≡ true → change_at s (λ x. new_series x.key) (all_series cells order) ≡ change_at s (after_reset reset) (all_series cells order)
   reset-true t =
       change-as (λ x. new_series x.key) (after_reset reset) s (all_series cells order)
-        (λ x at. sym (ap (λ b. cond b (new_series x.key) x) (ap (resets reset) (its-kind x at) ∙ t)))
+      (λ x at. sym (ap (λ b. cond b (new_series x.key) x) (ap (resets reset) (its-kind x at) ∙ t)))
 
   pub reset-false : resets reset p.kind ≡ false → all_series cells order ≡ change_at s (after_reset reset) (all_series cells order)
   reset-false t =
       sym (change-same (λ x. x) s (all_series cells order) (λ x. refl))
       ∙ change-as (λ x. x) (after_reset reset) s (all_series cells order)
-        (λ x at. sym (ap (λ b. cond b (new_series x.key) x) (ap (resets reset) (its-kind x at) ∙ t)))
+      (λ x at. sym (ap (λ b. cond b (new_series x.key) x) (ap (resets reset) (its-kind x at) ∙ t)))
 
 -- ---- an update of one series
 
@@ -260,8 +260,7 @@ update-step {A = A} old new order numbers s p by r step small is updates keeps =
 
     kept : series_in new p.kind ≡ series_in old p.kind → (all_series new order ≡ all_series old order) × InStep new order numbers
     kept same =
-        let changes = changes-of (λ x. x) p.kind p.place old new (same ∙ sym (change-same (λ x. x) p.place (series_in old p.kind) (λ x. refl))) keeps in
-        (
+        let changes = changes-of (λ x. x) p.kind p.place old new (same ∙ sym (change-same (λ x. x) p.place (series_in old p.kind) (λ x. refl))) keeps in (
           all-changed (λ x. x) (λ x. refl) old new order numbers s p step small is changes ∙ change-same (λ x. x) s (all_series old order) (λ x. refl),
           step-changed (λ x. x) (λ x. refl) old new order numbers s p step small is changes,
         )
@@ -312,22 +311,22 @@ module _ (old new : BookCells) (order after : List Placed) (numbers more : PerKi
   cell-front : (k : MetricKind) (i : ℕ) (d : Series) → i < length (series_in old k) → (get_or (series_in new k) i d ≡ get_or (series_in old k) i d) × (i < length (series_in new k))
   cell-front k i d small =
       by_test (kind_eq kind k)
-        (λ t.
-            let P : MetricKind → Type 0 = λ j. i < length (series_in old j) → (get_or (series_in new j) i d ≡ get_or (series_in old j) i d) × (i < length (series_in new j)) in
-            subst P ((kind_exact kind k).0 t)
-              (λ less. (
-                ap (λ xs. get_or xs i d) (added-kind kind key old new adds) ∙ append-front (series_in old kind) added d i less,
-                omega (arith, less, ap length (added-kind kind key old new adds), length-append (series_in old kind) (added ∷ [])),
-              )) small)
-        (λ t. (ap (λ xs. get_or xs i d) (kept-cells kind k key old new adds t), omega (arith, small, ap length (kept-cells kind k key old new adds t))))
+      (λ t.
+      let P : MetricKind → Type 0 = λ j. i < length (series_in old j) → (get_or (series_in new j) i d ≡ get_or (series_in old j) i d) × (i < length (series_in new j)) in
+      subst P ((kind_exact kind k).0 t)
+      (λ less. (
+        ap (λ xs. get_or xs i d) (added-kind kind key old new adds) ∙ append-front (series_in old kind) added d i less,
+        omega (arith, less, ap length (added-kind kind key old new adds), length-append (series_in old kind) (added ∷ [])),
+      )) small)
+      (λ t. (ap (λ xs. get_or xs i d) (kept-cells kind k key old new adds t), omega (arith, small, ap length (kept-cells kind k key old new adds t))))
 
   number-front : (k : MetricKind) (i : ℕ) → i < length (numbers_of numbers k) → get_or (numbers_of more k) i 0 ≡ get_or (numbers_of numbers k) i 0
   number-front k i small =
       by_test (kind_eq kind k)
-        (λ t.
-            let P : MetricKind → Type 0 = λ j. i < length (numbers_of numbers j) → get_or (numbers_of more j) i 0 ≡ get_or (numbers_of numbers j) i 0 in
-            subst P ((kind_exact kind k).0 t) (λ less. ap (λ xs. get_or xs i 0) more-kind ∙ append-front (numbers_of numbers kind) (length order) 0 i less) small)
-        (λ t. ap (λ xs. get_or xs i 0) (kept-numbers k t))
+      (λ t.
+      let P : MetricKind → Type 0 = λ j. i < length (numbers_of numbers j) → get_or (numbers_of more j) i 0 ≡ get_or (numbers_of numbers j) i 0 in
+      subst P ((kind_exact kind k).0 t) (λ less. ap (λ xs. get_or xs i 0) more-kind ∙ append-front (numbers_of numbers kind) (length order) 0 i less) small)
+      (λ t. ap (λ xs. get_or xs i 0) (kept-numbers k t))
 
   place-p : p.place ≡ length (series_in old p.kind)
   place-p = p_place ∙ (step.lengths kind ∙ ap (λ k. length (series_in old k)) (sym p_kind))
@@ -342,8 +341,8 @@ module _ (old new : BookCells) (order after : List Placed) (numbers more : PerKi
   all-added =
       ap (map (series_at new)) placed
       ∙ (map-append (series_at new) order (p ∷ [])
-        ∙ (ap (λ xs. xs ++ series_at new p ∷ []) (map-other (series_at old) (series_at new) order (λ t d less. (cell-front (get_or order t d).kind (get_or order t d).place (new_series (series_key (get_or order t d).kind no_key)) (step.within t d less)).0))
-          ∙ ap (λ x. all_series old order ++ x ∷ []) at-new))
+      ∙ (ap (λ xs. xs ++ series_at new p ∷ []) (map-other (series_at old) (series_at new) order (λ t d less. (cell-front (get_or order t d).kind (get_or order t d).place (new_series (series_key (get_or order t d).kind no_key)) (step.within t d less)).0))
+      ∙ ap (λ x. all_series old order ++ x ∷ []) at-new))
 
   -- a place in the order is an old one or the new one
   by_place : (P : Placed → Type 0) (t : ℕ) (d : Placed) → t < length after → (t < length order → P (get_or order t d)) → (t ≡ length order → P p) → P (get_or after t d)
@@ -358,25 +357,25 @@ module _ (old new : BookCells) (order after : List Placed) (numbers more : PerKi
   lengths-added : (k : MetricKind) → length (numbers_of more k) ≡ length (series_in new k)
   lengths-added k =
       by_test (kind_eq kind k)
-        (λ t.
-            let P : MetricKind → Type 0 = λ j. length (numbers_of more j) ≡ length (series_in new j) in
-            subst P ((kind_exact kind k).0 t)
-              (ap length more-kind ∙ (length-append (numbers_of numbers kind) (length order ∷ []) ∙ (ap (λ n. n + 1) (step.lengths kind) ∙ (sym (length-append (series_in old kind) (added ∷ [])) ∙ sym (ap length (added-kind kind key old new adds)))))))
-        (λ t. ap length (kept-numbers k t) ∙ (step.lengths k ∙ sym (ap length (kept-cells kind k key old new adds t))))
+      (λ t.
+      let P : MetricKind → Type 0 = λ j. length (numbers_of more j) ≡ length (series_in new j) in
+      subst P ((kind_exact kind k).0 t)
+      (ap length more-kind ∙ (length-append (numbers_of numbers kind) (length order ∷ []) ∙ (ap (λ n. n + 1) (step.lengths kind) ∙ (sym (length-append (series_in old kind) (added ∷ [])) ∙ sym (ap length (added-kind kind key old new adds)))))))
+      (λ t. ap length (kept-numbers k t) ∙ (step.lengths k ∙ sym (ap length (kept-cells kind k key old new adds t))))
 
   within-added : (t : ℕ) (d : Placed) → t < length after → (get_or after t d).place < length (series_in new (get_or after t d).kind)
   within-added t d less =
       by_place (λ q. q.place < length (series_in new q.kind)) t d less
-        (λ lt. (cell-front (get_or order t d).kind (get_or order t d).place added (step.within t d lt)).1)
-        (λ at. omega (arith, place-p, ap length new-p, length-append (series_in old p.kind) (added ∷ [])))
+      (λ lt. (cell-front (get_or order t d).kind (get_or order t d).place added (step.within t d lt)).1)
+      (λ at. omega (arith, place-p, ap length new-p, length-append (series_in old p.kind) (added ∷ [])))
 
   numbered-added : (t : ℕ) (d : Placed) → t < length after → get_or (numbers_of more (get_or after t d).kind) (get_or after t d).place 0 ≡ t
   numbered-added t d less =
       by_place (λ q. get_or (numbers_of more q.kind) q.place 0 ≡ t) t d less
-        (λ lt. let q = get_or order t d in number-front q.kind q.place (omega (arith, step.within t d lt, step.lengths q.kind)) ∙ step.numbered t d lt)
-        (λ at.
-            ap (λ k. get_or (numbers_of more k) p.place 0) p_kind
-            ∙ (ap (λ xs. get_or xs p.place 0) more-kind ∙ (append-last (numbers_of numbers kind) (length order) 0 p.place p_place ∙ sym at)))
+      (λ lt. let q = get_or order t d in number-front q.kind q.place (omega (arith, step.within t d lt, step.lengths q.kind)) ∙ step.numbered t d lt)
+      (λ at.
+      ap (λ k. get_or (numbers_of more k) p.place 0) p_kind
+      ∙ (ap (λ xs. get_or xs p.place 0) more-kind ∙ (append-last (numbers_of numbers kind) (length order) 0 p.place p_place ∙ sym at)))
 
   -- the number of a key
   map-front : (k : MetricKind) (o : Option ℕ) → ((i : ℕ) → o ≡ Some i → i < length (numbers_of numbers k)) → option_map (λ i. get_or (numbers_of more k) i 0) o ≡ option_map (λ i. get_or (numbers_of numbers k) i 0) o
@@ -388,28 +387,28 @@ module _ (old new : BookCells) (order after : List Placed) (numbers more : PerKi
       let r = series_key k q in
       let own = series_key kind key in
       by_test (series_key_eq own r)
-        (λ t.
-            let P : SeriesKey → Type 0 = λ x. number_of new more x.kind x.key ≡ position (is_of x) (all_series new after) in
-            let none = no-cell old order numbers kind key step absent in
-            let self : is_of own added ≡ true = (series_key-exact own own).1 refl in
-            subst P ((series_key-exact own r).0 t)
-              (ap (λ xs. option_map (λ i. get_or (numbers_of more kind) i 0) (position (is_of own) xs)) (added-kind kind key old new adds)
-              ∙ (ap (option_map (λ i. get_or (numbers_of more kind) i 0)) (push-absent (is_of own) (series_in old kind) added none self)
-              ∙ (ap Some (ap (λ xs. get_or xs (length (series_in old kind)) 0) more-kind ∙ append-last (numbers_of numbers kind) (length order) 0 (length (series_in old kind)) (sym (step.lengths kind)))
-              ∙ (ap Some (sym (length-map (series_at old) order))
-              ∙ (sym (push-absent (is_of own) (all_series old order) added absent self) ∙ ap (position (is_of own)) (sym all-added)))))))
-        (λ t.
-            let apart : is_of r added ≡ false = series_key-swap r own ∙ t in
-            let below : (i : ℕ) → position (is_of r) (series_in old k) ≡ Some i → i < length (numbers_of numbers k) = λ i e. omega (arith, (some-place (is_of r) (series_in old k) i e).1, step.lengths k) in
-            let cells : position (is_of r) (series_in new k) ≡ position (is_of r) (series_in old k) =
-                by_test (kind_eq kind k)
-                  (λ e.
-                      let P : MetricKind → Type 0 = λ j. position (is_of r) (series_in new j) ≡ position (is_of r) (series_in old j) in
-                      subst P ((kind_exact kind k).0 e) (ap (position (is_of r)) (added-kind kind key old new adds) ∙ push-other (is_of r) (series_in old kind) added apart))
-                  (λ e. ap (position (is_of r)) (kept-cells kind k key old new adds e)) in
-            ap (option_map (λ i. get_or (numbers_of more k) i 0)) cells
-            ∙ (map-front k (position (is_of r) (series_in old k)) below
-            ∙ (step.found k q ∙ (sym (push-other (is_of r) (all_series old order) added apart) ∙ ap (position (is_of r)) (sym all-added)))))
+      (λ t.
+      let P : SeriesKey → Type 0 = λ x. number_of new more x.kind x.key ≡ position (is_of x) (all_series new after) in
+      let none = no-cell old order numbers kind key step absent in
+      let self : is_of own added ≡ true = (series_key-exact own own).1 refl in
+      subst P ((series_key-exact own r).0 t)
+      (ap (λ xs. option_map (λ i. get_or (numbers_of more kind) i 0) (position (is_of own) xs)) (added-kind kind key old new adds)
+      ∙ (ap (option_map (λ i. get_or (numbers_of more kind) i 0)) (push-absent (is_of own) (series_in old kind) added none self)
+      ∙ (ap Some (ap (λ xs. get_or xs (length (series_in old kind)) 0) more-kind ∙ append-last (numbers_of numbers kind) (length order) 0 (length (series_in old kind)) (sym (step.lengths kind)))
+      ∙ (ap Some (sym (length-map (series_at old) order))
+      ∙ (sym (push-absent (is_of own) (all_series old order) added absent self) ∙ ap (position (is_of own)) (sym all-added)))))))
+      (λ t.
+      let apart : is_of r added ≡ false = series_key-swap r own ∙ t in
+      let below : (i : ℕ) → position (is_of r) (series_in old k) ≡ Some i → i < length (numbers_of numbers k) = λ i e. omega (arith, (some-place (is_of r) (series_in old k) i e).1, step.lengths k) in
+      let cells : position (is_of r) (series_in new k) ≡ position (is_of r) (series_in old k) =
+      by_test (kind_eq kind k)
+      (λ e.
+      let P : MetricKind → Type 0 = λ j. position (is_of r) (series_in new j) ≡ position (is_of r) (series_in old j) in
+      subst P ((kind_exact kind k).0 e) (ap (position (is_of r)) (added-kind kind key old new adds) ∙ push-other (is_of r) (series_in old kind) added apart))
+      (λ e. ap (position (is_of r)) (kept-cells kind k key old new adds e)) in
+      ap (option_map (λ i. get_or (numbers_of more k) i 0)) cells
+      ∙ (map-front k (position (is_of r) (series_in old k)) below
+      ∙ (step.found k q ∙ (sym (push-other (is_of r) (all_series old order) added apart) ∙ ap (position (is_of r)) (sym all-added)))))
 
   pub step-added : InStep new after more
   step-added = record { lengths = lengths-added; within = within-added; numbered = numbered-added; found = found-added }

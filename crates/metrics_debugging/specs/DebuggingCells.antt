@@ -1,5 +1,5 @@
 -- The cells of a book, and its series by the places of their cells.
-use Rattle.std.specs.Prelude.{◌≡◌, ℕ, ℤ, ◌<◌, true, false, Bool, cond, List, [], ◌∷◌, ◌++◌, map, length, position, get_or, Option, None, Some, Result, Ok, Err, option_map, Vec}
+use Rattle.std.specs.Prelude.{◌≡◌, ℕ, ℤ, ◌<◌, true, false, cond, List, [], ◌∷◌, ◌++◌, map, length, position, get_or, Option, None, Some, Result, Ok, Err, option_map, Vec}
 use Rattle.std.specs.Global.{Global}
 use Rattle.metrics_names.specs.declared.kind.MetricKind.{MetricKind}
 use Rattle.metrics_names.specs.declared.kind.MetricKind.TheVariants.{Counter, Gauge, Histogram}
@@ -9,14 +9,13 @@ use Rattle.metrics_names.specs.Names.{KeyParts, SeriesKey, kind_eq}
 use Rattle.metrics.specs.declared.debugging.DebugValue.TheVariants.{Counter as CounterValue, Gauge as GaugeValue, Histogram as HistogramValue}
 use Rattle.metrics.specs.declared.debugging.DebugValue.{DebugValue}
 use Rattle.metrics.specs.declared.handles.Update.{Update}
-use Rattle.metrics.specs.Book.{Series, is_of, new_series, kind_of, updated, with_update}
+use Rattle.metrics.specs.Book.{Series, is_of, new_series, kind_of, updated}
 use Rattle.metrics.specs.Kinds.{of_kind}
 use Rattle.metrics.specs.Meaning.{TakesMemory}
 use Rattle.metrics.specs.Targets.{change_at}
 use Rattle.metrics.specs.declared.kind.PerKind.{PerKind}
 use Rattle.metrics_registry.specs.declared.registry.OwnedRegistry.{OwnedRegistry}
 use Rattle.metrics_registry.specs.declared.registry.plain.PlainStorage.{PlainStorage}
-use Rattle.metrics_registry.specs.Held.{Cells as KindCells}
 use Rattle.metrics_debugging.specs.declared.debugging.series.Placed.{Placed}
 
 -- ---- the cells of each kind

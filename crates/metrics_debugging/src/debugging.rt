@@ -1,9 +1,8 @@
 //! A recorder that keeps one book in memory.
 ghost use Rattle.std.specs.Prelude.{◌≡◌, ◌≤◌, [], MatchResult, IsOk, vec_capacity};
 ghost use Rattle.metrics_names.specs.declared.refused.Refused.TheVariants.{Memory};
-ghost use Rattle.metrics.specs.Meaning.{one_book, KeepsTargets, Snapshots};
-ghost use Rattle.metrics_debugging.specs.Debugging.{content_of, IsNewBook};
-ghost use Rattle.metrics_debugging.specs.DebuggingCells.{all_series};
+ghost use Rattle.metrics.specs.Meaning.{KeepsTargets, Snapshots};
+ghost use Rattle.metrics_debugging.specs.Debugging.{IsNewBook};
 
 mod cells;
 mod descriptions;
@@ -45,7 +44,9 @@ impl DebuggingRecorder {
 }
 
 impl Recorder for DebuggingRecorder {
-    ghost meaning = { λ r. one_book (content_of (all_series r.series.cells r.series.order.items) r.descriptions) };
+    ghost use Rattle.metrics_debugging.specs.DebuggingMeaning.{meaning_of};
+
+    ghost meaning = { meaning_of };
 
     fn books(&self) -> usize {
         1

@@ -4,12 +4,13 @@ use Rattle.std.specs.List.{AllByRecursion}
 use Rattle.std.proofs.lemmas.List.Elements.{recursion_from_All}
 use Rattle.metrics.specs.Book.{Content, new_book}
 use Rattle.metrics.specs.Layers.{joined_all}
-use Rattle.metrics.specs.Meaning.{Meaning, AreNew, one_book}
-use Rattle.metrics_debugging.specs.Debugging.{IsNewBook, content_of}
+use Rattle.metrics.specs.Meaning.{Meaning, AreNew}
+use Rattle.metrics_debugging.specs.Debugging.{IsNewBook}
+use Rattle.metrics_debugging.specs.DebuggingMeaning.{meaning_of}
 use Rattle.metrics_debugging.specs.declared.debugging.DebuggingRecorder.{DebuggingRecorder}
 
 abbrev pub book_meaning : DebuggingRecorder → Meaning
-book_meaning r = one_book (content_of r.series.entries.items r.descriptions)
+book_meaning r = meaning_of r
 
 one_new : (cs : List Content) → cs ≡ new_book ∷ [] → AreNew cs
 one_new cs e = subst AreNew (sym e) each

@@ -272,21 +272,21 @@ fn reset_in(registry: &mut OwnedRegistry<Key, PlainStorage>, kind: MetricKind, p
     match kind {
         MetricKind::Counter => registry.change_counter_at(
             place,
-            |cell: &mut u64|
-                ensures { cell.new ≡ 0 }
-            { *cell = 0 },
+            |counter: &mut u64|
+                ensures { counter.new ≡ 0 }
+            { *counter = 0 },
         ),
         MetricKind::Gauge => registry.change_gauge_at(
             place,
-            |cell: &mut i64|
-                ensures { cell.new ≡ pos 0 }
-            { *cell = 0 },
+            |gauge: &mut i64|
+                ensures { gauge.new ≡ pos 0 }
+            { *gauge = 0 },
         ),
         MetricKind::Histogram => registry.change_histogram_at(
             place,
-            |cell: &mut OwnedBucket<i64>|
-                ensures { cell.new ≡ [] }
-            { cell.clear() },
+            |histogram: &mut OwnedBucket<i64>|
+                ensures { histogram.new ≡ [] }
+            { histogram.clear() },
         ),
     };
 }

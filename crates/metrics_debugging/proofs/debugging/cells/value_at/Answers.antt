@@ -1,4 +1,4 @@
-use Rattle.std.proofs.Common.{◌≡◌, ◌∙◌, ap, sym, refl, subst, Some, get_or, option_map, rules}
+use Rattle.std.proofs.Common.{◌≡◌, ◌∙◌, ap, sym, subst, get_or, option_map}
 use Rattle.std.specs.Map.Iter.{deref_pair}
 use Rattle.metrics_names.specs.declared.kind.MetricKind.{MetricKind}
 use Rattle.metrics_names.specs.declared.kind.MetricKind.TheVariants.{Histogram}
@@ -12,7 +12,7 @@ pub returns-in_ok-samples_of-in-Some-histogram_at-clause-value : goal.returns-in
 returns-in_ok-samples_of-in-Some-histogram_at-clause-value c =
     let found = c.in-Some-histogram_at in
     let at = at-series Histogram HistogramValue c.args.registry.now.histograms c.args.place (found.key.now, found.cell.now) (new_series (series_key Histogram no_key)) c.requires.shards.2
-        (sym c.histogram_at.ensures ∙ ap (option_map deref_pair) found.is) in
+    (sym c.histogram_at.ensures ∙ ap (option_map deref_pair) found.is) in
     let P : MetricKind → Type 0 = λ k. HistogramValue c.in_ok-samples_of-in-Some-histogram_at.field-0 ≡ snapshot_value (get_or (series_in (cells_of c.args.registry.now) k) c.args.place (new_series (series_key k no_key))).value in
     subst P (sym c.in-Histogram.is)
-      (ap HistogramValue ((c.in_ok-samples_of-in-Some-histogram_at.ensures {u = tt}).ok) ∙ ap (λ (s : Series). snapshot_value s.value) (sym at))
+    (ap HistogramValue ((c.in_ok-samples_of-in-Some-histogram_at.ensures {u = tt}).ok) ∙ ap (λ (s : Series). snapshot_value s.value) (sym at))

@@ -1,4 +1,4 @@
-use Rattle.std.proofs.Common.{◌≡◌, ◌∙◌, ◌≤◌, ap, sym, length, arith}
+use Rattle.std.proofs.Common.{◌∙◌, ◌≤◌, ap, length, arith}
 use Rattle.metrics.specs.Book.{after_reset}
 use Rattle.metrics.specs.Targets.{change_at}
 use Rattle.metrics_debugging.specs.DebuggingCells.{all_series, series_at}

@@ -1,4 +1,4 @@
-use Rattle.std.proofs.Common.{◌≡◌, length}
+use Rattle.std.proofs.Common.{◌≡◌}
 use Rattle.metrics.specs.Book.{after_reset}
 use Rattle.metrics_debugging.specs.DebuggingCells.{all_series}
 use Rattle.metrics_debugging.proofs.OrderLemmas.{first-changed}

@@ -1,4 +1,4 @@
-use Rattle.std.proofs.Common.{◌≡◌, ◌∙◌, ap, sym, refl, true, false}
+use Rattle.std.proofs.Common.{◌∙◌, sym, refl}
 use Rattle.metrics.specs.Book.{Series, new_series}
 use Rattle.metrics_debugging.proofs.OrderLemmas.{all-changed, step-changed, reset-true, reset-false}
 use Rattle.metrics_debugging.proofs.debugging.series.SeriesList.reset_one.Goals as goal
