@@ -88,7 +88,7 @@ fn update_of<R: Recorder>(
 }
 
 /// What a register call gave, if it was successful.
-fn given(kind: MetricKind, answer: &Answer) -> Option<(MetricKind, &[Address])>
+pub(crate) fn given(kind: MetricKind, answer: &Answer) -> Option<(MetricKind, &[Address])>
     ensures { option_map handle_seen result ≡ handle_given kind answer.now }
 {
     match answer {
@@ -101,7 +101,7 @@ fn given(kind: MetricKind, answer: &Answer) -> Option<(MetricKind, &[Address])>
 }
 
 /// The kind of a register call.
-fn registered_kind(call: &Call) -> Option<MetricKind>
+pub(crate) fn registered_kind(call: &Call) -> Option<MetricKind>
     ensures { result ≡ register_kind call.now }
 {
     match call {
@@ -153,7 +153,7 @@ fn named_handle<'a>(
 }
 
 /// Keeps the place of a register call.
-fn note_register(registers: &mut Vec<usize>, call: &Call, place: usize)
+pub(crate) fn note_register(registers: &mut Vec<usize>, call: &Call, place: usize)
     requires { vec_len registers.old < vec_capacity registers.old }
     ensures items { registers.new.items ≡ registers.old.items ++ place_in_front (register_kind call.now) place [] }
     ensures len { vec_len registers.new ≤ vec_len registers.old + 1 }

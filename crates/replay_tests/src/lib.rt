@@ -6,6 +6,8 @@
 #[cfg(test)]
 mod books;
 #[cfg(test)]
+mod journals;
+#[cfg(test)]
 mod replays;
 #[cfg(test)]
 mod round;

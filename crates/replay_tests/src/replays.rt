@@ -25,7 +25,8 @@ fn round(alloc: Global, first: u8, calls: &mut Vec<Call>) -> Result<(), Refused>
     Ok(())
 }
 
-fn two_rounds(alloc: Global) -> Result<Vec<Call>, Refused> {
+/// The calls of two rounds. No answer to one of them is a refusal.
+pub fn two_rounds(alloc: Global) -> Result<Vec<Call>, Refused> {
     let mut calls = Vec::new(alloc);
     round(alloc, 0, &mut calls)?;
     round(alloc, 4, &mut calls)?;
