@@ -3,6 +3,7 @@
 
 mod install;
 mod recoverable;
+pub mod reservoir;
 mod shared;
 mod slot;
 

@@ -2,6 +2,9 @@
 ghost use Rattle.std.specs.Prelude.{◌≡◌, IfErr};
 ghost use Rattle.metrics.specs.declared.error.Error.TheVariants.{Memory as OutOfMemory, Gone};
 
+#[cfg(test)]
+mod tests;
+
 use crate::install::SetRecorderError;
 use crate::slot::Slot;
 use metrics::{Address, Error, Key, KeyName, MetricKind, Recorder, Refused, Unit, Update};

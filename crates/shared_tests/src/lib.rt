@@ -1,0 +1,15 @@
+//! Tests of `metrics_shared` and of `metrics_cells`, through what they hand out.
+//!
+//! They stand in a crate of their own: a crate with tests is proved twice.
+#![tactic(auto)]
+
+#[cfg(test)]
+mod books;
+#[cfg(test)]
+mod installs;
+#[cfg(test)]
+mod recoverable;
+#[cfg(test)]
+mod reservoirs;
+#[cfg(test)]
+mod shared;

@@ -1,0 +1,183 @@
+//! Recorders that are taken back.
+
+use crate::books::{first, key};
+use metrics::{
+    Address, DebugValue, Key, KeyName, MetricKind, Recorder, Refused, Reset, Snapshot, Unit, Update,
+};
+use metrics_debugging::DebuggingRecorder;
+use metrics_shared::{RecoverableRecorder, SlotRecorder};
+use std::alloc::Global;
+use std::process::Abort;
+use std::sync::atomic::{AtomicU64, Ordering};
+use std::sync::{Arc, Wait};
+use std::test::Fail;
+
+/// A series of each kind: its name, what it is updated by and how often, and what it is updated by once the book is
+/// gone.
+const SERIES: [(MetricKind, &str, Update, u8, Update); 3] = [
+    (
+        MetricKind::Counter,
+        "c",
+        Update::Increment(5),
+        1,
+        Update::Increment(7),
+    ),
+    (MetricKind::Gauge, "g", Update::Add(5), 2, Update::Add(7)),
+    (
+        MetricKind::Histogram,
+        "h",
+        Update::Record(5),
+        3,
+        Update::Record(7),
+    ),
+];
+
+/// Registers the series and updates it through the slot.
+fn change<R: Wait, B: Recorder>(
+    rt: &R,
+    alloc: Global,
+    slot: &SlotRecorder<B>,
+    kind: MetricKind,
+    name: &str,
+    by: Update,
+    times: u8,
+) -> Result<Address, Fail> {
+    let found = slot.register(rt, alloc, kind, &key(alloc, name)?)?;
+    let at = first(&found)?;
+    for _ in 0..times {
+        slot.update(rt, at, by)?;
+    }
+    Ok(at)
+}
+
+/// That an emptied slot answers each call, and does nothing.
+fn expect_emptied<R: Abort + Wait, B: Recorder>(
+    rt: &R,
+    alloc: Global,
+    slot: &SlotRecorder<B>,
+) -> Result<(), Fail> {
+    let name = KeyName::new(alloc, "c")?;
+    let told = slot.describe(rt, alloc, MetricKind::Counter, &name, None, "t")?;
+    assert_eq!(rt; told, 0);
+    for (kind, name, _, _, late) in SERIES {
+        assert_eq!(rt;
+            slot.register(rt, alloc, kind, &key(alloc, name)?)?.len(),
+            0
+        );
+        slot.update(rt, Address { book: 0, series: 0 }, late)?;
+    }
+    Ok(())
+}
+
+fn expect_values<B: Recorder>(rt: &impl Abort, alloc: Global, mut book: B) -> Result<(), Fail> {
+    let rows = book.snapshot(alloc, 0)?.into_vec();
+    assert_eq!(rt; rows.len(), 3);
+    for row in &rows {
+        assert!(rt;
+            match &row.3 {
+                DebugValue::Counter(n) => *n == 5,
+                DebugValue::Gauge(n) => *n == 10,
+                DebugValue::Histogram(samples) => samples.as_slice() == [5, 5, 5].as_slice(),
+            }
+        );
+        assert!(rt; row.2.is_none());
+    }
+    Ok(())
+}
+
+fn expect_recovered<R: Abort + Wait, B: Recorder>(
+    rt: &R,
+    alloc: Global,
+    book: B,
+) -> Result<(), Fail> {
+    let built = RecoverableRecorder::new(book).build(rt, alloc);
+    let (slot, handle) = built.ok().ok_or("memory")?;
+    for (kind, name, by, times, _) in SERIES {
+        change(rt, alloc, &slot, kind, name, by, times)?;
+    }
+    let book = handle.into_inner(rt)?;
+    expect_emptied(rt, alloc, &slot)?;
+    expect_values(rt, alloc, book)
+}
+
+#[test]
+fn a_book_is_recovered(rt: HostRuntime) -> Result<(), Fail> {
+    expect_recovered(&rt, rt.alloc(), DebuggingRecorder::new(rt.alloc())?)
+}
+
+/// A recorder of these tests' own, without books. Its end sets the flag to 1.
+struct Flagged {
+    flag: Arc<AtomicU64, Global>,
+}
+
+impl Drop for Flagged {
+    fn drop(self) {
+        let Flagged { flag } = self;
+        flag.store(1, Ordering::SeqCst);
+    }
+}
+
+impl Recorder for Flagged {
+    ghost use Rattle.metrics.specs.Meaning.{nothing};
+
+    ghost meaning = { λ _. nothing };
+
+    fn books(&self) -> usize {
+        0
+    }
+
+    fn describe(
+        &mut self,
+        _alloc: Global,
+        _kind: MetricKind,
+        _name: &KeyName,
+        _unit: Option<Unit>,
+        _text: &str,
+    ) -> Result<usize, Refused> {
+        Ok(0)
+    }
+
+    fn register(
+        &mut self,
+        alloc: Global,
+        _kind: MetricKind,
+        _key: &Key,
+    ) -> Result<Vec<Address>, Refused> {
+        Ok(Vec::new(alloc))
+    }
+
+    fn holds(&self, _kind: MetricKind, _at: Address) -> bool {
+        false
+    }
+
+    fn update(&mut self, _at: Address, _by: Update) -> Result<(), Refused> {
+        Err(Refused::NoSuchAddress)
+    }
+
+    fn snapshot_with(
+        &mut self,
+        _alloc: Global,
+        _book: usize,
+        _reset: Reset,
+    ) -> Result<Snapshot, Refused> {
+        Err(Refused::NoSuchBook)
+    }
+}
+
+#[test]
+fn a_recovered_recorder_ends(rt: HostRuntime) -> Result<(), Fail> {
+    let alloc = rt.alloc();
+    let flag = Arc::new(alloc, AtomicU64::new(0))?;
+    let recorder = Flagged {
+        flag: Arc::try_clone(&flag)?,
+    };
+    let built = RecoverableRecorder::new(recorder).build(&rt, alloc);
+    let (slot, handle) = built.ok().ok_or("memory")?;
+    let refused = slot.update(&rt, Address { book: 0, series: 0 }, Update::Add(1));
+    assert_eq!(&rt; refused, Err(Refused::NoSuchAddress));
+    let recorder = handle.into_inner(&rt)?;
+    assert_eq!(&rt; flag.load(Ordering::SeqCst), 0);
+    drop(recorder);
+    assert_eq!(&rt; flag.load(Ordering::SeqCst), 1);
+    Ok(())
+}

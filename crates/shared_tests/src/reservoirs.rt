@@ -1,0 +1,174 @@
+//! A reservoir that threads share, with the values of the Rust crate's tests in whole numbers.
+
+use metrics::Error;
+use metrics_cells::HistogramFn;
+use metrics_shared::reservoir::AtomicSamplingReservoir;
+use rand_core::{Rng, SeedableRng};
+use rand_xoshiro::Xoshiro256StarStar;
+use std::alloc::Global;
+use std::process::Abort;
+use std::sync::Wait;
+use std::test::Fail;
+use std::thread::{self, Threads, join};
+
+/// What a drain told: the number of values and their sum, the rate, and how many items came.
+type Told = (u64, i128, (u64, u64), usize);
+
+/// Pushes the numbers below `values`.
+fn push_all<R: Wait, G: Rng + Drop>(
+    rt: &R,
+    reservoir: &AtomicSamplingReservoir<G>,
+    values: i64,
+) -> Result<(), Error> {
+    for value in 0..values {
+        reservoir.push(rt, value)?;
+    }
+    Ok(())
+}
+
+fn consumed<R: Wait, G: Rng + Drop>(rt: &R, reservoir: &AtomicSamplingReservoir<G>) -> Told {
+    let mut told = (0, 0, (0, 0), 0);
+    reservoir.consume(rt, |drain| {
+        let (len, sum, rate) = (
+            drain.unsampled_len(),
+            drain.unsampled_sum(),
+            drain.sample_rate(),
+        );
+        told = (len, sum, rate, drain.count());
+    });
+    told
+}
+
+/// Pushes and consumes by turns, and what each drain tells.
+fn expect_turns<R: Abort + Wait>(
+    rt: &R,
+    alloc: Global,
+    size: usize,
+    turns: &[(i64, Told)],
+) -> Result<(), Fail> {
+    let reservoir = AtomicSamplingReservoir::new(
+        alloc,
+        size,
+        Xoshiro256StarStar::seed_from_u64(1),
+    )?;
+    for (values, want) in turns {
+        assert!(rt; reservoir.is_empty(rt));
+        push_all(rt, &reservoir, *values)?;
+        assert_eq!(rt; reservoir.is_empty(rt), *values == 0);
+        assert!(rt; consumed(rt, &reservoir) == *want);
+    }
+    Ok(())
+}
+
+#[test]
+fn drains_tell_what_was_pushed(rt: HostRuntime) -> Result<(), Fail> {
+    let alloc = rt.alloc();
+    expect_turns(
+        &rt,
+        alloc,
+        64,
+        &[(0, (0, 0, (1, 1), 0)), (10, (10, 45, (1, 1), 10))],
+    )?;
+    expect_turns(&rt, alloc, 16, &[(1000, (1000, 499500, (16, 1000), 16))])?;
+    expect_turns(
+        &rt,
+        alloc,
+        64,
+        &[
+            (100, (100, 4950, (64, 100), 64)),
+            (50, (50, 1225, (1, 1), 50)),
+        ],
+    )?;
+    expect_turns(&rt, alloc, 0, &[(3, (3, 3, (0, 3), 0))])
+}
+
+/// The value that a reservoir of size 1 holds after 1 and 2 were pushed.
+fn held<R: Wait>(rt: &R, alloc: Global, seed: u64) -> Result<i64, Error> {
+    let reservoir = AtomicSamplingReservoir::new(
+        alloc,
+        1,
+        Xoshiro256StarStar::seed_from_u64(seed),
+    )?;
+    reservoir.push(rt, 1)?;
+    reservoir.record(rt, 2)?;
+    let mut held = 0;
+    reservoir.consume(rt, |drain| held = drain.last().unwrap_or(0));
+    Ok(held)
+}
+
+#[test]
+fn shared_reservoir_draws_the_whole_range(rt: HostRuntime) -> Result<(), Fail> {
+    let mut is_first_held = false;
+    let mut is_second_held = false;
+    for seed in 0..64 {
+        let value = held(&rt, rt.alloc(), seed)?;
+        is_first_held |= value == 1;
+        is_second_held |= value == 2;
+    }
+    assert!(&rt; is_first_held && is_second_held);
+    Ok(())
+}
+
+#[test]
+fn values_pushed_meanwhile_stay(rt: HostRuntime) -> Result<(), Fail> {
+    let reservoir = AtomicSamplingReservoir::new(
+        rt.alloc(),
+        4,
+        Xoshiro256StarStar::seed_from_u64(1),
+    )?;
+    push_all(&rt, &reservoir, 3)?;
+    let mut is_pushed = false;
+    reservoir.consume(&rt, |_drain| is_pushed = reservoir.push(&rt, 9).is_ok());
+    assert!(&rt; is_pushed);
+    assert!(&rt; consumed(&rt, &reservoir) == (1, 9, (1, 1), 1));
+    Ok(())
+}
+
+/// Pushes 1 a thousand times, and tells whether each was taken.
+fn push_ones<R: Wait, G: Rng + Drop>(rt: &R, reservoir: &AtomicSamplingReservoir<G>) -> bool {
+    let mut is_done = true;
+    for _ in 0..1000 {
+        is_done &= reservoir.push(rt, 1).is_ok();
+    }
+    is_done
+}
+
+/// How many values several drains told of together.
+fn drained<R: Wait, G: Rng + Drop>(
+    rt: &R,
+    reservoir: &AtomicSamplingReservoir<G>,
+    drains: u16,
+) -> u64 {
+    let mut total: u64 = 0;
+    for _ in 0..drains {
+        total = total.saturating_add(consumed(rt, reservoir).0);
+    }
+    total
+}
+
+fn expect_all<R: Abort + Threads + Wait + Sync, G: Rng + Drop + Send>(
+    rt: &R,
+    alloc: Global,
+    reservoir: &AtomicSamplingReservoir<G>,
+) -> Result<(), Fail> {
+    let (done, total) = join(
+        rt,
+        || thread::map_indices(rt, alloc, 4, &|_| push_ones(rt, reservoir)),
+        || drained(rt, reservoir, 300),
+    );
+    for is_done in done? {
+        assert!(rt; is_done);
+    }
+    assert_eq!(rt; total.saturating_add(drained(rt, reservoir, 1)), 4000);
+    Ok(())
+}
+
+#[test]
+fn four_threads_push_while_one_consumes(rt: HostRuntime) -> Result<(), Fail> {
+    let reservoir = AtomicSamplingReservoir::new(
+        rt.alloc(),
+        16,
+        Xoshiro256StarStar::seed_from_u64(1),
+    )?;
+    expect_all(&rt, rt.alloc(), &reservoir)
+}

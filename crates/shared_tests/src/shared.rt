@@ -1,0 +1,83 @@
+//! A book that threads share.
+
+use crate::books::{expect_count, first, key};
+use metrics::{Address, DebugValue, KeyName, MetricKind, Recorder, Reset, Row, Unit, Update};
+use metrics_debugging::DebuggingRecorder;
+use metrics_shared::Shared;
+use std::alloc::Global;
+use std::process::Abort;
+use std::sync::Wait;
+use std::test::Fail;
+use std::thread::{self, Threads};
+
+/// That a row is of the counter `c`, described by `t`, with the value.
+fn expect_row(rt: &impl Abort, row: &Row, want: u64) -> Result<(), Fail> {
+    assert!(rt; row.0.kind() == MetricKind::Counter);
+    assert_eq!(rt; row.0.key().name(), "c");
+    assert!(rt; row.1 == Some(Unit::Count));
+    assert_eq!(rt; row.2.as_ref().ok_or("no text")?.as_str(), "t");
+    assert!(rt; row.3 == DebugValue::Counter(want));
+    Ok(())
+}
+
+fn expect_described<R: Abort + Wait, B: Recorder>(
+    rt: &R,
+    alloc: Global,
+    book: B,
+) -> Result<(), Fail> {
+    let shared = Shared::new(book);
+    let name = KeyName::new(alloc, "c")?;
+    let told = shared.describe(
+        rt,
+        alloc,
+        MetricKind::Counter,
+        &name,
+        Some(Unit::Count),
+        "t",
+    )?;
+    assert_eq!(rt; told, 1);
+    let found = shared.register(rt, alloc, MetricKind::Counter, &key(alloc, "c")?)?;
+    let at = first(&found)?;
+    shared.update(rt, at, Update::Increment(1))?;
+    shared.update(rt, at, Update::Increment(1))?;
+    let kept = shared.snapshot_with(rt, alloc, 0, Reset::KeepGauges)?;
+    expect_row(rt, kept.as_slice().first().ok_or("no row")?, 2)?;
+    let snapshot = shared.snapshot(rt, alloc, 0)?;
+    expect_row(rt, snapshot.as_slice().first().ok_or("no row")?, 0)?;
+    assert_eq!(rt; shared.with(rt, |book| book.books()), 1);
+    Ok(())
+}
+
+#[test]
+fn a_shared_counter(rt: HostRuntime) -> Result<(), Fail> {
+    expect_described(&rt, rt.alloc(), DebuggingRecorder::new(rt.alloc())?)
+}
+
+/// Adds 1 to the counter a thousand times, and tells whether each was done.
+fn add_many<R: Wait, B: Recorder>(rt: &R, shared: &Shared<B>, at: Address) -> bool {
+    let mut is_done = true;
+    for _ in 0..1000 {
+        is_done &= shared.update(rt, at, Update::Increment(1)).is_ok();
+    }
+    is_done
+}
+
+fn expect_all<R: Abort + Threads + Wait + Sync, B: Recorder + Send>(
+    rt: &R,
+    alloc: Global,
+    book: B,
+) -> Result<(), Fail> {
+    let shared = Shared::new(book);
+    let found = shared.register(rt, alloc, MetricKind::Counter, &key(alloc, "c")?)?;
+    let at = first(&found)?;
+    let done = thread::map_indices(rt, alloc, 4, &|_| add_many(rt, &shared, at))?;
+    for is_done in done {
+        assert!(rt; is_done);
+    }
+    expect_count(rt, alloc, shared.into_inner(), 4000)
+}
+
+#[test]
+fn four_threads_add(rt: HostRuntime) -> Result<(), Fail> {
+    expect_all(&rt, rt.alloc(), DebuggingRecorder::new(rt.alloc())?)
+}
