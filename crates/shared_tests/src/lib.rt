@@ -12,4 +12,6 @@ mod recoverable;
 #[cfg(test)]
 mod reservoirs;
 #[cfg(test)]
+mod scarce;
+#[cfg(test)]
 mod shared;

@@ -1,0 +1,118 @@
+//! What stands under a lock after its recorder refused a call.
+
+use crate::books::{first, key};
+use metrics::{
+    Address, DebugValue, Key, KeyName, MetricKind, Recorder, Refused, Reset, Snapshot, Unit, Update,
+};
+use metrics_debugging::DebuggingRecorder;
+use metrics_shared::{RecoverableRecorder, Shared};
+use std::alloc::Global;
+use std::process::Abort;
+use std::sync::Wait;
+use std::test::Fail;
+
+/// A book that has no memory for more than one sample of its first series.
+#[derive(Drop)]
+struct Scarce {
+    book: DebuggingRecorder,
+    is_full: bool,
+}
+
+impl Recorder for Scarce {
+    ghost meaning = { λ s. ⟦<DebuggingRecorder as Recorder>⟧.meaning s.book };
+
+    fn books(&self) -> usize {
+        self.book.books()
+    }
+
+    fn describe(
+        &mut self,
+        alloc: Global,
+        kind: MetricKind,
+        name: &KeyName,
+        unit: Option<Unit>,
+        text: &str,
+    ) -> Result<usize, Refused> {
+        self.book.describe(alloc, kind, name, unit, text)
+    }
+
+    fn register(
+        &mut self,
+        alloc: Global,
+        kind: MetricKind,
+        key: &Key,
+    ) -> Result<Vec<Address>, Refused> {
+        self.book.register(alloc, kind, key)
+    }
+
+    fn holds(&self, kind: MetricKind, at: Address) -> bool {
+        self.book.holds(kind, at)
+    }
+
+    fn update(&mut self, at: Address, by: Update) -> Result<(), Refused> {
+        match by {
+            Update::Record(_) if self.is_full && self.book.holds(MetricKind::Histogram, at) => {
+                Err(Refused::Memory { acted: 0 })
+            }
+            _ => {
+                self.is_full = true;
+                self.book.update(at, by)
+            }
+        }
+    }
+
+    fn snapshot_with(
+        &mut self,
+        alloc: Global,
+        book: usize,
+        reset: Reset,
+    ) -> Result<Snapshot, Refused> {
+        self.book.snapshot_with(alloc, book, reset)
+    }
+}
+
+fn scarce(alloc: Global) -> Result<Scarce, Refused> {
+    Ok(Scarce {
+        book: DebuggingRecorder::new(alloc)?,
+        is_full: false,
+    })
+}
+
+/// That the first series is a histogram with the one sample 5.
+fn expect_sample(rt: &impl Abort, snapshot: &Snapshot) -> Result<(), Fail> {
+    let row = snapshot.as_slice().first().ok_or("no row")?;
+    let DebugValue::Histogram(samples) = &row.3 else {
+        return Err("no histogram".into());
+    };
+    assert!(rt; samples.as_slice() == [5].as_slice());
+    Ok(())
+}
+
+fn expect_shared<R: Abort + Wait, B: Recorder>(rt: &R, alloc: Global, book: B) -> Result<(), Fail> {
+    let shared = Shared::new(book);
+    let at = first(&shared.register(rt, alloc, MetricKind::Histogram, &key(alloc, "h")?)?)?;
+    shared.update(rt, at, Update::Record(5))?;
+    let refused = shared.update(rt, at, Update::Record(6));
+    assert_eq!(rt; refused, Err(Refused::Memory { acted: 0 }));
+    expect_sample(rt, &shared.snapshot(rt, alloc, 0)?)
+}
+
+#[test]
+fn a_shared_book_stands_after_a_refusal(rt: HostRuntime) -> Result<(), Fail> {
+    expect_shared(&rt, rt.alloc(), scarce(rt.alloc())?)
+}
+
+fn expect_slot<R: Abort + Wait, B: Recorder>(rt: &R, alloc: Global, book: B) -> Result<(), Fail> {
+    let built = RecoverableRecorder::new(book).build(rt, alloc);
+    let (slot, handle) = built.ok().ok_or("memory")?;
+    let at = first(&slot.register(rt, alloc, MetricKind::Histogram, &key(alloc, "h")?)?)?;
+    slot.update(rt, at, Update::Record(5))?;
+    let refused = slot.update(rt, at, Update::Record(6));
+    assert_eq!(rt; refused, Err(Refused::Memory { acted: 0 }));
+    expect_sample(rt, &handle.into_inner(rt)?.snapshot(alloc, 0)?)
+}
+
+#[test]
+fn a_slot_stays_full_after_a_refusal(rt: HostRuntime) -> Result<(), Fail> {
+    expect_slot(&rt, rt.alloc(), scarce(rt.alloc())?)
+}
