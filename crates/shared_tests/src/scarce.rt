@@ -71,7 +71,7 @@ impl Recorder for Scarce {
     }
 }
 
-fn scarce(alloc: Global) -> Result<Scarce, Refused> {
+fn new_book(alloc: Global) -> Result<Scarce, Refused> {
     Ok(Scarce {
         book: DebuggingRecorder::new(alloc)?,
         is_full: false,
@@ -99,7 +99,7 @@ fn expect_shared<R: Abort + Wait, B: Recorder>(rt: &R, alloc: Global, book: B) -
 
 #[test]
 fn a_shared_book_stands_after_a_refusal(rt: HostRuntime) -> Result<(), Fail> {
-    expect_shared(&rt, rt.alloc(), scarce(rt.alloc())?)
+    expect_shared(&rt, rt.alloc(), new_book(rt.alloc())?)
 }
 
 fn expect_slot<R: Abort + Wait, B: Recorder>(rt: &R, alloc: Global, book: B) -> Result<(), Fail> {
@@ -114,5 +114,5 @@ fn expect_slot<R: Abort + Wait, B: Recorder>(rt: &R, alloc: Global, book: B) -> 
 
 #[test]
 fn a_slot_stays_full_after_a_refusal(rt: HostRuntime) -> Result<(), Fail> {
-    expect_slot(&rt, rt.alloc(), scarce(rt.alloc())?)
+    expect_slot(&rt, rt.alloc(), new_book(rt.alloc())?)
 }
