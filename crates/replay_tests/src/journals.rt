@@ -39,11 +39,11 @@ fn expect_two_rounds<R: Recorder>(rt: &impl Abort, alloc: Global, book: R) -> Re
     let journal = journaled.journal();
     assert_eq!(rt; journal.len(), 18);
     assert_eq!(rt; journaled.recorder().books(), 1);
-    let mut snapshots = 0;
+    let mut snapshots: u32 = 0;
     for (_, answer) in journal {
         if let Answer::Snapshot(snapshot) = answer {
             expect_rows(rt, alloc, snapshot.as_slice())?;
-            snapshots += 1;
+            snapshots = snapshots.saturating_add(1);
         }
     }
     assert_eq!(rt; snapshots, 2);

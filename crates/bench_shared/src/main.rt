@@ -1,0 +1,132 @@
+//! Benchmarks of what threads share. Without words each runs once and its name is printed; with the word `time` each is
+//! timed and printed with the nanoseconds of one operation, the least of nine rounds after a warm-up.
+//!
+//! Where four threads work, an operation's time is the time of the walk, divided by the operations of all four.
+#![tactic(auto)]
+
+mod reservoirs;
+
+use anyhow::{Result, anyhow};
+use reservoirs::{Filling, Sampling, SamplingByFour};
+use std::env;
+use std::rt::{Clock, Env};
+use std::sync::Wait;
+use std::thread::Threads;
+use std::time::Instant;
+
+/// How many rounds are timed.
+const ROUNDS: usize = 9;
+
+/// About how many operations a round makes.
+const OPERATIONS: u32 = 2_000_000;
+
+/// A benchmark: one walk makes a fixed number of operations.
+trait Bench: Drop {
+    /// What stands before a walk, and isn't timed.
+    fn prepare<R: Wait>(&mut self, rt: &R) -> Result<()>;
+
+    /// One walk. What it answers hangs on what was done, so that no work is left out.
+    fn walk<R: Threads + Wait + Sync>(&mut self, rt: &R) -> Result<u64>;
+}
+
+/// What a call gave that must succeed.
+fn taken<T: Drop, E: Drop>(answer: Result<T, E>) -> Result<T> {
+    match answer {
+        Ok(value) => Ok(value),
+        Err(_) => Err(anyhow!("refused")),
+    }
+}
+
+/// The nanoseconds of so many walks, and what they found.
+fn round<R: Clock + Threads + Wait + Sync, B: Bench>(
+    rt: &R,
+    bench: &mut B,
+    walks: u32,
+) -> Result<(u64, u64)> {
+    let mut nanos: u64 = 0;
+    let mut seen: u64 = 0;
+    for _ in 0..walks {
+        bench.prepare(rt)?;
+        let start = Instant::now(rt)?;
+        seen = seen.wrapping_add(bench.walk(rt)?);
+        let took = u64::try_from(start.elapsed(rt)?.as_nanos()).unwrap_or(u64::MAX);
+        nanos = nanos.saturating_add(took);
+    }
+    Ok((nanos, seen))
+}
+
+/// The least time of one operation over the rounds, in hundredths of a nanosecond.
+fn least<R: Clock + Threads + Wait + Sync, B: Bench>(
+    rt: &R,
+    bench: &mut B,
+    walks: u32,
+    operations: u32,
+) -> Result<u64> {
+    let (_, mut seen) = round(rt, bench, walks)?;
+    let mut least = u64::MAX;
+    for _ in 0..ROUNDS {
+        let (nanos, found) = round(rt, bench, walks)?;
+        seen = seen.wrapping_add(found);
+        let count = (u64::from(walks) * u64::from(operations)).max(1);
+        least = least.min(nanos.saturating_mul(100) / count);
+    }
+    // What was found is looked at, so that the compiler keeps the walks.
+    Ok(least.saturating_add(u64::from(seen == u64::MAX)))
+}
+
+/// Runs a benchmark once, or times it, and prints its line. One walk makes `operations` operations.
+fn report<R: Clock + Print + Threads + Wait + Sync, B: Bench>(
+    rt: &R,
+    timed: bool,
+    name: &str,
+    mut bench: B,
+    operations: u32,
+) -> Result<()> {
+    if timed {
+        let walks = (OPERATIONS / operations.max(1)).max(1);
+        let hundredths = least(rt, &mut bench, walks, operations)?;
+        let whole = hundredths / 100;
+        let part = hundredths % 100;
+        println!(rt; "{name} {whole}.{part:02}")?;
+    } else {
+        bench.prepare(rt)?;
+        bench.walk(rt)?;
+        println!(rt; "{name}")?;
+    }
+    Ok(())
+}
+
+fn is_timed(rt: &(impl Env + AllocGlobal)) -> Result<bool> {
+    for word in env::args(rt)?.skip(1) {
+        if word.as_str() == "time" {
+            return Ok(true);
+        }
+    }
+    Ok(false)
+}
+
+fn main(rt: HostRuntime) -> Result<()> {
+    let timed = is_timed(&rt)?;
+    let alloc = rt.alloc();
+    report(
+        &rt,
+        timed,
+        "reservoir_push_1024_filling_1t",
+        Filling::new(alloc)?,
+        1024,
+    )?;
+    report(
+        &rt,
+        timed,
+        "reservoir_push_1024_sampling_1t",
+        Sampling::new(&rt, alloc)?,
+        1000,
+    )?;
+    report(
+        &rt,
+        timed,
+        "reservoir_push_1024_sampling_4t",
+        SamplingByFour::new(&rt, alloc)?,
+        200_000,
+    )
+}

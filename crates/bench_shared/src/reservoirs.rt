@@ -1,0 +1,113 @@
+//! A reservoir of 1024 places.
+
+use crate::{Bench, taken};
+use anyhow::Result;
+use metrics_shared::reservoir::AtomicSamplingReservoir;
+use rand_core::SeedableRng;
+use rand_xoshiro::Xoshiro256StarStar;
+use std::alloc::Global;
+use std::sync::Wait;
+use std::thread::{self, Threads};
+
+type Reservoir = AtomicSamplingReservoir<Xoshiro256StarStar>;
+
+fn new_reservoir(alloc: Global) -> Result<Reservoir> {
+    taken(AtomicSamplingReservoir::new(alloc, 1024, Xoshiro256StarStar::seed_from_u64(1)))
+}
+
+/// A reservoir after a million pushes, so that nearly each value more is dropped.
+fn filled<R: Wait>(rt: &R, alloc: Global) -> Result<Reservoir> {
+    let reservoir = new_reservoir(alloc)?;
+    taken(push_all(rt, &reservoir, 1_000_000))?;
+    Ok(reservoir)
+}
+
+/// Pushes the numbers below `values`.
+fn push_all<R: Wait>(rt: &R, reservoir: &Reservoir, values: i64) -> Result<u64, metrics::Error> {
+    for value in 0..values {
+        reservoir.push(rt, value)?;
+    }
+    Ok(1)
+}
+
+/// Pushes 1024 values into an empty reservoir.
+#[derive(Drop)]
+pub struct Filling {
+    reservoir: Reservoir,
+}
+
+impl Filling {
+    pub fn new(alloc: Global) -> Result<Filling> {
+        Ok(Filling {
+            reservoir: new_reservoir(alloc)?,
+        })
+    }
+}
+
+impl Bench for Filling {
+    fn prepare<R: Wait>(&mut self, rt: &R) -> Result<()> {
+        self.reservoir.consume(rt, |_drain| {});
+        Ok(())
+    }
+
+    fn walk<R: Threads + Wait + Sync>(&mut self, rt: &R) -> Result<u64> {
+        taken(push_all(rt, &self.reservoir, 1024))
+    }
+}
+
+/// Pushes 1000 values after a million others.
+#[derive(Drop)]
+pub struct Sampling {
+    reservoir: Reservoir,
+}
+
+impl Sampling {
+    pub fn new<R: Wait>(rt: &R, alloc: Global) -> Result<Sampling> {
+        Ok(Sampling {
+            reservoir: filled(rt, alloc)?,
+        })
+    }
+}
+
+impl Bench for Sampling {
+    fn prepare<R: Wait>(&mut self, _rt: &R) -> Result<()> {
+        Ok(())
+    }
+
+    fn walk<R: Threads + Wait + Sync>(&mut self, rt: &R) -> Result<u64> {
+        taken(push_all(rt, &self.reservoir, 1000))
+    }
+}
+
+/// Pushes 50,000 values in each of four threads, after a million others.
+#[derive(Drop)]
+pub struct SamplingByFour {
+    alloc: Global,
+    reservoir: Reservoir,
+}
+
+impl SamplingByFour {
+    pub fn new<R: Wait>(rt: &R, alloc: Global) -> Result<SamplingByFour> {
+        Ok(SamplingByFour {
+            alloc,
+            reservoir: filled(rt, alloc)?,
+        })
+    }
+}
+
+impl Bench for SamplingByFour {
+    fn prepare<R: Wait>(&mut self, _rt: &R) -> Result<()> {
+        Ok(())
+    }
+
+    fn walk<R: Threads + Wait + Sync>(&mut self, rt: &R) -> Result<u64> {
+        let reservoir = &self.reservoir;
+        let done = thread::map_indices(
+            rt,
+            self.alloc,
+            4,
+            &|_| { push_all(rt, reservoir, 50_000).is_ok() },
+        )?;
+        Ok(done.iter().filter(|is_done| **is_done).count() as u64)
+    }
+}
