@@ -4,6 +4,8 @@
 //! Where four threads work, an operation's time is the time of the walk, divided by the operations of all four.
 #![tactic(auto)]
 
+ghost use denote.Param.Send.{IsSync};
+
 mod reservoirs;
 
 use anyhow::{Result, anyhow};
@@ -26,7 +28,8 @@ trait Bench: Drop {
     fn prepare<R: Wait>(&mut self, rt: &R) -> Result<()>;
 
     /// One walk. What it answers hangs on what was done, so that no work is left out.
-    fn walk<R: Threads + Wait + Sync>(&mut self, rt: &R) -> Result<u64>;
+    fn walk<R: Threads + Wait + Sync>(&mut self, rt: &R) -> Result<u64>
+        requires { IsSync R.row };
 }
 
 /// What a call gave that must succeed.
