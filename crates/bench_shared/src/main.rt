@@ -130,6 +130,6 @@ fn main(rt: HostRuntime) -> Result<()> {
         timed,
         "reservoir_push_1024_sampling_4t",
         SamplingByFour::new(&rt, alloc)?,
-        200_000,
+        2_000_000,
     )
 }

@@ -7,6 +7,7 @@ use rand_core::SeedableRng;
 use rand_xoshiro::Xoshiro256StarStar;
 use std::alloc::Global;
 use std::sync::Wait;
+use std::sync::atomic::{AtomicU64, Ordering};
 use std::thread::{self, Threads};
 
 type Reservoir = AtomicSamplingReservoir<Xoshiro256StarStar>;
@@ -79,7 +80,21 @@ impl Bench for Sampling {
     }
 }
 
-/// Pushes 50,000 values in each of four threads, after a million others.
+/// How many times a thread looks whether the others have come, before it begins without them.
+const LOOKS: u32 = 10_000_000;
+
+/// Pushes as `push_all` does, once all four threads have come.
+fn push_beside<R: Wait>(rt: &R, come: &AtomicU64, reservoir: &Reservoir, values: i64) -> bool {
+    come.fetch_add(1, Ordering::SeqCst);
+    for _ in 0..LOOKS {
+        if come.load(Ordering::SeqCst) >= 4 {
+            break;
+        }
+    }
+    push_all(rt, reservoir, values).is_ok()
+}
+
+/// Pushes 500,000 values in each of four threads, after a million others.
 #[derive(Drop)]
 pub struct SamplingByFour {
     alloc: Global,
@@ -102,11 +117,12 @@ impl Bench for SamplingByFour {
 
     fn walk<R: Threads + Wait + Sync>(&mut self, rt: &R) -> Result<u64> {
         let reservoir = &self.reservoir;
+        let come = &AtomicU64::new(0);
         let done = thread::map_indices(
             rt,
             self.alloc,
             4,
-            &|_| { push_all(rt, reservoir, 50_000).is_ok() },
+            &|_| push_beside(rt, come, reservoir, 500_000),
         )?;
         Ok(done.iter().filter(|is_done| **is_done).count() as u64)
     }
