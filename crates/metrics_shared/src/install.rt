@@ -5,7 +5,7 @@ use metrics::Recorder;
 use std::sync::{OnceLock, Wait};
 
 /// Why a recorder was not installed. It comes back.
-#[derive(Drop)]
+#[derive(Debug, Drop)]
 pub enum SetRecorderError<R> {
     /// The cell is taken. It stays as it was.
     Taken(R),

@@ -1,7 +1,7 @@
 //! Cells, each filled once.
 
 use crate::books::{count, expect_count, key};
-use metrics::{MetricKind, Recorder};
+use metrics::{KeyName, MetricKind, Recorder};
 use metrics_debugging::DebuggingRecorder;
 use metrics_layers::Stack;
 use metrics_shared::{Install, RecoverableRecorder, SetRecorderError};
@@ -68,6 +68,11 @@ fn expect_recoverable<R: Abort + Wait, B: Recorder>(
     };
     expect_count(rt, alloc, second, 3)?;
     let slot = cell.get().ok_or("no recorder")?;
+    let name = KeyName::new(alloc, "c")?;
+    assert_eq!(rt;
+        slot.describe(rt, alloc, MetricKind::Counter, &name, None, "t")?,
+        1
+    );
     let found = slot.register(rt, alloc, MetricKind::Counter, &key(alloc, "c")?)?;
     assert_eq!(rt; found.len(), 1);
     expect_count(rt, alloc, handle.into_inner(rt)?, 0)

@@ -1,4 +1,4 @@
-//! Tests of `metrics_shared` and of `metrics_cells`, through what they hand out.
+//! Tests of `metrics_shared`, through what it hands out.
 //!
 //! They stand in a crate of their own: a crate with tests is proved twice.
 #![tactic(auto)]

@@ -5,7 +5,7 @@ use metrics::{
     Address, DebugValue, Key, KeyName, MetricKind, Recorder, Refused, Reset, Snapshot, Unit, Update,
 };
 use metrics_debugging::DebuggingRecorder;
-use metrics_shared::{RecoverableRecorder, Shared};
+use metrics_shared::{RecoverableRecorder, Shared, SlotRecorder};
 use std::alloc::Global;
 use std::process::Abort;
 use std::sync::Wait;
@@ -88,12 +88,18 @@ fn expect_sample(rt: &impl Abort, snapshot: &Snapshot) -> Result<(), Fail> {
     Ok(())
 }
 
+/// That the first sample is taken and the second refused.
+fn expect_refusal(rt: &impl Abort, first: Result<(), Refused>, second: Result<(), Refused>) {
+    assert_eq!(rt; first, Ok(()));
+    assert_eq!(rt; second, Err(Refused::Memory { acted: 0 }));
+}
+
 fn expect_shared<R: Abort + Wait, B: Recorder>(rt: &R, alloc: Global, book: B) -> Result<(), Fail> {
     let shared = Shared::new(book);
-    let at = first(&shared.register(rt, alloc, MetricKind::Histogram, &key(alloc, "h")?)?)?;
-    shared.update(rt, at, Update::Record(5))?;
-    let refused = shared.update(rt, at, Update::Record(6));
-    assert_eq!(rt; refused, Err(Refused::Memory { acted: 0 }));
+    let found = shared.register(rt, alloc, MetricKind::Histogram, &key(alloc, "h")?)?;
+    let at = first(&found)?;
+    let taken = shared.update(rt, at, Update::Record(5));
+    expect_refusal(rt, taken, shared.update(rt, at, Update::Record(6)));
     expect_sample(rt, &shared.snapshot(rt, alloc, 0)?)
 }
 
@@ -102,14 +108,25 @@ fn a_shared_book_stands_after_a_refusal(rt: HostRuntime) -> Result<(), Fail> {
     expect_shared(&rt, rt.alloc(), new_book(rt.alloc())?)
 }
 
+/// Records in the slot's book, which refuses the second sample.
+fn expect_full<R: Abort + Wait, B: Recorder>(
+    rt: &R,
+    alloc: Global,
+    slot: &SlotRecorder<B>,
+) -> Result<(), Fail> {
+    let found = slot.register(rt, alloc, MetricKind::Histogram, &key(alloc, "h")?)?;
+    let at = first(&found)?;
+    let taken = slot.update(rt, at, Update::Record(5));
+    expect_refusal(rt, taken, slot.update(rt, at, Update::Record(6)));
+    Ok(())
+}
+
 fn expect_slot<R: Abort + Wait, B: Recorder>(rt: &R, alloc: Global, book: B) -> Result<(), Fail> {
     let built = RecoverableRecorder::new(book).build(rt, alloc);
     let (slot, handle) = built.ok().ok_or("memory")?;
-    let at = first(&slot.register(rt, alloc, MetricKind::Histogram, &key(alloc, "h")?)?)?;
-    slot.update(rt, at, Update::Record(5))?;
-    let refused = slot.update(rt, at, Update::Record(6));
-    assert_eq!(rt; refused, Err(Refused::Memory { acted: 0 }));
-    expect_sample(rt, &handle.into_inner(rt)?.snapshot(alloc, 0)?)
+    expect_full(rt, alloc, &slot)?;
+    let mut book = handle.into_inner(rt)?;
+    expect_sample(rt, &book.snapshot(alloc, 0)?)
 }
 
 #[test]

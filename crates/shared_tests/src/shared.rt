@@ -1,7 +1,9 @@
 //! A book that threads share.
 
 use crate::books::{expect_count, first, key};
-use metrics::{Address, DebugValue, KeyName, MetricKind, Recorder, Reset, Row, Unit, Update};
+use metrics::{
+    Address, DebugValue, KeyName, MetricKind, Recorder, Reset, Row, Snapshot, Unit, Update,
+};
 use metrics_debugging::DebuggingRecorder;
 use metrics_shared::Shared;
 use std::alloc::Global;
@@ -20,30 +22,45 @@ fn expect_row(rt: &impl Abort, row: &Row, want: u64) -> Result<(), Fail> {
     Ok(())
 }
 
-fn expect_described<R: Abort + Wait, B: Recorder>(
+/// Registers the counter, and adds 1 to it.
+fn add_one<R: Wait, B: Recorder>(rt: &R, alloc: Global, shared: &Shared<B>) -> Result<(), Fail> {
+    let found = shared.register(rt, alloc, MetricKind::Counter, &key(alloc, "c")?)?;
+    shared.update(rt, first(&found)?, Update::Increment(1))?;
+    Ok(())
+}
+
+/// Describes the counter, and tells how many targets it has.
+fn describe<R: Wait, B: Recorder>(
     rt: &R,
     alloc: Global,
-    book: B,
-) -> Result<(), Fail> {
-    let shared = Shared::new(book);
+    shared: &Shared<B>,
+) -> Result<usize, Fail> {
     let name = KeyName::new(alloc, "c")?;
-    let told = shared.describe(
+    Ok(shared.describe(
         rt,
         alloc,
         MetricKind::Counter,
         &name,
         Some(Unit::Count),
         "t",
-    )?;
-    assert_eq!(rt; told, 1);
-    let found = shared.register(rt, alloc, MetricKind::Counter, &key(alloc, "c")?)?;
-    let at = first(&found)?;
-    shared.update(rt, at, Update::Increment(1))?;
-    shared.update(rt, at, Update::Increment(1))?;
-    let kept = shared.snapshot_with(rt, alloc, 0, Reset::KeepGauges)?;
-    expect_row(rt, kept.as_slice().first().ok_or("no row")?, 2)?;
-    let snapshot = shared.snapshot(rt, alloc, 0)?;
-    expect_row(rt, snapshot.as_slice().first().ok_or("no row")?, 0)?;
+    )?)
+}
+
+fn expect_first(rt: &impl Abort, snapshot: &Snapshot, want: u64) -> Result<(), Fail> {
+    expect_row(rt, snapshot.as_slice().first().ok_or("no row")?, want)
+}
+
+fn expect_described<R: Abort + Wait, B: Recorder>(
+    rt: &R,
+    alloc: Global,
+    book: B,
+) -> Result<(), Fail> {
+    let shared = Shared::new(book);
+    assert_eq!(rt; describe(rt, alloc, &shared)?, 1);
+    add_one(rt, alloc, &shared)?;
+    add_one(rt, alloc, &shared)?;
+    expect_first(rt, &shared.snapshot_with(rt, alloc, 0, Reset::All)?, 2)?;
+    expect_first(rt, &shared.snapshot(rt, alloc, 0)?, 0)?;
     assert_eq!(rt; shared.with(rt, |book| book.books()), 1);
     Ok(())
 }
