@@ -13,12 +13,33 @@ pub mod layers {
     pub use metrics_trees::{Child, Fanout, FanoutBuilder, Router, RouterBuilder};
 }
 
-/// Storage of samples that has one owner.
-pub mod storage {
-    pub use metrics_storage::{
-        BLOCK_SIZE, Block, Histogram, OwnedBucket, reservoir, reservoir_law,
+/// Cells by kind and key, and which of them are still in use.
+pub mod registry {
+    pub use metrics_journal::{JournaledRegistry, JournaledShard, ShardCall, Tally};
+    pub use metrics_registry::recency_law;
+    pub use metrics_registry::registry::{
+        Counted, Generation, OwnedRecency, OwnedRegistry, PlainStorage, Storage,
     };
 }
 
+/// Storage of samples.
+pub mod storage {
+    pub use metrics_bucket::{Pen, RuledBucket, Sample, Visitor, bucket_law};
+    pub use metrics_storage::{BLOCK_SIZE, Block, Histogram, OwnedBucket, reservoir_law};
+
+    /// A fixed number of values out of all that were pushed.
+    pub mod reservoir {
+        pub use metrics_shared::reservoir::AtomicSamplingReservoir;
+        pub use metrics_storage::reservoir::{Drain, Reservoir};
+    }
+}
+
 pub use metrics::{Answer, Call, CompositeKey, Error, MetricKind, MetricKindMask};
-pub use metrics_replay::{answer_of, replay};
+pub use metrics_cells::{CounterFn, GaugeFn, HistogramFn};
+pub use metrics_registry::{
+    DefaultHashable, Hashable, KeyHasher, Quantile, key_clones, parse_quantiles,
+};
+pub use metrics_replay::{Journaled, answer_of, replay};
+pub use metrics_shared::{
+    Install, RecoverableRecorder, RecoveryHandle, SetRecorderError, Shared, Slot, SlotRecorder,
+};
