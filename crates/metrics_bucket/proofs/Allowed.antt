@@ -1,0 +1,279 @@
+-- What the rule allows each step on the table.
+use Rattle.std.proofs.Common.{◌≡◌, ℕ, zero, suc, ◌+◌, ◌*◌, ◌/◌, ◌%◌, ◌<◌, ◌≤◌, eqb, List, [], ◌∷◌, ◌++◌, length, get_or, set, take, drop, replicate, refl, sym, ap, ◌∙◌, subst, arith, eq-eqb, ne_eqb, length-take, length-drop}
+use mathlib.Core.Logic.{dite}
+use mathlib.Core.Option.{none, some}
+use native.Mathlib.Decide.{ℕ_discrete}
+use lib.ListN.{get_elem?}
+use lib.Seq.{set-get_or}
+use prog.Atomic.{either}
+use Rattle.atomic_table.specs.Table.{State, step, keeps, stepped, opening, Allows, Splits, Joins}
+use Rattle.atomic_table.proofs.Lists.{set_again, set_else}
+use Rattle.metrics_bucket.specs.declared.hand.Hand.{Hand}
+use Rattle.metrics_bucket.specs.declared.hand.Hold.{Hold}
+use Rattle.metrics_bucket.specs.declared.hand.Hold.TheVariants.{Nothing, Ticket, Written, Settling}
+use Rattle.metrics_bucket.specs.World.{World, base, spot, words_of, live_values, new_hand, whole_hand, holding, pushing, Act, ticket, write, finish, gather, split, join, world_after, left_part, right_part, both_parts}
+use Rattle.metrics_bucket.specs.Facts.{weigh, weight_of, HoldFits, Facts}
+use Rattle.metrics_bucket.specs.Plays.{Sat, IsControl, looked, drew, put, finished, gathered, recalled}
+use Rattle.metrics_bucket.specs.History.{May, opened, Kept, ShowsAt}
+use Rattle.metrics_bucket.proofs.Alone.{unsplit_of}
+use Rattle.metrics_bucket.proofs.Histories.{runs_on, facts}
+use Rattle.metrics_bucket.proofs.Sums.{total_one, spot_below}
+use Rattle.metrics_bucket.proofs.Clears.{whole_live, learns, learns_reads}
+use Rattle.metrics_bucket.proofs.Shares.{zeros}
+
+abbrev pub St : Type 0
+St = State (Unit {0}) Hand
+
+-- a write in the first or the second of two lists
+pub set_left : (xs ys : List ℕ) (k x : ℕ) → k < length xs → set (xs ++ ys) k x ≡ set xs k x ++ ys
+set_left [] ys k x l = absurd (omega arith)
+set_left (y ∷ xs) ys zero x l = refl
+set_left (y ∷ xs) ys (suc k) x l = ap (λ (z : List ℕ). y ∷ z) (set_left xs ys k x (omega arith))
+
+pub set_right : (xs ys : List ℕ) (n k x : ℕ) → n ≡ length xs + k → set (xs ++ ys) n x ≡ xs ++ set ys k x
+set_right [] ys n k x e = ap (λ (z : ℕ). set ys z x) (omega arith)
+set_right (y ∷ xs) ys zero k x e = absurd (omega arith)
+set_right (y ∷ xs) ys (suc n) k x e = ap (λ (z : List ℕ). y ∷ z) (set_right xs ys n k x (omega arith))
+
+pub get_left : (xs ys : List ℕ) (k : ℕ) → k < length xs → get_or (xs ++ ys) k 0 ≡ get_or xs k 0
+get_left [] ys k l = absurd (omega arith)
+get_left (y ∷ xs) ys zero l = refl
+get_left (y ∷ xs) ys (suc k) l = get_left xs ys k (omega arith)
+
+pub get_right : (xs ys : List ℕ) (n k : ℕ) → n ≡ length xs + k → get_or (xs ++ ys) n 0 ≡ get_or ys k 0
+get_right [] ys n k e = ap (λ (z : ℕ). get_or ys z 0) (omega arith)
+get_right (y ∷ xs) ys zero k e = absurd (omega arith)
+get_right (y ∷ xs) ys (suc n) k e = get_right xs ys n k (omega arith)
+
+abbrev empty : List ℕ
+empty = []
+
+none_taken : (n i : ℕ) → get_or (take n empty) i 0 ≡ 0
+none_taken zero i = refl
+none_taken (suc n) i = refl
+
+nowhere : (b n i : ℕ) → get_or (take n (drop b empty)) i 0 ≡ get_or empty (b + i) 0
+nowhere zero n i = none_taken n i
+nowhere (suc b) n i = none_taken n i
+
+get_take_drop : (xs : List ℕ) (b n i : ℕ) → i < n → get_or (take n (drop b xs)) i 0 ≡ get_or xs (b + i) 0
+get_take_drop [] b n i l = nowhere b n i
+get_take_drop (x ∷ xs) zero zero i l = absurd (omega arith)
+get_take_drop (x ∷ xs) zero (suc n) zero l = refl
+get_take_drop (x ∷ xs) zero (suc n) (suc i) l = get_take_drop xs 0 n i (omega arith) ∙ (let shift : suc (0 + i) ≡ 0 + suc i = omega arith in (λ k. get_or (x ∷ xs) (shift k) 0))
+get_take_drop (x ∷ xs) (suc b) n i l = get_take_drop xs b n i l ∙ (let shift : suc (b + i) ≡ suc b + i = omega arith in (λ k. get_or (x ∷ xs) (shift k) 0))
+
+weigh_one : (xs : List ℕ) → weigh (λ _. 1) xs ≡ length xs
+weigh_one [] = refl
+weigh_one (x ∷ xs) = let r = weigh_one xs in omega arith
+
+abbrev written : Hold → ℕ → Hold
+written (Ticket s i) x = Written s i x
+written hold x = hold
+
+abbrev value_of : Hold → ℕ
+value_of (Written s i x) = x
+value_of hold = 0
+
+base_le : (places s : ℕ) → base places s ≤ places
+base_le places zero = omega arith
+base_le places (suc s) = omega arith
+
+live_length : (places : ℕ) (w : World) → Facts places 1024 w → length (live_values places w) ≡ w.given
+live_length places w f = let a = f.values_long in let b = f.room in let c = base_le places w.live in let d = length-drop (base places w.live) w.values in let e = length-take w.given (drop (base places w.live) w.values) in omega arith
+
+module _ (places : ℕ) where
+  -- the state after a step, by the world after it
+  pub moved : (s : St) (k : Kept places s) (i n id : ℕ) (cs : List (ℕ × Unit {0})) (v u : Hand) (act : Act) → get_elem? k.1.hands id ≡ some v → 0 < v.weight → May places 1024 k.1 id v act
+      → words_of (world_after places k.1 id v act) ≡ set (words_of k.1) i n → (world_after places k.1 id v act).hands ≡ set k.1.hands id u
+      → Kept places (stepped s i n id cs u keeps)
+  moved s k i n id cs v u act there has may words hands = (
+    k.0 ++ record { by = id; act = act } ∷ [],
+    world_after places k.1 id v act,
+    runs_on places 1024 (opened places) k.0 k.1 id v act k.2 there has may,
+    words ∙ ap (λ (l : List ℕ). set l i n) k.3,
+    hands ∙ ap (λ (l : List Hand). set l id u) k.4,
+  )
+
+  pub still : (s : St) (k : Kept places s) (i id : ℕ) (cs : List (ℕ × Unit {0})) (u : Hand) → get_elem? s.views id ≡ some u → Kept places (stepped s i (get_or s.words i 0) id cs u keeps)
+  still s k i id cs u at = (k.0, k.1, k.2, k.3 ∙ sym (set-get_or s.words i 0), k.4 ∙ sym (set_again s.views id u at))
+
+  pub control : (s : St) (k : Kept places s) → get_or s.words 0 0 ≡ 2 * k.1.given + k.1.live
+  control s k = sym (ap (λ (l : List ℕ). get_or l 0 0) k.3)
+
+  pub seated : (s : St) (k : Kept places s) (id : ℕ) (v : Hand) → get_elem? s.views id ≡ some v → get_elem? k.1.hands id ≡ some v
+  seated s k id v at = ap (λ (l : List Hand). get_elem? l id) k.4 ∙ at
+
+  whole_control : (s : St) (k : Kept places s) (id : ℕ) (v : Hand) → get_elem? s.views id ≡ some v → v.hold ≡ Nothing → IsControl v (get_or s.words 0 0)
+  whole_control s k id v at free whole =
+      let w : World = k.1 in
+      let there = seated s k id v at in
+      let some_weight : 0 < v.weight = omega arith in
+      let c = control s k in
+      let side = (facts places s k).side in
+      let l = whole_live places 1024 w id v (facts places s k) there some_weight whole free in
+      let b = learns places 1024 w id v (facts places s k) there some_weight whole free (λ _. 1) in
+      let p = weigh_one v.pushed in
+      let q = weigh_one (live_values places w) in
+      let r = live_length places w (facts places s k) in
+      (omega arith, omega arith)
+
+  pub looks : (slots id : ℕ) (me : Sat) → Allows (Kept places) slots id me 0 (λ n. n) (looked (step slots 0 0 0 none) me)
+  looks slots id me s k _ at _ =
+      let most : me.0.weight ≤ 1024 = (let a = total_one weight_of k.1.hands id me.0 (seated s k id me.0 at) in let b = (facts places s k).shares in omega arith) in
+      let c = control s k in
+      let side = (facts places s k).side in
+      let room = (facts places s k).room in (
+        me.0,
+        keeps,
+        tt,
+        still s k 0 id me.1 me.0 at,
+        (refl, most, (λ has. let size = ((facts places s k).each id me.0 (seated s k id me.0 at)).size has in omega arith), λ free. whole_control s k id me.0 at free),
+      )
+
+  pub draws : (slots id : ℕ) (me : Sat) (old : ℕ) → 0 < me.0.weight → me.0.hold ≡ Nothing → old / 2 < places
+      → Allows (Kept places) slots id me 0 (λ n. either (eqb n old) (old + 2) n) (drew (step slots 0 old (old + 2) none) me)
+  draws slots id me old has free room s k _ at _ =
+      let x : ℕ = get_or s.words 0 0 in
+      let w : World = k.1 in
+      let c = control s k in
+      let side = (facts places s k).side in
+      let there = seated s k id me.0 at in
+      dite (ℕ_discrete x old)
+      (λ hit.
+      let u : Hand = holding me.0 (Ticket w.live w.given) in
+      let u' : Hand = holding me.0 (Ticket (x % 2) (x / 2)) in
+      let is : u ≡ u' = (let a : w.live ≡ x % 2 = omega arith in let b : w.given ≡ x / 2 = omega arith in λ i. holding me.0 (Ticket (a i) (b i))) in
+      let below_all : w.given < places = omega arith in (
+        u',
+        keeps,
+        tt,
+        subst (λ b. Kept places (stepped s 0 (either b (old + 2) x) id me.1 u' keeps)) (sym (eq-eqb x old hit))
+            (subst (λ (z : Hand). Kept places (stepped s 0 (old + 2) id me.1 z keeps)) is
+            (moved s k 0 (old + 2) id me.1 me.0 u ticket there has (free, below_all) (let n : 2 * (w.given + 1) + w.live ≡ old + 2 = omega arith in (λ i. n i ∷ w.turn ∷ (w.values ++ w.marks))) refl)),
+        ((λ _. refl), (λ not. absurd (not hit)), whole_control s k id me.0 at free),
+      ))
+      (λ miss. (
+        me.0,
+        keeps,
+        tt,
+        subst (λ b. Kept places (stepped s 0 (either b (old + 2) x) id me.1 me.0 keeps)) (sym (ne_eqb x old miss)) (still s k 0 id me.1 me.0 at),
+        ((λ hit. absurd (miss hit)), (λ _. refl), whole_control s k id me.0 at free),
+      ))
+
+  pub puts : (slots id : ℕ) (me : Sat) (word x s i : ℕ) → 0 < me.0.weight → me.0.hold ≡ Ticket s i → word ≡ 2 + spot places s i
+      → Allows (Kept places) slots id me word (λ _. x) (λ _. put (step slots word x 0 none) me x)
+  puts slots id me word x s i has e is st k _ at _ =
+      let w : World = k.1 in
+      let there = seated st k id me.0 at in
+      let u : Hand = holding me.0 (Written s i x) in
+      let fits : HoldFits places 1024 w me.0.weight (Ticket s i) = subst (HoldFits places 1024 w me.0.weight) e ((facts places st k).each id me.0 there).hold in
+      let long = (facts places st k).values_long in
+      let in_range = spot_below places s i fits.1 in
+      let same_word : word ≡ suc (suc (spot places s i)) = omega arith in (
+        u,
+        keeps,
+        tt,
+        moved st k word x id me.1 me.0 u (write s i x) there has e
+            (sym (ap (λ (z : ℕ). set (words_of w) z x) same_word ∙ ap (λ (l : List ℕ). (2 * w.given + w.live) ∷ w.turn ∷ l) (set_left w.values w.marks (spot places s i) x (omega arith)))) refl,
+        λ s' i' e'. ap (λ (z : Hold). (holding me.0 (written z x), me.1)) (sym e ∙ e'),
+      )
+
+  pub marks : (slots id : ℕ) (me : Sat) (word s i x : ℕ) → 0 < me.0.weight → me.0.hold ≡ Written s i x → word ≡ 2 + (places + places) + spot places s i
+      → Allows (Kept places) slots id me word (λ _. 1) (λ _. finished (step slots word 1 0 none) me 1)
+  marks slots id me word s i x has e is st k _ at _ =
+      let w : World = k.1 in
+      let there = seated st k id me.0 at in
+      let u : Hand = pushing me.0 x in
+      let long = (facts places st k).values_long in
+      let same_word : word ≡ suc (suc ((places + places) + spot places s i)) = omega arith in (
+        u,
+        keeps,
+        tt,
+        moved st k word 1 id me.1 me.0 u (finish s i x) there has e
+            (sym (ap (λ (z : ℕ). set (words_of w) z 1) same_word ∙ ap (λ (l : List ℕ). (2 * w.given + w.live) ∷ w.turn ∷ l) (set_right w.values w.marks ((places + places) + spot places s i) (spot places s i) 1 (omega arith)))) refl,
+        λ s' i' x' e'. ap (λ (z : Hold). (pushing me.0 (value_of z), me.1)) (sym e ∙ e'),
+      )
+
+  pub gathers_all : (slots id : ℕ) (me : Sat) → me.0.weight ≡ 1024 → me.0.hold ≡ Nothing → Allows (Kept places) slots id me 0 (λ n. n) (gathered (step slots 0 0 0 none) me)
+  gathers_all slots id me whole free s k _ at _ =
+      let w : World = k.1 in
+      let there = seated s k id me.0 at in
+      let has : 0 < me.0.weight = omega arith in
+      let x : ℕ = get_or s.words 0 0 in
+      let c = control s k in
+      let side = (facts places s k).side in
+      let vs : List ℕ = live_values places w in
+      let u : Hand = holding me.0 (Settling w.live vs) in
+      let u' : Hand = holding me.0 (Settling (x % 2) vs) in
+      let is : u ≡ u' = (let a : w.live ≡ x % 2 = omega arith in λ i. holding me.0 (Settling (a i) vs)) in
+      let l = live_length places w (facts places s k) in
+      let size = ((facts places s k).each id me.0 there).size has in
+      let shown : ShowsAt me.0.places me.0 vs = subst (λ (p : ℕ). ShowsAt p me.0 vs) (sym size) (k.0, k.1, id, k.2, there, refl, unsplit_of places k.0 k.1 id me.0 k.2 there) in
+      let room = (facts places s k).room in (
+        u',
+        keeps,
+        tt,
+        subst (λ (z : Hand). Kept places (stepped s 0 x id me.1 z keeps)) is
+            (moved s k 0 x id me.1 me.0 u gather there has (free, whole) (k.3 ∙ sym (set-get_or s.words 0 0) ∙ sym (ap (λ (l : List ℕ). set l 0 x) k.3)) refl),
+        (vs, refl, omega arith, omega arith, learns places 1024 w id me.0 (facts places s k) there has whole free, learns_reads places 1024 w id me.0 (facts places s k) there has whole free, shown),
+      )
+
+  pub recalls : (slots id : ℕ) (me : Sat) (word : ℕ) → 0 < me.0.weight → Allows (Kept places) slots id me word (λ n. n) (recalled (step slots word 0 0 none) me)
+  recalls slots id me word has s k _ at _ =
+      let w : World = k.1 in
+      let there = seated s k id me.0 at in
+      let size = ((facts places s k).each id me.0 there).size has in (
+        me.0,
+        keeps,
+        tt,
+        still s k word id me.1 me.0 at,
+        (
+          refl,
+          λ side i vs e is l.
+              let fits : HoldFits places 1024 w me.0.weight (Settling side vs) = subst (HoldFits places 1024 w me.0.weight) e ((facts places s k).each id me.0 there).hold in
+              let n = live_length places w (facts places s k) in
+              let n' : length vs ≡ length (live_values places w) = ap length fits.2 in
+              let room = (facts places s k).room in
+              let long = (facts places s k).values_long in
+              let in_range = spot_below places w.live i (omega arith) in
+              let same_word : word ≡ suc (suc (spot places w.live i)) = (let a : spot me.0.places side i ≡ spot places w.live i = (λ z. spot (size z) (fits.1 z) i) in omega arith) in
+              ap (λ (l : List ℕ). get_or l word 0) (sym k.3)
+              ∙ (ap (λ (z : ℕ). get_or (words_of w) z 0) same_word
+              ∙ (get_left w.values w.marks (spot places w.live i) (omega arith)
+              ∙ (sym (get_take_drop w.values (base places w.live) w.given i (omega arith)) ∙ sym (ap (λ (z : List ℕ). get_or z i 0) fits.2)))),
+        ),
+      )
+
+  pub cuts : (id : ℕ) (v : Hand) → 1 < v.weight → v.hold ≡ Nothing → Splits (Kept places) id v (left_part v) (right_part v)
+  cuts id v heavy free s k at =
+      let has : 0 < v.weight = omega arith in (
+        k.0 ++ record { by = id; act = split } ∷ [],
+        world_after places k.1 id v split,
+        runs_on places 1024 (opened places) k.0 k.1 id v split k.2 (seated s k id v at) has (free, heavy),
+        k.3,
+        ap (λ (l : List Hand). set l id (left_part v) ++ right_part v ∷ []) k.4,
+      )
+
+  pub glues : (id : ℕ) (v : Hand) (other_id : ℕ) (x : Hand) → 0 < v.weight → v.hold ≡ Nothing → x.hold ≡ Nothing → Joins (Kept places) id v other_id x (both_parts v x) (new_hand 0 0)
+  glues id v other_id x has free free_too s k at apart there =
+      let there' : get_elem? k.1.hands other_id ≡ some x = sym (set_else k.1.hands id other_id (both_parts v x) apart) ∙ (ap (λ (l : List Hand). get_elem? (set l id (both_parts v x)) other_id) k.4 ∙ there) in (
+        k.0 ++ record { by = id; act = join other_id x } ∷ [],
+        world_after places k.1 id v (join other_id x),
+        runs_on places 1024 (opened places) k.0 k.1 id v (join other_id x) k.2 (seated s k id v at) has (free, free_too, apart, there'),
+        k.3,
+        ap (λ (l : List Hand). set (set l id (both_parts v x)) other_id (new_hand 0 0)) k.4,
+      )
+
+  pub zeros-append : (n m : ℕ) → zeros n ++ zeros m ≡ zeros (n + m)
+  zeros-append zero m = let e : m ≡ 0 + m = omega arith in ap zeros e
+  zeros-append (suc n) m = ap (λ (l : List ℕ). 0 ∷ l) (zeros-append n m) ∙ (let e : suc (n + m) ≡ suc n + m = omega arith in ap zeros e)
+
+  pub starts : (n : ℕ) → n ≡ 2 + 4 * places → Kept places (opening (replicate n 0) [] (whole_hand places))
+  starts n e = (
+    [],
+    opened places,
+    refl,
+    ap (λ (l : List ℕ). 0 ∷ 0 ∷ l) (zeros-append (places + places) (places + places)) ∙ (let q : suc (suc ((places + places) + (places + places))) ≡ n = omega arith in ap zeros q),
+    refl,
+  )

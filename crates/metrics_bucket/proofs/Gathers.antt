@@ -1,0 +1,39 @@
+-- Chunks that are gathered in one list.
+use Rattle.std.proofs.Common.{◌≡◌, ℕ, zero, suc, ◌+◌, ◌/◌, ◌≤◌, List, [], ◌∷◌, ◌++◌, length, map, refl, sym, ap, ◌∙◌, arith, length-append, append-nil, append_assoc}
+use Rattle.std.specs.Global.{Vec}
+use Rattle.std.specs.Prelude.{vec_capacity}
+use Rattle.std.specs.List.{FoldsTo}
+use mathlib.Core.List.{map-append}
+use Rattle.metrics_bucket.specs.Blocks.{chunk, first_chunks, chunks_from, newest_first, blocks, valued}
+use Rattle.metrics_bucket.specs.Gathers.{Gathers}
+use Rattle.metrics_bucket.proofs.Blocks.{length_map, length_blocks}
+
+abbrev joined : {T : Type 0} → List (List T) → List T
+joined [] = []
+joined (xs ∷ xss) = xs ++ joined xss
+
+gathers_fold : {T : Type 0} (xss : List (List T)) (v w : Vec T) → FoldsTo Gathers v xss w → length v.items + length (joined xss) ≤ vec_capacity v → w.items ≡ v.items ++ joined xss
+gathers_fold {T} [] v w e room = ap (λ (z : Vec T). z.items) (sym e) ∙ sym (append-nil v.items)
+gathers_fold {T} (xs ∷ xss) v w (u, r, f) room =
+    let a = length-append xs (joined xss) in
+    let step = r (omega arith) in
+    let b = length-append v.items xs in
+    let c : length u.items ≡ length (v.items ++ xs) = ap (λ (l : List T). length l) step.0 in
+    let d = step.1 in
+    gathers_fold xss u w f (omega arith) ∙ (ap (λ (l : List T). l ++ joined xss) step.0 ∙ append_assoc v.items xs (joined xss))
+
+joined_chunks : {T : Type 0} (f : ℕ → T) (k : ℕ) (vs : List ℕ) → joined (valued f (chunks_from 0 k vs)) ≡ map f (first_chunks k vs)
+joined_chunks f zero vs = refl
+joined_chunks {T} f (suc k) vs =
+    let e : 0 + k ≡ k = omega arith in
+    (λ i. map f (chunk (e i) vs) ++ joined_chunks f k vs i) ∙ sym (map-append f (chunk k vs) (first_chunks k vs))
+
+-- what is gathered, where there was room for all
+pub gathered_are : {T : Type 0} (f : ℕ → T) (list : List ℕ) (v w : Vec T) → v.items ≡ [] → length list ≤ vec_capacity v → FoldsTo Gathers v (valued f (newest_first list)) w → w.items ≡ map f (blocks list)
+gathered_are {T} f list v w none room folds =
+    let is = joined_chunks f ((length list + 63) / 64) list in
+    let a : length (joined (valued f (newest_first list))) ≡ length (map f (blocks list)) = ap (λ (l : List T). length l) is in
+    let b = length_map f (blocks list) in
+    let c = length_blocks list in
+    let d : length v.items ≡ 0 = ap (λ (l : List T). length l) none in
+    gathers_fold (valued f (newest_first list)) v w folds (omega arith) ∙ (ap (λ (l : List T). l ++ joined (valued f (newest_first list))) none ∙ is)

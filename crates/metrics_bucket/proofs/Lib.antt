@@ -1,0 +1,17 @@
+pub mod Sums
+pub mod Keep
+pub mod Pushes
+pub mod Cells
+pub mod Walks
+pub mod Clears
+pub mod Shares
+pub mod Allowed
+pub mod Pens
+pub mod Blocks
+pub mod Histories
+pub mod AllowedWalks
+pub mod WalkCode
+pub mod Tracks
+pub mod ReadCode
+pub mod Gathers
+pub mod Alone

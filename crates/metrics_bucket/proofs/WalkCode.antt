@@ -1,0 +1,216 @@
+-- What the code of a walk knows of its seat.
+use Rattle.std.proofs.Common.{◌≡◌, ◌≢◌, ◌⊎◌, ℕ, zero, suc, ◌+◌, ◌-◌, ◌*◌, ◌<◌, ◌≤◌, List, [], ◌∷◌, ◌++◌, length, get_or, set, take, drop, map, replicate, refl, sym, ap, ◌∙◌, subst, inl, inr, ⊎_elim, arith, min, length-set, get_or-set_same}
+use Rattle.std.specs.List.{FoldsTo}
+use denote.Param.Members.{Called}
+use Rattle.std.specs.Fn.{CalledAt}
+use denote.Ref.{Bor}
+use denote.Param.Members.{Mut}
+use Rattle.std.proofs.lemmas.Grind.{take-set_at}
+use mathlib.Core.Logic.{dite}
+use mathlib.Core.List.{map-append}
+use native.Mathlib.Decide.{ℕ_discrete, dec_le}
+use mathlib.Core.Option.{some, some-injective}
+use lib.ListN.{get_elem?}
+use Rattle.atomic_table.proofs.Lists.{set_here, set_else}
+use Rattle.metrics_bucket.specs.declared.hand.Hold.{Hold}
+use Rattle.metrics_bucket.specs.declared.hand.Hold.TheVariants.{Clearing}
+use Rattle.metrics_bucket.specs.declared.hand.Cell.{Cell}
+use Rattle.metrics_bucket.specs.declared.hand.Cell.TheVariants.{Unseen, Marked, Read, Wiped}
+use Rattle.metrics_bucket.specs.World.{other, holding, leaving, left_from, put_cell, cells_of, value_in, values_in}
+use Rattle.metrics_bucket.specs.History.{CanLeave}
+use Rattle.metrics_bucket.specs.Blocks.{chunk, chunks_from, valued}
+use Rattle.metrics_bucket.specs.Chunks.{Clears, with_taken}
+use Rattle.metrics_bucket.proofs.Blocks.{part_next}
+use Rattle.metrics_bucket.specs.Plays.{Sat}
+use Rattle.metrics_bucket.proofs.Keep.{at_below}
+
+pub set_twice : {A : Type 0} (xs : List A) (i : ℕ) (a b : A) → set (set xs i a) i b ≡ set xs i b
+set_twice [] i a b = refl
+set_twice (x ∷ xs) zero a b = refl
+set_twice (x ∷ xs) (suc i) a b = λ k. x ∷ set_twice xs i a b k
+
+-- a clear's cell changes
+pub next_hold : (m n : Sat) (s at : ℕ) (cells : List Cell) (c : Cell) → m.0.hold ≡ Clearing s cells → n ≡ (holding m.0 (put_cell m.0.hold at c), m.1) → n.0.hold ≡ Clearing s (set cells at c)
+next_hold m n s at cells c h e = ap (λ (z : Sat). z.0.hold) e ∙ ap (λ (z : Hold). put_cell z at c) h
+
+pub cell_there : (cells : List Cell) (at : ℕ) (b c : Cell) → get_elem? cells at ≡ some b → get_elem? (set cells at c) at ≡ some c
+cell_there cells at b c e = set_here cells at c (at_below cells at b e)
+
+-- a place was seen, read and wiped
+pub place_cleared : (m0 m1 m2 m3 : Sat) (s at r : ℕ) (cells : List Cell) → m0.0.hold ≡ Clearing s cells → m1 ≡ (holding m0.0 (put_cell m0.0.hold at Marked), m0.1)
+    → m2 ≡ (holding m1.0 (put_cell m1.0.hold at (Read r)), m1.1) → m3 ≡ (holding m2.0 (put_cell m2.0.hold at (Wiped r)), m2.1) → m3 ≡ (holding m0.0 (Clearing s (set cells at (Wiped r))), m0.1)
+place_cleared m0 m1 m2 m3 s at r cells h e1 e2 e3 =
+    let h1 = next_hold m0 m1 s at cells Marked h e1 in
+    let h2 = next_hold m1 m2 s at (set cells at Marked) (Read r) h1 e2 in
+    let last : put_cell m2.0.hold at (Wiped r) ≡ Clearing s (set cells at (Wiped r)) =
+    ap (λ (z : Hold). put_cell z at (Wiped r)) h2 ∙ ap (Clearing s) (set_twice (set cells at Marked) at (Read r) (Wiped r) ∙ set_twice cells at Marked (Wiped r))
+    in
+    e3 ∙ ((λ i. (holding m2.0 (last i), m2.1)) ∙ (ap (λ (z : Sat). (holding z.0 (Clearing s (set cells at (Wiped r))), z.1)) e2 ∙ ap (λ (z : Sat). (holding z.0 (Clearing s (set cells at (Wiped r))), z.1)) e1))
+
+pub clears_none : (m : Sat) (side start : ℕ) → m.0.hold ≡ Clearing side (cells_of m.0.hold) → Clears m m side start start
+clears_none m side start h = record {
+  me = λ i. (holding m.0 (h i), m.1);
+  long = refl;
+  wiped = λ i l k. absurd (omega arith);
+  others = λ i _. refl;
+}
+
+-- one more place is wiped
+pub clears_more : (m m1 m2 : Sat) (side start at x : ℕ) → Clears m m1 side start at → get_elem? (cells_of m1.0.hold) at ≡ some Unseen → start ≤ at → m2 ≡ (holding m1.0 (Clearing side (set (cells_of m1.0.hold) at (Wiped x))), m1.1)
+    → Clears m m2 side start (at + 1)
+clears_more m m1 m2 side start at x c there l e =
+    let cells : List Cell = cells_of m1.0.hold in
+    let now : cells_of m2.0.hold ≡ set cells at (Wiped x) = ap (λ (z : Sat). cells_of z.0.hold) e in
+    record {
+      me = e ∙ (ap (λ (z : Sat). (holding z.0 (Clearing side (set cells at (Wiped x))), z.1)) c.me ∙ (λ i. (holding m.0 (Clearing side (sym now i)), m.1)));
+      long = ap length now ∙ (length-set cells at (Wiped x) ∙ c.long);
+      wiped = λ i a b. dite (ℕ_discrete i at)
+          (λ here. (x, ap (λ (z : List Cell). get_elem? z i) now ∙ ((λ k. get_elem? (set cells at (Wiped x)) (here k)) ∙ cell_there cells at Unseen (Wiped x) there)))
+          (λ apart. let t = c.wiped i a (omega arith) in (t.0, ap (λ (z : List Cell). get_elem? z i) now ∙ (set_else cells at i (Wiped x) apart ∙ t.1)));
+      others = λ i o.
+          let apart : i ≢ at = λ same. ⊎_elim (λ (z : i < start). absurd (omega arith)) (λ (z : at + 1 ≤ i). absurd (omega arith)) o in
+          let o' : (i < start) ⊎ (at ≤ i) = ⊎_elim (λ (z : i < start). inl z) (λ (z : at + 1 ≤ i). inr (omega arith)) o in
+          ap (λ (z : List Cell). get_elem? z i) now ∙ (set_else cells at i (Wiped x) apart ∙ c.others i o');
+    }
+
+pub values_set : (cells : List Cell) (i x : ℕ) → values_in (set cells i (Wiped x)) ≡ set (values_in cells) i x
+values_set [] i x = refl
+values_set (c ∷ cs) zero x = refl
+values_set (c ∷ cs) (suc i) x = λ k. value_in c ∷ values_set cs i x k
+
+pub length_values : (cells : List Cell) → length (values_in cells) ≡ length cells
+length_values [] = refl
+length_values (c ∷ cs) = ap suc (length_values cs)
+
+take_set : (vs : List ℕ) (i x : ℕ) → take i (set vs i x) ≡ take i vs
+take_set [] i x = refl
+take_set (v ∷ vs) zero x = refl
+take_set (v ∷ vs) (suc i) x = ap (λ (l : List ℕ). v ∷ l) (take_set vs i x)
+
+part_set : (vs : List ℕ) (start i x : ℕ) → take i (drop start (set vs (start + i) x)) ≡ take i (drop start vs)
+part_set vs zero i x = let e : 0 + i ≡ i = omega arith in ap (λ (k : ℕ). take i (set vs k x)) e ∙ take_set vs i x
+part_set [] (suc start) i x = refl
+part_set (v ∷ vs) (suc start) i x = let e : suc start + i ≡ suc (start + i) = omega arith in ap (λ (k : ℕ). take i (drop (suc start) (set (v ∷ vs) k x))) e ∙ part_set vs start i x
+
+-- the room has one more value
+pub room_more : {T : Type 0} (f : ℕ → T) (vs : List ℕ) (room : List T) (y : T) (start at x : ℕ) → start ≤ at → at < length vs → at - start < length room → y ≡ f x
+    → take (at - start) room ≡ map f (take (at - start) (drop start vs)) → take (at + 1 - start) (set room (at - start) y) ≡ map f (take (at + 1 - start) (drop start (set vs at x)))
+room_more {T} f vs room y start at x l m inside is before =
+    let i : ℕ = at - start in
+    let n : at + 1 - start ≡ i + 1 = omega arith in
+    let here : start + i ≡ at = omega arith in
+    let longer = length-set vs at x in
+    let kept : take i (drop start (set vs at x)) ≡ take i (drop start vs) = (λ k. take i (drop start (set vs (sym here k) x))) ∙ part_set vs start i x in
+    let next = part_next (set vs at x) start at l (omega arith) in
+    let found : get_or (set vs at x) at 0 ≡ x = get_or-set_same vs at x 0 m in
+    take-set_at room i (at + 1 - start) y n inside
+    ∙ (ap (λ (z : List T). z ++ y ∷ []) before
+    ∙ ((λ k. map f (take i (drop start vs)) ++ is k ∷ [])
+    ∙ (sym (map-append f (take i (drop start vs)) (x ∷ []))
+    ∙ (ap (λ (z : List ℕ). map f (z ++ x ∷ [])) (sym kept) ∙ (ap (λ (z : ℕ). map f (take i (drop start (set vs at x)) ++ z ∷ [])) (sym found) ∙ ap (map f) (sym next))))))
+
+pub new_at : (n i : ℕ) → i < n → get_elem? (replicate n Unseen) i ≡ some Unseen
+new_at zero i l = absurd (omega arith)
+new_at (suc n) zero l = refl
+new_at (suc n) (suc i) l = new_at n i (omega arith)
+
+pub length_cells : (n : ℕ) → length (replicate n Unseen) ≡ n
+length_cells zero = refl
+length_cells (suc n) = ap suc (length_cells n)
+
+pub clears_start : (m : Sat) (side b given : ℕ) → m.0.hold ≡ Clearing side (cells_of m.0.hold) → given ≤ b → Clears m m side b given
+clears_start m side b given h l = record {
+  me = λ i. (holding m.0 (h i), m.1);
+  long = refl;
+  wiped = λ i a k. absurd (omega arith);
+  others = λ i _. refl;
+}
+
+-- one more chunk
+pub clears_join : (m m1 m2 : Sat) (side start b end given : ℕ) → Clears m m1 side b given → Clears m1 m2 side start end → b ≡ start + 64 → end ≡ min given b → Clears m m2 side start given
+clears_join m m1 m2 side start b end given c1 c2 is cut = record {
+  me = c2.me ∙ ap (λ (z : Sat). (holding z.0 (Clearing side (cells_of m2.0.hold)), z.1)) c1.me;
+  long = c2.long ∙ c1.long;
+  wiped = λ i x y. dite (dec_le end i)
+      (λ (high : end ≤ i). let t = c1.wiped i (omega arith) y in (t.0, c2.others i (inr high) ∙ t.1))
+      (λ low. c2.wiped i x (omega arith));
+  others = λ i o. ⊎_elim
+      (λ (z : i < start). c2.others i (inl z) ∙ c1.others i (inl (omega arith)))
+      (λ (z : given ≤ i). c2.others i (inr (omega arith)) ∙ c1.others i (inr z))
+      o;
+}
+
+pub still_unseen : (m m1 : Sat) (side b given end i : ℕ) → Clears m m1 side b given → m.0.hold ≡ Clearing side (replicate given Unseen) → end ≡ min given b → i < end → get_elem? (cells_of m1.0.hold) i ≡ some Unseen
+still_unseen m m1 side b given end i c h cut l = c.others i (inl (omega arith)) ∙ (ap (λ (z : Hold). get_elem? (cells_of z) i) h ∙ new_at given i (omega arith))
+
+-- lists of cells that agree from a place on
+pub same_from : (xs ys : List Cell) (b : ℕ) → length xs ≡ length ys → ((i : ℕ) → b ≤ i → get_elem? xs i ≡ get_elem? ys i) → drop b (values_in xs) ≡ drop b (values_in ys)
+same_from [] [] b e f = refl
+same_from [] (y ∷ ys) b e f = absurd (omega arith)
+same_from (x ∷ xs) [] b e f = absurd (omega arith)
+same_from (x ∷ xs) (y ∷ ys) zero e f = (λ i. value_in (some-injective x y (f 0 (omega arith)) i) ∷ same_from xs ys 0 (omega arith) (λ j l. f (suc j) (omega arith)) i)
+same_from (x ∷ xs) (y ∷ ys) (suc b) e f = same_from xs ys b (omega arith) (λ j l. f (suc j) (omega arith))
+
+drop_more : (xs : List ℕ) (a b : ℕ) → drop (a + b) xs ≡ drop b (drop a xs)
+drop_more xs zero b = let e : 0 + b ≡ b = omega arith in ap (λ (k : ℕ). drop k xs) e
+drop_more [] (suc a) b = let e : suc a + b ≡ suc (a + b) = omega arith in ap (λ (k : ℕ). drop k nothing) e ∙ none b
+  where
+    nothing : List ℕ
+    nothing = []
+
+    none : (b : ℕ) → drop (suc (a + b)) nothing ≡ drop b nothing
+    none zero = refl
+    none (suc b) = refl
+drop_more (x ∷ xs) (suc a) b = let e : suc a + b ≡ suc (a + b) = omega arith in ap (λ (k : ℕ). drop k (x ∷ xs)) e ∙ drop_more xs a b
+
+chunks_same : (V W : List ℕ) (c k : ℕ) → drop (64 * c) V ≡ drop (64 * c) W → chunks_from c k V ≡ chunks_from c k W
+chunks_same V W c zero e = refl
+chunks_same V W c (suc k) e =
+    let is : 64 * (c + k) ≡ 64 * c + 64 * k = omega arith in
+    let one : chunk (c + k) V ≡ chunk (c + k) W =
+    ap (λ (n : ℕ). take 64 (drop n V)) is ∙ (ap (take 64) (drop_more V (64 * c) (64 * k) ∙ (ap (drop (64 * k)) e ∙ sym (drop_more W (64 * c) (64 * k)))) ∙ sym (ap (λ (n : ℕ). take 64 (drop n W)) is))
+    in
+    λ i. one i ∷ chunks_same V W c k e i
+
+chunks_front : (V : List ℕ) (c k : ℕ) → chunks_from c (suc k) V ≡ chunks_from (suc c) k V ++ chunk c V ∷ []
+chunks_front V c zero = let e : c + 0 ≡ c = omega arith in λ i. chunk (e i) V ∷ []
+chunks_front V c (suc k) = let e : c + suc k ≡ suc c + k = omega arith in λ i. chunk (e i) V ∷ chunks_front V c k i
+
+folds_more : {P A : Type 0} (R : P → A → P → Type 0) (p : P) (xs : List A) (q : P) (x : A) (u : P) → FoldsTo R p xs q → R q x u → FoldsTo R p (xs ++ x ∷ []) u
+folds_more {P} R p [] q x u f r = (u, subst (λ (z : P). R z x u) (sym f) r, refl)
+folds_more R p (y ∷ ys) q x u f r = (f.0, f.1, folds_more R f.0 ys q x u f.2 r)
+
+-- one more call
+pub calls_more : {P T : Type 0} (R : P → List T → P → Type 0) (value : ℕ → T) (V W : List ℕ) (c chunks m : ℕ) (p q u : P) (x : List T) → chunks ≡ suc c → chunks ≤ m → drop (64 * chunks) W ≡ drop (64 * chunks) V
+    → FoldsTo R p (valued value (chunks_from chunks (m - chunks) V)) q → R q x u → x ≡ map value (chunk c W) → FoldsTo R p (valued value (chunks_from c (m - c) W)) u
+calls_more {P} {T} R value V W c chunks m p q u x is below e f r shown =
+    let k : ℕ = m - chunks in
+    let count : m - c ≡ suc k = omega arith in
+    let before : chunks_from chunks k V ≡ chunks_from (suc c) k W = sym (chunks_same W V chunks k e) ∙ (λ i. chunks_from (is i) k W) in
+    let all : valued value (chunks_from chunks k V) ++ x ∷ [] ≡ valued value (chunks_from c (m - c) W) =
+    (λ i. valued value (before i) ++ shown i ∷ []) ∙ (sym (map-append (map value) (chunks_from (suc c) k W) (chunk c W ∷ [])) ∙ (ap (valued value) (sym (chunks_front W c k)) ∙ (λ i. valued value (chunks_from c (sym count i) W))))
+    in
+    subst (λ (l : List (List T)). FoldsTo R p l u) all (folds_more R p (valued value (chunks_from chunks k V)) q x u f r)
+
+pub called_at : {F A R : Type 0} (g : Mut F (Bor A × Unit {0}) R) (f : F) (b : Bor A) (r : R) (f' : F) → Called g f (b, tt) r f' → CalledAt g f b.now r f'
+called_at g f b r f' c = record { shown = b; shows = refl; called = c }
+
+pub one_minus : (s : ℕ) → s < 2 → 1 - s ≡ other s
+one_minus zero l = omega arith
+one_minus (suc zero) l = omega arith
+one_minus (suc (suc s)) l = absurd (omega arith)
+
+-- a clear that wiped all its places may leave
+pub can_leave : (m m' : Sat) (side given : ℕ) → Clears m m' side 0 given → m.0.hold ≡ Clearing side (replicate given Unseen) → CanLeave m'.0.hold
+can_leave m m' side given c h =
+    let long : length (cells_of m'.0.hold) ≡ given = c.long ∙ (ap (λ (z : Hold). length (cells_of z)) h ∙ length_cells given) in
+    subst CanLeave (sym (ap (λ (z : Sat). z.0.hold) c.me))
+    (λ i d there. let below = at_below (cells_of m'.0.hold) i d there in let t = c.wiped i (omega arith) (omega arith) in (t.0, sym (some-injective (Wiped t.0) d (sym t.1 ∙ there))))
+
+pub left_clear : (m m' : Sat) (side : ℕ) (cells : List Cell) → m.0.hold ≡ Clearing side cells → m' ≡ (leaving m.0, m.1) → m' ≡ (with_taken m.0 (values_in cells), m.1)
+left_clear m m' side cells h e = e ∙ (λ i. (left_from m.0 (h i), m.1))
+
+-- calls seen through a part of the state
+pub folds_seen : {P Q A : Type 0} (R : P → A → P → Type 0) (part : Q → P) (p : Q) (xs : List A) (q : Q) → FoldsTo (λ p x q. R (part p) x (part q)) p xs q → FoldsTo R (part p) xs (part q)
+folds_seen R part p [] q e = ap part e
+folds_seen R part p (x ∷ xs) q (m, r, f) = (part m, r, folds_seen R part m xs q f)

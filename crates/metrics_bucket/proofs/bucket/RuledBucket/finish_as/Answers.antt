@@ -1,0 +1,56 @@
+use Rattle.std.proofs.Common.{rules, ◌≡◌, ℕ, Some, ◌+◌, ◌*◌, ◌<◌, ◌∙◌, ap, subst, sym, arith}
+use Rattle.metrics_bucket.specs.declared.hand.Hold.TheVariants.{Ticket}
+use Rattle.metrics_bucket.specs.World.{spot, pushing}
+use Rattle.metrics_bucket.specs.Account.{Account, Home, TicketFits, hold_of}
+use Rattle.metrics_bucket.specs.Plays.{Sat}
+use Rattle.metrics_bucket.proofs.Allowed.{puts, marks}
+use Rattle.metrics_bucket.proofs.bucket.RuledBucket.finish_as.Goals as goal
+
+pub spot-spot-requires : goal.spot-spot-requires
+spot-spot-requires g c =
+    let f : TicketFits (Some (c.in-Some.side, c.in-Some.at)) c.pen.inside.seat.me.0.places = rw c.in-Some.is at c.pen.invariant.fits in
+    let p : c.pen.inside.seat.me.0.places ≡ c.args.self.now.places = ap (λ (a : Account). a.home.places) c.pen.view_is ∙ ap (λ (h : Home). h.places) c.requires.own in
+    (f.0, subst (λ (n : ℕ). c.in-Some.at < n) p f.1)
+
+pub store-requires : goal.store-requires
+store-requires g c =
+    let i = c.pen.invariant in
+    let hold : c.pen.inside.seat.me.0.hold ≡ Ticket c.in-Some.side c.in-Some.at = i.holds ∙ ap hold_of c.in-Some.is in
+    let has : 0 < c.pen.inside.seat.me.0.weight = search rules in
+    let key : c.self.inside.places ≡ c.deref.result.now.shared.key = search rules in
+    let same : c.args.self.now.places ≡ c.self.inside.places = search rules in
+    let e0 : c.spot-spot.result ≡ spot c.args.self.now.places c.in-Some.side c.in-Some.at = c.spot-spot.ensures.0 in
+    let e : 2 + c.spot-spot.result ≡ 2 + spot c.deref.result.now.shared.key c.in-Some.side c.in-Some.at = ap (λ (n : ℕ). 2 + n) (e0 ∙ ap (λ (n : ℕ). spot n c.in-Some.side c.in-Some.at) (same ∙ key)) in
+    (search rules, search rules, puts _ _ _ _ _ _ c.in-Some.side c.in-Some.at has hold e)
+
+pub store-requires-2 : goal.store-requires-2
+store-requires-2 g c =
+    let i = c.pen.invariant in
+    let hold : c.pen.inside.seat.me.0.hold ≡ Ticket c.in-Some.side c.in-Some.at = i.holds ∙ ap hold_of c.in-Some.is in
+    let has : 0 < c.pen.inside.seat.me.0.weight = search rules in
+    let key : c.self.inside.places ≡ c.deref-2.result.now.shared.key = search rules in
+    let same : c.args.self.now.places ≡ c.self.inside.places = search rules in
+    let now = c.store.ensures.2 c.in-Some.side c.in-Some.at hold in
+    let e0 : c.spot-spot.result ≡ spot c.args.self.now.places c.in-Some.side c.in-Some.at = c.spot-spot.ensures.0 in
+    let e1 = e0 ∙ ap (λ (n : ℕ). spot n c.in-Some.side c.in-Some.at) (same ∙ key) in
+    let k : ℕ = c.deref-2.result.now.shared.key in
+    let e : 2 + 2 * c.self.inside.places + c.spot-spot.result ≡ 2 + (k + k) + spot k c.in-Some.side c.in-Some.at = omega arith in
+    (search rules, search rules, marks _ _ _ _ _ c.in-Some.side c.in-Some.at c.to_word.result (subst (λ (m : Sat). 0 < m.0.weight) (sym now) has) (ap (λ (m : Sat). m.0.hold) now) e)
+
+pub invariant_of-pen : goal.invariant_of-pen
+invariant_of-pen g c =
+    let i = c.pen.invariant in
+    let hold : c.pen.inside.seat.me.0.hold ≡ Ticket c.in-Some.side c.in-Some.at = i.holds ∙ ap hold_of c.in-Some.is in
+    let now = c.store.ensures.2 c.in-Some.side c.in-Some.at hold in
+    let then = c.store-2.ensures.2 c.in-Some.side c.in-Some.at c.to_word.result (ap (λ (m : Sat). m.0.hold) now) in
+    let all : c.store-2.new.seat.me ≡ (pushing c.pen.inside.seat.me.0 c.to_word.result, c.pen.inside.seat.me.1) = then ∙ ap (λ (m : Sat). (pushing m.0 c.to_word.result, m.1)) now in
+    record {
+      seated = search rules;
+      some_word = search rules;
+      bare = ap (λ (m : Sat). m.1) all ∙ i.bare;
+      weighs = i.weighs ∙ sym (ap (λ (m : Sat). m.0.weight) all);
+      some_weight = i.some_weight;
+      most = i.most;
+      holds = ap (λ (m : Sat). m.0.hold) all;
+      fits = tt;
+    }

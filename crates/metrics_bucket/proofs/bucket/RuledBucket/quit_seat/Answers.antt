@@ -1,0 +1,9 @@
+use Rattle.std.proofs.Common.{rules, ◌≡◌, ◌+◌, ◌*◌, arith}
+use Rattle.metrics_bucket.proofs.AllowedWalks.{quits_turn}
+use Rattle.metrics_bucket.proofs.bucket.RuledBucket.quit_seat.Goals as goal
+
+pub store-requires : goal.store-requires
+store-requires g c =
+    let words : c.deref.result.now.shared.table_id.words ≡ 2 + 4 * c.self.inside.places = search rules in
+    let some_places = c.self.invariant.2 in
+    (search rules, omega arith, quits_turn _ _ _ _ c.requires.home.1 c.requires.hold)

@@ -1,0 +1,19 @@
+use Rattle.std.proofs.Common.{◌≡◌, ◌+◌, ◌-◌, ◌*◌, ◌/◌, ◌≤◌, length}
+use Rattle.std.specs.List.{FoldsTo}
+use Rattle.metrics_bucket.specs.World.{cells_of, values_in}
+use Rattle.metrics_bucket.specs.Blocks.{chunks_from, valued}
+use Rattle.metrics_bucket.specs.ReadChunks.{Reads}
+use Rattle.metrics_bucket.proofs.bucket.RuledBucket.read_side.Given as goal
+
+abbrev pub invariant-loop-chunks : goal.invariant-loop-chunks
+invariant-loop-chunks g l = record {
+  ready : g.V.Visitor.ready l.visitor;
+  table : l.seat.table_id ≡ l.initial.seat.table_id;
+  chunks : l.chunks ≤ (l.given + 63) / 64;
+  size : length l.room ≡ 64;
+  clears : Reads l.initial.seat.me l.seat.me l.side (64 * l.chunks) l.given;
+  calls : FoldsTo g.V.Visitor.saw l.fn.visitor (valued g.T.Sample.value (chunks_from l.chunks ((l.given + 63) / 64 - l.chunks) (values_in (cells_of l.seat.me.0.hold)))) l.visitor;
+}
+
+abbrev pub decreases-loop-chunks : goal.decreases-loop-chunks
+decreases-loop-chunks g l = l.chunks

@@ -1,0 +1,123 @@
+-- Histories of the bucket's steps, and the law over them.
+use Rattle.std.specs.Prelude.{◌≡◌, ◌≢◌, ℕ, ◌+◌, ◌<◌, true, List, [], ◌∷◌, slice_index, replicate, cond, eqb}
+use mathlib.Core.Option.{some}
+use lib.ListN.{get_elem?}
+use Rattle.atomic_table.specs.Table.{State}
+use Rattle.metrics_bucket.specs.declared.hand.Hand.{Hand}
+use Rattle.metrics_bucket.specs.declared.hand.Hold.{Hold}
+use Rattle.metrics_bucket.specs.declared.hand.Hold.TheVariants.{Nothing, Ticket, Written, Claimed, Aimed, Reading, Clearing}
+use Rattle.metrics_bucket.specs.declared.hand.Cell.{Cell}
+use Rattle.metrics_bucket.specs.declared.hand.Cell.TheVariants.{Unseen, Marked, Read, Wiped}
+use Rattle.metrics_bucket.specs.World.{World, Act, look, gather, ticket, write, finish, claim, survey, aim, takes, see, read, wipe, leave, quit, split, join, other, spot, words_of, live_values, side_of, new_hand, whole_hand, world_after}
+use Rattle.metrics_bucket.specs.Facts.{total, ticket_at, Facts}
+
+-- the walk's cell at this place
+abbrev pub HasCell : Hold → ℕ → Cell → Type 0
+HasCell (Reading s cells) i c = get_elem? cells i ≡ some c
+HasCell (Clearing s cells) i c = get_elem? cells i ≡ some c
+HasCell _ i c = ⊥
+
+-- a reading walk leaves when it has read all its places, a clear when it has wiped them
+abbrev pub CanLeave : Hold → Type 0
+CanLeave (Reading s cells) = (i : ℕ) (c : Cell) → get_elem? cells i ≡ some c → (x : ℕ) × (c ≡ Read x)
+CanLeave (Clearing s cells) = (i : ℕ) (c : Cell) → get_elem? cells i ≡ some c → (x : ℕ) × (c ≡ Wiped x)
+CanLeave _ = ⊥
+
+-- a walk that reads may leave at any time, and is not finished
+abbrev pub CanQuit : Hold → Type 0
+CanQuit Claimed = Unit {0}
+CanQuit (Aimed s) = Unit {0}
+CanQuit (Reading s cells) = Unit {0}
+CanQuit _ = ⊥
+
+-- when a thread may make a step
+abbrev pub May : ℕ → ℕ → World → ℕ → Hand → Act → Type 0
+May places all w by v look = Unit {0}
+May places all w by v gather = (v.hold ≡ Nothing) × (v.weight ≡ all)
+May places all w by v ticket = (v.hold ≡ Nothing) × (w.given < places)
+May places all w by v (write s i x) = v.hold ≡ Ticket s i
+May places all w by v (finish s i x) = v.hold ≡ Written s i x
+May places all w by v claim = (v.hold ≡ Nothing) × (w.turn ≡ 0)
+May places all w by v survey = v.hold ≡ Claimed
+May places all w by v aim = v.hold ≡ Claimed
+May places all w by v takes = (s : ℕ) × (v.hold ≡ Aimed s)
+May places all w by v (see i) = HasCell v.hold i Unseen × (slice_index w.marks (spot places (side_of v.hold) i) ≡ 1)
+May places all w by v (read i) = HasCell v.hold i Marked
+May places all w by v (wipe s i x) = (cells : List Cell) × (v.hold ≡ Clearing s cells) × (get_elem? cells i ≡ some (Read x))
+May places all w by v leave = CanLeave v.hold
+May places all w by v quit = CanQuit v.hold
+May places all w by v split = (v.hold ≡ Nothing) × (1 < v.weight)
+May places all w by v (join other_id x) = (v.hold ≡ Nothing) × (x.hold ≡ Nothing) × (other_id ≢ by) × (get_elem? w.hands other_id ≡ some x)
+
+pub record Event : Type 0 where
+  pub by : ℕ
+  pub act : Act
+
+-- the history goes from the world w to the world w'
+abbrev pub Runs : ℕ → ℕ → World → List Event → World → Type 0
+Runs places all w [] w' = w ≡ w'
+Runs places all w (e ∷ es) w' = (v : Hand) × (get_elem? w.hands e.by ≡ some v) × (0 < v.weight) × May places all w e.by v e.act × Runs places all (world_after places w e.by v e.act) es w'
+
+abbrev zeros : ℕ → List ℕ
+zeros n = replicate n 0
+
+-- so many threads, and nothing done
+abbrev pub start : ℕ → ℕ → World
+start places threads =
+    record { live = 0; given = 0; turn = 0; values = zeros (places + places); marks = zeros (places + places); hands = replicate threads (new_hand places 1) }
+
+-- one thread that has the whole weight, and nothing done
+abbrev pub opened : ℕ → World
+opened places = record { live = 0; given = 0; turn = 0; values = zeros (places + places); marks = zeros (places + places); hands = whole_hand places ∷ [] }
+
+-- The rule of the running table: a history from one whole thread leads to a world that has its words and all accounts
+abbrev pub Kept : ℕ → State (Unit {0}) Hand → Type 0
+Kept places s = (h : List Event) × (w : World) × Runs places 1024 (opened places) h w × (words_of w ≡ s.words) × (w.hands ≡ s.views)
+
+-- no thread is split or joined
+abbrev pub IsOrdinary : Act → Type 0
+IsOrdinary split = ⊥
+IsOrdinary (join other_id x) = ⊥
+IsOrdinary act = Unit {0}
+
+abbrev pub IsUnsplit : List Event → Type 0
+IsUnsplit [] = Unit {0}
+IsUnsplit (e ∷ es) = IsOrdinary e.act × IsUnsplit es
+
+-- a history from one whole thread, without a split or join if the hand is alone, leads to a world where a thread has this hand, and the live side has these values
+abbrev pub ShowsAt : ℕ → Hand → List ℕ → Type 0
+ShowsAt places v vs = (h : List Event) × (w : World) × (id : ℕ) × Runs places 1024 (opened places) h w × (get_elem? w.hands id ≡ some v) × (vs ≡ live_values places w) × (v.alone ≡ true → IsUnsplit h)
+
+abbrev pub Shows : Hand → List ℕ → Type 0
+Shows v vs = ShowsAt v.places v vs
+
+-- the value of the last push that was finished at each place
+abbrev pub note : (ℕ → ℕ → ℕ) → Act → ℕ → ℕ → ℕ
+note p (finish s i x) s' i' = cond (eqb s' s) (cond (eqb i' i) x (p s' i')) (p s' i')
+note p _ s' i' = p s' i'
+
+abbrev pub last_push : (ℕ → ℕ → ℕ) → List Event → ℕ → ℕ → ℕ
+last_push p [] = p
+last_push p (e ∷ es) = last_push (note p e.act) es
+
+-- what a clear wiped is what was pushed there
+abbrev pub WipedAre : (ℕ → ℕ → ℕ) → Hold → Type 0
+WipedAre p (Clearing s cells) = (i x : ℕ) → get_elem? cells i ≡ some (Wiped x) → x ≡ p s i
+WipedAre p _ = Unit {0}
+
+pub record Tracks (places : ℕ) (w : World) (p : ℕ → ℕ → ℕ) : Type 0 where
+  pub found : (s i : ℕ) → s < 2 → i < places → slice_index w.marks (spot places s i) ≡ 1 → slice_index w.values (spot places s i) ≡ p s i
+  pub wiped : (j : ℕ) (v : Hand) → get_elem? w.hands j ≡ some v → WipedAre p v.hold
+
+-- where a clear is to take, the side that becomes live has no mark 1 and no ticket under way
+abbrev pub TakesClean : ℕ → World → Type 0
+TakesClean places w = (j : ℕ) (v : Hand) (s i : ℕ) → get_elem? w.hands j ≡ some v → v.hold ≡ Aimed s → i < places → (slice_index w.marks (spot places (other w.live) i) ≡ 0) × (total (ticket_at (other w.live) i) w.hands ≡ 0)
+
+-- The facts hold, a place with mark 1 has the value of the push that was finished there last, and so has each place that a clear wiped, in its list; a take finds the other side clean
+abbrev pub IsSound : ℕ → ℕ → List Event → World → Type 0
+IsSound places all history w = Facts places all w × Tracks places w (last_push (λ _ _. 0) history) × TakesClean places w
+
+-- Over every history from any number of threads, and over every history from one whole thread, as a running bucket has it
+abbrev pub BucketLaw : Type 0
+BucketLaw = ((places threads : ℕ) (history : List Event) (w : World) → Runs places threads (start places threads) history w → IsSound places threads history w)
+    × ((places : ℕ) (history : List Event) (w : World) → Runs places 1024 (opened places) history w → IsSound places 1024 history w)

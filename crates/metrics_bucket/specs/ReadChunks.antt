@@ -1,0 +1,24 @@
+-- What clearing some places of a walk does.
+use Rattle.std.specs.Prelude.{◌≡◌, ℕ, ◌<◌, ◌≤◌, ◌⊎◌, List, [], ◌∷◌, ◌++◌, ◌/◌, ◌%◌, replicate, length}
+use mathlib.Core.Option.{some}
+use lib.ListN.{get_elem?}
+use Rattle.metrics_bucket.specs.declared.hand.Hand.{Hand}
+use Rattle.metrics_bucket.specs.declared.hand.Hold.TheVariants.{Nothing, Reading}
+use Rattle.metrics_bucket.specs.declared.hand.Cell.TheVariants.{Read, Unseen}
+use Rattle.metrics_bucket.specs.World.{holding, cells_of}
+use Rattle.metrics_bucket.specs.Plays.{Sat}
+
+-- the places from start on, below end, were found, and no other changed
+pub record Reads (m m' : Sat) (side start end : ℕ) : Type 0 where
+  pub me : m' ≡ (holding m.0 (Reading side (cells_of m'.0.hold)), m.1)
+  pub long : length (cells_of m'.0.hold) ≡ length (cells_of m.0.hold)
+  pub found : (i : ℕ) → start ≤ i → i < end → (x : ℕ) × (get_elem? (cells_of m'.0.hold) i ≡ some (Read x))
+  pub others : (i : ℕ) → (i < start) ⊎ (end ≤ i) → get_elem? (cells_of m'.0.hold) i ≡ get_elem? (cells_of m.0.hold) i
+
+-- a reading walk that left added its list
+abbrev pub with_read : Hand → List ℕ → Hand
+with_read v xs = record { places = v.places; weight = v.weight; pushed = v.pushed; taken = v.taken; read = v.read ++ xs ∷ []; hold = Nothing; alone = v.alone }
+
+-- a reading walk that looked at the control word
+abbrev pub surveying : Hand → ℕ → Hand
+surveying v control = holding v (Reading (control % 2) (replicate (control / 2) Unseen))

@@ -1,0 +1,242 @@
+// The bucket, and the calls that push.
+ghost use Rattle.std.specs.Prelude.{◌≡◌, ℕ, ◌+◌, ◌*◌, ◌^◌, ◌<◌, ◌≤◌, ◌↔◌, ◌⊎◌, true, false, IsTrue, IfOk, OnOk, IfErr, OnErr, MatchResult, length, take, drop, map, [], ◌++◌, ◌-◌, vec_capacity};
+ghost use Rattle.metrics_bucket.specs.Account.{first_account, with_ticket, with_push, free_hand};
+ghost use Rattle.metrics_bucket.specs.World.{spot};
+ghost use Rattle.metrics_bucket.specs.Blocks.{Settled, Ordered};
+ghost use Rattle.metrics_bucket.specs.declared.hand.Hold.TheVariants.{Nothing, Settling};
+ghost use Rattle.metrics_bucket.specs.Plays.{count_all, IsFullFor, values_known, ArePartsOf};
+
+use crate::error::Error;
+use crate::hand::Hand;
+use crate::pen::{Pen, Words};
+use crate::plays::{Draw, Finish, Gather, Look, Put, Recall};
+use crate::sample::Sample;
+use atomic_table::{Seat, Table};
+use crossbeam_utils::Backoff;
+use std::alloc::Global;
+use std::marker::{Model, PhantomData};
+use std::sync::{Arc, Wait};
+
+pub const BLOCK_SIZE: usize = 64;
+
+/// Contracts see it as its home.
+#[derive(Drop)]
+pub struct RuledBucket<T: Sample> {
+    pub(crate) table: Arc<Words, Global>,
+    pub(crate) places: usize,
+    of: PhantomData<T>,
+}
+
+impl<T: Sample> Model for RuledBucket<T> {
+    ghost use Rattle.std.specs.Prelude.{◌≡◌, ◌+◌, ◌*◌, ◌^◌, ◌<◌};
+    ghost use Rattle.std.specs.Arc.{arc_value};
+    ghost use Rattle.metrics_bucket.specs.Account.{Home, home_code};
+
+    ghost Value = { Home };
+
+    ghost coded = { home_code };
+
+    ghost view = { λ b. record { table = (arc_value b.table).shared.table_id; places = b.places } };
+
+    ghost invariant = { λ b. ((arc_value b.table).shared.table_id.words ≡ 2 + 4 * b.places) × ((arc_value b.table).shared.key ≡ b.places) × (0 < b.places) × (b.places < 2 ^ 60) };
+}
+
+impl<T: Sample> RuledBucket<T> {
+    pub fn new(alloc: Global, blocks: usize) -> Result<(RuledBucket<T>, Pen), Error>
+        ensures ok { IfOk result (λ r. (r.0.places ≡ 64 * blocks) × (r.1 ≡ first_account r.0)) }
+        ensures good { (0 < blocks) × (blocks ≤ 1024) → IfErr result (λ e. e ≡ Error.Memory) }
+        ensures bad { (blocks ≡ 0) ⊎ (1024 < blocks) → result ≡ Err Error.BadBlocks }
+    {
+        if blocks == 0 || blocks > 1024 {
+            return Err(Error::BadBlocks);
+        }
+        Self::of_places(alloc, BLOCK_SIZE * blocks)
+    }
+
+    fn of_places(alloc: Global, places: usize) -> Result<(RuledBucket<T>, Pen), Error>
+        requires { (0 < places) × (places < 2 ^ 60) }
+        ensures ok { IfOk result (λ r. (r.0.places ≡ places) × (r.1 ≡ first_account r.0)) }
+        ensures err { IfErr result (λ e. e ≡ Error.Memory) }
+    {
+        let Ok(words) = vec![in alloc; 0u64; 2 + 4 * places] else {
+            return Err(Error::Memory);
+        };
+        let Ok((table, seat)) = Table::of_words(alloc, words.as_slice(), &places) else {
+            return Err(Error::Memory);
+        };
+        let Ok(table) = Arc::new(alloc, table) else {
+            return Err(Error::Memory);
+        };
+        let Ok(same) = Arc::try_clone(&table) else {
+            return Err(Error::Memory);
+        };
+        let pen = Pen {
+            table: same,
+            seat,
+            weight: 1024,
+            ticket: None,
+        };
+        let bucket = RuledBucket {
+            table,
+            places,
+            of: PhantomData,
+        };
+        Ok((bucket, pen))
+    }
+
+    // Where a side's place stands among the values, and among the marks.
+    pub(crate) fn spot(&self, side: usize, at: usize) -> usize
+        requires { (side < 2) × (at < self.now.places) }
+        ensures { (result ≡ spot self.now.places side at) × (result < self.now.places + self.now.places) }
+    {
+        if side == 0 { at } else { self.places + at }
+    }
+
+    pub fn is_empty_as(&self, pen: &mut Pen) -> bool
+        requires own { pen.old.home ≡ self.now }
+        requires free { pen.old.ticket ≡ false }
+        ensures same { pen.new ≡ pen.old }
+        ensures whole { pen.old.weight ≡ 1024 → (IsTrue result ↔ (length pen.old.pushed ≡ count_all pen.old.taken)) }
+    {
+        self.table.shared.load::<Look>(&mut pen.seat, 0) < 2
+    }
+
+    pub fn begin_as(&self, pen: &mut Pen) -> Result<(), Error>
+        requires own { pen.old.home ≡ self.now }
+        requires free { pen.old.ticket ≡ false }
+        ensures ok { OnOk result (pen.new ≡ with_ticket pen.old true) }
+        ensures err { IfErr result (λ e. (pen.new ≡ pen.old) × ((e ≡ Error.Full) ⊎ (e ≡ Error.Raced))) }
+        ensures whole { pen.old.weight ≡ 1024 → MatchResult result (λ _. length pen.old.pushed < count_all pen.old.taken + self.now.places) (λ e. (e ≡ Error.Full) × IsFullFor self.now.places pen.old.pushed pen.old.taken) }
+    {
+        let found = self.table.shared.load::<Look>(&mut pen.seat, 0);
+        let given = (found / 2) as usize;
+        if given >= self.places {
+            return Err(Error::Full);
+        }
+        let shared = &self.table.shared;
+        if shared.compare_exchange::<Draw>(&mut pen.seat, 0, found, found + 2) != found {
+            return Err(Error::Raced);
+        }
+        pen.ticket = Some(((found % 2) as usize, given));
+        Ok(())
+    }
+
+    pub fn finish_as(&self, pen: &mut Pen, value: T)
+        requires own { pen.old.home ≡ self.now }
+        requires ticket { pen.old.ticket ≡ true }
+        ensures { pen.new ≡ with_push pen.old (T.word value) }
+    {
+        let Some((side, at)) = pen.ticket else {
+            unreachable!()
+        };
+        let spot = self.spot(side, at);
+        self.table
+            .shared
+            .store::<Put>(&mut pen.seat, 2 + spot, value.to_word());
+        let mark = 2 + 2 * self.places + spot;
+        self.table.shared.store::<Finish>(&mut pen.seat, mark, 1);
+        pen.ticket = None;
+    }
+
+    pub fn try_push_as(&self, pen: &mut Pen, value: T) -> Result<(), (Error, T)>
+        requires own { pen.old.home ≡ self.now }
+        requires free { pen.old.ticket ≡ false }
+        ensures ok { OnOk result (pen.new ≡ with_push pen.old (T.word value)) }
+        ensures err { IfErr result (λ e. (pen.new ≡ pen.old) × (e.1 ≡ value)) }
+        ensures whole { pen.old.weight ≡ 1024 → MatchResult result (λ _. length pen.old.pushed < count_all pen.old.taken + self.now.places) (λ e. (e.0 ≡ Error.Full) × IsFullFor self.now.places pen.old.pushed pen.old.taken) }
+    {
+        match self.begin_as(pen) {
+            Ok(()) => {
+                self.finish_as(pen, value);
+                Ok(())
+            }
+            Err(e) => Err((e, value)),
+        }
+    }
+
+    /// The same, and a lost race is tried again.
+    pub fn push_as<R: Wait>(&self, rt: &R, pen: &mut Pen, value: T) -> Result<(), (Error, T)>
+        requires own { pen.old.home ≡ self.now }
+        requires free { pen.old.ticket ≡ false }
+        ensures ok { OnOk result (pen.new ≡ with_push pen.old (T.word value)) }
+        ensures err { IfErr result (λ e. (pen.new ≡ pen.old) × (e.0 ≡ Error.Full) × (e.1 ≡ value)) }
+    {
+        let pause = Backoff::new();
+        for _ in rt.forever() {
+            match self.begin_as(pen) {
+                Ok(()) => {
+                    self.finish_as(pen, value);
+                    return Ok(());
+                }
+                Err(Error::Full) => return Err((Error::Full, value)),
+                Err(_) => pause.spin(),
+            }
+        }
+        unreachable!()
+    }
+
+    // Puts these values of the live side behind the others.
+    fn recall_chunk(
+        &self,
+        seat: &mut Seat<(), Hand>,
+        side: usize,
+        start: usize,
+        end: usize,
+        values: &mut Vec<T>,
+    )
+        requires home { (seat.old.table_id ≡ self.now.table) × (seat.old.me.0.places ≡ self.now.places) }
+        requires knows { (0 < seat.old.me.0.weight) × (side < 2) × (seat.old.me.0.hold ≡ Settling side (values_known seat.old.me.0.hold)) }
+        requires part { (start ≤ end) × (end ≤ length (values_known seat.old.me.0.hold)) × (end ≤ self.now.places) }
+        requires room { length values.old.items + (end - start) ≤ vec_capacity values.old }
+        ensures seat { (seat.new.table_id ≡ seat.old.table_id) × (seat.new.me ≡ seat.old.me) }
+        ensures values { values.new.items ≡ values.old.items ++ map T.value (take (end - start) (drop start (values_known seat.old.me.0.hold))) }
+        ensures room { vec_capacity values.new ≡ vec_capacity values.old }
+    {
+        for at in start..end {
+            let word = 2 + self.spot(side, at);
+            let bits = self.table.shared.load::<Recall>(seat, word);
+            values.push_reserved(T::of_word(bits));
+        }
+    }
+
+    // The live side's values, in the bucket's order.
+    fn recall(&self, seat: &mut Seat<(), Hand>, values: &mut Vec<T>)
+        requires home { (seat.old.table_id ≡ self.now.table) × (seat.old.me.0.places ≡ self.now.places) }
+        requires whole { (seat.old.me.0.weight ≡ 1024) × (seat.old.me.0.hold ≡ Nothing) }
+        requires room { (values.old.items ≡ []) × (self.now.places ≤ vec_capacity values.old) }
+        ensures { Settled T.value seat.old.me.0.pushed seat.old.me.0.taken values.new.items × ArePartsOf seat.old.me.0.read seat.old.me.0.pushed × Ordered T.value seat.old.me.0 values.new.items }
+    {
+        let control = self.table.shared.load::<Gather>(seat, 0);
+        let side = (control % 2) as usize;
+        let given = (control / 2) as usize;
+        let mut chunks = (given + (BLOCK_SIZE - 1)) / BLOCK_SIZE;
+        while chunks > 0 {
+            chunks -= 1;
+            let start = BLOCK_SIZE * chunks;
+            let end = given.min(start + BLOCK_SIZE);
+            self.recall_chunk(seat, side, start, end, values);
+        }
+    }
+
+    /// Ends the bucket: the values that were pushed and not taken.
+    pub fn settle(self, alloc: Global, pen: Pen) -> Result<Vec<T>, (RuledBucket<T>, Pen)>
+        requires own { pen.home ≡ self }
+        requires whole { pen.weight ≡ 1024 }
+        requires free { pen.ticket ≡ false }
+        ensures ok { IfOk result (λ v. Settled T.value pen.pushed pen.taken v.items × ArePartsOf pen.read pen.pushed) }
+        ensures order { IfOk result (λ v. Ordered T.value (free_hand pen) v.items) }
+        ensures err { IfErr result (λ e. (e.0 ≡ self) × (e.1 ≡ pen)) }
+    {
+        let Ok(mut values) = Vec::with_capacity(alloc, self.places) else {
+            return Err((self, pen));
+        };
+        let Pen {
+            table: _,
+            mut seat,
+            weight: _,
+            ticket: _,
+        } = pen;
+        self.recall(&mut seat, &mut values);
+        Ok(values)
+    }
+}

@@ -1,0 +1,34 @@
+// A walk's values in one vector.
+ghost use Rattle.std.specs.Prelude.{◌≡◌, ◌+◌, ◌≤◌, length};
+ghost use Rattle.metrics_bucket.specs.Gathers.{Gathers};
+
+use crate::visitor::Visitor;
+
+// Puts these values behind the others, as far as there is room.
+fn append<T: Copy>(values: &mut Vec<T>, part: &[T])
+    ensures { Gathers values.old part.now values.new }
+{
+    for x in part {
+        if values.len() < values.capacity() {
+            values.push_reserved(*x);
+        }
+    }
+}
+
+#[derive(Drop)]
+pub(crate) struct Gathered<T> {
+    pub(crate) values: Vec<T>,
+}
+
+impl<T: Copy> Visitor<T> for Gathered<T> {
+    ghost use Rattle.std.specs.Prelude.{⊤};
+    ghost use Rattle.metrics_bucket.specs.Gathers.{Gathers};
+
+    ghost ready = { λ _. ⊤ };
+
+    ghost saw = { λ p xs q. Gathers p.values xs q.values };
+
+    fn see(&mut self, part: &[T]) {
+        append(&mut self.values, part);
+    }
+}

@@ -1,0 +1,7 @@
+// The law of the bucket's histories.
+ghost use Rattle.metrics_bucket.specs.History.{BucketLaw};
+
+/// Over every history of steps, from any number of threads that have nothing, the facts of the bucket hold.
+pub fn bucket_law()
+    ensures { BucketLaw }
+{}

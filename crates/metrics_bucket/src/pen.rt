@@ -1,0 +1,91 @@
+// A thread's part of a bucket.
+ghost use Rattle.std.specs.Prelude.{◌≡◌, ◌<◌, ◌↔◌, true, false, IsTrue, IfOk, IfErr};
+ghost use Rattle.metrics_bucket.specs.Account.{left_account, right_account, joined_account};
+
+use crate::error::Error;
+use crate::hand::Hand;
+use crate::plays::{Halves, Look};
+use crate::rule::BucketRule;
+use atomic_table::{Seat, Table};
+use std::alloc::Global;
+use std::marker::Model;
+use std::sync::Arc;
+
+pub(crate) type Words = Table<(), Hand, usize, BucketRule, Global>;
+
+/// It goes with one bucket. Contracts see it as its account.
+#[derive(Drop)]
+pub struct Pen {
+    pub(crate) table: Arc<Words, Global>,
+    pub(crate) seat: Seat<(), Hand>,
+    pub(crate) weight: u64,
+    pub(crate) ticket: Option<(usize, usize)>,
+}
+
+impl Model for Pen {
+    ghost use Rattle.metrics_bucket.specs.Account.{Account, account_code};
+
+    ghost Value = { Account };
+
+    ghost coded = { account_code };
+
+    ghost use Rattle.metrics_bucket.specs.Pens.{account_of, IsPen};
+
+    ghost view = { account_of };
+
+    ghost invariant = { IsPen };
+}
+
+impl Pen {
+    pub fn is_whole(&self) -> bool
+        ensures { IsTrue result ↔ (self.now.weight ≡ 1024) }
+    {
+        self.weight == 1024
+    }
+
+    pub fn has_ticket(&self) -> bool
+        ensures { result ≡ self.now.ticket }
+    {
+        self.ticket.is_some()
+    }
+
+    /// Gives away half of the weight.
+    pub fn split(&mut self) -> Result<Pen, Error>
+        requires { self.old.ticket ≡ false }
+        ensures ok { IfOk result (λ p. (self.new ≡ left_account self.old) × (p ≡ right_account self.old)) }
+        ensures err { IfErr result (λ e. (self.new ≡ self.old) × (1 < self.old.weight → e ≡ Error.Memory)) }
+    {
+        if self.weight < 2 {
+            return Err(Error::NoPen);
+        }
+        let Ok(table) = Arc::try_clone(&self.table) else {
+            return Err(Error::Memory);
+        };
+        let seat = table.shared.split_seat::<Halves>(&mut self.seat);
+        let given = self.weight / 2;
+        self.weight -= given;
+        Ok(Pen {
+            table,
+            seat,
+            weight: given,
+            ticket: None,
+        })
+    }
+
+    /// Takes in another pen of the same bucket.
+    pub fn join(&mut self, other: Pen)
+        requires home { self.old.home ≡ other.home }
+        requires free { (self.old.ticket ≡ false) × (other.ticket ≡ false) }
+        ensures { self.new ≡ joined_account self.old other }
+    {
+        let Pen {
+            table,
+            seat,
+            weight,
+            ticket: _,
+        } = other;
+        table.shared.join_seat::<Halves>(&mut self.seat, seat);
+        table.shared.load::<Look>(&mut self.seat, 0);
+        self.weight += weight;
+    }
+}

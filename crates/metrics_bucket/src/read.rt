@@ -1,0 +1,209 @@
+// The calls that walk over the places.
+ghost use Rattle.std.specs.Prelude.{◌≡◌, ℕ, ◌+◌, ◌-◌, ◌*◌, ◌/◌, ◌%◌, ◌^◌, ◌<◌, ◌≤◌, ◌⊎◌, length, take, drop, map, replicate, slice_set, ◌≢◌, List, false, IfOk, OnOk, IfErr};
+ghost use Rattle.metrics_bucket.specs.Facts.{weigh, weigh_all};
+ghost use Rattle.std.specs.List.{FoldsTo};
+ghost use Rattle.std.specs.Fn.{CalledAt};
+ghost use Rattle.metrics_bucket.specs.Blocks.{valued, newest_first, blocks};
+ghost use mathlib.Core.Option.{some};
+ghost use lib.ListN.{get_elem?};
+ghost use Rattle.metrics_bucket.specs.World.{holding, put_cell, side_of, cells_of, values_in};
+ghost use Rattle.metrics_bucket.specs.History.{HasCell, CanQuit};
+ghost use Rattle.metrics_bucket.specs.Room.{RoomFits};
+ghost use Rattle.metrics_bucket.specs.Account.{read_account};
+ghost use Rattle.metrics_bucket.specs.ReadChunks.{Reads, with_read, surveying};
+ghost use Rattle.metrics_bucket.specs.Chunks.{AreUnseen};
+ghost use Rattle.metrics_bucket.specs.declared.hand.Hold.TheVariants.{Nothing, Reading};
+ghost use Rattle.metrics_bucket.specs.declared.hand.Cell.TheVariants.{Unseen, Marked, Read};
+
+use crate::bucket::{BLOCK_SIZE, RuledBucket};
+use crate::error::Error;
+use crate::gathered::Gathered;
+use crate::hand::Hand;
+use crate::pen::Pen;
+use crate::plays::{Claim, Leave, Quit, ReadOne, Survey};
+use crate::sample::Sample;
+use crate::visitor::{Shown, Visitor};
+use atomic_table::Seat;
+use std::alloc::Global;
+use std::sync::Wait;
+
+impl<T: Sample> RuledBucket<T> {
+    // Waits for the value of a place, and reads it.
+    fn read_place<R: Wait>(&self, rt: &R, seat: &mut Seat<(), Hand>, side: usize, at: usize) -> T
+        requires home { (seat.old.table_id ≡ self.now.table) × (seat.old.me.0.places ≡ self.now.places) × (0 < seat.old.me.0.weight) }
+        requires hold { (side < 2) × (at < self.now.places) × (seat.old.me.0.hold ≡ Reading side (cells_of seat.old.me.0.hold)) }
+        requires cell { get_elem? (cells_of seat.old.me.0.hold) at ≡ some Unseen }
+        ensures { (x : ℕ) × (result ≡ T.value x) × (seat.new.table_id ≡ seat.old.table_id) × (seat.new.me ≡ (holding seat.old.me.0 (Reading side (slice_set (cells_of seat.old.me.0.hold) at (Read x))), seat.old.me.1)) }
+    {
+        self.wait_for(rt, seat, side, at);
+        let spot = self.spot(side, at);
+        let bits = self.table.shared.load::<ReadOne>(seat, 2 + spot);
+        T::of_word(bits)
+    }
+
+    // Reads these places into the front of the room.
+    fn read_chunk<R: Wait>(
+        &self,
+        rt: &R,
+        seat: &mut Seat<(), Hand>,
+        side: usize,
+        start: usize,
+        end: usize,
+        room: &mut [T],
+    )
+        requires home { (seat.old.table_id ≡ self.now.table) × (seat.old.me.0.places ≡ self.now.places) × (0 < seat.old.me.0.weight) }
+        requires hold { (side < 2) × (end ≤ self.now.places) × (seat.old.me.0.hold ≡ Reading side (cells_of seat.old.me.0.hold)) }
+        requires part { (start ≤ end) × (end - start ≤ length room.old) }
+        requires cells { AreUnseen start end (cells_of seat.old.me.0.hold) }
+        ensures seat { (seat.new.table_id ≡ seat.old.table_id) × Reads seat.old.me seat.new.me side start end }
+        ensures room { take (end - start) room.new ≡ map T.value (take (end - start) (drop start (values_in (cells_of seat.new.me.0.hold)))) }
+    {
+        for at in start..end {
+            room[at - start] = self.read_place(rt, seat, side, at);
+        }
+    }
+
+    // Reads all places that were given, and shows each chunk to the visitor.
+    fn read_side<R: Wait, V: Visitor<T>>(
+        &self,
+        rt: &R,
+        seat: &mut Seat<(), Hand>,
+        side: usize,
+        given: usize,
+        visitor: &mut V,
+    )
+        requires home { (seat.old.table_id ≡ self.now.table) × (seat.old.me.0.places ≡ self.now.places) × (0 < seat.old.me.0.weight) }
+        requires hold { (side < 2) × (given ≤ self.now.places) × (seat.old.me.0.hold ≡ Reading side (replicate given Unseen)) }
+        requires size { given < 2 ^ 60 }
+        requires call { V.ready visitor.old }
+        requires room { RoomFits T.row }
+        ensures seat { (seat.new.table_id ≡ seat.old.table_id) × Reads seat.old.me seat.new.me side 0 given }
+        ensures calls { FoldsTo V.saw visitor.old (valued T.value (newest_first (values_in (cells_of seat.new.me.0.hold)))) visitor.new }
+    {
+        let mut room = [T::of_word(0); BLOCK_SIZE];
+        let mut chunks = (given + (BLOCK_SIZE - 1)) / BLOCK_SIZE;
+        while chunks > 0 {
+            chunks -= 1;
+            let start = BLOCK_SIZE * chunks;
+            let end = given.min(start + BLOCK_SIZE);
+            self.read_chunk(rt, seat, side, start, end, &mut room);
+            visitor.see(&room[..end - start]);
+        }
+    }
+
+    // Claims the turn, and looks how many places were given: answers the control word.
+    fn survey_seat(&self, seat: &mut Seat<(), Hand>) -> Result<u64, Error>
+        requires home { (seat.old.table_id ≡ self.now.table) × (seat.old.me.0.places ≡ self.now.places) × (0 < seat.old.me.0.weight) }
+        requires hold { seat.old.me.0.hold ≡ Nothing }
+        ensures table { seat.new.table_id ≡ seat.old.table_id }
+        ensures ok { IfOk result (λ r. (seat.new.me ≡ (surveying seat.old.me.0 r, seat.old.me.1)) × (r / 2 ≤ self.now.places)) }
+        ensures err { IfErr result (λ e. (seat.new.me ≡ seat.old.me) × (e ≡ Error.Busy) × (seat.old.me.0.weight ≢ 1024)) }
+    {
+        let shared = &self.table.shared;
+        if shared.compare_exchange::<Claim>(seat, 1, 0, 1) != 0 {
+            return Err(Error::Busy);
+        }
+        Ok(shared.load::<Survey>(seat, 0))
+    }
+
+    // Gives the turn back, and has read nothing.
+    fn quit_seat(&self, seat: &mut Seat<(), Hand>)
+        requires home { (seat.old.table_id ≡ self.now.table) × (0 < seat.old.me.0.weight) }
+        requires hold { CanQuit seat.old.me.0.hold }
+        ensures { (seat.new.table_id ≡ seat.old.table_id) × (seat.new.me ≡ (holding seat.old.me.0 Nothing, seat.old.me.1)) }
+    {
+        self.table.shared.store::<Quit>(seat, 1, 0);
+    }
+
+    // Reads what was surveyed, and leaves.
+    fn read_seat<R: Wait, V: Visitor<T>>(
+        &self,
+        rt: &R,
+        seat: &mut Seat<(), Hand>,
+        control: u64,
+        visitor: &mut V,
+    )
+        requires home { (seat.old.table_id ≡ self.now.table) × (seat.old.me.0.places ≡ self.now.places) × (0 < seat.old.me.0.weight) }
+        requires hold { (seat.old.me.0.hold ≡ Reading (control % 2) (replicate (control / 2) Unseen)) × (control / 2 ≤ self.now.places) }
+        requires call { V.ready visitor.old }
+        requires room { RoomFits T.row }
+        ensures table { seat.new.table_id ≡ seat.old.table_id }
+        ensures read { (list : List ℕ) × (length list ≡ control / 2) × (seat.new.me ≡ (with_read seat.old.me.0 list, seat.old.me.1)) × (seat.old.me.0.weight ≡ 1024 → (h : ℕ → ℕ) → weigh h seat.old.me.0.pushed ≡ weigh h list + weigh_all h seat.old.me.0.taken) × FoldsTo V.saw visitor.old (valued T.value (newest_first list)) visitor.new }
+    {
+        let shared = &self.table.shared;
+        let given = (control / 2) as usize;
+        self.read_side(rt, seat, (control % 2) as usize, given, visitor);
+        shared.store::<Leave>(seat, 1, 0);
+    }
+
+    fn show_seat<R: Wait, F: FnMut(&[T])>(
+        &self,
+        rt: &R,
+        seat: &mut Seat<(), Hand>,
+        f: F,
+    ) -> Result<usize, Error>
+        requires home { (seat.old.table_id ≡ self.now.table) × (seat.old.me.0.places ≡ self.now.places) × (0 < seat.old.me.0.weight) }
+        requires hold { seat.old.me.0.hold ≡ Nothing }
+        requires call { F.IsAlwaysCallable f }
+        requires room { RoomFits T.row }
+        ensures table { seat.new.table_id ≡ seat.old.table_id }
+        ensures ok { IfOk result (λ n. (list : List ℕ) × (length list ≡ n) × (seat.new.me ≡ (with_read seat.old.me.0 list, seat.old.me.1)) × (seat.old.me.0.weight ≡ 1024 → (h : ℕ → ℕ) → weigh h seat.old.me.0.pushed ≡ weigh h list + weigh_all h seat.old.me.0.taken) × ((last : F) × FoldsTo (λ p x q. CalledAt F.FnMut p x tt q) f (valued T.value (newest_first list)) last)) }
+        ensures err { IfErr result (λ e. (seat.new.me ≡ seat.old.me) × (e ≡ Error.Busy) × (seat.old.me.0.weight ≢ 1024)) }
+    {
+        let control = self.survey_seat(seat)?;
+        let mut shown = Shown { f };
+        self.read_seat(rt, seat, control, &mut shown);
+        Ok((control / 2) as usize)
+    }
+
+    fn gather_seat<R: Wait>(
+        &self,
+        rt: &R,
+        alloc: Global,
+        seat: &mut Seat<(), Hand>,
+    ) -> Result<Vec<T>, Error>
+        requires home { (seat.old.table_id ≡ self.now.table) × (seat.old.me.0.places ≡ self.now.places) × (0 < seat.old.me.0.weight) }
+        requires hold { seat.old.me.0.hold ≡ Nothing }
+        requires room { RoomFits T.row }
+        ensures table { seat.new.table_id ≡ seat.old.table_id }
+        ensures ok { IfOk result (λ v. (list : List ℕ) × (v.items ≡ map T.value (blocks list)) × (seat.new.me ≡ (with_read seat.old.me.0 list, seat.old.me.1)) × (seat.old.me.0.weight ≡ 1024 → (h : ℕ → ℕ) → weigh h seat.old.me.0.pushed ≡ weigh h list + weigh_all h seat.old.me.0.taken)) }
+        ensures err { IfErr result (λ e. (seat.new.me ≡ seat.old.me) × ((e ≡ Error.Memory) ⊎ ((e ≡ Error.Busy) × (seat.old.me.0.weight ≢ 1024)))) }
+    {
+        let control = self.survey_seat(seat)?;
+        let Ok(values) = Vec::with_capacity(alloc, (control / 2) as usize) else {
+            self.quit_seat(seat);
+            return Err(Error::Memory);
+        };
+        let mut gathered = Gathered { values };
+        self.read_seat(rt, seat, control, &mut gathered);
+        Ok(gathered.values)
+    }
+
+    /// All values that were pushed and not taken, in the bucket's order.
+    pub fn data_as<R: Wait>(&self, rt: &R, alloc: Global, pen: &mut Pen) -> Result<Vec<T>, Error>
+        requires own { pen.old.home ≡ self.now }
+        requires free { pen.old.ticket ≡ false }
+        requires room { RoomFits T.row }
+        ensures ok { IfOk result (λ v. (list : List ℕ) × (v.items ≡ map T.value (blocks list)) × (pen.new ≡ read_account pen.old list) × (pen.old.weight ≡ 1024 → (h : ℕ → ℕ) → weigh h pen.old.pushed ≡ weigh h list + weigh_all h pen.old.taken)) }
+        ensures err { IfErr result (λ e. (pen.new ≡ pen.old) × ((e ≡ Error.Memory) ⊎ ((e ≡ Error.Busy) × (pen.old.weight ≢ 1024)))) }
+    {
+        self.gather_seat(rt, alloc, &mut pen.seat)
+    }
+
+    /// Reads all values that were pushed and not taken, and shows them to `f` in chunks, the newest first.
+    pub fn data_with_as<R: Wait, F: FnMut(&[T])>(
+        &self,
+        rt: &R,
+        pen: &mut Pen,
+        f: F,
+    ) -> Result<usize, Error>
+        requires own { pen.old.home ≡ self.now }
+        requires free { pen.old.ticket ≡ false }
+        requires call { F.IsAlwaysCallable f }
+        requires room { RoomFits T.row }
+        ensures ok { IfOk result (λ n. (list : List ℕ) × (length list ≡ n) × (pen.new ≡ read_account pen.old list) × (pen.old.weight ≡ 1024 → (h : ℕ → ℕ) → weigh h pen.old.pushed ≡ weigh h list + weigh_all h pen.old.taken) × ((last : F) × FoldsTo (λ p x q. CalledAt F.FnMut p x tt q) f (valued T.value (newest_first list)) last)) }
+        ensures err { IfErr result (λ e. (pen.new ≡ pen.old) × (e ≡ Error.Busy) × (pen.old.weight ≢ 1024)) }
+    {
+        self.show_seat(rt, &mut pen.seat, f)
+    }
+}

@@ -1,0 +1,192 @@
+// The calls that walk over the places.
+ghost use Rattle.std.specs.Prelude.{◌≡◌, ℕ, ◌+◌, ◌-◌, ◌*◌, ◌^◌, ◌<◌, ◌≤◌, ◌⊎◌, length, take, drop, map, replicate, slice_set, ◌≢◌, List, false, IfOk, OnOk, IfErr};
+ghost use Rattle.metrics_bucket.specs.Facts.{weigh, weigh_all};
+ghost use Rattle.std.specs.List.{FoldsTo};
+ghost use Rattle.std.specs.Fn.{CalledAt};
+ghost use Rattle.metrics_bucket.specs.Blocks.{valued, newest_first};
+ghost use mathlib.Core.Option.{some};
+ghost use lib.ListN.{get_elem?};
+ghost use Rattle.metrics_bucket.specs.World.{holding, put_cell, side_of, cells_of, values_in};
+ghost use Rattle.metrics_bucket.specs.History.{HasCell};
+ghost use Rattle.metrics_bucket.specs.Room.{RoomFits};
+ghost use Rattle.metrics_bucket.specs.Account.{took_account};
+ghost use Rattle.metrics_bucket.specs.Chunks.{AreUnseen, Clears, with_taken};
+ghost use Rattle.metrics_bucket.specs.declared.hand.Hold.TheVariants.{Nothing, Clearing};
+ghost use Rattle.metrics_bucket.specs.declared.hand.Cell.TheVariants.{Unseen, Marked, Wiped};
+
+use crate::bucket::{BLOCK_SIZE, RuledBucket};
+use crate::error::Error;
+use crate::hand::Hand;
+use crate::pen::Pen;
+use crate::plays::{Aim, Claim, Leave, ReadOne, See, Take, Wipe};
+use crate::sample::Sample;
+use crate::visitor::{Shown, Visitor};
+use atomic_table::Seat;
+use crossbeam_utils::Backoff;
+use std::sync::Wait;
+
+impl<T: Sample> RuledBucket<T> {
+    // Waits until the place's mark is 1.
+    pub(crate) fn wait_for<R: Wait>(
+        &self,
+        rt: &R,
+        seat: &mut Seat<(), Hand>,
+        side: usize,
+        at: usize,
+    )
+        requires home { (seat.old.table_id ≡ self.now.table) × (seat.old.me.0.places ≡ self.now.places) × (0 < seat.old.me.0.weight) }
+        requires cell { (side < 2) × (at < self.now.places) × (side_of seat.old.me.0.hold ≡ side) × HasCell seat.old.me.0.hold at Unseen }
+        ensures { (seat.new.table_id ≡ seat.old.table_id) × (seat.new.me ≡ (holding seat.old.me.0 (put_cell seat.old.me.0.hold at Marked), seat.old.me.1)) }
+    {
+        let word = 2 + 2 * self.places + self.spot(side, at);
+        let pause = Backoff::new();
+        for _ in rt.forever() {
+            if self.table.shared.load::<See>(seat, word) == 1 {
+                return;
+            }
+            pause.snooze();
+        }
+        unreachable!()
+    }
+
+    // Waits for the value of a place, takes it, and wipes the place.
+    fn clear_place<R: Wait>(&self, rt: &R, seat: &mut Seat<(), Hand>, side: usize, at: usize) -> T
+        requires home { (seat.old.table_id ≡ self.now.table) × (seat.old.me.0.places ≡ self.now.places) × (0 < seat.old.me.0.weight) }
+        requires hold { (side < 2) × (at < self.now.places) × (seat.old.me.0.hold ≡ Clearing side (cells_of seat.old.me.0.hold)) }
+        requires cell { get_elem? (cells_of seat.old.me.0.hold) at ≡ some Unseen }
+        ensures { (x : ℕ) × (result ≡ T.value x) × (seat.new.table_id ≡ seat.old.table_id) × (seat.new.me ≡ (holding seat.old.me.0 (Clearing side (slice_set (cells_of seat.old.me.0.hold) at (Wiped x))), seat.old.me.1)) }
+    {
+        self.wait_for(rt, seat, side, at);
+        let spot = self.spot(side, at);
+        let bits = self.table.shared.load::<ReadOne>(seat, 2 + spot);
+        let mark = 2 + 2 * self.places + spot;
+        self.table.shared.store::<Wipe>(seat, mark, 0);
+        T::of_word(bits)
+    }
+
+    // Clears these places into the front of the room.
+    fn clear_chunk<R: Wait>(
+        &self,
+        rt: &R,
+        seat: &mut Seat<(), Hand>,
+        side: usize,
+        start: usize,
+        end: usize,
+        room: &mut [T],
+    )
+        requires home { (seat.old.table_id ≡ self.now.table) × (seat.old.me.0.places ≡ self.now.places) × (0 < seat.old.me.0.weight) }
+        requires hold { (side < 2) × (end ≤ self.now.places) × (seat.old.me.0.hold ≡ Clearing side (cells_of seat.old.me.0.hold)) }
+        requires part { (start ≤ end) × (end - start ≤ length room.old) }
+        requires cells { AreUnseen start end (cells_of seat.old.me.0.hold) }
+        ensures seat { (seat.new.table_id ≡ seat.old.table_id) × Clears seat.old.me seat.new.me side start end }
+        ensures room { take (end - start) room.new ≡ map T.value (take (end - start) (drop start (values_in (cells_of seat.new.me.0.hold)))) }
+    {
+        for at in start..end {
+            room[at - start] = self.clear_place(rt, seat, side, at);
+        }
+    }
+
+    // Clears all places that were given, and shows each chunk to the visitor.
+    fn clear_side<R: Wait, V: Visitor<T>>(
+        &self,
+        rt: &R,
+        seat: &mut Seat<(), Hand>,
+        side: usize,
+        given: usize,
+        visitor: &mut V,
+    )
+        requires home { (seat.old.table_id ≡ self.now.table) × (seat.old.me.0.places ≡ self.now.places) × (0 < seat.old.me.0.weight) }
+        requires hold { (side < 2) × (given ≤ self.now.places) × (seat.old.me.0.hold ≡ Clearing side (replicate given Unseen)) }
+        requires size { given < 2 ^ 60 }
+        requires call { V.ready visitor.old }
+        requires room { RoomFits T.row }
+        ensures seat { (seat.new.table_id ≡ seat.old.table_id) × Clears seat.old.me seat.new.me side 0 given }
+        ensures calls { FoldsTo V.saw visitor.old (valued T.value (newest_first (values_in (cells_of seat.new.me.0.hold)))) visitor.new }
+    {
+        let mut room = [T::of_word(0); BLOCK_SIZE];
+        let mut chunks = (given + (BLOCK_SIZE - 1)) / BLOCK_SIZE;
+        while chunks > 0 {
+            chunks -= 1;
+            let start = BLOCK_SIZE * chunks;
+            let end = given.min(start + BLOCK_SIZE);
+            self.clear_chunk(rt, seat, side, start, end, &mut room);
+            visitor.see(&room[..end - start]);
+        }
+    }
+
+    fn clear_seat<R: Wait, V: Visitor<T>>(
+        &self,
+        rt: &R,
+        seat: &mut Seat<(), Hand>,
+        visitor: &mut V,
+    ) -> Result<usize, Error>
+        requires home { (seat.old.table_id ≡ self.now.table) × (seat.old.me.0.places ≡ self.now.places) × (0 < seat.old.me.0.weight) }
+        requires hold { seat.old.me.0.hold ≡ Nothing }
+        requires call { V.ready visitor.old }
+        requires room { RoomFits T.row }
+        ensures table { seat.new.table_id ≡ seat.old.table_id }
+        ensures ok { IfOk result (λ n. (list : List ℕ) × (length list ≡ n) × (seat.new.me ≡ (with_taken seat.old.me.0 list, seat.old.me.1)) × FoldsTo V.saw visitor.old (valued T.value (newest_first list)) visitor.new) }
+        ensures whole { seat.old.me.0.weight ≡ 1024 → OnOk result ((h : ℕ → ℕ) → weigh h seat.new.me.0.pushed ≡ weigh_all h seat.new.me.0.taken) }
+        ensures err { IfErr result (λ e. (seat.new.me ≡ seat.old.me) × (visitor.new ≡ visitor.old) × (e ≡ Error.Busy) × (seat.old.me.0.weight ≢ 1024)) }
+    {
+        let shared = &self.table.shared;
+        if shared.compare_exchange::<Claim>(seat, 1, 0, 1) != 0 {
+            return Err(Error::Busy);
+        }
+        let live = shared.load::<Aim>(seat, 0) % 2;
+        let control = shared.swap::<Take>(seat, 0, 1 - live);
+        let given = (control / 2) as usize;
+        self.clear_side(rt, seat, live as usize, given, visitor);
+        shared.store::<Leave>(seat, 1, 0);
+        Ok(given)
+    }
+
+    /// Takes all values that were pushed and not taken, and shows them to the visitor in chunks, the newest first.
+    pub fn clear_to_as<R: Wait, V: Visitor<T>>(
+        &self,
+        rt: &R,
+        pen: &mut Pen,
+        visitor: &mut V,
+    ) -> Result<usize, Error>
+        requires own { pen.old.home ≡ self.now }
+        requires free { pen.old.ticket ≡ false }
+        requires call { V.ready visitor.old }
+        requires room { RoomFits T.row }
+        ensures ok { IfOk result (λ n. (list : List ℕ) × (length list ≡ n) × (pen.new ≡ took_account pen.old list) × FoldsTo V.saw visitor.old (valued T.value (newest_first list)) visitor.new) }
+        ensures whole { pen.old.weight ≡ 1024 → OnOk result ((h : ℕ → ℕ) → weigh h pen.new.pushed ≡ weigh_all h pen.new.taken) }
+        ensures err { IfErr result (λ e. (pen.new ≡ pen.old) × (visitor.new ≡ visitor.old) × (e ≡ Error.Busy) × (pen.old.weight ≢ 1024)) }
+    {
+        self.clear_seat(rt, &mut pen.seat, visitor)
+    }
+
+    /// Takes all values that were pushed and not taken, and shows them to `f` in chunks, the newest first.
+    pub fn clear_with_as<R: Wait, F: FnMut(&[T])>(
+        &self,
+        rt: &R,
+        pen: &mut Pen,
+        f: F,
+    ) -> Result<usize, Error>
+        requires own { pen.old.home ≡ self.now }
+        requires free { pen.old.ticket ≡ false }
+        requires call { F.IsAlwaysCallable f }
+        requires room { RoomFits T.row }
+        ensures ok { IfOk result (λ n. (list : List ℕ) × (length list ≡ n) × (pen.new ≡ took_account pen.old list) × ((last : F) × FoldsTo (λ p x q. CalledAt F.FnMut p x tt q) f (valued T.value (newest_first list)) last)) }
+        ensures whole { pen.old.weight ≡ 1024 → OnOk result ((h : ℕ → ℕ) → weigh h pen.new.pushed ≡ weigh_all h pen.new.taken) }
+        ensures err { IfErr result (λ e. (pen.new ≡ pen.old) × (e ≡ Error.Busy) × (pen.old.weight ≢ 1024)) }
+    {
+        let mut shown = Shown { f };
+        self.clear_to_as(rt, pen, &mut shown)
+    }
+
+    /// Takes all values that were pushed and not taken.
+    pub fn clear_as<R: Wait>(&self, rt: &R, pen: &mut Pen) -> Result<usize, Error>
+        requires own { pen.old.home ≡ self.now }
+        requires free { pen.old.ticket ≡ false }
+        requires room { RoomFits T.row }
+        ensures ok { IfOk result (λ n. (list : List ℕ) × (length list ≡ n) × (pen.new ≡ took_account pen.old list)) }
+        ensures whole { pen.old.weight ≡ 1024 → OnOk result ((h : ℕ → ℕ) → weigh h pen.new.pushed ≡ weigh_all h pen.new.taken) }
+        ensures err { IfErr result (λ e. (pen.new ≡ pen.old) × (e ≡ Error.Busy) × (pen.old.weight ≢ 1024)) }
+    {
+        self.clear_with_as(rt, pen, |_| {})
+    }
+}
