@@ -9,6 +9,7 @@ use prog.Atomic.{either}
 use Rattle.atomic_table.specs.Table.{State, step, keeps, stepped, opening, Allows, Splits, Joins}
 use Rattle.atomic_table.proofs.Lists.{set_again, set_else}
 use Rattle.metrics_bucket.specs.declared.hand.Hand.{Hand}
+use Rattle.metrics_bucket.specs.declared.hand.Turn.{Turn}
 use Rattle.metrics_bucket.specs.declared.hand.Hold.{Hold}
 use Rattle.metrics_bucket.specs.declared.hand.Hold.TheVariants.{Nothing, Ticket, Written, Settling}
 use Rattle.metrics_bucket.specs.World.{World, base, spot, words_of, live_values, new_hand, whole_hand, holding, pushing, Act, ticket, write, finish, gather, split, join, world_after, left_part, right_part, both_parts}
@@ -22,7 +23,7 @@ use Rattle.metrics_bucket.proofs.Clears.{whole_live, learns, learns_reads}
 use Rattle.metrics_bucket.proofs.Shares.{zeros}
 
 abbrev pub St : Type 0
-St = State (Unit {0}) Hand
+St = State Turn Hand
 
 -- a write in the first or the second of two lists
 pub set_left : (xs ys : List ℕ) (k x : ℕ) → k < length xs → set (xs ++ ys) k x ≡ set xs k x ++ ys
@@ -84,7 +85,7 @@ live_length places w f = let a = f.values_long in let b = f.room in let c = base
 
 module _ (places : ℕ) where
   -- the state after a step, by the world after it
-  pub moved : (s : St) (k : Kept places s) (i n id : ℕ) (cs : List (ℕ × Unit {0})) (v u : Hand) (act : Act) → get_elem? k.1.hands id ≡ some v → 0 < v.weight → May places 1024 k.1 id v act
+  pub moved : (s : St) (k : Kept places s) (i n id : ℕ) (cs : List (ℕ × Turn)) (v u : Hand) (act : Act) → get_elem? k.1.hands id ≡ some v → 0 < v.weight → May places 1024 k.1 id v act
       → words_of (world_after places k.1 id v act) ≡ set (words_of k.1) i n → (world_after places k.1 id v act).hands ≡ set k.1.hands id u
       → Kept places (stepped s i n id cs u keeps)
   moved s k i n id cs v u act there has may words hands = (
@@ -95,7 +96,7 @@ module _ (places : ℕ) where
     hands ∙ ap (λ (l : List Hand). set l id u) k.4,
   )
 
-  pub still : (s : St) (k : Kept places s) (i id : ℕ) (cs : List (ℕ × Unit {0})) (u : Hand) → get_elem? s.views id ≡ some u → Kept places (stepped s i (get_or s.words i 0) id cs u keeps)
+  pub still : (s : St) (k : Kept places s) (i id : ℕ) (cs : List (ℕ × Turn)) (u : Hand) → get_elem? s.views id ≡ some u → Kept places (stepped s i (get_or s.words i 0) id cs u keeps)
   still s k i id cs u at = (k.0, k.1, k.2, k.3 ∙ sym (set-get_or s.words i 0), k.4 ∙ sym (set_again s.views id u at))
 
   pub control : (s : St) (k : Kept places s) → get_or s.words 0 0 ≡ 2 * k.1.given + k.1.live

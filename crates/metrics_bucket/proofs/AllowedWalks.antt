@@ -9,12 +9,13 @@ use prog.Atomic.{either}
 use Rattle.atomic_table.specs.Table.{step, keeps, stepped, Allows}
 use Rattle.atomic_table.proofs.Lists.{set_here}
 use Rattle.metrics_bucket.specs.declared.hand.Hand.{Hand}
+use Rattle.metrics_bucket.specs.declared.hand.Turn.{Turn}
 use Rattle.metrics_bucket.specs.declared.hand.Hold.{Hold}
 use Rattle.metrics_bucket.specs.declared.hand.Hold.TheVariants.{Nothing, Ticket, Written, Claimed, Aimed, Reading, Clearing, Settling}
 use Rattle.metrics_bucket.specs.declared.hand.Cell.{Cell}
 use Rattle.metrics_bucket.specs.declared.hand.Cell.TheVariants.{Unseen, Marked, Read, Wiped}
 use Rattle.metrics_bucket.specs.World.{World, base, other, spot, words_of, live_values, holding, leaving, left_from, put_cell, side_of, value_in, values_in, Act, claim, survey, aim, takes, see, read, wipe, leave, quit, world_after}
-use Rattle.metrics_bucket.specs.Facts.{weigh, weigh_all, CellFits, HoldFits, Facts}
+use Rattle.metrics_bucket.specs.Facts.{weigh, weigh_walks, CellFits, HoldFits, Facts}
 use Rattle.metrics_bucket.specs.Plays.{Sat}
 use Rattle.metrics_bucket.specs.History.{HasCell, CanLeave, CanQuit, May, Kept}
 use Rattle.metrics_bucket.specs.WalkPlays.{IsValueOf, IsMarkOf, claimed, surveyed, aimed, took, saw, red, wiped_one, went, gave_up, IsClearing}
@@ -50,7 +51,7 @@ module _ (places : ℕ) where
   turn_word s k = sym (ap (λ (l : List ℕ). get_or l 1 0) k.3)
 
   -- a step that writes back what it found, by the world after it
-  same_words : (s : St) (k : Kept places s) (i id : ℕ) (cs : List (ℕ × Unit {0})) (v u : Hand) (act : Act) → get_elem? k.1.hands id ≡ some v → 0 < v.weight → May places 1024 k.1 id v act
+  same_words : (s : St) (k : Kept places s) (i id : ℕ) (cs : List (ℕ × Turn)) (v u : Hand) (act : Act) → get_elem? k.1.hands id ≡ some v → 0 < v.weight → May places 1024 k.1 id v act
       → words_of (world_after places k.1 id v act) ≡ words_of k.1 → (world_after places k.1 id v act).hands ≡ set k.1.hands id u
       → Kept places (stepped s i (get_or s.words i 0) id cs u keeps)
   same_words s k i id cs v u act there has may words hands = moved places s k i (get_or s.words i 0) id cs v u act there has may (words ∙ (k.3 ∙ (sym (set-get_or s.words i 0) ∙ sym (ap (λ (l : List ℕ). set l i (get_or s.words i 0)) k.3)))) hands
@@ -291,7 +292,7 @@ module _ (places : ℕ) where
     where
       -- where a whole thread's clear leaves, nothing is left
       everything : (w : World) → me.0.weight ≡ 1024 → HoldFits places 1024 w me.0.weight me.0.hold → IsClearing me.0.hold → (h : ℕ → ℕ) → get_elem? (set w.hands id (leaving me.0)) id ≡ some (leaving me.0)
-          → Facts places 1024 (world_after places w id me.0 leave) → weigh h me.0.pushed ≡ weigh_all h (leaving me.0).taken
+          → Facts places 1024 (world_after places w id me.0 leave) → weigh h me.0.pushed ≡ weigh_walks h (leaving me.0).taken
       everything w whole fits clearing h there f =
           let l = left_same me.0 me.0.hold clearing in
           let none = clear_given places w me.0.weight me.0.hold fits clearing whole in
@@ -308,7 +309,7 @@ module _ (places : ℕ) where
 
       -- a whole thread's reading walk has read all that was pushed and not taken
       all_read : (w : World) → me.0.weight ≡ 1024 → (side : ℕ) (cells : List Cell) → me.0.hold ≡ Reading side cells → HoldFits places 1024 w me.0.weight me.0.hold → Facts places 1024 w → CanLeave (Reading side cells) → (h : ℕ → ℕ)
-          → get_elem? (set w.hands id (leaving me.0)) id ≡ some (leaving me.0) → Facts places 1024 (world_after places w id me.0 leave) → weigh h me.0.pushed ≡ weigh h (values_in cells) + weigh_all h me.0.taken
+          → get_elem? (set w.hands id (leaving me.0)) id ≡ some (leaving me.0) → Facts places 1024 (world_after places w id me.0 leave) → weigh h me.0.pushed ≡ weigh h (values_in cells) + weigh_walks h me.0.taken
       all_read w whole side cells e fits0 f0 can_leave h there f =
           let fits : HoldFits places 1024 w me.0.weight (Reading side cells) = subst (HoldFits places 1024 w me.0.weight) e fits0 in
           let v : Hand = left_from me.0 (Reading side cells) in
@@ -317,7 +318,7 @@ module _ (places : ℕ) where
           let some_weight : 0 < (leaving me.0).weight = omega arith in
           let b = learns places 1024 (world_after places w id me.0 leave) id (leaving me.0) f there some_weight heavy (ap (λ (z : Hand). z.hold) is) h in
           let pushed : weigh h (leaving me.0).pushed ≡ weigh h me.0.pushed = ap (λ (z : Hand). weigh h z.pushed) is in
-          let taken : weigh_all h (leaving me.0).taken ≡ weigh_all h me.0.taken = ap (λ (z : Hand). weigh_all h z.taken) is in
+          let taken : weigh_walks h (leaving me.0).taken ≡ weigh_walks h me.0.taken = ap (λ (z : Hand). weigh_walks h z.taken) is in
           let n = fits.3 whole in
           let long = f0.values_long in
           let room = f0.room in

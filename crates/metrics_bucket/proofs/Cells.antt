@@ -2,10 +2,11 @@
 use Rattle.std.proofs.Common.{◌≡◌, ◌≢◌, ℕ, zero, suc, ◌+◌, ◌%◌, ◌<◌, ◌≤◌, List, [], ◌∷◌, ◌++◌, length, get_or, set, take, drop, replicate, refl, sym, ap, ◌∙◌, arith}
 use mathlib.Core.Option.{some, some-injective, some-ne-none}
 use lib.ListN.{get_elem?}
+use Rattle.metrics_bucket.specs.declared.hand.Walk.{Walk}
 use Rattle.metrics_bucket.specs.declared.hand.Cell.{Cell}
 use Rattle.metrics_bucket.specs.declared.hand.Cell.TheVariants.{Unseen, Marked, Read, Wiped}
 use Rattle.metrics_bucket.specs.World.{other, value_in, values_in}
-use Rattle.metrics_bucket.specs.Facts.{weigh, weigh_all, stands, is_open, open_at, wiped_cell, wiped_in}
+use Rattle.metrics_bucket.specs.Facts.{weigh, weigh_walks, stands, is_open, open_at, wiped_cell, wiped_in}
 
 pub open_here : (cells : List Cell) (i : ℕ) (c : Cell) → get_elem? cells i ≡ some c → open_at cells i ≡ is_open c
 open_here [] i c e = absurd (some-ne-none c (sym e))
@@ -68,9 +69,9 @@ pub all_wiped_weigh : (h : ℕ → ℕ) (cells : List Cell) → AllWiped cells �
 all_wiped_weigh h [] a = refl
 all_wiped_weigh h (c ∷ cs) a = let x = wiped_value h c (a 0 c refl) in let r = all_wiped_weigh h cs (λ j d e. a (suc j) d e) in omega arith
 
-pub weigh_all-append : (h : ℕ → ℕ) (xss : List (List ℕ)) (xs : List ℕ) → weigh_all h (xss ++ xs ∷ []) ≡ weigh_all h xss + weigh h xs
-weigh_all-append h [] xs = omega arith
-weigh_all-append h (x ∷ xss) xs = let r = weigh_all-append h xss xs in omega arith
+pub weigh_walks-append : (h : ℕ → ℕ) (xss : List Walk) (xs : Walk) → weigh_walks h (xss ++ xs ∷ []) ≡ weigh_walks h xss + weigh h xs.values
+weigh_walks-append h [] xs = omega arith
+weigh_walks-append h (x ∷ xss) xs = let r = weigh_walks-append h xss xs in omega arith
 
 -- the place of each cell has a mark and the cell's value
 abbrev pub Standing : List ℕ → List ℕ → ℕ → List Cell → Type 0

@@ -5,15 +5,16 @@ use mathlib.Core.Option.{some}
 use native.Mathlib.Decide.{ℕ_discrete, dec_le}
 use lib.ListN.{get_elem?}
 use Rattle.atomic_table.proofs.Lists.{at_set, at_snoc}
+use Rattle.metrics_bucket.specs.declared.hand.Walk.{Walk}
 use Rattle.metrics_bucket.specs.declared.hand.Hand.{Hand}
 use Rattle.metrics_bucket.specs.declared.hand.Hold.TheVariants.{Nothing, Reading, Clearing}
 use Rattle.metrics_bucket.specs.declared.hand.Cell.{Cell}
 use Rattle.metrics_bucket.specs.declared.hand.Cell.TheVariants.{Read, Wiped}
-use Rattle.metrics_bucket.specs.World.{World, base, spot, live_values, new_hand, holding, value_in, values_in, left_from}
-use Rattle.metrics_bucket.specs.Facts.{total, weigh, weigh_all, stands, given_at, ticket_in, ticket_at, open_at, owed_in, owed_at, turn_in, turn_of, took_in, took_of, weight_of, pushed_of, taken_of, wiped, wiped_in, CellFits, HoldFits, IsIdle, HandFits, Facts}
+use Rattle.metrics_bucket.specs.World.{total, World, base, spot, live_values, new_hand, walk, holding, value_in, values_in, left_from}
+use Rattle.metrics_bucket.specs.Facts.{weigh, weigh_pushes, weigh_walks, stands, given_at, ticket_in, ticket_at, open_at, owed_in, owed_at, turn_in, turn_of, took_in, took_of, weight_of, pushed_of, taken_of, wiped, wiped_in, CellFits, HoldFits, IsIdle, HandFits, Facts}
 use Rattle.metrics_bucket.proofs.Sums.{total_set, total_two, total_zero, spot_apart, spot_below, here_or, given_here, given_else, below_under, below_over, stands_unmark}
 use Rattle.metrics_bucket.proofs.Keep.{at_below, other_side, turn_alone, each_after}
-use Rattle.metrics_bucket.proofs.Cells.{open_here, open_set, open_else, wiped_set, AllWiped, all_wiped_open, all_wiped_weigh, weigh_all-append, Standing, part_stands, stands_front}
+use Rattle.metrics_bucket.proofs.Cells.{open_here, open_set, open_else, wiped_set, AllWiped, all_wiped_open, all_wiped_weigh, weigh_walks-append, Standing, part_stands, stands_front}
 
 module _ (places all : ℕ) (w : World) (id : ℕ) (v : Hand) (f : Facts places all w) (at : get_elem? w.hands id ≡ some v) (has : 0 < v.weight) where
   abbrev mine : HandFits places all w v
@@ -118,7 +119,7 @@ module _ (places all : ℕ) (w : World) (id : ℕ) (v : Hand) (f : Facts places 
             omega arith;
         turns = let y = f.turns in let z = f.one_turn in let t = total_set turn_of w.hands id v u at in let t0 : turn_of v ≡ 1 = ap turn_in e in omega arith;
         one_turn = omega arith;
-        swaps = let t = total_set took_of w.hands id v u at in let t0 : took_in v.hold ≡ 1 = ap took_in e in let l = length-append v.taken (values_in cells ∷ []) in
+        swaps = let t = total_set took_of w.hands id v u at in let t0 : took_in v.hold ≡ 1 = ap took_in e in let l = length-append v.taken (walk v.epoch (values_in cells) ∷ []) in
             let same_total : total took_of w.hands ≡ total took_of (set w.hands id u) = omega arith in
             f.swaps ∙ ap (λ (n : ℕ). n % 2) same_total;
         shares = let y = f.shares in let t = total_set weight_of w.hands id v u at in omega arith;
@@ -127,7 +128,7 @@ module _ (places all : ℕ) (w : World) (id : ℕ) (v : Hand) (f : Facts places 
             let t = total_set (pushed_of h) w.hands id v u at in
             let c = total_set (taken_of h) w.hands id v u at in
             let c0 : wiped h v.hold ≡ wiped_in h cells = ap (wiped h) e in
-            let c1 = weigh_all-append h v.taken (values_in cells) in
+            let c1 = weigh_walks-append h v.taken (walk v.epoch (values_in cells)) in
             let c2 = all_wiped_weigh h cells done in
             omega arith;
         each = each_after places all w record w { turn = 0; hands = set w.hands id u } id v u f at has refl refl refl (λ h. omega arith) tt mine.reads
@@ -173,12 +174,12 @@ module _ (places all : ℕ) (w : World) (id : ℕ) (v : Hand) (f : Facts places 
         each = each_after places all w record w { turn = 0; hands = set w.hands id u } id v u f at has refl refl refl (λ h. omega arith) tt
             (λ n xs e' h. ⊎_elim
             (λ (r : get_elem? v.read n ≡ some xs). mine.reads n xs r h)
-            (λ (r : values_in cells ≡ xs).
+            (λ (r : walk v.epoch (values_in cells) ≡ xs).
             let a = part_stands h w.values w.marks (base places s) cells (omega arith) (omega arith) standing in
             let y = f.bags h in
-            let q : weigh h (values_in cells) ≡ weigh h xs = ap (weigh h) r in
+            let q : weigh h (values_in cells) ≡ weigh h xs.values = ap (λ (z : Walk). weigh h z.values) r in
             omega arith)
-            (at_snoc v.read (values_in cells) xs n e'))
+            (at_snoc v.read (walk v.epoch (values_in cells)) xs n e'))
             (λ j z n there turn. (refl, omega arith))
             (λ j z n there s i a b t. refl)
             (λ j z n there s i a b t m. (m, refl));
@@ -276,15 +277,15 @@ module _ (places all : ℕ) (w : World) (id : ℕ) (v : Hand) (f : Facts places 
     by_side h (suc (suc live)) e l = absurd (omega arith)
 
     -- what it pushed is what stands on the live side and what it took
-    pub learns : (h : ℕ → ℕ) → weigh h v.pushed ≡ weigh h (live_values places w) + weigh_all h v.taken
+    pub learns : (h : ℕ → ℕ) → weigh_pushes h v.pushed ≡ weigh h (live_values places w) + weigh_walks h v.taken
     learns h =
         let b = f.bags h in
-        let p = sole (pushed_of h) (λ u z. ap (weigh h) z.0) in
-        let t = sole (taken_of h) (λ u z. let m : weigh_all h u.taken ≡ 0 = ap (weigh_all h) z.1 in let n : wiped h u.hold ≡ 0 = ap (wiped h) z.3 in omega arith) in
+        let p = sole (pushed_of h) (λ u z. ap (weigh_pushes h) z.0) in
+        let t = sole (taken_of h) (λ u z. let m : weigh_walks h u.taken ≡ 0 = ap (weigh_walks h) z.1 in let n : wiped h u.hold ≡ 0 = ap (wiped h) z.3 in omega arith) in
         let q : wiped h v.hold ≡ 0 = ap (wiped h) free in
         let l : stands h w.values w.marks ≡ weigh h (live_values places w) = by_side h w.live refl f.side in
         omega arith
 
     -- what it read is a part of what it pushed
-    pub learns_reads : (n : ℕ) (xs : List ℕ) → get_elem? v.read n ≡ some xs → (h : ℕ → ℕ) → weigh h xs ≤ weigh h v.pushed
-    learns_reads n xs e h = let a = mine.reads n xs e h in let p = sole (pushed_of h) (λ u z. ap (weigh h) z.0) in omega arith
+    pub learns_reads : (n : ℕ) (xs : Walk) → get_elem? v.read n ≡ some xs → (h : ℕ → ℕ) → weigh h xs.values ≤ weigh_pushes h v.pushed
+    learns_reads n xs e h = let a = mine.reads n xs e h in let p = sole (pushed_of h) (λ u z. ap (weigh_pushes h) z.0) in omega arith

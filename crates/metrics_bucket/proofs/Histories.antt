@@ -5,14 +5,15 @@ use lib.ListN.{get_elem?}
 use Rattle.atomic_table.specs.Table.{State}
 use Rattle.atomic_table.proofs.Lists.{set_else}
 use Rattle.metrics_bucket.specs.declared.hand.Hand.{Hand}
+use Rattle.metrics_bucket.specs.declared.hand.Turn.{Turn}
 use Rattle.metrics_bucket.specs.declared.hand.Hold.{Hold}
 use Rattle.metrics_bucket.specs.declared.hand.Hold.TheVariants.{Nothing, Ticket, Written, Claimed, Aimed, Reading, Clearing, Settling}
 use Rattle.metrics_bucket.specs.declared.hand.Cell.TheVariants.{Unseen, Marked, Read, Wiped}
-use Rattle.metrics_bucket.specs.World.{World, Act, look, gather, ticket, write, finish, claim, survey, aim, takes, see, read, wipe, leave, quit, split, join, both_parts, spot, side_of, put_cell, new_hand, whole_hand, holding, left_from, world_after}
-use Rattle.metrics_bucket.specs.Facts.{total, ticket_in, owed_in, turn_in, took_in, wiped, weight_of, is_open, HoldFits, Facts}
+use Rattle.metrics_bucket.specs.World.{total, World, Act, look, gather, ticket, write, finish, claim, survey, aim, takes, see, read, wipe, leave, quit, split, join, both_parts, spot, side_of, put_cell, new_hand, whole_hand, holding, left_from, world_after}
+use Rattle.metrics_bucket.specs.Facts.{ticket_in, owed_in, turn_in, took_in, wiped, weight_of, is_open, HoldFits, Facts}
 use Rattle.metrics_bucket.specs.History.{HasCell, CanLeave, CanQuit, May, Event, Runs, opened, Kept}
 use Rattle.metrics_bucket.proofs.Pushes.{tickets, writes, finishes}
-use Rattle.metrics_bucket.proofs.Walks.{holds_as, claims, surveys, aims, gathers, takes_side, cell_reading, cell_clearing}
+use Rattle.metrics_bucket.proofs.Walks.{keeps_hold, claims, surveys, aims, gathers, takes_side, cell_reading, cell_clearing}
 use Rattle.metrics_bucket.proofs.Clears.{wipes, leaves_clear, leaves_read, quits}
 use Rattle.metrics_bucket.proofs.Shares.{opens, splits, joins, IsNew}
 
@@ -76,7 +77,7 @@ module _ (places all : ℕ) (w : World) (id : ℕ) (v : Hand) (f : Facts places 
       go (Settling s xs) h = h
 
   pub step_facts : (act : Act) → May places all w id v act → Facts places all (world_after places w id v act)
-  step_facts look m = holds_as places all w id v f at has v.hold (λ s i. refl) (λ s i. refl) refl refl (λ h. refl) (same_hold v.hold refl)
+  step_facts look m = keeps_hold places all w id v f at has v.epoch v.hold (λ s i. refl) (λ s i. refl) refl refl (λ h. refl) (same_hold v.hold refl)
   step_facts gather m = gathers places all w id v f at has m.0 m.1
   step_facts ticket m = tickets places all w id v f at has m.0 m.1
   step_facts (write s i x) m = writes places all w id v f at has s i x m
@@ -122,5 +123,5 @@ pub opened_facts : (places : ℕ) → Facts places 1024 (opened places)
 opened_facts places = opens places 1024 (whole_hand places ∷ []) (omega arith) (opened_new places)
 
 -- the facts of a running table
-pub facts : (places : ℕ) (s : State (Unit {0}) Hand) (k : Kept places s) → Facts places 1024 k.1
+pub facts : (places : ℕ) (s : State Turn Hand) (k : Kept places s) → Facts places 1024 k.1
 facts places s k = runs_facts places 1024 (opened places) k.0 k.1 (opened_facts places) k.2

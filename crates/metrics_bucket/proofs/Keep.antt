@@ -5,13 +5,14 @@ use mathlib.Core.Option.{some, some-ne-none}
 use native.Mathlib.Decide.{ℕ_discrete}
 use lib.ListN.{get_elem?}
 use Rattle.atomic_table.proofs.Lists.{at_set}
+use Rattle.metrics_bucket.specs.declared.hand.Walk.{Walk}
 use Rattle.metrics_bucket.specs.declared.hand.Hand.{Hand}
 use Rattle.metrics_bucket.specs.declared.hand.Hold.{Hold}
 use Rattle.metrics_bucket.specs.declared.hand.Hold.TheVariants.{Nothing, Ticket, Written, Claimed, Aimed, Reading, Clearing, Settling}
 use Rattle.metrics_bucket.specs.declared.hand.Cell.{Cell}
 use Rattle.metrics_bucket.specs.declared.hand.Cell.TheVariants.{Unseen, Marked, Read, Wiped}
-use Rattle.metrics_bucket.specs.World.{World, other, spot}
-use Rattle.metrics_bucket.specs.Facts.{total, weigh, given_at, ticket_in, ticket_at, open_at, is_open, owed_in, owed_at, turn_in, turn_of, weight_of, pushed_of, CellFits, HoldFits, HandFits, Facts}
+use Rattle.metrics_bucket.specs.World.{total, World, other, spot}
+use Rattle.metrics_bucket.specs.Facts.{weigh, given_at, ticket_in, ticket_at, open_at, is_open, owed_in, owed_at, turn_in, turn_of, weight_of, pushed_of, CellFits, HoldFits, HandFits, Facts}
 use Rattle.metrics_bucket.proofs.Sums.{total_set, total_one, total_two, total_zero, total_le, same_here, given_le, given_else}
 
 pub at_below : {A : Type 0} (l : List A) (i : ℕ) (a : A) → get_elem? l i ≡ some a → i < length l
@@ -125,7 +126,7 @@ module _ (places all : ℕ) (w w' : World) where
 -- all threads' facts after a step of one
 pub each_after : (places all : ℕ) (w w' : World) (id : ℕ) (v v' : Hand) → Facts places all w → get_elem? w.hands id ≡ some v → 0 < v.weight → w'.hands ≡ set w.hands id v'
     → v'.places ≡ v.places → v'.weight ≡ v.weight → ((h : ℕ → ℕ) → pushed_of h v ≤ pushed_of h v') → HoldFits places all w' v'.weight v'.hold
-    → ((n : ℕ) (xs : List ℕ) → get_elem? v'.read n ≡ some xs → (h : ℕ → ℕ) → weigh h xs ≤ total (pushed_of h) w.hands)
+    → ((n : ℕ) (xs : Walk) → get_elem? v'.read n ≡ some xs → (h : ℕ → ℕ) → weigh h xs.values ≤ total (pushed_of h) w.hands)
     → ((j : ℕ) (u : Hand) → j ≢ id → get_elem? w.hands j ≡ some u → turn_in u.hold ≡ 1 → (w'.live ≡ w.live) × (w.given ≤ w'.given))
     → ((j : ℕ) (u : Hand) → j ≢ id → get_elem? w.hands j ≡ some u → (s i : ℕ) → s < 2 → i < places → ticket_in s i u.hold ≡ 1 → get_or w'.values (spot places s i) 0 ≡ get_or w.values (spot places s i) 0)
     → ((j : ℕ) (u : Hand) → j ≢ id → get_elem? w.hands j ≡ some u → (s i : ℕ) → s < 2 → i < places → turn_in u.hold ≡ 1 → get_or w.marks (spot places s i) 0 ≡ 1

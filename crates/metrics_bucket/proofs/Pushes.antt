@@ -4,9 +4,9 @@ use mathlib.Core.Option.{some}
 use lib.ListN.{get_elem?}
 use Rattle.metrics_bucket.specs.declared.hand.Hand.{Hand}
 use Rattle.metrics_bucket.specs.declared.hand.Hold.TheVariants.{Nothing, Ticket, Written}
-use Rattle.metrics_bucket.specs.World.{World, spot, holding, pushing, ticket, write, finish, world_after}
-use Rattle.metrics_bucket.specs.Facts.{total, same, ticket_in, ticket_at, owed_in, owed_at, turn_in, turn_of, took_in, took_of, weight_of, pushed_of, taken_of, wiped, HoldFits, HandFits, Facts}
-use Rattle.metrics_bucket.proofs.Sums.{total_set, weigh-append, stands_value, stands_mark, spot_apart, spot_below, here_or, same_here, same_else, given_next}
+use Rattle.metrics_bucket.specs.World.{total, World, spot, holding, holding_at, push, pushing, ticket, write, finish, world_after}
+use Rattle.metrics_bucket.specs.Facts.{same, ticket_in, ticket_at, owed_in, owed_at, turn_in, turn_of, took_in, took_of, weight_of, pushed_of, taken_of, wiped, HoldFits, HandFits, Facts}
+use Rattle.metrics_bucket.proofs.Sums.{total_set, weigh_pushes-append, stands_value, stands_mark, spot_apart, spot_below, here_or, same_here, same_else, given_next}
 use Rattle.metrics_bucket.proofs.Keep.{alone, each_after}
 
 module _ (places all : ℕ) (w : World) (id : ℕ) (v : Hand) (f : Facts places all w) (at : get_elem? w.hands id ≡ some v) (has : 0 < v.weight) where
@@ -14,7 +14,7 @@ module _ (places all : ℕ) (w : World) (id : ℕ) (v : Hand) (f : Facts places 
   mine = f.each id v at
 
   pub tickets : v.hold ≡ Nothing → w.given < places → Facts places all (world_after places w id v ticket)
-  tickets e room = let u : Hand = holding v (Ticket w.live w.given) in record {
+  tickets e room = let u : Hand = holding_at v w.epoch (Ticket w.live w.given) in record {
     side = f.side;
     room = omega arith;
     values_long = f.values_long;
@@ -95,7 +95,7 @@ module _ (places all : ℕ) (w : World) (id : ℕ) (v : Hand) (f : Facts places 
 
     pub finishes : (x : ℕ) → v.hold ≡ Written s i x → Facts places all (world_after places w id v (finish s i x))
     finishes x e =
-        let u : Hand = pushing v x in
+        let u : Hand = pushing v i x in
         let fits : HoldFits places all w v.weight (Written s i x) = subst (HoldFits places all w v.weight) e mine.hold in
         let single = alone places all w f id v s i at fits.0 fits.1 (ap (ticket_in s i) e ∙ same_here s i s i refl refl) in
         let in_range = spot_below places s i fits.1 in
@@ -138,9 +138,9 @@ module _ (places all : ℕ) (w : World) (id : ℕ) (v : Hand) (f : Facts places 
               let c0 : wiped h v.hold ≡ 0 = ap (wiped h) e in
               let d = stands_mark h w.values w.marks k (omega arith) (omega arith) none_yet in
               let is : h (get_or w.values k 0) ≡ h x = ap h fits.2 in
-              let more = weigh-append h v.pushed (x ∷ []) in
+              let more = weigh_pushes-append h v.pushed (push v.epoch i x ∷ []) in
               omega arith;
-          each = each_after places all w W id v u f at has refl refl refl (λ h. let more = weigh-append h v.pushed (x ∷ []) in omega arith) tt mine.reads
+          each = each_after places all w W id v u f at has refl refl refl (λ h. let more = weigh_pushes-append h v.pushed (push v.epoch i x ∷ []) in omega arith) tt mine.reads
               (λ j z n there turn. (refl, omega arith))
               (λ j z n there s' i' a b t. refl)
               (λ j z n there s' i' a b t m. (

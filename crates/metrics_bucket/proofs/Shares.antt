@@ -3,16 +3,17 @@ use Rattle.std.proofs.Common.{◌≡◌, ◌≢◌, ◌⊎◌, ℕ, zero, suc, �
 use mathlib.Core.Option.{some, some-ne-none}
 use lib.ListN.{get_elem?}
 use Rattle.atomic_table.proofs.Lists.{at_set, at_snoc, set_else}
+use Rattle.metrics_bucket.specs.declared.hand.Walk.{Walk}
 use Rattle.metrics_bucket.specs.declared.hand.Hand.{Hand}
 use Rattle.metrics_bucket.specs.declared.hand.Hold.{Hold}
 use Rattle.metrics_bucket.specs.declared.hand.Hold.TheVariants.{Nothing, Ticket, Written, Claimed, Aimed, Reading, Clearing, Settling}
-use Rattle.metrics_bucket.specs.World.{World, spot, new_hand, left_part, right_part, both_parts}
-use Rattle.metrics_bucket.specs.Facts.{total, weigh, weigh_all, stands, given_at, ticket_in, ticket_at, owed_in, owed_at, turn_in, turn_of, took_in, took_of, weight_of, pushed_of, taken_of, wiped, HoldFits, IsIdle, HandFits, Facts}
-use Rattle.metrics_bucket.proofs.Sums.{total_set, total_snoc, weigh-append, given_here, given_else}
+use Rattle.metrics_bucket.specs.World.{total, World, spot, new_hand, left_part, right_part, both_parts}
+use Rattle.metrics_bucket.specs.Facts.{weigh, weigh_pushes, weigh_walks, stands, given_at, ticket_in, ticket_at, owed_in, owed_at, turn_in, turn_of, took_in, took_of, weight_of, pushed_of, taken_of, wiped, HoldFits, IsIdle, HandFits, Facts}
+use Rattle.metrics_bucket.proofs.Sums.{total_set, total_snoc, weigh_pushes-append, given_here, given_else}
 
-pub weigh_all-both : (h : ℕ → ℕ) (xss yss : List (List ℕ)) → weigh_all h (xss ++ yss) ≡ weigh_all h xss + weigh_all h yss
-weigh_all-both h [] yss = omega arith
-weigh_all-both h (x ∷ xss) yss = let r = weigh_all-both h xss yss in omega arith
+pub weigh_walks-both : (h : ℕ → ℕ) (xss yss : List Walk) → weigh_walks h (xss ++ yss) ≡ weigh_walks h xss + weigh_walks h yss
+weigh_walks-both h [] yss = omega arith
+weigh_walks-both h (x ∷ xss) yss = let r = weigh_walks-both h xss yss in omega arith
 
 abbrev pub zeros : ℕ → List ℕ
 zeros n = replicate n 0
@@ -33,7 +34,7 @@ length_zero (suc n) = ap suc (length_zero n)
 
 -- a world where nothing was done, with these threads, none of which has anything
 abbrev pub fresh : ℕ → List Hand → World
-fresh places hands = record { live = 0; given = 0; turn = 0; values = zeros (places + places); marks = zeros (places + places); hands = hands }
+fresh places hands = record { epoch = 0; live = 0; given = 0; turn = 0; values = zeros (places + places); marks = zeros (places + places); hands = hands }
 
 abbrev pub IsNew : ℕ → Hand → Type 0
 IsNew places v = (v.places ≡ places) × IsIdle v
@@ -41,7 +42,7 @@ IsNew places v = (v.places ≡ places) × IsIdle v
 pub opens : (places all : ℕ) (hands : List Hand) → total weight_of hands ≡ all → ((j : ℕ) (v : Hand) → get_elem? hands j ≡ some v → IsNew places v) → Facts places all (fresh places hands)
 opens places all hands sum new =
     let none_of : (f : Hand → ℕ) → ((v : Hand) → IsIdle v → f v ≡ 0) → total f hands ≡ 0 = λ f z. Rattle.metrics_bucket.proofs.Sums.total_zero f hands (λ j v at. z v (new j v at).1) in
-    let none_there : (h : ℕ → ℕ) → total (pushed_of h) hands ≡ 0 = λ h. none_of (pushed_of h) (λ v i. ap (weigh h) i.0) in
+    let none_there : (h : ℕ → ℕ) → total (pushed_of h) hands ≡ 0 = λ h. none_of (pushed_of h) (λ v i. ap (weigh_pushes h) i.0) in
     record {
       side = omega arith;
       room = omega arith;
@@ -59,14 +60,14 @@ opens places all hands sum new =
       shares = sum;
       bags = λ h.
           let p = none_there h in
-          let t = none_of (taken_of h) (λ v z. let a : weigh_all h v.taken ≡ 0 = ap (weigh_all h) z.1 in let b : wiped h v.hold ≡ 0 = ap (wiped h) z.3 in omega arith) in
+          let t = none_of (taken_of h) (λ v z. let a : weigh_walks h v.taken ≡ 0 = ap (weigh_walks h) z.1 in let b : wiped h v.hold ≡ 0 = ap (wiped h) z.3 in omega arith) in
           let m = no_marks h (places + places) (places + places) in
           omega arith;
       each = λ j v at. let n = new j v at in record {
         size = λ _. n.0;
         idle = λ _. n.1;
         hold = subst (HoldFits places all (fresh places hands) v.weight) (sym n.1.3) tt;
-        reads = λ k xs e h. absurd (some-ne-none xs (sym e ∙ ap (λ (l : List (List ℕ)). get_elem? l k) n.1.2));
+        reads = λ k xs e h. absurd (some-ne-none xs (sym e ∙ ap (λ (l : List Walk). get_elem? l k) n.1.2));
       };
     }
   where
@@ -144,7 +145,7 @@ module _ (places all : ℕ) (w : World) (f : Facts places all w) where
       let same : (g : Hand → ℕ) → g (both_parts v x) ≡ g v + g x → g (new_hand 0 0) ≡ 0 → total g hands ≡ total g w.hands =
       λ g a b. let t = total_set g w.hands id v (both_parts v x) at in let s = total_set g vs other_id x (new_hand 0 0) there in omega arith
       in
-      let pushes : (h : ℕ → ℕ) → total (pushed_of h) hands ≡ total (pushed_of h) w.hands = λ h. same (pushed_of h) (weigh-append h v.pushed x.pushed) refl in
+      let pushes : (h : ℕ → ℕ) → total (pushed_of h) hands ≡ total (pushed_of h) w.hands = λ h. same (pushed_of h) (weigh_pushes-append h v.pushed x.pushed) refl in
       let mine = f.each id v at in
       let there' : get_elem? w.hands other_id ≡ some x = sym (set_else w.hands id other_id (both_parts v x) apart) ∙ there in
       let his = f.each other_id x there' in
@@ -168,7 +169,7 @@ module _ (places all : ℕ) (w : World) (f : Facts places all w) where
             let y = f.bags h in
             let p = pushes h in
             let x0 : wiped h x.hold ≡ 0 = ap (wiped h) d in
-            let m = weigh_all-both h v.taken x.taken in
+            let m = weigh_walks-both h v.taken x.taken in
             let t = same (taken_of h) (omega arith) (omega arith) in
             omega arith;
         each = λ j u r. ⊎_elim

@@ -4,10 +4,11 @@ use mathlib.Core.Logic.{dite}
 use mathlib.Core.Option.{some, some-injective, some-ne-none}
 use native.Mathlib.Decide.{ℕ_discrete}
 use lib.ListN.{get_elem?}
+use Rattle.metrics_bucket.specs.declared.hand.Push.{Push}
 use Rattle.metrics_bucket.specs.declared.hand.Hand.{Hand}
 use Rattle.metrics_bucket.specs.declared.hand.Cell.TheVariants.{Unseen}
-use Rattle.metrics_bucket.specs.World.{spot}
-use Rattle.metrics_bucket.specs.Facts.{total, weigh, stands, same, below, given_at, open_at}
+use Rattle.metrics_bucket.specs.World.{total, spot}
+use Rattle.metrics_bucket.specs.Facts.{weigh, weigh_pushes, stands, same, below, given_at, open_at}
 
 pub total_set : (f : Hand → ℕ) (vs : List Hand) (j : ℕ) (v w : Hand) → get_elem? vs j ≡ some v → total f (set vs j w) + f v ≡ total f vs + f w
 total_set f [] j v w e = absurd (some-ne-none v (sym e))
@@ -42,6 +43,10 @@ total_snoc f (x ∷ xs) v = let r = total_snoc f xs v in omega arith
 pub weigh-append : (h : ℕ → ℕ) (xs ys : List ℕ) → weigh h (xs ++ ys) ≡ weigh h xs + weigh h ys
 weigh-append h [] ys = omega arith
 weigh-append h (x ∷ xs) ys = let r = weigh-append h xs ys in omega arith
+
+pub weigh_pushes-append : (h : ℕ → ℕ) (xs ys : List Push) → weigh_pushes h (xs ++ ys) ≡ weigh_pushes h xs + weigh_pushes h ys
+weigh_pushes-append h [] ys = omega arith
+weigh_pushes-append h (x ∷ xs) ys = let r = weigh_pushes-append h xs ys in omega arith
 
 -- a value that is written where no mark is
 pub stands_value : (h : ℕ → ℕ) (xs ms : List ℕ) (k x : ℕ) → get_or ms k 0 ≡ 0 → stands h (set xs k x) ms ≡ stands h xs ms

@@ -10,8 +10,8 @@ use Rattle.metrics_bucket.specs.declared.hand.Hold.{Hold}
 use Rattle.metrics_bucket.specs.declared.hand.Hold.TheVariants.{Nothing, Ticket, Written, Claimed, Aimed, Reading, Clearing, Settling}
 use Rattle.metrics_bucket.specs.declared.hand.Cell.{Cell}
 use Rattle.metrics_bucket.specs.declared.hand.Cell.TheVariants.{Marked, Read, Wiped}
-use Rattle.metrics_bucket.specs.World.{World, Act, look, gather, ticket, write, finish, claim, survey, aim, takes, see, read, wipe, leave, quit, split, join, left_part, right_part, both_parts, spot, side_of, put_cell, new_hand, whole_hand, left_from, hand_after, world_after}
-use Rattle.metrics_bucket.specs.Facts.{total, weight_of, turn_in, ticket_in, ticket_at, owed_in, owed_at, open_at, HoldFits, Facts}
+use Rattle.metrics_bucket.specs.World.{total, World, Act, look, gather, ticket, write, finish, claim, survey, aim, takes, see, read, wipe, leave, quit, split, join, left_part, right_part, both_parts, spot, side_of, put_cell, new_hand, whole_hand, left_from, hand_after, world_after}
+use Rattle.metrics_bucket.specs.Facts.{weight_of, turn_in, ticket_in, ticket_at, owed_in, owed_at, open_at, HoldFits, Facts}
 use Rattle.metrics_bucket.specs.History.{May, Event, Runs, note, last_push, WipedAre, Tracks, IsSound, BucketLaw}
 use Rattle.metrics_bucket.proofs.Sums.{total_one, total_zero, spot_apart, spot_below, here_or, same_here, given_else}
 use Rattle.metrics_bucket.proofs.Keep.{at_below, other_side, owed_le, alone, turn_alone}

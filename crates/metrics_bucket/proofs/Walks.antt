@@ -10,8 +10,8 @@ use Rattle.metrics_bucket.specs.declared.hand.Hold.{Hold}
 use Rattle.metrics_bucket.specs.declared.hand.Hold.TheVariants.{Nothing, Claimed, Aimed, Reading, Clearing, Settling}
 use Rattle.metrics_bucket.specs.declared.hand.Cell.{Cell}
 use Rattle.metrics_bucket.specs.declared.hand.Cell.TheVariants.{Unseen, Marked, Read, Wiped}
-use Rattle.metrics_bucket.specs.World.{World, other, spot, live_values, holding, gather, claim, survey, aim, takes, world_after}
-use Rattle.metrics_bucket.specs.Facts.{total, given_at, ticket_in, ticket_at, is_open, owed_in, owed_at, turn_in, turn_of, took_in, took_of, weight_of, pushed_of, taken_of, wiped, wiped_cell, wiped_in, CellFits, CellsFit, HoldFits, HandFits, Facts}
+use Rattle.metrics_bucket.specs.World.{total, World, other, spot, live_values, holding, holding_at, claiming, walks_made, gather, claim, survey, aim, takes, world_after}
+use Rattle.metrics_bucket.specs.Facts.{given_at, ticket_in, ticket_at, is_open, owed_in, owed_at, turn_in, turn_of, took_in, took_of, weight_of, pushed_of, taken_of, wiped, wiped_cell, wiped_in, CellFits, CellsFit, HoldFits, HandFits, Facts}
 use Rattle.metrics_bucket.proofs.Sums.{total_set, total_one, weigh-append, spot_apart, spot_below, here_or, same_here, same_else, given_here, given_else, open_new, below_over, stands_unmark}
 use Rattle.metrics_bucket.proofs.Keep.{other_side, turn_alone, owed_le, each_after}
 use Rattle.metrics_bucket.proofs.Cells.{open_kept, wiped_set, wiped_new, new_cell, length_new, other_next}
@@ -26,10 +26,13 @@ module _ (places all : ℕ) (w : World) (id : ℕ) (v : Hand) (f : Facts places 
   abbrev with_hold : Hold → World
   with_hold hold = record w { hands = set w.hands id (holding v hold) }
 
+  abbrev with_hold_at : ℕ → Hold → World
+  with_hold_at epoch hold = record w { hands = set w.hands id (holding_at v epoch hold) }
+
   -- a step that changes no word, and in what the thread holds nothing that is counted
-  pub holds_as : (hold : Hold) → ((s i : ℕ) → ticket_in s i hold ≡ ticket_in s i v.hold) → ((s i : ℕ) → owed_in s i hold ≡ owed_in s i v.hold) → turn_in hold ≡ turn_in v.hold → took_in hold ≡ took_in v.hold
-      → ((h : ℕ → ℕ) → wiped h hold ≡ wiped h v.hold) → HoldFits places all (with_hold hold) v.weight hold → Facts places all (with_hold hold)
-  holds_as hold ticket owed turn took wipes fits = let u : Hand = holding v hold in record {
+  pub keeps_hold : (epoch : ℕ) (hold : Hold) → ((s i : ℕ) → ticket_in s i hold ≡ ticket_in s i v.hold) → ((s i : ℕ) → owed_in s i hold ≡ owed_in s i v.hold) → turn_in hold ≡ turn_in v.hold → took_in hold ≡ took_in v.hold
+      → ((h : ℕ → ℕ) → wiped h hold ≡ wiped h v.hold) → HoldFits places all (with_hold_at epoch hold) v.weight hold → Facts places all (with_hold_at epoch hold)
+  keeps_hold epoch hold ticket owed turn took wipes fits = let u : Hand = holding_at v epoch hold in record {
     side = f.side;
     room = f.room;
     values_long = f.values_long;
@@ -52,14 +55,14 @@ module _ (places all : ℕ) (w : World) (id : ℕ) (v : Hand) (f : Facts places 
         let k = total_set (taken_of h) w.hands id v u at in
         let k0 = wipes h in
         omega arith;
-    each = each_after places all w (with_hold hold) id v u f at has refl refl refl (λ h. omega arith) fits mine.reads
+    each = each_after places all w (with_hold_at epoch hold) id v u f at has refl refl refl (λ h. omega arith) fits mine.reads
         (λ j z n there _. (refl, omega arith))
         (λ j z n there s i a b t. refl)
         (λ j z n there s i a b t m. (m, refl));
   }
 
   pub claims : v.hold ≡ Nothing → w.turn ≡ 0 → Facts places all (world_after places w id v claim)
-  claims e free = let u : Hand = holding v Claimed in record {
+  claims e free = let u : Hand = claiming v (walks_made w) in record {
     side = f.side;
     room = f.room;
     values_long = f.values_long;
@@ -89,17 +92,17 @@ module _ (places all : ℕ) (w : World) (id : ℕ) (v : Hand) (f : Facts places 
   }
 
   pub surveys : v.hold ≡ Claimed → Facts places all (world_after places w id v survey)
-  surveys e = holds_as (Reading w.live (replicate w.given Unseen))
+  surveys e = keeps_hold w.epoch (Reading w.live (replicate w.given Unseen))
       (λ s i. sym (ap (ticket_in s i) e)) (λ s i. sym (ap (owed_in s i) e)) (sym (ap turn_in e)) (sym (ap took_in e)) (λ h. sym (ap (wiped h) e))
       (let l = length_new w.given in (refl, omega arith, (λ i c there. subst (CellFits (get_or w.marks (spot places w.live i) 0) (get_or w.values (spot places w.live i) 0)) (new_cell w.given i c there) tt), λ _. l))
 
   pub gathers : v.hold ≡ Nothing → v.weight ≡ all → Facts places all (world_after places w id v gather)
-  gathers e whole = holds_as (Settling w.live (live_values places w))
+  gathers e whole = keeps_hold v.epoch (Settling w.live (live_values places w))
       (λ s i. sym (ap (ticket_in s i) e)) (λ s i. sym (ap (owed_in s i) e)) (sym (ap turn_in e)) (sym (ap took_in e)) (λ h. sym (ap (wiped h) e))
       (whole, refl, refl)
 
   pub aims : v.hold ≡ Claimed → Facts places all (world_after places w id v aim)
-  aims e = holds_as (Aimed w.live)
+  aims e = keeps_hold v.epoch (Aimed w.live)
       (λ s i. sym (ap (ticket_in s i) e)) (λ s i. sym (ap (owed_in s i) e)) (sym (ap turn_in e)) (sym (ap took_in e)) (λ h. sym (ap (wiped h) e))
       refl
 
@@ -117,7 +120,7 @@ module _ (places all : ℕ) (w : World) (id : ℕ) (v : Hand) (f : Facts places 
 
   pub takes_side : (t : ℕ) → v.hold ≡ Aimed t → Facts places all (world_after places w id v takes)
   takes_side to e =
-      let u : Hand = holding v (Clearing w.live (replicate w.given Unseen)) in
+      let u : Hand = holding_at v w.epoch (Clearing w.live (replicate w.given Unseen)) in
       let o = other_side w.live f.side in
       let alone_here = turn_alone places all w f id v at (ap turn_in e) in
       let room = f.room in
@@ -168,7 +171,7 @@ module _ (places all : ℕ) (w : World) (id : ℕ) (v : Hand) (f : Facts places 
   cell_reading s i cells c d e there new =
       let fits : HoldFits places all w v.weight (Reading s cells) = subst (HoldFits places all w v.weight) e mine.hold in
       let l = length-set cells i d in let k = fits.1 in
-      holds_as (Reading s (set cells i d)) (λ s i. sym (ap (ticket_in s i) e)) (λ s i. sym (ap (owed_in s i) e)) (sym (ap turn_in e)) (sym (ap took_in e)) (λ h. sym (ap (wiped h) e))
+      keeps_hold v.epoch (Reading s (set cells i d)) (λ s i. sym (ap (ticket_in s i) e)) (λ s i. sym (ap (owed_in s i) e)) (sym (ap turn_in e)) (sym (ap took_in e)) (λ h. sym (ap (wiped h) e))
       (fits.0, omega arith, cells_fit s i cells d fits.2 new, λ whole. l ∙ fits.3 whole)
 
   pub cell_clearing : (s i : ℕ) (cells : List Cell) (c d : Cell) → v.hold ≡ Clearing s cells → get_elem? cells i ≡ some c → is_open c ≡ 1 → is_open d ≡ 1
@@ -176,7 +179,7 @@ module _ (places all : ℕ) (w : World) (id : ℕ) (v : Hand) (f : Facts places 
   cell_clearing s i cells c d e there a b new =
       let fits : HoldFits places all w v.weight (Clearing s cells) = subst (HoldFits places all w v.weight) e mine.hold in
       let l = length-set cells i d in let k = fits.1 in
-      holds_as (Clearing s (set cells i d)) (λ s i. sym (ap (ticket_in s i) e))
+      keeps_hold v.epoch (Clearing s (set cells i d)) (λ s i. sym (ap (ticket_in s i) e))
       (λ s' j. ap (λ (n : ℕ). cond (eqb s' s) n 0) (open_kept cells i j c d there (b ∙ sym a)) ∙ sym (ap (owed_in s' j) e))
       (sym (ap turn_in e)) (sym (ap took_in e))
       (λ h. let x = wiped_set h cells i c d there in let y = not_wiped h c a in let z = not_wiped h d b in let q : wiped h v.hold ≡ wiped_in h cells = ap (wiped h) e in omega arith)

@@ -1,10 +1,12 @@
 -- What callers see of a pen and of a bucket.
-use Rattle.std.specs.Prelude.{ℕ, ◌+◌, ◌-◌, ◌/◌, ◌<◌, Bool, true, false, List, [], ◌∷◌, ◌++◌, refl, Option, Some, None}
+use Rattle.std.specs.Prelude.{◌≡◌, ℕ, ◌+◌, ◌-◌, ◌/◌, ◌<◌, Bool, true, false, List, [], ◌∷◌, ◌++◌, refl, Option, Some, None}
 use Rattle.std.specs.Coded.{Coded, code_by, coded×, coded_ℕ, coded_bool, coded_list}
 use Rattle.atomic_table.specs.Seated.{TableId, table_id_coded}
-use Rattle.metrics_bucket.specs.declared.hand.Hand.{Hand}
+use Rattle.metrics_bucket.specs.declared.hand.Push.{Push}
+use Rattle.metrics_bucket.specs.declared.hand.Walk.{Walk}
 use Rattle.metrics_bucket.specs.declared.hand.Hold.{Hold}
 use Rattle.metrics_bucket.specs.declared.hand.Hold.TheVariants.{Nothing, Ticket}
+use Rattle.metrics_bucket.specs.World.{push}
 
 -- which bucket it is
 pub record Home : Type 0 where
@@ -14,25 +16,27 @@ pub record Home : Type 0 where
 abbrev pub home_code : Coded Home
 home_code = code_by (TableId × ℕ) (coded× table_id_coded coded_ℕ) (λ e. (e.table, e.places)) (λ p. record { table = p.0; places = p.1 }) (λ _. refl)
 
--- A pen's account: the values that it pushed, the lists that it took and read, its weight, whether it has a ticket, and whether it is the first and was never split or joined
+-- A pen's account: what it pushed, the walks that took and those that only read, its weight, and whether it has a ticket
 pub record Account : Type 0 where
   pub home : Home
   pub weight : ℕ
-  pub pushed : List ℕ
-  pub taken : List (List ℕ)
-  pub read : List (List ℕ)
+  pub pushed : List Push
+  pub taken : List Walk
+  pub read : List Walk
   pub ticket : Bool
-  pub alone : Bool
 
-abbrev lists_code : Coded (List (List ℕ))
-lists_code = coded_list (coded_list coded_ℕ)
+abbrev push_code : Coded Push
+push_code = code_by (ℕ × (ℕ × ℕ)) (coded× coded_ℕ (coded× coded_ℕ coded_ℕ)) (λ e. (e.epoch, (e.place, e.value))) (λ p. record { epoch = p.0; place = p.1.0; value = p.1.1 }) (λ _. refl)
+
+abbrev walk_code : Coded Walk
+walk_code = code_by (ℕ × List ℕ) (coded× coded_ℕ (coded_list coded_ℕ)) (λ e. (e.epoch, e.values)) (λ p. record { epoch = p.0; values = p.1 }) (λ _. refl)
 
 abbrev pub account_code : Coded Account
 account_code =
-    code_by (Home × (ℕ × (List ℕ × (List (List ℕ) × (List (List ℕ) × (Bool × Bool))))))
-    (coded× home_code (coded× coded_ℕ (coded× (coded_list coded_ℕ) (coded× lists_code (coded× lists_code (coded× coded_bool coded_bool))))))
-    (λ e. (e.home, (e.weight, (e.pushed, (e.taken, (e.read, (e.ticket, e.alone)))))))
-    (λ p. record { home = p.0; weight = p.1.0; pushed = p.1.1.0; taken = p.1.1.1.0; read = p.1.1.1.1.0; ticket = p.1.1.1.1.1.0; alone = p.1.1.1.1.1.1 })
+    code_by (Home × (ℕ × (List Push × (List Walk × (List Walk × Bool)))))
+    (coded× home_code (coded× coded_ℕ (coded× (coded_list push_code) (coded× (coded_list walk_code) (coded× (coded_list walk_code) coded_bool)))))
+    (λ e. (e.home, (e.weight, (e.pushed, (e.taken, (e.read, e.ticket))))))
+    (λ p. record { home = p.0; weight = p.1.0; pushed = p.1.1.0; taken = p.1.1.1.0; read = p.1.1.1.1.0; ticket = p.1.1.1.1.1 })
     (λ _. refl)
 
 abbrev pub hold_of : Option (ℕ × ℕ) → Hold
@@ -50,29 +54,29 @@ TicketFits (Some t) places = (t.0 < 2) × (t.1 < places)
 
 -- the first pen of a bucket
 abbrev pub first_account : Home → Account
-first_account home = record { home = home; weight = 1024; pushed = []; taken = []; read = []; ticket = false; alone = true }
+first_account home = record { home = home; weight = 1024; pushed = []; taken = []; read = []; ticket = false }
 
 abbrev pub with_ticket : Account → Bool → Account
 with_ticket a ticket = record a { ticket = ticket }
 
-abbrev pub with_push : Account → ℕ → Account
-with_push a x = record a { pushed = a.pushed ++ x ∷ []; ticket = false }
+abbrev pub with_push : Account → Push → Account
+with_push a p = record a { pushed = a.pushed ++ p ∷ []; ticket = false }
+
+-- the account after a push of this value, and no other change
+abbrev pub IsPushed : Account → ℕ → Account → Type 0
+IsPushed old x new = (e i : ℕ) × (i < old.home.places) × (new ≡ with_push old (push e i x))
 
 abbrev pub left_account : Account → Account
-left_account a = record a { weight = a.weight - a.weight / 2; alone = false }
+left_account a = record a { weight = a.weight - a.weight / 2 }
 
 abbrev pub right_account : Account → Account
-right_account a = record { home = a.home; weight = a.weight / 2; pushed = []; taken = []; read = []; ticket = false; alone = false }
+right_account a = record { home = a.home; weight = a.weight / 2; pushed = []; taken = []; read = []; ticket = false }
 
 abbrev pub joined_account : Account → Account → Account
-joined_account a b = record a { weight = a.weight + b.weight; pushed = a.pushed ++ b.pushed; taken = a.taken ++ b.taken; read = a.read ++ b.read; alone = false }
+joined_account a b = record a { weight = a.weight + b.weight; pushed = a.pushed ++ b.pushed; taken = a.taken ++ b.taken; read = a.read ++ b.read }
 
-abbrev pub took_account : Account → List ℕ → Account
-took_account a xs = record a { taken = a.taken ++ xs ∷ [] }
+abbrev pub took_account : Account → Walk → Account
+took_account a walk = record a { taken = a.taken ++ walk ∷ [] }
 
-abbrev pub read_account : Account → List ℕ → Account
-read_account a xs = record a { read = a.read ++ xs ∷ [] }
-
--- the hand of a pen that has no ticket
-abbrev pub free_hand : Account → Hand
-free_hand a = record { places = a.home.places; weight = a.weight; pushed = a.pushed; taken = a.taken; read = a.read; hold = Nothing; alone = a.alone }
+abbrev pub read_account : Account → Walk → Account
+read_account a walk = record a { read = a.read ++ walk ∷ [] }

@@ -1,8 +1,10 @@
 -- The order in which a bucket gives its values.
 use Rattle.std.specs.Prelude.{◌≡◌, ℕ, zero, suc, ◌+◌, ◌*◌, ◌/◌, List, [], ◌∷◌, ◌++◌, length, take, drop, map}
-use Rattle.metrics_bucket.specs.declared.hand.Hand.{Hand}
-use Rattle.metrics_bucket.specs.Facts.{weigh, weigh_all}
-use Rattle.metrics_bucket.specs.History.{Shows}
+use Rattle.metrics_bucket.specs.declared.hand.Push.{Push}
+use Rattle.metrics_bucket.specs.declared.hand.Walk.{Walk}
+use Rattle.metrics_bucket.specs.Facts.{weigh, weigh_pushes, weigh_walks}
+use Rattle.metrics_bucket.specs.Places.{Covers}
+use Rattle.metrics_bucket.specs.World.{walk}
 
 -- the chunk of this number: at most 64 values
 abbrev pub chunk : ℕ → List ℕ → List ℕ
@@ -17,13 +19,9 @@ first_chunks (suc n) vs = chunk n vs ++ first_chunks n vs
 abbrev pub blocks : List ℕ → List ℕ
 blocks vs = first_chunks ((length vs + 63) / 64) vs
 
--- these are the values of some pushes, in the bucket's order: what was pushed is what was taken and these
-abbrev pub Settled : {T : Type 0} → (ℕ → T) → List ℕ → List (List ℕ) → List T → Type 0
-Settled {T} value pushed taken given = (vs : List ℕ) × (given ≡ map value (blocks vs)) × ((h : ℕ → ℕ) → weigh h pushed ≡ weigh h (blocks vs) + weigh_all h taken)
-
--- these are the live side's values in the bucket's order, in a world of a history where a thread has this hand
-abbrev pub Ordered : {T : Type 0} → (ℕ → T) → Hand → List T → Type 0
-Ordered {T} value hand given = (vs : List ℕ) × (given ≡ map value (blocks vs)) × Shows hand vs
+-- these are the values of the pushes since the last take, in the bucket's order by their places: what was pushed is what was taken and these
+abbrev pub Settled : {T : Type 0} → (ℕ → T) → List Push → List Walk → List T → Type 0
+Settled {T} value pushed taken given = (vs : List ℕ) × (given ≡ map value (blocks vs)) × ((h : ℕ → ℕ) → weigh_pushes h pushed ≡ weigh h (blocks vs) + weigh_walks h taken) × Covers pushed (walk (length taken) vs)
 
 -- k chunks from the number c on, the newest first
 abbrev pub chunks_from : ℕ → ℕ → List ℕ → List (List ℕ)

@@ -3,25 +3,28 @@ use Rattle.std.specs.Prelude.{◌≡◌, ℕ, zero, suc, ◌+◌, ◌%◌, ◌<�
 use mathlib.Core.Option.{some}
 use lib.ListN.{get_elem?}
 use Rattle.metrics_bucket.specs.declared.hand.Hand.{Hand}
+use Rattle.metrics_bucket.specs.declared.hand.Push.{Push}
+use Rattle.metrics_bucket.specs.declared.hand.Walk.{Walk}
 use Rattle.metrics_bucket.specs.declared.hand.Hold.{Hold}
 use Rattle.metrics_bucket.specs.declared.hand.Hold.TheVariants.{Nothing, Ticket, Written, Claimed, Aimed, Reading, Clearing, Settling}
 use Rattle.metrics_bucket.specs.declared.hand.Cell.{Cell}
 use Rattle.metrics_bucket.specs.declared.hand.Cell.TheVariants.{Marked, Read, Wiped}
-use Rattle.metrics_bucket.specs.World.{World, other, spot, live_values}
-
--- f of each hand, added up
-abbrev pub total : (Hand → ℕ) → List Hand → ℕ
-total f [] = 0
-total f (v ∷ vs) = f v + total f vs
+use Rattle.metrics_bucket.specs.World.{World, total, other, spot, live_values}
 
 -- the weights of the items, added up
 abbrev pub weigh : (ℕ → ℕ) → List ℕ → ℕ
 weigh h [] = 0
 weigh h (x ∷ xs) = h x + weigh h xs
 
-abbrev pub weigh_all : (ℕ → ℕ) → List (List ℕ) → ℕ
-weigh_all h [] = 0
-weigh_all h (xs ∷ xss) = weigh h xs + weigh_all h xss
+-- the weights of the values of pushes
+abbrev pub weigh_pushes : (ℕ → ℕ) → List Push → ℕ
+weigh_pushes h [] = 0
+weigh_pushes h (p ∷ ps) = h p.value + weigh_pushes h ps
+
+-- the weights of the values of walks
+abbrev pub weigh_walks : (ℕ → ℕ) → List Walk → ℕ
+weigh_walks h [] = 0
+weigh_walks h (walk ∷ walks) = weigh h walk.values + weigh_walks h walks
 
 -- the weights of the values that stand with a mark
 abbrev pub stands : (ℕ → ℕ) → List ℕ → List ℕ → ℕ
@@ -46,10 +49,10 @@ abbrev pub weight_of : Hand → ℕ
 weight_of v = v.weight
 
 abbrev pub pushed_of : (ℕ → ℕ) → Hand → ℕ
-pushed_of h v = weigh h v.pushed
+pushed_of h v = weigh_pushes h v.pushed
 
 abbrev pub taken_of : (ℕ → ℕ) → Hand → ℕ
-taken_of h v = weigh_all h v.taken + wiped h v.hold
+taken_of h v = weigh_walks h v.taken + wiped h v.hold
 
 -- 1 if both are the same place
 abbrev pub same : ℕ → ℕ → ℕ → ℕ → ℕ
@@ -134,7 +137,7 @@ pub record HandFits (places all : ℕ) (w : World) (v : Hand) : Type 0 where
   pub size : 0 < v.weight → v.places ≡ places
   pub idle : v.weight ≡ 0 → IsIdle v
   pub hold : HoldFits places all w v.weight v.hold
-  pub reads : (n : ℕ) (xs : List ℕ) → get_elem? v.read n ≡ some xs → (h : ℕ → ℕ) → weigh h xs ≤ total (pushed_of h) w.hands
+  pub reads : (n : ℕ) (xs : Walk) → get_elem? v.read n ≡ some xs → (h : ℕ → ℕ) → weigh h xs.values ≤ total (pushed_of h) w.hands
 
 pub record Facts (places all : ℕ) (w : World) : Type 0 where
   pub side : w.live < 2

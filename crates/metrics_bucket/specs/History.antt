@@ -1,15 +1,16 @@
 -- Histories of the bucket's steps, and the law over them.
-use Rattle.std.specs.Prelude.{◌≡◌, ◌≢◌, ℕ, ◌+◌, ◌<◌, true, List, [], ◌∷◌, slice_index, replicate, cond, eqb}
-use mathlib.Core.Option.{some}
+use Rattle.std.specs.Prelude.{◌≡◌, ◌≢◌, ℕ, zero, suc, ◌+◌, ◌%◌, ◌^◌, ◌<◌, true, List, [], ◌∷◌, slice_index, replicate, cond, eqb}
+use mathlib.Core.Option.{Option, none, some}
 use lib.ListN.{get_elem?}
 use Rattle.atomic_table.specs.Table.{State}
 use Rattle.metrics_bucket.specs.declared.hand.Hand.{Hand}
+use Rattle.metrics_bucket.specs.declared.hand.Turn.{Turn}
 use Rattle.metrics_bucket.specs.declared.hand.Hold.{Hold}
 use Rattle.metrics_bucket.specs.declared.hand.Hold.TheVariants.{Nothing, Ticket, Written, Claimed, Aimed, Reading, Clearing}
 use Rattle.metrics_bucket.specs.declared.hand.Cell.{Cell}
 use Rattle.metrics_bucket.specs.declared.hand.Cell.TheVariants.{Unseen, Marked, Read, Wiped}
-use Rattle.metrics_bucket.specs.World.{World, Act, look, gather, ticket, write, finish, claim, survey, aim, takes, see, read, wipe, leave, quit, split, join, other, spot, words_of, live_values, side_of, new_hand, whole_hand, world_after}
-use Rattle.metrics_bucket.specs.Facts.{total, ticket_at, Facts}
+use Rattle.metrics_bucket.specs.World.{total, World, Act, look, gather, ticket, write, finish, claim, survey, aim, takes, see, read, wipe, leave, quit, split, join, other, spot, words_of, live_values, side_of, new_hand, whole_hand, walks_made, world_after}
+use Rattle.metrics_bucket.specs.Facts.{ticket_at, Facts}
 
 -- the walk's cell at this place
 abbrev pub HasCell : Hold → ℕ → Cell → Type 0
@@ -64,32 +65,27 @@ zeros n = replicate n 0
 -- so many threads, and nothing done
 abbrev pub start : ℕ → ℕ → World
 start places threads =
-    record { live = 0; given = 0; turn = 0; values = zeros (places + places); marks = zeros (places + places); hands = replicate threads (new_hand places 1) }
+    record { epoch = 0; live = 0; given = 0; turn = 0; values = zeros (places + places); marks = zeros (places + places); hands = replicate threads (new_hand places 1) }
 
 -- one thread that has the whole weight, and nothing done
 abbrev pub opened : ℕ → World
-opened places = record { live = 0; given = 0; turn = 0; values = zeros (places + places); marks = zeros (places + places); hands = whole_hand places ∷ [] }
+opened places = record { epoch = 0; live = 0; given = 0; turn = 0; values = zeros (places + places); marks = zeros (places + places); hands = whole_hand places ∷ [] }
 
--- The rule of the running table: a history from one whole thread leads to a world that has its words and all accounts
-abbrev pub Kept : ℕ → State (Unit {0}) Hand → Type 0
-Kept places s = (h : List Event) × (w : World) × Runs places 1024 (opened places) h w × (words_of w ≡ s.words) × (w.hands ≡ s.views)
+-- what goes with the turn, after so many finished walks
+abbrev pub turn_at : ℕ → Turn
+turn_at walks = record { walks = walks % 2 ^ 64 }
 
--- no thread is split or joined
-abbrev pub IsOrdinary : Act → Type 0
-IsOrdinary split = ⊥
-IsOrdinary (join other_id x) = ⊥
-IsOrdinary act = Unit {0}
+-- it is at home while the turn is free
+abbrev at_home : ℕ → ℕ → Option Turn
+at_home zero walks = some (turn_at walks)
+at_home (suc n) walks = none
 
-abbrev pub IsUnsplit : List Event → Type 0
-IsUnsplit [] = Unit {0}
-IsUnsplit (e ∷ es) = IsOrdinary e.act × IsUnsplit es
+abbrev pub homes_of : World → List (Option Turn)
+homes_of w = at_home w.turn (walks_made w) ∷ []
 
--- a history from one whole thread, without a split or join if the hand is alone, leads to a world where a thread has this hand, and the live side has these values
-abbrev pub ShowsAt : ℕ → Hand → List ℕ → Type 0
-ShowsAt places v vs = (h : List Event) × (w : World) × (id : ℕ) × Runs places 1024 (opened places) h w × (get_elem? w.hands id ≡ some v) × (vs ≡ live_values places w) × (v.alone ≡ true → IsUnsplit h)
-
-abbrev pub Shows : Hand → List ℕ → Type 0
-Shows v vs = ShowsAt v.places v vs
+-- The rule of the running table: a history from one whole thread leads to a world that has its words, what goes with the turn, and all accounts
+abbrev pub Kept : ℕ → State Turn Hand → Type 0
+Kept places s = (h : List Event) × (w : World) × Runs places 1024 (opened places) h w × (words_of w ≡ s.words) × (w.hands ≡ s.views) × (homes_of w ≡ s.homes)
 
 -- the value of the last push that was finished at each place
 abbrev pub note : (ℕ → ℕ → ℕ) → Act → ℕ → ℕ → ℕ

@@ -12,7 +12,6 @@ account_of p = record {
   taken = p.seat.me.0.taken;
   read = p.seat.me.0.read;
   ticket = has_ticket p.ticket;
-  alone = p.seat.me.0.alone;
 }
 
 pub record IsPen (p : Inside) : Type 0 where

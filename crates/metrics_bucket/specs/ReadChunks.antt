@@ -3,9 +3,10 @@ use Rattle.std.specs.Prelude.{◌≡◌, ℕ, ◌<◌, ◌≤◌, ◌⊎◌, Lis
 use mathlib.Core.Option.{some}
 use lib.ListN.{get_elem?}
 use Rattle.metrics_bucket.specs.declared.hand.Hand.{Hand}
+use Rattle.metrics_bucket.specs.declared.hand.Walk.{Walk}
 use Rattle.metrics_bucket.specs.declared.hand.Hold.TheVariants.{Nothing, Reading}
 use Rattle.metrics_bucket.specs.declared.hand.Cell.TheVariants.{Read, Unseen}
-use Rattle.metrics_bucket.specs.World.{holding, cells_of}
+use Rattle.metrics_bucket.specs.World.{holding, holds_as, with_read, cells_of}
 use Rattle.metrics_bucket.specs.Plays.{Sat}
 
 -- the places from start on, below end, were found, and no other changed
@@ -15,10 +16,10 @@ pub record Reads (m m' : Sat) (side start end : ℕ) : Type 0 where
   pub found : (i : ℕ) → start ≤ i → i < end → (x : ℕ) × (get_elem? (cells_of m'.0.hold) i ≡ some (Read x))
   pub others : (i : ℕ) → (i < start) ⊎ (end ≤ i) → get_elem? (cells_of m'.0.hold) i ≡ get_elem? (cells_of m.0.hold) i
 
--- a reading walk that left added its list
-abbrev pub with_read : Hand → List ℕ → Hand
-with_read v xs = record { places = v.places; weight = v.weight; pushed = v.pushed; taken = v.taken; read = v.read ++ xs ∷ []; hold = Nothing; alone = v.alone }
+-- a reading walk of this epoch that left, which had claimed the turn after so many walks
+abbrev pub has_read : Hand → ℕ → Walk → Hand
+has_read v n walk = with_read (holds_as v walk.epoch n Nothing) walk
 
--- a reading walk that looked at the control word
-abbrev pub surveying : Hand → ℕ → Hand
-surveying v control = holding v (Reading (control % 2) (replicate (control / 2) Unseen))
+-- a reading walk that claimed the turn and looked at the control word
+abbrev pub surveying : Hand → ℕ → ℕ → ℕ → Hand
+surveying v epoch n control = holds_as v epoch n (Reading (control % 2) (replicate (control / 2) Unseen))

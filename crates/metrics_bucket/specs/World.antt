@@ -1,13 +1,16 @@
 -- The bucket's world, its single steps, and histories of steps.
-use Rattle.std.specs.Prelude.{ℕ, zero, suc, ◌+◌, ◌-◌, ◌*◌, ◌/◌, true, false, List, [], ◌∷◌, ◌++◌, slice_index, slice_set, take, drop, replicate}
+use Rattle.std.specs.Prelude.{ℕ, zero, suc, ◌+◌, ◌-◌, ◌*◌, ◌/◌, true, false, List, [], ◌∷◌, ◌++◌, length, slice_index, slice_set, take, drop, replicate}
 use Rattle.metrics_bucket.specs.declared.hand.Hand.{Hand}
+use Rattle.metrics_bucket.specs.declared.hand.Push.{Push}
+use Rattle.metrics_bucket.specs.declared.hand.Walk.{Walk}
 use Rattle.metrics_bucket.specs.declared.hand.Hold.{Hold}
 use Rattle.metrics_bucket.specs.declared.hand.Hold.TheVariants.{Nothing, Ticket, Written, Claimed, Aimed, Reading, Clearing, Settling}
 use Rattle.metrics_bucket.specs.declared.hand.Cell.{Cell}
 use Rattle.metrics_bucket.specs.declared.hand.Cell.TheVariants.{Unseen, Marked, Read, Wiped}
 
--- The live side (0 or 1) with its tickets given, the turn, a value and a mark for each place of both sides, and what each thread has and holds
+-- The epoch, which is the number of takes so far, the live side (0 or 1) with its tickets given, the turn, a value and a mark for each place of both sides, and what each thread has and holds
 pub record World : Type 0 where
+  pub epoch : ℕ
   pub live : ℕ
   pub given : ℕ
   pub turn : ℕ
@@ -31,17 +34,46 @@ spot places side i = base places side + i
 abbrev pub words_of : World → List ℕ
 words_of w = (2 * w.given + w.live) ∷ w.turn ∷ (w.values ++ w.marks)
 
+-- f of each hand, added up
+abbrev pub total : (Hand → ℕ) → List Hand → ℕ
+total f [] = 0
+total f (v ∷ vs) = f v + total f vs
+
+-- how many walks a thread has finished
+abbrev pub walks_of : Hand → ℕ
+walks_of v = length v.taken + length v.read
+
+-- how many walks are finished
+abbrev pub walks_made : World → ℕ
+walks_made w = total walks_of w.hands
+
 abbrev pub new_hand : ℕ → ℕ → Hand
-new_hand places weight = record { places = places; weight = weight; pushed = []; taken = []; read = []; hold = Nothing; alone = false }
+new_hand places weight = record { places = places; weight = weight; pushed = []; taken = []; read = []; hold = Nothing; epoch = 0; turn = 0 }
 
 abbrev pub whole_hand : ℕ → Hand
-whole_hand places = record { places = places; weight = 1024; pushed = []; taken = []; read = []; hold = Nothing; alone = true }
+whole_hand places = new_hand places 1024
+
+-- it holds something, of this epoch, and knows this many walks
+abbrev pub holds_as : Hand → ℕ → ℕ → Hold → Hand
+holds_as v epoch turn hold = record { places = v.places; weight = v.weight; pushed = v.pushed; taken = v.taken; read = v.read; hold = hold; epoch = epoch; turn = turn }
 
 abbrev pub holding : Hand → Hold → Hand
-holding v hold = record { places = v.places; weight = v.weight; pushed = v.pushed; taken = v.taken; read = v.read; hold = hold; alone = v.alone }
+holding v hold = holds_as v v.epoch v.turn hold
 
-abbrev pub pushing : Hand → ℕ → Hand
-pushing v x = record { places = v.places; weight = v.weight; pushed = v.pushed ++ x ∷ []; taken = v.taken; read = v.read; hold = Nothing; alone = v.alone }
+abbrev pub holding_at : Hand → ℕ → Hold → Hand
+holding_at v epoch hold = holds_as v epoch v.turn hold
+
+abbrev pub claiming : Hand → ℕ → Hand
+claiming v turn = holds_as v v.epoch turn Claimed
+
+abbrev pub push : ℕ → ℕ → ℕ → Push
+push epoch place value = record { epoch = epoch; place = place; value = value }
+
+abbrev pub walk : ℕ → List ℕ → Walk
+walk epoch values = record { epoch = epoch; values = values }
+
+abbrev pub pushing : Hand → ℕ → ℕ → Hand
+pushing v i x = record { places = v.places; weight = v.weight; pushed = v.pushed ++ push v.epoch i x ∷ []; taken = v.taken; read = v.read; hold = Nothing; epoch = v.epoch; turn = v.turn }
 
 -- a walk's cells, at another place of it
 abbrev pub cells_of : Hold → List Cell
@@ -68,10 +100,17 @@ abbrev pub values_in : List Cell → List ℕ
 values_in [] = []
 values_in (c ∷ cs) = value_in c ∷ values_in cs
 
+-- with one more list taken or read, and nothing held
+abbrev pub with_taken : Hand → Walk → Hand
+with_taken v xs = record { places = v.places; weight = v.weight; pushed = v.pushed; taken = v.taken ++ xs ∷ []; read = v.read; hold = Nothing; epoch = v.epoch; turn = v.turn }
+
+abbrev pub with_read : Hand → Walk → Hand
+with_read v xs = record { places = v.places; weight = v.weight; pushed = v.pushed; taken = v.taken; read = v.read ++ xs ∷ []; hold = Nothing; epoch = v.epoch; turn = v.turn }
+
 -- a walk that leaves adds its list
 abbrev pub left_from : Hand → Hold → Hand
-left_from v (Reading side cells) = record { places = v.places; weight = v.weight; pushed = v.pushed; taken = v.taken; read = v.read ++ values_in cells ∷ []; hold = Nothing; alone = v.alone }
-left_from v (Clearing side cells) = record { places = v.places; weight = v.weight; pushed = v.pushed; taken = v.taken ++ values_in cells ∷ []; read = v.read; hold = Nothing; alone = v.alone }
+left_from v (Reading side cells) = with_read v (walk v.epoch (values_in cells))
+left_from v (Clearing side cells) = with_taken v (walk v.epoch (values_in cells))
 left_from v _ = holding v Nothing
 
 abbrev pub leaving : Hand → Hand
@@ -83,14 +122,14 @@ live_values places w = take w.given (drop (base places w.live) w.values)
 
 -- what a thread that splits gives away, and what is left to it
 abbrev pub left_part : Hand → Hand
-left_part v = record { places = v.places; weight = v.weight - v.weight / 2; pushed = v.pushed; taken = v.taken; read = v.read; hold = v.hold; alone = false }
+left_part v = record { places = v.places; weight = v.weight - v.weight / 2; pushed = v.pushed; taken = v.taken; read = v.read; hold = v.hold; epoch = v.epoch; turn = v.turn }
 
 abbrev pub right_part : Hand → Hand
 right_part v = new_hand v.places (v.weight / 2)
 
 -- what a thread has that takes in another
 abbrev pub both_parts : Hand → Hand → Hand
-both_parts v x = record { places = v.places; weight = v.weight + x.weight; pushed = v.pushed ++ x.pushed; taken = v.taken ++ x.taken; read = v.read ++ x.read; hold = v.hold; alone = false }
+both_parts v x = record { places = v.places; weight = v.weight + x.weight; pushed = v.pushed ++ x.pushed; taken = v.taken ++ x.taken; read = v.read ++ x.read; hold = v.hold; epoch = v.epoch; turn = v.turn }
 
 -- One step of a thread. A compare-exchange that finds another word is a look
 pub data Act : Type 0 where
@@ -114,13 +153,13 @@ pub data Act : Type 0 where
 abbrev pub hand_after : ℕ → World → Hand → Act → Hand
 hand_after places w v look = v
 hand_after places w v gather = holding v (Settling w.live (live_values places w))
-hand_after places w v ticket = holding v (Ticket w.live w.given)
+hand_after places w v ticket = holding_at v w.epoch (Ticket w.live w.given)
 hand_after places w v (write s i x) = holding v (Written s i x)
-hand_after places w v (finish s i x) = pushing v x
-hand_after places w v claim = holding v Claimed
-hand_after places w v survey = holding v (Reading w.live (replicate w.given Unseen))
+hand_after places w v (finish s i x) = pushing v i x
+hand_after places w v claim = claiming v (walks_made w)
+hand_after places w v survey = holding_at v w.epoch (Reading w.live (replicate w.given Unseen))
 hand_after places w v aim = holding v (Aimed w.live)
-hand_after places w v takes = holding v (Clearing w.live (replicate w.given Unseen))
+hand_after places w v takes = holding_at v w.epoch (Clearing w.live (replicate w.given Unseen))
 hand_after places w v (see i) = holding v (put_cell v.hold i Marked)
 hand_after places w v (read i) = holding v (put_cell v.hold i (Read (slice_index w.values (spot places (side_of v.hold) i))))
 hand_after places w v (wipe s i x) = holding v (put_cell v.hold i (Wiped x))
@@ -134,7 +173,7 @@ world_after places w by v ticket = record w { given = w.given + 1; hands = slice
 world_after places w by v (write s i x) = record w { values = slice_set w.values (spot places s i) x; hands = slice_set w.hands by (hand_after places w v (write s i x)) }
 world_after places w by v (finish s i x) = record w { marks = slice_set w.marks (spot places s i) 1; hands = slice_set w.hands by (hand_after places w v (finish s i x)) }
 world_after places w by v claim = record w { turn = 1; hands = slice_set w.hands by (hand_after places w v claim) }
-world_after places w by v takes = record w { live = other w.live; given = 0; hands = slice_set w.hands by (hand_after places w v takes) }
+world_after places w by v takes = record w { epoch = w.epoch + 1; live = other w.live; given = 0; hands = slice_set w.hands by (hand_after places w v takes) }
 world_after places w by v (wipe s i x) = record w { marks = slice_set w.marks (spot places s i) 0; hands = slice_set w.hands by (hand_after places w v (wipe s i x)) }
 world_after places w by v quit = record w { turn = 0; hands = slice_set w.hands by (hand_after places w v quit) }
 world_after places w by v leave = record w { turn = 0; hands = slice_set w.hands by (hand_after places w v leave) }

@@ -1,13 +1,13 @@
 // The bucket, and the calls that push.
 ghost use Rattle.std.specs.Prelude.{◌≡◌, ℕ, ◌+◌, ◌*◌, ◌^◌, ◌<◌, ◌≤◌, ◌↔◌, ◌⊎◌, true, false, IsTrue, IfOk, OnOk, IfErr, OnErr, MatchResult, length, take, drop, map, [], ◌++◌, ◌-◌, vec_capacity};
-ghost use Rattle.metrics_bucket.specs.Account.{first_account, with_ticket, with_push, free_hand};
+ghost use Rattle.metrics_bucket.specs.Account.{first_account, with_ticket, IsPushed};
 ghost use Rattle.metrics_bucket.specs.World.{spot};
-ghost use Rattle.metrics_bucket.specs.Blocks.{Settled, Ordered};
+ghost use Rattle.metrics_bucket.specs.Blocks.{Settled};
 ghost use Rattle.metrics_bucket.specs.declared.hand.Hold.TheVariants.{Nothing, Settling};
 ghost use Rattle.metrics_bucket.specs.Plays.{count_all, IsFullFor, values_known, ArePartsOf};
 
 use crate::error::Error;
-use crate::hand::Hand;
+use crate::hand::{Hand, Turn};
 use crate::pen::{Pen, Words};
 use crate::plays::{Draw, Finish, Gather, Look, Put, Recall};
 use crate::sample::Sample;
@@ -61,7 +61,11 @@ impl<T: Sample> RuledBucket<T> {
         let Ok(words) = vec![in alloc; 0u64; 2 + 4 * places] else {
             return Err(Error::Memory);
         };
-        let Ok((table, seat)) = Table::of_words(alloc, words.as_slice(), &places) else {
+        let mut slots = Vec::new(alloc);
+        if slots.push(Turn { walks: 0 }).is_err() {
+            return Err(Error::Memory);
+        }
+        let Ok((table, seat)) = Table::new(alloc, words.as_slice(), slots, &places) else {
             return Err(Error::Memory);
         };
         let Ok(table) = Arc::new(alloc, table) else {
@@ -124,7 +128,7 @@ impl<T: Sample> RuledBucket<T> {
     pub fn finish_as(&self, pen: &mut Pen, value: T)
         requires own { pen.old.home ≡ self.now }
         requires ticket { pen.old.ticket ≡ true }
-        ensures { pen.new ≡ with_push pen.old (T.word value) }
+        ensures { IsPushed pen.old (T.word value) pen.new }
     {
         let Some((side, at)) = pen.ticket else {
             unreachable!()
@@ -141,8 +145,8 @@ impl<T: Sample> RuledBucket<T> {
     pub fn try_push_as(&self, pen: &mut Pen, value: T) -> Result<(), (Error, T)>
         requires own { pen.old.home ≡ self.now }
         requires free { pen.old.ticket ≡ false }
-        ensures ok { OnOk result (pen.new ≡ with_push pen.old (T.word value)) }
-        ensures err { IfErr result (λ e. (pen.new ≡ pen.old) × (e.1 ≡ value)) }
+        ensures ok { OnOk result (IsPushed pen.old (T.word value) pen.new) }
+        ensures err { IfErr result (λ e. (pen.new ≡ pen.old) × ((e.0 ≡ Error.Full) ⊎ (e.0 ≡ Error.Raced)) × (e.1 ≡ value)) }
         ensures whole { pen.old.weight ≡ 1024 → MatchResult result (λ _. length pen.old.pushed < count_all pen.old.taken + self.now.places) (λ e. (e.0 ≡ Error.Full) × IsFullFor self.now.places pen.old.pushed pen.old.taken) }
     {
         match self.begin_as(pen) {
@@ -158,8 +162,9 @@ impl<T: Sample> RuledBucket<T> {
     pub fn push_as<R: Wait>(&self, rt: &R, pen: &mut Pen, value: T) -> Result<(), (Error, T)>
         requires own { pen.old.home ≡ self.now }
         requires free { pen.old.ticket ≡ false }
-        ensures ok { OnOk result (pen.new ≡ with_push pen.old (T.word value)) }
+        ensures ok { OnOk result (IsPushed pen.old (T.word value) pen.new) }
         ensures err { IfErr result (λ e. (pen.new ≡ pen.old) × (e.0 ≡ Error.Full) × (e.1 ≡ value)) }
+        ensures whole { pen.old.weight ≡ 1024 → MatchResult result (λ _. length pen.old.pushed < count_all pen.old.taken + self.now.places) (λ e. (e.0 ≡ Error.Full) × IsFullFor self.now.places pen.old.pushed pen.old.taken) }
     {
         let pause = Backoff::new();
         for _ in rt.forever() {
@@ -178,7 +183,7 @@ impl<T: Sample> RuledBucket<T> {
     // Puts these values of the live side behind the others.
     fn recall_chunk(
         &self,
-        seat: &mut Seat<(), Hand>,
+        seat: &mut Seat<Turn, Hand>,
         side: usize,
         start: usize,
         end: usize,
@@ -200,11 +205,11 @@ impl<T: Sample> RuledBucket<T> {
     }
 
     // The live side's values, in the bucket's order.
-    fn recall(&self, seat: &mut Seat<(), Hand>, values: &mut Vec<T>)
+    fn recall(&self, seat: &mut Seat<Turn, Hand>, values: &mut Vec<T>)
         requires home { (seat.old.table_id ≡ self.now.table) × (seat.old.me.0.places ≡ self.now.places) }
-        requires whole { (seat.old.me.0.weight ≡ 1024) × (seat.old.me.0.hold ≡ Nothing) }
+        requires whole { (seat.old.me.0.weight ≡ 1024) × (seat.old.me.0.hold ≡ Nothing) × (seat.old.me.1 ≡ []) }
         requires room { (values.old.items ≡ []) × (self.now.places ≤ vec_capacity values.old) }
-        ensures { Settled T.value seat.old.me.0.pushed seat.old.me.0.taken values.new.items × ArePartsOf seat.old.me.0.read seat.old.me.0.pushed × Ordered T.value seat.old.me.0 values.new.items }
+        ensures { Settled T.value seat.old.me.0.pushed seat.old.me.0.taken values.new.items × ArePartsOf seat.old.me.0.read seat.old.me.0.pushed }
     {
         let control = self.table.shared.load::<Gather>(seat, 0);
         let side = (control % 2) as usize;
@@ -224,7 +229,6 @@ impl<T: Sample> RuledBucket<T> {
         requires whole { pen.weight ≡ 1024 }
         requires free { pen.ticket ≡ false }
         ensures ok { IfOk result (λ v. Settled T.value pen.pushed pen.taken v.items × ArePartsOf pen.read pen.pushed) }
-        ensures order { IfOk result (λ v. Ordered T.value (free_hand pen) v.items) }
         ensures err { IfErr result (λ e. (e.0 ≡ self) × (e.1 ≡ pen)) }
     {
         let Ok(mut values) = Vec::with_capacity(alloc, self.places) else {

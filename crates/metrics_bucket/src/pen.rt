@@ -3,7 +3,7 @@ ghost use Rattle.std.specs.Prelude.{◌≡◌, ◌<◌, ◌↔◌, true, false, 
 ghost use Rattle.metrics_bucket.specs.Account.{left_account, right_account, joined_account};
 
 use crate::error::Error;
-use crate::hand::Hand;
+use crate::hand::{Hand, Turn};
 use crate::plays::{Halves, Look};
 use crate::rule::BucketRule;
 use atomic_table::{Seat, Table};
@@ -11,13 +11,13 @@ use std::alloc::Global;
 use std::marker::Model;
 use std::sync::Arc;
 
-pub(crate) type Words = Table<(), Hand, usize, BucketRule, Global>;
+pub(crate) type Words = Table<Turn, Hand, usize, BucketRule, Global>;
 
 /// It goes with one bucket. Contracts see it as its account.
 #[derive(Drop)]
 pub struct Pen {
     pub(crate) table: Arc<Words, Global>,
-    pub(crate) seat: Seat<(), Hand>,
+    pub(crate) seat: Seat<Turn, Hand>,
     pub(crate) weight: u64,
     pub(crate) ticket: Option<(usize, usize)>,
 }
@@ -54,6 +54,7 @@ impl Pen {
         requires { self.old.ticket ≡ false }
         ensures ok { IfOk result (λ p. (self.new ≡ left_account self.old) × (p ≡ right_account self.old)) }
         ensures err { IfErr result (λ e. (self.new ≡ self.old) × (1 < self.old.weight → e ≡ Error.Memory)) }
+        ensures lightest { self.old.weight ≡ 1 → result ≡ Err Error.NoPen }
     {
         if self.weight < 2 {
             return Err(Error::NoPen);

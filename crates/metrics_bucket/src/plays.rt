@@ -3,42 +3,42 @@ ghost use Rattle.metrics_bucket.specs.Plays.{looked, drew, put, finished, gather
 ghost use Rattle.metrics_bucket.specs.WalkPlays.{claimed, surveyed, aimed, took, saw, red, wiped_one, went, gave_up};
 ghost use Rattle.metrics_bucket.specs.World.{new_hand, left_part, right_part, both_parts};
 
-use crate::hand::Hand;
+use crate::hand::{Hand, Turn};
 use atomic_table::{Join, Play, Split};
 
 pub(crate) struct Look;
 
-impl Play<(), Hand> for Look {
+impl Play<Turn, Hand> for Look {
     ghost then = { looked };
 }
 
 pub(crate) struct Draw;
 
-impl Play<(), Hand> for Draw {
+impl Play<Turn, Hand> for Draw {
     ghost then = { drew };
 }
 
 pub(crate) struct Put;
 
-impl Play<(), Hand> for Put {
+impl Play<Turn, Hand> for Put {
     ghost then = { put };
 }
 
 pub(crate) struct Finish;
 
-impl Play<(), Hand> for Finish {
+impl Play<Turn, Hand> for Finish {
     ghost then = { finished };
 }
 
 pub(crate) struct Gather;
 
-impl Play<(), Hand> for Gather {
+impl Play<Turn, Hand> for Gather {
     ghost then = { gathered };
 }
 
 pub(crate) struct Recall;
 
-impl Play<(), Hand> for Recall {
+impl Play<Turn, Hand> for Recall {
     ghost then = { recalled };
 }
 
@@ -58,54 +58,54 @@ impl Join<Hand> for Halves {
 
 pub(crate) struct Claim;
 
-impl Play<(), Hand> for Claim {
+impl Play<Turn, Hand> for Claim {
     ghost then = { claimed };
 }
 
 pub(crate) struct Aim;
 
-impl Play<(), Hand> for Aim {
+impl Play<Turn, Hand> for Aim {
     ghost then = { aimed };
 }
 
 pub(crate) struct Take;
 
-impl Play<(), Hand> for Take {
+impl Play<Turn, Hand> for Take {
     ghost then = { took };
 }
 
 pub(crate) struct See;
 
-impl Play<(), Hand> for See {
+impl Play<Turn, Hand> for See {
     ghost then = { saw };
 }
 
 pub(crate) struct ReadOne;
 
-impl Play<(), Hand> for ReadOne {
+impl Play<Turn, Hand> for ReadOne {
     ghost then = { red };
 }
 
 pub(crate) struct Wipe;
 
-impl Play<(), Hand> for Wipe {
+impl Play<Turn, Hand> for Wipe {
     ghost then = { wiped_one };
 }
 
 pub(crate) struct Leave;
 
-impl Play<(), Hand> for Leave {
+impl Play<Turn, Hand> for Leave {
     ghost then = { went };
 }
 
 pub(crate) struct Survey;
 
-impl Play<(), Hand> for Survey {
+impl Play<Turn, Hand> for Survey {
     ghost then = { surveyed };
 }
 
 pub(crate) struct Quit;
 
-impl Play<(), Hand> for Quit {
+impl Play<Turn, Hand> for Quit {
     ghost then = { gave_up };
 }

@@ -1,16 +1,18 @@
 // The calls that walk over the places.
-ghost use Rattle.std.specs.Prelude.{◌≡◌, ℕ, ◌+◌, ◌-◌, ◌*◌, ◌/◌, ◌%◌, ◌^◌, ◌<◌, ◌≤◌, ◌⊎◌, length, take, drop, map, replicate, slice_set, ◌≢◌, List, false, IfOk, OnOk, IfErr};
-ghost use Rattle.metrics_bucket.specs.Facts.{weigh, weigh_all};
+ghost use Rattle.std.specs.Prelude.{◌≡◌, ℕ, ◌+◌, ◌-◌, ◌*◌, ◌/◌, ◌%◌, ◌^◌, ◌<◌, ◌≤◌, ◌⊎◌, length, take, drop, map, replicate, slice_set, ◌≢◌, List, [], ◌∷◌, false, IfOk, OnOk, IfErr};
+ghost use Rattle.metrics_bucket.specs.Facts.{weigh, weigh_pushes, weigh_walks};
+ghost use Rattle.metrics_bucket.specs.declared.hand.Walk.{Walk};
+ghost use Rattle.metrics_bucket.specs.Places.{Reaches, Covers};
 ghost use Rattle.std.specs.List.{FoldsTo};
 ghost use Rattle.std.specs.Fn.{CalledAt};
 ghost use Rattle.metrics_bucket.specs.Blocks.{valued, newest_first, blocks};
 ghost use mathlib.Core.Option.{some};
 ghost use lib.ListN.{get_elem?};
-ghost use Rattle.metrics_bucket.specs.World.{holding, put_cell, side_of, cells_of, values_in};
-ghost use Rattle.metrics_bucket.specs.History.{HasCell, CanQuit};
+ghost use Rattle.metrics_bucket.specs.World.{holding, with_read, put_cell, side_of, cells_of, values_in};
+ghost use Rattle.metrics_bucket.specs.History.{HasCell, CanQuit, turn_at};
 ghost use Rattle.metrics_bucket.specs.Room.{RoomFits};
 ghost use Rattle.metrics_bucket.specs.Account.{read_account};
-ghost use Rattle.metrics_bucket.specs.ReadChunks.{Reads, with_read, surveying};
+ghost use Rattle.metrics_bucket.specs.ReadChunks.{Reads, has_read, surveying};
 ghost use Rattle.metrics_bucket.specs.Chunks.{AreUnseen};
 ghost use Rattle.metrics_bucket.specs.declared.hand.Hold.TheVariants.{Nothing, Reading};
 ghost use Rattle.metrics_bucket.specs.declared.hand.Cell.TheVariants.{Unseen, Marked, Read};
@@ -18,7 +20,7 @@ ghost use Rattle.metrics_bucket.specs.declared.hand.Cell.TheVariants.{Unseen, Ma
 use crate::bucket::{BLOCK_SIZE, RuledBucket};
 use crate::error::Error;
 use crate::gathered::Gathered;
-use crate::hand::Hand;
+use crate::hand::{Hand, Turn};
 use crate::pen::Pen;
 use crate::plays::{Claim, Leave, Quit, ReadOne, Survey};
 use crate::sample::Sample;
@@ -29,7 +31,7 @@ use std::sync::Wait;
 
 impl<T: Sample> RuledBucket<T> {
     // Waits for the value of a place, and reads it.
-    fn read_place<R: Wait>(&self, rt: &R, seat: &mut Seat<(), Hand>, side: usize, at: usize) -> T
+    fn read_place<R: Wait>(&self, rt: &R, seat: &mut Seat<Turn, Hand>, side: usize, at: usize) -> T
         requires home { (seat.old.table_id ≡ self.now.table) × (seat.old.me.0.places ≡ self.now.places) × (0 < seat.old.me.0.weight) }
         requires hold { (side < 2) × (at < self.now.places) × (seat.old.me.0.hold ≡ Reading side (cells_of seat.old.me.0.hold)) }
         requires cell { get_elem? (cells_of seat.old.me.0.hold) at ≡ some Unseen }
@@ -45,7 +47,7 @@ impl<T: Sample> RuledBucket<T> {
     fn read_chunk<R: Wait>(
         &self,
         rt: &R,
-        seat: &mut Seat<(), Hand>,
+        seat: &mut Seat<Turn, Hand>,
         side: usize,
         start: usize,
         end: usize,
@@ -67,7 +69,7 @@ impl<T: Sample> RuledBucket<T> {
     fn read_side<R: Wait, V: Visitor<T>>(
         &self,
         rt: &R,
-        seat: &mut Seat<(), Hand>,
+        seat: &mut Seat<Turn, Hand>,
         side: usize,
         given: usize,
         visitor: &mut V,
@@ -92,11 +94,11 @@ impl<T: Sample> RuledBucket<T> {
     }
 
     // Claims the turn, and looks how many places were given: answers the control word.
-    fn survey_seat(&self, seat: &mut Seat<(), Hand>) -> Result<u64, Error>
+    fn survey_seat(&self, seat: &mut Seat<Turn, Hand>) -> Result<u64, Error>
         requires home { (seat.old.table_id ≡ self.now.table) × (seat.old.me.0.places ≡ self.now.places) × (0 < seat.old.me.0.weight) }
-        requires hold { seat.old.me.0.hold ≡ Nothing }
+        requires hold { (seat.old.me.0.hold ≡ Nothing) × (seat.old.me.1 ≡ []) }
         ensures table { seat.new.table_id ≡ seat.old.table_id }
-        ensures ok { IfOk result (λ r. (seat.new.me ≡ (surveying seat.old.me.0 r, seat.old.me.1)) × (r / 2 ≤ self.now.places)) }
+        ensures ok { IfOk result (λ r. (e : ℕ) × (n : ℕ) × (seat.new.me ≡ (surveying seat.old.me.0 e n r, (0, turn_at n) ∷ [])) × (r / 2 ≤ self.now.places) × Reaches seat.old.me.0.pushed e (r / 2) × (seat.old.me.0.weight ≡ 1024 → e ≡ length seat.old.me.0.taken)) }
         ensures err { IfErr result (λ e. (seat.new.me ≡ seat.old.me) × (e ≡ Error.Busy) × (seat.old.me.0.weight ≢ 1024)) }
     {
         let shared = &self.table.shared;
@@ -107,10 +109,10 @@ impl<T: Sample> RuledBucket<T> {
     }
 
     // Gives the turn back, and has read nothing.
-    fn quit_seat(&self, seat: &mut Seat<(), Hand>)
+    fn quit_seat(&self, seat: &mut Seat<Turn, Hand>)
         requires home { (seat.old.table_id ≡ self.now.table) × (0 < seat.old.me.0.weight) }
-        requires hold { CanQuit seat.old.me.0.hold }
-        ensures { (seat.new.table_id ≡ seat.old.table_id) × (seat.new.me ≡ (holding seat.old.me.0 Nothing, seat.old.me.1)) }
+        requires hold { CanQuit seat.old.me.0.hold × (seat.old.me.1 ≡ (0, turn_at seat.old.me.0.turn) ∷ []) }
+        ensures { (seat.new.table_id ≡ seat.old.table_id) × (seat.new.me ≡ (holding seat.old.me.0 Nothing, [])) }
     {
         self.table.shared.store::<Quit>(seat, 1, 0);
     }
@@ -119,35 +121,38 @@ impl<T: Sample> RuledBucket<T> {
     fn read_seat<R: Wait, V: Visitor<T>>(
         &self,
         rt: &R,
-        seat: &mut Seat<(), Hand>,
+        seat: &mut Seat<Turn, Hand>,
         control: u64,
         visitor: &mut V,
     )
         requires home { (seat.old.table_id ≡ self.now.table) × (seat.old.me.0.places ≡ self.now.places) × (0 < seat.old.me.0.weight) }
         requires hold { (seat.old.me.0.hold ≡ Reading (control % 2) (replicate (control / 2) Unseen)) × (control / 2 ≤ self.now.places) }
+        requires turn { seat.old.me.1 ≡ (0, turn_at seat.old.me.0.turn) ∷ [] }
+        requires reach { Reaches seat.old.me.0.pushed seat.old.me.0.epoch (control / 2) }
         requires call { V.ready visitor.old }
         requires room { RoomFits T.row }
         ensures table { seat.new.table_id ≡ seat.old.table_id }
-        ensures read { (list : List ℕ) × (length list ≡ control / 2) × (seat.new.me ≡ (with_read seat.old.me.0 list, seat.old.me.1)) × (seat.old.me.0.weight ≡ 1024 → (h : ℕ → ℕ) → weigh h seat.old.me.0.pushed ≡ weigh h list + weigh_all h seat.old.me.0.taken) × FoldsTo V.saw visitor.old (valued T.value (newest_first list)) visitor.new }
+        ensures read { (w : Walk) × (length w.values ≡ control / 2) × (seat.new.me ≡ (with_read seat.old.me.0 w, [])) × (w.epoch ≡ seat.old.me.0.epoch) × Covers seat.old.me.0.pushed w × (seat.old.me.0.weight ≡ 1024 → (h : ℕ → ℕ) → weigh_pushes h seat.old.me.0.pushed ≡ weigh h w.values + weigh_walks h seat.old.me.0.taken) × FoldsTo V.saw visitor.old (valued T.value (newest_first w.values)) visitor.new }
     {
         let shared = &self.table.shared;
         let given = (control / 2) as usize;
         self.read_side(rt, seat, (control % 2) as usize, given, visitor);
+        self.count_walk(seat);
         shared.store::<Leave>(seat, 1, 0);
     }
 
     fn show_seat<R: Wait, F: FnMut(&[T])>(
         &self,
         rt: &R,
-        seat: &mut Seat<(), Hand>,
+        seat: &mut Seat<Turn, Hand>,
         f: F,
     ) -> Result<usize, Error>
         requires home { (seat.old.table_id ≡ self.now.table) × (seat.old.me.0.places ≡ self.now.places) × (0 < seat.old.me.0.weight) }
-        requires hold { seat.old.me.0.hold ≡ Nothing }
+        requires hold { (seat.old.me.0.hold ≡ Nothing) × (seat.old.me.1 ≡ []) }
         requires call { F.IsAlwaysCallable f }
         requires room { RoomFits T.row }
         ensures table { seat.new.table_id ≡ seat.old.table_id }
-        ensures ok { IfOk result (λ n. (list : List ℕ) × (length list ≡ n) × (seat.new.me ≡ (with_read seat.old.me.0 list, seat.old.me.1)) × (seat.old.me.0.weight ≡ 1024 → (h : ℕ → ℕ) → weigh h seat.old.me.0.pushed ≡ weigh h list + weigh_all h seat.old.me.0.taken) × ((last : F) × FoldsTo (λ p x q. CalledAt F.FnMut p x tt q) f (valued T.value (newest_first list)) last)) }
+        ensures ok { IfOk result (λ n. (w : Walk) × (k : ℕ) × (length w.values ≡ n) × (seat.new.me ≡ (has_read seat.old.me.0 k w, [])) × Covers seat.old.me.0.pushed w × (seat.old.me.0.weight ≡ 1024 → w.epoch ≡ length seat.old.me.0.taken) × (seat.old.me.0.weight ≡ 1024 → (h : ℕ → ℕ) → weigh_pushes h seat.old.me.0.pushed ≡ weigh h w.values + weigh_walks h seat.old.me.0.taken) × ((last : F) × FoldsTo (λ p x q. CalledAt F.FnMut p x tt q) f (valued T.value (newest_first w.values)) last)) }
         ensures err { IfErr result (λ e. (seat.new.me ≡ seat.old.me) × (e ≡ Error.Busy) × (seat.old.me.0.weight ≢ 1024)) }
     {
         let control = self.survey_seat(seat)?;
@@ -160,13 +165,13 @@ impl<T: Sample> RuledBucket<T> {
         &self,
         rt: &R,
         alloc: Global,
-        seat: &mut Seat<(), Hand>,
+        seat: &mut Seat<Turn, Hand>,
     ) -> Result<Vec<T>, Error>
         requires home { (seat.old.table_id ≡ self.now.table) × (seat.old.me.0.places ≡ self.now.places) × (0 < seat.old.me.0.weight) }
-        requires hold { seat.old.me.0.hold ≡ Nothing }
+        requires hold { (seat.old.me.0.hold ≡ Nothing) × (seat.old.me.1 ≡ []) }
         requires room { RoomFits T.row }
         ensures table { seat.new.table_id ≡ seat.old.table_id }
-        ensures ok { IfOk result (λ v. (list : List ℕ) × (v.items ≡ map T.value (blocks list)) × (seat.new.me ≡ (with_read seat.old.me.0 list, seat.old.me.1)) × (seat.old.me.0.weight ≡ 1024 → (h : ℕ → ℕ) → weigh h seat.old.me.0.pushed ≡ weigh h list + weigh_all h seat.old.me.0.taken)) }
+        ensures ok { IfOk result (λ v. (w : Walk) × (k : ℕ) × (v.items ≡ map T.value (blocks w.values)) × (seat.new.me ≡ (has_read seat.old.me.0 k w, [])) × Covers seat.old.me.0.pushed w × (seat.old.me.0.weight ≡ 1024 → w.epoch ≡ length seat.old.me.0.taken) × (seat.old.me.0.weight ≡ 1024 → (h : ℕ → ℕ) → weigh_pushes h seat.old.me.0.pushed ≡ weigh h w.values + weigh_walks h seat.old.me.0.taken)) }
         ensures err { IfErr result (λ e. (seat.new.me ≡ seat.old.me) × ((e ≡ Error.Memory) ⊎ ((e ≡ Error.Busy) × (seat.old.me.0.weight ≢ 1024)))) }
     {
         let control = self.survey_seat(seat)?;
@@ -184,7 +189,7 @@ impl<T: Sample> RuledBucket<T> {
         requires own { pen.old.home ≡ self.now }
         requires free { pen.old.ticket ≡ false }
         requires room { RoomFits T.row }
-        ensures ok { IfOk result (λ v. (list : List ℕ) × (v.items ≡ map T.value (blocks list)) × (pen.new ≡ read_account pen.old list) × (pen.old.weight ≡ 1024 → (h : ℕ → ℕ) → weigh h pen.old.pushed ≡ weigh h list + weigh_all h pen.old.taken)) }
+        ensures ok { IfOk result (λ v. (w : Walk) × (v.items ≡ map T.value (blocks w.values)) × (pen.new ≡ read_account pen.old w) × Covers pen.old.pushed w × (pen.old.weight ≡ 1024 → w.epoch ≡ length pen.old.taken) × (pen.old.weight ≡ 1024 → (h : ℕ → ℕ) → weigh_pushes h pen.old.pushed ≡ weigh h w.values + weigh_walks h pen.old.taken)) }
         ensures err { IfErr result (λ e. (pen.new ≡ pen.old) × ((e ≡ Error.Memory) ⊎ ((e ≡ Error.Busy) × (pen.old.weight ≢ 1024)))) }
     {
         self.gather_seat(rt, alloc, &mut pen.seat)
@@ -201,7 +206,7 @@ impl<T: Sample> RuledBucket<T> {
         requires free { pen.old.ticket ≡ false }
         requires call { F.IsAlwaysCallable f }
         requires room { RoomFits T.row }
-        ensures ok { IfOk result (λ n. (list : List ℕ) × (length list ≡ n) × (pen.new ≡ read_account pen.old list) × (pen.old.weight ≡ 1024 → (h : ℕ → ℕ) → weigh h pen.old.pushed ≡ weigh h list + weigh_all h pen.old.taken) × ((last : F) × FoldsTo (λ p x q. CalledAt F.FnMut p x tt q) f (valued T.value (newest_first list)) last)) }
+        ensures ok { IfOk result (λ n. (w : Walk) × (length w.values ≡ n) × (pen.new ≡ read_account pen.old w) × Covers pen.old.pushed w × (pen.old.weight ≡ 1024 → w.epoch ≡ length pen.old.taken) × (pen.old.weight ≡ 1024 → (h : ℕ → ℕ) → weigh_pushes h pen.old.pushed ≡ weigh h w.values + weigh_walks h pen.old.taken) × ((last : F) × FoldsTo (λ p x q. CalledAt F.FnMut p x tt q) f (valued T.value (newest_first w.values)) last)) }
         ensures err { IfErr result (λ e. (pen.new ≡ pen.old) × (e ≡ Error.Busy) × (pen.old.weight ≢ 1024)) }
     {
         self.show_seat(rt, &mut pen.seat, f)

@@ -1,22 +1,24 @@
 // The calls that walk over the places.
-ghost use Rattle.std.specs.Prelude.{◌≡◌, ℕ, ◌+◌, ◌-◌, ◌*◌, ◌^◌, ◌<◌, ◌≤◌, ◌⊎◌, length, take, drop, map, replicate, slice_set, ◌≢◌, List, false, IfOk, OnOk, IfErr};
-ghost use Rattle.metrics_bucket.specs.Facts.{weigh, weigh_all};
+ghost use Rattle.std.specs.Prelude.{◌≡◌, ℕ, ◌+◌, ◌-◌, ◌*◌, ◌^◌, ◌<◌, ◌≤◌, ◌⊎◌, length, take, drop, map, replicate, slice_set, ◌≢◌, List, [], ◌∷◌, false, IfOk, OnOk, IfErr};
+ghost use Rattle.metrics_bucket.specs.Facts.{weigh, weigh_pushes, weigh_walks};
+ghost use Rattle.metrics_bucket.specs.declared.hand.Walk.{Walk};
+ghost use Rattle.metrics_bucket.specs.Places.{Covers};
 ghost use Rattle.std.specs.List.{FoldsTo};
 ghost use Rattle.std.specs.Fn.{CalledAt};
 ghost use Rattle.metrics_bucket.specs.Blocks.{valued, newest_first};
 ghost use mathlib.Core.Option.{some};
 ghost use lib.ListN.{get_elem?};
 ghost use Rattle.metrics_bucket.specs.World.{holding, put_cell, side_of, cells_of, values_in};
-ghost use Rattle.metrics_bucket.specs.History.{HasCell};
+ghost use Rattle.metrics_bucket.specs.History.{HasCell, turn_at};
 ghost use Rattle.metrics_bucket.specs.Room.{RoomFits};
 ghost use Rattle.metrics_bucket.specs.Account.{took_account};
-ghost use Rattle.metrics_bucket.specs.Chunks.{AreUnseen, Clears, with_taken};
+ghost use Rattle.metrics_bucket.specs.Chunks.{AreUnseen, Clears, has_taken};
 ghost use Rattle.metrics_bucket.specs.declared.hand.Hold.TheVariants.{Nothing, Clearing};
 ghost use Rattle.metrics_bucket.specs.declared.hand.Cell.TheVariants.{Unseen, Marked, Wiped};
 
 use crate::bucket::{BLOCK_SIZE, RuledBucket};
 use crate::error::Error;
-use crate::hand::Hand;
+use crate::hand::{Hand, Turn};
 use crate::pen::Pen;
 use crate::plays::{Aim, Claim, Leave, ReadOne, See, Take, Wipe};
 use crate::sample::Sample;
@@ -30,7 +32,7 @@ impl<T: Sample> RuledBucket<T> {
     pub(crate) fn wait_for<R: Wait>(
         &self,
         rt: &R,
-        seat: &mut Seat<(), Hand>,
+        seat: &mut Seat<Turn, Hand>,
         side: usize,
         at: usize,
     )
@@ -49,8 +51,18 @@ impl<T: Sample> RuledBucket<T> {
         unreachable!()
     }
 
+    // Counts one more finished walk, for the next holder of the turn.
+    pub(crate) fn count_walk(&self, seat: &mut Seat<Turn, Hand>)
+        requires home { seat.old.table_id ≡ self.now.table }
+        requires turn { seat.old.me.1 ≡ (0, turn_at seat.old.me.0.turn) ∷ [] }
+        ensures { (seat.new.table_id ≡ seat.old.table_id) × (seat.new.me ≡ (seat.old.me.0, (0, turn_at (seat.old.me.0.turn + 1)) ∷ [])) }
+    {
+        let turn = seat.slot_mut(&self.table.shared, 0);
+        turn.walks = turn.walks.wrapping_add(1);
+    }
+
     // Waits for the value of a place, takes it, and wipes the place.
-    fn clear_place<R: Wait>(&self, rt: &R, seat: &mut Seat<(), Hand>, side: usize, at: usize) -> T
+    fn clear_place<R: Wait>(&self, rt: &R, seat: &mut Seat<Turn, Hand>, side: usize, at: usize) -> T
         requires home { (seat.old.table_id ≡ self.now.table) × (seat.old.me.0.places ≡ self.now.places) × (0 < seat.old.me.0.weight) }
         requires hold { (side < 2) × (at < self.now.places) × (seat.old.me.0.hold ≡ Clearing side (cells_of seat.old.me.0.hold)) }
         requires cell { get_elem? (cells_of seat.old.me.0.hold) at ≡ some Unseen }
@@ -68,7 +80,7 @@ impl<T: Sample> RuledBucket<T> {
     fn clear_chunk<R: Wait>(
         &self,
         rt: &R,
-        seat: &mut Seat<(), Hand>,
+        seat: &mut Seat<Turn, Hand>,
         side: usize,
         start: usize,
         end: usize,
@@ -90,7 +102,7 @@ impl<T: Sample> RuledBucket<T> {
     fn clear_side<R: Wait, V: Visitor<T>>(
         &self,
         rt: &R,
-        seat: &mut Seat<(), Hand>,
+        seat: &mut Seat<Turn, Hand>,
         side: usize,
         given: usize,
         visitor: &mut V,
@@ -117,16 +129,16 @@ impl<T: Sample> RuledBucket<T> {
     fn clear_seat<R: Wait, V: Visitor<T>>(
         &self,
         rt: &R,
-        seat: &mut Seat<(), Hand>,
+        seat: &mut Seat<Turn, Hand>,
         visitor: &mut V,
     ) -> Result<usize, Error>
         requires home { (seat.old.table_id ≡ self.now.table) × (seat.old.me.0.places ≡ self.now.places) × (0 < seat.old.me.0.weight) }
-        requires hold { seat.old.me.0.hold ≡ Nothing }
+        requires hold { (seat.old.me.0.hold ≡ Nothing) × (seat.old.me.1 ≡ []) }
         requires call { V.ready visitor.old }
         requires room { RoomFits T.row }
         ensures table { seat.new.table_id ≡ seat.old.table_id }
-        ensures ok { IfOk result (λ n. (list : List ℕ) × (length list ≡ n) × (seat.new.me ≡ (with_taken seat.old.me.0 list, seat.old.me.1)) × FoldsTo V.saw visitor.old (valued T.value (newest_first list)) visitor.new) }
-        ensures whole { seat.old.me.0.weight ≡ 1024 → OnOk result ((h : ℕ → ℕ) → weigh h seat.new.me.0.pushed ≡ weigh_all h seat.new.me.0.taken) }
+        ensures ok { IfOk result (λ n. (w : Walk) × (k : ℕ) × (length w.values ≡ n) × (seat.new.me ≡ (has_taken seat.old.me.0 k w, [])) × Covers seat.old.me.0.pushed w × (seat.old.me.0.weight ≡ 1024 → w.epoch ≡ length seat.old.me.0.taken) × FoldsTo V.saw visitor.old (valued T.value (newest_first w.values)) visitor.new) }
+        ensures whole { seat.old.me.0.weight ≡ 1024 → OnOk result ((h : ℕ → ℕ) → weigh_pushes h seat.new.me.0.pushed ≡ weigh_walks h seat.new.me.0.taken) }
         ensures err { IfErr result (λ e. (seat.new.me ≡ seat.old.me) × (visitor.new ≡ visitor.old) × (e ≡ Error.Busy) × (seat.old.me.0.weight ≢ 1024)) }
     {
         let shared = &self.table.shared;
@@ -137,6 +149,7 @@ impl<T: Sample> RuledBucket<T> {
         let control = shared.swap::<Take>(seat, 0, 1 - live);
         let given = (control / 2) as usize;
         self.clear_side(rt, seat, live as usize, given, visitor);
+        self.count_walk(seat);
         shared.store::<Leave>(seat, 1, 0);
         Ok(given)
     }
@@ -152,8 +165,8 @@ impl<T: Sample> RuledBucket<T> {
         requires free { pen.old.ticket ≡ false }
         requires call { V.ready visitor.old }
         requires room { RoomFits T.row }
-        ensures ok { IfOk result (λ n. (list : List ℕ) × (length list ≡ n) × (pen.new ≡ took_account pen.old list) × FoldsTo V.saw visitor.old (valued T.value (newest_first list)) visitor.new) }
-        ensures whole { pen.old.weight ≡ 1024 → OnOk result ((h : ℕ → ℕ) → weigh h pen.new.pushed ≡ weigh_all h pen.new.taken) }
+        ensures ok { IfOk result (λ n. (w : Walk) × (length w.values ≡ n) × (pen.new ≡ took_account pen.old w) × Covers pen.old.pushed w × (pen.old.weight ≡ 1024 → w.epoch ≡ length pen.old.taken) × FoldsTo V.saw visitor.old (valued T.value (newest_first w.values)) visitor.new) }
+        ensures whole { pen.old.weight ≡ 1024 → OnOk result ((h : ℕ → ℕ) → weigh_pushes h pen.new.pushed ≡ weigh_walks h pen.new.taken) }
         ensures err { IfErr result (λ e. (pen.new ≡ pen.old) × (visitor.new ≡ visitor.old) × (e ≡ Error.Busy) × (pen.old.weight ≢ 1024)) }
     {
         self.clear_seat(rt, &mut pen.seat, visitor)
@@ -170,8 +183,8 @@ impl<T: Sample> RuledBucket<T> {
         requires free { pen.old.ticket ≡ false }
         requires call { F.IsAlwaysCallable f }
         requires room { RoomFits T.row }
-        ensures ok { IfOk result (λ n. (list : List ℕ) × (length list ≡ n) × (pen.new ≡ took_account pen.old list) × ((last : F) × FoldsTo (λ p x q. CalledAt F.FnMut p x tt q) f (valued T.value (newest_first list)) last)) }
-        ensures whole { pen.old.weight ≡ 1024 → OnOk result ((h : ℕ → ℕ) → weigh h pen.new.pushed ≡ weigh_all h pen.new.taken) }
+        ensures ok { IfOk result (λ n. (w : Walk) × (length w.values ≡ n) × (pen.new ≡ took_account pen.old w) × Covers pen.old.pushed w × (pen.old.weight ≡ 1024 → w.epoch ≡ length pen.old.taken) × ((last : F) × FoldsTo (λ p x q. CalledAt F.FnMut p x tt q) f (valued T.value (newest_first w.values)) last)) }
+        ensures whole { pen.old.weight ≡ 1024 → OnOk result ((h : ℕ → ℕ) → weigh_pushes h pen.new.pushed ≡ weigh_walks h pen.new.taken) }
         ensures err { IfErr result (λ e. (pen.new ≡ pen.old) × (e ≡ Error.Busy) × (pen.old.weight ≢ 1024)) }
     {
         let mut shown = Shown { f };
@@ -183,8 +196,8 @@ impl<T: Sample> RuledBucket<T> {
         requires own { pen.old.home ≡ self.now }
         requires free { pen.old.ticket ≡ false }
         requires room { RoomFits T.row }
-        ensures ok { IfOk result (λ n. (list : List ℕ) × (length list ≡ n) × (pen.new ≡ took_account pen.old list)) }
-        ensures whole { pen.old.weight ≡ 1024 → OnOk result ((h : ℕ → ℕ) → weigh h pen.new.pushed ≡ weigh_all h pen.new.taken) }
+        ensures ok { IfOk result (λ n. (w : Walk) × (length w.values ≡ n) × (pen.new ≡ took_account pen.old w) × Covers pen.old.pushed w × (pen.old.weight ≡ 1024 → w.epoch ≡ length pen.old.taken)) }
+        ensures whole { pen.old.weight ≡ 1024 → OnOk result ((h : ℕ → ℕ) → weigh_pushes h pen.new.pushed ≡ weigh_walks h pen.new.taken) }
         ensures err { IfErr result (λ e. (pen.new ≡ pen.old) × (e ≡ Error.Busy) × (pen.old.weight ≢ 1024)) }
     {
         self.clear_with_as(rt, pen, |_| {})

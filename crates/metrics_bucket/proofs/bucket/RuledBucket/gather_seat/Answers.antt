@@ -1,7 +1,7 @@
 use Rattle.std.proofs.Common.{rules, ◌≡◌, ℕ, List, [], ◌+◌, ◌/◌, ◌≤◌, ap, ◌∙◌, subst, arith}
 use Rattle.std.specs.Prelude.{vec_capacity}
 use Rattle.metrics_bucket.specs.Plays.{Sat}
-use Rattle.metrics_bucket.specs.Facts.{weigh, weigh_all}
+use Rattle.metrics_bucket.specs.Facts.{weigh, weigh_walks}
 use Rattle.metrics_bucket.specs.ReadChunks.{with_read}
 use Rattle.metrics_bucket.specs.Gathers.{Gathers}
 use Rattle.metrics_bucket.proofs.WalkCode.{folds_seen}
@@ -19,5 +19,5 @@ returns-clause-ok g c =
       list,
       gathered_are g.T.Sample.value list c.in-Ok.values c.read_seat.new.visitor.values none (omega arith) (folds_seen Gathers (λ s. s.values) _ _ _ r.4),
       r.2 ∙ ap (λ (z : Sat). (with_read z.0 list, z.1)) e,
-      subst (λ (z : Sat). z.0.weight ≡ 1024 → (h : ℕ → ℕ) → weigh h z.0.pushed ≡ weigh h list + weigh_all h z.0.taken) e r.3,
+      subst (λ (z : Sat). z.0.weight ≡ 1024 → (h : ℕ → ℕ) → weigh h z.0.pushed ≡ weigh h list + weigh_walks h z.0.taken) e r.3,
     )

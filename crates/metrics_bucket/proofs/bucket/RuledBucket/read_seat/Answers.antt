@@ -1,7 +1,7 @@
 use Rattle.std.proofs.Common.{rules, ◌≡◌, ℕ, List, ◌+◌, ◌*◌, ◌/◌, ◌%◌, ◌^◌, ◌<◌, length, sym, ap, ◌∙◌, subst, arith}
 use Rattle.metrics_bucket.specs.World.{holding, cells_of, values_in}
 use Rattle.metrics_bucket.specs.Plays.{Sat}
-use Rattle.metrics_bucket.specs.Facts.{weigh, weigh_all}
+use Rattle.metrics_bucket.specs.Facts.{weigh, weigh_walks}
 use Rattle.metrics_bucket.specs.ReadChunks.{with_read}
 use Rattle.metrics_bucket.specs.declared.hand.Hold.{Hold}
 use Rattle.metrics_bucket.specs.declared.hand.Hold.TheVariants.{Nothing}
@@ -45,6 +45,6 @@ returns-clause-read g c =
           let told = c.store.ensures.2.2 (ap weight reads.me ∙ whole) s cells (ap (λ (m : Sat). m.0.hold) reads.me) h in
           let back : Sat → Sat = λ (z : Sat). (holding z.0 Nothing, z.1) in
           let same : back c.read_side.new.seat.me ≡ back c.args.seat.now.me = ap back reads.me in
-          sym (ap (λ (z : Sat). weigh h z.0.pushed) same) ∙ (told ∙ ap (λ (z : Sat). weigh h list + weigh_all h z.0.taken) same)),
+          sym (ap (λ (z : Sat). weigh h z.0.pushed) same) ∙ (told ∙ ap (λ (z : Sat). weigh h list + weigh_walks h z.0.taken) same)),
       c.read_side.ensures.calls,
     )

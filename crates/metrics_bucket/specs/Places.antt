@@ -1,0 +1,145 @@
+-- Where the pushes of each epoch stand, and what walks find.
+use Rattle.std.specs.Prelude.{◌≡◌, ℕ, zero, suc, ◌+◌, ◌<◌, ◌≤◌, ◌⊎◌, cond, eqb, List, [], ◌∷◌, length, slice_index}
+use mathlib.Core.Option.{some}
+use lib.ListN.{get_elem?}
+use Rattle.metrics_bucket.specs.declared.hand.Push.{Push}
+use Rattle.metrics_bucket.specs.declared.hand.Walk.{Walk}
+use Rattle.metrics_bucket.specs.declared.hand.Hand.{Hand}
+use Rattle.metrics_bucket.specs.declared.hand.Hold.{Hold}
+use Rattle.metrics_bucket.specs.declared.hand.Hold.TheVariants.{Nothing, Ticket, Written, Claimed, Aimed, Reading, Clearing, Settling}
+use Rattle.metrics_bucket.specs.declared.hand.Cell.{Cell}
+use Rattle.metrics_bucket.specs.declared.hand.Cell.TheVariants.{Read, Wiped}
+use Rattle.metrics_bucket.specs.World.{World, total, walks_made, other, spot}
+use Rattle.metrics_bucket.specs.Facts.{same, below, turn_in, took_of}
+
+-- how many of the pushes are of this epoch and place
+abbrev pub pushes_at : ℕ → ℕ → List Push → ℕ
+pushes_at e i [] = 0
+pushes_at e i (p ∷ ps) = same e i p.epoch p.place + pushes_at e i ps
+
+-- their values, added up
+abbrev pub values_at : ℕ → ℕ → List Push → ℕ
+values_at e i [] = 0
+values_at e i (p ∷ ps) = cond (eqb e p.epoch) (cond (eqb i p.place) p.value 0) 0 + values_at e i ps
+
+abbrev pub pushed_at : ℕ → ℕ → Hand → ℕ
+pushed_at e i v = pushes_at e i v.pushed
+
+abbrev pub value_at : ℕ → ℕ → Hand → ℕ
+value_at e i v = values_at e i v.pushed
+
+-- 1 if the ticket that is held, of the given epoch, is of this epoch and place
+abbrev pub held_in : ℕ → ℕ → ℕ → Hold → ℕ
+held_in e i epoch (Ticket s j) = same e i epoch j
+held_in e i epoch (Written s j x) = same e i epoch j
+held_in e i epoch _ = 0
+
+-- a thread's tickets of this epoch and place: pushed, or under way
+abbrev pub tickets_at : ℕ → ℕ → Hand → ℕ
+tickets_at e i v = pushed_at e i v + held_in e i v.epoch v.hold
+
+-- the lengths of the walks of this epoch, added up
+abbrev pub lengths_of : ℕ → List Walk → ℕ
+lengths_of e [] = 0
+lengths_of e (walk ∷ walks) = cond (eqb e walk.epoch) (length walk.values) 0 + lengths_of e walks
+
+abbrev pub clearing_of : ℕ → ℕ → Hold → ℕ
+clearing_of e epoch (Clearing s cells) = cond (eqb e epoch) (length cells) 0
+clearing_of e epoch _ = 0
+
+-- how many places of this epoch the thread's takes told
+abbrev pub told_of : ℕ → Hand → ℕ
+told_of e v = lengths_of e v.taken + clearing_of e v.epoch v.hold
+
+-- how many tickets were given in this epoch
+abbrev pub given_of : ℕ → World → ℕ
+given_of e w = total (told_of e) w.hands + cond (eqb e w.epoch) w.given 0
+
+-- how many of the walks have this place of this epoch
+abbrev pub walks_at : ℕ → ℕ → List Walk → ℕ
+walks_at e i [] = 0
+walks_at e i (walk ∷ walks) = cond (eqb e walk.epoch) (below i (length walk.values)) 0 + walks_at e i walks
+
+abbrev pub is_wiped : Cell → ℕ
+is_wiped (Wiped x) = 1
+is_wiped _ = 0
+
+-- 1 if the place is wiped
+abbrev pub wiped_place : List Cell → ℕ → ℕ
+wiped_place [] i = 0
+wiped_place (c ∷ cs) zero = is_wiped c
+wiped_place (c ∷ cs) (suc i) = wiped_place cs i
+
+abbrev pub wiped_hold : ℕ → ℕ → ℕ → Hold → ℕ
+wiped_hold e i epoch (Clearing s cells) = cond (eqb e epoch) (wiped_place cells i) 0
+wiped_hold e i epoch _ = 0
+
+-- how many clears of the thread wiped this place of this epoch
+abbrev pub wipes_at : ℕ → ℕ → Hand → ℕ
+wipes_at e i v = walks_at e i v.taken + wiped_hold e i v.epoch v.hold
+
+-- the mark of this place of this epoch: on the live side, or on the side that was taken last
+abbrev pub mark_of : ℕ → World → ℕ → ℕ → ℕ
+mark_of places w e i = cond (eqb e w.epoch) (slice_index w.marks (spot places w.live i)) (cond (eqb (suc e) w.epoch) (slice_index w.marks (spot places (other w.live) i)) 0)
+
+-- one push was finished with the ticket of this epoch and place, and this is its value
+abbrev pub IsPush : World → ℕ → ℕ → ℕ → Type 0
+IsPush w e i x = (total (pushed_at e i) w.hands ≡ 1) × (total (value_at e i) w.hands ≡ x)
+
+-- the epoch in which the side gives tickets or gave the last
+abbrev pub IsEpochOf : World → ℕ → ℕ → Type 0
+IsEpochOf w s e = ((s ≡ w.live) × (e ≡ w.epoch)) ⊎ ((s ≡ other w.live) × (suc e ≡ w.epoch))
+
+-- a finished walk has at each place the value of that ticket's push
+abbrev pub WalkFinds : World → Walk → Type 0
+WalkFinds w walk = (i : ℕ) → i < length walk.values → IsPush w walk.epoch i (slice_index walk.values i)
+
+abbrev pub CellFinds : World → ℕ → ℕ → Cell → Type 0
+CellFinds w e i (Read x) = IsPush w e i x
+CellFinds w e i (Wiped x) = IsPush w e i x
+CellFinds w e i _ = Unit {0}
+
+-- so has a walk under way at each place that it read
+abbrev pub CellsFind : World → ℕ → List Cell → Type 0
+CellsFind w e cells = (i : ℕ) (c : Cell) → get_elem? cells i ≡ some c → CellFinds w e i c
+
+-- what is held is of the epoch that the thread knows
+abbrev pub HoldPlaced : World → ℕ → Hold → Type 0
+HoldPlaced w e Nothing = Unit {0}
+HoldPlaced w e (Ticket s i) = IsEpochOf w s e
+HoldPlaced w e (Written s i x) = IsEpochOf w s e
+HoldPlaced w e Claimed = Unit {0}
+HoldPlaced w e (Aimed s) = Unit {0}
+HoldPlaced w e (Reading s cells) = (e ≡ w.epoch) × CellsFind w e cells
+HoldPlaced w e (Clearing s cells) = (suc e ≡ w.epoch) × CellsFind w e cells
+HoldPlaced w e (Settling s xs) = Unit {0}
+
+pub record HandPlaced (w : World) (v : Hand) : Type 0 where
+  pub hold : HoldPlaced w v.epoch v.hold
+  pub turn : turn_in v.hold ≡ 1 → v.turn ≡ walks_made w
+  pub taken : (n : ℕ) (walk : Walk) → get_elem? v.taken n ≡ some walk → WalkFinds w walk
+  pub read : (n : ℕ) (walk : Walk) → get_elem? v.read n ≡ some walk → WalkFinds w walk
+
+pub record Placed (places : ℕ) (w : World) : Type 0 where
+  -- each ticket that was given in an epoch is held or pushed, once, and no other
+  pub tickets : (e i : ℕ) → total (tickets_at e i) w.hands ≡ below i (given_of e w)
+  -- no take told of an epoch that goes on or is to come
+  pub told : (e : ℕ) → w.epoch ≤ e → total (told_of e) w.hands ≡ 0
+  -- a finished push stands with mark 1, or was wiped by one clear
+  pub one_place : (e i : ℕ) → i < places → total (pushed_at e i) w.hands ≡ mark_of places w e i + total (wipes_at e i) w.hands
+  -- a place with mark 1 has the value of its ticket's push
+  pub marked : (s i : ℕ) → s < 2 → i < places → slice_index w.marks (spot places s i) ≡ 1 → (e : ℕ) × IsEpochOf w s e × IsPush w e i (slice_index w.values (spot places s i))
+  pub each : (j : ℕ) (v : Hand) → get_elem? w.hands j ≡ some v → HandPlaced w v
+  pub takes : w.epoch ≡ total took_of w.hands
+
+-- each of these pushes is of an earlier epoch, or of this one and below this place
+abbrev pub Reaches : List Push → ℕ → ℕ → Type 0
+Reaches pushed epoch end = (n : ℕ) (p : Push) → get_elem? pushed n ≡ some p → (p.epoch < epoch) ⊎ ((p.epoch ≡ epoch) × (p.place < end))
+
+-- where one of these pushes is of the walk's epoch, and the walk went over its place, it found the push's value there
+abbrev pub Finds : List Push → Walk → Type 0
+Finds pushed walk = (n : ℕ) (p : Push) → get_elem? pushed n ≡ some p → p.epoch ≡ walk.epoch → p.place < length walk.values → slice_index walk.values p.place ≡ p.value
+
+-- each of these pushes is of an earlier epoch than the walk, or the walk has its value at its place
+abbrev pub Covers : List Push → Walk → Type 0
+Covers pushed walk = (n : ℕ) (p : Push) → get_elem? pushed n ≡ some p → (p.epoch < walk.epoch) ⊎ ((p.epoch ≡ walk.epoch) × (p.place < length walk.values) × (slice_index walk.values p.place ≡ p.value))
