@@ -173,7 +173,7 @@ world_after places w by v ticket = record w { given = w.given + 1; hands = slice
 world_after places w by v (write s i x) = record w { values = slice_set w.values (spot places s i) x; hands = slice_set w.hands by (hand_after places w v (write s i x)) }
 world_after places w by v (finish s i x) = record w { marks = slice_set w.marks (spot places s i) 1; hands = slice_set w.hands by (hand_after places w v (finish s i x)) }
 world_after places w by v claim = record w { turn = 1; hands = slice_set w.hands by (hand_after places w v claim) }
-world_after places w by v takes = record w { epoch = w.epoch + 1; live = other w.live; given = 0; hands = slice_set w.hands by (hand_after places w v takes) }
+world_after places w by v takes = record w { epoch = suc w.epoch; live = other w.live; given = 0; hands = slice_set w.hands by (hand_after places w v takes) }
 world_after places w by v (wipe s i x) = record w { marks = slice_set w.marks (spot places s i) 0; hands = slice_set w.hands by (hand_after places w v (wipe s i x)) }
 world_after places w by v quit = record w { turn = 0; hands = slice_set w.hands by (hand_after places w v quit) }
 world_after places w by v leave = record w { turn = 0; hands = slice_set w.hands by (hand_after places w v leave) }

@@ -1,0 +1,570 @@
+-- Each step keeps the pushes and the walks in their places.
+use Rattle.std.proofs.Common.{◌≡◌, ◌≢◌, ◌⊎◌, ℕ, zero, suc, ◌+◌, ◌<◌, ◌≤◌, cond, eqb, List, [], ◌∷◌, ◌++◌, length, get_or, set, replicate, refl, sym, ap, ◌∙◌, subst, inl, inr, ⊎_elim, arith, eq-eqb, ne_eqb, length-append, length-set, get_or-set_same, get_or-set_other}
+use mathlib.Core.Logic.{dite}
+use mathlib.Core.Option.{some, some-injective, some-ne-none}
+use native.Mathlib.Decide.{ℕ_discrete, dec_le}
+use lib.ListN.{get_elem?}
+use Rattle.atomic_table.proofs.Lists.{at_set, at_snoc}
+use Rattle.metrics_bucket.specs.declared.hand.Push.{Push}
+use Rattle.metrics_bucket.specs.declared.hand.Walk.{Walk}
+use Rattle.metrics_bucket.specs.declared.hand.Hand.{Hand}
+use Rattle.metrics_bucket.specs.declared.hand.Hold.{Hold}
+use Rattle.metrics_bucket.specs.declared.hand.Hold.TheVariants.{Nothing, Ticket, Written, Claimed, Aimed, Reading, Clearing, Settling}
+use Rattle.metrics_bucket.specs.declared.hand.Cell.{Cell}
+use Rattle.metrics_bucket.specs.declared.hand.Cell.TheVariants.{Unseen, Marked, Read, Wiped}
+use Rattle.metrics_bucket.specs.World.{World, total, walks_of, walks_made, other, spot, push, walk, holds_as, holding, holding_at, pushing, left_from, value_in, values_in, ticket, write, finish, takes, wipe, world_after}
+use Rattle.metrics_bucket.specs.Facts.{same, below, turn_in, took_in, took_of, ticket_in, ticket_at, CellFits, HoldFits, Facts}
+use Rattle.metrics_bucket.specs.Places.{pushes_at, values_at, pushed_at, value_at, held_in, tickets_at, lengths_of, clearing_of, told_of, given_of, walks_at, is_wiped, wiped_place, wiped_hold, wipes_at, mark_of, IsPush, IsEpochOf, WalkFinds, CellFinds, CellsFind, HoldPlaced, HandPlaced, Placed}
+use Rattle.metrics_bucket.proofs.Sums.{total_set, total_one, spot_apart, spot_below, here_or, same_here, same_else, below_under, below_over, below_le}
+use Rattle.metrics_bucket.proofs.Keep.{at_below, other_side, alone, turn_alone}
+use Rattle.metrics_bucket.proofs.Cells.{new_cell, length_new}
+use Rattle.metrics_bucket.proofs.Walks.{take_clean}
+use Rattle.metrics_bucket.proofs.Placing.{total_add, pushes_at-append, values_at-append, lengths_of-append, walks_at-append, value_here, value_else, cond_same, cond_here, cond_else, no_values, given_more, push_kept, cell_kept, hold_kept, hand_kept, each_kept, at_most_one}
+
+unwiped_new : (n i : ℕ) → wiped_place (replicate n Unseen) i ≡ 0
+unwiped_new zero i = refl
+unwiped_new (suc n) zero = refl
+unwiped_new (suc n) (suc i) = unwiped_new n i
+
+pub wiped_else : (cells : List Cell) (i j : ℕ) (d : Cell) → j ≢ i → wiped_place (set cells i d) j ≡ wiped_place cells j
+wiped_else [] i j d n = refl
+wiped_else (c ∷ cs) zero zero d n = absurd (n refl)
+wiped_else (c ∷ cs) zero (suc j) d n = refl
+wiped_else (c ∷ cs) (suc i) zero d n = refl
+wiped_else (c ∷ cs) (suc i) (suc j) d n = wiped_else cs i j d (λ e. n (ap suc e))
+
+pub wiped_there : (cells : List Cell) (i : ℕ) (c d : Cell) → get_elem? cells i ≡ some c → (wiped_place cells i ≡ is_wiped c) × (wiped_place (set cells i d) i ≡ is_wiped d)
+wiped_there [] i c d e = absurd (some-ne-none c (sym e))
+wiped_there (x ∷ xs) zero c d e = (ap is_wiped (some-injective x c e), refl)
+wiped_there (x ∷ xs) (suc i) c d e = wiped_there xs i c d e
+
+pub wiped_same : (cells : List Cell) (i j : ℕ) (c d : Cell) → get_elem? cells i ≡ some c → is_wiped d ≡ is_wiped c → wiped_place (set cells i d) j ≡ wiped_place cells j
+wiped_same cells i j c d e s = dite (ℕ_discrete j i) (λ h. let t = wiped_there cells i c d e in (λ k. wiped_place (set cells i d) (h k)) ∙ (t.1 ∙ (s ∙ (sym t.0 ∙ (λ k. wiped_place cells (sym h k)))))) (λ n. wiped_else cells i j d n)
+
+-- where all cells are wiped
+all_wiped : (cells : List Cell) (i : ℕ) → ((j : ℕ) (c : Cell) → get_elem? cells j ≡ some c → is_wiped c ≡ 1) → wiped_place cells i ≡ below i (length cells)
+all_wiped [] i a = refl
+all_wiped (c ∷ cs) zero a = a 0 c refl
+all_wiped (c ∷ cs) (suc i) a = all_wiped cs i (λ j d e. a (suc j) d e)
+
+length_values : (cells : List Cell) → length (values_in cells) ≡ length cells
+length_values [] = refl
+length_values (c ∷ cs) = ap suc (length_values cs)
+
+value_there : (cells : List Cell) (i : ℕ) → i < length (values_in cells) → (c : Cell) × (get_elem? cells i ≡ some c) × (get_or (values_in cells) i 0 ≡ value_in c)
+value_there [] i l = absurd (omega arith)
+value_there (c ∷ cs) zero l = (c, refl, refl)
+value_there (c ∷ cs) (suc i) l = value_there cs i (omega arith)
+
+-- the marks of an epoch, where one mark changes
+module _ (places : ℕ) (w w' : World) (s i m epoch : ℕ) (of_side : IsEpochOf w s epoch) (side : w.live < 2) (below_all : i < places) (long : length w.marks ≡ places + places) (live : w'.live ≡ w.live) (epochs : w'.epoch ≡ w.epoch)
+    (marks : w'.marks ≡ set w.marks (spot places s i) m) where
+  o : (other w.live < 2) × (w.live ≢ other w.live) × (other (other w.live) ≡ w.live)
+  o = other_side w.live side
+
+  s2 : s < 2
+  s2 = let a = o.0 in ⊎_elim (λ (t : (s ≡ w.live) × (epoch ≡ w.epoch)). let e = t.0 in omega arith) (λ (t : (s ≡ other w.live) × (suc epoch ≡ w.epoch)). let e = t.0 in omega arith) of_side
+
+  mark_before : (e j : ℕ) → e ≡ epoch → j ≡ i → mark_of places w e j ≡ get_or w.marks (spot places s i) 0
+  mark_before e j a b = ⊎_elim
+      (λ (t : (s ≡ w.live) × (epoch ≡ w.epoch)). ap (λ c. cond c (get_or w.marks (spot places w.live j) 0) (cond (eqb (suc e) w.epoch) (get_or w.marks (spot places (other w.live) j) 0) 0)) (eq-eqb e w.epoch (a ∙ t.1)) ∙ (λ k. get_or w.marks (spot places (sym t.0 k) (b k)) 0))
+      (λ (t : (s ≡ other w.live) × (suc epoch ≡ w.epoch)).
+      ap (λ c. cond c (get_or w.marks (spot places w.live j) 0) (cond (eqb (suc e) w.epoch) (get_or w.marks (spot places (other w.live) j) 0) 0)) (ne_eqb e w.epoch (λ z. let q = t.1 in omega arith))
+      ∙ (ap (λ c. cond c (get_or w.marks (spot places (other w.live) j) 0) 0) (eq-eqb (suc e) w.epoch (ap suc a ∙ t.1)) ∙ (λ k. get_or w.marks (spot places (sym t.0 k) (b k)) 0)))
+      of_side
+
+  in_range : spot places s i < length w.marks
+  in_range = let a = spot_below places s i below_all in omega arith
+
+  of_after : IsEpochOf w' s epoch
+  of_after = ⊎_elim (λ (t : (s ≡ w.live) × (epoch ≡ w.epoch)). inl (t.0 ∙ sym live, t.1 ∙ sym epochs)) (λ (t : (s ≡ other w.live) × (suc epoch ≡ w.epoch)). inr (t.0 ∙ ap other (sym live), t.1 ∙ sym epochs)) of_side
+
+  -- the mark of the place that changes
+  pub mark_here : (e j : ℕ) → e ≡ epoch → j ≡ i → (mark_of places w e j ≡ get_or w.marks (spot places s i) 0) × (mark_of places w' e j ≡ m)
+  mark_here e j a b = (
+    mark_before e j a b,
+    after ∙ (ap (λ (l : List ℕ). get_or l (spot places s i) 0) marks ∙ get_or-set_same w.marks (spot places s i) m 0 in_range),
+  )
+    where
+      after : mark_of places w' e j ≡ get_or w'.marks (spot places s i) 0
+      after = ⊎_elim
+          (λ (t : (s ≡ w'.live) × (epoch ≡ w'.epoch)). ap (λ c. cond c (get_or w'.marks (spot places w'.live j) 0) (cond (eqb (suc e) w'.epoch) (get_or w'.marks (spot places (other w'.live) j) 0) 0)) (eq-eqb e w'.epoch (a ∙ t.1)) ∙ (λ k. get_or w'.marks (spot places (sym t.0 k) (b k)) 0))
+          (λ (t : (s ≡ other w'.live) × (suc epoch ≡ w'.epoch)).
+          ap (λ c. cond c (get_or w'.marks (spot places w'.live j) 0) (cond (eqb (suc e) w'.epoch) (get_or w'.marks (spot places (other w'.live) j) 0) 0)) (ne_eqb e w'.epoch (λ z. let q = t.1 in omega arith))
+          ∙ (ap (λ c. cond c (get_or w'.marks (spot places (other w'.live) j) 0) 0) (eq-eqb (suc e) w'.epoch (ap suc a ∙ t.1)) ∙ (λ k. get_or w'.marks (spot places (sym t.0 k) (b k)) 0)))
+          of_after
+
+  -- a mark of another place is as it was
+  mark_apart : (s' j : ℕ) → s' < 2 → j < places → (s' ≡ s → j ≡ i → ⊥) → get_or w'.marks (spot places s' j) 0 ≡ get_or w.marks (spot places s' j) 0
+  mark_apart s' j a b n = ap (λ (l : List ℕ). get_or l (spot places s' j) 0) marks ∙ get_or-set_other w.marks (spot places s i) (spot places s' j) m 0 (spot_apart places s' j s i a s2 b below_all n)
+
+  -- the sides of one epoch are one
+  one_epoch : (e s' : ℕ) → ((s' ≡ w.live) × (e ≡ w.epoch)) ⊎ ((s' ≡ other w.live) × (suc e ≡ w.epoch)) → s' ≡ s → e ≡ epoch
+  one_epoch e s' k is = ⊎_elim
+      (λ (t : (s' ≡ w.live) × (e ≡ w.epoch)). ⊎_elim (λ (q : (s ≡ w.live) × (epoch ≡ w.epoch)). t.1 ∙ sym q.1) (λ (q : (s ≡ other w.live) × (suc epoch ≡ w.epoch)). absurd (o.1 (sym t.0 ∙ (is ∙ q.0)))) of_side)
+      (λ (t : (s' ≡ other w.live) × (suc e ≡ w.epoch)). ⊎_elim (λ (q : (s ≡ w.live) × (epoch ≡ w.epoch)). absurd (o.1 (sym q.0 ∙ (sym is ∙ t.0)))) (λ (q : (s ≡ other w.live) × (suc epoch ≡ w.epoch)). let a = t.1 in let b = q.1 in omega arith) of_side)
+      k
+
+  pub mark_else : (e j : ℕ) → j < places → (e ≡ epoch → j ≡ i → ⊥) → mark_of places w' e j ≡ mark_of places w e j
+  mark_else e j l n =
+      (λ k. cond (eqb e (epochs k)) (get_or w'.marks (spot places (live k) j) 0) (cond (eqb (suc e) (epochs k)) (get_or w'.marks (spot places (other (live k)) j) 0) 0))
+      ∙ dite (ℕ_discrete e w.epoch)
+      (λ a. (λ k. cond (eqb e w.epoch) (mark_apart w.live j side l (λ p q. n (one_epoch e w.live (inl (refl, a)) p) q) k) (cond (eqb (suc e) w.epoch) (get_or w'.marks (spot places (other w.live) j) 0) 0))
+      ∙ (ap (λ c. cond c (get_or w.marks (spot places w.live j) 0) (cond (eqb (suc e) w.epoch) (get_or w'.marks (spot places (other w.live) j) 0) 0)) (eq-eqb e w.epoch a)
+      ∙ sym (ap (λ c. cond c (get_or w.marks (spot places w.live j) 0) (cond (eqb (suc e) w.epoch) (get_or w.marks (spot places (other w.live) j) 0) 0)) (eq-eqb e w.epoch a))))
+      (λ a. ap (λ c. cond c (get_or w'.marks (spot places w.live j) 0) (cond (eqb (suc e) w.epoch) (get_or w'.marks (spot places (other w.live) j) 0) 0)) (ne_eqb e w.epoch a)
+      ∙ (dite (ℕ_discrete (suc e) w.epoch)
+      (λ b. (λ k. cond (eqb (suc e) w.epoch) (mark_apart (other w.live) j o.0 l (λ p q. n (one_epoch e (other w.live) (inr (refl, b)) p) q) k) 0))
+      (λ b. ap (λ c. cond c (get_or w'.marks (spot places (other w.live) j) 0) 0) (ne_eqb (suc e) w.epoch b) ∙ sym (ap (λ c. cond c (get_or w.marks (spot places (other w.live) j) 0) 0) (ne_eqb (suc e) w.epoch b)))
+      ∙ sym (ap (λ c. cond c (get_or w.marks (spot places w.live j) 0) (cond (eqb (suc e) w.epoch) (get_or w.marks (spot places (other w.live) j) 0) 0)) (ne_eqb e w.epoch a))))
+
+module _ (places all : ℕ) (w : World) (id : ℕ) (v : Hand) (f : Facts places all w) (p : Placed places w) (at : get_elem? w.hands id ≡ some v) (has : 0 < v.weight) where
+  abbrev mine : HandPlaced w v
+  mine = p.each id v at
+
+  -- a step that changes no place, and in what the thread holds nothing that is counted
+  pub keeps_places : (turn e' t' : ℕ) (hold : Hold) → ((e i : ℕ) → held_in e i e' hold ≡ held_in e i v.epoch v.hold) → ((e : ℕ) → clearing_of e e' hold ≡ clearing_of e v.epoch v.hold)
+      → ((e i : ℕ) → wiped_hold e i e' hold ≡ wiped_hold e i v.epoch v.hold) → took_in hold ≡ took_in v.hold → HoldPlaced w e' hold → (turn_in hold ≡ 1 → t' ≡ walks_made w)
+      → Placed places record w { turn = turn; hands = set w.hands id (holds_as v e' t' hold) }
+  keeps_places turn e' t' hold held clearing wiped took placed knows =
+      let u : Hand = holds_as v e' t' hold in
+      let w' : World = record w { turn = turn; hands = set w.hands id u } in
+      let walks : walks_made w' ≡ walks_made w = (let t = total_set walks_of w.hands id v u at in omega arith) in
+      let pushes : (e i x : ℕ) → IsPush w e i x → IsPush w' e i x = push_kept w w' id v u at refl refl in
+      let told_same : (e : ℕ) → total (told_of e) w'.hands ≡ total (told_of e) w.hands = λ e. let t = total_set (told_of e) w.hands id v u at in let c = clearing e in omega arith in
+      record {
+        tickets = λ e i.
+            let y = p.tickets e i in
+            let t = total_set (tickets_at e i) w.hands id v u at in
+            let h = held e i in
+            let g : given_of e w' ≡ given_of e w = ap (λ (n : ℕ). n + cond (eqb e w.epoch) w.given 0) (told_same e) in
+            let b : below i (given_of e w') ≡ below i (given_of e w) = ap (below i) g in
+            omega arith;
+        told = λ e l. told_same e ∙ p.told e l;
+        one_place = λ e i l.
+            let y = p.one_place e i l in
+            let t = total_set (pushed_at e i) w.hands id v u at in
+            let c = total_set (wipes_at e i) w.hands id v u at in
+            let d = wiped e i in
+            omega arith;
+        marked = λ s i a b m. let t = p.marked s i a b m in (t.0, t.1, pushes t.0 i (get_or w.values (spot places s i) 0) t.2);
+        each = each_kept w w' pushes places id u p refl
+            (hand_kept w w' pushes u (λ _. hold_kept w w' pushes refl refl e' hold placed) (λ _. walks) record { hold = placed; turn = knows; taken = mine.taken; read = mine.read })
+            (λ j z n there. (hold_kept w w' pushes refl refl z.epoch z.hold, λ _. walks));
+        takes = let y = p.takes in let t = total_set took_of w.hands id v u at in omega arith;
+      }
+
+  pub tickets : v.hold ≡ Nothing → w.given < places → Placed places (world_after places w id v ticket)
+  tickets e room =
+      let u : Hand = holding_at v w.epoch (Ticket w.live w.given) in
+      let w' : World = world_after places w id v ticket in
+      let walks : walks_made w' ≡ walks_made w = (let t = total_set walks_of w.hands id v u at in omega arith) in
+      let pushes : (k i x : ℕ) → IsPush w k i x → IsPush w' k i x = push_kept w w' id v u at refl refl in
+      let told_same : (k : ℕ) → total (told_of k) w'.hands ≡ total (told_of k) w.hands = λ k. let t = total_set (told_of k) w.hands id v u at in let c : clearing_of k v.epoch v.hold ≡ 0 = ap (clearing_of k v.epoch) e in omega arith in
+      record {
+        tickets = λ k i.
+            let y = p.tickets k i in
+            let t = total_set (tickets_at k i) w.hands id v u at in
+            let h : held_in k i v.epoch v.hold ≡ 0 = ap (held_in k i v.epoch) e in
+            let b : below i (given_of k w') ≡ below i (total (told_of k) w.hands + cond (eqb k w.epoch) (w.given + 1) 0) = ap (λ (n : ℕ). below i (n + cond (eqb k w.epoch) (w.given + 1) 0)) (told_same k) in
+            let g = given_more k i w.epoch w.given (total (told_of k) w.hands) (λ q. p.told k (omega arith)) in
+            omega arith;
+        told = λ k l. told_same k ∙ p.told k l;
+        one_place = λ k i l.
+            let y = p.one_place k i l in
+            let t = total_set (pushed_at k i) w.hands id v u at in
+            let c = total_set (wipes_at k i) w.hands id v u at in
+            let d : wiped_hold k i v.epoch v.hold ≡ 0 = ap (wiped_hold k i v.epoch) e in
+            omega arith;
+        marked = λ s i a b m. let t = p.marked s i a b m in (t.0, t.1, pushes t.0 i (get_or w.values (spot places s i) 0) t.2);
+        each = each_kept w w' pushes places id u p refl
+            record { hold = inl (refl, refl); turn = λ t. absurd (omega arith); taken = (hand_kept w w' pushes v (λ k. hold_kept w w' pushes refl refl v.epoch v.hold k) (λ _. walks) mine).taken; read = (hand_kept w w' pushes v (λ k. hold_kept w w' pushes refl refl v.epoch v.hold k) (λ _. walks) mine).read }
+            (λ j z n there. (hold_kept w w' pushes refl refl z.epoch z.hold, λ _. walks));
+        takes = let y = p.takes in let t = total_set took_of w.hands id v u at in let t0 : took_in v.hold ≡ 0 = ap took_in e in omega arith;
+      }
+
+  module _ (s i : ℕ) where
+    abbrev k : ℕ
+    k = spot places s i
+
+    pub writes : (x : ℕ) → v.hold ≡ Ticket s i → Placed places (world_after places w id v (write s i x))
+    writes x e =
+        let u : Hand = holding v (Written s i x) in
+        let w' : World = world_after places w id v (write s i x) in
+        let walks : walks_made w' ≡ walks_made w = (let t = total_set walks_of w.hands id v u at in omega arith) in
+        let fits : HoldFits places all w v.weight (Ticket s i) = subst (HoldFits places all w v.weight) e (f.each id v at).hold in
+        let single = alone places all w f id v s i at fits.0 fits.1 (ap (ticket_in s i) e ∙ same_here s i s i refl refl) in
+        let of_side : IsEpochOf w s v.epoch = subst (HoldPlaced w v.epoch) e mine.hold in
+        let pushes : (k i x : ℕ) → IsPush w k i x → IsPush w' k i x = push_kept w w' id v u at refl refl in
+        let told_same : (k : ℕ) → total (told_of k) w'.hands ≡ total (told_of k) w.hands = λ k. let t = total_set (told_of k) w.hands id v u at in let c : clearing_of k v.epoch v.hold ≡ 0 = ap (clearing_of k v.epoch) e in omega arith in
+        record {
+          tickets = λ d j.
+              let y = p.tickets d j in
+              let t = total_set (tickets_at d j) w.hands id v u at in
+              let h : held_in d j v.epoch v.hold ≡ same d j v.epoch i = ap (held_in d j v.epoch) e in
+              let b : below j (given_of d w') ≡ below j (given_of d w) = ap (λ (n : ℕ). below j (n + cond (eqb d w.epoch) w.given 0)) (told_same d) in
+              omega arith;
+          told = λ d l. told_same d ∙ p.told d l;
+          one_place = λ d j l.
+              let y = p.one_place d j l in
+              let t = total_set (pushed_at d j) w.hands id v u at in
+              let c = total_set (wipes_at d j) w.hands id v u at in
+              let z : wiped_hold d j v.epoch v.hold ≡ 0 = ap (wiped_hold d j v.epoch) e in
+              omega arith;
+          marked = λ s' i' a b m. ⊎_elim
+              (λ (q : (s' ≡ s) × (i' ≡ i)). let none = single.0 in let here : get_or w.marks (spot places s' i') 0 ≡ get_or w.marks k 0 = (λ l. get_or w.marks (spot places (q.0 l) (q.1 l)) 0) in absurd (omega arith))
+              (λ (n : s' ≡ s → i' ≡ i → ⊥).
+              let t = p.marked s' i' a b m in
+              (t.0, t.1, subst (IsPush w' t.0 i') (sym (get_or-set_other w.values k (spot places s' i') x 0 (spot_apart places s' i' s i a fits.0 b fits.1 n))) (pushes t.0 i' (get_or w.values (spot places s' i') 0) t.2)))
+              (here_or s' i' s i);
+          each = each_kept w w' pushes places id u p refl
+              (hand_kept w w' pushes u (λ _. of_side) (λ _. walks) record { hold = of_side; turn = λ t. absurd (omega arith); taken = mine.taken; read = mine.read })
+              (λ j z n there. (hold_kept w w' pushes refl refl z.epoch z.hold, λ _. walks));
+          takes = let y = p.takes in let t = total_set took_of w.hands id v u at in let t0 : took_in v.hold ≡ 0 = ap took_in e in omega arith;
+        }
+
+    pub finishes : (x : ℕ) → v.hold ≡ Written s i x → Placed places (world_after places w id v (finish s i x))
+    finishes x e =
+        let u : Hand = pushing v i x in
+        let w' : World = world_after places w id v (finish s i x) in
+        let walks : walks_made w' ≡ walks_made w = (let t = total_set walks_of w.hands id v u at in omega arith) in
+        let fits : HoldFits places all w v.weight (Written s i x) = subst (HoldFits places all w v.weight) e (f.each id v at).hold in
+        let single = alone places all w f id v s i at fits.0 fits.1 (ap (ticket_in s i) e ∙ same_here s i s i refl refl) in
+        let none_yet = single.0 in
+        let of_side : IsEpochOf w s v.epoch = subst (HoldPlaced w v.epoch) e mine.hold in
+        let held : (d j : ℕ) → held_in d j v.epoch v.hold ≡ same d j v.epoch i = λ d j. ap (held_in d j v.epoch) e in
+        let told_same : (k : ℕ) → total (told_of k) w'.hands ≡ total (told_of k) w.hands = λ k. let t = total_set (told_of k) w.hands id v u at in let c : clearing_of k v.epoch v.hold ≡ 0 = ap (clearing_of k v.epoch) e in omega arith in
+        let no_push : total (pushed_at v.epoch i) w.hands ≡ 0 =
+        (let h = held v.epoch i in
+        let one = same_here v.epoch i v.epoch i refl refl in
+        let most = at_most_one places w p v.epoch i in
+        let parts = total_add (pushed_at v.epoch i) (λ z. held_in v.epoch i z.epoch z.hold) w.hands in
+        let own = total_one (λ (z : Hand). held_in v.epoch i z.epoch z.hold) w.hands id v at in
+        omega arith)
+        in
+        let pushes : (d j y : ℕ) → IsPush w d j y → IsPush w' d j y = λ d j y c.
+        let t = total_set (pushed_at d j) w.hands id v u at in
+        let r = total_set (value_at d j) w.hands id v u at in
+        let a = pushes_at-append d j v.pushed (push v.epoch i x ∷ []) in
+        let b = values_at-append d j v.pushed (push v.epoch i x ∷ []) in
+        let c0 = c.0 in
+        let c1 = c.1 in
+        let apart : d ≡ v.epoch → j ≡ i → ⊥ = λ q z. let here : total (pushed_at d j) w.hands ≡ total (pushed_at v.epoch i) w.hands = (λ l. total (pushed_at (q l) (z l)) w.hands) in omega arith in
+        let n = same_else d j v.epoch i apart in
+        let m = value_else d j v.epoch i x apart in
+        (omega arith, omega arith)
+        in
+        let new : IsPush w' v.epoch i x =
+        (let t = total_set (pushed_at v.epoch i) w.hands id v u at in
+        let r = total_set (value_at v.epoch i) w.hands id v u at in
+        let a = pushes_at-append v.epoch i v.pushed (push v.epoch i x ∷ []) in
+        let b = values_at-append v.epoch i v.pushed (push v.epoch i x ∷ []) in
+        let n = same_here v.epoch i v.epoch i refl refl in
+        let m = value_here v.epoch i v.epoch i x refl refl in
+        let none = no_values v.epoch i w.hands no_push in
+        (omega arith, omega arith))
+        in
+        let of_after : IsEpochOf w' s v.epoch = of_side in
+        record {
+          tickets = λ d j.
+              let y = p.tickets d j in
+              let t = total_set (tickets_at d j) w.hands id v u at in
+              let h = held d j in
+              let a = pushes_at-append d j v.pushed (push v.epoch i x ∷ []) in
+              let b : below j (given_of d w') ≡ below j (given_of d w) = ap (λ (n : ℕ). below j (n + cond (eqb d w.epoch) w.given 0)) (told_same d) in
+              omega arith;
+          told = λ d l. told_same d ∙ p.told d l;
+          one_place = λ d j l.
+              let y = p.one_place d j l in
+              let t = total_set (pushed_at d j) w.hands id v u at in
+              let c = total_set (wipes_at d j) w.hands id v u at in
+              let a = pushes_at-append d j v.pushed (push v.epoch i x ∷ []) in
+              let z : wiped_hold d j v.epoch v.hold ≡ 0 = ap (wiped_hold d j v.epoch) e in
+              ⊎_elim
+              (λ (q : (d ≡ v.epoch) × (j ≡ i)). let h = same_here d j v.epoch i q.0 q.1 in let m = mark_here places w w' s i 1 v.epoch of_side f.side fits.1 f.marks_long refl refl refl d j q.0 q.1 in let m0 = m.0 in let m1 = m.1 in omega arith)
+              (λ (n : d ≡ v.epoch → j ≡ i → ⊥). let h = same_else d j v.epoch i n in let m = mark_else places w w' s i 1 v.epoch of_side f.side fits.1 f.marks_long refl refl refl d j l n in omega arith)
+              (here_or d j v.epoch i);
+          marked = λ s' i' a b m. ⊎_elim
+              (λ (q : (s' ≡ s) × (i' ≡ i)).
+              let same_value : get_or w.values (spot places s' i') 0 ≡ x = (λ l. get_or w.values (spot places (q.0 l) (q.1 l)) 0) ∙ fits.2 in
+              (v.epoch, subst (λ (n : ℕ). IsEpochOf w' n v.epoch) (sym q.0) of_after, subst (λ (n : ℕ × ℕ). IsPush w' v.epoch n.0 n.1) (λ l. (sym q.1 l, sym same_value l)) new))
+              (λ (n : s' ≡ s → i' ≡ i → ⊥).
+              let t = p.marked s' i' a b (sym (get_or-set_other w.marks k (spot places s' i') 1 0 (spot_apart places s' i' s i a fits.0 b fits.1 n)) ∙ m) in
+              (t.0, t.1, pushes t.0 i' (get_or w.values (spot places s' i') 0) t.2))
+              (here_or s' i' s i);
+          each = each_kept w w' pushes places id u p refl
+              (hand_kept w w' pushes u (λ _. tt) (λ _. walks) record { hold = tt; turn = λ t. absurd (omega arith); taken = mine.taken; read = mine.read })
+              (λ j z n there. (hold_kept w w' pushes refl refl z.epoch z.hold, λ _. walks));
+          takes = let y = p.takes in let t = total_set took_of w.hands id v u at in let t0 : took_in v.hold ≡ 0 = ap took_in e in omega arith;
+        }
+
+  pub takes_side : (t : ℕ) → v.hold ≡ Aimed t → Placed places (world_after places w id v takes)
+  takes_side to e =
+      let u : Hand = holding_at v w.epoch (Clearing w.live (replicate w.given Unseen)) in
+      let w' : World = world_after places w id v takes in
+      let walks : walks_made w' ≡ walks_made w = (let t = total_set walks_of w.hands id v u at in omega arith) in
+      let o = other_side w.live f.side in
+      let clean = take_clean places all w id v f at has to e in
+      let l = length_new w.given in
+      let alone_here = turn_alone places all w f id v at (ap turn_in e) in
+      let pushes : (k i x : ℕ) → IsPush w k i x → IsPush w' k i x = push_kept w w' id v u at refl refl in
+      let told_next : (k : ℕ) → total (told_of k) w'.hands ≡ total (told_of k) w.hands + cond (eqb k w.epoch) w.given 0 = λ k.
+      let t = total_set (told_of k) w.hands id v u at in
+      let c : clearing_of k v.epoch v.hold ≡ 0 = ap (clearing_of k v.epoch) e in
+      let d : clearing_of k w.epoch (Clearing w.live (replicate w.given Unseen)) ≡ cond (eqb k w.epoch) w.given 0 = ap (λ (n : ℕ). cond (eqb k w.epoch) n 0) l in
+      omega arith
+      in
+      let other_tickets : (j : ℕ) (z : Hand) (s i : ℕ) → get_elem? w.hands j ≡ some z → ticket_in s i z.hold ≡ 1 → i < places → IsEpochOf w s z.epoch → IsEpochOf w' s z.epoch = λ j z s i there one below_all. ⊎_elim
+      (λ (t : (s ≡ w.live) × (z.epoch ≡ w.epoch)). inr (t.0 ∙ sym o.2, ap suc t.1))
+      (λ (t : (s ≡ other w.live) × (suc z.epoch ≡ w.epoch)).
+      let c = (clean i below_all).1 in let a = total_one (ticket_at (other w.live) i) w.hands j z there in let b : ticket_in s i z.hold ≡ ticket_in (other w.live) i z.hold = (λ q. ticket_in (t.0 q) i z.hold) in absurd (omega arith))
+      in
+      let other_hold : (j : ℕ) (z : Hand) → j ≢ id → get_elem? w.hands j ≡ some z → (hold : Hold) → z.hold ≡ hold → HoldFits places all w z.weight hold → HoldPlaced w z.epoch hold → HoldPlaced w' z.epoch hold =
+      other_placed w' pushes other_tickets alone_here
+      in
+      record {
+        tickets = λ d i.
+            let y = p.tickets d i in
+            let t = total_set (tickets_at d i) w.hands id v u at in
+            let h : held_in d i v.epoch v.hold ≡ 0 = ap (held_in d i v.epoch) e in
+            let g : given_of d w' ≡ given_of d w = (let a = told_next d in let b = cond_same d (suc w.epoch) 0 in omega arith) in
+            let b : below i (given_of d w') ≡ below i (given_of d w) = ap (below i) g in
+            omega arith;
+        told = λ d low. let a = told_next d in let b = p.told d (omega arith) in let c = cond_else d w.epoch w.given (λ q. absurd (omega arith)) in omega arith;
+        one_place = λ d i below_all.
+            let y = p.one_place d i below_all in
+            let t = total_set (pushed_at d i) w.hands id v u at in
+            let c = total_set (wipes_at d i) w.hands id v u at in
+            let z : wiped_hold d i v.epoch v.hold ≡ 0 = ap (wiped_hold d i v.epoch) e in
+            let z' : wiped_hold d i w.epoch (Clearing w.live (replicate w.given Unseen)) ≡ 0 = ap (λ (n : ℕ). cond (eqb d w.epoch) n 0) (unwiped_new w.given i) ∙ cond_same d w.epoch 0 in
+            let none = (clean i below_all).0 in
+            let m : mark_of places w' d i ≡ mark_of places w d i = marks_next d i none o.2 in
+            omega arith;
+        marked = λ s i a b m. let t = p.marked s i a b m in (
+          t.0,
+          ⊎_elim (λ (q : (s ≡ w.live) × (t.0 ≡ w.epoch)). inr (q.0 ∙ sym o.2, ap suc q.1))
+              (λ (q : (s ≡ other w.live) × (suc t.0 ≡ w.epoch)). let none = (clean i b).0 in let c : get_or w.marks (spot places s i) 0 ≡ get_or w.marks (spot places (other w.live) i) 0 = (λ z. get_or w.marks (spot places (q.0 z) i) 0) in absurd (omega arith)) t.1,
+          pushes t.0 i (get_or w.values (spot places s i) 0) t.2,
+        );
+        each = each_kept w w' pushes places id u p refl
+            record {
+              hold = (refl, λ i c there. subst (CellFinds w' w.epoch i) (new_cell w.given i c there) tt);
+              turn = λ _. mine.turn (ap turn_in e) ∙ sym walks;
+              taken = (hand_kept w w' pushes v (λ q. subst (HoldPlaced w' v.epoch) (sym e) tt) (λ _. walks) mine).taken;
+              read = (hand_kept w w' pushes v (λ q. subst (HoldPlaced w' v.epoch) (sym e) tt) (λ _. walks) mine).read;
+            }
+            (λ j z n there. (other_hold j z n there z.hold refl (f.each j z there).hold, λ _. walks));
+        takes = let y = p.takes in let t = total_set took_of w.hands id v u at in let t0 : took_in v.hold ≡ 0 = ap took_in e in omega arith;
+      }
+    where
+      other_placed : (w' : World) → ((k i x : ℕ) → IsPush w k i x → IsPush w' k i x)
+          → ((j : ℕ) (z : Hand) (s i : ℕ) → get_elem? w.hands j ≡ some z → ticket_in s i z.hold ≡ 1 → i < places → IsEpochOf w s z.epoch → IsEpochOf w' s z.epoch)
+          → ((j : ℕ) (z : Hand) → j ≢ id → get_elem? w.hands j ≡ some z → turn_in z.hold ≡ 0)
+          → (j : ℕ) (z : Hand) → j ≢ id → get_elem? w.hands j ≡ some z → (hold : Hold) → z.hold ≡ hold → HoldFits places all w z.weight hold → HoldPlaced w z.epoch hold → HoldPlaced w' z.epoch hold
+      other_placed w' pushes ticketed free j z n there Nothing h fits k = tt
+      other_placed w' pushes ticketed free j z n there (Ticket s i) h fits k = ticketed j z s i there (ap (ticket_in s i) h ∙ same_here s i s i refl refl) fits.1 k
+      other_placed w' pushes ticketed free j z n there (Written s i x) h fits k = ticketed j z s i there (ap (ticket_in s i) h ∙ same_here s i s i refl refl) fits.1 k
+      other_placed w' pushes ticketed free j z n there Claimed h fits k = tt
+      other_placed w' pushes ticketed free j z n there (Aimed s) h fits k = tt
+      other_placed w' pushes ticketed free j z n there (Reading s cells) h fits k = let a = free j z n there in let b : turn_in z.hold ≡ 1 = ap turn_in h in absurd (omega arith)
+      other_placed w' pushes ticketed free j z n there (Clearing s cells) h fits k = let a = free j z n there in let b : turn_in z.hold ≡ 1 = ap turn_in h in absurd (omega arith)
+      other_placed w' pushes ticketed free j z n there (Settling s xs) h fits k = tt
+
+      -- the live side's marks are those of the epoch that ended, and the other side has none
+      marks_next : (d i : ℕ) → get_or w.marks (spot places (other w.live) i) 0 ≡ 0 → other (other w.live) ≡ w.live
+          → cond (eqb d (suc w.epoch)) (get_or w.marks (spot places (other w.live) i) 0) (cond (eqb (suc d) (suc w.epoch)) (get_or w.marks (spot places (other (other w.live)) i) 0) 0) ≡ mark_of places w d i
+      marks_next d i none back = dite (ℕ_discrete d w.epoch)
+          (λ a. ap (λ c. cond c (get_or w.marks (spot places (other w.live) i) 0) (cond (eqb (suc d) (suc w.epoch)) (get_or w.marks (spot places (other (other w.live)) i) 0) 0)) (ne_eqb d (suc w.epoch) (λ q. omega arith))
+          ∙ (ap (λ c. cond c (get_or w.marks (spot places (other (other w.live)) i) 0) 0) (eq-eqb (suc d) (suc w.epoch) (ap suc a))
+          ∙ ((λ k. get_or w.marks (spot places (back k) i) 0) ∙ sym (ap (λ c. cond c (get_or w.marks (spot places w.live i) 0) (cond (eqb (suc d) w.epoch) (get_or w.marks (spot places (other w.live) i) 0) 0)) (eq-eqb d w.epoch a)))))
+          (λ a. zero_next d a ∙ sym (zero_now d a))
+        where
+          zero_next : (d : ℕ) → d ≢ w.epoch → cond (eqb d (suc w.epoch)) (get_or w.marks (spot places (other w.live) i) 0) (cond (eqb (suc d) (suc w.epoch)) (get_or w.marks (spot places (other (other w.live)) i) 0) 0) ≡ 0
+          zero_next d a = ap (λ c. cond (eqb d (suc w.epoch)) (get_or w.marks (spot places (other w.live) i) 0) (cond c (get_or w.marks (spot places (other (other w.live)) i) 0) 0)) (ne_eqb (suc d) (suc w.epoch) (λ q. a (omega arith)))
+              ∙ (ap (λ (n : ℕ). cond (eqb d (suc w.epoch)) n 0) none ∙ cond_same d (suc w.epoch) 0)
+
+          zero_now : (d : ℕ) → d ≢ w.epoch → mark_of places w d i ≡ 0
+          zero_now d a = ap (λ c. cond c (get_or w.marks (spot places w.live i) 0) (cond (eqb (suc d) w.epoch) (get_or w.marks (spot places (other w.live) i) 0) 0)) (ne_eqb d w.epoch a)
+              ∙ (ap (λ (n : ℕ). cond (eqb (suc d) w.epoch) n 0) none ∙ cond_same (suc d) w.epoch 0)
+
+  pub wipes : (s i x : ℕ) (cells : List Cell) → v.hold ≡ Clearing s cells → get_elem? cells i ≡ some (Read x)
+      → Placed places record w { marks = set w.marks (spot places s i) 0; hands = set w.hands id (holding v (Clearing s (set cells i (Wiped x)))) }
+  wipes s i x cells e there =
+      let u : Hand = holding v (Clearing s (set cells i (Wiped x))) in
+      let w' : World = record w { marks = set w.marks (spot places s i) 0; hands = set w.hands id u } in
+      let walks : walks_made w' ≡ walks_made w = (let t = total_set walks_of w.hands id v u at in omega arith) in
+      let fits : HoldFits places all w v.weight (Clearing s cells) = subst (HoldFits places all w v.weight) e (f.each id v at).hold in
+      let placed : HoldPlaced w v.epoch (Clearing s cells) = subst (HoldPlaced w v.epoch) e mine.hold in
+      let o = other_side w.live f.side in
+      let s2 : s < 2 = subst (λ (z : ℕ). z < 2) (sym fits.0) o.0 in
+      let inside = at_below cells i (Read x) there in
+      let most = fits.1 in
+      let i2 : i < places = omega arith in
+      let cell = fits.2 i (Read x) there in
+      let marked : get_or w.marks (spot places s i) 0 ≡ 1 = cell.0 in
+      let of_side : IsEpochOf w s v.epoch = inr (fits.0, placed.0) in
+      let long = length-set cells i (Wiped x) in
+      let in_range = spot_below places s i i2 in
+      let marks_long = f.marks_long in
+      let here : get_or (set w.marks (spot places s i) 0) (spot places s i) 0 ≡ 0 = get_or-set_same w.marks (spot places s i) 0 0 (omega arith) in
+      let pushes : (k i x : ℕ) → IsPush w k i x → IsPush w' k i x = push_kept w w' id v u at refl refl in
+      let told_same : (k : ℕ) → total (told_of k) w'.hands ≡ total (told_of k) w.hands = λ k.
+      let t = total_set (told_of k) w.hands id v u at in
+      let c : clearing_of k v.epoch v.hold ≡ cond (eqb k v.epoch) (length cells) 0 = ap (clearing_of k v.epoch) e in
+      let d : clearing_of k v.epoch (Clearing s (set cells i (Wiped x))) ≡ cond (eqb k v.epoch) (length cells) 0 = ap (λ (n : ℕ). cond (eqb k v.epoch) n 0) long in
+      omega arith
+      in
+      let after : HoldPlaced w' v.epoch (Clearing s (set cells i (Wiped x))) = (
+        placed.0,
+        λ j c at_j. ⊎_elim
+            (λ (t : (j ≡ i) × (Wiped x ≡ c)). subst (λ (z : ℕ × Cell). CellFinds w' v.epoch z.0 z.1) (λ k. (sym t.0 k, t.1 k)) (pushes v.epoch i x (placed.1 i (Read x) there)))
+            (λ (t : (j ≢ i) × (get_elem? cells j ≡ some c)). cell_kept w w' pushes v.epoch j c (placed.1 j c t.1))
+            (at_set cells i j (Wiped x) c at_j),
+      ) in
+      record {
+        tickets = λ d j.
+            let y = p.tickets d j in
+            let t = total_set (tickets_at d j) w.hands id v u at in
+            let h : held_in d j v.epoch v.hold ≡ 0 = ap (held_in d j v.epoch) e in
+            let b : below j (given_of d w') ≡ below j (given_of d w) = ap (λ (n : ℕ). below j (n + cond (eqb d w.epoch) w.given 0)) (told_same d) in
+            omega arith;
+        told = λ d l. told_same d ∙ p.told d l;
+        one_place = λ d j l.
+            let y = p.one_place d j l in
+            let t = total_set (pushed_at d j) w.hands id v u at in
+            let c = total_set (wipes_at d j) w.hands id v u at in
+            let z : wiped_hold d j v.epoch v.hold ≡ cond (eqb d v.epoch) (wiped_place cells j) 0 = ap (wiped_hold d j v.epoch) e in
+            ⊎_elim
+            (λ (q : (d ≡ v.epoch) × (j ≡ i)).
+            let m = mark_here places w w' s i 0 v.epoch of_side f.side i2 f.marks_long refl refl refl d j q.0 q.1 in
+            let m0 = m.0 in
+            let m1 = m.1 in
+            let k = wiped_there cells i (Read x) (Wiped x) there in
+            let z0 : cond (eqb d v.epoch) (wiped_place cells j) 0 ≡ 0 = ap (λ (n : ℕ). cond (eqb d v.epoch) n 0) ((λ l. wiped_place cells (q.1 l)) ∙ k.0) ∙ cond_same d v.epoch 0 in
+            let z1 : cond (eqb d v.epoch) (wiped_place (set cells i (Wiped x)) j) 0 ≡ 1 = cond_here d v.epoch (wiped_place (set cells i (Wiped x)) j) q.0 ∙ ((λ l. wiped_place (set cells i (Wiped x)) (q.1 l)) ∙ k.1) in
+            omega arith)
+            (λ (n : d ≡ v.epoch → j ≡ i → ⊥).
+            let m = mark_else places w w' s i 0 v.epoch of_side f.side i2 f.marks_long refl refl refl d j l n in
+            let z1 : cond (eqb d v.epoch) (wiped_place (set cells i (Wiped x)) j) 0 ≡ cond (eqb d v.epoch) (wiped_place cells j) 0 = dite (ℕ_discrete d v.epoch)
+            (λ q. ap (λ (n : ℕ). cond (eqb d v.epoch) n 0) (wiped_else cells i j (Wiped x) (λ k. n q k)))
+            (λ q. cond_else d v.epoch (wiped_place (set cells i (Wiped x)) j) q ∙ sym (cond_else d v.epoch (wiped_place cells j) q))
+            in
+            omega arith)
+            (here_or d j v.epoch i);
+        marked = λ s' i' a b m. ⊎_elim
+            (λ (q : (s' ≡ s) × (i' ≡ i)). let same_place : get_or (set w.marks (spot places s i) 0) (spot places s' i') 0 ≡ get_or (set w.marks (spot places s i) 0) (spot places s i) 0 = (λ l. get_or (set w.marks (spot places s i) 0) (spot places (q.0 l) (q.1 l)) 0) in absurd (omega arith))
+            (λ (n : s' ≡ s → i' ≡ i → ⊥).
+            let t = p.marked s' i' a b (sym (get_or-set_other w.marks (spot places s i) (spot places s' i') 0 0 (spot_apart places s' i' s i a s2 b i2 n)) ∙ m) in
+            (t.0, t.1, pushes t.0 i' (get_or w.values (spot places s' i') 0) t.2))
+            (here_or s' i' s i);
+        each = each_kept w w' pushes places id u p refl
+            (hand_kept w w' pushes u (λ _. after) (λ _. walks) record { hold = (placed.0, λ j c at_j. ⊎_elim
+              (λ (t : (j ≡ i) × (Wiped x ≡ c)). subst (λ (z : ℕ × Cell). CellFinds w v.epoch z.0 z.1) (λ k. (sym t.0 k, t.1 k)) (placed.1 i (Read x) there))
+              (λ (t : (j ≢ i) × (get_elem? cells j ≡ some c)). placed.1 j c t.1)
+              (at_set cells i j (Wiped x) c at_j)); turn = λ _. mine.turn (ap turn_in e); taken = mine.taken; read = mine.read })
+            (λ j z n there. (hold_kept w w' pushes refl refl z.epoch z.hold, λ _. walks));
+        takes = let y = p.takes in let t = total_set took_of w.hands id v u at in let t0 : took_in v.hold ≡ 1 = ap took_in e in omega arith;
+      }
+
+  -- a clear leaves when all its places are wiped
+  pub leaves_clear : (s : ℕ) (cells : List Cell) → v.hold ≡ Clearing s cells → ((i : ℕ) (c : Cell) → get_elem? cells i ≡ some c → (x : ℕ) × (c ≡ Wiped x)) → Placed places record w { turn = 0; hands = set w.hands id (left_from v (Clearing s cells)) }
+  leaves_clear s cells e done =
+      let new : Walk = walk v.epoch (values_in cells) in
+      let u : Hand = left_from v (Clearing s cells) in
+      let w' : World = record w { turn = 0; hands = set w.hands id u } in
+      let alone_here = turn_alone places all w f id v at (ap turn_in e) in
+      let placed : HoldPlaced w v.epoch (Clearing s cells) = subst (HoldPlaced w v.epoch) e mine.hold in
+      let pushes : (k i x : ℕ) → IsPush w k i x → IsPush w' k i x = push_kept w w' id v u at refl refl in
+      let long = length_values cells in
+      let finds : WalkFinds w new = λ i l. let c = value_there cells i l in let t = done i c.0 c.1 in
+      subst (IsPush w v.epoch i) (sym (c.2 ∙ ap value_in t.1)) (subst (CellFinds w v.epoch i) t.1 (placed.1 i c.0 c.1))
+      in
+      let told_same : (k : ℕ) → total (told_of k) w'.hands ≡ total (told_of k) w.hands = λ k.
+      let t = total_set (told_of k) w.hands id v u at in
+      let c : clearing_of k v.epoch v.hold ≡ cond (eqb k v.epoch) (length cells) 0 = ap (clearing_of k v.epoch) e in
+      let a = lengths_of-append k v.taken (new ∷ []) in
+      let d : cond (eqb k v.epoch) (length (values_in cells)) 0 ≡ cond (eqb k v.epoch) (length cells) 0 = ap (λ (n : ℕ). cond (eqb k v.epoch) n 0) long in
+      omega arith
+      in
+      record {
+        tickets = λ d j.
+            let y = p.tickets d j in
+            let t = total_set (tickets_at d j) w.hands id v u at in
+            let h : held_in d j v.epoch v.hold ≡ 0 = ap (held_in d j v.epoch) e in
+            let b : below j (given_of d w') ≡ below j (given_of d w) = ap (λ (n : ℕ). below j (n + cond (eqb d w.epoch) w.given 0)) (told_same d) in
+            omega arith;
+        told = λ d l. told_same d ∙ p.told d l;
+        one_place = λ d j l.
+            let y = p.one_place d j l in
+            let t = total_set (pushed_at d j) w.hands id v u at in
+            let c = total_set (wipes_at d j) w.hands id v u at in
+            let z : wiped_hold d j v.epoch v.hold ≡ cond (eqb d v.epoch) (wiped_place cells j) 0 = ap (wiped_hold d j v.epoch) e in
+            let a = walks_at-append d j v.taken (new ∷ []) in
+            let k : cond (eqb d v.epoch) (wiped_place cells j) 0 ≡ cond (eqb d v.epoch) (below j (length (values_in cells))) 0 =
+            ap (λ (n : ℕ). cond (eqb d v.epoch) n 0) (all_wiped cells j (λ i c there. ap is_wiped (done i c there).1) ∙ ap (below j) (sym long))
+            in
+            omega arith;
+        marked = λ s i a b m. let t = p.marked s i a b m in (t.0, t.1, pushes t.0 i (get_or w.values (spot places s i) 0) t.2);
+        each = each_kept w w' pushes places id u p refl
+            record {
+              hold = tt;
+              turn = λ t. absurd (omega arith);
+              taken = λ n walk k. ⊎_elim (λ (t : get_elem? v.taken n ≡ some walk). λ i l. pushes walk.epoch i (get_or walk.values i 0) (mine.taken n walk t i l))
+                  (λ (t : new ≡ walk). subst (WalkFinds w') t (λ i l. pushes v.epoch i (get_or (values_in cells) i 0) (finds i l))) (at_snoc v.taken new walk n k);
+              read = λ n walk k i l. pushes walk.epoch i (get_or walk.values i 0) (mine.read n walk k i l);
+            }
+            (λ j z n there. (hold_kept w w' pushes refl refl z.epoch z.hold, λ t. let a = alone_here j z n there in absurd (omega arith)));
+        takes = let y = p.takes in let t = total_set took_of w.hands id v u at in let t0 : took_in v.hold ≡ 1 = ap took_in e in let l = length-append v.taken (new ∷ []) in omega arith;
+      }
+
+  -- a reading walk leaves when it has read all its places
+  pub leaves_read : (s : ℕ) (cells : List Cell) → v.hold ≡ Reading s cells → ((i : ℕ) (c : Cell) → get_elem? cells i ≡ some c → (x : ℕ) × (c ≡ Read x)) → Placed places record w { turn = 0; hands = set w.hands id (left_from v (Reading s cells)) }
+  leaves_read s cells e done =
+      let new : Walk = walk v.epoch (values_in cells) in
+      let u : Hand = left_from v (Reading s cells) in
+      let w' : World = record w { turn = 0; hands = set w.hands id u } in
+      let alone_here = turn_alone places all w f id v at (ap turn_in e) in
+      let placed : HoldPlaced w v.epoch (Reading s cells) = subst (HoldPlaced w v.epoch) e mine.hold in
+      let pushes : (k i x : ℕ) → IsPush w k i x → IsPush w' k i x = push_kept w w' id v u at refl refl in
+      let finds : WalkFinds w new = λ i l. let c = value_there cells i l in let t = done i c.0 c.1 in
+      subst (IsPush w v.epoch i) (sym (c.2 ∙ ap value_in t.1)) (subst (CellFinds w v.epoch i) t.1 (placed.1 i c.0 c.1))
+      in
+      let told_same : (k : ℕ) → total (told_of k) w'.hands ≡ total (told_of k) w.hands = λ k. let t = total_set (told_of k) w.hands id v u at in let c : clearing_of k v.epoch v.hold ≡ 0 = ap (clearing_of k v.epoch) e in omega arith in
+      record {
+        tickets = λ d j.
+            let y = p.tickets d j in
+            let t = total_set (tickets_at d j) w.hands id v u at in
+            let h : held_in d j v.epoch v.hold ≡ 0 = ap (held_in d j v.epoch) e in
+            let b : below j (given_of d w') ≡ below j (given_of d w) = ap (λ (n : ℕ). below j (n + cond (eqb d w.epoch) w.given 0)) (told_same d) in
+            omega arith;
+        told = λ d l. told_same d ∙ p.told d l;
+        one_place = λ d j l.
+            let y = p.one_place d j l in
+            let t = total_set (pushed_at d j) w.hands id v u at in
+            let c = total_set (wipes_at d j) w.hands id v u at in
+            let z : wiped_hold d j v.epoch v.hold ≡ 0 = ap (wiped_hold d j v.epoch) e in
+            omega arith;
+        marked = λ s i a b m. let t = p.marked s i a b m in (t.0, t.1, pushes t.0 i (get_or w.values (spot places s i) 0) t.2);
+        each = each_kept w w' pushes places id u p refl
+            record {
+              hold = tt;
+              turn = λ t. absurd (omega arith);
+              taken = λ n walk k i l. pushes walk.epoch i (get_or walk.values i 0) (mine.taken n walk k i l);
+              read = λ n walk k. ⊎_elim (λ (t : get_elem? v.read n ≡ some walk). λ i l. pushes walk.epoch i (get_or walk.values i 0) (mine.read n walk t i l))
+                  (λ (t : new ≡ walk). subst (WalkFinds w') t (λ i l. pushes v.epoch i (get_or (values_in cells) i 0) (finds i l))) (at_snoc v.read new walk n k);
+            }
+            (λ j z n there. (hold_kept w w' pushes refl refl z.epoch z.hold, λ t. let a = alone_here j z n there in absurd (omega arith)));
+        takes = let y = p.takes in let t = total_set took_of w.hands id v u at in let t0 : took_in v.hold ≡ 0 = ap took_in e in omega arith;
+      }
+
+  -- what a walk reads at a place with mark 1 is the place's push
+  pub reads_push : (s i : ℕ) → s < 2 → i < places → IsEpochOf w s v.epoch → get_or w.marks (spot places s i) 0 ≡ 1 → IsPush w v.epoch i (get_or w.values (spot places s i) 0)
+  reads_push s i a b of_side one =
+      let t = p.marked s i a b one in
+      let o = other_side w.live f.side in
+      let same_epoch : t.0 ≡ v.epoch = ⊎_elim
+      (λ (q : (s ≡ w.live) × (t.0 ≡ w.epoch)). ⊎_elim (λ (r : (s ≡ w.live) × (v.epoch ≡ w.epoch)). q.1 ∙ sym r.1) (λ (r : (s ≡ other w.live) × (suc v.epoch ≡ w.epoch)). absurd (o.1 (sym q.0 ∙ r.0))) of_side)
+      (λ (q : (s ≡ other w.live) × (suc t.0 ≡ w.epoch)). ⊎_elim (λ (r : (s ≡ w.live) × (v.epoch ≡ w.epoch)). absurd (o.1 (sym r.0 ∙ q.0))) (λ (r : (s ≡ other w.live) × (suc v.epoch ≡ w.epoch)). let x = q.1 in let y = r.1 in omega arith) of_side)
+      t.1
+      in
+      subst (λ (n : ℕ). IsPush w n i (get_or w.values (spot places s i) 0)) same_epoch t.2
