@@ -1,24 +1,26 @@
 -- What the rule allows each step on the table.
-use Rattle.std.proofs.Common.{◌≡◌, ℕ, zero, suc, ◌+◌, ◌*◌, ◌/◌, ◌%◌, ◌<◌, ◌≤◌, eqb, List, [], ◌∷◌, ◌++◌, length, get_or, set, take, drop, replicate, refl, sym, ap, ◌∙◌, subst, arith, eq-eqb, ne_eqb, length-take, length-drop}
+use Rattle.std.proofs.Common.{◌≡◌, ℕ, zero, suc, ◌+◌, ◌*◌, ◌/◌, ◌%◌, ◌<◌, ◌≤◌, eqb, List, [], ◌∷◌, ◌++◌, length, get_or, set, take, drop, replicate, refl, sym, ap, ◌∙◌, subst, arith, eq-eqb, ne_eqb, length-append, length-take, length-drop}
 use mathlib.Core.Logic.{dite}
 use mathlib.Core.Option.{none, some}
 use native.Mathlib.Decide.{ℕ_discrete}
 use lib.ListN.{get_elem?}
 use lib.Seq.{set-get_or}
 use prog.Atomic.{either}
-use Rattle.atomic_table.specs.Table.{State, step, keeps, stepped, opening, Allows, Splits, Joins}
+use Rattle.atomic_table.specs.Table.{State, Act as SlotAct, step, keeps, homes_after, stepped, opening, Allows, Splits, Joins}
 use Rattle.atomic_table.proofs.Lists.{set_again, set_else}
 use Rattle.metrics_bucket.specs.declared.hand.Hand.{Hand}
+use Rattle.metrics_bucket.specs.declared.hand.Push.{Push}
 use Rattle.metrics_bucket.specs.declared.hand.Turn.{Turn}
 use Rattle.metrics_bucket.specs.declared.hand.Hold.{Hold}
 use Rattle.metrics_bucket.specs.declared.hand.Hold.TheVariants.{Nothing, Ticket, Written, Settling}
-use Rattle.metrics_bucket.specs.World.{World, base, spot, words_of, live_values, new_hand, whole_hand, holding, pushing, Act, ticket, write, finish, gather, split, join, world_after, left_part, right_part, both_parts}
-use Rattle.metrics_bucket.specs.Facts.{weigh, weight_of, HoldFits, Facts}
+use Rattle.metrics_bucket.specs.World.{World, base, spot, words_of, live_values, new_hand, whole_hand, holding, holding_at, pushing, total, walks_of, walks_made, Act, ticket, write, finish, gather, split, join, world_after, left_part, right_part, both_parts}
+use Rattle.metrics_bucket.specs.Facts.{weigh, weigh_pushes, weight_of, HoldFits, Facts}
 use Rattle.metrics_bucket.specs.Plays.{Sat, IsControl, looked, drew, put, finished, gathered, recalled}
-use Rattle.metrics_bucket.specs.History.{May, opened, Kept, ShowsAt}
-use Rattle.metrics_bucket.proofs.Alone.{unsplit_of}
+use Rattle.metrics_bucket.specs.History.{May, opened, turn_at, at_home, homes_of, Kept}
+use Rattle.metrics_bucket.proofs.PlacedAlways.{placed}
+use Rattle.metrics_bucket.proofs.Covering.{covers}
 use Rattle.metrics_bucket.proofs.Histories.{runs_on, facts}
-use Rattle.metrics_bucket.proofs.Sums.{total_one, spot_below}
+use Rattle.metrics_bucket.proofs.Sums.{total_one, total_set, total_snoc, spot_below}
 use Rattle.metrics_bucket.proofs.Clears.{whole_live, learns, learns_reads}
 use Rattle.metrics_bucket.proofs.Shares.{zeros}
 
@@ -68,6 +70,10 @@ weigh_one : (xs : List ℕ) → weigh (λ _. 1) xs ≡ length xs
 weigh_one [] = refl
 weigh_one (x ∷ xs) = let r = weigh_one xs in omega arith
 
+count_pushes : (xs : List Push) → weigh_pushes (λ _. 1) xs ≡ length xs
+count_pushes [] = refl
+count_pushes (x ∷ xs) = let r = count_pushes xs in omega arith
+
 abbrev written : Hold → ℕ → Hold
 written (Ticket s i) x = Written s i x
 written hold x = hold
@@ -75,6 +81,10 @@ written hold x = hold
 abbrev value_of : Hold → ℕ
 value_of (Written s i x) = x
 value_of hold = 0
+
+abbrev place_of : Hold → ℕ
+place_of (Written s i x) = i
+place_of hold = 0
 
 base_le : (places s : ℕ) → base places s ≤ places
 base_le places zero = omega arith
@@ -84,20 +94,32 @@ live_length : (places : ℕ) (w : World) → Facts places 1024 w → length (liv
 live_length places w f = let a = f.values_long in let b = f.room in let c = base_le places w.live in let d = length-drop (base places w.live) w.values in let e = length-take w.given (drop (base places w.live) w.values) in omega arith
 
 module _ (places : ℕ) where
-  -- the state after a step, by the world after it
-  pub moved : (s : St) (k : Kept places s) (i n id : ℕ) (cs : List (ℕ × Turn)) (v u : Hand) (act : Act) → get_elem? k.1.hands id ≡ some v → 0 < v.weight → May places 1024 k.1 id v act
+  -- the state after a step that takes or gives what goes with the turn, by the world after it
+  pub moved_by : (s : St) (k : Kept places s) (i n id : ℕ) (cs : List (ℕ × Turn)) (v u : Hand) (act : Act) (slot : SlotAct Turn) → get_elem? k.1.hands id ≡ some v → 0 < v.weight → May places 1024 k.1 id v act
       → words_of (world_after places k.1 id v act) ≡ set (words_of k.1) i n → (world_after places k.1 id v act).hands ≡ set k.1.hands id u
-      → Kept places (stepped s i n id cs u keeps)
-  moved s k i n id cs v u act there has may words hands = (
+      → homes_of (world_after places k.1 id v act) ≡ homes_after s.homes cs slot
+      → Kept places (stepped s i n id cs u slot)
+  moved_by s k i n id cs v u act slot there has may words hands homes = (
     k.0 ++ record { by = id; act = act } ∷ [],
     world_after places k.1 id v act,
     runs_on places 1024 (opened places) k.0 k.1 id v act k.2 there has may,
     words ∙ ap (λ (l : List ℕ). set l i n) k.3,
     hands ∙ ap (λ (l : List Hand). set l id u) k.4,
+    homes,
   )
 
+  -- the state after another step
+  pub moved : (s : St) (k : Kept places s) (i n id : ℕ) (cs : List (ℕ × Turn)) (v u : Hand) (act : Act) → get_elem? k.1.hands id ≡ some v → 0 < v.weight → May places 1024 k.1 id v act
+      → words_of (world_after places k.1 id v act) ≡ set (words_of k.1) i n → (world_after places k.1 id v act).hands ≡ set k.1.hands id u
+      → walks_of u ≡ walks_of v → (world_after places k.1 id v act).turn ≡ k.1.turn
+      → Kept places (stepped s i n id cs u keeps)
+  moved s k i n id cs v u act there has may words hands walks turn =
+      let w' : World = world_after places k.1 id v act in
+      let made : walks_made w' ≡ walks_made k.1 = (let t = total_set walks_of k.1.hands id v u there in let h : walks_made w' ≡ total walks_of (set k.1.hands id u) = ap (total walks_of) hands in omega arith) in
+      moved_by s k i n id cs v u act keeps there has may words hands ((λ j. at_home (turn j) (made j) ∷ []) ∙ k.5)
+
   pub still : (s : St) (k : Kept places s) (i id : ℕ) (cs : List (ℕ × Turn)) (u : Hand) → get_elem? s.views id ≡ some u → Kept places (stepped s i (get_or s.words i 0) id cs u keeps)
-  still s k i id cs u at = (k.0, k.1, k.2, k.3 ∙ sym (set-get_or s.words i 0), k.4 ∙ sym (set_again s.views id u at))
+  still s k i id cs u at = (k.0, k.1, k.2, k.3 ∙ sym (set-get_or s.words i 0), k.4 ∙ sym (set_again s.views id u at), k.5)
 
   pub control : (s : St) (k : Kept places s) → get_or s.words 0 0 ≡ 2 * k.1.given + k.1.live
   control s k = sym (ap (λ (l : List ℕ). get_or l 0 0) k.3)
@@ -114,7 +136,7 @@ module _ (places : ℕ) where
       let side = (facts places s k).side in
       let l = whole_live places 1024 w id v (facts places s k) there some_weight whole free in
       let b = learns places 1024 w id v (facts places s k) there some_weight whole free (λ _. 1) in
-      let p = weigh_one v.pushed in
+      let p = count_pushes v.pushed in
       let q = weigh_one (live_values places w) in
       let r = live_length places w (facts places s k) in
       (omega arith, omega arith)
@@ -142,17 +164,17 @@ module _ (places : ℕ) where
       let there = seated s k id me.0 at in
       dite (ℕ_discrete x old)
       (λ hit.
-      let u : Hand = holding me.0 (Ticket w.live w.given) in
-      let u' : Hand = holding me.0 (Ticket (x % 2) (x / 2)) in
-      let is : u ≡ u' = (let a : w.live ≡ x % 2 = omega arith in let b : w.given ≡ x / 2 = omega arith in λ i. holding me.0 (Ticket (a i) (b i))) in
+      let u : Hand = holding_at me.0 w.epoch (Ticket w.live w.given) in
+      let u' : Hand = holding_at me.0 w.epoch (Ticket (x % 2) (x / 2)) in
+      let is : u ≡ u' = (let a : w.live ≡ x % 2 = omega arith in let b : w.given ≡ x / 2 = omega arith in λ i. holding_at me.0 w.epoch (Ticket (a i) (b i))) in
       let below_all : w.given < places = omega arith in (
         u',
         keeps,
         tt,
         subst (λ b. Kept places (stepped s 0 (either b (old + 2) x) id me.1 u' keeps)) (sym (eq-eqb x old hit))
             (subst (λ (z : Hand). Kept places (stepped s 0 (old + 2) id me.1 z keeps)) is
-            (moved s k 0 (old + 2) id me.1 me.0 u ticket there has (free, below_all) (let n : 2 * (w.given + 1) + w.live ≡ old + 2 = omega arith in (λ i. n i ∷ w.turn ∷ (w.values ++ w.marks))) refl)),
-        ((λ _. refl), (λ not. absurd (not hit)), whole_control s k id me.0 at free),
+            (moved s k 0 (old + 2) id me.1 me.0 u ticket there has (free, below_all) (let n : 2 * (w.given + 1) + w.live ≡ old + 2 = omega arith in (λ i. n i ∷ w.turn ∷ (w.values ++ w.marks))) refl refl refl)),
+        ((λ _. (w.epoch, refl)), (λ not. absurd (not hit)), whole_control s k id me.0 at free),
       ))
       (λ miss. (
         me.0,
@@ -176,7 +198,7 @@ module _ (places : ℕ) where
         keeps,
         tt,
         moved st k word x id me.1 me.0 u (write s i x) there has e
-            (sym (ap (λ (z : ℕ). set (words_of w) z x) same_word ∙ ap (λ (l : List ℕ). (2 * w.given + w.live) ∷ w.turn ∷ l) (set_left w.values w.marks (spot places s i) x (omega arith)))) refl,
+            (sym (ap (λ (z : ℕ). set (words_of w) z x) same_word ∙ ap (λ (l : List ℕ). (2 * w.given + w.live) ∷ w.turn ∷ l) (set_left w.values w.marks (spot places s i) x (omega arith)))) refl refl refl,
         λ s' i' e'. ap (λ (z : Hold). (holding me.0 (written z x), me.1)) (sym e ∙ e'),
       )
 
@@ -185,15 +207,15 @@ module _ (places : ℕ) where
   marks slots id me word s i x has e is st k _ at _ =
       let w : World = k.1 in
       let there = seated st k id me.0 at in
-      let u : Hand = pushing me.0 x in
+      let u : Hand = pushing me.0 i x in
       let long = (facts places st k).values_long in
       let same_word : word ≡ suc (suc ((places + places) + spot places s i)) = omega arith in (
         u,
         keeps,
         tt,
         moved st k word 1 id me.1 me.0 u (finish s i x) there has e
-            (sym (ap (λ (z : ℕ). set (words_of w) z 1) same_word ∙ ap (λ (l : List ℕ). (2 * w.given + w.live) ∷ w.turn ∷ l) (set_right w.values w.marks ((places + places) + spot places s i) (spot places s i) 1 (omega arith)))) refl,
-        λ s' i' x' e'. ap (λ (z : Hold). (pushing me.0 (value_of z), me.1)) (sym e ∙ e'),
+            (sym (ap (λ (z : ℕ). set (words_of w) z 1) same_word ∙ ap (λ (l : List ℕ). (2 * w.given + w.live) ∷ w.turn ∷ l) (set_right w.values w.marks ((places + places) + spot places s i) (spot places s i) 1 (omega arith)))) refl refl refl,
+        λ s' i' x' e'. ap (λ (z : Hold). (pushing me.0 (place_of z) (value_of z), me.1)) (sym e ∙ e'),
       )
 
   pub gathers_all : (slots id : ℕ) (me : Sat) → me.0.weight ≡ 1024 → me.0.hold ≡ Nothing → Allows (Kept places) slots id me 0 (λ n. n) (gathered (step slots 0 0 0 none) me)
@@ -210,13 +232,13 @@ module _ (places : ℕ) where
       let is : u ≡ u' = (let a : w.live ≡ x % 2 = omega arith in λ i. holding me.0 (Settling (a i) vs)) in
       let l = live_length places w (facts places s k) in
       let size = ((facts places s k).each id me.0 there).size has in
-      let shown : ShowsAt me.0.places me.0 vs = subst (λ (p : ℕ). ShowsAt p me.0 vs) (sym size) (k.0, k.1, id, k.2, there, refl, unsplit_of places k.0 k.1 id me.0 k.2 there) in
+      let shown = covers places w id me.0 (facts places s k) (placed places s k) there has whole free l (λ i b. get_take_drop w.values (base places w.live) w.given i b) in
       let room = (facts places s k).room in (
         u',
         keeps,
         tt,
         subst (λ (z : Hand). Kept places (stepped s 0 x id me.1 z keeps)) is
-            (moved s k 0 x id me.1 me.0 u gather there has (free, whole) (k.3 ∙ sym (set-get_or s.words 0 0) ∙ sym (ap (λ (l : List ℕ). set l 0 x) k.3)) refl),
+            (moved s k 0 x id me.1 me.0 u gather there has (free, whole) (k.3 ∙ sym (set-get_or s.words 0 0) ∙ sym (ap (λ (l : List ℕ). set l 0 x) k.3)) refl refl refl),
         (vs, refl, omega arith, omega arith, learns places 1024 w id me.0 (facts places s k) there has whole free, learns_reads places 1024 w id me.0 (facts places s k) there has whole free, shown),
       )
 
@@ -248,33 +270,46 @@ module _ (places : ℕ) where
 
   pub cuts : (id : ℕ) (v : Hand) → 1 < v.weight → v.hold ≡ Nothing → Splits (Kept places) id v (left_part v) (right_part v)
   cuts id v heavy free s k at =
-      let has : 0 < v.weight = omega arith in (
+      let has : 0 < v.weight = omega arith in
+      let walks : walks_made (world_after places k.1 id v split) ≡ walks_made k.1 =
+      (let t = total_set walks_of k.1.hands id v (left_part v) (seated s k id v at) in let n = total_snoc walks_of (set k.1.hands id (left_part v)) (right_part v) in omega arith)
+      in (
         k.0 ++ record { by = id; act = split } ∷ [],
         world_after places k.1 id v split,
         runs_on places 1024 (opened places) k.0 k.1 id v split k.2 (seated s k id v at) has (free, heavy),
         k.3,
         ap (λ (l : List Hand). set l id (left_part v) ++ right_part v ∷ []) k.4,
+        (λ j. at_home k.1.turn (walks j) ∷ []) ∙ k.5,
       )
 
   pub glues : (id : ℕ) (v : Hand) (other_id : ℕ) (x : Hand) → 0 < v.weight → v.hold ≡ Nothing → x.hold ≡ Nothing → Joins (Kept places) id v other_id x (both_parts v x) (new_hand 0 0)
   glues id v other_id x has free free_too s k at apart there =
-      let there' : get_elem? k.1.hands other_id ≡ some x = sym (set_else k.1.hands id other_id (both_parts v x) apart) ∙ (ap (λ (l : List Hand). get_elem? (set l id (both_parts v x)) other_id) k.4 ∙ there) in (
+      let there' : get_elem? k.1.hands other_id ≡ some x = sym (set_else k.1.hands id other_id (both_parts v x) apart) ∙ (ap (λ (l : List Hand). get_elem? (set l id (both_parts v x)) other_id) k.4 ∙ there) in
+      let walks : walks_made (world_after places k.1 id v (join other_id x)) ≡ walks_made k.1 =
+      (let t = total_set walks_of k.1.hands id v (both_parts v x) (seated s k id v at) in
+      let n = total_set walks_of (set k.1.hands id (both_parts v x)) other_id x (new_hand 0 0) (set_else k.1.hands id other_id (both_parts v x) apart ∙ there') in
+      let a = length-append v.taken x.taken in
+      let b = length-append v.read x.read in
+      omega arith)
+      in (
         k.0 ++ record { by = id; act = join other_id x } ∷ [],
         world_after places k.1 id v (join other_id x),
         runs_on places 1024 (opened places) k.0 k.1 id v (join other_id x) k.2 (seated s k id v at) has (free, free_too, apart, there'),
         k.3,
         ap (λ (l : List Hand). set (set l id (both_parts v x)) other_id (new_hand 0 0)) k.4,
+        (λ j. at_home k.1.turn (walks j) ∷ []) ∙ k.5,
       )
 
   pub zeros-append : (n m : ℕ) → zeros n ++ zeros m ≡ zeros (n + m)
   zeros-append zero m = let e : m ≡ 0 + m = omega arith in ap zeros e
   zeros-append (suc n) m = ap (λ (l : List ℕ). 0 ∷ l) (zeros-append n m) ∙ (let e : suc (n + m) ≡ suc n + m = omega arith in ap zeros e)
 
-  pub starts : (n : ℕ) → n ≡ 2 + 4 * places → Kept places (opening (replicate n 0) [] (whole_hand places))
+  pub starts : (n : ℕ) → n ≡ 2 + 4 * places → Kept places (opening (replicate n 0) (turn_at 0 ∷ []) (whole_hand places))
   starts n e = (
     [],
     opened places,
     refl,
     ap (λ (l : List ℕ). 0 ∷ 0 ∷ l) (zeros-append (places + places) (places + places)) ∙ (let q : suc (suc ((places + places) + (places + places))) ≡ n = omega arith in ap zeros q),
+    refl,
     refl,
   )

@@ -1,12 +1,12 @@
 -- What the rule allows each step of a walk.
-use Rattle.std.proofs.Common.{◌≡◌, ℕ, zero, suc, ◌+◌, ◌*◌, ◌/◌, ◌%◌, ◌<◌, ◌≤◌, eqb, List, ◌∷◌, ◌++◌, get_or, set, take, drop, replicate, refl, sym, ap, ◌∙◌, subst, arith, eq-eqb, ne_eqb}
+use Rattle.std.proofs.Common.{◌≡◌, ℕ, zero, suc, ◌+◌, ◌*◌, ◌/◌, ◌%◌, ◌<◌, ◌≤◌, eqb, List, [], ◌∷◌, ◌++◌, length-append, get_or, set, take, drop, replicate, refl, sym, ap, ◌∙◌, subst, arith, eq-eqb, ne_eqb}
 use mathlib.Core.Logic.{dite}
-use mathlib.Core.Option.{none, some, some-injective}
+use mathlib.Core.Option.{Option, none, some, some-injective}
 use native.Mathlib.Decide.{ℕ_discrete}
 use lib.ListN.{get_elem?}
 use lib.Seq.{set-get_or}
 use prog.Atomic.{either}
-use Rattle.atomic_table.specs.Table.{step, keeps, stepped, Allows}
+use Rattle.atomic_table.specs.Table.{step, keeps, gives, takes as takes_slot, rest as slots_rest, homes_after, stepped, Allows}
 use Rattle.atomic_table.proofs.Lists.{set_here}
 use Rattle.metrics_bucket.specs.declared.hand.Hand.{Hand}
 use Rattle.metrics_bucket.specs.declared.hand.Turn.{Turn}
@@ -14,17 +14,20 @@ use Rattle.metrics_bucket.specs.declared.hand.Hold.{Hold}
 use Rattle.metrics_bucket.specs.declared.hand.Hold.TheVariants.{Nothing, Ticket, Written, Claimed, Aimed, Reading, Clearing, Settling}
 use Rattle.metrics_bucket.specs.declared.hand.Cell.{Cell}
 use Rattle.metrics_bucket.specs.declared.hand.Cell.TheVariants.{Unseen, Marked, Read, Wiped}
-use Rattle.metrics_bucket.specs.World.{World, base, other, spot, words_of, live_values, holding, leaving, left_from, put_cell, side_of, value_in, values_in, Act, claim, survey, aim, takes, see, read, wipe, leave, quit, world_after}
-use Rattle.metrics_bucket.specs.Facts.{weigh, weigh_walks, CellFits, HoldFits, Facts}
+use Rattle.metrics_bucket.specs.World.{World, base, other, spot, words_of, live_values, total, walk, walks_of, walks_made, holding, holding_at, claiming, leaving, left_from, put_cell, side_of, value_in, values_in, Act, claim, survey, aim, takes, see, read, wipe, leave, quit, world_after}
+use Rattle.metrics_bucket.specs.Facts.{weigh, weigh_pushes, weigh_walks, turn_in, took_in, CellFits, HoldFits, Facts}
 use Rattle.metrics_bucket.specs.Plays.{Sat}
-use Rattle.metrics_bucket.specs.History.{HasCell, CanLeave, CanQuit, May, Kept}
+use Rattle.metrics_bucket.specs.History.{HasCell, CanLeave, CanQuit, May, turn_at, at_home, homes_of, Kept}
 use Rattle.metrics_bucket.specs.WalkPlays.{IsValueOf, IsMarkOf, claimed, surveyed, aimed, took, saw, red, wiped_one, went, gave_up, IsClearing}
-use Rattle.metrics_bucket.proofs.Sums.{spot_below}
+use Rattle.metrics_bucket.proofs.Sums.{total_set, spot_below}
 use Rattle.metrics_bucket.proofs.Keep.{at_below, other_side}
 use Rattle.metrics_bucket.proofs.Cells.{values_are}
 use Rattle.metrics_bucket.proofs.Clears.{whole_turn, learns}
 use Rattle.metrics_bucket.proofs.Histories.{step_facts, facts}
-use Rattle.metrics_bucket.proofs.Allowed.{St, set_right, get_left, get_right, moved, still, control, seated}
+use Rattle.metrics_bucket.proofs.Allowed.{St, set_right, get_left, get_right, moved, moved_by, still, control, seated}
+use Rattle.metrics_bucket.proofs.PlacedAlways.{placed}
+use Rattle.metrics_bucket.proofs.Covering.{reaches, finds, whole_epoch}
+use Rattle.metrics_bucket.specs.Places.{Placed, Reaches}
 
 left_same : (v : Hand) (hold : Hold) → IsClearing hold → ((left_from v hold).hold ≡ Nothing) × ((left_from v hold).weight ≡ v.weight) × ((left_from v hold).pushed ≡ v.pushed)
 left_same v (Clearing s cells) c = (refl, refl, refl)
@@ -46,31 +49,65 @@ clear_given places w weight Claimed h c whole = absurd c
 clear_given places w weight (Aimed s) h c whole = absurd c
 clear_given places w weight (Settling s xs) h c whole = absurd c
 
+-- a walk that may quit or leave has the turn
+can_turn : (hold : Hold) → CanQuit hold → turn_in hold ≡ 1
+can_turn Claimed c = refl
+can_turn (Aimed s) c = refl
+can_turn (Reading s cells) c = refl
+can_turn (Clearing s cells) c = refl
+can_turn Nothing c = absurd c
+can_turn (Ticket s i) c = absurd c
+can_turn (Written s i x) c = absurd c
+can_turn (Settling s xs) c = absurd c
+
+leave_turn : (v : Hand) (hold : Hold) → CanLeave hold → (turn_in hold ≡ 1) × (walks_of (left_from v hold) ≡ walks_of v + 1)
+leave_turn v (Reading s cells) c = (refl, (let a = length-append v.read (walk v.epoch (values_in cells) ∷ []) in omega arith))
+leave_turn v (Clearing s cells) c = (refl, (let a = length-append v.taken (walk v.epoch (values_in cells) ∷ []) in omega arith))
+leave_turn v Nothing c = absurd c
+leave_turn v (Ticket s i) c = absurd c
+leave_turn v (Written s i x) c = absurd c
+leave_turn v Claimed c = absurd c
+leave_turn v (Aimed s) c = absurd c
+leave_turn v (Settling s xs) c = absurd c
+
+-- the slot of the turn comes home with its walks
+comes_home : (w : World) (s : St) (cs : List (ℕ × Turn)) (n made : ℕ) → cs ≡ (0, turn_at n) ∷ [] → made ≡ n → homes_of w ≡ s.homes → at_home 0 made ∷ [] ≡ homes_after s.homes cs gives
+comes_home w s cs n made out is home =
+    (λ j. some (turn_at (is j)) ∷ [])
+    ∙ ((λ j. set (home j) 0 (some (turn_at n)))
+    ∙ sym (ap (λ (l : List (ℕ × Turn)). homes_after s.homes l gives) out))
+
 module _ (places : ℕ) where
   turn_word : (s : St) (k : Kept places s) → get_or s.words 1 0 ≡ k.1.turn
   turn_word s k = sym (ap (λ (l : List ℕ). get_or l 1 0) k.3)
 
   -- a step that writes back what it found, by the world after it
   same_words : (s : St) (k : Kept places s) (i id : ℕ) (cs : List (ℕ × Turn)) (v u : Hand) (act : Act) → get_elem? k.1.hands id ≡ some v → 0 < v.weight → May places 1024 k.1 id v act
-      → words_of (world_after places k.1 id v act) ≡ words_of k.1 → (world_after places k.1 id v act).hands ≡ set k.1.hands id u
+      → words_of (world_after places k.1 id v act) ≡ words_of k.1 → (world_after places k.1 id v act).hands ≡ set k.1.hands id u → walks_of u ≡ walks_of v → (world_after places k.1 id v act).turn ≡ k.1.turn
       → Kept places (stepped s i (get_or s.words i 0) id cs u keeps)
-  same_words s k i id cs v u act there has may words hands = moved places s k i (get_or s.words i 0) id cs v u act there has may (words ∙ (k.3 ∙ (sym (set-get_or s.words i 0) ∙ sym (ap (λ (l : List ℕ). set l i (get_or s.words i 0)) k.3)))) hands
+  same_words s k i id cs v u act there has may words hands walks turn =
+      moved places s k i (get_or s.words i 0) id cs v u act there has may (words ∙ (k.3 ∙ (sym (set-get_or s.words i 0) ∙ sym (ap (λ (l : List ℕ). set l i (get_or s.words i 0)) k.3)))) hands walks turn
 
-  pub claims_turn : (slots id : ℕ) (me : Sat) → 0 < me.0.weight → me.0.hold ≡ Nothing → Allows (Kept places) slots id me 1 (λ n. either (eqb n 0) 1 n) (claimed (step slots 1 0 1 none) me)
-  claims_turn slots id me has free s k _ at _ =
+  pub claims_turn : (slots id : ℕ) (me : Sat) → 0 < me.0.weight → me.0.hold ≡ Nothing → me.1 ≡ [] → Allows (Kept places) slots id me 1 (λ n. either (eqb n 0) 1 n) (claimed (step slots 1 0 1 none) me)
+  claims_turn slots id me has free bare s k _ at _ =
       let x : ℕ = get_or s.words 1 0 in
       let w : World = k.1 in
       let t = turn_word s k in
       let there = seated places s k id me.0 at in
       let sole : me.0.weight ≡ 1024 → x ≡ 0 = λ whole. t ∙ whole_turn places 1024 w id me.0 (facts places s k) there has whole free in
       dite (ℕ_discrete x 0)
-      (λ hit. (
-        holding me.0 Claimed,
-        keeps,
-        tt,
-        subst (λ b. Kept places (stepped s 1 (either b 1 x) id me.1 (holding me.0 Claimed) keeps)) (sym (eq-eqb x 0 hit))
-            (moved places s k 1 1 id me.1 me.0 (holding me.0 Claimed) claim there has (free, sym t ∙ hit) refl refl),
-        ((λ _. refl), (λ not. absurd (not hit)), sole),
+      (λ hit.
+      let n : ℕ = walks_made w in
+      let u : Hand = claiming me.0 n in
+      let is_free : w.turn ≡ 0 = sym t ∙ hit in
+      let home : s.homes ≡ some (turn_at n) ∷ [] = sym k.5 ∙ (λ j. at_home (is_free j) n ∷ []) in
+      let made : walks_made (world_after places w id me.0 claim) ≡ n = (let y = total_set walks_of w.hands id me.0 u there in omega arith) in (
+        u,
+        takes_slot 0 (turn_at n),
+        ap (λ (l : List (Option Turn)). get_elem? l 0) home,
+        subst (λ b. Kept places (stepped s 1 (either b 1 x) id me.1 u (takes_slot 0 (turn_at n)))) (sym (eq-eqb x 0 hit))
+            (moved_by places s k 1 1 id me.1 me.0 u claim (takes_slot 0 (turn_at n)) there has (free, is_free) refl refl (sym (ap (λ (l : List (Option Turn)). set l 0 none) home))),
+        ((λ _. (n, λ j. (u, (0, turn_at n) ∷ bare j))), (λ not. absurd (not hit)), sole),
       ))
       (λ miss. (
         me.0,
@@ -89,14 +126,16 @@ module _ (places : ℕ) where
       let room = (facts places s k).room in
       let there = seated places s k id me.0 at in
       let size = ((facts places s k).each id me.0 there).size has in
-      let u : Hand = holding me.0 (Reading w.live (replicate w.given Unseen)) in
-      let u' : Hand = holding me.0 (Reading (x % 2) (replicate (x / 2) Unseen)) in
-      let is : u ≡ u' = (let a : w.live ≡ x % 2 = omega arith in let b : w.given ≡ x / 2 = omega arith in λ i. holding me.0 (Reading (a i) (replicate (b i) Unseen))) in (
+      let u : Hand = holding_at me.0 w.epoch (Reading w.live (replicate w.given Unseen)) in
+      let u' : Hand = holding_at me.0 w.epoch (Reading (x % 2) (replicate (x / 2) Unseen)) in
+      let is : u ≡ u' = (let a : w.live ≡ x % 2 = omega arith in let b : w.given ≡ x / 2 = omega arith in λ i. holding_at me.0 w.epoch (Reading (a i) (replicate (b i) Unseen))) in
+      let b : w.given ≡ x / 2 = omega arith in
+      let p : Placed places w = placed places s k in (
         u',
         keeps,
         tt,
-        subst (λ (z : Hand). Kept places (stepped s 0 x id me.1 z keeps)) is (same_words s k 0 id me.1 me.0 u survey there has e refl refl),
-        (refl, omega arith),
+        subst (λ (z : Hand). Kept places (stepped s 0 x id me.1 z keeps)) is (same_words s k 0 id me.1 me.0 u survey there has e refl refl refl refl),
+        (w.epoch, refl, omega arith, subst (Reaches me.0.pushed w.epoch) b (reaches places w id me.0 (facts places s k) p there has), λ whole. whole_epoch places w id me.0 (facts places s k) p there has whole (ap took_in e)),
       )
 
   pub aims_side : (slots id : ℕ) (me : Sat) → 0 < me.0.weight → me.0.hold ≡ Claimed → Allows (Kept places) slots id me 0 (λ n. n) (aimed (step slots 0 0 0 none) me)
@@ -112,7 +151,7 @@ module _ (places : ℕ) where
         u',
         keeps,
         tt,
-        subst (λ (z : Hand). Kept places (stepped s 0 x id me.1 z keeps)) is (same_words s k 0 id me.1 me.0 u aim there has e refl refl),
+        subst (λ (z : Hand). Kept places (stepped s 0 x id me.1 z keeps)) is (same_words s k 0 id me.1 me.0 u aim there has e refl refl refl refl),
         refl,
       )
 
@@ -127,16 +166,24 @@ module _ (places : ℕ) where
       let there = seated places st k id me.0 at in
       let size = ((facts places st k).each id me.0 there).size has in
       let known : s ≡ w.live = subst (HoldFits places 1024 w me.0.weight) e ((facts places st k).each id me.0 there).hold in
-      let u : Hand = holding me.0 (Clearing w.live (replicate w.given Unseen)) in
-      let u' : Hand = holding me.0 (Clearing s (replicate (x / 2) Unseen)) in
-      let same : u ≡ u' = (let b : w.given ≡ x / 2 = omega arith in λ i. holding me.0 (Clearing (sym known i) (replicate (b i) Unseen))) in
+      let u : Hand = holding_at me.0 w.epoch (Clearing w.live (replicate w.given Unseen)) in
+      let u' : Hand = holding_at me.0 w.epoch (Clearing s (replicate (x / 2) Unseen)) in
+      let b : w.given ≡ x / 2 = omega arith in
+      let p : Placed places w = placed places st k in
+      let same : u ≡ u' = (let b : w.given ≡ x / 2 = omega arith in λ i. holding_at me.0 w.epoch (Clearing (sym known i) (replicate (b i) Unseen))) in
       let word : 2 * 0 + other w.live ≡ new = (let z : 2 * 0 + other w.live ≡ other w.live = omega arith in z ∙ (ap other (sym known) ∙ sym is)) in (
         u',
         keeps,
         tt,
         subst (λ (z : Hand). Kept places (stepped st 0 new id me.1 z keeps)) same
-            (moved places st k 0 new id me.1 me.0 u takes there has (s, e) (λ i. word i ∷ w.turn ∷ (w.values ++ w.marks)) refl),
-        λ s' e'. ((λ i. (holding me.0 (Clearing (ap side_aimed (sym e ∙ e') i) (replicate (x / 2) Unseen)), me.1)), omega arith),
+            (moved places st k 0 new id me.1 me.0 u takes there has (s, e) (λ i. word i ∷ w.turn ∷ (w.values ++ w.marks)) refl refl refl),
+        λ s' e'. (
+          w.epoch,
+          (λ i. (holding_at me.0 w.epoch (Clearing (ap side_aimed (sym e ∙ e') i) (replicate (x / 2) Unseen)), me.1)),
+          omega arith,
+          subst (Reaches me.0.pushed w.epoch) b (reaches places w id me.0 (facts places st k) p there has),
+          λ whole. whole_epoch places w id me.0 (facts places st k) p there has whole (ap took_in e),
+        ),
       )
     where
       side_aimed : Hold → ℕ
@@ -204,7 +251,7 @@ module _ (places : ℕ) where
           u,
           keeps,
           tt,
-          same_words s k word id me.1 me.0 u (see i) (seated places s k id me.0 at) has (there, sym found ∙ one) refl refl,
+          same_words s k word id me.1 me.0 u (see i) (seated places s k id me.0 at) has (there, sym found ∙ one) refl refl refl refl,
           λ j is' there'. ((λ _. ap (λ (n : ℕ). (holding me.0 (put_cell me.0.hold n Marked), me.1)) (sym (one_mark j is is'))), (λ not. absurd (not one))),
         ))
         (λ other. (me.0, keeps, tt, still places s k word id me.1 me.0 at, λ j is' there'. ((λ one. absurd (other one)), (λ _. refl))))
@@ -221,7 +268,7 @@ module _ (places : ℕ) where
           keeps,
           tt,
           subst (λ (z : Hand). Kept places (stepped s word x id me.1 z keeps)) same
-              (same_words s k word id me.1 me.0 u (read i) (seated places s k id me.0 at) has there refl refl),
+              (same_words s k word id me.1 me.0 u (read i) (seated places s k id me.0 at) has there refl refl refl refl),
           λ j is' there'. ap (λ (n : ℕ). (holding me.0 (put_cell me.0.hold n (Read x)), me.1)) (sym (one_value j is is')),
         )
 
@@ -239,7 +286,7 @@ module _ (places : ℕ) where
           moved places st k word 0 id me.1 me.0 u (wipe s i x) (seated places st k id me.0 at) has (cells, e, there)
               (sym (ap (λ (z : ℕ). set (words_of w) z 0) word_is
               ∙ ap (λ (l : List ℕ). (2 * w.given + w.live) ∷ w.turn ∷ l) (set_right w.values w.marks ((places + places) + spot places s i) (spot places s i) 0 (omega arith))))
-              refl,
+              refl refl refl,
           λ j y is' there'.
               let same_place = one_mark j is is' in
               let same_value : x ≡ y = one_read me.0.hold i x y has_cell (subst (λ (n : ℕ). HasCell me.0.hold n (Read y)) same_place there') in
@@ -263,36 +310,45 @@ module _ (places : ℕ) where
         one_read (Aimed s) i x y a b = absurd a
         one_read (Settling s xs) i x y a b = absurd a
 
-  pub quits_turn : (slots id : ℕ) (me : Sat) → 0 < me.0.weight → CanQuit me.0.hold → Allows (Kept places) slots id me 1 (λ _. 0) (λ _. gave_up (step slots 1 0 0 none) me 0)
-  quits_turn slots id me has can s k _ at _ =
+  pub quits_turn : (slots id : ℕ) (me : Sat) → 0 < me.0.weight → CanQuit me.0.hold → me.1 ≡ (0, turn_at me.0.turn) ∷ [] → Allows (Kept places) slots id me 1 (λ _. 0) (λ _. gave_up (step slots 1 0 0 none) me 0)
+  quits_turn slots id me has can out s k _ at _ =
       let w : World = k.1 in
-      let there = seated places s k id me.0 at in (
-        holding me.0 Nothing,
-        keeps,
+      let u : Hand = holding me.0 Nothing in
+      let there = seated places s k id me.0 at in
+      let n = can_turn me.0.hold can in
+      let known : me.0.turn ≡ walks_made w = ((placed places s k).each id me.0 there).turn n in
+      let made : walks_made (world_after places w id me.0 quit) ≡ me.0.turn = (let y = total_set walks_of w.hands id me.0 u there in omega arith) in (
+        u,
+        gives,
         tt,
-        moved places s k 1 0 id me.1 me.0 (holding me.0 Nothing) quit there has can refl refl,
-        refl,
+        moved_by places s k 1 0 id me.1 me.0 u quit gives there has can refl refl (comes_home w s me.1 me.0.turn _ out made k.5),
+        ap (λ (l : List (ℕ × Turn)). (u, slots_rest l)) out,
       )
 
-  pub leaves_turn : (slots id : ℕ) (me : Sat) → 0 < me.0.weight → CanLeave me.0.hold → Allows (Kept places) slots id me 1 (λ _. 0) (λ _. went (step slots 1 0 0 none) me 0)
-  leaves_turn slots id me has can s k _ at _ =
+  pub leaves_turn : (slots id : ℕ) (me : Sat) → 0 < me.0.weight → CanLeave me.0.hold → me.1 ≡ (0, turn_at (me.0.turn + 1)) ∷ [] → Allows (Kept places) slots id me 1 (λ _. 0) (λ _. went (step slots 1 0 0 none) me 0)
+  leaves_turn slots id me has can out s k _ at _ =
       let w : World = k.1 in
       let there = seated places s k id me.0 at in
+      let n = leave_turn me.0 me.0.hold can in
+      let known : me.0.turn ≡ walks_made w = ((placed places s k).each id me.0 there).turn n.0 in
+      let more : walks_of (leaving me.0) ≡ walks_of me.0 + 1 = n.1 in
+      let made : walks_made (world_after places w id me.0 leave) ≡ me.0.turn + 1 = (let y = total_set walks_of w.hands id me.0 (leaving me.0) there in omega arith) in
       let f' = step_facts places 1024 w id me.0 (facts places s k) there has leave can in (
         leaving me.0,
-        keeps,
+        gives,
         tt,
-        moved places s k 1 0 id me.1 me.0 (leaving me.0) leave there has can refl refl,
+        moved_by places s k 1 0 id me.1 me.0 (leaving me.0) leave gives there has can refl refl (comes_home w s me.1 (me.0.turn + 1) _ out made k.5),
         (
-          refl,
+          ap (λ (l : List (ℕ × Turn)). (leaving me.0, slots_rest l)) out,
           (λ whole clearing h. everything w whole ((facts places s k).each id me.0 there).hold clearing h (set_here w.hands id (leaving me.0) (at_below w.hands id me.0 there)) f'),
-          λ whole side cells e h. all_read w whole side cells e ((facts places s k).each id me.0 there).hold (facts places s k) (subst CanLeave e can) h (set_here w.hands id (leaving me.0) (at_below w.hands id me.0 there)) f',
+          (λ whole side cells e h. all_read w whole side cells e ((facts places s k).each id me.0 there).hold (facts places s k) (subst CanLeave e can) h (set_here w.hands id (leaving me.0) (at_below w.hands id me.0 there)) f'),
+          finds places w id me.0 (facts places s k) (placed places s k) there has me.0.hold refl can,
         ),
       )
     where
       -- where a whole thread's clear leaves, nothing is left
       everything : (w : World) → me.0.weight ≡ 1024 → HoldFits places 1024 w me.0.weight me.0.hold → IsClearing me.0.hold → (h : ℕ → ℕ) → get_elem? (set w.hands id (leaving me.0)) id ≡ some (leaving me.0)
-          → Facts places 1024 (world_after places w id me.0 leave) → weigh h me.0.pushed ≡ weigh_walks h (leaving me.0).taken
+          → Facts places 1024 (world_after places w id me.0 leave) → weigh_pushes h me.0.pushed ≡ weigh_walks h (leaving me.0).taken
       everything w whole fits clearing h there f =
           let l = left_same me.0 me.0.hold clearing in
           let none = clear_given places w me.0.weight me.0.hold fits clearing whole in
@@ -300,7 +356,7 @@ module _ (places : ℕ) where
           let some_weight : 0 < (leaving me.0).weight = omega arith in
           let b = learns places 1024 (world_after places w id me.0 leave) id (leaving me.0) f there some_weight heavy l.0 h in
           let empty : weigh h (live_values places (world_after places w id me.0 leave)) ≡ 0 = (λ i. weigh h (take (none i) (drop (base places w.live) w.values))) in
-          let same : weigh h (leaving me.0).pushed ≡ weigh h me.0.pushed = ap (weigh h) l.2 in
+          let same : weigh_pushes h (leaving me.0).pushed ≡ weigh_pushes h me.0.pushed = ap (weigh_pushes h) l.2 in
           omega arith
 
       side_low : (s : ℕ) → base places s ≤ places
@@ -309,7 +365,7 @@ module _ (places : ℕ) where
 
       -- a whole thread's reading walk has read all that was pushed and not taken
       all_read : (w : World) → me.0.weight ≡ 1024 → (side : ℕ) (cells : List Cell) → me.0.hold ≡ Reading side cells → HoldFits places 1024 w me.0.weight me.0.hold → Facts places 1024 w → CanLeave (Reading side cells) → (h : ℕ → ℕ)
-          → get_elem? (set w.hands id (leaving me.0)) id ≡ some (leaving me.0) → Facts places 1024 (world_after places w id me.0 leave) → weigh h me.0.pushed ≡ weigh h (values_in cells) + weigh_walks h me.0.taken
+          → get_elem? (set w.hands id (leaving me.0)) id ≡ some (leaving me.0) → Facts places 1024 (world_after places w id me.0 leave) → weigh_pushes h me.0.pushed ≡ weigh h (values_in cells) + weigh_walks h me.0.taken
       all_read w whole side cells e fits0 f0 can_leave h there f =
           let fits : HoldFits places 1024 w me.0.weight (Reading side cells) = subst (HoldFits places 1024 w me.0.weight) e fits0 in
           let v : Hand = left_from me.0 (Reading side cells) in
@@ -317,7 +373,7 @@ module _ (places : ℕ) where
           let heavy : (leaving me.0).weight ≡ 1024 = ap (λ (z : Hand). z.weight) is ∙ whole in
           let some_weight : 0 < (leaving me.0).weight = omega arith in
           let b = learns places 1024 (world_after places w id me.0 leave) id (leaving me.0) f there some_weight heavy (ap (λ (z : Hand). z.hold) is) h in
-          let pushed : weigh h (leaving me.0).pushed ≡ weigh h me.0.pushed = ap (λ (z : Hand). weigh h z.pushed) is in
+          let pushed : weigh_pushes h (leaving me.0).pushed ≡ weigh_pushes h me.0.pushed = ap (λ (z : Hand). weigh_pushes h z.pushed) is in
           let taken : weigh_walks h (leaving me.0).taken ≡ weigh_walks h me.0.taken = ap (λ (z : Hand). weigh_walks h z.taken) is in
           let n = fits.3 whole in
           let long = f0.values_long in

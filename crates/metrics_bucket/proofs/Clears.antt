@@ -241,7 +241,7 @@ module _ (places all : ℕ) (w : World) (id : ℕ) (v : Hand) (f : Facts places 
     whole_live = let s = sole took_of (λ u i. let a : length u.taken ≡ 0 = ap length i.1 in let b : took_in u.hold ≡ 0 = ap took_in i.3 in omega arith) in let t : took_in v.hold ≡ 0 = ap took_in free in
         let same_total : total took_of w.hands ≡ length v.taken = omega arith in f.swaps ∙ ap (λ (n : ℕ). n % 2) same_total
 
-    whole_marks : (s i : ℕ) → s < 2 → i < places → get_or w.marks (spot places s i) 0 ≡ given_at w.live w.given s i
+    pub whole_marks : (s i : ℕ) → s < 2 → i < places → get_or w.marks (spot places s i) 0 ≡ given_at w.live w.given s i
     whole_marks s i a b =
         let x = f.even s i a b in
         let t = sole (ticket_at s i) (λ u z. ap (ticket_in s i) z.3) in

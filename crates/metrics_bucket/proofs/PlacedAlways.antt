@@ -5,6 +5,8 @@ use mathlib.Core.Option.{some, some-injective, some-ne-none}
 use native.Mathlib.Decide.{ℕ_discrete, dec_le}
 use lib.ListN.{get_elem?}
 use Rattle.atomic_table.proofs.Lists.{at_set, at_snoc, set_else}
+use Rattle.atomic_table.specs.Table.{State}
+use Rattle.metrics_bucket.specs.declared.hand.Turn.{Turn}
 use Rattle.metrics_bucket.specs.declared.hand.Push.{Push}
 use Rattle.metrics_bucket.specs.declared.hand.Walk.{Walk}
 use Rattle.metrics_bucket.specs.declared.hand.Hand.{Hand}
@@ -12,15 +14,15 @@ use Rattle.metrics_bucket.specs.declared.hand.Hold.{Hold}
 use Rattle.metrics_bucket.specs.declared.hand.Hold.TheVariants.{Nothing, Ticket, Written, Claimed, Aimed, Reading, Clearing, Settling}
 use Rattle.metrics_bucket.specs.declared.hand.Cell.{Cell}
 use Rattle.metrics_bucket.specs.declared.hand.Cell.TheVariants.{Unseen, Marked, Read, Wiped}
-use Rattle.metrics_bucket.specs.World.{World, total, walks_of, walks_made, other, spot, side_of, put_cell, new_hand, holds_as, holding, left_from, left_part, right_part, both_parts, live_values, Act, look, gather, ticket, write, finish, claim, survey, aim, takes, see, read, wipe, leave, quit, split, join, world_after}
+use Rattle.metrics_bucket.specs.World.{World, total, walks_of, walks_made, other, spot, side_of, put_cell, new_hand, whole_hand, holds_as, holding, left_from, left_part, right_part, both_parts, live_values, Act, look, gather, ticket, write, finish, claim, survey, aim, takes, see, read, wipe, leave, quit, split, join, world_after}
 use Rattle.metrics_bucket.specs.Facts.{same, below, turn_in, took_in, took_of, CellFits, HoldFits, Facts}
 use Rattle.metrics_bucket.specs.Places.{pushes_at, values_at, pushed_at, value_at, held_in, tickets_at, lengths_of, clearing_of, told_of, given_of, walks_at, is_wiped, wiped_place, wiped_hold, wipes_at, mark_of, IsPush, IsEpochOf, WalkFinds, CellFinds, CellsFind, HoldPlaced, HandPlaced, Placed}
-use Rattle.metrics_bucket.specs.History.{HasCell, CanLeave, CanQuit, May, Event, Runs}
+use Rattle.metrics_bucket.specs.History.{HasCell, CanLeave, CanQuit, May, Event, Runs, opened, Kept}
 use Rattle.metrics_bucket.proofs.Sums.{total_set, total_snoc, total_zero, given_else}
 use Rattle.metrics_bucket.proofs.Cells.{new_cell}
 use Rattle.metrics_bucket.proofs.Keep.{at_below, other_side}
 use Rattle.metrics_bucket.proofs.Shares.{zeros, fresh, IsNew}
-use Rattle.metrics_bucket.proofs.Histories.{step_facts}
+use Rattle.metrics_bucket.proofs.Histories.{step_facts, opened_facts, opened_new}
 use Rattle.metrics_bucket.proofs.Placing.{pushes_at-append, values_at-append, lengths_of-append, walks_at-append, cond_same, cell_kept, hold_kept, hand_kept}
 use Rattle.metrics_bucket.proofs.PlacingSteps.{keeps_places, tickets, writes, finishes, takes_side, wipes, leaves_clear, leaves_read, reads_push, wiped_same}
 
@@ -267,3 +269,7 @@ pub runs_placed : (places all : ℕ) (w : World) (history : List Event) (w' : Wo
 runs_placed places all w [] w' f p r = subst (Placed places) r p
 runs_placed places all w (e ∷ es) w' f p r =
     runs_placed places all (world_after places w e.by r.0 e.act) es w' (step_facts places all w e.by r.0 f r.1 r.2 e.act r.3) (step_placed places all w e.by r.0 f p r.1 r.2 e.act r.3) r.4
+
+-- the places in a running table
+pub placed : (places : ℕ) (s : State Turn Hand) (k : Kept places s) → Placed places k.1
+placed places s k = runs_placed places 1024 (opened places) k.0 k.1 (opened_facts places) (opens_placed places (whole_hand places ∷ []) (opened_new places)) k.2

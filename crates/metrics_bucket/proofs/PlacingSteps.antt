@@ -51,7 +51,7 @@ length_values : (cells : List Cell) → length (values_in cells) ≡ length cell
 length_values [] = refl
 length_values (c ∷ cs) = ap suc (length_values cs)
 
-value_there : (cells : List Cell) (i : ℕ) → i < length (values_in cells) → (c : Cell) × (get_elem? cells i ≡ some c) × (get_or (values_in cells) i 0 ≡ value_in c)
+pub value_there : (cells : List Cell) (i : ℕ) → i < length (values_in cells) → (c : Cell) × (get_elem? cells i ≡ some c) × (get_or (values_in cells) i 0 ≡ value_in c)
 value_there [] i l = absurd (omega arith)
 value_there (c ∷ cs) zero l = (c, refl, refl)
 value_there (c ∷ cs) (suc i) l = value_there cs i (omega arith)

@@ -76,7 +76,7 @@ abbrev pub turn_at : ℕ → Turn
 turn_at walks = record { walks = walks % 2 ^ 64 }
 
 -- it is at home while the turn is free
-abbrev at_home : ℕ → ℕ → Option Turn
+abbrev pub at_home : ℕ → ℕ → Option Turn
 at_home zero walks = some (turn_at walks)
 at_home (suc n) walks = none
 
