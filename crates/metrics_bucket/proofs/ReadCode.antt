@@ -9,9 +9,9 @@ use Rattle.metrics_bucket.specs.declared.hand.Hold.{Hold}
 use Rattle.metrics_bucket.specs.declared.hand.Hold.TheVariants.{Reading}
 use Rattle.metrics_bucket.specs.declared.hand.Cell.{Cell}
 use Rattle.metrics_bucket.specs.declared.hand.Cell.TheVariants.{Unseen, Marked, Read}
-use Rattle.metrics_bucket.specs.World.{holding, leaving, left_from, put_cell, cells_of, value_in, values_in}
+use Rattle.metrics_bucket.specs.World.{walk, with_read, holding, leaving, left_from, put_cell, cells_of, value_in, values_in}
 use Rattle.metrics_bucket.specs.History.{CanLeave}
-use Rattle.metrics_bucket.specs.ReadChunks.{Reads, with_read}
+use Rattle.metrics_bucket.specs.ReadChunks.{Reads}
 use Rattle.metrics_bucket.specs.Plays.{Sat}
 use Rattle.metrics_bucket.proofs.Keep.{at_below}
 use Rattle.metrics_bucket.proofs.WalkCode.{set_twice, cell_there, new_at, length_cells}
@@ -91,5 +91,5 @@ can_leave m m' side given c h =
     subst CanLeave (sym (ap (λ (z : Sat). z.0.hold) c.me))
     (λ i d there. let below = at_below (cells_of m'.0.hold) i d there in let t = c.found i (omega arith) (omega arith) in (t.0, sym (some-injective (Read t.0) d (sym t.1 ∙ there))))
 
-pub left_read : (m m' : Sat) (side : ℕ) (cells : List Cell) → m.0.hold ≡ Reading side cells → m' ≡ (leaving m.0, m.1) → m' ≡ (with_read m.0 (values_in cells), m.1)
-left_read m m' side cells h e = e ∙ (λ i. (left_from m.0 (h i), m.1))
+pub left_read : (m m' : Sat) (side : ℕ) (cells : List Cell) → m.0.hold ≡ Reading side cells → m' ≡ (leaving m.0, []) → m' ≡ (with_read m.0 (walk m.0.epoch (values_in cells)), [])
+left_read m m' side cells h e = e ∙ (λ i. (left_from m.0 (h i), []))

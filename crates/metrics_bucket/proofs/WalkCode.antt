@@ -16,10 +16,12 @@ use Rattle.metrics_bucket.specs.declared.hand.Hold.{Hold}
 use Rattle.metrics_bucket.specs.declared.hand.Hold.TheVariants.{Clearing}
 use Rattle.metrics_bucket.specs.declared.hand.Cell.{Cell}
 use Rattle.metrics_bucket.specs.declared.hand.Cell.TheVariants.{Unseen, Marked, Read, Wiped}
-use Rattle.metrics_bucket.specs.World.{other, holding, leaving, left_from, put_cell, cells_of, value_in, values_in}
+use Rattle.metrics_bucket.specs.World.{other, walk, holding, leaving, left_from, put_cell, cells_of, value_in, values_in}
 use Rattle.metrics_bucket.specs.History.{CanLeave}
 use Rattle.metrics_bucket.specs.Blocks.{chunk, chunks_from, valued}
-use Rattle.metrics_bucket.specs.Chunks.{Clears, with_taken}
+use Rattle.metrics_bucket.specs.declared.hand.Push.{Push}
+use Rattle.metrics_bucket.specs.Chunks.{Clears, has_taken}
+use Rattle.metrics_bucket.specs.Places.{Reaches, Finds, Covers}
 use Rattle.metrics_bucket.proofs.Blocks.{part_next}
 use Rattle.metrics_bucket.specs.Plays.{Sat}
 use Rattle.metrics_bucket.proofs.Keep.{at_below}
@@ -207,8 +209,15 @@ can_leave m m' side given c h =
     subst CanLeave (sym (ap (λ (z : Sat). z.0.hold) c.me))
     (λ i d there. let below = at_below (cells_of m'.0.hold) i d there in let t = c.wiped i (omega arith) (omega arith) in (t.0, sym (some-injective (Wiped t.0) d (sym t.1 ∙ there))))
 
-pub left_clear : (m m' : Sat) (side : ℕ) (cells : List Cell) → m.0.hold ≡ Clearing side cells → m' ≡ (leaving m.0, m.1) → m' ≡ (with_taken m.0 (values_in cells), m.1)
-left_clear m m' side cells h e = e ∙ (λ i. (left_from m.0 (h i), m.1))
+pub left_clear : (m m' : Sat) (side epoch turn : ℕ) (cells : List Cell) → m.0.hold ≡ Clearing side cells → m.0.epoch ≡ epoch → m.0.turn ≡ turn → m' ≡ (leaving m.0, []) → m' ≡ (has_taken m.0 turn (walk epoch (values_in cells)), [])
+left_clear m m' side epoch turn cells h of_epoch of_turn e = e ∙ ((λ i. (left_from m.0 (h i), [])) ∙ (λ i. (has_taken m.0 (of_turn i) (walk (of_epoch i) (values_in cells)), [])))
+
+-- a walk that went over all places has the thread's own pushes
+pub covered : (pushed : List Push) (epoch end : ℕ) (list : List ℕ) → Reaches pushed epoch end → length list ≡ end → Finds pushed (walk epoch list) → Covers pushed (walk epoch list)
+covered pushed epoch end list reach long finds n q there = ⊎_elim
+    (λ (low : q.epoch < epoch). inl low)
+    (λ (r : (q.epoch ≡ epoch) × (q.place < end)). let below : q.place < length list = subst (λ (z : ℕ). q.place < z) (sym long) r.1 in inr (r.0, below, finds n q there r.0 below))
+    (reach n q there)
 
 -- calls seen through a part of the state
 pub folds_seen : {P Q A : Type 0} (R : P → A → P → Type 0) (part : Q → P) (p : Q) (xs : List A) (q : Q) → FoldsTo (λ p x q. R (part p) x (part q)) p xs q → FoldsTo R (part p) xs (part q)

@@ -23,3 +23,7 @@ has_read v n walk = with_read (holds_as v walk.epoch n Nothing) walk
 -- a reading walk that claimed the turn and looked at the control word
 abbrev pub surveying : Hand → ℕ → ℕ → ℕ → Hand
 surveying v epoch n control = holds_as v epoch n (Reading (control % 2) (replicate (control / 2) Unseen))
+
+-- nothing was noted and nothing is held, perhaps after a claim
+abbrev pub IsFree : Sat → Sat → Type 0
+IsFree m m' = (e : ℕ) × (n : ℕ) × (m' ≡ (holds_as m.0 e n Nothing, []))

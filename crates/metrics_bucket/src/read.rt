@@ -12,7 +12,7 @@ ghost use Rattle.metrics_bucket.specs.World.{holding, with_read, put_cell, side_
 ghost use Rattle.metrics_bucket.specs.History.{HasCell, CanQuit, turn_at};
 ghost use Rattle.metrics_bucket.specs.Room.{RoomFits};
 ghost use Rattle.metrics_bucket.specs.Account.{read_account};
-ghost use Rattle.metrics_bucket.specs.ReadChunks.{Reads, has_read, surveying};
+ghost use Rattle.metrics_bucket.specs.ReadChunks.{Reads, has_read, surveying, IsFree};
 ghost use Rattle.metrics_bucket.specs.Chunks.{AreUnseen};
 ghost use Rattle.metrics_bucket.specs.declared.hand.Hold.TheVariants.{Nothing, Reading};
 ghost use Rattle.metrics_bucket.specs.declared.hand.Cell.TheVariants.{Unseen, Marked, Read};
@@ -172,7 +172,7 @@ impl<T: Sample> RuledBucket<T> {
         requires room { RoomFits T.row }
         ensures table { seat.new.table_id ≡ seat.old.table_id }
         ensures ok { IfOk result (λ v. (w : Walk) × (k : ℕ) × (v.items ≡ map T.value (blocks w.values)) × (seat.new.me ≡ (has_read seat.old.me.0 k w, [])) × Covers seat.old.me.0.pushed w × (seat.old.me.0.weight ≡ 1024 → w.epoch ≡ length seat.old.me.0.taken) × (seat.old.me.0.weight ≡ 1024 → (h : ℕ → ℕ) → weigh_pushes h seat.old.me.0.pushed ≡ weigh h w.values + weigh_walks h seat.old.me.0.taken)) }
-        ensures err { IfErr result (λ e. (seat.new.me ≡ seat.old.me) × ((e ≡ Error.Memory) ⊎ ((e ≡ Error.Busy) × (seat.old.me.0.weight ≢ 1024)))) }
+        ensures err { IfErr result (λ e. IsFree seat.old.me seat.new.me × ((e ≡ Error.Memory) ⊎ ((e ≡ Error.Busy) × (seat.old.me.0.weight ≢ 1024)))) }
     {
         let control = self.survey_seat(seat)?;
         let Ok(values) = Vec::with_capacity(alloc, (control / 2) as usize) else {

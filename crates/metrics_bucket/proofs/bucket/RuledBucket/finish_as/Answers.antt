@@ -1,7 +1,8 @@
-use Rattle.std.proofs.Common.{rules, ◌≡◌, ℕ, Some, ◌+◌, ◌*◌, ◌<◌, ◌∙◌, ap, subst, sym, arith}
+use Rattle.std.proofs.Common.{rules, ◌≡◌, ℕ, Some, false, ◌+◌, ◌*◌, ◌<◌, ◌∙◌, ap, subst, sym, arith}
 use Rattle.metrics_bucket.specs.declared.hand.Hold.TheVariants.{Ticket}
-use Rattle.metrics_bucket.specs.World.{spot, pushing}
-use Rattle.metrics_bucket.specs.Account.{Account, Home, TicketFits, hold_of}
+use Rattle.metrics_bucket.specs.World.{spot, push, pushing}
+use Rattle.metrics_bucket.specs.Account.{Account, Home, TicketFits, hold_of, with_push}
+use Rattle.metrics_bucket.specs.Pens.{account_of}
 use Rattle.metrics_bucket.specs.Plays.{Sat}
 use Rattle.metrics_bucket.proofs.Allowed.{puts, marks}
 use Rattle.metrics_bucket.proofs.bucket.RuledBucket.finish_as.Goals as goal
@@ -43,7 +44,7 @@ invariant_of-pen g c =
     let hold : c.pen.inside.seat.me.0.hold ≡ Ticket c.in-Some.side c.in-Some.at = i.holds ∙ ap hold_of c.in-Some.is in
     let now = c.store.ensures.2 c.in-Some.side c.in-Some.at hold in
     let then = c.store-2.ensures.2 c.in-Some.side c.in-Some.at c.to_word.result (ap (λ (m : Sat). m.0.hold) now) in
-    let all : c.store-2.new.seat.me ≡ (pushing c.pen.inside.seat.me.0 c.to_word.result, c.pen.inside.seat.me.1) = then ∙ ap (λ (m : Sat). (pushing m.0 c.to_word.result, m.1)) now in
+    let all : c.store-2.new.seat.me ≡ (pushing c.pen.inside.seat.me.0 c.in-Some.at c.to_word.result, c.pen.inside.seat.me.1) = then ∙ ap (λ (m : Sat). (pushing m.0 c.in-Some.at c.to_word.result, m.1)) now in
     record {
       seated = search rules;
       some_word = search rules;
@@ -54,3 +55,31 @@ invariant_of-pen g c =
       holds = ap (λ (m : Sat). m.0.hold) all;
       fits = tt;
     }
+
+pub returns : goal.returns
+returns g c =
+    let i = c.pen.invariant in
+    let hold : c.pen.inside.seat.me.0.hold ≡ Ticket c.in-Some.side c.in-Some.at = i.holds ∙ ap hold_of c.in-Some.is in
+    let now = c.store.ensures.2 c.in-Some.side c.in-Some.at hold in
+    let then = c.store-2.ensures.2 c.in-Some.side c.in-Some.at c.to_word.result (ap (λ (m : Sat). m.0.hold) now) in
+    let all : c.store-2.new.seat.me ≡ (pushing c.pen.inside.seat.me.0 c.in-Some.at c.to_word.result, c.pen.inside.seat.me.1) = then ∙ ap (λ (m : Sat). (pushing m.0 c.in-Some.at c.to_word.result, m.1)) now in
+    let f : TicketFits (Some (c.in-Some.side, c.in-Some.at)) c.pen.inside.seat.me.0.places = rw c.in-Some.is at c.pen.invariant.fits in
+    let p : c.pen.inside.seat.me.0.places ≡ c.args.pen.now.home.places = ap (λ (a : Account). a.home.places) c.pen.view_is in
+    let epoch : ℕ = c.pen.inside.seat.me.0.epoch in
+    let table : c.store-2.new.seat.table_id ≡ c.pen.inside.seat.table_id = c.store-2.ensures.0 ∙ c.store.ensures.0 in
+    let word : c.to_word.result ≡ g.T.Sample.word c.args.value = c.to_word.ensures in
+    let seen : Sat → Account = λ (m : Sat). record {
+      home = record { table = c.store-2.new.seat.table_id; places = m.0.places };
+      weight = m.0.weight;
+      pushed = m.0.pushed;
+      taken = m.0.taken;
+      read = m.0.read;
+      ticket = false;
+    } in (
+      epoch,
+      c.in-Some.at,
+      subst (λ (n : ℕ). c.in-Some.at < n) p f.1,
+      ap seen all
+          ∙ ((λ k. with_push (record (account_of c.pen.inside) { home = record { table = table k; places = c.pen.inside.seat.me.0.places } }) (push epoch c.in-Some.at (word k)))
+          ∙ ap (λ (a : Account). with_push a (push epoch c.in-Some.at (g.T.Sample.word c.args.value))) c.pen.view_is),
+    )

@@ -1,23 +1,51 @@
-use Rattle.std.proofs.Common.{rules, ◌≡◌, ℕ, List, [], ◌+◌, ◌/◌, ◌≤◌, ap, ◌∙◌, subst, arith}
-use Rattle.std.specs.Prelude.{vec_capacity}
+use Rattle.std.proofs.Common.{rules, ◌≡◌, ℕ, List, [], ◌∷◌, length, ◌+◌, ◌/◌, ◌≤◌, refl, inl, sym, ap, ◌∙◌, subst, arith}
+use Rattle.metrics_bucket.specs.declared.hand.Walk.{Walk}
+use Rattle.metrics_bucket.specs.declared.hand.Push.{Push}
+use Rattle.metrics_bucket.specs.World.{with_read, holds_as, holding}
+use Rattle.metrics_bucket.specs.declared.hand.Hold.TheVariants.{Nothing}
+use Rattle.metrics_bucket.specs.History.{turn_at, CanQuit}
+use Rattle.metrics_bucket.specs.Places.{Reaches, Covers}
 use Rattle.metrics_bucket.specs.Plays.{Sat}
-use Rattle.metrics_bucket.specs.Facts.{weigh, weigh_walks}
-use Rattle.metrics_bucket.specs.ReadChunks.{with_read}
+use Rattle.metrics_bucket.specs.Facts.{weigh, weigh_pushes, weigh_walks}
+use Rattle.metrics_bucket.specs.ReadChunks.{has_read}
+use Rattle.std.specs.Prelude.{vec_capacity}
 use Rattle.metrics_bucket.specs.Gathers.{Gathers}
 use Rattle.metrics_bucket.proofs.WalkCode.{folds_seen}
 use Rattle.metrics_bucket.proofs.Gathers.{gathered_are}
 use Rattle.metrics_bucket.proofs.bucket.RuledBucket.gather_seat.Goals as goal
 
+abbrev IsOut : Sat → Type 0
+IsOut m = m.1 ≡ (0, turn_at m.0.turn) ∷ []
+
+pub read_seat-requires-clause-turn : goal.read_seat-requires-clause-turn
+read_seat-requires-clause-turn g c = let e = c.in_ok-control.ensures.ok in subst IsOut (sym e.2) refl
+
+pub read_seat-requires-clause-reach : goal.read_seat-requires-clause-reach
+read_seat-requires-clause-reach g c = let e = c.in_ok-control.ensures.ok in subst (λ (m : Sat). Reaches m.0.pushed m.0.epoch (c.in_ok-control.control / 2)) (sym e.2) e.4
+
+pub quit_seat-requires-clause-hold : goal.quit_seat-requires-clause-hold
+quit_seat-requires-clause-hold g c = let e = c.in_ok-control.ensures.ok in subst (λ (m : Sat). CanQuit m.0.hold × IsOut m) (sym e.2) (tt, refl)
+
 pub returns-clause-ok : goal.returns-clause-ok
 returns-clause-ok g c =
-    let e = c.in_ok-control.ensures.ok.0 in
+    let e = c.in_ok-control.ensures.ok in
     let r = c.read_seat.ensures.read in
-    let list : List ℕ = r.0 in
+    let w : Walk = r.0 in
+    let of_epoch : w.epoch ≡ e.0 = r.3 ∙ ap (λ (m : Sat). m.0.epoch) e.2 in
     let none : c.in-Ok.values.items ≡ [] = search rules in
     let room : c.in_ok-control.control / 2 ≤ vec_capacity c.in-Ok.values = search rules in
     let long = r.1 in (
-      list,
-      gathered_are g.T.Sample.value list c.in-Ok.values c.read_seat.new.visitor.values none (omega arith) (folds_seen Gathers (λ s. s.values) _ _ _ r.4),
-      r.2 ∙ ap (λ (z : Sat). (with_read z.0 list, z.1)) e,
-      subst (λ (z : Sat). z.0.weight ≡ 1024 → (h : ℕ → ℕ) → weigh h z.0.pushed ≡ weigh h list + weigh_walks h z.0.taken) e r.3,
+      w,
+      e.1,
+      gathered_are g.T.Sample.value w.values c.in-Ok.values c.read_seat.new.visitor.values none (omega arith) (folds_seen Gathers (λ s. s.values) _ _ _ r.6),
+      r.2 ∙ (let read : Sat → Sat = λ (z : Sat). (with_read z.0 w, []) in ap read e.2 ∙ (λ i. (with_read (holds_as c.args.seat.now.me.0 (sym of_epoch i) e.1 Nothing) w, []))),
+      subst (λ (z : List Push). Covers z w) (ap (λ (m : Sat). m.0.pushed) e.2) r.4,
+      (λ whole. of_epoch ∙ e.5 whole),
+      subst (λ (z : Sat). z.0.weight ≡ 1024 → (h : ℕ → ℕ) → weigh_pushes h z.0.pushed ≡ weigh h w.values + weigh_walks h z.0.taken) e.2 r.5,
     )
+
+pub returns-in_default-clause-err : goal.returns-in_default-clause-err
+returns-in_default-clause-err g c =
+    let e = c.in_ok-control.ensures.ok in
+    let q = c.quit_seat.ensures.1 in
+    ((e.0, e.1, q ∙ ap (λ (m : Sat). (holding m.0 Nothing, [])) e.2), inl refl)

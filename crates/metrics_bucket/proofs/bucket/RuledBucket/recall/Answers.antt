@@ -2,7 +2,8 @@ use Rattle.std.proofs.Common.{rules, ◌≡◌, ℕ, suc, ◌+◌, ◌-◌, ◌*
 use Rattle.metrics_bucket.specs.Facts.{weigh}
 use Rattle.metrics_bucket.specs.Plays.{Sat, values_known}
 use Rattle.metrics_bucket.specs.Blocks.{chunk, first_chunks, blocks}
-use Rattle.metrics_bucket.specs.History.{Shows}
+use Rattle.metrics_bucket.specs.Places.{Covers}
+use Rattle.metrics_bucket.specs.World.{walk}
 use Rattle.metrics_bucket.proofs.Allowed.{gathers_all}
 use Rattle.metrics_bucket.proofs.Blocks.{count_of, chunk_cut, chunks_step, chunk_length, weigh_blocks}
 use Rattle.metrics_bucket.proofs.bucket.RuledBucket.recall.Goals as goal
@@ -37,9 +38,9 @@ returns g c =
         V,
         all,
         λ h. let b = t.4 h in let w = weigh_blocks h V in let k : weigh h V ≡ weigh h t.0 = ap (weigh h) known in omega arith,
+        subst (λ (l : List ℕ). Covers c.args.seat.now.me.0.pushed (walk (length c.args.seat.now.me.0.taken) l)) (sym known) t.6,
       ),
       t.5,
-      (V, all, subst (λ (l : List ℕ). Shows c.args.seat.now.me.0 l) (sym known) t.6),
     )
 
 pub loop-chunks-preserved : goal.loop-chunks-preserved
