@@ -16,14 +16,14 @@ use Rattle.metrics_bucket.specs.declared.hand.Cell.{Cell}
 use Rattle.metrics_bucket.specs.declared.hand.Cell.TheVariants.{Unseen, Marked, Read, Wiped}
 use Rattle.metrics_bucket.specs.World.{World, total, walks_of, walks_made, other, spot, side_of, put_cell, new_hand, whole_hand, holds_as, holding, left_from, left_part, right_part, both_parts, live_values, Act, look, gather, ticket, write, finish, claim, survey, aim, takes, see, read, wipe, leave, quit, split, join, world_after}
 use Rattle.metrics_bucket.specs.Facts.{same, below, turn_in, took_in, took_of, CellFits, HoldFits, Facts}
-use Rattle.metrics_bucket.specs.Places.{pushes_at, values_at, pushed_at, value_at, held_in, tickets_at, lengths_of, clearing_of, told_of, given_of, walks_at, is_wiped, wiped_place, wiped_hold, wipes_at, mark_of, IsPush, IsEpochOf, WalkFinds, CellFinds, CellsFind, HoldPlaced, HandPlaced, Placed}
+use Rattle.metrics_bucket.specs.Places.{pushes_at, values_at, pushed_at, value_at, held_in, tickets_at, lengths_of, clearing_of, told_of, walks_in, takes_in, given_of, walks_at, is_wiped, wiped_place, wiped_hold, wipes_at, mark_of, IsPush, IsEpochOf, WalkFinds, CellFinds, CellsFind, HoldPlaced, HandPlaced, Placed}
 use Rattle.metrics_bucket.specs.History.{HasCell, CanLeave, CanQuit, May, Event, Runs, opened, Kept}
 use Rattle.metrics_bucket.proofs.Sums.{total_set, total_snoc, total_zero, given_else}
 use Rattle.metrics_bucket.proofs.Cells.{new_cell}
 use Rattle.metrics_bucket.proofs.Keep.{at_below, other_side}
 use Rattle.metrics_bucket.proofs.Shares.{zeros, fresh, IsNew}
 use Rattle.metrics_bucket.proofs.Histories.{step_facts, opened_facts, opened_new}
-use Rattle.metrics_bucket.proofs.Placing.{pushes_at-append, values_at-append, lengths_of-append, walks_at-append, cond_same, cell_kept, hold_kept, hand_kept}
+use Rattle.metrics_bucket.proofs.Placing.{pushes_at-append, values_at-append, lengths_of-append, walks_in-append, walks_at-append, cond_same, cell_kept, hold_kept, hand_kept}
 use Rattle.metrics_bucket.proofs.PlacingSteps.{keeps_places, tickets, writes, finishes, takes_side, wipes, leaves_clear, leaves_read, reads_push, wiped_same}
 
 none_here : (i : ℕ) → below i 0 ≡ 0
@@ -45,6 +45,8 @@ opens_placed places hands new =
           let g : given_of e (fresh places hands) ≡ 0 = (let a = none_told e in let b = cond_same e 0 0 in omega arith) in
           t ∙ sym (ap (below i) g);
       told = λ e l. none_told e;
+      room = λ e. let a = none_told e in omega arith;
+      once = λ e. total_zero (takes_in e) hands (λ j v at. let n = (new j v at).1 in let a : walks_in e v.taken ≡ 0 = ap (walks_in e) n.1 in let b : cond (eqb e v.epoch) (took_in v.hold) 0 ≡ 0 = ap (λ (k : ℕ). cond (eqb e v.epoch) k 0) (ap took_in n.3) ∙ cond_same e v.epoch 0 in omega arith);
       one_place = λ e i l.
           let a = none_pushed e i in
           let b = total_zero (wipes_at e i) hands (λ j v at. let n = (new j v at).1 in let x : walks_at e i v.taken ≡ 0 = ap (walks_at e i) n.1 in let y : wiped_hold e i v.epoch v.hold ≡ 0 = ap (wiped_hold e i v.epoch) n.3 in omega arith) in
@@ -69,7 +71,7 @@ at_either (x ∷ xs) ys (suc n) a e = at_either xs ys n a e
 
 -- other lists of threads that have as much of everything
 module _ (places : ℕ) (w : World) (p : Placed places w) (hands : List Hand) (pushed : (e i : ℕ) → total (pushed_at e i) hands ≡ total (pushed_at e i) w.hands) (values : (e i : ℕ) → total (value_at e i) hands ≡ total (value_at e i) w.hands)
-    (ticketed : (e i : ℕ) → total (tickets_at e i) hands ≡ total (tickets_at e i) w.hands) (told : (e : ℕ) → total (told_of e) hands ≡ total (told_of e) w.hands) (wiped : (e i : ℕ) → total (wipes_at e i) hands ≡ total (wipes_at e i) w.hands)
+    (ticketed : (e i : ℕ) → total (tickets_at e i) hands ≡ total (tickets_at e i) w.hands) (told : (e : ℕ) → total (told_of e) hands ≡ total (told_of e) w.hands) (same_takes : (e : ℕ) → total (takes_in e) hands ≡ total (takes_in e) w.hands) (wiped : (e i : ℕ) → total (wipes_at e i) hands ≡ total (wipes_at e i) w.hands)
     (took : total took_of hands ≡ total took_of w.hands) (walks : total walks_of hands ≡ total walks_of w.hands) where
   abbrev after : World
   after = record w { hands = hands }
@@ -84,6 +86,8 @@ module _ (places : ℕ) (w : World) (p : Placed places w) (hands : List Hand) (p
   shared each = record {
     tickets = λ e i. ticketed e i ∙ (p.tickets e i ∙ ap (λ (n : ℕ). below i (n + cond (eqb e w.epoch) w.given 0)) (sym (told e)));
     told = λ e l. told e ∙ p.told e l;
+    room = λ e. let a = told e in let b = p.room e in omega arith;
+    once = λ e. same_takes e ∙ p.once e;
     one_place = λ e i l. let a = p.one_place e i l in let b = pushed e i in let c = wiped e i in omega arith;
     marked = λ s i a b m. let t = p.marked s i a b m in (t.0, t.1, shared_pushes t.0 i (get_or w.values (spot places s i) 0) t.2);
     each = each;
@@ -100,12 +104,13 @@ module _ (places : ℕ) (w : World) (p : Placed places w) where
       let values : (e i : ℕ) → total (value_at e i) hands ≡ total (value_at e i) w.hands = λ e i. same_total (value_at e i) refl refl in
       let ticketed : (e i : ℕ) → total (tickets_at e i) hands ≡ total (tickets_at e i) w.hands = λ e i. same_total (tickets_at e i) refl (omega arith) in
       let told : (e : ℕ) → total (told_of e) hands ≡ total (told_of e) w.hands = λ e. same_total (told_of e) refl (omega arith) in
+      let same_takes : (e : ℕ) → total (takes_in e) hands ≡ total (takes_in e) w.hands = λ e. same_total (takes_in e) refl (let z = cond_same e 0 0 in omega arith) in
       let wiped : (e i : ℕ) → total (wipes_at e i) hands ≡ total (wipes_at e i) w.hands = λ e i. same_total (wipes_at e i) refl (omega arith) in
       let took : total took_of hands ≡ total took_of w.hands = same_total took_of refl (omega arith) in
       let walks : total walks_of hands ≡ total walks_of w.hands = same_total walks_of refl (omega arith) in
       let w' : World = record w { hands = hands } in
-      let carry : (u : Hand) → HandPlaced w u → HandPlaced w' u = shared_hand places w p hands pushed values ticketed told wiped took walks in
-      shared places w p hands pushed values ticketed told wiped took walks (λ j u there. ⊎_elim
+      let carry : (u : Hand) → HandPlaced w u → HandPlaced w' u = shared_hand places w p hands pushed values ticketed told same_takes wiped took walks in
+      shared places w p hands pushed values ticketed told same_takes wiped took walks (λ j u there. ⊎_elim
       (λ (r : get_elem? vs j ≡ some u). ⊎_elim
       (λ (t : (j ≡ id) × (left_part v ≡ u)). let k = carry v (p.each id v at) in subst (HandPlaced w') t.1 record { hold = k.hold; turn = k.turn; taken = k.taken; read = k.read })
       (λ (t : (j ≢ id) × (get_elem? w.hands j ≡ some u)). carry u (p.each j u t.1))
@@ -133,16 +138,19 @@ module _ (places : ℕ) (w : World) (p : Placed places w) where
       λ k i. let a = pushes_at-append k i v.pushed x.pushed in let b : held_in k i x.epoch x.hold ≡ 0 = ap (held_in k i x.epoch) d in same_total (tickets_at k i) (omega arith) (omega arith)
       in
       let told : (k : ℕ) → total (told_of k) hands ≡ total (told_of k) w.hands = λ k. let a = lengths_of-append k v.taken x.taken in let b : clearing_of k x.epoch x.hold ≡ 0 = ap (clearing_of k x.epoch) d in same_total (told_of k) (omega arith) (omega arith) in
+      let same_takes : (k : ℕ) → total (takes_in k) hands ≡ total (takes_in k) w.hands =
+      λ k. let a = walks_in-append k v.taken x.taken in let b : cond (eqb k x.epoch) (took_in x.hold) 0 ≡ 0 = ap (λ (n : ℕ). cond (eqb k x.epoch) n 0) (ap took_in d) ∙ cond_same k x.epoch 0 in let c = cond_same k 0 0 in same_total (takes_in k) (omega arith) (omega arith)
+      in
       let wiped : (k i : ℕ) → total (wipes_at k i) hands ≡ total (wipes_at k i) w.hands =
       λ k i. let a = walks_at-append k i v.taken x.taken in let b : wiped_hold k i x.epoch x.hold ≡ 0 = ap (wiped_hold k i x.epoch) d in same_total (wipes_at k i) (omega arith) (omega arith)
       in
       let took : total took_of hands ≡ total took_of w.hands = (let a = length-append v.taken x.taken in let b : took_in x.hold ≡ 0 = ap took_in d in same_total took_of (omega arith) (omega arith)) in
       let walks : total walks_of hands ≡ total walks_of w.hands = (let a = length-append v.taken x.taken in let b = length-append v.read x.read in same_total walks_of (omega arith) (omega arith)) in
       let w' : World = record w { hands = hands } in
-      let carry : (u : Hand) → HandPlaced w u → HandPlaced w' u = shared_hand places w p hands pushed values ticketed told wiped took walks in
+      let carry : (u : Hand) → HandPlaced w u → HandPlaced w' u = shared_hand places w p hands pushed values ticketed told same_takes wiped took walks in
       let mine = carry v (p.each id v at) in
       let his = carry x (p.each other_id x there) in
-      shared places w p hands pushed values ticketed told wiped took walks (λ j u r. ⊎_elim
+      shared places w p hands pushed values ticketed told same_takes wiped took walks (λ j u r. ⊎_elim
       (λ (t : (j ≡ other_id) × (new_hand 0 0 ≡ u)). subst (HandPlaced w') t.1 record {
         hold = tt;
         turn = λ t. absurd (omega arith);
@@ -172,7 +180,7 @@ module _ (places all : ℕ) (w : World) (id : ℕ) (v : Hand) (f : Facts places 
   cell_reading s i cells d e new =
       let placed : HoldPlaced w v.epoch (Reading s cells) = subst (HoldPlaced w v.epoch) e (p.each id v at).hold in
       keeps_places places all w id v f p at has w.turn v.epoch v.turn (Reading s (set cells i d))
-      (λ k j. sym (ap (held_in k j v.epoch) e)) (λ k. sym (ap (clearing_of k v.epoch) e)) (λ k j. sym (ap (wiped_hold k j v.epoch) e)) (sym (ap took_in e))
+      (λ k j. sym (ap (held_in k j v.epoch) e)) (λ k. sym (ap (clearing_of k v.epoch) e)) (λ k j. sym (ap (wiped_hold k j v.epoch) e)) (sym (ap took_in e)) (λ k. ap (λ (n : ℕ). cond (eqb k v.epoch) n 0) (sym (ap took_in e)))
       (placed.0, cells_find v.epoch i cells d placed.1 new) (λ _. (p.each id v at).turn (ap turn_in e))
 
   cell_clearing : (s i : ℕ) (cells : List Cell) (c d : Cell) → v.hold ≡ Clearing s cells → get_elem? cells i ≡ some c → is_wiped d ≡ is_wiped c → CellFinds w v.epoch i d → Placed places record w { hands = set w.hands id (holding v (Clearing s (set cells i d))) }
@@ -181,7 +189,7 @@ module _ (places all : ℕ) (w : World) (id : ℕ) (v : Hand) (f : Facts places 
       keeps_places places all w id v f p at has w.turn v.epoch v.turn (Clearing s (set cells i d))
       (λ k j. sym (ap (held_in k j v.epoch) e))
       (λ k. ap (λ (n : ℕ). cond (eqb k v.epoch) n 0) (length-set cells i d) ∙ sym (ap (clearing_of k v.epoch) e))
-      (λ k j. ap (λ (n : ℕ). cond (eqb k v.epoch) n 0) (wiped_same cells i j c d there same_wiped) ∙ sym (ap (wiped_hold k j v.epoch) e)) (sym (ap took_in e))
+      (λ k j. ap (λ (n : ℕ). cond (eqb k v.epoch) n 0) (wiped_same cells i j c d there same_wiped) ∙ sym (ap (wiped_hold k j v.epoch) e)) (sym (ap took_in e)) (λ k. ap (λ (n : ℕ). cond (eqb k v.epoch) n 0) (sym (ap took_in e)))
       (placed.0, cells_find v.epoch i cells d placed.1 new) (λ _. (p.each id v at).turn (ap turn_in e))
 
   sees : (i : ℕ) (hold : Hold) → v.hold ≡ hold → HasCell hold i Unseen → Placed places record w { hands = set w.hands id (holding v (put_cell hold i Marked)) }
@@ -229,7 +237,8 @@ module _ (places all : ℕ) (w : World) (id : ℕ) (v : Hand) (f : Facts places 
       → ((k i : ℕ) → held_in k i e' hold ≡ 0) → ((k : ℕ) → clearing_of k e' hold ≡ 0) → ((k i : ℕ) → wiped_hold k i e' hold ≡ 0) → took_in hold ≡ 0
       → HoldPlaced w e' hold → (turn_in hold ≡ 1 → t' ≡ walks_made w) → Placed places record w { turn = turn; hands = set w.hands id (holds_as v e' t' hold) }
   quiet turn e' t' hold a b c d a' b' c' d' placed knows =
-      keeps_places places all w id v f p at has turn e' t' hold (λ k i. a' k i ∙ sym (a k i)) (λ k. b' k ∙ sym (b k)) (λ k i. c' k i ∙ sym (c k i)) (d' ∙ sym d) placed knows
+      keeps_places places all w id v f p at has turn e' t' hold (λ k i. a' k i ∙ sym (a k i)) (λ k. b' k ∙ sym (b k)) (λ k i. c' k i ∙ sym (c k i)) (d' ∙ sym d)
+      (λ k. ap (λ (n : ℕ). cond (eqb k e') n 0) d' ∙ (cond_same k e' 0 ∙ sym (ap (λ (n : ℕ). cond (eqb k v.epoch) n 0) d ∙ cond_same k v.epoch 0))) placed knows
 
   quits : (hold : Hold) → v.hold ≡ hold → CanQuit hold → Placed places record w { turn = 0; hands = set w.hands id (holding v Nothing) }
   quits Claimed e c = quiet 0 v.epoch v.turn Nothing (λ k i. ap (held_in k i v.epoch) e) (λ k. ap (clearing_of k v.epoch) e) (λ k i. ap (wiped_hold k i v.epoch) e) (ap took_in e) (λ _ _. refl) (λ _. refl) (λ _ _. refl) refl tt (λ t. absurd (omega arith))
@@ -242,7 +251,7 @@ module _ (places all : ℕ) (w : World) (id : ℕ) (v : Hand) (f : Facts places 
   quits (Settling s xs) e c = absurd c
 
   pub step_placed : (act : Act) → May places all w id v act → Placed places (world_after places w id v act)
-  step_placed look m = keeps_places places all w id v f p at has w.turn v.epoch v.turn v.hold (λ _ _. refl) (λ _. refl) (λ _ _. refl) refl (p.each id v at).hold (p.each id v at).turn
+  step_placed look m = keeps_places places all w id v f p at has w.turn v.epoch v.turn v.hold (λ _ _. refl) (λ _. refl) (λ _ _. refl) refl (λ _. refl) (p.each id v at).hold (p.each id v at).turn
   step_placed gather m =
       let e = m.0 in
       quiet w.turn v.epoch v.turn (Settling w.live (live_values places w)) (λ k i. ap (held_in k i v.epoch) e) (λ k. ap (clearing_of k v.epoch) e) (λ k i. ap (wiped_hold k i v.epoch) e) (ap took_in e) (λ _ _. refl) (λ _. refl) (λ _ _. refl) refl tt (λ t. absurd (omega arith))

@@ -14,7 +14,7 @@ use Rattle.metrics_bucket.specs.declared.hand.Cell.{Cell}
 use Rattle.metrics_bucket.specs.declared.hand.Cell.TheVariants.{Unseen, Marked, Read, Wiped}
 use Rattle.metrics_bucket.specs.World.{World, total, walks_of, walks_made, other, spot, holds_as, value_in, values_in}
 use Rattle.metrics_bucket.specs.Facts.{same, below, turn_in, took_in, took_of, Facts}
-use Rattle.metrics_bucket.specs.Places.{pushes_at, values_at, pushed_at, value_at, held_in, tickets_at, lengths_of, clearing_of, told_of, given_of, walks_at, is_wiped, wiped_place, wiped_hold, wipes_at, mark_of, IsPush, IsEpochOf, WalkFinds, CellFinds, CellsFind, HoldPlaced, HandPlaced, Placed}
+use Rattle.metrics_bucket.specs.Places.{pushes_at, values_at, pushed_at, value_at, held_in, tickets_at, lengths_of, clearing_of, told_of, walks_in, given_of, walks_at, is_wiped, wiped_place, wiped_hold, wipes_at, mark_of, IsPush, IsEpochOf, WalkFinds, CellFinds, CellsFind, HoldPlaced, HandPlaced, Placed}
 use Rattle.metrics_bucket.proofs.Sums.{total_set, total_one, spot_apart, spot_below, here_or, same_here, same_else, below_under, below_over, below_le}
 use Rattle.metrics_bucket.proofs.Keep.{other_side}
 
@@ -33,6 +33,10 @@ values_at-append e i (x ∷ xs) ys = let r = values_at-append e i xs ys in omega
 pub lengths_of-append : (e : ℕ) (xs ys : List Walk) → lengths_of e (xs ++ ys) ≡ lengths_of e xs + lengths_of e ys
 lengths_of-append e [] ys = omega arith
 lengths_of-append e (x ∷ xs) ys = let r = lengths_of-append e xs ys in omega arith
+
+pub walks_in-append : (e : ℕ) (xs ys : List Walk) → walks_in e (xs ++ ys) ≡ walks_in e xs + walks_in e ys
+walks_in-append e [] ys = omega arith
+walks_in-append e (x ∷ xs) ys = let r = walks_in-append e xs ys in omega arith
 
 pub walks_at-append : (e i : ℕ) (xs ys : List Walk) → walks_at e i (xs ++ ys) ≡ walks_at e i xs + walks_at e i ys
 walks_at-append e i [] ys = omega arith

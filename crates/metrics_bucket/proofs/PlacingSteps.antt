@@ -14,12 +14,12 @@ use Rattle.metrics_bucket.specs.declared.hand.Cell.{Cell}
 use Rattle.metrics_bucket.specs.declared.hand.Cell.TheVariants.{Unseen, Marked, Read, Wiped}
 use Rattle.metrics_bucket.specs.World.{World, total, walks_of, walks_made, other, spot, push, walk, holds_as, holding, holding_at, pushing, left_from, value_in, values_in, ticket, write, finish, takes, wipe, world_after}
 use Rattle.metrics_bucket.specs.Facts.{same, below, turn_in, took_in, took_of, ticket_in, ticket_at, CellFits, HoldFits, Facts}
-use Rattle.metrics_bucket.specs.Places.{pushes_at, values_at, pushed_at, value_at, held_in, tickets_at, lengths_of, clearing_of, told_of, given_of, walks_at, is_wiped, wiped_place, wiped_hold, wipes_at, mark_of, IsPush, IsEpochOf, WalkFinds, CellFinds, CellsFind, HoldPlaced, HandPlaced, Placed}
+use Rattle.metrics_bucket.specs.Places.{pushes_at, values_at, pushed_at, value_at, held_in, tickets_at, lengths_of, clearing_of, told_of, takes_in, given_of, walks_at, is_wiped, wiped_place, wiped_hold, wipes_at, mark_of, IsPush, IsEpochOf, WalkFinds, CellFinds, CellsFind, HoldPlaced, HandPlaced, Placed}
 use Rattle.metrics_bucket.proofs.Sums.{total_set, total_one, spot_apart, spot_below, here_or, same_here, same_else, below_under, below_over, below_le}
 use Rattle.metrics_bucket.proofs.Keep.{at_below, other_side, alone, turn_alone}
 use Rattle.metrics_bucket.proofs.Cells.{new_cell, length_new}
 use Rattle.metrics_bucket.proofs.Walks.{take_clean}
-use Rattle.metrics_bucket.proofs.Placing.{total_add, pushes_at-append, values_at-append, lengths_of-append, walks_at-append, value_here, value_else, cond_same, cond_here, cond_else, no_values, given_more, push_kept, cell_kept, hold_kept, hand_kept, each_kept, at_most_one}
+use Rattle.metrics_bucket.proofs.Placing.{total_add, pushes_at-append, values_at-append, lengths_of-append, walks_at-append, walks_in-append, value_here, value_else, cond_same, cond_here, cond_else, no_values, given_more, push_kept, cell_kept, hold_kept, hand_kept, each_kept, at_most_one}
 
 unwiped_new : (n i : ℕ) → wiped_place (replicate n Unseen) i ≡ 0
 unwiped_new zero i = refl
@@ -40,6 +40,17 @@ wiped_there (x ∷ xs) (suc i) c d e = wiped_there xs i c d e
 
 pub wiped_same : (cells : List Cell) (i j : ℕ) (c d : Cell) → get_elem? cells i ≡ some c → is_wiped d ≡ is_wiped c → wiped_place (set cells i d) j ≡ wiped_place cells j
 wiped_same cells i j c d e s = dite (ℕ_discrete j i) (λ h. let t = wiped_there cells i c d e in (λ k. wiped_place (set cells i d) (h k)) ∙ (t.1 ∙ (s ∙ (sym t.0 ∙ (λ k. wiped_place cells (sym h k)))))) (λ n. wiped_else cells i j d n)
+
+-- a hold that is no clear's counts no take
+no_take : (e e' n : ℕ) → n ≡ 0 → cond (eqb e e') n 0 ≡ 0
+no_take e e' n z = ap (λ (k : ℕ). cond (eqb e e') k 0) z ∙ cond_same e e' 0
+
+below_suc : (d n : ℕ) → below d (suc n) ≡ below d n + cond (eqb d n) 1 0
+below_suc d n = dite (ℕ_discrete d n)
+    (λ q. let a = below_under d (suc n) (omega arith) in let b = below_over d n (omega arith) in let c = cond_here d n 1 q in omega arith)
+    (λ q. let c = cond_else d n 1 q in dite (dec_le d n)
+    (λ l. let a = below_under d (suc n) (omega arith) in let b = below_under d n (omega arith) in omega arith)
+    (λ l. let a = below_over d (suc n) (omega arith) in let b = below_over d n (omega arith) in omega arith))
 
 -- where all cells are wiped
 all_wiped : (cells : List Cell) (i : ℕ) → ((j : ℕ) (c : Cell) → get_elem? cells j ≡ some c → is_wiped c ≡ 1) → wiped_place cells i ≡ below i (length cells)
@@ -124,9 +135,9 @@ module _ (places all : ℕ) (w : World) (id : ℕ) (v : Hand) (f : Facts places 
 
   -- a step that changes no place, and in what the thread holds nothing that is counted
   pub keeps_places : (turn e' t' : ℕ) (hold : Hold) → ((e i : ℕ) → held_in e i e' hold ≡ held_in e i v.epoch v.hold) → ((e : ℕ) → clearing_of e e' hold ≡ clearing_of e v.epoch v.hold)
-      → ((e i : ℕ) → wiped_hold e i e' hold ≡ wiped_hold e i v.epoch v.hold) → took_in hold ≡ took_in v.hold → HoldPlaced w e' hold → (turn_in hold ≡ 1 → t' ≡ walks_made w)
+      → ((e i : ℕ) → wiped_hold e i e' hold ≡ wiped_hold e i v.epoch v.hold) → took_in hold ≡ took_in v.hold → ((e : ℕ) → cond (eqb e e') (took_in hold) 0 ≡ cond (eqb e v.epoch) (took_in v.hold) 0) → HoldPlaced w e' hold → (turn_in hold ≡ 1 → t' ≡ walks_made w)
       → Placed places record w { turn = turn; hands = set w.hands id (holds_as v e' t' hold) }
-  keeps_places turn e' t' hold held clearing wiped took placed knows =
+  keeps_places turn e' t' hold held clearing wiped took same_takes placed knows =
       let u : Hand = holds_as v e' t' hold in
       let w' : World = record w { turn = turn; hands = set w.hands id u } in
       let walks : walks_made w' ≡ walks_made w = (let t = total_set walks_of w.hands id v u at in omega arith) in
@@ -141,6 +152,8 @@ module _ (places all : ℕ) (w : World) (id : ℕ) (v : Hand) (f : Facts places 
             let b : below i (given_of e w') ≡ below i (given_of e w) = ap (below i) g in
             omega arith;
         told = λ e l. told_same e ∙ p.told e l;
+        room = λ e. let a = told_same e in let b = p.room e in omega arith;
+        once = λ e. let y = p.once e in let t = total_set (takes_in e) w.hands id v u at in let k = same_takes e in omega arith;
         one_place = λ e i l.
             let y = p.one_place e i l in
             let t = total_set (pushed_at e i) w.hands id v u at in
@@ -170,6 +183,8 @@ module _ (places all : ℕ) (w : World) (id : ℕ) (v : Hand) (f : Facts places 
             let g = given_more k i w.epoch w.given (total (told_of k) w.hands) (λ q. p.told k (omega arith)) in
             omega arith;
         told = λ k l. told_same k ∙ p.told k l;
+        room = λ k. let a = told_same k in let b = p.room k in omega arith;
+        once = λ k. let y = p.once k in let t = total_set (takes_in k) w.hands id v u at in let z = cond_same k w.epoch 0 in let n = no_take k v.epoch (took_in v.hold) (ap took_in e) in omega arith;
         one_place = λ k i l.
             let y = p.one_place k i l in
             let t = total_set (pushed_at k i) w.hands id v u at in
@@ -205,6 +220,8 @@ module _ (places all : ℕ) (w : World) (id : ℕ) (v : Hand) (f : Facts places 
               let b : below j (given_of d w') ≡ below j (given_of d w) = ap (λ (n : ℕ). below j (n + cond (eqb d w.epoch) w.given 0)) (told_same d) in
               omega arith;
           told = λ d l. told_same d ∙ p.told d l;
+          room = λ d. let a = told_same d in let b = p.room d in omega arith;
+          once = λ d. let y = p.once d in let t = total_set (takes_in d) w.hands id v u at in let z = cond_same d v.epoch 0 in let n = no_take d v.epoch (took_in v.hold) (ap took_in e) in omega arith;
           one_place = λ d j l.
               let y = p.one_place d j l in
               let t = total_set (pushed_at d j) w.hands id v u at in
@@ -274,6 +291,8 @@ module _ (places all : ℕ) (w : World) (id : ℕ) (v : Hand) (f : Facts places 
               let b : below j (given_of d w') ≡ below j (given_of d w) = ap (λ (n : ℕ). below j (n + cond (eqb d w.epoch) w.given 0)) (told_same d) in
               omega arith;
           told = λ d l. told_same d ∙ p.told d l;
+          room = λ d. let a = told_same d in let b = p.room d in omega arith;
+          once = λ d. let y = p.once d in let t = total_set (takes_in d) w.hands id v u at in let z = cond_same d v.epoch 0 in let n = no_take d v.epoch (took_in v.hold) (ap took_in e) in omega arith;
           one_place = λ d j l.
               let y = p.one_place d j l in
               let t = total_set (pushed_at d j) w.hands id v u at in
@@ -331,6 +350,17 @@ module _ (places all : ℕ) (w : World) (id : ℕ) (v : Hand) (f : Facts places 
             let b : below i (given_of d w') ≡ below i (given_of d w) = ap (below i) g in
             omega arith;
         told = λ d low. let a = told_next d in let b = p.told d (omega arith) in let c = cond_else d w.epoch w.given (λ q. absurd (omega arith)) in omega arith;
+        room = λ d.
+            let a = told_next d in
+            let b = p.room d in
+            let room = f.room in
+            dite (ℕ_discrete d w.epoch) (λ q. let c = cond_here d w.epoch w.given q in let z = p.told d (omega arith) in omega arith) (λ q. let c = cond_else d w.epoch w.given q in omega arith);
+        once = λ d.
+            let y = p.once d in
+            let t = total_set (takes_in d) w.hands id v u at in
+            let n = no_take d v.epoch (took_in v.hold) (ap took_in e) in
+            let b : below d (suc w.epoch) ≡ below d w.epoch + cond (eqb d w.epoch) 1 0 = below_suc d w.epoch in
+            omega arith;
         one_place = λ d i below_all.
             let y = p.one_place d i below_all in
             let t = total_set (pushed_at d i) w.hands id v u at in
@@ -429,6 +459,8 @@ module _ (places all : ℕ) (w : World) (id : ℕ) (v : Hand) (f : Facts places 
             let b : below j (given_of d w') ≡ below j (given_of d w) = ap (λ (n : ℕ). below j (n + cond (eqb d w.epoch) w.given 0)) (told_same d) in
             omega arith;
         told = λ d l. told_same d ∙ p.told d l;
+        room = λ d. let a = told_same d in let b = p.room d in omega arith;
+        once = λ d. let y = p.once d in let t = total_set (takes_in d) w.hands id v u at in let n : cond (eqb d v.epoch) (took_in v.hold) 0 ≡ cond (eqb d v.epoch) 1 0 = ap (λ (n : ℕ). cond (eqb d v.epoch) n 0) (ap took_in e) in omega arith;
         one_place = λ d j l.
             let y = p.one_place d j l in
             let t = total_set (pushed_at d j) w.hands id v u at in
@@ -494,6 +526,8 @@ module _ (places all : ℕ) (w : World) (id : ℕ) (v : Hand) (f : Facts places 
             let b : below j (given_of d w') ≡ below j (given_of d w) = ap (λ (n : ℕ). below j (n + cond (eqb d w.epoch) w.given 0)) (told_same d) in
             omega arith;
         told = λ d l. told_same d ∙ p.told d l;
+        room = λ d. let a = told_same d in let b = p.room d in omega arith;
+        once = λ d. let y = p.once d in let t = total_set (takes_in d) w.hands id v u at in let n : cond (eqb d v.epoch) (took_in v.hold) 0 ≡ cond (eqb d v.epoch) 1 0 = ap (λ (n : ℕ). cond (eqb d v.epoch) n 0) (ap took_in e) in let a = walks_in-append d v.taken (new ∷ []) in let z = cond_same d v.epoch 0 in omega arith;
         one_place = λ d j l.
             let y = p.one_place d j l in
             let t = total_set (pushed_at d j) w.hands id v u at in
@@ -538,6 +572,8 @@ module _ (places all : ℕ) (w : World) (id : ℕ) (v : Hand) (f : Facts places 
             let b : below j (given_of d w') ≡ below j (given_of d w) = ap (λ (n : ℕ). below j (n + cond (eqb d w.epoch) w.given 0)) (told_same d) in
             omega arith;
         told = λ d l. told_same d ∙ p.told d l;
+        room = λ d. let a = told_same d in let b = p.room d in omega arith;
+        once = λ d. let y = p.once d in let t = total_set (takes_in d) w.hands id v u at in let z = cond_same d v.epoch 0 in let n = no_take d v.epoch (took_in v.hold) (ap took_in e) in omega arith;
         one_place = λ d j l.
             let y = p.one_place d j l in
             let t = total_set (pushed_at d j) w.hands id v u at in

@@ -10,7 +10,7 @@ use Rattle.metrics_bucket.specs.declared.hand.Hold.TheVariants.{Nothing, Ticket,
 use Rattle.metrics_bucket.specs.declared.hand.Cell.{Cell}
 use Rattle.metrics_bucket.specs.declared.hand.Cell.TheVariants.{Read, Wiped}
 use Rattle.metrics_bucket.specs.World.{World, total, walks_made, other, spot}
-use Rattle.metrics_bucket.specs.Facts.{same, below, turn_in, took_of}
+use Rattle.metrics_bucket.specs.Facts.{same, below, turn_in, took_in, took_of}
 
 -- how many of the pushes are of this epoch and place
 abbrev pub pushes_at : ℕ → ℕ → List Push → ℕ
@@ -50,6 +50,15 @@ clearing_of e epoch _ = 0
 -- how many places of this epoch the thread's takes told
 abbrev pub told_of : ℕ → Hand → ℕ
 told_of e v = lengths_of e v.taken + clearing_of e v.epoch v.hold
+
+-- how many of the walks are of this epoch
+abbrev pub walks_in : ℕ → List Walk → ℕ
+walks_in e [] = 0
+walks_in e (walk ∷ walks) = cond (eqb e walk.epoch) 1 0 + walks_in e walks
+
+-- how many takes of this epoch the thread made
+abbrev pub takes_in : ℕ → Hand → ℕ
+takes_in e v = walks_in e v.taken + cond (eqb e v.epoch) (took_in v.hold) 0
 
 -- how many tickets were given in this epoch
 abbrev pub given_of : ℕ → World → ℕ
@@ -125,6 +134,10 @@ pub record Placed (places : ℕ) (w : World) : Type 0 where
   pub tickets : (e i : ℕ) → total (tickets_at e i) w.hands ≡ below i (given_of e w)
   -- no take told of an epoch that goes on or is to come
   pub told : (e : ℕ) → w.epoch ≤ e → total (told_of e) w.hands ≡ 0
+  -- a take told of at most all places
+  pub room : (e : ℕ) → total (told_of e) w.hands ≤ places
+  -- each epoch that ended has one take, and no other epoch has one
+  pub once : (e : ℕ) → total (takes_in e) w.hands ≡ below e w.epoch
   -- a finished push stands with mark 1, or was wiped by one clear
   pub one_place : (e i : ℕ) → i < places → total (pushed_at e i) w.hands ≡ mark_of places w e i + total (wipes_at e i) w.hands
   -- a place with mark 1 has the value of its ticket's push
