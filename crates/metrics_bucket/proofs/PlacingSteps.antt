@@ -58,7 +58,7 @@ all_wiped [] i a = refl
 all_wiped (c ∷ cs) zero a = a 0 c refl
 all_wiped (c ∷ cs) (suc i) a = all_wiped cs i (λ j d e. a (suc j) d e)
 
-length_values : (cells : List Cell) → length (values_in cells) ≡ length cells
+pub length_values : (cells : List Cell) → length (values_in cells) ≡ length cells
 length_values [] = refl
 length_values (c ∷ cs) = ap suc (length_values cs)
 
