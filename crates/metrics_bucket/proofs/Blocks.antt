@@ -1,10 +1,12 @@
 -- Chunks of a list.
-use Rattle.std.proofs.Common.{◌≡◌, ℕ, zero, suc, ◌+◌, ◌-◌, ◌*◌, ◌/◌, ◌<◌, ◌≤◌, List, [], ◌∷◌, ◌++◌, length, get_or, take, drop, map, refl, sym, ap, ◌∙◌, arith, append_assoc, length-append, length-drop, min}
+use Rattle.std.proofs.Common.{◌≡◌, ℕ, zero, suc, ◌+◌, ◌-◌, ◌*◌, ◌/◌, ◌<◌, ◌≤◌, List, [], ◌∷◌, ◌++◌, length, get_or, take, drop, map, reverse, refl, sym, ap, ◌∙◌, arith, append_assoc, length-append, length-drop, min}
 use mathlib.Core.Logic.{dite}
 use native.Mathlib.Decide.{dec_le}
 use mathlib.Core.List.{map-append}
 use Rattle.metrics_bucket.specs.Facts.{weigh}
-use Rattle.metrics_bucket.specs.Blocks.{chunk, first_chunks, blocks}
+use Rattle.std.proofs.lemmas.List.{reverse-append}
+use Rattle.metrics.specs.Book.{chunks_within, joined_lists, blocks}
+use Rattle.metrics_bucket.specs.Blocks.{newest_first}
 use Rattle.metrics_bucket.proofs.Sums.{weigh-append}
 
 take-more : (n m : ℕ) (xs : List ℕ) → take (n + m) xs ≡ take n xs ++ take m (drop n xs)
@@ -25,6 +27,65 @@ take-all (suc n) [] l = refl
 take-all zero (x ∷ xs) l = absurd (omega arith)
 take-all (suc n) (x ∷ xs) l = ap (λ (l : List ℕ). x ∷ l) (take-all n xs (omega arith))
 
+-- the chunk of this number: at most 64 values
+abbrev pub chunk : ℕ → List ℕ → List ℕ
+chunk n vs = take 64 (drop (64 * n) vs)
+
+-- the first n chunks, the newest first
+abbrev pub first_chunks : ℕ → List ℕ → List ℕ
+first_chunks zero vs = []
+first_chunks (suc n) vs = chunk n vs ++ first_chunks n vs
+
+-- k chunks from the number c on, the newest first
+abbrev pub chunks_from : ℕ → ℕ → List ℕ → List (List ℕ)
+chunks_from c zero vs = []
+chunks_from c (suc k) vs = chunk (c + k) vs ∷ chunks_from c k vs
+
+pub chunks_front : (V : List ℕ) (c k : ℕ) → chunks_from c (suc k) V ≡ chunks_from (suc c) k V ++ chunk c V ∷ []
+chunks_front V c zero = let e : c + 0 ≡ c = omega arith in λ i. chunk (e i) V ∷ []
+chunks_front V c (suc k) = let e : c + suc k ≡ suc c + k = omega arith in λ i. chunk (e i) V ∷ chunks_front V c k i
+
+pub drop_more : (xs : List ℕ) (a b : ℕ) → drop (a + b) xs ≡ drop b (drop a xs)
+drop_more xs zero b = let e : 0 + b ≡ b = omega arith in ap (λ (k : ℕ). drop k xs) e
+drop_more [] (suc a) b = let e : suc a + b ≡ suc (a + b) = omega arith in ap (λ (k : ℕ). drop k nothing) e ∙ none b
+  where
+    nothing : List ℕ
+    nothing = []
+
+    none : (b : ℕ) → drop (suc (a + b)) nothing ≡ drop b nothing
+    none zero = refl
+    none (suc b) = refl
+drop_more (x ∷ xs) (suc a) b = let e : suc a + b ≡ suc (a + b) = omega arith in ap (λ (k : ℕ). drop k (x ∷ xs)) e ∙ drop_more xs a b
+
+-- the chunks by number are those that the list is cut into
+chunks_cut : (n c k : ℕ) (vs ys : List ℕ) → drop (64 * c) vs ≡ ys → length ys ≤ n → k ≡ (length ys + 63) / 64 → chunks_from c k vs ≡ reverse (chunks_within n ys)
+chunks_cut n c zero vs [] is fits count = none_cut n
+  where
+    none_cut : (n : ℕ) → chunks_from c 0 vs ≡ reverse (chunks_within n [])
+    none_cut zero = refl
+    none_cut (suc n) = refl
+chunks_cut n c (suc k) vs [] is fits count = absurd (omega arith)
+chunks_cut n c zero vs (y ∷ ys) is fits count = absurd (omega arith)
+chunks_cut zero c (suc k) vs (y ∷ ys) is fits count = absurd (omega arith)
+chunks_cut (suc n) c (suc k) vs (y ∷ ys) is fits count =
+    let rest : List ℕ = drop 64 (y ∷ ys) in
+    let long = length-drop 64 (y ∷ ys) in
+    let next : 64 * suc c ≡ 64 * c + 64 = omega arith in
+    let cut : drop (64 * suc c) vs ≡ rest = ap (λ (m : ℕ). drop m vs) next ∙ (drop_more vs (64 * c) 64 ∙ ap (drop 64) is) in
+    let r = chunks_cut n (suc c) k vs rest cut (omega arith) (omega arith) in
+    chunks_front vs c k ∙ ((λ i. r i ++ take 64 (is i) ∷ []) ∙ sym (reverse-append (take 64 (y ∷ ys) ∷ []) (chunks_within n rest)))
+
+pub chunks_newest : (vs : List ℕ) → chunks_from 0 ((length vs + 63) / 64) vs ≡ newest_first vs
+chunks_newest vs = chunks_cut (length vs) 0 ((length vs + 63) / 64) vs vs refl (omega arith) refl
+
+joined_first : (k : ℕ) (vs : List ℕ) → joined_lists (chunks_from 0 k vs) ≡ first_chunks k vs
+joined_first zero vs = refl
+joined_first (suc k) vs = let e : 0 + k ≡ k = omega arith in λ i. chunk (e i) vs ++ joined_first k vs i
+
+-- and their values are in the bucket's order
+pub chunks_joined : (vs : List ℕ) → first_chunks ((length vs + 63) / 64) vs ≡ blocks vs
+chunks_joined vs = sym (joined_first ((length vs + 63) / 64) vs) ∙ ap joined_lists (chunks_newest vs)
+
 weigh_chunks : (h : ℕ → ℕ) (n : ℕ) (vs : List ℕ) → weigh h (first_chunks n vs) ≡ weigh h (take (64 * n) vs)
 weigh_chunks h zero vs = refl
 weigh_chunks h (suc n) vs =
@@ -37,7 +98,7 @@ weigh_chunks h (suc n) vs =
 
 -- the chunks have the values of the list
 pub weigh_blocks : (h : ℕ → ℕ) (vs : List ℕ) → weigh h (blocks vs) ≡ weigh h vs
-weigh_blocks h vs = weigh_chunks h ((length vs + 63) / 64) vs ∙ ap (weigh h) (take-all (64 * ((length vs + 63) / 64)) vs (omega arith))
+weigh_blocks h vs = ap (weigh h) (sym (chunks_joined vs)) ∙ weigh_chunks h ((length vs + 63) / 64) vs ∙ ap (weigh h) (take-all (64 * ((length vs + 63) / 64)) vs (omega arith))
 
 take_next : (xs : List ℕ) (n : ℕ) → n < length xs → take (suc n) xs ≡ take n xs ++ get_or xs n 0 ∷ []
 take_next [] n l = absurd (omega arith)

@@ -4,25 +4,22 @@ use Rattle.std.specs.Global.{Vec}
 use Rattle.std.specs.Prelude.{vec_capacity}
 use Rattle.std.specs.List.{FoldsTo}
 use mathlib.Core.List.{map-append}
-use Rattle.metrics_bucket.specs.Blocks.{chunk, first_chunks, chunks_from, newest_first, blocks, valued}
+use Rattle.metrics_bucket.specs.Blocks.{newest_first, valued}
+use Rattle.metrics.specs.Book.{joined_lists, blocks}
 use Rattle.metrics_bucket.specs.Gathers.{Gathers}
-use Rattle.metrics_bucket.proofs.Blocks.{length_map, length_blocks}
+use Rattle.metrics_bucket.proofs.Blocks.{chunk, first_chunks, chunks_from, chunks_newest, chunks_joined, length_map, length_blocks}
 
-abbrev joined : {T : Type 0} → List (List T) → List T
-joined [] = []
-joined (xs ∷ xss) = xs ++ joined xss
-
-gathers_fold : {T : Type 0} (xss : List (List T)) (v w : Vec T) → FoldsTo Gathers v xss w → length v.items + length (joined xss) ≤ vec_capacity v → w.items ≡ v.items ++ joined xss
+gathers_fold : {T : Type 0} (xss : List (List T)) (v w : Vec T) → FoldsTo Gathers v xss w → length v.items + length (joined_lists xss) ≤ vec_capacity v → w.items ≡ v.items ++ joined_lists xss
 gathers_fold {T} [] v w e room = ap (λ (z : Vec T). z.items) (sym e) ∙ sym (append-nil v.items)
 gathers_fold {T} (xs ∷ xss) v w (u, r, f) room =
-    let a = length-append xs (joined xss) in
+    let a = length-append xs (joined_lists xss) in
     let step = r (omega arith) in
     let b = length-append v.items xs in
     let c : length u.items ≡ length (v.items ++ xs) = ap (λ (l : List T). length l) step.0 in
     let d = step.1 in
-    gathers_fold xss u w f (omega arith) ∙ (ap (λ (l : List T). l ++ joined xss) step.0 ∙ append_assoc v.items xs (joined xss))
+    gathers_fold xss u w f (omega arith) ∙ (ap (λ (l : List T). l ++ joined_lists xss) step.0 ∙ append_assoc v.items xs (joined_lists xss))
 
-joined_chunks : {T : Type 0} (f : ℕ → T) (k : ℕ) (vs : List ℕ) → joined (valued f (chunks_from 0 k vs)) ≡ map f (first_chunks k vs)
+joined_chunks : {T : Type 0} (f : ℕ → T) (k : ℕ) (vs : List ℕ) → joined_lists (valued f (chunks_from 0 k vs)) ≡ map f (first_chunks k vs)
 joined_chunks f zero vs = refl
 joined_chunks {T} f (suc k) vs =
     let e : 0 + k ≡ k = omega arith in
@@ -31,9 +28,9 @@ joined_chunks {T} f (suc k) vs =
 -- what is gathered, where there was room for all
 pub gathered_are : {T : Type 0} (f : ℕ → T) (list : List ℕ) (v w : Vec T) → v.items ≡ [] → length list ≤ vec_capacity v → FoldsTo Gathers v (valued f (newest_first list)) w → w.items ≡ map f (blocks list)
 gathered_are {T} f list v w none room folds =
-    let is = joined_chunks f ((length list + 63) / 64) list in
-    let a : length (joined (valued f (newest_first list))) ≡ length (map f (blocks list)) = ap (λ (l : List T). length l) is in
+    let is = ap (λ (l : List (List ℕ)). joined_lists (valued f l)) (sym (chunks_newest list)) ∙ (joined_chunks f ((length list + 63) / 64) list ∙ ap (map f) (chunks_joined list)) in
+    let a : length (joined_lists (valued f (newest_first list))) ≡ length (map f (blocks list)) = ap (λ (l : List T). length l) is in
     let b = length_map f (blocks list) in
     let c = length_blocks list in
     let d : length v.items ≡ 0 = ap (λ (l : List T). length l) none in
-    gathers_fold (valued f (newest_first list)) v w folds (omega arith) ∙ (ap (λ (l : List T). l ++ joined (valued f (newest_first list))) none ∙ is)
+    gathers_fold (valued f (newest_first list)) v w folds (omega arith) ∙ (ap (λ (l : List T). l ++ joined_lists (valued f (newest_first list))) none ∙ is)

@@ -18,11 +18,11 @@ use Rattle.metrics_bucket.specs.declared.hand.Cell.{Cell}
 use Rattle.metrics_bucket.specs.declared.hand.Cell.TheVariants.{Unseen, Marked, Read, Wiped}
 use Rattle.metrics_bucket.specs.World.{other, walk, holding, leaving, left_from, put_cell, cells_of, value_in, values_in}
 use Rattle.metrics_bucket.specs.History.{CanLeave}
-use Rattle.metrics_bucket.specs.Blocks.{chunk, chunks_from, valued}
+use Rattle.metrics_bucket.specs.Blocks.{valued}
 use Rattle.metrics_bucket.specs.declared.hand.Push.{Push}
 use Rattle.metrics_bucket.specs.Chunks.{Clears, has_taken}
 use Rattle.metrics_bucket.specs.Places.{Reaches, Finds, Covers}
-use Rattle.metrics_bucket.proofs.Blocks.{part_next}
+use Rattle.metrics_bucket.proofs.Blocks.{chunk, chunks_from, chunks_front, drop_more, part_next}
 use Rattle.metrics_bucket.specs.Plays.{Sat}
 use Rattle.metrics_bucket.proofs.Keep.{at_below}
 
@@ -153,18 +153,6 @@ same_from (x ∷ xs) [] b e f = absurd (omega arith)
 same_from (x ∷ xs) (y ∷ ys) zero e f = (λ i. value_in (some-injective x y (f 0 (omega arith)) i) ∷ same_from xs ys 0 (omega arith) (λ j l. f (suc j) (omega arith)) i)
 same_from (x ∷ xs) (y ∷ ys) (suc b) e f = same_from xs ys b (omega arith) (λ j l. f (suc j) (omega arith))
 
-drop_more : (xs : List ℕ) (a b : ℕ) → drop (a + b) xs ≡ drop b (drop a xs)
-drop_more xs zero b = let e : 0 + b ≡ b = omega arith in ap (λ (k : ℕ). drop k xs) e
-drop_more [] (suc a) b = let e : suc a + b ≡ suc (a + b) = omega arith in ap (λ (k : ℕ). drop k nothing) e ∙ none b
-  where
-    nothing : List ℕ
-    nothing = []
-
-    none : (b : ℕ) → drop (suc (a + b)) nothing ≡ drop b nothing
-    none zero = refl
-    none (suc b) = refl
-drop_more (x ∷ xs) (suc a) b = let e : suc a + b ≡ suc (a + b) = omega arith in ap (λ (k : ℕ). drop k (x ∷ xs)) e ∙ drop_more xs a b
-
 chunks_same : (V W : List ℕ) (c k : ℕ) → drop (64 * c) V ≡ drop (64 * c) W → chunks_from c k V ≡ chunks_from c k W
 chunks_same V W c zero e = refl
 chunks_same V W c (suc k) e =
@@ -173,10 +161,6 @@ chunks_same V W c (suc k) e =
     ap (λ (n : ℕ). take 64 (drop n V)) is ∙ (ap (take 64) (drop_more V (64 * c) (64 * k) ∙ (ap (drop (64 * k)) e ∙ sym (drop_more W (64 * c) (64 * k)))) ∙ sym (ap (λ (n : ℕ). take 64 (drop n W)) is))
     in
     λ i. one i ∷ chunks_same V W c k e i
-
-chunks_front : (V : List ℕ) (c k : ℕ) → chunks_from c (suc k) V ≡ chunks_from (suc c) k V ++ chunk c V ∷ []
-chunks_front V c zero = let e : c + 0 ≡ c = omega arith in λ i. chunk (e i) V ∷ []
-chunks_front V c (suc k) = let e : c + suc k ≡ suc c + k = omega arith in λ i. chunk (e i) V ∷ chunks_front V c k i
 
 folds_more : {P A : Type 0} (R : P → A → P → Type 0) (p : P) (xs : List A) (q : P) (x : A) (u : P) → FoldsTo R p xs q → R q x u → FoldsTo R p (xs ++ x ∷ []) u
 folds_more {P} R p [] q x u f r = (u, subst (λ (z : P). R z x u) (sym f) r, refl)

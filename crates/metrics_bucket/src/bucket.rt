@@ -6,13 +6,13 @@ ghost use Rattle.metrics_bucket.specs.Blocks.{Settled};
 ghost use Rattle.metrics_bucket.specs.declared.hand.Hold.TheVariants.{Nothing, Settling};
 ghost use Rattle.metrics_bucket.specs.Plays.{count_all, IsFullFor, values_known, ArePartsOf};
 
-use crate::error::Error;
 use crate::hand::{Hand, Turn};
 use crate::pen::{Pen, Words};
 use crate::plays::{Draw, Finish, Gather, Look, Put, Recall};
 use crate::sample::Sample;
 use atomic_table::{Seat, Table};
 use crossbeam_utils::Backoff;
+use metrics::Error;
 use std::alloc::Global;
 use std::marker::{Model, PhantomData};
 use std::sync::{Arc, Wait};

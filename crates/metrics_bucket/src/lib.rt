@@ -2,7 +2,6 @@
 #![tactic(auto)]
 
 mod bucket;
-mod error;
 mod gathered;
 mod hand;
 mod law;
@@ -17,7 +16,6 @@ mod visitor;
 mod walk;
 
 pub use bucket::RuledBucket;
-pub use error::Error;
 pub use hand::{Cell, Hand, Hold};
 pub use law::bucket_law;
 pub use pen::Pen;

@@ -2,11 +2,11 @@
 ghost use Rattle.std.specs.Prelude.{◌≡◌, ◌<◌, ◌↔◌, true, false, IsTrue, IfOk, IfErr};
 ghost use Rattle.metrics_bucket.specs.Account.{left_account, right_account, joined_account};
 
-use crate::error::Error;
 use crate::hand::{Hand, Turn};
 use crate::plays::{Halves, Look};
 use crate::rule::BucketRule;
 use atomic_table::{Seat, Table};
+use metrics::Error;
 use std::alloc::Global;
 use std::marker::Model;
 use std::sync::Arc;

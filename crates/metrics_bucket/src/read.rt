@@ -5,12 +5,12 @@ ghost use Rattle.metrics_bucket.specs.declared.hand.Walk.{Walk};
 ghost use Rattle.metrics_bucket.specs.Places.{Reaches, Covers};
 ghost use Rattle.std.specs.List.{FoldsTo};
 ghost use Rattle.std.specs.Fn.{CalledAt};
-ghost use Rattle.metrics_bucket.specs.Blocks.{valued, newest_first, blocks};
+ghost use Rattle.metrics_bucket.specs.Blocks.{valued, newest_first};
+ghost use Rattle.metrics.specs.Book.{blocks};
 ghost use mathlib.Core.Option.{some};
 ghost use lib.ListN.{get_elem?};
 ghost use Rattle.metrics_bucket.specs.World.{holding, with_read, put_cell, side_of, cells_of, values_in};
 ghost use Rattle.metrics_bucket.specs.History.{HasCell, CanQuit, turn_at};
-ghost use Rattle.metrics_bucket.specs.Room.{RoomFits};
 ghost use Rattle.metrics_bucket.specs.Account.{read_account};
 ghost use Rattle.metrics_bucket.specs.ReadChunks.{Reads, has_read, surveying, IsFree};
 ghost use Rattle.metrics_bucket.specs.Chunks.{AreUnseen};
@@ -18,7 +18,6 @@ ghost use Rattle.metrics_bucket.specs.declared.hand.Hold.TheVariants.{Nothing, R
 ghost use Rattle.metrics_bucket.specs.declared.hand.Cell.TheVariants.{Unseen, Marked, Read};
 
 use crate::bucket::{BLOCK_SIZE, RuledBucket};
-use crate::error::Error;
 use crate::gathered::Gathered;
 use crate::hand::{Hand, Turn};
 use crate::pen::Pen;
@@ -26,6 +25,7 @@ use crate::plays::{Claim, Leave, Quit, ReadOne, Survey};
 use crate::sample::Sample;
 use crate::visitor::{Shown, Visitor};
 use atomic_table::Seat;
+use metrics::Error;
 use std::alloc::Global;
 use std::sync::Wait;
 
@@ -78,7 +78,6 @@ impl<T: Sample> RuledBucket<T> {
         requires hold { (side < 2) × (given ≤ self.now.places) × (seat.old.me.0.hold ≡ Reading side (replicate given Unseen)) }
         requires size { given < 2 ^ 60 }
         requires call { V.ready visitor.old }
-        requires room { RoomFits T.row }
         ensures seat { (seat.new.table_id ≡ seat.old.table_id) × Reads seat.old.me seat.new.me side 0 given }
         ensures calls { FoldsTo V.saw visitor.old (valued T.value (newest_first (values_in (cells_of seat.new.me.0.hold)))) visitor.new }
     {
@@ -130,7 +129,6 @@ impl<T: Sample> RuledBucket<T> {
         requires turn { seat.old.me.1 ≡ (0, turn_at seat.old.me.0.turn) ∷ [] }
         requires reach { Reaches seat.old.me.0.pushed seat.old.me.0.epoch (control / 2) }
         requires call { V.ready visitor.old }
-        requires room { RoomFits T.row }
         ensures table { seat.new.table_id ≡ seat.old.table_id }
         ensures read { (w : Walk) × (length w.values ≡ control / 2) × (seat.new.me ≡ (with_read seat.old.me.0 w, [])) × (w.epoch ≡ seat.old.me.0.epoch) × Covers seat.old.me.0.pushed w × (seat.old.me.0.weight ≡ 1024 → (h : ℕ → ℕ) → weigh_pushes h seat.old.me.0.pushed ≡ weigh h w.values + weigh_walks h seat.old.me.0.taken) × FoldsTo V.saw visitor.old (valued T.value (newest_first w.values)) visitor.new }
     {
@@ -150,7 +148,6 @@ impl<T: Sample> RuledBucket<T> {
         requires home { (seat.old.table_id ≡ self.now.table) × (seat.old.me.0.places ≡ self.now.places) × (0 < seat.old.me.0.weight) }
         requires hold { (seat.old.me.0.hold ≡ Nothing) × (seat.old.me.1 ≡ []) }
         requires call { F.IsAlwaysCallable f }
-        requires room { RoomFits T.row }
         ensures table { seat.new.table_id ≡ seat.old.table_id }
         ensures ok { IfOk result (λ n. (w : Walk) × (k : ℕ) × (length w.values ≡ n) × (seat.new.me ≡ (has_read seat.old.me.0 k w, [])) × Covers seat.old.me.0.pushed w × (seat.old.me.0.weight ≡ 1024 → w.epoch ≡ length seat.old.me.0.taken) × (seat.old.me.0.weight ≡ 1024 → (h : ℕ → ℕ) → weigh_pushes h seat.old.me.0.pushed ≡ weigh h w.values + weigh_walks h seat.old.me.0.taken) × ((last : F) × FoldsTo (λ p x q. CalledAt F.FnMut p x tt q) f (valued T.value (newest_first w.values)) last)) }
         ensures err { IfErr result (λ e. (seat.new.me ≡ seat.old.me) × (e ≡ Error.Busy) × (seat.old.me.0.weight ≢ 1024)) }
@@ -169,7 +166,6 @@ impl<T: Sample> RuledBucket<T> {
     ) -> Result<Vec<T>, Error>
         requires home { (seat.old.table_id ≡ self.now.table) × (seat.old.me.0.places ≡ self.now.places) × (0 < seat.old.me.0.weight) }
         requires hold { (seat.old.me.0.hold ≡ Nothing) × (seat.old.me.1 ≡ []) }
-        requires room { RoomFits T.row }
         ensures table { seat.new.table_id ≡ seat.old.table_id }
         ensures ok { IfOk result (λ v. (w : Walk) × (k : ℕ) × (v.items ≡ map T.value (blocks w.values)) × (seat.new.me ≡ (has_read seat.old.me.0 k w, [])) × Covers seat.old.me.0.pushed w × (seat.old.me.0.weight ≡ 1024 → w.epoch ≡ length seat.old.me.0.taken) × (seat.old.me.0.weight ≡ 1024 → (h : ℕ → ℕ) → weigh_pushes h seat.old.me.0.pushed ≡ weigh h w.values + weigh_walks h seat.old.me.0.taken)) }
         ensures err { IfErr result (λ e. IsFree seat.old.me seat.new.me × ((e ≡ Error.Memory) ⊎ ((e ≡ Error.Busy) × (seat.old.me.0.weight ≢ 1024)))) }
@@ -188,7 +184,6 @@ impl<T: Sample> RuledBucket<T> {
     pub fn data_as<R: Wait>(&self, rt: &R, alloc: Global, pen: &mut Pen) -> Result<Vec<T>, Error>
         requires own { pen.old.home ≡ self.now }
         requires free { pen.old.ticket ≡ false }
-        requires room { RoomFits T.row }
         ensures ok { IfOk result (λ v. (w : Walk) × (v.items ≡ map T.value (blocks w.values)) × (pen.new ≡ read_account pen.old w) × Covers pen.old.pushed w × (pen.old.weight ≡ 1024 → w.epoch ≡ length pen.old.taken) × (pen.old.weight ≡ 1024 → (h : ℕ → ℕ) → weigh_pushes h pen.old.pushed ≡ weigh h w.values + weigh_walks h pen.old.taken)) }
         ensures err { IfErr result (λ e. (pen.new ≡ pen.old) × ((e ≡ Error.Memory) ⊎ ((e ≡ Error.Busy) × (pen.old.weight ≢ 1024)))) }
     {
@@ -205,7 +200,6 @@ impl<T: Sample> RuledBucket<T> {
         requires own { pen.old.home ≡ self.now }
         requires free { pen.old.ticket ≡ false }
         requires call { F.IsAlwaysCallable f }
-        requires room { RoomFits T.row }
         ensures ok { IfOk result (λ n. (w : Walk) × (length w.values ≡ n) × (pen.new ≡ read_account pen.old w) × Covers pen.old.pushed w × (pen.old.weight ≡ 1024 → w.epoch ≡ length pen.old.taken) × (pen.old.weight ≡ 1024 → (h : ℕ → ℕ) → weigh_pushes h pen.old.pushed ≡ weigh h w.values + weigh_walks h pen.old.taken) × ((last : F) × FoldsTo (λ p x q. CalledAt F.FnMut p x tt q) f (valued T.value (newest_first w.values)) last)) }
         ensures err { IfErr result (λ e. (pen.new ≡ pen.old) × (e ≡ Error.Busy) × (pen.old.weight ≢ 1024)) }
     {

@@ -2,6 +2,7 @@
 
 pub trait Sample: Copy {
     ghost use Rattle.std.specs.Prelude.{◌≡◌, ℕ};
+    ghost use Rattle.metrics_bucket.specs.Room.{RoomFits};
 
     ghost word: { Self → ℕ };
 
@@ -14,16 +15,22 @@ pub trait Sample: Copy {
         ensures { result ≡ value bits };
 
     ghost back: { (x : Self) → value (word x) ≡ x };
+
+    // A chunk of 64 values fits in memory.
+    ghost chunk_fits: { RoomFits Self.row };
 }
 
 impl Sample for u64 {
     ghost use Rattle.std.specs.Prelude.{refl};
+    ghost use Rattle.std.proofs.Common.{arith};
 
     ghost word = { λ x. x };
 
     ghost value = { λ x. x };
 
     ghost back = { λ _. refl };
+
+    ghost chunk_fits = { omega arith };
 
     fn to_word(self) -> u64 {
         self
@@ -35,6 +42,7 @@ impl Sample for u64 {
 }
 
 impl Sample for i64 {
+    ghost use Rattle.std.proofs.Common.{arith};
     ghost use Rattle.metrics_bucket.specs.Signs.{folded, unfolded, unfolds};
 
     ghost word = { folded };
@@ -42,6 +50,8 @@ impl Sample for i64 {
     ghost value = { unfolded };
 
     ghost back = { unfolds };
+
+    ghost chunk_fits = { omega arith };
 
     fn to_word(self) -> u64 {
         if self >= 0 {

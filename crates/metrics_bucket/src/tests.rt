@@ -1,6 +1,7 @@
 ghost use Rattle.std.specs.Prelude.{◌≡◌, ◌<◌, false, IfOk};
 
-use crate::{Error, Pen, RuledBucket};
+use crate::{Pen, RuledBucket};
+use metrics::Error;
 use std::alloc::Global;
 use std::sync::Wait;
 use std::test::Fail;

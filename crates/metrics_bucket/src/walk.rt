@@ -10,14 +10,12 @@ ghost use mathlib.Core.Option.{some};
 ghost use lib.ListN.{get_elem?};
 ghost use Rattle.metrics_bucket.specs.World.{holding, put_cell, side_of, cells_of, values_in};
 ghost use Rattle.metrics_bucket.specs.History.{HasCell, turn_at};
-ghost use Rattle.metrics_bucket.specs.Room.{RoomFits};
 ghost use Rattle.metrics_bucket.specs.Account.{took_account};
 ghost use Rattle.metrics_bucket.specs.Chunks.{AreUnseen, Clears, has_taken};
 ghost use Rattle.metrics_bucket.specs.declared.hand.Hold.TheVariants.{Nothing, Clearing};
 ghost use Rattle.metrics_bucket.specs.declared.hand.Cell.TheVariants.{Unseen, Marked, Wiped};
 
 use crate::bucket::{BLOCK_SIZE, RuledBucket};
-use crate::error::Error;
 use crate::hand::{Hand, Turn};
 use crate::pen::Pen;
 use crate::plays::{Aim, Claim, Leave, ReadOne, See, Take, Wipe};
@@ -25,6 +23,7 @@ use crate::sample::Sample;
 use crate::visitor::{Shown, Visitor};
 use atomic_table::Seat;
 use crossbeam_utils::Backoff;
+use metrics::Error;
 use std::sync::Wait;
 
 impl<T: Sample> RuledBucket<T> {
@@ -111,7 +110,6 @@ impl<T: Sample> RuledBucket<T> {
         requires hold { (side < 2) × (given ≤ self.now.places) × (seat.old.me.0.hold ≡ Clearing side (replicate given Unseen)) }
         requires size { given < 2 ^ 60 }
         requires call { V.ready visitor.old }
-        requires room { RoomFits T.row }
         ensures seat { (seat.new.table_id ≡ seat.old.table_id) × Clears seat.old.me seat.new.me side 0 given }
         ensures calls { FoldsTo V.saw visitor.old (valued T.value (newest_first (values_in (cells_of seat.new.me.0.hold)))) visitor.new }
     {
@@ -135,7 +133,6 @@ impl<T: Sample> RuledBucket<T> {
         requires home { (seat.old.table_id ≡ self.now.table) × (seat.old.me.0.places ≡ self.now.places) × (0 < seat.old.me.0.weight) }
         requires hold { (seat.old.me.0.hold ≡ Nothing) × (seat.old.me.1 ≡ []) }
         requires call { V.ready visitor.old }
-        requires room { RoomFits T.row }
         ensures table { seat.new.table_id ≡ seat.old.table_id }
         ensures ok { IfOk result (λ n. (w : Walk) × (k : ℕ) × (length w.values ≡ n) × (seat.new.me ≡ (has_taken seat.old.me.0 k w, [])) × Covers seat.old.me.0.pushed w × (seat.old.me.0.weight ≡ 1024 → w.epoch ≡ length seat.old.me.0.taken) × FoldsTo V.saw visitor.old (valued T.value (newest_first w.values)) visitor.new) }
         ensures whole { seat.old.me.0.weight ≡ 1024 → OnOk result ((h : ℕ → ℕ) → weigh_pushes h seat.new.me.0.pushed ≡ weigh_walks h seat.new.me.0.taken) }
@@ -164,7 +161,6 @@ impl<T: Sample> RuledBucket<T> {
         requires own { pen.old.home ≡ self.now }
         requires free { pen.old.ticket ≡ false }
         requires call { V.ready visitor.old }
-        requires room { RoomFits T.row }
         ensures ok { IfOk result (λ n. (w : Walk) × (length w.values ≡ n) × (pen.new ≡ took_account pen.old w) × Covers pen.old.pushed w × (pen.old.weight ≡ 1024 → w.epoch ≡ length pen.old.taken) × FoldsTo V.saw visitor.old (valued T.value (newest_first w.values)) visitor.new) }
         ensures whole { pen.old.weight ≡ 1024 → OnOk result ((h : ℕ → ℕ) → weigh_pushes h pen.new.pushed ≡ weigh_walks h pen.new.taken) }
         ensures err { IfErr result (λ e. (pen.new ≡ pen.old) × (visitor.new ≡ visitor.old) × (e ≡ Error.Busy) × (pen.old.weight ≢ 1024)) }
@@ -182,7 +178,6 @@ impl<T: Sample> RuledBucket<T> {
         requires own { pen.old.home ≡ self.now }
         requires free { pen.old.ticket ≡ false }
         requires call { F.IsAlwaysCallable f }
-        requires room { RoomFits T.row }
         ensures ok { IfOk result (λ n. (w : Walk) × (length w.values ≡ n) × (pen.new ≡ took_account pen.old w) × Covers pen.old.pushed w × (pen.old.weight ≡ 1024 → w.epoch ≡ length pen.old.taken) × ((last : F) × FoldsTo (λ p x q. CalledAt F.FnMut p x tt q) f (valued T.value (newest_first w.values)) last)) }
         ensures whole { pen.old.weight ≡ 1024 → OnOk result ((h : ℕ → ℕ) → weigh_pushes h pen.new.pushed ≡ weigh_walks h pen.new.taken) }
         ensures err { IfErr result (λ e. (pen.new ≡ pen.old) × (e ≡ Error.Busy) × (pen.old.weight ≢ 1024)) }
@@ -195,7 +190,6 @@ impl<T: Sample> RuledBucket<T> {
     pub fn clear_as<R: Wait>(&self, rt: &R, pen: &mut Pen) -> Result<usize, Error>
         requires own { pen.old.home ≡ self.now }
         requires free { pen.old.ticket ≡ false }
-        requires room { RoomFits T.row }
         ensures ok { IfOk result (λ n. (w : Walk) × (length w.values ≡ n) × (pen.new ≡ took_account pen.old w) × Covers pen.old.pushed w × (pen.old.weight ≡ 1024 → w.epoch ≡ length pen.old.taken)) }
         ensures whole { pen.old.weight ≡ 1024 → OnOk result ((h : ℕ → ℕ) → weigh_pushes h pen.new.pushed ≡ weigh_walks h pen.new.taken) }
         ensures err { IfErr result (λ e. (pen.new ≡ pen.old) × (e ≡ Error.Busy) × (pen.old.weight ≢ 1024)) }

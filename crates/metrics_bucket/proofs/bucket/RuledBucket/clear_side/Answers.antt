@@ -1,18 +1,18 @@
 use Rattle.std.proofs.Common.{rules, ◌≡◌, ℕ, List, suc, ◌+◌, ◌-◌, ◌*◌, ◌/◌, inr, length, take, map, min, sym, ap, ◌∙◌, subst, arith}
 use Rattle.std.specs.List.{FoldsTo}
 use Rattle.metrics_bucket.specs.World.{cells_of, values_in}
-use Rattle.metrics_bucket.specs.Blocks.{chunk, chunks_from, newest_first, valued}
+use Rattle.metrics_bucket.specs.Blocks.{newest_first, valued}
 use Rattle.metrics_bucket.specs.declared.hand.Hold.{Hold}
 use Rattle.metrics_bucket.specs.declared.hand.Cell.{Cell}
-use Rattle.metrics_bucket.proofs.Blocks.{chunk_cut}
+use Rattle.metrics_bucket.proofs.Blocks.{chunk, chunks_from, chunks_newest, chunk_cut}
 use Rattle.metrics_bucket.proofs.WalkCode.{length_values, length_cells, clears_join, still_unseen, same_from, calls_more}
 use Rattle.metrics_bucket.proofs.bucket.RuledBucket.clear_side.Goals as goal
 
 pub whole_as_slice-clear_chunk : goal.whole_as_slice-clear_chunk
-whole_as_slice-clear_chunk g c = c.requires.room
+whole_as_slice-clear_chunk g c = g.met.T.Sample.chunk_fits
 
 pub shared_whole_as_front-see : goal.shared_whole_as_front-see
-shared_whole_as_front-see g c = let e = c.min-end.ensures in (omega arith, c.requires.room)
+shared_whole_as_front-see g c = let e = c.min-end.ensures in (omega arith, g.met.T.Sample.chunk_fits)
 
 pub clear_chunk-requires-clause-cells : goal.clear_chunk-requires-clause-cells
 clear_chunk-requires-clause-cells g c i a b =
@@ -56,5 +56,5 @@ returns-clause-calls g c =
     let none : c.loop-chunks.chunks ≡ 0 = omega arith in
     let m : ℕ = (c.args.given + 63) / 64 in
     let all : m - c.loop-chunks.chunks ≡ (length (values_in cells) + 63) / 64 = omega arith in
-    let same : valued g.T.Sample.value (chunks_from c.loop-chunks.chunks (m - c.loop-chunks.chunks) (values_in cells)) ≡ valued g.T.Sample.value (newest_first (values_in cells)) = (λ z. valued g.T.Sample.value (chunks_from (none z) (all z) (values_in cells))) in
+    let same : valued g.T.Sample.value (chunks_from c.loop-chunks.chunks (m - c.loop-chunks.chunks) (values_in cells)) ≡ valued g.T.Sample.value (newest_first (values_in cells)) = (λ z. valued g.T.Sample.value (chunks_from (none z) (all z) (values_in cells))) ∙ ap (valued g.T.Sample.value) (chunks_newest (values_in cells)) in
     (subst (λ (l : List (List g.row.T.Denot)). FoldsTo g.V.Visitor.saw c.args.visitor.now l c.loop-chunks.visitor) same i.calls)

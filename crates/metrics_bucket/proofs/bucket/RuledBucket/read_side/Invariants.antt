@@ -1,7 +1,8 @@
 use Rattle.std.proofs.Common.{◌≡◌, ◌+◌, ◌-◌, ◌*◌, ◌/◌, ◌≤◌, length}
 use Rattle.std.specs.List.{FoldsTo}
 use Rattle.metrics_bucket.specs.World.{cells_of, values_in}
-use Rattle.metrics_bucket.specs.Blocks.{chunks_from, valued}
+use Rattle.metrics_bucket.proofs.Blocks.{chunks_from}
+use Rattle.metrics_bucket.specs.Blocks.{valued}
 use Rattle.metrics_bucket.specs.ReadChunks.{Reads}
 use Rattle.metrics_bucket.proofs.bucket.RuledBucket.read_side.Given as goal
 

@@ -1,11 +1,11 @@
 use Rattle.std.proofs.Common.{rules, ◌≡◌, ℕ, suc, ◌+◌, ◌-◌, ◌*◌, ◌/◌, ◌%◌, ◌<◌, ◌≤◌, List, [], ◌∷◌, ◌++◌, length, map, min, take, drop, sym, ap, ◌∙◌, subst, arith, append-nil}
 use Rattle.metrics_bucket.specs.Facts.{weigh}
 use Rattle.metrics_bucket.specs.Plays.{Sat, values_known}
-use Rattle.metrics_bucket.specs.Blocks.{chunk, first_chunks, blocks}
+use Rattle.metrics.specs.Book.{blocks}
 use Rattle.metrics_bucket.specs.Places.{Covers}
 use Rattle.metrics_bucket.specs.World.{walk}
 use Rattle.metrics_bucket.proofs.Allowed.{gathers_all}
-use Rattle.metrics_bucket.proofs.Blocks.{count_of, chunk_cut, chunks_step, chunk_length, weigh_blocks}
+use Rattle.metrics_bucket.proofs.Blocks.{chunk, first_chunks, chunks_joined, count_of, chunk_cut, chunks_step, chunk_length, weigh_blocks}
 use Rattle.metrics_bucket.proofs.bucket.RuledBucket.recall.Goals as goal
 
 pub load-control-requires : goal.load-control-requires
@@ -21,7 +21,7 @@ loop-chunks-init g c =
     record {
       table = search rules;
       me = search rules;
-      items = ap (λ (l : List g.row.T.Denot). l ++ map g.T.Sample.value (first_chunks n V)) c.requires.room.0 ∙ ap (λ (k : ℕ). map g.T.Sample.value (first_chunks ((k + 63) / 64) V)) (sym len);
+      items = ap (λ (l : List g.row.T.Denot). l ++ map g.T.Sample.value (first_chunks n V)) c.requires.room.0 ∙ (ap (λ (k : ℕ). map g.T.Sample.value (first_chunks ((k + 63) / 64) V)) (sym len) ∙ ap (map g.T.Sample.value) (chunks_joined V));
       chunks = omega arith;
       room = search rules;
     }
