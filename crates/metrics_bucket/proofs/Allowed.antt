@@ -8,24 +8,24 @@ use lib.Seq.{set-get_or}
 use prog.Atomic.{either}
 use Rattle.atomic_table.specs.Table.{State, Act as SlotAct, step, keeps, homes_after, stepped, opening, Allows, Splits, Joins}
 use Rattle.atomic_table.proofs.Lists.{set_again, set_else}
-use Rattle.metrics_bucket.specs.declared.hand.Hand.{Hand}
-use Rattle.metrics_bucket.specs.declared.hand.Push.{Push}
-use Rattle.metrics_bucket.specs.declared.hand.Turn.{Turn}
-use Rattle.metrics_bucket.specs.declared.hand.Hold.{Hold}
-use Rattle.metrics_bucket.specs.declared.hand.Hold.TheVariants.{Nothing, Ticket, Written, Settling}
-use Rattle.metrics_bucket.specs.World.{World, base, spot, words_of, live_values, new_hand, whole_hand, holding, holding_at, pushing, total, walks_of, walks_made, Act, ticket, write, finish, gather, split, join, world_after, left_part, right_part, both_parts}
+use Rattle.metrics_bucket.specs.declared.view.View.{View}
+use Rattle.metrics_bucket.specs.declared.view.Push.{Push}
+use Rattle.metrics_bucket.specs.declared.view.Turn.{Turn}
+use Rattle.metrics_bucket.specs.declared.view.Hold.{Hold}
+use Rattle.metrics_bucket.specs.declared.view.Hold.TheVariants.{Nothing, Ticket, Written, Settling}
+use Rattle.metrics_bucket.specs.BucketState.{BucketState, base, spot, words_of, live_values, new_view, whole_view, holding, holding_at, pushing, total, walks_of, walks_made, Act, ticket, write, finish, look_to_settle, split, join, state_after, left_part, right_part, both_parts}
 use Rattle.metrics_bucket.specs.Facts.{weigh, weigh_pushes, weight_of, HoldFits, Facts}
-use Rattle.metrics_bucket.specs.Plays.{Sat, IsControl, looked, drew, put, finished, gathered, recalled}
-use Rattle.metrics_bucket.specs.History.{May, opened, turn_at, at_home, homes_of, Kept}
+use Rattle.metrics_bucket.specs.Steps.{Seated, IsControl, control_looked, ticket_drawn, value_written, push_finished, live_side_looked, settled_value_looked}
+use Rattle.metrics_bucket.specs.History.{May, opened, turn_at, at_home, homes_of, FollowsHistory}
 use Rattle.metrics_bucket.proofs.PlacedAlways.{placed}
 use Rattle.metrics_bucket.proofs.Covering.{covers}
 use Rattle.metrics_bucket.proofs.Histories.{runs_on, facts}
 use Rattle.metrics_bucket.proofs.Sums.{total_one, total_set, total_snoc, spot_below}
-use Rattle.metrics_bucket.proofs.Clears.{whole_live, learns, learns_reads}
+use Rattle.metrics_bucket.proofs.Leaving.{whole_live, learns, learns_reads}
 use Rattle.metrics_bucket.proofs.Shares.{zeros}
 
-abbrev pub St : Type 0
-St = State Turn Hand
+abbrev pub TableState : Type 0
+TableState = State Turn View
 
 -- a write in the first or the second of two lists
 pub set_left : (xs ys : List ℕ) (k x : ℕ) → k < length xs → set (xs ++ ys) k x ≡ set xs k x ++ ys
@@ -90,46 +90,46 @@ base_le : (places s : ℕ) → base places s ≤ places
 base_le places zero = omega arith
 base_le places (suc s) = omega arith
 
-live_length : (places : ℕ) (w : World) → Facts places 1024 w → length (live_values places w) ≡ w.given
+live_length : (places : ℕ) (w : BucketState) → Facts places 1024 w → length (live_values places w) ≡ w.given
 live_length places w f = let a = f.values_long in let b = f.room in let c = base_le places w.live in let d = length-drop (base places w.live) w.values in let e = length-take w.given (drop (base places w.live) w.values) in omega arith
 
 module _ (places : ℕ) where
-  -- the state after a step that takes or gives what goes with the turn, by the world after it
-  pub moved_by : (s : St) (k : Kept places s) (i n id : ℕ) (cs : List (ℕ × Turn)) (v u : Hand) (act : Act) (slot : SlotAct Turn) → get_elem? k.1.hands id ≡ some v → 0 < v.weight → May places 1024 k.1 id v act
-      → words_of (world_after places k.1 id v act) ≡ set (words_of k.1) i n → (world_after places k.1 id v act).hands ≡ set k.1.hands id u
-      → homes_of (world_after places k.1 id v act) ≡ homes_after s.homes cs slot
-      → Kept places (stepped s i n id cs u slot)
-  moved_by s k i n id cs v u act slot there has may words hands homes = (
+  -- the state after a step that takes or gives what goes with the turn, by the state after it
+  pub moved_by : (s : TableState) (k : FollowsHistory places s) (i n id : ℕ) (cs : List (ℕ × Turn)) (v u : View) (act : Act) (slot : SlotAct Turn) → get_elem? k.1.views id ≡ some v → 0 < v.weight → May places 1024 k.1 id v act
+      → words_of (state_after places k.1 id v act) ≡ set (words_of k.1) i n → (state_after places k.1 id v act).views ≡ set k.1.views id u
+      → homes_of (state_after places k.1 id v act) ≡ homes_after s.homes cs slot
+      → FollowsHistory places (stepped s i n id cs u slot)
+  moved_by s k i n id cs v u act slot there has may words views homes = (
     k.0 ++ record { by = id; act = act } ∷ [],
-    world_after places k.1 id v act,
+    state_after places k.1 id v act,
     runs_on places 1024 (opened places) k.0 k.1 id v act k.2 there has may,
     words ∙ ap (λ (l : List ℕ). set l i n) k.3,
-    hands ∙ ap (λ (l : List Hand). set l id u) k.4,
+    views ∙ ap (λ (l : List View). set l id u) k.4,
     homes,
   )
 
   -- the state after another step
-  pub moved : (s : St) (k : Kept places s) (i n id : ℕ) (cs : List (ℕ × Turn)) (v u : Hand) (act : Act) → get_elem? k.1.hands id ≡ some v → 0 < v.weight → May places 1024 k.1 id v act
-      → words_of (world_after places k.1 id v act) ≡ set (words_of k.1) i n → (world_after places k.1 id v act).hands ≡ set k.1.hands id u
-      → walks_of u ≡ walks_of v → (world_after places k.1 id v act).turn ≡ k.1.turn
-      → Kept places (stepped s i n id cs u keeps)
-  moved s k i n id cs v u act there has may words hands walks turn =
-      let w' : World = world_after places k.1 id v act in
-      let made : walks_made w' ≡ walks_made k.1 = (let t = total_set walks_of k.1.hands id v u there in let h : walks_made w' ≡ total walks_of (set k.1.hands id u) = ap (total walks_of) hands in omega arith) in
-      moved_by s k i n id cs v u act keeps there has may words hands ((λ j. at_home (turn j) (made j) ∷ []) ∙ k.5)
+  pub moved : (s : TableState) (k : FollowsHistory places s) (i n id : ℕ) (cs : List (ℕ × Turn)) (v u : View) (act : Act) → get_elem? k.1.views id ≡ some v → 0 < v.weight → May places 1024 k.1 id v act
+      → words_of (state_after places k.1 id v act) ≡ set (words_of k.1) i n → (state_after places k.1 id v act).views ≡ set k.1.views id u
+      → walks_of u ≡ walks_of v → (state_after places k.1 id v act).turn ≡ k.1.turn
+      → FollowsHistory places (stepped s i n id cs u keeps)
+  moved s k i n id cs v u act there has may words views walks turn =
+      let w' : BucketState = state_after places k.1 id v act in
+      let made : walks_made w' ≡ walks_made k.1 = (let t = total_set walks_of k.1.views id v u there in let h : walks_made w' ≡ total walks_of (set k.1.views id u) = ap (total walks_of) views in omega arith) in
+      moved_by s k i n id cs v u act keeps there has may words views ((λ j. at_home (turn j) (made j) ∷ []) ∙ k.5)
 
-  pub still : (s : St) (k : Kept places s) (i id : ℕ) (cs : List (ℕ × Turn)) (u : Hand) → get_elem? s.views id ≡ some u → Kept places (stepped s i (get_or s.words i 0) id cs u keeps)
+  pub still : (s : TableState) (k : FollowsHistory places s) (i id : ℕ) (cs : List (ℕ × Turn)) (u : View) → get_elem? s.views id ≡ some u → FollowsHistory places (stepped s i (get_or s.words i 0) id cs u keeps)
   still s k i id cs u at = (k.0, k.1, k.2, k.3 ∙ sym (set-get_or s.words i 0), k.4 ∙ sym (set_again s.views id u at), k.5)
 
-  pub control : (s : St) (k : Kept places s) → get_or s.words 0 0 ≡ 2 * k.1.given + k.1.live
+  pub control : (s : TableState) (k : FollowsHistory places s) → get_or s.words 0 0 ≡ 2 * k.1.given + k.1.live
   control s k = sym (ap (λ (l : List ℕ). get_or l 0 0) k.3)
 
-  pub seated : (s : St) (k : Kept places s) (id : ℕ) (v : Hand) → get_elem? s.views id ≡ some v → get_elem? k.1.hands id ≡ some v
-  seated s k id v at = ap (λ (l : List Hand). get_elem? l id) k.4 ∙ at
+  pub seated : (s : TableState) (k : FollowsHistory places s) (id : ℕ) (v : View) → get_elem? s.views id ≡ some v → get_elem? k.1.views id ≡ some v
+  seated s k id v at = ap (λ (l : List View). get_elem? l id) k.4 ∙ at
 
-  whole_control : (s : St) (k : Kept places s) (id : ℕ) (v : Hand) → get_elem? s.views id ≡ some v → v.hold ≡ Nothing → IsControl v (get_or s.words 0 0)
+  whole_control : (s : TableState) (k : FollowsHistory places s) (id : ℕ) (v : View) → get_elem? s.views id ≡ some v → v.hold ≡ Nothing → IsControl v (get_or s.words 0 0)
   whole_control s k id v at free whole =
-      let w : World = k.1 in
+      let w : BucketState = k.1 in
       let there = seated s k id v at in
       let some_weight : 0 < v.weight = omega arith in
       let c = control s k in
@@ -141,9 +141,9 @@ module _ (places : ℕ) where
       let r = live_length places w (facts places s k) in
       (omega arith, omega arith)
 
-  pub looks : (slots id : ℕ) (me : Sat) → Allows (Kept places) slots id me 0 (λ n. n) (looked (step slots 0 0 0 none) me)
+  pub looks : (slots id : ℕ) (me : Seated) → Allows (FollowsHistory places) slots id me 0 (λ n. n) (control_looked (step slots 0 0 0 none) me)
   looks slots id me s k _ at _ =
-      let most : me.0.weight ≤ 1024 = (let a = total_one weight_of k.1.hands id me.0 (seated s k id me.0 at) in let b = (facts places s k).shares in omega arith) in
+      let most : me.0.weight ≤ 1024 = (let a = total_one weight_of k.1.views id me.0 (seated s k id me.0 at) in let b = (facts places s k).shares in omega arith) in
       let c = control s k in
       let side = (facts places s k).side in
       let room = (facts places s k).room in (
@@ -154,25 +154,25 @@ module _ (places : ℕ) where
         (refl, most, (λ has. let size = ((facts places s k).each id me.0 (seated s k id me.0 at)).size has in omega arith), λ free. whole_control s k id me.0 at free),
       )
 
-  pub draws : (slots id : ℕ) (me : Sat) (old : ℕ) → 0 < me.0.weight → me.0.hold ≡ Nothing → old / 2 < places
-      → Allows (Kept places) slots id me 0 (λ n. either (eqb n old) (old + 2) n) (drew (step slots 0 old (old + 2) none) me)
+  pub draws : (slots id : ℕ) (me : Seated) (old : ℕ) → 0 < me.0.weight → me.0.hold ≡ Nothing → old / 2 < places
+      → Allows (FollowsHistory places) slots id me 0 (λ n. either (eqb n old) (old + 2) n) (ticket_drawn (step slots 0 old (old + 2) none) me)
   draws slots id me old has free room s k _ at _ =
       let x : ℕ = get_or s.words 0 0 in
-      let w : World = k.1 in
+      let w : BucketState = k.1 in
       let c = control s k in
       let side = (facts places s k).side in
       let there = seated s k id me.0 at in
       dite (ℕ_discrete x old)
       (λ hit.
-      let u : Hand = holding_at me.0 w.epoch (Ticket w.live w.given) in
-      let u' : Hand = holding_at me.0 w.epoch (Ticket (x % 2) (x / 2)) in
+      let u : View = holding_at me.0 w.epoch (Ticket w.live w.given) in
+      let u' : View = holding_at me.0 w.epoch (Ticket (x % 2) (x / 2)) in
       let is : u ≡ u' = (let a : w.live ≡ x % 2 = omega arith in let b : w.given ≡ x / 2 = omega arith in λ i. holding_at me.0 w.epoch (Ticket (a i) (b i))) in
       let below_all : w.given < places = omega arith in (
         u',
         keeps,
         tt,
-        subst (λ b. Kept places (stepped s 0 (either b (old + 2) x) id me.1 u' keeps)) (sym (eq-eqb x old hit))
-            (subst (λ (z : Hand). Kept places (stepped s 0 (old + 2) id me.1 z keeps)) is
+        subst (λ b. FollowsHistory places (stepped s 0 (either b (old + 2) x) id me.1 u' keeps)) (sym (eq-eqb x old hit))
+            (subst (λ (z : View). FollowsHistory places (stepped s 0 (old + 2) id me.1 z keeps)) is
             (moved s k 0 (old + 2) id me.1 me.0 u ticket there has (free, below_all) (let n : 2 * (w.given + 1) + w.live ≡ old + 2 = omega arith in (λ i. n i ∷ w.turn ∷ (w.values ++ w.marks))) refl refl refl)),
         ((λ _. (w.epoch, refl)), (λ not. absurd (not hit)), whole_control s k id me.0 at free),
       ))
@@ -180,16 +180,16 @@ module _ (places : ℕ) where
         me.0,
         keeps,
         tt,
-        subst (λ b. Kept places (stepped s 0 (either b (old + 2) x) id me.1 me.0 keeps)) (sym (ne_eqb x old miss)) (still s k 0 id me.1 me.0 at),
+        subst (λ b. FollowsHistory places (stepped s 0 (either b (old + 2) x) id me.1 me.0 keeps)) (sym (ne_eqb x old miss)) (still s k 0 id me.1 me.0 at),
         ((λ hit. absurd (miss hit)), (λ _. refl), whole_control s k id me.0 at free),
       ))
 
-  pub puts : (slots id : ℕ) (me : Sat) (word x s i : ℕ) → 0 < me.0.weight → me.0.hold ≡ Ticket s i → word ≡ 2 + spot places s i
-      → Allows (Kept places) slots id me word (λ _. x) (λ _. put (step slots word x 0 none) me x)
+  pub puts : (slots id : ℕ) (me : Seated) (word x s i : ℕ) → 0 < me.0.weight → me.0.hold ≡ Ticket s i → word ≡ 2 + spot places s i
+      → Allows (FollowsHistory places) slots id me word (λ _. x) (λ _. value_written (step slots word x 0 none) me x)
   puts slots id me word x s i has e is st k _ at _ =
-      let w : World = k.1 in
+      let w : BucketState = k.1 in
       let there = seated st k id me.0 at in
-      let u : Hand = holding me.0 (Written s i x) in
+      let u : View = holding me.0 (Written s i x) in
       let fits : HoldFits places 1024 w me.0.weight (Ticket s i) = subst (HoldFits places 1024 w me.0.weight) e ((facts places st k).each id me.0 there).hold in
       let long = (facts places st k).values_long in
       let in_range = spot_below places s i fits.1 in
@@ -202,12 +202,12 @@ module _ (places : ℕ) where
         λ s' i' e'. ap (λ (z : Hold). (holding me.0 (written z x), me.1)) (sym e ∙ e'),
       )
 
-  pub marks : (slots id : ℕ) (me : Sat) (word s i x : ℕ) → 0 < me.0.weight → me.0.hold ≡ Written s i x → word ≡ 2 + (places + places) + spot places s i
-      → Allows (Kept places) slots id me word (λ _. 1) (λ _. finished (step slots word 1 0 none) me 1)
+  pub marks : (slots id : ℕ) (me : Seated) (word s i x : ℕ) → 0 < me.0.weight → me.0.hold ≡ Written s i x → word ≡ 2 + (places + places) + spot places s i
+      → Allows (FollowsHistory places) slots id me word (λ _. 1) (λ _. push_finished (step slots word 1 0 none) me 1)
   marks slots id me word s i x has e is st k _ at _ =
-      let w : World = k.1 in
+      let w : BucketState = k.1 in
       let there = seated st k id me.0 at in
-      let u : Hand = pushing me.0 i x in
+      let u : View = pushing me.0 i x in
       let long = (facts places st k).values_long in
       let same_word : word ≡ suc (suc ((places + places) + spot places s i)) = omega arith in (
         u,
@@ -218,17 +218,17 @@ module _ (places : ℕ) where
         λ s' i' x' e'. ap (λ (z : Hold). (pushing me.0 (place_of z) (value_of z), me.1)) (sym e ∙ e'),
       )
 
-  pub gathers_all : (slots id : ℕ) (me : Sat) → me.0.weight ≡ 1024 → me.0.hold ≡ Nothing → Allows (Kept places) slots id me 0 (λ n. n) (gathered (step slots 0 0 0 none) me)
+  pub gathers_all : (slots id : ℕ) (me : Seated) → me.0.weight ≡ 1024 → me.0.hold ≡ Nothing → Allows (FollowsHistory places) slots id me 0 (λ n. n) (live_side_looked (step slots 0 0 0 none) me)
   gathers_all slots id me whole free s k _ at _ =
-      let w : World = k.1 in
+      let w : BucketState = k.1 in
       let there = seated s k id me.0 at in
       let has : 0 < me.0.weight = omega arith in
       let x : ℕ = get_or s.words 0 0 in
       let c = control s k in
       let side = (facts places s k).side in
       let vs : List ℕ = live_values places w in
-      let u : Hand = holding me.0 (Settling w.live vs) in
-      let u' : Hand = holding me.0 (Settling (x % 2) vs) in
+      let u : View = holding me.0 (Settling w.live vs) in
+      let u' : View = holding me.0 (Settling (x % 2) vs) in
       let is : u ≡ u' = (let a : w.live ≡ x % 2 = omega arith in λ i. holding me.0 (Settling (a i) vs)) in
       let l = live_length places w (facts places s k) in
       let size = ((facts places s k).each id me.0 there).size has in
@@ -237,14 +237,14 @@ module _ (places : ℕ) where
         u',
         keeps,
         tt,
-        subst (λ (z : Hand). Kept places (stepped s 0 x id me.1 z keeps)) is
-            (moved s k 0 x id me.1 me.0 u gather there has (free, whole) (k.3 ∙ sym (set-get_or s.words 0 0) ∙ sym (ap (λ (l : List ℕ). set l 0 x) k.3)) refl refl refl),
+        subst (λ (z : View). FollowsHistory places (stepped s 0 x id me.1 z keeps)) is
+            (moved s k 0 x id me.1 me.0 u look_to_settle there has (free, whole) (k.3 ∙ sym (set-get_or s.words 0 0) ∙ sym (ap (λ (l : List ℕ). set l 0 x) k.3)) refl refl refl),
         (vs, refl, omega arith, omega arith, learns places 1024 w id me.0 (facts places s k) there has whole free, learns_reads places 1024 w id me.0 (facts places s k) there has whole free, shown),
       )
 
-  pub recalls : (slots id : ℕ) (me : Sat) (word : ℕ) → 0 < me.0.weight → Allows (Kept places) slots id me word (λ n. n) (recalled (step slots word 0 0 none) me)
+  pub recalls : (slots id : ℕ) (me : Seated) (word : ℕ) → 0 < me.0.weight → Allows (FollowsHistory places) slots id me word (λ n. n) (settled_value_looked (step slots word 0 0 none) me)
   recalls slots id me word has s k _ at _ =
-      let w : World = k.1 in
+      let w : BucketState = k.1 in
       let there = seated s k id me.0 at in
       let size = ((facts places s k).each id me.0 there).size has in (
         me.0,
@@ -268,35 +268,35 @@ module _ (places : ℕ) where
         ),
       )
 
-  pub cuts : (id : ℕ) (v : Hand) → 1 < v.weight → v.hold ≡ Nothing → Splits (Kept places) id v (left_part v) (right_part v)
+  pub cuts : (id : ℕ) (v : View) → 1 < v.weight → v.hold ≡ Nothing → Splits (FollowsHistory places) id v (left_part v) (right_part v)
   cuts id v heavy free s k at =
       let has : 0 < v.weight = omega arith in
-      let walks : walks_made (world_after places k.1 id v split) ≡ walks_made k.1 =
-      (let t = total_set walks_of k.1.hands id v (left_part v) (seated s k id v at) in let n = total_snoc walks_of (set k.1.hands id (left_part v)) (right_part v) in omega arith)
+      let walks : walks_made (state_after places k.1 id v split) ≡ walks_made k.1 =
+      (let t = total_set walks_of k.1.views id v (left_part v) (seated s k id v at) in let n = total_snoc walks_of (set k.1.views id (left_part v)) (right_part v) in omega arith)
       in (
         k.0 ++ record { by = id; act = split } ∷ [],
-        world_after places k.1 id v split,
+        state_after places k.1 id v split,
         runs_on places 1024 (opened places) k.0 k.1 id v split k.2 (seated s k id v at) has (free, heavy),
         k.3,
-        ap (λ (l : List Hand). set l id (left_part v) ++ right_part v ∷ []) k.4,
+        ap (λ (l : List View). set l id (left_part v) ++ right_part v ∷ []) k.4,
         (λ j. at_home k.1.turn (walks j) ∷ []) ∙ k.5,
       )
 
-  pub glues : (id : ℕ) (v : Hand) (other_id : ℕ) (x : Hand) → 0 < v.weight → v.hold ≡ Nothing → x.hold ≡ Nothing → Joins (Kept places) id v other_id x (both_parts v x) (new_hand 0 0)
+  pub glues : (id : ℕ) (v : View) (other_id : ℕ) (x : View) → 0 < v.weight → v.hold ≡ Nothing → x.hold ≡ Nothing → Joins (FollowsHistory places) id v other_id x (both_parts v x) (new_view 0 0)
   glues id v other_id x has free free_too s k at apart there =
-      let there' : get_elem? k.1.hands other_id ≡ some x = sym (set_else k.1.hands id other_id (both_parts v x) apart) ∙ (ap (λ (l : List Hand). get_elem? (set l id (both_parts v x)) other_id) k.4 ∙ there) in
-      let walks : walks_made (world_after places k.1 id v (join other_id x)) ≡ walks_made k.1 =
-      (let t = total_set walks_of k.1.hands id v (both_parts v x) (seated s k id v at) in
-      let n = total_set walks_of (set k.1.hands id (both_parts v x)) other_id x (new_hand 0 0) (set_else k.1.hands id other_id (both_parts v x) apart ∙ there') in
+      let there' : get_elem? k.1.views other_id ≡ some x = sym (set_else k.1.views id other_id (both_parts v x) apart) ∙ (ap (λ (l : List View). get_elem? (set l id (both_parts v x)) other_id) k.4 ∙ there) in
+      let walks : walks_made (state_after places k.1 id v (join other_id x)) ≡ walks_made k.1 =
+      (let t = total_set walks_of k.1.views id v (both_parts v x) (seated s k id v at) in
+      let n = total_set walks_of (set k.1.views id (both_parts v x)) other_id x (new_view 0 0) (set_else k.1.views id other_id (both_parts v x) apart ∙ there') in
       let a = length-append v.taken x.taken in
       let b = length-append v.read x.read in
       omega arith)
       in (
         k.0 ++ record { by = id; act = join other_id x } ∷ [],
-        world_after places k.1 id v (join other_id x),
+        state_after places k.1 id v (join other_id x),
         runs_on places 1024 (opened places) k.0 k.1 id v (join other_id x) k.2 (seated s k id v at) has (free, free_too, apart, there'),
         k.3,
-        ap (λ (l : List Hand). set (set l id (both_parts v x)) other_id (new_hand 0 0)) k.4,
+        ap (λ (l : List View). set (set l id (both_parts v x)) other_id (new_view 0 0)) k.4,
         (λ j. at_home k.1.turn (walks j) ∷ []) ∙ k.5,
       )
 
@@ -304,7 +304,7 @@ module _ (places : ℕ) where
   zeros-append zero m = let e : m ≡ 0 + m = omega arith in ap zeros e
   zeros-append (suc n) m = ap (λ (l : List ℕ). 0 ∷ l) (zeros-append n m) ∙ (let e : suc (n + m) ≡ suc n + m = omega arith in ap zeros e)
 
-  pub starts : (n : ℕ) → n ≡ 2 + 4 * places → Kept places (opening (replicate n 0) (turn_at 0 ∷ []) (whole_hand places))
+  pub starts : (n : ℕ) → n ≡ 2 + 4 * places → FollowsHistory places (opening (replicate n 0) (turn_at 0 ∷ []) (whole_view places))
   starts n e = (
     [],
     opened places,

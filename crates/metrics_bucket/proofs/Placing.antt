@@ -5,20 +5,20 @@ use mathlib.Core.Option.{some, some-injective, some-ne-none}
 use native.Mathlib.Decide.{ℕ_discrete, dec_le}
 use lib.ListN.{get_elem?}
 use Rattle.atomic_table.proofs.Lists.{at_set}
-use Rattle.metrics_bucket.specs.declared.hand.Push.{Push}
-use Rattle.metrics_bucket.specs.declared.hand.Walk.{Walk}
-use Rattle.metrics_bucket.specs.declared.hand.Hand.{Hand}
-use Rattle.metrics_bucket.specs.declared.hand.Hold.{Hold}
-use Rattle.metrics_bucket.specs.declared.hand.Hold.TheVariants.{Nothing, Ticket, Written, Claimed, Aimed, Reading, Clearing, Settling}
-use Rattle.metrics_bucket.specs.declared.hand.Cell.{Cell}
-use Rattle.metrics_bucket.specs.declared.hand.Cell.TheVariants.{Unseen, Marked, Read, Wiped}
-use Rattle.metrics_bucket.specs.World.{World, total, walks_of, walks_made, other, spot, holds_as, value_in, values_in}
+use Rattle.metrics_bucket.specs.declared.view.Push.{Push}
+use Rattle.metrics_bucket.specs.declared.view.Walk.{Walk}
+use Rattle.metrics_bucket.specs.declared.view.View.{View}
+use Rattle.metrics_bucket.specs.declared.view.Hold.{Hold}
+use Rattle.metrics_bucket.specs.declared.view.Hold.TheVariants.{Nothing, Ticket, Written, Claimed, SideKnown, Reading, Clearing, Settling}
+use Rattle.metrics_bucket.specs.declared.view.Visit.{Visit}
+use Rattle.metrics_bucket.specs.declared.view.Visit.TheVariants.{Unseen, Marked, Read, Wiped}
+use Rattle.metrics_bucket.specs.BucketState.{BucketState, total, walks_of, walks_made, other, spot, holds_as, value_in, values_in}
 use Rattle.metrics_bucket.specs.Facts.{same, below, turn_in, took_in, took_of, Facts}
-use Rattle.metrics_bucket.specs.Places.{pushes_at, values_at, pushed_at, value_at, held_in, tickets_at, lengths_of, clearing_of, told_of, walks_in, given_of, walks_at, is_wiped, wiped_place, wiped_hold, wipes_at, mark_of, IsPush, IsEpochOf, WalkFinds, CellFinds, CellsFind, HoldPlaced, HandPlaced, Placed}
+use Rattle.metrics_bucket.specs.Places.{pushes_at, values_at, pushed_at, value_at, held_in, tickets_at, lengths_of, clearing_of, told_of, walks_in, given_of, walks_at, is_wiped, wiped_place, wiped_hold, wipes_at, mark_of, IsPush, IsEpochOf, WalkFinds, VisitFinds, VisitsFind, HoldPlaced, ViewPlaced, Placed}
 use Rattle.metrics_bucket.proofs.Sums.{total_set, total_one, spot_apart, spot_below, here_or, same_here, same_else, below_under, below_over, below_le}
 use Rattle.metrics_bucket.proofs.Keep.{other_side}
 
-pub total_add : (f g : Hand → ℕ) (vs : List Hand) → total (λ v. f v + g v) vs ≡ total f vs + total g vs
+pub total_add : (f g : View → ℕ) (vs : List View) → total (λ v. f v + g v) vs ≡ total f vs + total g vs
 total_add f g [] = refl
 total_add f g (v ∷ vs) = let r = total_add f g vs in omega arith
 
@@ -65,7 +65,7 @@ no_value e i (p ∷ ps) z =
     let one = value_else e i p.epoch p.place p.value (λ a b. let h = same_here e i p.epoch p.place a b in absurd (omega arith)) in
     omega arith
 
-pub no_values : (e i : ℕ) (vs : List Hand) → total (pushed_at e i) vs ≡ 0 → total (value_at e i) vs ≡ 0
+pub no_values : (e i : ℕ) (vs : List View) → total (pushed_at e i) vs ≡ 0 → total (value_at e i) vs ≡ 0
 no_values e i [] z = refl
 no_values e i (v ∷ vs) z = let a = no_value e i v.pushed (omega arith) in let r = no_values e i vs (omega arith) in omega arith
 
@@ -92,7 +92,7 @@ some_push (q ∷ ps) zero p e = let is : q ≡ p = some-injective q p e in let o
 some_push (q ∷ ps) (suc n) p e = let r = some_push ps n p e in omega arith
 
 -- the values of the others, where one thread's push is the only one
-rest_none : (e i : ℕ) (vs : List Hand) (j : ℕ) (v : Hand) → get_elem? vs j ≡ some v → total (pushed_at e i) vs ≡ pushed_at e i v → total (value_at e i) vs ≡ value_at e i v
+rest_none : (e i : ℕ) (vs : List View) (j : ℕ) (v : View) → get_elem? vs j ≡ some v → total (pushed_at e i) vs ≡ pushed_at e i v → total (value_at e i) vs ≡ value_at e i v
 rest_none e i [] j v at s = absurd (some-ne-none v (sym at))
 rest_none e i (u ∷ vs) zero v at s =
     let is : u ≡ v = some-injective u v at in
@@ -130,24 +130,24 @@ given_more e i epoch n told z = dite (ℕ_discrete e epoch)
     omega arith)
 
 -- pushes that were finished stay
-pub push_kept : (w w' : World) (id : ℕ) (v u : Hand) → get_elem? w.hands id ≡ some v → w'.hands ≡ set w.hands id u → u.pushed ≡ v.pushed → (e i x : ℕ) → IsPush w e i x → IsPush w' e i x
+pub push_kept : (w w' : BucketState) (id : ℕ) (v u : View) → get_elem? w.views id ≡ some v → w'.views ≡ set w.views id u → u.pushed ≡ v.pushed → (e i x : ℕ) → IsPush w e i x → IsPush w' e i x
 push_kept w w' id v u at is same_pushes e i x k =
-    let a : total (pushed_at e i) w'.hands ≡ total (pushed_at e i) (set w.hands id u) = ap (total (pushed_at e i)) is in
-    let b : total (value_at e i) w'.hands ≡ total (value_at e i) (set w.hands id u) = ap (total (value_at e i)) is in
-    let c = total_set (pushed_at e i) w.hands id v u at in
-    let d = total_set (value_at e i) w.hands id v u at in
+    let a : total (pushed_at e i) w'.views ≡ total (pushed_at e i) (set w.views id u) = ap (total (pushed_at e i)) is in
+    let b : total (value_at e i) w'.views ≡ total (value_at e i) (set w.views id u) = ap (total (value_at e i)) is in
+    let c = total_set (pushed_at e i) w.views id v u at in
+    let d = total_set (value_at e i) w.views id v u at in
     let f : pushed_at e i u ≡ pushed_at e i v = ap (pushes_at e i) same_pushes in
     let g : value_at e i u ≡ value_at e i v = ap (values_at e i) same_pushes in
     let k0 = k.0 in
     let k1 = k.1 in
     (omega arith, omega arith)
 
-module _ (w w' : World) (pushes : (e i x : ℕ) → IsPush w e i x → IsPush w' e i x) where
-  pub cell_kept : (e i : ℕ) (c : Cell) → CellFinds w e i c → CellFinds w' e i c
-  cell_kept e i Unseen k = tt
-  cell_kept e i Marked k = tt
-  cell_kept e i (Read x) k = pushes e i x k
-  cell_kept e i (Wiped x) k = pushes e i x k
+module _ (w w' : BucketState) (pushes : (e i x : ℕ) → IsPush w e i x → IsPush w' e i x) where
+  pub visit_kept : (e i : ℕ) (c : Visit) → VisitFinds w e i c → VisitFinds w' e i c
+  visit_kept e i Unseen k = tt
+  visit_kept e i Marked k = tt
+  visit_kept e i (Read x) k = pushes e i x k
+  visit_kept e i (Wiped x) k = pushes e i x k
 
   pub walk_kept : (walk : Walk) → WalkFinds w walk → WalkFinds w' walk
   walk_kept walk k i l = pushes walk.epoch i (get_or walk.values i 0) (k i l)
@@ -157,13 +157,13 @@ module _ (w w' : World) (pushes : (e i x : ℕ) → IsPush w e i x → IsPush w'
   hold_kept live epoch e (Ticket s i) k = ⊎_elim (λ (t : (s ≡ w.live) × (e ≡ w.epoch)). inl (t.0 ∙ sym live, t.1 ∙ sym epoch)) (λ (t : (s ≡ other w.live) × (suc e ≡ w.epoch)). inr (t.0 ∙ ap other (sym live), t.1 ∙ sym epoch)) k
   hold_kept live epoch e (Written s i x) k = ⊎_elim (λ (t : (s ≡ w.live) × (e ≡ w.epoch)). inl (t.0 ∙ sym live, t.1 ∙ sym epoch)) (λ (t : (s ≡ other w.live) × (suc e ≡ w.epoch)). inr (t.0 ∙ ap other (sym live), t.1 ∙ sym epoch)) k
   hold_kept live epoch e Claimed k = tt
-  hold_kept live epoch e (Aimed s) k = tt
-  hold_kept live epoch e (Reading s cells) k = (k.0 ∙ sym epoch, λ i c there. cell_kept e i c (k.1 i c there))
-  hold_kept live epoch e (Clearing s cells) k = (k.0 ∙ sym epoch, λ i c there. cell_kept e i c (k.1 i c there))
+  hold_kept live epoch e (SideKnown s) k = tt
+  hold_kept live epoch e (Reading s visits) k = (k.0 ∙ sym epoch, λ i c there. visit_kept e i c (k.1 i c there))
+  hold_kept live epoch e (Clearing s visits) k = (k.0 ∙ sym epoch, λ i c there. visit_kept e i c (k.1 i c there))
   hold_kept live epoch e (Settling s xs) k = tt
 
-  pub hand_kept : (u : Hand) → (HoldPlaced w u.epoch u.hold → HoldPlaced w' u.epoch u.hold) → (turn_in u.hold ≡ 1 → walks_made w' ≡ walks_made w) → HandPlaced w u → HandPlaced w' u
-  hand_kept u hold walks k = record {
+  pub view_kept : (u : View) → (HoldPlaced w u.epoch u.hold → HoldPlaced w' u.epoch u.hold) → (turn_in u.hold ≡ 1 → walks_made w' ≡ walks_made w) → ViewPlaced w u → ViewPlaced w' u
+  view_kept u hold walks k = record {
     hold = hold k.hold;
     turn = λ t. k.turn t ∙ sym (walks t);
     taken = λ n walk e. walk_kept walk (k.taken n walk e);
@@ -171,41 +171,41 @@ module _ (w w' : World) (pushes : (e i x : ℕ) → IsPush w e i x → IsPush w'
   }
 
   -- all threads after a step of one
-  pub each_kept : (places id : ℕ) (u : Hand) → Placed places w → w'.hands ≡ set w.hands id u → HandPlaced w' u
-      → ((j : ℕ) (z : Hand) → j ≢ id → get_elem? w.hands j ≡ some z → (HoldPlaced w z.epoch z.hold → HoldPlaced w' z.epoch z.hold) × (turn_in z.hold ≡ 1 → walks_made w' ≡ walks_made w))
-      → (j : ℕ) (z : Hand) → get_elem? w'.hands j ≡ some z → HandPlaced w' z
+  pub each_kept : (places id : ℕ) (u : View) → Placed places w → w'.views ≡ set w.views id u → ViewPlaced w' u
+      → ((j : ℕ) (z : View) → j ≢ id → get_elem? w.views j ≡ some z → (HoldPlaced w z.epoch z.hold → HoldPlaced w' z.epoch z.hold) × (turn_in z.hold ≡ 1 → walks_made w' ≡ walks_made w))
+      → (j : ℕ) (z : View) → get_elem? w'.views j ≡ some z → ViewPlaced w' z
   each_kept places id u p is mine others j z there = ⊎_elim
-      (λ (t : (j ≡ id) × (u ≡ z)). subst (HandPlaced w') t.1 mine)
-      (λ (t : (j ≢ id) × (get_elem? w.hands j ≡ some z)). let o = others j z t.0 t.1 in hand_kept z o.0 o.1 (p.each j z t.1))
-      (at_set w.hands id j u z (sym (ap (λ (l : List Hand). get_elem? l j) is) ∙ there))
+      (λ (t : (j ≡ id) × (u ≡ z)). subst (ViewPlaced w') t.1 mine)
+      (λ (t : (j ≢ id) × (get_elem? w.views j ≡ some z)). let o = others j z t.0 t.1 in view_kept z o.0 o.1 (p.each j z t.1))
+      (at_set w.views id j u z (sym (ap (λ (l : List View). get_elem? l j) is) ∙ there))
 
-module _ (places : ℕ) (w : World) (p : Placed places w) where
-  pub at_most_one : (e i : ℕ) → total (tickets_at e i) w.hands ≤ 1
+module _ (places : ℕ) (w : BucketState) (p : Placed places w) where
+  pub at_most_one : (e i : ℕ) → total (tickets_at e i) w.views ≤ 1
   at_most_one e i = let a = p.tickets e i in let b = below_le i (given_of e w) in omega arith
 
   -- what a thread pushed is the push of its place
-  pub own_push : (j : ℕ) (v : Hand) (n : ℕ) (q : Push) → get_elem? w.hands j ≡ some v → get_elem? v.pushed n ≡ some q → IsPush w q.epoch q.place q.value
+  pub own_push : (j : ℕ) (v : View) (n : ℕ) (q : Push) → get_elem? w.views j ≡ some v → get_elem? v.pushed n ≡ some q → IsPush w q.epoch q.place q.value
   own_push j v n q at there =
       let e : ℕ = q.epoch in
       let i : ℕ = q.place in
-      let held : Hand → ℕ = λ z. held_in e i z.epoch z.hold in
+      let held : View → ℕ = λ z. held_in e i z.epoch z.hold in
       let a = at_most_one e i in
-      let b = total_add (pushed_at e i) held w.hands in
+      let b = total_add (pushed_at e i) held w.views in
       let some_here = some_push v.pushed n q there in
-      let most = total_one (pushed_at e i) w.hands j v at in
+      let most = total_one (pushed_at e i) w.views j v at in
       let own = own_value v.pushed n q there (omega arith) in
       let own0 = own.0 in
-      let rest = rest_none e i w.hands j v at (omega arith) in
+      let rest = rest_none e i w.views j v at (omega arith) in
       (omega arith, rest ∙ own.1)
 
   -- a finished push is of an epoch that was, or below the tickets of the one that goes on
-  pub own_reach : (j : ℕ) (v : Hand) (n : ℕ) (q : Push) → get_elem? w.hands j ≡ some v → get_elem? v.pushed n ≡ some q → (q.epoch ≤ w.epoch) × (q.epoch ≡ w.epoch → q.place < w.given)
+  pub own_reach : (j : ℕ) (v : View) (n : ℕ) (q : Push) → get_elem? w.views j ≡ some v → get_elem? v.pushed n ≡ some q → (q.epoch ≤ w.epoch) × (q.epoch ≡ w.epoch → q.place < w.given)
   own_reach j v n q at there =
       let e : ℕ = q.epoch in
       let i : ℕ = q.place in
       let some_here = some_push v.pushed n q there in
-      let held : Hand → ℕ = λ z. held_in e i z.epoch z.hold in
-      let most = total_one (tickets_at e i) w.hands j v at in
+      let held : View → ℕ = λ z. held_in e i z.epoch z.hold in
+      let most = total_one (tickets_at e i) w.views j v at in
       let t = p.tickets e i in
       let given : i < given_of e w = dite (dec_le (given_of e w) i) (λ l. let b = below_over i (given_of e w) l in absurd (omega arith)) (λ l. omega arith) in
       (

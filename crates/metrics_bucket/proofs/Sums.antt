@@ -1,42 +1,42 @@
--- Sums over hands, weights of lists, and places.
+-- Sums over views, weights of lists, and places.
 use Rattle.std.proofs.Common.{◌≡◌, ◌≢◌, ◌⊎◌, ℕ, zero, suc, ◌+◌, ◌<◌, ◌≤◌, List, [], ◌∷◌, ◌++◌, length, get_or, set, replicate, refl, sym, ap, inl, inr, ⊎_elim, arith, eq-eqb, ne_eqb}
 use mathlib.Core.Logic.{dite}
 use mathlib.Core.Option.{some, some-injective, some-ne-none}
 use native.Mathlib.Decide.{ℕ_discrete}
 use lib.ListN.{get_elem?}
-use Rattle.metrics_bucket.specs.declared.hand.Push.{Push}
-use Rattle.metrics_bucket.specs.declared.hand.Hand.{Hand}
-use Rattle.metrics_bucket.specs.declared.hand.Cell.TheVariants.{Unseen}
-use Rattle.metrics_bucket.specs.World.{total, spot}
+use Rattle.metrics_bucket.specs.declared.view.Push.{Push}
+use Rattle.metrics_bucket.specs.declared.view.View.{View}
+use Rattle.metrics_bucket.specs.declared.view.Visit.TheVariants.{Unseen}
+use Rattle.metrics_bucket.specs.BucketState.{total, spot}
 use Rattle.metrics_bucket.specs.Facts.{weigh, weigh_pushes, stands, same, below, given_at, open_at}
 
-pub total_set : (f : Hand → ℕ) (vs : List Hand) (j : ℕ) (v w : Hand) → get_elem? vs j ≡ some v → total f (set vs j w) + f v ≡ total f vs + f w
+pub total_set : (f : View → ℕ) (vs : List View) (j : ℕ) (v w : View) → get_elem? vs j ≡ some v → total f (set vs j w) + f v ≡ total f vs + f w
 total_set f [] j v w e = absurd (some-ne-none v (sym e))
 total_set f (x ∷ xs) zero v w e = let is : f x ≡ f v = ap f (some-injective x v e) in omega arith
 total_set f (x ∷ xs) (suc j) v w e = let r = total_set f xs j v w e in omega arith
 
-pub total_one : (f : Hand → ℕ) (vs : List Hand) (j : ℕ) (v : Hand) → get_elem? vs j ≡ some v → f v ≤ total f vs
+pub total_one : (f : View → ℕ) (vs : List View) (j : ℕ) (v : View) → get_elem? vs j ≡ some v → f v ≤ total f vs
 total_one f [] j v e = absurd (some-ne-none v (sym e))
 total_one f (x ∷ xs) zero v e = let is : f x ≡ f v = ap f (some-injective x v e) in omega arith
 total_one f (x ∷ xs) (suc j) v e = let r = total_one f xs j v e in omega arith
 
 -- two threads' parts of a sum
-pub total_two : (f : Hand → ℕ) (vs : List Hand) (i j : ℕ) (u v : Hand) → i ≢ j → get_elem? vs i ≡ some u → get_elem? vs j ≡ some v → f u + f v ≤ total f vs
+pub total_two : (f : View → ℕ) (vs : List View) (i j : ℕ) (u v : View) → i ≢ j → get_elem? vs i ≡ some u → get_elem? vs j ≡ some v → f u + f v ≤ total f vs
 total_two f [] i j u v n d e = absurd (some-ne-none v (sym e))
 total_two f (x ∷ xs) zero zero u v n d e = absurd (n refl)
 total_two f (x ∷ xs) zero (suc j) u v n d e = let is : f x ≡ f u = ap f (some-injective x u d) in let r = total_one f xs j v e in omega arith
 total_two f (x ∷ xs) (suc i) zero u v n d e = let is : f x ≡ f v = ap f (some-injective x v e) in let r = total_one f xs i u d in omega arith
 total_two f (x ∷ xs) (suc i) (suc j) u v n d e = let r = total_two f xs i j u v (λ s. n (ap suc s)) d e in omega arith
 
-pub total_zero : (f : Hand → ℕ) (vs : List Hand) → ((j : ℕ) (v : Hand) → get_elem? vs j ≡ some v → f v ≡ 0) → total f vs ≡ 0
+pub total_zero : (f : View → ℕ) (vs : List View) → ((j : ℕ) (v : View) → get_elem? vs j ≡ some v → f v ≡ 0) → total f vs ≡ 0
 total_zero f [] z = refl
 total_zero f (x ∷ xs) z = let a = z 0 x refl in let r = total_zero f xs (λ j v e. z (suc j) v e) in omega arith
 
-pub total_le : (f g : Hand → ℕ) (vs : List Hand) → ((v : Hand) → f v ≤ g v) → total f vs ≤ total g vs
+pub total_le : (f g : View → ℕ) (vs : List View) → ((v : View) → f v ≤ g v) → total f vs ≤ total g vs
 total_le f g [] l = omega arith
 total_le f g (x ∷ xs) l = let a = l x in let r = total_le f g xs l in omega arith
 
-pub total_snoc : (f : Hand → ℕ) (vs : List Hand) (v : Hand) → total f (vs ++ v ∷ []) ≡ total f vs + f v
+pub total_snoc : (f : View → ℕ) (vs : List View) (v : View) → total f (vs ++ v ∷ []) ≡ total f vs + f v
 total_snoc f [] v = omega arith
 total_snoc f (x ∷ xs) v = let r = total_snoc f xs v in omega arith
 

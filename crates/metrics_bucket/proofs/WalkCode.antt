@@ -12,18 +12,18 @@ use native.Mathlib.Decide.{ℕ_discrete, dec_le}
 use mathlib.Core.Option.{some, some-injective}
 use lib.ListN.{get_elem?}
 use Rattle.atomic_table.proofs.Lists.{set_here, set_else}
-use Rattle.metrics_bucket.specs.declared.hand.Hold.{Hold}
-use Rattle.metrics_bucket.specs.declared.hand.Hold.TheVariants.{Clearing}
-use Rattle.metrics_bucket.specs.declared.hand.Cell.{Cell}
-use Rattle.metrics_bucket.specs.declared.hand.Cell.TheVariants.{Unseen, Marked, Read, Wiped}
-use Rattle.metrics_bucket.specs.World.{other, walk, holding, leaving, left_from, put_cell, cells_of, value_in, values_in}
+use Rattle.metrics_bucket.specs.declared.view.Hold.{Hold}
+use Rattle.metrics_bucket.specs.declared.view.Hold.TheVariants.{Clearing}
+use Rattle.metrics_bucket.specs.declared.view.Visit.{Visit}
+use Rattle.metrics_bucket.specs.declared.view.Visit.TheVariants.{Unseen, Marked, Read, Wiped}
+use Rattle.metrics_bucket.specs.BucketState.{other, walk, holding, leaving, left_from, put_visit, visits_of, value_in, values_in}
 use Rattle.metrics_bucket.specs.History.{CanLeave}
 use Rattle.metrics_bucket.specs.Blocks.{valued}
-use Rattle.metrics_bucket.specs.declared.hand.Push.{Push}
+use Rattle.metrics_bucket.specs.declared.view.Push.{Push}
 use Rattle.metrics_bucket.specs.Chunks.{Clears, has_taken}
 use Rattle.metrics_bucket.specs.Places.{Reaches, Finds, Covers}
 use Rattle.metrics_bucket.proofs.Blocks.{chunk, chunks_from, chunks_front, drop_more, part_next}
-use Rattle.metrics_bucket.specs.Plays.{Sat}
+use Rattle.metrics_bucket.specs.Steps.{Seated}
 use Rattle.metrics_bucket.proofs.Keep.{at_below}
 
 pub set_twice : {A : Type 0} (xs : List A) (i : ℕ) (a b : A) → set (set xs i a) i b ≡ set xs i b
@@ -31,25 +31,25 @@ set_twice [] i a b = refl
 set_twice (x ∷ xs) zero a b = refl
 set_twice (x ∷ xs) (suc i) a b = λ k. x ∷ set_twice xs i a b k
 
--- a clear's cell changes
-pub next_hold : (m n : Sat) (s at : ℕ) (cells : List Cell) (c : Cell) → m.0.hold ≡ Clearing s cells → n ≡ (holding m.0 (put_cell m.0.hold at c), m.1) → n.0.hold ≡ Clearing s (set cells at c)
-next_hold m n s at cells c h e = ap (λ (z : Sat). z.0.hold) e ∙ ap (λ (z : Hold). put_cell z at c) h
+-- a clear's visit changes
+pub next_hold : (m n : Seated) (s at : ℕ) (visits : List Visit) (c : Visit) → m.0.hold ≡ Clearing s visits → n ≡ (holding m.0 (put_visit m.0.hold at c), m.1) → n.0.hold ≡ Clearing s (set visits at c)
+next_hold m n s at visits c h e = ap (λ (z : Seated). z.0.hold) e ∙ ap (λ (z : Hold). put_visit z at c) h
 
-pub cell_there : (cells : List Cell) (at : ℕ) (b c : Cell) → get_elem? cells at ≡ some b → get_elem? (set cells at c) at ≡ some c
-cell_there cells at b c e = set_here cells at c (at_below cells at b e)
+pub visit_there : (visits : List Visit) (at : ℕ) (b c : Visit) → get_elem? visits at ≡ some b → get_elem? (set visits at c) at ≡ some c
+visit_there visits at b c e = set_here visits at c (at_below visits at b e)
 
 -- a place was seen, read and wiped
-pub place_cleared : (m0 m1 m2 m3 : Sat) (s at r : ℕ) (cells : List Cell) → m0.0.hold ≡ Clearing s cells → m1 ≡ (holding m0.0 (put_cell m0.0.hold at Marked), m0.1)
-    → m2 ≡ (holding m1.0 (put_cell m1.0.hold at (Read r)), m1.1) → m3 ≡ (holding m2.0 (put_cell m2.0.hold at (Wiped r)), m2.1) → m3 ≡ (holding m0.0 (Clearing s (set cells at (Wiped r))), m0.1)
-place_cleared m0 m1 m2 m3 s at r cells h e1 e2 e3 =
-    let h1 = next_hold m0 m1 s at cells Marked h e1 in
-    let h2 = next_hold m1 m2 s at (set cells at Marked) (Read r) h1 e2 in
-    let last : put_cell m2.0.hold at (Wiped r) ≡ Clearing s (set cells at (Wiped r)) =
-    ap (λ (z : Hold). put_cell z at (Wiped r)) h2 ∙ ap (Clearing s) (set_twice (set cells at Marked) at (Read r) (Wiped r) ∙ set_twice cells at Marked (Wiped r))
+pub place_cleared : (m0 m1 m2 m3 : Seated) (s at r : ℕ) (visits : List Visit) → m0.0.hold ≡ Clearing s visits → m1 ≡ (holding m0.0 (put_visit m0.0.hold at Marked), m0.1)
+    → m2 ≡ (holding m1.0 (put_visit m1.0.hold at (Read r)), m1.1) → m3 ≡ (holding m2.0 (put_visit m2.0.hold at (Wiped r)), m2.1) → m3 ≡ (holding m0.0 (Clearing s (set visits at (Wiped r))), m0.1)
+place_cleared m0 m1 m2 m3 s at r visits h e1 e2 e3 =
+    let h1 = next_hold m0 m1 s at visits Marked h e1 in
+    let h2 = next_hold m1 m2 s at (set visits at Marked) (Read r) h1 e2 in
+    let last : put_visit m2.0.hold at (Wiped r) ≡ Clearing s (set visits at (Wiped r)) =
+    ap (λ (z : Hold). put_visit z at (Wiped r)) h2 ∙ ap (Clearing s) (set_twice (set visits at Marked) at (Read r) (Wiped r) ∙ set_twice visits at Marked (Wiped r))
     in
-    e3 ∙ ((λ i. (holding m2.0 (last i), m2.1)) ∙ (ap (λ (z : Sat). (holding z.0 (Clearing s (set cells at (Wiped r))), z.1)) e2 ∙ ap (λ (z : Sat). (holding z.0 (Clearing s (set cells at (Wiped r))), z.1)) e1))
+    e3 ∙ ((λ i. (holding m2.0 (last i), m2.1)) ∙ (ap (λ (z : Seated). (holding z.0 (Clearing s (set visits at (Wiped r))), z.1)) e2 ∙ ap (λ (z : Seated). (holding z.0 (Clearing s (set visits at (Wiped r))), z.1)) e1))
 
-pub clears_none : (m : Sat) (side start : ℕ) → m.0.hold ≡ Clearing side (cells_of m.0.hold) → Clears m m side start start
+pub clears_none : (m : Seated) (side start : ℕ) → m.0.hold ≡ Clearing side (visits_of m.0.hold) → Clears m m side start start
 clears_none m side start h = record {
   me = λ i. (holding m.0 (h i), m.1);
   long = refl;
@@ -58,29 +58,29 @@ clears_none m side start h = record {
 }
 
 -- one more place is wiped
-pub clears_more : (m m1 m2 : Sat) (side start at x : ℕ) → Clears m m1 side start at → get_elem? (cells_of m1.0.hold) at ≡ some Unseen → start ≤ at → m2 ≡ (holding m1.0 (Clearing side (set (cells_of m1.0.hold) at (Wiped x))), m1.1)
+pub clears_more : (m m1 m2 : Seated) (side start at x : ℕ) → Clears m m1 side start at → get_elem? (visits_of m1.0.hold) at ≡ some Unseen → start ≤ at → m2 ≡ (holding m1.0 (Clearing side (set (visits_of m1.0.hold) at (Wiped x))), m1.1)
     → Clears m m2 side start (at + 1)
 clears_more m m1 m2 side start at x c there l e =
-    let cells : List Cell = cells_of m1.0.hold in
-    let now : cells_of m2.0.hold ≡ set cells at (Wiped x) = ap (λ (z : Sat). cells_of z.0.hold) e in
+    let visits : List Visit = visits_of m1.0.hold in
+    let now : visits_of m2.0.hold ≡ set visits at (Wiped x) = ap (λ (z : Seated). visits_of z.0.hold) e in
     record {
-      me = e ∙ (ap (λ (z : Sat). (holding z.0 (Clearing side (set cells at (Wiped x))), z.1)) c.me ∙ (λ i. (holding m.0 (Clearing side (sym now i)), m.1)));
-      long = ap length now ∙ (length-set cells at (Wiped x) ∙ c.long);
+      me = e ∙ (ap (λ (z : Seated). (holding z.0 (Clearing side (set visits at (Wiped x))), z.1)) c.me ∙ (λ i. (holding m.0 (Clearing side (sym now i)), m.1)));
+      long = ap length now ∙ (length-set visits at (Wiped x) ∙ c.long);
       wiped = λ i a b. dite (ℕ_discrete i at)
-          (λ here. (x, ap (λ (z : List Cell). get_elem? z i) now ∙ ((λ k. get_elem? (set cells at (Wiped x)) (here k)) ∙ cell_there cells at Unseen (Wiped x) there)))
-          (λ apart. let t = c.wiped i a (omega arith) in (t.0, ap (λ (z : List Cell). get_elem? z i) now ∙ (set_else cells at i (Wiped x) apart ∙ t.1)));
+          (λ here. (x, ap (λ (z : List Visit). get_elem? z i) now ∙ ((λ k. get_elem? (set visits at (Wiped x)) (here k)) ∙ visit_there visits at Unseen (Wiped x) there)))
+          (λ apart. let t = c.wiped i a (omega arith) in (t.0, ap (λ (z : List Visit). get_elem? z i) now ∙ (set_else visits at i (Wiped x) apart ∙ t.1)));
       others = λ i o.
           let apart : i ≢ at = λ same. ⊎_elim (λ (z : i < start). absurd (omega arith)) (λ (z : at + 1 ≤ i). absurd (omega arith)) o in
           let o' : (i < start) ⊎ (at ≤ i) = ⊎_elim (λ (z : i < start). inl z) (λ (z : at + 1 ≤ i). inr (omega arith)) o in
-          ap (λ (z : List Cell). get_elem? z i) now ∙ (set_else cells at i (Wiped x) apart ∙ c.others i o');
+          ap (λ (z : List Visit). get_elem? z i) now ∙ (set_else visits at i (Wiped x) apart ∙ c.others i o');
     }
 
-pub values_set : (cells : List Cell) (i x : ℕ) → values_in (set cells i (Wiped x)) ≡ set (values_in cells) i x
+pub values_set : (visits : List Visit) (i x : ℕ) → values_in (set visits i (Wiped x)) ≡ set (values_in visits) i x
 values_set [] i x = refl
 values_set (c ∷ cs) zero x = refl
 values_set (c ∷ cs) (suc i) x = λ k. value_in c ∷ values_set cs i x k
 
-pub length_values : (cells : List Cell) → length (values_in cells) ≡ length cells
+pub length_values : (visits : List Visit) → length (values_in visits) ≡ length visits
 length_values [] = refl
 length_values (c ∷ cs) = ap suc (length_values cs)
 
@@ -116,11 +116,11 @@ new_at zero i l = absurd (omega arith)
 new_at (suc n) zero l = refl
 new_at (suc n) (suc i) l = new_at n i (omega arith)
 
-pub length_cells : (n : ℕ) → length (replicate n Unseen) ≡ n
-length_cells zero = refl
-length_cells (suc n) = ap suc (length_cells n)
+pub length_visits : (n : ℕ) → length (replicate n Unseen) ≡ n
+length_visits zero = refl
+length_visits (suc n) = ap suc (length_visits n)
 
-pub clears_start : (m : Sat) (side b given : ℕ) → m.0.hold ≡ Clearing side (cells_of m.0.hold) → given ≤ b → Clears m m side b given
+pub clears_start : (m : Seated) (side b given : ℕ) → m.0.hold ≡ Clearing side (visits_of m.0.hold) → given ≤ b → Clears m m side b given
 clears_start m side b given h l = record {
   me = λ i. (holding m.0 (h i), m.1);
   long = refl;
@@ -129,9 +129,9 @@ clears_start m side b given h l = record {
 }
 
 -- one more chunk
-pub clears_join : (m m1 m2 : Sat) (side start b end given : ℕ) → Clears m m1 side b given → Clears m1 m2 side start end → b ≡ start + 64 → end ≡ min given b → Clears m m2 side start given
+pub clears_join : (m m1 m2 : Seated) (side start b end given : ℕ) → Clears m m1 side b given → Clears m1 m2 side start end → b ≡ start + 64 → end ≡ min given b → Clears m m2 side start given
 clears_join m m1 m2 side start b end given c1 c2 is cut = record {
-  me = c2.me ∙ ap (λ (z : Sat). (holding z.0 (Clearing side (cells_of m2.0.hold)), z.1)) c1.me;
+  me = c2.me ∙ ap (λ (z : Seated). (holding z.0 (Clearing side (visits_of m2.0.hold)), z.1)) c1.me;
   long = c2.long ∙ c1.long;
   wiped = λ i x y. dite (dec_le end i)
       (λ (high : end ≤ i). let t = c1.wiped i (omega arith) y in (t.0, c2.others i (inr high) ∙ t.1))
@@ -142,11 +142,11 @@ clears_join m m1 m2 side start b end given c1 c2 is cut = record {
       o;
 }
 
-pub still_unseen : (m m1 : Sat) (side b given end i : ℕ) → Clears m m1 side b given → m.0.hold ≡ Clearing side (replicate given Unseen) → end ≡ min given b → i < end → get_elem? (cells_of m1.0.hold) i ≡ some Unseen
-still_unseen m m1 side b given end i c h cut l = c.others i (inl (omega arith)) ∙ (ap (λ (z : Hold). get_elem? (cells_of z) i) h ∙ new_at given i (omega arith))
+pub still_unseen : (m m1 : Seated) (side b given end i : ℕ) → Clears m m1 side b given → m.0.hold ≡ Clearing side (replicate given Unseen) → end ≡ min given b → i < end → get_elem? (visits_of m1.0.hold) i ≡ some Unseen
+still_unseen m m1 side b given end i c h cut l = c.others i (inl (omega arith)) ∙ (ap (λ (z : Hold). get_elem? (visits_of z) i) h ∙ new_at given i (omega arith))
 
--- lists of cells that agree from a place on
-pub same_from : (xs ys : List Cell) (b : ℕ) → length xs ≡ length ys → ((i : ℕ) → b ≤ i → get_elem? xs i ≡ get_elem? ys i) → drop b (values_in xs) ≡ drop b (values_in ys)
+-- lists of visits that agree from a place on
+pub same_from : (xs ys : List Visit) (b : ℕ) → length xs ≡ length ys → ((i : ℕ) → b ≤ i → get_elem? xs i ≡ get_elem? ys i) → drop b (values_in xs) ≡ drop b (values_in ys)
 same_from [] [] b e f = refl
 same_from [] (y ∷ ys) b e f = absurd (omega arith)
 same_from (x ∷ xs) [] b e f = absurd (omega arith)
@@ -187,14 +187,14 @@ one_minus (suc zero) l = omega arith
 one_minus (suc (suc s)) l = absurd (omega arith)
 
 -- a clear that wiped all its places may leave
-pub can_leave : (m m' : Sat) (side given : ℕ) → Clears m m' side 0 given → m.0.hold ≡ Clearing side (replicate given Unseen) → CanLeave m'.0.hold
+pub can_leave : (m m' : Seated) (side given : ℕ) → Clears m m' side 0 given → m.0.hold ≡ Clearing side (replicate given Unseen) → CanLeave m'.0.hold
 can_leave m m' side given c h =
-    let long : length (cells_of m'.0.hold) ≡ given = c.long ∙ (ap (λ (z : Hold). length (cells_of z)) h ∙ length_cells given) in
-    subst CanLeave (sym (ap (λ (z : Sat). z.0.hold) c.me))
-    (λ i d there. let below = at_below (cells_of m'.0.hold) i d there in let t = c.wiped i (omega arith) (omega arith) in (t.0, sym (some-injective (Wiped t.0) d (sym t.1 ∙ there))))
+    let long : length (visits_of m'.0.hold) ≡ given = c.long ∙ (ap (λ (z : Hold). length (visits_of z)) h ∙ length_visits given) in
+    subst CanLeave (sym (ap (λ (z : Seated). z.0.hold) c.me))
+    (λ i d there. let below = at_below (visits_of m'.0.hold) i d there in let t = c.wiped i (omega arith) (omega arith) in (t.0, sym (some-injective (Wiped t.0) d (sym t.1 ∙ there))))
 
-pub left_clear : (m m' : Sat) (side epoch turn : ℕ) (cells : List Cell) → m.0.hold ≡ Clearing side cells → m.0.epoch ≡ epoch → m.0.turn ≡ turn → m' ≡ (leaving m.0, []) → m' ≡ (has_taken m.0 turn (walk epoch (values_in cells)), [])
-left_clear m m' side epoch turn cells h of_epoch of_turn e = e ∙ ((λ i. (left_from m.0 (h i), [])) ∙ (λ i. (has_taken m.0 (of_turn i) (walk (of_epoch i) (values_in cells)), [])))
+pub left_clear : (m m' : Seated) (side epoch turn : ℕ) (visits : List Visit) → m.0.hold ≡ Clearing side visits → m.0.epoch ≡ epoch → m.0.turn ≡ turn → m' ≡ (leaving m.0, []) → m' ≡ (has_taken m.0 turn (walk epoch (values_in visits)), [])
+left_clear m m' side epoch turn visits h of_epoch of_turn e = e ∙ ((λ i. (left_from m.0 (h i), [])) ∙ (λ i. (has_taken m.0 (of_turn i) (walk (of_epoch i) (values_in visits)), [])))
 
 -- a walk that went over all places has the thread's own pushes
 pub covered : (pushed : List Push) (epoch end : ℕ) (list : List ℕ) → Reaches pushed epoch end → length list ≡ end → Finds pushed (walk epoch list) → Covers pushed (walk epoch list)

@@ -1,12 +1,14 @@
 -- What callers see of a pen and of a bucket.
-use Rattle.std.specs.Prelude.{◌≡◌, ℕ, ◌+◌, ◌-◌, ◌/◌, ◌<◌, Bool, true, false, List, [], ◌∷◌, ◌++◌, refl, Option, Some, None}
+use Rattle.std.specs.Prelude.{◌≡◌, ℕ, ◌+◌, ◌-◌, ◌/◌, ◌<◌, Bool, true, false, List, [], ◌∷◌, ◌++◌, length, refl, Option, Some, None}
 use Rattle.std.specs.Coded.{Coded, code_by, coded×, coded_ℕ, coded_bool, coded_list}
 use Rattle.atomic_table.specs.Seated.{TableId, table_id_coded}
-use Rattle.metrics_bucket.specs.declared.hand.Push.{Push}
-use Rattle.metrics_bucket.specs.declared.hand.Walk.{Walk}
-use Rattle.metrics_bucket.specs.declared.hand.Hold.{Hold}
-use Rattle.metrics_bucket.specs.declared.hand.Hold.TheVariants.{Nothing, Ticket}
-use Rattle.metrics_bucket.specs.World.{push}
+use Rattle.metrics_bucket.specs.declared.view.Push.{Push}
+use Rattle.metrics_bucket.specs.declared.view.Walk.{Walk}
+use Rattle.metrics_bucket.specs.declared.view.Hold.{Hold}
+use Rattle.metrics_bucket.specs.declared.view.Hold.TheVariants.{Nothing, Ticket}
+use Rattle.metrics_bucket.specs.BucketState.{push}
+use Rattle.metrics_bucket.specs.Facts.{weigh, weigh_pushes, weigh_walks}
+use Rattle.metrics_bucket.specs.Places.{Covers}
 
 -- which bucket it is
 pub record Home : Type 0 where
@@ -80,3 +82,15 @@ took_account a walk = record a { taken = a.taken ++ walk ∷ [] }
 
 abbrev pub read_account : Account → Walk → Account
 read_account a walk = record a { read = a.read ++ walk ∷ [] }
+
+-- what a pen knows of its own pushes after a walk; a whole pen's takes are all takes
+abbrev pub Knows : Account → Walk → Type 0
+Knows old walk = Covers old.pushed walk × (old.weight ≡ 1024 → walk.epoch ≡ length old.taken)
+
+-- the account after a clear with this list, and no other change
+abbrev pub IsTaken : Account → Walk → Account → Type 0
+IsTaken old walk new = (new ≡ took_account old walk) × Knows old walk × (old.weight ≡ 1024 → (h : ℕ → ℕ) → weigh_pushes h new.pushed ≡ weigh_walks h new.taken)
+
+-- the account after a reading walk with this list, and no other change; a whole pen's list has all that was pushed and not taken
+abbrev pub IsRead : Account → Walk → Account → Type 0
+IsRead old walk new = (new ≡ read_account old walk) × Knows old walk × (old.weight ≡ 1024 → (h : ℕ → ℕ) → weigh_pushes h old.pushed ≡ weigh h walk.values + weigh_walks h old.taken)

@@ -1,11 +1,11 @@
 -- The order in which a bucket gives its values.
 use Rattle.std.specs.Prelude.{◌≡◌, ℕ, ◌+◌, List, length, map, reverse}
 use Rattle.metrics.specs.Book.{chunks, blocks}
-use Rattle.metrics_bucket.specs.declared.hand.Push.{Push}
-use Rattle.metrics_bucket.specs.declared.hand.Walk.{Walk}
+use Rattle.metrics_bucket.specs.declared.view.Push.{Push}
+use Rattle.metrics_bucket.specs.declared.view.Walk.{Walk}
 use Rattle.metrics_bucket.specs.Facts.{weigh, weigh_pushes, weigh_walks}
 use Rattle.metrics_bucket.specs.Places.{Covers}
-use Rattle.metrics_bucket.specs.World.{walk}
+use Rattle.metrics_bucket.specs.BucketState.{walk}
 
 -- these are the values of the pushes since the last take, in the bucket's order by their places: what was pushed is what was taken and these
 abbrev pub Settled : {T : Type 0} → (ℕ → T) → List Push → List Walk → List T → Type 0

@@ -2,16 +2,16 @@
 use Rattle.std.specs.Prelude.{◌≡◌, ℕ, zero, suc, ◌+◌, ◌<◌, cond, eqb, List, [], ◌∷◌, ◌++◌, length, slice_index}
 use mathlib.Core.Option.{some}
 use lib.ListN.{get_elem?}
-use Rattle.metrics_bucket.specs.declared.hand.Push.{Push}
-use Rattle.metrics_bucket.specs.declared.hand.Walk.{Walk}
-use Rattle.metrics_bucket.specs.declared.hand.Hand.{Hand}
-use Rattle.metrics_bucket.specs.declared.hand.Hold.TheVariants.{Aimed, Clearing}
-use Rattle.metrics_bucket.specs.declared.hand.Cell.{Cell}
-use Rattle.metrics_bucket.specs.declared.hand.Cell.TheVariants.{Marked}
-use Rattle.metrics_bucket.specs.World.{World, total, walks_made, other, spot, side_of, values_in, walk, leaving, Act, ticket, write, finish, claim, aim, takes, see, read, wipe, leave, quit}
+use Rattle.metrics_bucket.specs.declared.view.Push.{Push}
+use Rattle.metrics_bucket.specs.declared.view.Walk.{Walk}
+use Rattle.metrics_bucket.specs.declared.view.View.{View}
+use Rattle.metrics_bucket.specs.declared.view.Hold.TheVariants.{SideKnown, Clearing}
+use Rattle.metrics_bucket.specs.declared.view.Visit.{Visit}
+use Rattle.metrics_bucket.specs.declared.view.Visit.TheVariants.{Marked}
+use Rattle.metrics_bucket.specs.BucketState.{BucketState, total, walks_made, other, spot, side_of, values_in, walk, leaving, Act, ticket, write, finish, claim, look_to_clear, takes, see, read, wipe, leave, quit}
 use Rattle.metrics_bucket.specs.Facts.{below, ticket_at, Facts}
 use Rattle.metrics_bucket.specs.Places.{pushed_at, tickets_at, takes_in, wipes_at, given_of, mark_of, IsPush, WalkFinds, HoldPlaced}
-use Rattle.metrics_bucket.specs.History.{HasCell, CanLeave, Event, Runs, start, opened}
+use Rattle.metrics_bucket.specs.History.{HasVisit, CanLeave, Event, Runs, start, opened}
 
 -- 1 if the step gives a ticket of this epoch
 abbrev pub gives_in : ℕ → ℕ → Act → ℕ
@@ -28,30 +28,30 @@ tickets_given e now [] = 0
 tickets_given e now (event ∷ events) = gives_in e now event.act + tickets_given e (epoch_after now event.act) events
 
 -- each ticket that was given is under way or pushed, once, and there are no others; each epoch that ended was taken once
-abbrev pub TicketsAreOnce : List Event → World → Type 0
-TicketsAreOnce history w = (e : ℕ) → ((i : ℕ) → total (tickets_at e i) w.hands ≡ below i (tickets_given e 0 history)) × (total (takes_in e) w.hands ≡ below e w.epoch)
+abbrev pub TicketsAreOnce : List Event → BucketState → Type 0
+TicketsAreOnce history w = (e : ℕ) → ((i : ℕ) → total (tickets_at e i) w.views ≡ below i (tickets_given e 0 history)) × (total (takes_in e) w.views ≡ below e w.epoch)
 
 -- a finished push stands with mark 1, on the live side below its tickets or on the side that was taken last, or it was wiped by one clear, and only one of these
-abbrev pub InOnePlace : ℕ → World → Type 0
-InOnePlace places w = (j n : ℕ) (v : Hand) (p : Push) → get_elem? w.hands j ≡ some v → get_elem? v.pushed n ≡ some p
-    → (p.place < places) × (p.epoch ≡ w.epoch → p.place < w.given) × (mark_of places w p.epoch p.place + total (wipes_at p.epoch p.place) w.hands ≡ 1)
+abbrev pub InOnePlace : ℕ → BucketState → Type 0
+InOnePlace places w = (j n : ℕ) (v : View) (p : Push) → get_elem? w.views j ≡ some v → get_elem? v.pushed n ≡ some p
+    → (p.place < places) × (p.epoch ≡ w.epoch → p.place < w.given) × (mark_of places w p.epoch p.place + total (wipes_at p.epoch p.place) w.views ≡ 1)
 
 -- what a walk found at a place, finished or under way, is the value of that ticket's push; so is what stands there with mark 1. A walk reads a place only while its mark is 1
-abbrev pub FindsPushes : ℕ → World → Type 0
-FindsPushes places w = ((j : ℕ) (v : Hand) → get_elem? w.hands j ≡ some v
+abbrev pub FindsPushes : ℕ → BucketState → Type 0
+FindsPushes places w = ((j : ℕ) (v : View) → get_elem? w.views j ≡ some v
     → ((n : ℕ) (walk : Walk) → get_elem? v.taken n ≡ some walk → WalkFinds w walk) × ((n : ℕ) (walk : Walk) → get_elem? v.read n ≡ some walk → WalkFinds w walk) × HoldPlaced w v.epoch v.hold
-    × ((i : ℕ) → HasCell v.hold i Marked → slice_index w.marks (spot places (side_of v.hold) i) ≡ 1))
-    × ((j n : ℕ) (v : Hand) (p : Push) → get_elem? w.hands j ≡ some v → get_elem? v.pushed n ≡ some p → IsPush w p.epoch p.place p.value)
+    × ((i : ℕ) → HasVisit v.hold i Marked → slice_index w.marks (spot places (side_of v.hold) i) ≡ 1))
+    × ((j n : ℕ) (v : View) (p : Push) → get_elem? w.views j ≡ some v → get_elem? v.pushed n ≡ some p → IsPush w p.epoch p.place p.value)
 
 -- when a clear leaves, its list has the value of each ticket that was given in its epoch, at the ticket's place, and no other value
-abbrev pub LeavesComplete : List Event → World → Type 0
-LeavesComplete history w = (j s : ℕ) (v : Hand) (cells : List Cell) → get_elem? w.hands j ≡ some v → v.hold ≡ Clearing s cells → CanLeave v.hold
-    → ((leaving v).taken ≡ v.taken ++ walk v.epoch (values_in cells) ∷ []) × (length (values_in cells) ≡ tickets_given v.epoch 0 history)
-    × ((i : ℕ) → i < length (values_in cells) → IsPush w v.epoch i (slice_index (values_in cells) i))
+abbrev pub LeavesComplete : List Event → BucketState → Type 0
+LeavesComplete history w = (j s : ℕ) (v : View) (visits : List Visit) → get_elem? w.views j ≡ some v → v.hold ≡ Clearing s visits → CanLeave v.hold
+    → ((leaving v).taken ≡ v.taken ++ walk v.epoch (values_in visits) ∷ []) × (length (values_in visits) ≡ tickets_given v.epoch 0 history)
+    × ((i : ℕ) → i < length (values_in visits) → IsPush w v.epoch i (slice_index (values_in visits) i))
 
 -- where a clear is to take, the side that becomes live has no mark 1 and no ticket under way
-abbrev pub TakesClean : ℕ → World → Type 0
-TakesClean places w = (j : ℕ) (v : Hand) (s i : ℕ) → get_elem? w.hands j ≡ some v → v.hold ≡ Aimed s → i < places → (slice_index w.marks (spot places (other w.live) i) ≡ 0) × (total (ticket_at (other w.live) i) w.hands ≡ 0)
+abbrev pub TakesClean : ℕ → BucketState → Type 0
+TakesClean places w = (j : ℕ) (v : View) (s i : ℕ) → get_elem? w.views j ≡ some v → v.hold ≡ SideKnown s → i < places → (slice_index w.marks (spot places (other w.live) i) ≡ 0) × (total (ticket_at (other w.live) i) w.views ≡ 0)
 
 abbrev pub is_claim : Act → ℕ
 is_claim claim = 1
@@ -71,11 +71,11 @@ quits_in [] = 0
 quits_in (event ∷ events) = is_quit event.act + quits_in events
 
 -- each finished walk had a claim of the turn of its own
-abbrev pub WalksNeedTheTurn : List Event → World → Type 0
+abbrev pub WalksNeedTheTurn : List Event → BucketState → Type 0
 WalksNeedTheTurn history w = claims_in history ≡ walks_made w + quits_in history + w.turn
 
 -- what holds after each history
-pub record IsSound (places all : ℕ) (history : List Event) (w : World) : Type 0 where
+pub record IsSound (places all : ℕ) (history : List Event) (w : BucketState) : Type 0 where
   pub facts : Facts places all w
   pub tickets : TicketsAreOnce history w
   pub one_place : InOnePlace places w
@@ -86,7 +86,7 @@ pub record IsSound (places all : ℕ) (history : List Event) (w : World) : Type 
 
 -- thread 0 pushes 5, and clears
 abbrev pub push_and_clear : List Act
-push_and_clear = ticket ∷ write 0 0 5 ∷ finish 0 0 5 ∷ claim ∷ aim ∷ takes ∷ see 0 ∷ read 0 ∷ wipe 0 0 5 ∷ leave ∷ []
+push_and_clear = ticket ∷ write 0 0 5 ∷ finish 0 0 5 ∷ claim ∷ look_to_clear ∷ takes ∷ see 0 ∷ read 0 ∷ wipe 0 0 5 ∷ leave ∷ []
 
 abbrev pub by_first : List Act → List Event
 by_first [] = []
@@ -94,10 +94,10 @@ by_first (act ∷ acts) = record { by = 0; act = act } ∷ by_first acts
 
 -- a history with a clear that takes a pushed value, so that the law is of some history
 abbrev pub ClearsFive : Type 0
-ClearsFive = (w : World) × Runs 1 1 (start 1 1) (by_first push_and_clear) w × (v : Hand) × (get_elem? w.hands 0 ≡ some v) × (v.taken ≡ walk 0 (5 ∷ []) ∷ [])
+ClearsFive = (w : BucketState) × Runs 1 1 (start 1 1) (by_first push_and_clear) w × (v : View) × (get_elem? w.views 0 ≡ some v) × (v.taken ≡ walk 0 (5 ∷ []) ∷ [])
 
 -- Over every history from any number of threads, and over every history from one whole thread, as a running bucket has it
 abbrev pub BucketLaw : Type 0
-BucketLaw = ((places threads : ℕ) (history : List Event) (w : World) → Runs places threads (start places threads) history w → IsSound places threads history w)
-    × ((places : ℕ) (history : List Event) (w : World) → Runs places 1024 (opened places) history w → IsSound places 1024 history w)
+BucketLaw = ((places threads : ℕ) (history : List Event) (w : BucketState) → Runs places threads (start places threads) history w → IsSound places threads history w)
+    × ((places : ℕ) (history : List Event) (w : BucketState) → Runs places 1024 (opened places) history w → IsSound places 1024 history w)
     × ClearsFive

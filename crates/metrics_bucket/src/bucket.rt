@@ -1,14 +1,14 @@
 // The bucket, and the calls that push.
 ghost use Rattle.std.specs.Prelude.{◌≡◌, ℕ, ◌+◌, ◌*◌, ◌^◌, ◌<◌, ◌≤◌, ◌↔◌, ◌⊎◌, true, false, IsTrue, IfOk, OnOk, IfErr, OnErr, MatchResult, length, take, drop, map, [], ◌++◌, ◌-◌, vec_capacity};
 ghost use Rattle.metrics_bucket.specs.Account.{first_account, with_ticket, IsPushed};
-ghost use Rattle.metrics_bucket.specs.World.{spot};
+ghost use Rattle.metrics_bucket.specs.BucketState.{spot};
 ghost use Rattle.metrics_bucket.specs.Blocks.{Settled};
-ghost use Rattle.metrics_bucket.specs.declared.hand.Hold.TheVariants.{Nothing, Settling};
-ghost use Rattle.metrics_bucket.specs.Plays.{count_all, IsFullFor, values_known, ArePartsOf};
+ghost use Rattle.metrics_bucket.specs.declared.view.Hold.TheVariants.{Nothing, Settling};
+ghost use Rattle.metrics_bucket.specs.Steps.{count_all, IsFullFor, values_known, ArePartsOf};
 
-use crate::hand::{Hand, Turn};
+use crate::view::{View, Turn};
 use crate::pen::{Pen, Words};
-use crate::plays::{Draw, Finish, Gather, Look, Put, Recall};
+use crate::steps::{DrawTicket, FinishPush, LookToSettle, LookAtControl, WriteValue, LookAtSettled};
 use crate::sample::Sample;
 use atomic_table::{Seat, Table};
 use crossbeam_utils::Backoff;
@@ -102,7 +102,7 @@ impl<T: Sample> RuledBucket<T> {
         ensures same { pen.new ≡ pen.old }
         ensures whole { pen.old.weight ≡ 1024 → (IsTrue result ↔ (length pen.old.pushed ≡ count_all pen.old.taken)) }
     {
-        self.table.shared.load::<Look>(&mut pen.seat, 0) < 2
+        self.table.shared.load::<LookAtControl>(&mut pen.seat, 0) < 2
     }
 
     pub fn begin_as(&self, pen: &mut Pen) -> Result<(), Error>
@@ -112,13 +112,13 @@ impl<T: Sample> RuledBucket<T> {
         ensures err { IfErr result (λ e. (pen.new ≡ pen.old) × ((e ≡ Error.Full) ⊎ (e ≡ Error.Raced))) }
         ensures whole { pen.old.weight ≡ 1024 → MatchResult result (λ _. length pen.old.pushed < count_all pen.old.taken + self.now.places) (λ e. (e ≡ Error.Full) × IsFullFor self.now.places pen.old.pushed pen.old.taken) }
     {
-        let found = self.table.shared.load::<Look>(&mut pen.seat, 0);
+        let found = self.table.shared.load::<LookAtControl>(&mut pen.seat, 0);
         let given = (found / 2) as usize;
         if given >= self.places {
             return Err(Error::Full);
         }
         let shared = &self.table.shared;
-        if shared.compare_exchange::<Draw>(&mut pen.seat, 0, found, found + 2) != found {
+        if shared.compare_exchange::<DrawTicket>(&mut pen.seat, 0, found, found + 2) != found {
             return Err(Error::Raced);
         }
         pen.ticket = Some(((found % 2) as usize, given));
@@ -136,9 +136,9 @@ impl<T: Sample> RuledBucket<T> {
         let spot = self.spot(side, at);
         self.table
             .shared
-            .store::<Put>(&mut pen.seat, 2 + spot, value.to_word());
+            .store::<WriteValue>(&mut pen.seat, 2 + spot, value.to_word());
         let mark = 2 + 2 * self.places + spot;
-        self.table.shared.store::<Finish>(&mut pen.seat, mark, 1);
+        self.table.shared.store::<FinishPush>(&mut pen.seat, mark, 1);
         pen.ticket = None;
     }
 
@@ -181,9 +181,9 @@ impl<T: Sample> RuledBucket<T> {
     }
 
     // Puts these values of the live side behind the others.
-    fn recall_chunk(
+    fn settled_chunk(
         &self,
-        seat: &mut Seat<Turn, Hand>,
+        seat: &mut Seat<Turn, View>,
         side: usize,
         start: usize,
         end: usize,
@@ -199,19 +199,19 @@ impl<T: Sample> RuledBucket<T> {
     {
         for at in start..end {
             let word = 2 + self.spot(side, at);
-            let bits = self.table.shared.load::<Recall>(seat, word);
+            let bits = self.table.shared.load::<LookAtSettled>(seat, word);
             values.push_reserved(T::of_word(bits));
         }
     }
 
     // The live side's values, in the bucket's order.
-    fn recall(&self, seat: &mut Seat<Turn, Hand>, values: &mut Vec<T>)
+    fn settled_values(&self, seat: &mut Seat<Turn, View>, values: &mut Vec<T>)
         requires home { (seat.old.table_id ≡ self.now.table) × (seat.old.me.0.places ≡ self.now.places) }
         requires whole { (seat.old.me.0.weight ≡ 1024) × (seat.old.me.0.hold ≡ Nothing) × (seat.old.me.1 ≡ []) }
         requires room { (values.old.items ≡ []) × (self.now.places ≤ vec_capacity values.old) }
         ensures { Settled T.value seat.old.me.0.pushed seat.old.me.0.taken values.new.items × ArePartsOf seat.old.me.0.read seat.old.me.0.pushed }
     {
-        let control = self.table.shared.load::<Gather>(seat, 0);
+        let control = self.table.shared.load::<LookToSettle>(seat, 0);
         let side = (control % 2) as usize;
         let given = (control / 2) as usize;
         let mut chunks = (given + (BLOCK_SIZE - 1)) / BLOCK_SIZE;
@@ -219,7 +219,7 @@ impl<T: Sample> RuledBucket<T> {
             chunks -= 1;
             let start = BLOCK_SIZE * chunks;
             let end = given.min(start + BLOCK_SIZE);
-            self.recall_chunk(seat, side, start, end, values);
+            self.settled_chunk(seat, side, start, end, values);
         }
     }
 
@@ -240,7 +240,7 @@ impl<T: Sample> RuledBucket<T> {
             weight: _,
             ticket: _,
         } = pen;
-        self.recall(&mut seat, &mut values);
+        self.settled_values(&mut seat, &mut values);
         Ok(values)
     }
 }

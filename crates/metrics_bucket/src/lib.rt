@@ -3,20 +3,20 @@
 
 mod bucket;
 mod gathered;
-mod hand;
+mod view;
 mod law;
 mod pen;
-mod plays;
-mod read;
+mod steps;
+mod readings;
 mod rule;
 mod sample;
 #[cfg(test)]
 mod tests;
 mod visitor;
-mod walk;
+mod clears;
 
 pub use bucket::RuledBucket;
-pub use hand::{Cell, Hand, Hold};
+pub use view::{Visit, View, Hold};
 pub use law::bucket_law;
 pub use pen::Pen;
 pub use sample::Sample;

@@ -2,8 +2,8 @@
 ghost use Rattle.std.specs.Prelude.{◌≡◌, ◌<◌, ◌↔◌, true, false, IsTrue, IfOk, IfErr};
 ghost use Rattle.metrics_bucket.specs.Account.{left_account, right_account, joined_account};
 
-use crate::hand::{Hand, Turn};
-use crate::plays::{Halves, Look};
+use crate::view::{View, Turn};
+use crate::steps::{Halves, LookAtControl};
 use crate::rule::BucketRule;
 use atomic_table::{Seat, Table};
 use metrics::Error;
@@ -11,13 +11,13 @@ use std::alloc::Global;
 use std::marker::Model;
 use std::sync::Arc;
 
-pub(crate) type Words = Table<Turn, Hand, usize, BucketRule, Global>;
+pub(crate) type Words = Table<Turn, View, usize, BucketRule, Global>;
 
 /// It goes with one bucket. Contracts see it as its account.
 #[derive(Drop)]
 pub struct Pen {
     pub(crate) table: Arc<Words, Global>,
-    pub(crate) seat: Seat<Turn, Hand>,
+    pub(crate) seat: Seat<Turn, View>,
     pub(crate) weight: u64,
     pub(crate) ticket: Option<(usize, usize)>,
 }
@@ -86,7 +86,7 @@ impl Pen {
             ticket: _,
         } = other;
         table.shared.join_seat::<Halves>(&mut self.seat, seat);
-        table.shared.load::<Look>(&mut self.seat, 0);
+        table.shared.load::<LookAtControl>(&mut self.seat, 0);
         self.weight += weight;
     }
 }

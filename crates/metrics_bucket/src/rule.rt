@@ -1,14 +1,14 @@
 // The rule of the bucket's words.
-use crate::hand::{Hand, Turn};
+use crate::view::{View, Turn};
 use atomic_table::TableRule;
 
 pub struct BucketRule;
 
-impl TableRule<Turn, Hand, usize> for BucketRule {
-    ghost use Rattle.metrics_bucket.specs.History.{Kept};
-    ghost use Rattle.metrics_bucket.specs.World.{whole_hand};
+impl TableRule<Turn, View, usize> for BucketRule {
+    ghost use Rattle.metrics_bucket.specs.History.{FollowsHistory};
+    ghost use Rattle.metrics_bucket.specs.BucketState.{whole_view};
 
-    ghost holds = { Kept };
+    ghost holds = { FollowsHistory };
 
-    ghost first = { whole_hand };
+    ghost first = { whole_view };
 }

@@ -1,7 +1,7 @@
 use Rattle.std.proofs.Common.{rules, ◌≡◌, false, ◌<◌, ◌/◌, ◌∙◌, ap, subst, sym}
-use Rattle.metrics_bucket.specs.declared.hand.Hold.TheVariants.{Nothing}
+use Rattle.metrics_bucket.specs.declared.view.Hold.TheVariants.{Nothing}
 use Rattle.metrics_bucket.specs.Account.{has_ticket}
-use Rattle.metrics_bucket.specs.Plays.{Sat}
+use Rattle.metrics_bucket.specs.Steps.{Seated}
 use Rattle.metrics_bucket.proofs.Pens.{free_hold}
 use Rattle.metrics_bucket.proofs.Allowed.{looks, draws}
 use Rattle.metrics_bucket.proofs.bucket.RuledBucket.begin_as.Goals as goal
@@ -18,4 +18,4 @@ compare_exchange-requires g c =
     let has : 0 < c.pen.inside.seat.me.0.weight = search rules in
     let key : c.deref-2.result.now.shared.key ≡ c.self.inside.places = search rules in
     let room : c.load-found.result / 2 < c.deref-2.result.now.shared.key = search rules in
-    (search rules, search rules, draws _ _ _ _ _ (subst (λ (m : Sat). 0 < m.0.weight) (sym same) has) (ap (λ (m : Sat). m.0.hold) same ∙ hold) room)
+    (search rules, search rules, draws _ _ _ _ _ (subst (λ (m : Seated). 0 < m.0.weight) (sym same) has) (ap (λ (m : Seated). m.0.hold) same ∙ hold) room)

@@ -1,7 +1,7 @@
 use Rattle.std.proofs.Common.{rules, ◌≡◌, ℕ, List, set, ◌+◌, ◌-◌, ◌<◌, ◌≤◌, inr, length, take, drop, map, sym, ap, ◌∙◌, subst, arith, le_refl}
-use Rattle.metrics_bucket.specs.declared.hand.Cell.{Cell}
-use Rattle.metrics_bucket.specs.World.{cells_of, values_in}
-use Rattle.metrics_bucket.specs.Plays.{Sat}
+use Rattle.metrics_bucket.specs.declared.view.Visit.{Visit}
+use Rattle.metrics_bucket.specs.BucketState.{visits_of, values_in}
+use Rattle.metrics_bucket.specs.Steps.{Seated}
 use Rattle.metrics_bucket.proofs.Keep.{at_below}
 use Rattle.metrics_bucket.proofs.WalkCode.{clears_none, clears_more, values_set, length_values, room_more}
 use Rattle.metrics_bucket.proofs.bucket.RuledBucket.clear_chunk.Goals as goal
@@ -12,7 +12,7 @@ loop-at-init g c =
     record {
       table = search rules;
       clears = clears_none c.args.seat.now.me c.args.side c.args.start c.requires.hold.2;
-      room = (λ i. take (none i) c.args.room.now) ∙ (λ i. map g.T.Sample.value (take (sym none i) (drop c.args.start (values_in (cells_of c.args.seat.now.me.0.hold)))));
+      room = (λ i. take (none i) c.args.room.now) ∙ (λ i. map g.T.Sample.value (take (sym none i) (drop c.args.start (values_in (visits_of c.args.seat.now.me.0.hold)))));
     }
 
 pub clear_place-requires : goal.clear_place-requires
@@ -21,20 +21,20 @@ clear_place-requires g c =
     let h = c.requires.home in
     let known = c.requires.hold in
     record {
-      home = (i.table ∙ h.0, ap (λ (m : Sat). m.0.places) i.clears.me ∙ h.1, subst (λ (m : Sat). 0 < m.0.weight) (sym i.clears.me) h.2);
-      hold = (known.0, omega arith, ap (λ (m : Sat). m.0.hold) i.clears.me);
-      cell = i.clears.others c.loop-at.at (inr (le_refl c.loop-at.at)) ∙ c.requires.cells c.loop-at.at (search rules) (search rules);
+      home = (i.table ∙ h.0, ap (λ (m : Seated). m.0.places) i.clears.me ∙ h.1, subst (λ (m : Seated). 0 < m.0.weight) (sym i.clears.me) h.2);
+      hold = (known.0, omega arith, ap (λ (m : Seated). m.0.hold) i.clears.me);
+      visit = i.clears.others c.loop-at.at (inr (le_refl c.loop-at.at)) ∙ c.requires.visits c.loop-at.at (search rules) (search rules);
     }
 
 pub loop-at-preserved : goal.loop-at-preserved
 loop-at-preserved g c =
     let i = c.loop-at.invariant in
     let t = c.clear_place.ensures in
-    let cells : List Cell = cells_of c.loop-at.seat.me.0.hold in
-    let there = i.clears.others c.loop-at.at (inr (le_refl c.loop-at.at)) ∙ c.requires.cells c.loop-at.at (search rules) (search rules) in
-    let below = at_below cells c.loop-at.at _ there in
-    let long = length_values cells in
-    let now : values_in (cells_of c.clear_place.new.seat.me.0.hold) ≡ set (values_in cells) c.loop-at.at t.0 = ap (λ (m : Sat). values_in (cells_of m.0.hold)) t.3 ∙ values_set cells c.loop-at.at t.0 in
+    let visits : List Visit = visits_of c.loop-at.seat.me.0.hold in
+    let there = i.clears.others c.loop-at.at (inr (le_refl c.loop-at.at)) ∙ c.requires.visits c.loop-at.at (search rules) (search rules) in
+    let below = at_below visits c.loop-at.at _ there in
+    let long = length_values visits in
+    let now : values_in (visits_of c.clear_place.new.seat.me.0.hold) ≡ set (values_in visits) c.loop-at.at t.0 = ap (λ (m : Seated). values_in (visits_of m.0.hold)) t.3 ∙ values_set visits c.loop-at.at t.0 in
     let part = c.requires.part in
     let size = c.loop-at.auto.room in
     let from : c.args.start ≤ c.loop-at.at = search rules in
@@ -42,6 +42,6 @@ loop-at-preserved g c =
     record {
       table = t.2 ∙ i.table;
       clears = clears_more c.args.seat.now.me c.loop-at.seat.me c.clear_place.new.seat.me c.args.side c.args.start c.loop-at.at t.0 i.clears there from t.3;
-      room = room_more g.T.Sample.value (values_in cells) c.loop-at.room c.clear_place.result c.args.start c.loop-at.at t.0 from (omega arith) inside t.1 i.room
+      room = room_more g.T.Sample.value (values_in visits) c.loop-at.room c.clear_place.result c.args.start c.loop-at.at t.0 from (omega arith) inside t.1 i.room
           ∙ ap (λ (l : List ℕ). map g.T.Sample.value (take (c.loop-at.at + 1 - c.args.start) (drop c.args.start l))) (sym now);
     }

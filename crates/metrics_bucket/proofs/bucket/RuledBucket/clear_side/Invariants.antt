@@ -1,6 +1,6 @@
 use Rattle.std.proofs.Common.{◌≡◌, ◌+◌, ◌-◌, ◌*◌, ◌/◌, ◌≤◌, length}
 use Rattle.std.specs.List.{FoldsTo}
-use Rattle.metrics_bucket.specs.World.{cells_of, values_in}
+use Rattle.metrics_bucket.specs.BucketState.{visits_of, values_in}
 use Rattle.metrics_bucket.proofs.Blocks.{chunks_from}
 use Rattle.metrics_bucket.specs.Blocks.{valued}
 use Rattle.metrics_bucket.specs.Chunks.{Clears}
@@ -13,7 +13,7 @@ invariant-loop-chunks g l = record {
   chunks : l.chunks ≤ (l.given + 63) / 64;
   size : length l.room ≡ 64;
   clears : Clears l.initial.seat.me l.seat.me l.side (64 * l.chunks) l.given;
-  calls : FoldsTo g.V.Visitor.saw l.fn.visitor (valued g.T.Sample.value (chunks_from l.chunks ((l.given + 63) / 64 - l.chunks) (values_in (cells_of l.seat.me.0.hold)))) l.visitor;
+  calls : FoldsTo g.V.Visitor.saw l.fn.visitor (valued g.T.Sample.value (chunks_from l.chunks ((l.given + 63) / 64 - l.chunks) (values_in (visits_of l.seat.me.0.hold)))) l.visitor;
 }
 
 abbrev pub decreases-loop-chunks : goal.decreases-loop-chunks

@@ -5,4 +5,4 @@ use Rattle.metrics_bucket.proofs.bucket.RuledBucket.clear_with_as.Goals as goal
 
 pub returns-clause-ok : goal.returns-clause-ok
 returns-clause-ok g c =
-    IfOk-weaker c.clear_to_as.result _ _ (λ n p. (p.0, p.1, p.2, p.3, p.4, (c.clear_to_as.new.visitor.f, folds_seen (λ p x q. CalledAt g.F.FnMut p x tt q) (λ s. s.f) _ _ _ p.5))) c.clear_to_as.ensures.ok
+    IfOk-weaker c.clear_to_as.result _ _ (λ n p. (p.0, p.1, p.2, (c.clear_to_as.new.visitor.f, folds_seen (λ p x q. CalledAt g.F.FnMut p x tt q) (λ s. s.f) _ _ _ p.3))) c.clear_to_as.ensures.ok

@@ -1,6 +1,6 @@
 use Rattle.std.proofs.Common.{rules, ◌≡◌, ℕ, List, [], ◌∷◌, ◌+◌, ◌%◌, ◌^◌, sym, ap, ◌∙◌, subst, arith, get_or}
 use Rattle.atomic_table.specs.Table.{rest}
-use Rattle.metrics_bucket.specs.declared.hand.Turn.{Turn}
+use Rattle.metrics_bucket.specs.declared.view.Turn.{Turn}
 use Rattle.metrics_bucket.specs.History.{turn_at}
 use Rattle.metrics_bucket.proofs.bucket.RuledBucket.count_walk.Goals as goal
 

@@ -1,24 +1,24 @@
 // The calls that walk over the places.
 ghost use Rattle.std.specs.Prelude.{◌≡◌, ℕ, ◌+◌, ◌-◌, ◌*◌, ◌^◌, ◌<◌, ◌≤◌, ◌⊎◌, length, take, drop, map, replicate, slice_set, ◌≢◌, List, [], ◌∷◌, false, IfOk, OnOk, IfErr};
 ghost use Rattle.metrics_bucket.specs.Facts.{weigh, weigh_pushes, weigh_walks};
-ghost use Rattle.metrics_bucket.specs.declared.hand.Walk.{Walk};
+ghost use Rattle.metrics_bucket.specs.declared.view.Walk.{Walk};
 ghost use Rattle.metrics_bucket.specs.Places.{Covers};
 ghost use Rattle.std.specs.List.{FoldsTo};
 ghost use Rattle.std.specs.Fn.{CalledAt};
 ghost use Rattle.metrics_bucket.specs.Blocks.{valued, newest_first};
 ghost use mathlib.Core.Option.{some};
 ghost use lib.ListN.{get_elem?};
-ghost use Rattle.metrics_bucket.specs.World.{holding, put_cell, side_of, cells_of, values_in};
-ghost use Rattle.metrics_bucket.specs.History.{HasCell, turn_at};
-ghost use Rattle.metrics_bucket.specs.Account.{took_account};
+ghost use Rattle.metrics_bucket.specs.BucketState.{holding, put_visit, side_of, visits_of, values_in};
+ghost use Rattle.metrics_bucket.specs.History.{HasVisit, turn_at};
+ghost use Rattle.metrics_bucket.specs.Account.{IsTaken};
 ghost use Rattle.metrics_bucket.specs.Chunks.{AreUnseen, Clears, has_taken};
-ghost use Rattle.metrics_bucket.specs.declared.hand.Hold.TheVariants.{Nothing, Clearing};
-ghost use Rattle.metrics_bucket.specs.declared.hand.Cell.TheVariants.{Unseen, Marked, Wiped};
+ghost use Rattle.metrics_bucket.specs.declared.view.Hold.TheVariants.{Nothing, Clearing};
+ghost use Rattle.metrics_bucket.specs.declared.view.Visit.TheVariants.{Unseen, Marked, Wiped};
 
 use crate::bucket::{BLOCK_SIZE, RuledBucket};
-use crate::hand::{Hand, Turn};
+use crate::view::{View, Turn};
 use crate::pen::Pen;
-use crate::plays::{Aim, Claim, Leave, ReadOne, See, Take, Wipe};
+use crate::steps::{LookToClear, ClaimTurn, LeaveTurn, ReadValue, LookAtMark, TakeSide, WipeMark};
 use crate::sample::Sample;
 use crate::visitor::{Shown, Visitor};
 use atomic_table::Seat;
@@ -31,18 +31,18 @@ impl<T: Sample> RuledBucket<T> {
     pub(crate) fn wait_for<R: Wait>(
         &self,
         rt: &R,
-        seat: &mut Seat<Turn, Hand>,
+        seat: &mut Seat<Turn, View>,
         side: usize,
         at: usize,
     )
         requires home { (seat.old.table_id ≡ self.now.table) × (seat.old.me.0.places ≡ self.now.places) × (0 < seat.old.me.0.weight) }
-        requires cell { (side < 2) × (at < self.now.places) × (side_of seat.old.me.0.hold ≡ side) × HasCell seat.old.me.0.hold at Unseen }
-        ensures { (seat.new.table_id ≡ seat.old.table_id) × (seat.new.me ≡ (holding seat.old.me.0 (put_cell seat.old.me.0.hold at Marked), seat.old.me.1)) }
+        requires visit { (side < 2) × (at < self.now.places) × (side_of seat.old.me.0.hold ≡ side) × HasVisit seat.old.me.0.hold at Unseen }
+        ensures { (seat.new.table_id ≡ seat.old.table_id) × (seat.new.me ≡ (holding seat.old.me.0 (put_visit seat.old.me.0.hold at Marked), seat.old.me.1)) }
     {
         let word = 2 + 2 * self.places + self.spot(side, at);
         let pause = Backoff::new();
         for _ in rt.forever() {
-            if self.table.shared.load::<See>(seat, word) == 1 {
+            if self.table.shared.load::<LookAtMark>(seat, word) == 1 {
                 return;
             }
             pause.snooze();
@@ -51,7 +51,7 @@ impl<T: Sample> RuledBucket<T> {
     }
 
     // Counts one more finished walk, for the next holder of the turn.
-    pub(crate) fn count_walk(&self, seat: &mut Seat<Turn, Hand>)
+    pub(crate) fn count_walk(&self, seat: &mut Seat<Turn, View>)
         requires home { seat.old.table_id ≡ self.now.table }
         requires turn { seat.old.me.1 ≡ (0, turn_at seat.old.me.0.turn) ∷ [] }
         ensures { (seat.new.table_id ≡ seat.old.table_id) × (seat.new.me ≡ (seat.old.me.0, (0, turn_at (seat.old.me.0.turn + 1)) ∷ [])) }
@@ -61,17 +61,17 @@ impl<T: Sample> RuledBucket<T> {
     }
 
     // Waits for the value of a place, takes it, and wipes the place.
-    fn clear_place<R: Wait>(&self, rt: &R, seat: &mut Seat<Turn, Hand>, side: usize, at: usize) -> T
+    fn clear_place<R: Wait>(&self, rt: &R, seat: &mut Seat<Turn, View>, side: usize, at: usize) -> T
         requires home { (seat.old.table_id ≡ self.now.table) × (seat.old.me.0.places ≡ self.now.places) × (0 < seat.old.me.0.weight) }
-        requires hold { (side < 2) × (at < self.now.places) × (seat.old.me.0.hold ≡ Clearing side (cells_of seat.old.me.0.hold)) }
-        requires cell { get_elem? (cells_of seat.old.me.0.hold) at ≡ some Unseen }
-        ensures { (x : ℕ) × (result ≡ T.value x) × (seat.new.table_id ≡ seat.old.table_id) × (seat.new.me ≡ (holding seat.old.me.0 (Clearing side (slice_set (cells_of seat.old.me.0.hold) at (Wiped x))), seat.old.me.1)) }
+        requires hold { (side < 2) × (at < self.now.places) × (seat.old.me.0.hold ≡ Clearing side (visits_of seat.old.me.0.hold)) }
+        requires visit { get_elem? (visits_of seat.old.me.0.hold) at ≡ some Unseen }
+        ensures { (x : ℕ) × (result ≡ T.value x) × (seat.new.table_id ≡ seat.old.table_id) × (seat.new.me ≡ (holding seat.old.me.0 (Clearing side (slice_set (visits_of seat.old.me.0.hold) at (Wiped x))), seat.old.me.1)) }
     {
         self.wait_for(rt, seat, side, at);
         let spot = self.spot(side, at);
-        let bits = self.table.shared.load::<ReadOne>(seat, 2 + spot);
+        let bits = self.table.shared.load::<ReadValue>(seat, 2 + spot);
         let mark = 2 + 2 * self.places + spot;
-        self.table.shared.store::<Wipe>(seat, mark, 0);
+        self.table.shared.store::<WipeMark>(seat, mark, 0);
         T::of_word(bits)
     }
 
@@ -79,18 +79,18 @@ impl<T: Sample> RuledBucket<T> {
     fn clear_chunk<R: Wait>(
         &self,
         rt: &R,
-        seat: &mut Seat<Turn, Hand>,
+        seat: &mut Seat<Turn, View>,
         side: usize,
         start: usize,
         end: usize,
         room: &mut [T],
     )
         requires home { (seat.old.table_id ≡ self.now.table) × (seat.old.me.0.places ≡ self.now.places) × (0 < seat.old.me.0.weight) }
-        requires hold { (side < 2) × (end ≤ self.now.places) × (seat.old.me.0.hold ≡ Clearing side (cells_of seat.old.me.0.hold)) }
+        requires hold { (side < 2) × (end ≤ self.now.places) × (seat.old.me.0.hold ≡ Clearing side (visits_of seat.old.me.0.hold)) }
         requires part { (start ≤ end) × (end - start ≤ length room.old) }
-        requires cells { AreUnseen start end (cells_of seat.old.me.0.hold) }
+        requires visits { AreUnseen start end (visits_of seat.old.me.0.hold) }
         ensures seat { (seat.new.table_id ≡ seat.old.table_id) × Clears seat.old.me seat.new.me side start end }
-        ensures room { take (end - start) room.new ≡ map T.value (take (end - start) (drop start (values_in (cells_of seat.new.me.0.hold)))) }
+        ensures room { take (end - start) room.new ≡ map T.value (take (end - start) (drop start (values_in (visits_of seat.new.me.0.hold)))) }
     {
         for at in start..end {
             room[at - start] = self.clear_place(rt, seat, side, at);
@@ -101,7 +101,7 @@ impl<T: Sample> RuledBucket<T> {
     fn clear_side<R: Wait, V: Visitor<T>>(
         &self,
         rt: &R,
-        seat: &mut Seat<Turn, Hand>,
+        seat: &mut Seat<Turn, View>,
         side: usize,
         given: usize,
         visitor: &mut V,
@@ -111,7 +111,8 @@ impl<T: Sample> RuledBucket<T> {
         requires size { given < 2 ^ 60 }
         requires call { V.ready visitor.old }
         ensures seat { (seat.new.table_id ≡ seat.old.table_id) × Clears seat.old.me seat.new.me side 0 given }
-        ensures calls { FoldsTo V.saw visitor.old (valued T.value (newest_first (values_in (cells_of seat.new.me.0.hold)))) visitor.new }
+        ensures calls { FoldsTo V.saw visitor.old (valued T.value (newest_first (values_in (visits_of seat.new.me.0.hold)))) visitor.new }
+        ensures ready { V.ready visitor.new }
     {
         let mut room = [T::of_word(0); BLOCK_SIZE];
         let mut chunks = (given + (BLOCK_SIZE - 1)) / BLOCK_SIZE;
@@ -124,10 +125,10 @@ impl<T: Sample> RuledBucket<T> {
         }
     }
 
-    fn clear_seat<R: Wait, V: Visitor<T>>(
+    fn claim_and_clear<R: Wait, V: Visitor<T>>(
         &self,
         rt: &R,
-        seat: &mut Seat<Turn, Hand>,
+        seat: &mut Seat<Turn, View>,
         visitor: &mut V,
     ) -> Result<usize, Error>
         requires home { (seat.old.table_id ≡ self.now.table) × (seat.old.me.0.places ≡ self.now.places) × (0 < seat.old.me.0.weight) }
@@ -135,19 +136,21 @@ impl<T: Sample> RuledBucket<T> {
         requires call { V.ready visitor.old }
         ensures table { seat.new.table_id ≡ seat.old.table_id }
         ensures ok { IfOk result (λ n. (w : Walk) × (k : ℕ) × (length w.values ≡ n) × (seat.new.me ≡ (has_taken seat.old.me.0 k w, [])) × Covers seat.old.me.0.pushed w × (seat.old.me.0.weight ≡ 1024 → w.epoch ≡ length seat.old.me.0.taken) × FoldsTo V.saw visitor.old (valued T.value (newest_first w.values)) visitor.new) }
+        ensures count { IfOk result (λ n. n ≤ self.now.places) }
+        ensures ready { V.ready visitor.new }
         ensures whole { seat.old.me.0.weight ≡ 1024 → OnOk result ((h : ℕ → ℕ) → weigh_pushes h seat.new.me.0.pushed ≡ weigh_walks h seat.new.me.0.taken) }
         ensures err { IfErr result (λ e. (seat.new.me ≡ seat.old.me) × (visitor.new ≡ visitor.old) × (e ≡ Error.Busy) × (seat.old.me.0.weight ≢ 1024)) }
     {
         let shared = &self.table.shared;
-        if shared.compare_exchange::<Claim>(seat, 1, 0, 1) != 0 {
+        if shared.compare_exchange::<ClaimTurn>(seat, 1, 0, 1) != 0 {
             return Err(Error::Busy);
         }
-        let live = shared.load::<Aim>(seat, 0) % 2;
-        let control = shared.swap::<Take>(seat, 0, 1 - live);
+        let live = shared.load::<LookToClear>(seat, 0) % 2;
+        let control = shared.swap::<TakeSide>(seat, 0, 1 - live);
         let given = (control / 2) as usize;
         self.clear_side(rt, seat, live as usize, given, visitor);
         self.count_walk(seat);
-        shared.store::<Leave>(seat, 1, 0);
+        shared.store::<LeaveTurn>(seat, 1, 0);
         Ok(given)
     }
 
@@ -161,11 +164,12 @@ impl<T: Sample> RuledBucket<T> {
         requires own { pen.old.home ≡ self.now }
         requires free { pen.old.ticket ≡ false }
         requires call { V.ready visitor.old }
-        ensures ok { IfOk result (λ n. (w : Walk) × (length w.values ≡ n) × (pen.new ≡ took_account pen.old w) × Covers pen.old.pushed w × (pen.old.weight ≡ 1024 → w.epoch ≡ length pen.old.taken) × FoldsTo V.saw visitor.old (valued T.value (newest_first w.values)) visitor.new) }
-        ensures whole { pen.old.weight ≡ 1024 → OnOk result ((h : ℕ → ℕ) → weigh_pushes h pen.new.pushed ≡ weigh_walks h pen.new.taken) }
+        ensures ok { IfOk result (λ n. (walk : Walk) × (length walk.values ≡ n) × IsTaken pen.old walk pen.new × FoldsTo V.saw visitor.old (valued T.value (newest_first walk.values)) visitor.new) }
+        ensures count { IfOk result (λ n. n ≤ self.now.places) }
+        ensures ready { V.ready visitor.new }
         ensures err { IfErr result (λ e. (pen.new ≡ pen.old) × (visitor.new ≡ visitor.old) × (e ≡ Error.Busy) × (pen.old.weight ≢ 1024)) }
     {
-        self.clear_seat(rt, &mut pen.seat, visitor)
+        self.claim_and_clear(rt, &mut pen.seat, visitor)
     }
 
     /// Takes all values that were pushed and not taken, and shows them to `f` in chunks, the newest first.
@@ -178,8 +182,7 @@ impl<T: Sample> RuledBucket<T> {
         requires own { pen.old.home ≡ self.now }
         requires free { pen.old.ticket ≡ false }
         requires call { F.IsAlwaysCallable f }
-        ensures ok { IfOk result (λ n. (w : Walk) × (length w.values ≡ n) × (pen.new ≡ took_account pen.old w) × Covers pen.old.pushed w × (pen.old.weight ≡ 1024 → w.epoch ≡ length pen.old.taken) × ((last : F) × FoldsTo (λ p x q. CalledAt F.FnMut p x tt q) f (valued T.value (newest_first w.values)) last)) }
-        ensures whole { pen.old.weight ≡ 1024 → OnOk result ((h : ℕ → ℕ) → weigh_pushes h pen.new.pushed ≡ weigh_walks h pen.new.taken) }
+        ensures ok { IfOk result (λ n. (walk : Walk) × (length walk.values ≡ n) × IsTaken pen.old walk pen.new × ((last : F) × FoldsTo (λ p x q. CalledAt F.FnMut p x tt q) f (valued T.value (newest_first walk.values)) last)) }
         ensures err { IfErr result (λ e. (pen.new ≡ pen.old) × (e ≡ Error.Busy) × (pen.old.weight ≢ 1024)) }
     {
         let mut shown = Shown { f };
@@ -190,8 +193,7 @@ impl<T: Sample> RuledBucket<T> {
     pub fn clear_as<R: Wait>(&self, rt: &R, pen: &mut Pen) -> Result<usize, Error>
         requires own { pen.old.home ≡ self.now }
         requires free { pen.old.ticket ≡ false }
-        ensures ok { IfOk result (λ n. (w : Walk) × (length w.values ≡ n) × (pen.new ≡ took_account pen.old w) × Covers pen.old.pushed w × (pen.old.weight ≡ 1024 → w.epoch ≡ length pen.old.taken)) }
-        ensures whole { pen.old.weight ≡ 1024 → OnOk result ((h : ℕ → ℕ) → weigh_pushes h pen.new.pushed ≡ weigh_walks h pen.new.taken) }
+        ensures ok { IfOk result (λ n. (walk : Walk) × (length walk.values ≡ n) × IsTaken pen.old walk pen.new) }
         ensures err { IfErr result (λ e. (pen.new ≡ pen.old) × (e ≡ Error.Busy) × (pen.old.weight ≢ 1024)) }
     {
         self.clear_with_as(rt, pen, |_| {})

@@ -1,6 +1,6 @@
 use Rattle.std.proofs.Common.{◌≡◌, ◌++◌, ◌-◌, take, drop, map, vec_capacity}
-use Rattle.metrics_bucket.specs.Plays.{values_known}
-use Rattle.metrics_bucket.proofs.bucket.RuledBucket.recall_chunk.Given as goal
+use Rattle.metrics_bucket.specs.Steps.{values_known}
+use Rattle.metrics_bucket.proofs.bucket.RuledBucket.settled_chunk.Given as goal
 
 abbrev pub invariant-loop-at : goal.invariant-loop-at
 invariant-loop-at g l =

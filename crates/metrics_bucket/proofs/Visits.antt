@@ -1,71 +1,71 @@
--- Lists of cells, and sums over them.
+-- Lists of visits, and sums over them.
 use Rattle.std.proofs.Common.{◌≡◌, ◌≢◌, ℕ, zero, suc, ◌+◌, ◌%◌, ◌<◌, ◌≤◌, List, [], ◌∷◌, ◌++◌, length, get_or, set, take, drop, replicate, refl, sym, ap, ◌∙◌, arith}
 use mathlib.Core.Option.{some, some-injective, some-ne-none}
 use lib.ListN.{get_elem?}
-use Rattle.metrics_bucket.specs.declared.hand.Walk.{Walk}
-use Rattle.metrics_bucket.specs.declared.hand.Cell.{Cell}
-use Rattle.metrics_bucket.specs.declared.hand.Cell.TheVariants.{Unseen, Marked, Read, Wiped}
-use Rattle.metrics_bucket.specs.World.{other, value_in, values_in}
-use Rattle.metrics_bucket.specs.Facts.{weigh, weigh_walks, stands, is_open, open_at, wiped_cell, wiped_in}
+use Rattle.metrics_bucket.specs.declared.view.Walk.{Walk}
+use Rattle.metrics_bucket.specs.declared.view.Visit.{Visit}
+use Rattle.metrics_bucket.specs.declared.view.Visit.TheVariants.{Unseen, Marked, Read, Wiped}
+use Rattle.metrics_bucket.specs.BucketState.{other, value_in, values_in}
+use Rattle.metrics_bucket.specs.Facts.{weigh, weigh_walks, stands, is_open, open_at, wiped_visit, wiped_in}
 
-pub open_here : (cells : List Cell) (i : ℕ) (c : Cell) → get_elem? cells i ≡ some c → open_at cells i ≡ is_open c
+pub open_here : (visits : List Visit) (i : ℕ) (c : Visit) → get_elem? visits i ≡ some c → open_at visits i ≡ is_open c
 open_here [] i c e = absurd (some-ne-none c (sym e))
 open_here (x ∷ xs) zero c e = ap is_open (some-injective x c e)
 open_here (x ∷ xs) (suc i) c e = open_here xs i c e
 
-pub open_set : (cells : List Cell) (i : ℕ) (c d : Cell) → get_elem? cells i ≡ some c → open_at (set cells i d) i ≡ is_open d
+pub open_set : (visits : List Visit) (i : ℕ) (c d : Visit) → get_elem? visits i ≡ some c → open_at (set visits i d) i ≡ is_open d
 open_set [] i c d e = absurd (some-ne-none c (sym e))
 open_set (x ∷ xs) zero c d e = refl
 open_set (x ∷ xs) (suc i) c d e = open_set xs i c d e
 
-pub open_else : (cells : List Cell) (i j : ℕ) (d : Cell) → j ≢ i → open_at (set cells i d) j ≡ open_at cells j
+pub open_else : (visits : List Visit) (i j : ℕ) (d : Visit) → j ≢ i → open_at (set visits i d) j ≡ open_at visits j
 open_else [] i j d n = refl
 open_else (x ∷ xs) zero zero d n = absurd (n refl)
 open_else (x ∷ xs) zero (suc j) d n = refl
 open_else (x ∷ xs) (suc i) zero d n = refl
 open_else (x ∷ xs) (suc i) (suc j) d n = open_else xs i j d (λ e. n (ap suc e))
 
-pub open_kept : (cells : List Cell) (i j : ℕ) (c d : Cell) → get_elem? cells i ≡ some c → is_open d ≡ is_open c → open_at (set cells i d) j ≡ open_at cells j
+pub open_kept : (visits : List Visit) (i j : ℕ) (c d : Visit) → get_elem? visits i ≡ some c → is_open d ≡ is_open c → open_at (set visits i d) j ≡ open_at visits j
 open_kept [] i j c d e o = refl
 open_kept (x ∷ xs) zero zero c d e o = o ∙ sym (ap is_open (some-injective x c e))
 open_kept (x ∷ xs) zero (suc j) c d e o = refl
 open_kept (x ∷ xs) (suc i) zero c d e o = refl
 open_kept (x ∷ xs) (suc i) (suc j) c d e o = open_kept xs i j c d e o
 
-pub wiped_set : (h : ℕ → ℕ) (cells : List Cell) (i : ℕ) (c d : Cell) → get_elem? cells i ≡ some c → wiped_in h (set cells i d) + wiped_cell h c ≡ wiped_in h cells + wiped_cell h d
+pub wiped_set : (h : ℕ → ℕ) (visits : List Visit) (i : ℕ) (c d : Visit) → get_elem? visits i ≡ some c → wiped_in h (set visits i d) + wiped_visit h c ≡ wiped_in h visits + wiped_visit h d
 wiped_set h [] i c d e = absurd (some-ne-none c (sym e))
-wiped_set h (x ∷ xs) zero c d e = let is : wiped_cell h x ≡ wiped_cell h c = ap (wiped_cell h) (some-injective x c e) in omega arith
+wiped_set h (x ∷ xs) zero c d e = let is : wiped_visit h x ≡ wiped_visit h c = ap (wiped_visit h) (some-injective x c e) in omega arith
 wiped_set h (x ∷ xs) (suc i) c d e = let r = wiped_set h xs i c d e in omega arith
 
 pub wiped_new : (h : ℕ → ℕ) (n : ℕ) → wiped_in h (replicate n Unseen) ≡ 0
 wiped_new h zero = refl
 wiped_new h (suc n) = let r = wiped_new h n in omega arith
 
-pub new_cell : (n i : ℕ) (c : Cell) → get_elem? (replicate n Unseen) i ≡ some c → Unseen ≡ c
-new_cell zero i c e = absurd (some-ne-none c (sym e))
-new_cell (suc n) zero c e = some-injective Unseen c e
-new_cell (suc n) (suc i) c e = new_cell n i c e
+pub new_visit : (n i : ℕ) (c : Visit) → get_elem? (replicate n Unseen) i ≡ some c → Unseen ≡ c
+new_visit zero i c e = absurd (some-ne-none c (sym e))
+new_visit (suc n) zero c e = some-injective Unseen c e
+new_visit (suc n) (suc i) c e = new_visit n i c e
 
 pub length_new : (n : ℕ) → length (replicate n Unseen) ≡ n
 length_new zero = refl
 length_new (suc n) = ap suc (length_new n)
 
--- all cells of a clear are wiped
-abbrev pub AllWiped : List Cell → Type 0
-AllWiped cells = (i : ℕ) (c : Cell) → get_elem? cells i ≡ some c → is_open c ≡ 0
+-- all visits of a clear are wiped
+abbrev pub AllWiped : List Visit → Type 0
+AllWiped visits = (i : ℕ) (c : Visit) → get_elem? visits i ≡ some c → is_open c ≡ 0
 
-wiped_value : (h : ℕ → ℕ) (c : Cell) → is_open c ≡ 0 → wiped_cell h c ≡ h (value_in c)
+wiped_value : (h : ℕ → ℕ) (c : Visit) → is_open c ≡ 0 → wiped_visit h c ≡ h (value_in c)
 wiped_value h Unseen o = absurd (omega arith)
 wiped_value h Marked o = absurd (omega arith)
 wiped_value h (Read x) o = absurd (omega arith)
 wiped_value h (Wiped x) o = refl
 
-pub all_wiped_open : (cells : List Cell) (i : ℕ) → AllWiped cells → open_at cells i ≡ 0
+pub all_wiped_open : (visits : List Visit) (i : ℕ) → AllWiped visits → open_at visits i ≡ 0
 all_wiped_open [] i a = refl
 all_wiped_open (c ∷ cs) zero a = a 0 c refl
 all_wiped_open (c ∷ cs) (suc i) a = all_wiped_open cs i (λ j d e. a (suc j) d e)
 
-pub all_wiped_weigh : (h : ℕ → ℕ) (cells : List Cell) → AllWiped cells → weigh h (values_in cells) ≡ wiped_in h cells
+pub all_wiped_weigh : (h : ℕ → ℕ) (visits : List Visit) → AllWiped visits → weigh h (values_in visits) ≡ wiped_in h visits
 all_wiped_weigh h [] a = refl
 all_wiped_weigh h (c ∷ cs) a = let x = wiped_value h c (a 0 c refl) in let r = all_wiped_weigh h cs (λ j d e. a (suc j) d e) in omega arith
 
@@ -73,34 +73,34 @@ pub weigh_walks-append : (h : ℕ → ℕ) (xss : List Walk) (xs : Walk) → wei
 weigh_walks-append h [] xs = omega arith
 weigh_walks-append h (x ∷ xss) xs = let r = weigh_walks-append h xss xs in omega arith
 
--- the place of each cell has a mark and the cell's value
-abbrev pub Standing : List ℕ → List ℕ → ℕ → List Cell → Type 0
-Standing xs ms b cells = (i : ℕ) (c : Cell) → get_elem? cells i ≡ some c → (get_or ms (b + i) 0 ≡ 1) × (get_or xs (b + i) 0 ≡ value_in c)
+-- the place of each visit has a mark and the visit's value
+abbrev pub Standing : List ℕ → List ℕ → ℕ → List Visit → Type 0
+Standing xs ms b visits = (i : ℕ) (c : Visit) → get_elem? visits i ≡ some c → (get_or ms (b + i) 0 ≡ 1) × (get_or xs (b + i) 0 ≡ value_in c)
 
-one_less : (xs ms : List ℕ) (x m b : ℕ) (cells : List Cell) → Standing (x ∷ xs) (m ∷ ms) (suc b) cells → Standing xs ms b cells
-one_less xs ms x m b cells s i c e =
+one_less : (xs ms : List ℕ) (x m b : ℕ) (visits : List Visit) → Standing (x ∷ xs) (m ∷ ms) (suc b) visits → Standing xs ms b visits
+one_less xs ms x m b visits s i c e =
     let t = s i c e in
     let shift : suc b + i ≡ suc (b + i) = omega arith in
     ((λ k. get_or (m ∷ ms) (sym shift k) 0) ∙ t.0, (λ k. get_or (x ∷ xs) (sym shift k) 0) ∙ t.1)
 
-next_cell : (xs ms : List ℕ) (x m : ℕ) (c : Cell) (cells : List Cell) → Standing (x ∷ xs) (m ∷ ms) 0 (c ∷ cells) → Standing xs ms 0 cells
-next_cell xs ms x m c cells s i d e =
+next_visit : (xs ms : List ℕ) (x m : ℕ) (c : Visit) (visits : List Visit) → Standing (x ∷ xs) (m ∷ ms) 0 (c ∷ visits) → Standing xs ms 0 visits
+next_visit xs ms x m c visits s i d e =
     let t = s (suc i) d e in
     let shift : 0 + suc i ≡ suc (0 + i) = omega arith in
     ((λ k. get_or (m ∷ ms) (sym shift k) 0) ∙ t.0, (λ k. get_or (x ∷ xs) (sym shift k) 0) ∙ t.1)
 
 -- what a walk read is a part of what stands
-pub part_stands : (h : ℕ → ℕ) (xs ms : List ℕ) (b : ℕ) (cells : List Cell) → b + length cells ≤ length xs → b + length cells ≤ length ms → Standing xs ms b cells → weigh h (values_in cells) ≤ stands h xs ms
+pub part_stands : (h : ℕ → ℕ) (xs ms : List ℕ) (b : ℕ) (visits : List Visit) → b + length visits ≤ length xs → b + length visits ≤ length ms → Standing xs ms b visits → weigh h (values_in visits) ≤ stands h xs ms
 part_stands h xs ms b [] l m s = omega arith
 part_stands h [] ms b (c ∷ cs) l m s = absurd (omega arith)
 part_stands h (x ∷ xs) [] b (c ∷ cs) l m s = absurd (omega arith)
 part_stands h (x ∷ xs) (zero ∷ ms) zero (c ∷ cs) l m s = let t = (s 0 c refl).0 in absurd (omega arith)
-part_stands h (x ∷ xs) (suc n ∷ ms) zero (c ∷ cs) l m s = let r = part_stands h xs ms 0 cs (omega arith) (omega arith) (next_cell xs ms x (suc n) c cs s) in let is : h x ≡ h (value_in c) = ap h (s 0 c refl).1 in omega arith
+part_stands h (x ∷ xs) (suc n ∷ ms) zero (c ∷ cs) l m s = let r = part_stands h xs ms 0 cs (omega arith) (omega arith) (next_visit xs ms x (suc n) c cs s) in let is : h x ≡ h (value_in c) = ap h (s 0 c refl).1 in omega arith
 part_stands h (x ∷ xs) (zero ∷ ms) (suc b) (c ∷ cs) l m s = let r = part_stands h xs ms b (c ∷ cs) (omega arith) (omega arith) (one_less xs ms x 0 b (c ∷ cs) s) in omega arith
 part_stands h (x ∷ xs) (suc n ∷ ms) (suc b) (c ∷ cs) l m s = let r = part_stands h xs ms b (c ∷ cs) (omega arith) (omega arith) (one_less xs ms x (suc n) b (c ∷ cs) s) in omega arith
 
 -- what a walk read at all places of a side are its values
-pub values_are : (xs : List ℕ) (b : ℕ) (cells : List Cell) → b + length cells ≤ length xs → ((i : ℕ) (c : Cell) → get_elem? cells i ≡ some c → get_or xs (b + i) 0 ≡ value_in c) → values_in cells ≡ take (length cells) (drop b xs)
+pub values_are : (xs : List ℕ) (b : ℕ) (visits : List Visit) → b + length visits ≤ length xs → ((i : ℕ) (c : Visit) → get_elem? visits i ≡ some c → get_or xs (b + i) 0 ≡ value_in c) → values_in visits ≡ take (length visits) (drop b xs)
 values_are xs b [] l f = refl
 values_are [] b (c ∷ cs) l f = absurd (omega arith)
 values_are (x ∷ xs) zero (c ∷ cs) l f =

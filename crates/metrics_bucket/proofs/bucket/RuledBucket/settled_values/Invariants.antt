@@ -1,8 +1,8 @@
 use Rattle.std.proofs.Common.{◌≡◌, ◌++◌, ◌≤◌, ◌*◌, ◌+◌, map, vec_capacity}
-use Rattle.metrics_bucket.specs.Plays.{values_known}
+use Rattle.metrics_bucket.specs.Steps.{values_known}
 use Rattle.metrics.specs.Book.{blocks}
 use Rattle.metrics_bucket.proofs.Blocks.{first_chunks}
-use Rattle.metrics_bucket.proofs.bucket.RuledBucket.recall.Given as goal
+use Rattle.metrics_bucket.proofs.bucket.RuledBucket.settled_values.Given as goal
 
 abbrev pub invariant-loop-chunks : goal.invariant-loop-chunks
 invariant-loop-chunks g l = record {

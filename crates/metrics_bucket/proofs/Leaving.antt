@@ -5,44 +5,44 @@ use mathlib.Core.Option.{some}
 use native.Mathlib.Decide.{ℕ_discrete, dec_le}
 use lib.ListN.{get_elem?}
 use Rattle.atomic_table.proofs.Lists.{at_set, at_snoc}
-use Rattle.metrics_bucket.specs.declared.hand.Walk.{Walk}
-use Rattle.metrics_bucket.specs.declared.hand.Hand.{Hand}
-use Rattle.metrics_bucket.specs.declared.hand.Hold.TheVariants.{Nothing, Reading, Clearing}
-use Rattle.metrics_bucket.specs.declared.hand.Cell.{Cell}
-use Rattle.metrics_bucket.specs.declared.hand.Cell.TheVariants.{Read, Wiped}
-use Rattle.metrics_bucket.specs.World.{total, World, base, spot, live_values, new_hand, walk, holding, value_in, values_in, left_from}
-use Rattle.metrics_bucket.specs.Facts.{weigh, weigh_pushes, weigh_walks, stands, given_at, ticket_in, ticket_at, open_at, owed_in, owed_at, turn_in, turn_of, took_in, took_of, weight_of, pushed_of, taken_of, wiped, wiped_in, CellFits, HoldFits, IsIdle, HandFits, Facts}
+use Rattle.metrics_bucket.specs.declared.view.Walk.{Walk}
+use Rattle.metrics_bucket.specs.declared.view.View.{View}
+use Rattle.metrics_bucket.specs.declared.view.Hold.TheVariants.{Nothing, Reading, Clearing}
+use Rattle.metrics_bucket.specs.declared.view.Visit.{Visit}
+use Rattle.metrics_bucket.specs.declared.view.Visit.TheVariants.{Read, Wiped}
+use Rattle.metrics_bucket.specs.BucketState.{total, BucketState, base, spot, live_values, new_view, walk, holding, value_in, values_in, left_from}
+use Rattle.metrics_bucket.specs.Facts.{weigh, weigh_pushes, weigh_walks, stands, given_at, ticket_in, ticket_at, open_at, owed_in, owed_at, turn_in, turn_of, took_in, took_of, weight_of, pushed_of, taken_of, wiped, wiped_in, VisitFits, HoldFits, IsIdle, ViewFits, Facts}
 use Rattle.metrics_bucket.proofs.Sums.{total_set, total_two, total_zero, spot_apart, spot_below, here_or, given_here, given_else, below_under, below_over, stands_unmark}
 use Rattle.metrics_bucket.proofs.Keep.{at_below, other_side, turn_alone, each_after}
-use Rattle.metrics_bucket.proofs.Cells.{open_here, open_set, open_else, wiped_set, AllWiped, all_wiped_open, all_wiped_weigh, weigh_walks-append, Standing, part_stands, stands_front}
+use Rattle.metrics_bucket.proofs.Visits.{open_here, open_set, open_else, wiped_set, AllWiped, all_wiped_open, all_wiped_weigh, weigh_walks-append, Standing, part_stands, stands_front}
 
-module _ (places all : ℕ) (w : World) (id : ℕ) (v : Hand) (f : Facts places all w) (at : get_elem? w.hands id ≡ some v) (has : 0 < v.weight) where
-  abbrev mine : HandFits places all w v
+module _ (places all : ℕ) (w : BucketState) (id : ℕ) (v : View) (f : Facts places all w) (at : get_elem? w.views id ≡ some v) (has : 0 < v.weight) where
+  abbrev mine : ViewFits places all w v
   mine = f.each id v at
 
-  pub wipes : (s i x : ℕ) (cells : List Cell) → v.hold ≡ Clearing s cells → get_elem? cells i ≡ some (Read x)
-      → Facts places all record w { marks = set w.marks (spot places s i) 0; hands = set w.hands id (holding v (Clearing s (set cells i (Wiped x)))) }
-  wipes s i x cells e there =
-      let u : Hand = holding v (Clearing s (set cells i (Wiped x))) in
+  pub wipes : (s i x : ℕ) (visits : List Visit) → v.hold ≡ Clearing s visits → get_elem? visits i ≡ some (Read x)
+      → Facts places all record w { marks = set w.marks (spot places s i) 0; views = set w.views id (holding v (Clearing s (set visits i (Wiped x)))) }
+  wipes s i x visits e there =
+      let u : View = holding v (Clearing s (set visits i (Wiped x))) in
       let k : ℕ = spot places s i in
-      let fits : HoldFits places all w v.weight (Clearing s cells) = subst (HoldFits places all w v.weight) e mine.hold in
+      let fits : HoldFits places all w v.weight (Clearing s visits) = subst (HoldFits places all w v.weight) e mine.hold in
       let o = other_side w.live f.side in
       let s2 : s < 2 = subst (λ (z : ℕ). z < 2) (sym fits.0) o.0 in
-      let inside = at_below cells i (Read x) there in
+      let inside = at_below visits i (Read x) there in
       let fits1 = fits.1 in
       let i2 : i < places = omega arith in
       let in_range = spot_below places s i i2 in
       let values_long = f.values_long in
       let marks_long = f.marks_long in
-      let cell = fits.2 i (Read x) there in
-      let marked : get_or w.marks k 0 ≡ 1 = cell.0 in
+      let visit = fits.2 i (Read x) there in
+      let marked : get_or w.marks k 0 ≡ 1 = visit.0 in
       let alone_here = turn_alone places all w f id v at (ap turn_in e) in
-      let W : World = record w { marks = set w.marks k 0; hands = set w.hands id u } in
+      let W : BucketState = record w { marks = set w.marks k 0; views = set w.views id u } in
       let apart : (s' i' : ℕ) → s' < 2 → i' < places → (s' ≡ s → i' ≡ i → ⊥) → get_or (set w.marks k 0) (spot places s' i') 0 ≡ get_or w.marks (spot places s' i') 0 =
       λ s' i' a b n. get_or-set_other w.marks k (spot places s' i') 0 0 (spot_apart places s' i' s i a s2 b i2 n)
       in
       let here : get_or (set w.marks k 0) k 0 ≡ 0 = get_or-set_same w.marks k 0 0 (omega arith) in
-      let long = length-set cells i (Wiped x) in
+      let long = length-set visits i (Wiped x) in
       record {
         side = f.side;
         room = f.room;
@@ -50,48 +50,48 @@ module _ (places all : ℕ) (w : World) (id : ℕ) (v : Hand) (f : Facts places 
         marks_long = length-set w.marks k 0 ∙ marks_long;
         even = λ s' i' a b.
             let y = f.even s' i' a b in
-            let t = total_set (ticket_at s' i') w.hands id v u at in
+            let t = total_set (ticket_at s' i') w.views id v u at in
             let t0 : ticket_at s' i' v ≡ 0 = ap (ticket_in s' i') e in
-            let p = total_set (owed_at s' i') w.hands id v u at in
-            let p0 : owed_at s' i' v ≡ cond (eqb s' s) (open_at cells i') 0 = ap (owed_in s' i') e in
+            let p = total_set (owed_at s' i') w.views id v u at in
+            let p0 : owed_at s' i' v ≡ cond (eqb s' s) (open_at visits i') 0 = ap (owed_in s' i') e in
             ⊎_elim
             (λ (r : (s' ≡ s) × (i' ≡ i)).
             let now : get_or (set w.marks k 0) (spot places s' i') 0 ≡ 0 = (λ m. get_or (set w.marks k 0) (spot places (r.0 m) (r.1 m)) 0) ∙ here in
             let was : get_or w.marks (spot places s' i') 0 ≡ 1 = (λ m. get_or w.marks (spot places (r.0 m) (r.1 m)) 0) ∙ marked in
-            let p1 : cond (eqb s' s) (open_at cells i') 0 ≡ 1 = ap (λ c. cond c (open_at cells i') 0) (eq-eqb s' s r.0) ∙ (ap (open_at cells) r.1 ∙ open_here cells i (Read x) there) in
-            let p2 : owed_at s' i' u ≡ 0 = ap (λ c. cond c (open_at (set cells i (Wiped x)) i') 0) (eq-eqb s' s r.0) ∙ (ap (open_at (set cells i (Wiped x))) r.1 ∙ open_set cells i (Read x) (Wiped x) there) in
+            let p1 : cond (eqb s' s) (open_at visits i') 0 ≡ 1 = ap (λ c. cond c (open_at visits i') 0) (eq-eqb s' s r.0) ∙ (ap (open_at visits) r.1 ∙ open_here visits i (Read x) there) in
+            let p2 : owed_at s' i' u ≡ 0 = ap (λ c. cond c (open_at (set visits i (Wiped x)) i') 0) (eq-eqb s' s r.0) ∙ (ap (open_at (set visits i (Wiped x))) r.1 ∙ open_set visits i (Read x) (Wiped x) there) in
             omega arith)
             (λ (n : s' ≡ s → i' ≡ i → ⊥).
             let m = apart s' i' a b n in
-            let p1 : owed_at s' i' u ≡ cond (eqb s' s) (open_at cells i') 0 = dite (ℕ_discrete s' s) (λ q. ap (λ (z : ℕ). cond (eqb s' s) z 0) (open_else cells i i' (Wiped x) (λ z. n q z)))
-            (λ q. ap (λ c. cond c (open_at (set cells i (Wiped x)) i') 0) (ne_eqb s' s q) ∙ sym (ap (λ c. cond c (open_at cells i') 0) (ne_eqb s' s q)))
+            let p1 : owed_at s' i' u ≡ cond (eqb s' s) (open_at visits i') 0 = dite (ℕ_discrete s' s) (λ q. ap (λ (z : ℕ). cond (eqb s' s) z 0) (open_else visits i i' (Wiped x) (λ z. n q z)))
+            (λ q. ap (λ c. cond c (open_at (set visits i (Wiped x)) i') 0) (ne_eqb s' s q) ∙ sym (ap (λ c. cond c (open_at visits i') 0) (ne_eqb s' s q)))
             in
             omega arith)
             (here_or s' i' s i);
-        turns = let y = f.turns in let t = total_set turn_of w.hands id v u at in let t0 : turn_of v ≡ 1 = ap turn_in e in omega arith;
+        turns = let y = f.turns in let t = total_set turn_of w.views id v u at in let t0 : turn_of v ≡ 1 = ap turn_in e in omega arith;
         one_turn = f.one_turn;
-        swaps = let t = total_set took_of w.hands id v u at in let t0 : took_in v.hold ≡ 1 = ap took_in e in let same_total : total took_of w.hands ≡ total took_of (set w.hands id u) = omega arith in
+        swaps = let t = total_set took_of w.views id v u at in let t0 : took_in v.hold ≡ 1 = ap took_in e in let same_total : total took_of w.views ≡ total took_of (set w.views id u) = omega arith in
             f.swaps ∙ ap (λ (n : ℕ). n % 2) same_total;
-        shares = let y = f.shares in let t = total_set weight_of w.hands id v u at in omega arith;
+        shares = let y = f.shares in let t = total_set weight_of w.views id v u at in omega arith;
         bags = λ h.
             let y = f.bags h in
-            let t = total_set (pushed_of h) w.hands id v u at in
-            let c = total_set (taken_of h) w.hands id v u at in
-            let c0 : wiped h v.hold ≡ wiped_in h cells = ap (wiped h) e in
-            let c1 = wiped_set h cells i (Read x) (Wiped x) there in
+            let t = total_set (pushed_of h) w.views id v u at in
+            let c = total_set (taken_of h) w.views id v u at in
+            let c0 : wiped h v.hold ≡ wiped_in h visits = ap (wiped h) e in
+            let c1 = wiped_set h visits i (Read x) (Wiped x) there in
             let d = stands_unmark h w.values w.marks k (omega arith) (omega arith) marked in
-            let is : h (get_or w.values k 0) ≡ h x = ap h cell.1 in
+            let is : h (get_or w.values k 0) ≡ h x = ap h visit.1 in
             omega arith;
         each = each_after places all w W id v u f at has refl refl refl (λ h. omega arith) (
           fits.0,
           omega arith,
           λ j c at_j. ⊎_elim
-              (λ (t : (j ≡ i) × (Wiped x ≡ c)). subst (CellFits (get_or (set w.marks k 0) (spot places s j) 0) (get_or w.values (spot places s j) 0)) t.1 tt)
-              (λ (t : (j ≢ i) × (get_elem? cells j ≡ some c)).
-              let j2 = at_below cells j c t.1 in
+              (λ (t : (j ≡ i) × (Wiped x ≡ c)). subst (VisitFits (get_or (set w.marks k 0) (spot places s j) 0) (get_or w.values (spot places s j) 0)) t.1 tt)
+              (λ (t : (j ≢ i) × (get_elem? visits j ≡ some c)).
+              let j2 = at_below visits j c t.1 in
               let m = apart s j s2 (omega arith) (λ _ z. t.0 z) in
-              subst (λ (z : ℕ). CellFits z (get_or w.values (spot places s j) 0) c) (sym m) (fits.2 j c t.1))
-              (at_set cells i j (Wiped x) c at_j),
+              subst (λ (z : ℕ). VisitFits z (get_or w.values (spot places s j) 0) c) (sym m) (fits.2 j c t.1))
+              (at_set visits i j (Wiped x) c at_j),
           fits.3,
         )
             mine.reads
@@ -101,9 +101,9 @@ module _ (places all : ℕ) (w : World) (id : ℕ) (v : Hand) (f : Facts places 
       }
 
   -- a clear leaves when all its places are wiped
-  pub leaves_clear : (s : ℕ) (cells : List Cell) → v.hold ≡ Clearing s cells → AllWiped cells → Facts places all record w { turn = 0; hands = set w.hands id (left_from v (Clearing s cells)) }
-  leaves_clear s cells e done =
-      let u : Hand = left_from v (Clearing s cells) in
+  pub leaves_clear : (s : ℕ) (visits : List Visit) → v.hold ≡ Clearing s visits → AllWiped visits → Facts places all record w { turn = 0; views = set w.views id (left_from v (Clearing s visits)) }
+  leaves_clear s visits e done =
+      let u : View = left_from v (Clearing s visits) in
       let alone_here = turn_alone places all w f id v at (ap turn_in e) in
       record {
         side = f.side;
@@ -112,39 +112,39 @@ module _ (places all : ℕ) (w : World) (id : ℕ) (v : Hand) (f : Facts places 
         marks_long = f.marks_long;
         even = λ s' i' a b.
             let y = f.even s' i' a b in
-            let t = total_set (ticket_at s' i') w.hands id v u at in
+            let t = total_set (ticket_at s' i') w.views id v u at in
             let t0 : ticket_at s' i' v ≡ 0 = ap (ticket_in s' i') e in
-            let p = total_set (owed_at s' i') w.hands id v u at in
-            let p0 : owed_at s' i' v ≡ 0 = ap (owed_in s' i') e ∙ (ap (λ (n : ℕ). cond (eqb s' s) n 0) (all_wiped_open cells i' done) ∙ dite (ℕ_discrete s' s) (λ q. ap (λ c. cond c 0 0) (eq-eqb s' s q)) (λ q. ap (λ c. cond c 0 0) (ne_eqb s' s q))) in
+            let p = total_set (owed_at s' i') w.views id v u at in
+            let p0 : owed_at s' i' v ≡ 0 = ap (owed_in s' i') e ∙ (ap (λ (n : ℕ). cond (eqb s' s) n 0) (all_wiped_open visits i' done) ∙ dite (ℕ_discrete s' s) (λ q. ap (λ c. cond c 0 0) (eq-eqb s' s q)) (λ q. ap (λ c. cond c 0 0) (ne_eqb s' s q))) in
             omega arith;
-        turns = let y = f.turns in let z = f.one_turn in let t = total_set turn_of w.hands id v u at in let t0 : turn_of v ≡ 1 = ap turn_in e in omega arith;
+        turns = let y = f.turns in let z = f.one_turn in let t = total_set turn_of w.views id v u at in let t0 : turn_of v ≡ 1 = ap turn_in e in omega arith;
         one_turn = omega arith;
-        swaps = let t = total_set took_of w.hands id v u at in let t0 : took_in v.hold ≡ 1 = ap took_in e in let l = length-append v.taken (walk v.epoch (values_in cells) ∷ []) in
-            let same_total : total took_of w.hands ≡ total took_of (set w.hands id u) = omega arith in
+        swaps = let t = total_set took_of w.views id v u at in let t0 : took_in v.hold ≡ 1 = ap took_in e in let l = length-append v.taken (walk v.epoch (values_in visits) ∷ []) in
+            let same_total : total took_of w.views ≡ total took_of (set w.views id u) = omega arith in
             f.swaps ∙ ap (λ (n : ℕ). n % 2) same_total;
-        shares = let y = f.shares in let t = total_set weight_of w.hands id v u at in omega arith;
+        shares = let y = f.shares in let t = total_set weight_of w.views id v u at in omega arith;
         bags = λ h.
             let y = f.bags h in
-            let t = total_set (pushed_of h) w.hands id v u at in
-            let c = total_set (taken_of h) w.hands id v u at in
-            let c0 : wiped h v.hold ≡ wiped_in h cells = ap (wiped h) e in
-            let c1 = weigh_walks-append h v.taken (walk v.epoch (values_in cells)) in
-            let c2 = all_wiped_weigh h cells done in
+            let t = total_set (pushed_of h) w.views id v u at in
+            let c = total_set (taken_of h) w.views id v u at in
+            let c0 : wiped h v.hold ≡ wiped_in h visits = ap (wiped h) e in
+            let c1 = weigh_walks-append h v.taken (walk v.epoch (values_in visits)) in
+            let c2 = all_wiped_weigh h visits done in
             omega arith;
-        each = each_after places all w record w { turn = 0; hands = set w.hands id u } id v u f at has refl refl refl (λ h. omega arith) tt mine.reads
+        each = each_after places all w record w { turn = 0; views = set w.views id u } id v u f at has refl refl refl (λ h. omega arith) tt mine.reads
             (λ j z n there turn. (refl, omega arith))
             (λ j z n there s i a b t. refl)
             (λ j z n there s i a b t m. (m, refl));
       }
 
   -- a reading walk leaves when it has read all its places
-  pub leaves_read : (s : ℕ) (cells : List Cell) → v.hold ≡ Reading s cells → ((i : ℕ) (c : Cell) → get_elem? cells i ≡ some c → (x : ℕ) × (c ≡ Read x))
-      → Facts places all record w { turn = 0; hands = set w.hands id (left_from v (Reading s cells)) }
-  leaves_read s cells e done =
-      let u : Hand = left_from v (Reading s cells) in
-      let fits : HoldFits places all w v.weight (Reading s cells) = subst (HoldFits places all w v.weight) e mine.hold in
-      let standing : Standing w.values w.marks (base places s) cells = λ i c there.
-      let d = done i c there in let t = subst (CellFits (get_or w.marks (spot places s i) 0) (get_or w.values (spot places s i) 0)) d.1 (fits.2 i c there) in (t.0, t.1 ∙ sym (ap value_in d.1))
+  pub leaves_read : (s : ℕ) (visits : List Visit) → v.hold ≡ Reading s visits → ((i : ℕ) (c : Visit) → get_elem? visits i ≡ some c → (x : ℕ) × (c ≡ Read x))
+      → Facts places all record w { turn = 0; views = set w.views id (left_from v (Reading s visits)) }
+  leaves_read s visits e done =
+      let u : View = left_from v (Reading s visits) in
+      let fits : HoldFits places all w v.weight (Reading s visits) = subst (HoldFits places all w v.weight) e mine.hold in
+      let standing : Standing w.values w.marks (base places s) visits = λ i c there.
+      let d = done i c there in let t = subst (VisitFits (get_or w.marks (spot places s i) 0) (get_or w.values (spot places s i) 0)) d.1 (fits.2 i c there) in (t.0, t.1 ∙ sym (ap value_in d.1))
       in
       let room = f.room in let values_long = f.values_long in let marks_long = f.marks_long in let k = fits.1 in
       let b : base places s ≤ places = base_le s in
@@ -155,31 +155,31 @@ module _ (places all : ℕ) (w : World) (id : ℕ) (v : Hand) (f : Facts places 
         marks_long = f.marks_long;
         even = λ s' i' a b.
             let y = f.even s' i' a b in
-            let t = total_set (ticket_at s' i') w.hands id v u at in
+            let t = total_set (ticket_at s' i') w.views id v u at in
             let t0 : ticket_at s' i' v ≡ 0 = ap (ticket_in s' i') e in
-            let p = total_set (owed_at s' i') w.hands id v u at in
+            let p = total_set (owed_at s' i') w.views id v u at in
             let p0 : owed_at s' i' v ≡ 0 = ap (owed_in s' i') e in
             omega arith;
-        turns = let y = f.turns in let z = f.one_turn in let t = total_set turn_of w.hands id v u at in let t0 : turn_of v ≡ 1 = ap turn_in e in omega arith;
+        turns = let y = f.turns in let z = f.one_turn in let t = total_set turn_of w.views id v u at in let t0 : turn_of v ≡ 1 = ap turn_in e in omega arith;
         one_turn = omega arith;
-        swaps = let t = total_set took_of w.hands id v u at in let t0 : took_in v.hold ≡ 0 = ap took_in e in let same_total : total took_of w.hands ≡ total took_of (set w.hands id u) = omega arith in
+        swaps = let t = total_set took_of w.views id v u at in let t0 : took_in v.hold ≡ 0 = ap took_in e in let same_total : total took_of w.views ≡ total took_of (set w.views id u) = omega arith in
             f.swaps ∙ ap (λ (n : ℕ). n % 2) same_total;
-        shares = let y = f.shares in let t = total_set weight_of w.hands id v u at in omega arith;
+        shares = let y = f.shares in let t = total_set weight_of w.views id v u at in omega arith;
         bags = λ h.
             let y = f.bags h in
-            let t = total_set (pushed_of h) w.hands id v u at in
-            let c = total_set (taken_of h) w.hands id v u at in
+            let t = total_set (pushed_of h) w.views id v u at in
+            let c = total_set (taken_of h) w.views id v u at in
             let c0 : wiped h v.hold ≡ 0 = ap (wiped h) e in
             omega arith;
-        each = each_after places all w record w { turn = 0; hands = set w.hands id u } id v u f at has refl refl refl (λ h. omega arith) tt
+        each = each_after places all w record w { turn = 0; views = set w.views id u } id v u f at has refl refl refl (λ h. omega arith) tt
             (λ n xs e' h. ⊎_elim
             (λ (r : get_elem? v.read n ≡ some xs). mine.reads n xs r h)
-            (λ (r : walk v.epoch (values_in cells) ≡ xs).
-            let a = part_stands h w.values w.marks (base places s) cells (omega arith) (omega arith) standing in
+            (λ (r : walk v.epoch (values_in visits) ≡ xs).
+            let a = part_stands h w.values w.marks (base places s) visits (omega arith) (omega arith) standing in
             let y = f.bags h in
-            let q : weigh h (values_in cells) ≡ weigh h xs.values = ap (λ (z : Walk). weigh h z.values) r in
+            let q : weigh h (values_in visits) ≡ weigh h xs.values = ap (λ (z : Walk). weigh h z.values) r in
             omega arith)
-            (at_snoc v.read (walk v.epoch (values_in cells)) xs n e'))
+            (at_snoc v.read (walk v.epoch (values_in visits)) xs n e'))
             (λ j z n there turn. (refl, omega arith))
             (λ j z n there s i a b t. refl)
             (λ j z n there s i a b t m. (m, refl));
@@ -191,9 +191,9 @@ module _ (places all : ℕ) (w : World) (id : ℕ) (v : Hand) (f : Facts places 
 
   -- a walk that took nothing leaves without a list
   pub quits : turn_in v.hold ≡ 1 → ((s i : ℕ) → ticket_in s i v.hold ≡ 0) → ((s i : ℕ) → owed_in s i v.hold ≡ 0) → took_in v.hold ≡ 0 → ((h : ℕ → ℕ) → wiped h v.hold ≡ 0)
-      → Facts places all record w { turn = 0; hands = set w.hands id (holding v Nothing) }
+      → Facts places all record w { turn = 0; views = set w.views id (holding v Nothing) }
   quits turn ticket owed took unwiped =
-      let u : Hand = holding v Nothing in
+      let u : View = holding v Nothing in
       record {
         side = f.side;
         room = f.room;
@@ -201,17 +201,17 @@ module _ (places all : ℕ) (w : World) (id : ℕ) (v : Hand) (f : Facts places 
         marks_long = f.marks_long;
         even = λ s i a b.
             let y = f.even s i a b in
-            let t = total_set (ticket_at s i) w.hands id v u at in
+            let t = total_set (ticket_at s i) w.views id v u at in
             let t0 = ticket s i in
-            let p = total_set (owed_at s i) w.hands id v u at in
+            let p = total_set (owed_at s i) w.views id v u at in
             let p0 = owed s i in
             omega arith;
-        turns = let y = f.turns in let z = f.one_turn in let t = total_set turn_of w.hands id v u at in omega arith;
+        turns = let y = f.turns in let z = f.one_turn in let t = total_set turn_of w.views id v u at in omega arith;
         one_turn = omega arith;
-        swaps = let t = total_set took_of w.hands id v u at in let same_total : total took_of w.hands ≡ total took_of (set w.hands id u) = omega arith in f.swaps ∙ ap (λ (n : ℕ). n % 2) same_total;
-        shares = let y = f.shares in let t = total_set weight_of w.hands id v u at in omega arith;
-        bags = λ h. let y = f.bags h in let t = total_set (pushed_of h) w.hands id v u at in let c = total_set (taken_of h) w.hands id v u at in let c0 = unwiped h in omega arith;
-        each = each_after places all w record w { turn = 0; hands = set w.hands id u } id v u f at has refl refl refl (λ h. omega arith) tt mine.reads
+        swaps = let t = total_set took_of w.views id v u at in let same_total : total took_of w.views ≡ total took_of (set w.views id u) = omega arith in f.swaps ∙ ap (λ (n : ℕ). n % 2) same_total;
+        shares = let y = f.shares in let t = total_set weight_of w.views id v u at in omega arith;
+        bags = λ h. let y = f.bags h in let t = total_set (pushed_of h) w.views id v u at in let c = total_set (taken_of h) w.views id v u at in let c0 = unwiped h in omega arith;
+        each = each_after places all w record w { turn = 0; views = set w.views id u } id v u f at has refl refl refl (λ h. omega arith) tt mine.reads
             (λ j z n there turn. (refl, omega arith))
             (λ j z n there s i a b t. refl)
             (λ j z n there s i a b t m. (m, refl));
@@ -219,19 +219,19 @@ module _ (places all : ℕ) (w : World) (id : ℕ) (v : Hand) (f : Facts places 
 
   -- what a thread with the whole weight, which holds nothing, knows
   module _ (whole : v.weight ≡ all) (free : v.hold ≡ Nothing) where
-    idle_else : (j : ℕ) (u : Hand) → j ≢ id → get_elem? w.hands j ≡ some u → IsIdle u
-    idle_else j u n there = let t = total_two weight_of w.hands id j v u (λ z. n (sym z)) at there in let s = f.shares in (f.each j u there).idle (omega arith)
+    idle_else : (j : ℕ) (u : View) → j ≢ id → get_elem? w.views j ≡ some u → IsIdle u
+    idle_else j u n there = let t = total_two weight_of w.views id j v u (λ z. n (sym z)) at there in let s = f.shares in (f.each j u there).idle (omega arith)
 
     -- a sum over all threads is its own part
-    sole : (g : Hand → ℕ) → ((u : Hand) → IsIdle u → g u ≡ 0) → total g w.hands ≡ g v
+    sole : (g : View → ℕ) → ((u : View) → IsIdle u → g u ≡ 0) → total g w.views ≡ g v
     sole g zero_idle =
-        let z = total_zero g (set w.hands id (new_hand places 0)) (λ j u there. ⊎_elim
-        (λ (t : (j ≡ id) × (new_hand places 0 ≡ u)). ap g (sym t.1) ∙ zero_idle (new_hand places 0) (refl, refl, refl, refl))
-        (λ (t : (j ≢ id) × (get_elem? w.hands j ≡ some u)). zero_idle u (idle_else j u t.0 t.1))
-        (at_set w.hands id j (new_hand places 0) u there))
+        let z = total_zero g (set w.views id (new_view places 0)) (λ j u there. ⊎_elim
+        (λ (t : (j ≡ id) × (new_view places 0 ≡ u)). ap g (sym t.1) ∙ zero_idle (new_view places 0) (refl, refl, refl, refl))
+        (λ (t : (j ≢ id) × (get_elem? w.views j ≡ some u)). zero_idle u (idle_else j u t.0 t.1))
+        (at_set w.views id j (new_view places 0) u there))
         in
-        let s = total_set g w.hands id v (new_hand places 0) at in
-        let o = zero_idle (new_hand places 0) (refl, refl, refl, refl) in
+        let s = total_set g w.views id v (new_view places 0) at in
+        let o = zero_idle (new_view places 0) (refl, refl, refl, refl) in
         omega arith
 
     pub whole_turn : w.turn ≡ 0
@@ -239,7 +239,7 @@ module _ (places all : ℕ) (w : World) (id : ℕ) (v : Hand) (f : Facts places 
 
     pub whole_live : w.live ≡ length v.taken % 2
     whole_live = let s = sole took_of (λ u i. let a : length u.taken ≡ 0 = ap length i.1 in let b : took_in u.hold ≡ 0 = ap took_in i.3 in omega arith) in let t : took_in v.hold ≡ 0 = ap took_in free in
-        let same_total : total took_of w.hands ≡ length v.taken = omega arith in f.swaps ∙ ap (λ (n : ℕ). n % 2) same_total
+        let same_total : total took_of w.views ≡ length v.taken = omega arith in f.swaps ∙ ap (λ (n : ℕ). n % 2) same_total
 
     pub whole_marks : (s i : ℕ) → s < 2 → i < places → get_or w.marks (spot places s i) 0 ≡ given_at w.live w.given s i
     whole_marks s i a b =

@@ -1,7 +1,7 @@
 // The calls that walk over the places.
 ghost use Rattle.std.specs.Prelude.{◌≡◌, ℕ, ◌+◌, ◌-◌, ◌*◌, ◌/◌, ◌%◌, ◌^◌, ◌<◌, ◌≤◌, ◌⊎◌, length, take, drop, map, replicate, slice_set, ◌≢◌, List, [], ◌∷◌, false, IfOk, OnOk, IfErr};
 ghost use Rattle.metrics_bucket.specs.Facts.{weigh, weigh_pushes, weigh_walks};
-ghost use Rattle.metrics_bucket.specs.declared.hand.Walk.{Walk};
+ghost use Rattle.metrics_bucket.specs.declared.view.Walk.{Walk};
 ghost use Rattle.metrics_bucket.specs.Places.{Reaches, Covers};
 ghost use Rattle.std.specs.List.{FoldsTo};
 ghost use Rattle.std.specs.Fn.{CalledAt};
@@ -9,19 +9,19 @@ ghost use Rattle.metrics_bucket.specs.Blocks.{valued, newest_first};
 ghost use Rattle.metrics.specs.Book.{blocks};
 ghost use mathlib.Core.Option.{some};
 ghost use lib.ListN.{get_elem?};
-ghost use Rattle.metrics_bucket.specs.World.{holding, with_read, put_cell, side_of, cells_of, values_in};
-ghost use Rattle.metrics_bucket.specs.History.{HasCell, CanQuit, turn_at};
-ghost use Rattle.metrics_bucket.specs.Account.{read_account};
-ghost use Rattle.metrics_bucket.specs.ReadChunks.{Reads, has_read, surveying, IsFree};
+ghost use Rattle.metrics_bucket.specs.BucketState.{holding, with_read, put_visit, side_of, visits_of, values_in};
+ghost use Rattle.metrics_bucket.specs.History.{HasVisit, CanQuit, turn_at};
+ghost use Rattle.metrics_bucket.specs.Account.{IsRead};
+ghost use Rattle.metrics_bucket.specs.ReadChunks.{Reads, has_read, looked_to_read, IsFree};
 ghost use Rattle.metrics_bucket.specs.Chunks.{AreUnseen};
-ghost use Rattle.metrics_bucket.specs.declared.hand.Hold.TheVariants.{Nothing, Reading};
-ghost use Rattle.metrics_bucket.specs.declared.hand.Cell.TheVariants.{Unseen, Marked, Read};
+ghost use Rattle.metrics_bucket.specs.declared.view.Hold.TheVariants.{Nothing, Reading};
+ghost use Rattle.metrics_bucket.specs.declared.view.Visit.TheVariants.{Unseen, Marked, Read};
 
 use crate::bucket::{BLOCK_SIZE, RuledBucket};
 use crate::gathered::Gathered;
-use crate::hand::{Hand, Turn};
+use crate::view::{View, Turn};
 use crate::pen::Pen;
-use crate::plays::{Claim, Leave, Quit, ReadOne, Survey};
+use crate::steps::{ClaimTurn, LeaveTurn, GiveTurnBack, ReadValue, LookToRead};
 use crate::sample::Sample;
 use crate::visitor::{Shown, Visitor};
 use atomic_table::Seat;
@@ -31,15 +31,15 @@ use std::sync::Wait;
 
 impl<T: Sample> RuledBucket<T> {
     // Waits for the value of a place, and reads it.
-    fn read_place<R: Wait>(&self, rt: &R, seat: &mut Seat<Turn, Hand>, side: usize, at: usize) -> T
+    fn read_place<R: Wait>(&self, rt: &R, seat: &mut Seat<Turn, View>, side: usize, at: usize) -> T
         requires home { (seat.old.table_id ≡ self.now.table) × (seat.old.me.0.places ≡ self.now.places) × (0 < seat.old.me.0.weight) }
-        requires hold { (side < 2) × (at < self.now.places) × (seat.old.me.0.hold ≡ Reading side (cells_of seat.old.me.0.hold)) }
-        requires cell { get_elem? (cells_of seat.old.me.0.hold) at ≡ some Unseen }
-        ensures { (x : ℕ) × (result ≡ T.value x) × (seat.new.table_id ≡ seat.old.table_id) × (seat.new.me ≡ (holding seat.old.me.0 (Reading side (slice_set (cells_of seat.old.me.0.hold) at (Read x))), seat.old.me.1)) }
+        requires hold { (side < 2) × (at < self.now.places) × (seat.old.me.0.hold ≡ Reading side (visits_of seat.old.me.0.hold)) }
+        requires visit { get_elem? (visits_of seat.old.me.0.hold) at ≡ some Unseen }
+        ensures { (x : ℕ) × (result ≡ T.value x) × (seat.new.table_id ≡ seat.old.table_id) × (seat.new.me ≡ (holding seat.old.me.0 (Reading side (slice_set (visits_of seat.old.me.0.hold) at (Read x))), seat.old.me.1)) }
     {
         self.wait_for(rt, seat, side, at);
         let spot = self.spot(side, at);
-        let bits = self.table.shared.load::<ReadOne>(seat, 2 + spot);
+        let bits = self.table.shared.load::<ReadValue>(seat, 2 + spot);
         T::of_word(bits)
     }
 
@@ -47,18 +47,18 @@ impl<T: Sample> RuledBucket<T> {
     fn read_chunk<R: Wait>(
         &self,
         rt: &R,
-        seat: &mut Seat<Turn, Hand>,
+        seat: &mut Seat<Turn, View>,
         side: usize,
         start: usize,
         end: usize,
         room: &mut [T],
     )
         requires home { (seat.old.table_id ≡ self.now.table) × (seat.old.me.0.places ≡ self.now.places) × (0 < seat.old.me.0.weight) }
-        requires hold { (side < 2) × (end ≤ self.now.places) × (seat.old.me.0.hold ≡ Reading side (cells_of seat.old.me.0.hold)) }
+        requires hold { (side < 2) × (end ≤ self.now.places) × (seat.old.me.0.hold ≡ Reading side (visits_of seat.old.me.0.hold)) }
         requires part { (start ≤ end) × (end - start ≤ length room.old) }
-        requires cells { AreUnseen start end (cells_of seat.old.me.0.hold) }
+        requires visits { AreUnseen start end (visits_of seat.old.me.0.hold) }
         ensures seat { (seat.new.table_id ≡ seat.old.table_id) × Reads seat.old.me seat.new.me side start end }
-        ensures room { take (end - start) room.new ≡ map T.value (take (end - start) (drop start (values_in (cells_of seat.new.me.0.hold)))) }
+        ensures room { take (end - start) room.new ≡ map T.value (take (end - start) (drop start (values_in (visits_of seat.new.me.0.hold)))) }
     {
         for at in start..end {
             room[at - start] = self.read_place(rt, seat, side, at);
@@ -69,7 +69,7 @@ impl<T: Sample> RuledBucket<T> {
     fn read_side<R: Wait, V: Visitor<T>>(
         &self,
         rt: &R,
-        seat: &mut Seat<Turn, Hand>,
+        seat: &mut Seat<Turn, View>,
         side: usize,
         given: usize,
         visitor: &mut V,
@@ -79,7 +79,8 @@ impl<T: Sample> RuledBucket<T> {
         requires size { given < 2 ^ 60 }
         requires call { V.ready visitor.old }
         ensures seat { (seat.new.table_id ≡ seat.old.table_id) × Reads seat.old.me seat.new.me side 0 given }
-        ensures calls { FoldsTo V.saw visitor.old (valued T.value (newest_first (values_in (cells_of seat.new.me.0.hold)))) visitor.new }
+        ensures calls { FoldsTo V.saw visitor.old (valued T.value (newest_first (values_in (visits_of seat.new.me.0.hold)))) visitor.new }
+        ensures ready { V.ready visitor.new }
     {
         let mut room = [T::of_word(0); BLOCK_SIZE];
         let mut chunks = (given + (BLOCK_SIZE - 1)) / BLOCK_SIZE;
@@ -93,34 +94,34 @@ impl<T: Sample> RuledBucket<T> {
     }
 
     // Claims the turn, and looks how many places were given: answers the control word.
-    fn survey_seat(&self, seat: &mut Seat<Turn, Hand>) -> Result<u64, Error>
+    fn claim_and_look(&self, seat: &mut Seat<Turn, View>) -> Result<u64, Error>
         requires home { (seat.old.table_id ≡ self.now.table) × (seat.old.me.0.places ≡ self.now.places) × (0 < seat.old.me.0.weight) }
         requires hold { (seat.old.me.0.hold ≡ Nothing) × (seat.old.me.1 ≡ []) }
         ensures table { seat.new.table_id ≡ seat.old.table_id }
-        ensures ok { IfOk result (λ r. (e : ℕ) × (n : ℕ) × (seat.new.me ≡ (surveying seat.old.me.0 e n r, (0, turn_at n) ∷ [])) × (r / 2 ≤ self.now.places) × Reaches seat.old.me.0.pushed e (r / 2) × (seat.old.me.0.weight ≡ 1024 → e ≡ length seat.old.me.0.taken)) }
+        ensures ok { IfOk result (λ r. (e : ℕ) × (n : ℕ) × (seat.new.me ≡ (looked_to_read seat.old.me.0 e n r, (0, turn_at n) ∷ [])) × (r / 2 ≤ self.now.places) × Reaches seat.old.me.0.pushed e (r / 2) × (seat.old.me.0.weight ≡ 1024 → e ≡ length seat.old.me.0.taken)) }
         ensures err { IfErr result (λ e. (seat.new.me ≡ seat.old.me) × (e ≡ Error.Busy) × (seat.old.me.0.weight ≢ 1024)) }
     {
         let shared = &self.table.shared;
-        if shared.compare_exchange::<Claim>(seat, 1, 0, 1) != 0 {
+        if shared.compare_exchange::<ClaimTurn>(seat, 1, 0, 1) != 0 {
             return Err(Error::Busy);
         }
-        Ok(shared.load::<Survey>(seat, 0))
+        Ok(shared.load::<LookToRead>(seat, 0))
     }
 
     // Gives the turn back, and has read nothing.
-    fn quit_seat(&self, seat: &mut Seat<Turn, Hand>)
+    fn give_turn_back(&self, seat: &mut Seat<Turn, View>)
         requires home { (seat.old.table_id ≡ self.now.table) × (0 < seat.old.me.0.weight) }
         requires hold { CanQuit seat.old.me.0.hold × (seat.old.me.1 ≡ (0, turn_at seat.old.me.0.turn) ∷ []) }
         ensures { (seat.new.table_id ≡ seat.old.table_id) × (seat.new.me ≡ (holding seat.old.me.0 Nothing, [])) }
     {
-        self.table.shared.store::<Quit>(seat, 1, 0);
+        self.table.shared.store::<GiveTurnBack>(seat, 1, 0);
     }
 
     // Reads what was surveyed, and leaves.
-    fn read_seat<R: Wait, V: Visitor<T>>(
+    fn read_and_leave<R: Wait, V: Visitor<T>>(
         &self,
         rt: &R,
-        seat: &mut Seat<Turn, Hand>,
+        seat: &mut Seat<Turn, View>,
         control: u64,
         visitor: &mut V,
     )
@@ -131,38 +132,41 @@ impl<T: Sample> RuledBucket<T> {
         requires call { V.ready visitor.old }
         ensures table { seat.new.table_id ≡ seat.old.table_id }
         ensures read { (w : Walk) × (length w.values ≡ control / 2) × (seat.new.me ≡ (with_read seat.old.me.0 w, [])) × (w.epoch ≡ seat.old.me.0.epoch) × Covers seat.old.me.0.pushed w × (seat.old.me.0.weight ≡ 1024 → (h : ℕ → ℕ) → weigh_pushes h seat.old.me.0.pushed ≡ weigh h w.values + weigh_walks h seat.old.me.0.taken) × FoldsTo V.saw visitor.old (valued T.value (newest_first w.values)) visitor.new }
+        ensures ready { V.ready visitor.new }
     {
         let shared = &self.table.shared;
         let given = (control / 2) as usize;
         self.read_side(rt, seat, (control % 2) as usize, given, visitor);
         self.count_walk(seat);
-        shared.store::<Leave>(seat, 1, 0);
+        shared.store::<LeaveTurn>(seat, 1, 0);
     }
 
-    fn show_seat<R: Wait, F: FnMut(&[T])>(
+    // Reads all places that were given, and shows the values to the visitor.
+    fn show_to<R: Wait, V: Visitor<T>>(
         &self,
         rt: &R,
-        seat: &mut Seat<Turn, Hand>,
-        f: F,
+        seat: &mut Seat<Turn, View>,
+        visitor: &mut V,
     ) -> Result<usize, Error>
         requires home { (seat.old.table_id ≡ self.now.table) × (seat.old.me.0.places ≡ self.now.places) × (0 < seat.old.me.0.weight) }
         requires hold { (seat.old.me.0.hold ≡ Nothing) × (seat.old.me.1 ≡ []) }
-        requires call { F.IsAlwaysCallable f }
+        requires call { V.ready visitor.old }
         ensures table { seat.new.table_id ≡ seat.old.table_id }
-        ensures ok { IfOk result (λ n. (w : Walk) × (k : ℕ) × (length w.values ≡ n) × (seat.new.me ≡ (has_read seat.old.me.0 k w, [])) × Covers seat.old.me.0.pushed w × (seat.old.me.0.weight ≡ 1024 → w.epoch ≡ length seat.old.me.0.taken) × (seat.old.me.0.weight ≡ 1024 → (h : ℕ → ℕ) → weigh_pushes h seat.old.me.0.pushed ≡ weigh h w.values + weigh_walks h seat.old.me.0.taken) × ((last : F) × FoldsTo (λ p x q. CalledAt F.FnMut p x tt q) f (valued T.value (newest_first w.values)) last)) }
-        ensures err { IfErr result (λ e. (seat.new.me ≡ seat.old.me) × (e ≡ Error.Busy) × (seat.old.me.0.weight ≢ 1024)) }
+        ensures ok { IfOk result (λ n. (w : Walk) × (k : ℕ) × (length w.values ≡ n) × (seat.new.me ≡ (has_read seat.old.me.0 k w, [])) × Covers seat.old.me.0.pushed w × (seat.old.me.0.weight ≡ 1024 → w.epoch ≡ length seat.old.me.0.taken) × (seat.old.me.0.weight ≡ 1024 → (h : ℕ → ℕ) → weigh_pushes h seat.old.me.0.pushed ≡ weigh h w.values + weigh_walks h seat.old.me.0.taken) × FoldsTo V.saw visitor.old (valued T.value (newest_first w.values)) visitor.new) }
+        ensures count { IfOk result (λ n. n ≤ self.now.places) }
+        ensures ready { V.ready visitor.new }
+        ensures err { IfErr result (λ e. (seat.new.me ≡ seat.old.me) × (visitor.new ≡ visitor.old) × (e ≡ Error.Busy) × (seat.old.me.0.weight ≢ 1024)) }
     {
-        let control = self.survey_seat(seat)?;
-        let mut shown = Shown { f };
-        self.read_seat(rt, seat, control, &mut shown);
+        let control = self.claim_and_look(seat)?;
+        self.read_and_leave(rt, seat, control, visitor);
         Ok((control / 2) as usize)
     }
 
-    fn gather_seat<R: Wait>(
+    fn gather_values<R: Wait>(
         &self,
         rt: &R,
         alloc: Global,
-        seat: &mut Seat<Turn, Hand>,
+        seat: &mut Seat<Turn, View>,
     ) -> Result<Vec<T>, Error>
         requires home { (seat.old.table_id ≡ self.now.table) × (seat.old.me.0.places ≡ self.now.places) × (0 < seat.old.me.0.weight) }
         requires hold { (seat.old.me.0.hold ≡ Nothing) × (seat.old.me.1 ≡ []) }
@@ -170,13 +174,13 @@ impl<T: Sample> RuledBucket<T> {
         ensures ok { IfOk result (λ v. (w : Walk) × (k : ℕ) × (v.items ≡ map T.value (blocks w.values)) × (seat.new.me ≡ (has_read seat.old.me.0 k w, [])) × Covers seat.old.me.0.pushed w × (seat.old.me.0.weight ≡ 1024 → w.epoch ≡ length seat.old.me.0.taken) × (seat.old.me.0.weight ≡ 1024 → (h : ℕ → ℕ) → weigh_pushes h seat.old.me.0.pushed ≡ weigh h w.values + weigh_walks h seat.old.me.0.taken)) }
         ensures err { IfErr result (λ e. IsFree seat.old.me seat.new.me × ((e ≡ Error.Memory) ⊎ ((e ≡ Error.Busy) × (seat.old.me.0.weight ≢ 1024)))) }
     {
-        let control = self.survey_seat(seat)?;
+        let control = self.claim_and_look(seat)?;
         let Ok(values) = Vec::with_capacity(alloc, (control / 2) as usize) else {
-            self.quit_seat(seat);
+            self.give_turn_back(seat);
             return Err(Error::Memory);
         };
         let mut gathered = Gathered { values };
-        self.read_seat(rt, seat, control, &mut gathered);
+        self.read_and_leave(rt, seat, control, &mut gathered);
         Ok(gathered.values)
     }
 
@@ -184,10 +188,28 @@ impl<T: Sample> RuledBucket<T> {
     pub fn data_as<R: Wait>(&self, rt: &R, alloc: Global, pen: &mut Pen) -> Result<Vec<T>, Error>
         requires own { pen.old.home ≡ self.now }
         requires free { pen.old.ticket ≡ false }
-        ensures ok { IfOk result (λ v. (w : Walk) × (v.items ≡ map T.value (blocks w.values)) × (pen.new ≡ read_account pen.old w) × Covers pen.old.pushed w × (pen.old.weight ≡ 1024 → w.epoch ≡ length pen.old.taken) × (pen.old.weight ≡ 1024 → (h : ℕ → ℕ) → weigh_pushes h pen.old.pushed ≡ weigh h w.values + weigh_walks h pen.old.taken)) }
+        ensures ok { IfOk result (λ v. (walk : Walk) × (v.items ≡ map T.value (blocks walk.values)) × IsRead pen.old walk pen.new) }
         ensures err { IfErr result (λ e. (pen.new ≡ pen.old) × ((e ≡ Error.Memory) ⊎ ((e ≡ Error.Busy) × (pen.old.weight ≢ 1024)))) }
     {
-        self.gather_seat(rt, alloc, &mut pen.seat)
+        self.gather_values(rt, alloc, &mut pen.seat)
+    }
+
+    /// Reads all values that were pushed and not taken, and shows them to the visitor in chunks, the newest first.
+    pub fn data_to_as<R: Wait, V: Visitor<T>>(
+        &self,
+        rt: &R,
+        pen: &mut Pen,
+        visitor: &mut V,
+    ) -> Result<usize, Error>
+        requires own { pen.old.home ≡ self.now }
+        requires free { pen.old.ticket ≡ false }
+        requires call { V.ready visitor.old }
+        ensures ok { IfOk result (λ n. (walk : Walk) × (length walk.values ≡ n) × IsRead pen.old walk pen.new × FoldsTo V.saw visitor.old (valued T.value (newest_first walk.values)) visitor.new) }
+        ensures count { IfOk result (λ n. n ≤ self.now.places) }
+        ensures ready { V.ready visitor.new }
+        ensures err { IfErr result (λ e. (pen.new ≡ pen.old) × (visitor.new ≡ visitor.old) × (e ≡ Error.Busy) × (pen.old.weight ≢ 1024)) }
+    {
+        self.show_to(rt, &mut pen.seat, visitor)
     }
 
     /// Reads all values that were pushed and not taken, and shows them to `f` in chunks, the newest first.
@@ -200,9 +222,10 @@ impl<T: Sample> RuledBucket<T> {
         requires own { pen.old.home ≡ self.now }
         requires free { pen.old.ticket ≡ false }
         requires call { F.IsAlwaysCallable f }
-        ensures ok { IfOk result (λ n. (w : Walk) × (length w.values ≡ n) × (pen.new ≡ read_account pen.old w) × Covers pen.old.pushed w × (pen.old.weight ≡ 1024 → w.epoch ≡ length pen.old.taken) × (pen.old.weight ≡ 1024 → (h : ℕ → ℕ) → weigh_pushes h pen.old.pushed ≡ weigh h w.values + weigh_walks h pen.old.taken) × ((last : F) × FoldsTo (λ p x q. CalledAt F.FnMut p x tt q) f (valued T.value (newest_first w.values)) last)) }
+        ensures ok { IfOk result (λ n. (walk : Walk) × (length walk.values ≡ n) × IsRead pen.old walk pen.new × ((last : F) × FoldsTo (λ p x q. CalledAt F.FnMut p x tt q) f (valued T.value (newest_first walk.values)) last)) }
         ensures err { IfErr result (λ e. (pen.new ≡ pen.old) × (e ≡ Error.Busy) × (pen.old.weight ≢ 1024)) }
     {
-        self.show_seat(rt, &mut pen.seat, f)
+        let mut shown = Shown { f };
+        self.data_to_as(rt, pen, &mut shown)
     }
 }

@@ -1,6 +1,6 @@
 use Rattle.std.proofs.Common.{rules, ◌≡◌, ◌+◌, ◌*◌, arith}
 use Rattle.metrics_bucket.proofs.AllowedWalks.{quits_turn}
-use Rattle.metrics_bucket.proofs.bucket.RuledBucket.quit_seat.Goals as goal
+use Rattle.metrics_bucket.proofs.bucket.RuledBucket.give_turn_back.Goals as goal
 
 pub store-requires : goal.store-requires
 store-requires g c =
