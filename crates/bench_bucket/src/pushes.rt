@@ -1,0 +1,163 @@
+//! Pushes, by one thread and by four.
+ghost use Rattle.std.specs.Prelude.{◌≡◌, false};
+
+use crate::{Bench, taken};
+use anyhow::Result;
+use metrics_bucket::{Pen, RuledBucket};
+use std::alloc::Global;
+use std::sync::Wait;
+use std::thread::{Threads, join};
+
+/// A bucket of 65,536 places beside its pen.
+#[derive(Drop)]
+pub struct Pushes {
+    bucket: RuledBucket<i64>,
+    pen: Pen,
+    ghost own: { pen.home ≡ bucket },
+    ghost free: { pen.ticket ≡ false },
+}
+
+/// Pushes the values from `from` on, below `end`, and counts those that were refused.
+fn push_run<R: Wait>(
+    rt: &R,
+    bucket: &RuledBucket<i64>,
+    mut pen: Pen,
+    from: i64,
+    end: i64,
+) -> (Pen, u64)
+    requires { (pen.home ≡ bucket.now) × (pen.ticket ≡ false) }
+    ensures { (result.0.home ≡ pen.home) × (result.0.ticket ≡ false) }
+{
+    let mut refused = 0u64;
+    for value in from..end {
+        if bucket.push_as(rt, &mut pen, value).is_err() {
+            refused = refused.wrapping_add(1);
+        }
+    }
+    (pen, refused)
+}
+
+impl Pushes {
+    pub fn new(alloc: Global) -> Result<Pushes> {
+        let (bucket, pen) = taken(RuledBucket::new(alloc, 1024))?;
+        Ok(Pushes { bucket, pen })
+    }
+}
+
+impl Bench for Pushes {
+    fn prepare<R: Wait>(self, rt: &R) -> Result<Pushes> {
+        let Pushes { bucket, mut pen } = self;
+        taken(bucket.clear_as(rt, &mut pen))?;
+        Ok(Pushes { bucket, pen })
+    }
+
+    fn walk<R: Threads + Wait + Sync>(self, rt: &R) -> Result<(Pushes, u64)> {
+        let Pushes { bucket, pen } = self;
+        let (pen, refused) = push_run(rt, &bucket, pen, 0, 65_536);
+        Ok((Pushes { bucket, pen }, refused))
+    }
+}
+
+/// A bucket of 65,536 places beside four pens.
+#[derive(Drop)]
+pub struct PushesOfFour {
+    bucket: RuledBucket<i64>,
+    first: Pen,
+    second: Pen,
+    third: Pen,
+    fourth: Pen,
+    ghost own: { (first.home ≡ bucket) × (second.home ≡ bucket) × (third.home ≡ bucket) × (fourth.home ≡ bucket) },
+    ghost free: { (first.ticket ≡ false) × (second.ticket ≡ false) × (third.ticket ≡ false) × (fourth.ticket ≡ false) },
+}
+
+/// Two threads push 16,384 values each.
+fn push_in_two<R: Threads + Wait + Sync>(
+    rt: &R,
+    bucket: &RuledBucket<i64>,
+    one: Pen,
+    other: Pen,
+) -> (Pen, Pen, u64)
+    requires one { (one.home ≡ bucket.now) × (one.ticket ≡ false) }
+    requires other { (other.home ≡ bucket.now) × (other.ticket ≡ false) }
+    ensures one { (result.0.home ≡ bucket.now) × (result.0.ticket ≡ false) }
+    ensures other { (result.1.home ≡ bucket.now) × (result.1.ticket ≡ false) }
+{
+    let ((one, a), (other, b)) = join(
+        rt,
+        || -> (Pen, u64)
+            requires { (one.home ≡ bucket.now) × (one.ticket ≡ false) }
+            ensures { (result.0.home ≡ one.home) × (result.0.ticket ≡ false) }
+        { push_run(rt, bucket, one, 0, 16_384) },
+        || -> (Pen, u64)
+            requires { (other.home ≡ bucket.now) × (other.ticket ≡ false) }
+            ensures { (result.0.home ≡ other.home) × (result.0.ticket ≡ false) }
+        { push_run(rt, bucket, other, 0, 16_384) },
+    );
+    (one, other, a.wrapping_add(b))
+}
+
+impl PushesOfFour {
+    pub fn new(alloc: Global) -> Result<PushesOfFour> {
+        let (bucket, mut first) = taken(RuledBucket::new(alloc, 1024))?;
+        let second = taken(first.split())?;
+        let third = taken(first.split())?;
+        let fourth = taken(first.split())?;
+        Ok(PushesOfFour {
+            bucket,
+            first,
+            second,
+            third,
+            fourth,
+        })
+    }
+}
+
+impl Bench for PushesOfFour {
+    fn prepare<R: Wait>(self, rt: &R) -> Result<PushesOfFour> {
+        let PushesOfFour {
+            bucket,
+            mut first,
+            second,
+            third,
+            fourth,
+        } = self;
+        taken(bucket.clear_as(rt, &mut first))?;
+        Ok(PushesOfFour {
+            bucket,
+            first,
+            second,
+            third,
+            fourth,
+        })
+    }
+
+    fn walk<R: Threads + Wait + Sync>(self, rt: &R) -> Result<(PushesOfFour, u64)> {
+        let PushesOfFour {
+            bucket,
+            first,
+            second,
+            third,
+            fourth,
+        } = self;
+        let shared = &bucket;
+        let ((first, second, a), (third, fourth, b)) = join(
+            rt,
+            || -> (Pen, Pen, u64)
+                requires { (first.home ≡ shared.now) × (first.ticket ≡ false) × (second.home ≡ shared.now) × (second.ticket ≡ false) }
+                ensures { (result.0.home ≡ first.home) × (result.0.ticket ≡ false) × (result.1.home ≡ second.home) × (result.1.ticket ≡ false) }
+            { push_in_two(rt, shared, first, second) },
+            || -> (Pen, Pen, u64)
+                requires { (third.home ≡ shared.now) × (third.ticket ≡ false) × (fourth.home ≡ shared.now) × (fourth.ticket ≡ false) }
+                ensures { (result.0.home ≡ third.home) × (result.0.ticket ≡ false) × (result.1.home ≡ fourth.home) × (result.1.ticket ≡ false) }
+            { push_in_two(rt, shared, third, fourth) },
+        );
+        let bench = PushesOfFour {
+            bucket,
+            first,
+            second,
+            third,
+            fourth,
+        };
+        Ok((bench, a.wrapping_add(b)))
+    }
+}

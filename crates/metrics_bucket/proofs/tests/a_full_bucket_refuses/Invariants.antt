@@ -1,5 +1,0 @@
-use Rattle.std.proofs.Common.{◌≡◌, false}
-use Rattle.metrics_bucket.proofs.tests.a_full_bucket_refuses.Given as goal
-
-abbrev pub invariant-loop-i : goal.invariant-loop-i
-invariant-loop-i g l = (l.pen.home ≡ l.initial.pen.home) × (l.pen.weight ≡ l.initial.pen.weight) × (l.pen.ticket ≡ false)
