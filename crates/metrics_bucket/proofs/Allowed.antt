@@ -13,14 +13,14 @@ use Rattle.metrics_bucket.specs.declared.view.Push.{Push}
 use Rattle.metrics_bucket.specs.declared.view.Turn.{Turn}
 use Rattle.metrics_bucket.specs.declared.view.Hold.{Hold}
 use Rattle.metrics_bucket.specs.declared.view.Hold.TheVariants.{Nothing, Ticket, Written, Settling}
-use Rattle.metrics_bucket.specs.BucketState.{BucketState, base, spot, words_of, live_values, new_view, whole_view, holding, holding_at, pushing, total, walks_of, walks_made, Act, ticket, write, finish, look_to_settle, split, join, state_after, left_part, right_part, both_parts}
+use Rattle.metrics_bucket.specs.BucketState.{BucketState, base, place_index, words_of, live_values, new_view, whole_view, holding, holding_at, pushing, total, walks_of, walks_made, Act, ticket, write, finish, look_to_settle, split, join, state_after, left_part, right_part, both_parts}
 use Rattle.metrics_bucket.specs.Facts.{weigh, weigh_pushes, weight_of, HoldFits, Facts}
 use Rattle.metrics_bucket.specs.Steps.{Seated, IsControl, control_looked, ticket_drawn, value_written, push_finished, live_side_looked, settled_value_looked}
 use Rattle.metrics_bucket.specs.History.{May, opened, turn_at, at_home, homes_of, FollowsHistory}
 use Rattle.metrics_bucket.proofs.PlacedAlways.{placed}
 use Rattle.metrics_bucket.proofs.Covering.{covers}
 use Rattle.metrics_bucket.proofs.Histories.{runs_on, facts}
-use Rattle.metrics_bucket.proofs.Sums.{total_one, total_set, total_snoc, spot_below}
+use Rattle.metrics_bucket.proofs.Sums.{total_one, total_set, total_snoc, index_below}
 use Rattle.metrics_bucket.proofs.Leaving.{whole_live, learns, learns_reads}
 use Rattle.metrics_bucket.proofs.Shares.{zeros}
 
@@ -184,7 +184,7 @@ module _ (places : ℕ) where
         ((λ hit. absurd (miss hit)), (λ _. refl), whole_control s k id me.0 at free),
       ))
 
-  pub puts : (slots id : ℕ) (me : Seated) (word x s i : ℕ) → 0 < me.0.weight → me.0.hold ≡ Ticket s i → word ≡ 2 + spot places s i
+  pub puts : (slots id : ℕ) (me : Seated) (word x s i : ℕ) → 0 < me.0.weight → me.0.hold ≡ Ticket s i → word ≡ 2 + place_index places s i
       → Allows (FollowsHistory places) slots id me word (λ _. x) (λ _. value_written (step slots word x 0 none) me x)
   puts slots id me word x s i has e is st k _ at _ =
       let w : BucketState = k.1 in
@@ -192,29 +192,29 @@ module _ (places : ℕ) where
       let u : View = holding me.0 (Written s i x) in
       let fits : HoldFits places 1024 w me.0.weight (Ticket s i) = subst (HoldFits places 1024 w me.0.weight) e ((facts places st k).each id me.0 there).hold in
       let long = (facts places st k).values_long in
-      let in_range = spot_below places s i fits.1 in
-      let same_word : word ≡ suc (suc (spot places s i)) = omega arith in (
+      let in_range = index_below places s i fits.1 in
+      let same_word : word ≡ suc (suc (place_index places s i)) = omega arith in (
         u,
         keeps,
         tt,
         moved st k word x id me.1 me.0 u (write s i x) there has e
-            (sym (ap (λ (z : ℕ). set (words_of w) z x) same_word ∙ ap (λ (l : List ℕ). (2 * w.given + w.live) ∷ w.turn ∷ l) (set_left w.values w.marks (spot places s i) x (omega arith)))) refl refl refl,
+            (sym (ap (λ (z : ℕ). set (words_of w) z x) same_word ∙ ap (λ (l : List ℕ). (2 * w.given + w.live) ∷ w.turn ∷ l) (set_left w.values w.marks (place_index places s i) x (omega arith)))) refl refl refl,
         λ s' i' e'. ap (λ (z : Hold). (holding me.0 (written z x), me.1)) (sym e ∙ e'),
       )
 
-  pub marks : (slots id : ℕ) (me : Seated) (word s i x : ℕ) → 0 < me.0.weight → me.0.hold ≡ Written s i x → word ≡ 2 + (places + places) + spot places s i
+  pub marks : (slots id : ℕ) (me : Seated) (word s i x : ℕ) → 0 < me.0.weight → me.0.hold ≡ Written s i x → word ≡ 2 + (places + places) + place_index places s i
       → Allows (FollowsHistory places) slots id me word (λ _. 1) (λ _. push_finished (step slots word 1 0 none) me 1)
   marks slots id me word s i x has e is st k _ at _ =
       let w : BucketState = k.1 in
       let there = seated st k id me.0 at in
       let u : View = pushing me.0 i x in
       let long = (facts places st k).values_long in
-      let same_word : word ≡ suc (suc ((places + places) + spot places s i)) = omega arith in (
+      let same_word : word ≡ suc (suc ((places + places) + place_index places s i)) = omega arith in (
         u,
         keeps,
         tt,
         moved st k word 1 id me.1 me.0 u (finish s i x) there has e
-            (sym (ap (λ (z : ℕ). set (words_of w) z 1) same_word ∙ ap (λ (l : List ℕ). (2 * w.given + w.live) ∷ w.turn ∷ l) (set_right w.values w.marks ((places + places) + spot places s i) (spot places s i) 1 (omega arith)))) refl refl refl,
+            (sym (ap (λ (z : ℕ). set (words_of w) z 1) same_word ∙ ap (λ (l : List ℕ). (2 * w.given + w.live) ∷ w.turn ∷ l) (set_right w.values w.marks ((places + places) + place_index places s i) (place_index places s i) 1 (omega arith)))) refl refl refl,
         λ s' i' x' e'. ap (λ (z : Hold). (pushing me.0 (place_of z) (value_of z), me.1)) (sym e ∙ e'),
       )
 
@@ -259,11 +259,11 @@ module _ (places : ℕ) where
               let n' : length vs ≡ length (live_values places w) = ap length fits.2 in
               let room = (facts places s k).room in
               let long = (facts places s k).values_long in
-              let in_range = spot_below places w.live i (omega arith) in
-              let same_word : word ≡ suc (suc (spot places w.live i)) = (let a : spot me.0.places side i ≡ spot places w.live i = (λ z. spot (size z) (fits.1 z) i) in omega arith) in
+              let in_range = index_below places w.live i (omega arith) in
+              let same_word : word ≡ suc (suc (place_index places w.live i)) = (let a : place_index me.0.places side i ≡ place_index places w.live i = (λ z. place_index (size z) (fits.1 z) i) in omega arith) in
               ap (λ (l : List ℕ). get_or l word 0) (sym k.3)
               ∙ (ap (λ (z : ℕ). get_or (words_of w) z 0) same_word
-              ∙ (get_left w.values w.marks (spot places w.live i) (omega arith)
+              ∙ (get_left w.values w.marks (place_index places w.live i) (omega arith)
               ∙ (sym (get_take_drop w.values (base places w.live) w.given i (omega arith)) ∙ sym (ap (λ (z : List ℕ). get_or z i 0) fits.2)))),
         ),
       )

@@ -14,12 +14,12 @@ use Rattle.metrics_bucket.specs.declared.view.Hold.{Hold}
 use Rattle.metrics_bucket.specs.declared.view.Hold.TheVariants.{Nothing, Ticket, Written, Claimed, SideKnown, Reading, Clearing, Settling}
 use Rattle.metrics_bucket.specs.declared.view.Visit.{Visit}
 use Rattle.metrics_bucket.specs.declared.view.Visit.TheVariants.{Unseen, Marked, Read, Wiped}
-use Rattle.metrics_bucket.specs.BucketState.{BucketState, base, other, spot, words_of, live_values, total, walk, walks_of, walks_made, holding, holding_at, claiming, leaving, left_from, put_visit, side_of, value_in, values_in, Act, claim, look_to_read, look_to_clear, takes, see, read, wipe, leave, quit, state_after}
+use Rattle.metrics_bucket.specs.BucketState.{BucketState, base, other, place_index, words_of, live_values, total, walk, walks_of, walks_made, holding, holding_at, claiming, leaving, left_from, put_visit, side_of, value_in, values_in, Act, claim, look_to_read, look_to_clear, takes, see, read, wipe, leave, quit, state_after}
 use Rattle.metrics_bucket.specs.Facts.{weigh, weigh_pushes, weigh_walks, turn_in, took_in, VisitFits, HoldFits, Facts}
 use Rattle.metrics_bucket.specs.Steps.{Seated}
 use Rattle.metrics_bucket.specs.History.{HasVisit, CanLeave, CanQuit, May, turn_at, at_home, homes_of, FollowsHistory}
 use Rattle.metrics_bucket.specs.WalkSteps.{IsValueOf, IsMarkOf, turn_claimed, reading_looked, clear_looked, side_taken, mark_looked, value_read, mark_wiped, turn_left, turn_given_back, IsClearing}
-use Rattle.metrics_bucket.proofs.Sums.{total_set, spot_below}
+use Rattle.metrics_bucket.proofs.Sums.{total_set, index_below}
 use Rattle.metrics_bucket.proofs.Keep.{at_below, other_side}
 use Rattle.metrics_bucket.proofs.Visits.{values_are}
 use Rattle.metrics_bucket.proofs.Leaving.{whole_turn, learns}
@@ -206,16 +206,16 @@ module _ (places : ℕ) where
     side = side_of me.0.hold
 
     -- the place by its mark's word and by its value's word
-    mark_is : (s : TableState) (k : FollowsHistory places s) → get_elem? s.views id ≡ some me.0 → IsMarkOf me.0 word i → word ≡ suc (suc ((places + places) + spot places side i))
+    mark_is : (s : TableState) (k : FollowsHistory places s) → get_elem? s.views id ≡ some me.0 → IsMarkOf me.0 word i → word ≡ suc (suc ((places + places) + place_index places side i))
     mark_is s k at is =
         let size = ((facts places s k).each id me.0 (seated places s k id me.0 at)).size has in
-        let a : 2 + (me.0.places + me.0.places) + spot me.0.places side i ≡ 2 + (places + places) + spot places side i = (λ z. 2 + (size z + size z) + spot (size z) side i) in
+        let a : 2 + (me.0.places + me.0.places) + place_index me.0.places side i ≡ 2 + (places + places) + place_index places side i = (λ z. 2 + (size z + size z) + place_index (size z) side i) in
         omega arith
 
-    value_is : (s : TableState) (k : FollowsHistory places s) → get_elem? s.views id ≡ some me.0 → IsValueOf me.0 word i → word ≡ suc (suc (spot places side i))
+    value_is : (s : TableState) (k : FollowsHistory places s) → get_elem? s.views id ≡ some me.0 → IsValueOf me.0 word i → word ≡ suc (suc (place_index places side i))
     value_is s k at is =
         let size = ((facts places s k).each id me.0 (seated places s k id me.0 at)).size has in
-        let a : 2 + spot me.0.places side i ≡ 2 + spot places side i = (λ z. 2 + spot (size z) side i) in
+        let a : 2 + place_index me.0.places side i ≡ 2 + place_index places side i = (λ z. 2 + place_index (size z) side i) in
         omega arith
 
     one_mark : (j : ℕ) → IsMarkOf me.0 word i → IsMarkOf me.0 word j → j ≡ i
@@ -224,21 +224,21 @@ module _ (places : ℕ) where
     one_value : (j : ℕ) → IsValueOf me.0 word i → IsValueOf me.0 word j → j ≡ i
     one_value j a b = omega arith
 
-    mark_found : (s : TableState) (k : FollowsHistory places s) → get_elem? s.views id ≡ some me.0 → IsMarkOf me.0 word i → get_or s.words word 0 ≡ get_or k.1.marks (spot places side i) 0
+    mark_found : (s : TableState) (k : FollowsHistory places s) → get_elem? s.views id ≡ some me.0 → IsMarkOf me.0 word i → get_or s.words word 0 ≡ get_or k.1.marks (place_index places side i) 0
     mark_found s k at is =
         let w : BucketState = k.1 in
         let long = (facts places s k).values_long in
         ap (λ (l : List ℕ). get_or l word 0) (sym k.3)
-        ∙ (ap (λ (z : ℕ). get_or (words_of w) z 0) (mark_is s k at is) ∙ get_right w.values w.marks ((places + places) + spot places side i) (spot places side i) (omega arith))
+        ∙ (ap (λ (z : ℕ). get_or (words_of w) z 0) (mark_is s k at is) ∙ get_right w.values w.marks ((places + places) + place_index places side i) (place_index places side i) (omega arith))
 
-    value_found : (s : TableState) (k : FollowsHistory places s) (c : Visit) → get_elem? s.views id ≡ some me.0 → IsValueOf me.0 word i → HasVisit me.0.hold i c → get_or s.words word 0 ≡ get_or k.1.values (spot places side i) 0
+    value_found : (s : TableState) (k : FollowsHistory places s) (c : Visit) → get_elem? s.views id ≡ some me.0 → IsValueOf me.0 word i → HasVisit me.0.hold i c → get_or s.words word 0 ≡ get_or k.1.values (place_index places side i) 0
     value_found s k c at is there =
         let w : BucketState = k.1 in
         let long = (facts places s k).values_long in
         let inside = walk_in w me.0.weight i c me.0.hold (facts places s k) ((facts places s k).each id me.0 (seated places s k id me.0 at)).hold there in
-        let below = spot_below places side i inside.1 in
+        let below = index_below places side i inside.1 in
         ap (λ (l : List ℕ). get_or l word 0) (sym k.3)
-        ∙ (ap (λ (z : ℕ). get_or (words_of w) z 0) (value_is s k at is) ∙ get_left w.values w.marks (spot places side i) (omega arith))
+        ∙ (ap (λ (z : ℕ). get_or (words_of w) z 0) (value_is s k at is) ∙ get_left w.values w.marks (place_index places side i) (omega arith))
 
     pub sees_mark : (slots : ℕ) → IsMarkOf me.0 word i → HasVisit me.0.hold i Unseen → Allows (FollowsHistory places) slots id me word (λ n. n) (mark_looked (step slots word 0 0 none) me)
     sees_mark slots is there s k _ at _ =
@@ -260,7 +260,7 @@ module _ (places : ℕ) where
     reads_value slots is there s k _ at _ =
         let x : ℕ = get_or s.words word 0 in
         let w : BucketState = k.1 in
-        let y : ℕ = get_or w.values (spot places side i) 0 in
+        let y : ℕ = get_or w.values (place_index places side i) 0 in
         let u : View = holding me.0 (put_visit me.0.hold i (Read y)) in
         let found = value_found s k Marked at is there in
         let same : u ≡ holding me.0 (put_visit me.0.hold i (Read x)) = ap (λ (n : ℕ). holding me.0 (put_visit me.0.hold i (Read n))) (sym found) in (
@@ -279,13 +279,13 @@ module _ (places : ℕ) where
         let long = (facts places st k).values_long in
         let known : side ≡ s = ap side_of e in
         let has_visit : HasVisit me.0.hold i (Read x) = subst (λ (z : Hold). HasVisit z i (Read x)) (sym e) there in
-        let word_is : word ≡ suc (suc ((places + places) + spot places s i)) = mark_is st k at is ∙ (λ z. suc (suc ((places + places) + spot places (known z) i))) in (
+        let word_is : word ≡ suc (suc ((places + places) + place_index places s i)) = mark_is st k at is ∙ (λ z. suc (suc ((places + places) + place_index places (known z) i))) in (
           u,
           keeps,
           tt,
           moved places st k word 0 id me.1 me.0 u (wipe s i x) (seated places st k id me.0 at) has (visits, e, there)
               (sym (ap (λ (z : ℕ). set (words_of w) z 0) word_is
-              ∙ ap (λ (l : List ℕ). (2 * w.given + w.live) ∷ w.turn ∷ l) (set_right w.values w.marks ((places + places) + spot places s i) (spot places s i) 0 (omega arith))))
+              ∙ ap (λ (l : List ℕ). (2 * w.given + w.live) ∷ w.turn ∷ l) (set_right w.values w.marks ((places + places) + place_index places s i) (place_index places s i) 0 (omega arith))))
               refl refl refl,
           λ j y is' there'.
               let same_place = one_mark j is is' in
@@ -380,19 +380,19 @@ module _ (places : ℕ) where
           let room = f0.room in
           let low = side_low side in
           let found : (i : ℕ) (c : Visit) → get_elem? visits i ≡ some c → get_or w.values (base places side + i) 0 ≡ value_in c =
-          λ i c at_i. let t = can_leave i c at_i in (subst (VisitFits (get_or w.marks (spot places side i) 0) (get_or w.values (spot places side i) 0)) t.1 (fits.2 i c at_i)).1 ∙ sym (ap value_in t.1)
+          λ i c at_i. let t = can_leave i c at_i in (subst (VisitFits (get_or w.marks (place_index places side i) 0) (get_or w.values (place_index places side i) 0)) t.1 (fits.2 i c at_i)).1 ∙ sym (ap value_in t.1)
           in
           let all = values_are w.values (base places side) visits (omega arith) found in
           let same : weigh h (values_in visits) ≡ weigh h (live_values places (state_after places w id me.0 leave)) = ap (weigh h) (all ∙ (λ i. take (n i) (drop (base places (fits.0 i)) w.values))) in
           omega arith
 
 -- the words as the code computes them
-pub mark_word : (v : View) (p s i r : ℕ) → v.places ≡ p → side_of v.hold ≡ s → r ≡ spot p s i → IsMarkOf v (2 + 2 * p + r) i
+pub mark_word : (v : View) (p s i r : ℕ) → v.places ≡ p → side_of v.hold ≡ s → r ≡ place_index p s i → IsMarkOf v (2 + 2 * p + r) i
 mark_word v p s i r places side is =
-    let a : 2 + (p + p) + spot p s i ≡ 2 + (v.places + v.places) + spot v.places (side_of v.hold) i = (λ z. 2 + (sym places z + sym places z) + spot (sym places z) (sym side z) i) in
+    let a : 2 + (p + p) + place_index p s i ≡ 2 + (v.places + v.places) + place_index v.places (side_of v.hold) i = (λ z. 2 + (sym places z + sym places z) + place_index (sym places z) (sym side z) i) in
     omega arith
 
-pub value_word : (v : View) (p s i r : ℕ) → v.places ≡ p → side_of v.hold ≡ s → r ≡ spot p s i → IsValueOf v (2 + r) i
+pub value_word : (v : View) (p s i r : ℕ) → v.places ≡ p → side_of v.hold ≡ s → r ≡ place_index p s i → IsValueOf v (2 + r) i
 value_word v p s i r places side is =
-    let a : 2 + spot p s i ≡ 2 + spot v.places (side_of v.hold) i = (λ z. 2 + spot (sym places z) (sym side z) i) in
+    let a : 2 + place_index p s i ≡ 2 + place_index v.places (side_of v.hold) i = (λ z. 2 + place_index (sym places z) (sym side z) i) in
     omega arith

@@ -12,7 +12,7 @@ use Rattle.metrics_bucket.specs.declared.view.Hold.{Hold}
 use Rattle.metrics_bucket.specs.declared.view.Hold.TheVariants.{Nothing, Ticket, Written, Claimed, SideKnown, Reading, Clearing, Settling}
 use Rattle.metrics_bucket.specs.declared.view.Visit.{Visit}
 use Rattle.metrics_bucket.specs.declared.view.Visit.TheVariants.{Read, Wiped}
-use Rattle.metrics_bucket.specs.BucketState.{BucketState, total, other, base, spot, walk, new_view, live_values, value_in, values_in, visits_of}
+use Rattle.metrics_bucket.specs.BucketState.{BucketState, total, other, base, place_index, walk, new_view, live_values, value_in, values_in, visits_of}
 use Rattle.metrics_bucket.specs.Facts.{given_at, took_in, took_of, weight_of, HoldFits, IsIdle, Facts}
 use Rattle.metrics_bucket.specs.Places.{IsPush, IsEpochOf, VisitFinds, VisitsFind, HoldPlaced, Placed, Reaches, Finds, Covers}
 use Rattle.metrics_bucket.specs.History.{CanLeave}
@@ -79,8 +79,8 @@ module _ (places : ℕ) (w : BucketState) (id : ℕ) (v : View) (f : Facts place
         let room = f.room in
         let under = r.1 in
         let inside : q.place < places = omega arith in
-        let mark : get_or w.marks (spot places w.live q.place) 0 ≡ 1 = whole_marks places 1024 w id v f at has whole free w.live q.place f.side inside ∙ (given_here w.live w.given w.live q.place refl ∙ below_under q.place w.given r.1) in
+        let mark : get_or w.marks (place_index places w.live q.place) 0 ≡ 1 = whole_marks places 1024 w id v f at has whole free w.live q.place f.side inside ∙ (given_here w.live w.given w.live q.place refl ∙ below_under q.place w.given r.1) in
         let t = p.marked w.live q.place f.side inside mark in
         let same_epoch : t.0 ≡ w.epoch = ⊎_elim (λ (z : (w.live ≡ w.live) × (t.0 ≡ w.epoch)). z.1) (λ (z : (w.live ≡ other w.live) × (suc t.0 ≡ w.epoch)). absurd (o.1 z.0)) t.1 in
-        inr (r.0 ∙ epoch, subst (λ (z : ℕ). q.place < z) (sym long) r.1, found q.place r.1 ∙ same_push n q t.0 (get_or w.values (spot places w.live q.place) 0) there (r.0 ∙ sym same_epoch) t.2))
+        inr (r.0 ∙ epoch, subst (λ (z : ℕ). q.place < z) (sym long) r.1, found q.place r.1 ∙ same_push n q t.0 (get_or w.values (place_index places w.live q.place) 0) there (r.0 ∙ sym same_epoch) t.2))
         (reaches n q there)

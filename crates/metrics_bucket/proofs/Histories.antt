@@ -9,7 +9,7 @@ use Rattle.metrics_bucket.specs.declared.view.Turn.{Turn}
 use Rattle.metrics_bucket.specs.declared.view.Hold.{Hold}
 use Rattle.metrics_bucket.specs.declared.view.Hold.TheVariants.{Nothing, Ticket, Written, Claimed, SideKnown, Reading, Clearing, Settling}
 use Rattle.metrics_bucket.specs.declared.view.Visit.TheVariants.{Unseen, Marked, Read, Wiped}
-use Rattle.metrics_bucket.specs.BucketState.{total, BucketState, Act, look, look_to_settle, ticket, write, finish, claim, look_to_read, look_to_clear, takes, see, read, wipe, leave, quit, split, join, both_parts, spot, side_of, put_visit, new_view, whole_view, holding, left_from, state_after}
+use Rattle.metrics_bucket.specs.BucketState.{total, BucketState, Act, look, look_to_settle, ticket, write, finish, claim, look_to_read, look_to_clear, takes, see, read, wipe, leave, quit, split, join, both_parts, place_index, side_of, put_visit, new_view, whole_view, holding, left_from, state_after}
 use Rattle.metrics_bucket.specs.Facts.{ticket_in, owed_in, turn_in, took_in, wiped, weight_of, is_open, HoldFits, Facts}
 use Rattle.metrics_bucket.specs.History.{HasVisit, CanLeave, CanQuit, May, Event, Runs, opened, FollowsHistory}
 use Rattle.metrics_bucket.proofs.Pushes.{tickets, writes, finishes}
@@ -18,7 +18,7 @@ use Rattle.metrics_bucket.proofs.Leaving.{wipes, leaves_clear, leaves_read, quit
 use Rattle.metrics_bucket.proofs.Shares.{opens, splits, joins, IsNew}
 
 module _ (places all : ℕ) (w : BucketState) (id : ℕ) (v : View) (f : Facts places all w) (at : get_elem? w.views id ≡ some v) (has : 0 < v.weight) where
-  sees : (i : ℕ) (hold : Hold) → v.hold ≡ hold → HasVisit hold i Unseen → get_or w.marks (spot places (side_of hold) i) 0 ≡ 1 → Facts places all record w { views = Rattle.std.proofs.Common.set w.views id (holding v (put_visit hold i Marked)) }
+  sees : (i : ℕ) (hold : Hold) → v.hold ≡ hold → HasVisit hold i Unseen → get_or w.marks (place_index places (side_of hold) i) 0 ≡ 1 → Facts places all record w { views = Rattle.std.proofs.Common.set w.views id (holding v (put_visit hold i Marked)) }
   sees i (Reading s visits) e c m = visit_reading places all w id v f at has s i visits Unseen Marked e c m
   sees i (Clearing s visits) e c m = visit_clearing places all w id v f at has s i visits Unseen Marked e c refl refl m
   sees i Nothing e c m = absurd c
@@ -29,13 +29,13 @@ module _ (places all : ℕ) (w : BucketState) (id : ℕ) (v : View) (f : Facts p
   sees i (Settling s xs) e c m = absurd c
 
   reads : (i : ℕ) (hold : Hold) → v.hold ≡ hold → HasVisit hold i Marked
-      → Facts places all record w { views = Rattle.std.proofs.Common.set w.views id (holding v (put_visit hold i (Read (get_or w.values (spot places (side_of hold) i) 0)))) }
+      → Facts places all record w { views = Rattle.std.proofs.Common.set w.views id (holding v (put_visit hold i (Read (get_or w.values (place_index places (side_of hold) i) 0)))) }
   reads i (Reading s visits) e c =
       let fits : HoldFits places all w v.weight (Reading s visits) = subst (HoldFits places all w v.weight) e (f.each id v at).hold in
-      visit_reading places all w id v f at has s i visits Marked (Read (get_or w.values (spot places s i) 0)) e c (fits.2 i Marked c, refl)
+      visit_reading places all w id v f at has s i visits Marked (Read (get_or w.values (place_index places s i) 0)) e c (fits.2 i Marked c, refl)
   reads i (Clearing s visits) e c =
       let fits : HoldFits places all w v.weight (Clearing s visits) = subst (HoldFits places all w v.weight) e (f.each id v at).hold in
-      visit_clearing places all w id v f at has s i visits Marked (Read (get_or w.values (spot places s i) 0)) e c refl refl (fits.2 i Marked c, refl)
+      visit_clearing places all w id v f at has s i visits Marked (Read (get_or w.values (place_index places s i) 0)) e c refl refl (fits.2 i Marked c, refl)
   reads i Nothing e c = absurd c
   reads i (Ticket s j) e c = absurd c
   reads i (Written s j x) e c = absurd c
@@ -88,7 +88,7 @@ module _ (places all : ℕ) (w : BucketState) (id : ℕ) (v : View) (f : Facts p
   step_facts takes m = takes_side places all w id v f at has m.0 m.1
   step_facts (see i) m = sees i v.hold refl m.0 m.1
   step_facts (read i) m = reads i v.hold refl m
-  step_facts (wipe s i x) m = subst (λ (z : Hold). Facts places all record w { marks = Rattle.std.proofs.Common.set w.marks (spot places s i) 0; views = Rattle.std.proofs.Common.set w.views id (holding v (put_visit z i (Wiped x))) })
+  step_facts (wipe s i x) m = subst (λ (z : Hold). Facts places all record w { marks = Rattle.std.proofs.Common.set w.marks (place_index places s i) 0; views = Rattle.std.proofs.Common.set w.views id (holding v (put_visit z i (Wiped x))) })
       (sym m.1) (wipes places all w id v f at has s i x m.0 m.1 m.2)
   step_facts leave m = leaves v.hold refl m
   step_facts quit m = quits_any v.hold refl m

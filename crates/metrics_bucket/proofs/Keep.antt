@@ -11,7 +11,7 @@ use Rattle.metrics_bucket.specs.declared.view.Hold.{Hold}
 use Rattle.metrics_bucket.specs.declared.view.Hold.TheVariants.{Nothing, Ticket, Written, Claimed, SideKnown, Reading, Clearing, Settling}
 use Rattle.metrics_bucket.specs.declared.view.Visit.{Visit}
 use Rattle.metrics_bucket.specs.declared.view.Visit.TheVariants.{Unseen, Marked, Read, Wiped}
-use Rattle.metrics_bucket.specs.BucketState.{total, BucketState, other, spot}
+use Rattle.metrics_bucket.specs.BucketState.{total, BucketState, other, place_index}
 use Rattle.metrics_bucket.specs.Facts.{weigh, given_at, ticket_in, ticket_at, open_at, is_open, owed_in, owed_at, turn_in, turn_of, weight_of, pushed_of, VisitFits, HoldFits, ViewFits, Facts}
 use Rattle.metrics_bucket.proofs.Sums.{total_set, total_one, total_two, total_zero, total_le, same_here, given_le, given_else}
 
@@ -72,7 +72,7 @@ module _ (places all : ℕ) (w : BucketState) (f : Facts places all w) where
 
   -- where a thread has a ticket there is no mark and no other ticket
   pub alone : (id : ℕ) (v : View) (s i : ℕ) → get_elem? w.views id ≡ some v → s < 2 → i < places → ticket_in s i v.hold ≡ 1
-      → (get_or w.marks (spot places s i) 0 ≡ 0) × ((j : ℕ) (u : View) → j ≢ id → get_elem? w.views j ≡ some u → ticket_in s i u.hold ≡ 0)
+      → (get_or w.marks (place_index places s i) 0 ≡ 0) × ((j : ℕ) (u : View) → j ≢ id → get_elem? w.views j ≡ some u → ticket_in s i u.hold ≡ 0)
   alone id v s i at a b mine = let e = f.even s i a b in let d = due_le s i in let o = total_one (ticket_at s i) w.views id v at in (
     omega arith,
     λ j u n there. let t = total_two (ticket_at s i) w.views id j v u (λ z. n (sym z)) at there in omega arith,
@@ -91,8 +91,8 @@ module _ (places all : ℕ) (w : BucketState) (f : Facts places all w) where
 
 module _ (places all : ℕ) (w w' : BucketState) where
   visit_kept : (s i : ℕ) (c : Visit)
-      → (get_or w.marks (spot places s i) 0 ≡ 1 → (get_or w'.marks (spot places s i) 0 ≡ 1) × (get_or w'.values (spot places s i) 0 ≡ get_or w.values (spot places s i) 0))
-      → VisitFits (get_or w.marks (spot places s i) 0) (get_or w.values (spot places s i) 0) c → VisitFits (get_or w'.marks (spot places s i) 0) (get_or w'.values (spot places s i) 0) c
+      → (get_or w.marks (place_index places s i) 0 ≡ 1 → (get_or w'.marks (place_index places s i) 0 ≡ 1) × (get_or w'.values (place_index places s i) 0 ≡ get_or w.values (place_index places s i) 0))
+      → VisitFits (get_or w.marks (place_index places s i) 0) (get_or w.values (place_index places s i) 0) c → VisitFits (get_or w'.marks (place_index places s i) 0) (get_or w'.values (place_index places s i) 0) c
   visit_kept s i Unseen k h = tt
   visit_kept s i Marked k h = (k h).0
   visit_kept s i (Read x) k h = let t = k h.0 in (t.0, t.1 ∙ h.1)
@@ -100,9 +100,9 @@ module _ (places all : ℕ) (w w' : BucketState) where
 
   -- what a hold says stays true, where the step spares it
   pub hold_kept : (weight : ℕ) (hold : Hold) → w.live < 2 → w.given ≤ places → (turn_in hold ≡ 1 → (w'.live ≡ w.live) × (w.given ≤ w'.given))
-      → ((s i : ℕ) → s < 2 → i < places → ticket_in s i hold ≡ 1 → get_or w'.values (spot places s i) 0 ≡ get_or w.values (spot places s i) 0)
-      → ((s i : ℕ) → s < 2 → i < places → turn_in hold ≡ 1 → get_or w.marks (spot places s i) 0 ≡ 1
-      → (get_or w'.marks (spot places s i) 0 ≡ 1) × (get_or w'.values (spot places s i) 0 ≡ get_or w.values (spot places s i) 0))
+      → ((s i : ℕ) → s < 2 → i < places → ticket_in s i hold ≡ 1 → get_or w'.values (place_index places s i) 0 ≡ get_or w.values (place_index places s i) 0)
+      → ((s i : ℕ) → s < 2 → i < places → turn_in hold ≡ 1 → get_or w.marks (place_index places s i) 0 ≡ 1
+      → (get_or w'.marks (place_index places s i) 0 ≡ 1) × (get_or w'.values (place_index places s i) 0 ≡ get_or w.values (place_index places s i) 0))
       → weight ≢ all → HoldFits places all w weight hold → HoldFits places all w' weight hold
   hold_kept weight Nothing l g sides tickets walks part h = tt
   hold_kept weight (Ticket s i) l g sides tickets walks part h = h
@@ -128,9 +128,9 @@ pub each_after : (places all : ℕ) (w w' : BucketState) (id : ℕ) (v v' : View
     → v'.places ≡ v.places → v'.weight ≡ v.weight → ((h : ℕ → ℕ) → pushed_of h v ≤ pushed_of h v') → HoldFits places all w' v'.weight v'.hold
     → ((n : ℕ) (xs : Walk) → get_elem? v'.read n ≡ some xs → (h : ℕ → ℕ) → weigh h xs.values ≤ total (pushed_of h) w.views)
     → ((j : ℕ) (u : View) → j ≢ id → get_elem? w.views j ≡ some u → turn_in u.hold ≡ 1 → (w'.live ≡ w.live) × (w.given ≤ w'.given))
-    → ((j : ℕ) (u : View) → j ≢ id → get_elem? w.views j ≡ some u → (s i : ℕ) → s < 2 → i < places → ticket_in s i u.hold ≡ 1 → get_or w'.values (spot places s i) 0 ≡ get_or w.values (spot places s i) 0)
-    → ((j : ℕ) (u : View) → j ≢ id → get_elem? w.views j ≡ some u → (s i : ℕ) → s < 2 → i < places → turn_in u.hold ≡ 1 → get_or w.marks (spot places s i) 0 ≡ 1
-    → (get_or w'.marks (spot places s i) 0 ≡ 1) × (get_or w'.values (spot places s i) 0 ≡ get_or w.values (spot places s i) 0))
+    → ((j : ℕ) (u : View) → j ≢ id → get_elem? w.views j ≡ some u → (s i : ℕ) → s < 2 → i < places → ticket_in s i u.hold ≡ 1 → get_or w'.values (place_index places s i) 0 ≡ get_or w.values (place_index places s i) 0)
+    → ((j : ℕ) (u : View) → j ≢ id → get_elem? w.views j ≡ some u → (s i : ℕ) → s < 2 → i < places → turn_in u.hold ≡ 1 → get_or w.marks (place_index places s i) 0 ≡ 1
+    → (get_or w'.marks (place_index places s i) 0 ≡ 1) × (get_or w'.values (place_index places s i) 0 ≡ get_or w.values (place_index places s i) 0))
     → (j : ℕ) (u : View) → get_elem? w'.views j ≡ some u → ViewFits places all w' u
 each_after p all w w' id v v' f at some_weight is same_places same_weight grows mine reads sides tickets walks j u there =
     let more : (h : ℕ → ℕ) → total (pushed_of h) w.views ≤ total (pushed_of h) w'.views =

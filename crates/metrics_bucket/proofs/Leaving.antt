@@ -10,9 +10,9 @@ use Rattle.metrics_bucket.specs.declared.view.View.{View}
 use Rattle.metrics_bucket.specs.declared.view.Hold.TheVariants.{Nothing, Reading, Clearing}
 use Rattle.metrics_bucket.specs.declared.view.Visit.{Visit}
 use Rattle.metrics_bucket.specs.declared.view.Visit.TheVariants.{Read, Wiped}
-use Rattle.metrics_bucket.specs.BucketState.{total, BucketState, base, spot, live_values, new_view, walk, holding, value_in, values_in, left_from}
+use Rattle.metrics_bucket.specs.BucketState.{total, BucketState, base, place_index, live_values, new_view, walk, holding, value_in, values_in, left_from}
 use Rattle.metrics_bucket.specs.Facts.{weigh, weigh_pushes, weigh_walks, stands, given_at, ticket_in, ticket_at, open_at, owed_in, owed_at, turn_in, turn_of, took_in, took_of, weight_of, pushed_of, taken_of, wiped, wiped_in, VisitFits, HoldFits, IsIdle, ViewFits, Facts}
-use Rattle.metrics_bucket.proofs.Sums.{total_set, total_two, total_zero, spot_apart, spot_below, here_or, given_here, given_else, below_under, below_over, stands_unmark}
+use Rattle.metrics_bucket.proofs.Sums.{total_set, total_two, total_zero, index_apart, index_below, here_or, given_here, given_else, below_under, below_over, stands_unmark}
 use Rattle.metrics_bucket.proofs.Keep.{at_below, other_side, turn_alone, each_after}
 use Rattle.metrics_bucket.proofs.Visits.{open_here, open_set, open_else, wiped_set, AllWiped, all_wiped_open, all_wiped_weigh, weigh_walks-append, Standing, part_stands, stands_front}
 
@@ -21,25 +21,25 @@ module _ (places all : ℕ) (w : BucketState) (id : ℕ) (v : View) (f : Facts p
   mine = f.each id v at
 
   pub wipes : (s i x : ℕ) (visits : List Visit) → v.hold ≡ Clearing s visits → get_elem? visits i ≡ some (Read x)
-      → Facts places all record w { marks = set w.marks (spot places s i) 0; views = set w.views id (holding v (Clearing s (set visits i (Wiped x)))) }
+      → Facts places all record w { marks = set w.marks (place_index places s i) 0; views = set w.views id (holding v (Clearing s (set visits i (Wiped x)))) }
   wipes s i x visits e there =
       let u : View = holding v (Clearing s (set visits i (Wiped x))) in
-      let k : ℕ = spot places s i in
+      let k : ℕ = place_index places s i in
       let fits : HoldFits places all w v.weight (Clearing s visits) = subst (HoldFits places all w v.weight) e mine.hold in
       let o = other_side w.live f.side in
       let s2 : s < 2 = subst (λ (z : ℕ). z < 2) (sym fits.0) o.0 in
       let inside = at_below visits i (Read x) there in
       let fits1 = fits.1 in
       let i2 : i < places = omega arith in
-      let in_range = spot_below places s i i2 in
+      let in_range = index_below places s i i2 in
       let values_long = f.values_long in
       let marks_long = f.marks_long in
       let visit = fits.2 i (Read x) there in
       let marked : get_or w.marks k 0 ≡ 1 = visit.0 in
       let alone_here = turn_alone places all w f id v at (ap turn_in e) in
       let W : BucketState = record w { marks = set w.marks k 0; views = set w.views id u } in
-      let apart : (s' i' : ℕ) → s' < 2 → i' < places → (s' ≡ s → i' ≡ i → ⊥) → get_or (set w.marks k 0) (spot places s' i') 0 ≡ get_or w.marks (spot places s' i') 0 =
-      λ s' i' a b n. get_or-set_other w.marks k (spot places s' i') 0 0 (spot_apart places s' i' s i a s2 b i2 n)
+      let apart : (s' i' : ℕ) → s' < 2 → i' < places → (s' ≡ s → i' ≡ i → ⊥) → get_or (set w.marks k 0) (place_index places s' i') 0 ≡ get_or w.marks (place_index places s' i') 0 =
+      λ s' i' a b n. get_or-set_other w.marks k (place_index places s' i') 0 0 (index_apart places s' i' s i a s2 b i2 n)
       in
       let here : get_or (set w.marks k 0) k 0 ≡ 0 = get_or-set_same w.marks k 0 0 (omega arith) in
       let long = length-set visits i (Wiped x) in
@@ -56,8 +56,8 @@ module _ (places all : ℕ) (w : BucketState) (id : ℕ) (v : View) (f : Facts p
             let p0 : owed_at s' i' v ≡ cond (eqb s' s) (open_at visits i') 0 = ap (owed_in s' i') e in
             ⊎_elim
             (λ (r : (s' ≡ s) × (i' ≡ i)).
-            let now : get_or (set w.marks k 0) (spot places s' i') 0 ≡ 0 = (λ m. get_or (set w.marks k 0) (spot places (r.0 m) (r.1 m)) 0) ∙ here in
-            let was : get_or w.marks (spot places s' i') 0 ≡ 1 = (λ m. get_or w.marks (spot places (r.0 m) (r.1 m)) 0) ∙ marked in
+            let now : get_or (set w.marks k 0) (place_index places s' i') 0 ≡ 0 = (λ m. get_or (set w.marks k 0) (place_index places (r.0 m) (r.1 m)) 0) ∙ here in
+            let was : get_or w.marks (place_index places s' i') 0 ≡ 1 = (λ m. get_or w.marks (place_index places (r.0 m) (r.1 m)) 0) ∙ marked in
             let p1 : cond (eqb s' s) (open_at visits i') 0 ≡ 1 = ap (λ c. cond c (open_at visits i') 0) (eq-eqb s' s r.0) ∙ (ap (open_at visits) r.1 ∙ open_here visits i (Read x) there) in
             let p2 : owed_at s' i' u ≡ 0 = ap (λ c. cond c (open_at (set visits i (Wiped x)) i') 0) (eq-eqb s' s r.0) ∙ (ap (open_at (set visits i (Wiped x))) r.1 ∙ open_set visits i (Read x) (Wiped x) there) in
             omega arith)
@@ -86,11 +86,11 @@ module _ (places all : ℕ) (w : BucketState) (id : ℕ) (v : View) (f : Facts p
           fits.0,
           omega arith,
           λ j c at_j. ⊎_elim
-              (λ (t : (j ≡ i) × (Wiped x ≡ c)). subst (VisitFits (get_or (set w.marks k 0) (spot places s j) 0) (get_or w.values (spot places s j) 0)) t.1 tt)
+              (λ (t : (j ≡ i) × (Wiped x ≡ c)). subst (VisitFits (get_or (set w.marks k 0) (place_index places s j) 0) (get_or w.values (place_index places s j) 0)) t.1 tt)
               (λ (t : (j ≢ i) × (get_elem? visits j ≡ some c)).
               let j2 = at_below visits j c t.1 in
               let m = apart s j s2 (omega arith) (λ _ z. t.0 z) in
-              subst (λ (z : ℕ). VisitFits z (get_or w.values (spot places s j) 0) c) (sym m) (fits.2 j c t.1))
+              subst (λ (z : ℕ). VisitFits z (get_or w.values (place_index places s j) 0) c) (sym m) (fits.2 j c t.1))
               (at_set visits i j (Wiped x) c at_j),
           fits.3,
         )
@@ -144,7 +144,7 @@ module _ (places all : ℕ) (w : BucketState) (id : ℕ) (v : View) (f : Facts p
       let u : View = left_from v (Reading s visits) in
       let fits : HoldFits places all w v.weight (Reading s visits) = subst (HoldFits places all w v.weight) e mine.hold in
       let standing : Standing w.values w.marks (base places s) visits = λ i c there.
-      let d = done i c there in let t = subst (VisitFits (get_or w.marks (spot places s i) 0) (get_or w.values (spot places s i) 0)) d.1 (fits.2 i c there) in (t.0, t.1 ∙ sym (ap value_in d.1))
+      let d = done i c there in let t = subst (VisitFits (get_or w.marks (place_index places s i) 0) (get_or w.values (place_index places s i) 0)) d.1 (fits.2 i c there) in (t.0, t.1 ∙ sym (ap value_in d.1))
       in
       let room = f.room in let values_long = f.values_long in let marks_long = f.marks_long in let k = fits.1 in
       let b : base places s ≤ places = base_le s in
@@ -241,7 +241,7 @@ module _ (places all : ℕ) (w : BucketState) (id : ℕ) (v : View) (f : Facts p
     whole_live = let s = sole took_of (λ u i. let a : length u.taken ≡ 0 = ap length i.1 in let b : took_in u.hold ≡ 0 = ap took_in i.3 in omega arith) in let t : took_in v.hold ≡ 0 = ap took_in free in
         let same_total : total took_of w.views ≡ length v.taken = omega arith in f.swaps ∙ ap (λ (n : ℕ). n % 2) same_total
 
-    pub whole_marks : (s i : ℕ) → s < 2 → i < places → get_or w.marks (spot places s i) 0 ≡ given_at w.live w.given s i
+    pub whole_marks : (s i : ℕ) → s < 2 → i < places → get_or w.marks (place_index places s i) 0 ≡ given_at w.live w.given s i
     whole_marks s i a b =
         let x = f.even s i a b in
         let t = sole (ticket_at s i) (λ u z. ap (ticket_in s i) z.3) in

@@ -14,7 +14,7 @@ use Rattle.metrics_bucket.specs.declared.view.Hold.{Hold}
 use Rattle.metrics_bucket.specs.declared.view.Hold.TheVariants.{Nothing, Ticket, Written, Claimed, SideKnown, Reading, Clearing, Settling}
 use Rattle.metrics_bucket.specs.declared.view.Visit.{Visit}
 use Rattle.metrics_bucket.specs.declared.view.Visit.TheVariants.{Unseen, Marked, Read, Wiped}
-use Rattle.metrics_bucket.specs.BucketState.{BucketState, total, walks_of, walks_made, other, spot, side_of, put_visit, new_view, whole_view, holds_as, holding, left_from, left_part, right_part, both_parts, live_values, Act, look, look_to_settle, ticket, write, finish, claim, look_to_read, look_to_clear, takes, see, read, wipe, leave, quit, split, join, state_after}
+use Rattle.metrics_bucket.specs.BucketState.{BucketState, total, walks_of, walks_made, other, place_index, side_of, put_visit, new_view, whole_view, holds_as, holding, left_from, left_part, right_part, both_parts, live_values, Act, look, look_to_settle, ticket, write, finish, claim, look_to_read, look_to_clear, takes, see, read, wipe, leave, quit, split, join, state_after}
 use Rattle.metrics_bucket.specs.Facts.{same, below, turn_in, took_in, took_of, VisitFits, HoldFits, Facts}
 use Rattle.metrics_bucket.specs.Places.{pushes_at, values_at, pushed_at, value_at, held_in, tickets_at, lengths_of, clearing_of, told_of, walks_in, takes_in, given_of, walks_at, is_wiped, wiped_place, wiped_hold, wipes_at, mark_of, IsPush, IsEpochOf, WalkFinds, VisitFinds, VisitsFind, HoldPlaced, ViewPlaced, Placed}
 use Rattle.metrics_bucket.specs.History.{HasVisit, CanLeave, CanQuit, May, Event, Runs, opened, FollowsHistory}
@@ -50,11 +50,11 @@ opens_placed places views new =
       one_place = λ e i l.
           let a = none_pushed e i in
           let b = total_zero (wipes_at e i) views (λ j v at. let n = (new j v at).1 in let x : walks_at e i v.taken ≡ 0 = ap (walks_at e i) n.1 in let y : wiped_hold e i v.epoch v.hold ≡ 0 = ap (wiped_hold e i v.epoch) n.3 in omega arith) in
-          let m0 = get_zero (places + places) (spot places 0 i) in
-          let m1 = get_zero (places + places) (spot places 1 i) in
+          let m0 = get_zero (places + places) (place_index places 0 i) in
+          let m1 = get_zero (places + places) (place_index places 1 i) in
           let c : mark_of places (fresh places views) e i ≡ 0 = (λ k. cond (eqb e 0) (m0 k) (cond (eqb (suc e) 0) (m1 k) 0)) ∙ (ap (λ (n : ℕ). cond (eqb e 0) 0 n) (cond_same (suc e) 0 0) ∙ cond_same e 0 0) in
           omega arith;
-      marked = λ s i a b one. let z = get_zero (places + places) (spot places s i) in absurd (omega arith);
+      marked = λ s i a b one. let z = get_zero (places + places) (place_index places s i) in absurd (omega arith);
       each = λ j v at. let n = (new j v at).1 in record {
         hold = subst (HoldPlaced (fresh places views) v.epoch) (sym n.3) tt;
         turn = λ t. let z : turn_in v.hold ≡ 0 = ap turn_in n.3 in absurd (omega arith);
@@ -89,7 +89,7 @@ module _ (places : ℕ) (w : BucketState) (p : Placed places w) (views : List Vi
     room = λ e. let a = told e in let b = p.room e in omega arith;
     once = λ e. same_takes e ∙ p.once e;
     one_place = λ e i l. let a = p.one_place e i l in let b = pushed e i in let c = wiped e i in omega arith;
-    marked = λ s i a b m. let t = p.marked s i a b m in (t.0, t.1, shared_pushes t.0 i (get_or w.values (spot places s i) 0) t.2);
+    marked = λ s i a b m. let t = p.marked s i a b m in (t.0, t.1, shared_pushes t.0 i (get_or w.values (place_index places s i) 0) t.2);
     each = each;
     takes = p.takes ∙ sym took;
   }
@@ -202,19 +202,19 @@ module _ (places all : ℕ) (w : BucketState) (id : ℕ) (v : View) (f : Facts p
   sees i (SideKnown s) e c = absurd c
   sees i (Settling s xs) e c = absurd c
 
-  reads : (i : ℕ) (hold : Hold) → v.hold ≡ hold → HasVisit hold i Marked → Placed places record w { views = set w.views id (holding v (put_visit hold i (Read (get_or w.values (spot places (side_of hold) i) 0)))) }
+  reads : (i : ℕ) (hold : Hold) → v.hold ≡ hold → HasVisit hold i Marked → Placed places record w { views = set w.views id (holding v (put_visit hold i (Read (get_or w.values (place_index places (side_of hold) i) 0)))) }
   reads i (Reading s visits) e c =
       let fits : HoldFits places all w v.weight (Reading s visits) = subst (HoldFits places all w v.weight) e (f.each id v at).hold in
       let placed : HoldPlaced w v.epoch (Reading s visits) = subst (HoldPlaced w v.epoch) e (p.each id v at).hold in
       let below_all = at_below visits i Marked c in let a = fits.1 in let b = f.room in
       let s2 : s < 2 = subst (λ (z : ℕ). z < 2) (sym fits.0) f.side in
-      visit_reading s i visits (Read (get_or w.values (spot places s i) 0)) e (reads_push places all w id v f p at has s i s2 (omega arith) (inl (fits.0, placed.0)) (fits.2 i Marked c))
+      visit_reading s i visits (Read (get_or w.values (place_index places s i) 0)) e (reads_push places all w id v f p at has s i s2 (omega arith) (inl (fits.0, placed.0)) (fits.2 i Marked c))
   reads i (Clearing s visits) e c =
       let fits : HoldFits places all w v.weight (Clearing s visits) = subst (HoldFits places all w v.weight) e (f.each id v at).hold in
       let placed : HoldPlaced w v.epoch (Clearing s visits) = subst (HoldPlaced w v.epoch) e (p.each id v at).hold in
       let below_all = at_below visits i Marked c in let a = fits.1 in
       let s2 : s < 2 = subst (λ (z : ℕ). z < 2) (sym fits.0) (other_side w.live f.side).0 in
-      visit_clearing s i visits Marked (Read (get_or w.values (spot places s i) 0)) e c refl (reads_push places all w id v f p at has s i s2 (omega arith) (inr (fits.0, placed.0)) (fits.2 i Marked c))
+      visit_clearing s i visits Marked (Read (get_or w.values (place_index places s i) 0)) e c refl (reads_push places all w id v f p at has s i s2 (omega arith) (inr (fits.0, placed.0)) (fits.2 i Marked c))
   reads i Nothing e c = absurd c
   reads i (Ticket s j) e c = absurd c
   reads i (Written s j x) e c = absurd c
@@ -267,7 +267,7 @@ module _ (places all : ℕ) (w : BucketState) (id : ℕ) (v : View) (f : Facts p
   step_placed takes m = takes_side places all w id v f p at has m.0 m.1
   step_placed (see i) m = sees i v.hold refl m.0
   step_placed (read i) m = reads i v.hold refl m
-  step_placed (wipe s i x) m = subst (λ (z : Hold). Placed places record w { marks = set w.marks (spot places s i) 0; views = set w.views id (holding v (put_visit z i (Wiped x))) })
+  step_placed (wipe s i x) m = subst (λ (z : Hold). Placed places record w { marks = set w.marks (place_index places s i) 0; views = set w.views id (holding v (put_visit z i (Wiped x))) })
       (sym m.1) (wipes places all w id v f p at has s i x m.0 m.1 m.2)
   step_placed leave m = leaves v.hold refl m
   step_placed quit m = quits v.hold refl m

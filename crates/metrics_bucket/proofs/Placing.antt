@@ -12,10 +12,10 @@ use Rattle.metrics_bucket.specs.declared.view.Hold.{Hold}
 use Rattle.metrics_bucket.specs.declared.view.Hold.TheVariants.{Nothing, Ticket, Written, Claimed, SideKnown, Reading, Clearing, Settling}
 use Rattle.metrics_bucket.specs.declared.view.Visit.{Visit}
 use Rattle.metrics_bucket.specs.declared.view.Visit.TheVariants.{Unseen, Marked, Read, Wiped}
-use Rattle.metrics_bucket.specs.BucketState.{BucketState, total, walks_of, walks_made, other, spot, holds_as, value_in, values_in}
+use Rattle.metrics_bucket.specs.BucketState.{BucketState, total, walks_of, walks_made, other, place_index, holds_as, value_in, values_in}
 use Rattle.metrics_bucket.specs.Facts.{same, below, turn_in, took_in, took_of, Facts}
 use Rattle.metrics_bucket.specs.Places.{pushes_at, values_at, pushed_at, value_at, held_in, tickets_at, lengths_of, clearing_of, told_of, walks_in, given_of, walks_at, is_wiped, wiped_place, wiped_hold, wipes_at, mark_of, IsPush, IsEpochOf, WalkFinds, VisitFinds, VisitsFind, HoldPlaced, ViewPlaced, Placed}
-use Rattle.metrics_bucket.proofs.Sums.{total_set, total_one, spot_apart, spot_below, here_or, same_here, same_else, below_under, below_over, below_le}
+use Rattle.metrics_bucket.proofs.Sums.{total_set, total_one, index_apart, index_below, here_or, same_here, same_else, below_under, below_over, below_le}
 use Rattle.metrics_bucket.proofs.Keep.{other_side}
 
 pub total_add : (f g : View → ℕ) (vs : List View) → total (λ v. f v + g v) vs ≡ total f vs + total g vs

@@ -12,10 +12,10 @@ use Rattle.metrics_bucket.specs.declared.view.Hold.{Hold}
 use Rattle.metrics_bucket.specs.declared.view.Hold.TheVariants.{Nothing, Ticket, Written, Claimed, SideKnown, Reading, Clearing, Settling}
 use Rattle.metrics_bucket.specs.declared.view.Visit.{Visit}
 use Rattle.metrics_bucket.specs.declared.view.Visit.TheVariants.{Unseen, Marked, Read, Wiped}
-use Rattle.metrics_bucket.specs.BucketState.{BucketState, total, walks_of, walks_made, other, spot, push, walk, holds_as, holding, holding_at, pushing, left_from, value_in, values_in, ticket, write, finish, takes, wipe, state_after}
+use Rattle.metrics_bucket.specs.BucketState.{BucketState, total, walks_of, walks_made, other, place_index, push, walk, holds_as, holding, holding_at, pushing, left_from, value_in, values_in, ticket, write, finish, takes, wipe, state_after}
 use Rattle.metrics_bucket.specs.Facts.{same, below, turn_in, took_in, took_of, ticket_in, ticket_at, VisitFits, HoldFits, Facts}
 use Rattle.metrics_bucket.specs.Places.{pushes_at, values_at, pushed_at, value_at, held_in, tickets_at, lengths_of, clearing_of, told_of, takes_in, given_of, walks_at, is_wiped, wiped_place, wiped_hold, wipes_at, mark_of, IsPush, IsEpochOf, WalkFinds, VisitFinds, VisitsFind, HoldPlaced, ViewPlaced, Placed}
-use Rattle.metrics_bucket.proofs.Sums.{total_set, total_one, spot_apart, spot_below, here_or, same_here, same_else, below_under, below_over, below_le}
+use Rattle.metrics_bucket.proofs.Sums.{total_set, total_one, index_apart, index_below, here_or, same_here, same_else, below_under, below_over, below_le}
 use Rattle.metrics_bucket.proofs.Keep.{at_below, other_side, alone, turn_alone}
 use Rattle.metrics_bucket.proofs.Visits.{new_visit, length_new}
 use Rattle.metrics_bucket.proofs.Walks.{take_clean}
@@ -69,45 +69,45 @@ value_there (c ∷ cs) (suc i) l = value_there cs i (omega arith)
 
 -- the marks of an epoch, where one mark changes
 module _ (places : ℕ) (w w' : BucketState) (s i m epoch : ℕ) (of_side : IsEpochOf w s epoch) (side : w.live < 2) (below_all : i < places) (long : length w.marks ≡ places + places) (live : w'.live ≡ w.live) (epochs : w'.epoch ≡ w.epoch)
-    (marks : w'.marks ≡ set w.marks (spot places s i) m) where
+    (marks : w'.marks ≡ set w.marks (place_index places s i) m) where
   o : (other w.live < 2) × (w.live ≢ other w.live) × (other (other w.live) ≡ w.live)
   o = other_side w.live side
 
   s2 : s < 2
   s2 = let a = o.0 in ⊎_elim (λ (t : (s ≡ w.live) × (epoch ≡ w.epoch)). let e = t.0 in omega arith) (λ (t : (s ≡ other w.live) × (suc epoch ≡ w.epoch)). let e = t.0 in omega arith) of_side
 
-  mark_before : (e j : ℕ) → e ≡ epoch → j ≡ i → mark_of places w e j ≡ get_or w.marks (spot places s i) 0
+  mark_before : (e j : ℕ) → e ≡ epoch → j ≡ i → mark_of places w e j ≡ get_or w.marks (place_index places s i) 0
   mark_before e j a b = ⊎_elim
-      (λ (t : (s ≡ w.live) × (epoch ≡ w.epoch)). ap (λ c. cond c (get_or w.marks (spot places w.live j) 0) (cond (eqb (suc e) w.epoch) (get_or w.marks (spot places (other w.live) j) 0) 0)) (eq-eqb e w.epoch (a ∙ t.1)) ∙ (λ k. get_or w.marks (spot places (sym t.0 k) (b k)) 0))
+      (λ (t : (s ≡ w.live) × (epoch ≡ w.epoch)). ap (λ c. cond c (get_or w.marks (place_index places w.live j) 0) (cond (eqb (suc e) w.epoch) (get_or w.marks (place_index places (other w.live) j) 0) 0)) (eq-eqb e w.epoch (a ∙ t.1)) ∙ (λ k. get_or w.marks (place_index places (sym t.0 k) (b k)) 0))
       (λ (t : (s ≡ other w.live) × (suc epoch ≡ w.epoch)).
-      ap (λ c. cond c (get_or w.marks (spot places w.live j) 0) (cond (eqb (suc e) w.epoch) (get_or w.marks (spot places (other w.live) j) 0) 0)) (ne_eqb e w.epoch (λ z. let q = t.1 in omega arith))
-      ∙ (ap (λ c. cond c (get_or w.marks (spot places (other w.live) j) 0) 0) (eq-eqb (suc e) w.epoch (ap suc a ∙ t.1)) ∙ (λ k. get_or w.marks (spot places (sym t.0 k) (b k)) 0)))
+      ap (λ c. cond c (get_or w.marks (place_index places w.live j) 0) (cond (eqb (suc e) w.epoch) (get_or w.marks (place_index places (other w.live) j) 0) 0)) (ne_eqb e w.epoch (λ z. let q = t.1 in omega arith))
+      ∙ (ap (λ c. cond c (get_or w.marks (place_index places (other w.live) j) 0) 0) (eq-eqb (suc e) w.epoch (ap suc a ∙ t.1)) ∙ (λ k. get_or w.marks (place_index places (sym t.0 k) (b k)) 0)))
       of_side
 
-  in_range : spot places s i < length w.marks
-  in_range = let a = spot_below places s i below_all in omega arith
+  in_range : place_index places s i < length w.marks
+  in_range = let a = index_below places s i below_all in omega arith
 
   of_after : IsEpochOf w' s epoch
   of_after = ⊎_elim (λ (t : (s ≡ w.live) × (epoch ≡ w.epoch)). inl (t.0 ∙ sym live, t.1 ∙ sym epochs)) (λ (t : (s ≡ other w.live) × (suc epoch ≡ w.epoch)). inr (t.0 ∙ ap other (sym live), t.1 ∙ sym epochs)) of_side
 
   -- the mark of the place that changes
-  pub mark_here : (e j : ℕ) → e ≡ epoch → j ≡ i → (mark_of places w e j ≡ get_or w.marks (spot places s i) 0) × (mark_of places w' e j ≡ m)
+  pub mark_here : (e j : ℕ) → e ≡ epoch → j ≡ i → (mark_of places w e j ≡ get_or w.marks (place_index places s i) 0) × (mark_of places w' e j ≡ m)
   mark_here e j a b = (
     mark_before e j a b,
-    after ∙ (ap (λ (l : List ℕ). get_or l (spot places s i) 0) marks ∙ get_or-set_same w.marks (spot places s i) m 0 in_range),
+    after ∙ (ap (λ (l : List ℕ). get_or l (place_index places s i) 0) marks ∙ get_or-set_same w.marks (place_index places s i) m 0 in_range),
   )
     where
-      after : mark_of places w' e j ≡ get_or w'.marks (spot places s i) 0
+      after : mark_of places w' e j ≡ get_or w'.marks (place_index places s i) 0
       after = ⊎_elim
-          (λ (t : (s ≡ w'.live) × (epoch ≡ w'.epoch)). ap (λ c. cond c (get_or w'.marks (spot places w'.live j) 0) (cond (eqb (suc e) w'.epoch) (get_or w'.marks (spot places (other w'.live) j) 0) 0)) (eq-eqb e w'.epoch (a ∙ t.1)) ∙ (λ k. get_or w'.marks (spot places (sym t.0 k) (b k)) 0))
+          (λ (t : (s ≡ w'.live) × (epoch ≡ w'.epoch)). ap (λ c. cond c (get_or w'.marks (place_index places w'.live j) 0) (cond (eqb (suc e) w'.epoch) (get_or w'.marks (place_index places (other w'.live) j) 0) 0)) (eq-eqb e w'.epoch (a ∙ t.1)) ∙ (λ k. get_or w'.marks (place_index places (sym t.0 k) (b k)) 0))
           (λ (t : (s ≡ other w'.live) × (suc epoch ≡ w'.epoch)).
-          ap (λ c. cond c (get_or w'.marks (spot places w'.live j) 0) (cond (eqb (suc e) w'.epoch) (get_or w'.marks (spot places (other w'.live) j) 0) 0)) (ne_eqb e w'.epoch (λ z. let q = t.1 in omega arith))
-          ∙ (ap (λ c. cond c (get_or w'.marks (spot places (other w'.live) j) 0) 0) (eq-eqb (suc e) w'.epoch (ap suc a ∙ t.1)) ∙ (λ k. get_or w'.marks (spot places (sym t.0 k) (b k)) 0)))
+          ap (λ c. cond c (get_or w'.marks (place_index places w'.live j) 0) (cond (eqb (suc e) w'.epoch) (get_or w'.marks (place_index places (other w'.live) j) 0) 0)) (ne_eqb e w'.epoch (λ z. let q = t.1 in omega arith))
+          ∙ (ap (λ c. cond c (get_or w'.marks (place_index places (other w'.live) j) 0) 0) (eq-eqb (suc e) w'.epoch (ap suc a ∙ t.1)) ∙ (λ k. get_or w'.marks (place_index places (sym t.0 k) (b k)) 0)))
           of_after
 
   -- a mark of another place is as it was
-  mark_apart : (s' j : ℕ) → s' < 2 → j < places → (s' ≡ s → j ≡ i → ⊥) → get_or w'.marks (spot places s' j) 0 ≡ get_or w.marks (spot places s' j) 0
-  mark_apart s' j a b n = ap (λ (l : List ℕ). get_or l (spot places s' j) 0) marks ∙ get_or-set_other w.marks (spot places s i) (spot places s' j) m 0 (spot_apart places s' j s i a s2 b below_all n)
+  mark_apart : (s' j : ℕ) → s' < 2 → j < places → (s' ≡ s → j ≡ i → ⊥) → get_or w'.marks (place_index places s' j) 0 ≡ get_or w.marks (place_index places s' j) 0
+  mark_apart s' j a b n = ap (λ (l : List ℕ). get_or l (place_index places s' j) 0) marks ∙ get_or-set_other w.marks (place_index places s i) (place_index places s' j) m 0 (index_apart places s' j s i a s2 b below_all n)
 
   -- the sides of one epoch are one
   one_epoch : (e s' : ℕ) → ((s' ≡ w.live) × (e ≡ w.epoch)) ⊎ ((s' ≡ other w.live) × (suc e ≡ w.epoch)) → s' ≡ s → e ≡ epoch
@@ -118,16 +118,16 @@ module _ (places : ℕ) (w w' : BucketState) (s i m epoch : ℕ) (of_side : IsEp
 
   pub mark_else : (e j : ℕ) → j < places → (e ≡ epoch → j ≡ i → ⊥) → mark_of places w' e j ≡ mark_of places w e j
   mark_else e j l n =
-      (λ k. cond (eqb e (epochs k)) (get_or w'.marks (spot places (live k) j) 0) (cond (eqb (suc e) (epochs k)) (get_or w'.marks (spot places (other (live k)) j) 0) 0))
+      (λ k. cond (eqb e (epochs k)) (get_or w'.marks (place_index places (live k) j) 0) (cond (eqb (suc e) (epochs k)) (get_or w'.marks (place_index places (other (live k)) j) 0) 0))
       ∙ dite (ℕ_discrete e w.epoch)
-      (λ a. (λ k. cond (eqb e w.epoch) (mark_apart w.live j side l (λ p q. n (one_epoch e w.live (inl (refl, a)) p) q) k) (cond (eqb (suc e) w.epoch) (get_or w'.marks (spot places (other w.live) j) 0) 0))
-      ∙ (ap (λ c. cond c (get_or w.marks (spot places w.live j) 0) (cond (eqb (suc e) w.epoch) (get_or w'.marks (spot places (other w.live) j) 0) 0)) (eq-eqb e w.epoch a)
-      ∙ sym (ap (λ c. cond c (get_or w.marks (spot places w.live j) 0) (cond (eqb (suc e) w.epoch) (get_or w.marks (spot places (other w.live) j) 0) 0)) (eq-eqb e w.epoch a))))
-      (λ a. ap (λ c. cond c (get_or w'.marks (spot places w.live j) 0) (cond (eqb (suc e) w.epoch) (get_or w'.marks (spot places (other w.live) j) 0) 0)) (ne_eqb e w.epoch a)
+      (λ a. (λ k. cond (eqb e w.epoch) (mark_apart w.live j side l (λ p q. n (one_epoch e w.live (inl (refl, a)) p) q) k) (cond (eqb (suc e) w.epoch) (get_or w'.marks (place_index places (other w.live) j) 0) 0))
+      ∙ (ap (λ c. cond c (get_or w.marks (place_index places w.live j) 0) (cond (eqb (suc e) w.epoch) (get_or w'.marks (place_index places (other w.live) j) 0) 0)) (eq-eqb e w.epoch a)
+      ∙ sym (ap (λ c. cond c (get_or w.marks (place_index places w.live j) 0) (cond (eqb (suc e) w.epoch) (get_or w.marks (place_index places (other w.live) j) 0) 0)) (eq-eqb e w.epoch a))))
+      (λ a. ap (λ c. cond c (get_or w'.marks (place_index places w.live j) 0) (cond (eqb (suc e) w.epoch) (get_or w'.marks (place_index places (other w.live) j) 0) 0)) (ne_eqb e w.epoch a)
       ∙ (dite (ℕ_discrete (suc e) w.epoch)
       (λ b. (λ k. cond (eqb (suc e) w.epoch) (mark_apart (other w.live) j o.0 l (λ p q. n (one_epoch e (other w.live) (inr (refl, b)) p) q) k) 0))
-      (λ b. ap (λ c. cond c (get_or w'.marks (spot places (other w.live) j) 0) 0) (ne_eqb (suc e) w.epoch b) ∙ sym (ap (λ c. cond c (get_or w.marks (spot places (other w.live) j) 0) 0) (ne_eqb (suc e) w.epoch b)))
-      ∙ sym (ap (λ c. cond c (get_or w.marks (spot places w.live j) 0) (cond (eqb (suc e) w.epoch) (get_or w.marks (spot places (other w.live) j) 0) 0)) (ne_eqb e w.epoch a))))
+      (λ b. ap (λ c. cond c (get_or w'.marks (place_index places (other w.live) j) 0) 0) (ne_eqb (suc e) w.epoch b) ∙ sym (ap (λ c. cond c (get_or w.marks (place_index places (other w.live) j) 0) 0) (ne_eqb (suc e) w.epoch b)))
+      ∙ sym (ap (λ c. cond c (get_or w.marks (place_index places w.live j) 0) (cond (eqb (suc e) w.epoch) (get_or w.marks (place_index places (other w.live) j) 0) 0)) (ne_eqb e w.epoch a))))
 
 module _ (places all : ℕ) (w : BucketState) (id : ℕ) (v : View) (f : Facts places all w) (p : Placed places w) (at : get_elem? w.views id ≡ some v) (has : 0 < v.weight) where
   abbrev mine : ViewPlaced w v
@@ -160,7 +160,7 @@ module _ (places all : ℕ) (w : BucketState) (id : ℕ) (v : View) (f : Facts p
             let c = total_set (wipes_at e i) w.views id v u at in
             let d = wiped e i in
             omega arith;
-        marked = λ s i a b m. let t = p.marked s i a b m in (t.0, t.1, pushes t.0 i (get_or w.values (spot places s i) 0) t.2);
+        marked = λ s i a b m. let t = p.marked s i a b m in (t.0, t.1, pushes t.0 i (get_or w.values (place_index places s i) 0) t.2);
         each = each_kept w w' pushes places id u p refl
             (view_kept w w' pushes u (λ _. hold_kept w w' pushes refl refl e' hold placed) (λ _. walks) record { hold = placed; turn = knows; taken = mine.taken; read = mine.read })
             (λ j z n there. (hold_kept w w' pushes refl refl z.epoch z.hold, λ _. walks));
@@ -191,7 +191,7 @@ module _ (places all : ℕ) (w : BucketState) (id : ℕ) (v : View) (f : Facts p
             let c = total_set (wipes_at k i) w.views id v u at in
             let d : wiped_hold k i v.epoch v.hold ≡ 0 = ap (wiped_hold k i v.epoch) e in
             omega arith;
-        marked = λ s i a b m. let t = p.marked s i a b m in (t.0, t.1, pushes t.0 i (get_or w.values (spot places s i) 0) t.2);
+        marked = λ s i a b m. let t = p.marked s i a b m in (t.0, t.1, pushes t.0 i (get_or w.values (place_index places s i) 0) t.2);
         each = each_kept w w' pushes places id u p refl
             record { hold = inl (refl, refl); turn = λ t. absurd (omega arith); taken = (view_kept w w' pushes v (λ k. hold_kept w w' pushes refl refl v.epoch v.hold k) (λ _. walks) mine).taken; read = (view_kept w w' pushes v (λ k. hold_kept w w' pushes refl refl v.epoch v.hold k) (λ _. walks) mine).read }
             (λ j z n there. (hold_kept w w' pushes refl refl z.epoch z.hold, λ _. walks));
@@ -200,7 +200,7 @@ module _ (places all : ℕ) (w : BucketState) (id : ℕ) (v : View) (f : Facts p
 
   module _ (s i : ℕ) where
     abbrev k : ℕ
-    k = spot places s i
+    k = place_index places s i
 
     pub writes : (x : ℕ) → v.hold ≡ Ticket s i → Placed places (state_after places w id v (write s i x))
     writes x e =
@@ -229,10 +229,10 @@ module _ (places all : ℕ) (w : BucketState) (id : ℕ) (v : View) (f : Facts p
               let z : wiped_hold d j v.epoch v.hold ≡ 0 = ap (wiped_hold d j v.epoch) e in
               omega arith;
           marked = λ s' i' a b m. ⊎_elim
-              (λ (q : (s' ≡ s) × (i' ≡ i)). let none = single.0 in let here : get_or w.marks (spot places s' i') 0 ≡ get_or w.marks k 0 = (λ l. get_or w.marks (spot places (q.0 l) (q.1 l)) 0) in absurd (omega arith))
+              (λ (q : (s' ≡ s) × (i' ≡ i)). let none = single.0 in let here : get_or w.marks (place_index places s' i') 0 ≡ get_or w.marks k 0 = (λ l. get_or w.marks (place_index places (q.0 l) (q.1 l)) 0) in absurd (omega arith))
               (λ (n : s' ≡ s → i' ≡ i → ⊥).
               let t = p.marked s' i' a b m in
-              (t.0, t.1, subst (IsPush w' t.0 i') (sym (get_or-set_other w.values k (spot places s' i') x 0 (spot_apart places s' i' s i a fits.0 b fits.1 n))) (pushes t.0 i' (get_or w.values (spot places s' i') 0) t.2)))
+              (t.0, t.1, subst (IsPush w' t.0 i') (sym (get_or-set_other w.values k (place_index places s' i') x 0 (index_apart places s' i' s i a fits.0 b fits.1 n))) (pushes t.0 i' (get_or w.values (place_index places s' i') 0) t.2)))
               (here_or s' i' s i);
           each = each_kept w w' pushes places id u p refl
               (view_kept w w' pushes u (λ _. of_side) (λ _. walks) record { hold = of_side; turn = λ t. absurd (omega arith); taken = mine.taken; read = mine.read })
@@ -305,11 +305,11 @@ module _ (places all : ℕ) (w : BucketState) (id : ℕ) (v : View) (f : Facts p
               (here_or d j v.epoch i);
           marked = λ s' i' a b m. ⊎_elim
               (λ (q : (s' ≡ s) × (i' ≡ i)).
-              let same_value : get_or w.values (spot places s' i') 0 ≡ x = (λ l. get_or w.values (spot places (q.0 l) (q.1 l)) 0) ∙ fits.2 in
+              let same_value : get_or w.values (place_index places s' i') 0 ≡ x = (λ l. get_or w.values (place_index places (q.0 l) (q.1 l)) 0) ∙ fits.2 in
               (v.epoch, subst (λ (n : ℕ). IsEpochOf w' n v.epoch) (sym q.0) of_after, subst (λ (n : ℕ × ℕ). IsPush w' v.epoch n.0 n.1) (λ l. (sym q.1 l, sym same_value l)) new))
               (λ (n : s' ≡ s → i' ≡ i → ⊥).
-              let t = p.marked s' i' a b (sym (get_or-set_other w.marks k (spot places s' i') 1 0 (spot_apart places s' i' s i a fits.0 b fits.1 n)) ∙ m) in
-              (t.0, t.1, pushes t.0 i' (get_or w.values (spot places s' i') 0) t.2))
+              let t = p.marked s' i' a b (sym (get_or-set_other w.marks k (place_index places s' i') 1 0 (index_apart places s' i' s i a fits.0 b fits.1 n)) ∙ m) in
+              (t.0, t.1, pushes t.0 i' (get_or w.values (place_index places s' i') 0) t.2))
               (here_or s' i' s i);
           each = each_kept w w' pushes places id u p refl
               (view_kept w w' pushes u (λ _. tt) (λ _. walks) record { hold = tt; turn = λ t. absurd (omega arith); taken = mine.taken; read = mine.read })
@@ -373,8 +373,8 @@ module _ (places all : ℕ) (w : BucketState) (id : ℕ) (v : View) (f : Facts p
         marked = λ s i a b m. let t = p.marked s i a b m in (
           t.0,
           ⊎_elim (λ (q : (s ≡ w.live) × (t.0 ≡ w.epoch)). inr (q.0 ∙ sym o.2, ap suc q.1))
-              (λ (q : (s ≡ other w.live) × (suc t.0 ≡ w.epoch)). let none = (clean i b).0 in let c : get_or w.marks (spot places s i) 0 ≡ get_or w.marks (spot places (other w.live) i) 0 = (λ z. get_or w.marks (spot places (q.0 z) i) 0) in absurd (omega arith)) t.1,
-          pushes t.0 i (get_or w.values (spot places s i) 0) t.2,
+              (λ (q : (s ≡ other w.live) × (suc t.0 ≡ w.epoch)). let none = (clean i b).0 in let c : get_or w.marks (place_index places s i) 0 ≡ get_or w.marks (place_index places (other w.live) i) 0 = (λ z. get_or w.marks (place_index places (q.0 z) i) 0) in absurd (omega arith)) t.1,
+          pushes t.0 i (get_or w.values (place_index places s i) 0) t.2,
         );
         each = each_kept w w' pushes places id u p refl
             record {
@@ -401,27 +401,27 @@ module _ (places all : ℕ) (w : BucketState) (id : ℕ) (v : View) (f : Facts p
       other_placed w' pushes ticketed free j z n there (Settling s xs) h fits k = tt
 
       -- the live side's marks are those of the epoch that ended, and the other side has none
-      marks_next : (d i : ℕ) → get_or w.marks (spot places (other w.live) i) 0 ≡ 0 → other (other w.live) ≡ w.live
-          → cond (eqb d (suc w.epoch)) (get_or w.marks (spot places (other w.live) i) 0) (cond (eqb (suc d) (suc w.epoch)) (get_or w.marks (spot places (other (other w.live)) i) 0) 0) ≡ mark_of places w d i
+      marks_next : (d i : ℕ) → get_or w.marks (place_index places (other w.live) i) 0 ≡ 0 → other (other w.live) ≡ w.live
+          → cond (eqb d (suc w.epoch)) (get_or w.marks (place_index places (other w.live) i) 0) (cond (eqb (suc d) (suc w.epoch)) (get_or w.marks (place_index places (other (other w.live)) i) 0) 0) ≡ mark_of places w d i
       marks_next d i none back = dite (ℕ_discrete d w.epoch)
-          (λ a. ap (λ c. cond c (get_or w.marks (spot places (other w.live) i) 0) (cond (eqb (suc d) (suc w.epoch)) (get_or w.marks (spot places (other (other w.live)) i) 0) 0)) (ne_eqb d (suc w.epoch) (λ q. omega arith))
-          ∙ (ap (λ c. cond c (get_or w.marks (spot places (other (other w.live)) i) 0) 0) (eq-eqb (suc d) (suc w.epoch) (ap suc a))
-          ∙ ((λ k. get_or w.marks (spot places (back k) i) 0) ∙ sym (ap (λ c. cond c (get_or w.marks (spot places w.live i) 0) (cond (eqb (suc d) w.epoch) (get_or w.marks (spot places (other w.live) i) 0) 0)) (eq-eqb d w.epoch a)))))
+          (λ a. ap (λ c. cond c (get_or w.marks (place_index places (other w.live) i) 0) (cond (eqb (suc d) (suc w.epoch)) (get_or w.marks (place_index places (other (other w.live)) i) 0) 0)) (ne_eqb d (suc w.epoch) (λ q. omega arith))
+          ∙ (ap (λ c. cond c (get_or w.marks (place_index places (other (other w.live)) i) 0) 0) (eq-eqb (suc d) (suc w.epoch) (ap suc a))
+          ∙ ((λ k. get_or w.marks (place_index places (back k) i) 0) ∙ sym (ap (λ c. cond c (get_or w.marks (place_index places w.live i) 0) (cond (eqb (suc d) w.epoch) (get_or w.marks (place_index places (other w.live) i) 0) 0)) (eq-eqb d w.epoch a)))))
           (λ a. zero_next d a ∙ sym (zero_now d a))
         where
-          zero_next : (d : ℕ) → d ≢ w.epoch → cond (eqb d (suc w.epoch)) (get_or w.marks (spot places (other w.live) i) 0) (cond (eqb (suc d) (suc w.epoch)) (get_or w.marks (spot places (other (other w.live)) i) 0) 0) ≡ 0
-          zero_next d a = ap (λ c. cond (eqb d (suc w.epoch)) (get_or w.marks (spot places (other w.live) i) 0) (cond c (get_or w.marks (spot places (other (other w.live)) i) 0) 0)) (ne_eqb (suc d) (suc w.epoch) (λ q. a (omega arith)))
+          zero_next : (d : ℕ) → d ≢ w.epoch → cond (eqb d (suc w.epoch)) (get_or w.marks (place_index places (other w.live) i) 0) (cond (eqb (suc d) (suc w.epoch)) (get_or w.marks (place_index places (other (other w.live)) i) 0) 0) ≡ 0
+          zero_next d a = ap (λ c. cond (eqb d (suc w.epoch)) (get_or w.marks (place_index places (other w.live) i) 0) (cond c (get_or w.marks (place_index places (other (other w.live)) i) 0) 0)) (ne_eqb (suc d) (suc w.epoch) (λ q. a (omega arith)))
               ∙ (ap (λ (n : ℕ). cond (eqb d (suc w.epoch)) n 0) none ∙ cond_same d (suc w.epoch) 0)
 
           zero_now : (d : ℕ) → d ≢ w.epoch → mark_of places w d i ≡ 0
-          zero_now d a = ap (λ c. cond c (get_or w.marks (spot places w.live i) 0) (cond (eqb (suc d) w.epoch) (get_or w.marks (spot places (other w.live) i) 0) 0)) (ne_eqb d w.epoch a)
+          zero_now d a = ap (λ c. cond c (get_or w.marks (place_index places w.live i) 0) (cond (eqb (suc d) w.epoch) (get_or w.marks (place_index places (other w.live) i) 0) 0)) (ne_eqb d w.epoch a)
               ∙ (ap (λ (n : ℕ). cond (eqb (suc d) w.epoch) n 0) none ∙ cond_same (suc d) w.epoch 0)
 
   pub wipes : (s i x : ℕ) (visits : List Visit) → v.hold ≡ Clearing s visits → get_elem? visits i ≡ some (Read x)
-      → Placed places record w { marks = set w.marks (spot places s i) 0; views = set w.views id (holding v (Clearing s (set visits i (Wiped x)))) }
+      → Placed places record w { marks = set w.marks (place_index places s i) 0; views = set w.views id (holding v (Clearing s (set visits i (Wiped x)))) }
   wipes s i x visits e there =
       let u : View = holding v (Clearing s (set visits i (Wiped x))) in
-      let w' : BucketState = record w { marks = set w.marks (spot places s i) 0; views = set w.views id u } in
+      let w' : BucketState = record w { marks = set w.marks (place_index places s i) 0; views = set w.views id u } in
       let walks : walks_made w' ≡ walks_made w = (let t = total_set walks_of w.views id v u at in omega arith) in
       let fits : HoldFits places all w v.weight (Clearing s visits) = subst (HoldFits places all w v.weight) e (f.each id v at).hold in
       let placed : HoldPlaced w v.epoch (Clearing s visits) = subst (HoldPlaced w v.epoch) e mine.hold in
@@ -431,12 +431,12 @@ module _ (places all : ℕ) (w : BucketState) (id : ℕ) (v : View) (f : Facts p
       let most = fits.1 in
       let i2 : i < places = omega arith in
       let visit = fits.2 i (Read x) there in
-      let marked : get_or w.marks (spot places s i) 0 ≡ 1 = visit.0 in
+      let marked : get_or w.marks (place_index places s i) 0 ≡ 1 = visit.0 in
       let of_side : IsEpochOf w s v.epoch = inr (fits.0, placed.0) in
       let long = length-set visits i (Wiped x) in
-      let in_range = spot_below places s i i2 in
+      let in_range = index_below places s i i2 in
       let marks_long = f.marks_long in
-      let here : get_or (set w.marks (spot places s i) 0) (spot places s i) 0 ≡ 0 = get_or-set_same w.marks (spot places s i) 0 0 (omega arith) in
+      let here : get_or (set w.marks (place_index places s i) 0) (place_index places s i) 0 ≡ 0 = get_or-set_same w.marks (place_index places s i) 0 0 (omega arith) in
       let pushes : (k i x : ℕ) → IsPush w k i x → IsPush w' k i x = push_kept w w' id v u at refl refl in
       let told_same : (k : ℕ) → total (told_of k) w'.views ≡ total (told_of k) w.views = λ k.
       let t = total_set (told_of k) w.views id v u at in
@@ -484,10 +484,10 @@ module _ (places all : ℕ) (w : BucketState) (id : ℕ) (v : View) (f : Facts p
             omega arith)
             (here_or d j v.epoch i);
         marked = λ s' i' a b m. ⊎_elim
-            (λ (q : (s' ≡ s) × (i' ≡ i)). let same_place : get_or (set w.marks (spot places s i) 0) (spot places s' i') 0 ≡ get_or (set w.marks (spot places s i) 0) (spot places s i) 0 = (λ l. get_or (set w.marks (spot places s i) 0) (spot places (q.0 l) (q.1 l)) 0) in absurd (omega arith))
+            (λ (q : (s' ≡ s) × (i' ≡ i)). let same_place : get_or (set w.marks (place_index places s i) 0) (place_index places s' i') 0 ≡ get_or (set w.marks (place_index places s i) 0) (place_index places s i) 0 = (λ l. get_or (set w.marks (place_index places s i) 0) (place_index places (q.0 l) (q.1 l)) 0) in absurd (omega arith))
             (λ (n : s' ≡ s → i' ≡ i → ⊥).
-            let t = p.marked s' i' a b (sym (get_or-set_other w.marks (spot places s i) (spot places s' i') 0 0 (spot_apart places s' i' s i a s2 b i2 n)) ∙ m) in
-            (t.0, t.1, pushes t.0 i' (get_or w.values (spot places s' i') 0) t.2))
+            let t = p.marked s' i' a b (sym (get_or-set_other w.marks (place_index places s i) (place_index places s' i') 0 0 (index_apart places s' i' s i a s2 b i2 n)) ∙ m) in
+            (t.0, t.1, pushes t.0 i' (get_or w.values (place_index places s' i') 0) t.2))
             (here_or s' i' s i);
         each = each_kept w w' pushes places id u p refl
             (view_kept w w' pushes u (λ _. after) (λ _. walks) record { hold = (placed.0, λ j c at_j. ⊎_elim
@@ -538,7 +538,7 @@ module _ (places all : ℕ) (w : BucketState) (id : ℕ) (v : View) (f : Facts p
             ap (λ (n : ℕ). cond (eqb d v.epoch) n 0) (all_wiped visits j (λ i c there. ap is_wiped (done i c there).1) ∙ ap (below j) (sym long))
             in
             omega arith;
-        marked = λ s i a b m. let t = p.marked s i a b m in (t.0, t.1, pushes t.0 i (get_or w.values (spot places s i) 0) t.2);
+        marked = λ s i a b m. let t = p.marked s i a b m in (t.0, t.1, pushes t.0 i (get_or w.values (place_index places s i) 0) t.2);
         each = each_kept w w' pushes places id u p refl
             record {
               hold = tt;
@@ -580,7 +580,7 @@ module _ (places all : ℕ) (w : BucketState) (id : ℕ) (v : View) (f : Facts p
             let c = total_set (wipes_at d j) w.views id v u at in
             let z : wiped_hold d j v.epoch v.hold ≡ 0 = ap (wiped_hold d j v.epoch) e in
             omega arith;
-        marked = λ s i a b m. let t = p.marked s i a b m in (t.0, t.1, pushes t.0 i (get_or w.values (spot places s i) 0) t.2);
+        marked = λ s i a b m. let t = p.marked s i a b m in (t.0, t.1, pushes t.0 i (get_or w.values (place_index places s i) 0) t.2);
         each = each_kept w w' pushes places id u p refl
             record {
               hold = tt;
@@ -594,7 +594,7 @@ module _ (places all : ℕ) (w : BucketState) (id : ℕ) (v : View) (f : Facts p
       }
 
   -- what a walk reads at a place with mark 1 is the place's push
-  pub reads_push : (s i : ℕ) → s < 2 → i < places → IsEpochOf w s v.epoch → get_or w.marks (spot places s i) 0 ≡ 1 → IsPush w v.epoch i (get_or w.values (spot places s i) 0)
+  pub reads_push : (s i : ℕ) → s < 2 → i < places → IsEpochOf w s v.epoch → get_or w.marks (place_index places s i) 0 ≡ 1 → IsPush w v.epoch i (get_or w.values (place_index places s i) 0)
   reads_push s i a b of_side one =
       let t = p.marked s i a b one in
       let o = other_side w.live f.side in
@@ -603,4 +603,4 @@ module _ (places all : ℕ) (w : BucketState) (id : ℕ) (v : View) (f : Facts p
       (λ (q : (s ≡ other w.live) × (suc t.0 ≡ w.epoch)). ⊎_elim (λ (r : (s ≡ w.live) × (v.epoch ≡ w.epoch)). absurd (o.1 (sym r.0 ∙ q.0))) (λ (r : (s ≡ other w.live) × (suc v.epoch ≡ w.epoch)). let x = q.1 in let y = r.1 in omega arith) of_side)
       t.1
       in
-      subst (λ (n : ℕ). IsPush w n i (get_or w.values (spot places s i) 0)) same_epoch t.2
+      subst (λ (n : ℕ). IsPush w n i (get_or w.values (place_index places s i) 0)) same_epoch t.2

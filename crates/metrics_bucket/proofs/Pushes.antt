@@ -4,9 +4,9 @@ use mathlib.Core.Option.{some}
 use lib.ListN.{get_elem?}
 use Rattle.metrics_bucket.specs.declared.view.View.{View}
 use Rattle.metrics_bucket.specs.declared.view.Hold.TheVariants.{Nothing, Ticket, Written}
-use Rattle.metrics_bucket.specs.BucketState.{total, BucketState, spot, holding, holding_at, push, pushing, ticket, write, finish, state_after}
+use Rattle.metrics_bucket.specs.BucketState.{total, BucketState, place_index, holding, holding_at, push, pushing, ticket, write, finish, state_after}
 use Rattle.metrics_bucket.specs.Facts.{same, ticket_in, ticket_at, owed_in, owed_at, turn_in, turn_of, took_in, took_of, weight_of, pushed_of, taken_of, wiped, HoldFits, ViewFits, Facts}
-use Rattle.metrics_bucket.proofs.Sums.{total_set, weigh_pushes-append, stands_value, stands_mark, spot_apart, spot_below, here_or, same_here, same_else, given_next}
+use Rattle.metrics_bucket.proofs.Sums.{total_set, weigh_pushes-append, stands_value, stands_mark, index_apart, index_below, here_or, same_here, same_else, given_next}
 use Rattle.metrics_bucket.proofs.Keep.{alone, each_after}
 
 module _ (places all : ℕ) (w : BucketState) (id : ℕ) (v : View) (f : Facts places all w) (at : get_elem? w.views id ≡ some v) (has : 0 < v.weight) where
@@ -46,18 +46,18 @@ module _ (places all : ℕ) (w : BucketState) (id : ℕ) (v : View) (f : Facts p
 
   module _ (s i : ℕ) where
     abbrev k : ℕ
-    k = spot places s i
+    k = place_index places s i
 
     pub writes : (x : ℕ) → v.hold ≡ Ticket s i → Facts places all (state_after places w id v (write s i x))
     writes x e =
         let u : View = holding v (Written s i x) in
         let fits : HoldFits places all w v.weight (Ticket s i) = subst (HoldFits places all w v.weight) e mine.hold in
         let single = alone places all w f id v s i at fits.0 fits.1 (ap (ticket_in s i) e ∙ same_here s i s i refl refl) in
-        let in_range = spot_below places s i fits.1 in
+        let in_range = index_below places s i fits.1 in
         let long = f.values_long in
         let W : BucketState = state_after places w id v (write s i x) in
-        let apart : (s' i' : ℕ) → s' < 2 → i' < places → (s' ≡ s → i' ≡ i → ⊥) → get_or (set w.values k x) (spot places s' i') 0 ≡ get_or w.values (spot places s' i') 0 =
-        λ s' i' a b n. get_or-set_other w.values k (spot places s' i') x 0 (spot_apart places s' i' s i a fits.0 b fits.1 n)
+        let apart : (s' i' : ℕ) → s' < 2 → i' < places → (s' ≡ s → i' ≡ i → ⊥) → get_or (set w.values k x) (place_index places s' i') 0 ≡ get_or w.values (place_index places s' i') 0 =
+        λ s' i' a b n. get_or-set_other w.values k (place_index places s' i') x 0 (index_apart places s' i' s i a fits.0 b fits.1 n)
         in record {
           side = f.side;
           room = f.room;
@@ -89,7 +89,7 @@ module _ (places all : ℕ) (w : BucketState) (id : ℕ) (v : View) (f : Facts p
               (λ j z n there s' i' a b t m. (
                 m,
                 apart s' i' a b
-                    (λ p q. let no = single.0 in let same_place : get_or w.marks (spot places s' i') 0 ≡ get_or w.marks k 0 = (λ l. get_or w.marks (spot places (p l) (q l)) 0) in absurd (omega arith)),
+                    (λ p q. let no = single.0 in let same_place : get_or w.marks (place_index places s' i') 0 ≡ get_or w.marks k 0 = (λ l. get_or w.marks (place_index places (p l) (q l)) 0) in absurd (omega arith)),
               ));
         }
 
@@ -98,13 +98,13 @@ module _ (places all : ℕ) (w : BucketState) (id : ℕ) (v : View) (f : Facts p
         let u : View = pushing v i x in
         let fits : HoldFits places all w v.weight (Written s i x) = subst (HoldFits places all w v.weight) e mine.hold in
         let single = alone places all w f id v s i at fits.0 fits.1 (ap (ticket_in s i) e ∙ same_here s i s i refl refl) in
-        let in_range = spot_below places s i fits.1 in
+        let in_range = index_below places s i fits.1 in
         let long = f.values_long in
         let marks_long = f.marks_long in
         let W : BucketState = state_after places w id v (finish s i x) in
         let none_yet = single.0 in
-        let apart : (s' i' : ℕ) → s' < 2 → i' < places → (s' ≡ s → i' ≡ i → ⊥) → get_or (set w.marks k 1) (spot places s' i') 0 ≡ get_or w.marks (spot places s' i') 0 =
-        λ s' i' a b n. get_or-set_other w.marks k (spot places s' i') 1 0 (spot_apart places s' i' s i a fits.0 b fits.1 n)
+        let apart : (s' i' : ℕ) → s' < 2 → i' < places → (s' ≡ s → i' ≡ i → ⊥) → get_or (set w.marks k 1) (place_index places s' i') 0 ≡ get_or w.marks (place_index places s' i') 0 =
+        λ s' i' a b n. get_or-set_other w.marks k (place_index places s' i') 1 0 (index_apart places s' i' s i a fits.0 b fits.1 n)
         in
         let here : get_or (set w.marks k 1) k 0 ≡ 1 = get_or-set_same w.marks k 1 0 (omega arith) in
         record {
@@ -121,8 +121,8 @@ module _ (places all : ℕ) (w : BucketState) (id : ℕ) (v : View) (f : Facts p
               ⊎_elim
               (λ (r : (s' ≡ s) × (i' ≡ i)).
               let one = same_here s' i' s i r.0 r.1 in
-              let now : get_or (set w.marks k 1) (spot places s' i') 0 ≡ 1 = (λ m. get_or (set w.marks k 1) (spot places (r.0 m) (r.1 m)) 0) ∙ here in
-              let was : get_or w.marks (spot places s' i') 0 ≡ 0 = (λ m. get_or w.marks (spot places (r.0 m) (r.1 m)) 0) ∙ none_yet in
+              let now : get_or (set w.marks k 1) (place_index places s' i') 0 ≡ 1 = (λ m. get_or (set w.marks k 1) (place_index places (r.0 m) (r.1 m)) 0) ∙ here in
+              let was : get_or w.marks (place_index places s' i') 0 ≡ 0 = (λ m. get_or w.marks (place_index places (r.0 m) (r.1 m)) 0) ∙ none_yet in
               omega arith)
               (λ (n : s' ≡ s → i' ≡ i → ⊥). let zero_here = same_else s' i' s i n in let m = apart s' i' a b n in omega arith)
               (here_or s' i' s i);
@@ -145,7 +145,7 @@ module _ (places all : ℕ) (w : BucketState) (id : ℕ) (v : View) (f : Facts p
               (λ j z n there s' i' a b t. refl)
               (λ j z n there s' i' a b t m. (
                 apart s' i' a b
-                    (λ p q. let same_place : get_or w.marks (spot places s' i') 0 ≡ get_or w.marks k 0 = (λ l. get_or w.marks (spot places (p l) (q l)) 0) in absurd (omega arith))
+                    (λ p q. let same_place : get_or w.marks (place_index places s' i') 0 ≡ get_or w.marks k 0 = (λ l. get_or w.marks (place_index places (p l) (q l)) 0) in absurd (omega arith))
                     ∙ m,
                 refl,
               ));

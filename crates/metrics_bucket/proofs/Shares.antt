@@ -7,7 +7,7 @@ use Rattle.metrics_bucket.specs.declared.view.Walk.{Walk}
 use Rattle.metrics_bucket.specs.declared.view.View.{View}
 use Rattle.metrics_bucket.specs.declared.view.Hold.{Hold}
 use Rattle.metrics_bucket.specs.declared.view.Hold.TheVariants.{Nothing, Ticket, Written, Claimed, SideKnown, Reading, Clearing, Settling}
-use Rattle.metrics_bucket.specs.BucketState.{total, BucketState, spot, new_view, left_part, right_part, both_parts}
+use Rattle.metrics_bucket.specs.BucketState.{total, BucketState, place_index, new_view, left_part, right_part, both_parts}
 use Rattle.metrics_bucket.specs.Facts.{weigh, weigh_pushes, weigh_walks, stands, given_at, ticket_in, ticket_at, owed_in, owed_at, turn_in, turn_of, took_in, took_of, weight_of, pushed_of, taken_of, wiped, HoldFits, IsIdle, ViewFits, Facts}
 use Rattle.metrics_bucket.proofs.Sums.{total_set, total_snoc, weigh_pushes-append, given_here, given_else}
 
@@ -49,7 +49,7 @@ opens places all views sum new =
       values_long = length_zero (places + places);
       marks_long = length_zero (places + places);
       even = λ s i a b.
-          let m = get_zero (places + places) (spot places s i) in
+          let m = get_zero (places + places) (place_index places s i) in
           let t = none_of (ticket_at s i) (λ v z. ap (ticket_in s i) z.3) in
           let o = none_of (owed_at s i) (λ v z. ap (owed_in s i) z.3) in
           let g : given_at 0 0 s i ≡ 0 = none_given s i in

@@ -12,7 +12,7 @@ use Rattle.metrics_bucket.specs.declared.view.Hold.{Hold}
 use Rattle.metrics_bucket.specs.declared.view.Hold.TheVariants.{Nothing, Ticket, Written, Claimed, SideKnown, Reading, Clearing, Settling}
 use Rattle.metrics_bucket.specs.declared.view.Visit.{Visit}
 use Rattle.metrics_bucket.specs.declared.view.Visit.TheVariants.{Unseen, Marked, Read, Wiped}
-use Rattle.metrics_bucket.specs.BucketState.{BucketState, total, walks_of, walks_made, other, spot, side_of, put_visit, value_in, values_in, walk, leaving, left_from, left_part, right_part, both_parts, new_view, whole_view, holds_as, push, pushing, holding, holding_at, Act, look, look_to_settle, ticket, write, finish, claim, look_to_read, look_to_clear, takes, see, read, wipe, leave, quit, split, join, view_after, state_after}
+use Rattle.metrics_bucket.specs.BucketState.{BucketState, total, walks_of, walks_made, other, place_index, side_of, put_visit, value_in, values_in, walk, leaving, left_from, left_part, right_part, both_parts, new_view, whole_view, holds_as, push, pushing, holding, holding_at, Act, look, look_to_settle, ticket, write, finish, claim, look_to_read, look_to_clear, takes, see, read, wipe, leave, quit, split, join, view_after, state_after}
 use Rattle.metrics_bucket.specs.Facts.{same, below, turn_in, turn_of, took_in, weight_of, HoldFits, Facts}
 use Rattle.metrics_bucket.specs.Places.{pushes_at, held_in, pushed_at, tickets_at, walks_in, takes_in, lengths_of, clearing_of, told_of, wipes_at, given_of, mark_of, IsPush, WalkFinds, VisitFinds, VisitsFind, HoldPlaced, Placed}
 use Rattle.metrics_bucket.specs.History.{HasVisit, CanLeave, CanQuit, May, Event, Runs, start, opened}
@@ -104,7 +104,7 @@ module _ (places all : ℕ) (w : BucketState) (id : ℕ) (v : View) (f : Facts p
   tickets_same look_to_clear m other_act e i = by_view e i (view_after places w v look_to_clear) (let a : held_in e i v.epoch v.hold ≡ 0 = ap (held_in e i v.epoch) m in omega arith)
   tickets_same takes m other_act e i = by_view e i (view_after places w v takes) (let a : held_in e i v.epoch v.hold ≡ 0 = ap (held_in e i v.epoch) m.1 in omega arith)
   tickets_same (see j) m other_act e i = by_view e i (view_after places w v (see j)) (ap (λ (n : ℕ). pushed_at e i v + n) (held_put e i v.epoch v.hold j Marked))
-  tickets_same (read j) m other_act e i = by_view e i (view_after places w v (read j)) (ap (λ (n : ℕ). pushed_at e i v + n) (held_put e i v.epoch v.hold j (Read (get_or w.values (spot places (side_of v.hold) j) 0))))
+  tickets_same (read j) m other_act e i = by_view e i (view_after places w v (read j)) (ap (λ (n : ℕ). pushed_at e i v + n) (held_put e i v.epoch v.hold j (Read (get_or w.values (place_index places (side_of v.hold) j) 0))))
   tickets_same (wipe s j x) m other_act e i = by_view e i (view_after places w v (wipe s j x)) (ap (λ (n : ℕ). pushed_at e i v + n) (held_put e i v.epoch v.hold j (Wiped x)))
   tickets_same leave m other_act e i = by_view e i (leaving v) (left_tickets e i v v.hold m)
   tickets_same quit m other_act e i = by_view e i (view_after places w v quit) (let a = held_quit e i v.epoch v.hold m in omega arith)
@@ -264,7 +264,7 @@ push_room places all w f p j n v q at there =
     (λ q. let z = p.told e (omega arith) in let c = cond_here e w.epoch w.given q in omega arith)
     (λ q. let c = cond_else e w.epoch w.given q in omega arith)
 
-visits_marked : (places all : ℕ) (w : BucketState) (weight : ℕ) (hold : Hold) → HoldFits places all w weight hold → (i : ℕ) → HasVisit hold i Marked → get_or w.marks (spot places (side_of hold) i) 0 ≡ 1
+visits_marked : (places all : ℕ) (w : BucketState) (weight : ℕ) (hold : Hold) → HoldFits places all w weight hold → (i : ℕ) → HasVisit hold i Marked → get_or w.marks (place_index places (side_of hold) i) 0 ≡ 1
 visits_marked places all w weight (Reading s visits) h i c = h.2 i Marked c
 visits_marked places all w weight (Clearing s visits) h i c = h.2 i Marked c
 visits_marked places all w weight Nothing h i c = absurd c

@@ -7,7 +7,7 @@ use lib.ListN.{get_elem?}
 use Rattle.metrics_bucket.specs.declared.view.Push.{Push}
 use Rattle.metrics_bucket.specs.declared.view.View.{View}
 use Rattle.metrics_bucket.specs.declared.view.Visit.TheVariants.{Unseen}
-use Rattle.metrics_bucket.specs.BucketState.{total, spot}
+use Rattle.metrics_bucket.specs.BucketState.{total, place_index}
 use Rattle.metrics_bucket.specs.Facts.{weigh, weigh_pushes, stands, same, below, given_at, open_at}
 
 pub total_set : (f : View → ℕ) (vs : List View) (j : ℕ) (v w : View) → get_elem? vs j ≡ some v → total f (set vs j w) + f v ≡ total f vs + f w
@@ -75,15 +75,15 @@ stands_unmark h (y ∷ ys) (zero ∷ ms) (suc k) l m e = stands_unmark h ys ms k
 stands_unmark h (y ∷ ys) (suc n ∷ ms) (suc k) l m e = let r = stands_unmark h ys ms k (omega arith) (omega arith) e in omega arith
 
 -- two different places stand apart in the lists
-pub spot_apart : (places s i s' i' : ℕ) → s < 2 → s' < 2 → i < places → i' < places → (s ≡ s' → i ≡ i' → ⊥) → spot places s i ≢ spot places s' i'
-spot_apart p zero i zero i' a b c d n e = n refl (omega arith)
-spot_apart p zero i (suc s') i' a b c d n e = omega arith
-spot_apart p (suc s) i zero i' a b c d n e = omega arith
-spot_apart p (suc s) i (suc s') i' a b c d n e = n (omega arith) (omega arith)
+pub index_apart : (places s i s' i' : ℕ) → s < 2 → s' < 2 → i < places → i' < places → (s ≡ s' → i ≡ i' → ⊥) → place_index places s i ≢ place_index places s' i'
+index_apart p zero i zero i' a b c d n e = n refl (omega arith)
+index_apart p zero i (suc s') i' a b c d n e = omega arith
+index_apart p (suc s) i zero i' a b c d n e = omega arith
+index_apart p (suc s) i (suc s') i' a b c d n e = n (omega arith) (omega arith)
 
-pub spot_below : (places s i : ℕ) → i < places → spot places s i < places + places
-spot_below p zero i l = omega arith
-spot_below p (suc s) i l = omega arith
+pub index_below : (places s i : ℕ) → i < places → place_index places s i < places + places
+index_below p zero i l = omega arith
+index_below p (suc s) i l = omega arith
 
 pub here_or : (s i s' i' : ℕ) → ((s ≡ s') × (i ≡ i')) ⊎ (s ≡ s' → i ≡ i' → ⊥)
 here_or s i s' i' = dite (ℕ_discrete s s') (λ p. dite (ℕ_discrete i i') (λ q. inl (p, q)) (λ n. inr (λ a b. n b))) (λ n. inr (λ a b. n a))

@@ -10,9 +10,9 @@ use Rattle.metrics_bucket.specs.declared.view.Hold.{Hold}
 use Rattle.metrics_bucket.specs.declared.view.Hold.TheVariants.{Nothing, Claimed, SideKnown, Reading, Clearing, Settling}
 use Rattle.metrics_bucket.specs.declared.view.Visit.{Visit}
 use Rattle.metrics_bucket.specs.declared.view.Visit.TheVariants.{Unseen, Marked, Read, Wiped}
-use Rattle.metrics_bucket.specs.BucketState.{total, BucketState, other, spot, live_values, holding, holding_at, claiming, walks_made, look_to_settle, claim, look_to_read, look_to_clear, takes, state_after}
+use Rattle.metrics_bucket.specs.BucketState.{total, BucketState, other, place_index, live_values, holding, holding_at, claiming, walks_made, look_to_settle, claim, look_to_read, look_to_clear, takes, state_after}
 use Rattle.metrics_bucket.specs.Facts.{given_at, ticket_in, ticket_at, is_open, owed_in, owed_at, turn_in, turn_of, took_in, took_of, weight_of, pushed_of, taken_of, wiped, wiped_visit, wiped_in, VisitFits, VisitsFit, HoldFits, ViewFits, Facts}
-use Rattle.metrics_bucket.proofs.Sums.{total_set, total_one, weigh-append, spot_apart, spot_below, here_or, same_here, same_else, given_here, given_else, open_new, below_over, stands_unmark}
+use Rattle.metrics_bucket.proofs.Sums.{total_set, total_one, weigh-append, index_apart, index_below, here_or, same_here, same_else, given_here, given_else, open_new, below_over, stands_unmark}
 use Rattle.metrics_bucket.proofs.Keep.{other_side, turn_alone, owed_le, each_after}
 use Rattle.metrics_bucket.proofs.Visits.{open_kept, wiped_set, wiped_new, new_visit, length_new, other_next}
 
@@ -94,7 +94,7 @@ module _ (places all : ℕ) (w : BucketState) (id : ℕ) (v : View) (f : Facts p
   pub surveys : v.hold ≡ Claimed → Facts places all (state_after places w id v look_to_read)
   surveys e = keeps_hold w.epoch (Reading w.live (replicate w.given Unseen))
       (λ s i. sym (ap (ticket_in s i) e)) (λ s i. sym (ap (owed_in s i) e)) (sym (ap turn_in e)) (sym (ap took_in e)) (λ h. sym (ap (wiped h) e))
-      (let l = length_new w.given in (refl, omega arith, (λ i c there. subst (VisitFits (get_or w.marks (spot places w.live i) 0) (get_or w.values (spot places w.live i) 0)) (new_visit w.given i c there) tt), λ _. l))
+      (let l = length_new w.given in (refl, omega arith, (λ i c there. subst (VisitFits (get_or w.marks (place_index places w.live i) 0) (get_or w.values (place_index places w.live i) 0)) (new_visit w.given i c there) tt), λ _. l))
 
   pub gathers : v.hold ≡ Nothing → v.weight ≡ all → Facts places all (state_after places w id v look_to_settle)
   gathers e whole = keeps_hold v.epoch (Settling w.live (live_values places w))
@@ -107,7 +107,7 @@ module _ (places all : ℕ) (w : BucketState) (id : ℕ) (v : View) (f : Facts p
       refl
 
   -- at each take the side that becomes live has no mark and no ticket under way
-  pub take_clean : (t : ℕ) → v.hold ≡ SideKnown t → (i : ℕ) → i < places → (get_or w.marks (spot places (other w.live) i) 0 ≡ 0) × (total (ticket_at (other w.live) i) w.views ≡ 0)
+  pub take_clean : (t : ℕ) → v.hold ≡ SideKnown t → (i : ℕ) → i < places → (get_or w.marks (place_index places (other w.live) i) 0 ≡ 0) × (total (ticket_at (other w.live) i) w.views ≡ 0)
   take_clean t e i l =
       let o = other_side w.live f.side in
       let x = f.even (other w.live) i o.0 l in
@@ -152,7 +152,7 @@ module _ (places all : ℕ) (w : BucketState) (id : ℕ) (v : View) (f : Facts p
             let k1 : wiped h u.hold ≡ 0 = wiped_new h w.given in
             omega arith;
         each = each_after places all w (state_after places w id v takes) id v u f at has refl refl refl (λ h. omega arith)
-            (sym o.2, omega arith, (λ i c there. subst (VisitFits (get_or w.marks (spot places w.live i) 0) (get_or w.values (spot places w.live i) 0)) (new_visit w.given i c there) tt), λ _. refl)
+            (sym o.2, omega arith, (λ i c there. subst (VisitFits (get_or w.marks (place_index places w.live i) 0) (get_or w.values (place_index places w.live i) 0)) (new_visit w.given i c there) tt), λ _. refl)
             mine.reads
             (λ j z n there turn. let none_there = alone_here j z n there in absurd (omega arith))
             (λ j z n there s i a b t. refl)
@@ -160,14 +160,14 @@ module _ (places all : ℕ) (w : BucketState) (id : ℕ) (v : View) (f : Facts p
       }
 
   -- a visit of a walk is seen or read
-  visits_fit : (s i : ℕ) (visits : List Visit) (d : Visit) → VisitsFit places w s visits → VisitFits (get_or w.marks (spot places s i) 0) (get_or w.values (spot places s i) 0) d → VisitsFit places w s (set visits i d)
+  visits_fit : (s i : ℕ) (visits : List Visit) (d : Visit) → VisitsFit places w s visits → VisitFits (get_or w.marks (place_index places s i) 0) (get_or w.values (place_index places s i) 0) d → VisitsFit places w s (set visits i d)
   visits_fit s i visits d fits new j c there = ⊎_elim
-      (λ (t : (j ≡ i) × (d ≡ c)). subst (λ (z : ℕ × Visit). VisitFits (get_or w.marks (spot places s z.0) 0) (get_or w.values (spot places s z.0) 0) z.1) (λ k. (sym t.0 k, t.1 k)) new)
+      (λ (t : (j ≡ i) × (d ≡ c)). subst (λ (z : ℕ × Visit). VisitFits (get_or w.marks (place_index places s z.0) 0) (get_or w.values (place_index places s z.0) 0) z.1) (λ k. (sym t.0 k, t.1 k)) new)
       (λ (t : (j ≢ i) × (get_elem? visits j ≡ some c)). fits j c t.1)
       (at_set visits i j d c there)
 
   pub visit_reading : (s i : ℕ) (visits : List Visit) (c d : Visit) → v.hold ≡ Reading s visits → get_elem? visits i ≡ some c
-      → VisitFits (get_or w.marks (spot places s i) 0) (get_or w.values (spot places s i) 0) d → Facts places all (with_hold (Reading s (set visits i d)))
+      → VisitFits (get_or w.marks (place_index places s i) 0) (get_or w.values (place_index places s i) 0) d → Facts places all (with_hold (Reading s (set visits i d)))
   visit_reading s i visits c d e there new =
       let fits : HoldFits places all w v.weight (Reading s visits) = subst (HoldFits places all w v.weight) e mine.hold in
       let l = length-set visits i d in let k = fits.1 in
@@ -175,7 +175,7 @@ module _ (places all : ℕ) (w : BucketState) (id : ℕ) (v : View) (f : Facts p
       (fits.0, omega arith, visits_fit s i visits d fits.2 new, λ whole. l ∙ fits.3 whole)
 
   pub visit_clearing : (s i : ℕ) (visits : List Visit) (c d : Visit) → v.hold ≡ Clearing s visits → get_elem? visits i ≡ some c → is_open c ≡ 1 → is_open d ≡ 1
-      → VisitFits (get_or w.marks (spot places s i) 0) (get_or w.values (spot places s i) 0) d → Facts places all (with_hold (Clearing s (set visits i d)))
+      → VisitFits (get_or w.marks (place_index places s i) 0) (get_or w.values (place_index places s i) 0) d → Facts places all (with_hold (Clearing s (set visits i d)))
   visit_clearing s i visits c d e there a b new =
       let fits : HoldFits places all w v.weight (Clearing s visits) = subst (HoldFits places all w v.weight) e mine.hold in
       let l = length-set visits i d in let k = fits.1 in

@@ -8,7 +8,7 @@ use Rattle.metrics_bucket.specs.declared.view.View.{View}
 use Rattle.metrics_bucket.specs.declared.view.Hold.TheVariants.{SideKnown, Clearing}
 use Rattle.metrics_bucket.specs.declared.view.Visit.{Visit}
 use Rattle.metrics_bucket.specs.declared.view.Visit.TheVariants.{Marked}
-use Rattle.metrics_bucket.specs.BucketState.{BucketState, total, walks_made, other, spot, side_of, values_in, walk, leaving, Act, ticket, write, finish, claim, look_to_clear, takes, see, read, wipe, leave, quit}
+use Rattle.metrics_bucket.specs.BucketState.{BucketState, total, walks_made, other, place_index, side_of, values_in, walk, leaving, Act, ticket, write, finish, claim, look_to_clear, takes, see, read, wipe, leave, quit}
 use Rattle.metrics_bucket.specs.Facts.{below, ticket_at, Facts}
 use Rattle.metrics_bucket.specs.Places.{pushed_at, tickets_at, takes_in, wipes_at, given_of, mark_of, IsPush, WalkFinds, HoldPlaced}
 use Rattle.metrics_bucket.specs.History.{HasVisit, CanLeave, Event, Runs, start, opened}
@@ -40,7 +40,7 @@ InOnePlace places w = (j n : ℕ) (v : View) (p : Push) → get_elem? w.views j 
 abbrev pub FindsPushes : ℕ → BucketState → Type 0
 FindsPushes places w = ((j : ℕ) (v : View) → get_elem? w.views j ≡ some v
     → ((n : ℕ) (walk : Walk) → get_elem? v.taken n ≡ some walk → WalkFinds w walk) × ((n : ℕ) (walk : Walk) → get_elem? v.read n ≡ some walk → WalkFinds w walk) × HoldPlaced w v.epoch v.hold
-    × ((i : ℕ) → HasVisit v.hold i Marked → slice_index w.marks (spot places (side_of v.hold) i) ≡ 1))
+    × ((i : ℕ) → HasVisit v.hold i Marked → slice_index w.marks (place_index places (side_of v.hold) i) ≡ 1))
     × ((j n : ℕ) (v : View) (p : Push) → get_elem? w.views j ≡ some v → get_elem? v.pushed n ≡ some p → IsPush w p.epoch p.place p.value)
 
 -- when a clear leaves, its list has the value of each ticket that was given in its epoch, at the ticket's place, and no other value
@@ -51,7 +51,7 @@ LeavesComplete history w = (j s : ℕ) (v : View) (visits : List Visit) → get_
 
 -- where a clear is to take, the side that becomes live has no mark 1 and no ticket under way
 abbrev pub TakesClean : ℕ → BucketState → Type 0
-TakesClean places w = (j : ℕ) (v : View) (s i : ℕ) → get_elem? w.views j ≡ some v → v.hold ≡ SideKnown s → i < places → (slice_index w.marks (spot places (other w.live) i) ≡ 0) × (total (ticket_at (other w.live) i) w.views ≡ 0)
+TakesClean places w = (j : ℕ) (v : View) (s i : ℕ) → get_elem? w.views j ≡ some v → v.hold ≡ SideKnown s → i < places → (slice_index w.marks (place_index places (other w.live) i) ≡ 0) × (total (ticket_at (other w.live) i) w.views ≡ 0)
 
 abbrev pub is_claim : Act → ℕ
 is_claim claim = 1

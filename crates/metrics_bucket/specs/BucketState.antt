@@ -27,8 +27,8 @@ other zero = 1
 other (suc side) = 0
 
 -- where place i of a side stands in the lists
-abbrev pub spot : ℕ → ℕ → ℕ → ℕ
-spot places side i = base places side + i
+abbrev pub place_index : ℕ → ℕ → ℕ → ℕ
+place_index places side i = base places side + i
 
 -- the words of the table: control, turn, values, marks
 abbrev pub words_of : BucketState → List ℕ
@@ -161,7 +161,7 @@ view_after places w v look_to_read = holding_at v w.epoch (Reading w.live (repli
 view_after places w v look_to_clear = holding v (SideKnown w.live)
 view_after places w v takes = holding_at v w.epoch (Clearing w.live (replicate w.given Unseen))
 view_after places w v (see i) = holding v (put_visit v.hold i Marked)
-view_after places w v (read i) = holding v (put_visit v.hold i (Read (slice_index w.values (spot places (side_of v.hold) i))))
+view_after places w v (read i) = holding v (put_visit v.hold i (Read (slice_index w.values (place_index places (side_of v.hold) i))))
 view_after places w v (wipe s i x) = holding v (put_visit v.hold i (Wiped x))
 view_after places w v leave = leaving v
 view_after places w v quit = holding v Nothing
@@ -170,11 +170,11 @@ view_after places w v (join other_id x) = both_parts v x
 
 abbrev pub state_after : ℕ → BucketState → ℕ → View → Act → BucketState
 state_after places w by v ticket = record w { given = w.given + 1; views = slice_set w.views by (view_after places w v ticket) }
-state_after places w by v (write s i x) = record w { values = slice_set w.values (spot places s i) x; views = slice_set w.views by (view_after places w v (write s i x)) }
-state_after places w by v (finish s i x) = record w { marks = slice_set w.marks (spot places s i) 1; views = slice_set w.views by (view_after places w v (finish s i x)) }
+state_after places w by v (write s i x) = record w { values = slice_set w.values (place_index places s i) x; views = slice_set w.views by (view_after places w v (write s i x)) }
+state_after places w by v (finish s i x) = record w { marks = slice_set w.marks (place_index places s i) 1; views = slice_set w.views by (view_after places w v (finish s i x)) }
 state_after places w by v claim = record w { turn = 1; views = slice_set w.views by (view_after places w v claim) }
 state_after places w by v takes = record w { epoch = suc w.epoch; live = other w.live; given = 0; views = slice_set w.views by (view_after places w v takes) }
-state_after places w by v (wipe s i x) = record w { marks = slice_set w.marks (spot places s i) 0; views = slice_set w.views by (view_after places w v (wipe s i x)) }
+state_after places w by v (wipe s i x) = record w { marks = slice_set w.marks (place_index places s i) 0; views = slice_set w.views by (view_after places w v (wipe s i x)) }
 state_after places w by v quit = record w { turn = 0; views = slice_set w.views by (view_after places w v quit) }
 state_after places w by v leave = record w { turn = 0; views = slice_set w.views by (view_after places w v leave) }
 state_after places w by v split = record w { views = slice_set w.views by (left_part v) ++ right_part v ∷ [] }

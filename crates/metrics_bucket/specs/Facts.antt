@@ -9,7 +9,7 @@ use Rattle.metrics_bucket.specs.declared.view.Hold.{Hold}
 use Rattle.metrics_bucket.specs.declared.view.Hold.TheVariants.{Nothing, Ticket, Written, Claimed, SideKnown, Reading, Clearing, Settling}
 use Rattle.metrics_bucket.specs.declared.view.Visit.{Visit}
 use Rattle.metrics_bucket.specs.declared.view.Visit.TheVariants.{Marked, Read, Wiped}
-use Rattle.metrics_bucket.specs.BucketState.{BucketState, total, other, spot, live_values}
+use Rattle.metrics_bucket.specs.BucketState.{BucketState, total, other, place_index, live_values}
 
 -- the weights of the items, added up
 abbrev pub weigh : (ℕ → ℕ) → List ℕ → ℕ
@@ -117,12 +117,12 @@ VisitFits mark x (Read y) = (mark ≡ 1) × (x ≡ y)
 VisitFits mark x _ = Unit {0}
 
 abbrev pub VisitsFit : ℕ → BucketState → ℕ → List Visit → Type 0
-VisitsFit places w s visits = (i : ℕ) (c : Visit) → get_elem? visits i ≡ some c → VisitFits (slice_index w.marks (spot places s i)) (slice_index w.values (spot places s i)) c
+VisitsFit places w s visits = (i : ℕ) (c : Visit) → get_elem? visits i ≡ some c → VisitFits (slice_index w.marks (place_index places s i)) (slice_index w.values (place_index places s i)) c
 
 abbrev pub HoldFits : ℕ → ℕ → BucketState → ℕ → Hold → Type 0
 HoldFits places all w weight Nothing = Unit {0}
 HoldFits places all w weight (Ticket s i) = (s < 2) × (i < places)
-HoldFits places all w weight (Written s i x) = (s < 2) × (i < places) × (slice_index w.values (spot places s i) ≡ x)
+HoldFits places all w weight (Written s i x) = (s < 2) × (i < places) × (slice_index w.values (place_index places s i) ≡ x)
 HoldFits places all w weight Claimed = Unit {0}
 HoldFits places all w weight (SideKnown s) = s ≡ w.live
 HoldFits places all w weight (Reading s visits) = (s ≡ w.live) × (length visits ≤ w.given) × VisitsFit places w s visits × (weight ≡ all → length visits ≡ w.given)
@@ -145,7 +145,7 @@ pub record Facts (places all : ℕ) (w : BucketState) : Type 0 where
   pub values_long : length w.values ≡ places + places
   pub marks_long : length w.marks ≡ places + places
   -- a place with a ticket of the live side, or still to be wiped, has a mark or a ticket's holder, and no other place has
-  pub even : (s i : ℕ) → s < 2 → i < places → slice_index w.marks (spot places s i) + total (ticket_at s i) w.views ≡ given_at w.live w.given s i + total (owed_at s i) w.views
+  pub even : (s i : ℕ) → s < 2 → i < places → slice_index w.marks (place_index places s i) + total (ticket_at s i) w.views ≡ given_at w.live w.given s i + total (owed_at s i) w.views
   pub turns : w.turn ≡ total turn_of w.views
   pub one_turn : w.turn ≤ 1
   pub swaps : w.live ≡ total took_of w.views % 2

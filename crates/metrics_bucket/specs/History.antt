@@ -9,7 +9,7 @@ use Rattle.metrics_bucket.specs.declared.view.Hold.{Hold}
 use Rattle.metrics_bucket.specs.declared.view.Hold.TheVariants.{Nothing, Ticket, Written, Claimed, SideKnown, Reading, Clearing}
 use Rattle.metrics_bucket.specs.declared.view.Visit.{Visit}
 use Rattle.metrics_bucket.specs.declared.view.Visit.TheVariants.{Unseen, Marked, Read, Wiped}
-use Rattle.metrics_bucket.specs.BucketState.{total, BucketState, Act, look, look_to_settle, ticket, write, finish, claim, look_to_read, look_to_clear, takes, see, read, wipe, leave, quit, split, join, other, spot, words_of, live_values, side_of, new_view, whole_view, walks_made, state_after}
+use Rattle.metrics_bucket.specs.BucketState.{total, BucketState, Act, look, look_to_settle, ticket, write, finish, claim, look_to_read, look_to_clear, takes, see, read, wipe, leave, quit, split, join, other, place_index, words_of, live_values, side_of, new_view, whole_view, walks_made, state_after}
 use Rattle.metrics_bucket.specs.Facts.{ticket_at, Facts}
 
 -- the walk's visit at this place
@@ -42,7 +42,7 @@ May places all w by v claim = (v.hold ≡ Nothing) × (w.turn ≡ 0)
 May places all w by v look_to_read = v.hold ≡ Claimed
 May places all w by v look_to_clear = v.hold ≡ Claimed
 May places all w by v takes = (s : ℕ) × (v.hold ≡ SideKnown s)
-May places all w by v (see i) = HasVisit v.hold i Unseen × (slice_index w.marks (spot places (side_of v.hold) i) ≡ 1)
+May places all w by v (see i) = HasVisit v.hold i Unseen × (slice_index w.marks (place_index places (side_of v.hold) i) ≡ 1)
 May places all w by v (read i) = HasVisit v.hold i Marked
 May places all w by v (wipe s i x) = (visits : List Visit) × (v.hold ≡ Clearing s visits) × (get_elem? visits i ≡ some (Read x))
 May places all w by v leave = CanLeave v.hold

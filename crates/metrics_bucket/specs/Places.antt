@@ -9,7 +9,7 @@ use Rattle.metrics_bucket.specs.declared.view.Hold.{Hold}
 use Rattle.metrics_bucket.specs.declared.view.Hold.TheVariants.{Nothing, Ticket, Written, Claimed, SideKnown, Reading, Clearing, Settling}
 use Rattle.metrics_bucket.specs.declared.view.Visit.{Visit}
 use Rattle.metrics_bucket.specs.declared.view.Visit.TheVariants.{Read, Wiped}
-use Rattle.metrics_bucket.specs.BucketState.{BucketState, total, walks_made, other, spot}
+use Rattle.metrics_bucket.specs.BucketState.{BucketState, total, walks_made, other, place_index}
 use Rattle.metrics_bucket.specs.Facts.{same, below, turn_in, took_in, took_of}
 
 -- how many of the pushes are of this epoch and place
@@ -89,7 +89,7 @@ wipes_at e i v = walks_at e i v.taken + wiped_hold e i v.epoch v.hold
 
 -- the mark of this place of this epoch: on the live side, or on the side that was taken last
 abbrev pub mark_of : ℕ → BucketState → ℕ → ℕ → ℕ
-mark_of places w e i = cond (eqb e w.epoch) (slice_index w.marks (spot places w.live i)) (cond (eqb (suc e) w.epoch) (slice_index w.marks (spot places (other w.live) i)) 0)
+mark_of places w e i = cond (eqb e w.epoch) (slice_index w.marks (place_index places w.live i)) (cond (eqb (suc e) w.epoch) (slice_index w.marks (place_index places (other w.live) i)) 0)
 
 -- one push was finished with the ticket of this epoch and place, and this is its value
 abbrev pub IsPush : BucketState → ℕ → ℕ → ℕ → Type 0
@@ -141,7 +141,7 @@ pub record Placed (places : ℕ) (w : BucketState) : Type 0 where
   -- a finished push stands with mark 1, or was wiped by one clear
   pub one_place : (e i : ℕ) → i < places → total (pushed_at e i) w.views ≡ mark_of places w e i + total (wipes_at e i) w.views
   -- a place with mark 1 has the value of its ticket's push
-  pub marked : (s i : ℕ) → s < 2 → i < places → slice_index w.marks (spot places s i) ≡ 1 → (e : ℕ) × IsEpochOf w s e × IsPush w e i (slice_index w.values (spot places s i))
+  pub marked : (s i : ℕ) → s < 2 → i < places → slice_index w.marks (place_index places s i) ≡ 1 → (e : ℕ) × IsEpochOf w s e × IsPush w e i (slice_index w.values (place_index places s i))
   pub each : (j : ℕ) (v : View) → get_elem? w.views j ≡ some v → ViewPlaced w v
   pub takes : w.epoch ≡ total took_of w.views
 

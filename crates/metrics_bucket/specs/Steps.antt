@@ -9,7 +9,7 @@ use Rattle.metrics_bucket.specs.declared.view.Push.{Push}
 use Rattle.metrics_bucket.specs.declared.view.Walk.{Walk}
 use Rattle.metrics_bucket.specs.declared.view.Hold.{Hold}
 use Rattle.metrics_bucket.specs.declared.view.Hold.TheVariants.{Nothing, Ticket, Written, Settling}
-use Rattle.metrics_bucket.specs.BucketState.{spot, holding, holding_at, walk, pushing}
+use Rattle.metrics_bucket.specs.BucketState.{place_index, holding, holding_at, walk, pushing}
 use Rattle.metrics_bucket.specs.Facts.{weigh, weigh_pushes, weigh_walks}
 use Rattle.metrics_bucket.specs.Places.{Covers}
 
@@ -55,4 +55,4 @@ live_side_looked st m r m' =
     (vs : List ℕ) × (m' ≡ (holding m.0 (Settling (r % 2) vs), m.1)) × (length vs ≡ r / 2) × (length vs ≤ m.0.places) × ((h : ℕ → ℕ) → weigh_pushes h m.0.pushed ≡ weigh h vs + weigh_walks h m.0.taken) × ArePartsOf m.0.read m.0.pushed × Covers m.0.pushed (walk (length m.0.taken) vs)
 
 abbrev pub settled_value_looked : Step Turn → Seated → ℕ → Seated → Type 0
-settled_value_looked st m r m' = (m' ≡ m) × ((s i : ℕ) (vs : List ℕ) → m.0.hold ≡ Settling s vs → st.word ≡ 2 + spot m.0.places s i → i < length vs → r ≡ slice_index vs i)
+settled_value_looked st m r m' = (m' ≡ m) × ((s i : ℕ) (vs : List ℕ) → m.0.hold ≡ Settling s vs → st.word ≡ 2 + place_index m.0.places s i → i < length vs → r ≡ slice_index vs i)

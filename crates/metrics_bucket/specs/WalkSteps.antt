@@ -7,7 +7,7 @@ use Rattle.metrics_bucket.specs.declared.view.Hold.{Hold}
 use Rattle.metrics_bucket.specs.declared.view.Hold.TheVariants.{Nothing, Claimed, SideKnown, Reading, Clearing}
 use Rattle.metrics_bucket.specs.declared.view.Visit.{Visit}
 use Rattle.metrics_bucket.specs.declared.view.Visit.TheVariants.{Unseen, Marked, Read, Wiped}
-use Rattle.metrics_bucket.specs.BucketState.{spot, walk, holding, holding_at, claiming, visits_of, leaving, put_visit, side_of, values_in}
+use Rattle.metrics_bucket.specs.BucketState.{place_index, walk, holding, holding_at, claiming, visits_of, leaving, put_visit, side_of, values_in}
 use Rattle.metrics_bucket.specs.Steps.{Seated}
 use Rattle.metrics_bucket.specs.Facts.{weigh, weigh_pushes, weigh_walks}
 use Rattle.metrics_bucket.specs.History.{HasVisit, turn_at}
@@ -15,10 +15,10 @@ use Rattle.metrics_bucket.specs.Places.{Reaches, Finds}
 
 -- the words of a walk's place
 abbrev pub IsValueOf : View → ℕ → ℕ → Type 0
-IsValueOf v word i = word ≡ 2 + spot v.places (side_of v.hold) i
+IsValueOf v word i = word ≡ 2 + place_index v.places (side_of v.hold) i
 
 abbrev pub IsMarkOf : View → ℕ → ℕ → Type 0
-IsMarkOf v word i = word ≡ 2 + (v.places + v.places) + spot v.places (side_of v.hold) i
+IsMarkOf v word i = word ≡ 2 + (v.places + v.places) + place_index v.places (side_of v.hold) i
 
 abbrev pub turn_claimed : Step Turn → Seated → ℕ → Seated → Type 0
 turn_claimed st m r m' = (r ≡ 0 → (n : ℕ) × (m' ≡ (claiming m.0 n, (0, turn_at n) ∷ []))) × (r ≢ 0 → m' ≡ m) × (m.0.weight ≡ 1024 → r ≡ 0)

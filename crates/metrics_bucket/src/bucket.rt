@@ -1,7 +1,7 @@
-// The bucket, and the calls that push.
+//! The bucket, and the calls that push.
 ghost use Rattle.std.specs.Prelude.{◌≡◌, ℕ, ◌+◌, ◌*◌, ◌^◌, ◌<◌, ◌≤◌, ◌↔◌, ◌⊎◌, true, false, IsTrue, IfOk, OnOk, IfErr, OnErr, MatchResult, length, take, drop, map, [], ◌++◌, ◌-◌, vec_capacity};
 ghost use Rattle.metrics_bucket.specs.Account.{first_account, with_ticket, IsPushed};
-ghost use Rattle.metrics_bucket.specs.BucketState.{spot};
+ghost use Rattle.metrics_bucket.specs.BucketState.{place_index};
 ghost use Rattle.metrics_bucket.specs.Blocks.{Settled};
 ghost use Rattle.metrics_bucket.specs.declared.view.Hold.TheVariants.{Nothing, Settling};
 ghost use Rattle.metrics_bucket.specs.Steps.{count_all, IsFullFor, values_known, ArePartsOf};
@@ -17,9 +17,13 @@ use std::alloc::Global;
 use std::marker::{Model, PhantomData};
 use std::sync::{Arc, Wait};
 
-pub const BLOCK_SIZE: usize = 64;
+/// How many places a block has.
+pub(crate) const BLOCK_SIZE: usize = 64;
 
-/// Contracts see it as its home.
+/// A bucket of two sides, each with 64 places for each block. Any number of threads push into its live side, each with a `Pen` of
+/// its own, while one at a time reads or clears it.
+///
+/// Contracts see it as its home: which table of words it is, and how many places a side has.
 #[derive(Drop)]
 pub struct RuledBucket<T: Sample> {
     pub(crate) table: Arc<Words, Global>,
@@ -42,6 +46,7 @@ impl<T: Sample> Model for RuledBucket<T> {
 }
 
 impl<T: Sample> RuledBucket<T> {
+    /// A bucket of 1 to 1024 blocks on each side, and its whole pen.
     pub fn new(alloc: Global, blocks: usize) -> Result<(RuledBucket<T>, Pen), Error>
         ensures ok { IfOk result (λ r. (r.0.places ≡ 64 * blocks) × (r.1 ≡ first_account r.0)) }
         ensures good { (0 < blocks) × (blocks ≤ 1024) → IfErr result (λ e. e ≡ Error.Memory) }
@@ -53,6 +58,7 @@ impl<T: Sample> RuledBucket<T> {
         Self::of_places(alloc, BLOCK_SIZE * blocks)
     }
 
+    // A bucket of any number of places on each side.
     fn of_places(alloc: Global, places: usize) -> Result<(RuledBucket<T>, Pen), Error>
         requires { (0 < places) × (places < 2 ^ 60) }
         ensures ok { IfOk result (λ r. (r.0.places ≡ places) × (r.1 ≡ first_account r.0)) }
@@ -89,13 +95,14 @@ impl<T: Sample> RuledBucket<T> {
     }
 
     // Where a side's place stands among the values, and among the marks.
-    pub(crate) fn spot(&self, side: usize, at: usize) -> usize
+    pub(crate) fn place_index(&self, side: usize, at: usize) -> usize
         requires { (side < 2) × (at < self.now.places) }
-        ensures { (result ≡ spot self.now.places side at) × (result < self.now.places + self.now.places) }
+        ensures { (result ≡ place_index self.now.places side at) × (result < self.now.places + self.now.places) }
     {
         if side == 0 { at } else { self.places + at }
     }
 
+    /// Whether no ticket of the live side was given. A push that is under way counts, and a value that a clear is about to take does not.
     pub fn is_empty_as(&self, pen: &mut Pen) -> bool
         requires own { pen.old.home ≡ self.now }
         requires free { pen.old.ticket ≡ false }
@@ -105,6 +112,10 @@ impl<T: Sample> RuledBucket<T> {
         self.table.shared.load::<LookAtControl>(&mut pen.seat, 0) < 2
     }
 
+    /// Draws a ticket, which `finish_as` uses up. A walk that comes to its place waits until then, so a pen that never finishes leaves
+    /// walks waiting.
+    ///
+    /// `Full`: all places of the live side are given. `Raced`: another thread changed the control word in between; another try may succeed.
     pub fn begin_as(&self, pen: &mut Pen) -> Result<(), Error>
         requires own { pen.old.home ≡ self.now }
         requires free { pen.old.ticket ≡ false }
@@ -125,6 +136,7 @@ impl<T: Sample> RuledBucket<T> {
         Ok(())
     }
 
+    /// Stores the value at the ticket's place.
     pub fn finish_as(&self, pen: &mut Pen, value: T)
         requires own { pen.old.home ≡ self.now }
         requires ticket { pen.old.ticket ≡ true }
@@ -133,15 +145,16 @@ impl<T: Sample> RuledBucket<T> {
         let Some((side, at)) = pen.ticket else {
             unreachable!()
         };
-        let spot = self.spot(side, at);
+        let place_index = self.place_index(side, at);
         self.table
             .shared
-            .store::<WriteValue>(&mut pen.seat, 2 + spot, value.to_word());
-        let mark = 2 + 2 * self.places + spot;
+            .store::<WriteValue>(&mut pen.seat, 2 + place_index, value.to_word());
+        let mark = 2 + 2 * self.places + place_index;
         self.table.shared.store::<FinishPush>(&mut pen.seat, mark, 1);
         pen.ticket = None;
     }
 
+    /// Pushes a value in at most four steps on the words, or gives it back, with an error of `begin_as`.
     pub fn try_push_as(&self, pen: &mut Pen, value: T) -> Result<(), (Error, T)>
         requires own { pen.old.home ≡ self.now }
         requires free { pen.old.ticket ≡ false }
@@ -158,7 +171,7 @@ impl<T: Sample> RuledBucket<T> {
         }
     }
 
-    /// The same, and a lost race is tried again.
+    /// Pushes a value; a lost race is tried again. `Full` gives the value back.
     pub fn push_as<R: Wait>(&self, rt: &R, pen: &mut Pen, value: T) -> Result<(), (Error, T)>
         requires own { pen.old.home ≡ self.now }
         requires free { pen.old.ticket ≡ false }
@@ -198,7 +211,7 @@ impl<T: Sample> RuledBucket<T> {
         ensures room { vec_capacity values.new ≡ vec_capacity values.old }
     {
         for at in start..end {
-            let word = 2 + self.spot(side, at);
+            let word = 2 + self.place_index(side, at);
             let bits = self.table.shared.load::<LookAtSettled>(seat, word);
             values.push_reserved(T::of_word(bits));
         }
@@ -223,7 +236,8 @@ impl<T: Sample> RuledBucket<T> {
         }
     }
 
-    /// Ends the bucket: the values that were pushed and not taken.
+    /// Ends the bucket, and gives the values that were pushed and not taken: by their tickets in blocks of 64, the newest block first.
+    /// Where there is no memory for all places of a side, bucket and pen come back.
     pub fn settle(self, alloc: Global, pen: Pen) -> Result<Vec<T>, (RuledBucket<T>, Pen)>
         requires own { pen.home ≡ self }
         requires whole { pen.weight ≡ 1024 }

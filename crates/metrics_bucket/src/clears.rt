@@ -1,4 +1,4 @@
-// The calls that walk over the places.
+//! The calls that take all values.
 ghost use Rattle.std.specs.Prelude.{◌≡◌, ℕ, ◌+◌, ◌-◌, ◌*◌, ◌^◌, ◌<◌, ◌≤◌, ◌⊎◌, length, take, drop, map, replicate, slice_set, ◌≢◌, List, [], ◌∷◌, false, IfOk, OnOk, IfErr};
 ghost use Rattle.metrics_bucket.specs.Facts.{weigh, weigh_pushes, weigh_walks};
 ghost use Rattle.metrics_bucket.specs.declared.view.Walk.{Walk};
@@ -39,7 +39,7 @@ impl<T: Sample> RuledBucket<T> {
         requires visit { (side < 2) × (at < self.now.places) × (side_of seat.old.me.0.hold ≡ side) × HasVisit seat.old.me.0.hold at Unseen }
         ensures { (seat.new.table_id ≡ seat.old.table_id) × (seat.new.me ≡ (holding seat.old.me.0 (put_visit seat.old.me.0.hold at Marked), seat.old.me.1)) }
     {
-        let word = 2 + 2 * self.places + self.spot(side, at);
+        let word = 2 + 2 * self.places + self.place_index(side, at);
         let pause = Backoff::new();
         for _ in rt.forever() {
             if self.table.shared.load::<LookAtMark>(seat, word) == 1 {
@@ -68,9 +68,9 @@ impl<T: Sample> RuledBucket<T> {
         ensures { (x : ℕ) × (result ≡ T.value x) × (seat.new.table_id ≡ seat.old.table_id) × (seat.new.me ≡ (holding seat.old.me.0 (Clearing side (slice_set (visits_of seat.old.me.0.hold) at (Wiped x))), seat.old.me.1)) }
     {
         self.wait_for(rt, seat, side, at);
-        let spot = self.spot(side, at);
-        let bits = self.table.shared.load::<ReadValue>(seat, 2 + spot);
-        let mark = 2 + 2 * self.places + spot;
+        let place_index = self.place_index(side, at);
+        let bits = self.table.shared.load::<ReadValue>(seat, 2 + place_index);
+        let mark = 2 + 2 * self.places + place_index;
         self.table.shared.store::<WipeMark>(seat, mark, 0);
         T::of_word(bits)
     }
@@ -154,7 +154,11 @@ impl<T: Sample> RuledBucket<T> {
         Ok(given)
     }
 
-    /// Takes all values that were pushed and not taken, and shows them to the visitor in chunks, the newest first.
+    /// Takes all values that were pushed and not taken, and shows them to the visitor in chunks of 64 by their tickets, the newest chunk
+    /// first. It waits for pushes that drew a ticket before it took the side; later ones go to the other side. It answers how many values
+    /// it took.
+    ///
+    /// `Busy`: another walk is under way, or this pen's own closure or visitor is inside one.
     pub fn clear_to_as<R: Wait, V: Visitor<T>>(
         &self,
         rt: &R,
@@ -172,7 +176,7 @@ impl<T: Sample> RuledBucket<T> {
         self.claim_and_clear(rt, &mut pen.seat, visitor)
     }
 
-    /// Takes all values that were pushed and not taken, and shows them to `f` in chunks, the newest first.
+    /// Takes all values as `clear_to_as` does, and shows them to `f`, which may push into this bucket with another pen.
     pub fn clear_with_as<R: Wait, F: FnMut(&[T])>(
         &self,
         rt: &R,
@@ -189,7 +193,7 @@ impl<T: Sample> RuledBucket<T> {
         self.clear_to_as(rt, pen, &mut shown)
     }
 
-    /// Takes all values that were pushed and not taken.
+    /// Takes all values as `clear_to_as` does.
     pub fn clear_as<R: Wait>(&self, rt: &R, pen: &mut Pen) -> Result<usize, Error>
         requires own { pen.old.home ≡ self.now }
         requires free { pen.old.ticket ≡ false }

@@ -1,4 +1,4 @@
-// A walk's values in one vector.
+//! A walk's values in one vector.
 ghost use Rattle.std.specs.Prelude.{◌≡◌, ◌+◌, ◌≤◌, length};
 ghost use Rattle.metrics_bucket.specs.Gathers.{Gathers};
 

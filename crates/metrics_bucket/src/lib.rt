@@ -1,22 +1,21 @@
-// A bucket of samples that many threads push into.
+//! A lock-free bucket of samples: many threads push into it while one at a time reads or clears it.
 #![tactic(auto)]
 
 mod bucket;
+mod clears;
 mod gathered;
-mod view;
 mod law;
 mod pen;
-mod steps;
 mod readings;
 mod rule;
 mod sample;
+mod steps;
 #[cfg(test)]
 mod tests;
+mod view;
 mod visitor;
-mod clears;
 
 pub use bucket::RuledBucket;
-pub use view::{Visit, View, Hold};
 pub use law::bucket_law;
 pub use pen::Pen;
 pub use sample::Sample;

@@ -1,4 +1,4 @@
-// A thread's part of a bucket.
+//! A thread's part of a bucket.
 ghost use Rattle.std.specs.Prelude.{◌≡◌, ◌<◌, ◌↔◌, true, false, IsTrue, IfOk, IfErr};
 ghost use Rattle.metrics_bucket.specs.Account.{left_account, right_account, joined_account};
 
@@ -13,7 +13,10 @@ use std::sync::Arc;
 
 pub(crate) type Words = Table<Turn, View, usize, BucketRule, Global>;
 
-/// It goes with one bucket. Contracts see it as its account.
+/// A thread's part of one bucket, which each call on the bucket takes. It has a weight, a part of the right to know the whole: a bucket
+/// has 1024 parts, all of them with its first pen.
+///
+/// Contracts see it as its account: what it pushed, took and read, its weight, and whether it has a ticket.
 #[derive(Drop)]
 pub struct Pen {
     pub(crate) table: Arc<Words, Global>,
@@ -37,19 +40,21 @@ impl Model for Pen {
 }
 
 impl Pen {
+    /// Whether it has all parts, so that there is no other pen.
     pub fn is_whole(&self) -> bool
         ensures { IsTrue result ↔ (self.now.weight ≡ 1024) }
     {
         self.weight == 1024
     }
 
+    /// Whether a push that it began isn't finished.
     pub fn has_ticket(&self) -> bool
         ensures { result ≡ self.now.ticket }
     {
         self.ticket.is_some()
     }
 
-    /// Gives away half of the weight.
+    /// Gives away half of the weight, to a new pen with an empty account. `NoPen`: one part can't be split.
     pub fn split(&mut self) -> Result<Pen, Error>
         requires { self.old.ticket ≡ false }
         ensures ok { IfOk result (λ p. (self.new ≡ left_account self.old) × (p ≡ right_account self.old)) }
@@ -73,7 +78,7 @@ impl Pen {
         })
     }
 
-    /// Takes in another pen of the same bucket.
+    /// Takes in another pen of the same bucket, with its account.
     pub fn join(&mut self, other: Pen)
         requires home { self.old.home ≡ other.home }
         requires free { (self.old.ticket ≡ false) × (other.ticket ≡ false) }

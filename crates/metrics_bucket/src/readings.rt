@@ -1,4 +1,4 @@
-// The calls that walk over the places.
+//! The calls that read all values.
 ghost use Rattle.std.specs.Prelude.{◌≡◌, ℕ, ◌+◌, ◌-◌, ◌*◌, ◌/◌, ◌%◌, ◌^◌, ◌<◌, ◌≤◌, ◌⊎◌, length, take, drop, map, replicate, slice_set, ◌≢◌, List, [], ◌∷◌, false, IfOk, OnOk, IfErr};
 ghost use Rattle.metrics_bucket.specs.Facts.{weigh, weigh_pushes, weigh_walks};
 ghost use Rattle.metrics_bucket.specs.declared.view.Walk.{Walk};
@@ -38,8 +38,8 @@ impl<T: Sample> RuledBucket<T> {
         ensures { (x : ℕ) × (result ≡ T.value x) × (seat.new.table_id ≡ seat.old.table_id) × (seat.new.me ≡ (holding seat.old.me.0 (Reading side (slice_set (visits_of seat.old.me.0.hold) at (Read x))), seat.old.me.1)) }
     {
         self.wait_for(rt, seat, side, at);
-        let spot = self.spot(side, at);
-        let bits = self.table.shared.load::<ReadValue>(seat, 2 + spot);
+        let place_index = self.place_index(side, at);
+        let bits = self.table.shared.load::<ReadValue>(seat, 2 + place_index);
         T::of_word(bits)
     }
 
@@ -117,7 +117,7 @@ impl<T: Sample> RuledBucket<T> {
         self.table.shared.store::<GiveTurnBack>(seat, 1, 0);
     }
 
-    // Reads what was surveyed, and leaves.
+    // Reads the places below those that the look told, and gives the turn back.
     fn read_and_leave<R: Wait, V: Visitor<T>>(
         &self,
         rt: &R,
@@ -162,6 +162,7 @@ impl<T: Sample> RuledBucket<T> {
         Ok((control / 2) as usize)
     }
 
+    // Reads all places that were given into one vector.
     fn gather_values<R: Wait>(
         &self,
         rt: &R,
@@ -184,7 +185,10 @@ impl<T: Sample> RuledBucket<T> {
         Ok(gathered.values)
     }
 
-    /// All values that were pushed and not taken, in the bucket's order.
+    /// All values that were pushed and not taken, as they stand: by their tickets in blocks of 64, the newest block first. It waits for
+    /// pushes that drew a ticket before it looked.
+    ///
+    /// `Busy`: another walk is under way.
     pub fn data_as<R: Wait>(&self, rt: &R, alloc: Global, pen: &mut Pen) -> Result<Vec<T>, Error>
         requires own { pen.old.home ≡ self.now }
         requires free { pen.old.ticket ≡ false }
@@ -194,7 +198,8 @@ impl<T: Sample> RuledBucket<T> {
         self.gather_values(rt, alloc, &mut pen.seat)
     }
 
-    /// Reads all values that were pushed and not taken, and shows them to the visitor in chunks, the newest first.
+    /// Reads all values as `data_as` does, and shows them to the visitor in chunks of 64, the newest chunk first. It answers how many
+    /// values it read.
     pub fn data_to_as<R: Wait, V: Visitor<T>>(
         &self,
         rt: &R,
@@ -212,7 +217,7 @@ impl<T: Sample> RuledBucket<T> {
         self.show_to(rt, &mut pen.seat, visitor)
     }
 
-    /// Reads all values that were pushed and not taken, and shows them to `f` in chunks, the newest first.
+    /// Reads all values as `data_as` does, and shows them to `f` in chunks of 64, the newest chunk first.
     pub fn data_with_as<R: Wait, F: FnMut(&[T])>(
         &self,
         rt: &R,

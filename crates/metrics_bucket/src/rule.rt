@@ -1,4 +1,4 @@
-// The rule of the bucket's words.
+//! The rule of the bucket's words.
 use crate::view::{View, Turn};
 use atomic_table::TableRule;
 

@@ -1,5 +1,6 @@
-// Values that fit a word.
+//! Values that fit a word.
 
+/// A value that fits a word of 64 bits, so that it is written and read in one step.
 pub trait Sample: Copy {
     ghost use Rattle.std.specs.Prelude.{◌≡◌, ℕ};
     ghost use Rattle.metrics_bucket.specs.Room.{RoomFits};
@@ -8,9 +9,11 @@ pub trait Sample: Copy {
 
     ghost value: { ℕ → Self };
 
+    /// The value as a word.
     fn to_word(self) -> u64
         ensures { result ≡ word self };
 
+    /// The value of a word; of a word that no value has, some value.
     fn of_word(bits: u64) -> Self
         ensures { result ≡ value bits };
 
@@ -41,6 +44,7 @@ impl Sample for u64 {
     }
 }
 
+/// 0, -1, 1, -2 and so on are the words 0, 1, 2, 3.
 impl Sample for i64 {
     ghost use Rattle.std.proofs.Common.{arith};
     ghost use Rattle.metrics_bucket.specs.Signs.{folded, unfolded, unfolds};

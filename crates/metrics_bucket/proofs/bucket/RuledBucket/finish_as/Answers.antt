@@ -1,14 +1,14 @@
 use Rattle.std.proofs.Common.{rules, ◌≡◌, ℕ, Some, false, ◌+◌, ◌*◌, ◌<◌, ◌∙◌, ap, subst, sym, arith}
 use Rattle.metrics_bucket.specs.declared.view.Hold.TheVariants.{Ticket}
-use Rattle.metrics_bucket.specs.BucketState.{spot, push, pushing}
+use Rattle.metrics_bucket.specs.BucketState.{place_index, push, pushing}
 use Rattle.metrics_bucket.specs.Account.{Account, Home, TicketFits, hold_of, with_push}
 use Rattle.metrics_bucket.specs.Pens.{account_of}
 use Rattle.metrics_bucket.specs.Steps.{Seated}
 use Rattle.metrics_bucket.proofs.Allowed.{puts, marks}
 use Rattle.metrics_bucket.proofs.bucket.RuledBucket.finish_as.Goals as goal
 
-pub spot-spot-requires : goal.spot-spot-requires
-spot-spot-requires g c =
+pub place_index-place_index-requires : goal.place_index-place_index-requires
+place_index-place_index-requires g c =
     let f : TicketFits (Some (c.in-Some.side, c.in-Some.at)) c.pen.inside.seat.me.0.places = rw c.in-Some.is at c.pen.invariant.fits in
     let p : c.pen.inside.seat.me.0.places ≡ c.args.self.now.places = ap (λ (a : Account). a.home.places) c.pen.view_is ∙ ap (λ (h : Home). h.places) c.requires.own in
     (f.0, subst (λ (n : ℕ). c.in-Some.at < n) p f.1)
@@ -20,8 +20,8 @@ store-requires g c =
     let has : 0 < c.pen.inside.seat.me.0.weight = search rules in
     let key : c.self.inside.places ≡ c.deref.result.now.shared.key = search rules in
     let same : c.args.self.now.places ≡ c.self.inside.places = search rules in
-    let e0 : c.spot-spot.result ≡ spot c.args.self.now.places c.in-Some.side c.in-Some.at = c.spot-spot.ensures.0 in
-    let e : 2 + c.spot-spot.result ≡ 2 + spot c.deref.result.now.shared.key c.in-Some.side c.in-Some.at = ap (λ (n : ℕ). 2 + n) (e0 ∙ ap (λ (n : ℕ). spot n c.in-Some.side c.in-Some.at) (same ∙ key)) in
+    let e0 : c.place_index-place_index.result ≡ place_index c.args.self.now.places c.in-Some.side c.in-Some.at = c.place_index-place_index.ensures.0 in
+    let e : 2 + c.place_index-place_index.result ≡ 2 + place_index c.deref.result.now.shared.key c.in-Some.side c.in-Some.at = ap (λ (n : ℕ). 2 + n) (e0 ∙ ap (λ (n : ℕ). place_index n c.in-Some.side c.in-Some.at) (same ∙ key)) in
     (search rules, search rules, puts _ _ _ _ _ _ c.in-Some.side c.in-Some.at has hold e)
 
 pub store-requires-2 : goal.store-requires-2
@@ -32,10 +32,10 @@ store-requires-2 g c =
     let key : c.self.inside.places ≡ c.deref-2.result.now.shared.key = search rules in
     let same : c.args.self.now.places ≡ c.self.inside.places = search rules in
     let now = c.store.ensures.2 c.in-Some.side c.in-Some.at hold in
-    let e0 : c.spot-spot.result ≡ spot c.args.self.now.places c.in-Some.side c.in-Some.at = c.spot-spot.ensures.0 in
-    let e1 = e0 ∙ ap (λ (n : ℕ). spot n c.in-Some.side c.in-Some.at) (same ∙ key) in
+    let e0 : c.place_index-place_index.result ≡ place_index c.args.self.now.places c.in-Some.side c.in-Some.at = c.place_index-place_index.ensures.0 in
+    let e1 = e0 ∙ ap (λ (n : ℕ). place_index n c.in-Some.side c.in-Some.at) (same ∙ key) in
     let k : ℕ = c.deref-2.result.now.shared.key in
-    let e : 2 + 2 * c.self.inside.places + c.spot-spot.result ≡ 2 + (k + k) + spot k c.in-Some.side c.in-Some.at = omega arith in
+    let e : 2 + 2 * c.self.inside.places + c.place_index-place_index.result ≡ 2 + (k + k) + place_index k c.in-Some.side c.in-Some.at = omega arith in
     (search rules, search rules, marks _ _ _ _ _ c.in-Some.side c.in-Some.at c.to_word.result (subst (λ (m : Seated). 0 < m.0.weight) (sym now) has) (ap (λ (m : Seated). m.0.hold) now) e)
 
 pub invariant_of-pen : goal.invariant_of-pen

@@ -19,8 +19,8 @@ load-bits-requires g c =
     let p : c.wait_for.new.seat.me.0.places ≡ c.args.self.now.places = ap (λ (m : Seated). m.0.places) e1 ∙ c.requires.home.1 in
     let words : c.deref.result.now.shared.table_id.words ≡ 2 + 4 * c.self.inside.places = search rules in
     let same : c.self.inside.places ≡ c.args.self.now.places = search rules in
-    let below = c.spot-spot.ensures.1 in
-    let is = value_word c.wait_for.new.seat.me.0 c.args.self.now.places c.args.side c.args.at c.spot-spot.result p (ap side_of h1) c.spot-spot.ensures.0 in
+    let below = c.place_index-place_index.ensures.1 in
+    let is = value_word c.wait_for.new.seat.me.0 c.args.self.now.places c.args.side c.args.at c.place_index-place_index.result p (ap side_of h1) c.place_index-place_index.ensures.0 in
     let there : HasVisit c.wait_for.new.seat.me.0.hold c.args.at Marked = subst (λ (z : Hold). HasVisit z c.args.at Marked) (sym h1) (visit_there visits c.args.at Unseen Marked c.requires.visit) in
     (search rules, omega arith, reads_value _ _ _ has c.args.at _ _ is there)
 
@@ -31,7 +31,7 @@ returns g c =
     let h1 = next_hold c.args.seat.now.me c.wait_for.new.seat.me c.args.side c.args.at visits Marked c.requires.hold.2 e1 in
     let p : c.wait_for.new.seat.me.0.places ≡ c.args.self.now.places = ap (λ (m : Seated). m.0.places) e1 ∙ c.requires.home.1 in
     let same : c.self.inside.places ≡ c.args.self.now.places = search rules in
-    let is = value_word c.wait_for.new.seat.me.0 c.args.self.now.places c.args.side c.args.at c.spot-spot.result p (ap side_of h1) c.spot-spot.ensures.0 in
+    let is = value_word c.wait_for.new.seat.me.0 c.args.self.now.places c.args.side c.args.at c.place_index-place_index.result p (ap side_of h1) c.place_index-place_index.ensures.0 in
     let marked = visit_there visits c.args.at Unseen Marked c.requires.visit in
     let there : HasVisit c.wait_for.new.seat.me.0.hold c.args.at Marked = subst (λ (z : Hold). HasVisit z c.args.at Marked) (sym h1) marked in
     let e2 = c.load-bits.ensures.2 c.args.at is there in (
