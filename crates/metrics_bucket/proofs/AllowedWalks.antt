@@ -14,7 +14,7 @@ use Rattle.metrics_bucket.specs.declared.view.Hold.{Hold}
 use Rattle.metrics_bucket.specs.declared.view.Hold.TheVariants.{Nothing, Ticket, Written, Claimed, SideKnown, Reading, Clearing, Settling}
 use Rattle.metrics_bucket.specs.declared.view.Visit.{Visit}
 use Rattle.metrics_bucket.specs.declared.view.Visit.TheVariants.{Unseen, Marked, Read, Wiped}
-use Rattle.metrics_bucket.specs.BucketState.{BucketState, base, other, place_index, words_of, live_values, total, walk, walks_of, walks_made, holding, holding_at, claiming, leaving, left_from, put_visit, side_of, value_in, values_in, Act, claim, look_to_read, look_to_clear, takes, see, read, wipe, leave, quit, state_after}
+use Rattle.metrics_bucket.specs.BucketState.{BucketState, base, other, place_index, words_of, live_values, walk, walks_of, walks_made, holding, holding_at, claiming, leaving, left_from, put_visit, side_of, value_in, values_in, Act, claim, look_to_read, look_to_clear, takes, see, read, wipe, leave, quit, state_after}
 use Rattle.metrics_bucket.specs.Facts.{weigh, weigh_pushes, weigh_walks, turn_in, took_in, VisitFits, HoldFits, Facts}
 use Rattle.metrics_bucket.specs.Steps.{Seated}
 use Rattle.metrics_bucket.specs.History.{HasVisit, CanLeave, CanQuit, May, turn_at, at_home, homes_of, FollowsHistory}

@@ -1,20 +1,17 @@
 -- What a thread knows of its own pushes.
-use Rattle.std.proofs.Common.{◌≡◌, ◌≢◌, ℕ, zero, suc, ◌+◌, ◌<◌, ◌≤◌, List, [], ◌∷◌, length, get_or, set, refl, sym, ap, ◌∙◌, subst, inl, inr, ⊎_elim, arith}
+use Rattle.std.proofs.Common.{◌≡◌, ◌≢◌, ℕ, suc, ◌+◌, ◌<◌, length, get_or, set, refl, sym, ap, ◌∙◌, subst, inl, inr, ⊎_elim, arith}
 use mathlib.Core.Logic.{dite}
 use mathlib.Core.Option.{some}
-use native.Mathlib.Decide.{ℕ_discrete, dec_le}
+use native.Mathlib.Decide.{ℕ_discrete}
 use lib.ListN.{get_elem?}
 use Rattle.atomic_table.proofs.Lists.{at_set}
 use Rattle.metrics_bucket.specs.declared.view.Push.{Push}
-use Rattle.metrics_bucket.specs.declared.view.Walk.{Walk}
 use Rattle.metrics_bucket.specs.declared.view.View.{View}
 use Rattle.metrics_bucket.specs.declared.view.Hold.{Hold}
 use Rattle.metrics_bucket.specs.declared.view.Hold.TheVariants.{Nothing, Ticket, Written, Claimed, SideKnown, Reading, Clearing, Settling}
-use Rattle.metrics_bucket.specs.declared.view.Visit.{Visit}
-use Rattle.metrics_bucket.specs.declared.view.Visit.TheVariants.{Read, Wiped}
-use Rattle.metrics_bucket.specs.BucketState.{BucketState, total, other, base, place_index, walk, new_view, live_values, value_in, values_in, visits_of}
-use Rattle.metrics_bucket.specs.Facts.{given_at, took_in, took_of, weight_of, HoldFits, IsIdle, Facts}
-use Rattle.metrics_bucket.specs.Places.{IsPush, IsEpochOf, VisitFinds, VisitsFind, HoldPlaced, Placed, Reaches, Finds, Covers}
+use Rattle.metrics_bucket.specs.BucketState.{BucketState, other, base, place_index, walk, new_view, live_values, value_in, values_in, visits_of}
+use Rattle.metrics_bucket.specs.Facts.{took_in, took_of, weight_of, IsIdle, Facts}
+use Rattle.metrics_bucket.specs.Places.{IsPush, VisitFinds, HoldPlaced, Placed, Reaches, Finds, Covers}
 use Rattle.metrics_bucket.specs.History.{CanLeave}
 use Rattle.metrics_bucket.proofs.Sums.{total_set, total_two, total_zero, given_here, below_under}
 use Rattle.metrics_bucket.proofs.Keep.{other_side}

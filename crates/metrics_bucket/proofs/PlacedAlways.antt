@@ -1,29 +1,26 @@
 -- In each history the pushes and the walks are in their places.
-use Rattle.std.proofs.Common.{◌≡◌, ◌≢◌, ◌⊎◌, ℕ, zero, suc, ◌+◌, ◌-◌, ◌/◌, ◌<◌, ◌≤◌, cond, eqb, List, [], ◌∷◌, ◌++◌, length, get_or, set, replicate, refl, sym, ap, ◌∙◌, subst, inl, inr, ⊎_elim, arith, eq-eqb, ne_eqb, length-append, length-set}
-use mathlib.Core.Logic.{dite}
-use mathlib.Core.Option.{some, some-injective, some-ne-none}
-use native.Mathlib.Decide.{ℕ_discrete, dec_le}
+use Rattle.std.proofs.Common.{◌≡◌, ◌≢◌, ◌⊎◌, ℕ, zero, suc, ◌+◌, ◌<◌, cond, eqb, List, [], ◌∷◌, ◌++◌, length, get_or, set, replicate, refl, sym, ap, ◌∙◌, subst, inl, inr, ⊎_elim, arith, length-append, length-set}
+use mathlib.Core.Option.{some, some-ne-none}
 use lib.ListN.{get_elem?}
 use Rattle.atomic_table.proofs.Lists.{at_set, at_snoc, set_else}
 use Rattle.atomic_table.specs.Table.{State}
 use Rattle.metrics_bucket.specs.declared.view.Turn.{Turn}
-use Rattle.metrics_bucket.specs.declared.view.Push.{Push}
 use Rattle.metrics_bucket.specs.declared.view.Walk.{Walk}
 use Rattle.metrics_bucket.specs.declared.view.View.{View}
 use Rattle.metrics_bucket.specs.declared.view.Hold.{Hold}
 use Rattle.metrics_bucket.specs.declared.view.Hold.TheVariants.{Nothing, Ticket, Written, Claimed, SideKnown, Reading, Clearing, Settling}
 use Rattle.metrics_bucket.specs.declared.view.Visit.{Visit}
 use Rattle.metrics_bucket.specs.declared.view.Visit.TheVariants.{Unseen, Marked, Read, Wiped}
-use Rattle.metrics_bucket.specs.BucketState.{BucketState, total, walks_of, walks_made, other, place_index, side_of, put_visit, new_view, whole_view, holds_as, holding, left_from, left_part, right_part, both_parts, live_values, Act, look, look_to_settle, ticket, write, finish, claim, look_to_read, look_to_clear, takes, see, read, wipe, leave, quit, split, join, state_after}
-use Rattle.metrics_bucket.specs.Facts.{same, below, turn_in, took_in, took_of, VisitFits, HoldFits, Facts}
-use Rattle.metrics_bucket.specs.Places.{pushes_at, values_at, pushed_at, value_at, held_in, tickets_at, lengths_of, clearing_of, told_of, walks_in, takes_in, given_of, walks_at, is_wiped, wiped_place, wiped_hold, wipes_at, mark_of, IsPush, IsEpochOf, WalkFinds, VisitFinds, VisitsFind, HoldPlaced, ViewPlaced, Placed}
+use Rattle.metrics_bucket.specs.BucketState.{BucketState, total, walks_of, walks_made, place_index, side_of, put_visit, new_view, whole_view, holds_as, holding, left_from, left_part, right_part, both_parts, live_values, Act, look, look_to_settle, ticket, write, finish, claim, look_to_read, look_to_clear, takes, see, read, wipe, leave, quit, split, join, state_after}
+use Rattle.metrics_bucket.specs.Facts.{below, turn_in, took_in, took_of, HoldFits, Facts}
+use Rattle.metrics_bucket.specs.Places.{pushes_at, pushed_at, value_at, held_in, tickets_at, lengths_of, clearing_of, told_of, walks_in, takes_in, given_of, walks_at, is_wiped, wiped_hold, wipes_at, mark_of, IsPush, VisitFinds, VisitsFind, HoldPlaced, ViewPlaced, Placed}
 use Rattle.metrics_bucket.specs.History.{HasVisit, CanLeave, CanQuit, May, Event, Runs, opened, FollowsHistory}
-use Rattle.metrics_bucket.proofs.Sums.{total_set, total_snoc, total_zero, given_else}
+use Rattle.metrics_bucket.proofs.Sums.{total_set, total_snoc, total_zero}
 use Rattle.metrics_bucket.proofs.Visits.{new_visit}
 use Rattle.metrics_bucket.proofs.Keep.{at_below, other_side}
 use Rattle.metrics_bucket.proofs.Shares.{zeros, fresh, IsNew}
 use Rattle.metrics_bucket.proofs.Histories.{step_facts, opened_facts, opened_new}
-use Rattle.metrics_bucket.proofs.Placing.{pushes_at-append, values_at-append, lengths_of-append, walks_in-append, walks_at-append, cond_same, visit_kept, hold_kept, view_kept}
+use Rattle.metrics_bucket.proofs.Placing.{pushes_at-append, values_at-append, lengths_of-append, walks_in-append, walks_at-append, cond_same, hold_kept, view_kept}
 use Rattle.metrics_bucket.proofs.PlacingSteps.{keeps_places, tickets, writes, finishes, takes_side, wipes, leaves_clear, leaves_read, reads_push, wiped_same}
 
 none_here : (i : ℕ) → below i 0 ≡ 0

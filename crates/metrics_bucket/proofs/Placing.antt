@@ -1,5 +1,5 @@
 -- What single steps leave of the places of pushes and walks.
-use Rattle.std.proofs.Common.{◌≡◌, ◌≢◌, ℕ, zero, suc, ◌+◌, ◌<◌, ◌≤◌, cond, eqb, List, [], ◌∷◌, ◌++◌, length, get_or, set, replicate, refl, sym, ap, ◌∙◌, subst, inl, inr, ⊎_elim, arith, eq-eqb, ne_eqb, get_or-set_same, get_or-set_other}
+use Rattle.std.proofs.Common.{◌≡◌, ◌≢◌, ℕ, zero, suc, ◌+◌, ◌<◌, ◌≤◌, cond, eqb, List, [], ◌∷◌, ◌++◌, get_or, set, refl, sym, ap, ◌∙◌, subst, inl, inr, ⊎_elim, arith, eq-eqb, ne_eqb}
 use mathlib.Core.Logic.{dite}
 use mathlib.Core.Option.{some, some-injective, some-ne-none}
 use native.Mathlib.Decide.{ℕ_discrete, dec_le}
@@ -12,11 +12,10 @@ use Rattle.metrics_bucket.specs.declared.view.Hold.{Hold}
 use Rattle.metrics_bucket.specs.declared.view.Hold.TheVariants.{Nothing, Ticket, Written, Claimed, SideKnown, Reading, Clearing, Settling}
 use Rattle.metrics_bucket.specs.declared.view.Visit.{Visit}
 use Rattle.metrics_bucket.specs.declared.view.Visit.TheVariants.{Unseen, Marked, Read, Wiped}
-use Rattle.metrics_bucket.specs.BucketState.{BucketState, total, walks_of, walks_made, other, place_index, holds_as, value_in, values_in}
-use Rattle.metrics_bucket.specs.Facts.{same, below, turn_in, took_in, took_of, Facts}
-use Rattle.metrics_bucket.specs.Places.{pushes_at, values_at, pushed_at, value_at, held_in, tickets_at, lengths_of, clearing_of, told_of, walks_in, given_of, walks_at, is_wiped, wiped_place, wiped_hold, wipes_at, mark_of, IsPush, IsEpochOf, WalkFinds, VisitFinds, VisitsFind, HoldPlaced, ViewPlaced, Placed}
-use Rattle.metrics_bucket.proofs.Sums.{total_set, total_one, index_apart, index_below, here_or, same_here, same_else, below_under, below_over, below_le}
-use Rattle.metrics_bucket.proofs.Keep.{other_side}
+use Rattle.metrics_bucket.specs.BucketState.{BucketState, total, walks_made, other}
+use Rattle.metrics_bucket.specs.Facts.{same, below, turn_in}
+use Rattle.metrics_bucket.specs.Places.{pushes_at, values_at, pushed_at, value_at, held_in, tickets_at, lengths_of, walks_in, given_of, walks_at, IsPush, WalkFinds, VisitFinds, HoldPlaced, ViewPlaced, Placed}
+use Rattle.metrics_bucket.proofs.Sums.{total_set, total_one, same_here, same_else, below_under, below_over, below_le}
 
 pub total_add : (f g : View → ℕ) (vs : List View) → total (λ v. f v + g v) vs ≡ total f vs + total g vs
 total_add f g [] = refl
@@ -207,8 +206,7 @@ module _ (places : ℕ) (w : BucketState) (p : Placed places w) where
       let held : View → ℕ = λ z. held_in e i z.epoch z.hold in
       let most = total_one (tickets_at e i) w.views j v at in
       let t = p.tickets e i in
-      let given : i < given_of e w = dite (dec_le (given_of e w) i) (λ l. let b = below_over i (given_of e w) l in absurd (omega arith)) (λ l. omega arith) in
-      (
+      let given : i < given_of e w = dite (dec_le (given_of e w) i) (λ l. let b = below_over i (given_of e w) l in absurd (omega arith)) (λ l. omega arith) in (
         dite (dec_le e w.epoch) (λ l. l) (λ l. let z = p.told e (omega arith) in let c = cond_else e w.epoch w.given (λ k. absurd (omega arith)) in absurd (omega arith)),
         λ k. let z = p.told e (omega arith) in let c = cond_here e w.epoch w.given k in omega arith,
       )

@@ -1,21 +1,20 @@
 -- Each step keeps the pushes and the walks in their places.
-use Rattle.std.proofs.Common.{◌≡◌, ◌≢◌, ◌⊎◌, ℕ, zero, suc, ◌+◌, ◌<◌, ◌≤◌, cond, eqb, List, [], ◌∷◌, ◌++◌, length, get_or, set, replicate, refl, sym, ap, ◌∙◌, subst, inl, inr, ⊎_elim, arith, eq-eqb, ne_eqb, length-append, length-set, get_or-set_same, get_or-set_other}
+use Rattle.std.proofs.Common.{◌≡◌, ◌≢◌, ◌⊎◌, ℕ, zero, suc, ◌+◌, ◌<◌, cond, eqb, List, [], ◌∷◌, length, get_or, set, replicate, refl, sym, ap, ◌∙◌, subst, inl, inr, ⊎_elim, arith, eq-eqb, ne_eqb, length-append, length-set, get_or-set_same, get_or-set_other}
 use mathlib.Core.Logic.{dite}
 use mathlib.Core.Option.{some, some-injective, some-ne-none}
 use native.Mathlib.Decide.{ℕ_discrete, dec_le}
 use lib.ListN.{get_elem?}
 use Rattle.atomic_table.proofs.Lists.{at_set, at_snoc}
-use Rattle.metrics_bucket.specs.declared.view.Push.{Push}
 use Rattle.metrics_bucket.specs.declared.view.Walk.{Walk}
 use Rattle.metrics_bucket.specs.declared.view.View.{View}
 use Rattle.metrics_bucket.specs.declared.view.Hold.{Hold}
 use Rattle.metrics_bucket.specs.declared.view.Hold.TheVariants.{Nothing, Ticket, Written, Claimed, SideKnown, Reading, Clearing, Settling}
 use Rattle.metrics_bucket.specs.declared.view.Visit.{Visit}
-use Rattle.metrics_bucket.specs.declared.view.Visit.TheVariants.{Unseen, Marked, Read, Wiped}
-use Rattle.metrics_bucket.specs.BucketState.{BucketState, total, walks_of, walks_made, other, place_index, push, walk, holds_as, holding, holding_at, pushing, left_from, value_in, values_in, ticket, write, finish, takes, wipe, state_after}
-use Rattle.metrics_bucket.specs.Facts.{same, below, turn_in, took_in, took_of, ticket_in, ticket_at, VisitFits, HoldFits, Facts}
-use Rattle.metrics_bucket.specs.Places.{pushes_at, values_at, pushed_at, value_at, held_in, tickets_at, lengths_of, clearing_of, told_of, takes_in, given_of, walks_at, is_wiped, wiped_place, wiped_hold, wipes_at, mark_of, IsPush, IsEpochOf, WalkFinds, VisitFinds, VisitsFind, HoldPlaced, ViewPlaced, Placed}
-use Rattle.metrics_bucket.proofs.Sums.{total_set, total_one, index_apart, index_below, here_or, same_here, same_else, below_under, below_over, below_le}
+use Rattle.metrics_bucket.specs.declared.view.Visit.TheVariants.{Unseen, Read, Wiped}
+use Rattle.metrics_bucket.specs.BucketState.{BucketState, total, walks_of, walks_made, other, place_index, push, walk, holds_as, holding, holding_at, pushing, left_from, value_in, values_in, ticket, write, finish, takes, state_after}
+use Rattle.metrics_bucket.specs.Facts.{same, below, turn_in, took_in, took_of, ticket_in, ticket_at, HoldFits, Facts}
+use Rattle.metrics_bucket.specs.Places.{pushed_at, value_at, held_in, tickets_at, clearing_of, told_of, takes_in, given_of, is_wiped, wiped_place, wiped_hold, wipes_at, mark_of, IsPush, IsEpochOf, WalkFinds, VisitFinds, HoldPlaced, ViewPlaced, Placed}
+use Rattle.metrics_bucket.proofs.Sums.{total_set, total_one, index_apart, index_below, here_or, same_here, same_else, below_under, below_over}
 use Rattle.metrics_bucket.proofs.Keep.{at_below, other_side, alone, turn_alone}
 use Rattle.metrics_bucket.proofs.Visits.{new_visit, length_new}
 use Rattle.metrics_bucket.proofs.Walks.{take_clean}
@@ -490,10 +489,18 @@ module _ (places all : ℕ) (w : BucketState) (id : ℕ) (v : View) (f : Facts p
             (t.0, t.1, pushes t.0 i' (get_or w.values (place_index places s' i') 0) t.2))
             (here_or s' i' s i);
         each = each_kept w w' pushes places id u p refl
-            (view_kept w w' pushes u (λ _. after) (λ _. walks) record { hold = (placed.0, λ j c at_j. ⊎_elim
-              (λ (t : (j ≡ i) × (Wiped x ≡ c)). subst (λ (z : ℕ × Visit). VisitFinds w v.epoch z.0 z.1) (λ k. (sym t.0 k, t.1 k)) (placed.1 i (Read x) there))
-              (λ (t : (j ≢ i) × (get_elem? visits j ≡ some c)). placed.1 j c t.1)
-              (at_set visits i j (Wiped x) c at_j)); turn = λ _. mine.turn (ap turn_in e); taken = mine.taken; read = mine.read })
+            (view_kept w w' pushes u (λ _. after) (λ _. walks) record {
+              hold = (
+                placed.0,
+                λ j c at_j. ⊎_elim
+                    (λ (t : (j ≡ i) × (Wiped x ≡ c)). subst (λ (z : ℕ × Visit). VisitFinds w v.epoch z.0 z.1) (λ k. (sym t.0 k, t.1 k)) (placed.1 i (Read x) there))
+                    (λ (t : (j ≢ i) × (get_elem? visits j ≡ some c)). placed.1 j c t.1)
+                    (at_set visits i j (Wiped x) c at_j),
+              );
+              turn = λ _. mine.turn (ap turn_in e);
+              taken = mine.taken;
+              read = mine.read;
+            })
             (λ j z n there. (hold_kept w w' pushes refl refl z.epoch z.hold, λ _. walks));
         takes = let y = p.takes in let t = total_set took_of w.views id v u at in let t0 : took_in v.hold ≡ 1 = ap took_in e in omega arith;
       }

@@ -1,5 +1,5 @@
 -- The law holds of each history.
-use Rattle.std.proofs.Common.{◌≡◌, ◌≢◌, ◌⊎◌, ℕ, zero, suc, ◌+◌, ◌<◌, ◌≤◌, cond, eqb, List, [], ◌∷◌, ◌++◌, length, get_or, set, replicate, refl, sym, ap, ◌∙◌, subst, inl, inr, ⊎_elim, arith, eq-eqb, ne_eqb, length-append}
+use Rattle.std.proofs.Common.{◌≡◌, ℕ, zero, suc, ◌+◌, ◌<◌, cond, eqb, List, [], ◌∷◌, length, get_or, set, replicate, refl, sym, ap, ◌∙◌, subst, arith, length-append}
 use mathlib.Core.Logic.{dite}
 use mathlib.Core.Option.{some, some-injective, some-ne-none}
 use native.Mathlib.Decide.{ℕ_discrete, dec_le}
@@ -11,13 +11,13 @@ use Rattle.metrics_bucket.specs.declared.view.View.{View}
 use Rattle.metrics_bucket.specs.declared.view.Hold.{Hold}
 use Rattle.metrics_bucket.specs.declared.view.Hold.TheVariants.{Nothing, Ticket, Written, Claimed, SideKnown, Reading, Clearing, Settling}
 use Rattle.metrics_bucket.specs.declared.view.Visit.{Visit}
-use Rattle.metrics_bucket.specs.declared.view.Visit.TheVariants.{Unseen, Marked, Read, Wiped}
-use Rattle.metrics_bucket.specs.BucketState.{BucketState, total, walks_of, walks_made, other, place_index, side_of, put_visit, value_in, values_in, walk, leaving, left_from, left_part, right_part, both_parts, new_view, whole_view, holds_as, push, pushing, holding, holding_at, Act, look, look_to_settle, ticket, write, finish, claim, look_to_read, look_to_clear, takes, see, read, wipe, leave, quit, split, join, view_after, state_after}
+use Rattle.metrics_bucket.specs.declared.view.Visit.TheVariants.{Marked, Read, Wiped}
+use Rattle.metrics_bucket.specs.BucketState.{BucketState, total, walks_of, walks_made, place_index, side_of, put_visit, value_in, values_in, walk, leaving, left_from, left_part, right_part, both_parts, new_view, whole_view, push, holding, holding_at, Act, look, look_to_settle, ticket, write, finish, claim, look_to_read, look_to_clear, takes, see, read, wipe, leave, quit, split, join, view_after, state_after}
 use Rattle.metrics_bucket.specs.Facts.{same, below, turn_in, turn_of, took_in, weight_of, HoldFits, Facts}
-use Rattle.metrics_bucket.specs.Places.{pushes_at, held_in, pushed_at, tickets_at, walks_in, takes_in, lengths_of, clearing_of, told_of, wipes_at, given_of, mark_of, IsPush, WalkFinds, VisitFinds, VisitsFind, HoldPlaced, Placed}
-use Rattle.metrics_bucket.specs.History.{HasVisit, CanLeave, CanQuit, May, Event, Runs, start, opened}
-use Rattle.metrics_bucket.specs.BucketLaw.{gives_in, is_claim, is_quit, epoch_after, tickets_given, TicketsAreOnce, InOnePlace, FindsPushes, LeavesComplete, TakesClean, claims_in, quits_in, WalksNeedTheTurn, IsSound, push_and_clear, by_first, ClearsFive, BucketLaw}
-use Rattle.metrics_bucket.proofs.Sums.{total_set, total_one, total_two, total_zero, total_snoc, below_under, below_over, below_le}
+use Rattle.metrics_bucket.specs.Places.{held_in, pushed_at, tickets_at, walks_in, takes_in, lengths_of, clearing_of, told_of, given_of, IsPush, VisitFinds, HoldPlaced, Placed}
+use Rattle.metrics_bucket.specs.History.{HasVisit, CanLeave, CanQuit, May, Event, Runs, start}
+use Rattle.metrics_bucket.specs.BucketLaw.{gives_in, is_claim, is_quit, epoch_after, tickets_given, LeavesComplete, claims_in, quits_in, IsSound, ClearsFive, BucketLaw}
+use Rattle.metrics_bucket.proofs.Sums.{total_set, total_one, total_zero, total_snoc, below_under, below_over}
 use Rattle.metrics_bucket.proofs.Walks.{take_clean}
 use Rattle.metrics_bucket.proofs.Shares.{opens, fresh, IsNew}
 use Rattle.metrics_bucket.proofs.Histories.{step_facts, runs_facts, new_there, total_new, opened_new}

@@ -1,5 +1,5 @@
 -- The law over all histories of a bucket's steps.
-use Rattle.std.specs.Prelude.{◌≡◌, ℕ, zero, suc, ◌+◌, ◌<◌, cond, eqb, List, [], ◌∷◌, ◌++◌, length, slice_index}
+use Rattle.std.specs.Prelude.{◌≡◌, ℕ, suc, ◌+◌, ◌<◌, cond, eqb, List, [], ◌∷◌, ◌++◌, length, slice_index}
 use mathlib.Core.Option.{some}
 use lib.ListN.{get_elem?}
 use Rattle.metrics_bucket.specs.declared.view.Push.{Push}
@@ -10,7 +10,7 @@ use Rattle.metrics_bucket.specs.declared.view.Visit.{Visit}
 use Rattle.metrics_bucket.specs.declared.view.Visit.TheVariants.{Marked}
 use Rattle.metrics_bucket.specs.BucketState.{BucketState, total, walks_made, other, place_index, side_of, values_in, walk, leaving, Act, ticket, write, finish, claim, look_to_clear, takes, see, read, wipe, leave, quit}
 use Rattle.metrics_bucket.specs.Facts.{below, ticket_at, Facts}
-use Rattle.metrics_bucket.specs.Places.{pushed_at, tickets_at, takes_in, wipes_at, given_of, mark_of, IsPush, WalkFinds, HoldPlaced}
+use Rattle.metrics_bucket.specs.Places.{tickets_at, takes_in, wipes_at, mark_of, IsPush, WalkFinds, HoldPlaced}
 use Rattle.metrics_bucket.specs.History.{HasVisit, CanLeave, Event, Runs, start, opened}
 
 -- 1 if the step gives a ticket of this epoch

@@ -6,10 +6,12 @@ ghost use Rattle.metrics_bucket.specs.Blocks.{Settled};
 ghost use Rattle.metrics_bucket.specs.declared.view.Hold.TheVariants.{Nothing, Settling};
 ghost use Rattle.metrics_bucket.specs.Steps.{count_all, IsFullFor, values_known, ArePartsOf};
 
-use crate::view::{View, Turn};
 use crate::pen::{Pen, Words};
-use crate::steps::{DrawTicket, FinishPush, LookToSettle, LookAtControl, WriteValue, LookAtSettled};
 use crate::sample::Sample;
+use crate::steps::{
+    DrawTicket, FinishPush, LookAtControl, LookAtSettled, LookToSettle, WriteValue,
+};
+use crate::view::{Turn, View};
 use atomic_table::{Seat, Table};
 use crossbeam_utils::Backoff;
 use metrics::Error;
@@ -150,7 +152,9 @@ impl<T: Sample> RuledBucket<T> {
             .shared
             .store::<WriteValue>(&mut pen.seat, 2 + place_index, value.to_word());
         let mark = 2 + 2 * self.places + place_index;
-        self.table.shared.store::<FinishPush>(&mut pen.seat, mark, 1);
+        self.table
+            .shared
+            .store::<FinishPush>(&mut pen.seat, mark, 1);
         pen.ticket = None;
     }
 

@@ -16,10 +16,10 @@ ghost use Rattle.metrics_bucket.specs.declared.view.Hold.TheVariants.{Nothing, C
 ghost use Rattle.metrics_bucket.specs.declared.view.Visit.TheVariants.{Unseen, Marked, Wiped};
 
 use crate::bucket::{BLOCK_SIZE, RuledBucket};
-use crate::view::{View, Turn};
 use crate::pen::Pen;
-use crate::steps::{LookToClear, ClaimTurn, LeaveTurn, ReadValue, LookAtMark, TakeSide, WipeMark};
 use crate::sample::Sample;
+use crate::steps::{ClaimTurn, LeaveTurn, LookAtMark, LookToClear, ReadValue, TakeSide, WipeMark};
+use crate::view::{Turn, View};
 use crate::visitor::{Shown, Visitor};
 use atomic_table::Seat;
 use crossbeam_utils::Backoff;

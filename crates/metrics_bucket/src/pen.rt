@@ -2,9 +2,9 @@
 ghost use Rattle.std.specs.Prelude.{◌≡◌, ◌<◌, ◌↔◌, true, false, IsTrue, IfOk, IfErr};
 ghost use Rattle.metrics_bucket.specs.Account.{left_account, right_account, joined_account};
 
-use crate::view::{View, Turn};
-use crate::steps::{Halves, LookAtControl};
 use crate::rule::BucketRule;
+use crate::steps::{Halves, LookAtControl};
+use crate::view::{Turn, View};
 use atomic_table::{Seat, Table};
 use metrics::Error;
 use std::alloc::Global;

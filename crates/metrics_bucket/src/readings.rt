@@ -19,10 +19,10 @@ ghost use Rattle.metrics_bucket.specs.declared.view.Visit.TheVariants.{Unseen, M
 
 use crate::bucket::{BLOCK_SIZE, RuledBucket};
 use crate::gathered::Gathered;
-use crate::view::{View, Turn};
 use crate::pen::Pen;
-use crate::steps::{ClaimTurn, LeaveTurn, GiveTurnBack, ReadValue, LookToRead};
 use crate::sample::Sample;
+use crate::steps::{ClaimTurn, GiveTurnBack, LeaveTurn, LookToRead, ReadValue};
+use crate::view::{Turn, View};
 use crate::visitor::{Shown, Visitor};
 use atomic_table::Seat;
 use metrics::Error;

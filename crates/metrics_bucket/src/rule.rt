@@ -1,5 +1,5 @@
 //! The rule of the bucket's words.
-use crate::view::{View, Turn};
+use crate::view::{Turn, View};
 use atomic_table::TableRule;
 
 pub struct BucketRule;

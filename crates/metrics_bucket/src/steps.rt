@@ -3,7 +3,7 @@ ghost use Rattle.metrics_bucket.specs.Steps.{control_looked, ticket_drawn, value
 ghost use Rattle.metrics_bucket.specs.WalkSteps.{turn_claimed, reading_looked, clear_looked, side_taken, mark_looked, value_read, mark_wiped, turn_left, turn_given_back};
 ghost use Rattle.metrics_bucket.specs.BucketState.{new_view, left_part, right_part, both_parts};
 
-use crate::view::{View, Turn};
+use crate::view::{Turn, View};
 use atomic_table::{Join, Play, Split};
 
 pub(crate) struct LookAtControl;

@@ -5,8 +5,8 @@ ghost use Rattle.std.specs.Arc.{arc_value};
 use crate::{Pen, RuledBucket, Sample, Visitor, bucket_law};
 use metrics::Error;
 use std::alloc::Global;
-use std::sync::{Arc, Wait};
 use std::sync::atomic::{AtomicUsize, Ordering};
+use std::sync::{Arc, Wait};
 use std::test::*;
 use std::thread::{Threads, join};
 
@@ -110,8 +110,18 @@ fn the_lightest_pen_isnt_split(rt: HostRuntime) -> Result<(), Fail> {
 
 #[test]
 fn blocks_are_1_to_1024(rt: HostRuntime) {
-    assert!(rt; matches!(RuledBucket::<u64>::new(rt.alloc(), 0), Err(Error::BadBlocks)));
-    assert!(rt; matches!(RuledBucket::<i64>::new(rt.alloc(), 1025), Err(Error::BadBlocks)));
+    assert!(rt;
+        matches!(
+            RuledBucket::<u64>::new(rt.alloc(), 0),
+            Err(Error::BadBlocks)
+        )
+    );
+    assert!(rt;
+        matches!(
+            RuledBucket::<i64>::new(rt.alloc(), 1025),
+            Err(Error::BadBlocks)
+        )
+    );
     assert!(rt; RuledBucket::<i64>::new(rt.alloc(), 1024).is_ok());
 }
 
@@ -389,7 +399,10 @@ fn clear_and_push<R: Threads + Wait + Sync>(
     );
     other.join(slow);
     other.join(clearer);
-    (other, number && refused && shown.as_slice() == [1, 2].as_slice())
+    (
+        other,
+        number && refused && shown.as_slice() == [1, 2].as_slice(),
+    )
 }
 
 /// What a reading finds, and then what is left.

@@ -1,4 +1,4 @@
-use Rattle.std.proofs.Common.{rules, ◌≡◌, ℕ, List, [], ◌∷◌, ◌+◌, ◌%◌, ◌^◌, sym, ap, ◌∙◌, subst, arith, get_or}
+use Rattle.std.proofs.Common.{rules, ℕ, List, ◌∷◌, sym, ap, ◌∙◌}
 use Rattle.atomic_table.specs.Table.{rest}
 use Rattle.metrics_bucket.specs.declared.view.Turn.{Turn}
 use Rattle.metrics_bucket.specs.History.{turn_at}

@@ -1,4 +1,4 @@
-use Rattle.std.proofs.Common.{rules, ◌≡◌, ℕ, List, [], ◌∷◌, length, ◌+◌, ◌/◌, ◌≤◌, refl, inl, sym, ap, ◌∙◌, subst, arith}
+use Rattle.std.proofs.Common.{rules, ◌≡◌, ℕ, List, [], ◌∷◌, ◌+◌, ◌/◌, ◌≤◌, refl, inl, sym, ap, ◌∙◌, subst, arith}
 use Rattle.metrics_bucket.specs.declared.view.Walk.{Walk}
 use Rattle.metrics_bucket.specs.declared.view.Push.{Push}
 use Rattle.metrics_bucket.specs.BucketState.{with_read, holds_as, holding}
@@ -7,7 +7,6 @@ use Rattle.metrics_bucket.specs.History.{turn_at, CanQuit}
 use Rattle.metrics_bucket.specs.Places.{Reaches, Covers}
 use Rattle.metrics_bucket.specs.Steps.{Seated}
 use Rattle.metrics_bucket.specs.Facts.{weigh, weigh_pushes, weigh_walks}
-use Rattle.metrics_bucket.specs.ReadChunks.{has_read}
 use Rattle.std.specs.Prelude.{vec_capacity}
 use Rattle.metrics_bucket.specs.Gathers.{Gathers}
 use Rattle.metrics_bucket.proofs.WalkCode.{folds_seen}

@@ -1,4 +1,4 @@
-use Rattle.std.proofs.Common.{rules, ◌≡◌, ℕ, List, [], ◌∷◌, length, ◌+◌, ◌/◌, ◌≤◌, refl, sym, ap, ◌∙◌, subst, arith}
+use Rattle.std.proofs.Common.{◌≡◌, ℕ, List, [], ◌∷◌, ◌+◌, ◌/◌, refl, sym, ap, ◌∙◌, subst}
 use Rattle.metrics_bucket.specs.declared.view.Walk.{Walk}
 use Rattle.metrics_bucket.specs.declared.view.Push.{Push}
 use Rattle.metrics_bucket.specs.BucketState.{with_read, holds_as}
@@ -7,7 +7,6 @@ use Rattle.metrics_bucket.specs.History.{turn_at}
 use Rattle.metrics_bucket.specs.Places.{Reaches, Covers}
 use Rattle.metrics_bucket.specs.Steps.{Seated}
 use Rattle.metrics_bucket.specs.Facts.{weigh, weigh_pushes, weigh_walks}
-use Rattle.metrics_bucket.specs.ReadChunks.{has_read}
 use Rattle.metrics_bucket.proofs.bucket.RuledBucket.show_to.Goals as goal
 
 abbrev IsOut : Seated → Type 0
