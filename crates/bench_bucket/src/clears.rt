@@ -2,7 +2,7 @@
 ghost use Rattle.std.specs.Prelude.{◌≡◌, false};
 
 use crate::{Bench, taken};
-use anyhow::Result;
+use anyhow::{Result, anyhow};
 use metrics_bucket::{Pen, RuledBucket};
 use std::alloc::Global;
 use std::sync::Wait;
@@ -33,7 +33,9 @@ fn fill(bucket: &RuledBucket<i64>, pen: &mut Pen, values: i64) -> u64
 
 impl Filled {
     fn new(alloc: Global, blocks: usize) -> Result<Filled> {
-        let (bucket, pen) = taken(RuledBucket::new(alloc, blocks))?;
+        let Ok((bucket, pen)) = RuledBucket::new(alloc, blocks) else {
+            return Err(anyhow!("refused"));
+        };
         Ok(Filled { bucket, pen })
     }
 
@@ -44,11 +46,13 @@ impl Filled {
     /// The sum of what the clear shows.
     fn clear<R: Wait>(&mut self, rt: &R) -> Result<i64> {
         let mut sum: i64 = 0;
-        taken(self.bucket.clear_with_as(rt, &mut self.pen, |values| {
-            for value in values {
-                sum = sum.wrapping_add(*value);
-            }
-        }))?;
+        taken(
+            self.bucket.clear_with_as(rt, &mut self.pen, |values| {
+                for value in values {
+                    sum = sum.wrapping_add(*value);
+                }
+            }),
+        )?;
         Ok(sum)
     }
 }

@@ -116,7 +116,19 @@ fn main(rt: HostRuntime) -> Result<()> {
     let bench = Clears::new(alloc, 1, 512)?;
     report(&rt, timed, "bucket_clear_with_64_per_value", bench, 32_768)?;
     let bench = Clears::new(alloc, 16, 256)?;
-    report(&rt, timed, "bucket_clear_with_1024_per_value", bench, 262_144)?;
+    report(
+        &rt,
+        timed,
+        "bucket_clear_with_1024_per_value",
+        bench,
+        262_144,
+    )?;
     let bench = Clears::new(alloc, 1024, 4)?;
-    report(&rt, timed, "bucket_clear_with_65536_per_value", bench, 262_144)
+    report(
+        &rt,
+        timed,
+        "bucket_clear_with_65536_per_value",
+        bench,
+        262_144,
+    )
 }

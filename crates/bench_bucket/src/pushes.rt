@@ -2,7 +2,7 @@
 ghost use Rattle.std.specs.Prelude.{◌≡◌, false};
 
 use crate::{Bench, taken};
-use anyhow::Result;
+use anyhow::{Result, anyhow};
 use metrics_bucket::{Pen, RuledBucket};
 use std::alloc::Global;
 use std::sync::Wait;
@@ -39,7 +39,9 @@ fn push_run<R: Wait>(
 
 impl Pushes {
     pub fn new(alloc: Global) -> Result<Pushes> {
-        let (bucket, pen) = taken(RuledBucket::new(alloc, 1024))?;
+        let Ok((bucket, pen)) = RuledBucket::new(alloc, 1024) else {
+            return Err(anyhow!("refused"));
+        };
         Ok(Pushes { bucket, pen })
     }
 }
@@ -96,12 +98,48 @@ fn push_in_two<R: Threads + Wait + Sync>(
     (one, other, a.wrapping_add(b))
 }
 
+/// Four threads push 16,384 values each.
+fn push_in_four<R: Threads + Wait + Sync>(
+    rt: &R,
+    bucket: &RuledBucket<i64>,
+    first: Pen,
+    second: Pen,
+    third: Pen,
+    fourth: Pen,
+) -> (Pen, Pen, Pen, Pen, u64)
+    requires one { (first.home ≡ bucket.now) × (first.ticket ≡ false) × (second.home ≡ bucket.now) × (second.ticket ≡ false) }
+    requires other { (third.home ≡ bucket.now) × (third.ticket ≡ false) × (fourth.home ≡ bucket.now) × (fourth.ticket ≡ false) }
+    ensures one { (result.0.home ≡ bucket.now) × (result.0.ticket ≡ false) × (result.1.home ≡ bucket.now) × (result.1.ticket ≡ false) }
+    ensures other { (result.2.home ≡ bucket.now) × (result.2.ticket ≡ false) × (result.3.home ≡ bucket.now) × (result.3.ticket ≡ false) }
+{
+    let ((first, second, a), (third, fourth, b)) = join(
+        rt,
+        || -> (Pen, Pen, u64)
+            requires { (first.home ≡ bucket.now) × (first.ticket ≡ false) × (second.home ≡ bucket.now) × (second.ticket ≡ false) }
+            ensures { (result.0.home ≡ first.home) × (result.0.ticket ≡ false) × (result.1.home ≡ second.home) × (result.1.ticket ≡ false) }
+        { push_in_two(rt, bucket, first, second) },
+        || -> (Pen, Pen, u64)
+            requires { (third.home ≡ bucket.now) × (third.ticket ≡ false) × (fourth.home ≡ bucket.now) × (fourth.ticket ≡ false) }
+            ensures { (result.0.home ≡ third.home) × (result.0.ticket ≡ false) × (result.1.home ≡ fourth.home) × (result.1.ticket ≡ false) }
+        { push_in_two(rt, bucket, third, fourth) },
+    );
+    (first, second, third, fourth, a.wrapping_add(b))
+}
+
 impl PushesOfFour {
     pub fn new(alloc: Global) -> Result<PushesOfFour> {
-        let (bucket, mut first) = taken(RuledBucket::new(alloc, 1024))?;
-        let second = taken(first.split())?;
-        let third = taken(first.split())?;
-        let fourth = taken(first.split())?;
+        let Ok((bucket, mut first)) = RuledBucket::new(alloc, 1024) else {
+            return Err(anyhow!("refused"));
+        };
+        let Ok(second) = first.split() else {
+            return Err(anyhow!("refused"));
+        };
+        let Ok(third) = first.split() else {
+            return Err(anyhow!("refused"));
+        };
+        let Ok(fourth) = first.split() else {
+            return Err(anyhow!("refused"));
+        };
         Ok(PushesOfFour {
             bucket,
             first,
@@ -139,17 +177,8 @@ impl Bench for PushesOfFour {
             third,
             fourth,
         } = self;
-        let shared = &bucket;
-        let ((first, second, a), (third, fourth, b)) = join(
-            rt,
-            || -> (Pen, Pen, u64)
-                requires { (first.home ≡ shared.now) × (first.ticket ≡ false) × (second.home ≡ shared.now) × (second.ticket ≡ false) }
-                ensures { (result.0.home ≡ first.home) × (result.0.ticket ≡ false) × (result.1.home ≡ second.home) × (result.1.ticket ≡ false) }
-            { push_in_two(rt, shared, first, second) },
-            || -> (Pen, Pen, u64)
-                requires { (third.home ≡ shared.now) × (third.ticket ≡ false) × (fourth.home ≡ shared.now) × (fourth.ticket ≡ false) }
-                ensures { (result.0.home ≡ third.home) × (result.0.ticket ≡ false) × (result.1.home ≡ fourth.home) × (result.1.ticket ≡ false) }
-            { push_in_two(rt, shared, third, fourth) },
+        let (first, second, third, fourth, refused) = push_in_four(
+            rt, &bucket, first, second, third, fourth,
         );
         let bench = PushesOfFour {
             bucket,
@@ -158,6 +187,6 @@ impl Bench for PushesOfFour {
             third,
             fourth,
         };
-        Ok((bench, a.wrapping_add(b)))
+        Ok((bench, refused))
     }
 }

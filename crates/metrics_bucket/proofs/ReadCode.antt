@@ -11,7 +11,7 @@ use Rattle.metrics_bucket.specs.declared.view.Visit.{Visit}
 use Rattle.metrics_bucket.specs.declared.view.Visit.TheVariants.{Unseen, Marked, Read}
 use Rattle.metrics_bucket.specs.BucketState.{walk, with_read, holding, leaving, left_from, put_visit, visits_of, value_in, values_in}
 use Rattle.metrics_bucket.specs.History.{CanLeave}
-use Rattle.metrics_bucket.specs.ReadChunks.{Reads}
+use Rattle.metrics_bucket.specs.ReadPlaces.{Reads}
 use Rattle.metrics_bucket.specs.Steps.{Seated}
 use Rattle.metrics_bucket.proofs.Keep.{at_below}
 use Rattle.metrics_bucket.proofs.WalkCode.{set_twice, visit_there, new_at, length_visits}

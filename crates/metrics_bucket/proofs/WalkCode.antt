@@ -20,7 +20,7 @@ use Rattle.metrics_bucket.specs.BucketState.{other, walk, holding, leaving, left
 use Rattle.metrics_bucket.specs.History.{CanLeave}
 use Rattle.metrics_bucket.specs.Blocks.{valued}
 use Rattle.metrics_bucket.specs.declared.view.Push.{Push}
-use Rattle.metrics_bucket.specs.Chunks.{Clears, has_taken}
+use Rattle.metrics_bucket.specs.ClearedPlaces.{Clears, has_taken}
 use Rattle.metrics_bucket.specs.Places.{Reaches, Finds, Covers}
 use Rattle.metrics_bucket.proofs.Blocks.{chunk, chunks_from, chunks_front, drop_more, part_next}
 use Rattle.metrics_bucket.specs.Steps.{Seated}

@@ -1,4 +1,4 @@
--- The bucket's state, its single steps, and histories of steps.
+-- The bucket's state, and its single steps.
 use Rattle.std.specs.Prelude.{ℕ, zero, suc, ◌+◌, ◌-◌, ◌*◌, ◌/◌, List, [], ◌∷◌, ◌++◌, length, slice_index, slice_set, take, drop, replicate}
 use Rattle.metrics_bucket.specs.declared.view.View.{View}
 use Rattle.metrics_bucket.specs.declared.view.Push.{Push}

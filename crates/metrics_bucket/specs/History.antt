@@ -1,4 +1,4 @@
--- Histories of the bucket's steps, and the law over them.
+-- Histories of the bucket's steps, and the rule of the running table.
 use Rattle.std.specs.Prelude.{◌≡◌, ◌≢◌, ℕ, zero, suc, ◌+◌, ◌%◌, ◌^◌, ◌<◌, List, [], ◌∷◌, slice_index, replicate}
 use mathlib.Core.Option.{Option, none, some}
 use lib.ListN.{get_elem?}

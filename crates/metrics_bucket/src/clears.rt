@@ -11,7 +11,7 @@ ghost use lib.ListN.{get_elem?};
 ghost use Rattle.metrics_bucket.specs.BucketState.{holding, put_visit, side_of, visits_of, values_in};
 ghost use Rattle.metrics_bucket.specs.History.{HasVisit, turn_at};
 ghost use Rattle.metrics_bucket.specs.Account.{IsTaken};
-ghost use Rattle.metrics_bucket.specs.Chunks.{AreUnseen, Clears, has_taken};
+ghost use Rattle.metrics_bucket.specs.ClearedPlaces.{AreUnseen, Clears, has_taken};
 ghost use Rattle.metrics_bucket.specs.declared.view.Hold.TheVariants.{Nothing, Clearing};
 ghost use Rattle.metrics_bucket.specs.declared.view.Visit.TheVariants.{Unseen, Marked, Wiped};
 

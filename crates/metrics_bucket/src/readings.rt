@@ -12,8 +12,8 @@ ghost use lib.ListN.{get_elem?};
 ghost use Rattle.metrics_bucket.specs.BucketState.{holding, with_read, put_visit, side_of, visits_of, values_in};
 ghost use Rattle.metrics_bucket.specs.History.{HasVisit, CanQuit, turn_at};
 ghost use Rattle.metrics_bucket.specs.Account.{IsRead};
-ghost use Rattle.metrics_bucket.specs.ReadChunks.{Reads, has_read, looked_to_read, IsFree};
-ghost use Rattle.metrics_bucket.specs.Chunks.{AreUnseen};
+ghost use Rattle.metrics_bucket.specs.ReadPlaces.{Reads, has_read, looked_to_read, IsFree};
+ghost use Rattle.metrics_bucket.specs.ClearedPlaces.{AreUnseen};
 ghost use Rattle.metrics_bucket.specs.declared.view.Hold.TheVariants.{Nothing, Reading};
 ghost use Rattle.metrics_bucket.specs.declared.view.Visit.TheVariants.{Unseen, Marked, Read};
 

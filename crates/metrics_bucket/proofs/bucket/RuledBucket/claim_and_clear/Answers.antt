@@ -5,7 +5,7 @@ use Rattle.metrics_bucket.specs.Facts.{weigh_pushes}
 use Rattle.metrics_bucket.specs.WalkSteps.{IsClearing}
 use Rattle.metrics_bucket.specs.History.{CanLeave, turn_at}
 use Rattle.metrics_bucket.specs.Places.{Reaches, Finds}
-use Rattle.metrics_bucket.specs.Chunks.{has_taken}
+use Rattle.metrics_bucket.specs.ClearedPlaces.{has_taken}
 use Rattle.metrics_bucket.specs.declared.view.Push.{Push}
 use Rattle.metrics_bucket.specs.declared.view.Hold.{Hold}
 use Rattle.metrics_bucket.specs.declared.view.Hold.TheVariants.{Clearing}

@@ -1,6 +1,6 @@
 use Rattle.std.proofs.Common.{◌≡◌, ◌-◌, take, drop, map}
 use Rattle.metrics_bucket.specs.BucketState.{visits_of, values_in}
-use Rattle.metrics_bucket.specs.Chunks.{Clears}
+use Rattle.metrics_bucket.specs.ClearedPlaces.{Clears}
 use Rattle.metrics_bucket.proofs.bucket.RuledBucket.clear_chunk.Given as goal
 
 abbrev pub invariant-loop-at : goal.invariant-loop-at

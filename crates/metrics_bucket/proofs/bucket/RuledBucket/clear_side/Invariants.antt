@@ -3,7 +3,7 @@ use Rattle.std.specs.List.{FoldsTo}
 use Rattle.metrics_bucket.specs.BucketState.{visits_of, values_in}
 use Rattle.metrics_bucket.proofs.Blocks.{chunks_from}
 use Rattle.metrics_bucket.specs.Blocks.{valued}
-use Rattle.metrics_bucket.specs.Chunks.{Clears}
+use Rattle.metrics_bucket.specs.ClearedPlaces.{Clears}
 use Rattle.metrics_bucket.proofs.bucket.RuledBucket.clear_side.Given as goal
 
 abbrev pub invariant-loop-chunks : goal.invariant-loop-chunks

@@ -1,4 +1,4 @@
--- What clearing some places of a walk does.
+-- What reading some places of a walk does.
 use Rattle.std.specs.Prelude.{◌≡◌, ℕ, ◌<◌, ◌≤◌, ◌⊎◌, [], ◌/◌, ◌%◌, replicate, length}
 use mathlib.Core.Option.{some}
 use lib.ListN.{get_elem?}
