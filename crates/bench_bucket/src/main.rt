@@ -22,11 +22,14 @@ const OPERATIONS: u32 = 2_000_000;
 
 /// A benchmark: one walk makes a fixed number of operations.
 trait Bench: Drop {
+    ghost use Rattle.std.specs.Thread.{IsSync};
+
     /// What stands before a walk, and isn't timed.
     fn prepare<R: Wait>(self, rt: &R) -> Result<Self>;
 
     /// One walk. What it answers hangs on what was found, so that no work is left out.
-    fn walk<R: Threads + Wait + Sync>(self, rt: &R) -> Result<(Self, u64)>;
+    fn walk<R: Threads + Wait + Sync>(self, rt: &R) -> Result<(Self, u64)>
+        requires { IsSync R.row };
 }
 
 /// What a call gave that must succeed.
