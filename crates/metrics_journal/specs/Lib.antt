@@ -1,0 +1,4 @@
+pub mod Journal
+pub mod Cells
+pub mod Shard
+pub mod Tally

@@ -1,0 +1,12 @@
+//! A registry that keeps a journal of its calls, under one lock.
+#![tactic(auto)]
+
+mod calls;
+mod shard;
+mod steps;
+mod tally;
+
+pub use calls::ShardCall;
+pub use metrics::Error;
+pub use shard::JournaledShard;
+pub use tally::Tally;
