@@ -34,10 +34,10 @@ module _ {K C : Type 0} {eq : K → K → Bool} (laws : IsEquivalence eq) (Makes
   stay-made : MadeAt eq Makes key old new → StaySame eq old new
   stay-made at q before after was now =
       by_answer (eq key q)
-        (λ t.
-            some-is (sym now ∙ (at.2 q ∙ cond-true (eq key q) (Some at.0) (held eq old q) t))
-            ∙ of-cell (Makes key) (held eq old key) at.0 before (same-held laws old key q t ∙ was) at.1)
-        (λ f. some-is (sym now ∙ (at.2 q ∙ (cond-false (eq key q) (Some at.0) (held eq old q) f ∙ was))))
+      (λ t.
+      some-is (sym now ∙ (at.2 q ∙ cond-true (eq key q) (Some at.0) (held eq old q) t))
+      ∙ of-cell (Makes key) (held eq old key) at.0 before (same-held laws old key q t ∙ was) at.1)
+      (λ f. some-is (sym now ∙ (at.2 q ∙ (cond-false (eq key q) (Some at.0) (held eq old q) f ∙ was))))
 
   -- a refusal changes nothing
   pub stay : {V E : Type 0} (result : Result V E) → IfOk result (λ v. MadeAt eq Makes key old new) → OnErr result (new ≡ old) → StaySame eq old new

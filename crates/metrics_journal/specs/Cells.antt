@@ -1,5 +1,5 @@
 -- Which keys a registry holds, and with which cells.
-use Rattle.std.specs.Prelude.{◌≡◌, Bool, true, not, ◌&&◌, ◌||◌, List, Some, is_some}
+use Rattle.std.specs.Prelude.{◌≡◌, Bool, true, List, Some, is_some}
 use Rattle.metrics_names.specs.declared.kind.MetricKind.{MetricKind}
 use Rattle.metrics_names.specs.declared.kind.MetricKind.TheVariants.{Counter, Gauge, Histogram}
 use Rattle.metrics_registry.specs.declared.registry.OwnedRegistry.{OwnedRegistry}

@@ -8,4 +8,3 @@ pub record ShardParts (K R : Type 0) : Type 0 where
   pub shards : ℕ
   pub registry : R
   pub journal : Journal K
-

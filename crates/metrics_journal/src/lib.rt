@@ -2,11 +2,13 @@
 #![tactic(auto)]
 
 mod calls;
+mod registry;
 mod shard;
 mod steps;
 mod tally;
 
 pub use calls::ShardCall;
 pub use metrics::Error;
+pub use registry::JournaledRegistry;
 pub use shard::JournaledShard;
 pub use tally::Tally;

@@ -48,7 +48,10 @@ where
     match kind {
         MetricKind::Counter => registry.get_or_create_counter(key, |_cell: &mut S::Counter| {}),
         MetricKind::Gauge => registry.get_or_create_gauge(key, |_cell: &mut S::Gauge| {}),
-        MetricKind::Histogram => registry.get_or_create_histogram(key, |_cell: &mut S::Histogram| {}),
+        MetricKind::Histogram => registry.get_or_create_histogram(
+            key,
+            |_cell: &mut S::Histogram| {},
+        ),
     }
 }
 

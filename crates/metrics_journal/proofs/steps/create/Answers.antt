@@ -1,4 +1,4 @@
-use Rattle.std.proofs.Common.{rules, of_calls, ◌≡◌, IfOk, OnErr}
+use Rattle.std.proofs.Common.{rules, IfOk}
 use Rattle.metrics_journal.proofs.CellsLemmas.{MadeAt, stay-same, stay}
 use Rattle.metrics_journal.proofs.steps.create.Goals as goal
 

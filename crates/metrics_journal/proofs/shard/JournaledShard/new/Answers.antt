@@ -1,4 +1,4 @@
-use Rattle.std.proofs.Common.{rules, ◌≡◌, true, refl}
+use Rattle.std.proofs.Common.{rules, ◌≡◌, true}
 use Rattle.metrics.specs.declared.error.Error.TheVariants.{Memory}
 use Rattle.metrics_registry.specs.Held.{is_shard_count}
 use Rattle.metrics_journal.proofs.shard.JournaledShard.new.Goals as goal
