@@ -27,7 +27,7 @@ struct Journals<K: Hashable, S: Storage<K>, T: Ledger, F: Ledger> {
 }
 
 impl<K: Hashable, S: Storage<K>, T: Ledger, F: Ledger> Model for Journals<K, S, T, F> {
-    ghost use Rattle.std.specs.Prelude.{◌≡◌, ◌<◌, ◌≤◌, true, false, List, vec_len, vec_capacity};
+    ghost use Rattle.std.specs.Prelude.{◌≡◌, ◌<◌, ◌≤◌, ◌+◌, ◌*◌, true, false, List, vec_len, vec_capacity};
     ghost use Rattle.metrics_journal.specs.Journal.{Journal, replies_in};
     ghost use Rattle.metrics_journal.specs.Journals.{journals_of, AreShards};
 
@@ -37,10 +37,11 @@ impl<K: Hashable, S: Storage<K>, T: Ledger, F: Ledger> Model for Journals<K, S, 
 
     ghost invariant = { λ s. (0 < vec_len s.shards)
         × AreShards (vec_len s.shards) 0 s.shards.items
-        × (s.trues.total ≡ replies_in true (journals_of s.shards.items))
+        × (s.trues.total ≡ vec_len s.shards + 2048 * replies_in true (journals_of s.shards.items))
         × (s.falses.total ≡ replies_in false (journals_of s.shards.items))
         × (vec_len s.room ≡ 0)
-        × (vec_len s.shards ≤ vec_capacity s.room) };
+        × (vec_len s.shards ≤ vec_capacity s.room)
+        × (vec_len s.shards ≤ 1024) };
 }
 
 /// The shard of a key.
@@ -72,6 +73,7 @@ where
     fn finish(self, tally: Tally<T, F>) -> Vec<Vec<(ShardCall<K>, bool)>>
         requires whole { tally.weight ≡ 1024 }
         ensures legal { AreJournals K.eq K.number (vec_len result) 0 (map (λ v. v.items) result.items) }
+        ensures len { vec_len result ≡ tally.shards }
         ensures trues { replies_in true (map (λ v. v.items) result.items) ≡ tally.trues }
         ensures falses { replies_in false (map (λ v. v.items) result.items) ≡ tally.falses }
     {
@@ -168,7 +170,7 @@ where
         S: Clone,
         requires trues { (trues.name ≡ T.name) × (trues.parts ≡ T.parts) × (T.parts ≡ 1024) }
         requires falses { (falses.name ≡ F.name) × (falses.parts ≡ F.parts) × (F.parts ≡ 1024) }
-        ensures ok { IfOk result (λ r. (is_shard_count shards ≡ true) × (r.1 ≡ record { weight = 1024; trues = 0; falses = 0 })) }
+        ensures ok { IfOk result (λ r. (is_shard_count shards ≡ true) × (r.1 ≡ record { weight = 1024; shards = shards; trues = 0; falses = 0 })) }
         ensures err { IfErr result (λ e. e ≡ cond (is_shard_count shards) OutOfMemory NotShards) }
     {
         if !shards.is_power_of_two() || shards > 1024 {
@@ -177,7 +179,7 @@ where
         let made = new_shards(alloc, &storage, shards)?;
         let mut room = Vec::new(alloc);
         room.reserve(shards)?;
-        let (trues, falses, tally) = Tally::open(trues, falses);
+        let (trues, falses, tally) = Tally::open(trues, falses, shards);
         let journals = Journals {
             shards: made,
             room,
@@ -210,6 +212,7 @@ where
     pub fn finish(self, tally: Tally<T, F>) -> Vec<Vec<(ShardCall<K>, bool)>>
         requires whole { tally.weight ≡ 1024 }
         ensures legal { AreJournals K.eq K.number (vec_len result) 0 (map (λ v. v.items) result.items) }
+        ensures len { vec_len result ≡ tally.shards }
         ensures trues { replies_in true (map (λ v. v.items) result.items) ≡ tally.trues }
         ensures falses { replies_in false (map (λ v. v.items) result.items) ≡ tally.falses }
     {

@@ -17,8 +17,9 @@ invariant_of-self-2 g c =
     let also = replies-set false c.shard_of-shard.result c.self.inside.shards.items c.index_mut.result.now c.call.new.self (c.args.call, c.in_ok-reply.reply) (search rules) (search rules) n.ok in (
       c.self.invariant.0,
       shards-set c.self.inside.shards.len 0 c.shard_of-shard.result c.self.inside.shards.items c.index_mut.result.now c.call.new.self (search rules) n.place.0 n.place.1 c.self.invariant.1,
-      c.count.ensures.trues ∙ (ap (λ t. t + one_if true c.in_ok-reply.reply) c.self.invariant.2 ∙ sym grows),
+      omega (arith, c.count.ensures.trues, c.self.invariant.2, grows),
       c.count.ensures.falses ∙ (ap (λ t. t + one_if false c.in_ok-reply.reply) c.self.invariant.3 ∙ sym also),
       c.self.invariant.4,
       c.self.invariant.5,
+      c.self.invariant.6,
     )
