@@ -1,0 +1,11 @@
+//! Tests of `metrics_journal`, through what it hands out.
+//!
+//! They stand in a crate of their own: a crate with tests is proved twice.
+#![tactic(auto)]
+
+#[cfg(test)]
+mod pairs;
+#[cfg(test)]
+mod shard;
+#[cfg(test)]
+mod threads;
