@@ -9,9 +9,9 @@ use Rattle.metrics_journal.specs.Journal.{held_after, reply_of}
 
 -- whether a key of a kind is held
 abbrev pub has_key : {K S C G H : Type 0} → (K → K → Bool) → OwnedRegistry K S C G H → MetricKind → K → Bool
-has_key eq r Counter key = is_some (held eq r.counters key)
-has_key eq r Gauge key = is_some (held eq r.gauges key)
-has_key eq r Histogram key = is_some (held eq r.histograms key)
+has_key eq r Counter key = is_some (held eq r.counters.entries key)
+has_key eq r Gauge key = is_some (held eq r.gauges.entries key)
+has_key eq r Histogram key = is_some (held eq r.histograms.entries key)
 
 -- each held cell was made for a key that equals the cell's
 abbrev pub AreMade : {K C : Type 0} → (K → K → Bool) → (K → C → Type 0) → List (K × C) → Type 0
@@ -19,7 +19,7 @@ AreMade {K} {C} eq Makes es = (q : K) (cell : C) → held eq es q ≡ Some cell 
 
 -- each held cell of each kind is one that the storage makes
 abbrev pub HasMadeCells : {K S C G H : Type 0} → (K → K → Bool) → (S → K → C → Type 0) → (S → K → G → Type 0) → (S → K → H → Type 0) → OwnedRegistry K S C G H → Type 0
-HasMadeCells eq counter gauge histogram r = AreMade eq (counter r.storage) r.counters × AreMade eq (gauge r.storage) r.gauges × AreMade eq (histogram r.storage) r.histograms
+HasMadeCells eq counter gauge histogram r = AreMade eq (counter r.storage) r.counters.entries × AreMade eq (gauge r.storage) r.gauges.entries × AreMade eq (histogram r.storage) r.histograms.entries
 
 -- a key that is held before and after has the same cell
 abbrev pub StaySame : {K C : Type 0} → (K → K → Bool) → List (K × C) → List (K × C) → Type 0
@@ -27,7 +27,7 @@ StaySame {K} {C} eq old new = (q : K) (before after : C) → held eq old q ≡ S
 
 -- the storage is the same, and so is each cell that stays
 abbrev pub KeepsCells : {K S C G H : Type 0} → (K → K → Bool) → OwnedRegistry K S C G H → OwnedRegistry K S C G H → Type 0
-KeepsCells eq old new = (new.storage ≡ old.storage) × StaySame eq old.counters new.counters × StaySame eq old.gauges new.gauges × StaySame eq old.histograms new.histograms
+KeepsCells eq old new = (new.storage ≡ old.storage) × StaySame eq old.counters.entries new.counters.entries × StaySame eq old.gauges.entries new.gauges.entries × StaySame eq old.histograms.entries new.histograms.entries
 
 -- a call replied by what was held, and changed what is held
 abbrev pub Replies : {K S C G H : Type 0} → (K → K → Bool) → OwnedRegistry K S C G H → OwnedRegistry K S C G H → ShardCall K → Bool → Type 0

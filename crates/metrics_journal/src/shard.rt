@@ -55,7 +55,7 @@ where
     pub fn new(alloc: Global, storage: S, shard: usize, shards: usize) -> Result<Self, Error>
         requires { shard < shards }
         ensures ok { IfOk result (λ s. (is_shard_count shards ≡ true) × (s.shard ≡ shard) × (s.shards ≡ shards) × (s.journal ≡ [])
-            × (s.registry.storage ≡ storage) × (s.registry.counters ≡ []) × (s.registry.gauges ≡ []) × (s.registry.histograms ≡ [])) }
+            × (s.registry.storage ≡ storage) × (s.registry.counters.entries ≡ []) × (s.registry.gauges.entries ≡ []) × (s.registry.histograms.entries ≡ [])) }
         ensures err { IfErr result (λ e. e ≡ cond (is_shard_count shards) OutOfMemory NotShards) }
     {
         if !shards.is_power_of_two() || shards > 1024 {
