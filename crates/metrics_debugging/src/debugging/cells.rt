@@ -83,7 +83,7 @@ impl Cells {
         update_in(registry, kind, place, by)
     }
 
-    /// Puts the cell at a place back to the value of a new one. A histogram keeps the room of its samples.
+    /// Puts the cell at a place back to the value of a new one. A histogram gives its blocks back.
     pub fn reset(&mut self, kind: MetricKind, place: usize)
         requires { place < length (series_in self.old kind) }
         ensures { Changes (λ s. new_series s.key) kind place self.old self.new }
