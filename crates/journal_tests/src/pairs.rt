@@ -68,7 +68,13 @@ fn expect_pairs<T: Ledger, F: Ledger, R: Wait + Abort>(
     requires trues { (trues.name ≡ T.name) × (trues.parts ≡ T.parts) × (T.parts ≡ 1024) }
     requires falses { (falses.name ≡ F.name) × (falses.parts ≡ F.parts) × (F.parts ≡ 1024) }
 {
-    let (registry, mut tally) = Registry::<T, F>::new(alloc, PlainStorage::new(alloc), 1, trues, falses)?;
+    let (registry, mut tally) = Registry::<T, F>::new(
+        alloc,
+        PlainStorage::new(alloc),
+        1,
+        trues,
+        falses,
+    )?;
     let replies = call_all(rt, alloc, &registry, &mut tally)?;
     assert_eq!(rt; replies, [true, false, true, false]);
     if !tally.is_whole() {

@@ -38,7 +38,10 @@ fn create_all<T: Ledger, F: Ledger, R: Wait>(
 }
 
 /// A tally in four parts.
-fn in_four<T: Ledger, F: Ledger>(alloc: Global, tally: Tally<T, F>) -> Result<Vec<Tally<T, F>>, Error> {
+fn in_four<T: Ledger, F: Ledger>(
+    alloc: Global,
+    tally: Tally<T, F>,
+) -> Result<Vec<Tally<T, F>>, Error> {
     let mut first = tally;
     let mut third = first.split()?;
     let second = first.split()?;
@@ -67,7 +70,13 @@ fn expect_all<T: Ledger + Send + Sync, F: Ledger + Send + Sync, R: Threads + Wai
     requires trues { (trues.name ≡ T.name) × (trues.parts ≡ T.parts) × (T.parts ≡ 1024) }
     requires falses { (falses.name ≡ F.name) × (falses.parts ≡ F.parts) × (F.parts ≡ 1024) }
 {
-    let (registry, tally) = Registry::<T, F>::new(alloc, PlainStorage::new(alloc), 4, trues, falses)?;
+    let (registry, tally) = Registry::<T, F>::new(
+        alloc,
+        PlainStorage::new(alloc),
+        4,
+        trues,
+        falses,
+    )?;
     let parts = in_four(alloc, tally)?;
     let shared = &registry;
     let told = thread::map_vec(rt, parts, &|part| create_all(rt, alloc, shared, part))?;
@@ -78,7 +87,9 @@ fn expect_all<T: Ledger + Send + Sync, F: Ledger + Send + Sync, R: Threads + Wai
     }
     let journals = registry.finish(tally);
     assert_eq!(rt; journals.len(), 4);
-    let pairs: usize = journals.iter().fold(0, |sum: usize, journal| sum.saturating_add(journal.len()));
+    let pairs: usize = journals
+        .iter()
+        .fold(0, |sum: usize, journal| sum.saturating_add(journal.len()));
     assert_eq!(rt; pairs, 40);
     Ok(())
 }

@@ -45,7 +45,11 @@ impl<T: Ledger, F: Ledger> Model for Tally<T, F> {
 
 impl<T: Ledger, F: Ledger> Tally<T, F> {
     /// The books of two ledgers, and a tally of their whole weight that stands for so many shards.
-    pub(crate) fn open(trues: Blank, falses: Blank, shards: usize) -> (Book<T>, Book<F>, Tally<T, F>)
+    pub(crate) fn open(
+        trues: Blank,
+        falses: Blank,
+        shards: usize,
+    ) -> (Book<T>, Book<F>, Tally<T, F>)
         requires trues { (trues.name ≡ T.name) × (trues.parts ≡ T.parts) × (T.parts ≡ 1024) }
         requires falses { (falses.name ≡ F.name) × (falses.parts ≡ F.parts) × (F.parts ≡ 1024) }
         requires shards { shards ≤ 1024 }
