@@ -117,14 +117,14 @@ fn main(rt: HostRuntime) -> Result<()> {
     report(
         &rt,
         timed,
-        "reservoir_push_1024_filling_1t",
+        "owned_reservoir_push_1024_filling_1t",
         Filling::new(alloc)?,
         1024,
     )?;
     report(
         &rt,
         timed,
-        "reservoir_push_1024_sampling_1t",
+        "owned_reservoir_push_1024_sampling_1t",
         Sampling::new(alloc)?,
         1000,
     )?;
