@@ -1,0 +1,14 @@
+use Rattle.std.proofs.Common.{rules, arith, ◌≡◌, subst, take, length, get_or, set}
+use Rattle.std.proofs.lemmas.List.{take_all}
+use Rattle.std.specs.List.{All}
+use Rattle.metrics_registry.proofs.HeldLemmas.{IsBare, entries-bare, placed-bare, bare-more, bare-all}
+use Rattle.metrics_registry.proofs.registry.shards.Shards.clear.Goals as goal
+
+pub invariant_of-self : goal.invariant_of-self
+invariant_of-self g c = (search rules, placed-bare _ _ _ _ _ (bare-all c.loop-i.i _ (search rules) c.loop-i.invariant.1))
+
+pub loop-i-preserved : goal.loop-i-preserved
+loop-i-preserved g c = (search rules, bare-more _ _ _ (search rules) c.clear.ensures.empty c.loop-i.invariant.1)
+
+pub returns : goal.returns
+returns g c = entries-bare _ (bare-all c.loop-i.i _ (search rules) c.loop-i.invariant.1)

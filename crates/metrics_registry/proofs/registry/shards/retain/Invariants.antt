@@ -1,0 +1,13 @@
+use Rattle.std.proofs.Common.{◌≡◌, ◌≤◌, ℕ, take, length, get_or}
+use denote.Param.Always.{always_mut}
+use Rattle.metrics_registry.specs.Held.{CallsAtEntry, Retains}
+use Rattle.metrics_registry.proofs.RetainLemmas.{SameFrom}
+use Rattle.metrics_registry.proofs.registry.shards.retain.Given as goal
+
+abbrev pub invariant-loop-i : goal.invariant-loop-i
+invariant-loop-i g l =
+    (l.kept ≤ l.i)
+    × (length l.map.entries ≡ length l.initial.map.entries)
+    × always_mut g.F.FnMut l.f
+    × Retains (λ p e b q. CallsAtEntry g.F.FnMut p e b q) l.initial.f (take l.i l.initial.map.entries) (take l.kept l.map.entries) l.f
+    × SameFrom l.i l.initial.map.entries l.map.entries

@@ -1,0 +1,286 @@
+//! A registry that has one owner: for each kind a map from keys to cells, in shards.
+ghost use Rattle.std.specs.Prelude.{◌≡◌, true, false, [], None, Some, Ok, IfOk, IfErr, OnErr, MatchResult, is_some, cond};
+ghost use Rattle.std.specs.Option.{option_copied};
+ghost use Rattle.std.specs.Fn.{FnOnceReturnsAtMut};
+ghost use Rattle.std.specs.List.{FoldsTo, IsDistinct};
+ghost use Rattle.std.specs.Map.{keys_of};
+ghost use Rattle.std.specs.HashMap.{get};
+ghost use Rattle.metrics.specs.declared.error.Error.TheVariants.{Memory as OutOfMemory, BadShards as NotShards};
+ghost use Rattle.metrics_registry.specs.Held.{held, Sets, CallsAt, CallsAtEntry, Retains, Copies};
+ghost use Rattle.metrics_registry.specs.Held.{is_shard_count};
+
+mod shards;
+mod storage;
+
+pub use storage::Storage;
+
+use crate::common::Hashable;
+use metrics::Error;
+use shards::Shards;
+use std::alloc::Global;
+use std::collections::HashMap;
+use std::marker::Model;
+
+/// A registry that has one owner: for each kind of metric a map from keys to cells.
+///
+/// Contracts see its storage, and for each kind the list of its entries. No key stands twice among the entries of a kind.
+/// Each kind's map lies in shards, of which `Hashable::hashable` of a key picks one; within its shard a key is found by its
+/// own `Hash`.
+///
+/// A call that copies keys asks that a key's clone is equal to the key.
+#[derive(Drop)]
+pub struct OwnedRegistry<K: Hashable, S: Storage<K>> {
+    storage: S,
+    counters: Shards<K, S::Counter>,
+    gauges: Shards<K, S::Gauge>,
+    histograms: Shards<K, S::Histogram>,
+}
+
+impl<K: Hashable + Clone + Drop, S: Storage<K> + Drop> OwnedRegistry<K, S>
+where
+    S::Counter: Drop,
+    S::Gauge: Drop,
+    S::Histogram: Drop,
+{
+    /// A registry with nothing in it, and each kind's map in this many shards, a power of two from 1 to 1,024.
+    pub fn new(alloc: Global, storage: S, shards: usize) -> Result<Self, Error>
+        ensures ok { IfOk result (λ r. (is_shard_count shards ≡ true) × (r.storage ≡ storage) × (r.counters ≡ []) × (r.gauges ≡ []) × (r.histograms ≡ [])) }
+        ensures err { IfErr result (λ e. e ≡ cond (is_shard_count shards) OutOfMemory NotShards) }
+    {
+        if !shards.is_power_of_two() || shards > 1024 {
+            return Err(Error::BadShards);
+        }
+        Ok(OwnedRegistry {
+            storage,
+            counters: Shards::new(alloc, shards)?,
+            gauges: Shards::new(alloc, shards)?,
+            histograms: Shards::new(alloc, shards)?,
+        })
+    }
+
+    /// Removes every entry of every kind.
+    pub fn clear(&mut self)
+        ensures counters { self.new.counters ≡ [] }
+        ensures gauges { self.new.gauges ≡ [] }
+        ensures histograms { self.new.histograms ≡ [] }
+        ensures storage { self.new.storage ≡ self.old.storage }
+    {
+        self.counters.clear();
+        self.gauges.clear();
+        self.histograms.clear();
+    }
+
+    /// What makes the cells.
+    pub fn storage(&self) -> &S
+        ensures { result.now ≡ self.now.storage }
+    {
+        &self.storage
+    }
+
+    /// The cell of a counter, if the key is held.
+    pub fn get_counter(&self, key: &K) -> Option<&S::Counter>
+        ensures { option_copied result ≡ held K.eq self.now.counters key.now }
+    {
+        self.counters.get(key)
+    }
+
+    /// Calls `op` once on the cell of a counter, which the storage makes where the key isn't held, and answers what it answers.
+    ///
+    /// A refusal changes nothing, and never meets a key that is held.
+    pub fn get_or_create_counter<V, F: FnOnce(&mut S::Counter) -> V + Drop>(
+        &mut self,
+        key: &K,
+        op: F,
+    ) -> Result<V, Error>
+        requires op { F.IsAlwaysCallable op }
+        requires clones { (k c : K) → K.is_clone k c → K.eq k c ≡ true }
+        ensures ok { IfOk result (λ v. CallsAt K.eq (S.makes_counter self.old.storage) (λ b r a. FnOnceReturnsAtMut F.FnOnce op b r a) key.now v self.old.counters self.new.counters) }
+        ensures err { IfErr result (λ e. (e ≡ OutOfMemory) × (self.new ≡ self.old) × (held K.eq self.old.counters key.now ≡ None)) }
+        ensures rest { (self.new.storage ≡ self.old.storage) × (self.new.gauges ≡ self.old.gauges) × (self.new.histograms ≡ self.old.histograms) }
+    {
+        match self.counters.change(key, op) {
+            Ok(answer) => Ok(answer),
+            Err(op) => {
+                let cell = self.storage.counter(key)?;
+                self.counters.create(key, cell, op)
+            }
+        }
+    }
+
+    /// Calls `f` once for each counter, in some order.
+    pub fn visit_counters<F: FnMut(&K, &S::Counter) + Drop>(&self, f: F)
+        requires { F.IsAlwaysCallable f }
+        ensures calls { (last : F) × FoldsTo (λ p e q. CallsAtEntry F.FnMut p e tt q) f self.now.counters last }
+        ensures once { IsDistinct K.eq (keys_of self.now.counters) }
+    {
+        self.counters.visit(f)
+    }
+
+    /// The keys of the counters, each with a clone of its cell.
+    pub fn get_counter_handles(&self, alloc: Global) -> Result<HashMap<K, S::Counter>, Error>
+    where
+        S::Counter: Clone,
+        requires { (k c : K) → K.is_clone k c → K.eq k c ≡ true }
+        ensures { MatchResult result (λ m. Copies K.eq S.Counter.is_clone self.now.counters (λ _. None) (get K.eq m)) (λ e. e ≡ OutOfMemory) }
+    {
+        self.counters.handles(alloc)
+    }
+
+    /// Keeps the counters for which `f` answers true. It is called once for each counter, in some order.
+    pub fn retain_counters<F: FnMut(&K, &S::Counter) -> bool + Drop>(&mut self, f: F)
+        requires { F.IsAlwaysCallable f }
+        ensures retains { (last : F) × Retains (λ p e b q. CallsAtEntry F.FnMut p e b q) f self.old.counters self.new.counters last }
+        ensures once { IsDistinct K.eq (keys_of self.old.counters) }
+        ensures rest { (self.new.storage ≡ self.old.storage) × (self.new.gauges ≡ self.old.gauges) × (self.new.histograms ≡ self.old.histograms) }
+    {
+        self.counters.retain(f)
+    }
+
+    /// Removes a counter, and tells whether it was there.
+    pub fn delete_counter(&mut self, key: &K) -> bool
+        ensures removed { Sets K.eq key.now None self.old.counters self.new.counters }
+        ensures answer { result ≡ is_some (held K.eq self.old.counters key.now) }
+        ensures absent { result ≡ false → self.new ≡ self.old }
+        ensures rest { (self.new.storage ≡ self.old.storage) × (self.new.gauges ≡ self.old.gauges) × (self.new.histograms ≡ self.old.histograms) }
+    {
+        self.counters.remove(key)
+    }
+
+    /// The cell of a gauge, if the key is held.
+    pub fn get_gauge(&self, key: &K) -> Option<&S::Gauge>
+        ensures { option_copied result ≡ held K.eq self.now.gauges key.now }
+    {
+        self.gauges.get(key)
+    }
+
+    /// Calls `op` once on the cell of a gauge, which the storage makes where the key isn't held, and answers what it answers.
+    ///
+    /// A refusal changes nothing, and never meets a key that is held.
+    pub fn get_or_create_gauge<V, F: FnOnce(&mut S::Gauge) -> V + Drop>(
+        &mut self,
+        key: &K,
+        op: F,
+    ) -> Result<V, Error>
+        requires op { F.IsAlwaysCallable op }
+        requires clones { (k c : K) → K.is_clone k c → K.eq k c ≡ true }
+        ensures ok { IfOk result (λ v. CallsAt K.eq (S.makes_gauge self.old.storage) (λ b r a. FnOnceReturnsAtMut F.FnOnce op b r a) key.now v self.old.gauges self.new.gauges) }
+        ensures err { IfErr result (λ e. (e ≡ OutOfMemory) × (self.new ≡ self.old) × (held K.eq self.old.gauges key.now ≡ None)) }
+        ensures rest { (self.new.storage ≡ self.old.storage) × (self.new.counters ≡ self.old.counters) × (self.new.histograms ≡ self.old.histograms) }
+    {
+        match self.gauges.change(key, op) {
+            Ok(answer) => Ok(answer),
+            Err(op) => {
+                let cell = self.storage.gauge(key)?;
+                self.gauges.create(key, cell, op)
+            }
+        }
+    }
+
+    /// Calls `f` once for each gauge, in some order.
+    pub fn visit_gauges<F: FnMut(&K, &S::Gauge) + Drop>(&self, f: F)
+        requires { F.IsAlwaysCallable f }
+        ensures calls { (last : F) × FoldsTo (λ p e q. CallsAtEntry F.FnMut p e tt q) f self.now.gauges last }
+        ensures once { IsDistinct K.eq (keys_of self.now.gauges) }
+    {
+        self.gauges.visit(f)
+    }
+
+    /// The keys of the gauges, each with a clone of its cell.
+    pub fn get_gauge_handles(&self, alloc: Global) -> Result<HashMap<K, S::Gauge>, Error>
+    where
+        S::Gauge: Clone,
+        requires { (k c : K) → K.is_clone k c → K.eq k c ≡ true }
+        ensures { MatchResult result (λ m. Copies K.eq S.Gauge.is_clone self.now.gauges (λ _. None) (get K.eq m)) (λ e. e ≡ OutOfMemory) }
+    {
+        self.gauges.handles(alloc)
+    }
+
+    /// Keeps the gauges for which `f` answers true. It is called once for each gauge, in some order.
+    pub fn retain_gauges<F: FnMut(&K, &S::Gauge) -> bool + Drop>(&mut self, f: F)
+        requires { F.IsAlwaysCallable f }
+        ensures retains { (last : F) × Retains (λ p e b q. CallsAtEntry F.FnMut p e b q) f self.old.gauges self.new.gauges last }
+        ensures once { IsDistinct K.eq (keys_of self.old.gauges) }
+        ensures rest { (self.new.storage ≡ self.old.storage) × (self.new.counters ≡ self.old.counters) × (self.new.histograms ≡ self.old.histograms) }
+    {
+        self.gauges.retain(f)
+    }
+
+    /// Removes a gauge, and tells whether it was there.
+    pub fn delete_gauge(&mut self, key: &K) -> bool
+        ensures removed { Sets K.eq key.now None self.old.gauges self.new.gauges }
+        ensures answer { result ≡ is_some (held K.eq self.old.gauges key.now) }
+        ensures absent { result ≡ false → self.new ≡ self.old }
+        ensures rest { (self.new.storage ≡ self.old.storage) × (self.new.counters ≡ self.old.counters) × (self.new.histograms ≡ self.old.histograms) }
+    {
+        self.gauges.remove(key)
+    }
+
+    /// The cell of a histogram, if the key is held.
+    pub fn get_histogram(&self, key: &K) -> Option<&S::Histogram>
+        ensures { option_copied result ≡ held K.eq self.now.histograms key.now }
+    {
+        self.histograms.get(key)
+    }
+
+    /// Calls `op` once on the cell of a histogram, which the storage makes where the key isn't held, and answers what it answers.
+    ///
+    /// A refusal changes nothing, and never meets a key that is held.
+    pub fn get_or_create_histogram<V, F: FnOnce(&mut S::Histogram) -> V + Drop>(
+        &mut self,
+        key: &K,
+        op: F,
+    ) -> Result<V, Error>
+        requires op { F.IsAlwaysCallable op }
+        requires clones { (k c : K) → K.is_clone k c → K.eq k c ≡ true }
+        ensures ok { IfOk result (λ v. CallsAt K.eq (S.makes_histogram self.old.storage) (λ b r a. FnOnceReturnsAtMut F.FnOnce op b r a) key.now v self.old.histograms self.new.histograms) }
+        ensures err { IfErr result (λ e. (e ≡ OutOfMemory) × (self.new ≡ self.old) × (held K.eq self.old.histograms key.now ≡ None)) }
+        ensures rest { (self.new.storage ≡ self.old.storage) × (self.new.counters ≡ self.old.counters) × (self.new.gauges ≡ self.old.gauges) }
+    {
+        match self.histograms.change(key, op) {
+            Ok(answer) => Ok(answer),
+            Err(op) => {
+                let cell = self.storage.histogram(key)?;
+                self.histograms.create(key, cell, op)
+            }
+        }
+    }
+
+    /// Calls `f` once for each histogram, in some order.
+    pub fn visit_histograms<F: FnMut(&K, &S::Histogram) + Drop>(&self, f: F)
+        requires { F.IsAlwaysCallable f }
+        ensures calls { (last : F) × FoldsTo (λ p e q. CallsAtEntry F.FnMut p e tt q) f self.now.histograms last }
+        ensures once { IsDistinct K.eq (keys_of self.now.histograms) }
+    {
+        self.histograms.visit(f)
+    }
+
+    /// The keys of the histograms, each with a clone of its cell.
+    pub fn get_histogram_handles(&self, alloc: Global) -> Result<HashMap<K, S::Histogram>, Error>
+    where
+        S::Histogram: Clone,
+        requires { (k c : K) → K.is_clone k c → K.eq k c ≡ true }
+        ensures { MatchResult result (λ m. Copies K.eq S.Histogram.is_clone self.now.histograms (λ _. None) (get K.eq m)) (λ e. e ≡ OutOfMemory) }
+    {
+        self.histograms.handles(alloc)
+    }
+
+    /// Keeps the histograms for which `f` answers true. It is called once for each histogram, in some order.
+    pub fn retain_histograms<F: FnMut(&K, &S::Histogram) -> bool + Drop>(&mut self, f: F)
+        requires { F.IsAlwaysCallable f }
+        ensures retains { (last : F) × Retains (λ p e b q. CallsAtEntry F.FnMut p e b q) f self.old.histograms self.new.histograms last }
+        ensures once { IsDistinct K.eq (keys_of self.old.histograms) }
+        ensures rest { (self.new.storage ≡ self.old.storage) × (self.new.counters ≡ self.old.counters) × (self.new.gauges ≡ self.old.gauges) }
+    {
+        self.histograms.retain(f)
+    }
+
+    /// Removes a histogram, and tells whether it was there.
+    pub fn delete_histogram(&mut self, key: &K) -> bool
+        ensures removed { Sets K.eq key.now None self.old.histograms self.new.histograms }
+        ensures answer { result ≡ is_some (held K.eq self.old.histograms key.now) }
+        ensures absent { result ≡ false → self.new ≡ self.old }
+        ensures rest { (self.new.storage ≡ self.old.storage) × (self.new.counters ≡ self.old.counters) × (self.new.gauges ≡ self.old.gauges) }
+    {
+        self.histograms.remove(key)
+    }
+}

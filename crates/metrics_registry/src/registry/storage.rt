@@ -1,0 +1,38 @@
+//! What makes the cells of a registry.
+ghost use Rattle.std.specs.Prelude.{◌≡◌, MatchResult};
+ghost use Rattle.metrics.specs.declared.error.Error.TheVariants.{Memory as OutOfMemory};
+
+use metrics::Error;
+
+/// Makes the cells of a registry over keys of type `K`.
+///
+/// A cell is refused for memory alone, with `Error::Memory`.
+pub trait Storage<K> {
+    /// The cell of a counter.
+    type Counter;
+
+    /// The cell of a gauge.
+    type Gauge;
+
+    /// The cell of a histogram.
+    type Histogram;
+
+    /// Whether a cell is one that the storage makes for the key.
+    ghost makes_counter: { Self → K → Self.Counter → Type 0 };
+
+    ghost makes_gauge: { Self → K → Self.Gauge → Type 0 };
+
+    ghost makes_histogram: { Self → K → Self.Histogram → Type 0 };
+
+    /// A new counter.
+    fn counter(&self, key: &K) -> Result<Self::Counter, Error>
+        ensures { MatchResult result (makes_counter self.now key.now) (λ e. e ≡ OutOfMemory) };
+
+    /// A new gauge.
+    fn gauge(&self, key: &K) -> Result<Self::Gauge, Error>
+        ensures { MatchResult result (makes_gauge self.now key.now) (λ e. e ≡ OutOfMemory) };
+
+    /// A new histogram.
+    fn histogram(&self, key: &K) -> Result<Self::Histogram, Error>
+        ensures { MatchResult result (makes_histogram self.now key.now) (λ e. e ≡ OutOfMemory) };
+}
