@@ -1,16 +1,102 @@
-//! Keys by the number that picks their shard.
-ghost use Rattle.std.specs.Prelude.{◌≡◌, ℕ, true};
+//! Keys by the number that picks their shard, and hashers.
+ghost use Rattle.std.specs.Prelude.{◌≡◌, ℕ, true, Some, IsSome};
+ghost use Rattle.metrics_registry.specs.Hashing.{hash_number};
+ghost use Rattle.std.proofs.Common.{ap};
+ghost use Rattle.metrics_names.specs.contracts.key.KeyHash.TheImpl.Laws.{respects_eq-law};
 
-use std::hash::Hash;
+use metrics_names::Key;
+use std::hash::{FoldHasher, Hash, Hasher};
+use std::marker::Model;
 
 /// A key that gives itself a number. A registry picks the key's shard by it.
 pub trait Hashable: Hash {
     /// The number of a value.
     ghost number: { Self → ℕ };
 
+    /// Any `u64`, and the same for equal values.
     fn hashable(&self) -> u64
         ensures { result ≡ number self.now };
 
     /// Equal values have equal numbers.
     ghost same: { (x y : Self) → Self.eq x y ≡ true → number x ≡ number y };
+}
+
+/// The number of a value by std's fast hasher, whose seed is fixed: whoever picks the values can make them collide.
+fn folded<H: Hash>(value: &H) -> u64
+    ensures { result ≡ hash_number (H.hash_input value.now) }
+{
+    let mut state = FoldHasher::default();
+    value.hash(&mut state);
+    state.finish()
+}
+
+impl Hashable for Key {
+    ghost number = { λ k. hash_number (⟦<Key as Hash>⟧.hash_input k) };
+
+    ghost same = { λ x y e. ap hash_number (respects_eq-law x y e) };
+
+    fn hashable(&self) -> u64 {
+        folded(self)
+    }
+}
+
+/// Hands on a number that was hashed before: `finish` answers what `write_u64` was given last.
+#[derive(Clone, Copy, Debug)]
+pub struct KeyHasher {
+    hash: Option<u64>,
+}
+
+impl Model for KeyHasher {
+    ghost use Rattle.std.specs.Prelude.{ℕ, Option};
+
+    ghost Value = { Option ℕ };
+
+    ghost view = { λ h. h.hash };
+
+    ghost inverse = { λ o. record { hash = o } };
+}
+
+impl Default for KeyHasher {
+    ghost use Rattle.std.specs.Prelude.{◌≡◌, None};
+
+    ghost is_default = { λ h. h ≡ None };
+
+    /// A hasher to which nothing was written.
+    fn default() -> KeyHasher {
+        KeyHasher { hash: None }
+    }
+}
+
+impl KeyHasher {
+    /// Takes a number in place of the one before.
+    pub fn write_u64(&mut self, number: u64)
+        ensures { self.new ≡ Some number }
+    {
+        self.hash = Some(number);
+    }
+
+    /// The number that was written last. There has to be one.
+    pub fn finish(&self) -> u64
+        requires { IsSome self.now }
+        ensures { self.now ≡ Some result }
+    {
+        match self.hash {
+            Some(number) => number,
+            None => unreachable!(),
+        }
+    }
+}
+
+/// Gives any value that can be hashed a number, by std's fast hasher.
+#[derive(Clone, Debug, PartialEq, Eq, PartialOrd, Ord, Hash, Drop)]
+pub struct DefaultHashable<H: Hash>(pub H);
+
+impl<H: Hash> Hashable for DefaultHashable<H> {
+    ghost number = { λ k. hash_number (H.hash_input k.0) };
+
+    ghost same = { λ x y e. ap hash_number (H.respects_eq x.0 y.0 e) };
+
+    fn hashable(&self) -> u64 {
+        folded(&self.0)
+    }
 }

@@ -4,4 +4,5 @@
 mod common;
 pub mod registry;
 
-pub use common::Hashable;
+pub use common::{DefaultHashable, Hashable, KeyHasher};
+pub use metrics::Error;

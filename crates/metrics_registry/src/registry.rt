@@ -9,9 +9,13 @@ ghost use Rattle.metrics.specs.declared.error.Error.TheVariants.{Memory as OutOf
 ghost use Rattle.metrics_registry.specs.Held.{held, Sets, CallsAt, CallsAtEntry, Retains, Copies};
 ghost use Rattle.metrics_registry.specs.Held.{is_shard_count};
 
+mod generation;
+mod plain;
 mod shards;
 mod storage;
 
+pub use generation::{Counted, Generation};
+pub use plain::PlainStorage;
 pub use storage::Storage;
 
 use crate::common::Hashable;
