@@ -71,3 +71,10 @@ Retains {F} {X} call f (x ∷ xs) kept last = (b : Bool) × (g : F) × (rest : L
 -- new has a clone of the cell of each key that is held, and else what old has
 abbrev pub Copies : {K C : Type 0} → (K → K → Bool) → (C → C → Type 0) → List (K × C) → (K → Option C) → (K → Option C) → Type 0
 Copies {K} eq clone es old new = (q : K) → MatchOption (held eq es q) (new q ≡ old q) (λ c. IsSomeAnd (new q) (clone c))
+
+-- ---- what stays
+
+-- where a key stays nothing changed, and else it is gone
+abbrev pub StaysOrGoes : {K C : Type 0} → (K → K → Bool) → K → Bool → List (K × C) → List (K × C) → Type 0
+StaysOrGoes eq key true old new = new ≡ old
+StaysOrGoes eq key false old new = Sets eq key None old new

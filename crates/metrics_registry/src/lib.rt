@@ -2,7 +2,9 @@
 #![tactic(auto)]
 
 mod common;
+mod laws;
 pub mod registry;
 
 pub use common::{DefaultHashable, Hashable, KeyHasher};
+pub use laws::recency_law;
 pub use metrics::Error;

@@ -11,11 +11,13 @@ ghost use Rattle.metrics_registry.specs.Held.{is_shard_count};
 
 mod generation;
 mod plain;
+mod recency;
 mod shards;
 mod storage;
 
 pub use generation::{Counted, Generation};
 pub use plain::PlainStorage;
+pub use recency::OwnedRecency;
 pub use storage::Storage;
 
 use crate::common::Hashable;

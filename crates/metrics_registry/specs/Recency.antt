@@ -1,0 +1,63 @@
+-- The table of (kind, key) to generation and moment: one check.
+use Rattle.std.specs.Prelude.{ℕ, ◌-◌, Bool, true, false, ◌&&◌, cond, List, [], ◌∷◌, Option, None, Some, is_some, nat_eq, nat_lt}
+use Rattle.metrics_registry.specs.declared.registry.recency.Noted.{Noted}
+use Rattle.metrics_names.specs.declared.kind.MetricKind.{MetricKind}
+use Rattle.metrics_names.specs.Names.{kind_eq}
+
+-- how long a series stays unseen, if that is bounded, and of which kinds
+pub record Rules : Type 0 where
+  pub timeout : Option ℕ
+  pub mask : MetricKind → Bool
+
+-- a check of a series: its kind and key, its generation, the moment, and whether the registry holds the key
+pub record Check (K : Type 0) : Type 0 where
+  pub kind : MetricKind
+  pub key : K
+  pub generation : ℕ
+  pub moment : ℕ
+  pub held : Bool
+
+-- what is noted of each (kind, key): the generation and the moment of a check
+abbrev pub Table : Type 0 → Type 0
+Table K = MetricKind → K → Option Noted
+
+abbrev pub new_table : {K : Type 0} → Table K
+new_table kind key = None
+
+-- a check is of this (kind, key)
+abbrev pub is_of : {K : Type 0} → (K → K → Bool) → Check K → MetricKind → K → Bool
+is_of same c kind key = kind_eq c.kind kind && same c.key key
+
+-- whether more than the timeout passed between two moments; one that goes back counts as zero
+abbrev pub is_late : Option ℕ → ℕ → ℕ → Bool
+is_late None from now = false
+is_late (Some timeout) from now = nat_lt timeout (now - from)
+
+-- a check's generation and moment
+abbrev pub noted_now : {K : Type 0} → Check K → Noted
+noted_now c = record { generation = c.generation; moment = c.moment }
+
+-- one check where notes are taken: the answer, and what is noted after it
+abbrev pub watch_step : Option ℕ → Noted → Bool → Option Noted → Bool × Option Noted
+watch_step timeout seen held None = (true, Some seen)
+watch_step timeout seen held (Some noted) =
+    cond (nat_eq noted.generation seen.generation)
+    (cond (is_late timeout noted.moment seen.moment && held) (false, None) (true, Some noted))
+    (true, Some seen)
+
+-- one check: without a timeout, or where the mask lacks the kind, the answer is true and nothing is noted
+abbrev pub check_step : {K : Type 0} → Rules → Check K → Option Noted → Bool × Option Noted
+check_step rules c noted = cond (is_some rules.timeout && rules.mask c.kind) (watch_step rules.timeout (noted_now c) c.held noted) (true, noted)
+
+-- the answer to a check by the table
+abbrev pub table_answer : {K : Type 0} → Rules → Check K → Table K → Bool
+table_answer rules c table = (check_step rules c (table c.kind c.key)).0
+
+-- the table after a check
+abbrev pub table_after : {K : Type 0} → (K → K → Bool) → Rules → Check K → Table K → Table K
+table_after same rules c table = λ kind key. cond (is_of same c kind key) ((check_step rules c (table c.kind c.key)).1) (table kind key)
+
+-- the answers to checks, one after another
+abbrev pub table_answers : {K : Type 0} → (K → K → Bool) → Rules → Table K → List (Check K) → List Bool
+table_answers same rules table [] = []
+table_answers same rules table (c ∷ checks) = table_answer rules c table ∷ table_answers same rules (table_after same rules c table) checks
