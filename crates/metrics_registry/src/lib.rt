@@ -3,8 +3,10 @@
 
 mod common;
 mod laws;
+mod quantile;
 pub mod registry;
 
 pub use common::{DefaultHashable, Hashable, KeyHasher};
 pub use laws::recency_law;
 pub use metrics::Error;
+pub use quantile::{Quantile, parse_quantiles};
