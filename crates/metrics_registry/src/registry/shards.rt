@@ -161,6 +161,9 @@ fn shard_of<K: Hashable>(key: &K, count: usize) -> usize
     ensures shard { result ≡ K.number key.now % count }
     ensures within { result < count }
 {
+    if count == 1 {
+        return 0;
+    }
     (key.hashable() % count as u64) as usize
 }
 
