@@ -7,6 +7,6 @@ mod quantile;
 pub mod registry;
 
 pub use common::{DefaultHashable, Hashable, KeyHasher};
-pub use laws::recency_law;
+pub use laws::{key_clones, recency_law};
 pub use metrics::Error;
 pub use quantile::{Quantile, parse_quantiles};

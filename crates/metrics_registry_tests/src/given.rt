@@ -1,0 +1,83 @@
+//! A storage of numbers, and calls by kind.
+ghost use Rattle.std.specs.Prelude.{◌≡◌, true, pos};
+
+use metrics::{Error, Key, MetricKind};
+use metrics_registry::Hashable;
+use metrics_registry::registry::{OwnedRegistry, Storage};
+use std::alloc::Global;
+use std::test::Fail;
+
+/// Makes a number for each kind.
+#[derive(Clone, Copy, Debug)]
+pub struct Numbers;
+
+impl<K> Storage<K> for Numbers {
+    type Counter = u64;
+
+    type Gauge = i64;
+
+    type Histogram = u64;
+
+    ghost makes_counter = { λ storage key cell. cell ≡ 0 };
+
+    ghost makes_gauge = { λ storage key cell. cell ≡ pos 0 };
+
+    ghost makes_histogram = { λ storage key cell. cell ≡ 0 };
+
+    fn counter(&self, _key: &K) -> Result<u64, Error> {
+        Ok(0)
+    }
+
+    fn gauge(&self, _key: &K) -> Result<i64, Error> {
+        Ok(0)
+    }
+
+    fn histogram(&self, _key: &K) -> Result<u64, Error> {
+        Ok(0)
+    }
+}
+
+pub type Registry<K> = OwnedRegistry<K, Numbers>;
+
+pub const KINDS: [MetricKind; 3] = [
+    MetricKind::Counter,
+    MetricKind::Gauge,
+    MetricKind::Histogram,
+];
+
+/// Adds one to the cell of a key, and answers the sum.
+pub fn increment<K: Hashable + Clone + Drop>(
+    registry: &mut Registry<K>,
+    kind: MetricKind,
+    key: &K,
+) -> Result<u64, Error>
+    requires { (k c : K) → K.is_clone k c → K.eq k c ≡ true }
+{
+    match kind {
+        MetricKind::Counter => registry.get_or_create_counter(key, |cell: &mut u64| {
+            *cell = cell.wrapping_add(1);
+            *cell
+        }),
+        MetricKind::Gauge => registry.get_or_create_gauge(key, |cell: &mut i64| {
+            *cell = cell.saturating_add(1);
+            cell.unsigned_abs()
+        }),
+        MetricKind::Histogram => registry.get_or_create_histogram(key, |cell: &mut u64| {
+            *cell = cell.wrapping_add(1);
+            *cell
+        }),
+    }
+}
+
+/// The number in the cell of a key.
+pub fn number<K: Hashable + Clone + Drop>(
+    registry: &Registry<K>,
+    kind: MetricKind,
+    key: &K,
+) -> Option<u64> {
+    match kind {
+        MetricKind::Counter => registry.get_counter(key).copied(),
+        MetricKind::Gauge => registry.get_gauge(key).map(|cell| cell.unsigned_abs()),
+        MetricKind::Histogram => registry.get_histogram(key).copied(),
+    }
+}
