@@ -5,7 +5,6 @@ use metrics::{Error, Key, MetricKind};
 use metrics_registry::Hashable;
 use metrics_registry::registry::{OwnedRegistry, Storage};
 use std::alloc::Global;
-use std::test::Fail;
 
 /// Makes a number for each kind.
 #[derive(Clone, Copy, Debug)]
@@ -80,4 +79,69 @@ pub fn number<K: Hashable + Clone + Drop>(
         MetricKind::Gauge => registry.get_gauge(key).map(|cell| cell.unsigned_abs()),
         MetricKind::Histogram => registry.get_histogram(key).copied(),
     }
+}
+
+/// Removes a key, and tells whether it was there.
+pub fn delete<K: Hashable + Clone + Drop>(
+    registry: &mut Registry<K>,
+    kind: MetricKind,
+    key: &K,
+) -> bool {
+    match kind {
+        MetricKind::Counter => registry.delete_counter(key),
+        MetricKind::Gauge => registry.delete_gauge(key),
+        MetricKind::Histogram => registry.delete_histogram(key),
+    }
+}
+
+/// The number of calls of a visit's closure.
+pub fn visits<K: Hashable + Clone + Drop>(registry: &Registry<K>, kind: MetricKind) -> usize {
+    let mut calls = 0usize;
+    match kind {
+        MetricKind::Counter => {
+            registry.visit_counters(|_key: &K, _cell: &u64| calls = calls.wrapping_add(1))
+        }
+        MetricKind::Gauge => {
+            registry.visit_gauges(|_key: &K, _cell: &i64| calls = calls.wrapping_add(1))
+        }
+        MetricKind::Histogram => {
+            registry.visit_histograms(|_key: &K, _cell: &u64| calls = calls.wrapping_add(1))
+        }
+    }
+    calls
+}
+
+/// The number of handles.
+pub fn handles<K: Hashable + Clone + Drop>(
+    alloc: Global,
+    registry: &Registry<K>,
+    kind: MetricKind,
+) -> Result<usize, Error>
+    requires { (k c : K) → K.is_clone k c → K.eq k c ≡ true }
+{
+    Ok(match kind {
+        MetricKind::Counter => registry.get_counter_handles(alloc)?.len(),
+        MetricKind::Gauge => registry.get_gauge_handles(alloc)?.len(),
+        MetricKind::Histogram => registry.get_histogram_handles(alloc)?.len(),
+    })
+}
+
+/// Keeps the names that begin with a text, and answers the number of calls of the closure.
+pub fn retain_prefix(registry: &mut Registry<Key>, kind: MetricKind, prefix: &str) -> usize {
+    let mut calls = 0usize;
+    match kind {
+        MetricKind::Counter => registry.retain_counters(|key: &Key, _cell: &u64| {
+            calls = calls.wrapping_add(1);
+            key.name().starts_with(prefix)
+        }),
+        MetricKind::Gauge => registry.retain_gauges(|key: &Key, _cell: &i64| {
+            calls = calls.wrapping_add(1);
+            key.name().starts_with(prefix)
+        }),
+        MetricKind::Histogram => registry.retain_histograms(|key: &Key, _cell: &u64| {
+            calls = calls.wrapping_add(1);
+            key.name().starts_with(prefix)
+        }),
+    }
+    calls
 }

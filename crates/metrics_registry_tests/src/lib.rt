@@ -7,3 +7,11 @@
 mod entries;
 #[cfg(test)]
 mod given;
+#[cfg(test)]
+mod plain;
+#[cfg(test)]
+mod quantiles;
+#[cfg(test)]
+mod recency;
+#[cfg(test)]
+mod values;
