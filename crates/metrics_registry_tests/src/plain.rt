@@ -1,7 +1,7 @@
 //! The plain storage, and a histogram's cell that refuses.
 ghost use Rattle.std.specs.Prelude.{◌≡◌, [], pos};
+ghost use Rattle.metrics.specs.declared.error.Error.TheVariants.{Memory as OutOfMemory};
 
-use crate::given::Numbers;
 use metrics::{CounterCell, Error, GaugeCell, HistogramCell, Key};
 use metrics_registry::key_clones;
 use metrics_registry::registry::{OwnedRegistry, PlainStorage, Storage};
@@ -61,6 +61,7 @@ impl HistogramCell for Full {
 }
 
 /// Makes full histograms.
+#[derive(Drop)]
 struct Fulls;
 
 impl<K> Storage<K> for Fulls {
@@ -87,4 +88,24 @@ impl<K> Storage<K> for Fulls {
     fn histogram(&self, _key: &K) -> Result<Full, Error> {
         Ok(Full)
     }
+}
+
+/// Records a sample in a cell that has no room. The inner result is the cell's.
+fn refused(
+    registry: &mut OwnedRegistry<Key, Fulls>,
+    key: &Key,
+) -> Result<Result<(), Error>, Error> {
+    key_clones();
+    registry.get_or_create_histogram(key, |cell: &mut Full| cell.record(5))
+}
+
+#[test]
+fn a_refused_sample_leaves_the_cell(rt: HostRuntime) -> Result<(), Fail> {
+    let mut registry = OwnedRegistry::new(rt.alloc(), Fulls, 2)?;
+    let key = Key::from_name(rt.alloc(), "a")?;
+    for _ in 0..2 {
+        assert_eq!(rt; refused(&mut registry, &key)?, Err(Error::Memory));
+        assert!(rt; registry.get_histogram(&key).is_some());
+    }
+    Ok(())
 }
