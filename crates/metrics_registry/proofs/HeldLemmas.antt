@@ -1,14 +1,30 @@
 -- The shards of a map, seen as one list of entries.
-use Rattle.std.proofs.Common.{◌≡◌, ◌≢◌, ℕ, zero, suc, ◌+◌, ◌<◌, ◌%◌, Bool, true, false, cond, List, [], ◌∷◌, ◌++◌, Option, None, Some, IsSome, Result, Ok, Err, IfOk, IfErr, OnOk, refl, sym, ◌∙◌, ap, subst, length, get_or, set, take, ◌≤◌, add-one, arith, rules}
+use Rattle.std.proofs.Common.{◌≡◌, ◌≢◌, ℕ, zero, suc, ◌+◌, ◌<◌, ◌%◌, Bool, true, false, cond, List, [], ◌∷◌, ◌++◌, Option, None, Some, IsSome, Result, Ok, Err, IfOk, IfErr, OnOk, refl, sym, ◌∙◌, ap, subst, length, get_or, set, take, replicate, map, ◌≤◌, add-one, arith, rules}
 use Rattle.std.specs.Cmp.{IsEquivalence}
 use Rattle.std.specs.List.{IsDistinct, AllByRecursion, All, FoldsTo}
 use Rattle.std.specs.Map.{lookup, keys_of, update}
 use Rattle.std.specs.HashMap.{HashMap}
 use Rattle.std.proofs.lemmas.Bool.{cond-true, cond-false}
-use Rattle.std.proofs.lemmas.List.{get_or-set_same, get_or-set_other, get_or_default, length-set, take_all, append-nil, append_assoc}
+use Rattle.std.proofs.lemmas.List.{get_or-set_same, get_or-set_other, get_or_default, length-set, length-map, take_all, append-nil, append_assoc}
 use Rattle.std.proofs.Math.Nat.{mod-lt}
 use Rattle.std.proofs.lemmas.Map.{NonePasses, none_passes_from_lookup}
-use Rattle.metrics_registry.specs.Held.{held, Sets, Calls, Adds, IsCellOf, CallsAt, entries_of, AreOf, ArePlaced}
+use Rattle.metrics_registry.specs.Held.{held, Sets, Calls, Adds, IsCellOf, CallsAt, AreOf, ArePlaced, shards_of, entries_of}
+
+-- the entries of all maps, one map after another
+abbrev pub all_of : {K C S : Type 0} → List (HashMap K C S) → List (K × C)
+all_of [] = []
+all_of (m ∷ ms) = m.entries ++ all_of ms
+
+pub all-shards : {K C S : Type 0} (ms : List (HashMap K C S)) → all_of ms ≡ entries_of (shards_of ms)
+all-shards [] = refl
+all-shards (m ∷ ms) = ap (λ es. m.entries ++ es) (all-shards ms)
+
+-- what a type's contracts see of its maps
+pub all-seen : {K C S : Type 0} (ms : List (HashMap K C S)) (shards : List (List (K × C))) → shards_of ms ≡ shards → all_of ms ≡ entries_of shards
+all-seen ms shards view = all-shards ms ∙ ap entries_of view
+
+pub shards-length : {K C S : Type 0} (ms : List (HashMap K C S)) (shards : List (List (K × C))) → shards_of ms ≡ shards → length ms ≡ length shards
+shards-length ms shards view = sym (length-map ms (λ m. m.entries)) ∙ ap length view
 
 pub by_answer : {P : Type 0} (b : Bool) → (b ≡ true → P) → (b ≡ false → P) → P
 by_answer true p q = p refl
@@ -59,20 +75,20 @@ module _ {K C : Type 0} {eq : K → K → Bool} (laws : IsEquivalence eq) (numbe
           (λ apart. absurd (some (sets q ∙ (cond-false (eq key q) w (lookup (eq q) old) f ∙ none-elsewhere shard old q apart of))))))
 
 module _ {K C S : Type 0} {eq : K → K → Bool} (laws : IsEquivalence eq) (number : K → ℕ) (same : (x y : K) → eq x y ≡ true → number x ≡ number y) (count : ℕ) where
-  pub none-later : (shard : ℕ) (ms : List (HashMap K C S)) (q : K) → number q % count < shard → ArePlaced eq number count shard ms → lookup (eq q) (entries_of ms) ≡ None
+  pub none-later : (shard : ℕ) (ms : List (HashMap K C S)) (q : K) → number q % count < shard → ArePlaced eq number count shard ms → lookup (eq q) (all_of ms) ≡ None
   none-later shard [] q before placed = refl
   none-later shard (m ∷ ms) q before placed =
-      lookup-append_none (eq q) m.entries (entries_of ms) (none-elsewhere laws number same count shard m.entries q (λ e. omega (arith, e, before)) placed.0)
+      lookup-append_none (eq q) m.entries (all_of ms) (none-elsewhere laws number same count shard m.entries q (λ e. omega (arith, e, before)) placed.0)
       ∙ none-later (suc shard) ms q (omega (arith, before)) placed.2
 
   -- a look-up in all shards is the look-up in its own
-  pub lookup-placed : (shard i : ℕ) (ms : List (HashMap K C S)) (m : HashMap K C S) (q : K) → ArePlaced eq number count shard ms → i < length ms → m ≡ get_or ms i m → number q % count ≡ shard + i → lookup (eq q) (entries_of ms) ≡ lookup (eq q) m.entries
+  pub lookup-placed : (shard i : ℕ) (ms : List (HashMap K C S)) (m : HashMap K C S) (q : K) → ArePlaced eq number count shard ms → i < length ms → m ≡ get_or ms i m → number q % count ≡ shard + i → lookup (eq q) (all_of ms) ≡ lookup (eq q) m.entries
   lookup-placed shard i [] m q placed small is at = absurd (omega (arith, small))
   lookup-placed shard zero (x ∷ ms) m q placed small is at =
-      lookup-append_rest (eq q) x.entries (entries_of ms) (none-later (suc shard) ms q (omega (arith, at)) placed.2)
+      lookup-append_rest (eq q) x.entries (all_of ms) (none-later (suc shard) ms q (omega (arith, at)) placed.2)
       ∙ ap (λ (n : HashMap K C S). lookup (eq q) n.entries) (sym is)
   lookup-placed shard (suc i) (x ∷ ms) m q placed small is at =
-      lookup-append_none (eq q) x.entries (entries_of ms) (none-elsewhere laws number same count shard x.entries q (λ e. omega (arith, e, at)) placed.0)
+      lookup-append_none (eq q) x.entries (all_of ms) (none-elsewhere laws number same count shard x.entries q (λ e. omega (arith, e, at)) placed.0)
       ∙ lookup-placed (suc shard) i ms m q placed.2 (omega (arith, small)) is (omega (arith, at))
 
   pub placed-set : (shard i : ℕ) (ms : List (HashMap K C S)) (n : HashMap K C S) → ArePlaced eq number count shard ms → AreOf number count (shard + i) n.entries → IsDistinct eq (keys_of n.entries) → ArePlaced eq number count shard (set ms i n)
@@ -91,7 +107,7 @@ module _ {K C S : Type 0} {eq : K → K → Bool} (laws : IsEquivalence eq) (num
       subst P (omega arith) (placed-at (suc shard) i ms m placed.2 (omega (arith, small)) is)
 
   -- a change of one key in its shard is that change of all entries
-  pub sets-placed : (i : ℕ) (ms : List (HashMap K C S)) (m n : HashMap K C S) (key : K) (w : Option C) → ArePlaced eq number count 0 ms → count ≡ length ms → i < length ms → m ≡ get_or ms i m → number key % count ≡ i → Sets eq key w m.entries n.entries → IsDistinct eq (keys_of n.entries) → Sets eq key w (entries_of ms) (entries_of (set ms i n)) × ArePlaced eq number count 0 (set ms i n)
+  pub sets-placed : (i : ℕ) (ms : List (HashMap K C S)) (m n : HashMap K C S) (key : K) (w : Option C) → ArePlaced eq number count 0 ms → count ≡ length ms → i < length ms → m ≡ get_or ms i m → number key % count ≡ i → Sets eq key w m.entries n.entries → IsDistinct eq (keys_of n.entries) → Sets eq key w (all_of ms) (all_of (set ms i n)) × ArePlaced eq number count 0 (set ms i n)
   sets-placed i ms m n key w placed count_is small is at sets distinct =
       let of' = are-of-set laws number same count i m.entries n.entries key w at (let P : ℕ → Type 0 = λ k. AreOf number count k m.entries in subst P (omega arith) (placed-at 0 i ms m placed small is)) sets in
       let placed' = placed-set 0 i ms n placed (let P : ℕ → Type 0 = λ k. AreOf number count k n.entries in subst P (omega arith) of') distinct in
@@ -106,7 +122,7 @@ module _ {K C S : Type 0} {eq : K → K → Bool} (laws : IsEquivalence eq) (num
               let within : j < length ms = subst (λ k. j < k) count_is (mod-lt (number q) (omega (arith, small, count_is))) in
               let x = get_or ms j m in
               lookup-placed 0 j (set ms i n) x q placed' (omega (arith, within, same_length)) (sym (get_or-set_other ms i j n x apart ∙ get_or_default ms j x m within)) (omega arith)
-              ∙ (sym (lookup-placed 0 j ms x q placed within (get_or_default ms j m x within) (omega arith)) ∙ sym (cond-false (eq key q) w (lookup (eq q) (entries_of ms)) other)))),
+              ∙ (sym (lookup-placed 0 j ms x q placed within (get_or_default ms j m x within) (omega arith)) ∙ sym (cond-false (eq key q) w (lookup (eq q) (all_of ms)) other)))),
         placed',
       )
 
@@ -115,9 +131,9 @@ module _ {K C S : Type 0} {eq : K → K → Bool} (laws : IsEquivalence eq) (num
 abbrev pub IsBare : {K C S : Type 0} → HashMap K C S → Type 0
 IsBare m = m.entries ≡ []
 
-pub entries-bare : {K C S : Type 0} (ms : List (HashMap K C S)) → All IsBare ms → entries_of ms ≡ []
+pub entries-bare : {K C S : Type 0} (ms : List (HashMap K C S)) → All IsBare ms → all_of ms ≡ []
 entries-bare [] bare = refl
-entries-bare (m ∷ ms) bare = ap (λ es. es ++ entries_of ms) (bare 0 m (omega arith)) ∙ entries-bare ms (λ k d small. bare (suc k) d (omega (arith, small)))
+entries-bare (m ∷ ms) bare = ap (λ es. es ++ all_of ms) (bare 0 m (omega arith)) ∙ entries-bare ms (λ k d small. bare (suc k) d (omega (arith, small)))
 
 pub placed-bare : {K C S : Type 0} (eq : K → K → Bool) (number : K → ℕ) (count shard : ℕ) (ms : List (HashMap K C S)) → All IsBare ms → ArePlaced eq number count shard ms
 unfolding IsDistinct
@@ -141,26 +157,30 @@ bare-suc n [] m small none bare k d first = absurd (omega (arith, small))
 pub bare-more : {K C S : Type 0} (n : ℕ) (ms : List (HashMap K C S)) (m : HashMap K C S) → n < length ms → IsBare m → All IsBare (take n ms) → All IsBare (take (n + 1) (set ms n m))
 bare-more n ms m small none bare = let P : ℕ → Type 0 = λ k. All IsBare (take k (set ms n m)) in subst P (sym (add-one n)) (bare-suc n ms m small none bare)
 
+shards-bare : {K C S : Type 0} (ms : List (HashMap K C S)) → All IsBare ms → shards_of ms ≡ replicate (length ms) []
+shards-bare [] bare = refl
+shards-bare {K} {C} {S} (m ∷ ms) bare =
+    let P : List (K × C) → List (List (K × C)) → List (List (K × C)) = λ es shards. es ∷ shards in
+    ap (λ es. P es (shards_of ms)) (bare 0 m (omega arith)) ∙ ap (P []) (shards-bare ms (λ k d small. bare (suc k) d (omega (arith, small))))
+
+pub shards-all_bare : {K C S : Type 0} (n : ℕ) (ms : List (HashMap K C S)) → length ms ≡ n → All IsBare ms → shards_of ms ≡ replicate n []
+shards-all_bare n ms long bare = shards-bare ms bare ∙ ap (λ k. replicate k []) long
+
 -- ---- calls at each entry
 
 pub FoldsTo-append : {P A : Type 0} (R : P → A → P → Type 0) (p : P) (xs ys : List A) (q r : P) → FoldsTo R p xs q → FoldsTo R q ys r → FoldsTo R p (xs ++ ys) r
 FoldsTo-append R p [] ys q r first second = let Q : _ → Type 0 = λ s. FoldsTo R s ys r in subst Q (sym first) second
 FoldsTo-append R p (x ∷ xs) ys q r first second = (first.0, first.1, FoldsTo-append R first.0 xs ys q r first.2 second)
 
-entries-suc : {K C S : Type 0} (ms : List (HashMap K C S)) (i : ℕ) (m : HashMap K C S) → i < length ms → m ≡ get_or ms i m → entries_of (take (suc i) ms) ≡ entries_of (take i ms) ++ m.entries
+entries-suc : {K C S : Type 0} (ms : List (HashMap K C S)) (i : ℕ) (m : HashMap K C S) → i < length ms → m ≡ get_or ms i m → all_of (take (suc i) ms) ≡ all_of (take i ms) ++ m.entries
 entries-suc [] i m small is = absurd (omega (arith, small))
 entries-suc (x ∷ ms) zero m small is = append-nil x.entries ∙ ap (λ (n : HashMap _ _ _). n.entries) (sym is)
-entries-suc (x ∷ ms) (suc i) m small is = ap (λ es. x.entries ++ es) (entries-suc ms i m (omega (arith, small)) is) ∙ sym (append_assoc x.entries (entries_of (take i ms)) m.entries)
+entries-suc (x ∷ ms) (suc i) m small is = ap (λ es. x.entries ++ es) (entries-suc ms i m (omega (arith, small)) is) ∙ sym (append_assoc x.entries (all_of (take i ms)) m.entries)
 
-pub entries-more : {K C S : Type 0} (ms : List (HashMap K C S)) (i : ℕ) (m : HashMap K C S) → i < length ms → m ≡ get_or ms i m → entries_of (take (i + 1) ms) ≡ entries_of (take i ms) ++ m.entries
-entries-more ms i m small is = ap (λ k. entries_of (take k ms)) (add-one i) ∙ entries-suc ms i m small is
+pub entries-more : {K C S : Type 0} (ms : List (HashMap K C S)) (i : ℕ) (m : HashMap K C S) → i < length ms → m ≡ get_or ms i m → all_of (take (i + 1) ms) ≡ all_of (take i ms) ++ m.entries
+entries-more ms i m small is = ap (λ k. all_of (take k ms)) (add-one i) ∙ entries-suc ms i m small is
 
 -- ---- a shard with the same entries
-
-pub entries-same : {K C S : Type 0} (ms : List (HashMap K C S)) (i : ℕ) (m n : HashMap K C S) → m ≡ get_or ms i m → n.entries ≡ m.entries → entries_of (set ms i n) ≡ entries_of ms
-entries-same [] i m n is same = refl
-entries-same (x ∷ ms) zero m n is same = ap (λ es. es ++ entries_of ms) (same ∙ ap (λ (k : HashMap _ _ _). k.entries) is)
-entries-same (x ∷ ms) (suc i) m n is same = ap (λ es. x.entries ++ es) (entries-same ms i m n is same)
 
 pub placed-same : {K C S : Type 0} (eq : K → K → Bool) (number : K → ℕ) (count shard : ℕ) (ms : List (HashMap K C S)) (i : ℕ) (m n : HashMap K C S) → m ≡ get_or ms i m → n.entries ≡ m.entries → ArePlaced eq number count shard ms → ArePlaced eq number count shard (set ms i n)
 placed-same eq number count shard [] i m n is same placed = tt
@@ -185,54 +205,46 @@ module _ {K C : Type 0} {eq : K → K → Bool} (laws : IsEquivalence eq) (numbe
   distinct-append (x ∷ xs) ys dx dy apart = (distinct-cons eq x xs ys dx.0 (none_passes_from_lookup (eq x.0) ys apart.0), distinct-append xs ys dx.1 dy apart.1)
 
 module _ {K C S : Type 0} {eq : K → K → Bool} (laws : IsEquivalence eq) (number : K → ℕ) (same : (x y : K) → eq x y ≡ true → number x ≡ number y) (count : ℕ) where
-  apart-later : (shard : ℕ) (es : List (K × C)) (ms : List (HashMap K C S)) → AreOf number count shard es → ArePlaced eq number count (suc shard) ms → AllByRecursion (λ x. lookup (eq x.0) (entries_of ms) ≡ None) es
+  apart-later : (shard : ℕ) (es : List (K × C)) (ms : List (HashMap K C S)) → AreOf number count shard es → ArePlaced eq number count (suc shard) ms → AllByRecursion (λ x. lookup (eq x.0) (all_of ms) ≡ None) es
   apart-later shard [] ms of placed = tt
   apart-later shard (e ∷ es) ms of placed = (none-later laws number same count (suc shard) ms e.0 (omega (arith, of.0)) placed, apart-later shard es ms of.1 placed)
 
   -- all shards together have no key twice
-  pub distinct-placed : (shard : ℕ) (ms : List (HashMap K C S)) → ArePlaced eq number count shard ms → IsDistinct eq (keys_of (entries_of ms))
+  pub distinct-placed : (shard : ℕ) (ms : List (HashMap K C S)) → ArePlaced eq number count shard ms → IsDistinct eq (keys_of (all_of ms))
   unfolding IsDistinct
   distinct-placed shard [] placed = tt
-  distinct-placed shard (m ∷ ms) placed = distinct-append laws number same count m.entries (entries_of ms) placed.1 (distinct-placed (suc shard) ms placed.2) (apart-later shard m.entries ms placed.0 placed.2)
+  distinct-placed shard (m ∷ ms) placed = distinct-append laws number same count m.entries (all_of ms) placed.1 (distinct-placed (suc shard) ms placed.2) (apart-later shard m.entries ms placed.0 placed.2)
 
 -- ---- what a call on one shard is to all
 
-module _ {K C S : Type 0} {eq : K → K → Bool} (laws : IsEquivalence eq) (number : K → ℕ) (same : (x y : K) → eq x y ≡ true → number x ≡ number y) (count i : ℕ) (ms : List (HashMap K C S)) (es : List (K × C)) (m n : HashMap K C S) (key : K)
-    (placed : ArePlaced eq number count 0 ms) (view : entries_of ms ≡ es) (count_is : count ≡ length ms) (small : i < length ms) (is : m ≡ get_or ms i m) (at : number key % count ≡ i) where
-  pub held-shard : held eq es key ≡ held eq m.entries key
-  held-shard = ap (λ xs. held eq xs key) (sym view) ∙ lookup-placed laws number same count 0 i ms m key placed small is (omega (arith, at))
+pub shards-same : {K C S : Type 0} (ms : List (HashMap K C S)) (i : ℕ) (m n : HashMap K C S) → m ≡ get_or ms i m → n.entries ≡ m.entries → shards_of (set ms i n) ≡ shards_of ms
+shards-same [] i m n is same = refl
+shards-same {K} {C} {S} (x ∷ ms) zero m n is same =
+    let P : List (K × C) → List (List (K × C)) = λ es. es ∷ shards_of ms in ap P (same ∙ ap (λ (k : HashMap K C S). k.entries) is)
+shards-same {K} {C} {S} (x ∷ ms) (suc i) m n is same =
+    let P : List (List (K × C)) → List (List (K × C)) = λ shards. x.entries ∷ shards in ap P (shards-same ms i m n is same)
 
-  pub sets-shard : (w : Option C) → Sets eq key w m.entries n.entries → IsDistinct eq (keys_of n.entries) → ArePlaced eq number count 0 (set ms i n) × Sets eq key w es (entries_of (set ms i n))
+module _ {K C S : Type 0} {eq : K → K → Bool} (laws : IsEquivalence eq) (number : K → ℕ) (same : (x y : K) → eq x y ≡ true → number x ≡ number y) (count i : ℕ) (ms : List (HashMap K C S)) (shards : List (List (K × C))) (m n : HashMap K C S) (key : K)
+    (placed : ArePlaced eq number count 0 ms) (view : shards_of ms ≡ shards) (count_is : count ≡ length ms) (small : i < length ms) (is : m ≡ get_or ms i m) (at : number key % count ≡ i) where
+  pub held-shard : held eq (entries_of shards) key ≡ held eq m.entries key
+  held-shard = ap (λ xs. held eq xs key) (sym (all-seen ms shards view)) ∙ lookup-placed laws number same count 0 i ms m key placed small is (omega (arith, at))
+
+  pub sets-shard : (w : Option C) → Sets eq key w m.entries n.entries → IsDistinct eq (keys_of n.entries) → ArePlaced eq number count 0 (set ms i n) × Sets eq key w (entries_of shards) (entries_of (shards_of (set ms i n)))
   sets-shard w sets distinct =
       let pair = sets-placed laws number same count i ms m n key w placed count_is small is at sets distinct in
-      (pair.1, λ q. pair.0 q ∙ ap (λ xs. update eq (held eq xs) key w q) view)
+      (pair.1, λ q. ap (λ xs. held eq xs q) (sym (all-shards (set ms i n))) ∙ (pair.0 q ∙ ap (λ xs. update eq (held eq xs) key w q) (all-seen ms shards view)))
 
-  pub same-shard : n.entries ≡ m.entries → ArePlaced eq number count 0 (set ms i n) × (entries_of (set ms i n) ≡ es)
-  same-shard e = (placed-same eq number count 0 ms i m n is e placed, entries-same ms i m n is e ∙ view)
+  pub same-shard : n.entries ≡ m.entries → ArePlaced eq number count 0 (set ms i n) × (shards_of (set ms i n) ≡ shards)
+  same-shard e = (placed-same eq number count 0 ms i m n is e placed, shards-same ms i m n is e ∙ view)
 
   pub changed-shard : {V E : Type 0} (r : Result V E) (call : C → V → C → Type 0) (Back : E → Type 0) → IfOk r (λ v. Calls eq call key v m.entries n.entries) → IfErr r (λ f. Back f × (held eq m.entries key ≡ None) × (n.entries ≡ m.entries)) → IsDistinct eq (keys_of n.entries)
-      → ArePlaced eq number count 0 (set ms i n) × IfOk r (λ v. Calls eq call key v es (entries_of (set ms i n))) × IfErr r (λ f. Back f × (held eq es key ≡ None) × (entries_of (set ms i n) ≡ es))
+      → ArePlaced eq number count 0 (set ms i n) × IfOk r (λ v. Calls eq call key v (entries_of shards) (entries_of (shards_of (set ms i n)))) × IfErr r (λ f. Back f × (held eq (entries_of shards) key ≡ None) × (shards_of (set ms i n) ≡ shards))
   changed-shard (Ok v) call Back ok err distinct =
       let all = sets-shard (Some ok.1) ok.4 distinct in
       (all.0, (ok.0, ok.1, held-shard ∙ ok.2, ok.3, all.1), tt)
   changed-shard (Err f) call Back ok err distinct = let all = same-shard err.2 in (all.0, tt, (err.0, held-shard ∙ err.1, all.1))
 
   pub created-shard : {V E : Type 0} (r : Result V E) (call : C → V → C → Type 0) (cell : C) (Why : E → Type 0) → IfOk r (λ v. Adds eq call key cell v m.entries n.entries) → IfErr r (λ e. Why e × (n.entries ≡ m.entries)) → OnOk r (IsDistinct eq (keys_of n.entries))
-      → ArePlaced eq number count 0 (set ms i n) × IfOk r (λ v. Adds eq call key cell v es (entries_of (set ms i n))) × IfErr r (λ e. Why e × (entries_of (set ms i n) ≡ es))
+      → ArePlaced eq number count 0 (set ms i n) × IfOk r (λ v. Adds eq call key cell v (entries_of shards) (entries_of (shards_of (set ms i n)))) × IfErr r (λ e. Why e × (shards_of (set ms i n) ≡ shards))
   created-shard (Ok v) call cell Why ok err distinct = let all = sets-shard (Some ok.0) ok.2 distinct in (all.0, (ok.0, ok.1, all.1), tt)
   created-shard (Err e) call cell Why ok err distinct = let all = same-shard err.1 in (all.0, tt, (err.0, all.1))
-
--- ---- get, or create
-
--- a cell that was made and added is what the call wanted
-pub created : {K C V E : Type 0} (eq : K → K → Bool) (Makes : K → C → Type 0) (call : C → V → C → Type 0) (key : K) (cell : C) (old between new : List (K × C)) (r : Result V E)
-    → held eq old key ≡ None → Makes key cell → between ≡ old → IfOk r (λ v. Adds eq call key cell v between new) → IfOk r (λ v. CallsAt eq Makes call key v old new)
-created {C = C} eq Makes call key cell old between new (Ok v) none makes same ok =
-    let Of : Option C → Type 0 = λ o. IsCellOf (Makes key) o cell in
-    (cell, ok.0, subst Of (sym none) makes, ok.1, λ q. ok.2 q ∙ ap (λ es. update eq (held eq es) key (Some ok.0) q) same)
-created eq Makes call key cell old between new (Err e) none makes same ok = tt
-
-pub changed : {K C V : Type 0} (eq : K → K → Bool) (Makes : K → C → Type 0) (call : C → V → C → Type 0) (key : K) (v : V) (old new : List (K × C)) → Calls eq call key v old new → CallsAt eq Makes call key v old new
-changed {C = C} eq Makes call key v old new calls =
-    let Of : Option C → Type 0 = λ o. IsCellOf (Makes key) o calls.0 in
-    (calls.0, calls.1, subst Of (sym calls.2) refl, calls.3, calls.4)

@@ -1,5 +1,5 @@
 -- A finite map from keys to cells, as the list of its entries, and how it lies in shards.
-use Rattle.std.specs.Prelude.{◌≡◌, ℕ, suc, ◌+◌, ◌%◌, Bool, ◌&&◌, nat_le, true, false, cond, List, [], ◌∷◌, ◌++◌, Option, None, Some, MatchOption, IsSomeAnd}
+use Rattle.std.specs.Prelude.{◌≡◌, ℕ, suc, ◌+◌, ◌%◌, Bool, ◌&&◌, nat_le, true, false, cond, List, [], ◌∷◌, ◌++◌, map, Option, None, Some, MatchOption, IsSomeAnd}
 use Rattle.std.specs.List.{AllByRecursion, IsDistinct}
 use Rattle.std.specs.Map.{lookup, keys_of, update}
 use Rattle.std.specs.HashMap.{HashMap}
@@ -39,10 +39,14 @@ CallsAt {K} {C} {V} eq Makes call key v old new =
 abbrev pub is_shard_count : ℕ → Bool
 is_shard_count n = is_power_of_two n && nat_le n 1024
 
--- the entries of all shards, one shard after another
-abbrev pub entries_of : {K C S : Type 0} → List (HashMap K C S) → List (K × C)
+-- the entries of each shard
+abbrev pub shards_of : {K C S : Type 0} → List (HashMap K C S) → List (List (K × C))
+shards_of ms = map (λ m. m.entries) ms
+
+-- all entries, one shard after another
+abbrev pub entries_of : {K C : Type 0} → List (List (K × C)) → List (K × C)
 entries_of [] = []
-entries_of (m ∷ ms) = m.entries ++ entries_of ms
+entries_of (es ∷ shards) = es ++ entries_of shards
 
 -- each key of the entries is of the shard
 abbrev pub AreOf : {K C : Type 0} → (K → ℕ) → ℕ → ℕ → List (K × C) → Type 0
@@ -75,6 +79,6 @@ Copies {K} eq clone es old new = (q : K) → MatchOption (held eq es q) (new q �
 -- ---- what stays
 
 -- where a key stays nothing changed, and else it is gone
-abbrev pub StaysOrGoes : {K C : Type 0} → (K → K → Bool) → K → Bool → List (K × C) → List (K × C) → Type 0
+abbrev pub StaysOrGoes : {K C : Type 0} → (K → K → Bool) → K → Bool → List (List (K × C)) → List (List (K × C)) → Type 0
 StaysOrGoes eq key true old new = new ≡ old
-StaysOrGoes eq key false old new = Sets eq key None old new
+StaysOrGoes eq key false old new = Sets eq key None (entries_of old) (entries_of new)

@@ -1,21 +1,25 @@
 //! A registry that has one owner: for each kind a map from keys to cells, in shards.
-ghost use Rattle.std.specs.Prelude.{◌≡◌, true, false, [], None, Some, Ok, IfOk, IfErr, OnErr, MatchResult, is_some, cond};
+ghost use Rattle.std.specs.Prelude.{◌≡◌, true, false, [], None, Some, Ok, IfOk, IfErr, OnErr, MatchResult, MatchOption, OnOk, option_map, is_some, cond, length, replicate};
 ghost use Rattle.std.specs.Option.{option_copied};
 ghost use Rattle.std.specs.Fn.{FnOnceReturnsAtMut};
 ghost use Rattle.std.specs.List.{FoldsTo, IsDistinct};
 ghost use Rattle.std.specs.Map.{keys_of};
+ghost use Rattle.std.specs.Map.Iter.{deref_pair};
 ghost use Rattle.std.specs.HashMap.{get};
 ghost use Rattle.metrics.specs.declared.error.Error.TheVariants.{Memory as OutOfMemory, BadShards as NotShards};
-ghost use Rattle.metrics_registry.specs.Held.{held, Sets, CallsAt, CallsAtEntry, Retains, Copies};
+ghost use Rattle.metrics_registry.specs.Held.{held, Sets, CallsAt, CallsAtEntry, Retains, Copies, entries_of};
 ghost use Rattle.metrics_registry.specs.Held.{is_shard_count};
+ghost use Rattle.metrics_registry.specs.Places.{entry_at, KeepsPlaces, IsPlaceOf, ChangesPlace};
 
 mod generation;
+mod place;
 mod plain;
 mod recency;
 mod shards;
 mod storage;
 
 pub use generation::{Counted, Generation};
+pub use place::CellPlace;
 pub use plain::PlainStorage;
 pub use recency::OwnedRecency;
 pub use storage::Storage;
@@ -29,9 +33,8 @@ use std::marker::Model;
 
 /// A registry that has one owner: for each kind of metric a map from keys to cells.
 ///
-/// Contracts see its storage, and for each kind the list of its entries. No key stands twice among the entries of a kind.
-/// Each kind's map lies in shards, of which `Hashable::hashable` of a key picks one; within its shard a key is found by its
-/// own `Hash`.
+/// Contracts see its storage, and for each kind the list of the entries of each shard. No key stands twice among the entries
+/// of a kind. A key's shard is `Hashable::hashable` of it modulo the number of shards; there it is found by its own `Hash`.
 ///
 /// A call that copies keys asks that a key's clone is equal to the key.
 #[derive(Drop)]
@@ -50,7 +53,7 @@ where
 {
     /// A registry with nothing in it, and each kind's map in this many shards, a power of two from 1 to 1,024.
     pub fn new(alloc: Global, storage: S, shards: usize) -> Result<Self, Error>
-        ensures ok { IfOk result (λ r. (is_shard_count shards ≡ true) × (r.storage ≡ storage) × (r.counters ≡ []) × (r.gauges ≡ []) × (r.histograms ≡ [])) }
+        ensures ok { IfOk result (λ r. (is_shard_count shards ≡ true) × (r.storage ≡ storage) × (r.counters ≡ replicate shards []) × (r.gauges ≡ replicate shards []) × (r.histograms ≡ replicate shards [])) }
         ensures err { IfErr result (λ e. e ≡ cond (is_shard_count shards) OutOfMemory NotShards) }
     {
         if !shards.is_power_of_two() || shards > 1024 {
@@ -66,9 +69,9 @@ where
 
     /// Removes every entry of every kind.
     pub fn clear(&mut self)
-        ensures counters { self.new.counters ≡ [] }
-        ensures gauges { self.new.gauges ≡ [] }
-        ensures histograms { self.new.histograms ≡ [] }
+        ensures counters { self.new.counters ≡ replicate (length self.old.counters) [] }
+        ensures gauges { self.new.gauges ≡ replicate (length self.old.gauges) [] }
+        ensures histograms { self.new.histograms ≡ replicate (length self.old.histograms) [] }
         ensures storage { self.new.storage ≡ self.old.storage }
     {
         self.counters.clear();
@@ -85,7 +88,7 @@ where
 
     /// The cell of a counter, if the key is held.
     pub fn get_counter(&self, key: &K) -> Option<&S::Counter>
-        ensures { option_copied result ≡ held K.eq self.now.counters key.now }
+        ensures { option_copied result ≡ held K.eq (entries_of self.now.counters) key.now }
     {
         self.counters.get(key)
     }
@@ -100,8 +103,9 @@ where
     ) -> Result<V, Error>
         requires op { F.IsAlwaysCallable op }
         requires clones { (k c : K) → K.is_clone k c → K.eq k c ≡ true }
-        ensures ok { IfOk result (λ v. CallsAt K.eq (S.makes_counter self.old.storage) (λ b r a. FnOnceReturnsAtMut F.FnOnce op b r a) key.now v self.old.counters self.new.counters) }
-        ensures err { IfErr result (λ e. (e ≡ OutOfMemory) × (self.new ≡ self.old) × (held K.eq self.old.counters key.now ≡ None)) }
+        ensures ok { IfOk result (λ v. CallsAt K.eq (S.makes_counter self.old.storage) (λ b r a. FnOnceReturnsAtMut F.FnOnce op b r a) key.now v (entries_of self.old.counters) (entries_of self.new.counters)) }
+        ensures err { IfErr result (λ e. (e ≡ OutOfMemory) × (self.new ≡ self.old) × (held K.eq (entries_of self.old.counters) key.now ≡ None)) }
+        ensures places { OnOk result (KeepsPlaces self.old.counters self.new.counters) }
         ensures rest { (self.new.storage ≡ self.old.storage) × (self.new.gauges ≡ self.old.gauges) × (self.new.histograms ≡ self.old.histograms) }
     {
         match self.counters.change(key, op) {
@@ -113,11 +117,38 @@ where
         }
     }
 
+    /// Where the cell of a counter stands, if the key is held.
+    pub fn counter_place(&self, key: &K) -> Option<CellPlace>
+        ensures { MatchOption result (held K.eq (entries_of self.now.counters) key.now ≡ None) (IsPlaceOf K.eq K.number key.now self.now.counters) }
+    {
+        self.counters.place(key)
+    }
+
+    /// The key and the cell of the counter at a place.
+    pub fn counter_at(&self, place: CellPlace) -> Option<(&K, &S::Counter)>
+        ensures { option_map deref_pair result ≡ entry_at place self.now.counters }
+    {
+        self.counters.at(place)
+    }
+
+    /// Calls `op` once on the cell of the counter at a place, and answers what it answers. It looks no key up.
+    pub fn change_counter_at<V, F: FnOnce(&mut S::Counter) -> V + Drop>(
+        &mut self,
+        place: CellPlace,
+        op: F,
+    ) -> Option<V>
+        requires { F.IsAlwaysCallable op }
+        ensures changed { MatchOption result ((entry_at place self.old.counters ≡ None) × (self.new.counters ≡ self.old.counters)) (λ v. ChangesPlace K.eq (λ b r a. FnOnceReturnsAtMut F.FnOnce op b r a) place v self.old.counters self.new.counters) }
+        ensures rest { (self.new.storage ≡ self.old.storage) × (self.new.gauges ≡ self.old.gauges) × (self.new.histograms ≡ self.old.histograms) }
+    {
+        self.counters.change_at(place, op)
+    }
+
     /// Calls `f` once for each counter, in some order.
     pub fn visit_counters<F: FnMut(&K, &S::Counter) + Drop>(&self, f: F)
         requires { F.IsAlwaysCallable f }
-        ensures calls { (last : F) × FoldsTo (λ p e q. CallsAtEntry F.FnMut p e tt q) f self.now.counters last }
-        ensures once { IsDistinct K.eq (keys_of self.now.counters) }
+        ensures calls { (last : F) × FoldsTo (λ p e q. CallsAtEntry F.FnMut p e tt q) f (entries_of self.now.counters) last }
+        ensures once { IsDistinct K.eq (keys_of (entries_of self.now.counters)) }
     {
         self.counters.visit(f)
     }
@@ -127,7 +158,7 @@ where
     where
         S::Counter: Clone,
         requires { (k c : K) → K.is_clone k c → K.eq k c ≡ true }
-        ensures { MatchResult result (λ m. Copies K.eq S.Counter.is_clone self.now.counters (λ _. None) (get K.eq m)) (λ e. e ≡ OutOfMemory) }
+        ensures { MatchResult result (λ m. Copies K.eq S.Counter.is_clone (entries_of self.now.counters) (λ _. None) (get K.eq m)) (λ e. e ≡ OutOfMemory) }
     {
         self.counters.handles(alloc)
     }
@@ -135,8 +166,8 @@ where
     /// Keeps the counters for which `f` answers true. It is called once for each counter, in some order.
     pub fn retain_counters<F: FnMut(&K, &S::Counter) -> bool + Drop>(&mut self, f: F)
         requires { F.IsAlwaysCallable f }
-        ensures retains { (last : F) × Retains (λ p e b q. CallsAtEntry F.FnMut p e b q) f self.old.counters self.new.counters last }
-        ensures once { IsDistinct K.eq (keys_of self.old.counters) }
+        ensures retains { (last : F) × Retains (λ p e b q. CallsAtEntry F.FnMut p e b q) f (entries_of self.old.counters) (entries_of self.new.counters) last }
+        ensures once { IsDistinct K.eq (keys_of (entries_of self.old.counters)) }
         ensures rest { (self.new.storage ≡ self.old.storage) × (self.new.gauges ≡ self.old.gauges) × (self.new.histograms ≡ self.old.histograms) }
     {
         self.counters.retain(f)
@@ -144,8 +175,8 @@ where
 
     /// Removes a counter, and tells whether it was there.
     pub fn delete_counter(&mut self, key: &K) -> bool
-        ensures removed { Sets K.eq key.now None self.old.counters self.new.counters }
-        ensures answer { result ≡ is_some (held K.eq self.old.counters key.now) }
+        ensures removed { Sets K.eq key.now None (entries_of self.old.counters) (entries_of self.new.counters) }
+        ensures answer { result ≡ is_some (held K.eq (entries_of self.old.counters) key.now) }
         ensures absent { result ≡ false → self.new ≡ self.old }
         ensures rest { (self.new.storage ≡ self.old.storage) × (self.new.gauges ≡ self.old.gauges) × (self.new.histograms ≡ self.old.histograms) }
     {
@@ -154,7 +185,7 @@ where
 
     /// The cell of a gauge, if the key is held.
     pub fn get_gauge(&self, key: &K) -> Option<&S::Gauge>
-        ensures { option_copied result ≡ held K.eq self.now.gauges key.now }
+        ensures { option_copied result ≡ held K.eq (entries_of self.now.gauges) key.now }
     {
         self.gauges.get(key)
     }
@@ -169,8 +200,9 @@ where
     ) -> Result<V, Error>
         requires op { F.IsAlwaysCallable op }
         requires clones { (k c : K) → K.is_clone k c → K.eq k c ≡ true }
-        ensures ok { IfOk result (λ v. CallsAt K.eq (S.makes_gauge self.old.storage) (λ b r a. FnOnceReturnsAtMut F.FnOnce op b r a) key.now v self.old.gauges self.new.gauges) }
-        ensures err { IfErr result (λ e. (e ≡ OutOfMemory) × (self.new ≡ self.old) × (held K.eq self.old.gauges key.now ≡ None)) }
+        ensures ok { IfOk result (λ v. CallsAt K.eq (S.makes_gauge self.old.storage) (λ b r a. FnOnceReturnsAtMut F.FnOnce op b r a) key.now v (entries_of self.old.gauges) (entries_of self.new.gauges)) }
+        ensures err { IfErr result (λ e. (e ≡ OutOfMemory) × (self.new ≡ self.old) × (held K.eq (entries_of self.old.gauges) key.now ≡ None)) }
+        ensures places { OnOk result (KeepsPlaces self.old.gauges self.new.gauges) }
         ensures rest { (self.new.storage ≡ self.old.storage) × (self.new.counters ≡ self.old.counters) × (self.new.histograms ≡ self.old.histograms) }
     {
         match self.gauges.change(key, op) {
@@ -182,11 +214,38 @@ where
         }
     }
 
+    /// Where the cell of a gauge stands, if the key is held.
+    pub fn gauge_place(&self, key: &K) -> Option<CellPlace>
+        ensures { MatchOption result (held K.eq (entries_of self.now.gauges) key.now ≡ None) (IsPlaceOf K.eq K.number key.now self.now.gauges) }
+    {
+        self.gauges.place(key)
+    }
+
+    /// The key and the cell of the gauge at a place.
+    pub fn gauge_at(&self, place: CellPlace) -> Option<(&K, &S::Gauge)>
+        ensures { option_map deref_pair result ≡ entry_at place self.now.gauges }
+    {
+        self.gauges.at(place)
+    }
+
+    /// Calls `op` once on the cell of the gauge at a place, and answers what it answers. It looks no key up.
+    pub fn change_gauge_at<V, F: FnOnce(&mut S::Gauge) -> V + Drop>(
+        &mut self,
+        place: CellPlace,
+        op: F,
+    ) -> Option<V>
+        requires { F.IsAlwaysCallable op }
+        ensures changed { MatchOption result ((entry_at place self.old.gauges ≡ None) × (self.new.gauges ≡ self.old.gauges)) (λ v. ChangesPlace K.eq (λ b r a. FnOnceReturnsAtMut F.FnOnce op b r a) place v self.old.gauges self.new.gauges) }
+        ensures rest { (self.new.storage ≡ self.old.storage) × (self.new.counters ≡ self.old.counters) × (self.new.histograms ≡ self.old.histograms) }
+    {
+        self.gauges.change_at(place, op)
+    }
+
     /// Calls `f` once for each gauge, in some order.
     pub fn visit_gauges<F: FnMut(&K, &S::Gauge) + Drop>(&self, f: F)
         requires { F.IsAlwaysCallable f }
-        ensures calls { (last : F) × FoldsTo (λ p e q. CallsAtEntry F.FnMut p e tt q) f self.now.gauges last }
-        ensures once { IsDistinct K.eq (keys_of self.now.gauges) }
+        ensures calls { (last : F) × FoldsTo (λ p e q. CallsAtEntry F.FnMut p e tt q) f (entries_of self.now.gauges) last }
+        ensures once { IsDistinct K.eq (keys_of (entries_of self.now.gauges)) }
     {
         self.gauges.visit(f)
     }
@@ -196,7 +255,7 @@ where
     where
         S::Gauge: Clone,
         requires { (k c : K) → K.is_clone k c → K.eq k c ≡ true }
-        ensures { MatchResult result (λ m. Copies K.eq S.Gauge.is_clone self.now.gauges (λ _. None) (get K.eq m)) (λ e. e ≡ OutOfMemory) }
+        ensures { MatchResult result (λ m. Copies K.eq S.Gauge.is_clone (entries_of self.now.gauges) (λ _. None) (get K.eq m)) (λ e. e ≡ OutOfMemory) }
     {
         self.gauges.handles(alloc)
     }
@@ -204,8 +263,8 @@ where
     /// Keeps the gauges for which `f` answers true. It is called once for each gauge, in some order.
     pub fn retain_gauges<F: FnMut(&K, &S::Gauge) -> bool + Drop>(&mut self, f: F)
         requires { F.IsAlwaysCallable f }
-        ensures retains { (last : F) × Retains (λ p e b q. CallsAtEntry F.FnMut p e b q) f self.old.gauges self.new.gauges last }
-        ensures once { IsDistinct K.eq (keys_of self.old.gauges) }
+        ensures retains { (last : F) × Retains (λ p e b q. CallsAtEntry F.FnMut p e b q) f (entries_of self.old.gauges) (entries_of self.new.gauges) last }
+        ensures once { IsDistinct K.eq (keys_of (entries_of self.old.gauges)) }
         ensures rest { (self.new.storage ≡ self.old.storage) × (self.new.counters ≡ self.old.counters) × (self.new.histograms ≡ self.old.histograms) }
     {
         self.gauges.retain(f)
@@ -213,8 +272,8 @@ where
 
     /// Removes a gauge, and tells whether it was there.
     pub fn delete_gauge(&mut self, key: &K) -> bool
-        ensures removed { Sets K.eq key.now None self.old.gauges self.new.gauges }
-        ensures answer { result ≡ is_some (held K.eq self.old.gauges key.now) }
+        ensures removed { Sets K.eq key.now None (entries_of self.old.gauges) (entries_of self.new.gauges) }
+        ensures answer { result ≡ is_some (held K.eq (entries_of self.old.gauges) key.now) }
         ensures absent { result ≡ false → self.new ≡ self.old }
         ensures rest { (self.new.storage ≡ self.old.storage) × (self.new.counters ≡ self.old.counters) × (self.new.histograms ≡ self.old.histograms) }
     {
@@ -223,7 +282,7 @@ where
 
     /// The cell of a histogram, if the key is held.
     pub fn get_histogram(&self, key: &K) -> Option<&S::Histogram>
-        ensures { option_copied result ≡ held K.eq self.now.histograms key.now }
+        ensures { option_copied result ≡ held K.eq (entries_of self.now.histograms) key.now }
     {
         self.histograms.get(key)
     }
@@ -238,8 +297,9 @@ where
     ) -> Result<V, Error>
         requires op { F.IsAlwaysCallable op }
         requires clones { (k c : K) → K.is_clone k c → K.eq k c ≡ true }
-        ensures ok { IfOk result (λ v. CallsAt K.eq (S.makes_histogram self.old.storage) (λ b r a. FnOnceReturnsAtMut F.FnOnce op b r a) key.now v self.old.histograms self.new.histograms) }
-        ensures err { IfErr result (λ e. (e ≡ OutOfMemory) × (self.new ≡ self.old) × (held K.eq self.old.histograms key.now ≡ None)) }
+        ensures ok { IfOk result (λ v. CallsAt K.eq (S.makes_histogram self.old.storage) (λ b r a. FnOnceReturnsAtMut F.FnOnce op b r a) key.now v (entries_of self.old.histograms) (entries_of self.new.histograms)) }
+        ensures err { IfErr result (λ e. (e ≡ OutOfMemory) × (self.new ≡ self.old) × (held K.eq (entries_of self.old.histograms) key.now ≡ None)) }
+        ensures places { OnOk result (KeepsPlaces self.old.histograms self.new.histograms) }
         ensures rest { (self.new.storage ≡ self.old.storage) × (self.new.counters ≡ self.old.counters) × (self.new.gauges ≡ self.old.gauges) }
     {
         match self.histograms.change(key, op) {
@@ -251,11 +311,38 @@ where
         }
     }
 
+    /// Where the cell of a histogram stands, if the key is held.
+    pub fn histogram_place(&self, key: &K) -> Option<CellPlace>
+        ensures { MatchOption result (held K.eq (entries_of self.now.histograms) key.now ≡ None) (IsPlaceOf K.eq K.number key.now self.now.histograms) }
+    {
+        self.histograms.place(key)
+    }
+
+    /// The key and the cell of the histogram at a place.
+    pub fn histogram_at(&self, place: CellPlace) -> Option<(&K, &S::Histogram)>
+        ensures { option_map deref_pair result ≡ entry_at place self.now.histograms }
+    {
+        self.histograms.at(place)
+    }
+
+    /// Calls `op` once on the cell of the histogram at a place, and answers what it answers. It looks no key up.
+    pub fn change_histogram_at<V, F: FnOnce(&mut S::Histogram) -> V + Drop>(
+        &mut self,
+        place: CellPlace,
+        op: F,
+    ) -> Option<V>
+        requires { F.IsAlwaysCallable op }
+        ensures changed { MatchOption result ((entry_at place self.old.histograms ≡ None) × (self.new.histograms ≡ self.old.histograms)) (λ v. ChangesPlace K.eq (λ b r a. FnOnceReturnsAtMut F.FnOnce op b r a) place v self.old.histograms self.new.histograms) }
+        ensures rest { (self.new.storage ≡ self.old.storage) × (self.new.counters ≡ self.old.counters) × (self.new.gauges ≡ self.old.gauges) }
+    {
+        self.histograms.change_at(place, op)
+    }
+
     /// Calls `f` once for each histogram, in some order.
     pub fn visit_histograms<F: FnMut(&K, &S::Histogram) + Drop>(&self, f: F)
         requires { F.IsAlwaysCallable f }
-        ensures calls { (last : F) × FoldsTo (λ p e q. CallsAtEntry F.FnMut p e tt q) f self.now.histograms last }
-        ensures once { IsDistinct K.eq (keys_of self.now.histograms) }
+        ensures calls { (last : F) × FoldsTo (λ p e q. CallsAtEntry F.FnMut p e tt q) f (entries_of self.now.histograms) last }
+        ensures once { IsDistinct K.eq (keys_of (entries_of self.now.histograms)) }
     {
         self.histograms.visit(f)
     }
@@ -265,7 +352,7 @@ where
     where
         S::Histogram: Clone,
         requires { (k c : K) → K.is_clone k c → K.eq k c ≡ true }
-        ensures { MatchResult result (λ m. Copies K.eq S.Histogram.is_clone self.now.histograms (λ _. None) (get K.eq m)) (λ e. e ≡ OutOfMemory) }
+        ensures { MatchResult result (λ m. Copies K.eq S.Histogram.is_clone (entries_of self.now.histograms) (λ _. None) (get K.eq m)) (λ e. e ≡ OutOfMemory) }
     {
         self.histograms.handles(alloc)
     }
@@ -273,8 +360,8 @@ where
     /// Keeps the histograms for which `f` answers true. It is called once for each histogram, in some order.
     pub fn retain_histograms<F: FnMut(&K, &S::Histogram) -> bool + Drop>(&mut self, f: F)
         requires { F.IsAlwaysCallable f }
-        ensures retains { (last : F) × Retains (λ p e b q. CallsAtEntry F.FnMut p e b q) f self.old.histograms self.new.histograms last }
-        ensures once { IsDistinct K.eq (keys_of self.old.histograms) }
+        ensures retains { (last : F) × Retains (λ p e b q. CallsAtEntry F.FnMut p e b q) f (entries_of self.old.histograms) (entries_of self.new.histograms) last }
+        ensures once { IsDistinct K.eq (keys_of (entries_of self.old.histograms)) }
         ensures rest { (self.new.storage ≡ self.old.storage) × (self.new.counters ≡ self.old.counters) × (self.new.gauges ≡ self.old.gauges) }
     {
         self.histograms.retain(f)
@@ -282,8 +369,8 @@ where
 
     /// Removes a histogram, and tells whether it was there.
     pub fn delete_histogram(&mut self, key: &K) -> bool
-        ensures removed { Sets K.eq key.now None self.old.histograms self.new.histograms }
-        ensures answer { result ≡ is_some (held K.eq self.old.histograms key.now) }
+        ensures removed { Sets K.eq key.now None (entries_of self.old.histograms) (entries_of self.new.histograms) }
+        ensures answer { result ≡ is_some (held K.eq (entries_of self.old.histograms) key.now) }
         ensures absent { result ≡ false → self.new ≡ self.old }
         ensures rest { (self.new.storage ≡ self.old.storage) × (self.new.counters ≡ self.old.counters) × (self.new.gauges ≡ self.old.gauges) }
     {

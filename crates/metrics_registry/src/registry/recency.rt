@@ -5,7 +5,7 @@ ghost use Rattle.metrics.specs.Layers.{mask_has};
 ghost use Rattle.metrics.specs.declared.error.Error.TheVariants.{Memory as OutOfMemory};
 ghost use Rattle.metrics_names.specs.declared.kind.MetricKind.{MetricKind as AnyKind};
 ghost use Rattle.metrics_names.specs.declared.kind.MetricKind.TheVariants.{Counter as CounterKind, Gauge as GaugeKind, Histogram as HistogramKind};
-ghost use Rattle.metrics_registry.specs.Held.{held, StaysOrGoes};
+ghost use Rattle.metrics_registry.specs.Held.{held, StaysOrGoes, entries_of};
 ghost use Rattle.metrics_registry.specs.Recency.{watch_step};
 
 use crate::common::Hashable;
@@ -31,9 +31,9 @@ fn check<K: Hashable + Clone + Drop, C: Drop>(
     cells: &mut Shards<K, C>,
 ) -> Result<bool, Error>
     requires { (k c : K) → K.is_clone k c → K.eq k c ≡ true }
-    ensures answer { IfOk result (λ stays. stays ≡ (watch_step (Some timeout) seen (is_some (held K.eq cells.old key.now)) (get K.eq noted.old key.now)).0) }
+    ensures answer { IfOk result (λ stays. stays ≡ (watch_step (Some timeout) seen (is_some (held K.eq (entries_of cells.old) key.now)) (get K.eq noted.old key.now)).0) }
     ensures ok { OnOk result ((q : K) → get K.eq noted.new q
-        ≡ cond (K.eq key.now q) ((watch_step (Some timeout) seen (is_some (held K.eq cells.old key.now)) (get K.eq noted.old key.now)).1) (get K.eq noted.old q)) }
+        ≡ cond (K.eq key.now q) ((watch_step (Some timeout) seen (is_some (held K.eq (entries_of cells.old) key.now)) (get K.eq noted.old key.now)).1) (get K.eq noted.old q)) }
     ensures cells { IfOk result (λ stays. StaysOrGoes K.eq key.now stays cells.old cells.new) }
     ensures err { IfErr result (λ e. (e ≡ OutOfMemory) × ((q : K) → get K.eq noted.new q ≡ get K.eq noted.old q) × (cells.new ≡ cells.old)) }
 {
@@ -107,9 +107,9 @@ impl<K: Hashable + Clone + Drop> OwnedRecency<K> {
         S::Histogram: Drop,
         requires { (k c : K) → K.is_clone k c → K.eq k c ≡ true }
         ensures rules { rules_of self.new ≡ rules_of self.old }
-        ensures answer { IfOk result (λ stays. stays ≡ table_answer (rules_of self.old) (check_of CounterKind key.now generation now (is_some (held K.eq registry.old.counters key.now))) (table_of K.eq self.old)) }
+        ensures answer { IfOk result (λ stays. stays ≡ table_answer (rules_of self.old) (check_of CounterKind key.now generation now (is_some (held K.eq (entries_of registry.old.counters) key.now))) (table_of K.eq self.old)) }
         ensures ok { OnOk result ((kind : AnyKind) (q : K) → table_of K.eq self.new kind q
-            ≡ table_after K.eq (rules_of self.old) (check_of CounterKind key.now generation now (is_some (held K.eq registry.old.counters key.now))) (table_of K.eq self.old) kind q) }
+            ≡ table_after K.eq (rules_of self.old) (check_of CounterKind key.now generation now (is_some (held K.eq (entries_of registry.old.counters) key.now))) (table_of K.eq self.old) kind q) }
         ensures cells { IfOk result (λ stays. StaysOrGoes K.eq key.now stays registry.old.counters registry.new.counters) }
         ensures err { IfErr result (λ e. (e ≡ OutOfMemory) × ((kind : AnyKind) (q : K) → table_of K.eq self.new kind q ≡ table_of K.eq self.old kind q) × (registry.new ≡ registry.old)) }
         ensures rest { (registry.new.storage ≡ registry.old.storage) × (registry.new.gauges ≡ registry.old.gauges) × (registry.new.histograms ≡ registry.old.histograms) }
@@ -140,9 +140,9 @@ impl<K: Hashable + Clone + Drop> OwnedRecency<K> {
         S::Histogram: Drop,
         requires { (k c : K) → K.is_clone k c → K.eq k c ≡ true }
         ensures rules { rules_of self.new ≡ rules_of self.old }
-        ensures answer { IfOk result (λ stays. stays ≡ table_answer (rules_of self.old) (check_of GaugeKind key.now generation now (is_some (held K.eq registry.old.gauges key.now))) (table_of K.eq self.old)) }
+        ensures answer { IfOk result (λ stays. stays ≡ table_answer (rules_of self.old) (check_of GaugeKind key.now generation now (is_some (held K.eq (entries_of registry.old.gauges) key.now))) (table_of K.eq self.old)) }
         ensures ok { OnOk result ((kind : AnyKind) (q : K) → table_of K.eq self.new kind q
-            ≡ table_after K.eq (rules_of self.old) (check_of GaugeKind key.now generation now (is_some (held K.eq registry.old.gauges key.now))) (table_of K.eq self.old) kind q) }
+            ≡ table_after K.eq (rules_of self.old) (check_of GaugeKind key.now generation now (is_some (held K.eq (entries_of registry.old.gauges) key.now))) (table_of K.eq self.old) kind q) }
         ensures cells { IfOk result (λ stays. StaysOrGoes K.eq key.now stays registry.old.gauges registry.new.gauges) }
         ensures err { IfErr result (λ e. (e ≡ OutOfMemory) × ((kind : AnyKind) (q : K) → table_of K.eq self.new kind q ≡ table_of K.eq self.old kind q) × (registry.new ≡ registry.old)) }
         ensures rest { (registry.new.storage ≡ registry.old.storage) × (registry.new.counters ≡ registry.old.counters) × (registry.new.histograms ≡ registry.old.histograms) }
@@ -173,9 +173,9 @@ impl<K: Hashable + Clone + Drop> OwnedRecency<K> {
         S::Histogram: Drop,
         requires { (k c : K) → K.is_clone k c → K.eq k c ≡ true }
         ensures rules { rules_of self.new ≡ rules_of self.old }
-        ensures answer { IfOk result (λ stays. stays ≡ table_answer (rules_of self.old) (check_of HistogramKind key.now generation now (is_some (held K.eq registry.old.histograms key.now))) (table_of K.eq self.old)) }
+        ensures answer { IfOk result (λ stays. stays ≡ table_answer (rules_of self.old) (check_of HistogramKind key.now generation now (is_some (held K.eq (entries_of registry.old.histograms) key.now))) (table_of K.eq self.old)) }
         ensures ok { OnOk result ((kind : AnyKind) (q : K) → table_of K.eq self.new kind q
-            ≡ table_after K.eq (rules_of self.old) (check_of HistogramKind key.now generation now (is_some (held K.eq registry.old.histograms key.now))) (table_of K.eq self.old) kind q) }
+            ≡ table_after K.eq (rules_of self.old) (check_of HistogramKind key.now generation now (is_some (held K.eq (entries_of registry.old.histograms) key.now))) (table_of K.eq self.old) kind q) }
         ensures cells { IfOk result (λ stays. StaysOrGoes K.eq key.now stays registry.old.histograms registry.new.histograms) }
         ensures err { IfErr result (λ e. (e ≡ OutOfMemory) × ((kind : AnyKind) (q : K) → table_of K.eq self.new kind q ≡ table_of K.eq self.old kind q) × (registry.new ≡ registry.old)) }
         ensures rest { (registry.new.storage ≡ registry.old.storage) × (registry.new.counters ≡ registry.old.counters) × (registry.new.gauges ≡ registry.old.gauges) }

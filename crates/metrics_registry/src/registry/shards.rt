@@ -1,22 +1,25 @@
 //! The cells of one kind, in shards.
-ghost use Rattle.std.specs.Prelude.{◌≡◌, ◌<◌, ◌%◌, true, false, cond, ◌∷◌, [], None, Some, Ok, IfOk, IfErr, OnOk, OnErr, IfSome, is_some, MatchResult, length, vec_len};
+ghost use Rattle.std.specs.Prelude.{◌≡◌, ◌<◌, ◌%◌, true, false, cond, ◌∷◌, [], None, Some, Ok, IfOk, IfErr, OnOk, OnErr, IfSome, is_some, MatchResult, MatchOption, IsSomeAnd, slice_get, option_map, length, replicate, vec_len};
 ghost use Rattle.std.specs.Option.{option_copied};
 ghost use Rattle.std.specs.Fn.{FnOnceReturnsAtMut};
 ghost use Rattle.std.specs.List.{FoldsTo, IsDistinct};
 ghost use Rattle.std.specs.Map.{keys_of};
+ghost use Rattle.std.specs.Map.Iter.{deref_pair};
 ghost use Rattle.indexmap.specs.IndexMap.{IsUnique};
 ghost use Rattle.metrics.specs.declared.error.Error.TheVariants.{Memory as OutOfMemory};
-ghost use Rattle.metrics_registry.specs.Held.{held, Sets, Calls, Adds, CallsAtEntry, Retains, Copies};
+ghost use Rattle.metrics_registry.specs.Held.{held, Sets, Calls, Adds, CallsAtEntry, Retains, Copies, entries_of};
+ghost use Rattle.metrics_registry.specs.Places.{entry_at, KeepsKeys, KeepsPlaces, IsPlaceOf, ChangesIndex, ChangesPlace};
 ghost use Rattle.std.specs.HashMap.{get};
 
 use crate::common::Hashable;
+use crate::registry::place::CellPlace;
 use indexmap::IndexMap;
 use metrics::Error;
 use std::alloc::Global;
 use std::collections::HashMap;
 use std::marker::Model;
 
-/// The cells of one kind by their keys. Contracts see the list of the entries.
+/// The cells of one kind by their keys. Contracts see the list of the entries of each shard.
 #[derive(Drop)]
 pub(crate) struct Shards<K: Hashable, C> {
     maps: Vec<IndexMap<K, C>>,
@@ -24,11 +27,11 @@ pub(crate) struct Shards<K: Hashable, C> {
 
 impl<K: Hashable, C> Model for Shards<K, C> {
     ghost use Rattle.std.specs.Prelude.{◌<◌, List, vec_len};
-    ghost use Rattle.metrics_registry.specs.Held.{entries_of, ArePlaced};
+    ghost use Rattle.metrics_registry.specs.Held.{shards_of, ArePlaced};
 
-    ghost Value = { List (K × C) };
+    ghost Value = { List (List (K × C)) };
 
-    ghost view = { λ s. entries_of s.maps.items };
+    ghost view = { λ s. shards_of s.maps.items };
 
     ghost invariant = { λ s. (0 < vec_len s.maps) × ArePlaced K.eq K.number (vec_len s.maps) 0 s.maps.items };
 }
@@ -42,6 +45,7 @@ fn change<K: Hashable, C, V, F: FnOnce(&mut C) -> V>(
     requires { F.IsAlwaysCallable op }
     ensures ok { IfOk result (λ v. Calls K.eq (λ b r a. FnOnceReturnsAtMut F.FnOnce op b r a) key.now v map.old.entries map.new.entries) }
     ensures err { IfErr result (λ f. (f ≡ op) × (held K.eq map.old.entries key.now ≡ None) × (map.new.entries ≡ map.old.entries)) }
+    ensures keeps { OnOk result (KeepsKeys map.old.entries map.new.entries) }
     ensures unique { IsUnique K.eq map.new }
 {
     match map.get_mut(key) {
@@ -62,6 +66,7 @@ fn create<K: Hashable + Clone, C: Drop, V, F: FnOnce(&mut C) -> V + Drop>(
     requires clones { (k c : K) → K.is_clone k c → K.eq k c ≡ true }
     ensures ok { IfOk result (λ v. Adds K.eq (λ b r a. FnOnceReturnsAtMut F.FnOnce op b r a) key.now cell v map.old.entries map.new.entries) }
     ensures err { IfErr result (λ e. (e ≡ OutOfMemory) × (map.new.entries ≡ map.old.entries)) }
+    ensures keeps { OnOk result (KeepsKeys map.old.entries map.new.entries) }
     ensures unique { OnOk result (IsUnique K.eq map.new) }
 {
     let key = key.clone()?;
@@ -72,6 +77,29 @@ fn create<K: Hashable + Clone, C: Drop, V, F: FnOnce(&mut C) -> V + Drop>(
         unreachable!()
     };
     Ok(answer)
+}
+
+/// The index of a key.
+fn index_of<K: Hashable, C>(map: &IndexMap<K, C>, key: &K) -> Option<usize>
+    ensures { MatchOption result (held K.eq map.now.entries key.now ≡ None) (λ i. IsSomeAnd (slice_get map.now.entries i) (λ e. K.eq key.now e.0 ≡ true)) }
+{
+    map.get_index_of(key)
+}
+
+/// Calls `op` on the cell at an index, if there is one.
+fn change_at<K: Hashable, C, V, F: FnOnce(&mut C) -> V + Drop>(
+    map: &mut IndexMap<K, C>,
+    index: usize,
+    op: F,
+) -> Option<V>
+    requires { F.IsAlwaysCallable op }
+    ensures changed { MatchOption result ((slice_get map.old.entries index ≡ None) × (map.new.entries ≡ map.old.entries)) (λ v. ChangesIndex (λ b r a. FnOnceReturnsAtMut F.FnOnce op b r a) index v map.old.entries map.new.entries) }
+    ensures unique { IsUnique K.eq map.new }
+{
+    match map.get_index_mut(index) {
+        Some(cell) => Some(op(cell)),
+        None => None,
+    }
 }
 
 /// Removes a key, and tells whether it was held.
@@ -171,7 +199,7 @@ impl<K: Hashable + Drop, C: Drop> Shards<K, C> {
     /// As many shards as asked for, with nothing in them.
     pub fn new(alloc: Global, count: usize) -> Result<Shards<K, C>, Error>
         requires { 0 < count }
-        ensures { MatchResult result (λ s. s ≡ []) (λ e. e ≡ OutOfMemory) }
+        ensures { MatchResult result (λ s. s ≡ replicate count []) (λ e. e ≡ OutOfMemory) }
     {
         let mut maps = Vec::new(alloc);
         maps.reserve(count)?;
@@ -182,17 +210,51 @@ impl<K: Hashable + Drop, C: Drop> Shards<K, C> {
     }
 
     pub fn get(&self, key: &K) -> Option<&C>
-        ensures { option_copied result ≡ held K.eq self.now key.now }
+        ensures { option_copied result ≡ held K.eq (entries_of self.now) key.now }
     {
         let shard = shard_of(key, self.maps.len());
         self.maps[shard].get(key)
     }
 
+    /// Where the cell of a key stands, if the key is held.
+    pub fn place(&self, key: &K) -> Option<CellPlace>
+        ensures { MatchOption result (held K.eq (entries_of self.now) key.now ≡ None) (IsPlaceOf K.eq K.number key.now self.now) }
+    {
+        let shard = shard_of(key, self.maps.len());
+        match index_of(&self.maps[shard], key) {
+            Some(index) => Some(CellPlace { shard, index }),
+            None => None,
+        }
+    }
+
+    /// The key and the cell at a place.
+    pub fn at(&self, place: CellPlace) -> Option<(&K, &C)>
+        ensures { option_map deref_pair result ≡ entry_at place self.now }
+    {
+        self.maps.get(place.shard)?.get_index(place.index)
+    }
+
+    /// Calls `op` on the cell at a place, if there is one.
+    pub fn change_at<V, F: FnOnce(&mut C) -> V + Drop>(
+        &mut self,
+        place: CellPlace,
+        op: F,
+    ) -> Option<V>
+        requires { F.IsAlwaysCallable op }
+        ensures { MatchOption result ((entry_at place self.old ≡ None) × (self.new ≡ self.old)) (λ v. ChangesPlace K.eq (λ b r a. FnOnceReturnsAtMut F.FnOnce op b r a) place v self.old self.new) }
+    {
+        if self.maps.len() <= place.shard {
+            return None;
+        }
+        change_at(&mut self.maps[place.shard], place.index, op)
+    }
+
     /// Calls `op` on the cell of a key. Where the key isn't held `op` comes back.
     pub fn change<V, F: FnOnce(&mut C) -> V>(&mut self, key: &K, op: F) -> Result<V, F>
         requires { F.IsAlwaysCallable op }
-        ensures ok { IfOk result (λ v. Calls K.eq (λ b r a. FnOnceReturnsAtMut F.FnOnce op b r a) key.now v self.old self.new) }
-        ensures err { IfErr result (λ f. (f ≡ op) × (held K.eq self.old key.now ≡ None) × (self.new ≡ self.old)) }
+        ensures ok { IfOk result (λ v. Calls K.eq (λ b r a. FnOnceReturnsAtMut F.FnOnce op b r a) key.now v (entries_of self.old) (entries_of self.new)) }
+        ensures err { IfErr result (λ f. (f ≡ op) × (held K.eq (entries_of self.old) key.now ≡ None) × (self.new ≡ self.old)) }
+        ensures places { OnOk result (KeepsPlaces self.old self.new) }
     {
         let shard = shard_of(key, self.maps.len());
         change(&mut self.maps[shard], key, op)
@@ -208,10 +270,11 @@ impl<K: Hashable + Drop, C: Drop> Shards<K, C> {
     where
         K: Clone,
         requires op { F.IsAlwaysCallable op }
-        requires absent { held K.eq self.old key.now ≡ None }
+        requires absent { held K.eq (entries_of self.old) key.now ≡ None }
         requires clones { (k c : K) → K.is_clone k c → K.eq k c ≡ true }
-        ensures ok { IfOk result (λ v. Adds K.eq (λ b r a. FnOnceReturnsAtMut F.FnOnce op b r a) key.now cell v self.old self.new) }
+        ensures ok { IfOk result (λ v. Adds K.eq (λ b r a. FnOnceReturnsAtMut F.FnOnce op b r a) key.now cell v (entries_of self.old) (entries_of self.new)) }
         ensures err { IfErr result (λ e. (e ≡ OutOfMemory) × (self.new ≡ self.old)) }
+        ensures places { OnOk result (KeepsPlaces self.old self.new) }
     {
         let shard = shard_of(key, self.maps.len());
         create(&mut self.maps[shard], key, cell, op)
@@ -220,8 +283,8 @@ impl<K: Hashable + Drop, C: Drop> Shards<K, C> {
     /// Calls `f` once for each entry, in the order of the entries.
     pub fn visit<F: FnMut(&K, &C) + Drop>(&self, f: F)
         requires { F.IsAlwaysCallable f }
-        ensures calls { (last : F) × FoldsTo (λ p e q. CallsAtEntry F.FnMut p e tt q) f self.now last }
-        ensures once { IsDistinct K.eq (keys_of self.now) }
+        ensures calls { (last : F) × FoldsTo (λ p e q. CallsAtEntry F.FnMut p e tt q) f (entries_of self.now) last }
+        ensures once { IsDistinct K.eq (keys_of (entries_of self.now)) }
     {
         let mut f = f;
         for map in &self.maps {
@@ -235,7 +298,7 @@ impl<K: Hashable + Drop, C: Drop> Shards<K, C> {
         K: Clone,
         C: Clone,
         requires { (k c : K) → K.is_clone k c → K.eq k c ≡ true }
-        ensures ok { IfOk result (λ m. Copies K.eq C.is_clone self.now (λ _. None) (get K.eq m)) }
+        ensures ok { IfOk result (λ m. Copies K.eq C.is_clone (entries_of self.now) (λ _. None) (get K.eq m)) }
         ensures err { IfErr result (λ e. e ≡ OutOfMemory) }
     {
         let mut handles = HashMap::new(alloc);
@@ -248,8 +311,8 @@ impl<K: Hashable + Drop, C: Drop> Shards<K, C> {
     /// Keeps the entries for which `f` answers true. It is called once for each entry, in the order of the entries.
     pub fn retain<F: FnMut(&K, &C) -> bool + Drop>(&mut self, f: F)
         requires { F.IsAlwaysCallable f }
-        ensures retains { (last : F) × Retains (λ p e b q. CallsAtEntry F.FnMut p e b q) f self.old self.new last }
-        ensures once { IsDistinct K.eq (keys_of self.old) }
+        ensures retains { (last : F) × Retains (λ p e b q. CallsAtEntry F.FnMut p e b q) f (entries_of self.old) (entries_of self.new) last }
+        ensures once { IsDistinct K.eq (keys_of (entries_of self.old)) }
     {
         let mut f = f;
         for i in 0..self.maps.len() {
@@ -259,8 +322,8 @@ impl<K: Hashable + Drop, C: Drop> Shards<K, C> {
 
     /// Removes a key, and tells whether it was held.
     pub fn remove(&mut self, key: &K) -> bool
-        ensures removed { Sets K.eq key.now None self.old self.new }
-        ensures answer { result ≡ is_some (held K.eq self.old key.now) }
+        ensures removed { Sets K.eq key.now None (entries_of self.old) (entries_of self.new) }
+        ensures answer { result ≡ is_some (held K.eq (entries_of self.old) key.now) }
         ensures absent { result ≡ false → self.new ≡ self.old }
     {
         let shard = shard_of(key, self.maps.len());
@@ -268,7 +331,7 @@ impl<K: Hashable + Drop, C: Drop> Shards<K, C> {
     }
 
     pub fn clear(&mut self)
-        ensures { self.new ≡ [] }
+        ensures { self.new ≡ replicate (length self.old) [] }
     {
         for i in 0..self.maps.len() {
             self.maps[i].clear();

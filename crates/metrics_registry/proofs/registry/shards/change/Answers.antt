@@ -1,6 +1,7 @@
 use Rattle.std.proofs.Common.{rules, ◌∙◌, ◌≡◌, sym, ap, refl, Some, Option, subst}
 use Rattle.std.specs.Option.{option_copied_mut, IsSome}
 use Rattle.metrics_registry.specs.Held.{held}
+use Rattle.metrics_registry.proofs.PlacesLemmas.{keeps-keys}
 use Rattle.metrics_registry.proofs.registry.shards.change.Goals as goal
 
 pub returns-in-Some-clause-ok : goal.returns-in-Some-clause-ok
@@ -13,3 +14,6 @@ returns-in-Some-clause-ok g c =
       record { shown = c.in-Some.cell; shows = refl; left = _; met = c.op.ensures; leaves = refl },
       (((c.get_mut.follows.holds c.op.new.arg2).3) (subst Is (sym found) refl)).0,
     )
+
+pub returns-in-Some-clause-keeps : goal.returns-in-Some-clause-keeps
+returns-in-Some-clause-keeps g c = keeps-keys _ _ (c.get_mut.follows.holds c.op.new.arg2).1

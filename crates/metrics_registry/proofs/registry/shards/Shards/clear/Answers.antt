@@ -1,7 +1,7 @@
-use Rattle.std.proofs.Common.{rules, arith, ◌≡◌, subst, take, length, get_or, set}
+use Rattle.std.proofs.Common.{rules, arith, ◌≡◌, ◌∙◌, subst, take, length, get_or, set}
 use Rattle.std.proofs.lemmas.List.{take_all}
 use Rattle.std.specs.List.{All}
-use Rattle.metrics_registry.proofs.HeldLemmas.{IsBare, entries-bare, placed-bare, bare-more, bare-all}
+use Rattle.metrics_registry.proofs.HeldLemmas.{shards-length, IsBare, shards-all_bare, placed-bare, bare-more, bare-all}
 use Rattle.metrics_registry.proofs.registry.shards.Shards.clear.Goals as goal
 
 pub invariant_of-self : goal.invariant_of-self
@@ -11,4 +11,6 @@ pub loop-i-preserved : goal.loop-i-preserved
 loop-i-preserved g c = (search rules, bare-more _ _ _ (search rules) c.clear.ensures.empty c.loop-i.invariant.1)
 
 pub returns : goal.returns
-returns g c = entries-bare _ (bare-all c.loop-i.i _ (search rules) c.loop-i.invariant.1)
+returns g c =
+    let kept : length c.loop-i.self-inside.maps.items ≡ length c.self.inside.maps.items = search rules in
+    shards-all_bare _ _ (kept ∙ shards-length c.self.inside.maps.items c.args.self.now c.self.view_is) (bare-all c.loop-i.i _ (search rules) c.loop-i.invariant.1)

@@ -1,11 +1,8 @@
-use Rattle.std.proofs.Common.{rules, ◌≡◌, ◌∙◌, sym, ap}
-use Rattle.metrics_registry.specs.Held.{held}
-use Rattle.metrics_registry.proofs.HeldLemmas.{lookup-placed}
+use Rattle.std.proofs.Common.{rules, ◌≡◌, ◌∙◌, sym}
+use Rattle.metrics_registry.proofs.HeldLemmas.{held-shard}
 use Rattle.metrics_registry.proofs.registry.shards.Shards.get.Goals as goal
 
 pub returns : goal.returns
 returns g c =
-    let placed = c.self.invariant.1 in
     c.get.ensures.value
-    ∙ (sym (lookup-placed g.met.K.Eq.laws g.K.Hashable.number g.met.K.Hashable.same _ 0 c.shard_of-shard.result c.self.inside.maps.items c.index.result.now c.args.key.now placed (search rules) (search rules) (search rules))
-      ∙ ap (λ es. held g.K.PartialEq.eq es c.args.key.now) c.self.view_is)
+    ∙ sym (held-shard g.met.K.Eq.laws g.K.Hashable.number g.met.K.Hashable.same c.self.inside.maps.len c.shard_of-shard.result c.self.inside.maps.items c.args.self.now c.index.result.now c.index.result.now c.args.key.now c.self.invariant.1 c.self.view_is (search rules) (search rules) (search rules) (search rules))

@@ -3,8 +3,8 @@ use Rattle.std.proofs.lemmas.List.{take_all}
 use Rattle.std.specs.HashMap.{get}
 use Rattle.std.specs.List.{IsDistinct}
 use Rattle.std.specs.Map.{keys_of}
-use Rattle.metrics_registry.specs.Held.{Copies, ArePlaced, entries_of}
-use Rattle.metrics_registry.proofs.HeldLemmas.{entries-more, distinct-placed}
+use Rattle.metrics_registry.specs.Held.{Copies, ArePlaced}
+use Rattle.metrics_registry.proofs.HeldLemmas.{all_of, all-seen, entries-more, distinct-placed}
 use Rattle.metrics_registry.proofs.HandlesLemmas.{copies-append, placed-take}
 use Rattle.metrics_registry.proofs.registry.shards.Shards.handles.Goals as goal
 
@@ -19,4 +19,10 @@ loop-map-preserved g c =
     let distinct = subst D more (distinct-placed g.met.K.Eq.laws g.K.Hashable.number g.met.K.Hashable.same c.self.inside.maps.len 0 (take (i + 1) ms) (placed-take eq g.K.Hashable.number c.self.inside.maps.len 0 (i + 1) ms placed)) in
     let P : List (g.row.K.Denot × g.row.C.Denot) → Type 0 = λ l. Copies eq g.C.Clone.is_clone l (λ _. None) (get eq c.copy_into.new.handles) in
     subst P (sym more)
-      (copies-append g.met.K.Eq.laws g.C.Clone.is_clone (entries_of (take i ms)) c.map-item.result.entries (λ _. None) (get eq c.loop-map.handles) (get eq c.copy_into.new.handles) distinct c.loop-map.invariant c.in_ok-copy_into.ensures.ok)
+      (copies-append g.met.K.Eq.laws g.C.Clone.is_clone (all_of (take i ms)) c.map-item.result.entries (λ _. None) (get eq c.loop-map.handles) (get eq c.copy_into.new.handles) distinct c.loop-map.invariant c.in_ok-copy_into.ensures.ok)
+
+pub returns-clause-ok : goal.returns-clause-ok
+returns-clause-ok g c =
+    let eq = g.K.PartialEq.eq in
+    let P : List (g.row.K.Denot × g.row.C.Denot) → Type 0 = λ l. Copies eq g.C.Clone.is_clone l (λ _. None) (get eq c.loop-map.handles) in
+    subst P (ap all_of (take_all c.loop-map.map-index c.deref-map-items.result.now c.loop-map-test.false ∙ c.deref-map-items.ensures.value) ∙ all-seen _ _ c.self.view_is) c.loop-map.invariant

@@ -3,8 +3,8 @@ use Rattle.std.proofs.lemmas.List.{take_all}
 use Rattle.std.specs.List.{IsDistinct}
 use Rattle.std.specs.Map.{keys_of}
 use denote.Param.Always.{always_mut}
-use Rattle.metrics_registry.specs.Held.{CallsAtEntry, Retains, entries_of}
-use Rattle.metrics_registry.proofs.HeldLemmas.{distinct-placed}
+use Rattle.metrics_registry.specs.Held.{CallsAtEntry, Retains, entries_of, shards_of}
+use Rattle.metrics_registry.proofs.HeldLemmas.{all_of, all-seen, all-shards, distinct-placed}
 use Rattle.metrics_registry.proofs.RetainLemmas.{shard-retained}
 use Rattle.metrics_registry.proofs.registry.shards.Shards.retain.Goals as goal
 
@@ -27,11 +27,11 @@ returns-clause-retains g c =
     let ms = c.self.inside.maps.items in
     let ns = c.loop-i.self-inside.maps.items in (
       c.loop-i.f,
-      subst (λ es. P es (entries_of ns)) (ap entries_of (take_all c.loop-i.i ms (search rules)) ∙ c.self.view_is)
-        (subst (P (entries_of (take c.loop-i.i ms))) (ap entries_of (take_all c.loop-i.i ns (search rules))) c.loop-i.invariant.3),
+      subst (λ es. P es (entries_of (shards_of ns))) (ap all_of (take_all c.loop-i.i ms (search rules)) ∙ all-seen ms c.args.self.now c.self.view_is)
+        (subst (P (all_of (take c.loop-i.i ms))) (ap all_of (take_all c.loop-i.i ns (search rules)) ∙ all-shards ns) c.loop-i.invariant.3),
     )
 
 pub returns-clause-once : goal.returns-clause-once
 returns-clause-once g c =
     let P : List (g.row.K.Denot × g.row.C.Denot) → Type 0 = λ es. IsDistinct g.K.PartialEq.eq (keys_of es) in
-    subst P c.self.view_is (distinct-placed g.met.K.Eq.laws g.K.Hashable.number g.met.K.Hashable.same c.self.inside.maps.len 0 c.self.inside.maps.items c.self.invariant.1)
+    subst P (all-seen _ _ c.self.view_is) (distinct-placed g.met.K.Eq.laws g.K.Hashable.number g.met.K.Hashable.same c.self.inside.maps.len 0 c.self.inside.maps.items c.self.invariant.1)

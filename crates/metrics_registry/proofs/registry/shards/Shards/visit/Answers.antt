@@ -2,8 +2,8 @@ use Rattle.std.proofs.Common.{rules, arith, ◌≡◌, ◌∙◌, ap, sym, subst
 use Rattle.std.proofs.lemmas.List.{take_all}
 use Rattle.std.specs.List.{FoldsTo, IsDistinct}
 use Rattle.std.specs.Map.{keys_of}
-use Rattle.metrics_registry.specs.Held.{CallsAtEntry, entries_of}
-use Rattle.metrics_registry.proofs.HeldLemmas.{FoldsTo-append, entries-more, distinct-placed}
+use Rattle.metrics_registry.specs.Held.{CallsAtEntry}
+use Rattle.metrics_registry.proofs.HeldLemmas.{all_of, all-seen, FoldsTo-append, entries-more, distinct-placed}
 use Rattle.metrics_registry.proofs.registry.shards.Shards.visit.Goals as goal
 
 pub loop-map-init : goal.loop-map-init
@@ -17,9 +17,9 @@ loop-map-preserved g c =
 pub returns-clause-calls : goal.returns-clause-calls
 returns-clause-calls g c = 
     let P : List (g.row.K.Denot × g.row.C.Denot) → Type 0 = λ es. FoldsTo (λ p e q. CallsAtEntry g.F.FnMut p e tt q) c.args.f es c.loop-map.f in
-    (c.loop-map.f, subst P (ap entries_of (take_all c.loop-map.map-index c.deref-map-items.result.now c.loop-map-test.false ∙ c.deref-map-items.ensures.value) ∙ c.self.view_is) c.loop-map.invariant.1)
+    (c.loop-map.f, subst P (ap all_of (take_all c.loop-map.map-index c.deref-map-items.result.now c.loop-map-test.false ∙ c.deref-map-items.ensures.value) ∙ all-seen _ _ c.self.view_is) c.loop-map.invariant.1)
 
 pub returns-clause-once : goal.returns-clause-once
 returns-clause-once g c =
     let P : List (g.row.K.Denot × g.row.C.Denot) → Type 0 = λ es. IsDistinct g.K.PartialEq.eq (keys_of es) in
-    subst P c.self.view_is (distinct-placed g.met.K.Eq.laws g.K.Hashable.number g.met.K.Hashable.same c.self.inside.maps.len 0 c.self.inside.maps.items c.self.invariant.1)
+    subst P (all-seen _ _ c.self.view_is) (distinct-placed g.met.K.Eq.laws g.K.Hashable.number g.met.K.Hashable.same c.self.inside.maps.len 0 c.self.inside.maps.items c.self.invariant.1)
