@@ -2,9 +2,9 @@
 use Rattle.std.proofs.Common.{◌≡◌, ℕ, zero, suc, take, Bool, true, false, cond, List, [], ◌∷◌, ◌++◌, Option, None, Some, MatchOption, IsSomeAnd, refl, sym, ◌∙◌, ap, subst}
 use Rattle.std.specs.Cmp.{IsEquivalence}
 use Rattle.std.specs.List.{IsDistinct, AllByRecursion}
-use Rattle.std.specs.Map.{lookup, keys_of, update}
+use Rattle.std.specs.Map.{lookup, keys_of}
 use Rattle.std.proofs.lemmas.Bool.{cond-true, cond-false}
-use Rattle.metrics_registry.specs.Held.{held, Copies, ArePlaced}
+use Rattle.metrics_registry.specs.Held.{Copies, ArePlaced}
 use Rattle.std.specs.HashMap.{HashMap}
 use Rattle.metrics_registry.proofs.HeldLemmas.{by_answer, lookup-append_none}
 
@@ -20,8 +20,8 @@ lookup-append_some : {K C : Type 0} (test : K → Bool) (xs ys : List (K × C)) 
 lookup-append_some test [] ys c found = cc found
 lookup-append_some test (x ∷ xs) ys c found =
     by_answer (test x.0)
-      (λ t. cond-true (test x.0) (Some x.1) (lookup test (xs ++ ys)) t ∙ (sym (cond-true (test x.0) (Some x.1) (lookup test xs) t) ∙ found))
-      (λ f. cond-false (test x.0) (Some x.1) (lookup test (xs ++ ys)) f ∙ lookup-append_some test xs ys c (sym (cond-false (test x.0) (Some x.1) (lookup test xs) f) ∙ found))
+    (λ t. cond-true (test x.0) (Some x.1) (lookup test (xs ++ ys)) t ∙ (sym (cond-true (test x.0) (Some x.1) (lookup test xs) t) ∙ found))
+    (λ f. cond-false (test x.0) (Some x.1) (lookup test (xs ++ ys)) f ∙ lookup-append_some test xs ys c (sym (cond-false (test x.0) (Some x.1) (lookup test xs) f) ∙ found))
 
 module _ {K C : Type 0} {eq : K → K → Bool} (laws : IsEquivalence eq) where
   lookup-same : (es : List (K × C)) (x y : K) → eq x y ≡ true → lookup (eq x) es ≡ lookup (eq y) es
@@ -42,24 +42,24 @@ module _ {K C : Type 0} {eq : K → K → Bool} (laws : IsEquivalence eq) where
   one-half [] ys q c distinct found = cc found
   one-half (x ∷ xs) ys q c distinct found =
       by_answer (eq q x.0)
-        (λ t. apart-from x.0 ys q (rest-of xs ys x.0 distinct.0) t)
-        (λ f. one-half xs ys q c distinct.1 (sym (cond-false (eq q x.0) (Some x.1) (lookup (eq q) xs) f) ∙ found))
+      (λ t. apart-from x.0 ys q (rest-of xs ys x.0 distinct.0) t)
+      (λ f. one-half xs ys q c distinct.1 (sym (cond-false (eq q x.0) (Some x.1) (lookup (eq q) xs) f) ∙ found))
 
   pub copies-append : (clone : C → C → Type 0) (xs ys : List (K × C)) (old mid new : K → Option C) → IsDistinct eq (keys_of (xs ++ ys)) → Copies eq clone xs old mid → Copies eq clone ys mid new → Copies eq clone (xs ++ ys) old new
   copies-append clone xs ys old mid new distinct first second q = by_found (lookup (eq q) xs) refl
     where
-    by_found : (o : Option C) → lookup (eq q) xs ≡ o → MatchOption (lookup (eq q) (xs ++ ys)) (new q ≡ old q) (λ c. IsSomeAnd (new q) (clone c))
-    by_found None e =
-        let P : Option C → Type 0 = λ o. MatchOption o (new q ≡ old q) (λ c. IsSomeAnd (new q) (clone c)) in
-        let Was : Option C → Type 0 = λ o. MatchOption o (mid q ≡ old q) (λ c. IsSomeAnd (mid q) (clone c)) in
-        subst P (sym (lookup-append_none (eq q) xs ys e)) (match-old (new q) (mid q) (old q) (lookup (eq q) ys) (λ c. IsSomeAnd (new q) (clone c)) (second q) (subst Was e (first q)))
-    by_found (Some c) e =
-        let P : Option C → Type 0 = λ o. MatchOption o (new q ≡ old q) (λ c. IsSomeAnd (new q) (clone c)) in
-        let Was : Option C → Type 0 = λ o. MatchOption o (mid q ≡ old q) (λ c. IsSomeAnd (mid q) (clone c)) in
-        let Now : Option C → Type 0 = λ o. MatchOption o (new q ≡ mid q) (λ c. IsSomeAnd (new q) (clone c)) in
-        let Is : Option C → Type 0 = λ o. IsSomeAnd o (clone c) in
-        let same : new q ≡ mid q = subst Now (one-half xs ys q c distinct e) (second q) in
-        subst P (sym (lookup-append_some (eq q) xs ys c e)) (subst Is (sym same) (subst Was e (first q)))
+      by_found : (o : Option C) → lookup (eq q) xs ≡ o → MatchOption (lookup (eq q) (xs ++ ys)) (new q ≡ old q) (λ c. IsSomeAnd (new q) (clone c))
+      by_found None e =
+          let P : Option C → Type 0 = λ o. MatchOption o (new q ≡ old q) (λ c. IsSomeAnd (new q) (clone c)) in
+          let Was : Option C → Type 0 = λ o. MatchOption o (mid q ≡ old q) (λ c. IsSomeAnd (mid q) (clone c)) in
+          subst P (sym (lookup-append_none (eq q) xs ys e)) (match-old (new q) (mid q) (old q) (lookup (eq q) ys) (λ c. IsSomeAnd (new q) (clone c)) (second q) (subst Was e (first q)))
+      by_found (Some c) e =
+          let P : Option C → Type 0 = λ o. MatchOption o (new q ≡ old q) (λ c. IsSomeAnd (new q) (clone c)) in
+          let Was : Option C → Type 0 = λ o. MatchOption o (mid q ≡ old q) (λ c. IsSomeAnd (mid q) (clone c)) in
+          let Now : Option C → Type 0 = λ o. MatchOption o (new q ≡ mid q) (λ c. IsSomeAnd (new q) (clone c)) in
+          let Is : Option C → Type 0 = λ o. IsSomeAnd o (clone c) in
+          let same : new q ≡ mid q = subst Now (one-half xs ys q c distinct e) (second q) in
+          subst P (sym (lookup-append_some (eq q) xs ys c e)) (subst Is (sym same) (subst Was e (first q)))
 
   -- one more copy
   pub copies-one : (clone : C → C → Type 0) (e : K × C) (key : K) (cell : C) (old new : K → Option C) → eq e.0 key ≡ true → clone e.1 cell → ((q : K) → new q ≡ cond (eq key q) (Some cell) (old q)) → Copies eq clone (e ∷ []) old new
@@ -68,8 +68,8 @@ module _ {K C : Type 0} {eq : K → K → Bool} (laws : IsEquivalence eq) where
       let Is : Option C → Type 0 = λ o. IsSomeAnd o (clone e.1) in
       let flips : eq q e.0 ≡ eq key q = laws.symm q e.0 ∙ laws.congr e.0 key q alike in
       by_answer (eq q e.0)
-        (λ t. subst P (sym (cond-true (eq q e.0) (Some e.1) None t)) (subst Is (sym (puts q ∙ cond-true (eq key q) (Some cell) (old q) (sym flips ∙ t))) cloned))
-        (λ f. subst P (sym (cond-false (eq q e.0) (Some e.1) None f)) (puts q ∙ cond-false (eq key q) (Some cell) (old q) (sym flips ∙ f)))
+      (λ t. subst P (sym (cond-true (eq q e.0) (Some e.1) None t)) (subst Is (sym (puts q ∙ cond-true (eq key q) (Some cell) (old q) (sym flips ∙ t))) cloned))
+      (λ f. subst P (sym (cond-false (eq q e.0) (Some e.1) None f)) (puts q ∙ cond-false (eq key q) (Some cell) (old q) (sym flips ∙ f)))
 
 -- the first part of distinct keys
 pub distinct-front : {K C : Type 0} (eq : K → K → Bool) (xs ys : List (K × C)) → IsDistinct eq (keys_of (xs ++ ys)) → IsDistinct eq (keys_of xs)

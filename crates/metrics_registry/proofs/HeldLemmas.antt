@@ -1,5 +1,5 @@
 -- The shards of a map, seen as one list of entries.
-use Rattle.std.proofs.Common.{◌≡◌, ◌≢◌, ℕ, zero, suc, ◌+◌, ◌<◌, ◌%◌, Bool, true, false, cond, List, [], ◌∷◌, ◌++◌, Option, None, Some, IsSome, Result, Ok, Err, IfOk, IfErr, OnOk, refl, sym, ◌∙◌, ap, subst, length, get_or, set, take, replicate, map, ◌≤◌, add-one, arith, rules}
+use Rattle.std.proofs.Common.{◌≡◌, ℕ, zero, suc, ◌+◌, ◌<◌, ◌%◌, Bool, true, false, cond, List, [], ◌∷◌, ◌++◌, Option, None, Some, Result, Ok, Err, IfOk, IfErr, OnOk, refl, sym, ◌∙◌, ap, subst, length, get_or, set, take, replicate, ◌≤◌, add-one, arith}
 use Rattle.std.specs.Cmp.{IsEquivalence}
 use Rattle.std.specs.List.{IsDistinct, AllByRecursion, All, FoldsTo}
 use Rattle.std.specs.Map.{lookup, keys_of, update}
@@ -8,7 +8,7 @@ use Rattle.std.proofs.lemmas.Bool.{cond-true, cond-false}
 use Rattle.std.proofs.lemmas.List.{get_or-set_same, get_or-set_other, get_or_default, length-set, length-map, take_all, append-nil, append_assoc}
 use Rattle.std.proofs.Math.Nat.{mod-lt}
 use Rattle.std.proofs.lemmas.Map.{NonePasses, none_passes_from_lookup}
-use Rattle.metrics_registry.specs.Held.{held, Sets, Calls, Adds, IsCellOf, CallsAt, AreOf, ArePlaced, shards_of, entries_of}
+use Rattle.metrics_registry.specs.Held.{held, Sets, Calls, Adds, AreOf, ArePlaced, shards_of, entries_of}
 
 -- the entries of all maps, one map after another
 abbrev pub all_of : {K C S : Type 0} → List (HashMap K C S) → List (K × C)
@@ -40,8 +40,8 @@ pub lookup-append_none : {K C : Type 0} (test : K → Bool) (xs ys : List (K × 
 lookup-append_none test [] ys none = refl
 lookup-append_none test (x ∷ xs) ys none =
     by_answer (test x.0)
-      (λ t. cc (cond-true (test x.0) (Some x.1) (lookup test xs) t, none))
-      (λ f. cond-false (test x.0) (Some x.1) (lookup test (xs ++ ys)) f ∙ lookup-append_none test xs ys (sym (cond-false (test x.0) (Some x.1) (lookup test xs) f) ∙ none))
+    (λ t. cc (cond-true (test x.0) (Some x.1) (lookup test xs) t, none))
+    (λ f. cond-false (test x.0) (Some x.1) (lookup test (xs ++ ys)) f ∙ lookup-append_none test xs ys (sym (cond-false (test x.0) (Some x.1) (lookup test xs) f) ∙ none))
 
 pub lookup-append_rest : {K C : Type 0} (test : K → Bool) (xs ys : List (K × C)) → lookup test ys ≡ None → lookup test (xs ++ ys) ≡ lookup test xs
 lookup-append_rest test [] ys none = none
@@ -53,26 +53,25 @@ module _ {K C : Type 0} {eq : K → K → Bool} (laws : IsEquivalence eq) (numbe
   none-elsewhere shard [] q apart of = refl
   none-elsewhere shard (e ∷ es) q apart of =
       by_answer (eq q e.0)
-        (λ t. absurd (apart (ap (λ n. n % count) (same q e.0 t) ∙ of.0)))
-        (λ f. cond-false (eq q e.0) (Some e.1) (lookup (eq q) es) f ∙ none-elsewhere shard es q apart of.1)
+      (λ t. absurd (apart (ap (λ n. n % count) (same q e.0 t) ∙ of.0)))
+      (λ f. cond-false (eq q e.0) (Some e.1) (lookup (eq q) es) f ∙ none-elsewhere shard es q apart of.1)
 
   -- what is found tells where the keys belong
   pub are-of : (shard : ℕ) (es : List (K × C)) → ((q : K) → (lookup (eq q) es ≡ None → ⊥) → number q % count ≡ shard) → AreOf number count shard es
   are-of shard [] found = tt
-  are-of shard (e ∷ es) found =
-      (
-        found e.0 (λ none. cc (cond-true (eq e.0 e.0) (Some e.1) (lookup (eq e.0) es) (laws.refl e.0), none)),
-        are-of shard es (λ q some. found q (λ none. by_answer (eq q e.0)
-          (λ t. cc (cond-true (eq q e.0) (Some e.1) (lookup (eq q) es) t, none))
-          (λ f. some (sym (cond-false (eq q e.0) (Some e.1) (lookup (eq q) es) f) ∙ none)))),
-      )
+  are-of shard (e ∷ es) found = (
+    found e.0 (λ none. cc (cond-true (eq e.0 e.0) (Some e.1) (lookup (eq e.0) es) (laws.refl e.0), none)),
+    are-of shard es (λ q some. found q (λ none. by_answer (eq q e.0)
+        (λ t. cc (cond-true (eq q e.0) (Some e.1) (lookup (eq q) es) t, none))
+        (λ f. some (sym (cond-false (eq q e.0) (Some e.1) (lookup (eq q) es) f) ∙ none)))),
+  )
 
   pub are-of-set : (shard : ℕ) (old new : List (K × C)) (key : K) (w : Option C) → number key % count ≡ shard → AreOf number count shard old → Sets eq key w old new → AreOf number count shard new
   are-of-set shard old new key w at of sets =
       are-of shard new (λ q some. by_answer (eq key q)
-        (λ t. ap (λ n. n % count) (sym (same key q t)) ∙ at)
-        (λ f. by_place (number q % count) shard (λ e. e)
-          (λ apart. absurd (some (sets q ∙ (cond-false (eq key q) w (lookup (eq q) old) f ∙ none-elsewhere shard old q apart of))))))
+      (λ t. ap (λ n. n % count) (sym (same key q t)) ∙ at)
+      (λ f. by_place (number q % count) shard (λ e. e)
+      (λ apart. absurd (some (sets q ∙ (cond-false (eq key q) w (lookup (eq q) old) f ∙ none-elsewhere shard old q apart of))))))
 
 module _ {K C S : Type 0} {eq : K → K → Bool} (laws : IsEquivalence eq) (number : K → ℕ) (same : (x y : K) → eq x y ≡ true → number x ≡ number y) (count : ℕ) where
   pub none-later : (shard : ℕ) (ms : List (HashMap K C S)) (q : K) → number q % count < shard → ArePlaced eq number count shard ms → lookup (eq q) (all_of ms) ≡ None
@@ -113,16 +112,16 @@ module _ {K C S : Type 0} {eq : K → K → Bool} (laws : IsEquivalence eq) (num
       let placed' = placed-set 0 i ms n placed (let P : ℕ → Type 0 = λ k. AreOf number count k n.entries in subst P (omega arith) of') distinct in
       let same_length : length (set ms i n) ≡ length ms = length-set ms i n in (
         (λ q. by_place (number q % count) i
-          (λ here.
-              lookup-placed 0 i (set ms i n) n q placed' (omega (arith, small, same_length)) (sym (get_or-set_same ms i n n small)) (omega (arith, here))
-              ∙ (sets q ∙ ap (λ l. cond (eq key q) w l) (sym (lookup-placed 0 i ms m q placed small is (omega (arith, here))))))
-          (λ apart.
-              let other : eq key q ≡ false = by_answer (eq key q) (λ t. absurd (apart (ap (λ k. k % count) (sym (same key q t)) ∙ at))) (λ f. f) in
-              let j = number q % count in
-              let within : j < length ms = subst (λ k. j < k) count_is (mod-lt (number q) (omega (arith, small, count_is))) in
-              let x = get_or ms j m in
-              lookup-placed 0 j (set ms i n) x q placed' (omega (arith, within, same_length)) (sym (get_or-set_other ms i j n x apart ∙ get_or_default ms j x m within)) (omega arith)
-              ∙ (sym (lookup-placed 0 j ms x q placed within (get_or_default ms j m x within) (omega arith)) ∙ sym (cond-false (eq key q) w (lookup (eq q) (all_of ms)) other)))),
+            (λ here.
+            lookup-placed 0 i (set ms i n) n q placed' (omega (arith, small, same_length)) (sym (get_or-set_same ms i n n small)) (omega (arith, here))
+            ∙ (sets q ∙ ap (λ l. cond (eq key q) w l) (sym (lookup-placed 0 i ms m q placed small is (omega (arith, here))))))
+            (λ apart.
+            let other : eq key q ≡ false = by_answer (eq key q) (λ t. absurd (apart (ap (λ k. k % count) (sym (same key q t)) ∙ at))) (λ f. f) in
+            let j = number q % count in
+            let within : j < length ms = subst (λ k. j < k) count_is (mod-lt (number q) (omega (arith, small, count_is))) in
+            let x = get_or ms j m in
+            lookup-placed 0 j (set ms i n) x q placed' (omega (arith, within, same_length)) (sym (get_or-set_other ms i j n x apart ∙ get_or_default ms j x m within)) (omega arith)
+            ∙ (sym (lookup-placed 0 j ms x q placed within (get_or_default ms j m x within) (omega arith)) ∙ sym (cond-false (eq key q) w (lookup (eq q) (all_of ms)) other)))),
         placed',
       )
 

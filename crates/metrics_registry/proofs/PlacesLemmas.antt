@@ -1,5 +1,6 @@
 -- Where entries stand, and what stays there.
-use Rattle.std.proofs.Common.{◌≡◌, ℕ, zero, suc, ◌<◌, ◌≤◌, ◌%◌, Bool, true, false, cond, List, [], ◌∷◌, ◌++◌, Option, None, Some, is_some, Result, Ok, Err, OnOk, MatchOption, IfSome, IsSomeAnd, refl, sym, ◌∙◌, ap, subst, length, get_or, set, slice_get, map, arith}
+use Rattle.std.proofs.Common.{◌≡◌, ℕ, zero, suc, ◌<◌, ◌≤◌, ◌%◌, Bool, true, false, cond, List, [], ◌∷◌, ◌++◌, Option, None, Some, is_some, Result, Ok, Err, OnOk, MatchOption, IfSome, IsSomeAnd, refl, sym, ◌∙◌, ap, subst, length, get_or, set, slice_get, arith}
+use Rattle.std.proofs.lemmas.List.{length-set}
 use Rattle.std.specs.Cmp.{IsEquivalence}
 use Rattle.std.specs.List.{IsDistinct}
 use Rattle.std.specs.Map.{keys_of, values_of, lookup}
@@ -12,9 +13,9 @@ use Rattle.metrics.specs.Targets.{change_at}
 use Rattle.indexmap.specs.IndexMap.{set_value_at}
 use Rattle.indexmap.proofs.CallerLemmas.{updates-with_value_at}
 use Rattle.metrics_registry.specs.declared.registry.place.CellPlace.{CellPlace}
-use Rattle.metrics_registry.specs.Held.{held, Sets, AreOf, ArePlaced, shards_of, entries_of}
+use Rattle.metrics_registry.specs.Held.{held, Sets, AreOf, ArePlaced, shards_of}
 use Rattle.metrics_registry.specs.Places.{entry_at, KeepsKeys, KeepsPlaces, ChangesIndex, ChangesPlace}
-use Rattle.metrics_registry.proofs.HeldLemmas.{by_place, placed-at, placed-same, sets-shard, shards-same}
+use Rattle.metrics_registry.proofs.HeldLemmas.{shards-length, by_place, placed-at, placed-same, sets-shard, shards-same}
 
 -- ---- one list
 
@@ -74,20 +75,26 @@ distinct-at eq number count shard i [] m placed small is = absurd (omega (arith,
 distinct-at {K} {C} {S} eq number count shard zero (x ∷ ms) m placed small is = subst (λ (n : HashMap K C S). IsDistinct eq (keys_of n.entries)) (sym is) placed.1
 distinct-at eq number count shard (suc i) (x ∷ ms) m placed small is = distinct-at eq number count (suc shard) i ms m placed.2 (omega (arith, small)) is
 
+pub set-length : {K C S : Type 0} (ms : List (HashMap K C S)) (shards : List (List (K × C))) (i : ℕ) (n : HashMap K C S) → shards_of ms ≡ shards → length (shards_of (set ms i n)) ≡ length shards
+set-length ms shards i n view = sym (shards-length (set ms i n) (shards_of (set ms i n)) refl) ∙ (length-set ms i n ∙ shards-length ms shards view)
+
 -- what stays in one shard stays in all
 pub keeps-shard : {K C S : Type 0} (ms : List (HashMap K C S)) (shards : List (List (K × C))) (i : ℕ) (m n : HashMap K C S) → shards_of ms ≡ shards → i < length ms → m ≡ get_or ms i m → KeepsKeys m.entries n.entries → KeepsPlaces shards (shards_of (set ms i n))
-keeps-shard {K} {C} {S} ms shards i m n view small is keeps =
-    subst (λ (old : List (List (K × C))). KeepsPlaces old (shards_of (set ms i n))) view (λ p.
+keeps-shard {K} {C} {S} ms shards i m n view small is keeps = record {
+  shards = set-length ms shards i n view;
+  keys = λ p.
       let Keeps : Option (K × C) → Option (K × C) → Type 0 = λ o r. IfSome o (λ e. IsSomeAnd r (λ f. f.0 ≡ e.0)) in
       let Get : Option (List (K × C)) → Option (K × C) = λ o. option_and_then (λ es. slice_get es p.index) o in
+      let seen : entry_at p (shards_of ms) ≡ entry_at p shards = ap (entry_at p) view in
       by_place i p.shard
-        (λ here.
-          let old : entry_at p (shards_of ms) ≡ slice_get m.entries p.index = ap (λ j. Get (slice_get (shards_of ms) j)) (sym here) ∙ ap Get (shard-at ms i m small is) in
-          let new : entry_at p (shards_of (set ms i n)) ≡ slice_get n.entries p.index = ap (λ j. Get (slice_get (shards_of (set ms i n)) j)) (sym here) ∙ ap Get (here-at ms i n small) in
-          subst (λ o. Keeps o (entry_at p (shards_of (set ms i n)))) (sym old) (subst (Keeps (slice_get m.entries p.index)) (sym new) (keeps p.index)))
-        (λ apart.
-          let new : entry_at p (shards_of (set ms i n)) ≡ entry_at p (shards_of ms) = ap Get (other-at ms i p.shard n apart) in
-          subst (Keeps (entry_at p (shards_of ms))) (sym new) (same-keeps (entry_at p (shards_of ms)))))
+      (λ here.
+      let old : entry_at p (shards_of ms) ≡ slice_get m.entries p.index = ap (λ j. Get (slice_get (shards_of ms) j)) (sym here) ∙ ap Get (shard-at ms i m small is) in
+      let new : entry_at p (shards_of (set ms i n)) ≡ slice_get n.entries p.index = ap (λ j. Get (slice_get (shards_of (set ms i n)) j)) (sym here) ∙ ap Get (here-at ms i n small) in
+      subst (λ o. Keeps o (entry_at p (shards_of (set ms i n)))) (sym old ∙ seen) (subst (Keeps (slice_get m.entries p.index)) (sym new) (keeps p.index)))
+      (λ apart.
+      let new : entry_at p (shards_of (set ms i n)) ≡ entry_at p shards = ap Get (other-at ms i p.shard n apart) ∙ seen in
+      subst (Keeps (entry_at p shards)) (sym new) (same-keeps (entry_at p shards)));
+}
 
 -- the entry at a place of a shard
 pub entry-shard : {K C S : Type 0} (ms : List (HashMap K C S)) (shards : List (List (K × C))) (p : CellPlace) (m : HashMap K C S) → shards_of ms ≡ shards → p.shard < length ms → m ≡ get_or ms p.shard m → entry_at p shards ≡ slice_get m.entries p.index
@@ -109,25 +116,26 @@ module _ {K C S : Type 0} {eq : K → K → Bool} (laws : IsEquivalence eq) (num
       let at = of-at number count p.shard m.entries p.index (c.key, c.before) of c.stood in
       let unique = distinct-at eq number count 0 p.shard ms m placed small is in
       let sets : Sets eq c.key (Some c.after) m.entries n.entries = λ q.
-          ap (λ es. held eq es q) c.changed ∙ (updates-with_value_at m p.index c.after laws unique c.key c.before c.stood).0 q in
-      let all = sets-shard laws number same count p.shard ms shards m n c.key placed view count_is small is at (Some c.after) sets distinct in
-      (all.0, record {
-        key = c.key;
-        before = c.before;
-        after = c.after;
-        stood = entry-shard ms shards p m view small is ∙ c.stood;
-        called = c.called;
-        changed = set-change (λ es. set_value_at es p.index c.after) ms p.shard m n is c.changed ∙ ap (change_at p.shard (λ es. set_value_at es p.index c.after)) view;
-        sets = all.1;
-      })
+      ap (λ es. held eq es q) c.changed ∙ (updates-with_value_at m p.index c.after laws unique c.key c.before c.stood).0 q in
+      let all = sets-shard laws number same count p.shard ms shards m n c.key placed view count_is small is at (Some c.after) sets distinct in (
+        all.0,
+        record {
+          key = c.key;
+          before = c.before;
+          after = c.after;
+          stood = entry-shard ms shards p m view small is ∙ c.stood;
+          called = c.called;
+          changed = set-change (λ es. set_value_at es p.index c.after) ms p.shard m n is c.changed ∙ ap (change_at p.shard (λ es. set_value_at es p.index c.after)) view;
+          sets = all.1;
+        },
+      )
 
   pub changed-place : {V : Type 0} (r : Option V) (call : C → V → C → Type 0) → MatchOption r ((slice_get m.entries p.index ≡ None) × (n.entries ≡ m.entries)) (λ v. ChangesIndex call p.index v m.entries n.entries)
       → ArePlaced eq number count 0 (set ms p.shard n) × MatchOption r ((entry_at p shards ≡ None) × (shards_of (set ms p.shard n) ≡ shards)) (λ v. ChangesPlace eq call p v shards (shards_of (set ms p.shard n)))
-  changed-place None call c =
-      (
-        placed-same eq number count 0 ms p.shard m n is c.1 placed,
-        (entry-shard ms shards p m view small is ∙ c.0, shards-same ms p.shard m n is c.1 ∙ view),
-      )
+  changed-place None call c = (
+    placed-same eq number count 0 ms p.shard m n is c.1 placed,
+    (entry-shard ms shards p m view small is ∙ c.0, shards-same ms p.shard m n is c.1 ∙ view),
+  )
   changed-place (Some v) call c = changed-index call v c
 
 pub keeps-ok : {K C S V E : Type 0} (ms : List (HashMap K C S)) (shards : List (List (K × C))) (i : ℕ) (m n : HashMap K C S) (r : Result V E) → shards_of ms ≡ shards → i < length ms → m ≡ get_or ms i m → OnOk r (KeepsKeys m.entries n.entries) → OnOk r (KeepsPlaces shards (shards_of (set ms i n)))

@@ -1,6 +1,6 @@
 -- Entries that are kept move to the front, in their order.
-use Rattle.std.proofs.Common.{◌≡◌, ℕ, zero, suc, ◌+◌, ◌<◌, ◌≤◌, Bool, true, false, cond, List, [], ◌∷◌, ◌++◌, Some, refl, sym, ◌∙◌, ap, subst, length, get_or, set, take, swap, slice_get, arith}
-use Rattle.std.proofs.lemmas.List.{take_more, take_all, take-set-le, get_or-set_same, get_or-set_other, get_or_default, length-set}
+use Rattle.std.proofs.Common.{◌≡◌, ℕ, ◌+◌, ◌<◌, ◌≤◌, Bool, true, false, cond, List, [], ◌∷◌, ◌++◌, Some, refl, sym, ◌∙◌, ap, subst, length, get_or, set, take, swap, slice_get, arith}
+use Rattle.std.proofs.lemmas.List.{take_more, take-set-le, get_or-set_same, get_or-set_other, get_or_default, length-set}
 use Rattle.std.proofs.lemmas.Option.{get_or_from_slice_get, slice_get_cases}
 use Rattle.std.specs.Cmp.{IsEquivalence}
 use Rattle.std.specs.List.{IsDistinct}
@@ -21,11 +21,11 @@ retains-push {F} {X} call f (y ∷ xs) ks g h x b was calls =
     let rest = was.2 in
     (was.0, was.1, cond b (rest ++ x ∷ []) rest, was.3, retains-push call was.1 xs rest g h x b was.4 calls, ap (λ (l : List X). cond b (l ++ x ∷ []) l) was.5 ∙ swapped b was.0 y x rest)
   where
-  swapped : (b c : Bool) (y x : X) (rest : List X) → cond b (cond c (y ∷ rest) rest ++ x ∷ []) (cond c (y ∷ rest) rest) ≡ cond c (y ∷ cond b (rest ++ x ∷ []) rest) (cond b (rest ++ x ∷ []) rest)
-  swapped true true y x rest = refl
-  swapped true false y x rest = refl
-  swapped false true y x rest = refl
-  swapped false false y x rest = refl
+    swapped : (b c : Bool) (y x : X) (rest : List X) → cond b (cond c (y ∷ rest) rest ++ x ∷ []) (cond c (y ∷ rest) rest) ≡ cond c (y ∷ cond b (rest ++ x ∷ []) rest) (cond b (rest ++ x ∷ []) rest)
+    swapped true true y x rest = refl
+    swapped true false y x rest = refl
+    swapped false true y x rest = refl
+    swapped false false y x rest = refl
 
 pub get_or-slice_get : {X : Type 0} (xs : List X) (i : ℕ) (x d : X) → slice_get xs i ≡ Some x → (i < length xs) × (get_or xs i d ≡ x)
 get_or-slice_get xs i x d is = (grind (arith, is, slice_get_cases xs i), get_or_from_slice_get xs i x d is)
@@ -56,12 +56,12 @@ keeps {F} {X} call f g h xs ys zs kept i x le long same was at calls is =
       λ k d more. ap (λ l. get_or l k d) e ∙ (get_or-set_other (set ys kept x) i k (get_or ys kept x) d (λ q. omega (arith, q, more)) ∙ (get_or-set_other ys kept k x d (λ q. omega (arith, q, more, le)) ∙ same k d (omega (arith, more)))),
     )
   where
-  moved : (ys : List X) (kept i : ℕ) (x : X) → (i < length ys) × (get_or ys i x ≡ x) → kept < length ys → get_or (set (set ys kept x) i (get_or ys kept x)) kept x ≡ x
-  moved ys kept i x here small =
-      by_place kept i
+    moved : (ys : List X) (kept i : ℕ) (x : X) → (i < length ys) × (get_or ys i x ≡ x) → kept < length ys → get_or (set (set ys kept x) i (get_or ys kept x)) kept x ≡ x
+    moved ys kept i x here small =
+        by_place kept i
         (λ e.
-          let P : ℕ → Type 0 = λ k. get_or (set (set ys k x) i (get_or ys k x)) k x ≡ x in
-          subst P (sym e) (get_or-set_same (set ys i x) i (get_or ys i x) x (omega (arith, here.0, length-set ys i x)) ∙ here.1))
+        let P : ℕ → Type 0 = λ k. get_or (set (set ys k x) i (get_or ys k x)) k x ≡ x in
+        subst P (sym e) (get_or-set_same (set ys i x) i (get_or ys i x) x (omega (arith, here.0, length-set ys i x)) ∙ here.1))
         (λ apart. get_or-set_other (set ys kept x) i kept (get_or ys kept x) x apart ∙ get_or-set_same ys kept x x small)
 
 -- an item that isn't kept stays behind
@@ -84,9 +84,9 @@ retains-append {F} {X} call f g h [] ys ks ls first second =
 retains-append {F} {X} call f g h (x ∷ xs) ys ks ls first second =
     (first.0, first.1, first.2 ++ ls, first.3, retains-append call first.1 g h xs ys first.2 ls first.4 second, ap (λ l. l ++ ls) first.5 ∙ moved first.0 x first.2 ls)
   where
-  moved : (b : Bool) (x : X) (rest ls : List X) → cond b (x ∷ rest) rest ++ ls ≡ cond b (x ∷ rest ++ ls) (rest ++ ls)
-  moved true x rest ls = refl
-  moved false x rest ls = refl
+    moved : (b : Bool) (x : X) (rest ls : List X) → cond b (x ∷ rest) rest ++ ls ≡ cond b (x ∷ rest ++ ls) (rest ++ ls)
+    moved true x rest ls = refl
+    moved false x rest ls = refl
 
 pub of-retained : {F K C : Type 0} (call : F → K × C → Bool → F → Type 0) (number : K → ℕ) (count shard : ℕ) (f g : F) (xs ks : List (K × C)) → AreOf number count shard xs → Retains call f xs ks g → AreOf number count shard ks
 of-retained {F} {K} {C} call number count shard f g [] ks of was = let P : List (K × C) → Type 0 = λ l. AreOf number count shard l in subst P (sym was.0) tt
@@ -94,9 +94,9 @@ of-retained {F} {K} {C} call number count shard f g (x ∷ xs) ks of was =
     let P : List (K × C) → Type 0 = λ l. AreOf number count shard l in
     subst P (sym was.5) (one was.0 (of-retained call number count shard was.1 g xs was.2 of.1 was.4))
   where
-  one : (b : Bool) → AreOf number count shard was.2 → AreOf number count shard (cond b (x ∷ was.2) was.2)
-  one true rest = (of.0, rest)
-  one false rest = rest
+    one : (b : Bool) → AreOf number count shard was.2 → AreOf number count shard (cond b (x ∷ was.2) was.2)
+    one true rest = (of.0, rest)
+    one false rest = rest
 
 -- one more shard keeps those of its entries that calls answered true at
 pub shard-retained : {F K C S : Type 0} (call : F → K × C → Bool → F → Type 0) {eq : K → K → Bool} (laws : IsEquivalence eq) (number : K → ℕ) (alike : (x y : K) → eq x y ≡ true → number x ≡ number y) (count i : ℕ) (f g h : F) (ms ns : List (HashMap K C S)) (m n : HashMap K C S)
@@ -108,7 +108,7 @@ shard-retained {F} {K} {C} {S} call {eq} laws number alike count i f g h ms ns m
     let of = of-retained call number count (0 + i) g h m.entries n.entries (placed-at laws number alike count 0 i ns m placed small is) now in
     let old : all_of (take (i + 1) ms) ≡ all_of (take i ms) ++ m.entries = entries-more ms i m (omega (arith, small, long)) (is ∙ same i m (omega arith)) in
     let new : all_of (take (i + 1) (set ns i n)) ≡ all_of (take i ns) ++ n.entries =
-        entries-more (set ns i n) i n (omega (arith, small, length-set ns i n)) (sym (get_or-set_same ns i n n small)) ∙ ap (λ l. all_of l ++ n.entries) (take-set-le i ns i n (omega arith)) in
+    entries-more (set ns i n) i n (omega (arith, small, length-set ns i n)) (sym (get_or-set_same ns i n n small)) ∙ ap (λ l. all_of l ++ n.entries) (take-set-le i ns i n (omega arith)) in
     let P : List (K × C) → List (K × C) → Type 0 = λ l k. Retains call f l k h in (
       placed-set laws number alike count 0 i ns n placed of distinct,
       subst (λ l. P l (all_of (take (i + 1) (set ns i n)))) (sym old) (subst (P (all_of (take i ms) ++ m.entries)) (sym new) (retains-append call f g h (all_of (take i ms)) m.entries (all_of (take i ns)) n.entries was now)),

@@ -1,5 +1,5 @@
 -- A finite map from keys to cells, as the list of its entries, and how it lies in shards.
-use Rattle.std.specs.Prelude.{◌≡◌, ℕ, suc, ◌+◌, ◌%◌, Bool, ◌&&◌, nat_le, true, false, cond, List, [], ◌∷◌, ◌++◌, map, Option, None, Some, MatchOption, IsSomeAnd}
+use Rattle.std.specs.Prelude.{◌≡◌, ℕ, suc, ◌%◌, Bool, ◌&&◌, nat_le, true, false, cond, List, [], ◌∷◌, ◌++◌, map, Option, None, Some, MatchOption, IsSomeAnd}
 use Rattle.std.specs.List.{AllByRecursion, IsDistinct}
 use Rattle.std.specs.Map.{lookup, keys_of, update}
 use Rattle.std.specs.HashMap.{HashMap}

@@ -15,9 +15,10 @@ module _ {K C : Type 0} where
   abbrev pub KeepsKeys : List (K × C) → List (K × C) → Type 0
   KeepsKeys old new = (i : ℕ) → IfSome (slice_get old i) (λ e. IsSomeAnd (slice_get new i) (λ f. f.0 ≡ e.0))
 
-  -- the same of places
-  abbrev pub KeepsPlaces : List (List (K × C)) → List (List (K × C)) → Type 0
-  KeepsPlaces old new = (p : CellPlace) → IfSome (entry_at p old) (λ e. IsSomeAnd (entry_at p new) (λ f. f.0 ≡ e.0))
+  -- there are as many shards, and each place that has a key has that key still
+  pub record KeepsPlaces (old new : List (List (K × C))) : Type 0 where
+    pub shards : length new ≡ length old
+    pub keys : (p : CellPlace) → IfSome (entry_at p old) (λ e. IsSomeAnd (entry_at p new) (λ f. f.0 ≡ e.0))
 
   -- the place of a key: in its own shard, and a key that equals it stands there
   pub record IsPlaceOf (eq : K → K → Bool) (number : K → ℕ) (key : K) (shards : List (List (K × C))) (p : CellPlace) : Type 0 where

@@ -18,18 +18,17 @@ mod recency;
 mod shards;
 mod storage;
 
+use crate::common::Hashable;
 pub use generation::{Counted, Generation};
+use metrics::Error;
 pub use place::CellPlace;
 pub use plain::PlainStorage;
 pub use recency::OwnedRecency;
-pub use storage::Storage;
-
-use crate::common::Hashable;
-use metrics::Error;
 use shards::Shards;
 use std::alloc::Global;
 use std::collections::HashMap;
 use std::marker::Model;
+pub use storage::Storage;
 
 /// A registry that has one owner: for each kind of metric a map from keys to cells.
 ///
@@ -168,6 +167,7 @@ where
         requires { F.IsAlwaysCallable f }
         ensures retains { (last : F) × Retains (λ p e b q. CallsAtEntry F.FnMut p e b q) f (entries_of self.old.counters) (entries_of self.new.counters) last }
         ensures once { IsDistinct K.eq (keys_of (entries_of self.old.counters)) }
+        ensures shards { length self.new.counters ≡ length self.old.counters }
         ensures rest { (self.new.storage ≡ self.old.storage) × (self.new.gauges ≡ self.old.gauges) × (self.new.histograms ≡ self.old.histograms) }
     {
         self.counters.retain(f)
@@ -178,6 +178,7 @@ where
         ensures removed { Sets K.eq key.now None (entries_of self.old.counters) (entries_of self.new.counters) }
         ensures answer { result ≡ is_some (held K.eq (entries_of self.old.counters) key.now) }
         ensures absent { result ≡ false → self.new ≡ self.old }
+        ensures shards { length self.new.counters ≡ length self.old.counters }
         ensures rest { (self.new.storage ≡ self.old.storage) × (self.new.gauges ≡ self.old.gauges) × (self.new.histograms ≡ self.old.histograms) }
     {
         self.counters.remove(key)
@@ -265,6 +266,7 @@ where
         requires { F.IsAlwaysCallable f }
         ensures retains { (last : F) × Retains (λ p e b q. CallsAtEntry F.FnMut p e b q) f (entries_of self.old.gauges) (entries_of self.new.gauges) last }
         ensures once { IsDistinct K.eq (keys_of (entries_of self.old.gauges)) }
+        ensures shards { length self.new.gauges ≡ length self.old.gauges }
         ensures rest { (self.new.storage ≡ self.old.storage) × (self.new.counters ≡ self.old.counters) × (self.new.histograms ≡ self.old.histograms) }
     {
         self.gauges.retain(f)
@@ -275,6 +277,7 @@ where
         ensures removed { Sets K.eq key.now None (entries_of self.old.gauges) (entries_of self.new.gauges) }
         ensures answer { result ≡ is_some (held K.eq (entries_of self.old.gauges) key.now) }
         ensures absent { result ≡ false → self.new ≡ self.old }
+        ensures shards { length self.new.gauges ≡ length self.old.gauges }
         ensures rest { (self.new.storage ≡ self.old.storage) × (self.new.counters ≡ self.old.counters) × (self.new.histograms ≡ self.old.histograms) }
     {
         self.gauges.remove(key)
@@ -362,6 +365,7 @@ where
         requires { F.IsAlwaysCallable f }
         ensures retains { (last : F) × Retains (λ p e b q. CallsAtEntry F.FnMut p e b q) f (entries_of self.old.histograms) (entries_of self.new.histograms) last }
         ensures once { IsDistinct K.eq (keys_of (entries_of self.old.histograms)) }
+        ensures shards { length self.new.histograms ≡ length self.old.histograms }
         ensures rest { (self.new.storage ≡ self.old.storage) × (self.new.counters ≡ self.old.counters) × (self.new.gauges ≡ self.old.gauges) }
     {
         self.histograms.retain(f)
@@ -372,6 +376,7 @@ where
         ensures removed { Sets K.eq key.now None (entries_of self.old.histograms) (entries_of self.new.histograms) }
         ensures answer { result ≡ is_some (held K.eq (entries_of self.old.histograms) key.now) }
         ensures absent { result ≡ false → self.new ≡ self.old }
+        ensures shards { length self.new.histograms ≡ length self.old.histograms }
         ensures rest { (self.new.storage ≡ self.old.storage) × (self.new.counters ≡ self.old.counters) × (self.new.gauges ≡ self.old.gauges) }
     {
         self.histograms.remove(key)

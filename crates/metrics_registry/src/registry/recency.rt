@@ -121,7 +121,13 @@ impl<K: Hashable + Clone + Drop> OwnedRecency<K> {
             generation,
             moment: now,
         };
-        check(&mut self.noted.counter, timeout, key, seen, &mut registry.counters)
+        check(
+            &mut self.noted.counter,
+            timeout,
+            key,
+            seen,
+            &mut registry.counters,
+        )
     }
 
     /// Whether a gauge that has this generation at this moment is still in use. One that isn't is removed from the registry.
@@ -154,7 +160,13 @@ impl<K: Hashable + Clone + Drop> OwnedRecency<K> {
             generation,
             moment: now,
         };
-        check(&mut self.noted.gauge, timeout, key, seen, &mut registry.gauges)
+        check(
+            &mut self.noted.gauge,
+            timeout,
+            key,
+            seen,
+            &mut registry.gauges,
+        )
     }
 
     /// Whether a histogram that has this generation at this moment is still in use. One that isn't is removed from the registry.
@@ -187,6 +199,12 @@ impl<K: Hashable + Clone + Drop> OwnedRecency<K> {
             generation,
             moment: now,
         };
-        check(&mut self.noted.histogram, timeout, key, seen, &mut registry.histograms)
+        check(
+            &mut self.noted.histogram,
+            timeout,
+            key,
+            seen,
+            &mut registry.histograms,
+        )
     }
 }

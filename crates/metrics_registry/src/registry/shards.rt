@@ -313,6 +313,7 @@ impl<K: Hashable + Drop, C: Drop> Shards<K, C> {
         requires { F.IsAlwaysCallable f }
         ensures retains { (last : F) × Retains (λ p e b q. CallsAtEntry F.FnMut p e b q) f (entries_of self.old) (entries_of self.new) last }
         ensures once { IsDistinct K.eq (keys_of (entries_of self.old)) }
+        ensures shards { length self.new ≡ length self.old }
     {
         let mut f = f;
         for i in 0..self.maps.len() {
@@ -325,6 +326,7 @@ impl<K: Hashable + Drop, C: Drop> Shards<K, C> {
         ensures removed { Sets K.eq key.now None (entries_of self.old) (entries_of self.new) }
         ensures answer { result ≡ is_some (held K.eq (entries_of self.old) key.now) }
         ensures absent { result ≡ false → self.new ≡ self.old }
+        ensures shards { length self.new ≡ length self.old }
     {
         let shard = shard_of(key, self.maps.len());
         remove(&mut self.maps[shard], key)

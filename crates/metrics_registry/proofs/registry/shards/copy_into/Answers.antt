@@ -1,6 +1,6 @@
-use Rattle.std.proofs.Common.{rules, ◌≡◌, ◌∙◌, sym, ap, subst, List, [], ◌∷◌, ◌++◌, map}
+use Rattle.std.proofs.Common.{◌≡◌, ◌∙◌, sym, ap, subst, List, [], ◌∷◌, ◌++◌, map}
 use Rattle.std.proofs.lemmas.List.{map-append, append_assoc}
-use Rattle.std.proofs.lemmas.Map.Iter.{rest_so_far, rest_more, iter_end}
+use Rattle.std.proofs.lemmas.Map.Iter.{rest_so_far, rest_more}
 use Rattle.std.specs.HashMap.{get}
 use Rattle.std.specs.List.{IsDistinct}
 use Rattle.std.specs.Map.{keys_of}
@@ -22,4 +22,4 @@ loop-key-preserved g c =
     let distinct = distinct-front eq (es ++ e ∷ []) c.next.new.self (subst D whole gives.4) in
     let P : List (g.row.K.Denot × g.row.C.Denot) → Type 0 = λ l. Copies eq g.C.Clone.is_clone l (get eq c.args.handles.now) (get eq c.copy_one.new.handles) in
     subst P (sym (map-append deref_pair c.loop-key.yielded ((c.in-Some.key, c.in-Some.cell) ∷ [])))
-      (copies-append g.met.K.Eq.laws g.C.Clone.is_clone es (e ∷ []) (get eq c.args.handles.now) (get eq c.loop-key.handles) (get eq c.copy_one.new.handles) distinct c.loop-key.invariant c.in_ok-copy_one.ensures.ok)
+    (copies-append g.met.K.Eq.laws g.C.Clone.is_clone es (e ∷ []) (get eq c.args.handles.now) (get eq c.loop-key.handles) (get eq c.copy_one.new.handles) distinct c.loop-key.invariant c.in_ok-copy_one.ensures.ok)

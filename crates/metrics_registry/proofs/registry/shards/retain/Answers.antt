@@ -18,16 +18,16 @@ loop-i-preserved g c =
     let call : Call c.f.result = record { key = c.in-Some.key; cell = c.in-Some.cell; shows = (refl, refl); called = c.f.ensures } in
     let always : always_mut g.F.FnMut c.f.new.self = search (rules, of_calls) in
     let Goal : ℕ → List (g.row.K.Denot × g.row.C.Denot) → Type 0 = λ kept zs.
-        (kept ≤ c.loop-i.i + 1) × (length zs ≡ length old) × always_mut g.F.FnMut c.f.new.self
-        × Retains (λ p e b q. CallsAtEntry g.F.FnMut p e b q) c.args.f (take (c.loop-i.i + 1) old) (take kept zs) c.f.new.self
-        × SameFrom (c.loop-i.i + 1) old zs in
+    (kept ≤ c.loop-i.i + 1) × (length zs ≡ length old) × always_mut g.F.FnMut c.f.new.self
+    × Retains (λ p e b q. CallsAtEntry g.F.FnMut p e b q) c.args.f (take (c.loop-i.i + 1) old) (take kept zs) c.f.new.self
+    × SameFrom (c.loop-i.i + 1) old zs in
     elim c.if-f.branch [
-      then-f w ↦
-        let all = keeps (λ p e b q. CallsAtEntry g.F.FnMut p e b q) c.args.f c.loop-i.f c.f.new.self old ys w.swap_indices.new.self.entries c.loop-i.kept c.loop-i.i (c.in-Some.key.now, c.in-Some.cell.now) i.0 i.1 i.4 i.3 at (subst Call w.if-f.true call) w.swap_indices.ensures.entries in
-        rw (w.map-is, w.kept-is) (omega (arith, i.0), all.0, always, all.1, all.2)
-    | else-f w ↦
-        let all = drops (λ p e b q. CallsAtEntry g.F.FnMut p e b q) c.args.f c.loop-i.f c.f.new.self old ys c.loop-i.kept c.loop-i.i (c.in-Some.key.now, c.in-Some.cell.now) i.1 i.4 i.3 at (subst Call w.if-f.false call) in
-        rw (w.map-is, w.kept-is) (omega (arith, i.0), i.1, always, all.0, all.1)
+      | then-f w ↦
+          let all = keeps (λ p e b q. CallsAtEntry g.F.FnMut p e b q) c.args.f c.loop-i.f c.f.new.self old ys w.swap_indices.new.self.entries c.loop-i.kept c.loop-i.i (c.in-Some.key.now, c.in-Some.cell.now) i.0 i.1 i.4 i.3 at (subst Call w.if-f.true call) w.swap_indices.ensures.entries in
+          rw (w.map-is, w.kept-is) (omega (arith, i.0), all.0, always, all.1, all.2)
+      | else-f w ↦
+          let all = drops (λ p e b q. CallsAtEntry g.F.FnMut p e b q) c.args.f c.loop-i.f c.f.new.self old ys c.loop-i.kept c.loop-i.i (c.in-Some.key.now, c.in-Some.cell.now) i.1 i.4 i.3 at (subst Call w.if-f.false call) in
+          rw (w.map-is, w.kept-is) (omega (arith, i.0), i.1, always, all.0, all.1)
     ]
 
 pub returns-clause-retains : goal.returns-clause-retains

@@ -1,4 +1,4 @@
-use Rattle.std.proofs.Common.{rules, arith, ◌≡◌}
+use Rattle.std.proofs.Common.{rules}
 use Rattle.std.specs.Fn.{FnOnceReturnsAtMut}
 use Rattle.metrics_registry.proofs.PlacesLemmas.{changed-place}
 use Rattle.metrics_registry.proofs.registry.shards.Shards.change_at.Goals as goal

@@ -1,7 +1,5 @@
-use Rattle.std.proofs.Common.{rules, arith, ◌≡◌, ◌∙◌, subst, take, length, get_or, set}
-use Rattle.std.proofs.lemmas.List.{take_all}
-use Rattle.std.specs.List.{All}
-use Rattle.metrics_registry.proofs.HeldLemmas.{shards-length, IsBare, shards-all_bare, placed-bare, bare-more, bare-all}
+use Rattle.std.proofs.Common.{rules, ◌≡◌, ◌∙◌, length}
+use Rattle.metrics_registry.proofs.HeldLemmas.{shards-length, shards-all_bare, placed-bare, bare-more, bare-all}
 use Rattle.metrics_registry.proofs.registry.shards.Shards.clear.Goals as goal
 
 pub invariant_of-self : goal.invariant_of-self

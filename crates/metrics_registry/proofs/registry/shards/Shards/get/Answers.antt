@@ -1,4 +1,4 @@
-use Rattle.std.proofs.Common.{rules, ◌≡◌, ◌∙◌, sym}
+use Rattle.std.proofs.Common.{rules, ◌∙◌, sym}
 use Rattle.metrics_registry.proofs.HeldLemmas.{held-shard}
 use Rattle.metrics_registry.proofs.registry.shards.Shards.get.Goals as goal
 

@@ -1,4 +1,4 @@
-use Rattle.std.proofs.Common.{rules, ◌≡◌, ◌∙◌, sym, ap, subst, List, ◌++◌, ◌+◌, take, None, ◌<◌, length}
+use Rattle.std.proofs.Common.{◌∙◌, sym, ap, subst, List, ◌+◌, take, None}
 use Rattle.std.proofs.lemmas.List.{take_all}
 use Rattle.std.specs.HashMap.{get}
 use Rattle.std.specs.List.{IsDistinct}
@@ -19,7 +19,7 @@ loop-map-preserved g c =
     let distinct = subst D more (distinct-placed g.met.K.Eq.laws g.K.Hashable.number g.met.K.Hashable.same c.self.inside.maps.len 0 (take (i + 1) ms) (placed-take eq g.K.Hashable.number c.self.inside.maps.len 0 (i + 1) ms placed)) in
     let P : List (g.row.K.Denot × g.row.C.Denot) → Type 0 = λ l. Copies eq g.C.Clone.is_clone l (λ _. None) (get eq c.copy_into.new.handles) in
     subst P (sym more)
-      (copies-append g.met.K.Eq.laws g.C.Clone.is_clone (all_of (take i ms)) c.map-item.result.entries (λ _. None) (get eq c.loop-map.handles) (get eq c.copy_into.new.handles) distinct c.loop-map.invariant c.in_ok-copy_into.ensures.ok)
+    (copies-append g.met.K.Eq.laws g.C.Clone.is_clone (all_of (take i ms)) c.map-item.result.entries (λ _. None) (get eq c.loop-map.handles) (get eq c.copy_into.new.handles) distinct c.loop-map.invariant c.in_ok-copy_into.ensures.ok)
 
 pub returns-clause-ok : goal.returns-clause-ok
 returns-clause-ok g c =

@@ -1,4 +1,4 @@
-use Rattle.std.proofs.Common.{rules, ◌≡◌, ◌∙◌}
+use Rattle.std.proofs.Common.{rules, ◌∙◌}
 use Rattle.metrics_registry.proofs.HeldLemmas.{held-shard}
 use Rattle.metrics_registry.proofs.registry.shards.Shards.place.Goals as goal
 

@@ -1,6 +1,7 @@
-use Rattle.std.proofs.Common.{rules, ◌≡◌, ◌∙◌, sym, ap, None}
+use Rattle.std.proofs.Common.{rules, ◌∙◌, sym, ap, None}
 use Rattle.std.specs.Option.{is_some}
 use Rattle.metrics_registry.proofs.HeldLemmas.{held-shard, sets-shard, same-shard}
+use Rattle.metrics_registry.proofs.PlacesLemmas.{set-length}
 use Rattle.metrics_registry.proofs.registry.shards.Shards.remove.Goals as goal
 
 pub invariant_of-self : goal.invariant_of-self
@@ -14,3 +15,6 @@ returns-clause-answer g c = c.remove.ensures.answer ∙ ap is_some (sym (held-sh
 
 pub returns-clause-absent : goal.returns-clause-absent
 returns-clause-absent g c = λ none. (same-shard g.met.K.Eq.laws g.K.Hashable.number g.met.K.Hashable.same c.self.inside.maps.len c.shard_of-shard.result c.self.inside.maps.items c.args.self.now c.index_mut.result.now c.remove.new.map c.args.key.now c.self.invariant.1 c.self.view_is (search rules) (search rules) (search rules) (search rules) (c.remove.ensures.absent none)).1
+
+pub returns-clause-shards : goal.returns-clause-shards
+returns-clause-shards g c = set-length c.self.inside.maps.items c.args.self.now c.shard_of-shard.result c.remove.new.map c.self.view_is

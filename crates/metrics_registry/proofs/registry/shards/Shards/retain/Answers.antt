@@ -1,10 +1,10 @@
-use Rattle.std.proofs.Common.{rules, arith, ◌≡◌, ◌∙◌, ap, sym, refl, subst, List, take, of_calls}
+use Rattle.std.proofs.Common.{rules, ◌≡◌, ◌∙◌, ap, sym, refl, subst, List, length, take, of_calls}
 use Rattle.std.proofs.lemmas.List.{take_all}
 use Rattle.std.specs.List.{IsDistinct}
 use Rattle.std.specs.Map.{keys_of}
 use denote.Param.Always.{always_mut}
 use Rattle.metrics_registry.specs.Held.{CallsAtEntry, Retains, entries_of, shards_of}
-use Rattle.metrics_registry.proofs.HeldLemmas.{all_of, all-seen, all-shards, distinct-placed}
+use Rattle.metrics_registry.proofs.HeldLemmas.{all_of, shards-length, all-seen, all-shards, distinct-placed}
 use Rattle.metrics_registry.proofs.RetainLemmas.{shard-retained}
 use Rattle.metrics_registry.proofs.registry.shards.Shards.retain.Goals as goal
 
@@ -18,7 +18,7 @@ loop-i-preserved g c =
     let i = c.loop-i.invariant in
     let always : always_mut g.F.FnMut c.retain-f.result = search (rules, of_calls) in
     let all = shard-retained (λ p e b q. CallsAtEntry g.F.FnMut p e b q) g.met.K.Eq.laws g.K.Hashable.number g.met.K.Hashable.same c.self.inside.maps.len c.loop-i.i c.args.f c.loop-i.f c.retain-f.result c.self.inside.maps.items c.loop-i.self-inside.maps.items c.index_mut.result.now c.retain-f.new.map
-        (search rules) (search rules) i.4 i.2 i.3 (search rules) c.retain-f.ensures.retains c.retain-f.ensures.unique in
+    (search rules) (search rules) i.4 i.2 i.3 (search rules) c.retain-f.ensures.retains c.retain-f.ensures.unique in
     (i.0, always, all.0, all.1, all.2)
 
 pub returns-clause-retains : goal.returns-clause-retains
@@ -28,10 +28,15 @@ returns-clause-retains g c =
     let ns = c.loop-i.self-inside.maps.items in (
       c.loop-i.f,
       subst (λ es. P es (entries_of (shards_of ns))) (ap all_of (take_all c.loop-i.i ms (search rules)) ∙ all-seen ms c.args.self.now c.self.view_is)
-        (subst (P (all_of (take c.loop-i.i ms))) (ap all_of (take_all c.loop-i.i ns (search rules)) ∙ all-shards ns) c.loop-i.invariant.3),
+          (subst (P (all_of (take c.loop-i.i ms))) (ap all_of (take_all c.loop-i.i ns (search rules)) ∙ all-shards ns) c.loop-i.invariant.3),
     )
 
 pub returns-clause-once : goal.returns-clause-once
 returns-clause-once g c =
     let P : List (g.row.K.Denot × g.row.C.Denot) → Type 0 = λ es. IsDistinct g.K.PartialEq.eq (keys_of es) in
     subst P (all-seen _ _ c.self.view_is) (distinct-placed g.met.K.Eq.laws g.K.Hashable.number g.met.K.Hashable.same c.self.inside.maps.len 0 c.self.inside.maps.items c.self.invariant.1)
+
+pub returns-clause-shards : goal.returns-clause-shards
+returns-clause-shards g c =
+    let kept : length c.loop-i.self-inside.maps.items ≡ length c.self.inside.maps.items = search rules in
+    sym (shards-length c.loop-i.self-inside.maps.items (shards_of c.loop-i.self-inside.maps.items) refl) ∙ (kept ∙ shards-length c.self.inside.maps.items c.args.self.now c.self.view_is)

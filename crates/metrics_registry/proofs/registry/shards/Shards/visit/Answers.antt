@@ -1,4 +1,4 @@
-use Rattle.std.proofs.Common.{rules, arith, ◌≡◌, ◌∙◌, ap, sym, subst, List, length, of_calls, refl}
+use Rattle.std.proofs.Common.{rules, ◌∙◌, ap, sym, subst, List, of_calls, refl}
 use Rattle.std.proofs.lemmas.List.{take_all}
 use Rattle.std.specs.List.{FoldsTo, IsDistinct}
 use Rattle.std.specs.Map.{keys_of}
@@ -15,7 +15,7 @@ loop-map-preserved g c =
     (search (rules, of_calls), subst P (sym (entries-more c.deref-map-items.result.now c.loop-map.map-index c.map-item.result c.loop-map-test.true c.map-item.is)) (FoldsTo-append _ c.args.f _ _ c.loop-map.f c.visit-f.result c.loop-map.invariant.1 c.visit-f.ensures.calls))
 
 pub returns-clause-calls : goal.returns-clause-calls
-returns-clause-calls g c = 
+returns-clause-calls g c =
     let P : List (g.row.K.Denot × g.row.C.Denot) → Type 0 = λ es. FoldsTo (λ p e q. CallsAtEntry g.F.FnMut p e tt q) c.args.f es c.loop-map.f in
     (c.loop-map.f, subst P (ap all_of (take_all c.loop-map.map-index c.deref-map-items.result.now c.loop-map-test.false ∙ c.deref-map-items.ensures.value) ∙ all-seen _ _ c.self.view_is) c.loop-map.invariant.1)
 
