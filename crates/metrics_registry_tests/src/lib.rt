@@ -8,6 +8,8 @@ mod entries;
 #[cfg(test)]
 mod given;
 #[cfg(test)]
+mod places;
+#[cfg(test)]
 mod plain;
 #[cfg(test)]
 mod quantiles;
