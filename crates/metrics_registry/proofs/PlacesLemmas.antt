@@ -1,11 +1,11 @@
 -- Where entries stand, and what stays there.
-use Rattle.std.proofs.Common.{◌≡◌, ℕ, zero, suc, ◌<◌, ◌≤◌, ◌%◌, Bool, true, false, cond, List, [], ◌∷◌, ◌++◌, Option, None, Some, is_some, Result, Ok, Err, OnOk, MatchOption, IfSome, IsSomeAnd, refl, sym, ◌∙◌, ap, subst, length, get_or, set, slice_get, arith}
-use Rattle.std.proofs.lemmas.List.{length-set}
+use Rattle.std.proofs.Common.{◌≡◌, ℕ, zero, suc, ◌+◌, ◌<◌, ◌≤◌, ◌%◌, Bool, true, false, cond, List, [], ◌∷◌, ◌++◌, Option, None, Some, is_some, Result, Ok, Err, OnOk, MatchOption, IfSome, IsSomeAnd, refl, sym, ◌∙◌, ap, subst, length, get_or, set, slice_get, arith}
+use Rattle.std.proofs.lemmas.List.{get_or-set_same, length-set}
 use Rattle.std.specs.Cmp.{IsEquivalence}
 use Rattle.std.specs.List.{IsDistinct}
 use Rattle.std.specs.Map.{keys_of, values_of, lookup}
 use Rattle.std.specs.List.{position}
-use Rattle.std.proofs.lemmas.Bool.{false≢true}
+use Rattle.std.proofs.lemmas.Bool.{cond-true, false≢true}
 use Rattle.std.proofs.lemmas.List.Quantifiers.{position-Some}
 use Rattle.std.specs.HashMap.{HashMap}
 use Rattle.std.specs.Option.{option_and_then}
@@ -13,9 +13,9 @@ use Rattle.metrics.specs.Targets.{change_at}
 use Rattle.indexmap.specs.IndexMap.{set_value_at}
 use Rattle.indexmap.proofs.CallerLemmas.{updates-with_value_at}
 use Rattle.metrics_registry.specs.declared.registry.place.CellPlace.{CellPlace}
-use Rattle.metrics_registry.specs.Held.{held, Sets, AreOf, ArePlaced, shards_of}
-use Rattle.metrics_registry.specs.Places.{entry_at, KeepsKeys, KeepsPlaces, ChangesIndex, ChangesPlace}
-use Rattle.metrics_registry.proofs.HeldLemmas.{shards-length, by_place, placed-at, placed-same, sets-shard, shards-same}
+use Rattle.metrics_registry.specs.Held.{held, Sets, AreOf, ArePlaced, shards_of, entries_of}
+use Rattle.metrics_registry.specs.Places.{entry_at, KeepsKeys, KeepsPlaces, ChangesIndex, ChangesPlace, AddsLast, AddsToShard}
+use Rattle.metrics_registry.proofs.HeldLemmas.{shards-length, by_place, held-shard, lookup-append_none, placed-at, placed-set, placed-same, sets-shard, shards-same}
 
 -- ---- one list
 
@@ -181,3 +181,36 @@ pub index-changed : {K C V : Type 0} (call : C → V → C → Type 0) (es : Lis
 index-changed call es i before after v at called =
     let e = entry-of-value es i before at in
     record { key = e.0; before = before; after = after; stood = e.1; called = called; changed = refl }
+
+-- ---- a cell that is added
+
+of-push : {K C : Type 0} (number : K → ℕ) (count shard : ℕ) (es : List (K × C)) (e : K × C) → AreOf number count shard es → number e.0 % count ≡ shard → AreOf number count shard (es ++ e ∷ [])
+of-push number count shard [] e of at = (at, tt)
+of-push number count shard (x ∷ es) e of at = (of.0, of-push number count shard es e of.1 at)
+
+pub keeps-added : {K C V E : Type 0} (eq : K → K → Bool) (key : K) (old new : List (K × C)) (r : Result V E) → OnOk r (AddsLast eq key old new) → OnOk r (KeepsKeys old new)
+keeps-added {K} {C} eq key old new (Ok v) adds = subst (λ (es : List (K × C)). KeepsKeys old es) (sym adds.added) (keeps-push old (adds.copy, adds.cell))
+keeps-added eq key old new (Err e) adds = tt
+
+module _ {K C S : Type 0} {eq : K → K → Bool} (laws : IsEquivalence eq) (number : K → ℕ) (same : (x y : K) → eq x y ≡ true → number x ≡ number y) (count i : ℕ) (ms : List (HashMap K C S)) (shards : List (List (K × C))) (m n : HashMap K C S) (key : K)
+    (placed : ArePlaced eq number count 0 ms) (view : shards_of ms ≡ shards) (count_is : count ≡ length ms) (small : i < length ms) (is : m ≡ get_or ms i m) (at : number key % count ≡ i) (absent : held eq (entries_of shards) key ≡ None) where
+  pub added-shard : {V E : Type 0} (r : Result V E) → OnOk r (AddsLast eq key m.entries n.entries) → OnOk r (IsDistinct eq (keys_of n.entries)) → OnOk r (AddsToShard eq number key shards (shards_of (set ms i n)))
+  added-shard (Ok v) adds distinct =
+      let add : List (K × C) → List (K × C) = λ es. es ++ (adds.copy, adds.cell) ∷ [] in
+      let here : i ≡ number key % length shards = sym at ∙ ap (λ k. number key % k) (count_is ∙ shards-length ms shards view) in
+      let none : held eq m.entries key ≡ None = sym (held-shard laws number same count i ms shards m m key placed view count_is small is at) ∙ absent in
+      let found : held eq n.entries key ≡ Some adds.cell =
+          ap (λ es. held eq es key) adds.added ∙ (lookup-append_none (eq key) m.entries ((adds.copy, adds.cell) ∷ []) none ∙ cond-true (eq key adds.copy) (Some adds.cell) None adds.like) in
+      let of : AreOf number count (0 + i) n.entries =
+          subst (λ (es : List (K × C)). AreOf number count (0 + i) es) (sym adds.added)
+            (of-push number count (0 + i) m.entries (adds.copy, adds.cell) (placed-at laws number same count 0 i ms m placed small is) (omega (arith, ap (λ k. k % count) (same key adds.copy adds.like), at))) in
+      let placed' = placed-set laws number same count 0 i ms n placed of distinct in
+      let all = held-shard laws number same count i (set ms i n) (shards_of (set ms i n)) n n key placed' refl (count_is ∙ sym (length-set ms i n)) (omega (arith, small, length-set ms i n)) (sym (get_or-set_same ms i n n small)) at in
+      record {
+        copy = adds.copy;
+        cell = adds.cell;
+        like = adds.like;
+        found = all ∙ found;
+        added = set-change add ms i m n is adds.added ∙ (ap (change_at i add) view ∙ ap (λ j. change_at j add shards) here);
+      }
+  added-shard (Err e) adds distinct = tt

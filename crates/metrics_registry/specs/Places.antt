@@ -1,10 +1,10 @@
 -- Where the entries of a registry's maps stand.
-use Rattle.std.specs.Prelude.{◌≡◌, ℕ, ◌%◌, Bool, true, List, Option, Some, IfSome, IsSomeAnd, length, slice_get}
+use Rattle.std.specs.Prelude.{◌≡◌, ℕ, ◌%◌, Bool, true, List, [], ◌∷◌, ◌++◌, Option, Some, IfSome, IsSomeAnd, length, slice_get}
 use Rattle.std.specs.Option.{option_and_then}
 use Rattle.metrics.specs.Targets.{change_at}
 use Rattle.indexmap.specs.IndexMap.{set_value_at}
 use Rattle.metrics_registry.specs.declared.registry.place.CellPlace.{CellPlace}
-use Rattle.metrics_registry.specs.Held.{Sets, entries_of}
+use Rattle.metrics_registry.specs.Held.{held, Sets, entries_of}
 
 module _ {K C : Type 0} where
   -- the entry at a place
@@ -24,6 +24,21 @@ module _ {K C : Type 0} where
   pub record IsPlaceOf (eq : K → K → Bool) (number : K → ℕ) (key : K) (shards : List (List (K × C))) (p : CellPlace) : Type 0 where
     pub shard : p.shard ≡ number key % length shards
     pub stands : IsSomeAnd (entry_at p shards) (λ e. eq key e.0 ≡ true)
+
+  -- a cell was added at the end, at a key that equals the one that was given
+  pub record AddsLast (eq : K → K → Bool) (key : K) (old new : List (K × C)) : Type 0 where
+    pub copy : K
+    pub cell : C
+    pub like : eq key copy ≡ true
+    pub added : new ≡ old ++ (copy, cell) ∷ []
+
+  -- the key's cell was added at the end of its shard
+  pub record AddsToShard (eq : K → K → Bool) (number : K → ℕ) (key : K) (old new : List (List (K × C))) : Type 0 where
+    pub copy : K
+    pub cell : C
+    pub like : eq key copy ≡ true
+    pub found : held eq (entries_of new) key ≡ Some cell
+    pub added : new ≡ change_at (number key % length old) (λ es. es ++ (copy, cell) ∷ []) old
 
   -- one call changed the cell at an index, and gave v
   pub record ChangesIndex {V : Type 0} (call : C → V → C → Type 0) (index : ℕ) (v : V) (old new : List (K × C)) : Type 0 where

@@ -9,7 +9,7 @@ ghost use Rattle.std.specs.HashMap.{get};
 ghost use Rattle.metrics.specs.declared.error.Error.TheVariants.{Memory as OutOfMemory, BadShards as NotShards};
 ghost use Rattle.metrics_registry.specs.Held.{held, Sets, CallsAt, CallsAtEntry, Retains, Copies, entries_of};
 ghost use Rattle.metrics_registry.specs.Held.{is_shard_count};
-ghost use Rattle.metrics_registry.specs.Places.{entry_at, KeepsPlaces, IsPlaceOf, ChangesPlace};
+ghost use Rattle.metrics_registry.specs.Places.{entry_at, KeepsPlaces, IsPlaceOf, ChangesPlace, AddsToShard};
 
 mod generation;
 mod place;
@@ -105,6 +105,7 @@ where
         ensures ok { IfOk result (λ v. CallsAt K.eq (S.makes_counter self.old.storage) (λ b r a. FnOnceReturnsAtMut F.FnOnce op b r a) key.now v (entries_of self.old.counters) (entries_of self.new.counters)) }
         ensures err { IfErr result (λ e. (e ≡ OutOfMemory) × (self.new ≡ self.old) × (held K.eq (entries_of self.old.counters) key.now ≡ None)) }
         ensures places { OnOk result (KeepsPlaces self.old.counters self.new.counters) }
+        ensures added { OnOk result (held K.eq (entries_of self.old.counters) key.now ≡ None → AddsToShard K.eq K.number key.now self.old.counters self.new.counters) }
         ensures rest { (self.new.storage ≡ self.old.storage) × (self.new.gauges ≡ self.old.gauges) × (self.new.histograms ≡ self.old.histograms) }
     {
         match self.counters.change(key, op) {
@@ -204,6 +205,7 @@ where
         ensures ok { IfOk result (λ v. CallsAt K.eq (S.makes_gauge self.old.storage) (λ b r a. FnOnceReturnsAtMut F.FnOnce op b r a) key.now v (entries_of self.old.gauges) (entries_of self.new.gauges)) }
         ensures err { IfErr result (λ e. (e ≡ OutOfMemory) × (self.new ≡ self.old) × (held K.eq (entries_of self.old.gauges) key.now ≡ None)) }
         ensures places { OnOk result (KeepsPlaces self.old.gauges self.new.gauges) }
+        ensures added { OnOk result (held K.eq (entries_of self.old.gauges) key.now ≡ None → AddsToShard K.eq K.number key.now self.old.gauges self.new.gauges) }
         ensures rest { (self.new.storage ≡ self.old.storage) × (self.new.counters ≡ self.old.counters) × (self.new.histograms ≡ self.old.histograms) }
     {
         match self.gauges.change(key, op) {
@@ -303,6 +305,7 @@ where
         ensures ok { IfOk result (λ v. CallsAt K.eq (S.makes_histogram self.old.storage) (λ b r a. FnOnceReturnsAtMut F.FnOnce op b r a) key.now v (entries_of self.old.histograms) (entries_of self.new.histograms)) }
         ensures err { IfErr result (λ e. (e ≡ OutOfMemory) × (self.new ≡ self.old) × (held K.eq (entries_of self.old.histograms) key.now ≡ None)) }
         ensures places { OnOk result (KeepsPlaces self.old.histograms self.new.histograms) }
+        ensures added { OnOk result (held K.eq (entries_of self.old.histograms) key.now ≡ None → AddsToShard K.eq K.number key.now self.old.histograms self.new.histograms) }
         ensures rest { (self.new.storage ≡ self.old.storage) × (self.new.counters ≡ self.old.counters) × (self.new.gauges ≡ self.old.gauges) }
     {
         match self.histograms.change(key, op) {

@@ -5,6 +5,6 @@
 /// A cell keeps its place until an entry of its kind is removed, by a delete, a retain or a clear.
 #[derive(Clone, Copy, Debug, PartialEq, Eq)]
 pub struct CellPlace {
-    pub(crate) shard: usize,
-    pub(crate) index: usize,
+    pub shard: usize,
+    pub index: usize,
 }

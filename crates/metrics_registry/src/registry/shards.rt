@@ -8,7 +8,7 @@ ghost use Rattle.std.specs.Map.Iter.{deref_pair};
 ghost use Rattle.indexmap.specs.IndexMap.{IsUnique};
 ghost use Rattle.metrics.specs.declared.error.Error.TheVariants.{Memory as OutOfMemory};
 ghost use Rattle.metrics_registry.specs.Held.{held, Sets, Calls, Adds, CallsAtEntry, Retains, Copies, entries_of};
-ghost use Rattle.metrics_registry.specs.Places.{entry_at, KeepsKeys, KeepsPlaces, IsPlaceOf, ChangesIndex, ChangesPlace};
+ghost use Rattle.metrics_registry.specs.Places.{entry_at, KeepsKeys, KeepsPlaces, IsPlaceOf, ChangesIndex, ChangesPlace, AddsLast, AddsToShard};
 ghost use Rattle.std.specs.HashMap.{get};
 
 use crate::common::Hashable;
@@ -66,7 +66,7 @@ fn create<K: Hashable + Clone, C: Drop, V, F: FnOnce(&mut C) -> V + Drop>(
     requires clones { (k c : K) → K.is_clone k c → K.eq k c ≡ true }
     ensures ok { IfOk result (λ v. Adds K.eq (λ b r a. FnOnceReturnsAtMut F.FnOnce op b r a) key.now cell v map.old.entries map.new.entries) }
     ensures err { IfErr result (λ e. (e ≡ OutOfMemory) × (map.new.entries ≡ map.old.entries)) }
-    ensures keeps { OnOk result (KeepsKeys map.old.entries map.new.entries) }
+    ensures added { OnOk result (AddsLast K.eq key.now map.old.entries map.new.entries) }
     ensures unique { OnOk result (IsUnique K.eq map.new) }
 {
     let key = key.clone()?;
@@ -274,6 +274,7 @@ impl<K: Hashable + Drop, C: Drop> Shards<K, C> {
         requires clones { (k c : K) → K.is_clone k c → K.eq k c ≡ true }
         ensures ok { IfOk result (λ v. Adds K.eq (λ b r a. FnOnceReturnsAtMut F.FnOnce op b r a) key.now cell v (entries_of self.old) (entries_of self.new)) }
         ensures err { IfErr result (λ e. (e ≡ OutOfMemory) × (self.new ≡ self.old)) }
+        ensures added { OnOk result (AddsToShard K.eq K.number key.now self.old self.new) }
         ensures places { OnOk result (KeepsPlaces self.old self.new) }
     {
         let shard = shard_of(key, self.maps.len());

@@ -1,7 +1,6 @@
-use Rattle.std.proofs.Common.{◌≡◌, ◌∙◌, refl, ap, sym, subst, cond, List, [], ◌∷◌, ◌++◌, None, Some}
+use Rattle.std.proofs.Common.{◌≡◌, ◌∙◌, refl, ap, sym, cond, List, [], ◌∷◌, ◌++◌, None, Some}
 use Rattle.metrics_registry.specs.Held.{held}
-use Rattle.metrics_registry.specs.Places.{KeepsKeys}
-use Rattle.metrics_registry.proofs.PlacesLemmas.{keeps-push, lookup-like}
+use Rattle.metrics_registry.proofs.PlacesLemmas.{lookup-like}
 use Rattle.indexmap.proofs.CallerLemmas.{insert_entry-new}
 use Rattle.metrics_registry.proofs.registry.shards.create.Goals as goal
 
@@ -15,15 +14,17 @@ returns-clause-ok g c = (
       ∙ ap (λ es. cond (g.K.PartialEq.eq c.args.key.now q) (Some c.op-answer.new.arg2) (held g.K.PartialEq.eq es q)) c.in_ok-reserve.ensures.entries),
 )
 
-pub returns-clause-keeps : goal.returns-clause-keeps
-returns-clause-keeps g c =
+pub returns-clause-added : goal.returns-clause-added
+returns-clause-added g c =
     let eq = g.K.PartialEq.eq in
-    let old = c.args.map.now.entries in
     let e : g.row.K.Denot × g.row.C.Denot = (c.in_ok-key.key, c.op-answer.new.arg2) in
     let like = c.requires.clones c.args.key.now c.in_ok-key.key c.in_ok-key.ensures.cases in
     let none : held eq c.reserve.new.self.entries c.in_ok-key.key ≡ None =
     lookup-like g.met.K.Eq.laws c.args.key.now c.in_ok-key.key like c.reserve.new.self.entries
     ∙ (ap (λ es. held eq es c.args.key.now) c.in_ok-reserve.ensures.entries ∙ c.requires.absent) in
-    let new : c.insert.new.self.entries ≡ old ++ e ∷ [] =
-    c.in-Ok.ensures.entries ∙ (insert_entry-new eq c.reserve.new.self c.in_ok-key.key c.op-answer.new.arg2 none ∙ ap (λ es. es ++ e ∷ []) c.in_ok-reserve.ensures.entries) in
-    subst (λ (es : List (g.row.K.Denot × g.row.C.Denot)). KeepsKeys old es) (sym new) (keeps-push old e)
+    record {
+      copy = c.in_ok-key.key;
+      cell = c.op-answer.new.arg2;
+      like = like;
+      added = c.in-Ok.ensures.entries ∙ (insert_entry-new eq c.reserve.new.self c.in_ok-key.key c.op-answer.new.arg2 none ∙ ap (λ es. es ++ e ∷ []) c.in_ok-reserve.ensures.entries);
+    }

@@ -2,7 +2,7 @@ use Rattle.std.proofs.Common.{rules, ◌≡◌, ◌∙◌, sym}
 use Rattle.std.specs.Fn.{FnOnceReturnsAtMut}
 use Rattle.metrics.specs.declared.error.Error.TheVariants.{Memory}
 use Rattle.metrics_registry.proofs.HeldLemmas.{created-shard, held-shard}
-use Rattle.metrics_registry.proofs.PlacesLemmas.{keeps-ok}
+use Rattle.metrics_registry.proofs.PlacesLemmas.{added-shard, keeps-added, keeps-ok}
 use Rattle.metrics_registry.proofs.registry.shards.Shards.create.Goals as goal
 
 pub invariant_of-self : goal.invariant_of-self
@@ -20,4 +20,7 @@ create-requires-clause-absent g c =
     ∙ c.requires.absent
 
 pub returns-clause-places : goal.returns-clause-places
-returns-clause-places g c = keeps-ok c.self.inside.maps.items c.args.self.now c.shard_of-shard.result c.index_mut.result.now c.create.new.map c.create.result c.self.view_is (search rules) (search rules) c.create.ensures.keeps
+returns-clause-places g c = keeps-ok c.self.inside.maps.items c.args.self.now c.shard_of-shard.result c.index_mut.result.now c.create.new.map c.create.result c.self.view_is (search rules) (search rules) (keeps-added _ _ _ _ c.create.result c.create.ensures.added)
+
+pub returns-clause-added : goal.returns-clause-added
+returns-clause-added g c = added-shard g.met.K.Eq.laws g.K.Hashable.number g.met.K.Hashable.same c.self.inside.maps.len c.shard_of-shard.result c.self.inside.maps.items c.args.self.now c.index_mut.result.now c.create.new.map c.args.key.now c.self.invariant.1 c.self.view_is (search rules) (search rules) (search rules) (search rules) c.requires.absent c.create.result c.create.ensures.added c.create.ensures.unique
