@@ -1,6 +1,6 @@
 -- Where entries stand, and what stays there.
 use Rattle.std.proofs.Common.{◌≡◌, ℕ, zero, suc, ◌+◌, ◌<◌, ◌≤◌, ◌%◌, Bool, true, false, cond, List, [], ◌∷◌, ◌++◌, Option, None, Some, is_some, Result, Ok, Err, OnOk, MatchOption, IfSome, IsSomeAnd, refl, sym, ◌∙◌, ap, subst, length, get_or, set, slice_get, arith}
-use Rattle.std.proofs.lemmas.List.{get_or-set_same, length-set}
+use Rattle.std.proofs.lemmas.List.{get_or-set_same, get_or_default, length-set}
 use Rattle.std.specs.Cmp.{IsEquivalence}
 use Rattle.std.specs.List.{IsDistinct}
 use Rattle.std.specs.Map.{keys_of, values_of, lookup}
@@ -8,7 +8,10 @@ use Rattle.std.specs.List.{position}
 use Rattle.std.proofs.lemmas.Bool.{cond-true, false≢true}
 use Rattle.std.proofs.lemmas.List.Quantifiers.{position-Some}
 use Rattle.std.specs.HashMap.{HashMap}
-use Rattle.std.specs.Option.{option_and_then}
+use Rattle.std.specs.Borrow.{Bor}
+use Rattle.std.specs.Map.Iter.{deref_pair}
+use Rattle.std.proofs.lemmas.Map.Entries.{hash_map_get_place}
+use Rattle.std.specs.Option.{option_and_then, option_map}
 use Rattle.metrics.specs.Targets.{change_at}
 use Rattle.indexmap.specs.IndexMap.{set_value_at}
 use Rattle.indexmap.proofs.CallerLemmas.{updates-with_value_at}
@@ -182,6 +185,38 @@ index-changed call es i before after v at called =
     let e = entry-of-value es i before at in
     record { key = e.0; before = before; after = after; stood = e.1; called = called; changed = refl }
 
+-- ---- what stands at a place is held
+
+by_less : {P : Type 0} (i n : ℕ) → (i < n → P) → (n ≤ i → P) → P
+by_less zero zero p q = q (omega arith)
+by_less zero (suc n) p q = p (omega arith)
+by_less (suc i) zero p q = q (omega arith)
+by_less (suc i) (suc n) p q = by_less i n (λ h. p (omega (arith, h))) (λ h. q (omega (arith, h)))
+
+module _ {K C S : Type 0} {eq : K → K → Bool} (laws : IsEquivalence eq) (number : K → ℕ) (same : (x y : K) → eq x y ≡ true → number x ≡ number y) (count : ℕ) (ms : List (HashMap K C S)) (shards : List (List (K × C))) (p : CellPlace)
+    (placed : ArePlaced eq number count 0 ms) (view : shards_of ms ≡ shards) (count_is : count ≡ length ms) where
+  held-small : (m : HashMap K C S) (e : K × C) → p.shard < length ms → m ≡ get_or ms p.shard m → entry_at p shards ≡ Some e → held eq (entries_of shards) e.0 ≡ Some e.1
+  held-small m e small is at =
+      let Of : ℕ → Type 0 = λ k. AreOf number count k m.entries in
+      let of = subst Of (omega arith) (placed-at laws number same count 0 p.shard ms m placed small is) in
+      let here : slice_get m.entries p.index ≡ Some (e.0, e.1) = sym (entry-shard ms shards p m view small is) ∙ at in
+      held-shard laws number same count p.shard ms shards m m e.0 placed view count_is small is (of-at number count p.shard m.entries p.index e of here)
+      ∙ hash_map_get_place laws m p.index e.0 e.1 (distinct-at eq number count 0 p.shard ms m placed small is) here
+
+  held-at : (e : K × C) → entry_at p shards ≡ Some e → held eq (entries_of shards) e.0 ≡ Some e.1
+  held-at e at = in-shard ms refl
+    where
+      in-shard : (ns : List (HashMap K C S)) → ms ≡ ns → held eq (entries_of shards) e.0 ≡ Some e.1
+      in-shard [] none = absurd (let no : entry_at p shards ≡ None = no-entry ms shards p view (omega (arith, ap length none)) in cc)
+      in-shard (m ∷ ns) some =
+          by_less p.shard (length ms)
+          (λ small. let x = get_or ms p.shard m in held-small x e small (get_or_default ms p.shard m x small) at)
+          (λ large. absurd (let no : entry_at p shards ≡ None = no-entry ms shards p view large in cc))
+
+  pub shown-held : (r : Option (Bor K × Bor C)) → option_map deref_pair r ≡ entry_at p shards → IfSome r (λ e. held eq (entries_of shards) e.0.now ≡ Some e.1.now)
+  shown-held None is = tt
+  shown-held (Some e) is = held-at (e.0.now, e.1.now) (sym is)
+
 -- ---- a cell that is added
 
 of-push : {K C : Type 0} (number : K → ℕ) (count shard : ℕ) (es : List (K × C)) (e : K × C) → AreOf number count shard es → number e.0 % count ≡ shard → AreOf number count shard (es ++ e ∷ [])
@@ -200,10 +235,10 @@ module _ {K C S : Type 0} {eq : K → K → Bool} (laws : IsEquivalence eq) (num
       let here : i ≡ number key % length shards = sym at ∙ ap (λ k. number key % k) (count_is ∙ shards-length ms shards view) in
       let none : held eq m.entries key ≡ None = sym (held-shard laws number same count i ms shards m m key placed view count_is small is at) ∙ absent in
       let found : held eq n.entries key ≡ Some adds.cell =
-          ap (λ es. held eq es key) adds.added ∙ (lookup-append_none (eq key) m.entries ((adds.copy, adds.cell) ∷ []) none ∙ cond-true (eq key adds.copy) (Some adds.cell) None adds.like) in
+      ap (λ es. held eq es key) adds.added ∙ (lookup-append_none (eq key) m.entries ((adds.copy, adds.cell) ∷ []) none ∙ cond-true (eq key adds.copy) (Some adds.cell) None adds.like) in
       let of : AreOf number count (0 + i) n.entries =
-          subst (λ (es : List (K × C)). AreOf number count (0 + i) es) (sym adds.added)
-            (of-push number count (0 + i) m.entries (adds.copy, adds.cell) (placed-at laws number same count 0 i ms m placed small is) (omega (arith, ap (λ k. k % count) (same key adds.copy adds.like), at))) in
+      subst (λ (es : List (K × C)). AreOf number count (0 + i) es) (sym adds.added)
+      (of-push number count (0 + i) m.entries (adds.copy, adds.cell) (placed-at laws number same count 0 i ms m placed small is) (omega (arith, ap (λ k. k % count) (same key adds.copy adds.like), at))) in
       let placed' = placed-set laws number same count 0 i ms n placed of distinct in
       let all = held-shard laws number same count i (set ms i n) (shards_of (set ms i n)) n n key placed' refl (count_is ∙ sym (length-set ms i n)) (omega (arith, small, length-set ms i n)) (sym (get_or-set_same ms i n n small)) at in
       record {

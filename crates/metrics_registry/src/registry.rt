@@ -1,5 +1,5 @@
 //! A registry that has one owner: for each kind a map from keys to cells, in shards.
-ghost use Rattle.std.specs.Prelude.{◌≡◌, true, false, [], None, Some, Ok, IfOk, IfErr, OnErr, MatchResult, MatchOption, OnOk, option_map, is_some, cond, length, replicate};
+ghost use Rattle.std.specs.Prelude.{◌≡◌, true, false, [], None, Some, Ok, IfOk, IfErr, IfSome, OnErr, MatchResult, MatchOption, OnOk, option_map, is_some, cond, length, replicate};
 ghost use Rattle.std.specs.Option.{option_copied};
 ghost use Rattle.std.specs.Fn.{FnOnceReturnsAtMut};
 ghost use Rattle.std.specs.List.{FoldsTo, IsDistinct};
@@ -126,7 +126,8 @@ where
 
     /// The key and the cell of the counter at a place.
     pub fn counter_at(&self, place: CellPlace) -> Option<(&K, &S::Counter)>
-        ensures { option_map deref_pair result ≡ entry_at place self.now.counters }
+        ensures entry { option_map deref_pair result ≡ entry_at place self.now.counters }
+        ensures held { IfSome result (λ e. held K.eq (entries_of self.now.counters) e.0.now ≡ Some e.1.now) }
     {
         self.counters.at(place)
     }
@@ -226,7 +227,8 @@ where
 
     /// The key and the cell of the gauge at a place.
     pub fn gauge_at(&self, place: CellPlace) -> Option<(&K, &S::Gauge)>
-        ensures { option_map deref_pair result ≡ entry_at place self.now.gauges }
+        ensures entry { option_map deref_pair result ≡ entry_at place self.now.gauges }
+        ensures held { IfSome result (λ e. held K.eq (entries_of self.now.gauges) e.0.now ≡ Some e.1.now) }
     {
         self.gauges.at(place)
     }
@@ -326,7 +328,8 @@ where
 
     /// The key and the cell of the histogram at a place.
     pub fn histogram_at(&self, place: CellPlace) -> Option<(&K, &S::Histogram)>
-        ensures { option_map deref_pair result ≡ entry_at place self.now.histograms }
+        ensures entry { option_map deref_pair result ≡ entry_at place self.now.histograms }
+        ensures held { IfSome result (λ e. held K.eq (entries_of self.now.histograms) e.0.now ≡ Some e.1.now) }
     {
         self.histograms.at(place)
     }

@@ -229,7 +229,8 @@ impl<K: Hashable + Drop, C: Drop> Shards<K, C> {
 
     /// The key and the cell at a place.
     pub fn at(&self, place: CellPlace) -> Option<(&K, &C)>
-        ensures { option_map deref_pair result ≡ entry_at place self.now }
+        ensures entry { option_map deref_pair result ≡ entry_at place self.now }
+        ensures held { IfSome result (λ e. held K.eq (entries_of self.now) e.0.now ≡ Some e.1.now) }
     {
         self.maps.get(place.shard)?.get_index(place.index)
     }

@@ -1,4 +1,4 @@
-use Rattle.std.proofs.Common.{◌≡◌, ◌∙◌, refl, ap, sym, cond, List, [], ◌∷◌, ◌++◌, None, Some}
+use Rattle.std.proofs.Common.{◌≡◌, ◌∙◌, refl, ap, sym, cond, [], ◌∷◌, ◌++◌, None, Some}
 use Rattle.metrics_registry.specs.Held.{held}
 use Rattle.metrics_registry.proofs.PlacesLemmas.{lookup-like}
 use Rattle.indexmap.proofs.CallerLemmas.{insert_entry-new}
