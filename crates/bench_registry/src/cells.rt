@@ -117,12 +117,9 @@ impl Bench for Checks {
         let generation = Counted::new(0u64).get_generation();
         let mut stay = 0u64;
         for key in &self.keys {
-            let stays = self.recency.should_store_counter(
-                key,
-                generation,
-                self.now,
-                &mut self.registry,
-            )?;
+            let stays = self
+                .recency
+                .should_store_counter(key, generation, self.now, &mut self.registry)?;
             stay = stay.wrapping_add(u64::from(stays));
         }
         Ok(stay)
