@@ -9,9 +9,6 @@ use std::alloc::Global;
 
 type Plain = OwnedRegistry<Key, PlainStorage>;
 
-/// As many shards as the Rust crate has on a machine of 4 cores.
-const SHARDS: usize = 4;
-
 /// 24 hours in nanoseconds.
 const DAY: u64 = 86_400_000_000_000;
 
@@ -40,8 +37,8 @@ fn increment(registry: &mut Plain, key: &Key) -> Result<u64, Error> {
 }
 
 /// A registry that holds a counter of each key.
-fn holding(alloc: Global, keys: &[Key]) -> Result<Plain> {
-    let mut registry = OwnedRegistry::new(alloc, PlainStorage::new(alloc), SHARDS)?;
+fn holding(alloc: Global, keys: &[Key], shards: usize) -> Result<Plain> {
+    let mut registry = OwnedRegistry::new(alloc, PlainStorage::new(alloc), shards)?;
     for key in keys {
         increment(&mut registry, key)?;
     }
@@ -57,9 +54,9 @@ pub struct Creates {
 }
 
 impl Creates {
-    pub fn new(alloc: Global, first: usize) -> Result<Creates> {
+    pub fn new(alloc: Global, first: usize, shards: usize) -> Result<Creates> {
         let keys = keys_1000(alloc)?;
-        let registry = holding(alloc, &keys)?;
+        let registry = holding(alloc, &keys, shards)?;
         Ok(Creates {
             registry,
             keys,
@@ -96,7 +93,7 @@ pub struct Checks {
 impl Checks {
     pub fn new(alloc: Global) -> Result<Checks> {
         let keys = keys_1000(alloc)?;
-        let registry = holding(alloc, &keys)?;
+        let registry = holding(alloc, &keys, 1)?;
         Ok(Checks {
             recency: OwnedRecency::new(alloc, MetricKindMask::ALL, Some(DAY)),
             registry,

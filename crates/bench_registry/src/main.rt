@@ -16,6 +16,30 @@ const ROUNDS: usize = 9;
 /// About how many operations a round makes.
 const OPERATIONS: u32 = 2_000_000;
 
+/// The names of the benchmarks that get counters, how many keys they get, and how many shards there are.
+const CREATES: [(&str, usize, usize); 4] = [
+    (
+        "owned_registry_get_or_create_counter_existing_1key_1t",
+        1,
+        1,
+    ),
+    (
+        "owned_registry_get_or_create_counter_existing_1000keys_1t",
+        1000,
+        1,
+    ),
+    (
+        "owned_registry_get_or_create_counter_existing_1key_4shards",
+        1,
+        4,
+    ),
+    (
+        "owned_registry_get_or_create_counter_existing_1000keys_4shards",
+        1000,
+        4,
+    ),
+];
+
 /// A benchmark: one walk makes a fixed number of operations.
 trait Bench: Drop {
     /// What stands before a walk, and isn't timed.
@@ -87,20 +111,9 @@ fn is_timed(rt: &(impl Env + AllocGlobal)) -> Result<bool> {
 fn main(rt: HostRuntime) -> Result<()> {
     let timed = is_timed(&rt)?;
     let alloc = rt.alloc();
-    report(
-        &rt,
-        timed,
-        "owned_registry_get_or_create_counter_existing_1key_1t",
-        Creates::new(alloc, 1)?,
-        1000,
-    )?;
-    report(
-        &rt,
-        timed,
-        "owned_registry_get_or_create_counter_existing_1000keys_1t",
-        Creates::new(alloc, 1000)?,
-        1000,
-    )?;
+    for (name, first, shards) in CREATES {
+        report(&rt, timed, name, Creates::new(alloc, first, shards)?, 1000)?;
+    }
     report(
         &rt,
         timed,
