@@ -7,8 +7,7 @@ ghost use Rattle.std.specs.Map.{keys_of};
 ghost use Rattle.std.specs.Map.Iter.{deref_pair};
 ghost use Rattle.std.specs.HashMap.{get};
 ghost use Rattle.metrics.specs.declared.error.Error.TheVariants.{Memory as OutOfMemory, BadShards as NotShards};
-ghost use Rattle.metrics_registry.specs.Held.{held, Sets, CallsAt, CallsAtEntry, Retains, Copies, entries_of};
-ghost use Rattle.metrics_registry.specs.Held.{is_shard_count};
+ghost use Rattle.metrics_registry.specs.Held.{held, Sets, CallsAt, CallsAtEntry, Retains, Copies, entries_of, is_shard_count};
 ghost use Rattle.metrics_registry.specs.Places.{entry_at, KeepsPlaces, IsPlaceOf, ChangesPlace, AddsToShard};
 
 mod generation;
