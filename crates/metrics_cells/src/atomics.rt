@@ -1,0 +1,60 @@
+//! A word of 64 bits as the cell of a counter, and of a gauge.
+ghost use Rattle.std.specs.Prelude.{◌≡◌, ◌+ℤ◌, ◌-ℤ◌};
+ghost use Rattle.std.specs.Int.{w64, cast_signed, cast_unsigned, saturate_signed};
+
+use crate::handles::{CounterFn, GaugeFn};
+use std::sync::Wait;
+use std::sync::atomic::{AtomicU64, Ordering};
+
+/// The word is the count.
+impl CounterFn for AtomicU64 {
+    fn increment(&self, value: u64) {
+        self.fetch_add(value, Ordering::SeqCst);
+    }
+
+    fn absolute(&self, value: u64) {
+        self.fetch_max(value, Ordering::SeqCst);
+    }
+}
+
+/// The word holds the 64 bits of the value.
+impl GaugeFn for AtomicU64 {
+    fn increment<W: Wait>(&self, rt: &W, value: i64) {
+        change(rt, self, |bits| added(bits, value));
+    }
+
+    fn decrement<W: Wait>(&self, rt: &W, value: i64) {
+        change(rt, self, |bits| subtracted(bits, value));
+    }
+
+    fn set(&self, value: i64) {
+        self.store(value.cast_unsigned(), Ordering::SeqCst);
+    }
+}
+
+/// The bits of a value once another is added to it.
+fn added(bits: u64, value: i64) -> u64
+    ensures { result ≡ cast_unsigned w64 (saturate_signed w64 (cast_signed w64 bits +ℤ value)) }
+{
+    bits.cast_signed().saturating_add(value).cast_unsigned()
+}
+
+/// The bits of a value once another is subtracted from it.
+fn subtracted(bits: u64, value: i64) -> u64
+    ensures { result ≡ cast_unsigned w64 (saturate_signed w64 (cast_signed w64 bits -ℤ value)) }
+{
+    bits.cast_signed().saturating_sub(value).cast_unsigned()
+}
+
+/// Exchanges the word for what `next` answers to it, and tries again where another thread was first.
+fn change<W: Wait, F: Fn(u64) -> u64>(rt: &W, word: &AtomicU64, next: F)
+    requires { F.IsAlwaysCallable next }
+{
+    let mut seen = word.load(Ordering::SeqCst);
+    for _ in rt.forever() {
+        match word.compare_exchange(seen, next(seen), Ordering::SeqCst, Ordering::SeqCst) {
+            Ok(_) => return,
+            Err(now) => seen = now,
+        }
+    }
+}

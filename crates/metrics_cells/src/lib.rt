@@ -1,0 +1,9 @@
+//! Cells of metrics that several threads change.
+#![tactic(auto)]
+
+mod atomics;
+mod handles;
+#[cfg(test)]
+mod tests;
+
+pub use handles::{CounterFn, GaugeFn, HistogramFn};

@@ -1,0 +1,91 @@
+//! Cells, used by one thread and by several, with expected values from outside.
+
+use crate::{CounterFn, GaugeFn, HistogramFn};
+use std::process::Abort;
+use std::sync::atomic::{AtomicU64, Ordering};
+use std::sync::{Arc, Wait};
+use std::test::Fail;
+
+fn expect_count<C: CounterFn>(rt: &impl Abort, cell: &C, word: &AtomicU64) {
+    cell.increment(u64::MAX);
+    cell.increment(2);
+    assert_eq!(rt; word.load(Ordering::SeqCst), 1);
+    cell.absolute(7);
+    cell.absolute(5);
+    assert_eq!(rt; word.load(Ordering::SeqCst), 7);
+}
+
+#[test]
+fn a_word_is_a_counter(rt: HostRuntime) {
+    let word = AtomicU64::new(0);
+    expect_count(&rt, &word, &word);
+}
+
+#[test]
+fn a_shared_word_is_a_counter(rt: HostRuntime) -> Result<(), Fail> {
+    let word = Arc::new(rt.alloc(), AtomicU64::new(0))?;
+    expect_count(&rt, &word, &word);
+    Ok(())
+}
+
+fn expect_value(rt: &impl Abort, word: &AtomicU64, want: i64) {
+    assert_eq!(rt; word.load(Ordering::SeqCst).cast_signed(), want);
+}
+
+fn expect_gauge<R: Abort + Wait, G: GaugeFn>(rt: &R, cell: &G, word: &AtomicU64) {
+    cell.decrement(rt, 5);
+    expect_value(rt, word, -5);
+    cell.set(i64::MAX);
+    cell.increment(rt, 1);
+    expect_value(rt, word, i64::MAX);
+    cell.set(-2);
+    cell.decrement(rt, i64::MAX);
+    expect_value(rt, word, i64::MIN);
+}
+
+#[test]
+fn a_word_is_a_gauge(rt: HostRuntime) {
+    let word = AtomicU64::new(0);
+    expect_gauge(&rt, &word, &word);
+}
+
+#[test]
+fn a_shared_word_is_a_gauge(rt: HostRuntime) -> Result<(), Fail> {
+    let word = Arc::new(rt.alloc(), AtomicU64::new(0))?;
+    expect_gauge(&rt, &word, &word);
+    Ok(())
+}
+
+/// The sum of the samples, none of them below 0.
+#[derive(Drop)]
+struct Sum(AtomicU64);
+
+impl HistogramFn for Sum {
+    type Error = i64;
+
+    fn record<W: Wait>(&self, _rt: &W, value: i64) -> Result<(), i64> {
+        let Ok(sample) = u64::try_from(value) else {
+            return Err(value);
+        };
+        CounterFn::increment(&self.0, sample);
+        Ok(())
+    }
+}
+
+fn expect_samples<R: Abort + Wait, H: HistogramFn<Error = i64>>(
+    rt: &R,
+    cell: &H,
+    word: &AtomicU64,
+) {
+    assert!(rt; cell.record(rt, 3).is_ok());
+    assert!(rt; cell.record(rt, 4).is_ok());
+    assert!(rt; cell.record(rt, -1).err() == Some(-1));
+    expect_value(rt, word, 7);
+}
+
+#[test]
+fn a_shared_sum_is_a_histogram(rt: HostRuntime) -> Result<(), Fail> {
+    let sum = Arc::new(rt.alloc(), Sum(AtomicU64::new(0)))?;
+    expect_samples(&rt, &sum, &sum.0);
+    Ok(())
+}
