@@ -2,7 +2,6 @@
 //!
 //! No contract says what a shard holds, since other threads may change it at any time.
 ghost use Rattle.std.specs.Prelude.{◌≡◌, ◌<◌, true, IfOk, IfErr, cond, vec_len};
-ghost use Rattle.std.specs.Fn.{FnOnceReturnsAt};
 ghost use Rattle.metrics.specs.declared.error.Error.TheVariants.{Memory as OutOfMemory, BadShards as NotShards};
 ghost use Rattle.metrics_registry.specs.Held.{is_shard_count};
 
@@ -103,7 +102,6 @@ where
     ) -> Result<V, Error>
         requires op { F.IsAlwaysCallable op }
         requires clones { (k c : K) → K.is_clone k c → K.eq k c ≡ true }
-        ensures ok { IfOk result (λ v. (cell : S.Counter) × FnOnceReturnsAt F.FnOnce op cell v) }
         ensures err { IfErr result (λ e. e ≡ OutOfMemory) }
     {
         self.shard(key)
@@ -178,7 +176,6 @@ where
     ) -> Result<V, Error>
         requires op { F.IsAlwaysCallable op }
         requires clones { (k c : K) → K.is_clone k c → K.eq k c ≡ true }
-        ensures ok { IfOk result (λ v. (cell : S.Gauge) × FnOnceReturnsAt F.FnOnce op cell v) }
         ensures err { IfErr result (λ e. e ≡ OutOfMemory) }
     {
         self.shard(key)
@@ -253,7 +250,6 @@ where
     ) -> Result<V, Error>
         requires op { F.IsAlwaysCallable op }
         requires clones { (k c : K) → K.is_clone k c → K.eq k c ≡ true }
-        ensures ok { IfOk result (λ v. (cell : S.Histogram) × FnOnceReturnsAt F.FnOnce op cell v) }
         ensures err { IfErr result (λ e. e ≡ OutOfMemory) }
     {
         self.shard(key)
@@ -306,6 +302,21 @@ where
     }
 }
 
+/// A shard with nothing in it.
+fn new_shard<K: Hashable + Clone + Drop, S: Storage<K> + Drop>(
+    alloc: Global,
+    storage: &Arc<S>,
+) -> Result<Shard<K, S>, Error>
+where
+    S::Counter: Drop,
+    S::Gauge: Drop,
+    S::Histogram: Drop,
+    ensures { IfErr result (λ e. e ≡ OutOfMemory) }
+{
+    let registry = OwnedRegistry::new(alloc, storage.clone()?, 1)?;
+    Ok(Mutex::new(registry))
+}
+
 /// Shards with nothing in them.
 fn new_shards<K: Hashable + Clone + Drop, S: Storage<K> + Drop>(
     alloc: Global,
@@ -322,8 +333,8 @@ where
     let mut shards = Vec::new(alloc);
     shards.reserve(count)?;
     for _ in 0..count {
-        let shard = OwnedRegistry::new(alloc, storage.clone()?, 1)?;
-        shards.push_reserved(Mutex::new(shard));
+        let shard = new_shard(alloc, storage)?;
+        shards.push_reserved(shard);
     }
     Ok(shards)
 }

@@ -21,6 +21,14 @@ fn generation_of(changes: u64) -> Generation
     counted.get_generation()
 }
 
+/// Calls `f` once on a value.
+fn call<T, V, F: Fn(&T) -> V>(value: &T, f: F) -> V
+    requires { F.IsAlwaysCallable f }
+    ensures { FnReturnsAt F.Fn f value.now result }
+{
+    f(value)
+}
+
 /// A cell with its generation. A clone has a clone of the cell and the same generation: a change through either raises it.
 #[derive(Clone, Drop)]
 pub struct Generational<T> {
@@ -56,7 +64,7 @@ impl<T> Generational<T> {
         requires { F.IsAlwaysCallable f }
         ensures { FnReturnsAt F.Fn f self.now.inner result }
     {
-        let answer = f(&self.inner);
+        let answer = call(&self.inner, f);
         self.changes.fetch_add(1, Ordering::SeqCst);
         answer
     }
