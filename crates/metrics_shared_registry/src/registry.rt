@@ -287,7 +287,11 @@ where
     }
 
     /// Keeps the histograms for which `f` answers true. It is called once for each histogram, in some order.
-    pub fn retain_histograms<W: Wait, F: FnMut(&K, &S::Histogram) -> bool + Drop>(&self, rt: &W, f: F)
+    pub fn retain_histograms<W: Wait, F: FnMut(&K, &S::Histogram) -> bool + Drop>(
+        &self,
+        rt: &W,
+        f: F,
+    )
         requires { (state : F) (k : _) (c : _) → F.pre state k c }
     {
         let mut f = f;
@@ -344,10 +348,7 @@ fn visit_counters<
     K: Hashable + Clone + Drop,
     S: Storage<K> + Drop,
     F: FnMut(&K, &S::Counter) + Drop,
->(
-    shard: &OwnedRegistry<K, Arc<S>>,
-    f: F,
-) -> F
+>(shard: &OwnedRegistry<K, Arc<S>>, f: F) -> F
 where
     S::Counter: Drop,
     S::Gauge: Drop,
@@ -366,11 +367,7 @@ where
 }
 
 /// Calls `f` once for each gauge of a shard, and gives it back as the calls left it.
-fn visit_gauges<
-    K: Hashable + Clone + Drop,
-    S: Storage<K> + Drop,
-    F: FnMut(&K, &S::Gauge) + Drop,
->(
+fn visit_gauges<K: Hashable + Clone + Drop, S: Storage<K> + Drop, F: FnMut(&K, &S::Gauge) + Drop>(
     shard: &OwnedRegistry<K, Arc<S>>,
     f: F,
 ) -> F
@@ -396,10 +393,7 @@ fn visit_histograms<
     K: Hashable + Clone + Drop,
     S: Storage<K> + Drop,
     F: FnMut(&K, &S::Histogram) + Drop,
->(
-    shard: &OwnedRegistry<K, Arc<S>>,
-    f: F,
-) -> F
+>(shard: &OwnedRegistry<K, Arc<S>>, f: F) -> F
 where
     S::Counter: Drop,
     S::Gauge: Drop,

@@ -1,8 +1,6 @@
 //! Entries that come and go, in each kind and for several numbers of shards.
 
-use crate::given::{
-    KINDS, Plain, Words, delete, handles, increment, retain_prefix, visits, word,
-};
+use crate::given::{KINDS, Plain, Words, delete, handles, increment, retain_prefix, visits, word};
 use metrics::{Error, Key, MetricKind};
 use metrics_shared_registry::registry::Registry;
 use std::alloc::Global;

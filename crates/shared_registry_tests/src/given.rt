@@ -1,4 +1,6 @@
 //! A storage of words, and calls by kind.
+ghost use Rattle.std.specs.Prelude.{◌≡◌, IfErr};
+ghost use Rattle.metrics.specs.declared.error.Error.TheVariants.{Memory as OutOfMemory};
 
 use metrics::{Error, Key, MetricKind};
 use metrics_cells::CounterFn;
@@ -18,7 +20,9 @@ pub struct Words {
 }
 
 impl Words {
-    fn word(&self) -> Result<Word, Error> {
+    fn word(&self) -> Result<Word, Error>
+        ensures { IfErr result (λ e. e ≡ OutOfMemory) }
+    {
         Ok(Arc::new(self.alloc, AtomicU64::new(0))?)
     }
 }

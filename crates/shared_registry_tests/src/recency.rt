@@ -79,11 +79,7 @@ const MASKS: [(MetricKind, MetricKindMask); 3] = [
     (MetricKind::Histogram, MetricKindMask::HISTOGRAM),
 ];
 
-fn expect_in_each_kind<R: Abort + Wait>(
-    rt: &R,
-    alloc: Global,
-    rows: &[Row],
-) -> Result<(), Fail> {
+fn expect_in_each_kind<R: Abort + Wait>(rt: &R, alloc: Global, rows: &[Row]) -> Result<(), Fail> {
     for (kind, mask) in MASKS {
         expect_answers(rt, alloc, kind, mask, rows)?;
     }
