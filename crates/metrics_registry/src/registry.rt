@@ -19,7 +19,7 @@ mod shards;
 mod storage;
 
 use crate::common::Hashable;
-pub use generation::{Counted, Generation};
+pub use generation::{AtomicGeneration, Counted, Generation};
 use metrics::Error;
 pub use place::CellPlace;
 pub use plain::PlainStorage;
