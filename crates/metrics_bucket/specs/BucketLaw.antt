@@ -1,5 +1,5 @@
 -- The law over all histories of a bucket's steps.
-use Rattle.std.specs.Prelude.{◌≡◌, ℕ, suc, ◌+◌, ◌<◌, cond, eqb, List, [], ◌∷◌, ◌++◌, length, slice_index}
+use Rattle.std.specs.Prelude.{◌≡◌, ◌==◌, ℕ, suc, ◌+◌, ◌<◌, if◌then◌else◌, List, [], ◌∷◌, ◌++◌, length, slice_index}
 use mathlib.Core.Option.{some}
 use lib.ListN.{get_elem?}
 use Rattle.metrics_bucket.specs.declared.view.Push.{Push}
@@ -15,7 +15,7 @@ use Rattle.metrics_bucket.specs.History.{HasVisit, CanLeave, Event, Runs, start,
 
 -- 1 if the step gives a ticket of this epoch
 abbrev pub gives_in : ℕ → ℕ → Act → ℕ
-gives_in e now ticket = cond (eqb e now) 1 0
+gives_in e now ticket = if e == now then 1 else 0
 gives_in e now _ = 0
 
 abbrev pub epoch_after : ℕ → Act → ℕ

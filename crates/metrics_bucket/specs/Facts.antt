@@ -1,5 +1,5 @@
 -- The facts of the bucket's state.
-use Rattle.std.specs.Prelude.{◌≡◌, ℕ, zero, suc, ◌+◌, ◌%◌, ◌<◌, ◌≤◌, cond, eqb, List, [], ◌∷◌, length, slice_index}
+use Rattle.std.specs.Prelude.{◌≡◌, ◌==◌, ℕ, zero, suc, ◌+◌, ◌%◌, ◌<◌, ◌≤◌, if◌then◌else◌, List, [], ◌∷◌, length, slice_index}
 use mathlib.Core.Option.{some}
 use lib.ListN.{get_elem?}
 use Rattle.metrics_bucket.specs.declared.view.View.{View}
@@ -56,7 +56,7 @@ taken_of h v = weigh_walks h v.taken + wiped h v.hold
 
 -- 1 if both are the same place
 abbrev pub same : ℕ → ℕ → ℕ → ℕ → ℕ
-same s i s' i' = cond (eqb s s') (cond (eqb i i') 1 0) 0
+same s i s' i' = if s == s' then (if i == i' then 1 else 0) else 0
 
 -- 1 if i is below n
 abbrev pub below : ℕ → ℕ → ℕ
@@ -66,7 +66,7 @@ below (suc i) (suc n) = below i n
 
 -- 1 if the place has a ticket of the live side
 abbrev pub given_at : ℕ → ℕ → ℕ → ℕ → ℕ
-given_at live given s i = cond (eqb s live) (below i given) 0
+given_at live given s i = if s == live then below i given else 0
 
 abbrev pub ticket_in : ℕ → ℕ → Hold → ℕ
 ticket_in s i (Ticket s' i') = same s i s' i'
@@ -87,7 +87,7 @@ open_at (c ∷ cs) zero = is_open c
 open_at (c ∷ cs) (suc i) = open_at cs i
 
 abbrev pub owed_in : ℕ → ℕ → Hold → ℕ
-owed_in s i (Clearing s' visits) = cond (eqb s s') (open_at visits i) 0
+owed_in s i (Clearing s' visits) = if s == s' then open_at visits i else 0
 owed_in s i _ = 0
 
 abbrev pub owed_at : ℕ → ℕ → View → ℕ

@@ -1,5 +1,5 @@
 -- Where the pushes of each epoch stand, and what walks find.
-use Rattle.std.specs.Prelude.{◌≡◌, ℕ, zero, suc, ◌+◌, ◌<◌, ◌≤◌, ◌⊎◌, cond, eqb, List, [], ◌∷◌, length, slice_index}
+use Rattle.std.specs.Prelude.{◌≡◌, ◌==◌, ℕ, zero, suc, ◌+◌, ◌<◌, ◌≤◌, ◌⊎◌, if◌then◌else◌, List, [], ◌∷◌, length, slice_index}
 use mathlib.Core.Option.{some}
 use lib.ListN.{get_elem?}
 use Rattle.metrics_bucket.specs.declared.view.Push.{Push}
@@ -20,7 +20,7 @@ pushes_at e i (p ∷ ps) = same e i p.epoch p.place + pushes_at e i ps
 -- their values, added up
 abbrev pub values_at : ℕ → ℕ → List Push → ℕ
 values_at e i [] = 0
-values_at e i (p ∷ ps) = cond (eqb e p.epoch) (cond (eqb i p.place) p.value 0) 0 + values_at e i ps
+values_at e i (p ∷ ps) = (if e == p.epoch then (if i == p.place then p.value else 0) else 0) + values_at e i ps
 
 abbrev pub pushed_at : ℕ → ℕ → View → ℕ
 pushed_at e i v = pushes_at e i v.pushed
@@ -41,10 +41,10 @@ tickets_at e i v = pushed_at e i v + held_in e i v.epoch v.hold
 -- the lengths of the walks of this epoch, added up
 abbrev pub lengths_of : ℕ → List Walk → ℕ
 lengths_of e [] = 0
-lengths_of e (walk ∷ walks) = cond (eqb e walk.epoch) (length walk.values) 0 + lengths_of e walks
+lengths_of e (walk ∷ walks) = (if e == walk.epoch then length walk.values else 0) + lengths_of e walks
 
 abbrev pub clearing_of : ℕ → ℕ → Hold → ℕ
-clearing_of e epoch (Clearing s visits) = cond (eqb e epoch) (length visits) 0
+clearing_of e epoch (Clearing s visits) = if e == epoch then length visits else 0
 clearing_of e epoch _ = 0
 
 -- how many places of this epoch the thread's takes told
@@ -54,20 +54,20 @@ told_of e v = lengths_of e v.taken + clearing_of e v.epoch v.hold
 -- how many of the walks are of this epoch
 abbrev pub walks_in : ℕ → List Walk → ℕ
 walks_in e [] = 0
-walks_in e (walk ∷ walks) = cond (eqb e walk.epoch) 1 0 + walks_in e walks
+walks_in e (walk ∷ walks) = (if e == walk.epoch then 1 else 0) + walks_in e walks
 
 -- how many takes of this epoch the thread made
 abbrev pub takes_in : ℕ → View → ℕ
-takes_in e v = walks_in e v.taken + cond (eqb e v.epoch) (took_in v.hold) 0
+takes_in e v = walks_in e v.taken + (if e == v.epoch then took_in v.hold else 0)
 
 -- how many tickets were given in this epoch
 abbrev pub given_of : ℕ → BucketState → ℕ
-given_of e w = total (told_of e) w.views + cond (eqb e w.epoch) w.given 0
+given_of e w = total (told_of e) w.views + (if e == w.epoch then w.given else 0)
 
 -- how many of the walks have this place of this epoch
 abbrev pub walks_at : ℕ → ℕ → List Walk → ℕ
 walks_at e i [] = 0
-walks_at e i (walk ∷ walks) = cond (eqb e walk.epoch) (below i (length walk.values)) 0 + walks_at e i walks
+walks_at e i (walk ∷ walks) = (if e == walk.epoch then below i (length walk.values) else 0) + walks_at e i walks
 
 abbrev pub is_wiped : Visit → ℕ
 is_wiped (Wiped x) = 1
@@ -80,7 +80,7 @@ wiped_place (c ∷ cs) zero = is_wiped c
 wiped_place (c ∷ cs) (suc i) = wiped_place cs i
 
 abbrev pub wiped_hold : ℕ → ℕ → ℕ → Hold → ℕ
-wiped_hold e i epoch (Clearing s visits) = cond (eqb e epoch) (wiped_place visits i) 0
+wiped_hold e i epoch (Clearing s visits) = if e == epoch then wiped_place visits i else 0
 wiped_hold e i epoch _ = 0
 
 -- how many clears of the thread wiped this place of this epoch
@@ -89,7 +89,7 @@ wipes_at e i v = walks_at e i v.taken + wiped_hold e i v.epoch v.hold
 
 -- the mark of this place of this epoch: on the live side, or on the side that was taken last
 abbrev pub mark_of : ℕ → BucketState → ℕ → ℕ → ℕ
-mark_of places w e i = cond (eqb e w.epoch) (slice_index w.marks (place_index places w.live i)) (cond (eqb (suc e) w.epoch) (slice_index w.marks (place_index places (other w.live) i)) 0)
+mark_of places w e i = if e == w.epoch then slice_index w.marks (place_index places w.live i) else if suc e == w.epoch then slice_index w.marks (place_index places (other w.live) i) else 0
 
 -- one push was finished with the ticket of this epoch and place, and this is its value
 abbrev pub IsPush : BucketState → ℕ → ℕ → ℕ → Type 0

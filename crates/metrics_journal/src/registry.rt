@@ -1,5 +1,5 @@
 //! All shards under one lock.
-ghost use Rattle.std.specs.Prelude.{◌≡◌, ◌<◌, ◌≤◌, ◌%◌, ◌+◌, true, false, cond, map, IfOk, IfErr, vec_len, vec_capacity};
+ghost use Rattle.std.specs.Prelude.{◌≡◌, ◌<◌, ◌≤◌, ◌%◌, ◌+◌, true, false, if◌then◌else◌, map, IfOk, IfErr, vec_len, vec_capacity};
 ghost use Rattle.metrics.specs.declared.error.Error.TheVariants.{Memory as OutOfMemory, BadShards as NotShards};
 ghost use Rattle.metrics_registry.specs.Held.{is_shard_count};
 ghost use Rattle.metrics_journal.specs.Journal.{AreJournals, replies_in, key_of};
@@ -171,7 +171,7 @@ where
         requires trues { (trues.name ≡ T.name) × (trues.parts ≡ T.parts) × (T.parts ≡ 1024) }
         requires falses { (falses.name ≡ F.name) × (falses.parts ≡ F.parts) × (F.parts ≡ 1024) }
         ensures ok { IfOk result (λ r. (is_shard_count shards ≡ true) × (r.1 ≡ record { weight = 1024; shards = shards; trues = 0; falses = 0 })) }
-        ensures err { IfErr result (λ e. e ≡ cond (is_shard_count shards) OutOfMemory NotShards) }
+        ensures err { IfErr result (λ e. e ≡ (if is_shard_count shards then OutOfMemory else NotShards)) }
     {
         if !shards.is_power_of_two() || shards > 1024 {
             return Err(Error::BadShards);

@@ -1,5 +1,5 @@
 //! A shard that keeps a journal.
-ghost use Rattle.std.specs.Prelude.{◌≡◌, ◌<◌, ◌%◌, ◌++◌, ◌∷◌, [], true, cond, is_some, IfOk, IfErr};
+ghost use Rattle.std.specs.Prelude.{◌≡◌, ◌<◌, ◌%◌, ◌++◌, ◌∷◌, [], true, if◌then◌else◌, is_some, IfOk, IfErr};
 ghost use Rattle.metrics.specs.declared.error.Error.TheVariants.{Memory as OutOfMemory, BadShards as NotShards};
 ghost use Rattle.metrics_names.specs.declared.kind.MetricKind.{MetricKind as AnyKind};
 ghost use Rattle.metrics_registry.specs.Held.{is_shard_count};
@@ -56,7 +56,7 @@ where
         requires { shard < shards }
         ensures ok { IfOk result (λ s. (is_shard_count shards ≡ true) × (s.shard ≡ shard) × (s.shards ≡ shards) × (s.journal ≡ [])
             × (s.registry.storage ≡ storage) × (s.registry.counters.entries ≡ []) × (s.registry.gauges.entries ≡ []) × (s.registry.histograms.entries ≡ [])) }
-        ensures err { IfErr result (λ e. e ≡ cond (is_shard_count shards) OutOfMemory NotShards) }
+        ensures err { IfErr result (λ e. e ≡ (if is_shard_count shards then OutOfMemory else NotShards)) }
     {
         if !shards.is_power_of_two() || shards > 1024 {
             return Err(Error::BadShards);

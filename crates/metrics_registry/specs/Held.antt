@@ -1,5 +1,5 @@
 -- A finite map from keys to cells, as the list of its entries, and how it lies in shards.
-use Rattle.std.specs.Prelude.{◌≡◌, ℕ, suc, ◌+◌, ◌%◌, Bool, ◌&&◌, nat_le, nat_eq, true, false, cond, List, [], ◌∷◌, ◌++◌, Option, None, Some, MatchOption, IsSome, IsSomeAnd, position, slice_get}
+use Rattle.std.specs.Prelude.{◌≡◌, ◌==◌, ℕ, suc, ◌+◌, ◌%◌, Bool, ◌&&◌, nat_le, true, false, if◌then◌else◌, List, [], ◌∷◌, ◌++◌, Option, None, Some, MatchOption, IsSome, IsSomeAnd, position, slice_get}
 use Rattle.std.specs.List.{AllByRecursion, IsDistinct}
 use Rattle.std.specs.Map.{lookup, keys_of, values_of, update}
 use Rattle.indexmap.specs.IndexMap.{set_value_at}
@@ -43,11 +43,11 @@ CallsAt {K} {C} {V} eq Makes call key v old new =
 
 -- the place of a key among the entries, where they are in one shard
 abbrev pub place_of : {K C : Type 0} → (K → K → Bool) → Cells K C → K → Option ℕ
-place_of eq cells key = cond (nat_eq cells.count 1) (position (eq key) (keys_of cells.entries)) None
+place_of eq cells key = if cells.count == 1 then position (eq key) (keys_of cells.entries) else None
 
 -- the entry at a place, where they are in one shard
 abbrev pub entry_at : {K C : Type 0} → Cells K C → ℕ → Option (K × C)
-entry_at cells place = cond (nat_eq cells.count 1) (slice_get cells.entries place) None
+entry_at cells place = if cells.count == 1 then slice_get cells.entries place else None
 
 -- one call changed the cell at a place and gave v; keys and other cells stay
 abbrev pub ChangesAt : {K C V : Type 0} → (C → V → C → Type 0) → ℕ → V → List (K × C) → List (K × C) → Type 0
@@ -96,7 +96,7 @@ pub record CallsAtEntry {F K C R : Type 0} (g : Mut F (Bor K × (Bor C × Unit {
 -- calls of f at each item in turn answered, and left last; kept has the items at which they answered true
 abbrev pub Retains : {F X : Type 0} → (F → X → Bool → F → Type 0) → F → List X → List X → F → Type 0
 Retains call f [] kept last = (kept ≡ []) × (last ≡ f)
-Retains {F} {X} call f (x ∷ xs) kept last = (b : Bool) × (g : F) × (rest : List X) × call f x b g × Retains call g xs rest last × (kept ≡ cond b (x ∷ rest) rest)
+Retains {F} {X} call f (x ∷ xs) kept last = (b : Bool) × (g : F) × (rest : List X) × call f x b g × Retains call g xs rest last × (kept ≡ (if b then x ∷ rest else rest))
 
 -- new has a clone of the cell of each key that is held, and else what old has
 abbrev pub Copies : {K C : Type 0} → (K → K → Bool) → (C → C → Type 0) → List (K × C) → (K → Option C) → (K → Option C) → Type 0

@@ -1,5 +1,5 @@
 -- Quantiles in billionths, and their labels.
-use Rattle.std.specs.Prelude.{ℕ, ℤ, pos, negsuc, zero, suc, ◌+◌, ◌/◌, ◌%◌, ◌^◌, cond, min, nat_eq, List, [], ◌∷◌, ◌++◌}
+use Rattle.std.specs.Prelude.{◌==◌, ℕ, ℤ, pos, negsuc, zero, suc, ◌+◌, ◌/◌, ◌%◌, ◌^◌, if◌then◌else◌, min, List, [], ◌∷◌, ◌++◌}
 use Rattle.std.specs.Fmt.{decimal}
 
 -- the nearest number from 0 to 1,000,000,000
@@ -14,7 +14,7 @@ low_digits (suc k) n = (48 + n / 10 ^ k % 10) ∷ low_digits k n
 
 -- a digit before others, but for a zero before none
 abbrev pub digit_before : ℕ → List ℕ → List ℕ
-digit_before d [] = cond (nat_eq d 48) [] (d ∷ [])
+digit_before d [] = if d == 48 then [] else d ∷ []
 digit_before d (e ∷ ds) = d ∷ e ∷ ds
 
 -- without the zeros at the end
@@ -25,5 +25,6 @@ without_trailing_zeros (d ∷ ds) = digit_before d (without_trailing_zeros ds)
 -- `min` at 0, `max` at 1,000,000,000, else `p` and the percentile's digits: the decimal text of its whole part, and its seven
 -- decimals without trailing zeros
 abbrev pub label_of : ℕ → List ℕ
-label_of q = cond (nat_eq q 0) (109 ∷ 105 ∷ 110 ∷ []) (cond (nat_eq q 1000000000) (109 ∷ 97 ∷ 120 ∷ [])
-    (112 ∷ decimal (q / 10 ^ 7) ++ without_trailing_zeros (low_digits 7 (q % 10 ^ 7))))
+label_of q = if q == 0 then 109 ∷ 105 ∷ 110 ∷ []
+    else if q == 1000000000 then 109 ∷ 97 ∷ 120 ∷ []
+    else 112 ∷ decimal (q / 10 ^ 7) ++ without_trailing_zeros (low_digits 7 (q % 10 ^ 7))

@@ -1,5 +1,5 @@
 -- The table of (kind, key) to generation and moment: one check.
-use Rattle.std.specs.Prelude.{ℕ, ◌-◌, Bool, true, false, ◌&&◌, cond, List, [], ◌∷◌, Option, None, Some, is_some, nat_eq, nat_lt}
+use Rattle.std.specs.Prelude.{◌==◌, ℕ, ◌-◌, Bool, true, false, ◌&&◌, if◌then◌else◌, List, [], ◌∷◌, Option, None, Some, is_some, nat_lt}
 use Rattle.metrics_registry.specs.declared.registry.recency.Noted.{Noted}
 use Rattle.metrics_names.specs.declared.kind.MetricKind.{MetricKind}
 use Rattle.metrics_names.specs.Names.{kind_eq}
@@ -41,13 +41,13 @@ noted_now c = record { generation = c.generation; moment = c.moment }
 abbrev pub watch_step : Option ℕ → Noted → Bool → Option Noted → Bool × Option Noted
 watch_step timeout seen held None = (true, Some seen)
 watch_step timeout seen held (Some noted) =
-    cond (nat_eq noted.generation seen.generation)
-    (cond (is_late timeout noted.moment seen.moment && held) (false, None) (true, Some noted))
-    (true, Some seen)
+    if noted.generation == seen.generation
+    then (if is_late timeout noted.moment seen.moment && held then (false, None) else (true, Some noted))
+    else (true, Some seen)
 
 -- one check: without a timeout, or where the mask lacks the kind, the answer is true and nothing is noted
 abbrev pub check_step : {K : Type 0} → Rules → Check K → Option Noted → Bool × Option Noted
-check_step rules c noted = cond (is_some rules.timeout && rules.mask c.kind) (watch_step rules.timeout (noted_now c) c.held noted) (true, noted)
+check_step rules c noted = if is_some rules.timeout && rules.mask c.kind then watch_step rules.timeout (noted_now c) c.held noted else (true, noted)
 
 -- the answer to a check by the table
 abbrev pub table_answer : {K : Type 0} → Rules → Check K → Table K → Bool
@@ -55,7 +55,7 @@ table_answer rules c table = (check_step rules c (table c.kind c.key)).0
 
 -- the table after a check
 abbrev pub table_after : {K : Type 0} → (K → K → Bool) → Rules → Check K → Table K → Table K
-table_after same rules c table = λ kind key. cond (is_of same c kind key) ((check_step rules c (table c.kind c.key)).1) (table kind key)
+table_after same rules c table = λ kind key. if is_of same c kind key then (check_step rules c (table c.kind c.key)).1 else table kind key
 
 -- the answers to checks, one after another
 abbrev pub table_answers : {K : Type 0} → (K → K → Bool) → Rules → Table K → List (Check K) → List Bool

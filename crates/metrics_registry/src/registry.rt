@@ -1,5 +1,5 @@
 //! A registry that has one owner: for each kind a map from keys to cells, in shards.
-ghost use Rattle.std.specs.Prelude.{◌≡◌, true, false, [], None, Some, Ok, IfOk, IfErr, OnErr, IfSome, IfNone, MatchResult, is_some, option_map, cond};
+ghost use Rattle.std.specs.Prelude.{◌≡◌, true, false, [], None, Some, Ok, IfOk, IfErr, OnErr, IfSome, IfNone, MatchResult, is_some, option_map, if◌then◌else◌};
 ghost use Rattle.std.specs.Option.{option_copied};
 ghost use Rattle.std.specs.Map.Iter.{deref_pair};
 ghost use Rattle.std.specs.Fn.{FnOnceReturnsAtMut};
@@ -54,7 +54,7 @@ where
     /// A registry with nothing in it, and each kind's map in this many shards, a power of two from 1 to 1,024.
     pub fn new(alloc: Global, storage: S, shards: usize) -> Result<Self, Error>
         ensures ok { IfOk result (λ r. (is_shard_count shards ≡ true) × (r.storage ≡ storage) × (r.counters ≡ record { count = shards; entries = [] }) × (r.gauges ≡ record { count = shards; entries = [] }) × (r.histograms ≡ record { count = shards; entries = [] })) }
-        ensures err { IfErr result (λ e. e ≡ cond (is_shard_count shards) OutOfMemory NotShards) }
+        ensures err { IfErr result (λ e. e ≡ (if is_shard_count shards then OutOfMemory else NotShards)) }
     {
         if !shards.is_power_of_two() || shards > 1024 {
             return Err(Error::BadShards);

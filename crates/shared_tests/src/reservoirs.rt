@@ -8,8 +8,10 @@ use rand_xoshiro::Xoshiro256StarStar;
 use std::alloc::Global;
 use std::process::Abort;
 use std::sync::Wait;
+use std::sync::atomic::{AtomicU64, Ordering};
 use std::test::Fail;
 use std::thread::{self, Threads, join};
+use std::time::Duration;
 
 /// What a drain told: the number of values and their sum, the rate, and how many items came.
 type Told = (u64, i128, (u64, u64), usize);
@@ -171,4 +173,52 @@ fn four_threads_push_while_one_consumes(rt: HostRuntime) -> Result<(), Fail> {
         Xoshiro256StarStar::seed_from_u64(1),
     )?;
     expect_all(&rt, rt.alloc(), &reservoir)
+}
+
+/// Waits until the step is reached, or for ten seconds.
+fn await_step<R: Wait>(rt: &R, step: &AtomicU64, wanted: u64) {
+    for _ in 0..10_000 {
+        let now = step.load(Ordering::SeqCst);
+        if now >= wanted {
+            return;
+        }
+        step.park_timeout(rt, now as u32, Duration::from_millis(1));
+    }
+}
+
+/// A first thread consumes until a second one has come to its own `consume` and had time for it. Answers the step that
+/// the second one's closure saw.
+fn step_of_the_second<R: Threads + Wait + Sync, G: Rng + Drop + Send>(
+    rt: &R,
+    reservoir: &AtomicSamplingReservoir<G>,
+) -> u64 {
+    let step = &AtomicU64::new(0);
+    let (_, seen) = join(
+        rt,
+        || reservoir.consume(rt, |_drain| {
+            step.store(1, Ordering::SeqCst);
+            await_step(rt, step, 2);
+            step.park_timeout(rt, 2, Duration::from_millis(50));
+            step.store(3, Ordering::SeqCst);
+        }),
+        || {
+            await_step(rt, step, 1);
+            step.store(2, Ordering::SeqCst);
+            let mut seen = 0;
+            reservoir.consume(rt, |_drain| seen = step.load(Ordering::SeqCst));
+            seen
+        },
+    );
+    seen
+}
+
+#[test]
+fn second_consume_waits_for_the_first(rt: HostRuntime) -> Result<(), Fail> {
+    let reservoir = AtomicSamplingReservoir::new(
+        rt.alloc(),
+        4,
+        Xoshiro256StarStar::seed_from_u64(1),
+    )?;
+    assert_eq!(&rt; step_of_the_second(&rt, &reservoir), 3);
+    Ok(())
 }

@@ -1,5 +1,5 @@
 //! Which series are still in use.
-ghost use Rattle.std.specs.Prelude.{◌≡◌, true, cond, Some, None, OnOk, OnErr, IfOk, IfErr, is_some};
+ghost use Rattle.std.specs.Prelude.{◌≡◌, ◌==◌, true, if◌then◌else◌, Some, None, OnOk, OnErr, IfOk, IfErr, is_some};
 ghost use Rattle.std.specs.HashMap.{get};
 ghost use Rattle.metrics.specs.Layers.{mask_has};
 ghost use Rattle.metrics.specs.declared.error.Error.TheVariants.{Memory as OutOfMemory};
@@ -33,7 +33,7 @@ fn check<K: Hashable + Clone + Drop, C: Drop>(
     requires { (k c : K) → K.is_clone k c → K.eq k c ≡ true }
     ensures answer { IfOk result (λ stays. stays ≡ (watch_step (Some timeout) seen (is_some (held K.eq cells.old.entries key.now)) (get K.eq noted.old key.now)).0) }
     ensures ok { OnOk result ((q : K) → get K.eq noted.new q
-        ≡ cond (K.eq key.now q) ((watch_step (Some timeout) seen (is_some (held K.eq cells.old.entries key.now)) (get K.eq noted.old key.now)).1) (get K.eq noted.old q)) }
+        ≡ (if K.eq key.now q then (watch_step (Some timeout) seen (is_some (held K.eq cells.old.entries key.now)) (get K.eq noted.old key.now)).1 else get K.eq noted.old q)) }
     ensures cells { IfOk result (λ stays. StaysOrGoes K.eq key.now stays cells.old.entries cells.new.entries × (cells.new.count ≡ cells.old.count)) }
     ensures err { IfErr result (λ e. (e ≡ OutOfMemory) × ((q : K) → get K.eq noted.new q ≡ get K.eq noted.old q) × (cells.new ≡ cells.old)) }
 {
@@ -82,7 +82,7 @@ impl<K: Hashable + Clone + Drop> OwnedRecency<K> {
 
     /// The timeout where notes are taken of the kind.
     fn timeout_of(&self, kind: MetricKind) -> Option<u64>
-        ensures { result ≡ cond (mask_has kind self.now.mask) self.now.timeout None }
+        ensures { result ≡ (if mask_has kind self.now.mask then self.now.timeout else None) }
     {
         if self.mask.matches(kind) {
             self.timeout
