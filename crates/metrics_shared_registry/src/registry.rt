@@ -11,14 +11,14 @@ mod recency;
 mod storage;
 
 pub use generational::Generational;
-use metrics::Error;
+use metrics::{Error, Key};
 use metrics_registry::Hashable;
 use metrics_registry::registry::{OwnedRegistry, Storage};
 pub use recency::Recency;
 use std::alloc::Global;
 use std::collections::HashMap;
 use std::sync::{Arc, RwLock, Wait};
-pub use storage::GenerationalStorage;
+pub use storage::{AtomicStorage, GenerationalAtomicStorage, GenerationalStorage};
 
 /// A part of a registry, under its lock.
 type Shard<K, S> = RwLock<OwnedRegistry<K, Arc<S>>>;
@@ -334,6 +334,17 @@ where
     /// Removes a histogram, and tells whether it was there.
     pub fn delete_histogram<W: Wait>(&self, rt: &W, key: &K) -> bool {
         self.shard(key).write(rt).delete_histogram(key)
+    }
+}
+
+impl Registry<Key, AtomicStorage> {
+    /// A registry of a metric's keys with nothing in it, whose cells any thread may change, in this many shards, a power of two
+    /// from 1 to 1,024.
+    pub fn atomic(alloc: Global, shards: usize) -> Result<Registry<Key, AtomicStorage>, Error>
+        ensures ok { IfOk result (λ r. (is_shard_count shards ≡ true) × (vec_len r.shards ≡ shards)) }
+        ensures err { IfErr result (λ e. e ≡ cond (is_shard_count shards) OutOfMemory NotShards) }
+    {
+        Registry::new(alloc, AtomicStorage::new(alloc), shards)
     }
 }
 
