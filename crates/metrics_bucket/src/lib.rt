@@ -1,10 +1,12 @@
 //! A lock-free bucket of samples: many threads push into it while one at a time reads or clears it.
 #![tactic(auto)]
 
+mod atomic;
 mod bucket;
 mod clears;
 mod gathered;
 mod law;
+mod lent;
 mod pen;
 mod readings;
 mod rule;
@@ -15,6 +17,7 @@ mod tests;
 mod view;
 mod visitor;
 
+pub use atomic::AtomicBucket;
 pub use bucket::RuledBucket;
 pub use law::bucket_law;
 pub use pen::Pen;

@@ -17,7 +17,7 @@ mod shards;
 mod storage;
 
 use crate::common::Hashable;
-pub use generation::{Counted, Generation};
+pub use generation::{AtomicGeneration, Counted, Generation};
 use metrics::Error;
 pub use plain::PlainStorage;
 pub use recency::OwnedRecency;
@@ -124,6 +124,16 @@ where
         ensures calls { (last : F) × FoldsTo (λ p e q. CallsAtEntry F.FnMut p e tt q) f self.now.counters.entries last }
         ensures once { IsDistinct K.eq (keys_of self.now.counters.entries) }
     {
+        self.visit_counters_to(f);
+    }
+
+    /// As `visit_counters`, for a closure that the caller keeps: it comes back as the calls left it.
+    pub fn visit_counters_to<F: FnMut(&K, &S::Counter)>(&self, f: F) -> F
+        requires { F.IsAlwaysCallable f }
+        ensures calls { FoldsTo (λ p e q. CallsAtEntry F.FnMut p e tt q) f self.now.counters.entries result }
+        ensures callable { F.IsAlwaysCallable result }
+        ensures once { IsDistinct K.eq (keys_of self.now.counters.entries) }
+    {
         self.counters.visit(f)
     }
 
@@ -141,6 +151,18 @@ where
     pub fn retain_counters<F: FnMut(&K, &S::Counter) -> bool + Drop>(&mut self, f: F)
         requires { F.IsAlwaysCallable f }
         ensures retains { (last : F) × Retains (λ p e b q. CallsAtEntry F.FnMut p e b q) f self.old.counters.entries self.new.counters.entries last }
+        ensures once { IsDistinct K.eq (keys_of self.old.counters.entries) }
+        ensures count { self.new.counters.count ≡ self.old.counters.count }
+        ensures rest { (self.new.storage ≡ self.old.storage) × (self.new.gauges ≡ self.old.gauges) × (self.new.histograms ≡ self.old.histograms) }
+    {
+        self.retain_counters_to(f);
+    }
+
+    /// As `retain_counters`, for a closure that the caller keeps: it comes back as the calls left it.
+    pub fn retain_counters_to<F: FnMut(&K, &S::Counter) -> bool>(&mut self, f: F) -> F
+        requires { F.IsAlwaysCallable f }
+        ensures retains { Retains (λ p e b q. CallsAtEntry F.FnMut p e b q) f self.old.counters.entries self.new.counters.entries result }
+        ensures callable { F.IsAlwaysCallable result }
         ensures once { IsDistinct K.eq (keys_of self.old.counters.entries) }
         ensures count { self.new.counters.count ≡ self.old.counters.count }
         ensures rest { (self.new.storage ≡ self.old.storage) × (self.new.gauges ≡ self.old.gauges) × (self.new.histograms ≡ self.old.histograms) }
@@ -227,6 +249,16 @@ where
         ensures calls { (last : F) × FoldsTo (λ p e q. CallsAtEntry F.FnMut p e tt q) f self.now.gauges.entries last }
         ensures once { IsDistinct K.eq (keys_of self.now.gauges.entries) }
     {
+        self.visit_gauges_to(f);
+    }
+
+    /// As `visit_gauges`, for a closure that the caller keeps: it comes back as the calls left it.
+    pub fn visit_gauges_to<F: FnMut(&K, &S::Gauge)>(&self, f: F) -> F
+        requires { F.IsAlwaysCallable f }
+        ensures calls { FoldsTo (λ p e q. CallsAtEntry F.FnMut p e tt q) f self.now.gauges.entries result }
+        ensures callable { F.IsAlwaysCallable result }
+        ensures once { IsDistinct K.eq (keys_of self.now.gauges.entries) }
+    {
         self.gauges.visit(f)
     }
 
@@ -244,6 +276,18 @@ where
     pub fn retain_gauges<F: FnMut(&K, &S::Gauge) -> bool + Drop>(&mut self, f: F)
         requires { F.IsAlwaysCallable f }
         ensures retains { (last : F) × Retains (λ p e b q. CallsAtEntry F.FnMut p e b q) f self.old.gauges.entries self.new.gauges.entries last }
+        ensures once { IsDistinct K.eq (keys_of self.old.gauges.entries) }
+        ensures count { self.new.gauges.count ≡ self.old.gauges.count }
+        ensures rest { (self.new.storage ≡ self.old.storage) × (self.new.counters ≡ self.old.counters) × (self.new.histograms ≡ self.old.histograms) }
+    {
+        self.retain_gauges_to(f);
+    }
+
+    /// As `retain_gauges`, for a closure that the caller keeps: it comes back as the calls left it.
+    pub fn retain_gauges_to<F: FnMut(&K, &S::Gauge) -> bool>(&mut self, f: F) -> F
+        requires { F.IsAlwaysCallable f }
+        ensures retains { Retains (λ p e b q. CallsAtEntry F.FnMut p e b q) f self.old.gauges.entries self.new.gauges.entries result }
+        ensures callable { F.IsAlwaysCallable result }
         ensures once { IsDistinct K.eq (keys_of self.old.gauges.entries) }
         ensures count { self.new.gauges.count ≡ self.old.gauges.count }
         ensures rest { (self.new.storage ≡ self.old.storage) × (self.new.counters ≡ self.old.counters) × (self.new.histograms ≡ self.old.histograms) }
@@ -330,6 +374,16 @@ where
         ensures calls { (last : F) × FoldsTo (λ p e q. CallsAtEntry F.FnMut p e tt q) f self.now.histograms.entries last }
         ensures once { IsDistinct K.eq (keys_of self.now.histograms.entries) }
     {
+        self.visit_histograms_to(f);
+    }
+
+    /// As `visit_histograms`, for a closure that the caller keeps: it comes back as the calls left it.
+    pub fn visit_histograms_to<F: FnMut(&K, &S::Histogram)>(&self, f: F) -> F
+        requires { F.IsAlwaysCallable f }
+        ensures calls { FoldsTo (λ p e q. CallsAtEntry F.FnMut p e tt q) f self.now.histograms.entries result }
+        ensures callable { F.IsAlwaysCallable result }
+        ensures once { IsDistinct K.eq (keys_of self.now.histograms.entries) }
+    {
         self.histograms.visit(f)
     }
 
@@ -347,6 +401,18 @@ where
     pub fn retain_histograms<F: FnMut(&K, &S::Histogram) -> bool + Drop>(&mut self, f: F)
         requires { F.IsAlwaysCallable f }
         ensures retains { (last : F) × Retains (λ p e b q. CallsAtEntry F.FnMut p e b q) f self.old.histograms.entries self.new.histograms.entries last }
+        ensures once { IsDistinct K.eq (keys_of self.old.histograms.entries) }
+        ensures count { self.new.histograms.count ≡ self.old.histograms.count }
+        ensures rest { (self.new.storage ≡ self.old.storage) × (self.new.counters ≡ self.old.counters) × (self.new.gauges ≡ self.old.gauges) }
+    {
+        self.retain_histograms_to(f);
+    }
+
+    /// As `retain_histograms`, for a closure that the caller keeps: it comes back as the calls left it.
+    pub fn retain_histograms_to<F: FnMut(&K, &S::Histogram) -> bool>(&mut self, f: F) -> F
+        requires { F.IsAlwaysCallable f }
+        ensures retains { Retains (λ p e b q. CallsAtEntry F.FnMut p e b q) f self.old.histograms.entries self.new.histograms.entries result }
+        ensures callable { F.IsAlwaysCallable result }
         ensures once { IsDistinct K.eq (keys_of self.old.histograms.entries) }
         ensures count { self.new.histograms.count ≡ self.old.histograms.count }
         ensures rest { (self.new.storage ≡ self.old.storage) × (self.new.counters ≡ self.old.counters) × (self.new.gauges ≡ self.old.gauges) }

@@ -3,6 +3,7 @@ ghost use Rattle.std.specs.Prelude.{◌≡◌, ◌+◌, ◌%◌, ◌^◌};
 ghost use Rattle.std.specs.Fn.{FnOnceReturnsAtMut};
 
 use std::marker::Model;
+use std::sync::atomic::{AtomicU64, Ordering};
 
 /// How often a value was changed, modulo 2^64.
 #[derive(Clone, Copy, Debug, PartialEq, Eq, PartialOrd, Ord)]
@@ -65,5 +66,25 @@ impl<T> Counted<T> {
         let answer = call(&mut self.inner, f);
         self.generation = Generation(self.generation.0.wrapping_add(1));
         answer
+    }
+}
+
+/// A generation that any thread may raise. No contract says which it is.
+#[derive(Debug, Drop)]
+pub struct AtomicGeneration(AtomicU64);
+
+impl AtomicGeneration {
+    /// Generation 0.
+    pub fn new() -> AtomicGeneration {
+        AtomicGeneration(AtomicU64::new(0))
+    }
+
+    pub fn load(&self) -> Generation {
+        Generation(self.0.load(Ordering::SeqCst))
+    }
+
+    /// Makes the generation one more, modulo 2^64.
+    pub fn raise(&self) {
+        self.0.fetch_add(1, Ordering::SeqCst);
     }
 }

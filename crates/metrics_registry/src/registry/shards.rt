@@ -241,16 +241,18 @@ impl<K: Hashable + Drop, C: Drop> Shards<K, C> {
         create(&mut self.maps[shard], key, cell, op)
     }
 
-    /// Calls `f` once for each entry, in the order of the entries.
-    pub fn visit<F: FnMut(&K, &C) + Drop>(&self, f: F)
+    /// Calls `f` once for each entry, in the order of the entries, and gives it back as the calls left it.
+    pub fn visit<F: FnMut(&K, &C)>(&self, f: F) -> F
         requires { F.IsAlwaysCallable f }
-        ensures calls { (last : F) × FoldsTo (λ p e q. CallsAtEntry F.FnMut p e tt q) f self.now.entries last }
+        ensures calls { FoldsTo (λ p e q. CallsAtEntry F.FnMut p e tt q) f self.now.entries result }
+        ensures callable { F.IsAlwaysCallable result }
         ensures once { IsDistinct K.eq (keys_of self.now.entries) }
     {
         let mut f = f;
         for map in &self.maps {
             f = visit(map, f);
         }
+        f
     }
 
     /// The keys, each with a clone of its cell.
@@ -269,10 +271,12 @@ impl<K: Hashable + Drop, C: Drop> Shards<K, C> {
         Ok(handles)
     }
 
-    /// Keeps the entries for which `f` answers true. It is called once for each entry, in the order of the entries.
-    pub fn retain<F: FnMut(&K, &C) -> bool + Drop>(&mut self, f: F)
+    /// Keeps the entries for which `f` answers true. It is called once for each entry, in the order of the entries, and comes
+    /// back as the calls left it.
+    pub fn retain<F: FnMut(&K, &C) -> bool>(&mut self, f: F) -> F
         requires { F.IsAlwaysCallable f }
-        ensures retains { (last : F) × Retains (λ p e b q. CallsAtEntry F.FnMut p e b q) f self.old.entries self.new.entries last }
+        ensures retains { Retains (λ p e b q. CallsAtEntry F.FnMut p e b q) f self.old.entries self.new.entries result }
+        ensures callable { F.IsAlwaysCallable result }
         ensures once { IsDistinct K.eq (keys_of self.old.entries) }
         ensures count { self.new.count ≡ self.old.count }
     {
@@ -280,6 +284,7 @@ impl<K: Hashable + Drop, C: Drop> Shards<K, C> {
         for i in 0..self.maps.len() {
             f = retain(&mut self.maps[i], f);
         }
+        f
     }
 
     /// Removes a key, and tells whether it was held.

@@ -1,8 +1,10 @@
 //! What makes the cells of a registry.
 ghost use Rattle.std.specs.Prelude.{◌≡◌, MatchResult};
+ghost use Rattle.std.specs.Arc.{arc_value};
 ghost use Rattle.metrics.specs.declared.error.Error.TheVariants.{Memory as OutOfMemory};
 
 use metrics::Error;
+use std::sync::Arc;
 
 /// Makes the cells of a registry over keys of type `K`.
 ///
@@ -35,4 +37,31 @@ pub trait Storage<K> {
     /// A new histogram.
     fn histogram(&self, key: &K) -> Result<Self::Histogram, Error>
         ensures { MatchResult result (makes_histogram self.now key.now) (λ e. e ≡ OutOfMemory) };
+}
+
+/// Makes the cells that the storage inside makes.
+impl<K, T: Storage<K>> Storage<K> for Arc<T> {
+    type Counter = T::Counter;
+
+    type Gauge = T::Gauge;
+
+    type Histogram = T::Histogram;
+
+    ghost makes_counter = { λ storage key cell. T.makes_counter (arc_value storage) key cell };
+
+    ghost makes_gauge = { λ storage key cell. T.makes_gauge (arc_value storage) key cell };
+
+    ghost makes_histogram = { λ storage key cell. T.makes_histogram (arc_value storage) key cell };
+
+    fn counter(&self, key: &K) -> Result<T::Counter, Error> {
+        (**self).counter(key)
+    }
+
+    fn gauge(&self, key: &K) -> Result<T::Gauge, Error> {
+        (**self).gauge(key)
+    }
+
+    fn histogram(&self, key: &K) -> Result<T::Histogram, Error> {
+        (**self).histogram(key)
+    }
 }

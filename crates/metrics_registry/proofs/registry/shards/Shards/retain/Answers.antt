@@ -25,11 +25,9 @@ pub returns-clause-retains : goal.returns-clause-retains
 returns-clause-retains g c =
     let P : List (g.row.K.Denot × g.row.C.Denot) → List (g.row.K.Denot × g.row.C.Denot) → Type 0 = λ es ks. Retains (λ p e b q. CallsAtEntry g.F.FnMut p e b q) c.args.f es ks c.loop-i.f in
     let ms = c.self.inside.maps.items in
-    let ns = c.loop-i.self-inside.maps.items in (
-      c.loop-i.f,
-      subst (λ es. P es (entries_of ns)) (ap entries_of (take_all c.loop-i.i ms (search rules)) ∙ (ap (λ (v : Cells g.row.K.Denot g.row.C.Denot). v.entries) c.self.view_is))
-          (subst (P (entries_of (take c.loop-i.i ms))) (ap entries_of (take_all c.loop-i.i ns (search rules))) c.loop-i.invariant.3),
-    )
+    let ns = c.loop-i.self-inside.maps.items in
+    subst (λ es. P es (entries_of ns)) (ap entries_of (take_all c.loop-i.i ms (search rules)) ∙ (ap (λ (v : Cells g.row.K.Denot g.row.C.Denot). v.entries) c.self.view_is))
+    (subst (P (entries_of (take c.loop-i.i ms))) (ap entries_of (take_all c.loop-i.i ns (search rules))) c.loop-i.invariant.3)
 
 pub returns-clause-once : goal.returns-clause-once
 returns-clause-once g c =

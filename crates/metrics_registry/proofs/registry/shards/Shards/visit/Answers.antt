@@ -17,7 +17,7 @@ loop-map-preserved g c =
 pub returns-clause-calls : goal.returns-clause-calls
 returns-clause-calls g c =
     let P : List (g.row.K.Denot × g.row.C.Denot) → Type 0 = λ es. FoldsTo (λ p e q. CallsAtEntry g.F.FnMut p e tt q) c.args.f es c.loop-map.f in
-    (c.loop-map.f, subst P (ap entries_of (take_all c.loop-map.map-index c.deref-map-items.result.now c.loop-map-test.false ∙ c.deref-map-items.ensures.value) ∙ (ap (λ (v : Cells g.row.K.Denot g.row.C.Denot). v.entries) c.self.view_is)) c.loop-map.invariant.1)
+    subst P (ap entries_of (take_all c.loop-map.map-index c.deref-map-items.result.now c.loop-map-test.false ∙ c.deref-map-items.ensures.value) ∙ (ap (λ (v : Cells g.row.K.Denot g.row.C.Denot). v.entries) c.self.view_is)) c.loop-map.invariant.1
 
 pub returns-clause-once : goal.returns-clause-once
 returns-clause-once g c =

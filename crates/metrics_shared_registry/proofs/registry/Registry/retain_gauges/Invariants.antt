@@ -1,0 +1,5 @@
+use denote.Param.Always.{always_mut}
+use Rattle.metrics_shared_registry.proofs.registry.Registry.retain_gauges.Given as goal
+
+abbrev pub invariant-loop-shard : goal.invariant-loop-shard
+invariant-loop-shard g l = always_mut g.F.FnMut l.f

@@ -1,0 +1,13 @@
+//! Tests of `metrics_shared_registry`, through what it hands out.
+//!
+//! They stand in a crate of their own: a crate with tests is proved twice.
+#![tactic(auto)]
+
+#[cfg(test)]
+mod cells;
+#[cfg(test)]
+mod entries;
+#[cfg(test)]
+mod given;
+#[cfg(test)]
+mod recency;
