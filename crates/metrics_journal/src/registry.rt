@@ -15,12 +15,12 @@ use metrics_registry::registry::Storage;
 use std::alloc::Global;
 use std::marker::Model;
 use std::sync::ledger::{Blank, Book, Ledger};
-use std::sync::{Mutex, Wait};
+use std::sync::{Arc, Mutex, Wait};
 
 /// All shards, room for their journals, and how many of their replies were true and how many false.
 #[derive(Drop)]
 struct Journals<K: Hashable, S: Storage<K>, T: Ledger, F: Ledger> {
-    shards: Vec<JournaledShard<K, S>>,
+    shards: Vec<JournaledShard<K, Arc<S>>>,
     room: Vec<Vec<(ShardCall<K>, bool)>>,
     trues: Book<T>,
     falses: Book<F>,
@@ -89,11 +89,11 @@ where
 }
 
 /// Shards in order, with empty journals.
-fn new_shards<K: Hashable + Clone + Drop, S: Storage<K> + Clone + Drop>(
+fn new_shards<K: Hashable + Clone + Drop, S: Storage<K> + Drop>(
     alloc: Global,
-    storage: &S,
+    storage: &Arc<S>,
     count: usize,
-) -> Result<Vec<JournaledShard<K, S>>, Error>
+) -> Result<Vec<JournaledShard<K, Arc<S>>>, Error>
 where
     S::Counter: Drop,
     S::Gauge: Drop,
@@ -115,7 +115,7 @@ where
 
 /// Puts the journals of the shards, in order, where there is room for them.
 fn journals_in<K: Hashable + Clone + Drop, S: Storage<K> + Drop>(
-    shards: Vec<JournaledShard<K, S>>,
+    shards: Vec<JournaledShard<K, Arc<S>>>,
     room: Vec<Vec<(ShardCall<K>, bool)>>,
 ) -> Vec<Vec<(ShardCall<K>, bool)>>
 where
@@ -157,8 +157,8 @@ where
 {
     /// A registry of this many shards, a power of two from 1 to 1,024, and the whole tally.
     ///
-    /// The two blanks open the ledgers of the true and the false replies, each of 1,024 parts. Each shard has a clone of the
-    /// storage. All the memory that `finish` needs is taken here.
+    /// The two blanks open the ledgers of the true and the false replies, each of 1,024 parts. The shards share the storage.
+    /// All the memory that `finish` needs is taken here.
     pub fn new(
         alloc: Global,
         storage: S,
@@ -166,8 +166,6 @@ where
         trues: Blank,
         falses: Blank,
     ) -> Result<(Self, Tally<T, F>), Error>
-    where
-        S: Clone,
         requires trues { (trues.name ≡ T.name) × (trues.parts ≡ T.parts) × (T.parts ≡ 1024) }
         requires falses { (falses.name ≡ F.name) × (falses.parts ≡ F.parts) × (F.parts ≡ 1024) }
         ensures ok { IfOk result (λ r. (is_shard_count shards ≡ true) × (r.1 ≡ record { weight = 1024; shards = shards; trues = 0; falses = 0 })) }
@@ -176,6 +174,7 @@ where
         if !shards.is_power_of_two() || shards > 1024 {
             return Err(Error::BadShards);
         }
+        let storage = Arc::new(alloc, storage)?;
         let made = new_shards(alloc, &storage, shards)?;
         let mut room = Vec::new(alloc);
         room.reserve(shards)?;

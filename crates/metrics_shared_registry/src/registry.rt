@@ -1,7 +1,7 @@
 //! A registry that several threads share: shards, each under a lock of its own.
 //!
 //! No contract says what a shard holds, since other threads may change it at any time.
-ghost use Rattle.std.specs.Prelude.{◌≡◌, ◌<◌, true, IfOk, IfErr, cond, vec_len};
+ghost use Rattle.std.specs.Prelude.{◌≡◌, ◌<◌, true, IfOk, IfErr, if◌then◌else◌, vec_len};
 ghost use Rattle.std.specs.Fn.{FnOnceReturnsAt};
 ghost use Rattle.metrics.specs.declared.error.Error.TheVariants.{Memory as OutOfMemory, BadShards as NotShards};
 ghost use Rattle.metrics_registry.specs.Held.{is_shard_count};
@@ -47,7 +47,7 @@ where
     /// A registry with nothing in it, in this many shards, a power of two from 1 to 1,024.
     pub fn new(alloc: Global, storage: S, shards: usize) -> Result<Registry<K, S>, Error>
         ensures ok { IfOk result (λ r. (is_shard_count shards ≡ true) × (r.storage.value ≡ storage) × (vec_len r.shards ≡ shards)) }
-        ensures err { IfErr result (λ e. e ≡ cond (is_shard_count shards) OutOfMemory NotShards) }
+        ensures err { IfErr result (λ e. e ≡ (if is_shard_count shards then OutOfMemory else NotShards)) }
     {
         if !shards.is_power_of_two() || shards > 1024 {
             return Err(Error::BadShards);
@@ -342,7 +342,7 @@ impl Registry<Key, AtomicStorage> {
     /// from 1 to 1,024.
     pub fn atomic(alloc: Global, shards: usize) -> Result<Registry<Key, AtomicStorage>, Error>
         ensures ok { IfOk result (λ r. (is_shard_count shards ≡ true) × (vec_len r.shards ≡ shards)) }
-        ensures err { IfErr result (λ e. e ≡ cond (is_shard_count shards) OutOfMemory NotShards) }
+        ensures err { IfErr result (λ e. e ≡ (if is_shard_count shards then OutOfMemory else NotShards)) }
     {
         Registry::new(alloc, AtomicStorage::new(alloc), shards)
     }

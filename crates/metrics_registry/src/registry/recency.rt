@@ -1,5 +1,5 @@
 //! Which series are still in use.
-ghost use Rattle.std.specs.Prelude.{◌≡◌, ◌==◌, true, if◌then◌else◌, Some, None, OnOk, OnErr, IfOk, IfErr, is_some};
+ghost use Rattle.std.specs.Prelude.{◌≡◌, true, if◌then◌else◌, Some, None, OnOk, OnErr, IfOk, IfErr, is_some};
 ghost use Rattle.std.specs.HashMap.{get};
 ghost use Rattle.metrics.specs.Layers.{mask_has};
 ghost use Rattle.metrics.specs.declared.error.Error.TheVariants.{Memory as OutOfMemory};
