@@ -175,14 +175,18 @@ fn four_threads_push_while_one_consumes(rt: HostRuntime) -> Result<(), Fail> {
     expect_all(&rt, rt.alloc(), &reservoir)
 }
 
+/// Sleeps for about so many milliseconds.
+fn sleep<R: Wait>(rt: &R, millis: u64) {
+    AtomicU64::new(0).park_timeout(rt, 0, Duration::from_millis(millis));
+}
+
 /// Waits until the step is reached, or for ten seconds.
 fn await_step<R: Wait>(rt: &R, step: &AtomicU64, wanted: u64) {
     for _ in 0..10_000 {
-        let now = step.load(Ordering::SeqCst);
-        if now >= wanted {
+        if step.load(Ordering::SeqCst) >= wanted {
             return;
         }
-        step.park_timeout(rt, now as u32, Duration::from_millis(1));
+        sleep(rt, 1);
     }
 }
 
@@ -198,7 +202,7 @@ fn step_of_the_second<R: Threads + Wait + Sync, G: Rng + Drop + Send>(
         || reservoir.consume(rt, |_drain| {
             step.store(1, Ordering::SeqCst);
             await_step(rt, step, 2);
-            step.park_timeout(rt, 2, Duration::from_millis(50));
+            sleep(rt, 50);
             step.store(3, Ordering::SeqCst);
         }),
         || {
