@@ -4,10 +4,12 @@
 
 mod clears;
 mod pushes;
+mod shared_pushes;
 
 use anyhow::{Result, anyhow};
 use clears::Clears;
 use pushes::{Pushes, PushesOfFour};
+use shared_pushes::{SharedPushes, SharedPushesOfFour};
 use std::env;
 use std::rt::{Clock, Env};
 use std::sync::Wait;
@@ -116,6 +118,10 @@ fn main(rt: HostRuntime) -> Result<()> {
     report(&rt, timed, "bucket_push_1t", Pushes::new(alloc)?, 65_536)?;
     let bench = PushesOfFour::new(alloc)?;
     report(&rt, timed, "bucket_push_4t", bench, 65_536)?;
+    let bench = SharedPushes::new(alloc)?;
+    report(&rt, timed, "atomic_bucket_push_1t", bench, 65_536)?;
+    let bench = SharedPushesOfFour::new(alloc)?;
+    report(&rt, timed, "atomic_bucket_push_4t", bench, 65_536)?;
     let bench = Clears::new(alloc, 1, 512)?;
     report(&rt, timed, "bucket_clear_with_64_per_value", bench, 32_768)?;
     let bench = Clears::new(alloc, 16, 256)?;

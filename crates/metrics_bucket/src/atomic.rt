@@ -1,8 +1,7 @@
 //! A bucket that any thread may use.
-ghost use Rattle.std.specs.Prelude.{◌≡◌, ℕ, ◌<◌, ◌≤◌, ◌⊎◌, List, length, map, IfOk, IfErr};
+ghost use Rattle.std.specs.Prelude.{◌≡◌, ℕ, ◌<◌, ◌≤◌, ◌⊎◌, List, length, IfOk, IfErr};
 ghost use Rattle.std.specs.Fn.{CalledAt};
 ghost use Rattle.std.specs.List.{FoldsTo};
-ghost use Rattle.metrics.specs.Book.{blocks as in_blocks};
 ghost use Rattle.metrics_bucket.specs.Blocks.{valued, newest_first};
 
 use crate::bucket::RuledBucket;
@@ -22,7 +21,7 @@ const PENS: usize = 64;
 /// only while a pen is lent or comes back.
 #[derive(Drop)]
 pub struct AtomicBucket<T: Sample> {
-    pens: Mutex<Vec<Lent<T>>>,
+    pens: Mutex<Vec<Box<Lent<T>, Global>>>,
 }
 
 impl<T: Sample> AtomicBucket<T> {
@@ -34,18 +33,18 @@ impl<T: Sample> AtomicBucket<T> {
         let (bucket, pen) = RuledBucket::<T>::new(alloc, blocks)?;
         let bucket = Arc::new(alloc, bucket)?;
         let mut pens = Vec::with_capacity(alloc, PENS)?;
-        Lent::share(&bucket, pen, PENS, &mut pens)?;
+        Lent::share(alloc, &bucket, pen, PENS, &mut pens)?;
         Ok(AtomicBucket {
             pens: Mutex::new(pens),
         })
     }
 
-    fn lend<R: Wait>(&self, rt: &R) -> Option<Lent<T>> {
+    fn lend<R: Wait>(&self, rt: &R) -> Option<Box<Lent<T>, Global>> {
         self.pens.lock(rt).pop()
     }
 
     // There is room for it, since there was before it was lent.
-    fn give_back<R: Wait>(&self, rt: &R, lent: Lent<T>) {
+    fn give_back<R: Wait>(&self, rt: &R, lent: Box<Lent<T>, Global>) {
         let _ = self.pens.lock(rt).push(lent);
     }
 
@@ -53,10 +52,10 @@ impl<T: Sample> AtomicBucket<T> {
     pub fn is_empty<R: Wait>(&self, rt: &R) -> Result<bool, Error>
         ensures { IfErr result (λ e. e ≡ Error.NoPen) }
     {
-        let Some(lent) = self.lend(rt) else {
+        let Some(mut lent) = self.lend(rt) else {
             return Err(Error::NoPen);
         };
-        let (empty, lent) = lent.is_empty();
+        let empty = lent.is_empty();
         self.give_back(rt, lent);
         Ok(empty)
     }
@@ -65,10 +64,10 @@ impl<T: Sample> AtomicBucket<T> {
     pub fn push<R: Wait>(&self, rt: &R, value: T) -> Result<(), (Error, T)>
         ensures { IfErr result (λ e. ((e.0 ≡ Error.Full) ⊎ (e.0 ≡ Error.NoPen)) × (e.1 ≡ value)) }
     {
-        let Some(lent) = self.lend(rt) else {
+        let Some(mut lent) = self.lend(rt) else {
             return Err((Error::NoPen, value));
         };
-        let (pushed, lent) = lent.push(rt, value);
+        let pushed = lent.push(rt, value);
         self.give_back(rt, lent);
         pushed
     }
@@ -77,13 +76,12 @@ impl<T: Sample> AtomicBucket<T> {
     ///
     /// `Busy`: another walk is under way.
     pub fn data<R: Wait>(&self, rt: &R, alloc: Global) -> Result<Vec<T>, Error>
-        ensures ok { IfOk result (λ v. (words : List ℕ) × (v.items ≡ map T.value (in_blocks words))) }
-        ensures err { IfErr result (λ e. (e ≡ Error.Memory) ⊎ (e ≡ Error.Busy) ⊎ (e ≡ Error.NoPen)) }
+        ensures { IfErr result (λ e. (e ≡ Error.Memory) ⊎ (e ≡ Error.Busy) ⊎ (e ≡ Error.NoPen)) }
     {
-        let Some(lent) = self.lend(rt) else {
+        let Some(mut lent) = self.lend(rt) else {
             return Err(Error::NoPen);
         };
-        let (values, lent) = lent.data(rt, alloc);
+        let values = lent.data(rt, alloc);
         self.give_back(rt, lent);
         values
     }
@@ -95,10 +93,10 @@ impl<T: Sample> AtomicBucket<T> {
         ensures ok { IfOk result (λ n. (words : List ℕ) × (length words ≡ n) × ((last : F) × FoldsTo (λ p x q. CalledAt F.FnMut p x tt q) f (valued T.value (newest_first words)) last)) }
         ensures err { IfErr result (λ e. (e ≡ Error.Busy) ⊎ (e ≡ Error.NoPen)) }
     {
-        let Some(lent) = self.lend(rt) else {
+        let Some(mut lent) = self.lend(rt) else {
             return Err(Error::NoPen);
         };
-        let (count, lent) = lent.data_with(rt, f);
+        let count = lent.data_with(rt, f);
         self.give_back(rt, lent);
         count
     }
@@ -121,10 +119,10 @@ impl<T: Sample> AtomicBucket<T> {
         ensures ok { IfOk result (λ n. (words : List ℕ) × (length words ≡ n) × ((last : F) × FoldsTo (λ p x q. CalledAt F.FnMut p x tt q) f (valued T.value (newest_first words)) last)) }
         ensures err { IfErr result (λ e. (e ≡ Error.Busy) ⊎ (e ≡ Error.NoPen)) }
     {
-        let Some(lent) = self.lend(rt) else {
+        let Some(mut lent) = self.lend(rt) else {
             return Err(Error::NoPen);
         };
-        let (count, lent) = lent.clear_with(rt, f);
+        let count = lent.clear_with(rt, f);
         self.give_back(rt, lent);
         count
     }

@@ -39,10 +39,11 @@ impl<T: Sample> Lent<T> {
 
     /// Splits a pen into so many, and puts them behind the others.
     pub(crate) fn share(
+        alloc: Global,
         bucket: &Arc<RuledBucket<T>, Global>,
         mut pen: Pen,
         count: usize,
-        pens: &mut Vec<Lent<T>>,
+        pens: &mut Vec<Box<Lent<T>, Global>>,
     ) -> Result<(), Error>
         requires some { (0 < count) × (count ≤ pen.weight) }
         requires own { pen.home ≡ arc_value bucket.now }
@@ -51,64 +52,55 @@ impl<T: Sample> Lent<T> {
         ensures err { IfErr result (λ e. e ≡ Error.Memory) }
     {
         if count == 1 {
-            return Ok(pens.push(Lent::new(bucket, pen)?)?);
+            let lent = Box::new(alloc, Lent::new(bucket, pen)?)?;
+            return Ok(pens.push(lent)?);
         }
         let other = pen.split()?;
-        Self::share(bucket, pen, count - count / 2, pens)?;
-        Self::share(bucket, other, count / 2, pens)
+        Self::share(alloc, bucket, pen, count - count / 2, pens)?;
+        Self::share(alloc, bucket, other, count / 2, pens)
     }
 
-    pub(crate) fn is_empty(self) -> (bool, Lent<T>)
-        ensures { result.1.pen ≡ self.pen }
+    pub(crate) fn is_empty(&mut self) -> bool
+        ensures { self.new.pen ≡ self.old.pen }
     {
-        let Lent { bucket, mut pen } = self;
-        let empty = bucket.is_empty_as(&mut pen);
-        (empty, Lent { bucket, pen })
+        self.bucket.is_empty_as(&mut self.pen)
     }
 
-    pub(crate) fn push<R: Wait>(self, rt: &R, value: T) -> (Result<(), (Error, T)>, Lent<T>)
-        ensures ok { OnOk result.0 (IsPushed self.pen (T.word value) result.1.pen) }
-        ensures err { IfErr result.0 (λ e. (result.1.pen ≡ self.pen) × (e.0 ≡ Error.Full) × (e.1 ≡ value)) }
+    pub(crate) fn push<R: Wait>(&mut self, rt: &R, value: T) -> Result<(), (Error, T)>
+        ensures ok { OnOk result (IsPushed self.old.pen (T.word value) self.new.pen) }
+        ensures err { IfErr result (λ e. (self.new.pen ≡ self.old.pen) × (e.0 ≡ Error.Full) × (e.1 ≡ value)) }
     {
-        let Lent { bucket, mut pen } = self;
-        let pushed = bucket.push_as(rt, &mut pen, value);
-        (pushed, Lent { bucket, pen })
+        self.bucket.push_as(rt, &mut self.pen, value)
     }
 
-    pub(crate) fn data<R: Wait>(self, rt: &R, alloc: Global) -> (Result<Vec<T>, Error>, Lent<T>)
-        ensures ok { IfOk result.0 (λ v. (walk : Walk) × (v.items ≡ map T.value (blocks walk.values)) × IsRead self.pen walk result.1.pen) }
-        ensures err { IfErr result.0 (λ e. (result.1.pen ≡ self.pen) × ((e ≡ Error.Memory) ⊎ (e ≡ Error.Busy))) }
+    pub(crate) fn data<R: Wait>(&mut self, rt: &R, alloc: Global) -> Result<Vec<T>, Error>
+        ensures ok { IfOk result (λ v. (walk : Walk) × (v.items ≡ map T.value (blocks walk.values)) × IsRead self.old.pen walk self.new.pen) }
+        ensures err { IfErr result (λ e. (self.new.pen ≡ self.old.pen) × ((e ≡ Error.Memory) ⊎ (e ≡ Error.Busy))) }
     {
-        let Lent { bucket, mut pen } = self;
-        let values = bucket.data_as(rt, alloc, &mut pen);
-        (values, Lent { bucket, pen })
+        self.bucket.data_as(rt, alloc, &mut self.pen)
     }
 
     pub(crate) fn data_with<R: Wait, F: FnMut(&[T])>(
-        self,
+        &mut self,
         rt: &R,
         f: F,
-    ) -> (Result<usize, Error>, Lent<T>)
+    ) -> Result<usize, Error>
         requires { F.IsAlwaysCallable f }
-        ensures ok { IfOk result.0 (λ n. (walk : Walk) × (length walk.values ≡ n) × IsRead self.pen walk result.1.pen × ((last : F) × FoldsTo (λ p x q. CalledAt F.FnMut p x tt q) f (valued T.value (newest_first walk.values)) last)) }
-        ensures err { IfErr result.0 (λ e. (result.1.pen ≡ self.pen) × (e ≡ Error.Busy)) }
+        ensures ok { IfOk result (λ n. (walk : Walk) × (length walk.values ≡ n) × IsRead self.old.pen walk self.new.pen × ((last : F) × FoldsTo (λ p x q. CalledAt F.FnMut p x tt q) f (valued T.value (newest_first walk.values)) last)) }
+        ensures err { IfErr result (λ e. (self.new.pen ≡ self.old.pen) × (e ≡ Error.Busy)) }
     {
-        let Lent { bucket, mut pen } = self;
-        let count = bucket.data_with_as(rt, &mut pen, f);
-        (count, Lent { bucket, pen })
+        self.bucket.data_with_as(rt, &mut self.pen, f)
     }
 
     pub(crate) fn clear_with<R: Wait, F: FnMut(&[T])>(
-        self,
+        &mut self,
         rt: &R,
         f: F,
-    ) -> (Result<usize, Error>, Lent<T>)
+    ) -> Result<usize, Error>
         requires { F.IsAlwaysCallable f }
-        ensures ok { IfOk result.0 (λ n. (walk : Walk) × (length walk.values ≡ n) × IsTaken self.pen walk result.1.pen × ((last : F) × FoldsTo (λ p x q. CalledAt F.FnMut p x tt q) f (valued T.value (newest_first walk.values)) last)) }
-        ensures err { IfErr result.0 (λ e. (result.1.pen ≡ self.pen) × (e ≡ Error.Busy)) }
+        ensures ok { IfOk result (λ n. (walk : Walk) × (length walk.values ≡ n) × IsTaken self.old.pen walk self.new.pen × ((last : F) × FoldsTo (λ p x q. CalledAt F.FnMut p x tt q) f (valued T.value (newest_first walk.values)) last)) }
+        ensures err { IfErr result (λ e. (self.new.pen ≡ self.old.pen) × (e ≡ Error.Busy)) }
     {
-        let Lent { bucket, mut pen } = self;
-        let count = bucket.clear_with_as(rt, &mut pen, f);
-        (count, Lent { bucket, pen })
+        self.bucket.clear_with_as(rt, &mut self.pen, f)
     }
 }

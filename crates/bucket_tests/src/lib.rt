@@ -1,0 +1,11 @@
+//! Tests of `AtomicBucket`, through what `metrics_bucket` hands out.
+//!
+//! They stand in a crate of their own: a crate with tests is proved twice.
+#![tactic(auto)]
+
+#[cfg(test)]
+mod alone;
+#[cfg(test)]
+mod histograms;
+#[cfg(test)]
+mod threads;

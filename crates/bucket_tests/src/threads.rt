@@ -1,0 +1,90 @@
+//! A bucket that several threads use at once.
+
+use metrics::Error;
+use metrics_bucket::AtomicBucket;
+use std::alloc::Global;
+use std::sync::Wait;
+use std::sync::atomic::{AtomicUsize, Ordering};
+use std::test::Fail;
+use std::thread::{Threads, join};
+
+/// Pushes the values from `from` on, below `end`, each until it is in.
+fn push_all<R: Wait>(rt: &R, bucket: &AtomicBucket<u64>, from: u64, end: u64) {
+    for value in from..end {
+        for _ in rt.forever() {
+            match bucket.push(rt, value) {
+                Err((Error::Full, _)) => {}
+                _ => break,
+            }
+        }
+    }
+}
+
+/// Two threads push 0 to 1999, and then it is told that they ended.
+fn push_in_two<R: Threads + Wait + Sync>(rt: &R, bucket: &AtomicBucket<u64>, ended: &AtomicUsize) {
+    join(
+        rt,
+        || push_all(rt, bucket, 0, 1000),
+        || push_all(rt, bucket, 1000, 2000),
+    );
+    ended.store(1, Ordering::SeqCst);
+}
+
+/// What clears showed until the pushes ended.
+fn clear_to_the_end<R: Wait>(
+    rt: &R,
+    alloc: Global,
+    bucket: &AtomicBucket<u64>,
+    ended: &AtomicUsize,
+) -> Vec<u64> {
+    let mut shown = Vec::new(alloc);
+    for _ in rt.forever() {
+        let last = ended.load(Ordering::SeqCst) == 1;
+        let _ = bucket.clear_with(rt, |part| {
+            for value in part {
+                let _ = shown.push(*value);
+            }
+        });
+        if last {
+            break;
+        }
+    }
+    shown
+}
+
+/// Whether these are the numbers from 0 on, each once, in some order.
+fn are_all_once(mut values: Vec<u64>, count: usize) -> bool {
+    values.sort_unstable();
+    let mut want = 0u64;
+    for value in values.as_slice() {
+        if *value != want {
+            return false;
+        }
+        want = want.wrapping_add(1);
+    }
+    values.len() == count
+}
+
+/// What a thread's clears show while two others push.
+fn push_and_clear<R: Threads + Wait + Sync>(
+    rt: &R,
+    alloc: Global,
+    bucket: &AtomicBucket<u64>,
+) -> Vec<u64> {
+    let counter = AtomicUsize::new(0);
+    let ended = &counter;
+    let ((), shown) = join(
+        rt,
+        || push_in_two(rt, bucket, ended),
+        || clear_to_the_end(rt, alloc, bucket, ended),
+    );
+    shown
+}
+
+#[test]
+fn each_value_comes_out_once(rt: HostRuntime) -> Result<(), Fail> {
+    let bucket = AtomicBucket::<u64>::new(rt.alloc(), 1)?;
+    let shown = push_and_clear(&rt, rt.alloc(), &bucket);
+    assert!(rt; are_all_once(shown, 2000) && bucket.is_empty(&rt) == Ok(true));
+    Ok(())
+}
