@@ -20,11 +20,15 @@ pub mod registry {
     pub use metrics_registry::registry::{
         Counted, Generation, OwnedRecency, OwnedRegistry, PlainStorage, Storage,
     };
+    pub use metrics_shared_registry::registry::{
+        AtomicStorage, Generational, GenerationalAtomicStorage, GenerationalStorage, Recency,
+        Registry,
+    };
 }
 
 /// Storage of samples.
 pub mod storage {
-    pub use metrics_bucket::{Pen, RuledBucket, Sample, Visitor, bucket_law};
+    pub use metrics_bucket::{AtomicBucket, Pen, RuledBucket, Sample, Visitor, bucket_law};
     pub use metrics_storage::{BLOCK_SIZE, Block, Histogram, OwnedBucket, reservoir_law};
 
     /// A fixed number of values out of all that were pushed.
