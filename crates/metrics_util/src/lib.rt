@@ -20,6 +20,10 @@ pub mod registry {
     pub use metrics_registry::registry::{
         Counted, Generation, OwnedRecency, OwnedRegistry, PlainStorage, Storage,
     };
+    pub use metrics_shared_registry::registry::{
+        AtomicStorage, Generational, GenerationalAtomicStorage, GenerationalStorage, Recency,
+        Registry,
+    };
 }
 
 /// Storage of samples.

@@ -1,94 +1,171 @@
 //! Entries that come and go, in each kind and for several numbers of shards.
 
-use crate::given::{KINDS, Plain, Words, delete, handles, increment, retain_prefix, visits, word};
+use crate::given::{
+    Counting, KINDS, count, dated_cells, dated_words, delete, handles, increment, plain,
+    retain_prefix, visits,
+};
 use metrics::{Error, Key, MetricKind};
+use metrics_registry::registry::Storage;
 use metrics_shared_registry::registry::Registry;
 use std::alloc::Global;
 use std::process::Abort;
 use std::sync::Wait;
 use std::test::Fail;
 
-fn empty(alloc: Global, shards: usize) -> Result<Plain, Error> {
-    Registry::new(alloc, Words { alloc }, shards)
+/// A key comes once, and each call is on its cell.
+fn a_key_comes_once<R: Abort + Wait, S: Storage<Key> + Drop>(
+    rt: &R,
+    registry: &Registry<Key, S>,
+    kind: MetricKind,
+    key: &Key,
+) -> Result<(), Fail>
+where
+    S::Counter: Counting,
+    S::Gauge: Counting,
+    S::Histogram: Counting,
+{
+    let first = increment(rt, registry, kind, key)?;
+    let second = increment(rt, registry, kind, key)?;
+    assert_eq!(rt; (first, second), (1, 2));
+    assert_eq!(rt; count(rt, registry, kind, key)?, Some(2));
+    Ok(())
 }
 
-/// A registry with each name under each kind, incremented once.
-fn holding<W: Wait>(rt: &W, alloc: Global, shards: usize, names: &[&str]) -> Result<Plain, Fail> {
-    let registry = empty(alloc, shards)?;
-    for name in names {
+/// Of `foobar` and `baz` a retain takes `baz` away, and a delete `foobar`.
+fn keys_go<R: Abort + Wait, S: Storage<Key> + Drop>(
+    rt: &R,
+    alloc: Global,
+    registry: &Registry<Key, S>,
+    kind: MetricKind,
+    foobar: &Key,
+) -> Result<(), Fail>
+where
+    S::Counter: Counting,
+    S::Gauge: Counting,
+    S::Histogram: Counting,
+{
+    assert_eq!(rt; retain_prefix(rt, registry, kind, "foo"), 2);
+    assert_eq!(rt; visits(rt, registry, kind), 1);
+    assert_eq!(rt; handles(rt, alloc, registry, kind)?, 1);
+    let first = delete(rt, registry, kind, foobar);
+    let second = delete(rt, registry, kind, foobar);
+    assert_eq!(rt; (first, second), (true, false));
+    assert_eq!(rt; handles(rt, alloc, registry, kind)?, 0);
+    Ok(())
+}
+
+/// A key that is made again is found, until a clear.
+fn a_clear_takes_all<R: Abort + Wait, S: Storage<Key> + Drop>(
+    rt: &R,
+    registry: &Registry<Key, S>,
+    kind: MetricKind,
+    key: &Key,
+) -> Result<(), Fail>
+where
+    S::Counter: Counting,
+    S::Gauge: Counting,
+    S::Histogram: Counting,
+{
+    increment(rt, registry, kind, key)?;
+    assert_eq!(rt; count(rt, registry, kind, key)?, Some(1));
+    registry.clear(rt);
+    assert_eq!(rt; count(rt, registry, kind, key)?, None);
+    Ok(())
+}
+
+fn expect_entries<R: Abort + Wait, S: Storage<Key> + Drop>(
+    rt: &R,
+    alloc: Global,
+    registry: &Registry<Key, S>,
+) -> Result<(), Fail>
+where
+    S::Counter: Counting,
+    S::Gauge: Counting,
+    S::Histogram: Counting,
+{
+    let foobar = Key::from_name(alloc, "foobar")?;
+    let baz = Key::from_name(alloc, "baz")?;
+    for kind in KINDS {
+        a_key_comes_once(rt, registry, kind, &foobar)?;
+        increment(rt, registry, kind, &baz)?;
+        keys_go(rt, alloc, registry, kind, &foobar)?;
+        a_clear_takes_all(rt, registry, kind, &baz)?;
+    }
+    Ok(())
+}
+
+#[test]
+fn words_come_and_go(rt: HostRuntime) -> Result<(), Fail> {
+    for shards in [1, 2, 8] {
+        expect_entries(&rt, rt.alloc(), &plain(rt.alloc(), shards)?)?;
+    }
+    Ok(())
+}
+
+#[test]
+fn words_with_generations_come_and_go(rt: HostRuntime) -> Result<(), Fail> {
+    for shards in [1, 2, 8] {
+        expect_entries(&rt, rt.alloc(), &dated_words(rt.alloc(), shards)?)?;
+    }
+    Ok(())
+}
+
+#[test]
+fn atomic_cells_come_and_go(rt: HostRuntime) -> Result<(), Fail> {
+    for shards in [1, 2, 8] {
+        expect_entries(&rt, rt.alloc(), &Registry::atomic(rt.alloc(), shards)?)?;
+    }
+    Ok(())
+}
+
+#[test]
+fn atomic_cells_with_generations_come_and_go(rt: HostRuntime) -> Result<(), Fail> {
+    for shards in [1, 2, 8] {
+        expect_entries(&rt, rt.alloc(), &dated_cells(rt.alloc(), shards)?)?;
+    }
+    Ok(())
+}
+
+/// Each kind has entries of its own: a retain that keeps none takes those of its kind alone.
+fn none_is_kept<R: Abort + Wait>(rt: &R, alloc: Global, shards: usize) -> Result<(), Fail> {
+    let registry = plain(alloc, shards)?;
+    for name in ["a", "b", "c"] {
         let key = Key::from_name(alloc, name)?;
         for kind in KINDS {
             increment(rt, &registry, kind, &key)?;
         }
     }
-    Ok(registry)
-}
-
-fn a_key_comes_once<R: Abort + Wait>(
-    rt: &R,
-    alloc: Global,
-    shards: usize,
-    kind: MetricKind,
-) -> Result<(), Fail> {
-    let registry = empty(alloc, shards)?;
-    let key = Key::from_name(alloc, "foobar")?;
-    let first = increment(rt, &registry, kind, &key)?;
-    let second = increment(rt, &registry, kind, &key)?;
-    assert_eq!(rt; (first, second), (1, 2));
-    assert_eq!(rt; word(rt, &registry, kind, &key)?, Some(2));
-    Ok(())
-}
-
-fn a_key_stays_or_goes<R: Abort + Wait>(
-    rt: &R,
-    alloc: Global,
-    shards: usize,
-    kind: MetricKind,
-) -> Result<(), Fail> {
-    let registry = holding(rt, alloc, shards, &["foobar", "baz"])?;
-    assert_eq!(rt; retain_prefix(rt, &registry, kind, "foo"), 2);
-    assert_eq!(rt; visits(rt, &registry, kind), 1);
-    assert_eq!(rt; handles(rt, alloc, &registry, kind)?, 1);
-    let key = Key::from_name(alloc, "foobar")?;
-    let first = delete(rt, &registry, kind, &key);
-    let second = delete(rt, &registry, kind, &key);
-    assert_eq!(rt; (first, second), (true, false));
-    assert_eq!(rt; handles(rt, alloc, &registry, kind)?, 0);
-    Ok(())
-}
-
-fn a_clear_takes_all<R: Abort + Wait>(
-    rt: &R,
-    alloc: Global,
-    shards: usize,
-    kind: MetricKind,
-) -> Result<(), Fail> {
-    let registry = holding(rt, alloc, shards, &["baz"])?;
-    let key = Key::from_name(alloc, "baz")?;
-    assert_eq!(rt; word(rt, &registry, kind, &key)?, Some(1));
-    registry.clear(rt);
-    assert_eq!(rt; word(rt, &registry, kind, &key)?, None);
+    assert_eq!(rt; retain_prefix(rt, &registry, MetricKind::Gauge, "x"), 3);
+    for kind in KINDS {
+        let left = if kind == MetricKind::Gauge { 0 } else { 3 };
+        assert_eq!(rt; visits(rt, &registry, kind), left);
+    }
     Ok(())
 }
 
 #[test]
-fn keys_come_and_go(rt: HostRuntime) -> Result<(), Fail> {
-    for kind in KINDS {
-        for shards in [1, 2, 8] {
-            a_key_comes_once(&rt, rt.alloc(), shards, kind)?;
-            a_key_stays_or_goes(&rt, rt.alloc(), shards, kind)?;
-            a_clear_takes_all(&rt, rt.alloc(), shards, kind)?;
-        }
+fn a_retain_may_keep_none(rt: HostRuntime) -> Result<(), Fail> {
+    for shards in [1, 2, 8] {
+        none_is_kept(&rt, rt.alloc(), shards)?;
     }
     Ok(())
+}
+
+/// The refusals of a number of shards, by both ways to make a registry.
+fn refusals(alloc: Global, shards: usize) -> (Option<Error>, Option<Error>) {
+    (
+        plain(alloc, shards).err(),
+        Registry::atomic(alloc, shards).err(),
+    )
 }
 
 #[test]
 fn shards_are_a_power_of_two(rt: HostRuntime) {
+    let refused = (Some(Error::BadShards), Some(Error::BadShards));
     for shards in [0, 3, 2048] {
-        assert_eq!(rt; empty(rt.alloc(), shards).err(), Some(Error::BadShards));
+        assert_eq!(rt; refusals(rt.alloc(), shards), refused);
     }
     for shards in [1, 1024] {
-        assert_eq!(rt; empty(rt.alloc(), shards).err(), None);
+        assert_eq!(rt; refusals(rt.alloc(), shards), (None, None));
     }
 }

@@ -1,12 +1,15 @@
-//! A storage of words, and calls by kind.
+//! Storages, and calls by kind.
 ghost use Rattle.std.specs.Prelude.{◌≡◌, IfErr};
 ghost use Rattle.metrics.specs.declared.error.Error.TheVariants.{Memory as OutOfMemory};
 
 use metrics::{Error, Key, MetricKind};
-use metrics_cells::CounterFn;
+use metrics_bucket::AtomicBucket;
+use metrics_cells::HistogramFn;
 use metrics_registry::key_clones;
-use metrics_registry::registry::Storage;
-use metrics_shared_registry::registry::{Generational, GenerationalStorage, Registry};
+use metrics_registry::registry::{Generation, Storage};
+use metrics_shared_registry::registry::{
+    AtomicStorage, Generational, GenerationalAtomicStorage, GenerationalStorage, Registry,
+};
 use std::alloc::Global;
 use std::sync::atomic::{AtomicU64, Ordering};
 use std::sync::{Arc, Wait};
@@ -53,16 +56,84 @@ impl<K> Storage<K> for Words {
     }
 }
 
+/// A cell that ones are added to.
+pub trait Counting: Clone + Drop {
+    /// Adds one, and answers the sum.
+    fn one_more<W: Wait>(&self, rt: &W) -> u64;
+
+    /// How many ones were added.
+    fn count<W: Wait>(&self, rt: &W) -> u64;
+}
+
+impl Counting for Word {
+    fn one_more<W: Wait>(&self, _rt: &W) -> u64 {
+        self.fetch_add(1, Ordering::SeqCst).wrapping_add(1)
+    }
+
+    fn count<W: Wait>(&self, _rt: &W) -> u64 {
+        self.load(Ordering::SeqCst)
+    }
+}
+
+/// The ones are samples.
+impl Counting for Arc<AtomicBucket<i64>> {
+    fn one_more<W: Wait>(&self, rt: &W) -> u64 {
+        match self.record(rt, 1) {
+            Ok(()) => self.count(rt),
+            Err(_) => 0,
+        }
+    }
+
+    fn count<W: Wait>(&self, rt: &W) -> u64 {
+        self.data_with(rt, |_: &[i64]| {}).unwrap_or(0) as u64
+    }
+}
+
+impl<T: Counting> Counting for Generational<T> {
+    fn one_more<W: Wait>(&self, rt: &W) -> u64 {
+        self.with_increment(|cell: &T| cell.one_more(rt))
+    }
+
+    fn count<W: Wait>(&self, rt: &W) -> u64 {
+        self.get_inner().count(rt)
+    }
+}
+
+/// A cell with a generation.
+pub trait Dated: Counting {
+    fn generation(&self) -> Generation;
+}
+
+impl<T: Counting> Dated for Generational<T> {
+    fn generation(&self) -> Generation {
+        self.get_generation()
+    }
+}
+
 /// A registry of bare words.
 pub type Plain = Registry<Key, Words>;
 
-/// A registry of words with generations.
-pub type Dated = Registry<Key, Arc<GenerationalStorage<Words>>>;
+pub fn plain(alloc: Global, shards: usize) -> Result<Plain, Error> {
+    Registry::new(alloc, Words { alloc }, shards)
+}
 
-pub fn dated(alloc: Global, shards: usize) -> Result<Dated, Error> {
+/// A registry of words with generations, whose storage is shared.
+pub type DatedWords = Registry<Key, Arc<GenerationalStorage<Words>>>;
+
+pub fn dated_words(alloc: Global, shards: usize) -> Result<DatedWords, Error> {
     let storage = Arc::new(alloc, GenerationalStorage::new(alloc, Words { alloc }))?;
     Registry::new(alloc, storage, shards)
 }
+
+/// A registry of counters, gauges and histograms with generations.
+pub type DatedCells = Registry<Key, GenerationalAtomicStorage>;
+
+pub fn dated_cells(alloc: Global, shards: usize) -> Result<DatedCells, Error> {
+    Registry::new(alloc, GenerationalStorage::atomic(alloc), shards)
+}
+
+/// A registry of counters, gauges and histograms.
+pub type Cells = Registry<Key, AtomicStorage>;
 
 pub const KINDS: [MetricKind; 3] = [
     MetricKind::Counter,
@@ -70,90 +141,80 @@ pub const KINDS: [MetricKind; 3] = [
     MetricKind::Histogram,
 ];
 
-fn one_more(word: &Word) -> u64 {
-    word.fetch_add(1, Ordering::SeqCst).wrapping_add(1)
-}
-
-/// Adds one to the word of a key, and answers the sum.
-pub fn increment<W: Wait>(
+/// Adds one to the cell of a key, and answers the sum.
+pub fn increment<W: Wait, S: Storage<Key> + Drop>(
     rt: &W,
-    registry: &Plain,
+    registry: &Registry<Key, S>,
     kind: MetricKind,
     key: &Key,
-) -> Result<u64, Error> {
-    key_clones();
-    match kind {
-        MetricKind::Counter => registry.get_or_create_counter(rt, key, |w: &Word| one_more(w)),
-        MetricKind::Gauge => registry.get_or_create_gauge(rt, key, |w: &Word| one_more(w)),
-        MetricKind::Histogram => registry.get_or_create_histogram(rt, key, |w: &Word| one_more(w)),
-    }
-}
-
-/// Adds one to the word of a key, whose generation is one more.
-pub fn increment_dated<W: Wait>(
-    rt: &W,
-    registry: &Dated,
-    kind: MetricKind,
-    key: &Key,
-) -> Result<(), Error> {
+) -> Result<u64, Error>
+where
+    S::Counter: Counting,
+    S::Gauge: Counting,
+    S::Histogram: Counting,
+{
     key_clones();
     match kind {
         MetricKind::Counter => {
-            registry.get_or_create_counter(rt, key, |c: &Generational<Word>| c.increment(1))
+            registry.get_or_create_counter(rt, key, |c: &S::Counter| c.one_more(rt))
         }
-        MetricKind::Gauge => {
-            registry.get_or_create_gauge(rt, key, |c: &Generational<Word>| {
-                CounterFn::increment(c, 1)
-            })
-        }
+        MetricKind::Gauge => registry.get_or_create_gauge(rt, key, |c: &S::Gauge| c.one_more(rt)),
         MetricKind::Histogram => {
-            registry.get_or_create_histogram(rt, key, |c: &Generational<Word>| {
-                CounterFn::increment(c, 1)
-            })
+            registry.get_or_create_histogram(rt, key, |c: &S::Histogram| c.one_more(rt))
         }
     }
 }
 
-/// The word of a key.
-pub fn word<W: Wait>(
+/// How many ones were added to the cell of a key.
+pub fn count<W: Wait, S: Storage<Key> + Drop>(
     rt: &W,
-    registry: &Plain,
+    registry: &Registry<Key, S>,
     kind: MetricKind,
     key: &Key,
-) -> Result<Option<u64>, Error> {
-    let cell = match kind {
-        MetricKind::Counter => registry.get_counter(rt, key)?,
-        MetricKind::Gauge => registry.get_gauge(rt, key)?,
-        MetricKind::Histogram => registry.get_histogram(rt, key)?,
-    };
-    Ok(cell.map(|word| word.load(Ordering::SeqCst)))
+) -> Result<Option<u64>, Error>
+where
+    S::Counter: Counting,
+    S::Gauge: Counting,
+    S::Histogram: Counting,
+{
+    Ok(match kind {
+        MetricKind::Counter => registry.get_counter(rt, key)?.map(|c| c.count(rt)),
+        MetricKind::Gauge => registry.get_gauge(rt, key)?.map(|c| c.count(rt)),
+        MetricKind::Histogram => registry.get_histogram(rt, key)?.map(|c| c.count(rt)),
+    })
 }
 
-/// The cell of a key.
-pub fn cell<W: Wait>(
+/// The generation of the cell of a key.
+pub fn generation<W: Wait, S: Storage<Key> + Drop>(
     rt: &W,
-    registry: &Dated,
+    registry: &Registry<Key, S>,
     kind: MetricKind,
     key: &Key,
-) -> Result<Option<Generational<Word>>, Error> {
-    match kind {
-        MetricKind::Counter => registry.get_counter(rt, key),
-        MetricKind::Gauge => registry.get_gauge(rt, key),
-        MetricKind::Histogram => registry.get_histogram(rt, key),
-    }
+) -> Result<Option<Generation>, Error>
+where
+    S::Counter: Dated,
+    S::Gauge: Dated,
+    S::Histogram: Dated,
+{
+    Ok(match kind {
+        MetricKind::Counter => registry.get_counter(rt, key)?.map(|c| c.generation()),
+        MetricKind::Gauge => registry.get_gauge(rt, key)?.map(|c| c.generation()),
+        MetricKind::Histogram => registry.get_histogram(rt, key)?.map(|c| c.generation()),
+    })
 }
 
 /// Removes a key, and tells whether it was there.
-pub fn delete<W: Wait>(rt: &W, registry: &Plain, kind: MetricKind, key: &Key) -> bool {
-    match kind {
-        MetricKind::Counter => registry.delete_counter(rt, key),
-        MetricKind::Gauge => registry.delete_gauge(rt, key),
-        MetricKind::Histogram => registry.delete_histogram(rt, key),
-    }
-}
-
-/// Removes a key, and tells whether it was there.
-pub fn delete_dated<W: Wait>(rt: &W, registry: &Dated, kind: MetricKind, key: &Key) -> bool {
+pub fn delete<W: Wait, S: Storage<Key> + Drop>(
+    rt: &W,
+    registry: &Registry<Key, S>,
+    kind: MetricKind,
+    key: &Key,
+) -> bool
+where
+    S::Counter: Drop,
+    S::Gauge: Drop,
+    S::Histogram: Drop,
+{
     match kind {
         MetricKind::Counter => registry.delete_counter(rt, key),
         MetricKind::Gauge => registry.delete_gauge(rt, key),
@@ -162,24 +223,46 @@ pub fn delete_dated<W: Wait>(rt: &W, registry: &Dated, kind: MetricKind, key: &K
 }
 
 /// The number of calls of a visit's closure.
-pub fn visits<W: Wait>(rt: &W, registry: &Plain, kind: MetricKind) -> usize {
+pub fn visits<W: Wait, S: Storage<Key> + Drop>(
+    rt: &W,
+    registry: &Registry<Key, S>,
+    kind: MetricKind,
+) -> usize
+where
+    S::Counter: Drop,
+    S::Gauge: Drop,
+    S::Histogram: Drop,
+{
     let mut calls = 0usize;
-    let count = |_key: &Key, _word: &Word| calls = calls.wrapping_add(1);
     match kind {
-        MetricKind::Counter => registry.visit_counters(rt, count),
-        MetricKind::Gauge => registry.visit_gauges(rt, count),
-        MetricKind::Histogram => registry.visit_histograms(rt, count),
+        MetricKind::Counter => {
+            registry.visit_counters(rt, |_: &Key, _: &S::Counter| calls = calls.wrapping_add(1))
+        }
+        MetricKind::Gauge => {
+            registry.visit_gauges(rt, |_: &Key, _: &S::Gauge| calls = calls.wrapping_add(1))
+        }
+        MetricKind::Histogram => {
+            registry.visit_histograms(
+                rt,
+                |_: &Key, _: &S::Histogram| calls = calls.wrapping_add(1),
+            )
+        }
     }
     calls
 }
 
 /// The number of handles.
-pub fn handles<W: Wait>(
+pub fn handles<W: Wait, S: Storage<Key> + Drop>(
     rt: &W,
     alloc: Global,
-    registry: &Plain,
+    registry: &Registry<Key, S>,
     kind: MetricKind,
-) -> Result<usize, Error> {
+) -> Result<usize, Error>
+where
+    S::Counter: Counting,
+    S::Gauge: Counting,
+    S::Histogram: Counting,
+{
     key_clones();
     Ok(match kind {
         MetricKind::Counter => registry.get_counter_handles(rt, alloc)?.len(),
@@ -188,17 +271,38 @@ pub fn handles<W: Wait>(
     })
 }
 
+/// Whether a key's name begins with a text. It counts its calls.
+fn begins(calls: &mut usize, key: &Key, prefix: &str) -> bool {
+    *calls = calls.wrapping_add(1);
+    key.name().starts_with(prefix)
+}
+
 /// Keeps the names that begin with a text, and answers the number of calls of the closure.
-pub fn retain_prefix<W: Wait>(rt: &W, registry: &Plain, kind: MetricKind, prefix: &str) -> usize {
+pub fn retain_prefix<W: Wait, S: Storage<Key> + Drop>(
+    rt: &W,
+    registry: &Registry<Key, S>,
+    kind: MetricKind,
+    prefix: &str,
+) -> usize
+where
+    S::Counter: Drop,
+    S::Gauge: Drop,
+    S::Histogram: Drop,
+{
     let mut calls = 0usize;
-    let keeps = |key: &Key, _word: &Word| {
-        calls = calls.wrapping_add(1);
-        key.name().starts_with(prefix)
-    };
     match kind {
-        MetricKind::Counter => registry.retain_counters(rt, keeps),
-        MetricKind::Gauge => registry.retain_gauges(rt, keeps),
-        MetricKind::Histogram => registry.retain_histograms(rt, keeps),
+        MetricKind::Counter => {
+            registry.retain_counters(rt, |k: &Key, _: &S::Counter| begins(&mut calls, k, prefix))
+        }
+        MetricKind::Gauge => {
+            registry.retain_gauges(rt, |k: &Key, _: &S::Gauge| begins(&mut calls, k, prefix))
+        }
+        MetricKind::Histogram => {
+            registry.retain_histograms(
+                rt,
+                |k: &Key, _: &S::Histogram| begins(&mut calls, k, prefix),
+            )
+        }
     }
     calls
 }

@@ -11,3 +11,5 @@ mod entries;
 mod given;
 #[cfg(test)]
 mod recency;
+#[cfg(test)]
+mod threads;

@@ -1,10 +1,12 @@
 //! Which cells are still in use, by their generations.
 
-use crate::given::{Dated, KINDS, Word, cell, dated, delete_dated, increment_dated};
+use crate::given::{
+    Dated, KINDS, Word, count, dated_cells, dated_words, delete, generation, increment,
+};
 use metrics::{Error, Key, MetricKind, MetricKindMask};
 use metrics_registry::key_clones;
-use metrics_registry::registry::Generation;
-use metrics_shared_registry::registry::{Generational, Recency};
+use metrics_registry::registry::{Generation, Storage};
+use metrics_shared_registry::registry::{Recency, Registry};
 use std::alloc::Global;
 use std::process::Abort;
 use std::sync::Wait;
@@ -14,14 +16,19 @@ use std::test::Fail;
 /// The moment of a check, whether the registry holds the key, and the answer.
 type Row = (u64, bool, bool);
 
-fn check<W: Wait>(
+fn check<W: Wait, S: Storage<Key> + Drop>(
     rt: &W,
     recency: &Recency<Key>,
-    registry: &Dated,
+    registry: &Registry<Key, S>,
     kind: MetricKind,
     key: &Key,
     seen: (Generation, u64),
-) -> Result<bool, Error> {
+) -> Result<bool, Error>
+where
+    S::Counter: Drop,
+    S::Gauge: Drop,
+    S::Histogram: Drop,
+{
     key_clones();
     let (generation, now) = seen;
     match kind {
@@ -31,43 +38,57 @@ fn check<W: Wait>(
     }
 }
 
-/// The generation of a cell.
-fn generation<W: Wait>(
-    rt: &W,
-    registry: &Dated,
+/// Makes one check of a key of each kind, and looks which kinds hold it then.
+fn expect_row<R: Abort + Wait, S: Storage<Key> + Drop>(
+    rt: &R,
+    recency: &Recency<Key>,
+    registry: &Registry<Key, S>,
     kind: MetricKind,
     key: &Key,
-) -> Result<Generation, Fail> {
-    let found: Option<Generational<Word>> = cell(rt, registry, kind, key)?;
-    Ok(found.ok_or("no cell")?.get_generation())
+    first: Generation,
+    row: &Row,
+) -> Result<(), Fail>
+where
+    S::Counter: Dated,
+    S::Gauge: Dated,
+    S::Histogram: Dated,
+{
+    let (now, held, stays) = *row;
+    for kind in KINDS {
+        increment(rt, registry, kind, key)?;
+    }
+    if !held {
+        delete(rt, registry, kind, key);
+    }
+    let answer = check(rt, recency, registry, kind, key, (first, now))?;
+    assert_eq!(rt; answer, stays, "at {now}");
+    for other in KINDS {
+        let there = count(rt, registry, other, key)?.is_some();
+        assert_eq!(rt; there, other != kind || (held && stays), "at {now}");
+    }
+    Ok(())
 }
 
 /// Checks of one cell's first generation under a timeout of 5, after which every other kind still holds the key.
-fn expect_answers<R: Abort + Wait>(
+fn expect_answers<R: Abort + Wait, S: Storage<Key> + Drop>(
     rt: &R,
     alloc: Global,
+    registry: &Registry<Key, S>,
     kind: MetricKind,
     mask: MetricKindMask,
     rows: &[Row],
-) -> Result<(), Fail> {
+) -> Result<(), Fail>
+where
+    S::Counter: Dated,
+    S::Gauge: Dated,
+    S::Histogram: Dated,
+{
     let recency = Recency::new(alloc, mask, Some(5));
-    let registry = dated(alloc, 2)?;
     let key = Key::from_name(alloc, "a")?;
-    increment_dated(rt, &registry, kind, &key)?;
-    let first = generation(rt, &registry, kind, &key)?;
-    for (now, held, stays) in rows {
-        for kind in KINDS {
-            increment_dated(rt, &registry, kind, &key)?;
-        }
-        if !*held {
-            delete_dated(rt, &registry, kind, &key);
-        }
-        let answer = check(rt, &recency, &registry, kind, &key, (first, *now))?;
-        assert_eq!(rt; answer, *stays, "at {now}");
-        for other in KINDS {
-            let there = cell(rt, &registry, other, &key)?.is_some();
-            assert_eq!(rt; there, other != kind || (*held && *stays), "at {now}");
-        }
+    increment(rt, registry, kind, &key)?;
+    let first = generation(rt, registry, kind, &key)?.ok_or("no cell")?;
+    for row in rows {
+        expect_row(rt, &recency, registry, kind, &key, first, row)?;
     }
     Ok(())
 }
@@ -81,7 +102,8 @@ const MASKS: [(MetricKind, MetricKindMask); 3] = [
 
 fn expect_in_each_kind<R: Abort + Wait>(rt: &R, alloc: Global, rows: &[Row]) -> Result<(), Fail> {
     for (kind, mask) in MASKS {
-        expect_answers(rt, alloc, kind, mask, rows)?;
+        expect_answers(rt, alloc, &dated_words(alloc, 2)?, kind, mask, rows)?;
+        expect_answers(rt, alloc, &dated_cells(alloc, 2)?, kind, mask, rows)?;
     }
     Ok(())
 }
@@ -114,14 +136,49 @@ fn a_moment_that_goes_back_counts_as_zero(rt: HostRuntime) -> Result<(), Fail> {
     expect_in_each_kind(&rt, rt.alloc(), &rows)
 }
 
+#[test]
+fn other_kinds_are_not_checked(rt: HostRuntime) -> Result<(), Fail> {
+    let rows = [(10, true, true), (16, true, true)];
+    let registry = dated_cells(rt.alloc(), 1)?;
+    let mask = MetricKindMask::COUNTER;
+    expect_answers(&rt, rt.alloc(), &registry, MetricKind::Gauge, mask, &rows)
+}
+
+/// A changed generation counts as use.
+fn expect_new_run<R: Abort + Wait>(rt: &R, alloc: Global) -> Result<(), Fail> {
+    let registry = dated_cells(alloc, 2)?;
+    let recency = Recency::new(alloc, MetricKindMask::ALL, Some(5));
+    let key = Key::from_name(alloc, "a")?;
+    for now in [10, 20, 30] {
+        increment(rt, &registry, MetricKind::Histogram, &key)?;
+        let seen = generation(rt, &registry, MetricKind::Histogram, &key)?.ok_or("no cell")?;
+        let answer = check(
+            rt,
+            &recency,
+            &registry,
+            MetricKind::Histogram,
+            &key,
+            (seen, now),
+        )?;
+        assert!(rt; answer, "at {now}");
+    }
+    assert_eq!(rt; count(rt, &registry, MetricKind::Histogram, &key)?, Some(3));
+    Ok(())
+}
+
+#[test]
+fn a_cell_that_changes_stays(rt: HostRuntime) -> Result<(), Fail> {
+    expect_new_run(&rt, rt.alloc())
+}
+
 /// A clone of a cell has its generation: a change through either is seen in both.
 fn expect_shared<R: Abort + Wait>(rt: &R, alloc: Global) -> Result<(), Fail> {
-    let registry = dated(alloc, 8)?;
+    let registry = dated_words(alloc, 8)?;
     let key = Key::from_name(alloc, "a")?;
-    increment_dated(rt, &registry, MetricKind::Counter, &key)?;
+    increment(rt, &registry, MetricKind::Counter, &key)?;
     let before = generation(rt, &registry, MetricKind::Counter, &key)?;
-    let handle = cell(rt, &registry, MetricKind::Counter, &key)?.ok_or("no cell")?;
-    assert!(rt; handle.get_generation() == before);
+    let handle = registry.get_counter(rt, &key)?.ok_or("no cell")?;
+    assert!(rt; Some(handle.get_generation()) == before);
     let sum = handle.with_increment(|word: &Word| word.fetch_add(2, Ordering::SeqCst));
     assert_eq!(rt; sum, 1);
     assert!(rt; before < generation(rt, &registry, MetricKind::Counter, &key)?);
