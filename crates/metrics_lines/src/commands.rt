@@ -3,8 +3,9 @@ ghost use Rattle.std.specs.Prelude.{◌≡◌, ◌≤◌, ℕ, List, OnOk};
 ghost use Rattle.std.specs.Io.KnownBytes.{Appends};
 ghost use Rattle.metrics_lines.specs.Running.{PrintsAnswers, status_number};
 
-use crate::running::{RunError, flush, run};
+use crate::running::{flush, run};
 use crate::trees::tree;
+use metrics_grammar::RunError;
 use std::alloc::Global;
 use std::io::{BufRead, Write};
 

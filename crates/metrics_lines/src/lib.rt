@@ -13,5 +13,6 @@ mod trees;
 
 pub use commands::command;
 pub use handles::Handles;
-pub use running::{RunError, run};
+pub use metrics_grammar::RunError;
+pub use running::run;
 pub use trees::tree;
