@@ -1,5 +1,5 @@
 //! The threads that push.
-ghost use Rattle.std.specs.Prelude.{◌≡◌, false};
+ghost use Rattle.std.specs.Prelude.{◌≡◌, ◌^◌, ◌<◌, false};
 ghost use Rattle.metrics_bucket.specs.Account.{IsPushed};
 ghost use Rattle.metrics_storm.specs.Numbers.{count_of, sum_of, below};
 ghost use Rattle.metrics_storm.specs.Tallies.{Tells};
@@ -57,6 +57,7 @@ fn push_one<R: Wait>(rt: &R, bucket: &RuledBucket<u64>, pen: &mut Pen, value: u6
 fn push_all<R: Wait>(rt: &R, shared: &Shared, pen: &mut Pen) -> Tally
     requires own { pen.old.home ≡ shared.now.bucket }
     requires free { pen.old.ticket ≡ false }
+    requires values { shared.now.values < 2 ^ 63 }
     ensures pen { HasPushed pen.old (below shared.now.values) pen.new }
     ensures pushed { Tells result (count_of (below shared.now.values)) (sum_of (below shared.now.values)) }
 {
