@@ -4,7 +4,6 @@ use Rattle.std.specs.List.{FoldsTo}
 use Rattle.std.specs.Prelude.{Result, Ok, Err, IfOk, IfErr}
 use Rattle.metrics.specs.Book.{joined_lists}
 use Rattle.metrics_bucket.specs.declared.view.Walk.{Walk}
-use Rattle.metrics_bucket.specs.Facts.{weigh, weigh_walks}
 use Rattle.metrics_bucket.specs.Blocks.{newest_first, valued}
 use Rattle.metrics_bucket.proofs.Sums.{weigh-append}
 use Rattle.metrics_bucket.proofs.Visits.{weigh_walks-append}

@@ -96,7 +96,7 @@ pub(crate) fn run<'s, 'e, R: Threads + Wait + Sync, G: Gate + Sync>(
         promise,
         move || -> Worked
             requires { IsFresh shared.now.bucket mine × (shared.now.values < 2 ^ 63) }
-            ensures { IsWorked mine shared.now.values result }
+            ensures { IsWorked mine shared.entry.now.values result }
         { work(rt, shared, gate, mine, worker) },
     ) {
         Ok(thread) => {
