@@ -1,9 +1,10 @@
-//! The line program as a library: a tree of recorders from tree lines, and calls from call lines.
+//! The line program as a library: a tree of recorders from tree lines, calls from call lines, and storms.
 #![tactic(auto)]
 
 mod commands;
 mod handles;
 mod levels;
+mod requests;
 mod running;
 mod stream;
 #[cfg(test)]
