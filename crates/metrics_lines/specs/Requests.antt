@@ -1,5 +1,5 @@
 -- What the words of a command line ask for, and what the program writes for it.
-use Rattle.std.specs.Prelude.{◌≡◌, ℕ, ◌-◌, ◌*◌, ◌<◌, ◌≤◌, List, [], ◌∷◌, ◌++◌, codes, decimal}
+use Rattle.std.specs.Prelude.{◌≡◌, ℕ, ℤ, ◌-◌, ◌*◌, ◌<◌, ◌≤◌, List, [], ◌∷◌, ◌++◌, codes, decimal}
 use Rattle.std.specs.Fmt.{signed_decimal}
 use Rattle.metrics_storm.specs.declared.totals.Totals.{Totals}
 use Rattle.metrics_storm.specs.Numbers.{sum_below}
@@ -39,12 +39,17 @@ pub record IsStorm (pushers values : ℕ) (t : Totals) : Type 0 where
   pub pushed : t.pushed ≡ ((pushers - t.stopped) * values, (pushers - t.stopped) * sum_below values)
   pub found : t.found ≡ t.pushed
 
+-- a number of values and their sum
+abbrev pub pair_text : List ℕ → ℕ × ℕ → List ℕ
+pair_text name pair = name ++ (32 ∷ (decimal pair.0 ++ (codes " sum " ++ (decimal pair.1 ++ 10 ∷ []))))
+
+-- what the reservoir held, of how many values, and their sum
+abbrev pub sampled_text : ℕ × ℕ × ℤ → List ℕ
+sampled_text sampled = codes "sampled " ++ (decimal sampled.0 ++ (codes " of " ++ (decimal sampled.1 ++ (codes " sum " ++ (signed_decimal sampled.2 ++ 10 ∷ [])))))
+
 -- three lines
 abbrev pub totals_text : Totals → List ℕ
-totals_text t =
-    codes "pushed " ++ (decimal t.pushed.0 ++ (codes " sum " ++ (decimal t.pushed.1 ++ (10 ∷
-    (codes "found " ++ (decimal t.found.0 ++ (codes " sum " ++ (decimal t.found.1 ++ (10 ∷
-    (codes "sampled " ++ (decimal t.sampled.0 ++ (codes " of " ++ (decimal t.sampled.1 ++ (codes " sum " ++ (signed_decimal t.sampled.2 ++ 10 ∷ [])))))))))))))))
+totals_text t = pair_text (codes "pushed") t.pushed ++ (pair_text (codes "found") t.found ++ sampled_text t.sampled)
 
 -- the text is that of the totals of such a storm
 abbrev pub PrintsTotals : StormPlan → List ℕ → Type 0

@@ -1,17 +1,18 @@
 //! The whole program, over the words of its command line.
-ghost use Rattle.std.specs.Prelude.{◌≡◌, ◌≤◌, ℕ, List, OnOk, IfOk, map, string_bytes};
-ghost use Rattle.std.specs.Io.KnownBytes.{Appends, Keeps};
+ghost use Rattle.std.specs.Prelude.{◌≡◌, ◌≤◌, ℕ, List, OnOk, map};
+ghost use Rattle.std.specs.Io.KnownBytes.{Appends};
 ghost use Rattle.metrics_lines.specs.Running.{PrintsAnswers, status_number};
 ghost use Rattle.metrics_lines.specs.declared.requests.Request.{Request as Asked};
-ghost use Rattle.metrics_lines.specs.Requests.{IsAllowed, IsAllowedPlan, Asks, totals_text, PrintsTotals, Prints};
+ghost use Rattle.metrics_lines.specs.Requests.{IsAllowed, IsAllowedPlan, Asks, PrintsTotals, Prints};
 
 use crate::requests::{Request, StormPlan, request_of};
 use crate::running::{flush, run};
 use crate::stream::write_text;
+use crate::totals::text_of_totals;
 use crate::trees::tree;
 use metrics_grammar::RunError;
-use metrics_storm::{Gate, Totals, storm};
-use std::alloc::{AllocError, Global};
+use metrics_storm::{Gate, storm};
+use std::alloc::Global;
 use std::io::{BufRead, Write};
 use std::sync::Wait;
 use std::thread::Threads;
@@ -40,20 +41,6 @@ fn answer<I: BufRead, O: Write>(
         Ok((mut books, first)) => run(alloc, &mut books, input, output, first),
         Err(e) => flush(output, Err(e)),
     }
-}
-
-/// The three lines of a storm.
-fn text_of_totals(alloc: Global, totals: &Totals) -> Result<String, AllocError>
-    ensures { IfOk result (λ text. string_bytes text ≡ totals_text totals.now) }
-{
-    let (pushed, pushed_sum) = totals.pushed;
-    let (found, found_sum) = totals.found;
-    let (held, sampled, sampled_sum) = totals.sampled;
-    let mut text = String::new(alloc);
-    writeln!(text, "pushed {pushed} sum {pushed_sum}")?;
-    writeln!(text, "found {found} sum {found_sum}")?;
-    writeln!(text, "sampled {held} of {sampled} sum {sampled_sum}")?;
-    Ok(text)
 }
 
 /// Writes the text, and flushes the writer.

@@ -9,6 +9,7 @@ mod running;
 mod stream;
 #[cfg(test)]
 mod tests;
+mod totals;
 mod tree_lines;
 mod trees;
 
