@@ -58,8 +58,9 @@ pub fn request_of(words: &[&str]) -> Option<Request>
 {
     match words {
         [word] if *word == "run" => Some(Request::Run),
-        [word, pushers, values, blocks] if *word == "storm" =>
-            Some(Request::Storm(plan_of(pushers, values, blocks)?)),
+        [word, pushers, values, blocks] if *word == "storm" => Some(Request::Storm(plan_of(
+            pushers, values, blocks,
+        )?)),
         _ => None,
     }
 }

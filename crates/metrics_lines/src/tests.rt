@@ -249,7 +249,14 @@ fn faults_of_errors_are_ignored(rt: HostRuntime) -> Result<(), Fail> {
     let mut input = BAD;
     let mut output = writer(rt.alloc(), 1000, 1000, true);
     let mut errors = writer(rt.alloc(), 1000, 0, false);
-    let status = command(&rt, rt.alloc(), &["run"], &mut input, &mut output, &mut errors);
+    let status = command(
+        &rt,
+        rt.alloc(),
+        &["run"],
+        &mut input,
+        &mut output,
+        &mut errors,
+    );
     assert_eq!(rt; status, 2);
     assert_eq!(rt; output.held.as_slice(), BAD_TEXT);
     Ok(())
@@ -330,7 +337,14 @@ fn fanouts_of_many_noops(rt: HostRuntime) -> Result<(), Fail> {
         let mut input = text.as_slice();
         let mut output = writer(rt.alloc(), 1000, 1000, true);
         let mut errors = writer(rt.alloc(), 1000, 1000, true);
-        let status = command(&rt, rt.alloc(), &["run"], &mut input, &mut output, &mut errors);
+        let status = command(
+            &rt,
+            rt.alloc(),
+            &["run"],
+            &mut input,
+            &mut output,
+            &mut errors,
+        );
         assert_eq!(rt; status, want);
     }
     Ok(())

@@ -8,5 +8,6 @@ returns-else-least-number c = λ n low high is.
     let room : c.in_ok-number.number < 2 ^ 64 = search rules in
     let same : c.in_ok-number.number ≡ n = decimal_injective _ _ room (let f = c.ranges.most.fits in omega arith) (sym c.in_ok-number.ensures ∙ (c.as_bytes.ensures.value ∙ is)) in
     elim c.else-least-number.branch [
-      else-least-number-via-then-least-number+else-number-most w ↦ (let a = w.if-number-most.false in omega arith)
-    | else-least-number-via-else-least-number w ↦ (let a = w.if-least-number.false in omega arith) ]
+      | else-least-number-via-then-least-number+else-number-most w ↦ (let a = w.if-number-most.false in omega arith)
+      | else-least-number-via-else-least-number w ↦ (let a = w.if-least-number.false in omega arith)
+    ]
