@@ -3,3 +3,4 @@ pub mod LinesLemmas
 pub mod LogLemmas
 pub mod Loop
 pub mod TreesLemmas
+pub mod WordLists

@@ -14,8 +14,8 @@ use Rattle.metrics_grammar.specs.Printing.{text_of, print}
 use Rattle.metrics_lines.specs.Handles.{entry_named, entries_by}
 use Rattle.metrics_lines.specs.Running.{Handles, AreHeld, addresses_in, IsWhole, IsFlushed, IsUnread, IsWritten, capped, AreSpelled, AreMade, AreFirst, IsRun, AnswersLine, IsCutAnswer, fault_at, PrintsAnswers}
 use Rattle.metrics_lines.specs.declared.stream.Fault.{Fault}
-use Rattle.metrics_lines.specs.declared.running.RunError.{RunError}
-use Rattle.metrics_lines.specs.declared.running.RunError.TheVariants.{Memory, BadLine, Device}
+use Rattle.metrics_grammar.specs.declared.error.RunError.{RunError}
+use Rattle.metrics_grammar.specs.declared.error.RunError.TheVariants.{Memory, BadLine, Device}
 use Rattle.metrics_lines.proofs.LinesLemmas.{lines-ended, lines-one, lines-last, split_before}
 use Rattle.metrics_lines.proofs.LogLemmas.{handles_of, handles-push, print-push, spelled_push, Made, made_none, made_more, are_made, handles_held}
 

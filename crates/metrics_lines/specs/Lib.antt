@@ -1,3 +1,4 @@
 pub mod Lines
 pub mod Handles
 pub mod Running
+pub mod Requests

@@ -14,8 +14,8 @@ use Rattle.metrics_grammar.specs.Printing.{text_of, print}
 use Rattle.metrics_lines.specs.Handles.{Entries, entry_at, entry_named, entries_by}
 use Rattle.metrics_lines.specs.declared.stream.Fault.{Fault}
 use Rattle.metrics_lines.specs.declared.stream.Fault.TheVariants as FaultVariants
-use Rattle.metrics_lines.specs.declared.running.RunError.{RunError}
-use Rattle.metrics_lines.specs.declared.running.RunError.TheVariants.{Memory, BadLine, Device}
+use Rattle.metrics_grammar.specs.declared.error.RunError.{RunError}
+use Rattle.metrics_grammar.specs.declared.error.RunError.TheVariants.{Memory, BadLine, Device}
 
 -- numbers stop at 2^64 - 1
 abbrev pub capped : ℕ → ℕ

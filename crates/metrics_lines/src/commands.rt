@@ -1,14 +1,32 @@
 //! The whole program, over the words of its command line.
-ghost use Rattle.std.specs.Prelude.{◌≡◌, ◌≤◌, ℕ, List, OnOk};
+ghost use Rattle.std.specs.Prelude.{◌≡◌, ◌≤◌, ℕ, List, OnOk, map};
 ghost use Rattle.std.specs.Io.KnownBytes.{Appends};
 ghost use Rattle.metrics_lines.specs.Running.{PrintsAnswers, status_number};
+ghost use Rattle.metrics_lines.specs.declared.requests.Request.{Request as Asked};
+ghost use Rattle.metrics_lines.specs.Requests.{IsAllowed, IsAllowedPlan, Asks, PrintsTotals, Prints};
 
-use crate::running::{RunError, flush, run};
+use crate::requests::{Request, StormPlan, request_of};
+use crate::running::{flush, run};
+use crate::stream::write_text;
+use crate::totals::text_of_totals;
 use crate::trees::tree;
+use metrics_grammar::RunError;
+use metrics_storm::{Gate, storm};
 use std::alloc::Global;
 use std::io::{BufRead, Write};
+use std::sync::Wait;
+use std::thread::Threads;
 
 const USAGE: &str = "usage: metrics_tool run | storm P V B";
+
+/// Lets every worker pass.
+struct Open;
+
+impl Gate for Open {
+    fn pass<R: Wait>(&self, _rt: &R, _worker: usize) -> bool {
+        true
+    }
+}
 
 /// Reads a tree, and answers the call lines behind it.
 fn answer<I: BufRead, O: Write>(
@@ -22,6 +40,54 @@ fn answer<I: BufRead, O: Write>(
     match tree(alloc, input) {
         Ok((mut books, first)) => run(alloc, &mut books, input, output, first),
         Err(e) => flush(output, Err(e)),
+    }
+}
+
+/// Writes the text, and flushes the writer.
+fn write_whole<O: Write>(output: &mut O, text: &[u8]) -> Result<(), RunError>
+    ensures { OnOk result (Appends (O.contents output.old) (O.contents output.new) text.now) }
+{
+    write_text(output, text)?;
+    match output.flush() {
+        Ok(()) => Ok(()),
+        Err(_) => Err(RunError::Device),
+    }
+}
+
+/// Runs a storm whose gate lets every worker pass, and writes its three lines.
+fn answer_storm<R: Threads + Wait + Sync, O: Write>(
+    rt: &R,
+    alloc: Global,
+    plan: StormPlan,
+    output: &mut O,
+) -> Result<(), RunError>
+    requires { IsAllowedPlan plan }
+    ensures { OnOk result ((text : List ℕ)
+        × Appends (O.contents output.old) (O.contents output.new) text × PrintsTotals plan text) }
+{
+    let totals = storm(rt, alloc, plan.pushers, plan.values, plan.blocks, &Open)?;
+    let text = text_of_totals(alloc, &totals)?;
+    write_whole(output, text.as_bytes())
+}
+
+/// Does what was asked for.
+fn answer_request<R: Threads + Wait + Sync, I: BufRead, O: Write>(
+    rt: &R,
+    alloc: Global,
+    request: Request,
+    input: &mut I,
+    output: &mut O,
+) -> Result<(), RunError>
+    requires { IsAllowed request }
+    ensures { OnOk result ((text : List ℕ)
+        × Appends (O.contents output.old) (O.contents output.new) text × Prints request text) }
+{
+    match request {
+        Request::Run => {
+            answer(alloc, input, output)?;
+            Ok(())
+        }
+        Request::Storm(plan) => answer_storm(rt, alloc, plan, output),
     }
 }
 
@@ -39,23 +105,27 @@ fn status_of(e: RunError) -> u8
 
 /// Runs the program over the words after its name, and answers its status. Why it stopped goes to
 /// `errors`, whose faults are ignored.
-pub fn command<I: BufRead, O: Write, E: Write>(
+pub fn command<R: Threads + Wait + Sync, I: BufRead, O: Write, E: Write>(
+    rt: &R,
     alloc: Global,
     words: &[&str],
     input: &mut I,
     output: &mut O,
     errors: &mut E,
 ) -> u8
-    // Status 0 comes only where what was written is the answers to calls on a tree of new books.
-    ensures { result ≡ 0 → (text : List ℕ)
-        × Appends (O.contents output.old) (O.contents output.new) text × PrintsAnswers text }
+    // Status 0 comes only where the words ask for something, and it is what was written: the answers to calls on a tree of
+    // new books, or the three lines of a storm.
+    ensures done { result ≡ 0 → (asked : Asked) × (text : List ℕ) × Asks (map (λ w. w.now) words.now) asked
+        × Appends (O.contents output.old) (O.contents output.new) text × Prints asked text }
+    // Words that ask for nothing have status 2.
+    ensures wrong { ((asked : Asked) → Asks (map (λ w. w.now) words.now) asked → ⊥) → (result ≡ 2) × (output.new ≡ output.old) }
 {
-    if words.len() != 1 || words[0] != "run" {
+    let Some(request) = request_of(words) else {
         let _ = writeln!(errors, "{USAGE}");
         return 2;
-    }
-    match answer(alloc, input, output) {
-        Ok(_) => 0,
+    };
+    match answer_request(rt, alloc, request, input, output) {
+        Ok(()) => 0,
         Err(e) => {
             let _ = writeln!(errors, "{e}");
             status_of(e)

@@ -12,58 +12,18 @@ ghost use Rattle.metrics_lines.specs.Running.{IsRun, AreSpelled, AreMade, AreHel
 use crate::handles::Handles;
 use crate::stream::{Broken, Fault, Found, next_line, write_text};
 use metrics::{Address, Answer, Call, Items, MetricKind, Recorder};
-use metrics_grammar::{call_of, text};
+use metrics_grammar::{RunError, call_of, text};
 use metrics_replay::answer_of;
-use std::alloc::{AllocError, Global};
-use std::fmt;
+use std::alloc::Global;
 use std::io::{BufRead, Write};
-use thiserror::Error;
-
-/// Why a run stopped.
-#[derive(Clone, Copy, Debug, PartialEq, Eq, Error)]
-pub enum RunError {
-    /// No memory: the number of the line that was being read, if one was.
-    #[error("{place}memory", place = Place(.0))]
-    Memory(Option<u64>),
-    /// The line's number.
-    #[error("line {0}: bad line")]
-    BadLine(u64),
-    /// The reader or the writer failed.
-    #[error("device failed")]
-    Device,
-}
-
-impl From<AllocError> for RunError {
-    ghost use Rattle.std.specs.Prelude.{None};
-    ghost use Rattle.metrics_lines.specs.declared.running.RunError.TheVariants.{Memory};
-
-    ghost from_gives = { λ _ e. e ≡ Memory None };
-
-    fn from(_error: AllocError) -> RunError {
-        RunError::Memory(None)
-    }
-}
 
 impl From<Broken> for RunError {
-    ghost use Rattle.metrics_lines.specs.declared.running.RunError.TheVariants.{Device};
+    ghost use Rattle.metrics_grammar.specs.declared.error.RunError.TheVariants.{Device};
 
     ghost from_gives = { λ _ e. e ≡ Device };
 
     fn from(_error: Broken) -> RunError {
         RunError::Device
-    }
-}
-
-/// The place of an error before its message.
-#[derive(Drop)]
-struct Place<'a>(&'a Option<u64>);
-
-impl fmt::Display for Place<'_> {
-    fn fmt<W: fmt::Write>(&self, f: &mut fmt::Formatter<W>) -> fmt::Result {
-        match self.0 {
-            Some(number) => write!(f, "line {number}: "),
-            None => Ok(()),
-        }
     }
 }
 

@@ -4,7 +4,9 @@ use metrics_debugging::DebuggingRecorder;
 use std::alloc::Global;
 use std::io;
 use std::io::{BufReader, ErrorKind, Read, Write};
+use std::sync::Wait;
 use std::test::Fail;
+use std::thread::Threads;
 
 const GOOD: &[u8] = b"book\nend\nregister counter c\nincrement 0 2\nsnapshot 0 keep\nsnapshot 0\n";
 
@@ -74,7 +76,8 @@ fn writer(alloc: Global, most: usize, left: usize, is_flush_good: bool) -> Fault
 }
 
 // What the program writes to its errors, and its status.
-fn told(
+fn told<R: Threads + Wait + Sync>(
+    rt: &R,
     alloc: Global,
     text: &[u8],
     reads: usize,
@@ -86,13 +89,14 @@ fn told(
     };
     let mut input = BufReader::with_capacity(alloc, 4, reader)?;
     let mut errors = writer(alloc, 1000, 1000, true);
-    let status = command(alloc, &["run"], &mut input, output, &mut errors);
+    let status = command(rt, alloc, &["run"], &mut input, output, &mut errors);
     let FaultyWriter { held, .. } = errors;
     Ok((held, status))
 }
 
 // Whether the program stopped since the device failed, and a beginning of the text is out.
-fn is_cut(
+fn is_cut<R: Threads + Wait + Sync>(
+    rt: &R,
     alloc: Global,
     text: &[u8],
     reads: usize,
@@ -100,7 +104,7 @@ fn is_cut(
     whole: &[u8],
 ) -> io::Result<bool> {
     let mut output = writer(alloc, 1, writes, true);
-    let (errors, status) = told(alloc, text, reads, &mut output)?;
+    let (errors, status) = told(rt, alloc, text, reads, &mut output)?;
     let said = errors.as_slice() == b"device failed\n".as_slice();
     Ok(status == 1 && said && whole.starts_with(&output.held))
 }
@@ -110,12 +114,12 @@ fn each_read_fails(rt: HostRuntime) -> Result<(), Fail> {
     for (text, whole, good) in [(GOOD, GOOD_TEXT, 0), (BAD, BAD_TEXT, 2)] {
         let most = text.len() / 3 + 2;
         let mut output = writer(rt.alloc(), 1, 1000, true);
-        let (_, status) = told(rt.alloc(), text, most, &mut output)?;
+        let (_, status) = told(&rt, rt.alloc(), text, most, &mut output)?;
         assert_eq!(rt; status, good);
         assert_eq!(rt; output.held.as_slice(), whole);
         for reads in 0..text.len() / 3 {
             assert!(rt;
-                is_cut(rt.alloc(), text, reads, 1000, whole)?,
+                is_cut(&rt, rt.alloc(), text, reads, 1000, whole)?,
                 "at read {reads}"
             );
         }
@@ -128,7 +132,7 @@ fn each_write_fails(rt: HostRuntime) -> Result<(), Fail> {
     for (text, whole) in [(GOOD, GOOD_TEXT), (BAD, BAD_TEXT)] {
         for writes in 0..whole.len() {
             assert!(rt;
-                is_cut(rt.alloc(), text, 1000, writes, whole)?,
+                is_cut(&rt, rt.alloc(), text, 1000, writes, whole)?,
                 "at write {writes}"
             );
         }
@@ -141,7 +145,7 @@ fn the_flush_fails(rt: HostRuntime) -> Result<(), Fail> {
     let before: &[u8] = b"book\njump\n";
     for (text, whole) in [(GOOD, GOOD_TEXT), (BAD, BAD_TEXT), (before, b"".as_slice())] {
         let mut output = writer(rt.alloc(), 1000, 1000, false);
-        let (errors, status) = told(rt.alloc(), text, 1000, &mut output)?;
+        let (errors, status) = told(&rt, rt.alloc(), text, 1000, &mut output)?;
         assert_eq!(rt; errors.as_slice(), b"device failed\n".as_slice());
         assert_eq!(rt; status, 1);
         assert_eq!(rt; output.held.as_slice(), whole);
@@ -149,26 +153,93 @@ fn the_flush_fails(rt: HostRuntime) -> Result<(), Fail> {
     Ok(())
 }
 
+// What the program writes, what it writes to its errors, and its status.
+fn whole_run<R: Threads + Wait + Sync>(
+    rt: &R,
+    alloc: Global,
+    words: &[&str],
+    output: &mut FaultyWriter,
+) -> (Vec<u8>, u8) {
+    let mut input = GOOD;
+    let mut errors = writer(alloc, 1, 1000, true);
+    let status = command(rt, alloc, words, &mut input, output, &mut errors);
+    let FaultyWriter { held, .. } = errors;
+    (held, status)
+}
+
 #[test]
 fn wrong_words(rt: HostRuntime) -> Result<(), Fail> {
-    let wrong: [&[&str]; 5] = [
+    let wrong: [&[&str]; 16] = [
         &[],
         &["walk"],
-        &["run", "run"],
-        &["storm", "1", "1", "1"],
         &[""],
+        &["run", "run"],
+        &["storm"],
+        &["storm", "1", "1"],
+        &["storm", "1", "1", "1", "1"],
+        &["stormy", "1", "1", "1"],
+        &["storm", "0", "1", "1"],
+        &["storm", "65", "1", "1"],
+        &["storm", "1", "1000001", "1"],
+        &["storm", "1", "1", "0"],
+        &["storm", "1", "1", "1025"],
+        &["storm", "01", "1", "1"],
+        &["storm", "1", "-1", "1"],
+        &["storm", "1", "1", "one"],
     ];
     for words in wrong {
-        let mut input = GOOD;
         let mut output = writer(rt.alloc(), 1000, 1000, true);
-        let mut errors = writer(rt.alloc(), 1, 1000, true);
-        let status = command(rt.alloc(), words, &mut input, &mut output, &mut errors);
+        let (errors, status) = whole_run(&rt, rt.alloc(), words, &mut output);
         assert_eq!(rt; status, 2);
         assert_eq!(rt; output.held.as_slice(), b"".as_slice());
         assert_eq!(rt;
-            errors.held.as_slice(),
+            errors.as_slice(),
             b"usage: metrics_tool run | storm P V B\n".as_slice()
         );
+    }
+    Ok(())
+}
+
+#[test]
+fn storms(rt: HostRuntime) -> Result<(), Fail> {
+    let cases: [(&[&str], &str); 4] = [
+        (
+            &["storm", "2", "100", "1"],
+            "pushed 200 sum 9900\nfound 200 sum 9900\nsampled 16 of 200 sum 9900\n",
+        ),
+        (
+            &["storm", "1", "0", "1"],
+            "pushed 0 sum 0\nfound 0 sum 0\nsampled 0 of 0 sum 0\n",
+        ),
+        (
+            &["storm", "64", "3", "1024"],
+            "pushed 192 sum 192\nfound 192 sum 192\nsampled 16 of 192 sum 192\n",
+        ),
+        (
+            &["storm", "5", "3", "1"],
+            "pushed 15 sum 15\nfound 15 sum 15\nsampled 15 of 15 sum 15\n",
+        ),
+    ];
+    for (words, want) in cases {
+        let mut output = writer(rt.alloc(), 7, 1000, true);
+        let (errors, status) = whole_run(&rt, rt.alloc(), words, &mut output);
+        assert_eq!(rt; status, 0);
+        assert_eq!(rt; output.held.as_slice(), want.as_bytes());
+        assert_eq!(rt; errors.as_slice(), b"".as_slice());
+    }
+    Ok(())
+}
+
+#[test]
+fn a_storm_whose_writer_fails(rt: HostRuntime) -> Result<(), Fail> {
+    let whole = b"pushed 3 sum 3\nfound 3 sum 3\nsampled 3 of 3 sum 3\n".as_slice();
+    for (writes, is_flush_good) in [(0, true), (1, true), (9, true), (1000, false)] {
+        let mut output = writer(rt.alloc(), 5, writes, is_flush_good);
+        let words = ["storm", "1", "3", "1"];
+        let (errors, status) = whole_run(&rt, rt.alloc(), &words, &mut output);
+        assert_eq!(rt; status, 1);
+        assert!(rt; whole.starts_with(&output.held));
+        assert_eq!(rt; errors.as_slice(), b"device failed\n".as_slice());
     }
     Ok(())
 }
@@ -178,7 +249,14 @@ fn faults_of_errors_are_ignored(rt: HostRuntime) -> Result<(), Fail> {
     let mut input = BAD;
     let mut output = writer(rt.alloc(), 1000, 1000, true);
     let mut errors = writer(rt.alloc(), 1000, 0, false);
-    let status = command(rt.alloc(), &["run"], &mut input, &mut output, &mut errors);
+    let status = command(
+        &rt,
+        rt.alloc(),
+        &["run"],
+        &mut input,
+        &mut output,
+        &mut errors,
+    );
     assert_eq!(rt; status, 2);
     assert_eq!(rt; output.held.as_slice(), BAD_TEXT);
     Ok(())
@@ -259,7 +337,14 @@ fn fanouts_of_many_noops(rt: HostRuntime) -> Result<(), Fail> {
         let mut input = text.as_slice();
         let mut output = writer(rt.alloc(), 1000, 1000, true);
         let mut errors = writer(rt.alloc(), 1000, 1000, true);
-        let status = command(rt.alloc(), &["run"], &mut input, &mut output, &mut errors);
+        let status = command(
+            &rt,
+            rt.alloc(),
+            &["run"],
+            &mut input,
+            &mut output,
+            &mut errors,
+        );
         assert_eq!(rt; status, want);
     }
     Ok(())

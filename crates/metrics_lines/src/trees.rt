@@ -6,11 +6,12 @@ ghost use Rattle.metrics_trees.specs.Builders.{router_recorders};
 use crate::levels::{
     Level, LineError, pop, put, put_book, put_fanout, put_filter, put_prefix, take_top,
 };
-use crate::running::{RunError, at_line};
+use crate::running::at_line;
 use crate::stream::{Found, next_line};
 use crate::tree_lines::{TreeLine, route_of, tree_line};
 use metrics::Recorder;
 use metrics_debugging::DebuggingRecorder;
+use metrics_grammar::RunError;
 use metrics_trees::{Child, RouterBuilder};
 use std::alloc::Global;
 use std::io::BufRead;

@@ -1,16 +1,19 @@
 //! Reads a tree of recorders and then calls from standard input, makes each call on a real tree of books
-//! and prints the answers.
+//! and prints the answers; or runs a storm and prints its totals.
 #![tactic(auto)]
 
 use metrics_lines::command;
 use std::io::BufReader;
 use std::process::ExitCode;
+use std::sync::Wait;
+use std::thread::Threads;
 use std::{env, io};
 
-/// The status of the whole program, or an error where there was no memory to begin with.
-fn status(rt: &HostRuntime) -> io::Result<u8> {
-    let mut arguments: Vec<String> = Vec::new(rt.alloc());
-    match env::args(rt) {
+/// The status of the whole program, or an error where there was no memory to begin with. Both arguments are the runtime: `rt` starts
+/// threads and waits, `host` gives memory, words and streams.
+fn status<R: Threads + Wait + Sync>(rt: &R, host: &HostRuntime) -> io::Result<u8> {
+    let mut arguments: Vec<String> = Vec::new(host.alloc());
+    match env::args(host) {
         Ok(all) => {
             for argument in all.skip(1) {
                 arguments.push(argument)?;
@@ -23,18 +26,25 @@ fn status(rt: &HostRuntime) -> io::Result<u8> {
             }
         }
     }
-    let mut words: Vec<&str> = Vec::new(rt.alloc());
+    let mut words: Vec<&str> = Vec::new(host.alloc());
     for argument in &arguments {
         words.push(argument.as_str())?;
     }
-    let mut input = BufReader::new(rt.alloc(), rt.reader())?;
-    let mut output = io::writer(rt);
-    let mut errors = rt.stderr();
-    Ok(command(rt.alloc(), &words, &mut input, &mut output, &mut errors))
+    let mut input = BufReader::new(host.alloc(), host.reader())?;
+    let mut output = io::writer(host);
+    let mut errors = host.stderr();
+    Ok(command(
+        rt,
+        host.alloc(),
+        &words,
+        &mut input,
+        &mut output,
+        &mut errors,
+    ))
 }
 
 fn main(rt: HostRuntime) -> ExitCode {
-    match status(&rt) {
+    match status(&rt, &rt) {
         Ok(status) => ExitCode::from(status),
         Err(_) => {
             let _ = eprintln!(rt; "memory");

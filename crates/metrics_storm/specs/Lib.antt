@@ -1,0 +1,5 @@
+pub mod Numbers
+pub mod Tallies
+pub mod Pens
+pub mod Worked
+pub mod Ran

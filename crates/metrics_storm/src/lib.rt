@@ -1,0 +1,16 @@
+//! Many threads push into one bucket and one reservoir, while another clears the bucket.
+#![tactic(auto)]
+
+mod clearer;
+mod gate;
+mod pens;
+mod shared;
+mod tally;
+#[cfg(test)]
+mod tests;
+mod threads;
+mod totals;
+mod worker;
+
+pub use gate::Gate;
+pub use totals::{Totals, storm};
