@@ -2,9 +2,9 @@
 use Rattle.std.proofs.Common.{◌≡◌, ℕ, zero, suc, take, Bool, true, false, cond, List, [], ◌∷◌, ◌++◌, Option, None, Some, MatchOption, IsSomeAnd, refl, sym, ◌∙◌, ap, subst}
 use Rattle.std.specs.Cmp.{IsEquivalence}
 use Rattle.std.specs.List.{IsDistinct, AllByRecursion}
-use Rattle.std.specs.Map.{lookup, keys_of, update}
+use Rattle.std.specs.Map.{lookup, keys_of}
 use Rattle.std.proofs.lemmas.Bool.{cond-true, cond-false}
-use Rattle.metrics_registry.specs.Held.{held, Copies, ArePlaced}
+use Rattle.metrics_registry.specs.Held.{Copies, ArePlaced}
 use Rattle.std.specs.HashMap.{HashMap}
 use Rattle.metrics_registry.proofs.HeldLemmas.{by_answer, lookup-append_none}
 

@@ -1,12 +1,11 @@
 -- What recency notes, as a table of (kind, key).
-use Rattle.std.specs.Prelude.{◌≡◌, ℕ, Bool, true, false, List, None}
+use Rattle.std.specs.Prelude.{ℕ, Bool}
 use Rattle.std.specs.HashMap.{get}
 use Rattle.metrics_names.specs.declared.kind.MetricKind.{MetricKind}
 use Rattle.metrics.specs.Kinds.{of_kind}
 use Rattle.metrics.specs.Layers.{mask_has}
 use Rattle.metrics_registry.specs.declared.registry.recency.OwnedRecency.{OwnedRecency}
 use Rattle.metrics_registry.specs.Recency.{Rules, Check, Table}
-use Rattle.metrics_registry.specs.Held.{Sets}
 
 abbrev pub rules_of : {K : Type 0} → OwnedRecency K → Rules
 rules_of r = record { timeout = r.timeout; mask = λ kind. mask_has kind r.mask }

@@ -1,5 +1,4 @@
-use Rattle.std.proofs.Common.{rules, arith, ◌≡◌, ◌∙◌, ap, sym, ◌+◌, ◌-◌, ◌/◌, ◌%◌, ◌^◌, ◌<◌, ◌++◌, ℕ, string_bytes, append-nil}
-use Rattle.metrics_registry.specs.Quantiles.{low_digits, without_trailing_zeros}
+use Rattle.std.proofs.Common.{arith, ◌≡◌, ◌∙◌, ap, sym, ◌+◌, ◌-◌, ◌/◌, ◌%◌, ◌^◌, ◌++◌, string_bytes, append-nil}
 use Rattle.metrics_registry.proofs.LabelLemmas.{ten_pos, none_left, pushed}
 use Rattle.metrics_registry.proofs.quantile.push_decimals.Goals as goal
 

@@ -1,4 +1,4 @@
-use Rattle.std.proofs.Common.{rules, ◌∙◌, ◌≡◌, sym, ap, refl, Some, Option, subst}
+use Rattle.std.proofs.Common.{◌∙◌, ◌≡◌, sym, ap, refl, Some, Option, subst}
 use Rattle.std.specs.Option.{option_copied_mut, IsSome}
 use Rattle.metrics_registry.specs.Held.{held}
 use Rattle.metrics_registry.proofs.registry.shards.change.Goals as goal

@@ -1,8 +1,7 @@
-use Rattle.std.proofs.Common.{rules, ◌∙◌, ◌≡◌, sym, ap, refl, subst, List, true, arith}
+use Rattle.std.proofs.Common.{◌∙◌, sym, ap, refl, subst, List}
 use Rattle.std.specs.Option.{option_copied_mut}
 use Rattle.std.specs.List.{IsDistinct}
 use Rattle.indexmap.proofs.CallerLemmas.{keys-with_value_at}
-use Rattle.metrics_registry.proofs.HeldLemmas.{some-below}
 use Rattle.metrics_registry.proofs.registry.shards.change_at.Goals as goal
 
 pub returns-clause-some : goal.returns-clause-some

@@ -1,4 +1,4 @@
-use Rattle.std.proofs.Common.{rules, ◌≡◌, ◌∙◌, refl, ap, sym, cond, Some, None, ◌++◌, ◌∷◌, []}
+use Rattle.std.proofs.Common.{◌≡◌, ◌∙◌, refl, ap, sym, cond, Some, None, ◌++◌, ◌∷◌, []}
 use Rattle.metrics_registry.specs.Held.{held}
 use Rattle.std.specs.HashMap.{get}
 use Rattle.indexmap.proofs.CallerLemmas.{insert_entry-new}

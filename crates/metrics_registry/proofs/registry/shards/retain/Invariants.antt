@@ -1,4 +1,4 @@
-use Rattle.std.proofs.Common.{◌≡◌, ◌≤◌, ℕ, take, length, get_or}
+use Rattle.std.proofs.Common.{◌≡◌, ◌≤◌, take, length}
 use denote.Param.Always.{always_mut}
 use Rattle.metrics_registry.specs.Held.{CallsAtEntry, Retains}
 use Rattle.metrics_registry.proofs.RetainLemmas.{SameFrom}

@@ -1,4 +1,4 @@
-use Rattle.std.proofs.Common.{rules, ◌∙◌, ◌≡◌, refl, ap, sym, subst, List, ◌∷◌, [], ◌++◌, of_calls}
+use Rattle.std.proofs.Common.{rules, refl, sym, subst, List, ◌∷◌, [], of_calls}
 use Rattle.std.proofs.lemmas.List.{map-append}
 use Rattle.std.proofs.lemmas.Fn.{FoldsTo-push}
 use Rattle.std.proofs.lemmas.Map.Iter.{iter_end}

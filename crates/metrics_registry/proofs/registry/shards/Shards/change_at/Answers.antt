@@ -1,8 +1,8 @@
-use Rattle.std.proofs.Common.{rules, arith, ◌≡◌, ◌∙◌, ap, sym, List, Option, Some, None}
+use Rattle.std.proofs.Common.{rules, ◌∙◌, ap, sym}
 use Rattle.std.specs.Option.{IfSome, is_some}
 use Rattle.std.specs.Fn.{FnOnceReturnsAtMut}
 use Rattle.metrics_registry.specs.Held.{ChangesAt}
-use Rattle.metrics_registry.proofs.HeldLemmas.{placed-shard, same-shard, alone-shard, alone-at}
+use Rattle.metrics_registry.proofs.HeldLemmas.{placed-shard, alone-shard, alone-at}
 use Rattle.metrics_registry.proofs.registry.shards.Shards.change_at.Goals as goal
 
 pub invariant_of-self : goal.invariant_of-self

@@ -1,8 +1,6 @@
-use Rattle.std.proofs.Common.{rules, arith, ◌≡◌, ◌∙◌, ap, subst, take, length, get_or, set}
-use Rattle.std.proofs.lemmas.List.{take_all}
-use Rattle.std.specs.List.{All}
+use Rattle.std.proofs.Common.{rules, ◌∙◌, ap}
 use Rattle.metrics_registry.specs.Held.{Cells}
-use Rattle.metrics_registry.proofs.HeldLemmas.{IsBare, entries-bare, placed-bare, bare-more, bare-all}
+use Rattle.metrics_registry.proofs.HeldLemmas.{entries-bare, placed-bare, bare-more, bare-all}
 use Rattle.metrics_registry.proofs.registry.shards.Shards.clear.Goals as goal
 
 pub invariant_of-self : goal.invariant_of-self

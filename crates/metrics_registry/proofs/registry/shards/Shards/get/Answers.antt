@@ -1,4 +1,4 @@
-use Rattle.std.proofs.Common.{rules, ◌≡◌, ◌∙◌, sym, ap}
+use Rattle.std.proofs.Common.{rules, ◌∙◌, sym, ap}
 use Rattle.metrics_registry.specs.Held.{held, Cells}
 use Rattle.metrics_registry.proofs.HeldLemmas.{lookup-placed}
 use Rattle.metrics_registry.proofs.registry.shards.Shards.get.Goals as goal

@@ -1,4 +1,4 @@
-use Rattle.std.proofs.Common.{◌≡◌, ◌≤◌, ◌+◌, vec_len, vec_capacity}
+use Rattle.std.proofs.Common.{◌≡◌, ◌≤◌, vec_len, vec_capacity}
 use Rattle.std.specs.List.{All}
 use Rattle.metrics_registry.proofs.HeldLemmas.{IsBare}
 use Rattle.metrics_registry.proofs.registry.shards.Shards.new.Given as goal

@@ -1,4 +1,4 @@
-use Rattle.std.proofs.Common.{rules, ◌≡◌, ◌∙◌, sym, ap, None}
+use Rattle.std.proofs.Common.{rules, ◌∙◌, sym, ap, None}
 use Rattle.std.specs.Option.{is_some}
 use Rattle.metrics_registry.specs.Held.{Cells}
 use Rattle.metrics_registry.proofs.HeldLemmas.{held-shard, sets-shard, same-shard}

@@ -1,4 +1,4 @@
-use Rattle.std.proofs.Common.{rules, arith, ◌≡◌, ◌∙◌, ap, sym, subst, List, length, of_calls, refl}
+use Rattle.std.proofs.Common.{rules, ◌∙◌, ap, sym, subst, List, of_calls, refl}
 use Rattle.std.proofs.lemmas.List.{take_all}
 use Rattle.std.specs.List.{FoldsTo, IsDistinct}
 use Rattle.std.specs.Map.{keys_of}
