@@ -2,12 +2,12 @@
 //! and prints the answers; or runs a storm and prints its totals.
 #![tactic(auto)]
 
-use metrics_lines::command;
 use std::io::BufReader;
 use std::process::ExitCode;
 use std::sync::Wait;
 use std::thread::Threads;
 use std::{env, io};
+use tool_lines::command;
 
 /// The status of the whole program, or an error where there was no memory to begin with. Both arguments are the runtime: `rt` starts
 /// threads and waits, `host` gives memory, words and streams.

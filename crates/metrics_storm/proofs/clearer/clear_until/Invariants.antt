@@ -1,8 +1,0 @@
-use Rattle.std.proofs.Common.{◌≡◌}
-use Rattle.metrics_storm.specs.Numbers.{taken_count, taken_sum}
-use Rattle.metrics_storm.specs.Tallies.{Tells}
-use Rattle.metrics_storm.specs.Pens.{with_taken}
-use Rattle.metrics_storm.proofs.clearer.clear_until.Given as goal
-
-abbrev pub invariant-loop : goal.invariant-loop
-invariant-loop g l = (l.pen ≡ with_taken l.initial.pen l.pen.taken) × Tells l.found (taken_count l.pen.taken) (taken_sum l.pen.taken)

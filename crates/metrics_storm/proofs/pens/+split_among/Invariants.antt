@@ -1,4 +1,0 @@
-use Rattle.metrics_storm.proofs.pens.+split_among.Given as goal
-
-abbrev pub decreases-split_among : goal.decreases-split_among
-decreases-split_among l = l.count

@@ -1,6 +1,0 @@
-use Rattle.std.proofs.Common.{◌≡◌, ◌+◌, ◌%◌, ◌^◌, take}
-use Rattle.metrics_storm.specs.Numbers.{sum_of}
-use Rattle.metrics_storm.proofs.tally.added.Given as goal
-
-abbrev pub invariant-loop-value : goal.invariant-loop-value
-invariant-loop-value l = l.sum ≡ (l.fn.start + sum_of (take l.value-index l.part)) % 2 ^ 64

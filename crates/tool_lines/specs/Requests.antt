@@ -1,0 +1,60 @@
+-- What the words of a command line ask for, and what the program writes for it.
+use Rattle.std.specs.Prelude.{◌≡◌, ℕ, ℤ, ◌-◌, ◌*◌, ◌<◌, ◌≤◌, List, [], ◌∷◌, ◌++◌, codes, decimal}
+use Rattle.std.specs.Fmt.{signed_decimal}
+use Rattle.tool_storm.specs.declared.totals.Totals.{Totals}
+use Rattle.tool_storm.specs.Numbers.{sum_below}
+use Rattle.tool_lines.specs.Running.{PrintsAnswers}
+use Rattle.tool_lines.specs.declared.requests.StormPlan.{StormPlan}
+use Rattle.tool_lines.specs.declared.requests.Request.{Request}
+use Rattle.tool_lines.specs.declared.requests.Request.TheVariants.{Run, Storm}
+
+-- ---- words
+
+-- the numbers that a storm allows
+abbrev pub IsAllowedPlan : StormPlan → Type 0
+IsAllowedPlan plan = (0 < plan.pushers) × (plan.pushers ≤ 64) × (plan.values ≤ 1000000) × (0 < plan.blocks) × (plan.blocks ≤ 1024)
+
+-- the words are its numbers
+abbrev pub IsPlanOf : List ℕ → List ℕ → List ℕ → StormPlan → Type 0
+IsPlanOf pushers values blocks plan = (pushers ≡ decimal plan.pushers) × (values ≡ decimal plan.values) × (blocks ≡ decimal plan.blocks)
+
+abbrev pub IsAllowed : Request → Type 0
+IsAllowed Run = Unit {0}
+IsAllowed (Storm plan) = IsAllowedPlan plan
+
+-- the words of a request
+abbrev pub request_words : Request → List (List ℕ)
+request_words Run = codes "run" ∷ []
+request_words (Storm plan) = codes "storm" ∷ decimal plan.pushers ∷ decimal plan.values ∷ decimal plan.blocks ∷ []
+
+-- the words ask for this
+abbrev pub Asks : List (List ℕ) → Request → Type 0
+Asks words asked = IsAllowed asked × (words ≡ request_words asked)
+
+-- ---- what is written
+
+-- the totals of a storm of so many pushers, each of which pushes the numbers below values
+pub record IsStorm (pushers values : ℕ) (t : Totals) : Type 0 where
+  pub stopped : t.stopped ≤ pushers
+  pub pushed : t.pushed ≡ ((pushers - t.stopped) * values, (pushers - t.stopped) * sum_below values)
+  pub found : t.found ≡ t.pushed
+
+-- a number of values and their sum
+abbrev pub pair_text : List ℕ → ℕ × ℕ → List ℕ
+pair_text name pair = name ++ (32 ∷ (decimal pair.0 ++ (codes " sum " ++ (decimal pair.1 ++ 10 ∷ []))))
+
+-- what the reservoir held, of how many values, and their sum
+abbrev pub sampled_text : ℕ × ℕ × ℤ → List ℕ
+sampled_text sampled = codes "sampled " ++ (decimal sampled.0 ++ (codes " of " ++ (decimal sampled.1 ++ (codes " sum " ++ (signed_decimal sampled.2 ++ 10 ∷ [])))))
+
+-- three lines
+abbrev pub totals_text : Totals → List ℕ
+totals_text t = pair_text (codes "pushed") t.pushed ++ (pair_text (codes "found") t.found ++ sampled_text t.sampled)
+
+-- the text is that of the totals of such a storm
+abbrev pub PrintsTotals : StormPlan → List ℕ → Type 0
+PrintsTotals plan text = (t : Totals) × IsStorm plan.pushers plan.values t × (text ≡ totals_text t)
+
+abbrev pub Prints : Request → List ℕ → Type 0
+Prints Run text = PrintsAnswers text
+Prints (Storm plan) text = PrintsTotals plan text

@@ -1,0 +1,153 @@
+-- What a run over the lines of a stream calls and writes.
+use Rattle.std.specs.Prelude.{◌≡◌, ℕ, ◌+◌, ◌-◌, ◌^◌, ◌<◌, min, List, [], ◌∷◌, ◌++◌, length, ◌⊎◌, Result, Ok, Err, Option, Some, None}
+use Rattle.metrics.specs.declared.calls.Call.{Call}
+use Rattle.metrics.specs.declared.calls.Answer.{Answer}
+use Rattle.metrics.specs.declared.calls.Answer.TheVariants.{Described, Registered, Updated, Snapshot, Refused}
+use Rattle.metrics.specs.declared.handles.Address.{Address}
+use Rattle.metrics.specs.Book.{Content, content_at}
+use Rattle.metrics.specs.Meaning.{Meaning, KeepsTargets, AreNew}
+use Rattle.metrics.specs.History.{Log, reached, content_after, ArePlain}
+use Rattle.metrics.specs.Answering.{Answers, IsHeld}
+use Rattle.tool_lines.specs.Lines.{lines_of, unlines}
+use Rattle.tool_grammar.specs.Grammar.{Spells, IsBad}
+use Rattle.tool_grammar.specs.Printing.{text_of, print}
+use Rattle.tool_lines.specs.Handles.{Entries, entry_at, entry_named, entries_by}
+use Rattle.tool_lines.specs.declared.stream.Fault.{Fault}
+use Rattle.tool_lines.specs.declared.stream.Fault.TheVariants as FaultVariants
+use Rattle.tool_grammar.specs.declared.error.RunError.{RunError}
+use Rattle.tool_grammar.specs.declared.error.RunError.TheVariants.{Memory, BadLine, Device}
+
+-- numbers stop at 2^64 - 1
+abbrev pub capped : ℕ → ℕ
+capped n = min n (2 ^ 64 - 1)
+
+-- each line spells its call
+abbrev pub AreSpelled : List (List ℕ) → Log → Type 0
+AreSpelled [] [] = Unit {0}
+AreSpelled [] (e ∷ log) = ⊥
+AreSpelled (l ∷ ls) [] = ⊥
+AreSpelled (l ∷ ls) (e ∷ log) = Spells l e.0 × AreSpelled ls log
+
+-- The calls were made on a recorder, which was old before them and is new after them. Where its books were new, each answer is
+-- the plain one, and the books hold what calls and answers give.
+pub record AreMade (old new : Meaning) (log : Log) : Type 0 where
+  pub keeps : KeepsTargets old new
+  pub books : length new.contents ≡ length old.contents
+  pub plain : AreNew old.contents → ArePlain old.targets (length old.contents) log
+  pub contents : AreNew old.contents → (b : ℕ) → b < length new.contents → content_at b new.contents ≡ content_after (reached old.targets b log)
+
+-- These are the first lines of what was read, each with its line feed; or all of them, where the reader is at its end.
+abbrev pub AreFirst : Type 0 → List ℕ → List (List ℕ) → Type 0
+AreFirst at_end read ls =
+    ((rest : List ℕ) × (read ≡ unlines ls ++ rest) × (lines_of read ≡ ls ++ lines_of rest)) ⊎ (at_end × (lines_of read ≡ ls))
+
+-- What was written begins the answers to the first lines.
+abbrev pub IsCutShort : Type 0 → Meaning → Meaning → List ℕ → List ℕ → Type 0
+IsCutShort at_end old new read text = (ls : List (List ℕ)) × (log : Log) × (more : List ℕ)
+    × AreFirst at_end read ls × AreSpelled ls log × AreMade old new log × (print log ≡ text ++ more)
+
+-- What a run over what was read, from line `first` on, did and wrote, by its result.
+abbrev pub IsRun : Type 0 → ℕ → Meaning → Meaning → List ℕ → List ℕ → Result ℕ RunError → Type 0
+-- each line was answered, up to the end
+IsRun at_end first old new read text (Ok n) = (log : Log)
+    × at_end × AreSpelled (lines_of read) log × AreMade old new log × (text ≡ print log) × (n ≡ capped (length log))
+-- each line before the first bad one, which is the last and was read whole
+IsRun at_end first old new read text (Err (BadLine k)) = (ls : List (List ℕ)) × (bad : List ℕ) × (log : Log)
+    × AreFirst at_end read (ls ++ bad ∷ []) × (lines_of read ≡ ls ++ bad ∷ []) × IsBad bad
+    × AreSpelled ls log × AreMade old new log × (text ≡ print log) × (k ≡ capped (first + length ls))
+-- each line before the one at which memory was refused
+IsRun at_end first old new read text (Err (Memory (Some k))) = (ls : List (List ℕ)) × (log : Log)
+    × AreFirst at_end read ls
+    × AreSpelled ls log × AreMade old new log × (text ≡ print log) × (k ≡ capped (first + length ls))
+-- a beginning
+IsRun at_end first old new read text (Err (Memory None)) = IsCutShort at_end old new read text
+IsRun at_end first old new read text (Err Device) = IsCutShort at_end old new read text
+
+-- ---- one line
+
+-- the addresses that each register call gave
+abbrev pub Handles : Type 0
+Handles = Entries (List Address)
+
+-- what an answer gives to a register call
+abbrev pub addresses_in : Answer → Option (List Address)
+addresses_in (Registered found) = Some found
+addresses_in (Described n) = None
+addresses_in (Updated n) = None
+addresses_in (Snapshot rows) = None
+addresses_in (Refused e) = None
+
+-- each handle leads to series that are there
+abbrev pub AreHeld : Handles → List Content → Type 0
+AreHeld handles cs = (n : ℕ) → IsHeld (entry_at n handles) cs
+
+-- The line spells the call, which was made and answered so.
+pub record IsAnswered (old new : Meaning) (before after : Handles) (line : List ℕ) (c : Call) (a : Answer) : Type 0 where
+  pub spells : Spells line c
+  pub keeps : KeepsTargets old new
+  pub answers : Answers old new (entry_named c before) c a
+  pub noted : after ≡ before ++ entries_by c (addresses_in a)
+
+-- The line's call was made, and what was written begins its answer.
+abbrev pub IsCutAnswer : Meaning → Meaning → Handles → List ℕ → List ℕ → Type 0
+IsCutAnswer old new before line text = (c : Call) × (a : Answer) × (more : List ℕ)
+    × Spells line c × KeepsTargets old new × Answers old new (entry_named c before) c a × (text_of (length before) c a ≡ text ++ more)
+
+-- why a line gave no call
+abbrev pub IsUnread : List ℕ → ℕ → RunError → Type 0
+IsUnread line number (BadLine k) = IsBad line × (k ≡ number)
+IsUnread line number (Memory (Some k)) = k ≡ number
+IsUnread line number (Memory None) = ⊥
+IsUnread line number Device = ⊥
+
+-- nothing more of a text is to be written, or memory or the device failed before that
+abbrev pub IsWritten : List ℕ → Result (Unit {0}) RunError → Type 0
+IsWritten more (Ok _) = more ≡ []
+IsWritten more (Err (Memory None)) = Unit {0}
+IsWritten more (Err Device) = Unit {0}
+IsWritten more (Err (Memory (Some k))) = ⊥
+IsWritten more (Err (BadLine k)) = ⊥
+
+-- What the answer to one line did and wrote.
+abbrev pub AnswersLine : Meaning → Meaning → Handles → Handles → List ℕ → List ℕ → ℕ → Result (Unit {0}) RunError → Type 0
+AnswersLine old new before after line text number (Ok _) = (c : Call) × (a : Answer)
+    × IsAnswered old new before after line c a × (text ≡ text_of (length before) c a)
+AnswersLine old new before after line text number (Err (BadLine k)) = IsBad line × (new ≡ old) × (text ≡ []) × (k ≡ number)
+AnswersLine old new before after line text number (Err (Memory (Some k))) = (new ≡ old) × (text ≡ []) × (k ≡ number)
+AnswersLine old new before after line text number (Err (Memory None)) = IsCutAnswer old new before line text
+AnswersLine old new before after line text number (Err Device) = IsCutAnswer old new before line text
+
+-- ---- the end
+
+-- neither memory nor the device failed
+abbrev pub IsWhole : Result ℕ RunError → Type 0
+IsWhole (Ok n) = Unit {0}
+IsWhole (Err (BadLine k)) = Unit {0}
+IsWhole (Err (Memory at)) = ⊥
+IsWhole (Err Device) = ⊥
+
+-- After a flush: what was answered before it; or the device failed at the flush, and nothing before it.
+abbrev pub IsFlushed : Result ℕ RunError → Result ℕ RunError → Type 0
+IsFlushed before after = (after ≡ before) ⊎ (IsWhole before × (after ≡ Err Device))
+
+-- the error at a line with this number that could not be read
+abbrev pub fault_at : ℕ → Fault → RunError
+fault_at number FaultVariants.Memory = Memory (Some number)
+fault_at number FaultVariants.Device = Device
+
+-- ---- the whole program
+
+-- The text is that of the answers to calls on new books.
+pub record PrintsAnswers (text : List ℕ) : Type 0 where
+  pub old : Meaning
+  pub new : Meaning
+  pub log : Log
+  pub are_new : AreNew old.contents
+  pub are_made : AreMade old new log
+  pub text_is : text ≡ print log
+
+-- the status of a program that stopped for this reason
+abbrev pub status_number : RunError → ℕ
+status_number (BadLine k) = 2
+status_number (Memory at) = 1
+status_number Device = 1

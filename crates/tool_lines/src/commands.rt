@@ -1,0 +1,134 @@
+//! The whole program, over the words of its command line.
+ghost use Rattle.std.specs.Prelude.{◌≡◌, ◌≤◌, ℕ, List, OnOk, map};
+ghost use Rattle.std.specs.Io.KnownBytes.{Appends};
+ghost use Rattle.tool_lines.specs.Running.{PrintsAnswers, status_number};
+ghost use Rattle.tool_lines.specs.declared.requests.Request.{Request as Asked};
+ghost use Rattle.tool_lines.specs.Requests.{IsAllowed, IsAllowedPlan, Asks, PrintsTotals, Prints};
+
+use crate::requests::{Request, StormPlan, request_of};
+use crate::running::{flush, run};
+use crate::stream::write_text;
+use crate::totals::text_of_totals;
+use crate::trees::tree;
+use std::alloc::Global;
+use std::io::{BufRead, Write};
+use std::sync::Wait;
+use std::thread::Threads;
+use tool_grammar::RunError;
+use tool_storm::{Gate, storm};
+
+const USAGE: &str = "usage: metrics_tool run | storm P V B";
+
+/// Lets every worker pass.
+struct Open;
+
+impl Gate for Open {
+    fn pass<R: Wait>(&self, _rt: &R, _worker: usize) -> bool {
+        true
+    }
+}
+
+/// Reads a tree, and answers the call lines behind it.
+fn answer<I: BufRead, O: Write>(
+    alloc: Global,
+    input: &mut I,
+    output: &mut O,
+) -> Result<u64, RunError>
+    ensures { OnOk result ((text : List ℕ)
+        × Appends (O.contents output.old) (O.contents output.new) text × PrintsAnswers text) }
+{
+    match tree(alloc, input) {
+        Ok((mut books, first)) => run(alloc, &mut books, input, output, first),
+        Err(e) => flush(output, Err(e)),
+    }
+}
+
+/// Writes the text, and flushes the writer.
+fn write_whole<O: Write>(output: &mut O, text: &[u8]) -> Result<(), RunError>
+    ensures { OnOk result (Appends (O.contents output.old) (O.contents output.new) text.now) }
+{
+    write_text(output, text)?;
+    match output.flush() {
+        Ok(()) => Ok(()),
+        Err(_) => Err(RunError::Device),
+    }
+}
+
+/// Runs a storm whose gate lets every worker pass, and writes its three lines.
+fn answer_storm<R: Threads + Wait + Sync, O: Write>(
+    rt: &R,
+    alloc: Global,
+    plan: StormPlan,
+    output: &mut O,
+) -> Result<(), RunError>
+    requires { IsAllowedPlan plan }
+    ensures { OnOk result ((text : List ℕ)
+        × Appends (O.contents output.old) (O.contents output.new) text × PrintsTotals plan text) }
+{
+    let totals = storm(rt, alloc, plan.pushers, plan.values, plan.blocks, &Open)?;
+    let text = text_of_totals(alloc, &totals)?;
+    write_whole(output, text.as_bytes())
+}
+
+/// Does what was asked for.
+fn answer_request<R: Threads + Wait + Sync, I: BufRead, O: Write>(
+    rt: &R,
+    alloc: Global,
+    request: Request,
+    input: &mut I,
+    output: &mut O,
+) -> Result<(), RunError>
+    requires { IsAllowed request }
+    ensures { OnOk result ((text : List ℕ)
+        × Appends (O.contents output.old) (O.contents output.new) text × Prints request text) }
+{
+    match request {
+        Request::Run => {
+            answer(alloc, input, output)?;
+            Ok(())
+        }
+        Request::Storm(plan) => answer_storm(rt, alloc, plan, output),
+    }
+}
+
+/// The status of a program that stopped for this reason.
+fn status_of(e: RunError) -> u8
+    ensures number { result ≡ status_number e }
+    ensures not_done { 1 ≤ result }
+{
+    match e {
+        RunError::BadLine(_) => 2,
+        RunError::Memory(_) => 1,
+        RunError::Device => 1,
+    }
+}
+
+/// Runs the program over the words after its name, and answers its status. Why it stopped goes to
+/// `errors`, whose faults are ignored.
+pub fn command<R: Threads + Wait + Sync, I: BufRead, O: Write, E: Write>(
+    rt: &R,
+    alloc: Global,
+    words: &[&str],
+    input: &mut I,
+    output: &mut O,
+    errors: &mut E,
+) -> u8
+    // Status 0 comes only where the words ask for something, and it is what was written: the answers to calls on a tree of
+    // new books, or the three lines of a storm.
+    ensures done { result ≡ 0 → (asked : Asked) × (text : List ℕ) × Asks (map (λ w. w.now) words.now) asked
+        × Appends (O.contents output.old) (O.contents output.new) text × Prints asked text }
+    // Words that ask for nothing have status 2.
+    ensures wrong { ((asked : Asked) → Asks (map (λ w. w.now) words.now) asked → ⊥) → (result ≡ 2) × (output.new ≡ output.old) }
+{
+    let Some(request) = request_of(words) else {
+        let _ = writeln!(errors, "{USAGE}");
+        return 2;
+    };
+    match answer_request(rt, alloc, request, input, output) {
+        Ok(()) => 0,
+        Err(e) => {
+            let _ = writeln!(errors, "{e}");
+            status_of(e)
+        }
+    }
+}

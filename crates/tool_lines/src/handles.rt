@@ -1,0 +1,81 @@
+//! What register calls gave, by their numbers.
+ghost use Rattle.std.specs.Prelude.{◌≡◌, ◌++◌, [], length, OnOk, option_map};
+ghost use Rattle.tool_lines.specs.Handles.{entries, entry_at, entry_named, entry_seen, entries_by, HasRoom};
+
+use metrics::{Call, MetricKind};
+use std::alloc::{AllocError, Global};
+
+/// For each register call, in order: its kind and what it gave, and nothing where it was refused.
+#[derive(Drop)]
+pub struct Handles<H> {
+    entries: Vec<Option<(MetricKind, H)>>,
+}
+
+impl<H: Drop> Handles<H> {
+    /// Before the first register call.
+    pub fn new(alloc: Global) -> Handles<H>
+        ensures { entries result ≡ [] }
+    {
+        Handles {
+            entries: Vec::new(alloc),
+        }
+    }
+
+    /// How many register calls there were, refused ones counted too.
+    pub fn len(&self) -> usize
+        ensures { result ≡ length (entries self.now) }
+    {
+        self.entries.len()
+    }
+
+    /// The kind of the register call with that number, from 0, and what it gave.
+    pub fn entry(&self, number: usize) -> Option<(MetricKind, &H)>
+        ensures { option_map entry_seen result ≡ entry_at number (entries self.now) }
+    {
+        match self.entries.get(number) {
+            Some(Some((kind, given))) => Some((*kind, given)),
+            Some(None) | None => None,
+        }
+    }
+
+    /// The same of the register call that an update names. Other calls name none.
+    pub fn named(&self, call: &Call) -> Option<(MetricKind, &H)>
+        ensures { option_map entry_seen result ≡ entry_named call.now (entries self.now) }
+    {
+        match call {
+            Call::Update(number, _) => self.entry(*number),
+            Call::Describe(..) | Call::Register(..) => None,
+            Call::Snapshot(_) | Call::SnapshotWith(..) => None,
+        }
+    }
+
+    /// Makes room for what a call will give; only a register call needs any.
+    pub fn reserve_for(&mut self, call: &Call) -> Result<(), AllocError>
+        ensures entries { entries self.new ≡ entries self.old }
+        ensures room { OnOk result (HasRoom call.now self.new) }
+    {
+        match call {
+            Call::Register(..) => self.entries.reserve(1),
+            Call::Describe(..) | Call::Update(..) => Ok(()),
+            Call::Snapshot(_) | Call::SnapshotWith(..) => Ok(()),
+        }
+    }
+
+    /// Notes what a call gave, if it was a register call.
+    pub fn note(&mut self, call: &Call, given: Option<H>)
+        requires { HasRoom call.now self.old }
+        ensures { entries self.new ≡ entries self.old ++ entries_by call.now given }
+    {
+        match call {
+            Call::Register(kind, _) => {
+                let entry = match given {
+                    Some(given) => Some((*kind, given)),
+                    None => None,
+                };
+                self.entries.push_reserved(entry);
+            }
+            Call::Describe(..) | Call::Update(..) => {}
+            Call::Snapshot(_) | Call::SnapshotWith(..) => {}
+        }
+    }
+}

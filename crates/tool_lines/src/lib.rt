@@ -1,0 +1,20 @@
+//! The line program as a library: a tree of recorders from tree lines, calls from call lines, and storms.
+#![tactic(auto)]
+
+mod commands;
+mod handles;
+mod levels;
+mod requests;
+mod running;
+mod stream;
+#[cfg(test)]
+mod tests;
+mod totals;
+mod tree_lines;
+mod trees;
+
+pub use commands::command;
+pub use handles::Handles;
+pub use running::run;
+pub use tool_grammar::RunError;
+pub use trees::tree;
