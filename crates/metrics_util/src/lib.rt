@@ -9,7 +9,7 @@ pub mod debugging {
 
 /// Layers over recorders.
 pub mod layers {
-    pub use metrics_layers::{Filter, FilterLayer, Layer, Prefix, PrefixLayer, Stack};
+    pub use metrics_layers::{Filter, FilterLayer, Layer, Prefix, PrefixLayer, Stack, dotted_name};
     pub use metrics_trees::{Child, Fanout, FanoutBuilder, Router, RouterBuilder};
 }
 

@@ -10,7 +10,7 @@ pub mod debugging {
 
 /// Layers over recorders.
 pub mod layers {
-    pub use metrics_layers::{Filter, FilterLayer, Layer, Prefix, PrefixLayer, Stack};
+    pub use metrics_layers::{Filter, FilterLayer, Layer, Prefix, PrefixLayer, Stack, dotted_name};
     pub use metrics_trees::{Child, Fanout, FanoutBuilder, Router, RouterBuilder};
 }
 
@@ -32,6 +32,8 @@ pub mod storage {
 }
 
 pub use metrics::{Answer, Call, CompositeKey, Error, MetricKind, MetricKindMask};
-pub use metrics_registry::{DefaultHashable, Hashable, KeyHasher, Quantile, parse_quantiles, recency_law};
+pub use metrics_registry::{
+    DefaultHashable, Hashable, KeyHasher, Quantile, parse_quantiles, recency_law,
+};
 pub use metrics_replay::{Journaled, answer_of, replay};
 pub use metrics_storage::reservoir_law;
