@@ -16,6 +16,8 @@ mod steps;
 mod tests;
 mod view;
 mod visitor;
+mod walker;
+mod walking;
 
 pub use atomic::AtomicBucket;
 pub use bucket::RuledBucket;
