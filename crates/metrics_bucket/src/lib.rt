@@ -11,6 +11,7 @@ mod pen;
 mod readings;
 mod rule;
 mod sample;
+mod spares;
 mod steps;
 #[cfg(test)]
 mod tests;
@@ -21,7 +22,9 @@ mod walking;
 
 pub use atomic::AtomicBucket;
 pub use bucket::RuledBucket;
+pub use gathered::Gathered;
 pub use law::bucket_law;
 pub use pen::Pen;
 pub use sample::Sample;
-pub use visitor::Visitor;
+pub use spares::Spares;
+pub use visitor::{Shown, Visitor};
