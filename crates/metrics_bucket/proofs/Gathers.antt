@@ -9,7 +9,7 @@ use Rattle.metrics.specs.Book.{joined_lists, blocks}
 use Rattle.metrics_bucket.specs.Gathers.{Gathers}
 use Rattle.metrics_bucket.proofs.Blocks.{chunk, first_chunks, chunks_from, chunks_newest, chunks_joined, length_map, length_blocks}
 
-gathers_fold : {T : Type 0} (xss : List (List T)) (v w : Vec T) → FoldsTo Gathers v xss w → length v.items + length (joined_lists xss) ≤ vec_capacity v → w.items ≡ v.items ++ joined_lists xss
+pub gathers_fold : {T : Type 0} (xss : List (List T)) (v w : Vec T) → FoldsTo Gathers v xss w → length v.items + length (joined_lists xss) ≤ vec_capacity v → w.items ≡ v.items ++ joined_lists xss
 gathers_fold {T} [] v w e room = ap (λ (z : Vec T). z.items) (sym e) ∙ sym (append-nil v.items)
 gathers_fold {T} (xs ∷ xss) v w (u, r, f) room =
     let a = length-append xs (joined_lists xss) in

@@ -13,17 +13,23 @@ use mathlib.Core.Option.{some, some-injective}
 use lib.ListN.{get_elem?}
 use Rattle.atomic_table.proofs.Lists.{set_here, set_else}
 use Rattle.metrics_bucket.specs.declared.view.Hold.{Hold}
-use Rattle.metrics_bucket.specs.declared.view.Hold.TheVariants.{Clearing}
+use Rattle.metrics_bucket.specs.declared.view.Hold.TheVariants.{Reading}
 use Rattle.metrics_bucket.specs.declared.view.Visit.{Visit}
-use Rattle.metrics_bucket.specs.declared.view.Visit.TheVariants.{Unseen, Marked, Read, Wiped}
-use Rattle.metrics_bucket.specs.BucketState.{other, walk, holding, leaving, left_from, put_visit, visits_of, value_in, values_in}
-use Rattle.metrics_bucket.specs.History.{CanLeave}
+use Rattle.metrics_bucket.specs.declared.view.Visit.TheVariants.{Unseen, Marked, Read}
+use Rattle.metrics_bucket.specs.BucketState.{other, place_index, walk, holding, leaving, left_from, put_visit, side_of, visits_of, value_in, values_in}
+use Rattle.metrics_bucket.specs.History.{HasVisit, CanLeave}
 use Rattle.metrics_bucket.specs.Blocks.{valued}
 use Rattle.metrics_bucket.specs.declared.view.Push.{Push}
-use Rattle.metrics_bucket.specs.ClearedPlaces.{Clears, has_taken}
+use Rattle.metrics_bucket.specs.WalkedPlaces.{with_walk, WalkKind, reads, clears, walking, visited, Walks}
 use Rattle.metrics_bucket.specs.Places.{Reaches, Finds, Covers}
 use Rattle.metrics_bucket.proofs.Blocks.{chunk, chunks_from, chunks_front, drop_more, part_next}
 use Rattle.metrics_bucket.specs.Steps.{Seated}
+use Rattle.metrics_bucket.specs.WalkSteps.{IsValueOf, IsClearing}
+use Rattle.metrics_bucket.proofs.AllowedWalks.{value_word}
+use Rattle.metrics_bucket.specs.Facts.{weigh, weigh_pushes, weigh_walks}
+use Rattle.metrics_bucket.specs.declared.view.Walk.{Walk}
+use Rattle.metrics_bucket.specs.declared.view.View.{View}
+use Rattle.metrics_bucket.proofs.Visits.{weigh_walks-append}
 use Rattle.metrics_bucket.proofs.Keep.{at_below}
 
 pub set_twice : {A : Type 0} (xs : List A) (i : ℕ) (a b : A) → set (set xs i a) i b ≡ set xs i b
@@ -31,54 +37,116 @@ set_twice [] i a b = refl
 set_twice (x ∷ xs) zero a b = refl
 set_twice (x ∷ xs) (suc i) a b = λ k. x ∷ set_twice xs i a b k
 
--- a clear's visit changes
-pub next_hold : (m n : Seated) (s at : ℕ) (visits : List Visit) (c : Visit) → m.0.hold ≡ Clearing s visits → n ≡ (holding m.0 (put_visit m.0.hold at c), m.1) → n.0.hold ≡ Clearing s (set visits at c)
-next_hold m n s at visits c h e = ap (λ (z : Seated). z.0.hold) e ∙ ap (λ (z : Hold). put_visit z at c) h
+-- what both walks have in common
+pub visits_walking : (kind : WalkKind) (s : ℕ) (visits : List Visit) → visits_of (walking kind s visits) ≡ visits
+visits_walking reads s visits = refl
+visits_walking clears s visits = refl
+
+pub side_walking : (kind : WalkKind) (s : ℕ) (visits : List Visit) → side_of (walking kind s visits) ≡ s
+side_walking reads s visits = refl
+side_walking clears s visits = refl
+
+pub put_walking : (kind : WalkKind) (s at : ℕ) (visits : List Visit) (c : Visit) → put_visit (walking kind s visits) at c ≡ walking kind s (set visits at c)
+put_walking reads s at visits c = refl
+put_walking clears s at visits c = refl
+
+pub has_walking : (kind : WalkKind) (s at : ℕ) (visits : List Visit) (c : Visit) → get_elem? visits at ≡ some c → HasVisit (walking kind s visits) at c
+has_walking reads s at visits c e = e
+has_walking clears s at visits c e = e
+
+leave_walking : (kind : WalkKind) (s : ℕ) (visits : List Visit) → ((i : ℕ) (c : Visit) → get_elem? visits i ≡ some c → (x : ℕ) × (c ≡ visited kind x)) → CanLeave (walking kind s visits)
+leave_walking reads s visits f = f
+leave_walking clears s visits f = f
+
+value_visited : (kind : WalkKind) (x : ℕ) → value_in (visited kind x) ≡ x
+value_visited reads x = refl
+value_visited clears x = refl
+
+-- a walk's visit changes
+pub next_hold : (kind : WalkKind) (m n : Seated) (s at : ℕ) (visits : List Visit) (c : Visit) → m.0.hold ≡ walking kind s visits → n ≡ (holding m.0 (put_visit m.0.hold at c), m.1) → n.0.hold ≡ walking kind s (set visits at c)
+next_hold kind m n s at visits c h e = ap (λ (z : Seated). z.0.hold) e ∙ (ap (λ (z : Hold). put_visit z at c) h ∙ put_walking kind s at visits c)
 
 pub visit_there : (visits : List Visit) (at : ℕ) (b c : Visit) → get_elem? visits at ≡ some b → get_elem? (set visits at c) at ≡ some c
 visit_there visits at b c e = set_here visits at c (at_below visits at b e)
 
--- a place was seen, read and wiped
-pub place_cleared : (m0 m1 m2 m3 : Seated) (s at r : ℕ) (visits : List Visit) → m0.0.hold ≡ Clearing s visits → m1 ≡ (holding m0.0 (put_visit m0.0.hold at Marked), m0.1)
-    → m2 ≡ (holding m1.0 (put_visit m1.0.hold at (Read r)), m1.1) → m3 ≡ (holding m2.0 (put_visit m2.0.hold at (Wiped r)), m2.1) → m3 ≡ (holding m0.0 (Clearing s (set visits at (Wiped r))), m0.1)
-place_cleared m0 m1 m2 m3 s at r visits h e1 e2 e3 =
-    let h1 = next_hold m0 m1 s at visits Marked h e1 in
-    let h2 = next_hold m1 m2 s at (set visits at Marked) (Read r) h1 e2 in
-    let last : put_visit m2.0.hold at (Wiped r) ≡ Clearing s (set visits at (Wiped r)) =
-    ap (λ (z : Hold). put_visit z at (Wiped r)) h2 ∙ ap (Clearing s) (set_twice (set visits at Marked) at (Read r) (Wiped r) ∙ set_twice visits at Marked (Wiped r))
-    in
-    e3 ∙ ((λ i. (holding m2.0 (last i), m2.1)) ∙ (ap (λ (z : Seated). (holding z.0 (Clearing s (set visits at (Wiped r))), z.1)) e2 ∙ ap (λ (z : Seated). (holding z.0 (Clearing s (set visits at (Wiped r))), z.1)) e1))
+pub visits_now : (kind : WalkKind) (m : Seated) (s : ℕ) (visits : List Visit) → m.0.hold ≡ walking kind s visits → visits_of m.0.hold ≡ visits
+visits_now kind m s visits h = ap visits_of h ∙ visits_walking kind s visits
 
-pub clears_none : (m : Seated) (side start : ℕ) → m.0.hold ≡ Clearing side (visits_of m.0.hold) → Clears m m side start start
-clears_none m side start h = record {
+-- the mark of a place was seen
+pub place_marked : (kind : WalkKind) (m m1 : Seated) (p s at r : ℕ) (visits : List Visit) → m.0.hold ≡ walking kind s visits → get_elem? visits at ≡ some Unseen → m.0.places ≡ p → r ≡ place_index p s at
+    → m1 ≡ (holding m.0 (put_visit m.0.hold at Marked), m.1) → IsValueOf m1.0 (2 + r) at × HasVisit m1.0.hold at Marked
+place_marked kind m m1 p s at r visits h unseen places is e =
+    let marked : List Visit = set visits at Marked in
+    let h1 = next_hold kind m m1 s at visits Marked h e in (
+      value_word m1.0 p s at r (ap (λ (z : Seated). z.0.places) e ∙ places) (ap side_of h1 ∙ side_walking kind s marked) is,
+      subst (λ (z : Hold). HasVisit z at Marked) (sym h1) (has_walking kind s at marked Marked (visit_there visits at Unseen Marked unseen)),
+    )
+
+-- and its value was read
+pub place_read : (kind : WalkKind) (m m1 m2 : Seated) (s at r : ℕ) (visits : List Visit) → m.0.hold ≡ walking kind s visits → get_elem? visits at ≡ some Unseen → m1 ≡ (holding m.0 (put_visit m.0.hold at Marked), m.1)
+    → m2 ≡ (holding m1.0 (put_visit m1.0.hold at (Read r)), m1.1) → (m2.0.hold ≡ walking kind s (visits_of m2.0.hold)) × (get_elem? (visits_of m2.0.hold) at ≡ some (Read r))
+place_read kind m m1 m2 s at r visits h unseen e1 e2 =
+    let marked : List Visit = set visits at Marked in
+    let h2 = next_hold kind m1 m2 s at marked (Read r) (next_hold kind m m1 s at visits Marked h e1) e2 in
+    let now = visits_now kind m2 s (set marked at (Read r)) h2 in (
+      h2 ∙ ap (walking kind s) (sym now),
+      ap (λ (z : List Visit). get_elem? z at) now ∙ visit_there marked at Marked (Read r) (visit_there visits at Unseen Marked unseen),
+    )
+
+set_same : {A : Type 0} (xs : List A) (i : ℕ) (a : A) → get_elem? xs i ≡ some a → set xs i a ≡ xs
+set_same [] i a e = refl
+set_same (x ∷ xs) zero a e = λ k. sym (some-injective x a e) k ∷ xs
+set_same (x ∷ xs) (suc i) a e = λ k. x ∷ set_same xs i a e k
+
+-- a reading walk leaves a place as it found it
+pub place_left : (m : Seated) (s at x : ℕ) (visits : List Visit) → m.0.hold ≡ Reading s visits → get_elem? visits at ≡ some (Read x) → m ≡ (holding m.0 (put_visit m.0.hold at (Read x)), m.1)
+place_left m s at x visits h e =
+    let same : m.0.hold ≡ put_visit m.0.hold at (Read x) = h ∙ (sym (ap (Reading s) (set_same visits at (Read x) e)) ∙ sym (ap (λ (z : Hold). put_visit z at (Read x)) h)) in
+    λ i. (holding m.0 (same i), m.1)
+
+-- a place was seen and read, and the walk is done with it
+pub place_walked : (kind : WalkKind) (m0 m1 m2 m3 : Seated) (s at r : ℕ) (visits : List Visit) → m0.0.hold ≡ walking kind s visits → m1 ≡ (holding m0.0 (put_visit m0.0.hold at Marked), m0.1)
+    → m2 ≡ (holding m1.0 (put_visit m1.0.hold at (Read r)), m1.1) → m3 ≡ (holding m2.0 (put_visit m2.0.hold at (visited kind r)), m2.1) → m3 ≡ (holding m0.0 (walking kind s (set visits at (visited kind r))), m0.1)
+place_walked kind m0 m1 m2 m3 s at r visits h e1 e2 e3 =
+    let c : Visit = visited kind r in
+    let h1 = next_hold kind m0 m1 s at visits Marked h e1 in
+    let h2 = next_hold kind m1 m2 s at (set visits at Marked) (Read r) h1 e2 in
+    let last : put_visit m2.0.hold at c ≡ walking kind s (set visits at c) =
+    ap (λ (z : Hold). put_visit z at c) h2 ∙ (put_walking kind s at (set (set visits at Marked) at (Read r)) c ∙ ap (walking kind s) (set_twice (set visits at Marked) at (Read r) c ∙ set_twice visits at Marked c))
+    in
+    e3 ∙ ((λ i. (holding m2.0 (last i), m2.1)) ∙ (ap (λ (z : Seated). (holding z.0 (walking kind s (set visits at c)), z.1)) e2 ∙ ap (λ (z : Seated). (holding z.0 (walking kind s (set visits at c)), z.1)) e1))
+
+pub walks_none : (kind : WalkKind) (m : Seated) (side start b : ℕ) → m.0.hold ≡ walking kind side (visits_of m.0.hold) → b ≤ start → Walks kind m m side start b
+walks_none kind m side start b h l = record {
   me = λ i. (holding m.0 (h i), m.1);
   long = refl;
-  wiped = λ i l k. absurd (omega arith);
+  found = λ i j k. absurd (omega arith);
   others = λ i _. refl;
 }
 
--- one more place is wiped
-pub clears_more : (m m1 m2 : Seated) (side start at x : ℕ) → Clears m m1 side start at → get_elem? (visits_of m1.0.hold) at ≡ some Unseen → start ≤ at → m2 ≡ (holding m1.0 (Clearing side (set (visits_of m1.0.hold) at (Wiped x))), m1.1)
-    → Clears m m2 side start (at + 1)
-clears_more m m1 m2 side start at x c there l e =
+-- the walk is done with one more place
+pub walks_more : (kind : WalkKind) (m m1 m2 : Seated) (side start at x : ℕ) → Walks kind m m1 side start at → get_elem? (visits_of m1.0.hold) at ≡ some Unseen → start ≤ at
+    → m2 ≡ (holding m1.0 (walking kind side (set (visits_of m1.0.hold) at (visited kind x))), m1.1) → Walks kind m m2 side start (at + 1)
+walks_more kind m m1 m2 side start at x c there l e =
     let visits : List Visit = visits_of m1.0.hold in
-    let now : visits_of m2.0.hold ≡ set visits at (Wiped x) = ap (λ (z : Seated). visits_of z.0.hold) e in
+    let new : List Visit = set visits at (visited kind x) in
+    let now : visits_of m2.0.hold ≡ new = ap (λ (z : Seated). visits_of z.0.hold) e ∙ visits_walking kind side new in
     record {
-      me = e ∙ (ap (λ (z : Seated). (holding z.0 (Clearing side (set visits at (Wiped x))), z.1)) c.me ∙ (λ i. (holding m.0 (Clearing side (sym now i)), m.1)));
-      long = ap length now ∙ (length-set visits at (Wiped x) ∙ c.long);
-      wiped = λ i a b. dite (ℕ_discrete i at)
-          (λ here. (x, ap (λ (z : List Visit). get_elem? z i) now ∙ ((λ k. get_elem? (set visits at (Wiped x)) (here k)) ∙ visit_there visits at Unseen (Wiped x) there)))
-          (λ apart. let t = c.wiped i a (omega arith) in (t.0, ap (λ (z : List Visit). get_elem? z i) now ∙ (set_else visits at i (Wiped x) apart ∙ t.1)));
+      me = e ∙ (ap (λ (z : Seated). (holding z.0 (walking kind side new), z.1)) c.me ∙ (λ i. (holding m.0 (walking kind side (sym now i)), m.1)));
+      long = ap length now ∙ (length-set visits at (visited kind x) ∙ c.long);
+      found = λ i a b. dite (ℕ_discrete i at)
+          (λ here. (x, ap (λ (z : List Visit). get_elem? z i) now ∙ ((λ k. get_elem? new (here k)) ∙ visit_there visits at Unseen (visited kind x) there)))
+          (λ apart. let t = c.found i a (omega arith) in (t.0, ap (λ (z : List Visit). get_elem? z i) now ∙ (set_else visits at i (visited kind x) apart ∙ t.1)));
       others = λ i o.
           let apart : i ≢ at = λ same. ⊎_elim (λ (z : i < start). absurd (omega arith)) (λ (z : at + 1 ≤ i). absurd (omega arith)) o in
           let o' : (i < start) ⊎ (at ≤ i) = ⊎_elim (λ (z : i < start). inl z) (λ (z : at + 1 ≤ i). inr (omega arith)) o in
-          ap (λ (z : List Visit). get_elem? z i) now ∙ (set_else visits at i (Wiped x) apart ∙ c.others i o');
+          ap (λ (z : List Visit). get_elem? z i) now ∙ (set_else visits at i (visited kind x) apart ∙ c.others i o');
     }
 
-pub values_set : (visits : List Visit) (i x : ℕ) → values_in (set visits i (Wiped x)) ≡ set (values_in visits) i x
-values_set [] i x = refl
-values_set (c ∷ cs) zero x = refl
-values_set (c ∷ cs) (suc i) x = λ k. value_in c ∷ values_set cs i x k
+pub values_set : (kind : WalkKind) (visits : List Visit) (i x : ℕ) → values_in (set visits i (visited kind x)) ≡ set (values_in visits) i x
+values_set kind [] i x = refl
+values_set kind (c ∷ cs) zero x = λ k. value_visited kind x k ∷ values_in cs
+values_set kind (c ∷ cs) (suc i) x = λ k. value_in c ∷ values_set kind cs i x k
 
 pub length_values : (visits : List Visit) → length (values_in visits) ≡ length visits
 length_values [] = refl
@@ -120,30 +188,27 @@ pub length_visits : (n : ℕ) → length (replicate n Unseen) ≡ n
 length_visits zero = refl
 length_visits (suc n) = ap suc (length_visits n)
 
-pub clears_start : (m : Seated) (side b given : ℕ) → m.0.hold ≡ Clearing side (visits_of m.0.hold) → given ≤ b → Clears m m side b given
-clears_start m side b given h l = record {
-  me = λ i. (holding m.0 (h i), m.1);
-  long = refl;
-  wiped = λ i a k. absurd (omega arith);
-  others = λ i _. refl;
-}
+-- how many places a walk has that begins
+pub length_walking : (kind : WalkKind) (m : Seated) (s n : ℕ) → m.0.hold ≡ walking kind s (replicate n Unseen) → length (visits_of m.0.hold) ≡ n
+length_walking kind m s n h = ap length (visits_now kind m s (replicate n Unseen) h) ∙ length_visits n
 
 -- one more chunk
-pub clears_join : (m m1 m2 : Seated) (side start b end given : ℕ) → Clears m m1 side b given → Clears m1 m2 side start end → b ≡ start + 64 → end ≡ min given b → Clears m m2 side start given
-clears_join m m1 m2 side start b end given c1 c2 is cut = record {
-  me = c2.me ∙ ap (λ (z : Seated). (holding z.0 (Clearing side (visits_of m2.0.hold)), z.1)) c1.me;
+pub walks_join : (kind : WalkKind) (m m1 m2 : Seated) (side start b end given : ℕ) → Walks kind m m1 side b given → Walks kind m1 m2 side start end → b ≡ start + 64 → end ≡ min given b → Walks kind m m2 side start given
+walks_join kind m m1 m2 side start b end given c1 c2 is cut = record {
+  me = c2.me ∙ ap (λ (z : Seated). (holding z.0 (walking kind side (visits_of m2.0.hold)), z.1)) c1.me;
   long = c2.long ∙ c1.long;
-  wiped = λ i x y. dite (dec_le end i)
-      (λ (high : end ≤ i). let t = c1.wiped i (omega arith) y in (t.0, c2.others i (inr high) ∙ t.1))
-      (λ low. c2.wiped i x (omega arith));
+  found = λ i x y. dite (dec_le end i)
+      (λ (high : end ≤ i). let t = c1.found i (omega arith) y in (t.0, c2.others i (inr high) ∙ t.1))
+      (λ low. c2.found i x (omega arith));
   others = λ i o. ⊎_elim
       (λ (z : i < start). c2.others i (inl z) ∙ c1.others i (inl (omega arith)))
       (λ (z : given ≤ i). c2.others i (inr (omega arith)) ∙ c1.others i (inr z))
       o;
 }
 
-pub still_unseen : (m m1 : Seated) (side b given end i : ℕ) → Clears m m1 side b given → m.0.hold ≡ Clearing side (replicate given Unseen) → end ≡ min given b → i < end → get_elem? (visits_of m1.0.hold) i ≡ some Unseen
-still_unseen m m1 side b given end i c h cut l = c.others i (inl (omega arith)) ∙ (ap (λ (z : Hold). get_elem? (visits_of z) i) h ∙ new_at given i (omega arith))
+pub still_unseen : (kind : WalkKind) (m m1 : Seated) (side b given end i : ℕ) → Walks kind m m1 side b given → m.0.hold ≡ walking kind side (replicate given Unseen) → end ≡ min given b → i < end → get_elem? (visits_of m1.0.hold) i ≡ some Unseen
+still_unseen kind m m1 side b given end i c h cut l =
+    c.others i (inl (omega arith)) ∙ (ap (λ (z : List Visit). get_elem? z i) (visits_now kind m side (replicate given Unseen) h) ∙ new_at given i (omega arith))
 
 -- lists of visits that agree from a place on
 pub same_from : (xs ys : List Visit) (b : ℕ) → length xs ≡ length ys → ((i : ℕ) → b ≤ i → get_elem? xs i ≡ get_elem? ys i) → drop b (values_in xs) ≡ drop b (values_in ys)
@@ -186,15 +251,33 @@ one_minus zero l = omega arith
 one_minus (suc zero) l = omega arith
 one_minus (suc (suc s)) l = absurd (omega arith)
 
--- a clear that wiped all its places may leave
-pub can_leave : (m m' : Seated) (side given : ℕ) → Clears m m' side 0 given → m.0.hold ≡ Clearing side (replicate given Unseen) → CanLeave m'.0.hold
-can_leave m m' side given c h =
-    let long : length (visits_of m'.0.hold) ≡ given = c.long ∙ (ap (λ (z : Hold). length (visits_of z)) h ∙ length_visits given) in
+-- a walk that is done with all its places may leave
+pub can_leave : (kind : WalkKind) (m m' : Seated) (side given : ℕ) → Walks kind m m' side 0 given → m.0.hold ≡ walking kind side (replicate given Unseen) → CanLeave m'.0.hold
+can_leave kind m m' side given c h =
+    let long : length (visits_of m'.0.hold) ≡ given = c.long ∙ length_walking kind m side given h in
     subst CanLeave (sym (ap (λ (z : Seated). z.0.hold) c.me))
-    (λ i d there. let below = at_below (visits_of m'.0.hold) i d there in let t = c.wiped i (omega arith) (omega arith) in (t.0, sym (some-injective (Wiped t.0) d (sym t.1 ∙ there))))
+    (leave_walking kind side (visits_of m'.0.hold)
+    (λ i d there. let below = at_below (visits_of m'.0.hold) i d there in let t = c.found i (omega arith) (omega arith) in (t.0, sym (some-injective (visited kind t.0) d (sym t.1 ∙ there)))))
 
-pub left_clear : (m m' : Seated) (side epoch turn : ℕ) (visits : List Visit) → m.0.hold ≡ Clearing side visits → m.0.epoch ≡ epoch → m.0.turn ≡ turn → m' ≡ (leaving m.0, []) → m' ≡ (has_taken m.0 turn (walk epoch (values_in visits)), [])
-left_clear m m' side epoch turn visits h of_epoch of_turn e = e ∙ ((λ i. (left_from m.0 (h i), [])) ∙ (λ i. (has_taken m.0 (of_turn i) (walk (of_epoch i) (values_in visits)), [])))
+pub left_walk : (kind : WalkKind) (m m' : Seated) (s : ℕ) (visits : List Visit) → m.0.hold ≡ walking kind s visits → m' ≡ (leaving m.0, []) → m' ≡ (with_walk kind m.0 (walk m.0.epoch (values_in visits)), [])
+left_walk reads m m' s visits h e = e ∙ (λ i. (left_from m.0 (h i), []))
+left_walk clears m m' s visits h e = e ∙ (λ i. (left_from m.0 (h i), []))
+
+-- the list does not depend on what was held
+pub with_walk_held : (kind : WalkKind) (v : View) (hold : Hold) (list : Walk) → with_walk kind (holding v hold) list ≡ with_walk kind v list
+with_walk_held reads v hold list = refl
+with_walk_held clears v hold list = refl
+
+-- what was pushed is what the walk found and what was taken before
+pub left_weigh : (kind : WalkKind) (m m' : Seated) (s : ℕ) (visits : List Visit) (h : ℕ → ℕ) → m.0.hold ≡ walking kind s visits → m' ≡ (leaving m.0, []) → (IsClearing m.0.hold → weigh_pushes h m.0.pushed ≡ weigh_walks h m'.0.taken)
+    → (m.0.hold ≡ Reading s visits → weigh_pushes h m.0.pushed ≡ weigh h (values_in visits) + weigh_walks h m.0.taken) → weigh_pushes h m.0.pushed ≡ weigh h (values_in visits) + weigh_walks h m.0.taken
+left_weigh reads m m' s visits h hold e of_clear of_read = of_read hold
+left_weigh clears m m' s visits h hold e of_clear of_read =
+    let told = of_clear (subst IsClearing (sym hold) tt) in
+    let list : Walk = walk m.0.epoch (values_in visits) in
+    let taken : weigh_walks h m'.0.taken ≡ weigh_walks h (m.0.taken ++ list ∷ []) = ap (λ (z : Seated). weigh_walks h z.0.taken) (left_walk clears m m' s visits hold e) in
+    let more = weigh_walks-append h m.0.taken list in
+    omega arith
 
 -- a walk that went over all places has the thread's own pushes
 pub covered : (pushed : List Push) (epoch end : ℕ) (list : List ℕ) → Reaches pushed epoch end → length list ≡ end → Finds pushed (walk epoch list) → Covers pushed (walk epoch list)

@@ -60,8 +60,8 @@ impl<T: Sample> RuledBucket<T> {
         Self::of_places(alloc, BLOCK_SIZE * blocks)
     }
 
-    // A bucket of any number of places on each side.
-    fn of_places(alloc: Global, places: usize) -> Result<(RuledBucket<T>, Pen), Error>
+    /// A bucket of any number of places on each side, and its whole pen.
+    pub fn of_places(alloc: Global, places: usize) -> Result<(RuledBucket<T>, Pen), Error>
         requires { (0 < places) × (places < 2 ^ 60) }
         ensures ok { IfOk result (λ r. (r.0.places ≡ places) × (r.1 ≡ first_account r.0)) }
         ensures err { IfErr result (λ e. e ≡ Error.Memory) }
@@ -94,6 +94,21 @@ impl<T: Sample> RuledBucket<T> {
             of: PhantomData,
         };
         Ok((bucket, pen))
+    }
+
+    /// The same bucket, for values of another type. A value that was pushed as another type comes out as the value of its word.
+    pub fn try_clone_as<U: Sample>(&self) -> Result<RuledBucket<U>, Error>
+        ensures ok { IfOk result (λ b. b ≡ self.now) }
+        ensures err { IfErr result (λ e. e ≡ Error.Memory) }
+    {
+        let Ok(table) = Arc::try_clone(&self.table) else {
+            return Err(Error::Memory);
+        };
+        Ok(RuledBucket {
+            table,
+            places: self.places,
+            of: PhantomData,
+        })
     }
 
     // Where a side's place stands among the values, and among the marks.

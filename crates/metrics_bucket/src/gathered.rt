@@ -15,9 +15,10 @@ fn append<T: Copy>(values: &mut Vec<T>, part: &[T])
     }
 }
 
+/// A visitor that puts the values it is shown behind one another, as far as there is room.
 #[derive(Drop)]
-pub(crate) struct Gathered<T> {
-    pub(crate) values: Vec<T>,
+pub struct Gathered<T> {
+    pub values: Vec<T>,
 }
 
 impl<T: Copy> Visitor<T> for Gathered<T> {

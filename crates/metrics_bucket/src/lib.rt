@@ -11,15 +11,20 @@ mod pen;
 mod readings;
 mod rule;
 mod sample;
+mod spares;
 mod steps;
 #[cfg(test)]
 mod tests;
 mod view;
 mod visitor;
+mod walker;
+mod walking;
 
 pub use atomic::AtomicBucket;
 pub use bucket::RuledBucket;
+pub use gathered::Gathered;
 pub use law::bucket_law;
 pub use pen::Pen;
 pub use sample::Sample;
-pub use visitor::Visitor;
+pub use spares::Spares;
+pub use visitor::{Shown, Visitor};

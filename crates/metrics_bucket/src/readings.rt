@@ -1,5 +1,5 @@
 //! The calls that read all values.
-ghost use Rattle.std.specs.Prelude.{◌≡◌, ℕ, ◌+◌, ◌-◌, ◌*◌, ◌/◌, ◌%◌, ◌^◌, ◌<◌, ◌≤◌, ◌⊎◌, length, take, drop, map, replicate, slice_set, ◌≢◌, List, [], ◌∷◌, false, IfOk, OnOk, IfErr};
+ghost use Rattle.std.specs.Prelude.{◌≡◌, ℕ, ◌+◌, ◌-◌, ◌/◌, ◌%◌, ◌<◌, ◌≤◌, ◌⊎◌, length, map, ◌≢◌, [], ◌∷◌, false, IfOk, IfErr};
 ghost use Rattle.metrics_bucket.specs.Facts.{weigh, weigh_pushes, weigh_walks};
 ghost use Rattle.metrics_bucket.specs.declared.view.Walk.{Walk};
 ghost use Rattle.metrics_bucket.specs.Places.{Reaches, Covers};
@@ -7,92 +7,26 @@ ghost use Rattle.std.specs.List.{FoldsTo};
 ghost use Rattle.std.specs.Fn.{CalledAt};
 ghost use Rattle.metrics_bucket.specs.Blocks.{valued, newest_first};
 ghost use Rattle.metrics.specs.Book.{blocks};
-ghost use mathlib.Core.Option.{some};
-ghost use lib.ListN.{get_elem?};
-ghost use Rattle.metrics_bucket.specs.BucketState.{holding, with_read, put_visit, side_of, visits_of, values_in};
-ghost use Rattle.metrics_bucket.specs.History.{HasVisit, CanQuit, turn_at};
+ghost use Rattle.metrics_bucket.specs.BucketState.{holding};
+ghost use Rattle.metrics_bucket.specs.History.{CanQuit, turn_at};
 ghost use Rattle.metrics_bucket.specs.Account.{IsRead};
-ghost use Rattle.metrics_bucket.specs.ReadPlaces.{Reads, has_read, looked_to_read, IsFree};
-ghost use Rattle.metrics_bucket.specs.ClearedPlaces.{AreUnseen};
-ghost use Rattle.metrics_bucket.specs.declared.view.Hold.TheVariants.{Nothing, Reading};
-ghost use Rattle.metrics_bucket.specs.declared.view.Visit.TheVariants.{Unseen, Marked, Read};
+ghost use Rattle.metrics_bucket.specs.ReadPlaces.{has_read, looked_to_read, IsFree};
+ghost use Rattle.metrics_bucket.specs.declared.view.Hold.TheVariants.{Nothing};
 
-use crate::bucket::{BLOCK_SIZE, RuledBucket};
+use crate::bucket::RuledBucket;
 use crate::gathered::Gathered;
 use crate::pen::Pen;
 use crate::sample::Sample;
-use crate::steps::{ClaimTurn, GiveTurnBack, LeaveTurn, LookToRead, ReadValue};
+use crate::steps::{ClaimTurn, GiveTurnBack, LookToRead};
 use crate::view::{Turn, View};
 use crate::visitor::{Shown, Visitor};
+use crate::walker::Reader;
 use atomic_table::Seat;
 use metrics::Error;
 use std::alloc::Global;
 use std::sync::Wait;
 
 impl<T: Sample> RuledBucket<T> {
-    // Waits for the value of a place, and reads it.
-    fn read_place<R: Wait>(&self, rt: &R, seat: &mut Seat<Turn, View>, side: usize, at: usize) -> T
-        requires home { (seat.old.table_id ≡ self.now.table) × (seat.old.me.0.places ≡ self.now.places) × (0 < seat.old.me.0.weight) }
-        requires hold { (side < 2) × (at < self.now.places) × (seat.old.me.0.hold ≡ Reading side (visits_of seat.old.me.0.hold)) }
-        requires visit { get_elem? (visits_of seat.old.me.0.hold) at ≡ some Unseen }
-        ensures { (x : ℕ) × (result ≡ T.value x) × (seat.new.table_id ≡ seat.old.table_id) × (seat.new.me ≡ (holding seat.old.me.0 (Reading side (slice_set (visits_of seat.old.me.0.hold) at (Read x))), seat.old.me.1)) }
-    {
-        self.wait_for(rt, seat, side, at);
-        let place_index = self.place_index(side, at);
-        let bits = self.table.shared.load::<ReadValue>(seat, 2 + place_index);
-        T::of_word(bits)
-    }
-
-    // Reads these places into the front of the room.
-    fn read_chunk<R: Wait>(
-        &self,
-        rt: &R,
-        seat: &mut Seat<Turn, View>,
-        side: usize,
-        start: usize,
-        end: usize,
-        room: &mut [T],
-    )
-        requires home { (seat.old.table_id ≡ self.now.table) × (seat.old.me.0.places ≡ self.now.places) × (0 < seat.old.me.0.weight) }
-        requires hold { (side < 2) × (end ≤ self.now.places) × (seat.old.me.0.hold ≡ Reading side (visits_of seat.old.me.0.hold)) }
-        requires part { (start ≤ end) × (end - start ≤ length room.old) }
-        requires visits { AreUnseen start end (visits_of seat.old.me.0.hold) }
-        ensures seat { (seat.new.table_id ≡ seat.old.table_id) × Reads seat.old.me seat.new.me side start end }
-        ensures room { take (end - start) room.new ≡ map T.value (take (end - start) (drop start (values_in (visits_of seat.new.me.0.hold)))) }
-    {
-        for at in start..end {
-            room[at - start] = self.read_place(rt, seat, side, at);
-        }
-    }
-
-    // Reads all places that were given, and shows each chunk to the visitor.
-    fn read_side<R: Wait, V: Visitor<T>>(
-        &self,
-        rt: &R,
-        seat: &mut Seat<Turn, View>,
-        side: usize,
-        given: usize,
-        visitor: &mut V,
-    )
-        requires home { (seat.old.table_id ≡ self.now.table) × (seat.old.me.0.places ≡ self.now.places) × (0 < seat.old.me.0.weight) }
-        requires hold { (side < 2) × (given ≤ self.now.places) × (seat.old.me.0.hold ≡ Reading side (replicate given Unseen)) }
-        requires size { given < 2 ^ 60 }
-        requires call { V.ready visitor.old }
-        ensures seat { (seat.new.table_id ≡ seat.old.table_id) × Reads seat.old.me seat.new.me side 0 given }
-        ensures calls { FoldsTo V.saw visitor.old (valued T.value (newest_first (values_in (visits_of seat.new.me.0.hold)))) visitor.new }
-        ensures ready { V.ready visitor.new }
-    {
-        let mut room = [T::of_word(0); BLOCK_SIZE];
-        let mut chunks = (given + (BLOCK_SIZE - 1)) / BLOCK_SIZE;
-        while chunks > 0 {
-            chunks -= 1;
-            let start = BLOCK_SIZE * chunks;
-            let end = given.min(start + BLOCK_SIZE);
-            self.read_chunk(rt, seat, side, start, end, &mut room);
-            visitor.see(&room[..end - start]);
-        }
-    }
-
     // Claims the turn, and looks how many places were given: answers the control word.
     fn claim_and_look(&self, seat: &mut Seat<Turn, View>) -> Result<u64, Error>
         requires home { (seat.old.table_id ≡ self.now.table) × (seat.old.me.0.places ≡ self.now.places) × (0 < seat.old.me.0.weight) }
@@ -117,30 +51,6 @@ impl<T: Sample> RuledBucket<T> {
         self.table.shared.store::<GiveTurnBack>(seat, 1, 0);
     }
 
-    // Reads the places below those that the look told, and gives the turn back.
-    fn read_and_leave<R: Wait, V: Visitor<T>>(
-        &self,
-        rt: &R,
-        seat: &mut Seat<Turn, View>,
-        control: u64,
-        visitor: &mut V,
-    )
-        requires home { (seat.old.table_id ≡ self.now.table) × (seat.old.me.0.places ≡ self.now.places) × (0 < seat.old.me.0.weight) }
-        requires hold { (seat.old.me.0.hold ≡ Reading (control % 2) (replicate (control / 2) Unseen)) × (control / 2 ≤ self.now.places) }
-        requires turn { seat.old.me.1 ≡ (0, turn_at seat.old.me.0.turn) ∷ [] }
-        requires reach { Reaches seat.old.me.0.pushed seat.old.me.0.epoch (control / 2) }
-        requires call { V.ready visitor.old }
-        ensures table { seat.new.table_id ≡ seat.old.table_id }
-        ensures read { (w : Walk) × (length w.values ≡ control / 2) × (seat.new.me ≡ (with_read seat.old.me.0 w, [])) × (w.epoch ≡ seat.old.me.0.epoch) × Covers seat.old.me.0.pushed w × (seat.old.me.0.weight ≡ 1024 → (h : ℕ → ℕ) → weigh_pushes h seat.old.me.0.pushed ≡ weigh h w.values + weigh_walks h seat.old.me.0.taken) × FoldsTo V.saw visitor.old (valued T.value (newest_first w.values)) visitor.new }
-        ensures ready { V.ready visitor.new }
-    {
-        let shared = &self.table.shared;
-        let given = (control / 2) as usize;
-        self.read_side(rt, seat, (control % 2) as usize, given, visitor);
-        self.count_walk(seat);
-        shared.store::<LeaveTurn>(seat, 1, 0);
-    }
-
     // Reads all places that were given, and shows the values to the visitor.
     fn show_to<R: Wait, V: Visitor<T>>(
         &self,
@@ -158,8 +68,9 @@ impl<T: Sample> RuledBucket<T> {
         ensures err { IfErr result (λ e. (seat.new.me ≡ seat.old.me) × (visitor.new ≡ visitor.old) × (e ≡ Error.Busy) × (seat.old.me.0.weight ≢ 1024)) }
     {
         let control = self.claim_and_look(seat)?;
-        self.read_and_leave(rt, seat, control, visitor);
-        Ok((control / 2) as usize)
+        let given = (control / 2) as usize;
+        self.walk_and_leave::<R, Reader, V>(rt, seat, (control % 2) as usize, given, visitor);
+        Ok(given)
     }
 
     // Reads all places that were given into one vector.
@@ -176,12 +87,19 @@ impl<T: Sample> RuledBucket<T> {
         ensures err { IfErr result (λ e. IsFree seat.old.me seat.new.me × ((e ≡ Error.Memory) ⊎ ((e ≡ Error.Busy) × (seat.old.me.0.weight ≢ 1024)))) }
     {
         let control = self.claim_and_look(seat)?;
-        let Ok(values) = Vec::with_capacity(alloc, (control / 2) as usize) else {
+        let given = (control / 2) as usize;
+        let Ok(values) = Vec::with_capacity(alloc, given) else {
             self.give_turn_back(seat);
             return Err(Error::Memory);
         };
         let mut gathered = Gathered { values };
-        self.read_and_leave(rt, seat, control, &mut gathered);
+        self.walk_and_leave::<R, Reader, Gathered<T>>(
+            rt,
+            seat,
+            (control % 2) as usize,
+            given,
+            &mut gathered,
+        );
         Ok(gathered.values)
     }
 

@@ -6,7 +6,7 @@ use Rattle.tool_storm.specs.Numbers.{sum_below}
 use Rattle.tool_lines.specs.Running.{PrintsAnswers}
 use Rattle.tool_lines.specs.declared.requests.StormPlan.{StormPlan}
 use Rattle.tool_lines.specs.declared.requests.Request.{Request}
-use Rattle.tool_lines.specs.declared.requests.Request.TheVariants.{Run, Storm}
+use Rattle.tool_lines.specs.declared.requests.Request.TheVariants.{Run, Storm, GrowingStorm}
 
 -- ---- words
 
@@ -21,11 +21,13 @@ IsPlanOf pushers values blocks plan = (pushers ≡ decimal plan.pushers) × (val
 abbrev pub IsAllowed : Request → Type 0
 IsAllowed Run = Unit {0}
 IsAllowed (Storm plan) = IsAllowedPlan plan
+IsAllowed (GrowingStorm plan) = IsAllowedPlan plan
 
 -- the words of a request
 abbrev pub request_words : Request → List (List ℕ)
 request_words Run = codes "run" ∷ []
 request_words (Storm plan) = codes "storm" ∷ decimal plan.pushers ∷ decimal plan.values ∷ decimal plan.blocks ∷ []
+request_words (GrowingStorm plan) = codes "storm" ∷ decimal plan.pushers ∷ decimal plan.values ∷ decimal plan.blocks ∷ codes "grow" ∷ []
 
 -- the words ask for this
 abbrev pub Asks : List (List ℕ) → Request → Type 0
@@ -58,3 +60,4 @@ PrintsTotals plan text = (t : Totals) × IsStorm plan.pushers plan.values t × (
 abbrev pub Prints : Request → List ℕ → Type 0
 Prints Run text = PrintsAnswers text
 Prints (Storm plan) text = PrintsTotals plan text
+Prints (GrowingStorm plan) text = PrintsTotals plan text

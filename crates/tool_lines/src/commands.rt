@@ -3,7 +3,7 @@ ghost use Rattle.std.specs.Prelude.{◌≡◌, ◌≤◌, ℕ, List, OnOk, map};
 ghost use Rattle.std.specs.Io.KnownBytes.{Appends};
 ghost use Rattle.tool_lines.specs.Running.{PrintsAnswers, status_number};
 ghost use Rattle.tool_lines.specs.declared.requests.Request.{Request as Asked};
-ghost use Rattle.tool_lines.specs.Requests.{IsAllowed, IsAllowedPlan, Asks, PrintsTotals, Prints};
+ghost use Rattle.tool_lines.specs.Requests.{IsAllowed, IsAllowedPlan, Asks, PrintsTotals, Prints, totals_text};
 
 use crate::requests::{Request, StormPlan, request_of};
 use crate::running::{flush, run};
@@ -15,9 +15,9 @@ use std::io::{BufRead, Write};
 use std::sync::Wait;
 use std::thread::Threads;
 use tool_grammar::RunError;
-use tool_storm::{Gate, storm};
+use tool_storm::{Gate, Totals, storm, storm_growing};
 
-const USAGE: &str = "usage: metrics_tool run | storm P V B";
+const USAGE: &str = "usage: metrics_tool run | storm P V B [grow] | export S M T B";
 
 /// Lets every worker pass.
 struct Open;
@@ -54,6 +54,15 @@ fn write_whole<O: Write>(output: &mut O, text: &[u8]) -> Result<(), RunError>
     }
 }
 
+/// Writes the three lines of these totals.
+fn write_totals<O: Write>(alloc: Global, totals: &Totals, output: &mut O) -> Result<(), RunError>
+    ensures { OnOk result ((text : List ℕ)
+        × Appends (O.contents output.old) (O.contents output.new) text × (text ≡ totals_text totals.now)) }
+{
+    let text = text_of_totals(alloc, totals)?;
+    write_whole(output, text.as_bytes())
+}
+
 /// Runs a storm whose gate lets every worker pass, and writes its three lines.
 fn answer_storm<R: Threads + Wait + Sync, O: Write>(
     rt: &R,
@@ -66,8 +75,22 @@ fn answer_storm<R: Threads + Wait + Sync, O: Write>(
         × Appends (O.contents output.old) (O.contents output.new) text × PrintsTotals plan text) }
 {
     let totals = storm(rt, alloc, plan.pushers, plan.values, plan.blocks, &Open)?;
-    let text = text_of_totals(alloc, &totals)?;
-    write_whole(output, text.as_bytes())
+    write_totals(alloc, &totals, output)
+}
+
+/// As `answer_storm`, on a growing bucket.
+fn answer_growing_storm<R: Threads + Wait + Sync, O: Write>(
+    rt: &R,
+    alloc: Global,
+    plan: StormPlan,
+    output: &mut O,
+) -> Result<(), RunError>
+    requires { IsAllowedPlan plan }
+    ensures { OnOk result ((text : List ℕ)
+        × Appends (O.contents output.old) (O.contents output.new) text × PrintsTotals plan text) }
+{
+    let totals = storm_growing(rt, alloc, plan.pushers, plan.values, plan.blocks, &Open)?;
+    write_totals(alloc, &totals, output)
 }
 
 /// Does what was asked for.
@@ -88,6 +111,7 @@ fn answer_request<R: Threads + Wait + Sync, I: BufRead, O: Write>(
             Ok(())
         }
         Request::Storm(plan) => answer_storm(rt, alloc, plan, output),
+        Request::GrowingStorm(plan) => answer_growing_storm(rt, alloc, plan, output),
     }
 }
 

@@ -21,6 +21,8 @@ pub enum Request {
     Run,
     /// To run a storm.
     Storm(StormPlan),
+    /// To run a storm on a growing bucket.
+    GrowingStorm(StormPlan),
 }
 
 /// A number from `least` to `most`, as it is printed, and nothing else.
@@ -51,7 +53,7 @@ fn plan_of(pushers: &str, values: &str, blocks: &str) -> Option<StormPlan>
     })
 }
 
-/// What the words behind the program's name ask for: `run`, or `storm P V B` with numbers that a storm allows.
+/// What the words behind the program's name ask for: `run`, or `storm P V B` or `storm P V B grow` with numbers that a storm allows.
 pub fn request_of(words: &[&str]) -> Option<Request>
     ensures { MatchOption result ((asked : Asked) → Asks (map (λ w. w.now) words.now) asked → ⊥)
         (λ asked. Asks (map (λ w. w.now) words.now) asked) }
@@ -61,6 +63,9 @@ pub fn request_of(words: &[&str]) -> Option<Request>
         [word, pushers, values, blocks] if *word == "storm" => Some(Request::Storm(plan_of(
             pushers, values, blocks,
         )?)),
+        [word, pushers, values, blocks, last] if *word == "storm" && *last == "grow" => {
+            Some(Request::GrowingStorm(plan_of(pushers, values, blocks)?))
+        }
         _ => None,
     }
 }

@@ -169,7 +169,7 @@ fn whole_run<R: Threads + Wait + Sync>(
 
 #[test]
 fn wrong_words(rt: HostRuntime) -> Result<(), Fail> {
-    let wrong: [&[&str]; 16] = [
+    let wrong: [&[&str]; 18] = [
         &[],
         &["walk"],
         &[""],
@@ -186,6 +186,8 @@ fn wrong_words(rt: HostRuntime) -> Result<(), Fail> {
         &["storm", "01", "1", "1"],
         &["storm", "1", "-1", "1"],
         &["storm", "1", "1", "one"],
+        &["storm", "1", "1", "1", "grows"],
+        &["storm", "1", "1", "1", "grow", "grow"],
     ];
     for words in wrong {
         let mut output = writer(rt.alloc(), 1000, 1000, true);
@@ -194,7 +196,7 @@ fn wrong_words(rt: HostRuntime) -> Result<(), Fail> {
         assert_eq!(rt; output.held.as_slice(), b"".as_slice());
         assert_eq!(rt;
             errors.as_slice(),
-            b"usage: metrics_tool run | storm P V B\n".as_slice()
+            b"usage: metrics_tool run | storm P V B [grow] | export S M T B\n".as_slice()
         );
     }
     Ok(())
@@ -202,7 +204,7 @@ fn wrong_words(rt: HostRuntime) -> Result<(), Fail> {
 
 #[test]
 fn storms(rt: HostRuntime) -> Result<(), Fail> {
-    let cases: [(&[&str], &str); 4] = [
+    let cases: [(&[&str], &str); 5] = [
         (
             &["storm", "2", "100", "1"],
             "pushed 200 sum 9900\nfound 200 sum 9900\nsampled 16 of 200 sum 9900\n",
@@ -218,6 +220,10 @@ fn storms(rt: HostRuntime) -> Result<(), Fail> {
         (
             &["storm", "5", "3", "1"],
             "pushed 15 sum 15\nfound 15 sum 15\nsampled 15 of 15 sum 15\n",
+        ),
+        (
+            &["storm", "2", "100", "1", "grow"],
+            "pushed 200 sum 9900\nfound 200 sum 9900\nsampled 16 of 200 sum 9900\n",
         ),
     ];
     for (words, want) in cases {

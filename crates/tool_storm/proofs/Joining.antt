@@ -32,7 +32,7 @@ fresh_front home [] bs f = (tt, f)
 fresh_front home (a ∷ more) bs (x, f) = let r = fresh_front home more bs f in ((x, r.0), r.1)
 
 -- the bag of one worker
-worker_bag : (h : ℕ → ℕ) (values : ℕ) (stopped : Bool) → weigh h (pushes_of stopped values) + (if stopped then 1 else 0) * weigh h (below values) ≡ weigh h (below values)
+pub worker_bag : (h : ℕ → ℕ) (values : ℕ) (stopped : Bool) → weigh h (pushes_of stopped values) + (if stopped then 1 else 0) * weigh h (below values) ≡ weigh h (below values)
 worker_bag h values true = omega arith
 worker_bag h values false = omega arith
 
@@ -40,11 +40,11 @@ times_more : (m n b : ℕ) → n ≡ m + 1 → n * b ≡ m * b + b
 times_more m n b e = let k : n ≡ suc m = omega arith in ap (λ (z : ℕ). z * b) k ∙ (omega arith)
 
 -- one worker more: stopped, it pushed nothing
-one_more : (n s b w p : ℕ) (stopped : Bool) (q : ℕ) → s ≤ n → p ≡ (n - s) * b → q + (if stopped then 1 else 0) * b ≡ b → w ≡ p + q → w ≡ (n + 1 - (s + (if stopped then 1 else 0))) * b
+pub one_more : (n s b w p : ℕ) (stopped : Bool) (q : ℕ) → s ≤ n → p ≡ (n - s) * b → q + (if stopped then 1 else 0) * b ≡ b → w ≡ p + q → w ≡ (n + 1 - (s + (if stopped then 1 else 0))) * b
 one_more n s b w p true q low pushed one all = let e : n + 1 - (s + 1) ≡ n - s = omega arith in let f = ap (λ (z : ℕ). z * b) e in omega arith
 one_more n s b w p false q low pushed one all = let f = times_more (n - s) (n + 1 - (s + 0)) b (omega arith) in omega arith
 
-less_all : (n s : ℕ) (stopped : Bool) → s ≤ n → s + (if stopped then 1 else 0) ≤ n + 1
+pub less_all : (n s : ℕ) (stopped : Bool) → s ≤ n → s + (if stopped then 1 else 0) ≤ n + 1
 less_all n s true l = omega arith
 less_all n s false l = omega arith
 
@@ -87,7 +87,7 @@ joins_more home values weight front mine ran w r k fresh works pen pushed found 
       );
     }
 
-few : (n b c d : ℕ) → n ≤ c → b ≤ d → n * b ≤ c * d
+pub few : (n b c d : ℕ) → n ≤ c → b ≤ d → n * b ≤ c * d
 few zero b c d l m = omega arith
 few (suc n) b zero d l m = absurd (omega arith)
 few (suc n) b (suc c) d l m = let r = few n b c d (omega arith) m in let e = times_more n (suc n) b (omega arith) in let f = times_more c (suc c) d (omega arith) in omega arith

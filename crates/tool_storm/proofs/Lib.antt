@@ -1,3 +1,4 @@
 pub mod Chunks
 pub mod TallyLemmas
 pub mod Joining
+pub mod GrowLemmas

@@ -15,7 +15,7 @@ use Rattle.tool_storm.proofs.Chunks.{weigh_newest, same_chunks}
 pub tells_more : (t u : Tally) (n s m r : ℕ) → Tells t n s → Adds t m r u → Tells u (n + m) (s + r)
 tells_more t u n s m r a b = (let x = a.0 in let y = b.0 in omega arith, let x = a.1 in let y = b.1 in omega arith)
 
-tells_all : (xss : List (List ℕ)) (t u : Tally) (n s : ℕ) → Tells t n s → FoldsTo (λ t xs u. Adds t (count_of xs) (sum_of xs) u) t xss u → Tells u (n + count_of (joined_lists xss)) (s + sum_of (joined_lists xss))
+pub tells_all : (xss : List (List ℕ)) (t u : Tally) (n s : ℕ) → Tells t n s → FoldsTo (λ t xs u. Adds t (count_of xs) (sum_of xs) u) t xss u → Tells u (n + count_of (joined_lists xss)) (s + sum_of (joined_lists xss))
 tells_all [] t u n s a e =
     let x = a.0 in let y = a.1 in
     let c : u.count ≡ t.count = ap (λ (z : Tally). z.count) (sym e) in

@@ -3,6 +3,9 @@
 
 mod clearer;
 mod gate;
+mod grow_threads;
+mod grow_totals;
+mod grow_worker;
 mod pens;
 mod shared;
 mod tally;
@@ -13,4 +16,5 @@ mod totals;
 mod worker;
 
 pub use gate::Gate;
+pub use grow_totals::storm_growing;
 pub use totals::{Totals, storm};

@@ -1,4 +1,4 @@
-use crate::{Gate, Totals, storm};
+use crate::{Gate, Totals, storm, storm_growing};
 use std::sync::Wait;
 use std::sync::atomic::{AtomicU64, Ordering};
 use std::test::Fail;
@@ -129,5 +129,29 @@ fn workers_run_at_once(rt: HostRuntime) -> Result<(), Fail> {
     };
     let totals = storm(&rt, rt.alloc(), 2, 100, 4, &gate)?;
     assert!(rt; totals.stopped == 0 && totals.found == (200, 9900));
+    Ok(())
+}
+
+#[test]
+fn two_push_a_hundred_into_a_growing_bucket(rt: HostRuntime) -> Result<(), Fail> {
+    let totals = storm_growing(&rt, rt.alloc(), 2, 100, 1, &Open)?;
+    assert!(rt;
+        totals
+            == Totals {
+                pushed: (200, 9900),
+                found: (200, 9900),
+                sampled: (16, 200, 9900),
+                stopped: 0
+            }
+    );
+    Ok(())
+}
+
+#[test]
+fn many_push_into_a_growing_bucket(rt: HostRuntime) -> Result<(), Fail> {
+    let totals = storm_growing(&rt, rt.alloc(), 64, 500, 1, &OnlyOdd)?;
+    assert!(rt;
+        totals.stopped == 32 && totals.pushed == (16000, 3992000) && totals.found == totals.pushed
+    );
     Ok(())
 }

@@ -20,7 +20,7 @@ use std::thread::{self, Threads};
 use tool_grammar::RunError;
 
 /// How many values the reservoir keeps.
-const SAMPLES: usize = 16;
+pub(crate) const SAMPLES: usize = 16;
 
 /// What a storm's threads did.
 #[derive(Clone, Copy, PartialEq, Eq, Debug, Drop)]
@@ -36,7 +36,7 @@ pub struct Totals {
 }
 
 /// What a reservoir held, how many values were pushed into it, and their sum.
-fn sampled<R: Wait, G: Rng + Drop>(
+pub(crate) fn sampled<R: Wait, G: Rng + Drop>(
     rt: &R,
     reservoir: &AtomicSamplingReservoir<G>,
 ) -> (u64, u64, i128) {

@@ -16,11 +16,11 @@ use Rattle.metrics_bucket.proofs.bucket.RuledBucket.gather_values.Goals as goal
 abbrev IsOut : Seated → Type 0
 IsOut m = m.1 ≡ (0, turn_at m.0.turn) ∷ []
 
-pub read_and_leave-requires-clause-turn : goal.read_and_leave-requires-clause-turn
-read_and_leave-requires-clause-turn g c = let e = c.in_ok-control.ensures.ok in subst IsOut (sym e.2) refl
+pub walk_and_leave-requires-clause-turn : goal.walk_and_leave-requires-clause-turn
+walk_and_leave-requires-clause-turn g c = let e = c.in_ok-control.ensures.ok in subst IsOut (sym e.2) refl
 
-pub read_and_leave-requires-clause-reach : goal.read_and_leave-requires-clause-reach
-read_and_leave-requires-clause-reach g c = let e = c.in_ok-control.ensures.ok in subst (λ (m : Seated). Reaches m.0.pushed m.0.epoch (c.in_ok-control.control / 2)) (sym e.2) e.4
+pub walk_and_leave-requires-clause-reach : goal.walk_and_leave-requires-clause-reach
+walk_and_leave-requires-clause-reach g c = let e = c.in_ok-control.ensures.ok in subst (λ (m : Seated). Reaches m.0.pushed m.0.epoch (c.in_ok-control.control / 2)) (sym e.2) e.4
 
 pub give_turn_back-requires-clause-hold : goal.give_turn_back-requires-clause-hold
 give_turn_back-requires-clause-hold g c = let e = c.in_ok-control.ensures.ok in subst (λ (m : Seated). CanQuit m.0.hold × IsOut m) (sym e.2) (tt, refl)
@@ -28,7 +28,7 @@ give_turn_back-requires-clause-hold g c = let e = c.in_ok-control.ensures.ok in 
 pub returns-clause-ok : goal.returns-clause-ok
 returns-clause-ok g c =
     let e = c.in_ok-control.ensures.ok in
-    let r = c.read_and_leave.ensures.read in
+    let r = c.walk_and_leave.ensures.walked in
     let w : Walk = r.0 in
     let of_epoch : w.epoch ≡ e.0 = r.3 ∙ ap (λ (m : Seated). m.0.epoch) e.2 in
     let none : c.in-Ok.values.items ≡ [] = search rules in
@@ -36,7 +36,7 @@ returns-clause-ok g c =
     let long = r.1 in (
       w,
       e.1,
-      gathered_are g.T.Sample.value w.values c.in-Ok.values c.read_and_leave.new.visitor.values none (omega arith) (folds_seen Gathers (λ s. s.values) _ _ _ r.6),
+      gathered_are g.T.Sample.value w.values c.in-Ok.values c.walk_and_leave.new.visitor.values none (omega arith) (folds_seen Gathers (λ s. s.values) _ _ _ r.6),
       r.2 ∙ (let read : Seated → Seated = λ (z : Seated). (with_read z.0 w, []) in ap read e.2 ∙ (λ i. (with_read (holds_as c.args.seat.now.me.0 (sym of_epoch i) e.1 Nothing) w, []))),
       subst (λ (z : List Push). Covers z w) (ap (λ (m : Seated). m.0.pushed) e.2) r.4,
       (λ whole. of_epoch ∙ e.5 whole),

@@ -12,16 +12,16 @@ use Rattle.metrics_bucket.proofs.bucket.RuledBucket.show_to.Goals as goal
 abbrev IsOut : Seated → Type 0
 IsOut m = m.1 ≡ (0, turn_at m.0.turn) ∷ []
 
-pub read_and_leave-requires-clause-turn : goal.read_and_leave-requires-clause-turn
-read_and_leave-requires-clause-turn g c = let e = c.in_ok-control.ensures.ok in subst IsOut (sym e.2) refl
+pub walk_and_leave-requires-clause-turn : goal.walk_and_leave-requires-clause-turn
+walk_and_leave-requires-clause-turn g c = let e = c.in_ok-control.ensures.ok in subst IsOut (sym e.2) refl
 
-pub read_and_leave-requires-clause-reach : goal.read_and_leave-requires-clause-reach
-read_and_leave-requires-clause-reach g c = let e = c.in_ok-control.ensures.ok in subst (λ (m : Seated). Reaches m.0.pushed m.0.epoch (c.in_ok-control.control / 2)) (sym e.2) e.4
+pub walk_and_leave-requires-clause-reach : goal.walk_and_leave-requires-clause-reach
+walk_and_leave-requires-clause-reach g c = let e = c.in_ok-control.ensures.ok in subst (λ (m : Seated). Reaches m.0.pushed m.0.epoch (c.in_ok-control.control / 2)) (sym e.2) e.4
 
 pub returns-clause-ok : goal.returns-clause-ok
 returns-clause-ok g c =
     let e = c.in_ok-control.ensures.ok in
-    let r = c.read_and_leave.ensures.read in
+    let r = c.walk_and_leave.ensures.walked in
     let w : Walk = r.0 in
     let of_epoch : w.epoch ≡ e.0 = r.3 ∙ ap (λ (m : Seated). m.0.epoch) e.2 in (
       w,

@@ -1,0 +1,43 @@
+-- What walking over some places does.
+use Rattle.std.specs.Prelude.{◌≡◌, ℕ, ◌<◌, ◌≤◌, ◌⊎◌, List, length}
+use mathlib.Core.Option.{some}
+use lib.ListN.{get_elem?}
+use Rattle.metrics_bucket.specs.declared.view.View.{View}
+use Rattle.metrics_bucket.specs.declared.view.Walk.{Walk}
+use Rattle.metrics_bucket.specs.declared.view.Hold.{Hold}
+use Rattle.metrics_bucket.specs.declared.view.Hold.TheVariants.{Reading, Clearing}
+use Rattle.metrics_bucket.specs.declared.view.Visit.{Visit}
+use Rattle.metrics_bucket.specs.declared.view.Visit.TheVariants.{Unseen, Read, Wiped}
+use Rattle.metrics_bucket.specs.BucketState.{holding, with_taken, with_read, visits_of}
+use Rattle.metrics_bucket.specs.Steps.{Seated}
+
+-- the two walks: one leaves each place as it found it, the other wipes it
+pub data WalkKind : Type 0 where
+  reads : WalkKind
+  clears : WalkKind
+
+-- what a thread holds on such a walk
+abbrev pub walking : WalkKind → ℕ → List Visit → Hold
+walking reads side visits = Reading side visits
+walking clears side visits = Clearing side visits
+
+-- a place that such a walk is done with
+abbrev pub visited : WalkKind → ℕ → Visit
+visited reads x = Read x
+visited clears x = Wiped x
+
+-- a thread with one more list of such a walk, which holds nothing
+abbrev pub with_walk : WalkKind → View → Walk → View
+with_walk reads v list = with_read v list
+with_walk clears v list = with_taken v list
+
+-- the places from start on, below end, are not seen yet
+abbrev pub AreUnseen : ℕ → ℕ → List Visit → Type 0
+AreUnseen start end visits = (i : ℕ) → start ≤ i → i < end → get_elem? visits i ≡ some Unseen
+
+-- the walk is done with the places from start on, below end, and no other changed
+pub record Walks (kind : WalkKind) (m m' : Seated) (side start end : ℕ) : Type 0 where
+  pub me : m' ≡ (holding m.0 (walking kind side (visits_of m'.0.hold)), m.1)
+  pub long : length (visits_of m'.0.hold) ≡ length (visits_of m.0.hold)
+  pub found : (i : ℕ) → start ≤ i → i < end → (x : ℕ) × (get_elem? (visits_of m'.0.hold) i ≡ some (visited kind x))
+  pub others : (i : ℕ) → (i < start) ⊎ (end ≤ i) → get_elem? (visits_of m'.0.hold) i ≡ get_elem? (visits_of m.0.hold) i

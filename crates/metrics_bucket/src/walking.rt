@@ -1,0 +1,146 @@
+//! The walk over the places of a side, which clears and readings have in common.
+ghost use Rattle.std.specs.Prelude.{◌≡◌, ℕ, ◌+◌, ◌-◌, ◌*◌, ◌^◌, ◌<◌, ◌≤◌, length, take, drop, map, replicate, slice_set, [], ◌∷◌};
+ghost use Rattle.std.specs.List.{FoldsTo};
+ghost use Rattle.metrics_bucket.specs.Blocks.{valued, newest_first};
+ghost use mathlib.Core.Option.{some};
+ghost use lib.ListN.{get_elem?};
+ghost use Rattle.metrics_bucket.specs.BucketState.{holding, put_visit, side_of, visits_of, values_in};
+ghost use Rattle.metrics_bucket.specs.Facts.{weigh, weigh_pushes, weigh_walks};
+ghost use Rattle.metrics_bucket.specs.Places.{Reaches, Covers};
+ghost use Rattle.metrics_bucket.specs.declared.view.Walk.{Walk};
+ghost use Rattle.metrics_bucket.specs.History.{HasVisit, turn_at};
+ghost use Rattle.metrics_bucket.specs.WalkedPlaces.{with_walk, AreUnseen, Walks, walking, visited};
+ghost use Rattle.metrics_bucket.specs.declared.view.Visit.TheVariants.{Unseen, Marked};
+
+use crate::bucket::{BLOCK_SIZE, RuledBucket};
+use crate::sample::Sample;
+use crate::steps::{LeaveTurn, LookAtMark, ReadValue};
+use crate::view::{Turn, View};
+use crate::visitor::Visitor;
+use crate::walker::Walker;
+use atomic_table::Seat;
+use crossbeam_utils::Backoff;
+use std::sync::Wait;
+
+impl<T: Sample> RuledBucket<T> {
+    // Waits until the place's mark is 1.
+    fn wait_for<R: Wait>(&self, rt: &R, seat: &mut Seat<Turn, View>, side: usize, at: usize)
+        requires home { (seat.old.table_id ≡ self.now.table) × (seat.old.me.0.places ≡ self.now.places) × (0 < seat.old.me.0.weight) }
+        requires visit { (side < 2) × (at < self.now.places) × (side_of seat.old.me.0.hold ≡ side) × HasVisit seat.old.me.0.hold at Unseen }
+        ensures { (seat.new.table_id ≡ seat.old.table_id) × (seat.new.me ≡ (holding seat.old.me.0 (put_visit seat.old.me.0.hold at Marked), seat.old.me.1)) }
+    {
+        let word = 2 + 2 * self.places + self.place_index(side, at);
+        let pause = Backoff::new();
+        for _ in rt.forever() {
+            if self.table.shared.load::<LookAtMark>(seat, word) == 1 {
+                return;
+            }
+            pause.snooze();
+        }
+        unreachable!()
+    }
+
+    // Counts one more finished walk, for the next holder of the turn.
+    fn count_walk(&self, seat: &mut Seat<Turn, View>)
+        requires home { seat.old.table_id ≡ self.now.table }
+        requires turn { seat.old.me.1 ≡ (0, turn_at seat.old.me.0.turn) ∷ [] }
+        ensures { (seat.new.table_id ≡ seat.old.table_id) × (seat.new.me ≡ (seat.old.me.0, (0, turn_at (seat.old.me.0.turn + 1)) ∷ [])) }
+    {
+        let turn = seat.slot_mut(&self.table.shared, 0);
+        turn.walks = turn.walks.wrapping_add(1);
+    }
+
+    // Waits for the value of a place, and does with the place what such a walk does.
+    fn walk_place<R: Wait, W: Walker>(
+        &self,
+        rt: &R,
+        seat: &mut Seat<Turn, View>,
+        side: usize,
+        at: usize,
+    ) -> T
+        requires home { (seat.old.table_id ≡ self.now.table) × (seat.old.me.0.places ≡ self.now.places) × (0 < seat.old.me.0.weight) }
+        requires hold { (side < 2) × (at < self.now.places) × (seat.old.me.0.hold ≡ walking W.kind side (visits_of seat.old.me.0.hold)) }
+        requires visit { get_elem? (visits_of seat.old.me.0.hold) at ≡ some Unseen }
+        ensures { (x : ℕ) × (result ≡ T.value x) × (seat.new.table_id ≡ seat.old.table_id) × (seat.new.me ≡ (holding seat.old.me.0 (walking W.kind side (slice_set (visits_of seat.old.me.0.hold) at (visited W.kind x))), seat.old.me.1)) }
+    {
+        self.wait_for(rt, seat, side, at);
+        let place_index = self.place_index(side, at);
+        let bits = self.table.shared.load::<ReadValue>(seat, 2 + place_index);
+        W::leave_place(self, seat, side, at);
+        T::of_word(bits)
+    }
+
+    // Walks over these places, and puts their values into the front of the room.
+    fn walk_chunk<R: Wait, W: Walker>(
+        &self,
+        rt: &R,
+        seat: &mut Seat<Turn, View>,
+        side: usize,
+        start: usize,
+        end: usize,
+        room: &mut [T],
+    )
+        requires home { (seat.old.table_id ≡ self.now.table) × (seat.old.me.0.places ≡ self.now.places) × (0 < seat.old.me.0.weight) }
+        requires hold { (side < 2) × (end ≤ self.now.places) × (seat.old.me.0.hold ≡ walking W.kind side (visits_of seat.old.me.0.hold)) }
+        requires part { (start ≤ end) × (end - start ≤ length room.old) }
+        requires visits { AreUnseen start end (visits_of seat.old.me.0.hold) }
+        ensures seat { (seat.new.table_id ≡ seat.old.table_id) × Walks W.kind seat.old.me seat.new.me side start end }
+        ensures room { take (end - start) room.new ≡ map T.value (take (end - start) (drop start (values_in (visits_of seat.new.me.0.hold)))) }
+    {
+        for at in start..end {
+            room[at - start] = self.walk_place::<R, W>(rt, seat, side, at);
+        }
+    }
+
+    // Walks over all places that were given, and shows each chunk to the visitor.
+    fn walk_side<R: Wait, W: Walker, V: Visitor<T>>(
+        &self,
+        rt: &R,
+        seat: &mut Seat<Turn, View>,
+        side: usize,
+        given: usize,
+        visitor: &mut V,
+    )
+        requires home { (seat.old.table_id ≡ self.now.table) × (seat.old.me.0.places ≡ self.now.places) × (0 < seat.old.me.0.weight) }
+        requires hold { (side < 2) × (given ≤ self.now.places) × (seat.old.me.0.hold ≡ walking W.kind side (replicate given Unseen)) }
+        requires size { given < 2 ^ 60 }
+        requires call { V.ready visitor.old }
+        ensures seat { (seat.new.table_id ≡ seat.old.table_id) × Walks W.kind seat.old.me seat.new.me side 0 given }
+        ensures calls { FoldsTo V.saw visitor.old (valued T.value (newest_first (values_in (visits_of seat.new.me.0.hold)))) visitor.new }
+        ensures ready { V.ready visitor.new }
+    {
+        let mut room = [T::of_word(0); BLOCK_SIZE];
+        let mut chunks = (given + (BLOCK_SIZE - 1)) / BLOCK_SIZE;
+        while chunks > 0 {
+            chunks -= 1;
+            let start = BLOCK_SIZE * chunks;
+            let end = given.min(start + BLOCK_SIZE);
+            self.walk_chunk::<R, W>(rt, seat, side, start, end, &mut room);
+            visitor.see(&room[..end - start]);
+        }
+    }
+
+    // Walks over all places that were given, and gives the turn back.
+    pub(crate) fn walk_and_leave<R: Wait, W: Walker, V: Visitor<T>>(
+        &self,
+        rt: &R,
+        seat: &mut Seat<Turn, View>,
+        side: usize,
+        given: usize,
+        visitor: &mut V,
+    )
+        requires home { (seat.old.table_id ≡ self.now.table) × (seat.old.me.0.places ≡ self.now.places) × (0 < seat.old.me.0.weight) }
+        requires hold { (side < 2) × (given ≤ self.now.places) × (seat.old.me.0.hold ≡ walking W.kind side (replicate given Unseen)) }
+        requires turn { seat.old.me.1 ≡ (0, turn_at seat.old.me.0.turn) ∷ [] }
+        requires reach { Reaches seat.old.me.0.pushed seat.old.me.0.epoch given }
+        requires call { V.ready visitor.old }
+        ensures table { seat.new.table_id ≡ seat.old.table_id }
+        ensures walked { (w : Walk) × (length w.values ≡ given) × (seat.new.me ≡ (with_walk W.kind seat.old.me.0 w, [])) × (w.epoch ≡ seat.old.me.0.epoch) × Covers seat.old.me.0.pushed w × (seat.old.me.0.weight ≡ 1024 → (h : ℕ → ℕ) → weigh_pushes h seat.old.me.0.pushed ≡ weigh h w.values + weigh_walks h seat.old.me.0.taken) × FoldsTo V.saw visitor.old (valued T.value (newest_first w.values)) visitor.new }
+        ensures ready { V.ready visitor.new }
+    {
+        let shared = &self.table.shared;
+        self.walk_side::<R, W, V>(rt, seat, side, given, visitor);
+        self.count_walk(seat);
+        shared.store::<LeaveTurn>(seat, 1, 0);
+    }
+}

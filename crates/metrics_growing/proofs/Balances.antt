@@ -1,0 +1,73 @@
+-- What calls do to the bags of a pen, seen over all its segments.
+use Rattle.std.proofs.Common.{◌≡◌, ℕ, ◌+◌, List, [], ◌∷◌, ap, ⊎_elim, arith}
+use Rattle.metrics_bucket.specs.declared.view.Walk.{Walk}
+use Rattle.metrics_bucket.specs.BucketState.{push}
+use Rattle.metrics_bucket.specs.Account.{Account}
+use Rattle.metrics_bucket.specs.Facts.{weigh_pushes, weigh_walks}
+use Rattle.metrics_bucket.proofs.Shares.{weigh_walks-both}
+use Rattle.metrics_bucket.proofs.Sums.{weigh_pushes-append}
+use Rattle.metrics_growing.specs.Parts.{Part, Keeps, IsPassed, OneOf, PushedIn, Pushed, TookAll, left_parts, right_parts, joined_parts}
+use Rattle.metrics_growing.specs.Bags.{pushed_in, pushed_by, taken_in, taken_by}
+use Rattle.metrics_growing.proofs.Settling.{keeps_sum, took_sums}
+
+pub keeps_sums : (h : ℕ → ℕ) (ps qs : List Part) → Keeps ps qs → (pushed_by h qs ≡ pushed_by h ps) × (taken_by h qs ≡ taken_by h ps)
+keeps_sums h ps qs k = (
+  keeps_sum (λ a. weigh_pushes h a.pushed) ps qs (λ p new. ap (λ (x : Account). weigh_pushes h x.pushed) new) k,
+  keeps_sum (λ a. weigh_walks h a.taken) ps qs (λ p new. ap (λ (x : Account). weigh_walks h x.taken) new) k,
+)
+
+one_sums : (h : ℕ → ℕ) (x : ℕ) (ps qs : List Part) → OneOf (PushedIn x) ps qs → (pushed_by h qs ≡ pushed_by h ps + h x) × (taken_by h qs ≡ taken_by h ps)
+one_sums h x [] qs o = absurd o
+one_sums h x (p ∷ ps) [] o = absurd o
+one_sums h x (p ∷ ps) (q ∷ qs) o = ⊎_elim
+    (λ (here : PushedIn x p q × (ps ≡ qs)).
+    let a = ap (λ (z : Account). weigh_pushes h z.pushed) here.0.1.3 in
+    let b = ap (λ (z : Account). weigh_walks h z.taken) here.0.1.3 in
+    let c = weigh_pushes-append h p.account.pushed (push here.0.1.0 here.0.1.1 x ∷ []) in
+    let d = ap (pushed_by h) here.1 in
+    let e = ap (taken_by h) here.1 in
+    (omega arith, omega arith))
+    (λ (there : (p ≡ q) × IsPassed p × OneOf (PushedIn x) ps qs).
+    let a = ap (pushed_in h) there.0 in
+    let b = ap (taken_in h) there.0 in
+    let r = one_sums h x ps qs there.2 in
+    let c = r.0 in
+    let d = r.1 in
+    (omega arith, omega arith))
+    o
+
+-- a push adds its value
+pub pushed_sums : (h : ℕ → ℕ) (x : ℕ) (ps rs : List Part) → Pushed x ps rs → (pushed_by h rs ≡ pushed_by h ps + h x) × (taken_by h rs ≡ taken_by h ps)
+pushed_sums h x ps rs (qs, k, o) =
+    let a = keeps_sums h ps qs k in
+    let b = one_sums h x qs rs o in
+    let c = a.0 in let d = a.1 in let e = b.0 in let f = b.1 in
+    (omega arith, omega arith)
+
+-- a clear adds what it took
+pub took_all_sums : (h : ℕ → ℕ) (ps : List Part) (walks : List Walk) (rs : List Part) → TookAll ps walks rs → (pushed_by h rs ≡ pushed_by h ps) × (taken_by h rs ≡ taken_by h ps + weigh_walks h walks)
+took_all_sums h ps walks rs (qs, k, n, t) =
+    let a = keeps_sums h ps qs k in
+    let b = took_sums h qs walks rs t in
+    let c = a.0 in let d = a.1 in let e = b.0 in let f = b.1 in
+    (omega arith, omega arith)
+
+pub left_sums : (h : ℕ → ℕ) (ps : List Part) → (pushed_by h (left_parts ps) ≡ pushed_by h ps) × (taken_by h (left_parts ps) ≡ taken_by h ps)
+left_sums h [] = (omega arith, omega arith)
+left_sums h (p ∷ ps) = (omega arith, omega arith)
+
+pub right_sums : (h : ℕ → ℕ) (ps : List Part) → (pushed_by h (right_parts ps) ≡ 0) × (taken_by h (right_parts ps) ≡ 0)
+right_sums h [] = (omega arith, omega arith)
+right_sums h (p ∷ ps) = (omega arith, omega arith)
+
+-- a pen that takes in another has the bags of both
+pub joined_sums : (h : ℕ → ℕ) (ps qs : List Part) → (pushed_by h (joined_parts ps qs) ≡ pushed_by h ps + pushed_by h qs) × (taken_by h (joined_parts ps qs) ≡ taken_by h ps + taken_by h qs)
+joined_sums h [] qs = (omega arith, omega arith)
+joined_sums h (p ∷ ps) [] = (omega arith, omega arith)
+joined_sums h (p ∷ ps) (q ∷ qs) =
+    let a = weigh_pushes-append h p.account.pushed q.account.pushed in
+    let b = weigh_walks-both h p.account.taken q.account.taken in
+    let r = joined_sums h ps qs in
+    let c = r.0 in
+    let d = r.1 in
+    (omega arith, omega arith)

@@ -1,0 +1,136 @@
+-- What callers see of a growing bucket's pen: a part for each segment that it knows, in the order of the links.
+use Rattle.std.specs.Prelude.{◌≡◌, ◌⊎◌, ℕ, List, [], ◌∷◌, ◌++◌, length, take, map, slice_set, slice_index_or, All, refl}
+use Rattle.std.specs.Coded.{Coded, code_by, coded×, coded_ℕ}
+use Rattle.metrics.specs.Book.{blocks}
+use Rattle.metrics_bucket.specs.declared.view.Walk.{Walk}
+use Rattle.metrics_bucket.specs.Account.{Home, Account, account_code, left_account, right_account, joined_account, IsPushed, IsTaken}
+use Rattle.metrics_bucket.specs.Blocks.{newest_first}
+use Rattle.metrics_bucket.specs.Steps.{IsFullFor}
+use Rattle.metrics_bucket.specs.Spares.{spare_account, WithSpares}
+
+-- the link by which the segment is found, and the account of the pen that is used there
+pub record Part : Type 0 where
+  pub link : ℕ
+  pub account : Account
+
+abbrev pub part_code : Coded Part
+part_code = code_by (ℕ × Account) (coded× coded_ℕ account_code) (λ p. (p.link, p.account)) (λ p. record { link = p.0; account = p.1 }) (λ _. refl)
+
+abbrev pub link_of : Part → ℕ
+link_of p = p.link
+
+abbrev pub home_of : Part → Home
+home_of p = p.account.home
+
+-- the parts are of the first of these links, in their order
+abbrev pub IsOf : List ℕ → List Part → Type 0
+IsOf links ps = map link_of ps ≡ take (length ps) links
+
+-- both pens are of one bucket
+abbrev pub AreOfOne : List Part → List Part → Type 0
+AreOfOne ps qs = (links : List ℕ) × IsOf links ps × IsOf links qs
+
+-- a part that has done nothing, and has the weight of a spare pen
+abbrev pub IsNew : Part → Type 0
+IsNew p = p.account ≡ spare_account p.account.home
+
+-- nothing is done, but that more segments may be known
+abbrev pub Keeps : List Part → List Part → Type 0
+Keeps ps qs = (more : List Part) × (qs ≡ ps ++ more) × All IsNew more
+
+-- there is no other pen of this segment
+abbrev pub IsWhole : Part → Type 0
+IsWhole p = p.account.weight ≡ 1024
+
+-- all places of the live side are given, by what a whole pen did
+abbrev pub IsFilled : Part → Type 0
+IsFilled p = IsFullFor p.account.home.places p.account.pushed p.account.taken
+
+-- a push may go on behind this part: where it is whole, its segment is full
+abbrev pub IsPassed : Part → Type 0
+IsPassed p = IsWhole p → IsFilled p
+
+-- one part changed so, those before it are passed, and the others stayed
+abbrev pub OneOf : (Part → Part → Type 0) → List Part → List Part → Type 0
+OneOf R [] qs = ⊥
+OneOf R (p ∷ ps) [] = ⊥
+OneOf R (p ∷ ps) (q ∷ qs) = (R p q × (ps ≡ qs)) ⊎ ((p ≡ q) × IsPassed p × OneOf R ps qs)
+
+-- a ticket may be lost to another pen: in a part that isn't whole, behind parts that are passed
+abbrev pub MayRace : List Part → Type 0
+MayRace [] = ⊥
+MayRace (p ∷ ps) = (IsWhole p → ⊥) ⊎ (IsPassed p × MayRace ps)
+
+-- each part changed so
+abbrev pub EachOf : (Part → Part → Type 0) → List Part → List Part → Type 0
+EachOf R [] [] = Unit {0}
+EachOf R (p ∷ ps) (q ∷ qs) = R p q × EachOf R ps qs
+EachOf R _ _ = ⊥
+
+-- the value was pushed there, and nothing else changed
+abbrev pub PushedIn : ℕ → Part → Part → Type 0
+PushedIn x p q = (q.link ≡ p.link) × IsPushed p.account x q.account
+
+-- a clear took this walk's values there, and nothing else changed
+abbrev pub TakenIn : Walk → Part → Part → Type 0
+TakenIn walk p q = (q.link ≡ p.link) × IsTaken p.account walk q.account
+
+-- spare pens were joined there, and nothing else changed
+abbrev pub SpareIn : Part → Part → Type 0
+SpareIn p q = (q.link ≡ p.link) × WithSpares p.account q.account
+
+-- the value is pushed in the first segment that isn't passed, and nothing else is done
+abbrev pub Pushed : ℕ → List Part → List Part → Type 0
+Pushed x ps rs = (qs : List Part) × Keeps ps qs × OneOf (PushedIn x) qs rs
+
+-- one of these walks was taken in each part, from the first on, as far as there are walks; the parts behind stayed
+abbrev pub Took : List Part → List Walk → List Part → Type 0
+Took ps [] rs = ps ≡ rs
+Took (p ∷ ps) (walk ∷ walks) (r ∷ rs) = TakenIn walk p r × Took ps walks rs
+Took _ _ _ = ⊥
+
+-- a walk was taken in each part, and nothing else is done
+abbrev pub TookAll : List Part → List Walk → List Part → Type 0
+TookAll ps walks rs = (qs : List Part) × Keeps ps qs × (length walks ≡ length qs) × Took qs walks rs
+
+-- nothing is done, but that more segments may be known, and that spare pens were joined
+abbrev pub Gathered : List Part → List Part → Type 0
+Gathered ps rs = (qs : List Part) × Keeps ps qs × EachOf SpareIn qs rs
+
+-- the chunks of all walks, each walk's newest chunk first
+abbrev pub all_chunks : List Walk → List (List ℕ)
+all_chunks [] = []
+all_chunks (walk ∷ walks) = newest_first walk.values ++ all_chunks walks
+
+-- the values of all walks, each walk's in the bucket's order
+abbrev pub all_blocks : List Walk → List ℕ
+all_blocks [] = []
+all_blocks (walk ∷ walks) = blocks walk.values ++ all_blocks walks
+
+abbrev pub left_part : Part → Part
+left_part p = record { link = p.link; account = left_account p.account }
+
+abbrev pub right_part : Part → Part
+right_part p = record { link = p.link; account = right_account p.account }
+
+-- half of the first part's weight is given away, and of no other
+abbrev pub left_parts : List Part → List Part
+left_parts [] = []
+left_parts (p ∷ ps) = left_part p ∷ ps
+
+abbrev pub right_parts : List Part → List Part
+right_parts [] = []
+right_parts (p ∷ ps) = right_part p ∷ []
+
+abbrev pub joined_part : Part → Part → Part
+joined_part p q = record { link = p.link; account = joined_account p.account q.account }
+
+-- what both know is joined, segment by segment
+abbrev pub joined_parts : List Part → List Part → List Part
+joined_parts [] qs = qs
+joined_parts (p ∷ ps) [] = p ∷ ps
+joined_parts (p ∷ ps) (q ∷ qs) = joined_part p q ∷ joined_parts ps qs
+
+-- what part number `at` became; p and q are that part before and after
+abbrev pub ChangedAt : (Part → Part → Type 0) → ℕ → List Part → List Part → Type 0
+ChangedAt R at ps qs = (p q : Part) × (p ≡ slice_index_or ps at p) × R p q × (qs ≡ slice_set ps at q)

@@ -1,0 +1,256 @@
+//! The growing bucket, and the calls that push.
+ghost use Rattle.std.specs.Prelude.{◌≡◌, ℕ, ◌+◌, ◌*◌, ◌<◌, ◌≤◌, ◌^◌, ◌⊎◌, IfOk, OnOk, IfErr, Some, All, slice_index_or, length, [], ◌∷◌, ◌++◌};
+ghost use Rattle.once_cell.specs.Once.{cell_name};
+ghost use Rattle.metrics_bucket.specs.Account.{first_account};
+ghost use Rattle.metrics_bucket.specs.Spares.{spare_account};
+ghost use Rattle.metrics_growing.specs.Parts.{Part, IsOf, IsNew, IsWhole, IsFilled, IsPassed, MayRace, Keeps, ChangedAt, PushedIn, Pushed};
+
+use crate::known::Known;
+use crate::pen::GrowPen;
+use crate::segment::Segment;
+use crossbeam_utils::Backoff;
+use metrics::Error;
+use metrics_bucket::{Pen, Sample};
+use once_cell::race::{Note, OnceBox};
+use std::alloc::Global;
+use std::marker::{Model, PhantomData};
+use std::sync::Wait;
+
+/// How many places a block has.
+const BLOCK_SIZE: usize = 64;
+
+/// How many segments there may be.
+pub(crate) const LINKS: usize = 64;
+
+/// A bucket that any number of threads push into, each with a `GrowPen` of its own, while one at a time clears it. It is a chain of
+/// segments, each with twice as many places as the one before it, and a push that finds all of them full makes the next.
+///
+/// Contracts see it as the names of its links.
+#[derive(Drop)]
+pub struct GrowingBucket<T: Sample> {
+    pub(crate) links: Vec<OnceBox<Segment>>,
+    pub(crate) alloc: Global,
+    blocks: usize,
+    of: PhantomData<T>,
+}
+
+impl<T: Sample> Model for GrowingBucket<T> {
+    ghost use Rattle.std.specs.Prelude.{◌≡◌, ◌<◌, ◌≤◌, List, ℕ, length, map};
+    ghost use Rattle.std.specs.Coded.{coded_list, coded_ℕ};
+    ghost use Rattle.once_cell.specs.Once.{cell_name};
+
+    ghost Value = { List ℕ };
+
+    ghost coded = { coded_list coded_ℕ };
+
+    ghost view = { λ b. map cell_name b.links.items };
+
+    ghost invariant = { λ b. (0 < b.blocks) × (b.blocks ≤ 1024) × (length b.links.items ≡ 64) };
+}
+
+// Puts so many empty links behind the others.
+fn fill(alloc: Global, count: usize, links: &mut Vec<OnceBox<Segment>>) -> Result<(), Error>
+    ensures more { (more : _) × (links.new.items ≡ links.old.items ++ more) }
+    ensures count { OnOk result (length links.new.items ≡ length links.old.items + count) }
+    ensures err { IfErr result (λ e. e ≡ Error.Memory) }
+{
+    for _ in 0..count {
+        let Ok(()) = links.push(OnceBox::new(alloc)) else {
+            return Err(Error::Memory);
+        };
+    }
+    Ok(())
+}
+
+// How many places a side of this segment has, where the first one has so many blocks.
+fn places_of(blocks: usize, at: usize) -> Result<usize, Error>
+    requires blocks { (0 < blocks) × (blocks ≤ 1024) }
+    requires at { at < 64 }
+    ensures ok { IfOk result (λ n. (n ≡ 64 * blocks * 2 ^ at) × (0 < n) × (n < 2 ^ 58)) }
+    ensures err { IfErr result (λ e. (e ≡ Error.Memory) × (2 ^ 58 ≤ 64 * blocks * 2 ^ at)) }
+{
+    let Some(places) = (BLOCK_SIZE * blocks).checked_mul(1 << at) else {
+        return Err(Error::Memory);
+    };
+    if places >= 1 << 58 {
+        return Err(Error::Memory);
+    }
+    Ok(places)
+}
+
+impl<T: Sample> GrowingBucket<T> {
+    /// A bucket whose first segment has 1 to 1024 blocks on each side, and its first pen, which is whole.
+    pub fn new(alloc: Global, blocks: usize) -> Result<(GrowingBucket<T>, GrowPen), Error>
+        ensures own { IfOk result (λ r. IsOf r.0 r.1) }
+        ensures first { IfOk result (λ r. (p : Part) × (r.1 ≡ p ∷ []) × (p.account ≡ first_account p.account.home) × (p.account.home.places ≡ 64 * blocks)) }
+        ensures good { (0 < blocks) × (blocks ≤ 1024) → IfErr result (λ e. e ≡ Error.Memory) }
+        ensures bad { (blocks ≡ 0) ⊎ (1024 < blocks) → result ≡ Err Error.BadBlocks }
+    {
+        if blocks == 0 || blocks > 1024 {
+            return Err(Error::BadBlocks);
+        }
+        let (segment, pen) = Segment::first(alloc, BLOCK_SIZE * blocks)?;
+        let Ok(segment) = Box::new(alloc, segment) else {
+            return Err(Error::Memory);
+        };
+        let link = OnceBox::new(alloc);
+        let mut note = link.note();
+        // The link is new, so it is empty.
+        let Ok(()) = link.set_as(segment, &mut note) else {
+            return Err(Error::Memory);
+        };
+        let mut links = Vec::new(alloc);
+        let Ok(()) = links.push(link) else {
+            return Err(Error::Memory);
+        };
+        fill(alloc, LINKS - 1, &mut links)?;
+        let mut known = Vec::new(alloc);
+        let Ok(()) = known.push(Known { pen, note }) else {
+            return Err(Error::Memory);
+        };
+        let bucket = GrowingBucket {
+            links,
+            alloc,
+            blocks,
+            of: PhantomData,
+        };
+        Ok((bucket, GrowPen { alloc, known }))
+    }
+
+    // Makes a segment for an empty link. Where another came first, its own is dropped, and a spare pen of the other's is taken.
+    fn make(
+        &self,
+        link: &OnceBox<Segment>,
+        at: usize,
+        note: &mut Note<Segment>,
+    ) -> Result<Pen, Error>
+        requires cell { note.old.cell ≡ cell_name link.now }
+        requires at { at < 64 }
+        ensures cell { note.new.cell ≡ note.old.cell }
+        ensures ok { IfOk result (λ p. (p ≡ spare_account p.home) × (note.new.known ≡ Some p.home)) }
+        ensures err { IfErr result (λ e. (e ≡ Error.Memory) ⊎ (e ≡ Error.NoPen)) }
+    {
+        let places = places_of(self.blocks, at)?;
+        let (segment, pen) = Segment::new(self.alloc, places)?;
+        let Ok(segment) = Box::new(self.alloc, segment) else {
+            return Err(Error::Memory);
+        };
+        match link.set_as(segment, note) {
+            Ok(()) => Ok(pen),
+            Err(_) => {
+                let Some(winner) = link.get_as(note) else {
+                    unreachable!()
+                };
+                winner.spares.take()
+            }
+        }
+    }
+
+    // Meets the segment of the next link, which is made where there is none.
+    pub(crate) fn meet(&self, known: &mut Vec<Known>) -> Result<(), Error>
+        requires own { IsOf self.now known.old.items }
+        ensures own { IsOf self.now known.new.items }
+        ensures ok { OnOk result ((p : Part) × (known.new.items ≡ known.old.items ++ p ∷ []) × IsNew p) }
+        ensures err { IfErr result (λ e. (known.new.items ≡ known.old.items) × ((e ≡ Error.Memory) ⊎ ((e ≡ Error.NoPen) × (length known.old.items < length self.now)))) }
+    {
+        let at = known.len();
+        let Some(link) = self.links.get(at) else {
+            return Err(Error::Memory);
+        };
+        let Ok(()) = known.reserve(1) else {
+            return Err(Error::Memory);
+        };
+        let mut note = link.note();
+        let pen = match link.get_as(&mut note) {
+            Some(segment) => segment.spares.take()?,
+            None => self.make(link, at, &mut note)?,
+        };
+        known.push_reserved(Known { pen, note });
+        Ok(())
+    }
+
+    // Pushes into a segment that is known.
+    fn push_at(&self, known: &mut Vec<Known>, at: usize, word: u64) -> Result<(), Error>
+        requires own { IsOf self.now known.old.items }
+        requires at { at < length known.old.items }
+        ensures own { IsOf self.now known.new.items }
+        ensures ok { OnOk result (ChangedAt (PushedIn word) at known.old.items known.new.items) }
+        ensures err { IfErr result (λ e. (known.new.items ≡ known.old.items) × ((e ≡ Error.Full) ⊎ (e ≡ Error.Raced))) }
+        ensures whole { IfErr result (λ e. (d : Part) → IsWhole (slice_index_or known.old.items at d) → (e ≡ Error.Full) × IsFilled (slice_index_or known.old.items at d)) }
+    {
+        let Some(link) = self.links.get(at) else {
+            unreachable!()
+        };
+        let Some(part) = known.get_mut(at) else {
+            unreachable!()
+        };
+        part.push(link, word)
+    }
+
+    // Meets the next segment if this one isn't known.
+    fn reach(&self, known: &mut Vec<Known>, at: usize) -> Result<(), Error>
+        requires own { IsOf self.now known.old.items }
+        requires at { at ≤ length known.old.items }
+        ensures own { IsOf self.now known.new.items }
+        ensures ok { OnOk result ((at < length known.new.items) × Keeps known.old.items known.new.items) }
+        ensures err { IfErr result (λ e. (at ≡ length known.old.items) × (known.new.items ≡ known.old.items) × ((e ≡ Error.Memory) ⊎ (e ≡ Error.NoPen))) }
+    {
+        if at < known.len() {
+            return Ok(());
+        }
+        self.meet(known)
+    }
+
+    fn try_word(&self, known: &mut Vec<Known>, word: u64) -> Result<(), Error>
+        requires own { IsOf self.now known.old.items }
+        ensures own { IsOf self.now known.new.items }
+        ensures ok { OnOk result (Pushed word known.old.items known.new.items) }
+        ensures err { IfErr result (λ e. Keeps known.old.items known.new.items × ((((e ≡ Error.Memory) ⊎ (e ≡ Error.NoPen)) × All IsPassed known.new.items) ⊎ ((e ≡ Error.Raced) × MayRace known.new.items))) }
+    {
+        let _ = &self.links;
+        for at in 0..LINKS {
+            self.reach(known, at)?;
+            match self.push_at(known, at, word) {
+                Ok(()) => return Ok(()),
+                Err(Error::Full) => {}
+                Err(Error::Raced) => return Err(Error::Raced),
+                Err(_) => unreachable!(),
+            }
+        }
+        Err(Error::Memory)
+    }
+
+    /// Pushes a value into the first segment that has a free place, or gives it back.
+    ///
+    /// `Raced`: another thread drew the ticket; another try may succeed. `NoPen`: a segment has no spare pen left. `Memory`: a segment or
+    /// a pen of one found no memory, or there are 64 full segments.
+    pub fn try_push(&self, pen: &mut GrowPen, value: T) -> Result<(), (Error, T)>
+        requires own { IsOf self.now pen.old }
+        ensures own { IsOf self.now pen.new }
+        ensures ok { OnOk result (Pushed (T.word value) pen.old pen.new) }
+        ensures err { IfErr result (λ e. Keeps pen.old pen.new × ((((e.0 ≡ Error.Memory) ⊎ (e.0 ≡ Error.NoPen)) × All IsPassed pen.new) ⊎ ((e.0 ≡ Error.Raced) × MayRace pen.new)) × (e.1 ≡ value)) }
+    {
+        match self.try_word(&mut pen.known, value.to_word()) {
+            Ok(()) => Ok(()),
+            Err(e) => Err((e, value)),
+        }
+    }
+
+    /// Pushes a value as `try_push` does; a lost race is tried again.
+    pub fn push<R: Wait>(&self, rt: &R, pen: &mut GrowPen, value: T) -> Result<(), (Error, T)>
+        requires own { IsOf self.now pen.old }
+        ensures own { IsOf self.now pen.new }
+        ensures ok { OnOk result (Pushed (T.word value) pen.old pen.new) }
+        ensures err { IfErr result (λ e. Keeps pen.old pen.new × ((e.0 ≡ Error.Memory) ⊎ (e.0 ≡ Error.NoPen)) × All IsPassed pen.new × (e.1 ≡ value)) }
+    {
+        let pause = Backoff::new();
+        for _ in rt.forever() {
+            match self.try_push(pen, value) {
+                Ok(()) => return Ok(()),
+                Err((Error::Raced, _)) => pause.spin(),
+                Err(refused) => return Err(refused),
+            }
+        }
+        unreachable!()
+    }
+}
