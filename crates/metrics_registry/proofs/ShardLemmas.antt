@@ -51,6 +51,12 @@ map-take p zero xs = refl
 map-take p (suc n) [] = refl
 map-take p (suc n) (x ∷ xs) = ap (λ l. p x ∷ l) (map-take p n xs)
 
+-- the keys of one shard are distinct
+distinct-at : {K C : Type 0} (eq : K → K → Bool) (number : K → ℕ) (count shard i : ℕ) (ms : List (List (K × C))) (m : List (K × C)) → ArePlaced eq number count shard ms → i < length ms → m ≡ get_or ms i m → IsDistinct eq (keys_of m)
+distinct-at eq number count shard i [] m placed small is = absurd (omega (arith, small))
+distinct-at {K} {C} eq number count shard zero (x ∷ ms) m placed small is = let P : List (K × C) → Type 0 = λ es. IsDistinct eq (keys_of es) in subst P (sym is) placed.1
+distinct-at eq number count shard (suc i) (x ∷ ms) m placed small is = distinct-at eq number count (suc shard) i ms m placed.2 (omega (arith, small)) is
+
 -- ---- a change in one shard
 
 module _ {A K C : Type 0} (eq : K → K → Bool) (number : K → ℕ) (count i : ℕ) (xs : List A) (a b : A) (is : a ≡ get_or xs i a) (p : A → List (K × C)) where
@@ -101,26 +107,44 @@ module _ {A K C : Type 0} {eq : K → K → Bool} (laws : IsEquivalence eq) (num
         ap entries_of (map-set p xs i b) ∙ entries-alone (set (map p xs) i (p b)) i (p b) (omega (arith, one, long, map-length p xs, length-set (map p xs) i (p b))) (omega (arith, fits, length-set (map p xs) i (p b))) (sym (get_or-set_same (map p xs) i (p b) (p b) fits)) in
         subst (λ es. R es (entries_of (map p (set xs i b)))) (sym before) (subst (R (p a)) (sym now) r)
 
-    pub gets-there : {V : Type 0} (result : Result V Error) (clone : K → K → Type 0) (Makes : K → C → Type 0) (call : C → V → C → Type 0) → GetsOrCreates eq clone Makes call (Unit {0}) key result (p a) (p b) → OnOk result (IsDistinct eq (keys_of (p b)))
-        → ArePlaced eq number count 0 (map p (set xs i b)) × GetsOrCreates eq clone Makes call (count ≡ 1) key result old (entries_of (map p (set xs i b)))
-    gets-there (Err e) clone Makes call got distinct = (kept-placed eq number count i xs a b is p placed got.1, (got.0, kept-entries eq number count i xs a b is p got.1 ∙ view, held-there ∙ got.2))
-    gets-there (Ok v) clone Makes call got distinct =
+    pub gets-there : {V S : Type 0} (result : Result V Error) (clone : K → K → Type 0) (Makes : S → K → C → Type 0) (inside shown : S) (call : C → V → C → Type 0) (number_shown : ℕ) → inside ≡ shown → count ≡ number_shown
+        → GetsOrCreates eq clone (Makes inside) call (Unit {0}) key result (p a) (p b) → OnOk result (IsDistinct eq (keys_of (p b)))
+        → ArePlaced eq number count 0 (map p (set xs i b)) × GetsOrCreates eq clone (Makes shown) call (number_shown ≡ 1) key result old (entries_of (map p (set xs i b)))
+    gets-there (Err e) clone Makes inside shown call n same_storage same_count got distinct = (kept-placed eq number count i xs a b is p placed got.1, (got.0, kept-entries eq number count i xs a b is p got.1 ∙ view, held-there ∙ got.2))
+    gets-there {V} {S} (Ok v) clone Makes inside shown call n same_storage same_count got distinct =
         let calls = got.0 in
         let all = sets-there (Some calls.1) calls.4 distinct in
-        let Of : Option C → Type 0 = λ o. IsCellOf (Makes key) o calls.0 in
+        let Of : S → Option C → Type 0 = λ s o. IsCellOf (Makes s key) o calls.0 in
         let Is : Option C → Type 0 = λ o. IsSome o in (
           all.0,
           (
-            (calls.0, calls.1, subst Of (sym held-there) calls.2, calls.3, all.1),
+            (calls.0, calls.1, subst (Of shown) (sym held-there) (subst (λ s. Of s (held eq (p a) key)) same_storage calls.2), calls.3, all.1),
             (
               λ some. ap (λ ms. keys_of (entries_of ms)) (map-set p xs i b) ∙ (keys-same (map p xs) i (p a) (p b) there (got.1.0 (subst Is held-there some)) ∙ ap (λ es. keys_of es) view),
               λ none one.
                   let made = got.1.1 (sym held-there ∙ none) tt in
-                  (made.0, made.1, alone one (λ es fs. Appends clone call key made.0 v es fs) made.2),
+                  let Made : S → Type 0 = λ s. Makes s key made.0 in
+                  (made.0, subst Made same_storage made.1, alone (same_count ∙ one) (λ es fs. Appends clone call key made.0 v es fs) made.2),
             ),
           ),
         )
 
     -- what may be called in the shard
-    pub may-call-there : (Takes Makes : C → Type 0) → MayCall Takes Makes (held eq old key) → MayCall Takes Makes (held eq (p a) key)
-    may-call-there Takes Makes may = let P : Option C → Type 0 = λ o. MayCall Takes Makes o in subst P held-there may
+    pub may-call-there : {S : Type 0} (Takes : C → Type 0) (Makes : S → K → C → Type 0) (inside shown : S) → inside ≡ shown → MayCall Takes (Makes shown key) (held eq old key) → MayCall Takes (Makes inside key) (held eq (p a) key)
+    may-call-there {S} Takes Makes inside shown same_storage may =
+        let P : S → Option C → Type 0 = λ s o. MayCall Takes (Makes s key) o in
+        subst (P inside) held-there (subst (λ s. P s (held eq old key)) (sym same_storage) may)
+
+    -- a check in the shard
+    pub checks-there : (rules : Rules) (kind : MetricKind) (generation moment : ℕ) (result : Result Bool Error) (table table' : Table K)
+        → IsChecked eq rules (check_of kind key generation moment (is_some (held eq (p a) key))) result table table' (p a) (p b) → (IsDistinct eq (keys_of (p a)) → IsDistinct eq (keys_of (p b)))
+        → ArePlaced eq number count 0 (map p (set xs i b)) × IsChecked eq rules (check_of kind key generation moment (is_some (held eq old key))) result table table' old (entries_of (map p (set xs i b)))
+    checks-there rules kind generation moment result table table' checked distinct =
+        let P : Bool → Type 0 = λ h. IsChecked eq rules (check_of kind key generation moment h) result table table' (p a) (p b) in
+        by_result result (subst P (ap is_some (sym held-there)) checked)
+      where
+        by_result : (r : Result Bool Error) → IsChecked eq rules (check_of kind key generation moment (is_some (held eq old key))) r table table' (p a) (p b)
+            → ArePlaced eq number count 0 (map p (set xs i b)) × IsChecked eq rules (check_of kind key generation moment (is_some (held eq old key))) r table table' old (entries_of (map p (set xs i b)))
+        by_result (Err e) c = (kept-placed eq number count i xs a b is p placed c.2, (c.0, c.1, kept-entries eq number count i xs a b is p c.2 ∙ view, c.3))
+        by_result (Ok true) c = (kept-placed eq number count i xs a b is p placed c.2, (c.0, c.1, kept-entries eq number count i xs a b is p c.2 ∙ view))
+        by_result (Ok false) c = let all = sets-there None c.2 (distinct (distinct-at eq number count 0 i (map p xs) (p a) placed fits there)) in (all.0, (c.0, c.1, all.1))
