@@ -1,5 +1,5 @@
 //! One shard: the cells of each kind.
-ghost use Rattle.std.specs.Prelude.{◌≡◌, ◌<◌, ◌%◌, ⊤, [], IfOk, OnOk};
+ghost use Rattle.std.specs.Prelude.{◌≡◌, ◌<◌, ◌%◌, ⊤, [], OnOk, true};
 ghost use Rattle.std.specs.Fn.{FnOnceReturnsAtMut, FnOnceTakesAtMut};
 ghost use Rattle.std.specs.List.{IsDistinct};
 ghost use Rattle.std.specs.Map.{keys_of};
@@ -124,7 +124,8 @@ pub fn shard_of<K: Hashable>(key: &K, count: usize) -> usize
 
 /// Whether a registry may have so many shards: a power of two from 1 to 1,024.
 pub fn is_shard_count(shards: usize) -> bool
-    ensures { result ≡ is_count shards }
+    ensures answer { result ≡ is_count shards }
+    ensures some { result ≡ true → 0 < shards }
 {
     shards.is_power_of_two() && shards <= 1024
 }
