@@ -8,8 +8,8 @@ use denote.Ref.{Bor}
 use Rattle.std.specs.Map.{keys_of, update}
 use Rattle.std.proofs.lemmas.List.{get_or-set_same, length-set, take_all}
 use Rattle.metrics.specs.declared.error.Error.{Error}
-use Rattle.metrics_registry.specs.Held.{Registry, held, Sets, Removes, IsCellOf, CallsAt, Appends, KeepsPlaces, GetsOrCreates, MayCall, SomeCallAtEntry, TakesEach, Retains, entries_of, AreOf, ArePlaced}
-use Rattle.metrics_registry.specs.Recency.{Rules, Check, Table}
+use Rattle.metrics_registry.specs.Held.{Registry, held, Sets, Removes, IsCellOf, Appends, GetsOrCreates, MayCall, SomeCallAtEntry, TakesEach, Retains, entries_of, AreOf, ArePlaced}
+use Rattle.metrics_registry.specs.Recency.{Rules, Table}
 use Rattle.metrics_registry.specs.RecencyEntries.{IsChecked, check_of}
 use Rattle.metrics_names.specs.declared.kind.MetricKind.{MetricKind}
 use Rattle.metrics_registry.proofs.HeldLemmas.{sets-placed, placed-same, entries-same, entries-more, keys-same, entries-alone, lookup-placed}
@@ -134,9 +134,9 @@ module _ {A K C : Type 0} {eq : K → K → Bool} (laws : IsEquivalence eq) (num
         )
 
     -- what may be called in the shard
-    pub may-call-there : {S : Type 0} (Takes : C → Type 0) (Makes : S → K → C → Type 0) (inside shown : S) → inside ≡ shown → MayCall Takes (Makes shown key) (held eq old key) → MayCall Takes (Makes inside key) (held eq (p a) key)
+    pub may-call-there : {S : Type 0} (Takes : C → Type 0) (Makes : S → K → C → Type 0) (inside shown : S) → inside ≡ shown → MayCall eq (Makes shown) Takes key old → MayCall eq (Makes inside) Takes key (p a)
     may-call-there {S} Takes Makes inside shown same_storage may =
-        let P : S → Option C → Type 0 = λ s o. MayCall Takes (Makes s key) o in
+        let P : S → Option C → Type 0 = λ s o. (cell : C) → IsCellOf (Makes s key) o cell → Takes cell in
         subst (P inside) held-there (subst (λ s. P s (held eq old key)) (sym same_storage) may)
 
     -- a check in the shard

@@ -1,4 +1,4 @@
-use Rattle.std.proofs.Common.{rules, ◌∙◌, ap, refl}
+use Rattle.std.proofs.Common.{rules, ◌∙◌}
 use Rattle.std.specs.Fn.{FnOnceReturnsAtMut, FnOnceTakesAtMut}
 use Rattle.metrics_registry.proofs.ShardLemmas.{storage_is, count_is, counters_are, gauges_are, histograms_are, kept-placed, kept-entries, gets-there, may-call-there}
 use Rattle.metrics_registry.proofs.registry.OwnedRegistry.get_or_create_histogram.Goals as goal

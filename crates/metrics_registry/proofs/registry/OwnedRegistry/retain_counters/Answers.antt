@@ -1,5 +1,5 @@
-use Rattle.std.proofs.Common.{rules, ◌≡◌, ◌∙◌, ap, sym, refl, subst, List, map, take}
-use Rattle.metrics_registry.specs.Held.{CallsAtEntry, Retains, ArePlaced, entries_of}
+use Rattle.std.proofs.Common.{rules, ◌∙◌, ap, refl, subst, List, map, take}
+use Rattle.metrics_registry.specs.Held.{CallsAtEntry, Retains, entries_of}
 use Rattle.metrics_registry.proofs.WalkLemmas.{folds-retained}
 use Rattle.metrics_registry.proofs.ShardLemmas.{storage_is, count_is, counters_are, gauges_are, histograms_are, takes-next, entries-all, retained-here, map-kept, as-before}
 use Rattle.metrics_registry.proofs.registry.OwnedRegistry.retain_counters.Goals as goal

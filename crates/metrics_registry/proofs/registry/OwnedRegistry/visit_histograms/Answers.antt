@@ -1,4 +1,4 @@
-use Rattle.std.proofs.Common.{rules, ◌≡◌, ◌∙◌, ap, sym, subst, List, map, take, refl}
+use Rattle.std.proofs.Common.{◌∙◌, ap, sym, subst, List, map, take}
 use Rattle.std.specs.List.{FoldsTo, IsDistinct}
 use Rattle.std.specs.Map.{keys_of}
 use Rattle.metrics_registry.specs.Held.{CallsAtEntry, entries_of}
