@@ -2,3 +2,4 @@ pub mod Lines
 pub mod Handles
 pub mod Running
 pub mod Requests
+pub mod TreeReading

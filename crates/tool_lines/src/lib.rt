@@ -3,14 +3,12 @@
 
 mod commands;
 mod handles;
-mod levels;
 mod requests;
 mod running;
 mod stream;
 #[cfg(test)]
 mod tests;
 mod totals;
-mod tree_lines;
 mod trees;
 
 pub use commands::command;
