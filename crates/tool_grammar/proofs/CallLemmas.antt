@@ -1,5 +1,6 @@
 -- A line spells one call at most.
-use Rattle.std.proofs.Common.{◌≡◌, ℕ, ◌<◌, ◌^◌, List, [], ◌∷◌, ◌++◌, codes, decimal, Option, Some, None, ℤ, FitsSigned, refl, sym, ap, ◌∙◌, get_or, arith}
+use Rattle.std.proofs.Common.{◌≡◌, ℕ, ◌<◌, ◌^◌, List, [], ◌∷◌, ◌++◌, codes, decimal, Option, Some, None, ℤ, pos, negsuc, FitsSigned, refl, sym, ap, ◌∙◌, get_or, arith}
+use lib.Signed.{mag}
 use Rattle.std.specs.Int.{w64}
 use Rattle.std.specs.Fmt.{signed_decimal}
 use Rattle.std.proofs.lemmas.Fmt.{decimal_injective, signed_decimal_injective}
@@ -108,8 +109,12 @@ name_same (x ∷ xs) (y ∷ ys) h g e = e
 decimal_same : (m n : ℕ) → m < 2 ^ 64 → n < 2 ^ 64 → decimal m ≡ decimal n → m ≡ n
 decimal_same m n h g e = decimal_injective m n h g e
 
+small : (z : ℤ) → FitsSigned w64 z → mag z < 2 ^ 63
+small (pos n) h = omega (arith, h)
+small (negsuc n) h = omega (arith, h)
+
 signed_same : (y z : ℤ) → FitsSigned w64 y → FitsSigned w64 z → signed_decimal y ≡ signed_decimal z → y ≡ z
-signed_same y z h g e = signed_decimal_injective y z (search rules) (search rules) e
+signed_same y z h g e = signed_decimal_injective y z (small y h) (small z g) e
 
 update_same : (u v : Update) → IsInRange u → IsInRange v → update_word u ≡ update_word v → amount_word u ≡ amount_word v → u ≡ v
 update_same (Increment m) (Increment n) h g w e = ap Increment (decimal_same m n h g e)

@@ -9,9 +9,9 @@ use Rattle.tool_grammar.specs.declared.error.RunError.TheVariants.{Memory, BadLi
 use Rattle.tool_tree_lines.specs.declared.tree_line.TreeLine.{TreeLine}
 use Rattle.tool_tree_lines.specs.declared.tree_line.TreeLine.TheVariants as line
 use Rattle.tool_tree_lines.specs.Words.{spelling, Spells}
-use Rattle.tool_tree_lines.specs.Trees.{Tree, tree_lines, meaning_of, IsAllowed, NoTreeFrom, NoTree}
-use Rattle.tool_tree_lines.specs.Steps.{taken, Steps}
-use Rattle.tool_tree_lines.proofs.Runs.{all_lines, lines-top, bad_line, no_end}
+use Rattle.tool_tree_lines.specs.Trees.{Tree, last_line, tree_lines, meaning_of, IsAllowed, NoTree, AreOfTrees}
+use Rattle.tool_tree_lines.specs.Steps.{Steps}
+use Rattle.tool_tree_lines.proofs.Runs.{all_lines, lines_push, of_trees, first_bad, no_end}
 use Rattle.tool_tree_levels.specs.declared.level.Level.{Level}
 use Rattle.tool_tree_levels.specs.declared.level.LineError.{LineError}
 use Rattle.tool_tree_levels.specs.declared.level.LineError.TheVariants as levels
@@ -26,16 +26,15 @@ use Rattle.tool_lines.specs.TreeReading.{AreRead, BuildsTree, RefusesTree, error
 use Rattle.tool_lines.proofs.LinesLemmas.{lines-last}
 use Rattle.tool_lines.proofs.Loop.{unlines_push, split_push, length_push, at_end_from}
 
-all_lines-append : (ts us : List Tree) → all_lines (ts ++ us) ≡ all_lines ts ++ all_lines us
-all_lines-append [] us = refl
-all_lines-append (t ∷ ts) us = ap (λ ls. tree_lines t ++ ls) (all_lines-append ts us) ∙ sym (append_assoc (tree_lines t) (all_lines ts) (all_lines us))
-
 -- a line adds itself to the lines of the trees
 step_lines : (bytes : List ℕ) (said : TreeLine) (ts us : List Tree) → Spells bytes said → Steps said ts us → all_lines us ≡ all_lines ts ++ bytes ∷ []
 step_lines bytes said ts us sp st =
-    let top : tree_lines st.tree ≡ all_lines (taken st.tree) ++ bytes ∷ [] = lines-top st.tree ∙ ap (λ l. all_lines (taken st.tree) ++ spelling l ∷ []) st.line_is ∙ ap (λ b. all_lines (taken st.tree) ++ b ∷ []) (sym sp.1) in
-    ap all_lines st.after ∙ all_lines-append st.front (st.tree ∷ []) ∙ ap (λ ls. all_lines st.front ++ ls) (append-nil (tree_lines st.tree) ∙ top)
-    ∙ sym (append_assoc (all_lines st.front) (all_lines (taken st.tree)) (bytes ∷ [])) ∙ ap (λ ls. ls ++ bytes ∷ []) (sym (all_lines-append st.front (taken st.tree)) ∙ ap all_lines (sym st.before))
+    ap all_lines st.after ∙ lines_push st.front st.tree ∙ ap (λ ls. ls ++ spelling (last_line st.tree) ∷ []) (ap all_lines (sym st.before))
+    ∙ ap (λ l. all_lines ts ++ spelling l ∷ []) st.line_is ∙ ap (λ b. all_lines ts ++ b ∷ []) (sym sp.1)
+
+-- the lines of trees have no `end`
+ends_early : (ts : List Tree) → AllByRecursion IsAllowed ts → (ls : List (List ℕ)) → ls ≡ all_lines ts → AreOfTrees ls × NoTree ls
+ends_early ts h ls e = (subst AreOfTrees (sym e) (of_trees ts h), subst NoTree (sym e) (no_end ts h))
 
 -- These lines were read, and the stack is what they make.
 pub record TreesSoFar (a b : Option (List ℕ)) (stack : List Level) (number : ℕ) : Type 0 where
@@ -103,7 +102,7 @@ module _ (a b c : Option (List ℕ)) (stack : List Level) (number : ℕ) (so : T
   refuse (read, took, are) new levels.Memory does = (read, took, tt)
   refuse (read, took, are) new levels.Bad does =
       let bad = does so.trees so.built in
-      (read, took, inl (all_lines so.trees, bytes, are, bad_line so.trees bytes (built_allowed stack so.trees so.built) (record { no_end = bad.0; no_step = bad.1 }), so.numbered))
+      (read, took, inl (all_lines so.trees, bytes, are, first_bad so.trees bytes (built_allowed stack so.trees so.built) (record { no_end = bad.0; no_step = bad.1 }), so.numbered))
 
   pub finish_line : IsLine bytes → Consumes b c (ended bytes) → (new : List Level) → DoesLine bytes stack new (Ok true) → (m : Meaning) (n : ℕ) → n ≡ number + 1 → ((l : Level) → new ≡ l ∷ [] → m ≡ level_meaning l) → Built a c m n
   finish_line h r = finish (line_read h r)
@@ -124,12 +123,15 @@ module _ (a b c : Option (List ℕ)) (stack : List Level) (number : ℕ) (so : T
       let lines : all_lines us ≡ all_lines so.trees ++ bytes ∷ [] = step_lines bytes said so.trees us sp st in
       let long : length (all_lines us) ≡ suc (length (all_lines so.trees)) = ap length lines ∙ length_push (all_lines so.trees) bytes in
       let whole : lines_of (unlines (all_lines so.trees) ++ bytes) ≡ all_lines us = so.split bytes ∙ ap (λ ls. all_lines so.trees ++ ls) (lines-last bytes h p) ∙ sym lines in
-      (unlines (all_lines so.trees) ++ bytes, Consumes-trans a b c _ _ so.read r, inr (all_lines us, at_end_from a b c _ so.read e, whole, no_end us (built_allowed new us built), omega (arith, so.numbered, long)))
+      let early = ends_early us (built_allowed new us built) _ whole in
+      (unlines (all_lines so.trees) ++ bytes, Consumes-trans a b c _ _ so.read r, inr (at_end_from a b c _ so.read e, early.0, early.1, omega (arith, so.numbered, long, ap length whole)))
 
   -- no line is left
   pub none_left : Consumes b c [] → OnSome b (IsAtEnd c) → Refused a c (BadLine number)
   none_left r e =
-      (unlines (all_lines so.trees) ++ [], Consumes-trans a b c _ _ so.read r, inr (all_lines so.trees, at_end_from a b c _ so.read e, so.split [] ∙ append-nil (all_lines so.trees), no_end so.trees (built_allowed stack so.trees so.built), so.numbered))
+      let whole : lines_of (unlines (all_lines so.trees) ++ []) ≡ all_lines so.trees = so.split [] ∙ append-nil (all_lines so.trees) in
+      let early = ends_early so.trees (built_allowed stack so.trees so.built) _ whole in
+      (unlines (all_lines so.trees) ++ [], Consumes-trans a b c _ _ so.read r, inr (at_end_from a b c _ so.read e, early.0, early.1, omega (arith, so.numbered, ap length whole)))
 
   of_result : {F : Type 0} (mean : F → Meaning) (num : F → ℕ) (r : Result F RunError) (new : List Level) → MatchResult r (λ found. (num found ≡ number + 1) × ((l : Level) → new ≡ l ∷ [] → mean found ≡ level_meaning l)) (λ e. e ≡ Device)
       → Ends a c (λ read. AreRead (OnSome a (IsAtEnd c)) read (all_lines so.trees ++ bytes ∷ [])) → DoesLine bytes stack new (Ok true)

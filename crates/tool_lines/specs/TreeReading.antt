@@ -5,7 +5,7 @@ use Rattle.tool_grammar.specs.declared.error.RunError.{RunError}
 use Rattle.tool_grammar.specs.declared.error.RunError.TheVariants.{Memory, BadLine, Device}
 use Rattle.tool_tree_lines.specs.declared.tree_line.TreeLine.TheVariants as line
 use Rattle.tool_tree_lines.specs.Words.{spelling}
-use Rattle.tool_tree_lines.specs.Trees.{Tree, tree_lines, meaning_of, IsAllowed, NoTreeFrom, NoTree}
+use Rattle.tool_tree_lines.specs.Trees.{Tree, tree_lines, meaning_of, IsAllowed, NoTree, AreOfTrees, IsFirstBad}
 use Rattle.tool_tree_levels.specs.declared.level.LineError.{LineError}
 use Rattle.tool_tree_levels.specs.declared.level.LineError.TheVariants as levels
 use Rattle.tool_lines.specs.Lines.{lines_of, unlines}
@@ -20,11 +20,11 @@ abbrev pub BuildsTree : Type 0 → List ℕ → Meaning → ℕ → Type 0
 BuildsTree at_end read m number = (t : Tree)
     × IsAllowed t × (m ≡ meaning_of t) × AreRead at_end read (tree_lines t ++ spelling line.End ∷ []) × (number ≡ suc (suc (length (tree_lines t))))
 
--- A bad line: no lines that begin with those up to it begin with a tree; or the reader is at its end, and its lines don't begin with one.
+-- The first bad line, behind the lines of trees; or the reader is at its end behind such lines, and they have no `end`.
 abbrev pub RefusesTree : Type 0 → List ℕ → RunError → Type 0
 RefusesTree at_end read (BadLine k) =
-    ((ls : List (List ℕ)) × (bad : List ℕ) × AreRead at_end read (ls ++ bad ∷ []) × NoTreeFrom (ls ++ bad ∷ []) × (k ≡ suc (length ls)))
-    ⊎ ((ls : List (List ℕ)) × at_end × (lines_of read ≡ ls) × NoTree ls × (k ≡ suc (length ls)))
+    ((ls : List (List ℕ)) × (bad : List ℕ) × AreRead at_end read (ls ++ bad ∷ []) × IsFirstBad ls bad × (k ≡ suc (length ls)))
+    ⊎ (at_end × AreOfTrees (lines_of read) × NoTree (lines_of read) × (k ≡ suc (length (lines_of read))))
 RefusesTree at_end read (Memory at) = Unit {0}
 RefusesTree at_end read Device = Unit {0}
 

@@ -10,11 +10,11 @@ use crate::running::at_line;
 use crate::stream::{Found, next_line};
 use metrics::Recorder;
 use metrics_debugging::DebuggingRecorder;
-use tool_grammar::RunError;
-use tool_tree_levels::{Level, LineError, read_line};
 use metrics_trees::Child;
 use std::alloc::Global;
 use std::io::BufRead;
+use tool_grammar::RunError;
+use tool_tree_levels::{Level, LineError, read_line};
 
 /// The error at a tree line with this number.
 fn at_tree_line(error: LineError, number: u64) -> RunError
@@ -37,10 +37,7 @@ fn only_one(mut stack: Vec<Level>) -> Option<Child<DebuggingRecorder>>
 }
 
 /// The one recorder of the stack, at an `end` with this number.
-fn built(
-    stack: Vec<Level>,
-    number: u64,
-) -> Result<(Child<DebuggingRecorder>, u64), RunError>
+fn built(stack: Vec<Level>, number: u64) -> Result<(Child<DebuggingRecorder>, u64), RunError>
     requires { number + 1 < 2 ^ 64 }
     ensures { MatchResult result
         (λ found. (found.1 ≡ number + 1) × ((l : Stacked) → stack.items ≡ l ∷ [] → ⟦<Child<DebuggingRecorder> as Recorder>⟧.meaning found.0 ≡ level_meaning l))

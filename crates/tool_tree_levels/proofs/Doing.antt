@@ -10,7 +10,7 @@ use Rattle.tool_tree_lines.specs.declared.tree_line.TreeLine.TheVariants as line
 use Rattle.tool_tree_lines.specs.Words.{CanBeSpelled}
 use Rattle.tool_tree_lines.specs.Trees.{Tree, Book, Noop, Prefix, Filter, Fanout, Router, Trees, none, more, number_of, last_line, meaning_of, meanings_of, levels_of, most_levels, books_in, route_of, NameTargets, IsMade, IsTop, IsAllowed, AreAllowed}
 use Rattle.tool_tree_lines.specs.Steps.{list_of, taken, Steps}
-use Rattle.tool_tree_lines.proofs.Runs.{from_list, list_of-from, length-list_of, length-taken, arity, tree_same, split_same}
+use Rattle.tool_tree_lines.proofs.Runs.{from_list, list_of-from, length-list_of, length-taken, arity, tree_same, split_same, are_allowed}
 use Rattle.tool_tree_levels.specs.declared.level.Level.{Level}
 use Rattle.tool_tree_levels.specs.declared.level.LineError.{LineError}
 use Rattle.tool_tree_levels.specs.declared.level.LineError.TheVariants.{Memory, Bad}
@@ -72,10 +72,6 @@ built_allowed [] [] h = tt
 built_allowed [] (t ∷ ts) h = absurd h
 built_allowed (l ∷ ls) [] h = absurd h
 built_allowed (l ∷ ls) (t ∷ ts) h = (h.0.allowed, built_allowed ls ts h.1)
-
-are_allowed : (ss : Trees) → AllByRecursion IsAllowed (list_of ss) → AreAllowed ss
-are_allowed none h = tt
-are_allowed (more s ss) h = (h.0, are_allowed ss h.1)
 
 allowed_of : (t : Tree) → IsTop t → AllByRecursion IsAllowed (taken t) → IsAllowed t
 allowed_of Book h g = h

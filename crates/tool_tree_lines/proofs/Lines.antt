@@ -7,6 +7,7 @@ use Rattle.std.proofs.lemmas.Fmt.{decimal_is_IsNumeral}
 use Rattle.std.proofs.lemmas.Str.Parse.{digit_from_value}
 use Rattle.tool_grammar.specs.Cuts.{Lacks, StartsAt}
 use Rattle.tool_grammar.specs.Grammar.{name_word, IsName}
+use Rattle.tool_grammar.proofs.CallLemmas.{name_same}
 use Rattle.tool_grammar.proofs.WordsLemmas.{before_same, first_same, lacks_literal, lacks_name, lacks_decimal}
 use Rattle.tool_tree_lines.specs.declared.tree_line.Kinds.{Kinds}
 use Rattle.tool_tree_lines.specs.declared.tree_line.RouteWord.{RouteWord}
@@ -48,12 +49,6 @@ words_same Is word lacks same (x ∷ xs) (y ∷ ys) h g e =
     let tail : word x ++ words word xs ≡ word y ++ words word ys = tail_same 32 _ _ e in
     let both = before_same 32 (word x) (word y) (words word xs) (words word ys) (lacks x h.0) (lacks y g.0) (starts_words word xs) (starts_words word ys) tail in
     ap (λ z. z ∷ xs) (same x y h.0 g.0 both.0) ∙ ap (λ zs. y ∷ zs) (words_same Is word lacks same xs ys h.1 g.1 both.1)
-
-name_same : (p q : List ℕ) → IsName p → IsName q → name_word p ≡ name_word q → p ≡ q
-name_same [] [] h g e = refl
-name_same [] (x ∷ xs) h g e = absurd (g.2 (sym e))
-name_same (x ∷ xs) [] h g e = absurd (h.2 e)
-name_same (x ∷ xs) (y ∷ ys) h g e = e
 
 pub lacks_case : (b : Bool) → Lacks 32 (case_word b)
 lacks_case false = lacks_literal 32 (case_word false) refl

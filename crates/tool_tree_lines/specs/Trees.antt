@@ -114,6 +114,17 @@ NameTargets n named [] = named ≡ n
 NameTargets n named (r ∷ routes) =
     ((r.target < named) × NameTargets n named routes) ⊎ ((r.target ≡ named) × (named < n) × NameTargets n (suc named) routes)
 
+-- some route has this target
+abbrev pub IsNamed : ℕ → List RouteWord → Type 0
+IsNamed k [] = ⊥
+IsNamed k (r ∷ routes) = (r.target ≡ k) ⊎ IsNamed k routes
+
+-- The routes name n targets in order: each number below n and no other, and before a number each lower one.
+pub record NameInOrder (n : ℕ) (routes : List RouteWord) : Type 0 where
+  pub all : (k : ℕ) → k < n → IsNamed k routes
+  pub only : (k : ℕ) → IsNamed k routes → k < n
+  pub in_order : (before after : List RouteWord) (r : RouteWord) (k : ℕ) → routes ≡ before ++ r ∷ after → k < r.target → IsNamed k before
+
 -- what is required of a tree beside what is required of those that it takes, its line and its levels
 abbrev pub IsMade : Tree → Type 0
 IsMade Book = Unit {0}
@@ -153,3 +164,13 @@ NoTreeFrom ls = (t : Tree) (following rest : List (List ℕ)) → BeginsWithTree
 -- these lines don't begin with a tree
 abbrev pub NoTree : List (List ℕ) → Type 0
 NoTree ls = (t : Tree) (rest : List (List ℕ)) → BeginsWithTree ls t rest → ⊥
+
+-- the lines of trees, one tree after the other, as the lines of one tree may begin
+abbrev pub AreOfTrees : List (List ℕ) → Type 0
+AreOfTrees ls = (ts : Trees) × AreAllowed ts × (ls ≡ trees_lines ts)
+
+-- The first bad line, behind others: those are the lines of trees, with it they aren't, and no lines that begin so begin with a tree.
+pub record IsFirstBad (ls : List (List ℕ)) (bad : List ℕ) : Type 0 where
+  pub before : AreOfTrees ls
+  pub no_more : AreOfTrees (ls ++ bad ∷ []) → ⊥
+  pub no_tree : NoTreeFrom (ls ++ bad ∷ [])
