@@ -5,3 +5,4 @@ pub mod Loop
 pub mod WordLists
 pub mod TreesSoFar
 pub mod TreesLemmas
+pub mod OutputLemmas

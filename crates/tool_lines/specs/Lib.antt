@@ -3,3 +3,4 @@ pub mod Handles
 pub mod Running
 pub mod Requests
 pub mod TreeReading
+pub mod Output

@@ -3,6 +3,7 @@
 
 mod commands;
 mod handles;
+mod laws;
 mod requests;
 mod running;
 mod stream;
@@ -13,6 +14,7 @@ mod trees;
 
 pub use commands::command;
 pub use handles::Handles;
+pub use laws::one_text_at_most;
 pub use running::run;
 pub use tool_grammar::RunError;
 pub use trees::tree;
