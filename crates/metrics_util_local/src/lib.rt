@@ -16,7 +16,7 @@ pub mod layers {
 
 /// Cells by kind and key, and which of them are still in use.
 pub mod registry {
-    pub use metrics_registry::registry::{
+    pub use metrics_registry::{
         Counted, Generation, OwnedRecency, OwnedRegistry, PlainStorage, Storage,
     };
 }

@@ -1,2 +1,3 @@
 pub mod WordsLemmas
 pub mod GrammarLemmas
+pub mod CallLemmas

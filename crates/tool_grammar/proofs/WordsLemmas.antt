@@ -119,13 +119,13 @@ lacks_decimal n h = All-from_recursion _ (decimal n) (digits_lack (decimal n) (d
 
 -- ---- labels
 
-lacks_label : (l : List ℕ × List ℕ) → IsLabel l → Lacks 32 (l.0 ++ 61 ∷ l.1)
+pub lacks_label : (l : List ℕ × List ℕ) → IsLabel l → Lacks 32 (l.0 ++ 61 ∷ l.1)
 lacks_label l h =
     let differs : 61 ≢ 32 = λ e. absurd (omega (arith, e)) in
     let value : LacksByRecursion 32 l.1 = recursion_from_All _ l.1 h.4 in
     All-append (λ x. x ≢ 32) l.0 (61 ∷ l.1) h.2 (All-from_recursion (λ x. x ≢ 32) (61 ∷ l.1) (differs, value))
 
-starts_labels : (ls : List (List ℕ × List ℕ)) → StartsAt 32 (label_words ls)
+pub starts_labels : (ls : List (List ℕ × List ℕ)) → StartsAt 32 (label_words ls)
 starts_labels [] = tt
 starts_labels (l ∷ ls) = refl
 

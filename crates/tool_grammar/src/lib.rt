@@ -4,11 +4,13 @@
 mod calls;
 mod cuts;
 mod error;
+mod laws;
 mod printing;
 mod words;
 
 pub use calls::call_of;
-pub use cuts::place_of;
+pub use cuts::{behind, place_of, split_at_first, split_before};
 pub use error::RunError;
+pub use laws::one_call_at_most;
 pub use printing::text;
-pub use words::number_of;
+pub use words::{name_of, number_of};

@@ -66,3 +66,33 @@ split_before (k ∷ (j ∷ ls)) xs l more e =
     let (rest, whole, last) = first_ended xs k j (ls ++ l ∷ more) e in
     let (left, front, behind) = split_before (j ∷ ls) rest l more last in
     (left, whole ∙ ap (λ q. ended k ++ q) front ∙ sym (append_assoc (ended k) (unlines (j ∷ ls)) left), behind)
+
+-- ---- the lines of a text that is cut
+
+-- the lines of a text and a line feed stand before those of whatever follows
+abbrev HasCut : List ℕ → Type 0
+HasCut xs = (l : List ℕ) × (ls : List (List ℕ)) × (lines_of (xs ++ 10 ∷ []) ≡ l ∷ ls) × ((ys : List ℕ) → lines_of (xs ++ 10 ∷ ys) ≡ (l ∷ ls) ++ lines_of ys)
+
+has_cut : (xs : List ℕ) → HasCut xs
+has_cut [] = ([], [], refl, λ ys. refl)
+has_cut (x ∷ xs) = tested (x == 10) refl (has_cut xs)
+  where
+    tested : (b : Bool) → (x == 10) ≡ b → HasCut xs → HasCut (x ∷ xs)
+    tested true is (l, ls, e, f) = ([], l ∷ ls, rw is (ap (λ k. [] ∷ k) e), λ ys. rw is (ap (λ k. [] ∷ k) (f ys)))
+    tested false is (l, ls, e, f) = (x ∷ l, ls, rw is (ap (onto x) e), λ ys. rw is (ap (onto x) (f ys)))
+
+pub lines-cut : (xs ys : List ℕ) → lines_of (xs ++ 10 ∷ ys) ≡ lines_of (xs ++ 10 ∷ []) ++ lines_of ys
+lines-cut xs ys = let (l, ls, e, f) = has_cut xs in f ys ∙ ap (λ k. k ++ lines_of ys) (sym e)
+
+-- the first line of a text begins as the text does
+abbrev pub StartsWith : List ℕ → List ℕ → Type 0
+StartsWith front xs = (l : List ℕ) × (ls : List (List ℕ)) × (lines_of xs ≡ (front ++ l) ∷ ls)
+
+one_first : (x : ℕ) (ms : List (List ℕ)) → (l : List ℕ) × (ls : List (List ℕ)) × (onto x ms ≡ (x ∷ l) ∷ ls)
+one_first x [] = ([], [], refl)
+one_first x (m ∷ ms) = (m, ms, refl)
+
+pub lines-front : (front ys : List ℕ) → AllByRecursion (λ x. x ≢ 10) front → 0 < length front → StartsWith front (front ++ ys)
+lines-front [] ys h p = absurd (omega arith)
+lines-front (x ∷ []) ys h p = let (l, ls, e) = one_first x (lines_of ys) in (l, ls, rw (is_not x h.0) e)
+lines-front (x ∷ (y ∷ front)) ys h p = let (l, ls, e) = lines-front (y ∷ front) ys h.1 (omega arith) in (l, ls, rw (is_not x h.0) (ap (onto x) e))

@@ -9,6 +9,7 @@ use Rattle.metrics.specs.Meaning.{Meaning}
 use Rattle.metrics.specs.Meaning.{AreNew, KeepsTargets}
 use Rattle.metrics.specs.History.{Log}
 use Rattle.metrics.specs.Answering.{Answers}
+use Rattle.tool_tree_lines.specs.Trees.{Tree, meaning_of, IsAllowed}
 use Rattle.tool_lines.specs.Lines.{lines_of, ended, unlines, IsLine}
 use Rattle.tool_grammar.specs.Printing.{text_of, print}
 use Rattle.tool_lines.specs.Handles.{entry_named, entries_by}
@@ -50,15 +51,15 @@ begin a x s first h = record {
   numbered = omega arith;
 }
 
-at_end_from : (a b c : Option (List ℕ)) (bs : List ℕ) → Consumes a b bs → OnSome b (IsAtEnd c) → OnSome a (IsAtEnd c)
+pub at_end_from : (a b c : Option (List ℕ)) (bs : List ℕ) → Consumes a b bs → OnSome b (IsAtEnd c) → OnSome a (IsAtEnd c)
 at_end_from None b c bs p q = tt
 at_end_from (Some x) None c bs p q = absurd p
 at_end_from (Some x) (Some y) c bs p q = q
 
-unlines_push : (ls : List (List ℕ)) (l : List ℕ) → unlines (ls ++ l ∷ []) ≡ unlines ls ++ ended l
+pub unlines_push : (ls : List (List ℕ)) (l : List ℕ) → unlines (ls ++ l ∷ []) ≡ unlines ls ++ ended l
 unlines_push ls l = flat_map-append ended ls (l ∷ []) ∙ ap (λ z. unlines ls ++ z) (append-nil (ended l))
 
-split_push : (ls : List (List ℕ)) (l : List ℕ) → IsLine l → ((rest : List ℕ) → lines_of (unlines ls ++ rest) ≡ ls ++ lines_of rest)
+pub split_push : (ls : List (List ℕ)) (l : List ℕ) → IsLine l → ((rest : List ℕ) → lines_of (unlines ls ++ rest) ≡ ls ++ lines_of rest)
     → (rest : List ℕ) → lines_of (unlines (ls ++ l ∷ []) ++ rest) ≡ (ls ++ l ∷ []) ++ lines_of rest
 split_push ls l h split rest =
     ap (λ z. lines_of (z ++ rest)) (unlines_push ls l)
@@ -67,7 +68,7 @@ split_push ls l h split rest =
     ∙ ap (λ z. ls ++ z) (lines-ended l rest h)
     ∙ sym (append_assoc ls (l ∷ []) (lines_of rest))
 
-length_push : {A : Type 0} (xs : List A) (x : A) → length (xs ++ x ∷ []) ≡ suc (length xs)
+pub length_push : {A : Type 0} (xs : List A) (x : A) → length (xs ++ x ∷ []) ≡ suc (length xs)
 length_push [] x = refl
 length_push (y ∷ xs) x = ap suc (length_push xs x)
 
@@ -285,9 +286,9 @@ known_ok (Some xs) (Some left) (Some held) (Some now) s t first n (read, text, r
     let all : xs ≡ read = r ∙ ap (λ k. read ++ k) e ∙ append-nil read in
     (log, subst (λ k. AreSpelled (lines_of k) log) (sym all) spelled, made, ap Some (w ∙ ap (λ k. held ++ k) is))
 
--- where the books were new, an `Ok` prints answers to calls on new books
-pub prints_answers : (a b x y : Option (List ℕ)) (s t : Meaning) (first : ℕ) (r : Result ℕ RunError) → AreNew s.contents → Finished a b x y first s t r
+-- an `Ok` prints answers to calls on the tree
+pub prints_more : (a b x y : Option (List ℕ)) (s t : Meaning) (first : ℕ) (r : Result ℕ RunError) (tree : Tree) → IsAllowed tree → s ≡ meaning_of tree → AreNew s.contents → Finished a b x y first s t r
     → OnOk r ((text : List ℕ) × Appends x y text × PrintsAnswers text)
-prints_answers a b x y s t first (Ok n) new (read, text, r, w, (log, e, spelled, made, is, count)) =
-    (text, w, record { old = s; new = t; log = log; are_new = new; are_made = made; text_is = is })
-prints_answers a b x y s t first (Err e) new h = tt
+prints_more a b x y s t first (Ok n) tree allowed means new (read, text, r, w, (log, e, spelled, made, is, count)) =
+    (text, w, record { tree = tree; allowed = allowed; old = s; new = t; log = log; means = means; are_new = new; are_made = made; text_is = is })
+prints_more a b x y s t first (Err e) tree allowed means new h = tt

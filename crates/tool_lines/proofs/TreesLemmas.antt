@@ -1,29 +1,13 @@
 -- Trees of new books.
-use Rattle.std.proofs.Common.{◌≡◌, zero, suc, List, [], ◌∷◌, ◌++◌, All, refl, sym, subst, ap, ◌∙◌, arith}
-use Rattle.std.specs.List.{AllByRecursion}
-use Rattle.std.proofs.lemmas.List.Elements.{recursion_from_All}
+use Rattle.std.proofs.Common.{◌≡◌, zero, suc, List, [], ◌∷◌, ◌++◌, refl, sym, subst, ap, arith}
 use Rattle.metrics.specs.Book.{Content, new_book}
 use Rattle.metrics.specs.Layers.{joined_all}
 use Rattle.metrics.specs.Meaning.{Meaning, AreNew}
-use Rattle.metrics_debugging.specs.Debugging.{IsNewBook}
-use Rattle.metrics_debugging.specs.DebuggingMeaning.{meaning_of}
-use Rattle.metrics_debugging.specs.declared.debugging.DebuggingRecorder.{DebuggingRecorder}
+use Rattle.tool_tree_lines.specs.Trees.{Tree, Book, Noop, Prefix, Filter, Fanout, Router, Trees, none, more, meaning_of, meanings_of}
 
-abbrev pub book_meaning : DebuggingRecorder → Meaning
-book_meaning r = meaning_of r
-
-one_new : (cs : List Content) → cs ≡ new_book ∷ [] → AreNew cs
-one_new cs e = subst AreNew (sym e) each
-  where
-    each : AreNew (new_book ∷ [])
-    each zero lt = refl
-    each (suc b) lt = absurd (omega arith)
-
--- a leaf that is a new book
-pub leaf_new : (m n : Meaning) → IsNewBook m → n ≡ m → AreNew n.contents
-leaf_new m n h e = one_new n.contents (ap (λ (k : Meaning). k.contents) e ∙ h.contents)
-
--- ---- several trees
+one_new : AreNew (new_book ∷ [])
+one_new zero lt = refl
+one_new (suc b) lt = absurd (omega arith)
 
 both_new : (cs ds : List Content) → AreNew cs → AreNew ds → AreNew (cs ++ ds)
 both_new [] ds h g = g
@@ -33,13 +17,19 @@ both_new (c ∷ cs) ds h g = each (both_new cs ds (λ k l. h (suc k) (omega arit
     each rest e zero lt = e
     each rest e (suc b) lt = rest b (omega arith)
 
-abbrev pub HasNewBooks : Meaning → Type 0
-HasNewBooks m = AreNew m.contents
+mutual
+  pub tree_new : (t : Tree) → AreNew (meaning_of t).contents
+  tree_new Book = one_new
+  tree_new Noop = λ b lt. absurd (omega arith)
+  tree_new (Prefix p t) = tree_new t
+  tree_new (Filter fold table patterns t) = tree_new t
+  tree_new (Fanout ts) = trees_new ts
+  tree_new (Router routes default ts) = both_new (meaning_of default).contents (joined_all (meanings_of ts)).contents (tree_new default) (trees_new ts)
 
-all_joined : (ms : List Meaning) → AllByRecursion HasNewBooks ms → AreNew (joined_all ms).contents
-all_joined [] h = λ b lt. absurd (omega arith)
-all_joined (m ∷ ms) h = both_new m.contents (joined_all ms).contents h.0 (all_joined ms h.1)
+  pub trees_new : (ts : Trees) → AreNew (joined_all (meanings_of ts)).contents
+  trees_new none = λ b lt. absurd (omega arith)
+  trees_new (more t ts) = both_new (meaning_of t).contents (joined_all (meanings_of ts)).contents (tree_new t) (trees_new ts)
 
--- the books of recorders side by side are new
-pub joined_new : (ms : List Meaning) → All HasNewBooks ms → AreNew (joined_all ms).contents
-joined_new ms h = all_joined ms (recursion_from_All HasNewBooks ms h)
+-- what a tree means has new books
+pub means_new : (m : Meaning) (t : Tree) → m ≡ meaning_of t → AreNew m.contents
+means_new m t e = subst AreNew (sym (ap (λ (k : Meaning). k.contents) e)) (tree_new t)

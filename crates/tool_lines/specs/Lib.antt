@@ -2,3 +2,5 @@ pub mod Lines
 pub mod Handles
 pub mod Running
 pub mod Requests
+pub mod TreeReading
+pub mod Output

@@ -8,6 +8,7 @@ use Rattle.metrics.specs.Book.{Content, content_at}
 use Rattle.metrics.specs.Meaning.{Meaning, KeepsTargets, AreNew}
 use Rattle.metrics.specs.History.{Log, reached, content_after, ArePlain}
 use Rattle.metrics.specs.Answering.{Answers, IsHeld}
+use Rattle.tool_tree_lines.specs.Trees.{Tree, meaning_of, IsAllowed}
 use Rattle.tool_lines.specs.Lines.{lines_of, unlines}
 use Rattle.tool_grammar.specs.Grammar.{Spells, IsBad}
 use Rattle.tool_grammar.specs.Printing.{text_of, print}
@@ -137,11 +138,14 @@ fault_at number FaultVariants.Device = Device
 
 -- ---- the whole program
 
--- The text is that of the answers to calls on new books.
+-- The text is that of the answers to calls on a tree that tree lines make.
 pub record PrintsAnswers (text : List ℕ) : Type 0 where
+  pub tree : Tree
+  pub allowed : IsAllowed tree
   pub old : Meaning
   pub new : Meaning
   pub log : Log
+  pub means : old ≡ meaning_of tree
   pub are_new : AreNew old.contents
   pub are_made : AreMade old new log
   pub text_is : text ≡ print log

@@ -1,8 +1,11 @@
 //! The whole program, over the words of its command line.
-ghost use Rattle.std.specs.Prelude.{◌≡◌, ◌≤◌, ℕ, List, OnOk, map};
+ghost use Rattle.std.specs.Prelude.{◌≡◌, ◌≤◌, ◌++◌, ℕ, List, Some, IfSome, OnOk, map};
 ghost use Rattle.std.specs.Io.KnownBytes.{Appends};
 ghost use Rattle.tool_lines.specs.Running.{PrintsAnswers, status_number};
 ghost use Rattle.tool_lines.specs.declared.requests.Request.{Request as Asked};
+ghost use Rattle.tool_lines.specs.declared.requests.Request.TheVariants as ask;
+ghost use Rattle.tool_lines.specs.Lines.{lines_of};
+ghost use Rattle.tool_lines.specs.Output.{AnswersAll, AnswersFirst, RunsKnown};
 ghost use Rattle.tool_lines.specs.Requests.{IsAllowed, IsAllowedPlan, Asks, PrintsTotals, Prints, totals_text};
 
 use crate::requests::{Request, StormPlan, request_of};
@@ -34,8 +37,9 @@ fn answer<I: BufRead, O: Write>(
     input: &mut I,
     output: &mut O,
 ) -> Result<u64, RunError>
-    ensures { OnOk result ((text : List ℕ)
+    ensures prints { OnOk result ((text : List ℕ)
         × Appends (O.contents output.old) (O.contents output.new) text × PrintsAnswers text) }
+    ensures known { RunsKnown (I.remaining input.old) (O.contents output.old) (O.contents output.new) result }
 {
     match tree(alloc, input) {
         Ok((mut books, first)) => run(alloc, &mut books, input, output, first),
@@ -102,8 +106,10 @@ fn answer_request<R: Threads + Wait + Sync, I: BufRead, O: Write>(
     output: &mut O,
 ) -> Result<(), RunError>
     requires { IsAllowed request }
-    ensures { OnOk result ((text : List ℕ)
+    ensures prints { OnOk result ((text : List ℕ)
         × Appends (O.contents output.old) (O.contents output.new) text × Prints request text) }
+    ensures known { request ≡ ask.Run
+        → RunsKnown (I.remaining input.old) (O.contents output.old) (O.contents output.new) result }
 {
     match request {
         Request::Run => {
@@ -141,6 +147,14 @@ pub fn command<R: Threads + Wait + Sync, I: BufRead, O: Write, E: Write>(
     // new books, or the three lines of a storm.
     ensures done { result ≡ 0 → (asked : Asked) × (text : List ℕ) × Asks (map (λ w. w.now) words.now) asked
         × Appends (O.contents output.old) (O.contents output.new) text × Prints asked text }
+    // For a run, where the bytes are known: with status 0 they are a tree and calls, and what was written is their output.
+    ensures whole { result ≡ 0 → Asks (map (λ w. w.now) words.now) ask.Run
+        → IfSome (I.remaining input.old) (λ bytes. IfSome (O.contents output.old) (λ held.
+        AnswersAll (lines_of bytes) (λ text. O.contents output.new ≡ Some (held ++ text)))) }
+    // With status 2 one of their lines is bad, and what was written is the output of those before it.
+    ensures first { result ≡ 2 → Asks (map (λ w. w.now) words.now) ask.Run
+        → IfSome (I.remaining input.old) (λ bytes. IfSome (O.contents output.old) (λ held.
+        AnswersFirst (lines_of bytes) (λ text. O.contents output.new ≡ Some (held ++ text)))) }
     // Words that ask for nothing have status 2.
     ensures wrong { ((asked : Asked) → Asks (map (λ w. w.now) words.now) asked → ⊥) → (result ≡ 2) × (output.new ≡ output.old) }
 {

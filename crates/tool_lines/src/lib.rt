@@ -3,18 +3,18 @@
 
 mod commands;
 mod handles;
-mod levels;
+mod laws;
 mod requests;
 mod running;
 mod stream;
 #[cfg(test)]
 mod tests;
 mod totals;
-mod tree_lines;
 mod trees;
 
 pub use commands::command;
 pub use handles::Handles;
+pub use laws::one_text_at_most;
 pub use running::run;
 pub use tool_grammar::RunError;
 pub use trees::tree;

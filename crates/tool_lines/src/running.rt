@@ -1,9 +1,11 @@
 //! The loop over call lines: a line, its answer, and so on.
 ghost use Rattle.std.specs.Prelude.{◌≡◌, ◌++◌, ◌<◌, ℕ, List, Some, IfSome, OnSome, OnOk, MatchResult, length, option_map};
 ghost use Rattle.std.specs.Io.KnownBytes.{Consumes, Appends, Keeps, IsAtEnd};
+ghost use Rattle.metrics.specs.Meaning.{AreNew};
 ghost use Rattle.metrics.specs.History.{Log};
 ghost use Rattle.metrics_replay.specs.Replaying.{handle_seen};
 ghost use Rattle.tool_lines.specs.Lines.{lines_of};
+ghost use Rattle.tool_lines.specs.Output.{AnswersCalls};
 ghost use Rattle.tool_grammar.specs.Grammar.{Spells};
 ghost use Rattle.tool_grammar.specs.Printing.{print, text_of};
 ghost use Rattle.tool_lines.specs.Handles.{entries, entry_named, HasRoom};
@@ -188,6 +190,9 @@ pub fn run<R: Recorder, I: BufRead, O: Write>(
     ensures known { OnOk result (IfSome (I.remaining input.old) (λ xs. IfSome (O.contents output.old) (λ held.
         (log : Log) × AreSpelled (lines_of xs) log × AreMade (R.meaning on.old) (R.meaning on.new) log
         × (O.contents output.new ≡ Some (held ++ print log))))) }
+    // Over new books: the lines are those of calls, up to the end or the first bad one, and what was written is their output.
+    ensures answered { AreNew (R.meaning on.old).contents → IfSome (I.remaining input.old) (λ xs. IfSome (O.contents output.old) (λ held.
+        AnswersCalls (R.meaning on.old) (lines_of xs) (λ text. O.contents output.new ≡ Some (held ++ text)) result)) }
 {
     let answered = answer_lines(alloc, on, input, output, first);
     flush(output, answered)

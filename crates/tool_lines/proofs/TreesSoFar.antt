@@ -1,0 +1,155 @@
+-- How far the lines of a tree are read, and how that ends.
+use Rattle.std.proofs.Common.{◌≡◌, ℕ, suc, ◌+◌, ◌<◌, List, [], ◌∷◌, ◌++◌, length, Option, Some, None, OnSome, Result, Ok, Err, MatchResult, Bool, true, false, refl, sym, ap, subst, ◌∙◌, inl, inr, arith, append_assoc, append-nil}
+use Rattle.std.specs.List.{AllByRecursion}
+use Rattle.std.specs.Io.KnownBytes.{Consumes, IsAtEnd}
+use Rattle.std.proofs.KnownBytes.{Consumes-nil, Consumes-trans}
+use Rattle.metrics.specs.Meaning.{Meaning}
+use Rattle.tool_grammar.specs.declared.error.RunError.{RunError}
+use Rattle.tool_grammar.specs.declared.error.RunError.TheVariants.{Memory, BadLine, Device}
+use Rattle.tool_tree_lines.specs.declared.tree_line.TreeLine.{TreeLine}
+use Rattle.tool_tree_lines.specs.declared.tree_line.TreeLine.TheVariants as line
+use Rattle.tool_tree_lines.specs.Words.{spelling, Spells}
+use Rattle.tool_tree_lines.specs.Trees.{Tree, last_line, tree_lines, meaning_of, IsAllowed, NoTree, AreOfTrees}
+use Rattle.tool_tree_lines.specs.Steps.{Steps}
+use Rattle.tool_tree_lines.proofs.Runs.{all_lines, lines_push, of_trees, first_bad, no_end}
+use Rattle.tool_tree_levels.specs.declared.level.Level.{Level}
+use Rattle.tool_tree_levels.specs.declared.level.LineError.{LineError}
+use Rattle.tool_tree_levels.specs.declared.level.LineError.TheVariants as levels
+use Rattle.tool_tree_levels.specs.Levels.{level_meaning}
+use Rattle.tool_tree_levels.specs.Doing.{IsBuilt, AreBuilt, DoesLine}
+use Rattle.tool_tree_levels.proofs.Doing.{built_allowed}
+use Rattle.tool_lines.specs.Lines.{lines_of, ended, unlines, IsLine}
+use Rattle.tool_lines.specs.declared.stream.Fault.{Fault}
+use Rattle.tool_lines.specs.declared.stream.Fault.TheVariants as faults
+use Rattle.tool_lines.specs.Running.{fault_at}
+use Rattle.tool_lines.specs.TreeReading.{AreRead, BuildsTree, RefusesTree, error_at}
+use Rattle.tool_lines.proofs.LinesLemmas.{lines-last}
+use Rattle.tool_lines.proofs.Loop.{unlines_push, split_push, length_push, at_end_from}
+
+-- a line adds itself to the lines of the trees
+step_lines : (bytes : List ℕ) (said : TreeLine) (ts us : List Tree) → Spells bytes said → Steps said ts us → all_lines us ≡ all_lines ts ++ bytes ∷ []
+step_lines bytes said ts us sp st =
+    ap all_lines st.after ∙ lines_push st.front st.tree ∙ ap (λ ls. ls ++ spelling (last_line st.tree) ∷ []) (ap all_lines (sym st.before))
+    ∙ ap (λ l. all_lines ts ++ spelling l ∷ []) st.line_is ∙ ap (λ b. all_lines ts ++ b ∷ []) (sym sp.1)
+
+-- the lines of trees have no `end`
+ends_early : (ts : List Tree) → AllByRecursion IsAllowed ts → (ls : List (List ℕ)) → ls ≡ all_lines ts → AreOfTrees ls × NoTree ls
+ends_early ts h ls e = (subst AreOfTrees (sym e) (of_trees ts h), subst NoTree (sym e) (no_end ts h))
+
+-- These lines were read, and the stack is what they make.
+pub record TreesSoFar (a b : Option (List ℕ)) (stack : List Level) (number : ℕ) : Type 0 where
+  pub trees : List Tree
+  pub read : Consumes a b (unlines (all_lines trees))
+  pub split : (rest : List ℕ) → lines_of (unlines (all_lines trees) ++ rest) ≡ all_lines trees ++ lines_of rest
+  pub built : AreBuilt stack trees
+  pub numbered : number ≡ suc (length (all_lines trees))
+
+pub trees_begin : (a : Option (List ℕ)) → TreesSoFar a a [] 1
+trees_begin a = record { trees = []; read = Consumes-nil a; split = λ rest. refl; built = tt; numbered = refl }
+
+-- what `tree` ensures
+abbrev pub Ends : Option (List ℕ) → Option (List ℕ) → (List ℕ → Type 0) → Type 0
+Ends a c P = (read : List ℕ) × Consumes a c read × P read
+
+abbrev pub Refused : Option (List ℕ) → Option (List ℕ) → RunError → Type 0
+Refused a c e = (read : List ℕ) × Consumes a c read × RefusesTree (OnSome a (IsAtEnd c)) read e
+
+abbrev pub Built : Option (List ℕ) → Option (List ℕ) → Meaning → ℕ → Type 0
+Built a c m n = (read : List ℕ) × Consumes a c read × BuildsTree (OnSome a (IsAtEnd c)) read m n
+
+module _ (a b c : Option (List ℕ)) (stack : List Level) (number : ℕ) (so : TreesSoFar a b stack number) (bytes : List ℕ) where
+  -- one more line
+  pub trees_more : (new : List Level) → IsLine bytes → Consumes b c (ended bytes) → DoesLine bytes stack new (Ok false) → TreesSoFar a c new (number + 1)
+  trees_more new h r does =
+      let (said, us, sp, st, built) = does so.trees so.built in
+      let lines : all_lines us ≡ all_lines so.trees ++ bytes ∷ [] = step_lines bytes said so.trees us sp st in
+      let long : length (all_lines us) ≡ suc (length (all_lines so.trees)) = ap length lines ∙ length_push (all_lines so.trees) bytes in
+      record {
+        trees = us;
+        read = subst (λ (ls : List (List ℕ)). Consumes a c (unlines ls)) (sym lines) (subst (Consumes a c) (sym (unlines_push (all_lines so.trees) bytes)) (Consumes-trans a b c _ _ so.read r));
+        split = subst (λ (ls : List (List ℕ)). (rest : List ℕ) → lines_of (unlines ls ++ rest) ≡ ls ++ lines_of rest) (sym lines) (split_push (all_lines so.trees) bytes h so.split);
+        built = built;
+        numbered = omega (arith, so.numbered, long);
+      }
+
+  -- the line was read, with its line feed
+  line_read : IsLine bytes → Consumes b c (ended bytes) → Ends a c (λ read. AreRead (OnSome a (IsAtEnd c)) read (all_lines so.trees ++ bytes ∷ []))
+  line_read h r =
+      let e = unlines_push (all_lines so.trees) bytes in
+      (unlines (all_lines so.trees ++ bytes ∷ []), subst (Consumes a c) (sym e) (Consumes-trans a b c _ _ so.read r), inl (refl, split_push (all_lines so.trees) bytes h so.split))
+
+  -- the last line was read, which has none
+  last_read : IsLine bytes → 0 < length bytes → Consumes b c bytes → OnSome b (IsAtEnd c) → Ends a c (λ read. AreRead (OnSome a (IsAtEnd c)) read (all_lines so.trees ++ bytes ∷ []))
+  last_read h p r e =
+      (unlines (all_lines so.trees) ++ bytes, Consumes-trans a b c _ _ so.read r, inr (at_end_from a b c _ so.read e, so.split bytes ∙ ap (λ ls. all_lines so.trees ++ ls) (lines-last bytes h p)))
+
+  -- it was `end`
+  finish : Ends a c (λ read. AreRead (OnSome a (IsAtEnd c)) read (all_lines so.trees ++ bytes ∷ [])) → (new : List Level) → DoesLine bytes stack new (Ok true) → (m : Meaning) (n : ℕ) → n ≡ number + 1 → ((l : Level) → new ≡ l ∷ [] → m ≡ level_meaning l) → Built a c m n
+  finish (read, took, are) new (is, one, same) m n e mean = of_one stack so.trees so.built one refl refl
+    where
+      of_one : (ls : List Level) (ts : List Tree) → AreBuilt ls ts → length ls ≡ 1 → ls ≡ stack → ts ≡ so.trees → Built a c m n
+      of_one [] ts h g p q = absurd (omega arith)
+      of_one (l ∷ (k ∷ ls)) ts h g p q = absurd (omega arith)
+      of_one (l ∷ []) [] h g p q = absurd h
+      of_one (l ∷ []) (t ∷ (u ∷ ts)) h g p q = absurd h.1
+      of_one (l ∷ []) (t ∷ []) h g p q =
+          let lines : all_lines so.trees ≡ tree_lines t = ap all_lines (sym q) ∙ append-nil (tree_lines t) in
+          let long : length (all_lines so.trees) ≡ length (tree_lines t) = ap length lines in
+          (read, took, (t, h.0.allowed, mean l (same ∙ sym p) ∙ h.0.meaning, subst (λ (ls : List (List ℕ)). AreRead (OnSome a (IsAtEnd c)) read ls) (ap (λ ls. ls ++ bytes ∷ []) lines ∙ ap (λ x. tree_lines t ++ x ∷ []) is) are, omega (arith, e, so.numbered, long)))
+
+  -- it was bad
+  refuse : Ends a c (λ read. AreRead (OnSome a (IsAtEnd c)) read (all_lines so.trees ++ bytes ∷ [])) → (new : List Level) (e : LineError) → DoesLine bytes stack new (Err e) → Refused a c (error_at number e)
+  refuse (read, took, are) new levels.Memory does = (read, took, tt)
+  refuse (read, took, are) new levels.Bad does =
+      let bad = does so.trees so.built in
+      (read, took, inl (all_lines so.trees, bytes, are, first_bad so.trees bytes (built_allowed stack so.trees so.built) (record { no_end = bad.0; no_step = bad.1 }), so.numbered))
+
+  pub finish_line : IsLine bytes → Consumes b c (ended bytes) → (new : List Level) → DoesLine bytes stack new (Ok true) → (m : Meaning) (n : ℕ) → n ≡ number + 1 → ((l : Level) → new ≡ l ∷ [] → m ≡ level_meaning l) → Built a c m n
+  finish_line h r = finish (line_read h r)
+
+  pub finish_last : IsLine bytes → 0 < length bytes → Consumes b c bytes → OnSome b (IsAtEnd c) → (new : List Level) → DoesLine bytes stack new (Ok true) → (m : Meaning) (n : ℕ) → n ≡ number + 1 → ((l : Level) → new ≡ l ∷ [] → m ≡ level_meaning l) → Built a c m n
+  finish_last h p r e = finish (last_read h p r e)
+
+  pub refuse_line : IsLine bytes → Consumes b c (ended bytes) → (new : List Level) (e : LineError) → DoesLine bytes stack new (Err e) → Refused a c (error_at number e)
+  refuse_line h r = refuse (line_read h r)
+
+  pub refuse_last : IsLine bytes → 0 < length bytes → Consumes b c bytes → OnSome b (IsAtEnd c) → (new : List Level) (e : LineError) → DoesLine bytes stack new (Err e) → Refused a c (error_at number e)
+  refuse_last h p r e = refuse (last_read h p r e)
+
+  -- the last line took its trees, and no `end` follows
+  pub ended_early : IsLine bytes → 0 < length bytes → Consumes b c bytes → OnSome b (IsAtEnd c) → (new : List Level) → DoesLine bytes stack new (Ok false) → Refused a c (BadLine (number + 1))
+  ended_early h p r e new does =
+      let (said, us, sp, st, built) = does so.trees so.built in
+      let lines : all_lines us ≡ all_lines so.trees ++ bytes ∷ [] = step_lines bytes said so.trees us sp st in
+      let long : length (all_lines us) ≡ suc (length (all_lines so.trees)) = ap length lines ∙ length_push (all_lines so.trees) bytes in
+      let whole : lines_of (unlines (all_lines so.trees) ++ bytes) ≡ all_lines us = so.split bytes ∙ ap (λ ls. all_lines so.trees ++ ls) (lines-last bytes h p) ∙ sym lines in
+      let early = ends_early us (built_allowed new us built) _ whole in
+      (unlines (all_lines so.trees) ++ bytes, Consumes-trans a b c _ _ so.read r, inr (at_end_from a b c _ so.read e, early.0, early.1, omega (arith, so.numbered, long, ap length whole)))
+
+  -- no line is left
+  pub none_left : Consumes b c [] → OnSome b (IsAtEnd c) → Refused a c (BadLine number)
+  none_left r e =
+      let whole : lines_of (unlines (all_lines so.trees) ++ []) ≡ all_lines so.trees = so.split [] ∙ append-nil (all_lines so.trees) in
+      let early = ends_early so.trees (built_allowed stack so.trees so.built) _ whole in
+      (unlines (all_lines so.trees) ++ [], Consumes-trans a b c _ _ so.read r, inr (at_end_from a b c _ so.read e, early.0, early.1, omega (arith, so.numbered, ap length whole)))
+
+  of_result : {F : Type 0} (mean : F → Meaning) (num : F → ℕ) (r : Result F RunError) (new : List Level) → MatchResult r (λ found. (num found ≡ number + 1) × ((l : Level) → new ≡ l ∷ [] → mean found ≡ level_meaning l)) (λ e. e ≡ Device)
+      → Ends a c (λ read. AreRead (OnSome a (IsAtEnd c)) read (all_lines so.trees ++ bytes ∷ [])) → DoesLine bytes stack new (Ok true)
+      → Ends a c (λ read. MatchResult r (λ found. BuildsTree (OnSome a (IsAtEnd c)) read (mean found) (num found)) (λ e. RefusesTree (OnSome a (IsAtEnd c)) read e))
+  of_result mean num (Ok found) new h are does = finish are new does (mean found) (num found) h.0 h.1
+  of_result mean num (Err e) new h (read, took, are) does = (read, took, subst (RefusesTree (OnSome a (IsAtEnd c)) read) (sym h) tt)
+
+  pub result_line : {F : Type 0} (mean : F → Meaning) (num : F → ℕ) (r : Result F RunError) (new : List Level) → MatchResult r (λ found. (num found ≡ number + 1) × ((l : Level) → new ≡ l ∷ [] → mean found ≡ level_meaning l)) (λ e. e ≡ Device)
+      → IsLine bytes → Consumes b c (ended bytes) → DoesLine bytes stack new (Ok true)
+      → Ends a c (λ read. MatchResult r (λ found. BuildsTree (OnSome a (IsAtEnd c)) read (mean found) (num found)) (λ e. RefusesTree (OnSome a (IsAtEnd c)) read e))
+  result_line mean num r new h il took does = of_result mean num r new h (line_read il took) does
+
+  pub result_last : {F : Type 0} (mean : F → Meaning) (num : F → ℕ) (r : Result F RunError) (new : List Level) → MatchResult r (λ found. (num found ≡ number + 1) × ((l : Level) → new ≡ l ∷ [] → mean found ≡ level_meaning l)) (λ e. e ≡ Device)
+      → IsLine bytes → 0 < length bytes → Consumes b c bytes → OnSome b (IsAtEnd c) → DoesLine bytes stack new (Ok true)
+      → Ends a c (λ read. MatchResult r (λ found. BuildsTree (OnSome a (IsAtEnd c)) read (mean found) (num found)) (λ e. RefusesTree (OnSome a (IsAtEnd c)) read e))
+  result_last mean num r new h il p took e does = of_result mean num r new h (last_read il p took e) does
+
+  -- a line that could not be read
+  pub unread_tree : (f : Fault) → Consumes b c bytes → Refused a c (fault_at number f)
+  unread_tree faults.Memory r = (unlines (all_lines so.trees) ++ bytes, Consumes-trans a b c _ _ so.read r, tt)
+  unread_tree faults.Device r = (unlines (all_lines so.trees) ++ bytes, Consumes-trans a b c _ _ so.read r, tt)
