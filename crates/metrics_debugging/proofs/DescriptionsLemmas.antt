@@ -1,11 +1,16 @@
 -- What a map of descriptions tells of a name.
-use Rattle.std.proofs.Common.{◌≡◌, ℕ, Bool, true, false, cond, List, Option, Some, refl, ap, ◌∙◌, subst, bytes_eq}
+use Rattle.std.proofs.Common.{◌≡◌, ℕ, Bool, true, false, cond, List, Option, None, Some, refl, ap, ◌∙◌, subst, bytes_eq}
 use Rattle.std.specs.Option.{option_or}
 use Rattle.std.specs.Cmp.Lexicographic.{bytes_decides}
 use Rattle.metrics_names.specs.declared.common.Unit.{Unit as Measure}
 use Rattle.metrics.specs.Book.{described_again}
 use Rattle.metrics_debugging.specs.declared.debugging.descriptions.Described.{Described}
 use Rattle.metrics_debugging.specs.DebuggingDescriptions.{description_of}
+
+-- a unit where none was told before
+pub or-none : (unit : Option Measure) → unit ≡ option_or unit None
+or-none None = refl
+or-none (Some u) = refl
 
 -- a new description of a name, and no change elsewhere
 pub noted : (f g : List ℕ → Option Described) (name bs : List ℕ) (unit : Option Measure) (text : List ℕ) (x : Described) (n : List ℕ) →

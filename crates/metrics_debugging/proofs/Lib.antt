@@ -1,4 +1,3 @@
 pub mod SeriesLemmas
-pub mod CellsLemmas
 pub mod DescriptionsLemmas
 pub mod OrderLemmas

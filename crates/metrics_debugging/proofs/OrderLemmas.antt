@@ -1,59 +1,38 @@
--- Series in order, by the places of their cells.
-use Rattle.std.proofs.Common.{◌≡◌, ℕ, zero, suc, ◌+◌, ◌<◌, ◌≤◌, Bool, true, false, cond, List, [], ◌∷◌, ◌++◌, length, map, get_or, Option, None, Some, Result, Ok, Err, position, refl, ap, sym, ◌∙◌, subst, arith, add-one, length-append, slice_get, option_map, Vec, inl, inr}
-use Rattle.std.specs.Global.{Global}
+-- Series in order, by the places of their entries.
+use Rattle.std.proofs.Common.{◌≡◌, ℕ, zero, suc, ◌+◌, ◌<◌, ◌≤◌, Bool, true, false, cond, ◌&&◌, List, [], ◌∷◌, ◌++◌, length, map, get_or, Option, None, Some, Result, Ok, Err, position, refl, ap, sym, ◌∙◌, subst, arith, add-one, length-append, slice_get, option_map, inl, inr, true≢false, is_some, IfSome}
+use Rattle.std.specs.Map.{lookup, values_of}
 use Rattle.std.proofs.lemmas.Bool.{cases_lt}
-use Rattle.std.proofs.lemmas.List.{map-append, get_or_default}
-use Rattle.std.proofs.lemmas.Option.{slice_get-get_or, slice_get_past}
+use Rattle.std.proofs.lemmas.List.{map-append, append-nil, get_or_append_left}
+use Rattle.std.proofs.lemmas.Option.{slice_get-get_or, slice_get_past, slice_get-map, get_or_from_slice_get}
+use Rattle.std.proofs.lemmas.Map.Made.{lookup-map_values}
+use Rattle.std.proofs.Math.ListN.{get_or-map}
+use Rattle.std.proofs.Math.Seq.{get_or-append_seam}
+use Rattle.std.proofs.Math.Path.{fun_ext}
+use Rattle.indexmap.specs.IndexMap.{set_value_at}
 use Rattle.metrics_names.specs.declared.kind.MetricKind.{MetricKind}
 use Rattle.metrics_names.specs.declared.kind.MetricKind.TheVariants.{Counter, Gauge, Histogram}
 use Rattle.metrics_names.specs.declared.refused.Refused.{Refused}
 use Rattle.metrics_names.specs.declared.refused.Refused.TheVariants.{Memory, NoSuchAddress, NoSuchBook, BadHandle}
-use Rattle.metrics_names.specs.Names.{KeyParts, SeriesKey, kind_eq, series_key_eq}
+use Rattle.metrics_names.specs.Names.{KeyParts, SeriesKey, kind_eq, key_eq, series_key_eq}
+use Rattle.metrics_names.proofs.NamesLemmas.{kind_eq-Decides, key_eq-Decides, series_key_eq-Decides}
 use Rattle.metrics.specs.declared.debugging.Reset.{Reset}
-use Rattle.metrics.specs.declared.debugging.DebugValue.{DebugValue}
-use Rattle.metrics.specs.declared.debugging.DebugValue.TheVariants.{Counter as CounterValue, Gauge as GaugeValue, Histogram as HistogramValue}
 use Rattle.metrics.specs.declared.kind.PerKind.{PerKind}
 use Rattle.metrics.specs.declared.handles.Update.{Update}
-use Rattle.metrics.specs.Book.{Series, is_of, new_series, kind_of, with_update, resets, after_reset}
+use Rattle.metrics.specs.Book.{Series, is_of, new_series, new_value, kind_of, with_update, resets, after_reset}
+use Rattle.metrics.specs.Kinds.{of_kind, with_kind}
 use Rattle.metrics.specs.Meaning.{is_kind}
 use Rattle.metrics.specs.Targets.{change_at}
+use Rattle.metrics_registry.specs.Held.{held, ChangesAt}
+use Rattle.metrics_debugging.specs.declared.debugging.series.Numbered.{Numbered}
 use Rattle.metrics_debugging.specs.declared.debugging.series.Placed.{Placed}
-use Rattle.metrics_debugging.specs.DebuggingCells.{BookCells, series_key, series_in, no_key, series_at, all_series, numbers_of, number_of, InStep, Changes, Adds, KeepsOthers}
+use Rattle.metrics_debugging.specs.DebuggingCells.{value_of, kind_of_value, UpdatesValue}
+use Rattle.metrics_debugging.specs.DebuggingSeries.{Entries, series_key, entry_series, no_entry, series_at, all_series, tag, marks, key_at, Agrees}
 use Rattle.metrics_debugging.specs.DebuggingUpdates.{UpdatesAt, is_held}
-use Rattle.metrics_debugging.proofs.SeriesLemmas.{kind_exact, key_of, position-keys, push-absent, push-other, some-place, series_key-exact, series_key-swap}
-use Rattle.metrics_debugging.proofs.CellsLemmas.{ser, change-same}
+use Rattle.metrics_debugging.proofs.SeriesLemmas.{key_of, position-keys, push-absent, push-other}
 
 -- ---- lists
 
 module _ {A : Type 0} where
-  pub change-length : (i : ℕ) (f : A → A) (xs : List A) → length (change_at i f xs) ≡ length xs
-  change-length i f [] = refl
-  change-length zero f (x ∷ xs) = refl
-  change-length (suc i) f (x ∷ xs) = ap suc (change-length i f xs)
-
-  change-here : (i : ℕ) (f : A → A) (xs : List A) (d : A) → i < length xs → get_or (change_at i f xs) i d ≡ f (get_or xs i d)
-  change-here i f [] d small = absurd (omega (arith, small))
-  change-here zero f (x ∷ xs) d small = refl
-  change-here (suc i) f (x ∷ xs) d small = change-here i f xs d (omega (arith, small))
-
-  change-other : (i j : ℕ) (f : A → A) (xs : List A) (d : A) → (j ≡ i → ⊥) → get_or (change_at i f xs) j d ≡ get_or xs j d
-  change-other i j f [] d apart = refl
-  change-other zero zero f (x ∷ xs) d apart = absurd (apart refl)
-  change-other zero (suc j) f (x ∷ xs) d apart = refl
-  change-other (suc i) zero f (x ∷ xs) d apart = refl
-  change-other (suc i) (suc j) f (x ∷ xs) d apart = change-other i j f xs d (λ e. apart (ap suc e))
-
-  append-front : (xs : List A) (x d : A) (i : ℕ) → i < length xs → get_or (xs ++ x ∷ []) i d ≡ get_or xs i d
-  append-front [] x d i small = absurd (omega (arith, small))
-  append-front (y ∷ xs) x d zero small = refl
-  append-front (y ∷ xs) x d (suc i) small = append-front xs x d i (omega (arith, small))
-
-  append-last : (xs : List A) (x d : A) (i : ℕ) → i ≡ length xs → get_or (xs ++ x ∷ []) i d ≡ x
-  append-last [] x d zero at = refl
-  append-last [] x d (suc i) at = absurd (omega (arith, at))
-  append-last (y ∷ xs) x d zero at = absurd (omega (arith, at))
-  append-last (y ∷ xs) x d (suc i) at = append-last xs x d i (omega (arith, at))
-
   -- f of the first n
   abbrev pub first-changed : ℕ → (A → A) → List A → List A
   first-changed zero f xs = xs
@@ -75,340 +54,375 @@ module _ {A : Type 0} where
   first-all (suc n) f [] small = refl
   first-all (suc n) f (x ∷ xs) small = ap (λ ys. f x ∷ ys) (first-all n f xs (omega (arith, small)))
 
-module _ {A B : Type 0} (g h : A → B) where
-  map-other : (xs : List A) → ((t : ℕ) (d : A) → t < length xs → h (get_or xs t d) ≡ g (get_or xs t d)) → map h xs ≡ map g xs
-  map-other [] other = refl
-  map-other (x ∷ xs) other =
-      ap (λ y. y ∷ map h xs) (other zero x (omega arith)) ∙ ap (λ ys. g x ∷ ys) (map-other xs (λ t d small. other (suc t) d (omega (arith, small))))
+  change-same : (i : ℕ) (xs : List A) → change_at i (λ x. x) xs ≡ xs
+  change-same i [] = refl
+  change-same zero (x ∷ xs) = refl
+  change-same (suc i) (x ∷ xs) = ap (λ ys. x ∷ ys) (change-same i xs)
 
-  map-change : (f : B → B) (xs : List A) (s : ℕ) → ((t : ℕ) (d : A) → t < length xs → t ≡ s → h (get_or xs t d) ≡ f (g (get_or xs t d)))
-      → ((t : ℕ) (d : A) → t < length xs → (t ≡ s → ⊥) → h (get_or xs t d) ≡ g (get_or xs t d)) → map h xs ≡ change_at s f (map g xs)
+  last-at : (xs : List A) (y : A) (i : ℕ) → i ≡ length xs → slice_get (xs ++ y ∷ []) i ≡ Some y
+  last-at [] y zero e = refl
+  last-at [] y (suc i) e = absurd (omega (arith, e))
+  last-at (x ∷ xs) y zero e = absurd (omega (arith, e))
+  last-at (x ∷ xs) y (suc i) e = last-at xs y i (omega (arith, e))
+
+module _ {A B : Type 0} (f : A → B) where
+  inside : (xs : List A) (i : ℕ) (y : B) → option_map f (slice_get xs i) ≡ Some y → i < length xs
+  inside [] i y h = cc
+  inside (x ∷ xs) zero y h = omega arith
+  inside (x ∷ xs) (suc i) y h = let r = inside xs i y h in omega (arith, r)
+
+  -- what stands in a list stays where more comes behind it
+  front-at : (xs ys : List A) (i : ℕ) (y : B) → option_map f (slice_get xs i) ≡ Some y → option_map f (slice_get (xs ++ ys) i) ≡ Some y
+  front-at [] ys i y h = cc
+  front-at (x ∷ xs) ys zero y h = h
+  front-at (x ∷ xs) ys (suc i) y h = front-at xs ys i y h
+
+  pub length-map : (xs : List A) → length (map f xs) ≡ length xs
+  length-map [] = refl
+  length-map (x ∷ xs) = ap suc (length-map xs)
+
+  option-none : (o : Option A) → option_map f o ≡ None → o ≡ None
+  option-none None e = refl
+  option-none (Some x) e = cc
+
+module _ {A B : Type 0} (g h : A → B) where
+  map-other : (xs : List A) → ((t : ℕ) (x : A) → slice_get xs t ≡ Some x → h x ≡ g x) → map h xs ≡ map g xs
+  map-other [] other = refl
+  map-other (x ∷ xs) other = ap (λ y. y ∷ map h xs) (other zero x refl) ∙ ap (λ ys. g x ∷ ys) (map-other xs (λ t. other (suc t)))
+
+  map-change : (f : B → B) (xs : List A) (s : ℕ) → ((x : A) → slice_get xs s ≡ Some x → h x ≡ f (g x))
+      → ((t : ℕ) (x : A) → slice_get xs t ≡ Some x → (t ≡ s → ⊥) → h x ≡ g x) → map h xs ≡ change_at s f (map g xs)
   map-change f [] s here other = refl
   map-change f (x ∷ xs) zero here other =
-      ap (λ y. y ∷ map h xs) (here zero x (omega arith) refl) ∙ ap (λ ys. f (g x) ∷ ys) (map-other xs (λ t d small. other (suc t) d (omega (arith, small)) (λ e. omega (arith, e))))
+      ap (λ y. y ∷ map h xs) (here x refl) ∙ ap (λ ys. f (g x) ∷ ys) (map-other xs (λ t y at. other (suc t) y at (λ e. omega (arith, e))))
   map-change f (x ∷ xs) (suc s) here other =
-      ap (λ y. y ∷ map h xs) (other zero x (omega arith) (λ e. omega (arith, e)))
-      ∙ ap (λ ys. g x ∷ ys) (map-change f xs s (λ t d small e. here (suc t) d (omega (arith, small)) (ap suc e)) (λ t d small apart. other (suc t) d (omega (arith, small)) (λ e. apart (omega (arith, e)))))
+      ap (λ y. y ∷ map h xs) (other zero x refl (λ e. omega (arith, e)))
+      ∙ ap (λ ys. g x ∷ ys) (map-change f xs s here (λ t y at apart. other (suc t) y at (λ e. apart (omega (arith, e)))))
 
-pub length-map : {A B : Type 0} (f : A → B) (xs : List A) → length (map f xs) ≡ length xs
-length-map f [] = refl
-length-map f (x ∷ xs) = ap suc (length-map f xs)
-
-change-keys : (f : Series → Series) → ((x : Series) → (f x).key ≡ x.key) → (i : ℕ) (xs : List Series) → map key_of (change_at i f xs) ≡ map key_of xs
-change-keys f keeps i [] = refl
-change-keys f keeps zero (x ∷ xs) = ap (λ k. k ∷ map key_of xs) (keeps x)
-change-keys f keeps (suc i) (x ∷ xs) = ap (λ ks. x.key ∷ ks) (change-keys f keeps i xs)
-
--- series with the same keys are found alike
-found-alike : (k : SeriesKey) (xs ys : List Series) → map key_of ys ≡ map key_of xs → position (is_of k) ys ≡ position (is_of k) xs
-found-alike k xs ys e = position-keys k ys ∙ (ap (λ ks. position (series_key_eq k) ks) e ∙ sym (position-keys k xs))
-
-pub by_test : {P : Type 0} (b : Bool) → (b ≡ true → P) → (b ≡ false → P) → P
+by_test : {P : Type 0} (b : Bool) → (b ≡ true → P) → (b ≡ false → P) → P
 by_test true p q = p refl
 by_test false p q = q refl
 
-same-kind : (k : MetricKind) → kind_eq k k ≡ true
-same-kind k = (kind_exact k k).1 refl
+-- ---- entries
+
+module _ {K V : Type 0} where
+  set-here : (es : List (K × V)) (i : ℕ) (b a : V) (d : K × V) → slice_get (values_of es) i ≡ Some b → (key : K) × (get_or es i d ≡ (key, b)) × (get_or (set_value_at es i a) i d ≡ (key, a))
+  set-here [] i b a d at = cc
+  set-here (e ∷ es) zero b a d at = let same : e.1 ≡ b = cc in (e.0, ap (λ v. (e.0, v)) same, refl)
+  set-here (e ∷ es) (suc i) b a d at = set-here es i b a d at
+
+  set-other : (es : List (K × V)) (i j : ℕ) (a : V) (d : K × V) → (j ≡ i → ⊥) → get_or (set_value_at es i a) j d ≡ get_or es j d
+  set-other [] i j a d apart = refl
+  set-other (e ∷ es) zero zero a d apart = absurd (apart refl)
+  set-other (e ∷ es) zero (suc j) a d apart = refl
+  set-other (e ∷ es) (suc i) zero a d apart = refl
+  set-other (e ∷ es) (suc i) (suc j) a d apart = set-other es i j a d (λ e. apart (ap suc e))
+
+  lookup-front : (test : K → Bool) (xs ys : List (K × V)) → lookup test ys ≡ None → lookup test (xs ++ ys) ≡ lookup test xs
+  lookup-front test [] ys none = none
+  lookup-front test (x ∷ xs) ys none = ap (cond (test x.0) (Some x.1)) (lookup-front test xs ys none)
+
+  lookup-behind : (test : K → Bool) (xs ys : List (K × V)) → lookup test xs ≡ None → lookup test (xs ++ ys) ≡ lookup test ys
+  lookup-behind test [] ys none = refl
+  lookup-behind test (x ∷ xs) ys none =
+      by_test (test x.0)
+      (λ t. let found : Some x.1 ≡ None = sym (ap (λ b. cond b (Some x.1) (lookup test xs)) t) ∙ none in cc)
+      (λ t. ap (λ b. cond b (Some x.1) (lookup test (xs ++ ys))) t ∙ lookup-behind test xs ys (sym (ap (λ b. cond b (Some x.1) (lookup test xs)) t) ∙ none))
+
+-- the mark of an entry
+abbrev mark : KeyParts × Numbered → KeyParts × (ℕ × MetricKind)
+mark e = (e.0, tag e.1)
+
+tag-at : (es : List (KeyParts × Numbered)) (i : ℕ) (b : Numbered) → slice_get (values_of es) i ≡ Some b → option_map (λ m. m.1) (slice_get (map mark es) i) ≡ Some (tag b)
+tag-at [] i b at = cc
+tag-at (e ∷ es) zero b at = let same : e.1 ≡ b = cc in ap (λ n. Some (tag n)) same
+tag-at (e ∷ es) (suc i) b at = tag-at es i b at
+
+marks-set : (es : List (KeyParts × Numbered)) (i : ℕ) (b a : Numbered) → slice_get (values_of es) i ≡ Some b → tag a ≡ tag b → map mark (set_value_at es i a) ≡ map mark es
+marks-set [] i b a at same = refl
+marks-set (e ∷ es) zero b a at same = let here : e.1 ≡ b = cc in ap (λ t. (e.0, t) ∷ map mark es) (same ∙ ap tag (sym here))
+marks-set (e ∷ es) (suc i) b a at same = ap (λ ms. mark e ∷ ms) (marks-set es i b a at same)
 
 -- ---- kinds
 
-kind-in : {C : Type 0} (kind : MetricKind) (val : C → DebugValue) (es : List (KeyParts × C)) (i : ℕ) → (get_or (map (ser kind val) es) i (new_series (series_key kind no_key))).key.kind ≡ kind
-kind-in kind val [] i = refl
-kind-in kind val (e ∷ es) zero = refl
-kind-in kind val (e ∷ es) (suc i) = kind-in kind val es i
+module _ {T : Type 0} (m : PerKind T) (w : T) where
+  of-same : (k : MetricKind) → of_kind k (with_kind k m w) ≡ w
+  of-same Counter = refl
+  of-same Gauge = refl
+  of-same Histogram = refl
 
-kind-there : (cells : BookCells) (k : MetricKind) (i : ℕ) → (get_or (series_in cells k) i (new_series (series_key k no_key))).key.kind ≡ k
-kind-there cells Counter i = kind-in Counter CounterValue cells.counters i
-kind-there cells Gauge i = kind-in Gauge GaugeValue cells.gauges i
-kind-there cells Histogram i = kind-in Histogram HistogramValue cells.histograms i
+  of-other : (j k : MetricKind) → kind_eq j k ≡ false → of_kind k (with_kind j m w) ≡ of_kind k m
+  of-other Counter Counter e = absurd (true≢false e)
+  of-other Counter Gauge e = refl
+  of-other Counter Histogram e = refl
+  of-other Gauge Counter e = refl
+  of-other Gauge Gauge e = absurd (true≢false e)
+  of-other Gauge Histogram e = refl
+  of-other Histogram Counter e = refl
+  of-other Histogram Gauge e = refl
+  of-other Histogram Histogram e = absurd (true≢false e)
 
-pub kinds-order : (cells : BookCells) (order : List Placed) (s : ℕ) → option_map (λ (x : Series). x.key.kind) (slice_get (all_series cells order) s) ≡ option_map (λ (p : Placed). p.kind) (slice_get order s)
-kinds-order cells [] s = refl
-kinds-order cells (p ∷ order) zero = ap Some (kind-there cells p.kind p.place)
-kinds-order cells (p ∷ order) (suc s) = kinds-order cells order s
+pub with-own : {T : Type 0} (m : PerKind T) (k : MetricKind) → with_kind k m (of_kind k m) ≡ m
+with-own m Counter = refl
+with-own m Gauge = refl
+with-own m Histogram = refl
 
-pub kind-some : (cells : BookCells) (order : List Placed) (s : ℕ) (p : Placed) → s < length order → p ≡ get_or order s p → Some p.kind ≡ option_map (λ (x : Series). x.key.kind) (slice_get (all_series cells order) s)
-kind-some cells order s p small is = sym (kinds-order cells order s ∙ ap (option_map (λ (q : Placed). q.kind)) (slice_get-get_or order s p small ∙ ap Some (sym is)))
+kind-new : (k : MetricKind) → kind_of_value (new_value k) ≡ k
+kind-new Counter = refl
+kind-new Gauge = refl
+kind-new Histogram = refl
 
-pub kind-none : (cells : BookCells) (order : List Placed) (s : ℕ) → length order ≤ s → None ≡ option_map (λ (x : Series). x.key.kind) (slice_get (all_series cells order) s)
-kind-none cells order s past = sym (kinds-order cells order s ∙ ap (option_map (λ (q : Placed). q.kind)) (slice_get_past order s past))
+same_kind : (k : MetricKind) → kind_eq k k ≡ true
+same_kind k = (kind_eq-Decides k k).1 refl
 
-held-in-order : (cells : BookCells) (order : List Placed) (s : ℕ) (p : Placed) (by : Update) → s < length order → p ≡ get_or order s p → is_held (all_series cells order) s by ≡ kind_eq (kind_of by) p.kind
-held-in-order cells order s p by small is =
-    ap (is_kind (kind_of by)) (kinds-order cells order s ∙ ap (option_map (λ (q : Placed). q.kind)) (slice_get-get_or order s p small ∙ ap Some (sym is)))
+-- ---- keys in order
 
-held-in-kind : (cells : BookCells) (k : MetricKind) (i : ℕ) (by : Update) → i < length (series_in cells k) → is_held (series_in cells k) i by ≡ kind_eq (kind_of by) k
-held-in-kind cells k i by small =
-    ap (λ o. is_kind (kind_of by) (option_map (λ (x : Series). x.key.kind) o)) (slice_get-get_or (series_in cells k) i (new_series (series_key k no_key)) small) ∙ ap (kind_eq (kind_of by)) (kind-there cells k i)
+keys-order : (entries : Entries) (order : List Placed) → map key_of (all_series entries order) ≡ map (key_at (marks entries)) order
+keys-order entries [] = refl
+keys-order entries (p ∷ order) =
+    ap (λ (m : KeyParts × (ℕ × MetricKind)). series_key p.kind m.0 ∷ map key_of (all_series entries order)) (sym (get_or-map mark (of_kind p.kind entries) p.place no_entry))
+    ∙ ap (λ ks. key_at (marks entries) p ∷ ks) (keys-order entries order)
+
+position-order : (entries : Entries) (order : List Placed) (k : SeriesKey) → position (is_of k) (all_series entries order) ≡ position (series_key_eq k) (map (key_at (marks entries)) order)
+position-order entries order k = position-keys k (all_series entries order) ∙ ap (position (series_key_eq k)) (keys-order entries order)
+
+-- the number at a key is that of the key's series
+pub number-found : (entries : Entries) (order : List Placed) (kind : MetricKind) (key : KeyParts) → Agrees (marks entries) order
+    → option_map (λ (n : Numbered). n.number) (held key_eq (of_kind kind entries) key) ≡ position (is_of (series_key kind key)) (all_series entries order)
+number-found entries order kind key agree =
+    tagged (held key_eq (of_kind kind entries) key)
+    ∙ (ap (option_map (λ (t : ℕ × MetricKind). t.0)) (sym (lookup-map_values tag (key_eq key) (of_kind kind entries)))
+    ∙ (agree.found kind key ∙ sym (position-order entries order (series_key kind key))))
+  where
+    tagged : (o : Option Numbered) → option_map (λ (n : Numbered). n.number) o ≡ option_map (λ (t : ℕ × MetricKind). t.0) (option_map tag o)
+    tagged None = refl
+    tagged (Some n) = refl
+
+-- a key that no series has isn't held
+pub unheld : (entries : Entries) (order : List Placed) (kind : MetricKind) (key : KeyParts) → Agrees (marks entries) order
+    → position (is_of (series_key kind key)) (all_series entries order) ≡ None → held key_eq (of_kind kind entries) key ≡ None
+unheld entries order kind key agree absent = option-none (λ (n : Numbered). n.number) (held key_eq (of_kind kind entries) key) (number-found entries order kind key agree ∙ absent)
+
+pub kinds-order : (entries : Entries) (order : List Placed) (s : ℕ) → option_map (λ (x : Series). x.key.kind) (slice_get (all_series entries order) s) ≡ option_map (λ (p : Placed). p.kind) (slice_get order s)
+kinds-order entries order s = ap (option_map (λ (x : Series). x.key.kind)) (slice_get-map (series_at entries) order s) ∙ twice (slice_get order s)
+  where
+    twice : (o : Option Placed) → option_map (λ (x : Series). x.key.kind) (option_map (series_at entries) o) ≡ option_map (λ (p : Placed). p.kind) o
+    twice None = refl
+    twice (Some p) = refl
+
+-- each series has an entry
+pub entry-there : (entries : Entries) (order : List Placed) (s : ℕ) (p : Placed) → Agrees (marks entries) order → slice_get order s ≡ Some p → p.place < length (of_kind p.kind entries)
+entry-there entries order s p agree at =
+    omega (arith, inside (λ (m : KeyParts × (ℕ × MetricKind)). m.1) (marks entries p.kind) p.place (s, p.kind) (agree.stands s p at), length-map mark (of_kind p.kind entries))
 
 -- ---- a change of one cell
 
-changed-kind : (f : Series → Series) (kind : MetricKind) (place : ℕ) (old new : BookCells) → Changes f kind place old new → series_in new kind ≡ change_at place f (series_in old kind)
-changed-kind f kind place old new changes = changes kind ∙ ap (λ b. cond b (change_at place f (series_in old kind)) (series_in old kind)) (same-kind kind)
+-- the cell of a series is there, so a call on it was made
+pub made : {V : Type 0} (old : Entries) (order : List Placed) (s : ℕ) (p : Placed) (call : Numbered → V → Numbered → Type 0) (es fs : List (KeyParts × Numbered)) (r : Option V)
+    → Agrees (marks old) order → slice_get order s ≡ Some p → es ≡ of_kind p.kind old → is_some r ≡ is_some (slice_get es p.place) → IfSome r (λ v. ChangesAt call p.place v es fs)
+    → (v : V) × (r ≡ Some v) × ChangesAt call p.place v es fs
+made old order s p call es fs (Some v) agree at is found changes = (v, refl, changes)
+made old order s p call es fs None agree at is found changes =
+    let small : p.place < length es = omega (arith, entry-there old order s p agree at, ap length is) in
+    absurd (true≢false (sym (found ∙ ap is_some (slice_get-get_or es p.place no_entry small))))
 
-kept-kind : (f : Series → Series) (kind k : MetricKind) (place : ℕ) (old new : BookCells) → Changes f kind place old new → kind_eq kind k ≡ false → series_in new k ≡ series_in old k
-kept-kind f kind k place old new changes other = changes k ∙ ap (λ b. cond b (change_at place f (series_in old k)) (series_in old k)) other
+module _ (old : Entries) (order : List Placed) (agree : Agrees (marks old) order) (s : ℕ) (p : Placed) (at : slice_get order s ≡ Some p) (b a : Numbered)
+    (es fs : List (KeyParts × Numbered)) (is : es ≡ of_kind p.kind old) (was : slice_get (values_of es) p.place ≡ Some b) (sets : fs ≡ set_value_at es p.place a) where
+  there : slice_get (values_of (of_kind p.kind old)) p.place ≡ Some b
+  there = subst (λ xs. slice_get (values_of xs) p.place ≡ Some b) is was
 
-pub changes-of : (f : Series → Series) (kind : MetricKind) (place : ℕ) (old new : BookCells) → series_in new kind ≡ change_at place f (series_in old kind) → KeepsOthers kind old new → Changes f kind place old new
-changes-of f kind place old new e keeps k =
-    by_test (kind_eq kind k)
-    (λ t. subst (λ j. series_in new j ≡ change_at place f (series_in old j)) ((kind_exact kind k).0 t) e ∙ sym (ap (λ b. cond b (change_at place f (series_in old k)) (series_in old k)) t))
-    (λ t. keeps k t ∙ sym (ap (λ b. cond b (change_at place f (series_in old k)) (series_in old k)) t))
+  set : fs ≡ set_value_at (of_kind p.kind old) p.place a
+  set = sets ∙ ap (λ xs. set_value_at xs p.place a) is
 
-module _ (f : Series → Series) (keeps : (x : Series) → (f x).key ≡ x.key) (old new : BookCells) (order : List Placed) (numbers : PerKind (Vec ℕ Global)) (s : ℕ) (p : Placed)
-    (step : InStep old order numbers) (small : s < length order) (is : p ≡ get_or order s p) (changes : Changes f p.kind p.place old new) where
-  lengths : (k : MetricKind) → length (series_in new k) ≡ length (series_in old k)
-  lengths k =
-      by_test (kind_eq p.kind k)
-      (λ t. subst (λ j. length (series_in new j) ≡ length (series_in old j)) ((kind_exact p.kind k).0 t) (ap length (changed-kind f p.kind p.place old new changes) ∙ change-length p.place f (series_in old p.kind)))
-      (λ t. ap length (kept-kind f p.kind k p.place old new changes t))
+  abbrev pub changed : Entries
+  changed = with_kind p.kind old fs
 
-  keys : (k : MetricKind) → map key_of (series_in new k) ≡ map key_of (series_in old k)
-  keys k =
-      by_test (kind_eq p.kind k)
-      (λ t. subst (λ j. map key_of (series_in new j) ≡ map key_of (series_in old j)) ((kind_exact p.kind k).0 t) (ap (map key_of) (changed-kind f p.kind p.place old new changes) ∙ change-keys f keeps p.place (series_in old p.kind)))
-      (λ t. ap (map key_of) (kept-kind f p.kind k p.place old new changes t))
+  -- the cell is of the series' kind
+  pub kind-there : kind_of_value (value_of b.cell) ≡ p.kind
+  kind-there =
+      let e : Some (tag b) ≡ Some (s, p.kind) = sym (tag-at (of_kind p.kind old) p.place b there) ∙ agree.stands s p at in
+      let same : tag b ≡ (s, p.kind) = cc in
+      ap (λ (t : ℕ × MetricKind). t.1) same
 
-  within-p : p.place < length (series_in old p.kind)
-  within-p = subst (λ (q : Placed). q.place < length (series_in old q.kind)) (sym is) (step.within s p small)
+  set-kind : (k : MetricKind) → p.kind ≡ k → of_kind k changed ≡ set_value_at (of_kind k old) p.place a
+  set-kind k e = subst (λ j. of_kind j changed ≡ set_value_at (of_kind j old) p.place a) e (of-same old fs p.kind ∙ set)
 
-  number-p : get_or (numbers_of numbers p.kind) p.place 0 ≡ s
-  number-p = subst (λ (q : Placed). get_or (numbers_of numbers q.kind) q.place 0 ≡ s) (sym is) (step.numbered s p small)
+  pub agree-changed : tag a ≡ tag b → Agrees (marks changed) order
+  agree-changed same = subst (λ (ms : MetricKind → List (KeyParts × (ℕ × MetricKind))). Agrees ms order) (sym (fun_ext kept)) agree
+    where
+      kept : (k : MetricKind) → marks changed k ≡ marks old k
+      kept k =
+          by_test (kind_eq p.kind k)
+          (λ t.
+          let e = (kind_eq-Decides p.kind k).0 t in
+          ap (map mark) (set-kind k e) ∙ marks-set (of_kind k old) p.place b a (subst (λ j. slice_get (values_of (of_kind j old)) p.place ≡ Some b) e there) same)
+          (λ t. ap (map mark) (of-other old fs p.kind k t))
 
-  at-p : series_at new p ≡ f (series_at old p)
-  at-p = ap (λ xs. get_or xs p.place (new_series (series_key p.kind no_key))) (changed-kind f p.kind p.place old new changes) ∙ change-here p.place f (series_in old p.kind) (new_series (series_key p.kind no_key)) within-p
+  pub all-changed : (f : Series → Series) → ((key : KeyParts) → entry_series p.kind (key, a) ≡ f (entry_series p.kind (key, b))) → all_series changed order ≡ change_at s f (all_series old order)
+  all-changed f value = map-change (series_at old) (series_at changed) f order s here other
+    where
+      here : (q : Placed) → slice_get order s ≡ Some q → series_at changed q ≡ f (series_at old q)
+      here q same =
+          let e : p ≡ q = let e : Some p ≡ Some q = sym at ∙ same in cc in
+          let found = set-here (of_kind p.kind old) p.place b a no_entry there in
+          subst (λ (r : Placed). series_at changed r ≡ f (series_at old r)) e
+          (ap (λ es. entry_series p.kind (get_or es p.place no_entry)) (set-kind p.kind refl)
+          ∙ (ap (entry_series p.kind) found.2 ∙ (value found.0 ∙ ap (λ e. f (entry_series p.kind e)) (sym found.1))))
 
-  apart-place : (t : ℕ) (q : Placed) → get_or (numbers_of numbers q.kind) q.place 0 ≡ t → (t ≡ s → ⊥) → q.kind ≡ p.kind → q.place ≡ p.place → ⊥
-  apart-place t q number apart kind place =
-      apart (sym number ∙ (ap (λ k. get_or (numbers_of numbers k) q.place 0) kind ∙ (ap (λ i. get_or (numbers_of numbers p.kind) i 0) place ∙ number-p)))
+      other : (t : ℕ) (q : Placed) → slice_get order t ≡ Some q → (t ≡ s → ⊥) → series_at changed q ≡ series_at old q
+      other t q same apart =
+          by_test (kind_eq p.kind q.kind)
+          (λ y.
+          let e = (kind_eq-Decides p.kind q.kind).0 y in
+          let places : q.place ≡ p.place → ⊥ =
+          λ i.
+          let one : Some (t, q.kind) ≡ Some (s, p.kind) =
+          sym (agree.stands t q same) ∙ (ap (λ k. option_map (λ m. m.1) (slice_get (marks old k) q.place)) (sym e) ∙ (ap (λ j. option_map (λ m. m.1) (slice_get (marks old p.kind) j)) i ∙ agree.stands s p at)) in
+          let same : (t, q.kind) ≡ (s, p.kind) = cc in
+          apart (ap (λ (n : ℕ × MetricKind). n.0) same) in
+          ap (λ es. entry_series q.kind (get_or es q.place no_entry)) (set-kind q.kind e) ∙ ap (entry_series q.kind) (set-other (of_kind q.kind old) p.place q.place a no_entry places))
+          (λ y. ap (λ es. entry_series q.kind (get_or es q.place no_entry)) (of-other old fs p.kind q.kind y))
 
-  at-other : (t : ℕ) (q : Placed) → get_or (numbers_of numbers q.kind) q.place 0 ≡ t → (t ≡ s → ⊥) → series_at new q ≡ series_at old q
-  at-other t q number apart =
-      let d = new_series (series_key q.kind no_key) in
-      by_test (kind_eq p.kind q.kind)
-      (λ e.
-      let same : p.kind ≡ q.kind = (kind_exact p.kind q.kind).0 e in
-      ap (λ xs. get_or xs q.place d) (subst (λ j. series_in new j ≡ change_at p.place f (series_in old j)) same (changed-kind f p.kind p.place old new changes))
-      ∙ change-other p.place q.place f (series_in old q.kind) d (λ place. apart-place t q number apart (sym same) place))
-      (λ e. ap (λ xs. get_or xs q.place d) (kept-kind f p.kind q.kind p.place old new changes e))
+  kept-all : value_of a.cell ≡ value_of b.cell → all_series changed order ≡ all_series old order
+  kept-all e = all-changed (λ x. x) (λ key. ap (λ v. record { key = series_key p.kind key; value = v }) e) ∙ change-same s (all_series old order)
 
-  pub all-changed : all_series new order ≡ change_at s f (all_series old order)
-  all-changed =
-      map-change (series_at old) (series_at new) f order s
-      (λ t d less e. let same : p ≡ get_or order t d = is ∙ (ap (λ i. get_or order i p) (sym e) ∙ get_or_default order t p d less) in subst (λ q. series_at new q ≡ f (series_at old q)) same at-p)
-      (λ t d less apart. at-other t (get_or order t d) (step.numbered t d less) apart)
+  -- an update of the cell is one of its series
+  pub update-step : {A : Type 0} (by : Update) (r : Result A Refused) → UpdatesValue (value_of b.cell) (value_of a.cell) by r → UpdatesAt (all_series old order) (all_series changed order) s by r
+  update-step {A = A} by r updates = by_result r updates
+    where
+      held-at : is_held (all_series old order) s by ≡ kind_eq (kind_of by) (kind_of_value (value_of b.cell))
+      held-at = ap (is_kind (kind_of by)) (kinds-order old order s ∙ ap (option_map (λ (q : Placed). q.kind)) at) ∙ ap (kind_eq (kind_of by)) (sym kind-there)
 
-  pub step-changed : InStep new order numbers
-  step-changed = record {
-    lengths = λ k. step.lengths k ∙ sym (lengths k);
-    within = λ t d less. omega (arith, step.within t d less, lengths (get_or order t d).kind);
-    numbered = step.numbered;
-    found = λ k key.
-        ap (option_map (λ i. get_or (numbers_of numbers k) i 0)) (found-alike (series_key k key) (series_in old k) (series_in new k) (keys k))
-        ∙ (step.found k key ∙ sym (found-alike (series_key k key) (all_series old order) (all_series new order) (ap (map key_of) all-changed ∙ change-keys f keeps s (all_series old order))));
-  }
+      by_result : (q : Result A Refused) → UpdatesValue (value_of b.cell) (value_of a.cell) by q → UpdatesAt (all_series old order) (all_series changed order) s by q
+      by_result (Ok done) h = (held-at ∙ h.0, all-changed (with_update by) (λ key. ap (λ v. record { key = series_key p.kind key; value = v }) h.1))
+      by_result (Err (Memory acted)) h = (held-at ∙ h.0, h.1, h.2, kept-all h.3)
+      by_result (Err NoSuchAddress) h = (held-at ∙ h.0, kept-all h.1)
+      by_result (Err NoSuchBook) h = absurd h
+      by_result (Err BadHandle) h = absurd h
 
--- ---- the number of a key
+  -- a reset of the cell is one of its series
+  pub reset-step : (reset : Reset) → value_of a.cell ≡ cond (resets reset p.kind) (new_value (kind_of_value (value_of b.cell))) (value_of b.cell) → all_series changed order ≡ change_at s (after_reset reset) (all_series old order)
+  reset-step reset e =
+      all-changed (after_reset reset)
+      (λ key.
+      by_test (resets reset p.kind)
+      (λ t.
+      ap (λ v. record { key = series_key p.kind key; value = v }) (e ∙ (ap (λ c. cond c (new_value (kind_of_value (value_of b.cell))) (value_of b.cell)) t ∙ ap new_value kind-there))
+      ∙ sym (ap (λ c. cond c (new_series (series_key p.kind key)) (entry_series p.kind (key, b))) t))
+      (λ t.
+      ap (λ v. record { key = series_key p.kind key; value = v }) (e ∙ ap (λ c. cond c (new_value (kind_of_value (value_of b.cell))) (value_of b.cell)) t)
+      ∙ sym (ap (λ c. cond c (new_series (series_key p.kind key)) (entry_series p.kind (key, b))) t)))
 
-pub number-some : (cells : BookCells) (order : List Placed) (numbers : PerKind (Vec ℕ Global)) (kind : MetricKind) (key : KeyParts) (place n : ℕ) → InStep cells order numbers
-    → position (is_of (series_key kind key)) (series_in cells kind) ≡ Some place → n ≡ get_or (numbers_of numbers kind) place n → Some n ≡ position (is_of (series_key kind key)) (all_series cells order)
-number-some cells order numbers kind key place n step at is =
-    let small : place < length (numbers_of numbers kind) = omega (arith, (some-place (is_of (series_key kind key)) (series_in cells kind) place at).1, step.lengths kind) in
-    ap Some (is ∙ get_or_default (numbers_of numbers kind) place n 0 small) ∙ (sym (ap (option_map (λ i. get_or (numbers_of numbers kind) i 0)) at) ∙ step.found kind key)
+-- ---- a new series
 
-pub number-none : (cells : BookCells) (order : List Placed) (numbers : PerKind (Vec ℕ Global)) (kind : MetricKind) (key : KeyParts) → InStep cells order numbers
-    → position (is_of (series_key kind key)) (series_in cells kind) ≡ None → None ≡ position (is_of (series_key kind key)) (all_series cells order)
-number-none cells order numbers kind key step none = sym (ap (option_map (λ i. get_or (numbers_of numbers kind) i 0)) none) ∙ step.found kind key
+-- where nothing was added all stays
+pub agree-kept : (old : Entries) (order after : List Placed) (kind : MetricKind) (fs : List (KeyParts × Numbered)) → Agrees (marks old) order → fs ≡ of_kind kind old → after ≡ order → Agrees (marks (with_kind kind old fs)) after
+agree-kept old order after kind fs agree same stays =
+    subst (λ (m : Entries). Agrees (marks m) after) (sym (ap (with_kind kind old) same ∙ with-own old kind)) (subst (λ (ps : List Placed). Agrees (marks old) ps) (sym stays) agree)
 
--- ---- a reset of one series
+module _ (old : Entries) (order after : List Placed) (agree : Agrees (marks old) order) (kind : MetricKind) (key : KeyParts)
+    (absent : position (is_of (series_key kind key)) (all_series old order) ≡ None) (n : Numbered) (number : n.number ≡ length order) (value : value_of n.cell ≡ new_value kind)
+    (place : ℕ) (at : place ≡ length (of_kind kind old)) (placed : after ≡ order ++ (record { kind = kind; place = place }) ∷ [])
+    (fs : List (KeyParts × Numbered)) (added : fs ≡ of_kind kind old ++ (key, n) ∷ []) where
+  abbrev pub grown : Entries
+  grown = with_kind kind old fs
 
-change-as : {A : Type 0} (f g : A → A) (i : ℕ) (xs : List A) → ((x : A) → slice_get xs i ≡ Some x → f x ≡ g x) → change_at i f xs ≡ change_at i g xs
-change-as f g i [] same = refl
-change-as f g zero (x ∷ xs) same = ap (λ y. y ∷ xs) (same x refl)
-change-as f g (suc i) (x ∷ xs) same = ap (λ ys. x ∷ ys) (change-as f g i xs same)
+  abbrev own : SeriesKey
+  own = series_key kind key
 
-module _ (reset : Reset) (cells : BookCells) (order : List Placed) (s : ℕ) (p : Placed) (small : s < length order) (is : p ≡ get_or order s p) where
-  its-kind : (x : Series) → slice_get (all_series cells order) s ≡ Some x → x.key.kind ≡ p.kind
-  its-kind x at =
-      let e : Some p.kind ≡ Some x.key.kind = kind-some cells order s p small is ∙ ap (option_map (λ (y : Series). y.key.kind)) at in
-      cc
+  abbrev p : Placed
+  p = record { kind = kind; place = place }
 
-  pub reset-true : resets reset p.kind ≡ true → change_at s (λ x. new_series x.key) (all_series cells order) ≡ change_at s (after_reset reset) (all_series cells order)
-  reset-true t =
-      change-as (λ x. new_series x.key) (after_reset reset) s (all_series cells order)
-      (λ x at. sym (ap (λ b. cond b (new_series x.key) x) (ap (resets reset) (its-kind x at) ∙ t)))
+  abbrev more : MetricKind → List (KeyParts × Numbered)
+  more k = cond (kind_eq kind k) ((key, n) ∷ []) []
 
-  pub reset-false : resets reset p.kind ≡ false → all_series cells order ≡ change_at s (after_reset reset) (all_series cells order)
-  reset-false t =
-      sym (change-same (λ x. x) s (all_series cells order) (λ x. refl))
-      ∙ change-as (λ x. x) (after_reset reset) s (all_series cells order)
-      (λ x at. sym (ap (λ b. cond b (new_series x.key) x) (ap (resets reset) (its-kind x at) ∙ t)))
-
--- ---- an update of one series
-
--- an update of the cell of a series
-pub update-step : {A : Type 0} (old new : BookCells) (order : List Placed) (numbers : PerKind (Vec ℕ Global)) (s : ℕ) (p : Placed) (by : Update) (r : Result A Refused)
-    → InStep old order numbers → s < length order → p ≡ get_or order s p → UpdatesAt (series_in old p.kind) (series_in new p.kind) p.place by r → KeepsOthers p.kind old new
-    → UpdatesAt (all_series old order) (all_series new order) s by r × InStep new order numbers
-update-step {A = A} old new order numbers s p by r step small is updates keeps = by_result r updates
-  where
-    within : p.place < length (series_in old p.kind)
-    within = subst (λ (q : Placed). q.place < length (series_in old q.kind)) (sym is) (step.within s p small)
-
-    held : is_held (all_series old order) s by ≡ is_held (series_in old p.kind) p.place by
-    held = held-in-order old order s p by small is ∙ sym (held-in-kind old p.kind p.place by within)
-
-    kept : series_in new p.kind ≡ series_in old p.kind → (all_series new order ≡ all_series old order) × InStep new order numbers
-    kept same =
-        let changes = changes-of (λ x. x) p.kind p.place old new (same ∙ sym (change-same (λ x. x) p.place (series_in old p.kind) (λ x. refl))) keeps in (
-          all-changed (λ x. x) (λ x. refl) old new order numbers s p step small is changes ∙ change-same (λ x. x) s (all_series old order) (λ x. refl),
-          step-changed (λ x. x) (λ x. refl) old new order numbers s p step small is changes,
-        )
-
-    by_result : (q : Result A Refused) → UpdatesAt (series_in old p.kind) (series_in new p.kind) p.place by q → UpdatesAt (all_series old order) (all_series new order) s by q × InStep new order numbers
-    by_result (Ok done) h =
-        let changes = changes-of (with_update by) p.kind p.place old new h.1 keeps in
-        ((held ∙ h.0, all-changed (with_update by) (λ x. refl) old new order numbers s p step small is changes), step-changed (with_update by) (λ x. refl) old new order numbers s p step small is changes)
-    by_result (Err (Memory acted)) h = let same = kept h.3 in ((held ∙ h.0, h.1, h.2, same.0), same.1)
-    by_result (Err NoSuchAddress) h = let same = kept h.1 in ((held ∙ h.0, same.0), same.1)
-    by_result (Err NoSuchBook) h = absurd h
-    by_result (Err BadHandle) h = absurd h
-
--- ---- a new cell
-
-added-kind : (kind : MetricKind) (key : KeyParts) (old new : BookCells) → Adds kind key old new → series_in new kind ≡ series_in old kind ++ new_series (series_key kind key) ∷ []
-added-kind kind key old new adds = adds kind ∙ ap (λ b. cond b (series_in old kind ++ new_series (series_key kind key) ∷ []) (series_in old kind)) (same-kind kind)
-
-kept-cells : (kind k : MetricKind) (key : KeyParts) (old new : BookCells) → Adds kind key old new → kind_eq kind k ≡ false → series_in new k ≡ series_in old k
-kept-cells kind k key old new adds other = adds k ∙ ap (λ b. cond b (series_in old k ++ new_series (series_key kind key) ∷ []) (series_in old k)) other
-
-option-none : {A B : Type 0} (f : A → B) (o : Option A) → option_map f o ≡ None → o ≡ None
-option-none f None e = refl
-option-none f (Some x) e = cc
-
--- a key that no series has, has no cell
-pub no-cell : (cells : BookCells) (order : List Placed) (numbers : PerKind (Vec ℕ Global)) (kind : MetricKind) (key : KeyParts) → InStep cells order numbers
-    → position (is_of (series_key kind key)) (all_series cells order) ≡ None → position (is_of (series_key kind key)) (series_in cells kind) ≡ None
-no-cell cells order numbers kind key step absent = option-none (λ i. get_or (numbers_of numbers kind) i 0) (position (is_of (series_key kind key)) (series_in cells kind)) (step.found kind key ∙ absent)
-
-module _ (old new : BookCells) (order after : List Placed) (numbers more : PerKind (Vec ℕ Global)) (kind : MetricKind) (key : KeyParts) (p : Placed)
-    (step : InStep old order numbers) (absent : position (is_of (series_key kind key)) (all_series old order) ≡ None)
-    (p_kind : p.kind ≡ kind) (p_place : p.place ≡ length (numbers_of numbers kind)) (placed : after ≡ order ++ p ∷ [])
-    (adds : Adds kind key old new) (numbered : (k : MetricKind) → numbers_of more k ≡ cond (kind_eq kind k) (numbers_of numbers k ++ length order ∷ []) (numbers_of numbers k)) where
-  abbrev pub added : Series
-  added = new_series (series_key kind key)
-
-  more-kind : numbers_of more kind ≡ numbers_of numbers kind ++ length order ∷ []
-  more-kind = numbered kind ∙ ap (λ b. cond b (numbers_of numbers kind ++ length order ∷ []) (numbers_of numbers kind)) (same-kind kind)
-
-  kept-numbers : (k : MetricKind) → kind_eq kind k ≡ false → numbers_of more k ≡ numbers_of numbers k
-  kept-numbers k other = numbered k ∙ ap (λ b. cond b (numbers_of numbers k ++ length order ∷ []) (numbers_of numbers k)) other
-
-  long : length after ≡ length order + 1
-  long = ap length placed ∙ length-append order (p ∷ [])
-
-  -- what stood there stays
-  cell-front : (k : MetricKind) (i : ℕ) (d : Series) → i < length (series_in old k) → (get_or (series_in new k) i d ≡ get_or (series_in old k) i d) × (i < length (series_in new k))
-  cell-front k i d small =
+  entries-grown : (k : MetricKind) → of_kind k grown ≡ of_kind k old ++ more k
+  entries-grown k =
       by_test (kind_eq kind k)
       (λ t.
-      let P : MetricKind → Type 0 = λ j. i < length (series_in old j) → (get_or (series_in new j) i d ≡ get_or (series_in old j) i d) × (i < length (series_in new j)) in
-      subst P ((kind_exact kind k).0 t)
-      (λ less. (
-        ap (λ xs. get_or xs i d) (added-kind kind key old new adds) ∙ append-front (series_in old kind) added d i less,
-        omega (arith, less, ap length (added-kind kind key old new adds), length-append (series_in old kind) (added ∷ [])),
-      )) small)
-      (λ t. (ap (λ xs. get_or xs i d) (kept-cells kind k key old new adds t), omega (arith, small, ap length (kept-cells kind k key old new adds t))))
+      subst (λ j. of_kind j grown ≡ of_kind j old ++ (key, n) ∷ []) ((kind_eq-Decides kind k).0 t) (of-same old fs kind ∙ added)
+      ∙ ap (λ b. of_kind k old ++ cond b ((key, n) ∷ []) []) (sym t))
+      (λ t. of-other old fs kind k t ∙ (sym (append-nil (of_kind k old)) ∙ ap (λ b. of_kind k old ++ cond b ((key, n) ∷ []) []) (sym t)))
 
-  number-front : (k : MetricKind) (i : ℕ) → i < length (numbers_of numbers k) → get_or (numbers_of more k) i 0 ≡ get_or (numbers_of numbers k) i 0
-  number-front k i small =
-      by_test (kind_eq kind k)
-      (λ t.
-      let P : MetricKind → Type 0 = λ j. i < length (numbers_of numbers j) → get_or (numbers_of more j) i 0 ≡ get_or (numbers_of numbers j) i 0 in
-      subst P ((kind_exact kind k).0 t) (λ less. ap (λ xs. get_or xs i 0) more-kind ∙ append-front (numbers_of numbers kind) (length order) 0 i less) small)
-      (λ t. ap (λ xs. get_or xs i 0) (kept-numbers k t))
+  marks-grown : (k : MetricKind) → marks grown k ≡ marks old k ++ map mark (more k)
+  marks-grown k = ap (map mark) (entries-grown k) ∙ map-append mark (of_kind k old) (more k)
 
-  place-p : p.place ≡ length (series_in old p.kind)
-  place-p = p_place ∙ (step.lengths kind ∙ ap (λ k. length (series_in old k)) (sym p_kind))
+  -- series that stood there stay
+  stays : (t : ℕ) (q : Placed) → slice_get order t ≡ Some q → series_at grown q ≡ series_at old q
+  stays t q same =
+      ap (λ es. entry_series q.kind (get_or es q.place no_entry)) (entries-grown q.kind)
+      ∙ ap (entry_series q.kind) (get_or_append_left (of_kind q.kind old) (more q.kind) no_entry q.place (entry-there old order t q agree same))
 
-  new-p : series_in new p.kind ≡ series_in old p.kind ++ added ∷ []
-  new-p = subst (λ k. series_in new k ≡ series_in old k ++ added ∷ []) (sym p_kind) (added-kind kind key old new adds)
+  at-new : series_at grown p ≡ new_series own
+  at-new =
+      ap (λ es. entry_series kind (get_or es place no_entry)) (of-same old fs kind ∙ added)
+      ∙ (ap (λ i. entry_series kind (get_or (of_kind kind old ++ (key, n) ∷ []) i no_entry)) at
+      ∙ (ap (entry_series kind) (get_or-append_seam (of_kind kind old) (key, n) [] no_entry) ∙ ap (λ v. record { key = own; value = v }) value))
 
-  at-new : series_at new p ≡ added
-  at-new = ap (λ xs. get_or xs p.place (new_series (series_key p.kind no_key))) new-p ∙ append-last (series_in old p.kind) added (new_series (series_key p.kind no_key)) p.place place-p
-
-  pub all-added : all_series new after ≡ all_series old order ++ added ∷ []
+  pub all-added : all_series grown after ≡ all_series old order ++ new_series own ∷ []
   all-added =
-      ap (map (series_at new)) placed
-      ∙ (map-append (series_at new) order (p ∷ [])
-      ∙ (ap (λ xs. xs ++ series_at new p ∷ []) (map-other (series_at old) (series_at new) order (λ t d less. (cell-front (get_or order t d).kind (get_or order t d).place (new_series (series_key (get_or order t d).kind no_key)) (step.within t d less)).0))
-      ∙ ap (λ x. all_series old order ++ x ∷ []) at-new))
+      ap (map (series_at grown)) placed
+      ∙ (map-append (series_at grown) order (p ∷ [])
+      ∙ (ap (λ xs. xs ++ series_at grown p ∷ []) (map-other (series_at old) (series_at grown) order stays) ∙ ap (λ x. all_series old order ++ x ∷ []) at-new))
 
-  -- a place in the order is an old one or the new one
-  by_place : (P : Placed → Type 0) (t : ℕ) (d : Placed) → t < length after → (t < length order → P (get_or order t d)) → (t ≡ length order → P p) → P (get_or after t d)
-  by_place P t d less front last =
-      elim (cases_lt t (length order)) as (λ _. P (get_or after t d)) [
-        | inl lt ↦ subst P (sym (ap (λ xs. get_or xs t d) placed ∙ append-front order p d t lt)) (front lt)
+  keys-added : map (key_at (marks grown)) after ≡ map (key_at (marks old)) order ++ own ∷ []
+  keys-added =
+      sym (keys-order grown after)
+      ∙ (ap (map key_of) all-added ∙ (map-append key_of (all_series old order) (new_series own ∷ []) ∙ ap (λ ks. ks ++ own ∷ []) (keys-order old order)))
+
+  tag-new : tag n ≡ (length order, kind)
+  tag-new = ap (λ i. (i, kind_of_value (value_of n.cell))) number ∙ ap (λ k. (length order, k)) (ap kind_of_value value ∙ kind-new kind)
+
+  stands-added : (s : ℕ) (q : Placed) → slice_get after s ≡ Some q → option_map (λ m. m.1) (slice_get (marks grown q.kind) q.place) ≡ Some (s, q.kind)
+  stands-added s q h =
+      let here : slice_get (order ++ p ∷ []) s ≡ Some q = sym (ap (λ qs. slice_get qs s) placed) ∙ h in
+      elim (cases_lt s (length order)) as (λ _. option_map (λ m. m.1) (slice_get (marks grown q.kind) q.place) ≡ Some (s, q.kind)) [
+        | inl lt ↦
+            let was = slice_get-get_or order s q lt in
+            let stayed : option_map (λ (r : Placed). r) (slice_get (order ++ p ∷ []) s) ≡ Some (get_or order s q) = front-at (λ (r : Placed). r) order (p ∷ []) s (get_or order s q) (ap (option_map (λ (r : Placed). r)) was) in
+            let same : Some q ≡ Some (get_or order s q) = sym (ap (option_map (λ (r : Placed). r)) here) ∙ stayed in
+            ap (λ ms. option_map (λ m. m.1) (slice_get ms q.place)) (marks-grown q.kind)
+            ∙ front-at (λ (m : KeyParts × (ℕ × MetricKind)). m.1) (marks old q.kind) (map mark (more q.kind)) q.place (s, q.kind) (agree.stands s q (was ∙ sym same))
         | inr le ↦
-            let at : t ≡ length order = omega (arith, le, less, long) in
-            subst P (sym (ap (λ xs. get_or xs t d) placed ∙ append-last order p d t at)) (last at)
+            let long : length (order ++ p ∷ []) ≡ length order + 1 = length-append order (p ∷ []) in
+            let last : s ≡ length order = omega (arith, le, long, inside (λ (r : Placed). r) (order ++ p ∷ []) s q (ap (option_map (λ (r : Placed). r)) here)) in
+            let same : Some p ≡ Some q = sym (last-at order p s last) ∙ here in
+            let is : p ≡ q = cc in
+            subst (λ (r : Placed). option_map (λ m. m.1) (slice_get (marks grown r.kind) r.place) ≡ Some (s, r.kind)) is
+            (ap (λ ms. option_map (λ m. m.1) (slice_get (map mark ms) place)) (of-same old fs kind ∙ added)
+            ∙ (ap (λ ms. option_map (λ m. m.1) (slice_get ms place)) (map-append mark (of_kind kind old) ((key, n) ∷ []))
+            ∙ (ap (option_map (λ m. m.1)) (last-at (map mark (of_kind kind old)) (mark (key, n)) place (at ∙ sym (length-map mark (of_kind kind old))))
+            ∙ ap Some (tag-new ∙ ap (λ i. (i, kind)) (sym last)))))
       ]
 
-  lengths-added : (k : MetricKind) → length (numbers_of more k) ≡ length (series_in new k)
-  lengths-added k =
-      by_test (kind_eq kind k)
-      (λ t.
-      let P : MetricKind → Type 0 = λ j. length (numbers_of more j) ≡ length (series_in new j) in
-      subst P ((kind_exact kind k).0 t)
-      (ap length more-kind ∙ (length-append (numbers_of numbers kind) (length order ∷ []) ∙ (ap (λ n. n + 1) (step.lengths kind) ∙ (sym (length-append (series_in old kind) (added ∷ [])) ∙ sym (ap length (added-kind kind key old new adds)))))))
-      (λ t. ap length (kept-numbers k t) ∙ (step.lengths k ∙ sym (ap length (kept-cells kind k key old new adds t))))
-
-  within-added : (t : ℕ) (d : Placed) → t < length after → (get_or after t d).place < length (series_in new (get_or after t d).kind)
-  within-added t d less =
-      by_place (λ q. q.place < length (series_in new q.kind)) t d less
-      (λ lt. (cell-front (get_or order t d).kind (get_or order t d).place added (step.within t d lt)).1)
-      (λ at. omega (arith, place-p, ap length new-p, length-append (series_in old p.kind) (added ∷ [])))
-
-  numbered-added : (t : ℕ) (d : Placed) → t < length after → get_or (numbers_of more (get_or after t d).kind) (get_or after t d).place 0 ≡ t
-  numbered-added t d less =
-      by_place (λ q. get_or (numbers_of more q.kind) q.place 0 ≡ t) t d less
-      (λ lt. let q = get_or order t d in number-front q.kind q.place (omega (arith, step.within t d lt, step.lengths q.kind)) ∙ step.numbered t d lt)
-      (λ at.
-      ap (λ k. get_or (numbers_of more k) p.place 0) p_kind
-      ∙ (ap (λ xs. get_or xs p.place 0) more-kind ∙ (append-last (numbers_of numbers kind) (length order) 0 p.place p_place ∙ sym at)))
-
-  -- the number of a key
-  map-front : (k : MetricKind) (o : Option ℕ) → ((i : ℕ) → o ≡ Some i → i < length (numbers_of numbers k)) → option_map (λ i. get_or (numbers_of more k) i 0) o ≡ option_map (λ i. get_or (numbers_of numbers k) i 0) o
-  map-front k None below = refl
-  map-front k (Some i) below = ap Some (number-front k i (below i refl))
-
-  found-added : (k : MetricKind) (q : KeyParts) → number_of new more k q ≡ position (is_of (series_key k q)) (all_series new after)
+  found-added : (k : MetricKind) (q : KeyParts) → option_map (λ t. t.0) (lookup (key_eq q) (marks grown k)) ≡ position (series_key_eq (series_key k q)) (map (key_at (marks grown)) after)
   found-added k q =
       let r = series_key k q in
-      let own = series_key kind key in
-      by_test (series_key_eq own r)
+      let keys = map (key_at (marks old)) order in
+      by_test (series_key_eq r own)
       (λ t.
-      let P : SeriesKey → Type 0 = λ x. number_of new more x.kind x.key ≡ position (is_of x) (all_series new after) in
-      let none = no-cell old order numbers kind key step absent in
-      let self : is_of own added ≡ true = (series_key-exact own own).1 refl in
-      subst P ((series_key-exact own r).0 t)
-      (ap (λ xs. option_map (λ i. get_or (numbers_of more kind) i 0) (position (is_of own) xs)) (added-kind kind key old new adds)
-      ∙ (ap (option_map (λ i. get_or (numbers_of more kind) i 0)) (push-absent (is_of own) (series_in old kind) added none self)
-      ∙ (ap Some (ap (λ xs. get_or xs (length (series_in old kind)) 0) more-kind ∙ append-last (numbers_of numbers kind) (length order) 0 (length (series_in old kind)) (sym (step.lengths kind)))
-      ∙ (ap Some (sym (length-map (series_at old) order))
-      ∙ (sym (push-absent (is_of own) (all_series old order) added absent self) ∙ ap (position (is_of own)) (sym all-added)))))))
+      let P : SeriesKey → Type 0 = λ x. option_map (λ t. t.0) (lookup (key_eq x.key) (marks grown x.kind)) ≡ position (series_key_eq x) (map (key_at (marks grown)) after) in
+      let none : position (series_key_eq own) keys ≡ None = sym (position-order old order own) ∙ absent in
+      let unmarked = option-none (λ (t : ℕ × MetricKind). t.0) (lookup (key_eq key) (marks old kind)) (agree.found kind key ∙ none) in
+      subst P (sym ((series_key_eq-Decides r own).0 t))
+      (ap (λ ms. option_map (λ t. t.0) (lookup (key_eq key) (map mark ms))) (of-same old fs kind ∙ added)
+      ∙ (ap (λ ms. option_map (λ t. t.0) (lookup (key_eq key) ms)) (map-append mark (of_kind kind old) ((key, n) ∷ []))
+      ∙ (ap (option_map (λ t. t.0)) (lookup-behind (key_eq key) (marks old kind) (mark (key, n) ∷ []) unmarked
+      ∙ ap (λ b. cond b (Some (tag n)) None) ((key_eq-Decides key key).1 refl))
+      ∙ (ap (λ t. Some t.0) tag-new
+      ∙ (ap Some (sym (length-map (key_at (marks old)) order))
+      ∙ (sym (push-absent (series_key_eq own) keys own none ((series_key_eq-Decides own own).1 refl)) ∙ ap (position (series_key_eq own)) (sym keys-added))))))))
       (λ t.
-      let apart : is_of r added ≡ false = series_key-swap r own ∙ t in
-      let below : (i : ℕ) → position (is_of r) (series_in old k) ≡ Some i → i < length (numbers_of numbers k) = λ i e. omega (arith, (some-place (is_of r) (series_in old k) i e).1, step.lengths k) in
-      let cells : position (is_of r) (series_in new k) ≡ position (is_of r) (series_in old k) =
+      let unlike : lookup (key_eq q) (map mark (more k)) ≡ None =
       by_test (kind_eq kind k)
-      (λ e.
-      let P : MetricKind → Type 0 = λ j. position (is_of r) (series_in new j) ≡ position (is_of r) (series_in old j) in
-      subst P ((kind_exact kind k).0 e) (ap (position (is_of r)) (added-kind kind key old new adds) ∙ push-other (is_of r) (series_in old kind) added apart))
-      (λ e. ap (position (is_of r)) (kept-cells kind k key old new adds e)) in
-      ap (option_map (λ i. get_or (numbers_of more k) i 0)) cells
-      ∙ (map-front k (position (is_of r) (series_in old k)) below
-      ∙ (step.found k q ∙ (sym (push-other (is_of r) (all_series old order) added apart) ∙ ap (position (is_of r)) (sym all-added)))))
+      (λ y.
+      let e = (kind_eq-Decides kind k).0 y in
+      let differ : key_eq q key ≡ false = sym (ap (λ b. b && key_eq q key) (ap (kind_eq k) e ∙ same_kind k)) ∙ t in
+      ap (λ b. lookup (key_eq q) (map mark (cond b ((key, n) ∷ []) []))) y ∙ ap (λ b. cond b (Some (tag n)) None) differ)
+      (λ y. ap (λ b. lookup (key_eq q) (map mark (cond b ((key, n) ∷ []) []))) y) in
+      ap (λ ms. option_map (λ t. t.0) (lookup (key_eq q) ms)) (marks-grown k)
+      ∙ (ap (option_map (λ t. t.0)) (lookup-front (key_eq q) (marks old k) (map mark (more k)) unlike)
+      ∙ (agree.found k q ∙ (sym (push-other (series_key_eq r) keys own t) ∙ ap (position (series_key_eq r)) (sym keys-added)))))
 
-  pub step-added : InStep new after more
-  step-added = record { lengths = lengths-added; within = within-added; numbered = numbered-added; found = found-added }
+  pub agree-added : Agrees (marks grown) after
+  agree-added = record { stands = stands-added; found = found-added }

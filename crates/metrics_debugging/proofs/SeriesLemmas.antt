@@ -1,18 +1,16 @@
 -- Lists of series.
-use Rattle.std.proofs.Common.{◌≡◌, ℕ, suc, ◌+◌, ◌<◌, ◌≤◌, Bool, true, false, cond, ◌&&◌, ◌||◌, not, inl, inr, List, [], ◌∷◌, ◌++◌, length, map, Option, Some, None, refl, ap, sym, ◌∙◌, subst, arith, true≢false, nat_lt, bytes_eq, length-append}
-use Rattle.std.specs.Bool.{Decides, one_answer}
+use Rattle.std.proofs.Common.{◌≡◌, ℕ, suc, ◌+◌, ◌<◌, ◌≤◌, Bool, true, false, cond, ◌||◌, not, inl, inr, List, [], ◌∷◌, ◌++◌, length, map, Option, Some, None, refl, ap, sym, ◌∙◌, subst, arith, true≢false, nat_lt, length-append}
 use Rattle.std.proofs.lemmas.Bool.{lt-ltb, cases_lt}
 use Rattle.std.proofs.lemmas.List.Sums.{prefix_len-le-length}
 use Rattle.std.specs.List.{position, position_or_len, list_any}
-use Rattle.std.specs.Cmp.Lexicographic.{pointwise, pointwise_decides, bytes_decides}
 use Rattle.std.proofs.Math.Path.{fun_ext}
 use Rattle.std.proofs.lemmas.Bool.Decides.{nat_tests}
 use Rattle.std.proofs.lemmas.Grind.{common_steps}
 use Rattle.metrics_names.specs.declared.kind.MetricKind.{MetricKind}
-use Rattle.metrics_names.specs.declared.kind.MetricKind.TheVariants.{Counter, Gauge, Histogram}
-use Rattle.metrics.specs.declared.debugging.Reset.{Reset}
-use Rattle.metrics_names.specs.Names.{KeyParts, SeriesKey, kind_eq, label_eq, key_eq, series_key_eq}
-use Rattle.metrics.specs.Book.{Content, Series, Description, is_of, new_series, resets, after_reset, register_in, place}
+use Rattle.metrics_names.specs.Names.{SeriesKey, series_key_eq}
+use Rattle.metrics_names.proofs.NamesLemmas.{series_key_eq-Decides}
+use Rattle.metrics.specs.Book.{Content, Series, Description, is_of, new_series, register_in, place}
+use Rattle.metrics.proofs.ContentLemmas.{map-push}
 
 -- ---- contents
 
@@ -21,53 +19,6 @@ pub content_same : (xs ys : List Series) (d e : MetricKind → List ℕ → Desc
 content_same xs ys d e p q =
     let same : d ≡ e = fun_ext (λ k. fun_ext (q k)) in
     ap (λ (zs : List Series). record { series = zs; described = d }) p ∙ ap (λ (f : MetricKind → List ℕ → Description). record { series = ys; described = f }) same
-
--- ---- keys
-
-pub kind_exact : (j k : MetricKind) → Decides (kind_eq j k) (j ≡ k)
-kind_exact Counter Counter = (λ _. refl, λ _. refl)
-kind_exact Counter Gauge = (λ e. absurd (true≢false (sym e)), λ e. cc)
-kind_exact Counter Histogram = (λ e. absurd (true≢false (sym e)), λ e. cc)
-kind_exact Gauge Counter = (λ e. absurd (true≢false (sym e)), λ e. cc)
-kind_exact Gauge Gauge = (λ _. refl, λ _. refl)
-kind_exact Gauge Histogram = (λ e. absurd (true≢false (sym e)), λ e. cc)
-kind_exact Histogram Counter = (λ e. absurd (true≢false (sym e)), λ e. cc)
-kind_exact Histogram Gauge = (λ e. absurd (true≢false (sym e)), λ e. cc)
-kind_exact Histogram Histogram = (λ _. refl, λ _. refl)
-
-first : (s t : Bool) → (s && t) ≡ true → s ≡ true
-first true t h = refl
-first false t h = h
-
-second : (s t : Bool) → (s && t) ≡ true → t ≡ true
-second true t h = h
-second false t h = absurd (true≢false (sym h))
-
-label_exact : (a b : List ℕ × List ℕ) → Decides (label_eq a b) (a ≡ b)
-label_exact a b = (
-  λ e. ap (λ k. (k, a.1)) ((bytes_decides a.0 b.0).0 (first (bytes_eq a.0 b.0) (bytes_eq a.1 b.1) e)) ∙ ap (λ v. (b.0, v)) ((bytes_decides a.1 b.1).0 (second (bytes_eq a.0 b.0) (bytes_eq a.1 b.1) e)),
-  λ e. subst (λ l. label_eq a l ≡ true) e (ap (λ q. q && bytes_eq a.1 a.1) ((bytes_decides a.0 a.0).1 refl) ∙ (bytes_decides a.1 a.1).1 refl),
-)
-
-pub key_exact : (a b : KeyParts) → Decides (key_eq a b) (a ≡ b)
-key_exact a b = (
-  λ e. ap (λ n. record { name = n; labels = a.labels }) ((bytes_decides a.name b.name).0 (first (bytes_eq a.name b.name) (pointwise label_eq a.labels b.labels) e))
-      ∙ ap (λ l. record { name = b.name; labels = l }) ((pointwise_decides label_exact a.labels b.labels).0 (second (bytes_eq a.name b.name) (pointwise label_eq a.labels b.labels) e)),
-  λ e. subst (λ k. key_eq a k ≡ true) e (ap (λ q. q && pointwise label_eq a.labels a.labels) ((bytes_decides a.name a.name).1 refl) ∙ (pointwise_decides label_exact a.labels a.labels).1 refl),
-)
-
-pub series_key-refl : (k : SeriesKey) → series_key_eq k k ≡ true
-series_key-refl k = ap (λ q. q && key_eq k.key k.key) ((kind_exact k.kind k.kind).1 refl) ∙ (key_exact k.key k.key).1 refl
-
-pub series_key-exact : (j k : SeriesKey) → Decides (series_key_eq j k) (j ≡ k)
-series_key-exact j k = (
-  λ e. ap (λ x. record { kind = x; key = j.key }) ((kind_exact j.kind k.kind).0 (first (kind_eq j.kind k.kind) (key_eq j.key k.key) e))
-      ∙ ap (λ x. record { kind = k.kind; key = x }) ((key_exact j.key k.key).0 (second (kind_eq j.kind k.kind) (key_eq j.key k.key) e)),
-  λ e. subst (λ x. series_key_eq j x ≡ true) e (series_key-refl j),
-)
-
-pub series_key-swap : (j k : SeriesKey) → series_key_eq j k ≡ series_key_eq k j
-series_key-swap j k = one_answer (series_key_eq j k) (series_key_eq k j) (series_key-exact j k) ((λ e. sym ((series_key-exact k j).0 e)), (λ e. (series_key-exact k j).1 (sym e)))
 
 -- ---- places
 
@@ -174,16 +125,6 @@ position-keys k xs =
     by_keys : (xs : List Series) → position_or_len (is_of k) xs ≡ position_or_len (series_key_eq k) (map key_of xs)
     by_keys [] = refl
     by_keys (x ∷ xs) = ap (λ i. cond (not (series_key_eq k x.key)) (1 + i) 0) (by_keys xs)
-
-pub key_reset : (reset : Reset) (x : Series) → (after_reset reset x).key ≡ x.key
-key_reset reset x = elim (resets reset x.key.kind) as (λ b. (cond b (new_series x.key) x).key ≡ x.key) [
-  | true ↦ refl
-  | false ↦ refl
-]
-
-pub keys_reset : (reset : Reset) (xs : List Series) → map key_of (map (after_reset reset) xs) ≡ map key_of xs
-keys_reset reset [] = refl
-keys_reset reset (x ∷ xs) = ap (λ k. k ∷ map key_of (map (after_reset reset) xs)) (key_reset reset x) ∙ ap (λ ks. x.key ∷ ks) (keys_reset reset xs)
 
 -- ---- a register call
 

@@ -1,5 +1,7 @@
 pub mod DebuggingDescriptions
 pub mod DebuggingCells
+pub mod DebuggingSeries
+pub mod DebuggingOrder
 pub mod DebuggingUpdates
 pub mod Debugging
 pub mod DebuggingMeaning

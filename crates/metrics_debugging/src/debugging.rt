@@ -81,7 +81,7 @@ impl Recorder for DebuggingRecorder {
             },
             None => {
                 let mut found = room_for_one(alloc)?;
-                let series = self.series.add(kind, key)?;
+                let series = self.series.add(alloc, kind, key)?;
                 found.push_reserved(Address { book: 0, series });
                 Ok(found)
             }

@@ -1,7 +1,7 @@
 //! The descriptions of names.
 ghost use Rattle.std.specs.Prelude.{◌≡◌, ◌&&◌, if◌then◌else◌, bytes_eq, OnOk, OnErr, IfOk, IfErr};
-ghost use Rattle.indexmap.specs.IndexMap.{get_by_text};
 ghost use Rattle.metrics_names.specs.declared.refused.Refused.TheVariants.{Memory};
+ghost use Rattle.indexmap.specs.IndexMap.{get_by_text};
 ghost use Rattle.metrics_names.specs.Names.{kind_eq};
 ghost use Rattle.metrics.specs.Book.{no_description, described_again};
 ghost use Rattle.metrics_debugging.specs.DebuggingDescriptions.{described_by, description_of};
@@ -17,13 +17,14 @@ pub(crate) struct Described {
     text: Text,
 }
 
-/// The descriptions by name, with a map for each kind.
+/// The descriptions by kind and name.
 #[derive(Drop)]
 pub(crate) struct Descriptions {
     names: PerKind<IndexMap<String, Described>>,
 }
 
 impl Descriptions {
+    /// No descriptions. It takes no memory yet.
     pub fn new(alloc: Global) -> Descriptions
         ensures { (kind : _) (name : _) → described_by result kind name ≡ no_description }
     {
@@ -50,7 +51,7 @@ impl Descriptions {
         }
     }
 
-    /// Replaces the text of a name, and the unit where one is given.
+    /// Replaces the text of a name, and the unit where one is given. The name is copied the first time alone.
     pub fn describe(
         &mut self,
         alloc: Global,
@@ -63,13 +64,7 @@ impl Descriptions {
         ensures err { OnErr result ((k : _) (n : _) → described_by self.new k n ≡ described_by self.old k n) }
         ensures memory { IfErr result (λ e. e ≡ Memory 0) }
     {
-        match kind {
-            MetricKind::Counter => describe_name(alloc, &mut self.names.counter, name, unit, text),
-            MetricKind::Gauge => describe_name(alloc, &mut self.names.gauge, name, unit, text),
-            MetricKind::Histogram => {
-                describe_name(alloc, &mut self.names.histogram, name, unit, text)
-            }
-        }
+        describe_name(alloc, self.names.of_mut(kind), name, unit, text)
     }
 }
 
@@ -84,18 +79,12 @@ fn describe_name(
     ensures err { OnErr result ((n : _) → description_of (get_by_text names.new n) ≡ description_of (get_by_text names.old n)) }
     ensures memory { IfErr result (λ e. e ≡ Memory 0) }
 {
-    let unit = unit.or(unit_of(names, name));
     let text = Text::new(alloc, text)?;
-    let name = String::from_str(alloc, name)?;
-    names.insert(name, Described { unit, text })?;
-    Ok(())
-}
-
-fn unit_of(names: &IndexMap<String, Described>, name: &str) -> Option<Unit>
-    ensures { result ≡ (description_of (get_by_text names.now name.now)).unit }
-{
-    match names.get(name) {
-        Some(described) => described.unit,
-        None => None,
+    if let Some(described) = names.get_mut(name) {
+        described.unit = unit.or(described.unit);
+        described.text = text;
+        return Ok(());
     }
+    names.insert(String::from_str(alloc, name)?, Described { unit, text })?;
+    Ok(())
 }

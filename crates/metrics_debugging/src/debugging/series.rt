@@ -1,82 +1,101 @@
 //! Series in order of first registration.
-ghost use Rattle.std.specs.Prelude.{◌≡◌, ◌∷◌, [], ◌++◌, ◌<◌, if◌then◌else◌, OnOk, OnErr, IfOk, IfErr, None, length, map, option_map, slice_get, position, vec_capacity};
+ghost use Rattle.std.specs.Prelude.{◌≡◌, ◌∷◌, [], ◌++◌, ◌<◌, if◌then◌else◌, OnOk, OnErr, IfOk, IfErr, None, length, map, option_map, slice_get, position};
 ghost use Rattle.metrics_names.specs.declared.refused.Refused.TheVariants.{Memory};
-ghost use Rattle.metrics_names.specs.Names.{kind_eq};
-ghost use Rattle.metrics.specs.Book.{is_of, new_series, after_reset, row_of};
+ghost use Rattle.metrics.specs.Book.{is_of, new_series, after_reset, row_of, new_value};
 ghost use Rattle.metrics.specs.Kinds.{of_kind};
 ghost use Rattle.metrics.specs.Targets.{change_at};
 ghost use Rattle.metrics_debugging.specs.Debugging.{content_of};
-ghost use Rattle.metrics_debugging.specs.DebuggingCells.{InStep, all_series, numbers_of, series_key};
+ghost use Rattle.metrics_debugging.specs.DebuggingCells.{value_of, kind_of_value, UpdatesValue};
+ghost use Rattle.metrics_debugging.specs.DebuggingSeries.{Agrees, entry_series, marks, series_at, series_key, tag};
 ghost use Rattle.metrics_debugging.specs.DebuggingUpdates.{UpdatesAt};
 
-use crate::debugging::cells::Cells;
+use crate::debugging::cells::Cell;
 use crate::debugging::descriptions::Descriptions;
-use metrics::{Key, MetricKind, PerKind, Refused, Reset, Row, Update};
-use std::alloc::{AllocError, Global};
+use metrics::{CompositeKey, Key, MetricKind, PerKind, Refused, Reset, Row, Update};
+use metrics_registry::Cells;
+use std::alloc::Global;
 
-/// Where the cell of a series is.
+/// The cell of a series, and the number of the series in its book.
+#[derive(Drop)]
+pub(crate) struct Numbered {
+    number: usize,
+    cell: Cell,
+}
+
+/// Where a series stands: its kind, and its place among those of the kind.
 #[derive(Clone, Copy)]
 pub(crate) struct Placed {
     kind: MetricKind,
     place: usize,
 }
 
-/// Series in order of first registration: the place of each one's cell, and for each cell, by its place, the number of its
-/// series.
+/// The series of a book by kind and key, and in order of first registration.
 #[derive(Drop)]
 pub(crate) struct SeriesList {
-    cells: Cells,
+    by_key: PerKind<Cells<Key, Numbered>>,
     order: Vec<Placed>,
-    numbers: PerKind<Vec<usize>>,
-    ghost in_step: { InStep cells order.items numbers },
+    ghost agree: { Agrees (marks by_key) order.items },
 }
 
 impl SeriesList {
+    ghost use Rattle.metrics_debugging.specs.DebuggingOrder.{series_of};
+
+    /// No series. It takes no memory yet.
     pub fn new(alloc: Global) -> SeriesList
-        ensures { all_series result.cells result.order.items ≡ [] }
+        ensures { series_of result ≡ [] }
     {
         SeriesList {
-            cells: Cells::new(alloc),
-            order: Vec::new(alloc),
-            numbers: PerKind {
-                counter: Vec::new(alloc),
-                gauge: Vec::new(alloc),
-                histogram: Vec::new(alloc),
+            by_key: PerKind {
+                counter: Cells::new(alloc),
+                gauge: Cells::new(alloc),
+                histogram: Cells::new(alloc),
             },
+            order: Vec::new(alloc),
         }
     }
 
     /// The number of the series of a key.
     pub fn find(&self, kind: MetricKind, key: &Key) -> Option<usize>
-        ensures { result ≡ position (is_of (series_key kind key.now)) (all_series self.now.cells self.now.order.items) }
+        ensures { result ≡ position (is_of (series_key kind key.now)) (series_of self.now) }
     {
-        match self.cells.place(kind, key) {
-            Some(place) => Some(self.numbers.of(kind)[place]),
+        match self.by_key.of(kind).get(key) {
+            Some(found) => Some(found.number),
             None => None,
         }
     }
 
     /// Adds a series of a key that has none, and answers its number.
-    pub fn add(&mut self, kind: MetricKind, key: &Key) -> Result<usize, Refused>
-        requires { position (is_of (series_key kind key.now)) (all_series self.old.cells self.old.order.items) ≡ None }
-        ensures number { IfOk result (λ s. s ≡ length (all_series self.old.cells self.old.order.items)) }
-        ensures ok { OnOk result (all_series self.new.cells self.new.order.items ≡ all_series self.old.cells self.old.order.items ++ new_series (series_key kind key.now) ∷ []) }
-        ensures err { OnErr result (all_series self.new.cells self.new.order.items ≡ all_series self.old.cells self.old.order.items) }
+    pub fn add(&mut self, alloc: Global, kind: MetricKind, key: &Key) -> Result<usize, Refused>
+        requires { position (is_of (series_key kind key.now)) (series_of self.old) ≡ None }
+        ensures number { IfOk result (λ s. s ≡ length (series_of self.old)) }
+        ensures ok { OnOk result (series_of self.new ≡ series_of self.old ++ new_series (series_key kind key.now) ∷ []) }
+        ensures err { OnErr result (series_of self.new ≡ series_of self.old) }
         ensures memory { IfErr result (λ e. e ≡ Memory 0) }
     {
         let number = self.order.len();
-        let place = self.numbers.of(kind).len();
         self.order.reserve(1)?;
-        make_room(&mut self.numbers, kind)?;
-        self.cells.create(kind, key)?;
-        self.order.push_reserved(Placed { kind, place });
-        push_number(&mut self.numbers, kind, number);
-        Ok(number)
+        let cell = Cell::new(alloc, kind);
+        let cells = self.by_key.of_mut(kind);
+        let place = cells.len();
+        let created = cells.create(
+            key,
+            Numbered { number, cell },
+            |new: &mut Numbered|
+                ensures { new.new ≡ new.old }
+            {},
+        );
+        match created {
+            Ok(()) => {
+                self.order.push_reserved(Placed { kind, place });
+                Ok(number)
+            }
+            Err(_) => Err(Refused::Memory { acted: 0 }),
+        }
     }
 
     /// The kind of a series.
     pub fn kind_at(&self, series: usize) -> Option<MetricKind>
-        ensures { result ≡ option_map (λ s. s.key.kind) (slice_get (all_series self.now.cells self.now.order.items) series) }
+        ensures { result ≡ option_map (λ s. s.key.kind) (slice_get (series_of self.now) series) }
     {
         if series >= self.order.len() {
             return None;
@@ -86,23 +105,45 @@ impl SeriesList {
 
     /// Updates a series.
     pub fn update(&mut self, series: usize, by: Update) -> Result<(), Refused>
-        ensures { UpdatesAt (all_series self.old.cells self.old.order.items) (all_series self.new.cells self.new.order.items) series by result }
+        ensures { UpdatesAt (series_of self.old) (series_of self.new) series by result }
     {
         if series >= self.order.len() {
             return Err(Refused::NoSuchAddress);
         }
         let placed = self.order[series];
-        self.cells.update(placed.kind, placed.place, by)
+        let updated = self.by_key.of_mut(placed.kind).change_at(
+            placed.place,
+            |found: &mut Numbered| -> Result<(), Refused>
+                ensures same { tag found.new ≡ tag found.old }
+                ensures cell { UpdatesValue (value_of found.old.cell) (value_of found.new.cell) by result }
+            { found.cell.update(by) },
+        );
+        match updated {
+            Some(updated) => updated,
+            None => unreachable!(),
+        }
+    }
+
+    /// The row of the series at a place.
+    fn row(&self, placed: Placed, descriptions: &Descriptions) -> Result<Row, Refused>
+        requires { placed.place < length (of_kind placed.kind self.now.by_key) }
+        ensures ok { IfOk result (λ r. r ≡ row_of (content_of [] descriptions.now) (series_at self.now.by_key placed)) }
+        ensures memory { IfErr result (λ e. e ≡ Memory 0) }
+    {
+        let Some((key, found)) = self.by_key.of(placed.kind).at(placed.place) else {
+            unreachable!()
+        };
+        entry_row(placed.kind, key, found, descriptions)
     }
 
     /// The rows of the book.
     pub fn rows(&self, alloc: Global, descriptions: &Descriptions) -> Result<Vec<Row>, Refused>
-        ensures ok { IfOk result (λ v. v.items ≡ map (row_of (content_of [] descriptions.now)) (all_series self.now.cells self.now.order.items)) }
+        ensures ok { IfOk result (λ v. v.items ≡ map (row_of (content_of [] descriptions.now)) (series_of self.now)) }
         ensures memory { IfErr result (λ e. e ≡ Memory 0) }
     {
         let mut rows = Vec::with_capacity(alloc, self.order.len())?;
         for placed in &self.order {
-            rows.push(self.cells.row(placed.kind, placed.place, descriptions)?)?;
+            rows.push(self.row(*placed, descriptions)?)?;
         }
         Ok(rows)
     }
@@ -110,18 +151,27 @@ impl SeriesList {
     /// Resets a series, where its kind is reset.
     fn reset_one(&mut self, series: usize, reset: Reset)
         requires { series < length self.old.order.items }
-        ensures values { all_series self.new.cells self.new.order.items ≡ change_at series (after_reset reset) (all_series self.old.cells self.old.order.items) }
+        ensures values { series_of self.new ≡ change_at series (after_reset reset) (series_of self.old) }
         ensures order { self.new.order.items ≡ self.old.order.items }
     {
         let placed = self.order[series];
-        if reset.resets(placed.kind) {
-            self.cells.reset(placed.kind, placed.place);
-        }
+        let resets = reset.resets(placed.kind);
+        self.by_key.of_mut(placed.kind).change_at(
+            placed.place,
+            |found: &mut Numbered|
+                ensures same { tag found.new ≡ tag found.old }
+                ensures cell { value_of found.new.cell ≡ (if resets then new_value (kind_of_value (value_of found.old.cell)) else value_of found.old.cell) }
+            {
+                if resets {
+                    found.cell.reset();
+                }
+            },
+        );
     }
 
     /// Resets each series of the kinds that are reset.
     pub fn reset(&mut self, reset: Reset)
-        ensures { all_series self.new.cells self.new.order.items ≡ map (after_reset reset) (all_series self.old.cells self.old.order.items) }
+        ensures { series_of self.new ≡ map (after_reset reset) (series_of self.old) }
     {
         for series in 0..self.order.len() {
             self.reset_one(series, reset);
@@ -129,26 +179,17 @@ impl SeriesList {
     }
 }
 
-/// Makes room for one more number of a kind.
-fn make_room(numbers: &mut PerKind<Vec<usize>>, kind: MetricKind) -> Result<(), AllocError>
-    ensures same { (k : _) → numbers_of numbers.new k ≡ numbers_of numbers.old k }
-    ensures room { OnOk result (length (numbers_of numbers.new kind) < vec_capacity (of_kind kind numbers.new)) }
+/// The row of the series of an entry.
+fn entry_row(
+    kind: MetricKind,
+    key: &Key,
+    found: &Numbered,
+    descriptions: &Descriptions,
+) -> Result<Row, Refused>
+    ensures ok { IfOk result (λ r. r ≡ row_of (content_of [] descriptions.now) (entry_series kind (key.now, found.now))) }
+    ensures memory { IfErr result (λ e. e ≡ Memory 0) }
 {
-    match kind {
-        MetricKind::Counter => numbers.counter.reserve(1),
-        MetricKind::Gauge => numbers.gauge.reserve(1),
-        MetricKind::Histogram => numbers.histogram.reserve(1),
-    }
-}
-
-/// Adds a number behind those of its kind.
-fn push_number(numbers: &mut PerKind<Vec<usize>>, kind: MetricKind, number: usize)
-    requires { length (numbers_of numbers.old kind) < vec_capacity (of_kind kind numbers.old) }
-    ensures { (k : _) → numbers_of numbers.new k ≡ (if kind_eq kind k then numbers_of numbers.old k ++ number ∷ [] else numbers_of numbers.old k) }
-{
-    match kind {
-        MetricKind::Counter => numbers.counter.push_reserved(number),
-        MetricKind::Gauge => numbers.gauge.push_reserved(number),
-        MetricKind::Histogram => numbers.histogram.push_reserved(number),
-    }
+    let value = found.cell.value()?;
+    let (unit, text) = descriptions.get(kind, key.name())?;
+    Ok((CompositeKey::new(kind, key.clone()?), unit, text, value))
 }

@@ -1,8 +1,8 @@
 use Rattle.std.proofs.Common.{◌≡◌, [], take, map}
 use Rattle.metrics.specs.Book.{row_of}
 use Rattle.metrics_debugging.specs.Debugging.{content_of}
-use Rattle.metrics_debugging.specs.DebuggingCells.{all_series}
+use Rattle.metrics_debugging.specs.DebuggingSeries.{all_series}
 use Rattle.metrics_debugging.proofs.debugging.series.SeriesList.rows.Given as goal
 
 abbrev pub invariant-loop-placed : goal.invariant-loop-placed
-invariant-loop-placed l = l.rows.items ≡ map (row_of (content_of [] l.descriptions)) (all_series l.self.cells (take l.placed-index l.placed-items))
+invariant-loop-placed l = l.rows.items ≡ map (row_of (content_of [] l.descriptions)) (all_series l.self.by_key (take l.placed-index l.placed-items))
