@@ -1,7 +1,7 @@
 //! Cells without a generation.
 ghost use Rattle.std.specs.Prelude.{◌≡◌, [], pos};
 
-use crate::registry::Storage;
+use crate::storage::Storage;
 use metrics::Error;
 use metrics_storage::OwnedBucket;
 use std::alloc::Global;

@@ -1,9 +1,8 @@
 //! Values that count their changes.
-ghost use Rattle.std.specs.Prelude.{◌≡◌, ◌+◌, ◌%◌, ◌^◌};
-ghost use Rattle.std.specs.Fn.{FnOnceReturnsAtMut};
+ghost use Rattle.std.specs.Prelude.{◌≡◌, ◌+◌, ◌%◌, ◌^◌, OnOk, OnErr};
+ghost use Rattle.std.specs.Fn.{FnOnceReturnsAtMut, FnOnceTakesAtMut};
 
 use std::marker::Model;
-use std::sync::atomic::{AtomicU64, Ordering};
 
 /// How often a value was changed, modulo 2^64.
 #[derive(Clone, Copy, Debug, PartialEq, Eq, PartialOrd, Ord)]
@@ -19,9 +18,25 @@ impl Model for Generation {
     ghost inverse = { λ n. record { 0 = n } };
 }
 
+impl Generation {
+    /// A generation after so many changes.
+    pub fn new(changes: u64) -> Generation
+        ensures { result ≡ changes }
+    {
+        Generation(changes)
+    }
+
+    /// The generation after one more change.
+    fn next(self) -> Generation
+        ensures { result ≡ (self + 1) % 2 ^ 64 }
+    {
+        Generation(self.0.wrapping_add(1))
+    }
+}
+
 /// Calls `f` once on a value.
 fn call<T, V, F: FnOnce(&mut T) -> V>(value: &mut T, f: F) -> V
-    requires { F.IsAlwaysCallable f }
+    requires { FnOnceTakesAtMut F.FnOnce f value.old }
     ensures { FnOnceReturnsAtMut F.FnOnce f value.old result value.new }
 {
     f(value)
@@ -41,7 +56,7 @@ impl<T> Counted<T> {
     {
         Counted {
             inner,
-            generation: Generation(0),
+            generation: Generation::new(0),
         }
     }
 
@@ -59,32 +74,26 @@ impl<T> Counted<T> {
 
     /// Calls `f` once on the value and then raises the generation, whatever `f` answers.
     pub fn with_increment<V, F: FnOnce(&mut T) -> V>(&mut self, f: F) -> V
-        requires { F.IsAlwaysCallable f }
+        requires { FnOnceTakesAtMut F.FnOnce f self.old.inner }
         ensures called { FnOnceReturnsAtMut F.FnOnce f self.old.inner result self.new.inner }
         ensures raised { self.new.generation ≡ (self.old.generation + 1) % 2 ^ 64 }
     {
         let answer = call(&mut self.inner, f);
-        self.generation = Generation(self.generation.0.wrapping_add(1));
+        self.generation = self.generation.next();
         answer
     }
-}
 
-/// A generation that any thread may raise. No contract says which it is.
-#[derive(Debug, Drop)]
-pub struct AtomicGeneration(AtomicU64);
-
-impl AtomicGeneration {
-    /// Generation 0.
-    pub fn new() -> AtomicGeneration {
-        AtomicGeneration(AtomicU64::new(0))
-    }
-
-    pub fn load(&self) -> Generation {
-        Generation(self.0.load(Ordering::SeqCst))
-    }
-
-    /// Makes the generation one more, modulo 2^64.
-    pub fn raise(&self) {
-        self.0.fetch_add(1, Ordering::SeqCst);
+    /// Calls `f` once on the value and raises the generation where `f` answers `Ok`.
+    pub fn try_increment<V, E, F: FnOnce(&mut T) -> Result<V, E>>(&mut self, f: F) -> Result<V, E>
+        requires { FnOnceTakesAtMut F.FnOnce f self.old.inner }
+        ensures called { FnOnceReturnsAtMut F.FnOnce f self.old.inner result self.new.inner }
+        ensures raised { OnOk result (self.new.generation ≡ (self.old.generation + 1) % 2 ^ 64) }
+        ensures refused { OnErr result (self.new.generation ≡ self.old.generation) }
+    {
+        let answer = call(&mut self.inner, f);
+        if answer.is_ok() {
+            self.generation = self.generation.next();
+        }
+        answer
     }
 }
