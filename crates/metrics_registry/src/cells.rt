@@ -52,6 +52,28 @@ fn copy_one<K: Hash + EqualClone, C: Clone>(
     }
 }
 
+/// Keeps the entries for which `f` answers true, in their order, and gives `f` back as the calls left it.
+fn keep<K: Hash + Drop, C: Drop, F: FnMut(&K, &C) -> bool>(map: &mut IndexMap<K, C>, f: F) -> F
+    requires { TakesEach F.FnMut f map.old.entries }
+    ensures retains { Retains (λ p e b q. CallsAtEntry F.FnMut p e b q) f map.old.entries map.new.entries result }
+    ensures once { IsDistinct K.eq (keys_of map.old.entries) × IsDistinct K.eq (keys_of map.new.entries) }
+    ensures callable { F.IsAlwaysCallable f → F.IsAlwaysCallable result }
+{
+    let mut f = f;
+    let mut kept = 0;
+    for i in 0..map.len() {
+        let Some((key, cell)) = map.get_index(i) else {
+            unreachable!()
+        };
+        if f(key, cell) {
+            map.swap_indices(kept, i);
+            kept += 1;
+        }
+    }
+    map.truncate(kept);
+    f
+}
+
 impl<K: Hash + Drop, C: Drop> Cells<K, C> {
     /// No cells. It takes no memory.
     pub fn new(alloc: Global) -> Cells<K, C>
@@ -157,19 +179,7 @@ impl<K: Hash + Drop, C: Drop> Cells<K, C> {
         ensures once { IsDistinct K.eq (keys_of self.old) × IsDistinct K.eq (keys_of self.new) }
         ensures callable { F.IsAlwaysCallable f → F.IsAlwaysCallable result }
     {
-        let mut f = f;
-        let mut kept = 0;
-        for i in 0..self.map.len() {
-            let Some((key, cell)) = self.map.get_index(i) else {
-                unreachable!()
-            };
-            if f(key, cell) {
-                self.map.swap_indices(kept, i);
-                kept += 1;
-            }
-        }
-        self.map.truncate(kept);
-        f
+        keep(&mut self.map, f)
     }
 
     /// The keys, each with a clone of its cell.
