@@ -115,10 +115,10 @@ impl<K: Hash + Drop, C: Drop> Cells<K, C> {
         ensures keys { keys_of self.new ≡ keys_of self.old }
         ensures once { IsDistinct K.eq (keys_of self.new) }
     {
-        match self.map.get_mut(key) {
-            Some(cell) => Ok(op(cell)),
-            None => Err(op),
-        }
+        let Some(cell) = self.map.get_mut(key) else {
+            return Err(op);
+        };
+        Ok(op(cell))
     }
 
     /// Adds a cell at a key that isn't held, once `op` was called on it, and answers what `op` answers.

@@ -56,7 +56,9 @@ impl EqualClone for Key {
 }
 
 impl EqualClone for u64 {
-    ghost clones = { λ k c h. ? };
+    ghost use Rattle.std.proofs.Common.{rules};
+
+    ghost clones = { Prim.search rules };
 }
 
 /// Hands on a number that was hashed before: `finish` answers what `write_u64` was given last.
@@ -121,5 +123,5 @@ impl<H: Hash> Hashable for DefaultHashable<H> {
 }
 
 impl<H: Hash + EqualClone> EqualClone for DefaultHashable<H> {
-    ghost clones = { λ k c h. ? };
+    ghost clones = { λ k c h. H.clones k.0 c.0 h };
 }
