@@ -1,10 +1,10 @@
 -- The shards of a map, seen as one list of entries.
-use Rattle.std.proofs.Common.{◌≡◌, ℕ, zero, suc, ◌+◌, ◌<◌, ◌%◌, Bool, true, false, cond, List, [], ◌∷◌, ◌++◌, Option, None, Some, Result, Ok, Err, IfOk, IfErr, OnOk, refl, sym, ◌∙◌, ap, subst, length, get_or, set, take, ◌≤◌, add-one, arith, is_some, slice_get, nat_eq}
+use Rattle.std.proofs.Common.{◌≡◌, ℕ, zero, suc, ◌+◌, ◌<◌, ◌%◌, Bool, true, false, cond, List, [], ◌∷◌, ◌++◌, Option, None, Some, refl, sym, ◌∙◌, ap, subst, length, get_or, set, take, add-one, arith}
 use Rattle.std.specs.Cmp.{IsEquivalence}
-use Rattle.std.specs.List.{IsDistinct, AllByRecursion, All, FoldsTo}
-use Rattle.std.specs.Map.{lookup, keys_of, update}
+use Rattle.std.specs.List.{IsDistinct, AllByRecursion, FoldsTo}
+use Rattle.std.specs.Map.{lookup, keys_of}
 use Rattle.std.proofs.lemmas.Bool.{cond-true, cond-false}
-use Rattle.std.proofs.lemmas.List.{get_or-set_same, get_or-set_other, get_or_default, length-set, take_all, append-nil, append_assoc}
+use Rattle.std.proofs.lemmas.List.{get_or-set_same, get_or-set_other, get_or_default, length-set, append-nil, append_assoc}
 use Rattle.std.proofs.Math.Nat.{mod-lt}
 use Rattle.std.proofs.lemmas.Map.{NonePasses, none_passes_from_lookup}
 use Rattle.metrics_registry.specs.Held.{Sets, entries_of, AreOf, ArePlaced}

@@ -1,5 +1,5 @@
 -- Entries at places.
-use Rattle.std.proofs.Common.{◌≡◌, ℕ, zero, suc, List, [], ◌∷◌, Option, Some, refl, sym, ap, slice_get, is_some, ◌∙◌}
+use Rattle.std.proofs.Common.{◌≡◌, ℕ, zero, suc, List, [], ◌∷◌, Some, refl, slice_get, is_some}
 use Rattle.std.specs.Map.{values_of}
 
 -- the entry of a value that stands at a place

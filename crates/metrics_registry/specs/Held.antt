@@ -3,6 +3,7 @@ use Rattle.std.specs.Prelude.{◌≡◌, ℕ, suc, ◌%◌, Bool, ◌&&◌, nat_
 use Rattle.std.specs.List.{AllByRecursion, FoldsTo, IsDistinct}
 use Rattle.std.specs.Map.{lookup, keys_of, values_of, update}
 use Rattle.indexmap.specs.IndexMap.{set_value_at}
+use Rattle.std.specs.HashMap.{HashMap, get}
 use Rattle.std.specs.Int.{is_power_of_two}
 use Rattle.std.specs.Borrow.{Bor}
 use Rattle.std.specs.Fn.{Called, Mut, Takes}
@@ -53,9 +54,9 @@ abbrev pub CallsAt : {K C V : Type 0} → (K → K → Bool) → (K → C → Ty
 CallsAt {K} {C} {V} eq Makes call key v old new =
     (before : C) × (after : C) × IsCellOf (Makes key) (held eq old key) before × call before v after × Sets eq key (Some after) old new
 
--- a call may be made at the cell that is found, or where there is none at each that is made
-abbrev pub MayCall : {C : Type 0} → (C → Type 0) → (C → Type 0) → Option C → Type 0
-MayCall {C} Takes Makes found = (cell : C) → IsCellOf Makes found cell → Takes cell
+-- a call may be made at the cell of a key, or where the key isn't held at each cell that is made
+abbrev pub MayCall : {K C : Type 0} → (K → K → Bool) → (K → C → Type 0) → (C → Type 0) → K → List (K × C) → Type 0
+MayCall {K} {C} eq Makes Takes key es = (cell : C) → IsCellOf (Makes key) (held eq es key) cell → Takes cell
 
 -- a key was removed, if it was held
 abbrev pub Removes : {K C : Type 0} → (K → K → Bool) → K → Bool → List (K × C) → List (K × C) → Type 0
@@ -102,6 +103,10 @@ entries_of (es ∷ shards) = es ++ entries_of shards
 abbrev pub AreOf : {K C : Type 0} → (K → ℕ) → ℕ → ℕ → List (K × C) → Type 0
 AreOf number count shard es = AllByRecursion (λ e. number e.0 % count ≡ shard) es
 
+-- the shard of a key among all entries: it holds the key as they do, and no key stands twice in them
+abbrev pub IsShardOf : {K C : Type 0} → (K → K → Bool) → K → List (K × C) → List (K × C) → Type 0
+IsShardOf eq key shard all = (held eq shard key ≡ held eq all key) × IsDistinct eq (keys_of all)
+
 -- from a shard on, each key stands in its own shard, and no key twice
 abbrev pub ArePlaced : {K C : Type 0} → (K → K → Bool) → (K → ℕ) → ℕ → ℕ → List (List (K × C)) → Type 0
 ArePlaced eq number count shard [] = Unit {0}
@@ -131,9 +136,21 @@ abbrev pub Retains : {F X : Type 0} → (F → X → Bool → F → Type 0) → 
 Retains call f [] kept last = (kept ≡ []) × (last ≡ f)
 Retains {F} {X} call f (x ∷ xs) kept last = (b : Bool) × (g : F) × (rest : List X) × call f x b g × Retains call g xs rest last × (kept ≡ (if b then x ∷ rest else rest))
 
+-- f was called once at each entry, in order, and was left as last
+abbrev pub CallsEach : {F K C : Type 0} → Mut F (Bor K × (Bor C × Unit {0})) (Unit {0}) → F → List (K × C) → F → Type 0
+CallsEach g f es last = FoldsTo (λ p e q. CallsAtEntry g p e tt q) f es last
+
+-- so it was, and new has the entries at which it answered true, in order
+abbrev pub RetainsEach : {F K C : Type 0} → Mut F (Bor K × (Bor C × Unit {0})) Bool → F → List (K × C) → List (K × C) → F → Type 0
+RetainsEach g f old new last = Retains (λ p e b q. CallsAtEntry g p e b q) f old new last
+
 -- new has a clone of the cell of each key that is held, and else what old has
 abbrev pub Copies : {K C : Type 0} → (K → K → Bool) → (C → C → Type 0) → List (K × C) → (K → Option C) → (K → Option C) → Type 0
 Copies {K} eq clone es old new = (q : K) → MatchOption (held eq es q) (new q ≡ old q) (λ c. IsSomeAnd (new q) (clone c))
+
+-- a map has a clone of each cell, and nothing else; or memory was refused
+abbrev pub AreCopied : {K C S : Type 0} → (K → K → Bool) → (C → C → Type 0) → List (K × C) → Result (HashMap K C S) Error → Type 0
+AreCopied {K} {C} eq clone es result = MatchResult result (λ m. Copies eq clone es (λ _. None) (get eq m)) (λ e. e ≡ Memory)
 
 -- ---- what stays
 

@@ -1,5 +1,7 @@
 -- The table of (kind, key) to generation and moment: one check.
-use Rattle.std.specs.Prelude.{◌==◌, ℕ, ◌-◌, Bool, true, false, ◌&&◌, if◌then◌else◌, List, [], ◌∷◌, Option, None, Some, is_some, nat_lt}
+use Rattle.std.specs.Prelude.{◌≡◌, ◌==◌, ℕ, ◌-◌, Bool, true, false, ◌&&◌, if◌then◌else◌, List, [], ◌∷◌, Option, None, Some, Result, MatchResult, is_some, nat_lt}
+use Rattle.metrics.specs.declared.error.Error.{Error}
+use Rattle.metrics.specs.declared.error.Error.TheVariants.{Memory}
 use Rattle.metrics_registry.specs.declared.recency.Noted.{Noted}
 use Rattle.metrics_names.specs.declared.kind.MetricKind.{MetricKind}
 use Rattle.metrics_names.specs.Names.{kind_eq}
@@ -61,3 +63,9 @@ table_after same rules c table = λ kind key. if is_of same c kind key then (che
 abbrev pub table_answers : {K : Type 0} → (K → K → Bool) → Rules → Table K → List (Check K) → List Bool
 table_answers same rules table [] = []
 table_answers same rules table (c ∷ checks) = table_answer rules c table ∷ table_answers same rules (table_after same rules c table) checks
+
+-- a step was answered, and noted of a key alone; after a want of memory the notes are as they were
+abbrev pub IsNoted : {K : Type 0} → (K → K → Bool) → Bool × Option Noted → K → Result Bool Error → (K → Option Noted) → (K → Option Noted) → Type 0
+IsNoted {K} same step key result old new = MatchResult result
+    (λ stays. (stays ≡ step.0) × ((q : K) → new q ≡ (if same key q then step.1 else old q)))
+    (λ e. (e ≡ Memory) × ((q : K) → new q ≡ old q))

@@ -1,13 +1,15 @@
 //! The cells of one kind.
-ghost use Rattle.std.specs.Prelude.{◌≡◌, ◌<◌, ◌^◌, ◌∷◌, [], None, Some, Ok, IfOk, IfErr, OnOk, IfSome, IfNone, MatchResult, is_some, length, option_map, slice_get};
-ghost use Rattle.std.specs.Option.{option_copied};
+ghost use Rattle.std.specs.Prelude.{◌≡◌, ◌<◌, ◌^◌, ◌∷◌, [], None, Some, IfOk, IfErr, OnOk, IfSome, IfNone};
+ghost use Rattle.std.specs.Prelude.{is_some, length, option_map, slice_get};
+ghost use Rattle.std.specs.Option.{option_copied, option_copied_mut};
 ghost use Rattle.std.specs.Map.{keys_of};
 ghost use Rattle.std.specs.Map.Iter.{deref_pair, ShowsInOrder};
 ghost use Rattle.std.specs.Fn.{FnOnceReturnsAtMut, FnOnceTakesAtMut};
-ghost use Rattle.std.specs.List.{FoldsTo, IsDistinct};
+ghost use Rattle.std.specs.List.{IsDistinct};
 ghost use Rattle.std.specs.HashMap.{get};
 ghost use Rattle.metrics.specs.declared.error.Error.TheVariants.{Memory as OutOfMemory};
-ghost use Rattle.metrics_registry.specs.Held.{held, place_of, Removes, Calls, Adds, Appends, ChangesAt, Copies, CallsAtEntry, TakesEach, Retains};
+ghost use Rattle.metrics_registry.specs.Held.{held, place_of, Removes, Calls, Adds, Appends, ChangesAt};
+ghost use Rattle.metrics_registry.specs.Held.{TakesEach, CallsEach, RetainsEach, Copies, AreCopied};
 
 use crate::common::EqualClone;
 use indexmap::IndexMap;
@@ -55,7 +57,7 @@ fn copy_one<K: Hash + EqualClone, C: Clone>(
 /// Keeps the entries for which `f` answers true, in their order, and gives `f` back as the calls left it.
 fn keep<K: Hash + Drop, C: Drop, F: FnMut(&K, &C) -> bool>(map: &mut IndexMap<K, C>, f: F) -> F
     requires { TakesEach F.FnMut f map.old.entries }
-    ensures retains { Retains (λ p e b q. CallsAtEntry F.FnMut p e b q) f map.old.entries map.new.entries result }
+    ensures retains { RetainsEach F.FnMut f map.old.entries map.new.entries result }
     ensures once { IsDistinct K.eq (keys_of map.old.entries) × IsDistinct K.eq (keys_of map.new.entries) }
     ensures callable { F.IsAlwaysCallable f → F.IsAlwaysCallable result }
 {
@@ -75,6 +77,9 @@ fn keep<K: Hash + Drop, C: Drop, F: FnMut(&K, &C) -> bool>(map: &mut IndexMap<K,
 }
 
 impl<K: Hash + Drop, C: Drop> Cells<K, C> {
+    ghost use Rattle.std.specs.Borrow.{sem};
+    ghost use Rattle.metrics_registry.specs.Lending.{lends_cell};
+
     /// No cells. It takes no memory.
     pub fn new(alloc: Global) -> Cells<K, C>
         ensures { result ≡ [] }
@@ -107,6 +112,13 @@ impl<K: Hash + Drop, C: Drop> Cells<K, C> {
         self.map.get(key)
     }
 
+    pub fn get_mut(&mut self, key: &K) -> Option<&mut C>
+        ensures* lends { sem 𝓛 (lends_cell K.row C.row K.Hash self.entry key.now result) }
+        ensures found { option_copied_mut result ≡ held K.eq self.old key.now }
+    {
+        self.map.get_mut(key)
+    }
+
     /// Calls `op` once on the cell of a key, and answers what it answers. Where the key isn't held `op` comes back.
     pub fn change<V, F: FnOnce(&mut C) -> V>(&mut self, key: &K, op: F) -> Result<V, F>
         requires { (cell : C) → held K.eq self.old key.now ≡ Some cell → FnOnceTakesAtMut F.FnOnce op cell }
@@ -135,7 +147,8 @@ impl<K: Hash + Drop, C: Drop> Cells<K, C> {
         requires op { FnOnceTakesAtMut F.FnOnce op cell }
         requires absent { held K.eq self.old key.now ≡ None }
         ensures ok { IfOk result (λ v. Adds K.eq (FnOnceReturnsAtMut F.FnOnce op) key.now cell v self.old self.new) }
-        ensures appends { IfOk result (λ v. Appends K.is_clone (FnOnceReturnsAtMut F.FnOnce op) key.now cell v self.old self.new) }
+        ensures appends { IfOk result
+            (λ v. Appends K.is_clone (FnOnceReturnsAtMut F.FnOnce op) key.now cell v self.old self.new) }
         ensures err { IfErr result (λ e. (e ≡ OutOfMemory) × (self.new ≡ self.old)) }
         ensures once { OnOk result (IsDistinct K.eq (keys_of self.new)) }
     {
@@ -160,7 +173,7 @@ impl<K: Hash + Drop, C: Drop> Cells<K, C> {
     /// Calls `f` once for each entry, in the order of their places, and gives it back as the calls left it.
     pub fn visit<F: FnMut(&K, &C)>(&self, f: F) -> F
         requires { TakesEach F.FnMut f self.now }
-        ensures calls { FoldsTo (λ p e q. CallsAtEntry F.FnMut p e tt q) f self.now result }
+        ensures calls { CallsEach F.FnMut f self.now result }
         ensures once { IsDistinct K.eq (keys_of self.now) }
         ensures callable { F.IsAlwaysCallable f → F.IsAlwaysCallable result }
     {
@@ -175,7 +188,7 @@ impl<K: Hash + Drop, C: Drop> Cells<K, C> {
     /// back as the calls left it.
     pub fn retain<F: FnMut(&K, &C) -> bool>(&mut self, f: F) -> F
         requires { TakesEach F.FnMut f self.old }
-        ensures retains { Retains (λ p e b q. CallsAtEntry F.FnMut p e b q) f self.old self.new result }
+        ensures retains { RetainsEach F.FnMut f self.old self.new result }
         ensures once { IsDistinct K.eq (keys_of self.old) × IsDistinct K.eq (keys_of self.new) }
         ensures callable { F.IsAlwaysCallable f → F.IsAlwaysCallable result }
     {
@@ -187,7 +200,7 @@ impl<K: Hash + Drop, C: Drop> Cells<K, C> {
     where
         K: EqualClone,
         C: Clone,
-        ensures { MatchResult result (λ m. Copies K.eq C.is_clone self.now (λ _. None) (get K.eq m)) (λ e. e ≡ OutOfMemory) }
+        ensures { AreCopied K.eq C.is_clone self.now result }
     {
         let mut handles = HashMap::new(alloc);
         self.copy_into(&mut handles)?;

@@ -1,5 +1,5 @@
 //! One shard: the cells of each kind.
-ghost use Rattle.std.specs.Prelude.{◌≡◌, ◌<◌, ◌%◌, ⊤, [], IfOk, OnOk};
+ghost use Rattle.std.specs.Prelude.{◌≡◌, ◌<◌, ◌%◌, ⊤, [], OnOk, true};
 ghost use Rattle.std.specs.Fn.{FnOnceReturnsAtMut, FnOnceTakesAtMut};
 ghost use Rattle.std.specs.List.{IsDistinct};
 ghost use Rattle.std.specs.Map.{keys_of};
@@ -59,8 +59,9 @@ where
         key: &K,
         op: F,
     ) -> Result<V, Error>
-        requires { MayCall (FnOnceTakesAtMut F.FnOnce op) (S.makes_counter storage.now key.now) (held K.eq self.old.counters key.now) }
-        ensures counters { GetsOrCreates K.eq K.is_clone (S.makes_counter storage.now) (FnOnceReturnsAtMut F.FnOnce op) ⊤ key.now result self.old.counters self.new.counters }
+        requires { MayCall K.eq (S.makes_counter storage.now) (FnOnceTakesAtMut F.FnOnce op) key.now self.old.counters }
+        ensures counters { GetsOrCreates K.eq K.is_clone (S.makes_counter storage.now) (FnOnceReturnsAtMut F.FnOnce op) ⊤
+            key.now result self.old.counters self.new.counters }
         ensures rest { (self.new.gauges ≡ self.old.gauges) × (self.new.histograms ≡ self.old.histograms) }
         ensures once { OnOk result (IsDistinct K.eq (keys_of self.new.counters)) }
     {
@@ -82,8 +83,9 @@ where
         key: &K,
         op: F,
     ) -> Result<V, Error>
-        requires { MayCall (FnOnceTakesAtMut F.FnOnce op) (S.makes_gauge storage.now key.now) (held K.eq self.old.gauges key.now) }
-        ensures gauges { GetsOrCreates K.eq K.is_clone (S.makes_gauge storage.now) (FnOnceReturnsAtMut F.FnOnce op) ⊤ key.now result self.old.gauges self.new.gauges }
+        requires { MayCall K.eq (S.makes_gauge storage.now) (FnOnceTakesAtMut F.FnOnce op) key.now self.old.gauges }
+        ensures gauges { GetsOrCreates K.eq K.is_clone (S.makes_gauge storage.now) (FnOnceReturnsAtMut F.FnOnce op) ⊤
+            key.now result self.old.gauges self.new.gauges }
         ensures rest { (self.new.counters ≡ self.old.counters) × (self.new.histograms ≡ self.old.histograms) }
         ensures once { OnOk result (IsDistinct K.eq (keys_of self.new.gauges)) }
     {
@@ -106,8 +108,9 @@ where
         key: &K,
         op: F,
     ) -> Result<V, Error>
-        requires { MayCall (FnOnceTakesAtMut F.FnOnce op) (S.makes_histogram storage.now key.now) (held K.eq self.old.histograms key.now) }
-        ensures histograms { GetsOrCreates K.eq K.is_clone (S.makes_histogram storage.now) (FnOnceReturnsAtMut F.FnOnce op) ⊤ key.now result self.old.histograms self.new.histograms }
+        requires { MayCall K.eq (S.makes_histogram storage.now) (FnOnceTakesAtMut F.FnOnce op) key.now self.old.histograms }
+        ensures histograms { GetsOrCreates K.eq K.is_clone (S.makes_histogram storage.now) (FnOnceReturnsAtMut F.FnOnce op) ⊤
+            key.now result self.old.histograms self.new.histograms }
         ensures rest { (self.new.counters ≡ self.old.counters) × (self.new.gauges ≡ self.old.gauges) }
         ensures once { OnOk result (IsDistinct K.eq (keys_of self.new.histograms)) }
     {
@@ -135,7 +138,8 @@ pub fn shard_of<K: Hashable>(key: &K, count: usize) -> usize
 
 /// Whether a registry may have so many shards: a power of two from 1 to 1,024.
 pub fn is_shard_count(shards: usize) -> bool
-    ensures { result ≡ is_count shards }
+    ensures answer { result ≡ is_count shards }
+    ensures some { result ≡ true → 0 < shards }
 {
     shards.is_power_of_two() && shards <= 1024
 }

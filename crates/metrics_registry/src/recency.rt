@@ -1,15 +1,16 @@
 //! Which series are still in use.
-ghost use Rattle.std.specs.Prelude.{◌≡◌, ◌&&◌, true, if◌then◌else◌, Some, None, OnOk, IfOk, IfErr, is_some};
+ghost use Rattle.std.specs.Prelude.{◌≡◌, ◌&&◌, true, if◌then◌else◌, Some, None, OnOk, OnErr, IfOk, IfErr, is_some};
 ghost use Rattle.std.specs.List.{IsDistinct};
 ghost use Rattle.std.specs.Map.{keys_of};
 ghost use Rattle.std.specs.HashMap.{get};
 ghost use Rattle.metrics.specs.Layers.{mask_has};
-ghost use Rattle.metrics.specs.declared.error.Error.TheVariants.{Memory as OutOfMemory};
 ghost use Rattle.metrics_names.specs.declared.kind.MetricKind.{MetricKind as AnyKind};
-ghost use Rattle.metrics_names.specs.declared.kind.MetricKind.TheVariants.{Counter as CounterKind, Gauge as GaugeKind, Histogram as HistogramKind};
-ghost use Rattle.metrics_names.specs.Names.{kind_eq};
+ghost use Rattle.metrics_names.specs.declared.kind.MetricKind.TheVariants.{Counter as CounterKind, Gauge as GaugeKind};
+ghost use Rattle.metrics_names.specs.declared.kind.MetricKind.TheVariants.{Histogram as HistogramKind};
 ghost use Rattle.metrics_registry.specs.Held.{held, StaysOrGoes, CountersAlone, GaugesAlone, HistogramsAlone};
-ghost use Rattle.metrics_registry.specs.Recency.{watch_step};
+ghost use Rattle.metrics_registry.specs.Recency.{watch_step, IsNoted};
+ghost use Rattle.metrics.specs.declared.error.Error.TheVariants.{Memory as OutOfMemory};
+ghost use Rattle.metrics_names.specs.Names.{kind_eq};
 
 use crate::cells::Cells;
 use crate::common::{EqualClone, Hashable};
@@ -60,12 +61,11 @@ fn check<K: Hash + EqualClone + Drop, C: Drop>(
     seen: Noted,
     cells: &mut Cells<K, C>,
 ) -> Result<bool, Error>
-    ensures answer { IfOk result (λ stays. stays ≡ (watch_step (Some timeout) seen (is_some (held K.eq cells.old key.now)) (get K.eq noted.old key.now)).0) }
-    ensures ok { OnOk result ((q : K) → get K.eq noted.new q
-        ≡ (if K.eq key.now q then (watch_step (Some timeout) seen (is_some (held K.eq cells.old key.now)) (get K.eq noted.old key.now)).1 else get K.eq noted.old q)) }
+    ensures noted { IsNoted K.eq (watch_step (Some timeout) seen (is_some (held K.eq cells.old key.now)) (get K.eq noted.old key.now))
+        key.now result (get K.eq noted.old) (get K.eq noted.new) }
     ensures cells { IfOk result (λ stays. StaysOrGoes K.eq key.now stays cells.old cells.new) }
     ensures once { OnOk result (IsDistinct K.eq (keys_of cells.old) → IsDistinct K.eq (keys_of cells.new)) }
-    ensures err { IfErr result (λ e. (e ≡ OutOfMemory) × ((q : K) → get K.eq noted.new q ≡ get K.eq noted.old q) × (cells.new ≡ cells.old) × (get K.eq noted.old key.now ≡ None)) }
+    ensures err { OnErr result ((cells.new ≡ cells.old) × (get K.eq noted.old key.now ≡ None)) }
 {
     let Some(note) = noted.get_mut(key) else {
         noted.insert(key.clone()?, seen)?;
@@ -136,8 +136,9 @@ impl<K: Hashable + EqualClone + Drop> OwnedRecency<K> {
         cells: &mut Cells<K, C>,
     ) -> Result<bool, Error>
         ensures rules { rules_of self.new ≡ rules_of self.old }
-        ensures checked { IsChecked K.eq (rules_of self.old) (check_of kind key.now generation now (is_some (held K.eq cells.old key.now)))
-            result (table_of K.eq self.old) (table_of K.eq self.new) cells.old cells.new }
+        ensures checked { IsChecked K.eq (rules_of self.old)
+            (check_of kind key.now generation now (is_some (held K.eq cells.old key.now))) result
+            (table_of K.eq self.old) (table_of K.eq self.new) cells.old cells.new }
         ensures once { IsDistinct K.eq (keys_of cells.old) → IsDistinct K.eq (keys_of cells.new) }
     {
         let Some(timeout) = self.timeout_of(kind) else {
@@ -165,8 +166,9 @@ impl<K: Hashable + EqualClone + Drop> OwnedRecency<K> {
         S::Gauge: Drop,
         S::Histogram: Drop,
         ensures rules { rules_of self.new ≡ rules_of self.old }
-        ensures checked { IsChecked K.eq (rules_of self.old) (check_of CounterKind key.now generation now (is_some (held K.eq registry.old.counters key.now)))
-            result (table_of K.eq self.old) (table_of K.eq self.new) registry.old.counters registry.new.counters }
+        ensures checked { IsChecked K.eq (rules_of self.old)
+            (check_of CounterKind key.now generation now (is_some (held K.eq registry.old.counters key.now))) result
+            (table_of K.eq self.old) (table_of K.eq self.new) registry.old.counters registry.new.counters }
         ensures rest { CountersAlone registry.old registry.new }
     {
         let shard = shard_of(key, registry.shards.len());
@@ -189,8 +191,9 @@ impl<K: Hashable + EqualClone + Drop> OwnedRecency<K> {
         S::Gauge: Drop,
         S::Histogram: Drop,
         ensures rules { rules_of self.new ≡ rules_of self.old }
-        ensures checked { IsChecked K.eq (rules_of self.old) (check_of GaugeKind key.now generation now (is_some (held K.eq registry.old.gauges key.now)))
-            result (table_of K.eq self.old) (table_of K.eq self.new) registry.old.gauges registry.new.gauges }
+        ensures checked { IsChecked K.eq (rules_of self.old)
+            (check_of GaugeKind key.now generation now (is_some (held K.eq registry.old.gauges key.now))) result
+            (table_of K.eq self.old) (table_of K.eq self.new) registry.old.gauges registry.new.gauges }
         ensures rest { GaugesAlone registry.old registry.new }
     {
         let shard = shard_of(key, registry.shards.len());
@@ -213,8 +216,9 @@ impl<K: Hashable + EqualClone + Drop> OwnedRecency<K> {
         S::Gauge: Drop,
         S::Histogram: Drop,
         ensures rules { rules_of self.new ≡ rules_of self.old }
-        ensures checked { IsChecked K.eq (rules_of self.old) (check_of HistogramKind key.now generation now (is_some (held K.eq registry.old.histograms key.now)))
-            result (table_of K.eq self.old) (table_of K.eq self.new) registry.old.histograms registry.new.histograms }
+        ensures checked { IsChecked K.eq (rules_of self.old)
+            (check_of HistogramKind key.now generation now (is_some (held K.eq registry.old.histograms key.now))) result
+            (table_of K.eq self.old) (table_of K.eq self.new) registry.old.histograms registry.new.histograms }
         ensures rest { HistogramsAlone registry.old registry.new }
     {
         let shard = shard_of(key, registry.shards.len());

@@ -1,12 +1,12 @@
 //! A registry that has one owner: for each kind a map from keys to cells, in shards.
-ghost use Rattle.std.specs.Prelude.{◌≡◌, true, [], None, IfOk, IfErr, MatchResult, if◌then◌else◌};
+ghost use Rattle.std.specs.Prelude.{◌≡◌, true, [], IfOk, IfErr, if◌then◌else◌};
 ghost use Rattle.std.specs.Option.{option_copied};
 ghost use Rattle.std.specs.Fn.{FnOnceReturnsAtMut, FnOnceTakesAtMut};
-ghost use Rattle.std.specs.List.{FoldsTo, IsDistinct};
+ghost use Rattle.std.specs.List.{IsDistinct};
 ghost use Rattle.std.specs.Map.{keys_of};
-ghost use Rattle.std.specs.HashMap.{get};
 ghost use Rattle.metrics.specs.declared.error.Error.TheVariants.{Memory as OutOfMemory, BadShards as NotShards};
-ghost use Rattle.metrics_registry.specs.Held.{held, MayCall, GetsOrCreates, Removes, TakesEach, CallsAtEntry, Retains, Copies};
+ghost use Rattle.metrics_registry.specs.Held.{held, IsShardOf, MayCall, GetsOrCreates, Removes, AreCopied};
+ghost use Rattle.metrics_registry.specs.Held.{TakesEach, CallsEach, RetainsEach};
 ghost use Rattle.metrics_registry.specs.Held.{CountersAlone, GaugesAlone, HistogramsAlone, is_shard_count as is_count};
 
 use crate::common::{EqualClone, Hashable};
@@ -34,7 +34,13 @@ impl<K: Hashable, S: Storage<K>> Model for OwnedRegistry<K, S> {
 
     ghost Value = { Registry S K S.Counter S.Gauge S.Histogram };
 
-    ghost view = { λ r. record { storage = r.storage; count = vec_len r.shards; counters = entries_of (map (λ s. s.counters) r.shards.items); gauges = entries_of (map (λ s. s.gauges) r.shards.items); histograms = entries_of (map (λ s. s.histograms) r.shards.items) } };
+    ghost view = { λ r. record {
+      storage = r.storage;
+      count = vec_len r.shards;
+      counters = entries_of (map (λ s. s.counters) r.shards.items);
+      gauges = entries_of (map (λ s. s.gauges) r.shards.items);
+      histograms = entries_of (map (λ s. s.histograms) r.shards.items);
+    } };
 
     ghost invariant = { λ r. (0 < vec_len r.shards)
         × ArePlaced K.eq K.number (vec_len r.shards) 0 (map (λ s. s.counters) r.shards.items)
@@ -70,7 +76,8 @@ where
 
     /// Removes every entry of every kind.
     pub fn clear(&mut self)
-        ensures { self.new ≡ record { storage = self.old.storage; count = self.old.count; counters = []; gauges = []; histograms = [] } }
+        ensures { self.new
+            ≡ record { storage = self.old.storage; count = self.old.count; counters = []; gauges = []; histograms = [] } }
     {
         for i in 0..self.shards.len() {
             let shard = &mut self.shards[i];
@@ -87,12 +94,21 @@ where
         &self.storage
     }
 
+    /// The shard of a key. No other shard holds it, and no key stands twice in a kind.
+    pub fn shard(&self, key: &K) -> &Kinds<K, S>
+        ensures counters { IsShardOf K.eq key.now result.now.counters self.now.counters }
+        ensures gauges { IsShardOf K.eq key.now result.now.gauges self.now.gauges }
+        ensures histograms { IsShardOf K.eq key.now result.now.histograms self.now.histograms }
+    {
+        let shard = shard_of(key, self.shards.len());
+        &self.shards[shard]
+    }
+
     /// The cell of a counter, if the key is held.
     pub fn get_counter(&self, key: &K) -> Option<&S::Counter>
         ensures { option_copied result ≡ held K.eq self.now.counters key.now }
     {
-        let shard = shard_of(key, self.shards.len());
-        self.shards[shard].counters.get(key)
+        self.shard(key).counters.get(key)
     }
 
     /// Calls `op` once on the cell of a counter, which the storage makes where the key isn't held, and answers what it answers.
@@ -103,9 +119,9 @@ where
         key: &K,
         op: F,
     ) -> Result<V, Error>
-        requires { MayCall (FnOnceTakesAtMut F.FnOnce op) (S.makes_counter self.old.storage key.now) (held K.eq self.old.counters key.now) }
-        ensures counters { GetsOrCreates K.eq K.is_clone (S.makes_counter self.old.storage) (FnOnceReturnsAtMut F.FnOnce op) (self.old.count ≡ 1)
-            key.now result self.old.counters self.new.counters }
+        requires { MayCall K.eq (S.makes_counter self.old.storage) (FnOnceTakesAtMut F.FnOnce op) key.now self.old.counters }
+        ensures counters { GetsOrCreates K.eq K.is_clone (S.makes_counter self.old.storage)
+            (FnOnceReturnsAtMut F.FnOnce op) (self.old.count ≡ 1) key.now result self.old.counters self.new.counters }
         ensures rest { CountersAlone self.old self.new }
     {
         let shard = shard_of(key, self.shards.len());
@@ -115,7 +131,7 @@ where
     /// Calls `f` once for each counter, in some order.
     pub fn visit_counters<F: FnMut(&K, &S::Counter) + Drop>(&self, f: F)
         requires { TakesEach F.FnMut f self.now.counters }
-        ensures calls { (last : F) × FoldsTo (λ p e q. CallsAtEntry F.FnMut p e tt q) f self.now.counters last }
+        ensures calls { (last : F) × CallsEach F.FnMut f self.now.counters last }
         ensures once { IsDistinct K.eq (keys_of self.now.counters) }
     {
         let mut f = f;
@@ -128,7 +144,7 @@ where
     pub fn get_counter_handles(&self, alloc: Global) -> Result<HashMap<K, S::Counter>, Error>
     where
         S::Counter: Clone,
-        ensures { MatchResult result (λ m. Copies K.eq S.Counter.is_clone self.now.counters (λ _. None) (get K.eq m)) (λ e. e ≡ OutOfMemory) }
+        ensures { AreCopied K.eq S.Counter.is_clone self.now.counters result }
     {
         let mut handles = HashMap::new(alloc);
         for shard in &self.shards {
@@ -140,7 +156,7 @@ where
     /// Keeps the counters for which `f` answers true. It is called once for each counter, in some order.
     pub fn retain_counters<F: FnMut(&K, &S::Counter) -> bool + Drop>(&mut self, f: F)
         requires { TakesEach F.FnMut f self.old.counters }
-        ensures retains { (last : F) × Retains (λ p e b q. CallsAtEntry F.FnMut p e b q) f self.old.counters self.new.counters last }
+        ensures retains { (last : F) × RetainsEach F.FnMut f self.old.counters self.new.counters last }
         ensures rest { CountersAlone self.old self.new }
     {
         let mut f = f;
@@ -163,8 +179,7 @@ where
     pub fn get_gauge(&self, key: &K) -> Option<&S::Gauge>
         ensures { option_copied result ≡ held K.eq self.now.gauges key.now }
     {
-        let shard = shard_of(key, self.shards.len());
-        self.shards[shard].gauges.get(key)
+        self.shard(key).gauges.get(key)
     }
 
     /// Calls `op` once on the cell of a gauge, which the storage makes where the key isn't held, and answers what it answers.
@@ -175,9 +190,9 @@ where
         key: &K,
         op: F,
     ) -> Result<V, Error>
-        requires { MayCall (FnOnceTakesAtMut F.FnOnce op) (S.makes_gauge self.old.storage key.now) (held K.eq self.old.gauges key.now) }
-        ensures gauges { GetsOrCreates K.eq K.is_clone (S.makes_gauge self.old.storage) (FnOnceReturnsAtMut F.FnOnce op) (self.old.count ≡ 1)
-            key.now result self.old.gauges self.new.gauges }
+        requires { MayCall K.eq (S.makes_gauge self.old.storage) (FnOnceTakesAtMut F.FnOnce op) key.now self.old.gauges }
+        ensures gauges { GetsOrCreates K.eq K.is_clone (S.makes_gauge self.old.storage)
+            (FnOnceReturnsAtMut F.FnOnce op) (self.old.count ≡ 1) key.now result self.old.gauges self.new.gauges }
         ensures rest { GaugesAlone self.old self.new }
     {
         let shard = shard_of(key, self.shards.len());
@@ -187,7 +202,7 @@ where
     /// Calls `f` once for each gauge, in some order.
     pub fn visit_gauges<F: FnMut(&K, &S::Gauge) + Drop>(&self, f: F)
         requires { TakesEach F.FnMut f self.now.gauges }
-        ensures calls { (last : F) × FoldsTo (λ p e q. CallsAtEntry F.FnMut p e tt q) f self.now.gauges last }
+        ensures calls { (last : F) × CallsEach F.FnMut f self.now.gauges last }
         ensures once { IsDistinct K.eq (keys_of self.now.gauges) }
     {
         let mut f = f;
@@ -200,7 +215,7 @@ where
     pub fn get_gauge_handles(&self, alloc: Global) -> Result<HashMap<K, S::Gauge>, Error>
     where
         S::Gauge: Clone,
-        ensures { MatchResult result (λ m. Copies K.eq S.Gauge.is_clone self.now.gauges (λ _. None) (get K.eq m)) (λ e. e ≡ OutOfMemory) }
+        ensures { AreCopied K.eq S.Gauge.is_clone self.now.gauges result }
     {
         let mut handles = HashMap::new(alloc);
         for shard in &self.shards {
@@ -212,7 +227,7 @@ where
     /// Keeps the gauges for which `f` answers true. It is called once for each gauge, in some order.
     pub fn retain_gauges<F: FnMut(&K, &S::Gauge) -> bool + Drop>(&mut self, f: F)
         requires { TakesEach F.FnMut f self.old.gauges }
-        ensures retains { (last : F) × Retains (λ p e b q. CallsAtEntry F.FnMut p e b q) f self.old.gauges self.new.gauges last }
+        ensures retains { (last : F) × RetainsEach F.FnMut f self.old.gauges self.new.gauges last }
         ensures rest { GaugesAlone self.old self.new }
     {
         let mut f = f;
@@ -235,8 +250,7 @@ where
     pub fn get_histogram(&self, key: &K) -> Option<&S::Histogram>
         ensures { option_copied result ≡ held K.eq self.now.histograms key.now }
     {
-        let shard = shard_of(key, self.shards.len());
-        self.shards[shard].histograms.get(key)
+        self.shard(key).histograms.get(key)
     }
 
     /// Calls `op` once on the cell of a histogram, which the storage makes where the key isn't held, and answers what it answers.
@@ -247,9 +261,9 @@ where
         key: &K,
         op: F,
     ) -> Result<V, Error>
-        requires { MayCall (FnOnceTakesAtMut F.FnOnce op) (S.makes_histogram self.old.storage key.now) (held K.eq self.old.histograms key.now) }
-        ensures histograms { GetsOrCreates K.eq K.is_clone (S.makes_histogram self.old.storage) (FnOnceReturnsAtMut F.FnOnce op) (self.old.count ≡ 1)
-            key.now result self.old.histograms self.new.histograms }
+        requires { MayCall K.eq (S.makes_histogram self.old.storage) (FnOnceTakesAtMut F.FnOnce op) key.now self.old.histograms }
+        ensures histograms { GetsOrCreates K.eq K.is_clone (S.makes_histogram self.old.storage)
+            (FnOnceReturnsAtMut F.FnOnce op) (self.old.count ≡ 1) key.now result self.old.histograms self.new.histograms }
         ensures rest { HistogramsAlone self.old self.new }
     {
         let shard = shard_of(key, self.shards.len());
@@ -259,7 +273,7 @@ where
     /// Calls `f` once for each histogram, in some order.
     pub fn visit_histograms<F: FnMut(&K, &S::Histogram) + Drop>(&self, f: F)
         requires { TakesEach F.FnMut f self.now.histograms }
-        ensures calls { (last : F) × FoldsTo (λ p e q. CallsAtEntry F.FnMut p e tt q) f self.now.histograms last }
+        ensures calls { (last : F) × CallsEach F.FnMut f self.now.histograms last }
         ensures once { IsDistinct K.eq (keys_of self.now.histograms) }
     {
         let mut f = f;
@@ -272,7 +286,7 @@ where
     pub fn get_histogram_handles(&self, alloc: Global) -> Result<HashMap<K, S::Histogram>, Error>
     where
         S::Histogram: Clone,
-        ensures { MatchResult result (λ m. Copies K.eq S.Histogram.is_clone self.now.histograms (λ _. None) (get K.eq m)) (λ e. e ≡ OutOfMemory) }
+        ensures { AreCopied K.eq S.Histogram.is_clone self.now.histograms result }
     {
         let mut handles = HashMap::new(alloc);
         for shard in &self.shards {
@@ -284,7 +298,7 @@ where
     /// Keeps the histograms for which `f` answers true. It is called once for each histogram, in some order.
     pub fn retain_histograms<F: FnMut(&K, &S::Histogram) -> bool + Drop>(&mut self, f: F)
         requires { TakesEach F.FnMut f self.old.histograms }
-        ensures retains { (last : F) × Retains (λ p e b q. CallsAtEntry F.FnMut p e b q) f self.old.histograms self.new.histograms last }
+        ensures retains { (last : F) × RetainsEach F.FnMut f self.old.histograms self.new.histograms last }
         ensures rest { HistogramsAlone self.old self.new }
     {
         let mut f = f;

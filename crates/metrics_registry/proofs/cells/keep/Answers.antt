@@ -1,9 +1,9 @@
-use Rattle.std.proofs.Common.{rules, arith, ◌≡◌, ◌∙◌, sym, ap, refl, subst, ℕ, Bool, List, ◌+◌, ◌≤◌, ◌<◌, ◌∷◌, ◌++◌, length, take, Some, slice_get}
+use Rattle.std.proofs.Common.{rules, arith, ◌≡◌, ◌∙◌, sym, ap, refl, subst, Bool, List, ◌<◌, length, take, Some, slice_get}
 use Rattle.std.proofs.lemmas.List.{take_all}
 use Rattle.std.specs.Option.{option_map}
 use Rattle.std.specs.Map.Iter.{deref_pair}
 use Rattle.metrics_registry.specs.Held.{CallsAtEntry, Retains}
-use Rattle.metrics_registry.proofs.RetainLemmas.{SameFrom, keeps, drops, get_or-slice_get}
+use Rattle.metrics_registry.proofs.RetainLemmas.{keeps, drops, get_or-slice_get}
 use Rattle.metrics_registry.proofs.WalkLemmas.{folds-retained, always-after, list-split}
 use Rattle.metrics_registry.proofs.cells.keep.Goals as goal
 use Rattle.metrics_registry.proofs.cells.keep.Goals.{then-f, else-f}

@@ -1,5 +1,4 @@
-use Rattle.std.proofs.Common.{rules, ◌∙◌, ap, refl}
-use Rattle.std.specs.Fn.{FnOnceReturnsAtMut, FnOnceTakesAtMut}
+use Rattle.std.proofs.Common.{rules, ◌∙◌, refl}
 use Rattle.metrics_registry.proofs.ShardLemmas.{storage_is, count_is, counters_are, gauges_are, histograms_are, kept-placed, kept-entries, removes-there}
 use Rattle.metrics_registry.proofs.registry.OwnedRegistry.delete_histogram.Goals as goal
 
