@@ -39,6 +39,17 @@ where
         }
     }
 
+    /// Removes every entry of every kind.
+    pub fn clear(&mut self)
+        ensures counters { self.new.counters ≡ [] }
+        ensures gauges { self.new.gauges ≡ [] }
+        ensures histograms { self.new.histograms ≡ [] }
+    {
+        self.counters.clear();
+        self.gauges.clear();
+        self.histograms.clear();
+    }
+
     /// Calls `op` once on the cell of a counter, which the storage makes where the key isn't held, and answers what it answers.
     ///
     /// A refusal changes nothing, and never meets a key that is held.

@@ -1,5 +1,5 @@
 //! Which series are still in use.
-ghost use Rattle.std.specs.Prelude.{◌≡◌, if◌then◌else◌, Some, None, OnOk, OnErr, IfOk, is_some};
+ghost use Rattle.std.specs.Prelude.{◌≡◌, ◌&&◌, true, if◌then◌else◌, Some, None, OnOk, OnErr, IfOk, IfErr, is_some};
 ghost use Rattle.std.specs.List.{IsDistinct};
 ghost use Rattle.std.specs.Map.{keys_of};
 ghost use Rattle.std.specs.HashMap.{get};
@@ -9,6 +9,8 @@ ghost use Rattle.metrics_names.specs.declared.kind.MetricKind.TheVariants.{Count
 ghost use Rattle.metrics_names.specs.declared.kind.MetricKind.TheVariants.{Histogram as HistogramKind};
 ghost use Rattle.metrics_registry.specs.Held.{held, StaysOrGoes, CountersAlone, GaugesAlone, HistogramsAlone};
 ghost use Rattle.metrics_registry.specs.Recency.{watch_step, IsNoted};
+ghost use Rattle.metrics.specs.declared.error.Error.TheVariants.{Memory as OutOfMemory};
+ghost use Rattle.metrics_names.specs.Names.{kind_eq};
 
 use crate::cells::Cells;
 use crate::common::{EqualClone, Hashable};
@@ -26,6 +28,29 @@ use std::hash::Hash;
 pub(crate) struct Noted {
     generation: Generation,
     moment: u64,
+}
+
+/// Notes a check of a key, where notes are taken, and tells whether the key stays whatever holds it.
+fn note<K: Hash + EqualClone + Drop>(
+    noted: &mut HashMap<K, Noted>,
+    timeout: u64,
+    key: &K,
+    seen: Noted,
+) -> Result<bool, Error>
+    ensures answer { IfOk result (λ stays. stays ≡ (watch_step (Some timeout) seen true (get K.eq noted.old key.now)).0) }
+    ensures ok { IfOk result (λ stays. (q : K) → get K.eq noted.new q
+        ≡ (if stays && K.eq key.now q then (watch_step (Some timeout) seen true (get K.eq noted.old key.now)).1 else get K.eq noted.old q)) }
+    ensures err { IfErr result (λ e. (e ≡ OutOfMemory) × ((q : K) → get K.eq noted.new q ≡ get K.eq noted.old q) × (get K.eq noted.old key.now ≡ None)) }
+{
+    let Some(note) = noted.get_mut(key) else {
+        noted.insert(key.clone()?, seen)?;
+        return Ok(true);
+    };
+    if note.generation != seen.generation {
+        *note = seen;
+        return Ok(true);
+    }
+    Ok(seen.moment.saturating_sub(note.moment) <= timeout)
 }
 
 /// One check of a key among the cells of its kind, where notes are taken.
@@ -199,5 +224,47 @@ impl<K: Hashable + EqualClone + Drop> OwnedRecency<K> {
         let shard = shard_of(key, registry.shards.len());
         let cells = &mut registry.shards[shard].histograms;
         self.check(MetricKind::Histogram, key, generation, now, cells)
+    }
+}
+
+/// The two parts of a check, for a caller that looks at the cells only where the notes ask for it.
+impl<K: Hashable + EqualClone + Drop> OwnedRecency<K> {
+    ghost use Rattle.metrics_registry.specs.Recency.{table_answer, table_after};
+    ghost use Rattle.metrics_registry.specs.RecencyEntries.{rules_of, table_of, check_of};
+
+    /// Whether a series that has this generation at this moment is still in use, as far as the notes tell. Where it isn't,
+    /// nothing is noted yet: once the series was removed it is to be forgotten.
+    ///
+    /// A refusal changes nothing, and never meets a series that is noted.
+    pub fn note(
+        &mut self,
+        kind: MetricKind,
+        key: &K,
+        generation: Generation,
+        now: u64,
+    ) -> Result<bool, Error>
+        ensures rules { rules_of self.new ≡ rules_of self.old }
+        ensures answer { IfOk result (λ stays. stays ≡ table_answer (rules_of self.old) (check_of kind key.now generation now true) (table_of K.eq self.old)) }
+        ensures ok { IfOk result (λ stays. (k : AnyKind) (q : K) → table_of K.eq self.new k q
+            ≡ (if stays then table_after K.eq (rules_of self.old) (check_of kind key.now generation now true) (table_of K.eq self.old) k q else table_of K.eq self.old k q)) }
+        ensures err { IfErr result (λ e. (e ≡ OutOfMemory) × ((k : AnyKind) (q : K) → table_of K.eq self.new k q ≡ table_of K.eq self.old k q)
+            × (table_of K.eq self.old kind key.now ≡ None)) }
+    {
+        let Some(timeout) = self.timeout_of(kind) else {
+            return Ok(true);
+        };
+        let seen = Noted {
+            generation,
+            moment: now,
+        };
+        note(self.noted.of_mut(kind), timeout, key, seen)
+    }
+
+    /// Lets go what is noted of a series.
+    pub fn forget(&mut self, kind: MetricKind, key: &K)
+        ensures rules { rules_of self.new ≡ rules_of self.old }
+        ensures gone { (k : AnyKind) (q : K) → table_of K.eq self.new k q ≡ (if kind_eq kind k && K.eq key.now q then None else table_of K.eq self.old k q) }
+    {
+        self.noted.of_mut(kind).remove(key);
     }
 }

@@ -1,6 +1,13 @@
 //! A registry that several threads share, with generations of its cells and recency.
 #![tactic(auto)]
 
-pub mod registry;
+mod generational;
+mod recency;
+mod registry;
+mod storage;
 
+pub use generational::Generational;
 pub use metrics::Error;
+pub use recency::Recency;
+pub use registry::Registry;
+pub use storage::{AtomicStorage, GenerationalAtomicStorage, GenerationalStorage};

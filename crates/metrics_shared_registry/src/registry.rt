@@ -1,27 +1,15 @@
-//! A registry that several threads share: shards, each under a lock of its own.
-//!
-//! No contract says what a shard holds, since other threads may change it at any time.
+//! Shards, each under a lock of its own.
 ghost use Rattle.std.specs.Prelude.{◌≡◌, ◌<◌, true, IfOk, IfErr, if◌then◌else◌, vec_len};
 ghost use Rattle.std.specs.Fn.{FnOnceReturnsAt};
 ghost use Rattle.metrics.specs.declared.error.Error.TheVariants.{Memory as OutOfMemory, BadShards as NotShards};
-ghost use Rattle.metrics_registry.specs.Held.{is_shard_count};
+ghost use Rattle.metrics_registry.specs.Held.{is_shard_count as is_count};
 
-mod generational;
-mod recency;
-mod storage;
-
-pub use generational::Generational;
+use crate::storage::AtomicStorage;
 use metrics::{Error, Key};
-use metrics_registry::Hashable;
-use metrics_registry::registry::{OwnedRegistry, Storage};
-pub use recency::Recency;
+use metrics_registry::{EqualClone, Hashable, Kinds, Storage, is_shard_count, shard_of};
 use std::alloc::Global;
 use std::collections::HashMap;
-use std::sync::{Arc, RwLock, Wait};
-pub use storage::{AtomicStorage, GenerationalAtomicStorage, GenerationalStorage};
-
-/// A part of a registry, under its lock.
-type Shard<K, S> = RwLock<OwnedRegistry<K, Arc<S>>>;
+use std::sync::{RwLock, Wait};
 
 /// A registry that any thread may call: for each kind of metric a map from keys to cells, in shards.
 ///
@@ -30,15 +18,15 @@ type Shard<K, S> = RwLock<OwnedRegistry<K, Arc<S>>>;
 /// Calls of all keys go from shard to shard, and hold one lock at a time: a change made meanwhile may be seen or not. A closure
 /// that calls this registry again may wait for ever.
 ///
-/// A call that copies keys asks that a key's clone is equal to the key.
+/// No contract says what a shard holds, since other threads may change it at any time.
 #[derive(Drop)]
 pub struct Registry<K: Hashable, S: Storage<K>> {
-    storage: Arc<S>,
-    shards: Vec<Shard<K, S>>,
+    storage: S,
+    shards: Vec<RwLock<Kinds<K, S>>>,
     ghost some: { 0 < vec_len shards },
 }
 
-impl<K: Hashable + Clone + Drop, S: Storage<K> + Drop> Registry<K, S>
+impl<K: Hashable + EqualClone + Drop, S: Storage<K> + Drop> Registry<K, S>
 where
     S::Counter: Drop,
     S::Gauge: Drop,
@@ -46,31 +34,26 @@ where
 {
     /// A registry with nothing in it, in this many shards, a power of two from 1 to 1,024.
     pub fn new(alloc: Global, storage: S, shards: usize) -> Result<Registry<K, S>, Error>
-        ensures ok { IfOk result (λ r. (is_shard_count shards ≡ true) × (r.storage.value ≡ storage) × (vec_len r.shards ≡ shards)) }
-        ensures err { IfErr result (λ e. e ≡ (if is_shard_count shards then OutOfMemory else NotShards)) }
+        ensures ok { IfOk result (λ r. (is_count shards ≡ true) × (r.storage ≡ storage) × (vec_len r.shards ≡ shards)) }
+        ensures err { IfErr result (λ e. e ≡ (if is_count shards then OutOfMemory else NotShards)) }
     {
-        if !shards.is_power_of_two() || shards > 1024 {
+        if !is_shard_count(shards) {
             return Err(Error::BadShards);
         }
-        let storage = Arc::new(alloc, storage)?;
-        let shards = new_shards(alloc, &storage, shards)?;
+        let shards = new_shards(alloc, shards)?;
         Ok(Registry { storage, shards })
     }
 
     /// What makes the cells.
     pub fn storage(&self) -> &S
-        ensures { result.now ≡ self.now.storage.value }
+        ensures { result.now ≡ self.now.storage }
     {
         &self.storage
     }
 
     /// The shard of a key.
-    pub(crate) fn shard(&self, key: &K) -> &Shard<K, S> {
-        let count = self.shards.len();
-        if count == 1 {
-            return &self.shards[0];
-        }
-        &self.shards[(key.hashable() % count as u64) as usize]
+    fn shard(&self, key: &K) -> &RwLock<Kinds<K, S>> {
+        &self.shards[shard_of(key, self.shards.len())]
     }
 
     /// Removes every entry of every kind.
@@ -86,7 +69,7 @@ where
         S::Counter: Clone,
         ensures { IfErr result (λ e. e ≡ OutOfMemory) }
     {
-        match self.shard(key).read(rt).get_counter(key) {
+        match self.shard(key).read(rt).counters.get(key) {
             Some(cell) => Ok(Some(cell.clone()?)),
             None => Ok(None),
         }
@@ -101,23 +84,21 @@ where
         key: &K,
         op: F,
     ) -> Result<V, Error>
-        requires op { F.IsAlwaysCallable op }
-        requires clones { (k c : K) → K.is_clone k c → K.eq k c ≡ true }
+        requires { F.IsAlwaysCallable op }
         ensures called { IfOk result (λ v. (c : S.Counter) × FnOnceReturnsAt F.FnOnce op c v) }
         ensures err { IfErr result (λ e. e ≡ OutOfMemory) }
     {
         let shard = self.shard(key);
-        let answer = call_held(shard.read(rt).get_counter(key), op);
-        match answer {
-            Ok(answer) => Ok(answer),
-            Err(op) => shard.write(rt).get_or_create_counter(
-                key,
-                |cell: &mut S::Counter| -> V
-                    requires { F.IsAlwaysCallable op }
-                    ensures { FnOnceReturnsAt F.FnOnce op cell.old result }
-                { call(cell, op) },
-            ),
+        if let Some(cell) = shard.read(rt).counters.get(key) {
+            return Ok(op(cell));
         }
+        let create = |cell: &mut S::Counter| -> V
+            requires { F.IsAlwaysCallable op }
+            ensures { FnOnceReturnsAt F.FnOnce op cell.old result }
+        { op(cell) };
+        shard
+            .write(rt)
+            .get_or_create_counter(&self.storage, key, create)
     }
 
     /// Calls `f` once for each counter, in some order.
@@ -126,7 +107,7 @@ where
     {
         let mut f = f;
         for shard in &self.shards {
-            f = shard.read(rt).visit_counters_to(f);
+            f = shard.read(rt).counters.visit(f);
         }
     }
 
@@ -138,15 +119,13 @@ where
     ) -> Result<HashMap<K, S::Counter>, Error>
     where
         S::Counter: Clone,
-        requires { (k c : K) → K.is_clone k c → K.eq k c ≡ true }
         ensures { IfErr result (λ e. e ≡ OutOfMemory) }
     {
-        let mut all = HashMap::new(alloc);
+        let mut handles = HashMap::new(alloc);
         for shard in &self.shards {
-            let some = shard.read(rt).get_counter_handles(alloc)?;
-            all.extend(some)?;
+            shard.read(rt).counters.copy_into(&mut handles)?;
         }
-        Ok(all)
+        Ok(handles)
     }
 
     /// Keeps the counters for which `f` answers true. It is called once for each counter, in some order.
@@ -155,13 +134,13 @@ where
     {
         let mut f = f;
         for shard in &self.shards {
-            f = shard.write(rt).retain_counters_to(f);
+            f = shard.write(rt).counters.retain(f);
         }
     }
 
     /// Removes a counter, and tells whether it was there.
     pub fn delete_counter<W: Wait>(&self, rt: &W, key: &K) -> bool {
-        self.shard(key).write(rt).delete_counter(key)
+        self.shard(key).write(rt).counters.remove(key)
     }
 
     /// A clone of the cell of a gauge, if the key is held.
@@ -170,7 +149,7 @@ where
         S::Gauge: Clone,
         ensures { IfErr result (λ e. e ≡ OutOfMemory) }
     {
-        match self.shard(key).read(rt).get_gauge(key) {
+        match self.shard(key).read(rt).gauges.get(key) {
             Some(cell) => Ok(Some(cell.clone()?)),
             None => Ok(None),
         }
@@ -185,23 +164,21 @@ where
         key: &K,
         op: F,
     ) -> Result<V, Error>
-        requires op { F.IsAlwaysCallable op }
-        requires clones { (k c : K) → K.is_clone k c → K.eq k c ≡ true }
+        requires { F.IsAlwaysCallable op }
         ensures called { IfOk result (λ v. (c : S.Gauge) × FnOnceReturnsAt F.FnOnce op c v) }
         ensures err { IfErr result (λ e. e ≡ OutOfMemory) }
     {
         let shard = self.shard(key);
-        let answer = call_held(shard.read(rt).get_gauge(key), op);
-        match answer {
-            Ok(answer) => Ok(answer),
-            Err(op) => shard.write(rt).get_or_create_gauge(
-                key,
-                |cell: &mut S::Gauge| -> V
-                    requires { F.IsAlwaysCallable op }
-                    ensures { FnOnceReturnsAt F.FnOnce op cell.old result }
-                { call(cell, op) },
-            ),
+        if let Some(cell) = shard.read(rt).gauges.get(key) {
+            return Ok(op(cell));
         }
+        let create = |cell: &mut S::Gauge| -> V
+            requires { F.IsAlwaysCallable op }
+            ensures { FnOnceReturnsAt F.FnOnce op cell.old result }
+        { op(cell) };
+        shard
+            .write(rt)
+            .get_or_create_gauge(&self.storage, key, create)
     }
 
     /// Calls `f` once for each gauge, in some order.
@@ -210,7 +187,7 @@ where
     {
         let mut f = f;
         for shard in &self.shards {
-            f = shard.read(rt).visit_gauges_to(f);
+            f = shard.read(rt).gauges.visit(f);
         }
     }
 
@@ -222,15 +199,13 @@ where
     ) -> Result<HashMap<K, S::Gauge>, Error>
     where
         S::Gauge: Clone,
-        requires { (k c : K) → K.is_clone k c → K.eq k c ≡ true }
         ensures { IfErr result (λ e. e ≡ OutOfMemory) }
     {
-        let mut all = HashMap::new(alloc);
+        let mut handles = HashMap::new(alloc);
         for shard in &self.shards {
-            let some = shard.read(rt).get_gauge_handles(alloc)?;
-            all.extend(some)?;
+            shard.read(rt).gauges.copy_into(&mut handles)?;
         }
-        Ok(all)
+        Ok(handles)
     }
 
     /// Keeps the gauges for which `f` answers true. It is called once for each gauge, in some order.
@@ -239,13 +214,13 @@ where
     {
         let mut f = f;
         for shard in &self.shards {
-            f = shard.write(rt).retain_gauges_to(f);
+            f = shard.write(rt).gauges.retain(f);
         }
     }
 
     /// Removes a gauge, and tells whether it was there.
     pub fn delete_gauge<W: Wait>(&self, rt: &W, key: &K) -> bool {
-        self.shard(key).write(rt).delete_gauge(key)
+        self.shard(key).write(rt).gauges.remove(key)
     }
 
     /// A clone of the cell of a histogram, if the key is held.
@@ -254,7 +229,7 @@ where
         S::Histogram: Clone,
         ensures { IfErr result (λ e. e ≡ OutOfMemory) }
     {
-        match self.shard(key).read(rt).get_histogram(key) {
+        match self.shard(key).read(rt).histograms.get(key) {
             Some(cell) => Ok(Some(cell.clone()?)),
             None => Ok(None),
         }
@@ -269,23 +244,21 @@ where
         key: &K,
         op: F,
     ) -> Result<V, Error>
-        requires op { F.IsAlwaysCallable op }
-        requires clones { (k c : K) → K.is_clone k c → K.eq k c ≡ true }
+        requires { F.IsAlwaysCallable op }
         ensures called { IfOk result (λ v. (c : S.Histogram) × FnOnceReturnsAt F.FnOnce op c v) }
         ensures err { IfErr result (λ e. e ≡ OutOfMemory) }
     {
         let shard = self.shard(key);
-        let answer = call_held(shard.read(rt).get_histogram(key), op);
-        match answer {
-            Ok(answer) => Ok(answer),
-            Err(op) => shard.write(rt).get_or_create_histogram(
-                key,
-                |cell: &mut S::Histogram| -> V
-                    requires { F.IsAlwaysCallable op }
-                    ensures { FnOnceReturnsAt F.FnOnce op cell.old result }
-                { call(cell, op) },
-            ),
+        if let Some(cell) = shard.read(rt).histograms.get(key) {
+            return Ok(op(cell));
         }
+        let create = |cell: &mut S::Histogram| -> V
+            requires { F.IsAlwaysCallable op }
+            ensures { FnOnceReturnsAt F.FnOnce op cell.old result }
+        { op(cell) };
+        shard
+            .write(rt)
+            .get_or_create_histogram(&self.storage, key, create)
     }
 
     /// Calls `f` once for each histogram, in some order.
@@ -294,7 +267,7 @@ where
     {
         let mut f = f;
         for shard in &self.shards {
-            f = shard.read(rt).visit_histograms_to(f);
+            f = shard.read(rt).histograms.visit(f);
         }
     }
 
@@ -306,15 +279,13 @@ where
     ) -> Result<HashMap<K, S::Histogram>, Error>
     where
         S::Histogram: Clone,
-        requires { (k c : K) → K.is_clone k c → K.eq k c ≡ true }
         ensures { IfErr result (λ e. e ≡ OutOfMemory) }
     {
-        let mut all = HashMap::new(alloc);
+        let mut handles = HashMap::new(alloc);
         for shard in &self.shards {
-            let some = shard.read(rt).get_histogram_handles(alloc)?;
-            all.extend(some)?;
+            shard.read(rt).histograms.copy_into(&mut handles)?;
         }
-        Ok(all)
+        Ok(handles)
     }
 
     /// Keeps the histograms for which `f` answers true. It is called once for each histogram, in some order.
@@ -327,13 +298,13 @@ where
     {
         let mut f = f;
         for shard in &self.shards {
-            f = shard.write(rt).retain_histograms_to(f);
+            f = shard.write(rt).histograms.retain(f);
         }
     }
 
     /// Removes a histogram, and tells whether it was there.
     pub fn delete_histogram<W: Wait>(&self, rt: &W, key: &K) -> bool {
-        self.shard(key).write(rt).delete_histogram(key)
+        self.shard(key).write(rt).histograms.remove(key)
     }
 }
 
@@ -341,54 +312,18 @@ impl Registry<Key, AtomicStorage> {
     /// A registry of a metric's keys with nothing in it, whose cells any thread may change, in this many shards, a power of two
     /// from 1 to 1,024.
     pub fn atomic(alloc: Global, shards: usize) -> Result<Registry<Key, AtomicStorage>, Error>
-        ensures ok { IfOk result (λ r. (is_shard_count shards ≡ true) × (vec_len r.shards ≡ shards)) }
-        ensures err { IfErr result (λ e. e ≡ (if is_shard_count shards then OutOfMemory else NotShards)) }
+        ensures ok { IfOk result (λ r. (is_count shards ≡ true) × (vec_len r.shards ≡ shards)) }
+        ensures err { IfErr result (λ e. e ≡ (if is_count shards then OutOfMemory else NotShards)) }
     {
         Registry::new(alloc, AtomicStorage::new(alloc), shards)
     }
 }
 
-/// Calls `op` once on a cell.
-fn call<T, V, F: FnOnce(&T) -> V>(cell: &T, op: F) -> V
-    requires { F.IsAlwaysCallable op }
-    ensures { FnOnceReturnsAt F.FnOnce op cell.now result }
-{
-    op(cell)
-}
-
-/// Calls `op` once on a cell, if there is one. Where there is none `op` comes back.
-fn call_held<T, V, F: FnOnce(&T) -> V>(cell: Option<&T>, op: F) -> Result<V, F>
-    requires { F.IsAlwaysCallable op }
-    ensures ok { IfOk result (λ v. (c : T) × FnOnceReturnsAt F.FnOnce op c v) }
-    ensures err { IfErr result (λ f. f ≡ op) }
-{
-    match cell {
-        Some(cell) => Ok(call(cell, op)),
-        None => Err(op),
-    }
-}
-
-/// A shard with nothing in it.
-fn new_shard<K: Hashable + Clone + Drop, S: Storage<K> + Drop>(
-    alloc: Global,
-    storage: &Arc<S>,
-) -> Result<Shard<K, S>, Error>
-where
-    S::Counter: Drop,
-    S::Gauge: Drop,
-    S::Histogram: Drop,
-    ensures { IfErr result (λ e. e ≡ OutOfMemory) }
-{
-    let registry = OwnedRegistry::new(alloc, storage.clone()?, 1)?;
-    Ok(RwLock::new(registry))
-}
-
 /// Shards with nothing in them.
-fn new_shards<K: Hashable + Clone + Drop, S: Storage<K> + Drop>(
+fn new_shards<K: Hashable + EqualClone + Drop, S: Storage<K>>(
     alloc: Global,
-    storage: &Arc<S>,
     count: usize,
-) -> Result<Vec<Shard<K, S>>, Error>
+) -> Result<Vec<RwLock<Kinds<K, S>>>, Error>
 where
     S::Counter: Drop,
     S::Gauge: Drop,
@@ -399,8 +334,7 @@ where
     let mut shards = Vec::new(alloc);
     shards.reserve(count)?;
     for _ in 0..count {
-        let shard = new_shard(alloc, storage)?;
-        shards.push_reserved(shard);
+        shards.push_reserved(RwLock::new(Kinds::new(alloc)));
     }
     Ok(shards)
 }

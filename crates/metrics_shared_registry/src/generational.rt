@@ -4,18 +4,10 @@ ghost use Rattle.std.specs.Fn.{FnReturnsAt};
 ghost use Rattle.metrics.specs.declared.error.Error.TheVariants.{Memory as OutOfMemory};
 
 use metrics::Error;
-use metrics_cells::{CounterFn, GaugeFn, HistogramFn};
-use metrics_registry::registry::{AtomicGeneration, Generation};
+use metrics_cells::{AtomicGeneration, CounterFn, GaugeFn, HistogramFn};
+use metrics_registry::Generation;
 use std::alloc::Global;
 use std::sync::{Arc, Wait};
-
-/// Calls `f` once on a value.
-fn call<T, V, F: Fn(&T) -> V>(value: &T, f: F) -> V
-    requires { F.IsAlwaysCallable f }
-    ensures { FnReturnsAt F.Fn f value.now result }
-{
-    f(value)
-}
 
 /// A cell with its generation. A clone has a clone of the cell and the same generation: a change through either raises it.
 #[derive(Clone, Drop)]
@@ -44,7 +36,7 @@ impl<T> Generational<T> {
 
     /// How often the cell was changed, modulo 2^64.
     pub fn get_generation(&self) -> Generation {
-        self.generation.load()
+        Generation::new(self.generation.load())
     }
 
     /// Calls `f` once on the cell and then raises the generation, whatever `f` answers.
@@ -52,7 +44,7 @@ impl<T> Generational<T> {
         requires { F.IsAlwaysCallable f }
         ensures { FnReturnsAt F.Fn f self.now.inner result }
     {
-        let answer = call(&self.inner, f);
+        let answer = f(&self.inner);
         self.generation.raise();
         answer
     }

@@ -1,28 +1,48 @@
 //! Which series are still in use, asked by several threads.
-ghost use Rattle.std.specs.Prelude.{◌≡◌, true, IfErr};
+ghost use Rattle.std.specs.Prelude.{◌≡◌, IfErr};
 ghost use Rattle.metrics.specs.declared.error.Error.TheVariants.{Memory as OutOfMemory};
 
 use crate::registry::Registry;
-use metrics::{Error, MetricKindMask};
-use metrics_registry::Hashable;
-use metrics_registry::registry::{Generation, OwnedRecency, Storage};
+use metrics::{Error, MetricKind, MetricKindMask};
+use metrics_registry::{EqualClone, Generation, Hashable, OwnedRecency, Storage};
 use std::alloc::Global;
 use std::sync::{Mutex, Wait};
 
 /// An `OwnedRecency` under a lock, over a `Registry`.
 ///
-/// A check holds this lock, and then the one of the key's shard, until it returns.
+/// A check holds this lock until it returns. Where it removes it takes the one of the key's shard too.
 #[derive(Drop)]
 pub struct Recency<K: Hashable> {
     noted: Mutex<OwnedRecency<K>>,
 }
 
-impl<K: Hashable + Clone + Drop> Recency<K> {
+impl<K: Hashable + EqualClone + Drop> Recency<K> {
     /// Checks the kinds of the mask. Moments and the timeout are in one unit of the caller's choice, as nanoseconds.
     pub fn new(alloc: Global, mask: MetricKindMask, timeout: Option<u64>) -> Recency<K> {
         Recency {
             noted: Mutex::new(OwnedRecency::new(alloc, mask, timeout)),
         }
+    }
+
+    /// One check, where `remove` removes the series from the registry and tells whether it was held.
+    fn check<W: Wait, F: FnOnce() -> bool + Drop>(
+        &self,
+        rt: &W,
+        kind: MetricKind,
+        key: &K,
+        generation: Generation,
+        now: u64,
+        remove: F,
+    ) -> Result<bool, Error>
+        requires { F.IsAlwaysCallable remove }
+        ensures { IfErr result (λ e. e ≡ OutOfMemory) }
+    {
+        let mut noted = self.noted.lock(rt);
+        if noted.note(kind, key, generation, now)? || !remove() {
+            return Ok(true);
+        }
+        noted.forget(kind, key);
+        Ok(false)
     }
 
     /// Whether a counter that has this generation at this moment is still in use. One that isn't is removed from the registry.
@@ -40,12 +60,10 @@ impl<K: Hashable + Clone + Drop> Recency<K> {
         S::Counter: Drop,
         S::Gauge: Drop,
         S::Histogram: Drop,
-        requires { (k c : K) → K.is_clone k c → K.eq k c ≡ true }
         ensures { IfErr result (λ e. e ≡ OutOfMemory) }
     {
-        let mut noted = self.noted.lock(rt);
-        let mut shard = registry.shard(key).write(rt);
-        noted.should_store_counter(key, generation, now, &mut *shard)
+        let remove = || registry.delete_counter(rt, key);
+        self.check(rt, MetricKind::Counter, key, generation, now, remove)
     }
 
     /// Whether a gauge that has this generation at this moment is still in use. One that isn't is removed from the registry.
@@ -63,12 +81,10 @@ impl<K: Hashable + Clone + Drop> Recency<K> {
         S::Counter: Drop,
         S::Gauge: Drop,
         S::Histogram: Drop,
-        requires { (k c : K) → K.is_clone k c → K.eq k c ≡ true }
         ensures { IfErr result (λ e. e ≡ OutOfMemory) }
     {
-        let mut noted = self.noted.lock(rt);
-        let mut shard = registry.shard(key).write(rt);
-        noted.should_store_gauge(key, generation, now, &mut *shard)
+        let remove = || registry.delete_gauge(rt, key);
+        self.check(rt, MetricKind::Gauge, key, generation, now, remove)
     }
 
     /// Whether a histogram that has this generation at this moment is still in use. One that isn't is removed from the registry.
@@ -86,11 +102,9 @@ impl<K: Hashable + Clone + Drop> Recency<K> {
         S::Counter: Drop,
         S::Gauge: Drop,
         S::Histogram: Drop,
-        requires { (k c : K) → K.is_clone k c → K.eq k c ≡ true }
         ensures { IfErr result (λ e. e ≡ OutOfMemory) }
     {
-        let mut noted = self.noted.lock(rt);
-        let mut shard = registry.shard(key).write(rt);
-        noted.should_store_histogram(key, generation, now, &mut *shard)
+        let remove = || registry.delete_histogram(rt, key);
+        self.check(rt, MetricKind::Histogram, key, generation, now, remove)
     }
 }

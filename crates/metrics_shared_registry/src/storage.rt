@@ -1,11 +1,10 @@
 //! What makes cells that several threads change.
-ghost use Rattle.std.specs.Prelude.{◌≡◌, IfErr};
-ghost use Rattle.metrics.specs.declared.error.Error.TheVariants.{Memory as OutOfMemory};
+ghost use Rattle.std.specs.Prelude.{◌≡◌};
 
-use crate::registry::Generational;
+use crate::generational::Generational;
 use metrics::Error;
 use metrics_bucket::AtomicBucket;
-use metrics_registry::registry::Storage;
+use metrics_registry::Storage;
 use std::alloc::Global;
 use std::sync::Arc;
 use std::sync::atomic::AtomicU64;
@@ -25,21 +24,6 @@ impl AtomicStorage {
     pub fn new(alloc: Global) -> AtomicStorage {
         AtomicStorage { alloc }
     }
-
-    /// A word at 0.
-    fn word(&self) -> Result<Arc<AtomicU64>, Error>
-        ensures { IfErr result (λ e. e ≡ OutOfMemory) }
-    {
-        Ok(Arc::new(self.alloc, AtomicU64::new(0))?)
-    }
-
-    /// An empty bucket.
-    fn bucket(&self) -> Result<Arc<AtomicBucket<i64>>, Error>
-        ensures { IfErr result (λ e. e ≡ OutOfMemory) }
-    {
-        let bucket = AtomicBucket::new(self.alloc, BLOCKS)?;
-        Ok(Arc::new(self.alloc, bucket)?)
-    }
 }
 
 /// No contract says what a cell holds.
@@ -57,15 +41,16 @@ impl<K> Storage<K> for AtomicStorage {
     ghost makes_histogram = { λ storage key cell. Unit {0} };
 
     fn counter(&self, _key: &K) -> Result<Arc<AtomicU64>, Error> {
-        self.word()
+        Ok(Arc::new(self.alloc, AtomicU64::new(0))?)
     }
 
     fn gauge(&self, _key: &K) -> Result<Arc<AtomicU64>, Error> {
-        self.word()
+        Ok(Arc::new(self.alloc, AtomicU64::new(0))?)
     }
 
     fn histogram(&self, _key: &K) -> Result<Arc<AtomicBucket<i64>>, Error> {
-        self.bucket()
+        let bucket = AtomicBucket::new(self.alloc, BLOCKS)?;
+        Ok(Arc::new(self.alloc, bucket)?)
     }
 }
 
