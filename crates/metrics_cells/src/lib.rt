@@ -6,4 +6,5 @@ mod handles;
 #[cfg(test)]
 mod tests;
 
+pub use atomics::{counter_value, gauge_value};
 pub use handles::{CounterFn, GaugeFn, HistogramFn};
