@@ -7,21 +7,14 @@ use metrics_util::debugging::DebuggingRecorder;
 use metrics_util::layers::{Child, Fanout, FanoutBuilder, FilterLayer, PrefixLayer};
 use std::alloc::Global;
 
-fn made<T: Drop, B: Drop>(answer: Result<T, (Error, B)>) -> Result<T, Error> {
-    match answer {
-        Ok(made) => Ok(made),
-        Err((error, _)) => Err(error),
-    }
-}
-
-fn tree(alloc: Global) -> Result<Fanout<DebuggingRecorder>> {
+fn tree(alloc: Global) -> Result<Fanout<DebuggingRecorder>, Error> {
     let prefix = PrefixLayer::new(alloc, "app")?;
     let filter = FilterLayer::from_patterns(alloc, &["debug"])?;
     let book = Child::leaf(DebuggingRecorder::new(alloc)?);
-    let book = made(made(book.prefix(alloc, &prefix))?.filter(alloc, &filter))?;
+    let book = book.prefix(alloc, &prefix)?.filter(alloc, &filter)?;
     let mut both = FanoutBuilder::default(alloc);
-    made(both.add_recorder(book))?;
-    made(both.add_recorder(Child::leaf(DebuggingRecorder::new(alloc)?)))?;
+    both.add_recorder(book)?;
+    both.add_recorder(Child::leaf(DebuggingRecorder::new(alloc)?))?;
     Ok(both.build())
 }
 

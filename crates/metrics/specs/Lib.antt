@@ -9,3 +9,4 @@ pub mod Layers
 pub mod History
 pub mod Answering
 pub mod Lending
+pub mod Errors

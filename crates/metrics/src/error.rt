@@ -2,13 +2,15 @@
 ghost use Rattle.std.specs.Prelude.{◌≡◌};
 ghost use Rattle.metrics.specs.declared.error.Error.TheVariants.{Memory as MemoryRefused};
 
+use metrics_names::Refused;
 use std::alloc::{AllocError, AllocFailed};
 use thiserror::Error as ThisError;
 
 /// Why a call of the library was refused. What was handed in comes back where the call says so.
 #[derive(Clone, Copy, Debug, PartialEq, Eq, ThisError)]
 pub enum Error {
-    /// A growth found no memory. Nothing changed.
+    /// A growth found no memory. Nothing changed, unless it was made of a `Refused`: the call then acted on as many of
+    /// its targets as that told.
     #[error("memory")]
     Memory,
     /// The mask has no kind.
@@ -47,6 +49,15 @@ pub enum Error {
     /// The number of blocks is not from 1 to 1,024. Nothing was made.
     #[error("bad number of blocks")]
     BadBlocks,
+    /// No series of that kind stands at that address. Nothing changed.
+    #[error("no such address")]
+    NoSuchAddress,
+    /// The number is not below the number of books. Nothing changed.
+    #[error("no such book")]
+    NoSuchBook,
+    /// No earlier successful register call has that number and the update's kind. Nothing changed.
+    #[error("bad handle")]
+    BadHandle,
 }
 
 impl From<AllocError> for Error {
@@ -62,5 +73,30 @@ impl<T: Drop> From<AllocFailed<T>> for Error {
 
     fn from(_error: AllocFailed<T>) -> Error {
         Error::Memory
+    }
+}
+
+/// So that `?` hands a recorder's refusal on. On how many targets a call had acted isn't told any more.
+impl From<Refused> for Error {
+    ghost use Rattle.metrics.specs.Errors.{error_of};
+
+    ghost from_gives = { λ e r. r ≡ error_of e };
+
+    fn from(refused: Refused) -> Error {
+        match refused {
+            Refused::Memory { .. } => Error::Memory,
+            Refused::NoSuchAddress => Error::NoSuchAddress,
+            Refused::NoSuchBook => Error::NoSuchBook,
+            Refused::BadHandle => Error::BadHandle,
+        }
+    }
+}
+
+/// So that `?` hands an error on that brings back what was handed in. That is dropped.
+impl<T: Drop> From<(Error, T)> for Error {
+    ghost from_gives = { λ e r. r ≡ e.0 };
+
+    fn from(refused: (Error, T)) -> Error {
+        refused.0
     }
 }

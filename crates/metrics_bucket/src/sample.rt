@@ -44,29 +44,32 @@ impl Sample for u64 {
     }
 }
 
-/// 0, -1, 1, -2 and so on are the words 0, 1, 2, 3.
+/// The word holds the 64 bits of the value, as that of a gauge does.
 impl Sample for i64 {
+    ghost use Rattle.std.specs.Prelude.{◌≡◌};
+    ghost use Rattle.std.specs.Int.{w64, cast_signed, cast_unsigned};
     ghost use Rattle.std.proofs.Common.{arith};
-    ghost use Rattle.metrics_bucket.specs.Signs.{folded, unfolded, unfolds};
+    ghost use Rattle.metrics_bucket.specs.Signs.{word_of, value_of, words_back};
 
-    ghost word = { folded };
+    ghost word = { word_of };
 
-    ghost value = { unfolded };
+    ghost value = { value_of };
 
-    ghost back = { unfolds };
+    ghost back = { words_back };
 
     ghost chunk_fits = { omega arith };
 
-    fn to_word(self) -> u64 {
-        if self >= 0 {
-            2 * self as u64
-        } else {
-            2 * -(self + 1) as u64 + 1
-        }
+    fn to_word(self) -> u64
+        ensures word { result ≡ word_of self }
+        ensures bits { result ≡ cast_unsigned w64 self }
+    {
+        self.cast_unsigned()
     }
 
-    fn of_word(bits: u64) -> i64 {
-        let half = (bits / 2) as i64;
-        if bits % 2 == 0 { half } else { -half - 1 }
+    fn of_word(bits: u64) -> i64
+        ensures value { result ≡ value_of bits }
+        ensures signed { result ≡ cast_signed w64 bits }
+    {
+        bits.cast_signed()
     }
 }

@@ -6,7 +6,7 @@ use crate::handles::{CounterFn, GaugeFn};
 use std::sync::Wait;
 use std::sync::atomic::{AtomicU64, Ordering};
 
-/// The word is the count.
+/// The word is the count, which `counter_value` reads.
 impl CounterFn for AtomicU64 {
     fn increment(&self, value: u64) {
         self.fetch_add(value, Ordering::SeqCst);
@@ -17,7 +17,7 @@ impl CounterFn for AtomicU64 {
     }
 }
 
-/// The word holds the 64 bits of the value.
+/// The word holds the 64 bits of the value, which `gauge_value` reads.
 impl GaugeFn for AtomicU64 {
     fn increment<W: Wait>(&self, rt: &W, value: i64) {
         change(rt, self, |bits| added(bits, value));
@@ -30,6 +30,17 @@ impl GaugeFn for AtomicU64 {
     fn set(&self, value: i64) {
         self.store(value.cast_unsigned(), Ordering::SeqCst);
     }
+}
+
+/// The count in a word that is a counter (`CounterFn`), as it is now.
+pub fn counter_value(word: &AtomicU64) -> u64 {
+    word.load(Ordering::SeqCst)
+}
+
+/// The value in a word that is a gauge (`GaugeFn`), as it is now: the word holds its 64 bits, so that a value below 0 is
+/// a word from 2^63 on.
+pub fn gauge_value(word: &AtomicU64) -> i64 {
+    word.load(Ordering::SeqCst).cast_signed()
 }
 
 /// The bits of a value once another is added to it.

@@ -5,7 +5,7 @@
 use std::alloc::Allocator;
 use std::sync::{Arc, Wait};
 
-/// The cell of a counter.
+/// The cell of a counter. `counter_value` reads the count of a word of 64 bits.
 pub trait CounterFn {
     /// Adds to the count, modulo 2^64.
     fn increment(&self, value: u64);
@@ -14,7 +14,7 @@ pub trait CounterFn {
     fn absolute(&self, value: u64);
 }
 
-/// The cell of a gauge.
+/// The cell of a gauge. `gauge_value` reads the value of a word of 64 bits.
 pub trait GaugeFn {
     /// Adds to the value, which stops at the ends of `i64`. It may have to try again while other threads
     /// change the cell.

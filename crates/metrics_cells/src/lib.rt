@@ -8,4 +8,5 @@ mod handles;
 mod tests;
 
 pub use generation::AtomicGeneration;
+pub use atomics::{counter_value, gauge_value};
 pub use handles::{CounterFn, GaugeFn, HistogramFn};

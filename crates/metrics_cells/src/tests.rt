@@ -1,18 +1,19 @@
 //! Cells, used by one thread and by several, with expected values from outside.
 
-use crate::{CounterFn, GaugeFn, HistogramFn};
+use crate::{CounterFn, GaugeFn, HistogramFn, counter_value, gauge_value};
 use std::process::Abort;
-use std::sync::atomic::{AtomicU64, Ordering};
+use std::sync::atomic::AtomicU64;
 use std::sync::{Arc, Wait};
 use std::test::Fail;
+use std::thread::{Threads, join};
 
 fn expect_count<C: CounterFn>(rt: &impl Abort, cell: &C, word: &AtomicU64) {
     cell.increment(u64::MAX);
     cell.increment(2);
-    assert_eq!(rt; word.load(Ordering::SeqCst), 1);
+    assert_eq!(rt; counter_value(word), 1);
     cell.absolute(7);
     cell.absolute(5);
-    assert_eq!(rt; word.load(Ordering::SeqCst), 7);
+    assert_eq!(rt; counter_value(word), 7);
 }
 
 #[test]
@@ -29,12 +30,12 @@ fn a_shared_word_is_a_counter(rt: HostRuntime) -> Result<(), Fail> {
 }
 
 fn expect_value(rt: &impl Abort, word: &AtomicU64, want: i64) {
-    assert_eq!(rt; word.load(Ordering::SeqCst).cast_signed(), want);
+    assert_eq!(rt; gauge_value(word), want);
 }
 
 fn expect_gauge<R: Abort + Wait, G: GaugeFn>(rt: &R, cell: &G, word: &AtomicU64) {
-    cell.decrement(rt, 5);
-    expect_value(rt, word, -5);
+    cell.decrement(rt, 500);
+    expect_value(rt, word, -500);
     cell.set(i64::MAX);
     cell.increment(rt, 1);
     expect_value(rt, word, i64::MAX);
@@ -53,6 +54,47 @@ fn a_word_is_a_gauge(rt: HostRuntime) {
 fn a_shared_word_is_a_gauge(rt: HostRuntime) -> Result<(), Fail> {
     let word = Arc::new(rt.alloc(), AtomicU64::new(0))?;
     expect_gauge(&rt, &word, &word);
+    Ok(())
+}
+
+/// So often each of two threads changes a cell.
+const TIMES: u32 = 100_000;
+
+fn increment_often<C: CounterFn>(cell: &C) {
+    for _ in 0..TIMES {
+        cell.increment(3);
+    }
+}
+
+#[test]
+fn two_threads_increment_a_counter(rt: HostRuntime) -> Result<(), Fail> {
+    let word = Arc::new(rt.alloc(), AtomicU64::new(0))?;
+    join(&rt, || increment_often(&word), || increment_often(&word));
+    assert_eq!(&rt; counter_value(&word), 600_000);
+    Ok(())
+}
+
+fn raise_often<W: Wait, G: GaugeFn>(rt: &W, cell: &G) {
+    for _ in 0..TIMES {
+        cell.increment(rt, 3);
+    }
+}
+
+fn lower_often<W: Wait, G: GaugeFn>(rt: &W, cell: &G) {
+    for _ in 0..TIMES {
+        cell.decrement(rt, 5);
+    }
+}
+
+fn expect_sum<R: Abort + Threads + Wait + Sync>(rt: &R, word: &Arc<AtomicU64>) {
+    join(rt, || raise_often(rt, word), || lower_often(rt, word));
+    expect_value(rt, word, -200_000);
+}
+
+#[test]
+fn two_threads_change_a_gauge(rt: HostRuntime) -> Result<(), Fail> {
+    let word = Arc::new(rt.alloc(), AtomicU64::new(0))?;
+    expect_sum(&rt, &word);
     Ok(())
 }
 
@@ -80,7 +122,7 @@ fn expect_samples<R: Abort + Wait, H: HistogramFn<Error = i64>>(
     assert!(rt; cell.record(rt, 3).is_ok());
     assert!(rt; cell.record(rt, 4).is_ok());
     assert!(rt; cell.record(rt, -1).err() == Some(-1));
-    expect_value(rt, word, 7);
+    assert_eq!(rt; counter_value(word), 7);
 }
 
 #[test]

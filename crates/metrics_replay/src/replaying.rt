@@ -167,8 +167,8 @@ pub(crate) fn note_register(registers: &mut Vec<usize>, call: &Call, place: usiz
 
 /// Makes the calls in order, and answers each of them.
 ///
-/// Room for the list of answers is made first. `Err` comes only where it is refused, and then nothing was
-/// called.
+/// Room is made first: for an answer to each call, and for as many numbers, the places of the register calls. `Err`
+/// comes only where it is refused, and then nothing was called.
 pub fn replay<R: Recorder>(
     alloc: Global,
     on: &mut R,

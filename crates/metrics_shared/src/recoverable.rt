@@ -1,5 +1,8 @@
 //! A recorder that can be taken back after it was installed.
-ghost use Rattle.std.specs.Prelude.{◌≡◌, IfErr};
+ghost use Rattle.std.specs.Prelude.{◌≡◌, [], Option, None, Ok, IfErr, MatchOption};
+ghost use Rattle.std.specs.Fn.{FnOnceReturnsAtMut};
+ghost use Rattle.std.specs.Result.{result_map_both};
+ghost use Rattle.metrics.specs.Meaning.{KeepsTargets, Describes, Registers, Updates};
 ghost use Rattle.metrics.specs.declared.error.Error.TheVariants.{Memory as OutOfMemory, Gone};
 
 #[cfg(test)]
@@ -64,8 +67,8 @@ impl<R: Recorder> RecoverableRecorder<R> {
 
     /// Puts the recorder into a slot, and what calls it there into the cell. The answer takes it out.
     ///
-    /// The slot is made before the cell is looked at, and the recorder put in last. Where memory is refused, or
-    /// the cell is taken, the recorder comes back.
+    /// The slot is made before the cell is looked at, and the recorder put in last. Who finds the slot in the cell
+    /// before that waits for the recorder. Where memory is refused, or the cell is taken, the recorder comes back.
     pub fn install<W: Wait>(
         self,
         rt: &W,
@@ -78,10 +81,12 @@ impl<R: Recorder> RecoverableRecorder<R> {
         let Ok((slot, other)) = empty_slot(alloc) else {
             return Err(SetRecorderError::Memory(recorder));
         };
-        let Ok(_) = cell.set(rt, SlotRecorder { slot }) else {
+        let mut held = other.lock(rt);
+        if cell.set(rt, SlotRecorder { slot }).is_err() {
             return Err(SetRecorderError::Taken(recorder));
-        };
-        *other.lock(rt) = Slot::new(recorder);
+        }
+        *held = Slot::new(recorder);
+        drop(held);
         Ok(RecoveryHandle { slot: other })
     }
 }
@@ -95,6 +100,18 @@ pub struct SlotRecorder<R> {
 }
 
 impl<R: Recorder> SlotRecorder<R> {
+    ghost use Rattle.metrics_shared.specs.Slot.{CallsSlot};
+
+    /// Calls `f` on the recorder, under the lock. `None` once the recorder was taken out: `f` is not called then. It
+    /// waits for ever if it calls this slot again.
+    pub fn with<W: Wait, V, F: FnOnce(&mut R) -> V + Drop>(&self, rt: &W, f: F) -> Option<V>
+        requires { F.IsAlwaysCallable f }
+        ensures { (old : Option R) × (new : Option R) × CallsSlot old new (result ≡ None)
+            (λ old new. MatchOption result ⊥ (λ v. FnOnceReturnsAtMut F.FnOnce f old v new)) }
+    {
+        self.slot.lock(rt).with(f)
+    }
+
     /// `Recorder::describe`, and 0 once the recorder was taken out.
     pub fn describe<W: Wait>(
         &self,
@@ -104,7 +121,11 @@ impl<R: Recorder> SlotRecorder<R> {
         name: &KeyName,
         unit: Option<Unit>,
         text: &str,
-    ) -> Result<usize, Refused> {
+    ) -> Result<usize, Refused>
+        ensures { (old : Option R) × (new : Option R) × CallsSlot old new (result ≡ Ok 0)
+            (λ old new. KeepsTargets (R.meaning old) (R.meaning new)
+            × Describes (R.meaning old) (R.meaning new) kind name.now unit text.now result) }
+    {
         self.slot.lock(rt).describe(alloc, kind, name, unit, text)
     }
 
@@ -115,12 +136,21 @@ impl<R: Recorder> SlotRecorder<R> {
         alloc: Global,
         kind: MetricKind,
         key: &Key,
-    ) -> Result<Vec<Address>, Refused> {
+    ) -> Result<Vec<Address>, Refused>
+        ensures { (old : Option R) × (new : Option R)
+            × CallsSlot old new (result_map_both (λ v. v.items) (λ e. e) result ≡ Ok [])
+            (λ old new. KeepsTargets (R.meaning old) (R.meaning new)
+            × Registers (R.meaning old) (R.meaning new) kind key.now (result_map_both (λ v. v.items) (λ e. e) result)) }
+    {
         self.slot.lock(rt).register(alloc, kind, key)
     }
 
     /// `Recorder::update`, which does nothing once the recorder was taken out.
-    pub fn update<W: Wait>(&self, rt: &W, at: Address, by: Update) -> Result<(), Refused> {
+    pub fn update<W: Wait>(&self, rt: &W, at: Address, by: Update) -> Result<(), Refused>
+        ensures { (old : Option R) × (new : Option R) × CallsSlot old new (result ≡ Ok tt)
+            (λ old new. KeepsTargets (R.meaning old) (R.meaning new)
+            × Updates (R.meaning old) (R.meaning new) at by result) }
+    {
         self.slot.lock(rt).update(at, by)
     }
 }

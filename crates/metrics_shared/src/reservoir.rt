@@ -72,7 +72,7 @@ impl Waiting {
         filling: &Mutex<Filling<G>>,
         f: F,
     )
-        requires { F.IsAlwaysCallable f }
+        requires { (held : Drained) → F.pre f held }
         ensures { (held : Drained) × (after : F) × F.step f held tt after }
     {
         mem::swap(&mut self.reservoir, &mut filling.lock(rt).reservoir);
@@ -129,7 +129,7 @@ impl<G: Rng + Drop> AtomicSamplingReservoir<G> {
     /// What is pushed meanwhile goes to the other half. A second `consume` waits until `f` returned, so one that `f`
     /// makes itself waits for ever.
     pub fn consume<W: Wait, F: FnMut(Drain<'_>)>(&self, rt: &W, f: F)
-        requires { F.IsAlwaysCallable f }
+        requires { (held : Drained) → F.pre f held }
         ensures { (held : Drained) × (after : F) × F.step f held tt after }
     {
         self.waiting.lock(rt).consume(rt, &self.filling, f);
@@ -139,7 +139,9 @@ impl<G: Rng + Drop> AtomicSamplingReservoir<G> {
 impl<G: Rng + Drop> HistogramFn for AtomicSamplingReservoir<G> {
     type Error = Error;
 
-    fn record<W: Wait>(&self, rt: &W, value: i64) -> Result<(), Error> {
+    fn record<W: Wait>(&self, rt: &W, value: i64) -> Result<(), Error>
+        ensures { IfErr result (λ e. e ≡ CountFull) }
+    {
         self.push(rt, value)
     }
 }

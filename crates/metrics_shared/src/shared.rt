@@ -1,7 +1,10 @@
 //! A recorder under a lock.
 //!
-//! No contract says what a call did to a recorder that was under a lock: other threads may call it at any time.
+//! A call's contract is the recorder's own, of what it met under the lock and what it left there. Which recorder it
+//! met no contract says: other threads may call it at any time.
 ghost use Rattle.std.specs.Fn.{FnOnceReturnsAtMut};
+ghost use Rattle.std.specs.Result.{result_map_both};
+ghost use Rattle.metrics.specs.Meaning.{KeepsTargets, Describes, Registers, Updates, Snapshots};
 
 use metrics::{
     Address, Key, KeyName, MetricKind, Recorder, Refused, Reset, Snapshot, Unit, Update,
@@ -41,7 +44,10 @@ impl<R: Recorder> Shared<R> {
         name: &KeyName,
         unit: Option<Unit>,
         text: &str,
-    ) -> Result<usize, Refused> {
+    ) -> Result<usize, Refused>
+        ensures { (old : R) × (new : R) × KeepsTargets (R.meaning old) (R.meaning new)
+            × Describes (R.meaning old) (R.meaning new) kind name.now unit text.now result }
+    {
         self.recorder
             .lock(rt)
             .describe(alloc, kind, name, unit, text)
@@ -54,22 +60,26 @@ impl<R: Recorder> Shared<R> {
         alloc: Global,
         kind: MetricKind,
         key: &Key,
-    ) -> Result<Vec<Address>, Refused> {
+    ) -> Result<Vec<Address>, Refused>
+        ensures { (old : R) × (new : R) × KeepsTargets (R.meaning old) (R.meaning new)
+            × Registers (R.meaning old) (R.meaning new) kind key.now (result_map_both (λ v. v.items) (λ e. e) result) }
+    {
         self.recorder.lock(rt).register(alloc, kind, key)
     }
 
     /// `Recorder::update` under the lock.
-    pub fn update<W: Wait>(&self, rt: &W, at: Address, by: Update) -> Result<(), Refused> {
+    pub fn update<W: Wait>(&self, rt: &W, at: Address, by: Update) -> Result<(), Refused>
+        ensures { (old : R) × (new : R) × KeepsTargets (R.meaning old) (R.meaning new)
+            × Updates (R.meaning old) (R.meaning new) at by result }
+    {
         self.recorder.lock(rt).update(at, by)
     }
 
     /// `Recorder::snapshot` under the lock.
-    pub fn snapshot<W: Wait>(
-        &self,
-        rt: &W,
-        alloc: Global,
-        book: usize,
-    ) -> Result<Snapshot, Refused> {
+    pub fn snapshot<W: Wait>(&self, rt: &W, alloc: Global, book: usize) -> Result<Snapshot, Refused>
+        ensures { (old : R) × (new : R) × KeepsTargets (R.meaning old) (R.meaning new)
+            × Snapshots (R.meaning old) (R.meaning new) book Reset.All result }
+    {
         self.recorder.lock(rt).snapshot(alloc, book)
     }
 
@@ -80,7 +90,10 @@ impl<R: Recorder> Shared<R> {
         alloc: Global,
         book: usize,
         reset: Reset,
-    ) -> Result<Snapshot, Refused> {
+    ) -> Result<Snapshot, Refused>
+        ensures { (old : R) × (new : R) × KeepsTargets (R.meaning old) (R.meaning new)
+            × Snapshots (R.meaning old) (R.meaning new) book reset result }
+    {
         self.recorder.lock(rt).snapshot_with(alloc, book, reset)
     }
 

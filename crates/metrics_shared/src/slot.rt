@@ -1,5 +1,6 @@
 //! A place for a recorder, from which it can be taken.
-ghost use Rattle.std.specs.Prelude.{◌≡◌, [], None, Some, Ok};
+ghost use Rattle.std.specs.Prelude.{◌≡◌, [], None, Some, Ok, MatchOption};
+ghost use Rattle.std.specs.Fn.{FnOnceReturnsAtMut};
 ghost use Rattle.std.specs.Result.{result_map_both};
 ghost use Rattle.metrics.specs.Meaning.{KeepsTargets, Describes, Registers, Updates};
 ghost use Rattle.metrics_shared.specs.Slot.{CallsSlot};
@@ -45,6 +46,18 @@ impl<R: Recorder> Slot<R> {
         ensures emptied { self.new ≡ None }
     {
         self.recorder.take()
+    }
+
+    /// Calls `f` on the recorder. An empty slot answers `None`, and does not call it.
+    pub fn with<V, F: FnOnce(&mut R) -> V + Drop>(&mut self, f: F) -> Option<V>
+        requires { F.IsAlwaysCallable f }
+        ensures { CallsSlot self.old self.new (result ≡ None)
+            (λ old new. MatchOption result ⊥ (λ v. FnOnceReturnsAtMut F.FnOnce f old v new)) }
+    {
+        let Some(recorder) = &mut self.recorder else {
+            return None;
+        };
+        Some(f(recorder))
     }
 
     /// `Recorder::describe`. An empty slot answers 0.

@@ -3,10 +3,11 @@ use Rattle.std.proofs.Common.{◌≡◌, ◌+◌, length, arith, ℕ, zero, suc,
 use Rattle.std.proofs.lemmas.List.{reverse-append}
 use Rattle.std.specs.Prelude.{IsOk, OnOk, IfErr}
 use Rattle.std.specs.List.{AllZip}
-use Rattle.std.specs.Fn.{Mut, CalledAt}
+use Rattle.std.specs.Fn.{Mut, CalledAt, TakesAt}
 use denote.Ref.{Bor}
 use Rattle.metrics.specs.Book.{joined_lists}
-use Rattle.metrics_storage.specs.Bucket.{IsCalledAtEach}
+use Rattle.metrics_storage.specs.Bucket.{IsCalledAtEach, TakesEach, TakesInTurn}
+use Rattle.std.specs.List.{FoldsTo}
 
 -- the last item, and what a write there leaves
 pub last_of : {A : Type 0} (bs : List A) (i : ℕ) (d y : A) → i + 1 ≡ length bs → (front : List A) × (bs ≡ front ++ get_or bs i d ∷ []) × (set bs i y ≡ front ++ y ∷ [])
@@ -56,3 +57,9 @@ module _ {T : Type 0} where
       both [] (y ∷ ys) h = absurd h
       both (x ∷ xs) [] h = absurd h
       both (x ∷ xs) (y ∷ ys) h = (h.0, both xs ys h.1)
+
+  -- what is callable at each is so call by call
+  pub in_turn : {F : Type 0} (g : Mut F (Bor (List T) × Unit {0}) (Unit {0})) (f : F) (cs : List (List T))
+      → ((before after : List (List T)) (f' : F) (c : List T) → cs ≡ before ++ c ∷ after → FoldsTo (λ p x q. CalledAt g p x tt q) f before f' → TakesAt g f' c) → TakesInTurn g f cs
+  in_turn g f [] h = tt
+  in_turn g f (c ∷ cs) h = (h [] cs f c refl refl, λ f' call. in_turn g f' cs (λ before after f'' d e folds. h (c ∷ before) after f'' d (ap (λ l. c ∷ l) e) (f', call, folds)))

@@ -2,7 +2,7 @@
 ghost use Rattle.std.specs.Prelude.{◌≡◌, ◌==◌, ◌%◌, [], ◌∷◌, ◌++◌, length, reverse, IfOk, IfErr, OnOk, OnErr, MatchResult};
 ghost use Rattle.std.specs.List.{AllZip};
 ghost use Rattle.metrics.specs.Book.{chunks, blocks as bucket_order, joined_lists};
-ghost use Rattle.metrics_storage.specs.Bucket.{AddsToLast, HasNoRoom, IsCalledAtEach};
+ghost use Rattle.metrics_storage.specs.Bucket.{AddsToLast, HasNoRoom, IsCalledAtEach, TakesEach, TakesInTurn};
 ghost use Rattle.metrics.specs.declared.error.Error.TheVariants.{Memory as OutOfMemory};
 
 use crate::Block;
@@ -55,12 +55,35 @@ fn show<T, F: FnMut(&[T])>(blocks: &[Block<T>], f: &mut F)
     }
 }
 
+/// Shows what each block holds, the newest first, and no further time.
+fn show_once<T, F: FnMut(&[T])>(blocks: &[Block<T>], mut f: F)
+    requires { TakesInTurn F.FnMut f (reverse blocks.now) }
+    ensures calls { (last : F) × IsCalledAtEach F.FnMut f (reverse blocks.now) last }
+{
+    let mut rest = blocks;
+    while let Some((newest, older)) = rest.split_last() {
+        f(newest.data());
+        rest = older;
+    }
+}
+
 /// Takes each block out, the newest first, and shows what it held before it is dropped.
 fn take_out<T: Drop, F: FnMut(&[T])>(blocks: &mut Vec<Block<T>>, f: &mut F)
     requires { F.IsAlwaysCallable f.old }
     ensures empty { blocks.new.items ≡ [] }
     ensures calls { IsCalledAtEach F.FnMut f.old (reverse blocks.old.items) f.new }
     ensures callable { F.IsAlwaysCallable f.new }
+{
+    while let Some(block) = blocks.pop() {
+        f(block.data());
+    }
+}
+
+/// Takes each block out, the newest first, shows what it held before it is dropped, and nothing a further time.
+fn take_out_once<T: Drop, F: FnMut(&[T])>(blocks: &mut Vec<Block<T>>, mut f: F)
+    requires { TakesInTurn F.FnMut f (reverse blocks.old.items) }
+    ensures empty { blocks.new.items ≡ [] }
+    ensures calls { (last : F) × IsCalledAtEach F.FnMut f (reverse blocks.old.items) last }
 {
     while let Some(block) = blocks.pop() {
         f(block.data());
@@ -140,12 +163,12 @@ impl<T: Drop> OwnedBucket<T> {
         Ok(copied(&self.blocks, *self.blocks.allocator())?)
     }
 
-    /// Shows the values to `f`, once for each block, the newest first.
-    pub fn data_with<F: FnMut(&[T])>(&self, mut f: F)
-        requires { F.IsAlwaysCallable f }
+    /// Shows the values to `f`, once for each block, the newest first. So `f` needn't be callable a further time.
+    pub fn data_with<F: FnMut(&[T])>(&self, f: F)
+        requires { TakesEach F.FnMut f (reverse (chunks self.now)) }
         ensures { (last : F) × IsCalledAtEach F.FnMut f (reverse (chunks self.now)) last }
     {
-        self.data_to(&mut f);
+        show_once(&self.blocks, f);
     }
 
     /// As `data_with`, for a closure that the caller keeps: what it gathered is then known.
@@ -165,12 +188,12 @@ impl<T: Drop> OwnedBucket<T> {
     }
 
     /// Takes all values out, and shows them to `f` first, as `data_with` does.
-    pub fn clear_with<F: FnMut(&[T])>(&mut self, mut f: F)
-        requires { F.IsAlwaysCallable f }
+    pub fn clear_with<F: FnMut(&[T])>(&mut self, f: F)
+        requires { TakesEach F.FnMut f (reverse (chunks self.old)) }
         ensures empty { self.new ≡ [] }
         ensures calls { (last : F) × IsCalledAtEach F.FnMut f (reverse (chunks self.old)) last }
     {
-        self.clear_to(&mut f);
+        take_out_once(&mut self.blocks, f);
     }
 
     /// As `clear_with`, for a closure that the caller keeps.

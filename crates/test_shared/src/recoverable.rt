@@ -1,8 +1,9 @@
 //! Recorders that are taken back.
 
-use crate::books::{first, key};
+use crate::books::{expect_count, first, key};
 use metrics::{
-    Address, DebugValue, Key, KeyName, MetricKind, Recorder, Refused, Reset, Snapshot, Unit, Update,
+    Address, Counter, DebugValue, Key, KeyName, MetricKind, Recorder, Refused, Reset, Snapshot,
+    Unit, Update,
 };
 use metrics_debugging::DebuggingRecorder;
 use metrics_shared::{RecoverableRecorder, SlotRecorder};
@@ -48,6 +49,33 @@ fn change<R: Wait, B: Recorder>(
         slot.update(rt, at, by)?;
     }
     Ok(at)
+}
+
+/// Adds to the counter by a handle, under one lock. `None` where the slot is empty.
+fn add_by_handle<R: Wait, B: Recorder>(
+    rt: &R,
+    slot: &SlotRecorder<B>,
+    counter: &Counter,
+) -> Option<Result<usize, Refused>> {
+    slot.with(rt, |book| counter.increment(book, 5))
+}
+
+/// That a handle reaches the counter through the slot until the book is taken back.
+fn expect_handle<R: Abort + Wait, B: Recorder>(rt: &R, alloc: Global, book: B) -> Result<(), Fail> {
+    let built = RecoverableRecorder::new(book).build(rt, alloc);
+    let (slot, handle) = built.ok().ok_or("memory")?;
+    let counter = key(alloc, "c")?;
+    let found = slot.with(rt, |book| book.register_counter(alloc, &counter));
+    let counter = found.ok_or("no book")??;
+    assert!(rt; add_by_handle(rt, &slot, &counter) == Some(Ok(1)));
+    let book = handle.into_inner(rt)?;
+    assert!(rt; add_by_handle(rt, &slot, &counter).is_none());
+    expect_count(rt, alloc, book, 5)
+}
+
+#[test]
+fn a_handle_reaches_the_book_in_a_slot(rt: HostRuntime) -> Result<(), Fail> {
+    expect_handle(&rt, rt.alloc(), DebuggingRecorder::new(rt.alloc())?)
 }
 
 /// That an emptied slot answers each call, and does nothing.

@@ -2,7 +2,8 @@
 
 use crate::books::{expect_count, first, key};
 use metrics::{
-    Address, DebugValue, KeyName, MetricKind, Recorder, Reset, Row, Snapshot, Unit, Update,
+    Address, DebugValue, Key, KeyName, Label, MetricKind, Recorder, Refused, Reset, Row, Snapshot,
+    Unit, Update,
 };
 use metrics_debugging::DebuggingRecorder;
 use metrics_shared::Shared;
@@ -63,6 +64,57 @@ fn expect_described<R: Abort + Wait, B: Recorder>(
     expect_first(rt, &shared.snapshot(rt, alloc, 0)?, 0)?;
     assert_eq!(rt; shared.with(rt, |book| book.books()), 1);
     Ok(())
+}
+
+/// The value of the gauge that stands alone in the first book, before the call resets what it is to reset. It has the
+/// label `host` `a`, and is described by `t`.
+fn gauge_before<R: Abort + Wait, B: Recorder>(
+    rt: &R,
+    alloc: Global,
+    shared: &Shared<B>,
+    reset: Reset,
+) -> Result<i64, Fail> {
+    let snapshot = shared.snapshot_with(rt, alloc, 0, reset)?;
+    let row = snapshot.as_slice().first().ok_or("no row")?;
+    let label = row.0.key().labels().first().ok_or("no label")?;
+    assert!(rt; (label.key(), label.value()) == ("host", "a"));
+    assert_eq!(rt; row.2.as_ref().ok_or("no text")?.as_str(), "t");
+    match row.3 {
+        DebugValue::Gauge(value) => Ok(value),
+        _ => Err("no gauge".into()),
+    }
+}
+
+/// A book with a gauge of a label, described by `t`, at 5.
+fn with_gauge<R: Wait, B: Recorder>(rt: &R, alloc: Global, book: B) -> Result<Shared<B>, Fail> {
+    let shared = Shared::new(book);
+    let labels = vec![in alloc; Label::new(alloc, "host", "a")?]?;
+    let key = Key::from_parts(alloc, "g", labels)?;
+    let found = shared.register(rt, alloc, MetricKind::Gauge, &key)?;
+    let name = KeyName::new(alloc, "g")?;
+    shared.describe(rt, alloc, MetricKind::Gauge, &name, None, "t")?;
+    shared.update(rt, first(&found)?, Update::Set(5))?;
+    Ok(shared)
+}
+
+fn expect_gauges<R: Abort + Wait, B: Recorder>(rt: &R, alloc: Global, book: B) -> Result<(), Fail> {
+    let shared = with_gauge(rt, alloc, book)?;
+    let resets = [
+        (Reset::KeepGauges, 5),
+        (Reset::All, 5),
+        (Reset::KeepGauges, 0),
+    ];
+    for (reset, want) in resets {
+        assert_eq!(rt; gauge_before(rt, alloc, &shared, reset)?, want);
+    }
+    let refused = shared.snapshot_with(rt, alloc, 1, Reset::All);
+    assert!(rt; refused.err() == Some(Refused::NoSuchBook));
+    Ok(())
+}
+
+#[test]
+fn a_shared_gauge_is_kept_or_reset(rt: HostRuntime) -> Result<(), Fail> {
+    expect_gauges(&rt, rt.alloc(), DebuggingRecorder::new(rt.alloc())?)
 }
 
 #[test]
