@@ -1,135 +1,118 @@
-//! Benchmarks of what threads share. Without words each runs once and its name is printed; with the word `time` each is
-//! timed and printed with the nanoseconds of one operation, the least of nine rounds after a warm-up.
+//! Benchmarks of what threads share: see `bench_harness` for its words.
 //!
 //! Where four threads work, an operation's time is the time of the walk, divided by the operations of all four.
 #![tactic(auto)]
 
-ghost use denote.Param.Send.{IsSync};
-
+mod cells;
+mod clears;
+mod pushes;
 mod reservoirs;
+mod shared_pushes;
+mod threads;
 
-use anyhow::{Result, anyhow};
+use anyhow::Result;
+use bench_harness::{Size, Words, report};
+use cells::{Checks, Creates, CreatesByFour};
+use clears::Clears;
+use pushes::{Pushes, PushesOfFour};
 use reservoirs::{Filling, Sampling, SamplingByFour};
-use std::env;
-use std::rt::{Clock, Env};
+use shared_pushes::{SharedPushes, SharedPushesOfFour};
+use std::alloc::Global;
+use std::io::Eprint;
+use std::rt::Clock;
 use std::sync::Wait;
-use std::thread::Threads;
-use std::time::Instant;
-
-/// How many rounds are timed.
-const ROUNDS: usize = 9;
+use threads::report_threads;
 
 /// About how many operations a round makes.
 const OPERATIONS: u32 = 2_000_000;
 
-/// A benchmark: one walk makes a fixed number of operations.
-trait Bench: Drop {
-    /// What stands before a walk, and isn't timed.
-    fn prepare<R: Wait>(&mut self, rt: &R) -> Result<()>;
+/// The clears: how many blocks a bucket has, how many buckets are cleared in a walk, and how many values those have.
+const CLEARS: [(&str, u16, usize, u32); 3] = [
+    ("bucket_clear_with_64_per_value", 1, 512, 32_768),
+    ("bucket_clear_with_1024_per_value", 16, 256, 262_144),
+    ("bucket_clear_with_65536_per_value", 1024, 4, 262_144),
+];
 
-    /// One walk. What it answers hangs on what was done, so that no work is left out.
-    fn walk<R: Threads + Wait + Sync>(&mut self, rt: &R) -> Result<u64>
-        requires { IsSync R.row };
-}
+/// The benchmarks that get counters in one thread, and how many keys they get.
+const CREATES: [(&str, usize); 2] = [
+    ("registry_get_or_create_counter_existing_1key_1t", 1),
+    ("registry_get_or_create_counter_existing_1000keys_1t", 1000),
+];
 
-/// What a call gave that must succeed.
-fn taken<T: Drop, E: Drop>(answer: Result<T, E>) -> Result<T> {
-    match answer {
-        Ok(value) => Ok(value),
-        Err(_) => Err(anyhow!("refused")),
-    }
-}
+/// Those in four threads.
+const CREATES_BY_FOUR: [(&str, usize); 2] = [
+    ("registry_get_or_create_counter_existing_1key_4t", 1),
+    ("registry_get_or_create_counter_existing_1000keys_4t", 1000),
+];
 
-/// The nanoseconds of so many walks, and what they found.
-fn round<R: Clock + Threads + Wait + Sync, B: Bench>(
+/// Pushes into a reservoir by one thread.
+fn reservoir_rows<R: Clock + Print + Eprint + Wait>(
     rt: &R,
-    bench: &mut B,
-    walks: u32,
-) -> Result<(u64, u64)> {
-    let mut nanos: u64 = 0;
-    let mut seen: u64 = 0;
-    for _ in 0..walks {
-        bench.prepare(rt)?;
-        let start = Instant::now(rt)?;
-        seen = seen.wrapping_add(bench.walk(rt)?);
-        let took = u64::try_from(start.elapsed(rt)?.as_nanos()).unwrap_or(u64::MAX);
-        nanos = nanos.saturating_add(took);
-    }
-    Ok((nanos, seen))
-}
-
-/// The least time of one operation over the rounds, in hundredths of a nanosecond.
-fn least<R: Clock + Threads + Wait + Sync, B: Bench>(
-    rt: &R,
-    bench: &mut B,
-    walks: u32,
-    operations: u32,
-) -> Result<u64> {
-    let (_, mut seen) = round(rt, bench, walks)?;
-    let mut least = u64::MAX;
-    for _ in 0..ROUNDS {
-        let (nanos, found) = round(rt, bench, walks)?;
-        seen = seen.wrapping_add(found);
-        let count = (u64::from(walks) * u64::from(operations)).max(1);
-        least = least.min(nanos.saturating_mul(100) / count);
-    }
-    // What was found is looked at, so that the compiler keeps the walks.
-    Ok(least.saturating_add(u64::from(seen == u64::MAX)))
-}
-
-/// Runs a benchmark once, or times it, and prints its line. One walk makes `operations` operations.
-fn report<R: Clock + Print + Threads + Wait + Sync, B: Bench>(
-    rt: &R,
-    timed: bool,
-    name: &str,
-    mut bench: B,
-    operations: u32,
+    words: &Words,
+    alloc: Global,
 ) -> Result<()> {
-    if timed {
-        let walks = (OPERATIONS / operations.max(1)).max(1);
-        let hundredths = least(rt, &mut bench, walks, operations)?;
-        let whole = hundredths / 100;
-        let part = hundredths % 100;
-        println!(rt; "{name} {whole}.{part:02}")?;
-    } else {
-        bench.prepare(rt)?;
-        bench.walk(rt)?;
-        println!(rt; "{name}")?;
+    let bench = Filling::new(alloc);
+    let name = "reservoir_push_1024_filling_1t";
+    report(rt, words, name, bench, Size::apart(1024, OPERATIONS))?;
+    let bench = Sampling::new(rt, alloc);
+    let name = "reservoir_push_1024_sampling_1t";
+    report(rt, words, name, bench, Size::together(1000, OPERATIONS))
+}
+
+/// Pushes into buckets by one thread, and clears of full ones.
+fn bucket_rows<R: Clock + Print + Eprint + Wait>(
+    rt: &R,
+    words: &Words,
+    alloc: Global,
+) -> Result<()> {
+    let size = Size::apart(65_536, OPERATIONS);
+    report(rt, words, "bucket_push_1t", Pushes::new(alloc), size)?;
+    report(
+        rt,
+        words,
+        "atomic_bucket_push_1t",
+        SharedPushes::new(alloc),
+        size,
+    )?;
+    for (name, blocks, buckets, all) in CLEARS {
+        let bench = Clears::new(alloc, blocks, buckets);
+        report(rt, words, name, bench, Size::apart(all, OPERATIONS))?;
     }
     Ok(())
 }
 
-fn is_timed(rt: &(impl Env + AllocGlobal)) -> Result<bool> {
-    for word in env::args(rt)?.skip(1) {
-        if word.as_str() == "time" {
-            return Ok(true);
-        }
+/// Calls on cells of the registry by one thread.
+fn cell_rows<R: Clock + Print + Eprint + Wait>(rt: &R, words: &Words, alloc: Global) -> Result<()> {
+    let size = Size::together(1000, OPERATIONS);
+    for (name, first) in CREATES {
+        report(rt, words, name, Creates::new(rt, alloc, first), size)?;
     }
-    Ok(false)
+    let name = "recency_should_store_counter_mock_clock";
+    report(rt, words, name, Checks::new(rt, alloc), size)
 }
 
 fn main(rt: HostRuntime) -> Result<()> {
-    let timed = is_timed(&rt)?;
     let alloc = rt.alloc();
-    report(
+    let words = Words::new(&rt)?;
+    reservoir_rows(&rt, &words, alloc)?;
+    bucket_rows(&rt, &words, alloc)?;
+    cell_rows(&rt, &words, alloc)?;
+    let size = Size::apart(65_536, OPERATIONS);
+    report_threads(
         &rt,
-        timed,
-        "reservoir_push_1024_filling_1t",
-        Filling::new(alloc)?,
-        1024,
+        &words,
+        "bucket_push_4t",
+        PushesOfFour::new(alloc),
+        size,
     )?;
-    report(
-        &rt,
-        timed,
-        "reservoir_push_1024_sampling_1t",
-        Sampling::new(&rt, alloc)?,
-        1000,
-    )?;
-    report(
-        &rt,
-        timed,
-        "reservoir_push_1024_sampling_4t",
-        SamplingByFour::new(&rt, alloc)?,
-        2_000_000,
-    )
+    let bench = SharedPushesOfFour::new(alloc);
+    report_threads(&rt, &words, "atomic_bucket_push_4t", bench, size)?;
+    let size = Size::apart(OPERATIONS, OPERATIONS);
+    let bench = SamplingByFour::new(&rt, alloc);
+    report_threads(&rt, &words, "reservoir_push_1024_sampling_4t", bench, size)?;
+    for (name, first) in CREATES_BY_FOUR {
+        let bench = CreatesByFour::new(&rt, alloc, first);
+        report_threads(&rt, &words, name, bench, size)?;
+    }
+    Ok(())
 }

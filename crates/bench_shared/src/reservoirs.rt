@@ -1,7 +1,8 @@
 //! A reservoir of 1024 places.
 
-use crate::{Bench, taken};
+use crate::threads::ThreadBench;
 use anyhow::Result;
+use bench_harness::{Bench, taken};
 use metrics_shared::reservoir::AtomicSamplingReservoir;
 use rand_core::SeedableRng;
 use rand_xoshiro::Xoshiro256StarStar;
@@ -45,13 +46,13 @@ impl Filling {
     }
 }
 
-impl Bench for Filling {
-    fn prepare<R: Wait>(&mut self, rt: &R) -> Result<()> {
+impl<R: Wait> Bench<R> for Filling {
+    fn prepare(&mut self, rt: &R) -> Result<()> {
         self.reservoir.consume(rt, |_drain| {});
         Ok(())
     }
 
-    fn walk<R: Threads + Wait + Sync>(&mut self, rt: &R) -> Result<u64> {
+    fn walk(&mut self, rt: &R) -> Result<u64> {
         taken(push_all(rt, &self.reservoir, 1024))
     }
 }
@@ -70,12 +71,8 @@ impl Sampling {
     }
 }
 
-impl Bench for Sampling {
-    fn prepare<R: Wait>(&mut self, _rt: &R) -> Result<()> {
-        Ok(())
-    }
-
-    fn walk<R: Threads + Wait + Sync>(&mut self, rt: &R) -> Result<u64> {
+impl<R: Wait> Bench<R> for Sampling {
+    fn walk(&mut self, rt: &R) -> Result<u64> {
         taken(push_all(rt, &self.reservoir, 1000))
     }
 }
@@ -110,7 +107,7 @@ impl SamplingByFour {
     }
 }
 
-impl Bench for SamplingByFour {
+impl ThreadBench for SamplingByFour {
     fn prepare<R: Wait>(&mut self, _rt: &R) -> Result<()> {
         Ok(())
     }

@@ -1,0 +1,109 @@
+//! Recorders below layers, handed to the benchmarks as some recorder.
+
+use crate::matching::{borrowed, names, names_of_routes, patterns, routes};
+use crate::sink::Sink;
+use anyhow::Result;
+use bench_harness::taken;
+use metrics::{Key, Refused};
+use metrics_util::MetricKindMask;
+use metrics_util::debugging::DebuggingRecorder;
+use metrics_util::layers::{
+    Child, Fanout, FanoutBuilder, Filter, FilterLayer, Layer, Prefix, PrefixLayer, Router,
+    RouterBuilder,
+};
+use std::alloc::Global;
+
+/// A key without labels for each name.
+fn keys(alloc: Global, names: &[String]) -> Result<Vec<Key>, Refused> {
+    let mut all = Vec::new(alloc);
+    for name in names {
+        all.push(Key::from_name(alloc, name.as_str())?)?;
+    }
+    Ok(all)
+}
+
+/// A hundred keys without labels.
+pub fn plain_keys(alloc: Global) -> Result<Vec<Key>> {
+    let mut all = Vec::new(alloc);
+    for i in 0..100u32 {
+        let name = format!(in alloc; "http.server.{i:02}.requests.total")?;
+        all.push(Key::from_name(alloc, name.as_str())?)?;
+    }
+    Ok(all)
+}
+
+/// A new book.
+pub fn book(alloc: Global) -> Result<DebuggingRecorder> {
+    Ok(DebuggingRecorder::new(alloc)?)
+}
+
+/// A new book below a prefix.
+pub fn prefixed_book(alloc: Global) -> Result<Child<DebuggingRecorder>> {
+    let layer = PrefixLayer::new(alloc, "app")?;
+    let book = Child::leaf(DebuggingRecorder::new(alloc)?);
+    taken(book.prefix(alloc, &layer))
+}
+
+/// A prefix over a recorder that keeps nothing.
+pub fn prefix(alloc: Global) -> Result<Prefix<Sink>> {
+    let layer = PrefixLayer::new(alloc, "testing")?;
+    taken(layer.layer(alloc, Sink::new()))
+}
+
+/// A filter of a hundred patterns over a recorder that keeps nothing.
+pub fn filter(alloc: Global, table: bool) -> Result<Filter<Sink>> {
+    let patterns = patterns(alloc)?;
+    let listed = borrowed(alloc, patterns.as_slice())?;
+    let mut layer = FilterLayer::from_patterns(alloc, listed.as_slice())?;
+    layer.use_dfa(table);
+    taken(layer.layer(alloc, Sink::new()))
+}
+
+/// A hundred keys, each with one of the patterns in its name, or none.
+pub fn keys_of_patterns(alloc: Global, refused: bool) -> Result<Vec<Key>> {
+    let patterns = patterns(alloc)?;
+    let names = names(alloc, patterns.as_slice(), refused)?;
+    Ok(keys(alloc, names.as_slice())?)
+}
+
+fn add_routes(alloc: Global, builder: &mut RouterBuilder<Sink>) -> Result<()> {
+    for pattern in &routes(alloc)? {
+        let target = Child::leaf(Sink::new());
+        taken(builder.add_route(MetricKindMask::COUNTER, pattern, target))?;
+    }
+    Ok(())
+}
+
+/// A router of a hundred routes to recorders that keep nothing.
+pub fn router(alloc: Global) -> Result<Router<Sink>> {
+    let mut builder = RouterBuilder::from_recorder(alloc, Child::leaf(Sink::new()));
+    match add_routes(alloc, &mut builder) {
+        Ok(()) => Ok(builder.build()),
+        Err(error) => Err(error),
+    }
+}
+
+/// A hundred keys, each with the pattern of a route before its name, or none with one.
+pub fn keys_of_routes(alloc: Global, matching: bool) -> Result<Vec<Key>> {
+    let names = names_of_routes(alloc, matching)?;
+    Ok(keys(alloc, names.as_slice())?)
+}
+
+/// A fanout of four recorders that keep nothing.
+pub fn fanout_of_sinks(alloc: Global) -> Result<Fanout<Sink>> {
+    let mut builder = FanoutBuilder::default(alloc);
+    for _ in 0..4u32 {
+        taken(builder.add_recorder(Child::leaf(Sink::new())))?;
+    }
+    Ok(builder.build())
+}
+
+/// A fanout of new books.
+pub fn fanout_of_books(alloc: Global, count: u32) -> Result<Fanout<DebuggingRecorder>> {
+    let mut builder = FanoutBuilder::default(alloc);
+    for _ in 0..count {
+        let book = Child::leaf(DebuggingRecorder::new(alloc)?);
+        taken(builder.add_recorder(book))?;
+    }
+    Ok(builder.build())
+}
