@@ -3,11 +3,13 @@
 #![tactic(auto)]
 
 mod clears;
+mod growing;
 mod pushes;
 mod shared_pushes;
 
 use anyhow::{Result, anyhow};
 use clears::Clears;
+use growing::{GrowingClears, GrowingPushes, GrowingPushesOfFour};
 use pushes::{Pushes, PushesOfFour};
 use shared_pushes::{SharedPushes, SharedPushesOfFour};
 use std::env;
@@ -139,5 +141,17 @@ fn main(rt: HostRuntime) -> Result<()> {
         "bucket_clear_with_65536_per_value",
         bench,
         262_144,
+    )?;
+    let bench = GrowingPushes::new(alloc)?;
+    report(&rt, timed, "growing_push_1t", bench, 65_536)?;
+    let bench = GrowingPushesOfFour::new(alloc)?;
+    report(&rt, timed, "growing_push_4t", bench, 65_536)?;
+    let bench = GrowingClears::new(alloc)?;
+    report(
+        &rt,
+        timed,
+        "growing_clear_with_65536_per_value",
+        bench,
+        65_536,
     )
 }
