@@ -1,5 +1,5 @@
-//! Pushes into a bucket that grows, and clears of it. The first segment has room for all, so the work is that of the same rows over a
-//! bucket that doesn't grow.
+//! Pushes into a bucket that grows, and clears of it. The first segment has room for all, so the work is that of the same rows
+//! over a bucket that doesn't grow.
 ghost use Rattle.metrics_growing.specs.Parts.{IsOf};
 
 use crate::{Bench, taken};
