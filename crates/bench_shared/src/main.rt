@@ -5,6 +5,7 @@
 
 mod cells;
 mod clears;
+mod growing;
 mod pushes;
 mod reservoirs;
 mod shared_pushes;
@@ -14,6 +15,7 @@ use anyhow::Result;
 use bench_harness::{Size, Words, report};
 use cells::{Checks, Creates, CreatesByFour};
 use clears::Clears;
+use growing::{GrowingClears, GrowingPushes, GrowingPushesOfFour};
 use pushes::{Pushes, PushesOfFour};
 use reservoirs::{Filling, Sampling, SamplingByFour};
 use shared_pushes::{SharedPushes, SharedPushesOfFour};
@@ -78,7 +80,10 @@ fn bucket_rows<R: Clock + Print + Eprint + Wait>(
         let bench = Clears::new(alloc, blocks, buckets);
         report(rt, words, name, bench, Size::apart(all, OPERATIONS))?;
     }
-    Ok(())
+    let bench = GrowingPushes::new(alloc);
+    report(rt, words, "growing_push_1t", bench, size)?;
+    let bench = GrowingClears::new(alloc);
+    report(rt, words, "growing_clear_with_65536_per_value", bench, size)
 }
 
 /// Calls on cells of the registry by one thread.
@@ -107,6 +112,8 @@ fn main(rt: HostRuntime) -> Result<()> {
     )?;
     let bench = SharedPushesOfFour::new(alloc);
     report_threads(&rt, &words, "atomic_bucket_push_4t", bench, size)?;
+    let bench = GrowingPushesOfFour::new(alloc);
+    report_threads(&rt, &words, "growing_push_4t", bench, size)?;
     let size = Size::apart(OPERATIONS, OPERATIONS);
     let bench = SamplingByFour::new(&rt, alloc);
     report_threads(&rt, &words, "reservoir_push_1024_sampling_4t", bench, size)?;

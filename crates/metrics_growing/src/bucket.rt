@@ -22,8 +22,9 @@ const BLOCK_SIZE: usize = 64;
 /// How many segments there may be.
 pub(crate) const LINKS: usize = 64;
 
-/// A bucket that any number of threads push into, each with a `GrowPen` of its own, while one at a time clears it. It is a chain of
-/// segments, each with twice as many places as the one before it, and a push that finds all of them full makes the next.
+/// A bucket that any number of threads push into, each with a `GrowPen` of its own, while one at a time clears it. It is a
+/// chain of segments, each with twice as many places as the one before it, and a push that finds all of them full makes the
+/// next.
 ///
 /// Contracts see it as the names of its links.
 #[derive(Drop)]
@@ -201,12 +202,14 @@ impl<T: Sample> GrowingBucket<T> {
         self.meet(known)
     }
 
+    // Pushes a word into the first segment that has a free place, and makes the next one where none has.
     fn try_word(&self, known: &mut Vec<Known>, word: u64) -> Result<(), Error>
         requires own { IsOf self.now known.old.items }
         ensures own { IsOf self.now known.new.items }
         ensures ok { OnOk result (Pushed word known.old.items known.new.items) }
         ensures err { IfErr result (λ e. Keeps known.old.items known.new.items × ((((e ≡ Error.Memory) ⊎ (e ≡ Error.NoPen)) × All IsPassed known.new.items) ⊎ ((e ≡ Error.Raced) × MayRace known.new.items))) }
     {
+        // The loop's facts are of the links.
         let _ = &self.links;
         for at in 0..LINKS {
             self.reach(known, at)?;
@@ -222,8 +225,8 @@ impl<T: Sample> GrowingBucket<T> {
 
     /// Pushes a value into the first segment that has a free place, or gives it back.
     ///
-    /// `Raced`: another thread drew the ticket; another try may succeed. `NoPen`: a segment has no spare pen left. `Memory`: a segment or
-    /// a pen of one found no memory, or there are 64 full segments.
+    /// `Raced`: another thread drew the ticket; another try may succeed. `NoPen`: a segment has no spare pen left. `Memory`: a
+    /// segment or a pen of one found no memory, or there are 64 full segments.
     pub fn try_push(&self, pen: &mut GrowPen, value: T) -> Result<(), (Error, T)>
         requires own { IsOf self.now pen.old }
         ensures own { IsOf self.now pen.new }

@@ -79,6 +79,7 @@ impl<T: Sample> GrowingBucket<T> {
         Ok(buckets)
     }
 
+    // Clears a segment that is known, if its turn is free.
     fn clear_at<R: Wait, V: Visitor<T>>(
         &self,
         rt: &R,
@@ -165,11 +166,12 @@ impl<T: Sample> GrowingBucket<T> {
         Ok(count)
     }
 
-    /// Takes all values that were pushed and not taken, segment by segment from the first on, and shows them to the visitor in chunks of
-    /// 64, each segment's newest chunk first. It waits for pushes that drew a ticket before it took their segment's side. It answers how
-    /// many values it took.
+    /// Takes all values that were pushed and not taken, segment by segment from the first on, and shows them to the visitor in
+    /// chunks of 64, each segment's newest chunk first. It waits for pushes that drew a ticket before it took their segment's
+    /// side. It answers how many values it took.
     ///
-    /// `Busy`: another walk is under way in the first segment; a later segment's is waited for. `NoPen`: a segment has no spare pen left.
+    /// `Busy`: another walk is under way in the first segment; a later segment's is waited for. `NoPen`: a segment has no spare
+    /// pen left.
     pub fn clear_to<R: Wait, V: Visitor<T>>(
         &self,
         rt: &R,
@@ -190,8 +192,8 @@ impl<T: Sample> GrowingBucket<T> {
         self.clear_all(rt, known, &buckets, visitor)
     }
 
-    /// Takes all values as `clear_to` does, and shows them to `f`, which may push into this bucket with another pen. A clear made inside
-    /// `f` may wait for ever.
+    /// Takes all values as `clear_to` does, and shows them to `f`, which may push into this bucket with another pen. A clear
+    /// made inside `f` may wait for ever.
     pub fn clear_with<R: Wait, F: FnMut(&[T])>(
         &self,
         rt: &R,

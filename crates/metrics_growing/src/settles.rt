@@ -24,6 +24,7 @@ fn are_whole(known: &[Known]) -> bool
 }
 
 impl<T: Sample> GrowingBucket<T> {
+    // Takes in the spare pens of a segment that is known.
     fn gather_at(&self, known: &mut Vec<Known>, at: usize) -> Result<(), Error>
         requires own { IsOf self.now known.old.items }
         requires at { at < length known.old.items }
@@ -54,6 +55,7 @@ impl<T: Sample> GrowingBucket<T> {
         Ok(())
     }
 
+    // How many places a side of a segment that is known has.
     fn places_at(&self, known: &mut Vec<Known>, at: usize) -> usize
         requires own { IsOf self.now known.old.items }
         requires at { at < length known.old.items }
@@ -83,10 +85,11 @@ impl<T: Sample> GrowingBucket<T> {
         places
     }
 
-    /// Takes all values that were pushed and not taken, where the pen is whole in each segment: those of the first segment first, each
-    /// segment's by their tickets in blocks of 64, the newest block first. They count as taken from then on.
+    /// Takes all values that were pushed and not taken, where the pen is whole in each segment: those of the first segment
+    /// first, each segment's by their tickets in blocks of 64, the newest block first. They count as taken from then on.
     ///
-    /// `NoPen`: there is another pen of some segment. At a refusal no value has moved, and the pen keeps the spare pens that it took in.
+    /// `NoPen`: there is another pen of some segment. At a refusal no value has moved, and the pen keeps the spare pens that it
+    /// took in.
     pub fn settle<R: Wait>(&self, rt: &R, alloc: Global, pen: &mut GrowPen) -> Result<Vec<T>, Error>
         requires own { IsOf self.now pen.old }
         ensures own { IsOf self.now pen.new }

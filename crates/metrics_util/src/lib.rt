@@ -29,6 +29,7 @@ pub mod registry {
 /// Storage of samples.
 pub mod storage {
     pub use metrics_bucket::{AtomicBucket, Pen, RuledBucket, Sample, Visitor, bucket_law};
+    pub use metrics_growing::{GrowPen, GrowingBucket, chain_law};
     pub use metrics_storage::{BLOCK_SIZE, Block, Histogram, OwnedBucket, reservoir_law};
 
     /// A fixed number of values out of all that were pushed.

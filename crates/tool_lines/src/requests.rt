@@ -53,7 +53,8 @@ fn plan_of(pushers: &str, values: &str, blocks: &str) -> Option<StormPlan>
     })
 }
 
-/// What the words behind the program's name ask for: `run`, or `storm P V B` or `storm P V B grow` with numbers that a storm allows.
+/// What the words behind the program's name ask for: `run`, or `storm P V B` or `storm P V B grow` with numbers that a storm
+/// allows.
 pub fn request_of(words: &[&str]) -> Option<Request>
     ensures { MatchOption result ((asked : Asked) → Asks (map (λ w. w.now) words.now) asked → ⊥)
         (λ asked. Asks (map (λ w. w.now) words.now) asked) }

@@ -16,7 +16,8 @@ use std::sync::atomic::Ordering;
 use std::thread::{Scope, Threads};
 use tool_grammar::RunError;
 
-/// Workers that ended, and the clearer: the pen into which theirs were joined, what was pushed and found, and how many the gate stopped.
+/// Workers that ended, and the clearer: the pen into which theirs were joined, what was pushed and found, and how many the gate
+/// stopped.
 #[derive(Drop)]
 pub(crate) struct GrowRan {
     pub(crate) pen: GrowPen,
@@ -100,8 +101,8 @@ fn joined(ran: GrowRan, worked: GrowWorked) -> Result<GrowRan, RunError>
     })
 }
 
-/// Starts a worker for each pen, from the number `worker` on, clears until they ended, and joins them. Where a thread can't be started,
-/// those that were end first.
+/// Starts a worker for each pen, from the number `worker` on, clears until they ended, and joins them. Where a thread can't be
+/// started, those that were end first.
 pub(crate) fn run<'s, 'e, R: Threads + Wait + Sync, G: Gate + Sync>(
     scope: &'s Scope<'s, &'e ()>,
     rt: &'e R,
