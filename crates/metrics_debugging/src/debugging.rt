@@ -71,21 +71,17 @@ impl Recorder for DebuggingRecorder {
         kind: MetricKind,
         key: &Key,
     ) -> Result<Vec<Address>, Refused> {
-        match self.series.find(kind, key) {
-            Some(series) => match room_for_one(alloc) {
-                Ok(mut found) => {
-                    found.push_reserved(Address { book: 0, series });
-                    Ok(found)
-                }
-                Err(_) => Err(Refused::Memory { acted: 1 }),
-            },
-            None => {
-                let mut found = room_for_one(alloc)?;
-                let series = self.series.add(alloc, kind, key)?;
-                found.push_reserved(Address { book: 0, series });
-                Ok(found)
-            }
-        }
+        let Some(series) = self.series.find(kind, key) else {
+            let mut found = room_for_one(alloc)?;
+            let series = self.series.add(alloc, kind, key)?;
+            found.push_reserved(Address { book: 0, series });
+            return Ok(found);
+        };
+        let Ok(mut found) = room_for_one(alloc) else {
+            return Err(Refused::Memory { acted: 1 });
+        };
+        found.push_reserved(Address { book: 0, series });
+        Ok(found)
     }
 
     fn holds(&self, kind: MetricKind, at: Address) -> bool {

@@ -1,7 +1,6 @@
 //! The cell of a series.
 ghost use Rattle.std.specs.Prelude.{◌≡◌, IfOk, IfErr};
 ghost use Rattle.metrics_names.specs.declared.refused.Refused.TheVariants.{Memory};
-ghost use Rattle.metrics.specs.declared.debugging.DebugValue.TheVariants.{Counter as CounterValue, Gauge as GaugeValue, Histogram as HistogramValue};
 ghost use Rattle.metrics.specs.Book.{new_value, snapshot_value};
 ghost use Rattle.metrics_debugging.specs.DebuggingCells.{value_of, kind_of_value, UpdatesValue};
 
@@ -36,11 +35,20 @@ impl Cell {
         ensures updates { UpdatesValue (value_of self.old) (value_of self.new) by result }
         ensures kind { kind_of_value (value_of self.new) ≡ kind_of_value (value_of self.old) }
     {
-        match self {
-            Cell::Counter(count) => update_counter(count, by),
-            Cell::Gauge(gauge) => update_gauge(gauge, by),
-            Cell::Histogram(samples) => update_histogram(samples, by),
+        match (self, by) {
+            (Cell::Counter(count), Update::Increment(more)) => count.increment(more),
+            (Cell::Counter(count), Update::Absolute(least)) => count.absolute(least),
+            (Cell::Gauge(gauge), Update::Add(more)) => gauge.increment(more),
+            (Cell::Gauge(gauge), Update::Subtract(less)) => gauge.decrement(less),
+            (Cell::Gauge(gauge), Update::Set(to)) => gauge.set(to),
+            (Cell::Histogram(samples), Update::Record(sample)) => {
+                if samples.record(sample).is_err() {
+                    return Err(Refused::Memory { acted: 0 });
+                }
+            }
+            _ => return Err(Refused::NoSuchAddress),
         }
+        Ok(())
     }
 
     /// Holds the value of a new series again. A histogram gives its blocks back.
@@ -67,40 +75,5 @@ impl Cell {
                 Err(_) => Err(Refused::Memory { acted: 0 }),
             },
         }
-    }
-}
-
-fn update_counter(count: &mut u64, by: Update) -> Result<(), Refused>
-    ensures { UpdatesValue (CounterValue count.old) (CounterValue count.new) by result }
-{
-    match by {
-        Update::Increment(more) => count.increment(more),
-        Update::Absolute(least) => count.absolute(least),
-        _ => return Err(Refused::NoSuchAddress),
-    }
-    Ok(())
-}
-
-fn update_gauge(gauge: &mut i64, by: Update) -> Result<(), Refused>
-    ensures { UpdatesValue (GaugeValue gauge.old) (GaugeValue gauge.new) by result }
-{
-    match by {
-        Update::Add(more) => gauge.increment(more),
-        Update::Subtract(less) => gauge.decrement(less),
-        Update::Set(to) => gauge.set(to),
-        _ => return Err(Refused::NoSuchAddress),
-    }
-    Ok(())
-}
-
-fn update_histogram(samples: &mut OwnedBucket<i64>, by: Update) -> Result<(), Refused>
-    ensures { UpdatesValue (HistogramValue samples.old) (HistogramValue samples.new) by result }
-{
-    let Update::Record(sample) = by else {
-        return Err(Refused::NoSuchAddress);
-    };
-    match samples.record(sample) {
-        Ok(()) => Ok(()),
-        Err(_) => Err(Refused::Memory { acted: 0 }),
     }
 }

@@ -3,10 +3,9 @@ ghost use Rattle.std.specs.Prelude.{◌≡◌, ◌∷◌, [], ◌++◌, ◌<◌,
 ghost use Rattle.metrics_names.specs.declared.refused.Refused.TheVariants.{Memory};
 ghost use Rattle.metrics.specs.Book.{is_of, new_series, after_reset, row_of, new_value};
 ghost use Rattle.metrics.specs.Kinds.{of_kind};
-ghost use Rattle.metrics.specs.Targets.{change_at};
 ghost use Rattle.metrics_debugging.specs.Debugging.{content_of};
 ghost use Rattle.metrics_debugging.specs.DebuggingCells.{value_of, kind_of_value, UpdatesValue};
-ghost use Rattle.metrics_debugging.specs.DebuggingSeries.{Agrees, entry_series, marks, series_at, series_key, tag};
+ghost use Rattle.metrics_debugging.specs.DebuggingSeries.{Agrees, marks, series_at, series_key, tag};
 ghost use Rattle.metrics_debugging.specs.DebuggingUpdates.{UpdatesAt};
 
 use crate::debugging::cells::Cell;
@@ -133,7 +132,10 @@ impl SeriesList {
         let Some((key, found)) = self.by_key.of(placed.kind).at(placed.place) else {
             unreachable!()
         };
-        entry_row(placed.kind, key, found, descriptions)
+        let value = found.cell.value()?;
+        let (unit, text) = descriptions.get(placed.kind, key.name())?;
+        let key = CompositeKey::new(placed.kind, key.clone()?);
+        Ok((key, unit, text, value))
     }
 
     /// The rows of the book.
@@ -148,48 +150,24 @@ impl SeriesList {
         Ok(rows)
     }
 
-    /// Resets a series, where its kind is reset.
-    fn reset_one(&mut self, series: usize, reset: Reset)
-        requires { series < length self.old.order.items }
-        ensures values { series_of self.new ≡ change_at series (after_reset reset) (series_of self.old) }
-        ensures order { self.new.order.items ≡ self.old.order.items }
-    {
-        let placed = self.order[series];
-        let resets = reset.resets(placed.kind);
-        self.by_key.of_mut(placed.kind).change_at(
-            placed.place,
-            |found: &mut Numbered|
-                ensures same { tag found.new ≡ tag found.old }
-                ensures cell { value_of found.new.cell ≡ (if resets then new_value (kind_of_value (value_of found.old.cell)) else value_of found.old.cell) }
-            {
-                if resets {
-                    found.cell.reset();
-                }
-            },
-        );
-    }
-
     /// Resets each series of the kinds that are reset.
     pub fn reset(&mut self, reset: Reset)
         ensures { series_of self.new ≡ map (after_reset reset) (series_of self.old) }
     {
         for series in 0..self.order.len() {
-            self.reset_one(series, reset);
+            let placed = self.order[series];
+            let resets = reset.resets(placed.kind);
+            self.by_key.of_mut(placed.kind).change_at(
+                placed.place,
+                |found: &mut Numbered|
+                    ensures same { tag found.new ≡ tag found.old }
+                    ensures cell { value_of found.new.cell ≡ (if resets then new_value (kind_of_value (value_of found.old.cell)) else value_of found.old.cell) }
+                {
+                    if resets {
+                        found.cell.reset();
+                    }
+                },
+            );
         }
     }
-}
-
-/// The row of the series of an entry.
-fn entry_row(
-    kind: MetricKind,
-    key: &Key,
-    found: &Numbered,
-    descriptions: &Descriptions,
-) -> Result<Row, Refused>
-    ensures ok { IfOk result (λ r. r ≡ row_of (content_of [] descriptions.now) (entry_series kind (key.now, found.now))) }
-    ensures memory { IfErr result (λ e. e ≡ Memory 0) }
-{
-    let value = found.cell.value()?;
-    let (unit, text) = descriptions.get(kind, key.name())?;
-    Ok((CompositeKey::new(kind, key.clone()?), unit, text, value))
 }

@@ -1,17 +1,50 @@
-use Rattle.std.proofs.Common.{◌∙◌, ◌≤◌, ap, length, arith}
-use Rattle.metrics.specs.Book.{after_reset}
+use Rattle.std.proofs.Common.{◌≡◌, ◌<◌, ◌≤◌, ◌∙◌, length, arith, ap, refl, rules, of_calls, cond, Some, slice_get}
+use Rattle.std.proofs.lemmas.Option.{slice_get_read}
+use Rattle.metrics.specs.Book.{after_reset, new_value}
 use Rattle.metrics.specs.Targets.{change_at}
+use Rattle.metrics_debugging.specs.DebuggingCells.{value_of, kind_of_value}
 use Rattle.metrics_debugging.specs.DebuggingOrder.{series_of}
-use Rattle.metrics_debugging.specs.DebuggingSeries.{series_at}
-use Rattle.metrics_debugging.proofs.OrderLemmas.{first-more, first-all, length-map}
+use Rattle.metrics_debugging.specs.DebuggingSeries.{series_at, tag}
+use Rattle.metrics_debugging.proofs.OrderLemmas.{made, reset-step, agree-changed, first-more, first-all, length-map}
 use Rattle.metrics_debugging.proofs.debugging.series.SeriesList.reset.Goals as goal
+
+pub invariant_of-self : goal.invariant_of-self
+invariant_of-self c =
+    let self = c.loop-series.self in
+    let s = c.loop-series.series in
+    let p = c.index-placed.result.now in
+    let es = c.of_mut.result.now in
+    let fs = c.change_at.new.self in
+    let small : s < length self.order.items = omega (arith, c.loop-series-test.true, c.len-series-end.ensures, c.args.self.now.order.ok.0, ap length c.loop-series.invariant.order) in
+    let at : slice_get self.order.items s ≡ Some p = slice_get_read self.order.items (length self.order.items) s p refl small c.index-placed.ensures in
+    let m = made self.by_key self.order.items s p _ es fs c.change_at.result self.agree at c.of_mut.ensures.value c.change_at.ensures.found c.change_at.ensures.some in
+    let h = m.2.3 in
+    let met = h.met in
+    let leaves = h.leaves in
+    let same : tag m.2.1 ≡ tag m.2.0 = search (rules, of_calls) in
+    record { agree = agree-changed self.by_key self.order.items self.agree s p at m.2.0 m.2.1 es fs c.of_mut.ensures.value m.2.2 m.2.4 same }
 
 pub loop-series-preserved : goal.loop-series-preserved
 loop-series-preserved c =
-    let i = c.loop-series.series in
+    let self = c.loop-series.self in
+    let s = c.loop-series.series in
+    let p = c.index-placed.result.now in
+    let es = c.of_mut.result.now in
+    let fs = c.change_at.new.self in
+    let small : s < length self.order.items = omega (arith, c.loop-series-test.true, c.len-series-end.ensures, c.args.self.now.order.ok.0, ap length c.loop-series.invariant.order) in
+    let at : slice_get self.order.items s ≡ Some p = slice_get_read self.order.items (length self.order.items) s p refl small c.index-placed.ensures in
+    let m = made self.by_key self.order.items s p _ es fs c.change_at.result self.agree at c.of_mut.ensures.value c.change_at.ensures.found c.change_at.ensures.some in
+    let h = m.2.3 in
+    let met = h.met in
+    let leaves = h.leaves in
+    let b = m.2.0 in
+    let value : value_of m.2.1.cell ≡ cond c.resets-resets.result (new_value (kind_of_value (value_of b.cell))) (value_of b.cell) = search (rules, of_calls) in
+    let step =
+    reset-step self.by_key self.order.items self.agree s p at b m.2.1 es fs c.of_mut.ensures.value m.2.2 m.2.4 c.args.reset
+    (value ∙ ap (λ t. cond t (new_value (kind_of_value (value_of b.cell))) (value_of b.cell)) c.resets-resets.ensures) in
     record {
-      order = c.reset_one.ensures.order ∙ c.loop-series.invariant.order;
-      values = c.reset_one.ensures.values ∙ (ap (change_at i (after_reset c.args.reset)) c.loop-series.invariant.values ∙ first-more i (after_reset c.args.reset) (series_of c.args.self.now));
+      order = c.loop-series.invariant.order;
+      values = step ∙ (ap (change_at s (after_reset c.args.reset)) c.loop-series.invariant.values ∙ first-more s (after_reset c.args.reset) (series_of c.args.self.now));
     }
 
 pub returns : goal.returns
