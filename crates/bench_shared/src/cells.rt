@@ -4,9 +4,8 @@ use anyhow::Result;
 use bench_harness::{Bench, taken};
 use metrics::{Error, Key, Label, MetricKindMask};
 use metrics_cells::CounterFn;
-use metrics_registry::key_clones;
-use metrics_registry::registry::Generation;
-use metrics_shared_registry::registry::{
+use metrics_registry::Generation;
+use metrics_shared_registry::{
     AtomicStorage, Generational, GenerationalAtomicStorage, GenerationalStorage, Recency, Registry,
 };
 use std::alloc::Global;
@@ -43,7 +42,6 @@ fn keys_1000(alloc: Global) -> Result<Vec<Key>> {
 
 /// Adds one to a counter.
 fn increment<W: Wait>(rt: &W, registry: &Atomic, key: &Key) -> Result<(), Error> {
-    key_clones();
     registry.get_or_create_counter(rt, key, |cell: &Word| cell.increment(1))
 }
 
@@ -185,7 +183,6 @@ impl ThreadBench for CreatesByFour {
 
 /// A registry that holds a counter with a generation of each key.
 fn dated<W: Wait>(rt: &W, alloc: Global, keys: &[Key]) -> Result<(Dated, Vec<Generation>), Error> {
-    key_clones();
     let registry = Registry::new(alloc, GenerationalStorage::atomic(alloc), SHARDS)?;
     let mut generations = Vec::new(alloc);
     for key in keys {
@@ -223,7 +220,6 @@ impl Checks {
 
 impl<R: Wait> Bench<R> for Checks {
     fn walk(&mut self, rt: &R) -> Result<u64> {
-        key_clones();
         self.now = self.now.saturating_add(1);
         let mut stay = 0u64;
         for (key, generation) in self.keys.iter().zip(self.generations.iter()) {

@@ -1,9 +1,10 @@
 -- Cells that stay where one call changes one key.
-use Rattle.std.proofs.Common.{◌≡◌, Bool, true, false, cond, List, [], ◌∷◌, Option, None, Some, Result, Ok, Err, IfOk, OnErr, refl, sym, ◌∙◌, ap}
+use Rattle.std.proofs.Common.{◌≡◌, Bool, true, false, cond, List, [], ◌∷◌, Option, None, Some, Result, Ok, Err, refl, sym, ◌∙◌, ap, subst}
 use Rattle.std.specs.Cmp.{IsEquivalence}
 use Rattle.std.specs.Map.{lookup}
 use Rattle.std.proofs.lemmas.Bool.{cond-true, cond-false}
-use Rattle.metrics_registry.specs.Held.{held, Sets, IsCellOf}
+use Rattle.metrics.specs.declared.error.Error.{Error}
+use Rattle.metrics_registry.specs.Held.{held, Sets, IsCellOf, CallsAt, GetsOrCreates}
 use Rattle.metrics_journal.specs.Cells.{StaySame}
 
 by_answer : {P : Type 0} (b : Bool) → (b ≡ true → P) → (b ≡ false → P) → P
@@ -39,7 +40,11 @@ module _ {K C : Type 0} {eq : K → K → Bool} (laws : IsEquivalence eq) (Makes
       ∙ of-cell (Makes key) (held eq old key) at.0 before (same-held laws old key q t ∙ was) at.1)
       (λ f. some-is (sym now ∙ (at.2 q ∙ (cond-false (eq key q) (Some at.0) (held eq old q) f ∙ was))))
 
+  -- one call that leaves the cell as it is
+  made-by : {V : Type 0} (call : C → V → C → Type 0) → ((b : C) (v : V) (a : C) → call b v a → a ≡ b) → (v : V) → CallsAt eq Makes call key v old new → MadeAt eq Makes key old new
+  made-by call same v at = let P : C → Type 0 = λ a. Sets eq key (Some a) old new in (at.0, at.2, subst P (same at.0 v at.1 at.3) at.4)
+
   -- a refusal changes nothing
-  pub stay : {V E : Type 0} (result : Result V E) → IfOk result (λ v. MadeAt eq Makes key old new) → OnErr result (new ≡ old) → StaySame eq old new
-  stay (Ok v) ok err = stay-made ok
-  stay (Err e) ok err = stay-same eq old new err
+  pub stay : {V : Type 0} (clone : K → K → Type 0) (call : C → V → C → Type 0) (InOneShard : Type 0) → ((b : C) (v : V) (a : C) → call b v a → a ≡ b) → (result : Result V Error) → GetsOrCreates eq clone Makes call InOneShard key result old new → StaySame eq old new
+  stay clone call InOneShard same (Ok v) got = stay-made (made-by call same v got.0)
+  stay clone call InOneShard same (Err e) got = stay-same eq old new got.1

@@ -4,7 +4,7 @@ use Rattle.std.proofs.lemmas.List.{append-nil, append_assoc}
 use Rattle.metrics_names.specs.declared.kind.MetricKind.{MetricKind}
 use Rattle.metrics_journal.specs.declared.calls.ShardCall.{ShardCall}
 use Rattle.metrics_journal.specs.declared.calls.ShardCall.TheVariants.{Create, Delete, Has}
-use Rattle.metrics_registry.specs.declared.registry.OwnedRegistry.{OwnedRegistry}
+use Rattle.metrics_registry.specs.declared.kinds.Kinds.{Kinds}
 use Rattle.metrics_journal.specs.Cells.{has_key, Replies}
 use Rattle.metrics_journal.specs.Journal.{Journal, held_after, holds_from, holds, reply_of, IsLegalFrom, IsLegal, key_of, AreOfShard}
 
@@ -26,12 +26,12 @@ of-shard-push : {K : Type 0} (number : K → ℕ) (shards shard : ℕ) (log : Jo
 of-shard-push number shards shard [] e of at = (at, tt)
 of-shard-push number shards shard (x ∷ log) e of at = (of.0, of-shard-push number shards shard log e of.1 at)
 
--- the journal is legal, of the shard, and says what the registry holds
-abbrev pub IsKept : {K S C G H : Type 0} → (K → K → Bool) → (K → ℕ) → ℕ → ℕ → OwnedRegistry K S C G H → Journal K → Type 0
+-- the journal is legal, of the shard, and says what the shard holds
+abbrev pub IsKept : {K S C G H : Type 0} → (K → K → Bool) → (K → ℕ) → ℕ → ℕ → Kinds K S C G H → Journal K → Type 0
 IsKept {K} eq number shards shard r log = IsLegal eq log × AreOfShard number shards shard log × ((kind : MetricKind) (key : K) → has_key eq r kind key ≡ holds eq log kind key)
 
 -- a call that replied by what is held keeps the journal
-pub kept : {K S C G H : Type 0} (eq : K → K → Bool) (number : K → ℕ) (shards shard : ℕ) (log next : Journal K) (old new : OwnedRegistry K S C G H) (call : ShardCall K) (reply : Bool)
+pub kept : {K S C G H : Type 0} (eq : K → K → Bool) (number : K → ℕ) (shards shard : ℕ) (log next : Journal K) (old new : Kinds K S C G H) (call : ShardCall K) (reply : Bool)
     → IsLegal eq log → AreOfShard number shards shard log → ((kind : MetricKind) (key : K) → has_key eq old kind key ≡ holds eq log kind key)
     → number (key_of call) % shards ≡ shard → Replies eq old new call reply → next ≡ log ++ (call, reply) ∷ []
     → IsKept eq number shards shard new next

@@ -1,26 +1,27 @@
 //! All shards under one lock.
 ghost use Rattle.std.specs.Prelude.{◌≡◌, ◌<◌, ◌≤◌, ◌%◌, ◌+◌, true, false, if◌then◌else◌, map, IfOk, IfErr, vec_len, vec_capacity};
 ghost use Rattle.metrics.specs.declared.error.Error.TheVariants.{Memory as OutOfMemory, BadShards as NotShards};
-ghost use Rattle.metrics_registry.specs.Held.{is_shard_count};
+ghost use Rattle.metrics_registry.specs.Held.{is_shard_count as is_count};
 ghost use Rattle.metrics_journal.specs.Journal.{AreJournals, replies_in, key_of};
 ghost use Rattle.metrics_journal.specs.Tally.{counted};
 ghost use Rattle.metrics_journal.specs.Journals.{journals_of, AreShards};
 
 use crate::calls::ShardCall;
-use crate::shard::JournaledShard;
+use crate::shard::Part;
 use crate::tally::Tally;
 use metrics::Error;
-use metrics_registry::Hashable;
-use metrics_registry::registry::Storage;
+use metrics_registry::{EqualClone, Hashable, Storage, is_shard_count, shard_of};
 use std::alloc::Global;
 use std::marker::Model;
 use std::sync::ledger::{Blank, Book, Ledger};
-use std::sync::{Arc, Mutex, Wait};
+use std::sync::{Mutex, Wait};
 
-/// All shards, room for their journals, and how many of their replies were true and how many false.
+/// All shards and the storage that they share, room for their journals, and how many of their replies were true and how many
+/// false.
 #[derive(Drop)]
 struct Journals<K: Hashable, S: Storage<K>, T: Ledger, F: Ledger> {
-    shards: Vec<JournaledShard<K, Arc<S>>>,
+    storage: S,
+    shards: Vec<Part<K, S>>,
     room: Vec<Vec<(ShardCall<K>, bool)>>,
     trues: Book<T>,
     falses: Book<F>,
@@ -44,28 +45,23 @@ impl<K: Hashable, S: Storage<K>, T: Ledger, F: Ledger> Model for Journals<K, S, 
         × (vec_len s.shards ≤ 1024) };
 }
 
-/// The shard of a key.
-fn shard_of<K: Hashable>(key: &K, count: usize) -> usize
-    requires { 0 < count }
-    ensures shard { result ≡ K.number key.now % count }
-    ensures within { result < count }
-{
-    (key.hashable() % count as u64) as usize
-}
-
-impl<K: Hashable + Clone + Drop, S: Storage<K> + Drop, T: Ledger, F: Ledger> Journals<K, S, T, F>
+impl<K: Hashable + EqualClone + Drop, S: Storage<K> + Drop, T: Ledger, F: Ledger> Journals<
+    K,
+    S,
+    T,
+    F,
+>
 where
     S::Counter: Drop,
     S::Gauge: Drop,
     S::Histogram: Drop,
 {
     fn call(&mut self, tally: &mut Tally<T, F>, call: ShardCall<K>) -> Result<bool, Error>
-        requires clones { (k c : K) → K.is_clone k c → K.eq k c ≡ true }
         ensures ok { IfOk result (λ reply. tally.new ≡ counted reply tally.old) }
         ensures err { IfErr result (λ e. (e ≡ OutOfMemory) × (tally.new ≡ tally.old)) }
     {
         let shard = shard_of(call.key(), self.shards.len());
-        let reply = self.shards[shard].call(call)?;
+        let reply = self.shards[shard].call(&self.storage, call)?;
         tally.count(&mut self.trues, &mut self.falses, reply);
         Ok(reply)
     }
@@ -78,6 +74,7 @@ where
         ensures falses { replies_in false (map (λ v. v.items) result.items) ≡ tally.falses }
     {
         let Journals {
+            storage: _,
             shards,
             room,
             mut trues,
@@ -89,16 +86,14 @@ where
 }
 
 /// Shards in order, with empty journals.
-fn new_shards<K: Hashable + Clone + Drop, S: Storage<K> + Drop>(
+fn new_shards<K: Hashable + EqualClone + Drop, S: Storage<K>>(
     alloc: Global,
-    storage: &Arc<S>,
     count: usize,
-) -> Result<Vec<JournaledShard<K, Arc<S>>>, Error>
+) -> Result<Vec<Part<K, S>>, Error>
 where
     S::Counter: Drop,
     S::Gauge: Drop,
     S::Histogram: Drop,
-    requires count { is_shard_count count ≡ true }
     ensures shards { IfOk result (λ v. AreShards count 0 v.items) }
     ensures empty { IfOk result (λ v. (b : _) → replies_in b (journals_of v.items) ≡ 0) }
     ensures len { IfOk result (λ v. vec_len v ≡ count) }
@@ -107,15 +102,14 @@ where
     let mut shards = Vec::new(alloc);
     shards.reserve(count)?;
     for shard in 0..count {
-        let made = JournaledShard::new(alloc, storage.clone()?, shard, count)?;
-        shards.push_reserved(made);
+        shards.push_reserved(Part::new(alloc, shard, count));
     }
     Ok(shards)
 }
 
 /// Puts the journals of the shards, in order, where there is room for them.
-fn journals_in<K: Hashable + Clone + Drop, S: Storage<K> + Drop>(
-    shards: Vec<JournaledShard<K, Arc<S>>>,
+fn journals_in<K: Hashable + EqualClone + Drop, S: Storage<K>>(
+    shards: Vec<Part<K, S>>,
     room: Vec<Vec<(ShardCall<K>, bool)>>,
 ) -> Vec<Vec<(ShardCall<K>, bool)>>
 where
@@ -144,7 +138,7 @@ pub struct JournaledRegistry<K: Hashable, S: Storage<K>, T: Ledger, F: Ledger> {
     journals: Mutex<Journals<K, S, T, F>>,
 }
 
-impl<K: Hashable + Clone + Drop, S: Storage<K> + Drop, T: Ledger, F: Ledger> JournaledRegistry<
+impl<K: Hashable + EqualClone + Drop, S: Storage<K> + Drop, T: Ledger, F: Ledger> JournaledRegistry<
     K,
     S,
     T,
@@ -168,18 +162,18 @@ where
     ) -> Result<(Self, Tally<T, F>), Error>
         requires trues { (trues.name ≡ T.name) × (trues.parts ≡ T.parts) × (T.parts ≡ 1024) }
         requires falses { (falses.name ≡ F.name) × (falses.parts ≡ F.parts) × (F.parts ≡ 1024) }
-        ensures ok { IfOk result (λ r. (is_shard_count shards ≡ true) × (r.1 ≡ record { weight = 1024; shards = shards; trues = 0; falses = 0 })) }
-        ensures err { IfErr result (λ e. e ≡ (if is_shard_count shards then OutOfMemory else NotShards)) }
+        ensures ok { IfOk result (λ r. (is_count shards ≡ true) × (r.1 ≡ record { weight = 1024; shards = shards; trues = 0; falses = 0 })) }
+        ensures err { IfErr result (λ e. e ≡ (if is_count shards then OutOfMemory else NotShards)) }
     {
-        if !shards.is_power_of_two() || shards > 1024 {
+        if !is_shard_count(shards) {
             return Err(Error::BadShards);
         }
-        let storage = Arc::new(alloc, storage)?;
-        let made = new_shards(alloc, &storage, shards)?;
+        let made = new_shards(alloc, shards)?;
         let mut room = Vec::new(alloc);
         room.reserve(shards)?;
         let (trues, falses, tally) = Tally::open(trues, falses, shards);
         let journals = Journals {
+            storage,
             shards: made,
             room,
             trues,
@@ -200,7 +194,6 @@ where
         tally: &mut Tally<T, F>,
         call: ShardCall<K>,
     ) -> Result<bool, Error>
-        requires clones { (k c : K) → K.is_clone k c → K.eq k c ≡ true }
         ensures ok { IfOk result (λ reply. tally.new ≡ counted reply tally.old) }
         ensures err { IfErr result (λ e. (e ≡ OutOfMemory) × (tally.new ≡ tally.old)) }
     {

@@ -20,7 +20,7 @@ pub mod registry {
         Cells, Counted, Generation, Kinds, OwnedRecency, OwnedRegistry, PlainStorage, Storage,
         recency_law,
     };
-    pub use metrics_shared_registry::registry::{
+    pub use metrics_shared_registry::{
         AtomicStorage, Generational, GenerationalAtomicStorage, GenerationalStorage, Recency,
         Registry,
     };

@@ -2,9 +2,9 @@
 
 use crate::given::Cells;
 use metrics::{Error, Key};
-use metrics_cells::{GaugeFn, HistogramFn};
-use metrics_registry::key_clones;
-use metrics_shared_registry::registry::{Generational, Registry};
+use metrics_cells::{CounterFn, GaugeFn, HistogramFn};
+use metrics_registry::{Counted, Generation};
+use metrics_shared_registry::{Generational, Registry};
 use std::alloc::Global;
 use std::process::Abort;
 use std::sync::Wait;
@@ -23,39 +23,76 @@ impl HistogramFn for Full {
     }
 }
 
-fn expect_raised<R: Abort + Wait>(rt: &R, alloc: Global) -> Result<(), Fail> {
+/// The generation of a value that was changed so often.
+fn after(changes: u64) -> Generation {
+    let mut counted = Counted::new(0u64);
+    for _ in 0..changes {
+        counted.with_increment(|_: &mut u64| {});
+    }
+    counted.get_generation()
+}
+
+fn expect_refused<R: Abort + Wait>(rt: &R, alloc: Global) -> Result<(), Fail> {
     let cell = Generational::new(alloc, Full)?;
-    let before = cell.get_generation();
+    assert!(rt; cell.get_generation() == after(0));
     assert!(rt; cell.record(rt, 3).err() == Some(3));
-    assert!(rt; before < cell.get_generation());
+    assert!(rt; cell.get_generation() == after(1));
     Ok(())
 }
 
 #[test]
-fn a_refused_sample_raises_the_generation(rt: HostRuntime) -> Result<(), Fail> {
-    expect_raised(&rt, rt.alloc())
+fn a_refused_sample_raises_the_generation_by_one(rt: HostRuntime) -> Result<(), Fail> {
+    expect_refused(&rt, rt.alloc())
+}
+
+fn expect_counter<R: Abort>(rt: &R, alloc: Global) -> Result<(), Fail> {
+    let cell = Generational::new(alloc, AtomicU64::new(0))?;
+    CounterFn::increment(&cell, 3);
+    assert!(rt; cell.get_generation() == after(1));
+    cell.absolute(9);
+    assert!(rt; cell.get_generation() == after(2));
+    assert_eq!(rt; cell.get_inner().load(Ordering::SeqCst), 9);
+    Ok(())
+}
+
+#[test]
+fn each_call_of_a_counter_raises_its_generation_by_one(rt: HostRuntime) -> Result<(), Fail> {
+    expect_counter(&rt, rt.alloc())
 }
 
 fn expect_gauge<R: Abort + Wait>(rt: &R, alloc: Global) -> Result<(), Fail> {
     let cell = Generational::new(alloc, AtomicU64::new(0))?;
-    let first = cell.get_generation();
     cell.set(5);
-    let second = cell.get_generation();
+    assert!(rt; cell.get_generation() == after(1));
     GaugeFn::increment(&cell, rt, 3);
+    assert!(rt; cell.get_generation() == after(2));
     cell.decrement(rt, 1);
+    assert!(rt; cell.get_generation() == after(3));
     assert_eq!(rt; cell.get_inner().load(Ordering::SeqCst), 7);
-    assert!(rt; first < second && second < cell.get_generation());
     Ok(())
 }
 
 #[test]
-fn a_gauge_raises_its_generation(rt: HostRuntime) -> Result<(), Fail> {
+fn each_call_of_a_gauge_raises_its_generation_by_one(rt: HostRuntime) -> Result<(), Fail> {
     expect_gauge(&rt, rt.alloc())
+}
+
+/// The generation is raised once the closure ran.
+fn expect_before<R: Abort>(rt: &R, alloc: Global) -> Result<(), Fail> {
+    let cell = Generational::new(alloc, AtomicU64::new(0))?;
+    let inside = cell.with_increment(|_: &AtomicU64| cell.get_generation());
+    assert!(rt; inside == after(0));
+    assert!(rt; cell.get_generation() == after(1));
+    Ok(())
+}
+
+#[test]
+fn the_generation_is_raised_after_the_call(rt: HostRuntime) -> Result<(), Fail> {
+    expect_before(&rt, rt.alloc())
 }
 
 /// Records a number of samples in a histogram of a registry, and answers how many were refused.
 fn refused<W: Wait>(rt: &W, registry: &Cells, key: &Key, samples: i64) -> Result<u64, Error> {
-    key_clones();
     let mut refused = 0u64;
     for sample in 0..samples {
         let kept = registry.get_or_create_histogram(rt, key, |cell| cell.record(rt, sample))?;

@@ -5,8 +5,8 @@ use crate::given::{
     retain_prefix, visits,
 };
 use metrics::{Error, Key, MetricKind};
-use metrics_registry::registry::Storage;
-use metrics_shared_registry::registry::Registry;
+use metrics_registry::Storage;
+use metrics_shared_registry::Registry;
 use std::alloc::Global;
 use std::process::Abort;
 use std::sync::Wait;

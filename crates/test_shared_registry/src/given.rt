@@ -5,9 +5,8 @@ ghost use Rattle.metrics.specs.declared.error.Error.TheVariants.{Memory as OutOf
 use metrics::{Error, Key, MetricKind};
 use metrics_bucket::AtomicBucket;
 use metrics_cells::HistogramFn;
-use metrics_registry::key_clones;
-use metrics_registry::registry::{Generation, Storage};
-use metrics_shared_registry::registry::{
+use metrics_registry::{Generation, Storage};
+use metrics_shared_registry::{
     AtomicStorage, Generational, GenerationalAtomicStorage, GenerationalStorage, Registry,
 };
 use std::alloc::Global;
@@ -153,7 +152,6 @@ where
     S::Gauge: Counting,
     S::Histogram: Counting,
 {
-    key_clones();
     match kind {
         MetricKind::Counter => {
             registry.get_or_create_counter(rt, key, |c: &S::Counter| c.one_more(rt))
@@ -263,7 +261,6 @@ where
     S::Gauge: Counting,
     S::Histogram: Counting,
 {
-    key_clones();
     Ok(match kind {
         MetricKind::Counter => registry.get_counter_handles(rt, alloc)?.len(),
         MetricKind::Gauge => registry.get_gauge_handles(rt, alloc)?.len(),

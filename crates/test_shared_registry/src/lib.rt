@@ -10,6 +10,8 @@ mod entries;
 #[cfg(test)]
 mod given;
 #[cfg(test)]
+mod handles;
+#[cfg(test)]
 mod recency;
 #[cfg(test)]
 mod threads;

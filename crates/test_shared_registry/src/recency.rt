@@ -4,9 +4,8 @@ use crate::given::{
     Dated, KINDS, Word, count, dated_cells, dated_words, delete, generation, increment,
 };
 use metrics::{Error, Key, MetricKind, MetricKindMask};
-use metrics_registry::key_clones;
-use metrics_registry::registry::{Generation, Storage};
-use metrics_shared_registry::registry::{Recency, Registry};
+use metrics_registry::{Generation, Storage};
+use metrics_shared_registry::{Recency, Registry};
 use std::alloc::Global;
 use std::process::Abort;
 use std::sync::Wait;
@@ -29,7 +28,6 @@ where
     S::Gauge: Drop,
     S::Histogram: Drop,
 {
-    key_clones();
     let (generation, now) = seen;
     match kind {
         MetricKind::Counter => recency.should_store_counter(rt, key, generation, now, registry),

@@ -3,8 +3,8 @@ use Rattle.metrics_journal.specs.Journal.{one_if}
 use Rattle.metrics_journal.proofs.JournalsLemmas.{shards-at, shards-set, replies-set}
 use Rattle.metrics_journal.proofs.registry.Journals.call.Goals as goal
 
-pub call-requires-clause-key : goal.call-requires-clause-key
-call-requires-clause-key g c =
+pub call-requires : goal.call-requires
+call-requires g c =
     let at = shards-at c.self.inside.shards.len 0 c.shard_of-shard.result c.self.inside.shards.items c.index_mut.result.now c.self.invariant.1 (search rules) (search rules) in
     let k = c.key.ensures in
     let h : c.shard_of-shard.result ≡ g.K.Hashable.number c.key.result.now % c.self.inside.shards.len = search rules in
