@@ -6,3 +6,4 @@ pub mod WordLists
 pub mod TreesSoFar
 pub mod TreesLemmas
 pub mod OutputLemmas
+pub mod FirstRun

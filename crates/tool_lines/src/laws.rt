@@ -1,9 +1,16 @@
 //! Laws of the definitions.
-ghost use Rattle.std.specs.Prelude.{◌≡◌, ℕ, List};
+ghost use Rattle.std.specs.Prelude.{◌≡◌, ℕ, List, []};
+ghost use Rattle.tool_lines.specs.Lines.{lines_of};
+ghost use Rattle.tool_lines.specs.Examples.{first_input, first_output};
 ghost use Rattle.tool_lines.specs.Output.{Input, printed, Prints};
 
 /// Lines are one input at most, so there is one text for them.
 pub fn one_text_at_most()
     ensures input { (ls : List (List ℕ)) (i j : Input ls) → (i.tree ≡ j.tree) × (i.calls ≡ j.calls) × (i.rest ≡ j.rest) }
     ensures text { (ls : List (List ℕ)) (a b : List ℕ) → Prints ls a → Prints ls b → a ≡ b }
+{}
+
+/// A first run: what it reads is an input, and this is what is printed for it.
+pub fn first_run()
+    ensures { (i : Input (lines_of first_input)) × (i.rest ≡ []) × (printed i ≡ first_output) }
 {}

@@ -14,7 +14,7 @@ mod trees;
 
 pub use commands::command;
 pub use handles::Handles;
-pub use laws::one_text_at_most;
+pub use laws::{first_run, one_text_at_most};
 pub use running::run;
 pub use tool_grammar::RunError;
 pub use trees::tree;
