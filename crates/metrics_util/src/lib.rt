@@ -9,7 +9,7 @@ pub mod debugging {
 
 /// Layers over recorders.
 pub mod layers {
-    pub use metrics_layers::{Filter, FilterLayer, Layer, Prefix, PrefixLayer, Stack};
+    pub use metrics_layers::{Filter, FilterLayer, Layer, Prefix, PrefixLayer, Stack, dotted_name};
     pub use metrics_trees::{Child, Fanout, FanoutBuilder, Router, RouterBuilder};
 }
 
@@ -39,7 +39,7 @@ pub mod storage {
 }
 
 pub use metrics::{Answer, Call, CompositeKey, Error, MetricKind, MetricKindMask};
-pub use metrics_cells::{CounterFn, GaugeFn, HistogramFn};
+pub use metrics_cells::{CounterFn, GaugeFn, HistogramFn, counter_value, gauge_value};
 pub use metrics_registry::{
     DefaultHashable, Hashable, KeyHasher, Quantile, key_clones, parse_quantiles,
 };

@@ -1,0 +1,39 @@
+//! What of the toolbox asks for no handle, by the Rust crate's modules: nothing here waits or starts a thread. It has no
+//! function of its own.
+#![tactic(auto)]
+
+/// A book in memory.
+pub mod debugging {
+    pub use metrics::{DebugValue, Snapshot};
+    pub use metrics_debugging::{DebuggingRecorder, Snapshotter};
+}
+
+/// Layers over recorders.
+pub mod layers {
+    pub use metrics_layers::{Filter, FilterLayer, Layer, Prefix, PrefixLayer, Stack, dotted_name};
+    pub use metrics_trees::{Child, Fanout, FanoutBuilder, Router, RouterBuilder};
+}
+
+/// Cells by kind and key, and which of them are still in use.
+pub mod registry {
+    pub use metrics_registry::registry::{
+        Counted, Generation, OwnedRecency, OwnedRegistry, PlainStorage, Storage,
+    };
+}
+
+/// Storage of samples.
+pub mod storage {
+    pub use metrics_storage::{BLOCK_SIZE, Block, Histogram, OwnedBucket};
+
+    /// A fixed number of values out of all that were pushed.
+    pub mod reservoir {
+        pub use metrics_storage::reservoir::{Drain, Reservoir};
+    }
+}
+
+pub use metrics::{Answer, Call, CompositeKey, Error, MetricKind, MetricKindMask};
+pub use metrics_registry::{
+    DefaultHashable, Hashable, KeyHasher, Quantile, parse_quantiles, recency_law,
+};
+pub use metrics_replay::{Journaled, answer_of, replay};
+pub use metrics_storage::reservoir_law;
