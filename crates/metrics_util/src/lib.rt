@@ -40,7 +40,7 @@ pub mod storage {
 }
 
 pub use metrics::{Answer, Call, CompositeKey, Error, MetricKind, MetricKindMask};
-pub use metrics_cells::{CounterFn, GaugeFn, HistogramFn};
+pub use metrics_cells::{CounterFn, GaugeFn, HistogramFn, counter_value, gauge_value};
 pub use metrics_registry::{
     DefaultHashable, EqualClone, Hashable, KeyHasher, Quantile, parse_quantiles,
 };

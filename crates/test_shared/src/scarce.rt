@@ -11,7 +11,7 @@ use std::process::Abort;
 use std::sync::Wait;
 use std::test::Fail;
 
-/// A book that has no memory for more than one sample of its first series.
+/// A book that has no memory for more than one sample of its first series, and after that none for addresses.
 #[derive(Drop)]
 struct Scarce {
     book: DebuggingRecorder,
@@ -42,7 +42,11 @@ impl Recorder for Scarce {
         kind: MetricKind,
         key: &Key,
     ) -> Result<Vec<Address>, Refused> {
-        self.book.register(alloc, kind, key)
+        match self.book.register(alloc, kind, key) {
+            Ok(_) if self.is_full => Err(Refused::Memory { acted: 1 }),
+            Ok(found) => Ok(found),
+            Err(refused) => Err(refused),
+        }
     }
 
     fn holds(&self, kind: MetricKind, at: Address) -> bool {
@@ -94,12 +98,19 @@ fn expect_refusal(rt: &impl Abort, first: Result<(), Refused>, second: Result<()
     assert_eq!(rt; second, Err(Refused::Memory { acted: 0 }));
 }
 
+/// That a register call tells on how many targets it had acted.
+fn expect_acted(rt: &impl Abort, found: Result<Vec<Address>, Refused>) {
+    assert!(rt; found.err() == Some(Refused::Memory { acted: 1 }));
+}
+
 fn expect_shared<R: Abort + Wait, B: Recorder>(rt: &R, alloc: Global, book: B) -> Result<(), Fail> {
     let shared = Shared::new(book);
     let found = shared.register(rt, alloc, MetricKind::Histogram, &key(alloc, "h")?)?;
     let at = first(&found)?;
     let taken = shared.update(rt, at, Update::Record(5));
     expect_refusal(rt, taken, shared.update(rt, at, Update::Record(6)));
+    let refused = shared.register(rt, alloc, MetricKind::Histogram, &key(alloc, "h")?);
+    expect_acted(rt, refused);
     expect_sample(rt, &shared.snapshot(rt, alloc, 0)?)
 }
 
@@ -118,6 +129,10 @@ fn expect_full<R: Abort + Wait, B: Recorder>(
     let at = first(&found)?;
     let taken = slot.update(rt, at, Update::Record(5));
     expect_refusal(rt, taken, slot.update(rt, at, Update::Record(6)));
+    expect_acted(
+        rt,
+        slot.register(rt, alloc, MetricKind::Histogram, &key(alloc, "h")?),
+    );
     Ok(())
 }
 
