@@ -4,14 +4,10 @@
 #![tactic(auto)]
 
 #[cfg(test)]
-mod fanouts;
+mod books;
 #[cfg(test)]
 mod given;
 #[cfg(test)]
-mod layers;
-#[cfg(test)]
 mod mixed;
 #[cfg(test)]
-mod routers;
-#[cfg(test)]
-mod scarce;
+mod stacks;

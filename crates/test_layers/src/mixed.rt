@@ -1,11 +1,10 @@
-//! Recorders of three types in one tree: a book, a book under a prefix, and a recorder of these tests' own.
+//! Recorders of three types in one tree: a book, a book under a prefix, and a recorder that keeps nothing.
 //!
 //! Once they are leaves of one type that is one of three, and once each behind a pointer.
 
-use crate::given::{Registered, expect_names, expect_registered, taken};
-use crate::scarce::Scarce;
+use crate::given::{Registered, expect_names, expect_registered};
 use either::Either;
-use metrics::{Boxed, MetricKind, MetricKindMask, Recorder};
+use metrics::{Boxed, MetricKind, MetricKindMask, NoopRecorder, Recorder};
 use metrics_debugging::DebuggingRecorder;
 use metrics_layers::{Prefix, PrefixLayer, Stack};
 use metrics_trees::{Child, Fanout, FanoutBuilder, Router, RouterBuilder};
@@ -17,116 +16,120 @@ type Book = DebuggingRecorder;
 
 type Prefixed = Stack<Prefix<Book>>;
 
-type Leaf = Either<Book, Either<Prefixed, Scarce>>;
+type Leaf = Either<Book, Either<Prefixed, NoopRecorder>>;
 
-fn book(alloc: Global) -> Result<Book, Fail> {
-    Ok(DebuggingRecorder::new(alloc)?)
+fn book(alloc: Global) -> Option<Book> {
+    DebuggingRecorder::new(alloc).ok()
 }
 
 /// A book that has `p.` before each name.
-fn prefixed(alloc: Global) -> Result<Prefixed, Fail> {
-    taken(Stack::new(book(alloc)?).push(alloc, PrefixLayer::new(alloc, "p")?))
+fn prefixed(alloc: Global) -> Option<Prefixed> {
+    let layer = PrefixLayer::new(alloc, "p").ok()?;
+    Stack::new(book(alloc)?).push(alloc, layer).ok()
 }
 
-fn scarce(alloc: Global) -> Result<Scarce, Fail> {
-    Ok(Scarce {
-        book: book(alloc)?,
-        is_full: true,
-    })
+fn add<B: Recorder>(builder: &mut FanoutBuilder<B>, leaf: Option<B>) -> Option<()> {
+    builder.add_recorder(Child::leaf(leaf?)).ok()
 }
 
-fn fanout_of<B: Recorder>(alloc: Global, first: B, second: B, third: B) -> Result<Fanout<B>, Fail> {
+fn fanout_of<B: Recorder>(
+    alloc: Global,
+    first: Option<B>,
+    second: Option<B>,
+    third: Option<B>,
+) -> Option<Fanout<B>> {
     let mut builder = FanoutBuilder::default(alloc);
-    taken(builder.add_recorder(Child::leaf(first)))?;
-    taken(builder.add_recorder(Child::leaf(second)))?;
-    taken(builder.add_recorder(Child::leaf(third)))?;
-    Ok(builder.build())
+    add(&mut builder, first)?;
+    add(&mut builder, second)?;
+    add(&mut builder, third)?;
+    Some(builder.build())
 }
 
-fn add_two<B: Recorder>(builder: &mut RouterBuilder<B>, first: B, second: B) -> Result<(), Fail> {
-    taken(builder.add_route(MetricKindMask::COUNTER, "h", Child::leaf(first)))?;
-    taken(builder.add_route(MetricKindMask::GAUGE, "h", Child::leaf(second)))?;
-    Ok(())
+/// Sends the names of a kind that begin with `h` to a recorder.
+fn route<B: Recorder>(
+    builder: &mut RouterBuilder<B>,
+    mask: MetricKindMask,
+    leaf: Option<B>,
+) -> Option<usize> {
+    builder.add_route(mask, "h", Child::leaf(leaf?)).ok()
 }
 
-/// A router that sends counters `h` to one recorder, gauges `h` to another, and the rest to the default.
+/// Counters `h` go to the second recorder, gauges `h` to the third, and the rest to the first.
 fn router_of<B: Recorder>(
     alloc: Global,
-    default: B,
-    first: B,
-    second: B,
-) -> Result<Router<B>, Fail> {
-    let mut builder = RouterBuilder::from_recorder(alloc, Child::leaf(default));
-    match add_two(&mut builder, first, second) {
-        Ok(()) => Ok(builder.build()),
-        Err(fail) => Err(fail),
-    }
+    first: Option<B>,
+    second: Option<B>,
+    third: Option<B>,
+) -> Option<Router<B>> {
+    let mut builder = RouterBuilder::from_recorder(alloc, Child::leaf(first?));
+    route(&mut builder, MetricKindMask::COUNTER, second)?;
+    route(&mut builder, MetricKindMask::GAUGE, third)?;
+    Some(builder.build())
 }
 
 fn expect_fanned<B: Recorder>(
     rt: &impl Abort,
     alloc: Global,
-    first: B,
-    second: B,
-    third: B,
+    first: Option<B>,
+    second: Option<B>,
+    third: Option<B>,
 ) -> Result<(), Fail> {
-    let on = fanout_of(alloc, first, second, third)?;
-    let wanted: [Registered; 1] = [(MetricKind::Counter, "hits", &[(0, 0), (1, 0), (2, 0)])];
-    let on = expect_registered(rt, alloc, on, &wanted)?;
-    expect_names(rt, alloc, on, &["hits", "p.hits", "hits"])
+    let wanted: [Registered; 1] = [(MetricKind::Counter, "hits", &[(0, 0), (1, 0)])];
+    let fanout = expect_registered(rt, alloc, fanout_of(alloc, first, second, third), &wanted)?;
+    expect_names(rt, alloc, fanout, &["hits", "p.hits"])
 }
 
 fn expect_routed<B: Recorder>(
     rt: &impl Abort,
     alloc: Global,
-    first: B,
-    second: B,
-    third: B,
+    first: Option<B>,
+    second: Option<B>,
+    third: Option<B>,
 ) -> Result<(), Fail> {
-    let on = router_of(alloc, first, second, third)?;
     let wanted: [Registered; 3] = [
         (MetricKind::Counter, "hits", &[(1, 0)]),
-        (MetricKind::Gauge, "heat", &[(2, 0)]),
+        (MetricKind::Gauge, "heat", &[]),
         (MetricKind::Histogram, "hours", &[(0, 0)]),
     ];
-    let on = expect_registered(rt, alloc, on, &wanted)?;
-    expect_names(rt, alloc, on, &["hours", "p.hits", "heat"])
+    let router = expect_registered(rt, alloc, router_of(alloc, first, second, third), &wanted)?;
+    expect_names(rt, alloc, router, &["hours", "p.hits"])
 }
 
-fn leaves(alloc: Global) -> Result<(Leaf, Leaf, Leaf), Fail> {
-    let prefixed = Either::Right(Either::Left(prefixed(alloc)?));
-    let own = Either::Right(Either::Right(scarce(alloc)?));
-    Ok((Either::Left(book(alloc)?), prefixed, own))
+fn leaf(alloc: Global) -> Option<Leaf> {
+    Some(Either::Left(book(alloc)?))
+}
+
+fn prefixed_leaf(alloc: Global) -> Option<Leaf> {
+    Some(Either::Right(Either::Left(prefixed(alloc)?)))
 }
 
 #[test]
 fn a_fanout_of_three_types(rt: HostRuntime) -> Result<(), Fail> {
     let alloc = rt.alloc();
-    let (first, second, third) = leaves(alloc)?;
-    expect_fanned(&rt, alloc, first, second, third)
+    let nothing = Some(Either::Right(Either::Right(NoopRecorder)));
+    expect_fanned(&rt, alloc, leaf(alloc), prefixed_leaf(alloc), nothing)
 }
 
-#[test]
-fn a_router_of_three_types(rt: HostRuntime) -> Result<(), Fail> {
-    let alloc = rt.alloc();
-    let (first, second, third) = leaves(alloc)?;
-    expect_routed(&rt, alloc, first, second, third)
+fn boxed_book(alloc: Global) -> Option<Boxed> {
+    Some(Boxed(Box::new(alloc, book(alloc)?).ok()?))
 }
 
-#[test]
-fn a_fanout_of_three_types_behind_pointers(rt: HostRuntime) -> Result<(), Fail> {
-    let alloc = rt.alloc();
-    let first = Boxed(Box::new(alloc, book(alloc)?)?);
-    let second = Boxed(Box::new(alloc, prefixed(alloc)?)?);
-    let third = Boxed(Box::new(alloc, scarce(alloc)?)?);
-    expect_fanned(&rt, alloc, first, second, third)
+fn boxed_prefixed(alloc: Global) -> Option<Boxed> {
+    Some(Boxed(Box::new(alloc, prefixed(alloc)?).ok()?))
+}
+
+fn boxed_nothing(alloc: Global) -> Option<Boxed> {
+    Some(Boxed(Box::new(alloc, NoopRecorder).ok()?))
 }
 
 #[test]
 fn a_router_of_three_types_behind_pointers(rt: HostRuntime) -> Result<(), Fail> {
     let alloc = rt.alloc();
-    let first = Boxed(Box::new(alloc, book(alloc)?)?);
-    let second = Boxed(Box::new(alloc, prefixed(alloc)?)?);
-    let third = Boxed(Box::new(alloc, scarce(alloc)?)?);
-    expect_routed(&rt, alloc, first, second, third)
+    expect_routed(
+        &rt,
+        alloc,
+        boxed_book(alloc),
+        boxed_prefixed(alloc),
+        boxed_nothing(alloc),
+    )
 }

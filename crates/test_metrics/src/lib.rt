@@ -1,9 +1,9 @@
-//! Tests of names, handles and definitions, through what `metrics` hands out.
+//! Tests of what `metrics` prints, and of the order of its keys.
 //!
 //! They stand in a crate of their own: a crate with tests is proved twice.
 #![tactic(auto)]
 
 #[cfg(test)]
-mod handles;
-#[cfg(test)]
 mod names;
+#[cfg(test)]
+mod prints;
