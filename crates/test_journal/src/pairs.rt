@@ -3,8 +3,7 @@ ghost use Rattle.std.specs.Prelude.{◌≡◌};
 
 use metrics::{Error, Key, MetricKind};
 use metrics_journal::{JournaledRegistry, ShardCall, Tally};
-use metrics_registry::key_clones;
-use metrics_registry::registry::PlainStorage;
+use metrics_registry::PlainStorage;
 use std::alloc::Global;
 use std::marker::Brand;
 use std::process::Abort;
@@ -34,7 +33,6 @@ fn call_all<T: Ledger, F: Ledger, R: Wait>(
     registry: &Registry<T, F>,
     tally: &mut Tally<T, F>,
 ) -> Result<[bool; 4], Error> {
-    key_clones();
     Ok([
         registry.call(rt, tally, create(alloc, "a")?)?,
         registry.call(rt, tally, create(alloc, "a")?)?,

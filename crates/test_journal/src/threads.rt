@@ -2,10 +2,9 @@
 ghost use Rattle.std.specs.Prelude.{◌≡◌};
 
 use crate::pairs::{Registry, create};
-use metrics::Error;
-use metrics_journal::Tally;
-use metrics_registry::key_clones;
-use metrics_registry::registry::PlainStorage;
+use metrics::{Error, Key};
+use metrics_journal::{ShardCall, Tally};
+use metrics_registry::PlainStorage;
 use std::alloc::Global;
 use std::marker::Brand;
 use std::process::Abort;
@@ -26,7 +25,6 @@ fn create_all<T: Ledger, F: Ledger, R: Wait>(
     registry: &Registry<T, F>,
     tally: Tally<T, F>,
 ) -> Result<Told<T, F>, Error> {
-    key_clones();
     let mut tally = tally;
     let mut new: usize = 0;
     for name in NAMES {
@@ -61,6 +59,33 @@ fn joined<T: Ledger, F: Ledger>(told: Vec<Result<Told<T, F>, Error>>) -> Result<
     Ok((tally, new))
 }
 
+/// How many pairs of all journals have this call, and how many of these were answered true.
+fn found(journals: &[Vec<(ShardCall<Key>, bool)>], call: &ShardCall<Key>) -> (usize, usize) {
+    let mut pairs = 0usize;
+    let mut new = 0usize;
+    for journal in journals {
+        for pair in journal {
+            if pair.0 == *call {
+                pairs = pairs.saturating_add(1);
+                new = new.saturating_add(usize::from(pair.1));
+            }
+        }
+    }
+    (pairs, new)
+}
+
+/// Each counter was created four times, and was new once.
+fn expect_names<R: Abort>(
+    rt: &R,
+    alloc: Global,
+    journals: &[Vec<(ShardCall<Key>, bool)>],
+) -> Result<(), Fail> {
+    for name in NAMES {
+        assert_eq!(rt; found(journals, &create(alloc, name)?), (4, 1), "{name}");
+    }
+    Ok(())
+}
+
 fn expect_all<T: Ledger + Send + Sync, F: Ledger + Send + Sync, R: Threads + Wait + Abort + Sync>(
     rt: &R,
     alloc: Global,
@@ -91,7 +116,7 @@ fn expect_all<T: Ledger + Send + Sync, F: Ledger + Send + Sync, R: Threads + Wai
         .iter()
         .fold(0, |sum: usize, journal| sum.saturating_add(journal.len()));
     assert_eq!(rt; pairs, 40);
-    Ok(())
+    expect_names(rt, alloc, journals.as_slice())
 }
 
 #[test]
