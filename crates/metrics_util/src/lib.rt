@@ -40,11 +40,13 @@ pub mod storage {
 }
 
 pub use metrics::{Answer, Call, CompositeKey, Error, MetricKind, MetricKindMask};
+pub use metrics_bucket::bucket_law;
 pub use metrics_cells::{CounterFn, GaugeFn, HistogramFn, counter_value, gauge_value};
 pub use metrics_registry::{
-    DefaultHashable, EqualClone, Hashable, KeyHasher, Quantile, parse_quantiles,
+    DefaultHashable, EqualClone, Hashable, KeyHasher, Quantile, parse_quantiles, recency_law,
 };
 pub use metrics_replay::{Journaled, answer_of, replay};
 pub use metrics_shared::{
     Install, RecoverableRecorder, RecoveryHandle, SetRecorderError, Shared, Slot, SlotRecorder,
 };
+pub use metrics_storage::reservoir_law;

@@ -17,7 +17,7 @@ pub mod layers {
 /// Cells by kind and key, and which of them are still in use.
 pub mod registry {
     pub use metrics_registry::{
-        Counted, Generation, OwnedRecency, OwnedRegistry, PlainStorage, Storage,
+        Cells, Counted, Generation, Kinds, OwnedRecency, OwnedRegistry, PlainStorage, Storage,
     };
 }
 
@@ -33,7 +33,7 @@ pub mod storage {
 
 pub use metrics::{Answer, Call, CompositeKey, Error, MetricKind, MetricKindMask};
 pub use metrics_registry::{
-    DefaultHashable, Hashable, KeyHasher, Quantile, parse_quantiles, recency_law,
+    DefaultHashable, EqualClone, Hashable, KeyHasher, Quantile, parse_quantiles, recency_law,
 };
 pub use metrics_replay::{Journaled, answer_of, replay};
 pub use metrics_storage::reservoir_law;
