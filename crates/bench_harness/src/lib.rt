@@ -127,6 +127,9 @@ pub fn print_times<R: Print + Eprint>(rt: &R, name: &str, mut times: [u64; ROUND
 }
 
 /// The times of one operation in each round, after one more that isn't timed.
+///
+/// It is inlined, so that the compiler sees that nothing else reaches the benchmark.
+#[inline(always)]
 fn rounds<R: Clock, B: Bench<R>>(rt: &R, bench: &mut B, size: Size) -> Result<[u64; ROUNDS]> {
     let mut times = [0u64; ROUNDS];
     round(rt, bench, size)?;
@@ -137,6 +140,7 @@ fn rounds<R: Clock, B: Bench<R>>(rt: &R, bench: &mut B, size: Size) -> Result<[u
 }
 
 /// The time of one operation in hundredths of a nanosecond.
+#[inline(always)]
 fn round<R: Clock, B: Bench<R>>(rt: &R, bench: &mut B, size: Size) -> Result<u64> {
     let mut nanos: u64 = 0;
     let mut seen: u64 = 0;

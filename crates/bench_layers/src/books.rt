@@ -89,6 +89,7 @@ impl<R: Recorder> Increments<R> {
 }
 
 impl<H, R: Recorder> Bench<H> for Increments<R> {
+    #[inline(always)]
     fn walk(&mut self, _rt: &H) -> Result<u64> {
         let book = self.book;
         for series in 0..self.series {
