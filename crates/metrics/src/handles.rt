@@ -82,6 +82,10 @@ pub fn update_all<R: Recorder>(on: &mut R, found: &[Address], by: Update) -> Res
     ensures keeps { KeepsTargets (R.meaning on.old) (R.meaning on.new) }
     ensures updates { UpdatesHandle (R.meaning on.old) (R.meaning on.new) found.now by result }
 {
+    if let [only] = found {
+        on.update(*only, by)?;
+        return Ok(1);
+    }
     if are_held(on, kind_of_update(by), found) {
         update_held(on, found, by)
     } else {
