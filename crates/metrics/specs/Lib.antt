@@ -8,3 +8,4 @@ pub mod Meaning
 pub mod Layers
 pub mod History
 pub mod Answering
+pub mod Lending

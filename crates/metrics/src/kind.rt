@@ -84,7 +84,9 @@ pub struct PerKind<T> {
 }
 
 impl<T> PerKind<T> {
+    ghost use Rattle.std.specs.Borrow.{sem};
     ghost use Rattle.metrics.specs.Kinds.{of_kind};
+    ghost use Rattle.metrics.specs.Lending.{lends_kind};
 
     /// The value of a kind.
     pub fn of(&self, kind: MetricKind) -> &T
@@ -94,6 +96,17 @@ impl<T> PerKind<T> {
             MetricKind::Counter => &self.counter,
             MetricKind::Gauge => &self.gauge,
             MetricKind::Histogram => &self.histogram,
+        }
+    }
+    /// The value of a kind. The others stay.
+    pub fn of_mut(&mut self, kind: MetricKind) -> &mut T
+        ensures* lends { sem 𝓛 (lends_kind T.row kind self.entry result) }
+        ensures value { result.now ≡ of_kind kind self.old }
+    {
+        match kind {
+            MetricKind::Counter => &mut self.counter,
+            MetricKind::Gauge => &mut self.gauge,
+            MetricKind::Histogram => &mut self.histogram,
         }
     }
 }

@@ -2,8 +2,10 @@
 #![tactic(auto)]
 
 mod atomics;
+mod generation;
 mod handles;
 #[cfg(test)]
 mod tests;
 
+pub use generation::AtomicGeneration;
 pub use handles::{CounterFn, GaugeFn, HistogramFn};

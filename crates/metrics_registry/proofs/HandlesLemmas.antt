@@ -5,7 +5,6 @@ use Rattle.std.specs.List.{IsDistinct, AllByRecursion}
 use Rattle.std.specs.Map.{lookup, keys_of}
 use Rattle.std.proofs.lemmas.Bool.{cond-true, cond-false}
 use Rattle.metrics_registry.specs.Held.{Copies, ArePlaced}
-use Rattle.std.specs.HashMap.{HashMap}
 use Rattle.metrics_registry.proofs.HeldLemmas.{by_answer, lookup-append_none}
 
 front : {K C : Type 0} (eq : K → K → Bool) (x : K) (xs ys : List (K × C)) → AllByRecursion (λ k. eq x k ≡ false) (keys_of (xs ++ ys)) → AllByRecursion (λ k. eq x k ≡ false) (keys_of xs)
@@ -77,7 +76,7 @@ unfolding IsDistinct
 distinct-front eq [] ys distinct = tt
 distinct-front eq (x ∷ xs) ys distinct = (front eq x.0 xs ys distinct.0, distinct-front eq xs ys distinct.1)
 
-pub placed-take : {K C S : Type 0} (eq : K → K → Bool) (number : K → ℕ) (count shard n : ℕ) (ms : List (HashMap K C S)) → ArePlaced eq number count shard ms → ArePlaced eq number count shard (take n ms)
+pub placed-take : {K C : Type 0} (eq : K → K → Bool) (number : K → ℕ) (count shard n : ℕ) (ms : List (List (K × C))) → ArePlaced eq number count shard ms → ArePlaced eq number count shard (take n ms)
 placed-take eq number count shard zero ms placed = tt
 placed-take eq number count shard (suc n) [] placed = tt
 placed-take eq number count shard (suc n) (m ∷ ms) placed = (placed.0, placed.1, placed-take eq number count (suc shard) n ms placed.2)

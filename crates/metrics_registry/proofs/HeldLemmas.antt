@@ -3,12 +3,11 @@ use Rattle.std.proofs.Common.{◌≡◌, ℕ, zero, suc, ◌+◌, ◌<◌, ◌%�
 use Rattle.std.specs.Cmp.{IsEquivalence}
 use Rattle.std.specs.List.{IsDistinct, AllByRecursion, All, FoldsTo}
 use Rattle.std.specs.Map.{lookup, keys_of, update}
-use Rattle.std.specs.HashMap.{HashMap}
 use Rattle.std.proofs.lemmas.Bool.{cond-true, cond-false}
 use Rattle.std.proofs.lemmas.List.{get_or-set_same, get_or-set_other, get_or_default, length-set, take_all, append-nil, append_assoc}
 use Rattle.std.proofs.Math.Nat.{mod-lt}
 use Rattle.std.proofs.lemmas.Map.{NonePasses, none_passes_from_lookup}
-use Rattle.metrics_registry.specs.Held.{Cells, entry_at, held, Sets, Calls, Adds, Appends, IsCellOf, CallsAt, entries_of, AreOf, ArePlaced}
+use Rattle.metrics_registry.specs.Held.{Sets, entries_of, AreOf, ArePlaced}
 
 pub by_answer : {P : Type 0} (b : Bool) → (b ≡ true → P) → (b ≡ false → P) → P
 by_answer true p q = p refl
@@ -57,43 +56,43 @@ module _ {K C : Type 0} {eq : K → K → Bool} (laws : IsEquivalence eq) (numbe
       (λ f. by_place (number q % count) shard (λ e. e)
       (λ apart. absurd (some (sets q ∙ (cond-false (eq key q) w (lookup (eq q) old) f ∙ none-elsewhere shard old q apart of))))))
 
-module _ {K C S : Type 0} {eq : K → K → Bool} (laws : IsEquivalence eq) (number : K → ℕ) (same : (x y : K) → eq x y ≡ true → number x ≡ number y) (count : ℕ) where
-  pub none-later : (shard : ℕ) (ms : List (HashMap K C S)) (q : K) → number q % count < shard → ArePlaced eq number count shard ms → lookup (eq q) (entries_of ms) ≡ None
+module _ {K C : Type 0} {eq : K → K → Bool} (laws : IsEquivalence eq) (number : K → ℕ) (same : (x y : K) → eq x y ≡ true → number x ≡ number y) (count : ℕ) where
+  pub none-later : (shard : ℕ) (ms : List (List (K × C))) (q : K) → number q % count < shard → ArePlaced eq number count shard ms → lookup (eq q) (entries_of ms) ≡ None
   none-later shard [] q before placed = refl
   none-later shard (m ∷ ms) q before placed =
-      lookup-append_none (eq q) m.entries (entries_of ms) (none-elsewhere laws number same count shard m.entries q (λ e. omega (arith, e, before)) placed.0)
+      lookup-append_none (eq q) m (entries_of ms) (none-elsewhere laws number same count shard m q (λ e. omega (arith, e, before)) placed.0)
       ∙ none-later (suc shard) ms q (omega (arith, before)) placed.2
 
   -- a look-up in all shards is the look-up in its own
-  pub lookup-placed : (shard i : ℕ) (ms : List (HashMap K C S)) (m : HashMap K C S) (q : K) → ArePlaced eq number count shard ms → i < length ms → m ≡ get_or ms i m → number q % count ≡ shard + i → lookup (eq q) (entries_of ms) ≡ lookup (eq q) m.entries
+  pub lookup-placed : (shard i : ℕ) (ms : List (List (K × C))) (m : List (K × C)) (q : K) → ArePlaced eq number count shard ms → i < length ms → m ≡ get_or ms i m → number q % count ≡ shard + i → lookup (eq q) (entries_of ms) ≡ lookup (eq q) m
   lookup-placed shard i [] m q placed small is at = absurd (omega (arith, small))
   lookup-placed shard zero (x ∷ ms) m q placed small is at =
-      lookup-append_rest (eq q) x.entries (entries_of ms) (none-later (suc shard) ms q (omega (arith, at)) placed.2)
-      ∙ ap (λ (n : HashMap K C S). lookup (eq q) n.entries) (sym is)
+      lookup-append_rest (eq q) x (entries_of ms) (none-later (suc shard) ms q (omega (arith, at)) placed.2)
+      ∙ ap (λ n. lookup (eq q) n) (sym is)
   lookup-placed shard (suc i) (x ∷ ms) m q placed small is at =
-      lookup-append_none (eq q) x.entries (entries_of ms) (none-elsewhere laws number same count shard x.entries q (λ e. omega (arith, e, at)) placed.0)
+      lookup-append_none (eq q) x (entries_of ms) (none-elsewhere laws number same count shard x q (λ e. omega (arith, e, at)) placed.0)
       ∙ lookup-placed (suc shard) i ms m q placed.2 (omega (arith, small)) is (omega (arith, at))
 
-  pub placed-set : (shard i : ℕ) (ms : List (HashMap K C S)) (n : HashMap K C S) → ArePlaced eq number count shard ms → AreOf number count (shard + i) n.entries → IsDistinct eq (keys_of n.entries) → ArePlaced eq number count shard (set ms i n)
+  pub placed-set : (shard i : ℕ) (ms : List (List (K × C))) (n : List (K × C)) → ArePlaced eq number count shard ms → AreOf number count (shard + i) n → IsDistinct eq (keys_of n) → ArePlaced eq number count shard (set ms i n)
   placed-set shard i [] n placed of distinct = tt
-  placed-set shard zero (x ∷ ms) n placed of distinct = (let P : ℕ → Type 0 = λ k. AreOf number count k n.entries in subst P (omega arith) of, distinct, placed.2)
+  placed-set shard zero (x ∷ ms) n placed of distinct = (let P : ℕ → Type 0 = λ k. AreOf number count k n in subst P (omega arith) of, distinct, placed.2)
   placed-set shard (suc i) (x ∷ ms) n placed of distinct =
-      (placed.0, placed.1, placed-set (suc shard) i ms n placed.2 (let P : ℕ → Type 0 = λ k. AreOf number count k n.entries in subst P (omega arith) of) distinct)
+      (placed.0, placed.1, placed-set (suc shard) i ms n placed.2 (let P : ℕ → Type 0 = λ k. AreOf number count k n in subst P (omega arith) of) distinct)
 
-  pub placed-at : (shard i : ℕ) (ms : List (HashMap K C S)) (m : HashMap K C S) → ArePlaced eq number count shard ms → i < length ms → m ≡ get_or ms i m → AreOf number count (shard + i) m.entries
+  pub placed-at : (shard i : ℕ) (ms : List (List (K × C))) (m : List (K × C)) → ArePlaced eq number count shard ms → i < length ms → m ≡ get_or ms i m → AreOf number count (shard + i) m
   placed-at shard i [] m placed small is = absurd (omega (arith, small))
   placed-at shard zero (x ∷ ms) m placed small is =
-      let P : HashMap K C S → ℕ → Type 0 = λ n k. AreOf number count k n.entries in
+      let P : List (K × C) → ℕ → Type 0 = λ n k. AreOf number count k n in
       subst (λ n. P n (shard + zero)) (sym is) (subst (P x) (omega arith) placed.0)
   placed-at shard (suc i) (x ∷ ms) m placed small is =
-      let P : ℕ → Type 0 = λ k. AreOf number count k m.entries in
+      let P : ℕ → Type 0 = λ k. AreOf number count k m in
       subst P (omega arith) (placed-at (suc shard) i ms m placed.2 (omega (arith, small)) is)
 
   -- a change of one key in its shard is that change of all entries
-  pub sets-placed : (i : ℕ) (ms : List (HashMap K C S)) (m n : HashMap K C S) (key : K) (w : Option C) → ArePlaced eq number count 0 ms → count ≡ length ms → i < length ms → m ≡ get_or ms i m → number key % count ≡ i → Sets eq key w m.entries n.entries → IsDistinct eq (keys_of n.entries) → Sets eq key w (entries_of ms) (entries_of (set ms i n)) × ArePlaced eq number count 0 (set ms i n)
+  pub sets-placed : (i : ℕ) (ms : List (List (K × C))) (m n : List (K × C)) (key : K) (w : Option C) → ArePlaced eq number count 0 ms → count ≡ length ms → i < length ms → m ≡ get_or ms i m → number key % count ≡ i → Sets eq key w m n → IsDistinct eq (keys_of n) → Sets eq key w (entries_of ms) (entries_of (set ms i n)) × ArePlaced eq number count 0 (set ms i n)
   sets-placed i ms m n key w placed count_is small is at sets distinct =
-      let of' = are-of-set laws number same count i m.entries n.entries key w at (let P : ℕ → Type 0 = λ k. AreOf number count k m.entries in subst P (omega arith) (placed-at 0 i ms m placed small is)) sets in
-      let placed' = placed-set 0 i ms n placed (let P : ℕ → Type 0 = λ k. AreOf number count k n.entries in subst P (omega arith) of') distinct in
+      let of' = are-of-set laws number same count i m n key w at (let P : ℕ → Type 0 = λ k. AreOf number count k m in subst P (omega arith) (placed-at 0 i ms m placed small is)) sets in
+      let placed' = placed-set 0 i ms n placed (let P : ℕ → Type 0 = λ k. AreOf number count k n in subst P (omega arith) of') distinct in
       let same_length : length (set ms i n) ≡ length ms = length-set ms i n in (
         (λ q. by_place (number q % count) i
             (λ here.
@@ -109,62 +108,31 @@ module _ {K C S : Type 0} {eq : K → K → Bool} (laws : IsEquivalence eq) (num
         placed',
       )
 
--- ---- shards with nothing in them
-
-abbrev pub IsBare : {K C S : Type 0} → HashMap K C S → Type 0
-IsBare m = m.entries ≡ []
-
-pub entries-bare : {K C S : Type 0} (ms : List (HashMap K C S)) → All IsBare ms → entries_of ms ≡ []
-entries-bare [] bare = refl
-entries-bare (m ∷ ms) bare = ap (λ es. es ++ entries_of ms) (bare 0 m (omega arith)) ∙ entries-bare ms (λ k d small. bare (suc k) d (omega (arith, small)))
-
-pub placed-bare : {K C S : Type 0} (eq : K → K → Bool) (number : K → ℕ) (count shard : ℕ) (ms : List (HashMap K C S)) → All IsBare ms → ArePlaced eq number count shard ms
-unfolding IsDistinct
-placed-bare eq number count shard [] bare = tt
-placed-bare {K} {C} {S} eq number count shard (m ∷ ms) bare =
-    let none = bare 0 m (omega arith) in
-    let Of : List (K × C) → Type 0 = λ es. AreOf number count shard es in
-    let Differ : List (K × C) → Type 0 = λ es. IsDistinct eq (keys_of es) in
-    (subst Of (sym none) tt, subst Differ (sym none) tt, placed-bare eq number count (suc shard) ms (λ k d small. bare (suc k) d (omega (arith, small))))
-
-pub bare-all : {K C S : Type 0} (n : ℕ) (ms : List (HashMap K C S)) → length ms ≤ n → All IsBare (take n ms) → All IsBare ms
-bare-all n ms long bare = subst (λ xs. All IsBare xs) (take_all n ms long) bare
-
-bare-suc : {K C S : Type 0} (n : ℕ) (ms : List (HashMap K C S)) (m : HashMap K C S) → n < length ms → IsBare m → All IsBare (take n ms) → All IsBare (take (suc n) (set ms n m))
-bare-suc zero (x ∷ ms) m small none bare zero d first = none
-bare-suc zero (x ∷ ms) m small none bare (suc k) d first = absurd (omega (arith, first))
-bare-suc (suc n) (x ∷ ms) m small none bare zero d first = bare zero d (omega arith)
-bare-suc (suc n) (x ∷ ms) m small none bare (suc k) d first = bare-suc n ms m (omega (arith, small)) none (λ j e less. bare (suc j) e (omega (arith, less))) k d (omega (arith, first))
-bare-suc n [] m small none bare k d first = absurd (omega (arith, small))
-
-pub bare-more : {K C S : Type 0} (n : ℕ) (ms : List (HashMap K C S)) (m : HashMap K C S) → n < length ms → IsBare m → All IsBare (take n ms) → All IsBare (take (n + 1) (set ms n m))
-bare-more n ms m small none bare = let P : ℕ → Type 0 = λ k. All IsBare (take k (set ms n m)) in subst P (sym (add-one n)) (bare-suc n ms m small none bare)
-
 -- ---- calls at each entry
 
 pub FoldsTo-append : {P A : Type 0} (R : P → A → P → Type 0) (p : P) (xs ys : List A) (q r : P) → FoldsTo R p xs q → FoldsTo R q ys r → FoldsTo R p (xs ++ ys) r
 FoldsTo-append R p [] ys q r first second = let Q : _ → Type 0 = λ s. FoldsTo R s ys r in subst Q (sym first) second
 FoldsTo-append R p (x ∷ xs) ys q r first second = (first.0, first.1, FoldsTo-append R first.0 xs ys q r first.2 second)
 
-entries-suc : {K C S : Type 0} (ms : List (HashMap K C S)) (i : ℕ) (m : HashMap K C S) → i < length ms → m ≡ get_or ms i m → entries_of (take (suc i) ms) ≡ entries_of (take i ms) ++ m.entries
+entries-suc : {K C : Type 0} (ms : List (List (K × C))) (i : ℕ) (m : List (K × C)) → i < length ms → m ≡ get_or ms i m → entries_of (take (suc i) ms) ≡ entries_of (take i ms) ++ m
 entries-suc [] i m small is = absurd (omega (arith, small))
-entries-suc (x ∷ ms) zero m small is = append-nil x.entries ∙ ap (λ (n : HashMap _ _ _). n.entries) (sym is)
-entries-suc (x ∷ ms) (suc i) m small is = ap (λ es. x.entries ++ es) (entries-suc ms i m (omega (arith, small)) is) ∙ sym (append_assoc x.entries (entries_of (take i ms)) m.entries)
+entries-suc (x ∷ ms) zero m small is = append-nil x ∙ sym is
+entries-suc (x ∷ ms) (suc i) m small is = ap (λ es. x ++ es) (entries-suc ms i m (omega (arith, small)) is) ∙ sym (append_assoc x (entries_of (take i ms)) m)
 
-pub entries-more : {K C S : Type 0} (ms : List (HashMap K C S)) (i : ℕ) (m : HashMap K C S) → i < length ms → m ≡ get_or ms i m → entries_of (take (i + 1) ms) ≡ entries_of (take i ms) ++ m.entries
+pub entries-more : {K C : Type 0} (ms : List (List (K × C))) (i : ℕ) (m : List (K × C)) → i < length ms → m ≡ get_or ms i m → entries_of (take (i + 1) ms) ≡ entries_of (take i ms) ++ m
 entries-more ms i m small is = ap (λ k. entries_of (take k ms)) (add-one i) ∙ entries-suc ms i m small is
 
 -- ---- a shard with the same entries
 
-pub entries-same : {K C S : Type 0} (ms : List (HashMap K C S)) (i : ℕ) (m n : HashMap K C S) → m ≡ get_or ms i m → n.entries ≡ m.entries → entries_of (set ms i n) ≡ entries_of ms
+pub entries-same : {K C : Type 0} (ms : List (List (K × C))) (i : ℕ) (m n : List (K × C)) → m ≡ get_or ms i m → n ≡ m → entries_of (set ms i n) ≡ entries_of ms
 entries-same [] i m n is same = refl
-entries-same (x ∷ ms) zero m n is same = ap (λ es. es ++ entries_of ms) (same ∙ ap (λ (k : HashMap _ _ _). k.entries) is)
-entries-same (x ∷ ms) (suc i) m n is same = ap (λ es. x.entries ++ es) (entries-same ms i m n is same)
+entries-same (x ∷ ms) zero m n is same = ap (λ es. es ++ entries_of ms) (same ∙ is)
+entries-same (x ∷ ms) (suc i) m n is same = ap (λ es. x ++ es) (entries-same ms i m n is same)
 
-pub placed-same : {K C S : Type 0} (eq : K → K → Bool) (number : K → ℕ) (count shard : ℕ) (ms : List (HashMap K C S)) (i : ℕ) (m n : HashMap K C S) → m ≡ get_or ms i m → n.entries ≡ m.entries → ArePlaced eq number count shard ms → ArePlaced eq number count shard (set ms i n)
+pub placed-same : {K C : Type 0} (eq : K → K → Bool) (number : K → ℕ) (count shard : ℕ) (ms : List (List (K × C))) (i : ℕ) (m n : List (K × C)) → m ≡ get_or ms i m → n ≡ m → ArePlaced eq number count shard ms → ArePlaced eq number count shard (set ms i n)
 placed-same eq number count shard [] i m n is same placed = tt
-placed-same {K} {C} {S} eq number count shard (x ∷ ms) zero m n is same placed =
-    let there = same ∙ ap (λ (k : HashMap K C S). k.entries) is in
+placed-same {K} {C} eq number count shard (x ∷ ms) zero m n is same placed =
+    let there = same ∙ is in
     let Of : List (K × C) → Type 0 = λ es. AreOf number count shard es in
     let Differ : List (K × C) → Type 0 = λ es. IsDistinct eq (keys_of es) in
     (subst Of (sym there) placed.0, subst Differ (sym there) placed.1, placed.2)
@@ -183,16 +151,16 @@ module _ {K C : Type 0} {eq : K → K → Bool} (laws : IsEquivalence eq) (numbe
   distinct-append [] ys dx dy apart = dy
   distinct-append (x ∷ xs) ys dx dy apart = (distinct-cons eq x xs ys dx.0 (none_passes_from_lookup (eq x.0) ys apart.0), distinct-append xs ys dx.1 dy apart.1)
 
-module _ {K C S : Type 0} {eq : K → K → Bool} (laws : IsEquivalence eq) (number : K → ℕ) (same : (x y : K) → eq x y ≡ true → number x ≡ number y) (count : ℕ) where
-  apart-later : (shard : ℕ) (es : List (K × C)) (ms : List (HashMap K C S)) → AreOf number count shard es → ArePlaced eq number count (suc shard) ms → AllByRecursion (λ x. lookup (eq x.0) (entries_of ms) ≡ None) es
+module _ {K C : Type 0} {eq : K → K → Bool} (laws : IsEquivalence eq) (number : K → ℕ) (same : (x y : K) → eq x y ≡ true → number x ≡ number y) (count : ℕ) where
+  apart-later : (shard : ℕ) (es : List (K × C)) (ms : List (List (K × C))) → AreOf number count shard es → ArePlaced eq number count (suc shard) ms → AllByRecursion (λ x. lookup (eq x.0) (entries_of ms) ≡ None) es
   apart-later shard [] ms of placed = tt
   apart-later shard (e ∷ es) ms of placed = (none-later laws number same count (suc shard) ms e.0 (omega (arith, of.0)) placed, apart-later shard es ms of.1 placed)
 
   -- all shards together have no key twice
-  pub distinct-placed : (shard : ℕ) (ms : List (HashMap K C S)) → ArePlaced eq number count shard ms → IsDistinct eq (keys_of (entries_of ms))
+  pub distinct-placed : (shard : ℕ) (ms : List (List (K × C))) → ArePlaced eq number count shard ms → IsDistinct eq (keys_of (entries_of ms))
   unfolding IsDistinct
   distinct-placed shard [] placed = tt
-  distinct-placed shard (m ∷ ms) placed = distinct-append laws number same count m.entries (entries_of ms) placed.1 (distinct-placed (suc shard) ms placed.2) (apart-later shard m.entries ms placed.0 placed.2)
+  distinct-placed shard (m ∷ ms) placed = distinct-append laws number same count m (entries_of ms) placed.1 (distinct-placed (suc shard) ms placed.2) (apart-later shard m ms placed.0 placed.2)
 
 -- ---- what a call on one shard is to all
 
@@ -209,103 +177,23 @@ keys-append [] ys = refl
 keys-append (x ∷ xs) ys = ap (λ ks. x.0 ∷ ks) (keys-append xs ys)
 
 -- a shard with the same keys
-pub keys-same : {K C S : Type 0} (ms : List (HashMap K C S)) (i : ℕ) (m n : HashMap K C S) → m ≡ get_or ms i m → keys_of n.entries ≡ keys_of m.entries → keys_of (entries_of (set ms i n)) ≡ keys_of (entries_of ms)
+pub keys-same : {K C : Type 0} (ms : List (List (K × C))) (i : ℕ) (m n : List (K × C)) → m ≡ get_or ms i m → keys_of n ≡ keys_of m → keys_of (entries_of (set ms i n)) ≡ keys_of (entries_of ms)
 keys-same [] i m n is same = refl
 keys-same (x ∷ ms) zero m n is same =
-    keys-append n.entries (entries_of ms)
-    ∙ (ap (λ ks. ks ++ keys_of (entries_of ms)) (same ∙ ap (λ (k : HashMap _ _ _). keys_of k.entries) is) ∙ sym (keys-append x.entries (entries_of ms)))
+    keys-append n (entries_of ms)
+    ∙ (ap (λ ks. ks ++ keys_of (entries_of ms)) (same ∙ ap (λ k. keys_of k) is) ∙ sym (keys-append x (entries_of ms)))
 keys-same (x ∷ ms) (suc i) m n is same =
-    keys-append x.entries (entries_of (set ms i n))
-    ∙ (ap (λ ks. keys_of x.entries ++ ks) (keys-same ms i m n is same) ∙ sym (keys-append x.entries (entries_of ms)))
+    keys-append x (entries_of (set ms i n))
+    ∙ (ap (λ ks. keys_of x ++ ks) (keys-same ms i m n is same) ∙ sym (keys-append x (entries_of ms)))
 
 -- the entries of a single shard
-pub entries-alone : {K C S : Type 0} (ms : List (HashMap K C S)) (i : ℕ) (m : HashMap K C S) → length ms ≡ 1 → i < length ms → m ≡ get_or ms i m → entries_of ms ≡ m.entries
+pub entries-alone : {K C : Type 0} (ms : List (List (K × C))) (i : ℕ) (m : List (K × C)) → length ms ≡ 1 → i < length ms → m ≡ get_or ms i m → entries_of ms ≡ m
 entries-alone [] i m one small is = absurd (omega (arith, one))
-entries-alone (x ∷ []) zero m one small is = append-nil x.entries ∙ ap (λ (k : HashMap _ _ _). k.entries) (sym is)
+entries-alone (x ∷ []) zero m one small is = append-nil x ∙ sym is
 entries-alone (x ∷ []) (suc i) m one small is = absurd (omega (arith, small))
 entries-alone (x ∷ y ∷ ms) i m one small is = absurd (omega (arith, one))
-
-module _ {K C S : Type 0} {eq : K → K → Bool} (laws : IsEquivalence eq) (number : K → ℕ) (same : (x y : K) → eq x y ≡ true → number x ≡ number y) (count i : ℕ) (ms : List (HashMap K C S)) (old : Cells K C) (m n : HashMap K C S)
-    (placed : ArePlaced eq number count 0 ms) (view : ◌≡◌ {A = Cells K C} (record { count = count; entries = entries_of ms }) old) (count_is : count ≡ length ms) (small : i < length ms) (is : m ≡ get_or ms i m) where
-  the-entries : entries_of ms ≡ old.entries
-  the-entries = ap (λ (c : Cells K C). c.entries) view
-
-  pub same-shard : n.entries ≡ m.entries → ArePlaced eq number count 0 (set ms i n) × (◌≡◌ {A = Cells K C} (record { count = count; entries = entries_of (set ms i n) }) old)
-  same-shard e = (placed-same eq number count 0 ms i m n is e placed, ap (λ es. record { count = count; entries = es }) (entries-same ms i m n is e) ∙ view)
-
-  pub keys-shard : keys_of n.entries ≡ keys_of m.entries → keys_of (entries_of (set ms i n)) ≡ keys_of old.entries
-  keys-shard e = keys-same ms i m n is e ∙ ap (λ es. keys_of es) the-entries
-
-  pub placed-shard : keys_of n.entries ≡ keys_of m.entries → IsDistinct eq (keys_of n.entries) → ArePlaced eq number count 0 (set ms i n)
-  placed-shard e distinct = placed-set laws number same count 0 i ms n placed (are-of-keys number count (0 + i) m.entries n.entries e (placed-at laws number same count 0 i ms m placed small is)) distinct
-
-  -- where there is one shard
-  module _ (one : count ≡ 1) where
-    one-old : old.entries ≡ m.entries
-    one-old = sym the-entries ∙ entries-alone ms i m (omega (arith, one, count_is)) small is
-
-    one-new : entries_of (set ms i n) ≡ n.entries
-    one-new = entries-alone (set ms i n) i n (omega (arith, one, count_is, length-set ms i n)) (omega (arith, small, length-set ms i n)) (sym (get_or-set_same ms i n n small))
-
-    pub alone-shard : (R : List (K × C) → List (K × C) → Type 0) → R m.entries n.entries → R old.entries (entries_of (set ms i n))
-    alone-shard R r = subst (λ es. R es (entries_of (set ms i n))) (sym one-old) (subst (R m.entries) (sym one-new) r)
-
-    pub alone-count : old.count ≡ 1
-    alone-count = ap (λ (c : Cells K C). c.count) (sym view) ∙ one
-
-    pub alone-at : (place : ℕ) → entry_at old place ≡ slice_get m.entries place
-    alone-at place = ap (λ k. cond (nat_eq k 1) (slice_get old.entries place) None) alone-count ∙ ap (λ es. slice_get es place) one-old
-
-  -- where the shard is that of a key
-  module _ (key : K) (at : number key % count ≡ i) where
-    pub held-shard : held eq old.entries key ≡ held eq m.entries key
-    held-shard = ap (λ xs. held eq xs key) (sym the-entries) ∙ lookup-placed laws number same count 0 i ms m key placed small is (omega (arith, at))
-
-    pub sets-shard : (w : Option C) → Sets eq key w m.entries n.entries → IsDistinct eq (keys_of n.entries) → ArePlaced eq number count 0 (set ms i n) × Sets eq key w old.entries (entries_of (set ms i n))
-    sets-shard w sets distinct =
-        let pair = sets-placed laws number same count i ms m n key w placed count_is small is at sets distinct in
-        (pair.1, λ q. pair.0 q ∙ ap (λ xs. update eq (held eq xs) key w q) the-entries)
-
-    pub changed-shard : {V E : Type 0} (r : Result V E) (call : C → V → C → Type 0) (Back : E → Type 0) → IfOk r (λ v. Calls eq call key v m.entries n.entries) → IfErr r (λ f. Back f × (held eq m.entries key ≡ None) × (n.entries ≡ m.entries)) → IsDistinct eq (keys_of n.entries)
-        → ArePlaced eq number count 0 (set ms i n) × IfOk r (λ v. Calls eq call key v old.entries (entries_of (set ms i n)))
-        × IfErr r (λ f. Back f × (held eq old.entries key ≡ None) × (◌≡◌ {A = Cells K C} (record { count = count; entries = entries_of (set ms i n) }) old))
-    changed-shard (Ok v) call Back ok err distinct =
-        let all = sets-shard (Some ok.1) ok.4 distinct in
-        (all.0, (ok.0, ok.1, held-shard ∙ ok.2, ok.3, all.1), tt)
-    changed-shard (Err f) call Back ok err distinct = let all = same-shard err.2 in (all.0, tt, (err.0, held-shard ∙ err.1, all.1))
-
-    pub created-shard : {V E : Type 0} (r : Result V E) (call : C → V → C → Type 0) (cell : C) (Why : E → Type 0) → IfOk r (λ v. Adds eq call key cell v m.entries n.entries) → IfErr r (λ e. Why e × (n.entries ≡ m.entries)) → OnOk r (IsDistinct eq (keys_of n.entries))
-        → ArePlaced eq number count 0 (set ms i n) × IfOk r (λ v. Adds eq call key cell v old.entries (entries_of (set ms i n)))
-        × IfErr r (λ e. Why e × (◌≡◌ {A = Cells K C} (record { count = count; entries = entries_of (set ms i n) }) old))
-    created-shard (Ok v) call cell Why ok err distinct = let all = sets-shard (Some ok.0) ok.2 distinct in (all.0, (ok.0, ok.1, all.1), tt)
-    created-shard (Err e) call cell Why ok err distinct = let all = same-shard err.1 in (all.0, tt, (err.0, all.1))
-
-    pub appended-shard : {V E : Type 0} (r : Result V E) (clone : K → K → Type 0) (call : C → V → C → Type 0) (cell : C) → IfOk r (λ v. Appends clone call key cell v m.entries n.entries)
-        → IfOk r (λ v. old.count ≡ 1 → Appends clone call key cell v old.entries (entries_of (set ms i n)))
-    appended-shard (Ok v) clone call cell ok = λ one. alone-shard (ap (λ (c : Cells K C). c.count) view ∙ one) (λ es fs. Appends clone call key cell v es fs) ok
-    appended-shard (Err e) clone call cell ok = tt
-
-pub some-below : {A : Type 0} (xs : List A) (i : ℕ) → i < length xs → is_some (slice_get xs i) ≡ true
-some-below [] i small = absurd (omega (arith, small))
-some-below (x ∷ xs) zero small = refl
-some-below (x ∷ xs) (suc i) small = some-below xs i (omega (arith, small))
 
 -- equal keys are found alike
 pub lookup-equal : {K C : Type 0} (p q : K → Bool) (es : List (K × C)) → ((k : K) → p k ≡ q k) → lookup p es ≡ lookup q es
 lookup-equal p q [] e = refl
 lookup-equal p q (x ∷ es) e = ap (λ b. cond b (Some x.1) (lookup p es)) (e x.0) ∙ ap (λ l. cond (q x.0) (Some x.1) l) (lookup-equal p q es e)
-
--- ---- get, or create
-
--- a cell that was made and added is what the call wanted
-pub created : {K C V E : Type 0} (eq : K → K → Bool) (Makes : K → C → Type 0) (call : C → V → C → Type 0) (key : K) (cell : C) (old between new : List (K × C)) (r : Result V E)
-    → held eq old key ≡ None → Makes key cell → between ≡ old → IfOk r (λ v. Adds eq call key cell v between new) → IfOk r (λ v. CallsAt eq Makes call key v old new)
-created {C = C} eq Makes call key cell old between new (Ok v) none makes same ok =
-    let Of : Option C → Type 0 = λ o. IsCellOf (Makes key) o cell in
-    (cell, ok.0, subst Of (sym none) makes, ok.1, λ q. ok.2 q ∙ ap (λ es. update eq (held eq es) key (Some ok.0) q) same)
-created eq Makes call key cell old between new (Err e) none makes same ok = tt
-
-pub changed : {K C V : Type 0} (eq : K → K → Bool) (Makes : K → C → Type 0) (call : C → V → C → Type 0) (key : K) (v : V) (old new : List (K × C)) → Calls eq call key v old new → CallsAt eq Makes call key v old new
-changed {C = C} eq Makes call key v old new calls =
-    let Of : Option C → Type 0 = λ o. IsCellOf (Makes key) o calls.0 in
-    (calls.0, calls.1, subst Of (sym calls.2) refl, calls.3, calls.4)

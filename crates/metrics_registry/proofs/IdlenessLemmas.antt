@@ -5,7 +5,7 @@ use Rattle.std.specs.List.{filter, take_while}
 use Rattle.std.specs.Cmp.{IsEquivalence}
 use Rattle.std.proofs.lemmas.Bool.{false≢true, le-ltb, eqb-true, and_parts, and_from}
 use Rattle.std.proofs.lemmas.List.Sums.{take_while-cons}
-use Rattle.metrics_registry.specs.declared.registry.recency.Noted.{Noted}
+use Rattle.metrics_registry.specs.declared.recency.Noted.{Noted}
 use Rattle.metrics_names.specs.declared.kind.MetricKind.{MetricKind}
 use Rattle.metrics_names.specs.declared.kind.MetricKind.TheVariants.{Counter, Gauge, Histogram}
 use Rattle.metrics_names.specs.Names.{kind_eq}

@@ -5,7 +5,6 @@ use Rattle.std.proofs.lemmas.Option.{get_or_from_slice_get, slice_get_cases}
 use Rattle.std.specs.Cmp.{IsEquivalence}
 use Rattle.std.specs.List.{IsDistinct}
 use Rattle.std.specs.Map.{keys_of}
-use Rattle.std.specs.HashMap.{HashMap}
 use Rattle.metrics_registry.specs.Held.{Retains, AreOf, ArePlaced, entries_of}
 use Rattle.metrics_registry.proofs.HeldLemmas.{by_place, placed-at, placed-set, entries-more}
 
@@ -99,18 +98,18 @@ of-retained {F} {K} {C} call number count shard f g (x ∷ xs) ks of was =
     one false rest = rest
 
 -- one more shard keeps those of its entries that calls answered true at
-pub shard-retained : {F K C S : Type 0} (call : F → K × C → Bool → F → Type 0) {eq : K → K → Bool} (laws : IsEquivalence eq) (number : K → ℕ) (alike : (x y : K) → eq x y ≡ true → number x ≡ number y) (count i : ℕ) (f g h : F) (ms ns : List (HashMap K C S)) (m n : HashMap K C S)
+pub shard-retained : {F K C : Type 0} (call : F → K × C → Bool → F → Type 0) {eq : K → K → Bool} (laws : IsEquivalence eq) (number : K → ℕ) (alike : (x y : K) → eq x y ≡ true → number x ≡ number y) (count i : ℕ) (f g h : F) (ms ns : List (List (K × C))) (m n : List (K × C))
     → length ns ≡ length ms → i < length ns → SameFrom i ms ns → ArePlaced eq number count 0 ns → Retains call f (entries_of (take i ms)) (entries_of (take i ns)) g
-    → m ≡ get_or ns i m → Retains call g m.entries n.entries h → IsDistinct eq (keys_of n.entries)
+    → m ≡ get_or ns i m → Retains call g m n h → IsDistinct eq (keys_of n)
     → ArePlaced eq number count 0 (set ns i n) × Retains call f (entries_of (take (i + 1) ms)) (entries_of (take (i + 1) (set ns i n))) h × SameFrom (i + 1) ms (set ns i n)
-shard-retained {F} {K} {C} {S} call {eq} laws number alike count i f g h ms ns m n long small same placed was is now distinct =
+shard-retained {F} {K} {C} call {eq} laws number alike count i f g h ms ns m n long small same placed was is now distinct =
     let Of : ℕ → List (K × C) → Type 0 = λ s es. AreOf number count s es in
-    let of = of-retained call number count (0 + i) g h m.entries n.entries (placed-at laws number alike count 0 i ns m placed small is) now in
-    let old : entries_of (take (i + 1) ms) ≡ entries_of (take i ms) ++ m.entries = entries-more ms i m (omega (arith, small, long)) (is ∙ same i m (omega arith)) in
-    let new : entries_of (take (i + 1) (set ns i n)) ≡ entries_of (take i ns) ++ n.entries =
-    entries-more (set ns i n) i n (omega (arith, small, length-set ns i n)) (sym (get_or-set_same ns i n n small)) ∙ ap (λ l. entries_of l ++ n.entries) (take-set-le i ns i n (omega arith)) in
+    let of = of-retained call number count (0 + i) g h m n (placed-at laws number alike count 0 i ns m placed small is) now in
+    let old : entries_of (take (i + 1) ms) ≡ entries_of (take i ms) ++ m = entries-more ms i m (omega (arith, small, long)) (is ∙ same i m (omega arith)) in
+    let new : entries_of (take (i + 1) (set ns i n)) ≡ entries_of (take i ns) ++ n =
+    entries-more (set ns i n) i n (omega (arith, small, length-set ns i n)) (sym (get_or-set_same ns i n n small)) ∙ ap (λ l. entries_of l ++ n) (take-set-le i ns i n (omega arith)) in
     let P : List (K × C) → List (K × C) → Type 0 = λ l k. Retains call f l k h in (
       placed-set laws number alike count 0 i ns n placed of distinct,
-      subst (λ l. P l (entries_of (take (i + 1) (set ns i n)))) (sym old) (subst (P (entries_of (take i ms) ++ m.entries)) (sym new) (retains-append call f g h (entries_of (take i ms)) m.entries (entries_of (take i ns)) n.entries was now)),
+      subst (λ l. P l (entries_of (take (i + 1) (set ns i n)))) (sym old) (subst (P (entries_of (take i ms) ++ m)) (sym new) (retains-append call f g h (entries_of (take i ms)) m (entries_of (take i ns)) n was now)),
       λ k d more. get_or-set_other ns i k n d (λ q. omega (arith, q, more)) ∙ same k d (omega (arith, more)),
     )

@@ -1,17 +1,31 @@
 -- A finite map from keys to cells, as the list of its entries, and how it lies in shards.
-use Rattle.std.specs.Prelude.{◌≡◌, ◌==◌, ℕ, suc, ◌%◌, Bool, ◌&&◌, nat_le, true, false, if◌then◌else◌, List, [], ◌∷◌, ◌++◌, Option, None, Some, MatchOption, IsSome, IsSomeAnd, position, slice_get}
-use Rattle.std.specs.List.{AllByRecursion, IsDistinct}
+use Rattle.std.specs.Prelude.{◌≡◌, ℕ, suc, ◌%◌, Bool, ◌&&◌, nat_le, true, false, if◌then◌else◌, List, [], ◌∷◌, ◌++◌, Option, None, Some, Result, MatchResult, MatchOption, IsSome, IsSomeAnd, is_some, position, slice_get}
+use Rattle.std.specs.List.{AllByRecursion, FoldsTo, IsDistinct}
 use Rattle.std.specs.Map.{lookup, keys_of, values_of, update}
 use Rattle.indexmap.specs.IndexMap.{set_value_at}
-use Rattle.std.specs.HashMap.{HashMap}
 use Rattle.std.specs.Int.{is_power_of_two}
 use Rattle.std.specs.Borrow.{Bor}
-use Rattle.std.specs.Fn.{Called, Mut}
+use Rattle.std.specs.Fn.{Called, Mut, Takes}
+use Rattle.metrics.specs.declared.error.Error.{Error}
+use Rattle.metrics.specs.declared.error.Error.TheVariants.{Memory}
 
--- the cells of one kind: the number of their shards, and the entries of all of them, one shard after another
-pub record Cells (K C : Type 0) : Type 0 where
+-- a registry: its storage, the number of its shards, and for each kind the entries of all shards, one shard after another
+pub record Registry (S K C G H : Type 0) : Type 0 where
+  pub storage : S
   pub count : ℕ
-  pub entries : List (K × C)
+  pub counters : List (K × C)
+  pub gauges : List (K × G)
+  pub histograms : List (K × H)
+
+-- what stays where one kind's entries may change
+abbrev pub CountersAlone : {S K C G H : Type 0} → Registry S K C G H → Registry S K C G H → Type 0
+CountersAlone old new = (new.storage ≡ old.storage) × (new.count ≡ old.count) × (new.gauges ≡ old.gauges) × (new.histograms ≡ old.histograms)
+
+abbrev pub GaugesAlone : {S K C G H : Type 0} → Registry S K C G H → Registry S K C G H → Type 0
+GaugesAlone old new = (new.storage ≡ old.storage) × (new.count ≡ old.count) × (new.counters ≡ old.counters) × (new.histograms ≡ old.histograms)
+
+abbrev pub HistogramsAlone : {S K C G H : Type 0} → Registry S K C G H → Registry S K C G H → Type 0
+HistogramsAlone old new = (new.storage ≡ old.storage) × (new.count ≡ old.count) × (new.counters ≡ old.counters) × (new.gauges ≡ old.gauges)
 
 -- the cell of a key
 abbrev pub held : {K C : Type 0} → (K → K → Bool) → List (K × C) → K → Option C
@@ -39,15 +53,19 @@ abbrev pub CallsAt : {K C V : Type 0} → (K → K → Bool) → (K → C → Ty
 CallsAt {K} {C} {V} eq Makes call key v old new =
     (before : C) × (after : C) × IsCellOf (Makes key) (held eq old key) before × call before v after × Sets eq key (Some after) old new
 
+-- a call may be made at the cell that is found, or where there is none at each that is made
+abbrev pub MayCall : {C : Type 0} → (C → Type 0) → (C → Type 0) → Option C → Type 0
+MayCall {C} Takes Makes found = (cell : C) → IsCellOf Makes found cell → Takes cell
+
+-- a key was removed, if it was held
+abbrev pub Removes : {K C : Type 0} → (K → K → Bool) → K → Bool → List (K × C) → List (K × C) → Type 0
+Removes eq key was_held old new = Sets eq key None old new × (was_held ≡ is_some (held eq old key)) × (was_held ≡ false → new ≡ old)
+
 -- ---- places
 
--- the place of a key among the entries, where they are in one shard
-abbrev pub place_of : {K C : Type 0} → (K → K → Bool) → Cells K C → K → Option ℕ
-place_of eq cells key = if cells.count == 1 then position (eq key) (keys_of cells.entries) else None
-
--- the entry at a place, where they are in one shard
-abbrev pub entry_at : {K C : Type 0} → Cells K C → ℕ → Option (K × C)
-entry_at cells place = if cells.count == 1 then slice_get cells.entries place else None
+-- the place of a key among entries
+abbrev pub place_of : {K C : Type 0} → (K → K → Bool) → List (K × C) → K → Option ℕ
+place_of eq es key = position (eq key) (keys_of es)
 
 -- one call changed the cell at a place and gave v; keys and other cells stay
 abbrev pub ChangesAt : {K C V : Type 0} → (C → V → C → Type 0) → ℕ → V → List (K × C) → List (K × C) → Type 0
@@ -57,11 +75,17 @@ ChangesAt {K} {C} call place v old new = (before : C) × (after : C) × (slice_g
 abbrev pub Appends : {K C V : Type 0} → (K → K → Type 0) → (C → V → C → Type 0) → K → C → V → List (K × C) → List (K × C) → Type 0
 Appends {K} {C} clone call key cell v old new = (k : K) × (after : C) × clone key k × call cell v after × (new ≡ old ++ (k, after) ∷ [])
 
--- of a key that was held all keys stay where they are; in one shard a key that was not held comes to the end
-abbrev pub KeepsPlaces : {K C V : Type 0} → (K → K → Bool) → (K → K → Type 0) → (K → C → Type 0) → (C → V → C → Type 0) → K → V → Cells K C → Cells K C → Type 0
-KeepsPlaces {K} {C} eq clone Makes call key v old new =
-    (IsSome (held eq old.entries key) → keys_of new.entries ≡ keys_of old.entries)
-    × (held eq old.entries key ≡ None → old.count ≡ 1 → (cell : C) × Makes key cell × Appends clone call key cell v old.entries new.entries)
+-- of a key that was held all keys stay where they are; where entries are in one shard, a key that was not held comes to the end
+abbrev pub KeepsPlaces : {K C V : Type 0} → (K → K → Bool) → (K → K → Type 0) → (K → C → Type 0) → (C → V → C → Type 0) → Type 0 → K → V → List (K × C) → List (K × C) → Type 0
+KeepsPlaces {K} {C} eq clone Makes call InOneShard key v old new =
+    (IsSome (held eq old key) → keys_of new ≡ keys_of old)
+    × (held eq old key ≡ None → InOneShard → (cell : C) × Makes key cell × Appends clone call key cell v old new)
+
+-- one call was made on the cell of a key, which was made where the key wasn't held; a refusal changes nothing, and never meets a key that is held
+abbrev pub GetsOrCreates : {K C V : Type 0} → (K → K → Bool) → (K → K → Type 0) → (K → C → Type 0) → (C → V → C → Type 0) → Type 0 → K → Result V Error → List (K × C) → List (K × C) → Type 0
+GetsOrCreates eq clone Makes call InOneShard key result old new = MatchResult result
+    (λ v. CallsAt eq Makes call key v old new × KeepsPlaces eq clone Makes call InOneShard key v old new)
+    (λ e. (e ≡ Memory) × (new ≡ old) × (held eq old key ≡ None))
 
 -- ---- shards
 
@@ -70,19 +94,19 @@ abbrev pub is_shard_count : ℕ → Bool
 is_shard_count n = is_power_of_two n && nat_le n 1024
 
 -- the entries of all shards, one shard after another
-abbrev pub entries_of : {K C S : Type 0} → List (HashMap K C S) → List (K × C)
+abbrev pub entries_of : {K C : Type 0} → List (List (K × C)) → List (K × C)
 entries_of [] = []
-entries_of (m ∷ ms) = m.entries ++ entries_of ms
+entries_of (es ∷ shards) = es ++ entries_of shards
 
 -- each key of the entries is of the shard
 abbrev pub AreOf : {K C : Type 0} → (K → ℕ) → ℕ → ℕ → List (K × C) → Type 0
 AreOf number count shard es = AllByRecursion (λ e. number e.0 % count ≡ shard) es
 
 -- from a shard on, each key stands in its own shard, and no key twice
-abbrev pub ArePlaced : {K C S : Type 0} → (K → K → Bool) → (K → ℕ) → ℕ → ℕ → List (HashMap K C S) → Type 0
+abbrev pub ArePlaced : {K C : Type 0} → (K → K → Bool) → (K → ℕ) → ℕ → ℕ → List (List (K × C)) → Type 0
 ArePlaced eq number count shard [] = Unit {0}
-ArePlaced eq number count shard (m ∷ ms) =
-    AreOf number count shard m.entries × IsDistinct eq (keys_of m.entries) × ArePlaced eq number count (suc shard) ms
+ArePlaced eq number count shard (es ∷ shards) =
+    AreOf number count shard es × IsDistinct eq (keys_of es) × ArePlaced eq number count (suc shard) shards
 
 -- ---- calls
 
@@ -92,6 +116,15 @@ pub record CallsAtEntry {F K C R : Type 0} (g : Mut F (Bor K × (Bor C × Unit {
   pub cell : Bor C
   pub shows : (key.now ≡ e.0) × (cell.now ≡ e.1)
   pub called : Called g f (key, (cell, tt)) r f'
+
+-- some call at an entry may leave f as f'
+abbrev pub SomeCallAtEntry : {F K C R : Type 0} → Mut F (Bor K × (Bor C × Unit {0})) R → F → K × C → F → Type 0
+SomeCallAtEntry {F} {K} {C} {R} g f e f' = (r : R) × CallsAtEntry g f e r f'
+
+-- f may be called at each entry, as the calls at those before it left f
+pub record TakesEach {F K C R : Type 0} (g : Mut F (Bor K × (Bor C × Unit {0})) R) (f : F) (es : List (K × C)) : Type 0 where
+  pub at : (before after : List (K × C)) (f' : F) (e : K × C) → es ≡ before ++ e ∷ after → FoldsTo (SomeCallAtEntry g) f before f'
+      → (key : Bor K) (cell : Bor C) → key.now ≡ e.0 → cell.now ≡ e.1 → Takes g f' (key, (cell, tt))
 
 -- calls of f at each item in turn answered, and left last; kept has the items at which they answered true
 abbrev pub Retains : {F X : Type 0} → (F → X → Bool → F → Type 0) → F → List X → List X → F → Type 0

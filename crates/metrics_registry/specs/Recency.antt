@@ -1,6 +1,6 @@
 -- The table of (kind, key) to generation and moment: one check.
 use Rattle.std.specs.Prelude.{◌==◌, ℕ, ◌-◌, Bool, true, false, ◌&&◌, if◌then◌else◌, List, [], ◌∷◌, Option, None, Some, is_some, nat_lt}
-use Rattle.metrics_registry.specs.declared.registry.recency.Noted.{Noted}
+use Rattle.metrics_registry.specs.declared.recency.Noted.{Noted}
 use Rattle.metrics_names.specs.declared.kind.MetricKind.{MetricKind}
 use Rattle.metrics_names.specs.Names.{kind_eq}
 

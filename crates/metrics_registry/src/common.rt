@@ -21,6 +21,12 @@ pub trait Hashable: Hash {
     ghost same: { (x y : Self) → Self.eq x y ≡ true → number x ≡ number y };
 }
 
+/// A value whose clones are equal to it, as a registry asks of its keys.
+pub trait EqualClone: Clone + Eq {
+    /// A clone of a value equals the value.
+    ghost clones: { (value clone : Self) → Self.is_clone value clone → Self.eq value clone ≡ true };
+}
+
 /// The number of a value by std's fast hasher, whose seed is fixed: whoever picks the values can make them collide.
 fn folded<H: Hash>(value: &H) -> u64
     ensures { result ≡ hash_number (H.hash_input value.now) }
@@ -38,6 +44,21 @@ impl Hashable for Key {
     fn hashable(&self) -> u64 {
         folded(self)
     }
+}
+
+impl EqualClone for Key {
+    ghost use Rattle.std.specs.Prelude.{List};
+    ghost use Rattle.std.proofs.Common.{sym, ◌∙◌};
+    ghost use Rattle.metrics_names.specs.Names.{KeyParts};
+    ghost use Rattle.metrics_names.proofs.NamesLemmas.{key_eq-Decides};
+
+    ghost clones = { λ k c h. let name : h.0.name ≡ h.1.name = sym h.4.0.2 ∙ (sym h.4.0.4 ∙ h.4.0.3) in let P : List ℕ → List (List ℕ × List ℕ) → KeyParts = λ n l. record { name = n; labels = l } in (key_eq-Decides k c).1 (sym h.2 ∙ (ap (λ n. P n h.0.labels) name ∙ (ap (λ l. P h.1.name l) (sym h.4.1) ∙ h.3))) };
+}
+
+impl EqualClone for u64 {
+    ghost use Rattle.std.proofs.Common.{rules};
+
+    ghost clones = { Prim.search rules };
 }
 
 /// Hands on a number that was hashed before: `finish` answers what `write_u64` was given last.
@@ -99,4 +120,8 @@ impl<H: Hash> Hashable for DefaultHashable<H> {
     fn hashable(&self) -> u64 {
         folded(&self.0)
     }
+}
+
+impl<H: Hash + EqualClone> EqualClone for DefaultHashable<H> {
+    ghost clones = { λ k c h. H.clones k.0 c.0 h };
 }

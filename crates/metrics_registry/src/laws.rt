@@ -1,9 +1,6 @@
 //! Laws of the definitions.
-ghost use Rattle.std.specs.Prelude.{◌≡◌, [], ◌∷◌, true, false};
 ghost use Rattle.metrics_registry.specs.Idleness.{TableGivesRuns};
 ghost use Rattle.metrics_registry.specs.IdlenessExamples.{SeenBack, SeenHeld};
-
-use metrics_names::Key;
 
 /// Takes nothing and does nothing: its contract has the laws of recency.
 pub fn recency_law<K: Eq>()
@@ -13,10 +10,4 @@ pub fn recency_law<K: Eq>()
     ensures back { SeenBack }
     // What the registry didn't hold is not removed, and its run goes on.
     ensures held { SeenHeld }
-{}
-
-/// Takes nothing and does nothing: its contract says that a clone of a metric's key equals the key, as the calls of a registry
-/// that copy keys ask.
-pub fn key_clones()
-    ensures { (k c : Key) → ⟦<Key as Clone>⟧.is_clone k c → ⟦<Key as PartialEq>⟧.eq k c ≡ true }
 {}

@@ -1,12 +1,25 @@
 //! A registry of cells by kind and key, with generations and recency, and quantiles with their labels.
 #![tactic(auto)]
 
+mod cells;
 mod common;
+mod generation;
+mod kinds;
 mod laws;
+mod plain;
 mod quantile;
-pub mod registry;
+mod recency;
+mod registry;
+mod storage;
 
-pub use common::{DefaultHashable, Hashable, KeyHasher};
-pub use laws::{key_clones, recency_law};
+pub use cells::Cells;
+pub use common::{DefaultHashable, EqualClone, Hashable, KeyHasher};
+pub use generation::{Counted, Generation};
+pub use kinds::{Kinds, is_shard_count, shard_of};
+pub use laws::recency_law;
 pub use metrics::Error;
+pub use plain::PlainStorage;
 pub use quantile::{Quantile, parse_quantiles};
+pub use recency::OwnedRecency;
+pub use registry::OwnedRegistry;
+pub use storage::Storage;

@@ -1,0 +1,27 @@
+use Rattle.std.proofs.Common.{◌≡◌, ◌∙◌, ap, sym, subst, List, ◌+◌, take, map, None}
+use Rattle.std.specs.HashMap.{get}
+use Rattle.std.specs.List.{IsDistinct}
+use Rattle.std.specs.Map.{keys_of}
+use Rattle.metrics_registry.specs.Held.{Copies, ArePlaced, entries_of}
+use Rattle.metrics_registry.proofs.HeldLemmas.{distinct-placed}
+use Rattle.metrics_registry.proofs.HandlesLemmas.{copies-append, placed-take}
+use Rattle.metrics_registry.proofs.ShardLemmas.{counters_are, entries-here, entries-all}
+use Rattle.metrics_registry.proofs.registry.OwnedRegistry.get_counter_handles.Goals as goal
+
+pub loop-shard-preserved : goal.loop-shard-preserved
+loop-shard-preserved g c =
+    let eq = g.K.PartialEq.eq in
+    let ms = c.deref-shard-items.result.now in
+    let i = c.loop-shard.shard-index in
+    let more = entries-here ms (λ s. s.counters) i c.shard-item.result c.loop-shard-test.true c.shard-item.is in
+    let D : List (g.row.K.Denot × g.row.S-Counter.Denot) → Type 0 = λ l. IsDistinct eq (keys_of l) in
+    let placed : ArePlaced eq g.K.Hashable.number c.self.inside.shards.len 0 (map (λ s. s.counters) ms) = rw c.deref-shard-items.ensures.value c.self.invariant.1 in
+    let distinct = subst D more (distinct-placed g.met.K.Eq.laws g.K.Hashable.number g.met.K.Hashable.same c.self.inside.shards.len 0 (take (i + 1) (map (λ s. s.counters) ms)) (placed-take eq g.K.Hashable.number c.self.inside.shards.len 0 (i + 1) (map (λ s. s.counters) ms) placed)) in
+    let P : List (g.row.K.Denot × g.row.S-Counter.Denot) → Type 0 = λ l. Copies eq g.S.Counter.Clone.is_clone l (λ _. None) (get eq c.copy_into.new.handles) in
+    subst P (sym more)
+    (copies-append g.met.K.Eq.laws g.S.Counter.Clone.is_clone (entries_of (take i (map (λ s. s.counters) ms))) c.shard-item.result.counters (λ _. None) (get eq c.loop-shard.handles) (get eq c.copy_into.new.handles) distinct c.loop-shard.invariant c.in_ok-copy_into.ensures.ok)
+
+pub returns : goal.returns
+returns g c =
+    let P : List (g.row.K.Denot × g.row.S-Counter.Denot) → Type 0 = λ l. Copies g.K.PartialEq.eq g.S.Counter.Clone.is_clone l (λ _. None) (get g.K.PartialEq.eq c.loop-shard.handles) in
+    subst P (entries-all c.deref-shard-items.result.now (λ s. s.counters) c.loop-shard.shard-index c.loop-shard-test.false ∙ (ap (λ l. entries_of (map (λ s. s.counters) l)) c.deref-shard-items.ensures.value ∙ counters_are c.self.view_is)) c.loop-shard.invariant

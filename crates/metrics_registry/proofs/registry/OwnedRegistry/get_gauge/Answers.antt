@@ -1,0 +1,6 @@
+use Rattle.std.proofs.Common.{rules, ◌∙◌, sym}
+use Rattle.metrics_registry.proofs.ShardLemmas.{gauges_are, held-there}
+use Rattle.metrics_registry.proofs.registry.OwnedRegistry.get_gauge.Goals as goal
+
+pub returns : goal.returns
+returns g c = c.get.ensures ∙ sym (held-there g.met.K.Eq.laws g.K.Hashable.number g.met.K.Hashable.same c.self.inside.shards.len c.shard_of-shard.result c.self.inside.shards.items c.index.result.now c.index.result.now (λ s. s.gauges) c.args.self.now.gauges (gauges_are c.self.view_is) c.self.invariant.2 (search rules) (search rules) (search rules) c.args.key.now (search rules))

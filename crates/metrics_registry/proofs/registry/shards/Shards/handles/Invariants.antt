@@ -1,7 +1,0 @@
-use Rattle.std.proofs.Common.{take, None}
-use Rattle.std.specs.HashMap.{get}
-use Rattle.metrics_registry.specs.Held.{Copies, entries_of}
-use Rattle.metrics_registry.proofs.registry.shards.Shards.handles.Given as goal
-
-abbrev pub invariant-loop-map : goal.invariant-loop-map
-invariant-loop-map g l = Copies g.K.PartialEq.eq g.C.Clone.is_clone (entries_of (take l.map-index l.map-items)) (λ _. None) (get g.K.PartialEq.eq l.handles)

@@ -1,0 +1,131 @@
+//! One shard: the cells of each kind.
+ghost use Rattle.std.specs.Prelude.{◌≡◌, ◌<◌, ◌%◌, ⊤, [], OnOk, true};
+ghost use Rattle.std.specs.Fn.{FnOnceReturnsAtMut, FnOnceTakesAtMut};
+ghost use Rattle.std.specs.List.{IsDistinct};
+ghost use Rattle.std.specs.Map.{keys_of};
+ghost use Rattle.metrics_registry.specs.Held.{held, MayCall, GetsOrCreates, is_shard_count as is_count};
+
+use crate::cells::Cells;
+use crate::common::{EqualClone, Hashable};
+use crate::storage::Storage;
+use metrics::Error;
+use std::alloc::Global;
+use std::hash::Hash;
+
+/// The cells of each kind. No fact ties them to one another.
+#[derive(Drop)]
+pub struct Kinds<K: Hash, S: Storage<K>> {
+    pub counters: Cells<K, S::Counter>,
+    pub gauges: Cells<K, S::Gauge>,
+    pub histograms: Cells<K, S::Histogram>,
+}
+
+impl<K: Hash + EqualClone + Drop, S: Storage<K>> Kinds<K, S>
+where
+    S::Counter: Drop,
+    S::Gauge: Drop,
+    S::Histogram: Drop,
+{
+    /// No cells. It takes no memory.
+    pub fn new(alloc: Global) -> Kinds<K, S>
+        ensures counters { result.counters ≡ [] }
+        ensures gauges { result.gauges ≡ [] }
+        ensures histograms { result.histograms ≡ [] }
+    {
+        Kinds {
+            counters: Cells::new(alloc),
+            gauges: Cells::new(alloc),
+            histograms: Cells::new(alloc),
+        }
+    }
+
+    /// Calls `op` once on the cell of a counter, which the storage makes where the key isn't held, and answers what it answers.
+    ///
+    /// A refusal changes nothing, and never meets a key that is held.
+    pub fn get_or_create_counter<V, F: FnOnce(&mut S::Counter) -> V + Drop>(
+        &mut self,
+        storage: &S,
+        key: &K,
+        op: F,
+    ) -> Result<V, Error>
+        requires { MayCall (FnOnceTakesAtMut F.FnOnce op) (S.makes_counter storage.now key.now) (held K.eq self.old.counters key.now) }
+        ensures counters { GetsOrCreates K.eq K.is_clone (S.makes_counter storage.now) (FnOnceReturnsAtMut F.FnOnce op) ⊤ key.now result self.old.counters self.new.counters }
+        ensures rest { (self.new.gauges ≡ self.old.gauges) × (self.new.histograms ≡ self.old.histograms) }
+        ensures once { OnOk result (IsDistinct K.eq (keys_of self.new.counters)) }
+    {
+        match self.counters.change(key, op) {
+            Ok(answer) => Ok(answer),
+            Err(op) => {
+                let cell = storage.counter(key)?;
+                self.counters.create(key, cell, op)
+            }
+        }
+    }
+
+    /// Calls `op` once on the cell of a gauge, which the storage makes where the key isn't held, and answers what it answers.
+    ///
+    /// A refusal changes nothing, and never meets a key that is held.
+    pub fn get_or_create_gauge<V, F: FnOnce(&mut S::Gauge) -> V + Drop>(
+        &mut self,
+        storage: &S,
+        key: &K,
+        op: F,
+    ) -> Result<V, Error>
+        requires { MayCall (FnOnceTakesAtMut F.FnOnce op) (S.makes_gauge storage.now key.now) (held K.eq self.old.gauges key.now) }
+        ensures gauges { GetsOrCreates K.eq K.is_clone (S.makes_gauge storage.now) (FnOnceReturnsAtMut F.FnOnce op) ⊤ key.now result self.old.gauges self.new.gauges }
+        ensures rest { (self.new.counters ≡ self.old.counters) × (self.new.histograms ≡ self.old.histograms) }
+        ensures once { OnOk result (IsDistinct K.eq (keys_of self.new.gauges)) }
+    {
+        match self.gauges.change(key, op) {
+            Ok(answer) => Ok(answer),
+            Err(op) => {
+                let cell = storage.gauge(key)?;
+                self.gauges.create(key, cell, op)
+            }
+        }
+    }
+
+    /// Calls `op` once on the cell of a histogram, which the storage makes where the key isn't held, and answers what it
+    /// answers.
+    ///
+    /// A refusal changes nothing, and never meets a key that is held.
+    pub fn get_or_create_histogram<V, F: FnOnce(&mut S::Histogram) -> V + Drop>(
+        &mut self,
+        storage: &S,
+        key: &K,
+        op: F,
+    ) -> Result<V, Error>
+        requires { MayCall (FnOnceTakesAtMut F.FnOnce op) (S.makes_histogram storage.now key.now) (held K.eq self.old.histograms key.now) }
+        ensures histograms { GetsOrCreates K.eq K.is_clone (S.makes_histogram storage.now) (FnOnceReturnsAtMut F.FnOnce op) ⊤ key.now result self.old.histograms self.new.histograms }
+        ensures rest { (self.new.counters ≡ self.old.counters) × (self.new.gauges ≡ self.old.gauges) }
+        ensures once { OnOk result (IsDistinct K.eq (keys_of self.new.histograms)) }
+    {
+        match self.histograms.change(key, op) {
+            Ok(answer) => Ok(answer),
+            Err(op) => {
+                let cell = storage.histogram(key)?;
+                self.histograms.create(key, cell, op)
+            }
+        }
+    }
+}
+
+/// The shard of a key among so many.
+pub fn shard_of<K: Hashable>(key: &K, count: usize) -> usize
+    requires { 0 < count }
+    ensures shard { result ≡ K.number key.now % count }
+    ensures within { result < count }
+{
+    if count == 1 {
+        return 0;
+    }
+    (key.hashable() % count as u64) as usize
+}
+
+/// Whether a registry may have so many shards: a power of two from 1 to 1,024.
+pub fn is_shard_count(shards: usize) -> bool
+    ensures answer { result ≡ is_count shards }
+    ensures some { result ≡ true → 0 < shards }
+{
+    shards.is_power_of_two() && shards <= 1024
+}

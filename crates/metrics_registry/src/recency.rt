@@ -1,0 +1,200 @@
+//! Which series are still in use.
+ghost use Rattle.std.specs.Prelude.{◌≡◌, true, if◌then◌else◌, Some, None, OnOk, IfOk, IfErr, is_some};
+ghost use Rattle.std.specs.List.{IsDistinct};
+ghost use Rattle.std.specs.Map.{keys_of};
+ghost use Rattle.std.specs.HashMap.{get};
+ghost use Rattle.metrics.specs.Layers.{mask_has};
+ghost use Rattle.metrics.specs.declared.error.Error.TheVariants.{Memory as OutOfMemory};
+ghost use Rattle.metrics_names.specs.declared.kind.MetricKind.{MetricKind as AnyKind};
+ghost use Rattle.metrics_names.specs.declared.kind.MetricKind.TheVariants.{Counter as CounterKind, Gauge as GaugeKind, Histogram as HistogramKind};
+ghost use Rattle.metrics_registry.specs.Held.{held, StaysOrGoes, CountersAlone, GaugesAlone, HistogramsAlone};
+ghost use Rattle.metrics_registry.specs.Recency.{watch_step};
+
+use crate::cells::Cells;
+use crate::common::{EqualClone, Hashable};
+use crate::generation::Generation;
+use crate::kinds::shard_of;
+use crate::registry::OwnedRegistry;
+use crate::storage::Storage;
+use metrics::{Error, MetricKind, MetricKindMask, PerKind};
+use std::alloc::Global;
+use std::collections::HashMap;
+use std::hash::Hash;
+
+/// The generation and the moment of a check.
+#[derive(Clone, Copy, Debug, PartialEq, Eq)]
+pub(crate) struct Noted {
+    generation: Generation,
+    moment: u64,
+}
+
+/// One check of a key among the cells of its kind, where notes are taken.
+fn check<K: Hash + EqualClone + Drop, C: Drop>(
+    noted: &mut HashMap<K, Noted>,
+    timeout: u64,
+    key: &K,
+    seen: Noted,
+    cells: &mut Cells<K, C>,
+) -> Result<bool, Error>
+    ensures answer { IfOk result (λ stays. stays ≡ (watch_step (Some timeout) seen (is_some (held K.eq cells.old key.now)) (get K.eq noted.old key.now)).0) }
+    ensures ok { OnOk result ((q : K) → get K.eq noted.new q
+        ≡ (if K.eq key.now q then (watch_step (Some timeout) seen (is_some (held K.eq cells.old key.now)) (get K.eq noted.old key.now)).1 else get K.eq noted.old q)) }
+    ensures cells { IfOk result (λ stays. StaysOrGoes K.eq key.now stays cells.old cells.new) }
+    ensures once { OnOk result (IsDistinct K.eq (keys_of cells.old) → IsDistinct K.eq (keys_of cells.new)) }
+    ensures err { IfErr result (λ e. (e ≡ OutOfMemory) × ((q : K) → get K.eq noted.new q ≡ get K.eq noted.old q) × (cells.new ≡ cells.old) × (get K.eq noted.old key.now ≡ None)) }
+{
+    let Some(note) = noted.get_mut(key) else {
+        noted.insert(key.clone()?, seen)?;
+        return Ok(true);
+    };
+    if note.generation != seen.generation {
+        *note = seen;
+        return Ok(true);
+    }
+    if seen.moment.saturating_sub(note.moment) <= timeout || !cells.remove(key) {
+        return Ok(true);
+    }
+    noted.remove(key);
+    Ok(false)
+}
+
+/// Tells which cells of a registry have not changed for longer than a timeout, and removes them.
+///
+/// For each kind and key it notes a generation and a moment.
+#[derive(Drop)]
+pub struct OwnedRecency<K: Hashable> {
+    mask: MetricKindMask,
+    timeout: Option<u64>,
+    noted: PerKind<HashMap<K, Noted>>,
+}
+
+impl<K: Hashable + EqualClone + Drop> OwnedRecency<K> {
+    ghost use Rattle.metrics_registry.specs.Recency.{new_table};
+    ghost use Rattle.metrics_registry.specs.RecencyEntries.{rules_of, table_of, check_of, IsChecked};
+
+    /// Checks the kinds of the mask. Moments and the timeout are in one unit of the caller's choice, as nanoseconds.
+    pub fn new(alloc: Global, mask: MetricKindMask, timeout: Option<u64>) -> OwnedRecency<K>
+        ensures rules { rules_of result ≡ record { timeout = timeout; mask = λ kind. mask_has kind mask } }
+        ensures empty { (kind : AnyKind) (key : K) → table_of K.eq result kind key ≡ new_table kind key }
+    {
+        OwnedRecency {
+            mask,
+            timeout,
+            noted: PerKind {
+                counter: HashMap::new(alloc),
+                gauge: HashMap::new(alloc),
+                histogram: HashMap::new(alloc),
+            },
+        }
+    }
+
+    /// The timeout where notes are taken of the kind.
+    fn timeout_of(&self, kind: MetricKind) -> Option<u64>
+        ensures { result ≡ (if mask_has kind self.now.mask then self.now.timeout else None) }
+    {
+        if self.mask.matches(kind) {
+            self.timeout
+        } else {
+            None
+        }
+    }
+
+    /// Whether a series that has this generation at this moment is still in use, by what is noted of its kind and key. One that
+    /// isn't is removed from the cells of its kind.
+    ///
+    /// A refusal changes nothing, and never meets a series that is noted.
+    pub fn check<C: Drop>(
+        &mut self,
+        kind: MetricKind,
+        key: &K,
+        generation: Generation,
+        now: u64,
+        cells: &mut Cells<K, C>,
+    ) -> Result<bool, Error>
+        ensures rules { rules_of self.new ≡ rules_of self.old }
+        ensures checked { IsChecked K.eq (rules_of self.old) (check_of kind key.now generation now (is_some (held K.eq cells.old key.now)))
+            result (table_of K.eq self.old) (table_of K.eq self.new) cells.old cells.new }
+        ensures once { IsDistinct K.eq (keys_of cells.old) → IsDistinct K.eq (keys_of cells.new) }
+    {
+        let Some(timeout) = self.timeout_of(kind) else {
+            return Ok(true);
+        };
+        let seen = Noted {
+            generation,
+            moment: now,
+        };
+        check(self.noted.of_mut(kind), timeout, key, seen, cells)
+    }
+
+    /// Whether a counter that has this generation at this moment is still in use. One that isn't is removed from the registry.
+    ///
+    /// A refusal changes nothing, and never meets a counter that is noted.
+    pub fn should_store_counter<S: Storage<K> + Drop>(
+        &mut self,
+        key: &K,
+        generation: Generation,
+        now: u64,
+        registry: &mut OwnedRegistry<K, S>,
+    ) -> Result<bool, Error>
+    where
+        S::Counter: Drop,
+        S::Gauge: Drop,
+        S::Histogram: Drop,
+        ensures rules { rules_of self.new ≡ rules_of self.old }
+        ensures checked { IsChecked K.eq (rules_of self.old) (check_of CounterKind key.now generation now (is_some (held K.eq registry.old.counters key.now)))
+            result (table_of K.eq self.old) (table_of K.eq self.new) registry.old.counters registry.new.counters }
+        ensures rest { CountersAlone registry.old registry.new }
+    {
+        let shard = shard_of(key, registry.shards.len());
+        let cells = &mut registry.shards[shard].counters;
+        self.check(MetricKind::Counter, key, generation, now, cells)
+    }
+
+    /// Whether a gauge that has this generation at this moment is still in use. One that isn't is removed from the registry.
+    ///
+    /// A refusal changes nothing, and never meets a gauge that is noted.
+    pub fn should_store_gauge<S: Storage<K> + Drop>(
+        &mut self,
+        key: &K,
+        generation: Generation,
+        now: u64,
+        registry: &mut OwnedRegistry<K, S>,
+    ) -> Result<bool, Error>
+    where
+        S::Counter: Drop,
+        S::Gauge: Drop,
+        S::Histogram: Drop,
+        ensures rules { rules_of self.new ≡ rules_of self.old }
+        ensures checked { IsChecked K.eq (rules_of self.old) (check_of GaugeKind key.now generation now (is_some (held K.eq registry.old.gauges key.now)))
+            result (table_of K.eq self.old) (table_of K.eq self.new) registry.old.gauges registry.new.gauges }
+        ensures rest { GaugesAlone registry.old registry.new }
+    {
+        let shard = shard_of(key, registry.shards.len());
+        let cells = &mut registry.shards[shard].gauges;
+        self.check(MetricKind::Gauge, key, generation, now, cells)
+    }
+
+    /// Whether a histogram that has this generation at this moment is still in use. One that isn't is removed from the registry.
+    ///
+    /// A refusal changes nothing, and never meets a histogram that is noted.
+    pub fn should_store_histogram<S: Storage<K> + Drop>(
+        &mut self,
+        key: &K,
+        generation: Generation,
+        now: u64,
+        registry: &mut OwnedRegistry<K, S>,
+    ) -> Result<bool, Error>
+    where
+        S::Counter: Drop,
+        S::Gauge: Drop,
+        S::Histogram: Drop,
+        ensures rules { rules_of self.new ≡ rules_of self.old }
+        ensures checked { IsChecked K.eq (rules_of self.old) (check_of HistogramKind key.now generation now (is_some (held K.eq registry.old.histograms key.now)))
+            result (table_of K.eq self.old) (table_of K.eq self.new) registry.old.histograms registry.new.histograms }
+        ensures rest { HistogramsAlone registry.old registry.new }
+    {
+        let shard = shard_of(key, registry.shards.len());
+        let cells = &mut registry.shards[shard].histograms;
+        self.check(MetricKind::Histogram, key, generation, now, cells)
+    }
+}
