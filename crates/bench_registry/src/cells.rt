@@ -3,8 +3,7 @@
 use crate::Bench;
 use anyhow::Result;
 use metrics::{Error, Key, Label, MetricKindMask};
-use metrics_registry::key_clones;
-use metrics_registry::registry::{Counted, OwnedRecency, OwnedRegistry, PlainStorage};
+use metrics_registry::{Counted, OwnedRecency, OwnedRegistry, PlainStorage};
 use std::alloc::Global;
 
 type Plain = OwnedRegistry<Key, PlainStorage>;
@@ -29,7 +28,6 @@ fn keys_1000(alloc: Global) -> Result<Vec<Key>> {
 
 /// Adds one to a counter, and answers the sum.
 fn increment(registry: &mut Plain, key: &Key) -> Result<u64, Error> {
-    key_clones();
     registry.get_or_create_counter(key, |cell: &mut u64| {
         *cell = cell.wrapping_add(1);
         *cell
@@ -109,8 +107,7 @@ impl Bench for Checks {
     }
 
     fn walk(&mut self) -> Result<u64> {
-        key_clones();
-        self.now = self.now.saturating_add(1);
+            self.now = self.now.saturating_add(1);
         let generation = Counted::new(0u64).get_generation();
         let mut stay = 0u64;
         for key in &self.keys {

@@ -16,9 +16,9 @@ pub mod layers {
 /// Cells by kind and key, and which of them are still in use.
 pub mod registry {
     pub use metrics_journal::{JournaledRegistry, JournaledShard, ShardCall, Tally};
-    pub use metrics_registry::recency_law;
-    pub use metrics_registry::registry::{
-        Counted, Generation, OwnedRecency, OwnedRegistry, PlainStorage, Storage,
+    pub use metrics_registry::{
+        Cells, Counted, Generation, Kinds, OwnedRecency, OwnedRegistry, PlainStorage, Storage,
+        recency_law,
     };
     pub use metrics_shared_registry::registry::{
         AtomicStorage, Generational, GenerationalAtomicStorage, GenerationalStorage, Recency,
@@ -41,7 +41,7 @@ pub mod storage {
 pub use metrics::{Answer, Call, CompositeKey, Error, MetricKind, MetricKindMask};
 pub use metrics_cells::{CounterFn, GaugeFn, HistogramFn};
 pub use metrics_registry::{
-    DefaultHashable, Hashable, KeyHasher, Quantile, key_clones, parse_quantiles,
+    DefaultHashable, EqualClone, Hashable, KeyHasher, Quantile, parse_quantiles,
 };
 pub use metrics_replay::{Journaled, answer_of, replay};
 pub use metrics_shared::{

@@ -4,15 +4,13 @@ use crate::given::{
     KINDS, Numbers, Registry, delete, handles, increment, number, retain_prefix, visits,
 };
 use metrics::{Error, Key, MetricKind};
-use metrics_registry::key_clones;
-use metrics_registry::registry::OwnedRegistry;
+use metrics_registry::OwnedRegistry;
 use std::alloc::Global;
 use std::process::Abort;
 use std::test::Fail;
 
 /// A registry with each name under each kind, incremented once.
 fn holding(alloc: Global, shards: usize, names: &[&str]) -> Result<Registry<Key>, Fail> {
-    key_clones();
     let mut registry = OwnedRegistry::new(alloc, Numbers, shards)?;
     for name in names {
         let key = Key::from_name(alloc, name)?;
@@ -29,7 +27,6 @@ fn a_key_comes_once(
     shards: usize,
     kind: MetricKind,
 ) -> Result<(), Fail> {
-    key_clones();
     let mut registry = OwnedRegistry::new(alloc, Numbers, shards)?;
     let key = Key::from_name(alloc, "foobar")?;
     let first = increment(&mut registry, kind, &key)?;
@@ -45,7 +42,6 @@ fn a_key_stays_or_goes(
     shards: usize,
     kind: MetricKind,
 ) -> Result<(), Fail> {
-    key_clones();
     let mut registry = holding(alloc, shards, &["foobar", "baz"])?;
     assert_eq!(rt; retain_prefix(&mut registry, kind, "foo"), 2);
     assert_eq!(rt; visits(&registry, kind), 1);
@@ -73,7 +69,6 @@ fn a_clear_takes_all(
 
 /// No counter is kept by a closure that keeps nothing, and the gauges stay.
 fn none_is_kept(rt: &impl Abort, alloc: Global, shards: usize) -> Result<(), Fail> {
-    key_clones();
     let mut registry = holding(alloc, shards, &["a", "b", "c"])?;
     let mut calls = 0usize;
     registry.retain_counters(|_key: &Key, _cell: &u64| {

@@ -1,9 +1,8 @@
 //! A storage of numbers, and calls by kind.
-ghost use Rattle.std.specs.Prelude.{◌≡◌, true, pos};
+ghost use Rattle.std.specs.Prelude.{◌≡◌, pos};
 
 use metrics::{Error, Key, MetricKind};
-use metrics_registry::Hashable;
-use metrics_registry::registry::{OwnedRegistry, Storage};
+use metrics_registry::{EqualClone, Hashable, OwnedRegistry, Storage};
 use std::alloc::Global;
 
 /// Makes a number for each kind.
@@ -45,12 +44,11 @@ pub const KINDS: [MetricKind; 3] = [
 ];
 
 /// Adds one to the cell of a key, and answers the sum.
-pub fn increment<K: Hashable + Clone + Drop>(
+pub fn increment<K: Hashable + EqualClone + Drop>(
     registry: &mut Registry<K>,
     kind: MetricKind,
     key: &K,
 ) -> Result<u64, Error>
-    requires { (k c : K) → K.is_clone k c → K.eq k c ≡ true }
 {
     match kind {
         MetricKind::Counter => registry.get_or_create_counter(key, |cell: &mut u64| {
@@ -69,7 +67,7 @@ pub fn increment<K: Hashable + Clone + Drop>(
 }
 
 /// The number in the cell of a key.
-pub fn number<K: Hashable + Clone + Drop>(
+pub fn number<K: Hashable + EqualClone + Drop>(
     registry: &Registry<K>,
     kind: MetricKind,
     key: &K,
@@ -82,7 +80,7 @@ pub fn number<K: Hashable + Clone + Drop>(
 }
 
 /// Removes a key, and tells whether it was there.
-pub fn delete<K: Hashable + Clone + Drop>(
+pub fn delete<K: Hashable + EqualClone + Drop>(
     registry: &mut Registry<K>,
     kind: MetricKind,
     key: &K,
@@ -95,7 +93,7 @@ pub fn delete<K: Hashable + Clone + Drop>(
 }
 
 /// The number of calls of a visit's closure.
-pub fn visits<K: Hashable + Clone + Drop>(registry: &Registry<K>, kind: MetricKind) -> usize {
+pub fn visits<K: Hashable + EqualClone + Drop>(registry: &Registry<K>, kind: MetricKind) -> usize {
     let mut calls = 0usize;
     match kind {
         MetricKind::Counter => {
@@ -112,12 +110,11 @@ pub fn visits<K: Hashable + Clone + Drop>(registry: &Registry<K>, kind: MetricKi
 }
 
 /// The number of handles.
-pub fn handles<K: Hashable + Clone + Drop>(
+pub fn handles<K: Hashable + EqualClone + Drop>(
     alloc: Global,
     registry: &Registry<K>,
     kind: MetricKind,
 ) -> Result<usize, Error>
-    requires { (k c : K) → K.is_clone k c → K.eq k c ≡ true }
 {
     Ok(match kind {
         MetricKind::Counter => registry.get_counter_handles(alloc)?.len(),

@@ -1,50 +1,57 @@
-//! Places of cells, which a registry of one shard has.
+//! Places of cells, in one shard.
 
-use crate::given::{Numbers, Registry, increment};
-use metrics::{Key, MetricKind};
-use metrics_registry::key_clones;
-use metrics_registry::registry::OwnedRegistry;
+use crate::given::Numbers;
+use metrics::{Error, Key};
+use metrics_registry::Kinds;
 use std::alloc::Global;
-use std::process::Abort;
 use std::test::Fail;
 
-/// The place of a counter that is made.
-fn made(alloc: Global, registry: &mut Registry<Key>, name: &str) -> Result<Option<usize>, Fail> {
-    key_clones();
+type Shard = Kinds<Key, Numbers>;
+
+/// Adds one to a counter, and answers its place.
+fn place_of(alloc: Global, shard: &mut Shard, name: &str) -> Result<Option<usize>, Error> {
     let key = Key::from_name(alloc, name)?;
-    increment(registry, MetricKind::Counter, &key)?;
-    Ok(registry.counter_place(&key))
+    shard.get_or_create_counter(&Numbers, &key, |cell: &mut u64| {
+        *cell = cell.wrapping_add(1);
+    })?;
+    Ok(shard.counters.place(&key))
 }
 
-fn doubled(registry: &mut Registry<Key>, place: usize) -> Option<u64> {
-    registry.change_counter_at(place, |cell: &mut u64| {
+fn doubled(shard: &mut Shard, place: usize) -> Option<u64> {
+    shard.counters.change_at(place, |cell: &mut u64| {
         *cell = cell.wrapping_mul(2);
         *cell
     })
 }
 
-/// The places of two counters, the first of them again, and a cell changed by its place.
-fn expect_places(
-    rt: &impl Abort,
-    alloc: Global,
-    shards: usize,
-    want: [Option<usize>; 2],
-    value: Option<u64>,
-) -> Result<(), Fail> {
-    let mut registry = OwnedRegistry::new(alloc, Numbers, shards)?;
-    assert_eq!(rt; made(alloc, &mut registry, "a")?, want[0]);
-    assert_eq!(rt; made(alloc, &mut registry, "b")?, want[1]);
-    assert_eq!(rt; made(alloc, &mut registry, "a")?, want[0]);
-    assert_eq!(rt; doubled(&mut registry, 0), value);
+#[test]
+fn cells_have_places(rt: HostRuntime) -> Result<(), Fail> {
+    let mut shard = Kinds::new(rt.alloc());
+    assert_eq!(rt; place_of(rt.alloc(), &mut shard, "a")?, Some(0));
+    assert_eq!(rt; place_of(rt.alloc(), &mut shard, "b")?, Some(1));
+    assert_eq!(rt; place_of(rt.alloc(), &mut shard, "a")?, Some(0));
+    assert_eq!(rt; doubled(&mut shard, 0), Some(4));
+    assert_eq!(rt; doubled(&mut shard, 2), None);
     Ok(())
 }
 
-#[test]
-fn cells_of_one_shard_have_places(rt: HostRuntime) -> Result<(), Fail> {
-    expect_places(&rt, rt.alloc(), 1, [Some(0), Some(1)], Some(4))
+/// The sum of the numbers in the cells, and of their places.
+fn sums(shard: &Shard) -> (u64, usize) {
+    let mut numbers = 0u64;
+    let mut places = 0usize;
+    for (key, cell) in shard.counters.iter() {
+        numbers = numbers.wrapping_add(*cell);
+        places = places.wrapping_add(shard.counters.place(key).unwrap_or(usize::MAX));
+    }
+    (numbers, places)
 }
 
 #[test]
-fn cells_of_two_shards_have_none(rt: HostRuntime) -> Result<(), Fail> {
-    expect_places(&rt, rt.alloc(), 2, [None, None], None)
+fn entries_are_met_once(rt: HostRuntime) -> Result<(), Fail> {
+    let mut shard = Kinds::new(rt.alloc());
+    for name in ["a", "b", "a", "c"] {
+        place_of(rt.alloc(), &mut shard, name)?;
+    }
+    assert_eq!(rt; (shard.counters.len(), sums(&shard)), (3, (4, 3)));
+    Ok(())
 }

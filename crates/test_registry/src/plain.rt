@@ -3,8 +3,7 @@ ghost use Rattle.std.specs.Prelude.{◌≡◌, [], pos};
 ghost use Rattle.metrics.specs.declared.error.Error.TheVariants.{Memory as OutOfMemory};
 
 use metrics::{CounterCell, Error, GaugeCell, HistogramCell, Key};
-use metrics_registry::key_clones;
-use metrics_registry::registry::{OwnedRegistry, PlainStorage, Storage};
+use metrics_registry::{OwnedRegistry, PlainStorage, Storage};
 use metrics_storage::OwnedBucket;
 use std::alloc::Global;
 use std::test::Fail;
@@ -13,7 +12,6 @@ type Plain = OwnedRegistry<Key, PlainStorage>;
 
 /// Raises a counter by 2 and a gauge by 3, and answers both.
 fn raised(registry: &mut Plain, key: &Key) -> Result<(u64, i64), Error> {
-    key_clones();
     let count = registry.get_or_create_counter(key, |cell: &mut u64| {
         CounterCell::increment(cell, 2);
         *cell
@@ -27,7 +25,6 @@ fn raised(registry: &mut Plain, key: &Key) -> Result<(u64, i64), Error> {
 
 /// Records a sample. The inner result is the cell's.
 fn recorded(registry: &mut Plain, key: &Key, value: i64) -> Result<Result<(), Error>, Error> {
-    key_clones();
     registry.get_or_create_histogram(key, |cell: &mut OwnedBucket<i64>| cell.record(value))
 }
 
@@ -95,7 +92,6 @@ fn refused(
     registry: &mut OwnedRegistry<Key, Fulls>,
     key: &Key,
 ) -> Result<Result<(), Error>, Error> {
-    key_clones();
     registry.get_or_create_histogram(key, |cell: &mut Full| cell.record(5))
 }
 

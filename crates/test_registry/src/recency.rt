@@ -2,8 +2,7 @@
 
 use crate::given::{KINDS, Numbers, Registry, delete, increment, number};
 use metrics::{Error, Key, MetricKind, MetricKindMask};
-use metrics_registry::key_clones;
-use metrics_registry::registry::{Counted, OwnedRecency, OwnedRegistry};
+use metrics_registry::{Counted, OwnedRecency, OwnedRegistry};
 use std::alloc::Global;
 use std::process::Abort;
 use std::test::Fail;
@@ -19,7 +18,6 @@ fn check(
     key: &Key,
     now: u64,
 ) -> Result<bool, Error> {
-    key_clones();
     let generation = Counted::new(0u64).get_generation();
     match kind {
         MetricKind::Counter => recency.should_store_counter(key, generation, now, registry),
@@ -36,7 +34,6 @@ fn expect_answers(
     mask: MetricKindMask,
     rows: &[Row],
 ) -> Result<(), Fail> {
-    key_clones();
     let mut recency = OwnedRecency::new(alloc, mask, Some(5));
     let mut registry = OwnedRegistry::new(alloc, Numbers, 2)?;
     let key = Key::from_name(alloc, "a")?;

@@ -1,8 +1,7 @@
 //! Values that count their changes, and keys by number.
 
-use metrics::Key;
-use metrics_registry::registry::{Counted, Generation};
-use metrics_registry::{DefaultHashable, Hashable, KeyHasher};
+use metrics::{Error, Key};
+use metrics_registry::{Counted, DefaultHashable, Generation, Hashable, KeyHasher};
 use std::test::Fail;
 
 #[test]
@@ -15,6 +14,26 @@ fn a_change_raises_the_generation(rt: HostRuntime) {
     });
     assert_eq!(rt; (answer, *counted.get_inner()), (7, 7));
     assert!(rt; before < counted.get_generation());
+}
+
+/// Takes one off a number, which has to be there.
+fn taken(counted: &mut Counted<u64>) -> Result<u64, Error> {
+    counted.try_increment(|value: &mut u64| match value.checked_sub(1) {
+        Some(rest) => {
+            *value = rest;
+            Ok(rest)
+        }
+        None => Err(Error::Full),
+    })
+}
+
+#[test]
+fn a_refused_change_raises_no_generation(rt: HostRuntime) {
+    let mut counted = Counted::new(1u64);
+    assert_eq!(rt; taken(&mut counted), Ok(0));
+    assert_eq!(rt; counted.get_generation(), Generation::new(1));
+    assert!(rt; taken(&mut counted).is_err());
+    assert_eq!(rt; counted.get_generation(), Generation::new(1));
 }
 
 #[test]
