@@ -26,8 +26,10 @@ module _ {F K C R : Type 0} (g : Mut F (Bor K × (Bor C × Unit {0})) R) where
 
   -- entries that stand among others
   pub takes-part : (f f' : F) (all done es rest : List (K × C)) → TakesEach g f all → all ≡ done ++ (es ++ rest) → FoldsTo (SomeCallAtEntry g) f done f' → TakesEach g f' es
-  takes-part f f' all done es rest takes is folds = record { at = λ before after f'' e split more key cell k c.
-      takes.at (done ++ before) (after ++ rest) f'' e (is ∙ (ap (λ l. done ++ (l ++ rest)) split ∙ moved done before (e ∷ after) rest)) (FoldsTo-append (SomeCallAtEntry g) f done before f' f'' folds more) key cell k c }
+  takes-part f f' all done es rest takes is folds = record {
+    at = λ before after f'' e split more key cell k c.
+        takes.at (done ++ before) (after ++ rest) f'' e (is ∙ (ap (λ l. done ++ (l ++ rest)) split ∙ moved done before (e ∷ after) rest)) (FoldsTo-append (SomeCallAtEntry g) f done before f' f'' folds more) key cell k c;
+  }
     where
       moved : (done before after rest : List (K × C)) → done ++ ((before ++ after) ++ rest) ≡ (done ++ before) ++ (after ++ rest)
       moved done before after rest = ap (λ l. done ++ l) (append_assoc before after rest) ∙ sym (append_assoc done before (after ++ rest))

@@ -1,12 +1,12 @@
 //! A registry that has one owner: for each kind a map from keys to cells, in shards.
-ghost use Rattle.std.specs.Prelude.{◌≡◌, true, [], None, IfOk, IfErr, MatchResult, if◌then◌else◌};
+ghost use Rattle.std.specs.Prelude.{◌≡◌, true, [], map, None, IfOk, IfErr, MatchResult, if◌then◌else◌};
 ghost use Rattle.std.specs.Option.{option_copied};
 ghost use Rattle.std.specs.Fn.{FnOnceReturnsAtMut, FnOnceTakesAtMut};
 ghost use Rattle.std.specs.List.{FoldsTo, IsDistinct};
 ghost use Rattle.std.specs.Map.{keys_of};
 ghost use Rattle.std.specs.HashMap.{get};
 ghost use Rattle.metrics.specs.declared.error.Error.TheVariants.{Memory as OutOfMemory, BadShards as NotShards};
-ghost use Rattle.metrics_registry.specs.Held.{held, MayCall, GetsOrCreates, Removes, TakesEach, CallsAtEntry, Retains, Copies};
+ghost use Rattle.metrics_registry.specs.Held.{held, entries_of, MayCall, GetsOrCreates, Removes, TakesEach, CallsAtEntry, Retains, Copies};
 ghost use Rattle.metrics_registry.specs.Held.{CountersAlone, GaugesAlone, HistogramsAlone, is_shard_count as is_count};
 
 use crate::common::{EqualClone, Hashable};
@@ -78,6 +78,16 @@ where
             shard.gauges.clear();
             shard.histograms.clear();
         }
+    }
+
+    /// The shards, for a walk over the cells by reference.
+    pub fn shards(&self) -> &[Kinds<K, S>]
+        ensures counters { entries_of (map (λ s. s.counters) result.now) ≡ self.now.counters }
+        ensures gauges { entries_of (map (λ s. s.gauges) result.now) ≡ self.now.gauges }
+        ensures histograms { entries_of (map (λ s. s.histograms) result.now) ≡ self.now.histograms }
+        ensures once { IsDistinct K.eq (keys_of self.now.counters) × IsDistinct K.eq (keys_of self.now.gauges) × IsDistinct K.eq (keys_of self.now.histograms) }
+    {
+        &self.shards
     }
 
     /// What makes the cells.

@@ -20,8 +20,8 @@ pub loop-key-preserved : goal.loop-key-preserved
 loop-key-preserved g c =
     let P : List (g.row.K.Denot × g.row.C.Denot) → Type 0 = λ es. FoldsTo (λ p e q. CallsAtEntry g.F.FnMut p e tt q) c.args.f es c.f.new.self in
     subst P (sym (map-append deref_pair c.loop-key.yielded ((c.in-Some.key, c.in-Some.cell) ∷ [])))
-        (FoldsTo-push _ c.args.f _ c.loop-key.f (c.in-Some.key.now, c.in-Some.cell.now) c.f.new.self c.loop-key.invariant
-        (record { key = c.in-Some.key; cell = c.in-Some.cell; shows = (refl, refl); called = c.f.ensures }))
+    (FoldsTo-push _ c.args.f _ c.loop-key.f (c.in-Some.key.now, c.in-Some.cell.now) c.f.new.self c.loop-key.invariant
+    (record { key = c.in-Some.key; cell = c.in-Some.cell; shows = (refl, refl); called = c.f.ensures }))
 
 pub returns-clause-calls : goal.returns-clause-calls
 returns-clause-calls g c =
