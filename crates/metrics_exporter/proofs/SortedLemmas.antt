@@ -1,5 +1,5 @@
 -- The keys of all kinds, in composite key order.
-use Rattle.std.proofs.Common.{◌≡◌, ℕ, zero, suc, ◌+◌, ◌<◌, Bool, true, false, cond, List, [], ◌∷◌, ◌++◌, map, length, get_or, Option, None, Some, IsSome, refl, ap, sym, ◌∙◌, subst, arith, Contains, inl, inr, append_assoc, append-nil}
+use Rattle.std.proofs.Common.{Result, Ok, Err, IfOk, ◌≡◌, ℕ, zero, suc, ◌+◌, ◌<◌, Bool, true, false, cond, List, [], ◌∷◌, ◌++◌, map, length, get_or, Option, None, Some, IsSome, refl, ap, sym, ◌∙◌, subst, arith, Contains, inl, inr, append_assoc, append-nil}
 use Rattle.std.specs.Prelude.{option_map, ◌&&◌}
 use Rattle.std.specs.List.{IsDistinct, AllByRecursion}
 use Rattle.std.specs.List.Sorted.{IsPermutation, IsSorted, IsStrictlySortedBy}
@@ -109,6 +109,10 @@ module _ {C : Type 0} (kind : MetricKind) where
 
 pub gathered-all : (none first second third cs gs hs : List SeriesKey) → none ≡ [] → first ≡ none ++ cs → second ≡ first ++ gs → third ≡ second ++ hs → third ≡ cs ++ gs ++ hs
 gathered-all none first second third cs gs hs e f g h = h ∙ ap (λ ks. ks ++ hs) (g ∙ ap (λ ks. ks ++ gs) (f ∙ ap (λ ks. ks ++ cs) e))
+
+pub gathered-ok : {A E : Type 0} (f : A → List SeriesKey) (none first second cs gs hs : List SeriesKey) (r : Result A E) → none ≡ [] → first ≡ none ++ cs → second ≡ first ++ gs → IfOk r (λ a. f a ≡ second ++ hs) → IfOk r (λ a. f a ≡ cs ++ gs ++ hs)
+gathered-ok f none first second cs gs hs (Err e) h g k l = tt
+gathered-ok {A} {E} f none first second cs gs hs (Ok a) h g k l = gathered-all none first second (f a) cs gs hs h g k l
 
 some-map : {A B : Type 0} (f : A → B) (o : Option A) → IsSome o → IsSome (option_map f o)
 some-map f None h = absurd (false≢true h)

@@ -1,5 +1,6 @@
 //! Updates and checks of the cells.
-ghost use Rattle.std.specs.Prelude.{◌≡◌, true, false, ◌↔◌, ◌+◌, ◌<◌, ◌∷◌, [], pos, IsErr, Err, None, IsSome, OnOk, IfOk, IfErr};
+ghost use Rattle.std.specs.Prelude.{◌≡◌, true, false, ◌↔◌, ◌+◌, ◌<◌, ◌∷◌, [], pos, IsErr, Err, None};
+ghost use Rattle.std.specs.Prelude.{IsSome, OnOk, IfOk, IfErr};
 ghost use Rattle.metrics_names.specs.declared.kind.MetricKind.{MetricKind as AnyKind};
 ghost use Rattle.metrics.specs.declared.handles.Update.TheVariants.{Record as RecordUpdate};
 ghost use Rattle.metrics_names.specs.Names.{KeyParts, key_eq};
@@ -9,7 +10,8 @@ ghost use Rattle.metrics_registry.specs.Held.{held, CountersAlone, GaugesAlone, 
 ghost use Rattle.metrics_registry.specs.RecencyEntries.{rules_of, table_of};
 ghost use Rattle.metrics_exporter.specs.Exporting.{series_of, check_of_held};
 ghost use Rattle.metrics_exporter.specs.Kept.{cells_of, KeepsSetting};
-ghost use Rattle.metrics_exporter.specs.Stepping.{count_with, level_with, counted_with, has_room, UpdatesEntry, UpdatesCells, TakesUpdate, RefusesUpdate, ChecksCells};
+ghost use Rattle.metrics_exporter.specs.Stepping.{count_with, level_with, counted_with, has_room, UpdatesEntry, UpdatesCells};
+ghost use Rattle.metrics_exporter.specs.Stepping.{TakesUpdate, RefusesUpdate, ChecksCells};
 
 use crate::cells::CountedCells;
 use metrics::{CompositeKey, Error, Key, MetricKind, Update};
@@ -43,7 +45,8 @@ fn update_counter(
     by: Update,
 ) -> Result<(), Error>
     ensures ok { OnOk result (UpdatesEntry (count_with by) 0 key.now registry.old.counters registry.new.counters) }
-    ensures err { IfErr result (λ e. (e ≡ OutOfMemory) × (registry.new ≡ registry.old) × (held key_eq registry.old.counters key.now ≡ None)) }
+    ensures err { IfErr result (λ e. (e ≡ OutOfMemory) × (registry.new ≡ registry.old)
+        × (held key_eq registry.old.counters key.now ≡ None)) }
     ensures rest { CountersAlone registry.old registry.new }
 {
     registry.get_or_create_counter(
@@ -66,7 +69,8 @@ fn update_gauge(
     by: Update,
 ) -> Result<(), Error>
     ensures ok { OnOk result (UpdatesEntry (level_with by) (pos 0) key.now registry.old.gauges registry.new.gauges) }
-    ensures err { IfErr result (λ e. (e ≡ OutOfMemory) × (registry.new ≡ registry.old) × (held key_eq registry.old.gauges key.now ≡ None)) }
+    ensures err { IfErr result (λ e. (e ≡ OutOfMemory) × (registry.new ≡ registry.old)
+        × (held key_eq registry.old.gauges key.now ≡ None)) }
     ensures rest { GaugesAlone registry.old registry.new }
 {
     registry.get_or_create_gauge(
@@ -99,8 +103,10 @@ fn record(
     sample: i64,
 ) -> Result<(), Error>
     requires { has_room (held key_eq registry.old.histograms key.now) ≡ true }
-    ensures ok { OnOk result (UpdatesEntry (with_samples (sample ∷ [])) registry.old.storage.empty key.now registry.old.histograms registry.new.histograms) }
-    ensures err { IfErr result (λ e. (e ≡ OutOfMemory) × (registry.new ≡ registry.old) × (held key_eq registry.old.histograms key.now ≡ None)) }
+    ensures ok { OnOk result (UpdatesEntry (with_samples
+        (sample ∷ [])) registry.old.storage.empty key.now registry.old.histograms registry.new.histograms) }
+    ensures err { IfErr result (λ e. (e ≡ OutOfMemory) × (registry.new ≡ registry.old)
+        × (held key_eq registry.old.histograms key.now ≡ None)) }
     ensures rest { HistogramsAlone registry.old registry.new }
 {
     let recorded = registry.get_or_create_histogram(
@@ -122,9 +128,11 @@ pub(crate) fn update_cells(
     key: &Key,
     by: Update,
 ) -> Result<(), Error>
-    ensures ok { OnOk result (UpdatesCells registry.old.storage.empty (series_of key.now by) by (cells_of registry.old) (cells_of registry.new)) }
+    ensures ok { OnOk result (UpdatesCells registry.old.storage.empty (series_of key.now by) by (cells_of registry.old)
+        (cells_of registry.new)) }
     ensures room { OnOk result (TakesUpdate (cells_of registry.old (series_of key.now by))) }
-    ensures err { IfErr result (λ e. RefusesUpdate (cells_of registry.old (series_of key.now by)) e × (registry.new ≡ registry.old)) }
+    ensures err { IfErr result (λ e. RefusesUpdate (cells_of registry.old (series_of key.now by)) e
+        × (registry.new ≡ registry.old)) }
     ensures absent { result ≡ Err OutOfMemory → cells_of registry.old (series_of key.now by) ≡ None }
     ensures storage { KeepsSetting registry.old registry.new }
 {
@@ -149,8 +157,12 @@ pub(crate) fn check_series(
 ) -> Result<bool, Error>
     requires { IsSome (cells_of registry.old series.now) }
     ensures rules { rules_of recency.new ≡ rules_of recency.old }
-    ensures ok { IfOk result (ChecksCells (rules_of recency.old) (check_of_held (cells_of registry.old) now series.now) series.now (table_of key_eq recency.old) (table_of key_eq recency.new) (cells_of registry.old) (cells_of registry.new)) }
-    ensures err { IfErr result (λ e. (e ≡ OutOfMemory) × ((kind : AnyKind) (key : KeyParts) → table_of key_eq recency.new kind key ≡ table_of key_eq recency.old kind key) × (registry.new ≡ registry.old)) }
+    ensures ok { IfOk result (ChecksCells (rules_of recency.old)
+        (check_of_held (cells_of registry.old) now series.now) series.now (table_of key_eq recency.old)
+        (table_of key_eq recency.new) (cells_of registry.old) (cells_of registry.new)) }
+    ensures err { IfErr result (λ e. (e ≡ OutOfMemory)
+        × ((kind : AnyKind) (key : KeyParts)
+        → table_of key_eq recency.new kind key ≡ table_of key_eq recency.old kind key) × (registry.new ≡ registry.old)) }
     ensures storage { KeepsSetting registry.old registry.new }
 {
     let key = series.key();

@@ -1,11 +1,15 @@
 //! An exporter of series as text.
-ghost use Rattle.std.specs.Prelude.{◌≡◌, ◌↔◌, ◌+◌, ◌*◌, ◌<◌, ◌≤◌, ◌++◌, ◌∷◌, ℕ, List, [], true, length, if◌then◌else◌, string_bytes, Ok, Err, None, IfOk, IfErr, OnOk, MatchResult, IsSome, ◌⊎◌, nat_lt, min};
-ghost use Rattle.metrics.specs.declared.error.Error.TheVariants.{Memory as OutOfMemory, BadShards as NotShards, NoBounds as WithoutBounds, CountFull as Full};
+ghost use Rattle.std.specs.Prelude.{◌≡◌, ◌↔◌, ◌+◌, ◌*◌, ◌<◌, ◌≤◌, ◌++◌, ◌∷◌, ℕ, List};
+ghost use Rattle.std.specs.Prelude.{[], true, length, if◌then◌else◌, string_bytes, Ok, Err, None, IfOk, IfErr, OnOk};
+ghost use Rattle.std.specs.Prelude.{MatchResult, IsSome, ◌⊎◌, nat_lt, min};
+ghost use Rattle.metrics.specs.declared.error.Error.TheVariants.{Memory as OutOfMemory, BadShards as NotShards};
+ghost use Rattle.metrics.specs.declared.error.Error.TheVariants.{NoBounds as WithoutBounds, CountFull as Full};
 ghost use Rattle.metrics.specs.Layers.{mask_has};
 ghost use Rattle.metrics_names.specs.Names.{SeriesKey, KeyParts, key_eq};
 ghost use Rattle.metrics_registry.specs.Held.{is_shard_count as is_count};
 ghost use Rattle.metrics_registry.specs.Idleness.{Answered};
-ghost use Rattle.metrics_exporter.specs.Exporting.{Setup, Log, updates, expires, steps, IsFull, IsExpiry, IsHeldNumber, cells_after, series_of};
+ghost use Rattle.metrics_exporter.specs.Exporting.{Setup, Log, updates, expires, steps, IsFull, IsExpiry, IsHeldNumber};
+ghost use Rattle.metrics_exporter.specs.Exporting.{cells_after, series_of};
 ghost use Rattle.metrics_exporter.specs.ExporterText.{IsText};
 
 use crate::cells::CountedCells;
@@ -40,10 +44,14 @@ impl Exporter {
         idle_timeout: Option<u64>,
         bounds: &[i64],
     ) -> Result<Exporter, Error>
-        ensures ok { IfOk result (IsAfter (record { bounds = bounds.now; rules = record { timeout = idle_timeout; mask = λ kind. mask_has kind mask } }) []) }
+        ensures ok { IfOk result (IsAfter (record {
+          bounds = bounds.now;
+          rules = record { timeout = idle_timeout; mask = λ kind. mask_has kind mask };
+        }) []) }
         ensures shards { IfOk result (λ e. e.registry.count ≡ shards) }
         ensures asked { OnOk result ((is_count shards ≡ true) × (0 < length bounds.now)) }
-        ensures err { IfErr result (λ e. e ≡ (if is_count shards then (if nat_lt 0 (length bounds.now) then OutOfMemory else WithoutBounds) else NotShards)) }
+        ensures err { IfErr result (λ e. e ≡
+            (if is_count shards then (if nat_lt 0 (length bounds.now) then OutOfMemory else WithoutBounds) else NotShards)) }
     {
         recency_law::<Key>();
         if !is_shard_count(shards) {
@@ -63,11 +71,15 @@ impl Exporter {
 
     /// Updates the series of the key and of the update's own kind, which is made where it isn't held.
     ///
-    /// A refusal changes nothing. It never meets a series that is held for want of memory. `Error::CountFull` comes where the count of a histogram's samples would pass 2^64 - 1.
+    /// A refusal changes nothing. `Error::Memory` never meets a series that is held; `Error::CountFull` comes where the count
+    /// of a histogram's samples would pass 2^64 - 1.
     pub fn update(&mut self, key: &Key, by: Update) -> Result<(), Error>
-        ensures calls { (setup : Setup) (log : Log) → IsAfter setup log self.old → IsAfter setup (log ++ updates key.now by result ∷ []) self.new }
-        ensures full { (setup : Setup) (log : Log) → IsAfter setup log self.old → (result ≡ Err Full) ↔ IsFull (steps log) key.now by }
-        ensures absent { (setup : Setup) (log : Log) → IsAfter setup log self.old → result ≡ Err OutOfMemory → cells_after setup (steps log) (series_of key.now by) ≡ None }
+        ensures calls { (setup : Setup) (log : Log) → IsAfter setup log self.old
+            → IsAfter setup (log ++ updates key.now by result ∷ []) self.new }
+        ensures full { (setup : Setup) (log : Log) → IsAfter setup log self.old
+            → (result ≡ Err Full) ↔ IsFull (steps log) key.now by }
+        ensures absent { (setup : Setup) (log : Log) → IsAfter setup log self.old → result ≡ Err OutOfMemory
+            → cells_after setup (steps log) (series_of key.now by) ≡ None }
         ensures shards { self.new.registry.count ≡ self.old.registry.count }
         ensures err { IfErr result (λ e. ((e ≡ OutOfMemory) ⊎ (e ≡ Full)) × (self.new ≡ self.old)) }
     {
@@ -79,7 +91,8 @@ impl Exporter {
     /// Where it is refused, a front of these checks was made, and what they removed is gone.
     pub fn expire(&mut self, now: u64) -> Result<usize, Error>
         ensures expired { (setup : Setup) (log : Log) → IsAfter setup log self.old →
-            (checks : List (Answered KeyParts)) × IsExpiry setup (steps log) now checks result × IsAfter setup (log ++ expires now checks result ∷ []) self.new }
+            (checks : List (Answered KeyParts)) × IsExpiry setup (steps log) now checks result
+            × IsAfter setup (log ++ expires now checks result ∷ []) self.new }
         ensures shards { self.new.registry.count ≡ self.old.registry.count }
     {
         let keys = sorted_keys(self.alloc, &self.registry)?;

@@ -2,7 +2,8 @@
 ghost use Rattle.std.specs.Prelude.{◌≡◌, ◌++◌, ℕ, min, IfOk, MatchResult};
 ghost use Rattle.std.specs.List.{IsDistinct};
 ghost use Rattle.metrics_names.specs.Names.{SeriesKey, series_key_eq, series_key_cmp};
-ghost use Rattle.metrics_names.specs.declared.kind.MetricKind.TheVariants.{Counter as CounterKind, Gauge as GaugeKind, Histogram as HistogramKind};
+ghost use Rattle.metrics_names.specs.declared.kind.MetricKind.TheVariants.{Counter as CounterKind, Gauge as GaugeKind};
+ghost use Rattle.metrics_names.specs.declared.kind.MetricKind.TheVariants.{Histogram as HistogramKind};
 ghost use Rattle.metrics.specs.declared.error.Error.TheVariants.{Memory as OutOfMemory};
 ghost use Rattle.metrics_exporter.specs.Gathering.{all_shown, series_shown, series_in};
 ghost use Rattle.metrics_exporter.specs.Exporting.{AreSeries, IsHeldNumber};
@@ -35,7 +36,8 @@ fn gather_counters<'a>(
     registry: &'a OwnedRegistry<Key, CountedCells>,
     series: Vec<SeriesRef<'a>>,
 ) -> Result<Vec<SeriesRef<'a>>, AllocError>
-    ensures { IfOk result (λ all. all_shown all.items ≡ all_shown series.entry.items ++ series_in CounterKind registry.now.counters) }
+    ensures { IfOk result (λ all. all_shown all.items
+        ≡ all_shown series.entry.items ++ series_in CounterKind registry.now.counters) }
 {
     let mut series = series;
     for shard in registry.shards() {
@@ -48,7 +50,8 @@ fn gather_gauges<'a>(
     registry: &'a OwnedRegistry<Key, CountedCells>,
     series: Vec<SeriesRef<'a>>,
 ) -> Result<Vec<SeriesRef<'a>>, AllocError>
-    ensures { IfOk result (λ all. all_shown all.items ≡ all_shown series.entry.items ++ series_in GaugeKind registry.now.gauges) }
+    ensures { IfOk result (λ all. all_shown all.items
+        ≡ all_shown series.entry.items ++ series_in GaugeKind registry.now.gauges) }
 {
     let mut series = series;
     for shard in registry.shards() {
@@ -61,13 +64,27 @@ fn gather_histograms<'a>(
     registry: &'a OwnedRegistry<Key, CountedCells>,
     series: Vec<SeriesRef<'a>>,
 ) -> Result<Vec<SeriesRef<'a>>, AllocError>
-    ensures { IfOk result (λ all. all_shown all.items ≡ all_shown series.entry.items ++ series_in HistogramKind registry.now.histograms) }
+    ensures { IfOk result (λ all. all_shown all.items
+        ≡ all_shown series.entry.items ++ series_in HistogramKind registry.now.histograms) }
 {
     let mut series = series;
     for shard in registry.shards() {
         series = gather(MetricKind::Histogram, &shard.histograms, series)?;
     }
     Ok(series)
+}
+
+/// The series that are held, kind by kind, in the order of a walk.
+pub(crate) fn gathered_series<'a>(
+    alloc: Global,
+    registry: &'a OwnedRegistry<Key, CountedCells>,
+) -> Result<Vec<SeriesRef<'a>>, AllocError>
+    ensures { IfOk result (λ all. all_shown all.items ≡ series_in CounterKind registry.now.counters
+        ++ series_in GaugeKind registry.now.gauges ++ series_in HistogramKind registry.now.histograms) }
+{
+    let series = gather_counters(registry, Vec::new(alloc))?;
+    let series = gather_gauges(registry, series)?;
+    gather_histograms(registry, series)
 }
 
 /// Takes nothing and does nothing: its contract says what `==` and the order of composite keys and of series are.
@@ -81,11 +98,10 @@ pub(crate) fn sorted_series<'a>(
     alloc: Global,
     registry: &'a OwnedRegistry<Key, CountedCells>,
 ) -> Result<Vec<SeriesRef<'a>>, Error>
-    ensures { MatchResult result (λ all. AreSeries (cells_of registry.now) (all_shown all.items) × IsDistinct series_key_eq (all_shown all.items)) (λ e. e ≡ OutOfMemory) }
+    ensures { MatchResult result (λ all. AreSeries (cells_of registry.now) (all_shown all.items)
+        × IsDistinct series_key_eq (all_shown all.items)) (λ e. e ≡ OutOfMemory) }
 {
-    let series = gather_counters(registry, Vec::new(alloc))?;
-    let series = gather_gauges(registry, series)?;
-    let mut series = gather_histograms(registry, series)?;
+    let mut series = gathered_series(alloc, registry)?;
     let _shards = registry.shards();
     key_order();
     series.sort_unstable();
@@ -97,7 +113,8 @@ pub(crate) fn sorted_keys(
     alloc: Global,
     registry: &OwnedRegistry<Key, CountedCells>,
 ) -> Result<Vec<CompositeKey>, Error>
-    ensures { MatchResult result (λ keys. AreSeries (cells_of registry.now) keys.items × IsDistinct series_key_eq keys.items) (λ e. e ≡ OutOfMemory) }
+    ensures { MatchResult result (λ keys. AreSeries (cells_of registry.now) keys.items
+        × IsDistinct series_key_eq keys.items) (λ e. e ≡ OutOfMemory) }
 {
     let series = sorted_series(alloc, registry)?;
     let mut keys = Vec::with_capacity(alloc, series.len())?;

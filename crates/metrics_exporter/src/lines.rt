@@ -2,7 +2,8 @@
 ghost use Rattle.std.specs.Prelude.{◌≡◌, ◌++◌, IsSome, OnOk, IfErr, string_bytes};
 ghost use Rattle.metrics.specs.declared.error.Error.TheVariants.{Memory as OutOfMemory};
 ghost use Rattle.metrics_exporter.specs.Exporting.{samples};
-ghost use Rattle.metrics_exporter.specs.ExporterText.{kind_word, name_word, label_words, bucket_words, reading_words, cell_words, series_line, series_text};
+ghost use Rattle.metrics_exporter.specs.ExporterText.{kind_word, name_word, label_words, bucket_words, reading_words, cell_words};
+ghost use Rattle.metrics_exporter.specs.ExporterText.{series_line, series_text};
 ghost use Rattle.metrics_exporter.specs.Gathering.{series_at};
 ghost use Rattle.metrics_exporter.specs.Kept.{cells_of};
 
@@ -69,7 +70,8 @@ fn write_reading(
     key: &Key,
 ) -> Result<(), Error>
     requires { IsSome (cells_of registry.now (series_at kind key.now)) }
-    ensures ok { OnOk result (string_bytes text.new ≡ string_bytes text.old ++ cell_words (cells_of registry.now (series_at kind key.now))) }
+    ensures ok { OnOk result (string_bytes text.new
+        ≡ string_bytes text.old ++ cell_words (cells_of registry.now (series_at kind key.now))) }
     ensures err { IfErr result (λ e. e ≡ OutOfMemory) }
 {
     match kind {
@@ -106,7 +108,8 @@ pub(crate) fn write_series(
     key: &Key,
 ) -> Result<(), Error>
     requires { IsSome (cells_of registry.now (series_at kind key.now)) }
-    ensures ok { OnOk result (string_bytes text.new ≡ string_bytes text.old ++ series_line (series_at kind key.now) (cells_of registry.now (series_at kind key.now))) }
+    ensures ok { OnOk result (string_bytes text.new
+        ≡ string_bytes text.old ++ series_line (series_at kind key.now) (cells_of registry.now (series_at kind key.now))) }
     ensures err { IfErr result (λ e. e ≡ OutOfMemory) }
 {
     let word = kind_text(kind);
