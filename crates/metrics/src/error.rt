@@ -49,6 +49,9 @@ pub enum Error {
     /// The number of blocks is not from 1 to 1,024. Nothing was made.
     #[error("bad number of blocks")]
     BadBlocks,
+    /// A histogram would have no bounds. Nothing was made.
+    #[error("no bounds")]
+    NoBounds,
     /// No series of that kind stands at that address. Nothing changed.
     #[error("no such address")]
     NoSuchAddress,

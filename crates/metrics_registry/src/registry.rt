@@ -1,11 +1,11 @@
 //! A registry that has one owner: for each kind a map from keys to cells, in shards.
-ghost use Rattle.std.specs.Prelude.{◌≡◌, true, [], IfOk, IfErr, if◌then◌else◌};
+ghost use Rattle.std.specs.Prelude.{◌≡◌, true, [], map, IfOk, IfErr, if◌then◌else◌};
 ghost use Rattle.std.specs.Option.{option_copied};
 ghost use Rattle.std.specs.Fn.{FnOnceReturnsAtMut, FnOnceTakesAtMut};
 ghost use Rattle.std.specs.List.{IsDistinct};
 ghost use Rattle.std.specs.Map.{keys_of};
 ghost use Rattle.metrics.specs.declared.error.Error.TheVariants.{Memory as OutOfMemory, BadShards as NotShards};
-ghost use Rattle.metrics_registry.specs.Held.{held, IsShardOf, MayCall, GetsOrCreates, Removes, AreCopied};
+ghost use Rattle.metrics_registry.specs.Held.{held, entries_of, IsShardOf, MayCall, GetsOrCreates, Removes, AreCopied};
 ghost use Rattle.metrics_registry.specs.Held.{TakesEach, CallsEach, RetainsEach};
 ghost use Rattle.metrics_registry.specs.Held.{CountersAlone, GaugesAlone, HistogramsAlone, is_shard_count as is_count};
 
@@ -85,6 +85,16 @@ where
             shard.gauges.clear();
             shard.histograms.clear();
         }
+    }
+
+    /// The shards, for a walk over the cells by reference.
+    pub fn shards(&self) -> &[Kinds<K, S>]
+        ensures counters { entries_of (map (λ s. s.counters) result.now) ≡ self.now.counters }
+        ensures gauges { entries_of (map (λ s. s.gauges) result.now) ≡ self.now.gauges }
+        ensures histograms { entries_of (map (λ s. s.histograms) result.now) ≡ self.now.histograms }
+        ensures once { IsDistinct K.eq (keys_of self.now.counters) × IsDistinct K.eq (keys_of self.now.gauges) × IsDistinct K.eq (keys_of self.now.histograms) }
+    {
+        &self.shards
     }
 
     /// What makes the cells.

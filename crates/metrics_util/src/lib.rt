@@ -7,6 +7,11 @@ pub mod debugging {
     pub use metrics_debugging::{DebuggingRecorder, Snapshotter};
 }
 
+/// Series over a registry, as text.
+pub mod exporter {
+    pub use metrics_exporter::{Exporter, exporter_law};
+}
+
 /// Layers over recorders.
 pub mod layers {
     pub use metrics_layers::{Filter, FilterLayer, Layer, Prefix, PrefixLayer, Stack, dotted_name};

@@ -1,0 +1,185 @@
+-- What an exporter keeps after one more call.
+use Rattle.std.proofs.Common.{◌≡◌, ℕ, Bool, true, false, cond, not, List, [], ◌∷◌, ◌++◌, Option, None, Some, Result, Ok, Err, IfErr, OnOk, inl, inr, refl, ap, sym, ◌∙◌, subst, reverse, append-nil}
+use Rattle.std.specs.Prelude.{◌&&◌, ◌↔◌, option_map, ◌⊎◌}
+use Rattle.std.proofs.lemmas.Grind.{flat_map-append}
+use Rattle.std.proofs.lemmas.List.{reverse-append}
+use Rattle.metrics_names.specs.declared.kind.MetricKind.{MetricKind}
+use Rattle.metrics_names.specs.declared.kind.MetricKind.TheVariants.{Counter, Gauge, Histogram}
+use Rattle.metrics_names.specs.Names.{KeyParts, SeriesKey, key_eq, series_key_eq}
+use Rattle.metrics.specs.declared.error.Error.{Error}
+use Rattle.metrics.specs.declared.error.Error.TheVariants.{Memory, CountFull}
+use Rattle.std.proofs.lemmas.Bool.{false≢true}
+use Rattle.metrics_exporter.proofs.FullLemmas.{full-cells}
+use Rattle.metrics.specs.declared.handles.Update.{Update}
+use Rattle.metrics.specs.Book.{kind_of}
+use Rattle.metrics_storage.specs.Histogram.{no_samples}
+use Rattle.metrics_registry.specs.Held.{held}
+use Rattle.metrics_registry.specs.Recency.{Check, Table, new_table, table_answer, table_after, table_answers}
+use Rattle.metrics_registry.specs.RecencyEntries.{rules_of, table_of}
+use Rattle.metrics_registry.specs.Idleness.{Answered, run_answer, run_answers, TableGivesRuns}
+use Rattle.metrics_exporter.specs.declared.exporter.Exporter.{Exporter}
+use Rattle.metrics_exporter.specs.Exporting.{Setup, Event, updates, Log, Step, updated, checked, steps, steps_of, series_of, count, level, samples, Cell, IsFull, cells_after, checks_in, check_of_held}
+use Rattle.metrics_exporter.specs.Stepping.{cell_has_room, TakesUpdate, RefusesUpdate, UpdatesCells, ChecksCells, cell_with, or_new, new_cell}
+use Rattle.metrics_exporter.specs.Kept.{SeriesRegistry, cell_in, cells_of, Keeps, IsAfter}
+use Rattle.metrics_exporter.proofs.StepLemmas.{cells-updated, cells-checked, checks-updated, checks-checked}
+
+-- ---- the calls as steps
+
+pub steps-push : (log : Log) (e : Event) → steps (log ++ e ∷ []) ≡ steps log ++ steps_of e
+steps-push log e = flat_map-append steps_of log (e ∷ []) ∙ ap (λ l. steps log ++ l) (append-nil (steps_of e))
+
+-- ---- a new exporter
+
+pub new-keeps : (setup : Setup) (e : Exporter) → e.registry.storage.empty ≡ no_samples setup.bounds → rules_of e.recency ≡ setup.rules
+    → e.registry.counters ≡ [] → e.registry.gauges ≡ [] → e.registry.histograms ≡ []
+    → ((kind : MetricKind) (key : KeyParts) → table_of key_eq e.recency kind key ≡ new_table kind key) → TableGivesRuns key_eq → Keeps setup [] e
+new-keeps setup e bounds rules counters gauges histograms notes law = record {
+  bounds = bounds;
+  rules = rules;
+  cells = λ s. cells s.kind s.key;
+  checks = λ checks. ap (λ t. table_answers key_eq setup.rules t checks) (λ i kind key. notes kind key i) ∙ law setup.rules checks;
+}
+  where
+    cells : (kind : MetricKind) (key : KeyParts) → cells_of e.registry (record { kind = kind; key = key }) ≡ None
+    cells Counter key = ap (λ es. option_map (cell_in count) (held key_eq es key)) counters
+    cells Gauge key = ap (λ es. option_map (cell_in level) (held key_eq es key)) gauges
+    cells Histogram key = ap (λ es. option_map (cell_in samples) (held key_eq es key)) histograms
+
+-- ---- an exporter that did not change
+
+pub keeps-same : (setup : Setup) (xs : List Step) (a b : Exporter) → b.registry ≡ a.registry → rules_of b.recency ≡ rules_of a.recency
+    → ((kind : MetricKind) (key : KeyParts) → table_of key_eq b.recency kind key ≡ table_of key_eq a.recency kind key) → Keeps setup xs a → Keeps setup xs b
+keeps-same setup xs a b registry rules notes kept = record {
+  bounds = ap (λ (r : SeriesRegistry). r.storage.empty) registry ∙ kept.bounds;
+  rules = rules ∙ kept.rules;
+  cells = λ s. ap (λ r. cells_of r s) registry ∙ kept.cells s;
+  checks = λ checks. ap (λ t. table_answers key_eq setup.rules t checks) (λ i kind key. notes kind key i) ∙ kept.checks checks;
+}
+
+-- ---- an update
+
+pub keeps-updated : (setup : Setup) (xs : List Step) (a b : Exporter) (key : KeyParts) (u : Update) → b.registry.storage ≡ a.registry.storage → b.recency ≡ a.recency
+    → UpdatesCells a.registry.storage.empty (series_of key u) u (cells_of a.registry) (cells_of b.registry) → Keeps setup xs a → Keeps setup (xs ++ updated key u ∷ []) b
+keeps-updated setup xs a b key u storage recency changed kept = record {
+  bounds = ap (λ s. s.empty) storage ∙ kept.bounds;
+  rules = ap rules_of recency ∙ kept.rules;
+  cells = λ t.
+      let s = series_of key u in
+      changed t
+      ∙ ap (λ o. cond (series_key_eq s t) o (cells_of a.registry t))
+      (ap (λ d. Some (cell_with u (or_new (new_cell d (kind_of u)) (cells_of a.registry s)))) kept.bounds
+      ∙ ap (λ o. Some (cell_with u (or_new (new_cell (no_samples setup.bounds) (kind_of u)) o))) (kept.cells s))
+      ∙ ap (λ o. cond (series_key_eq s t) (Some (cell_with u (or_new (new_cell (no_samples setup.bounds) (kind_of u)) (cells_after setup xs s)))) o) (kept.cells t)
+      ∙ sym (cells-updated setup xs key u t);
+  checks = λ checks.
+      ap (λ r. table_answers key_eq setup.rules (table_of key_eq r) checks) recency ∙ kept.checks checks
+      ∙ ap (λ answered. run_answers key_eq setup.rules (reverse answered) checks) (sym (checks-updated xs key u));
+}
+
+-- ---- a check
+
+err_inside : {x y : Error} → ◌≡◌ {A = Result (Unit {0}) Error} (Err x) (Err y) → x ≡ y
+err_inside {x} h = ap (λ (r : Result (Unit {0}) Error). elim r as (λ _. Error) [ Ok _ ↦ x | Err e ↦ e ]) h
+
+head_or : {A : Type 0} → A → List A → A
+head_or d [] = d
+head_or d (x ∷ xs) = x
+
+tail_of : {A : Type 0} → List A → List A
+tail_of [] = []
+tail_of (x ∷ xs) = xs
+
+module _ (setup : Setup) (xs : List Step) (a b : Exporter) (now : ℕ) (s : SeriesKey) (stays : Bool) (kept : Keeps setup xs a) where
+  abbrev pub check_made : Check KeyParts
+  check_made = check_of_held (cells_of a.registry) now s
+
+  abbrev pub made_check : Answered KeyParts
+  made_check = record { check = check_made; answer = stays }
+
+  abbrev earlier : List (Answered KeyParts)
+  earlier = reverse (checks_in xs)
+
+  abbrev table : Table KeyParts
+  table = table_of key_eq a.recency
+
+  -- the check is answered as idleness is defined
+  pub check-answer : stays ≡ table_answer (rules_of a.recency) check_made table → stays ≡ run_answer key_eq setup.rules earlier check_made
+  unfolding head_or
+  check-answer answer =
+      answer ∙ ap (λ r. table_answer r check_made table) kept.rules
+      ∙ unfolded (kept.checks (check_made ∷ []))
+    where
+      unfolded : table_answers key_eq setup.rules table (check_made ∷ []) ≡ run_answers key_eq setup.rules earlier (check_made ∷ []) → table_answer setup.rules check_made table ≡ run_answer key_eq setup.rules earlier check_made
+      unfolded e = ap (head_or true) e
+
+  later : (checks : List (Check KeyParts)) → stays ≡ run_answer key_eq setup.rules earlier check_made
+      → table_answers key_eq setup.rules (table_after key_eq setup.rules check_made table) checks ≡ run_answers key_eq setup.rules (made_check ∷ earlier) checks
+  unfolding tail_of
+  later checks answer =
+      let rest : table_answers key_eq setup.rules (table_after key_eq setup.rules check_made table) checks ≡ run_answers key_eq setup.rules (record { check = check_made; answer = run_answer key_eq setup.rules earlier check_made } ∷ earlier) checks =
+      ap tail_of (kept.checks (check_made ∷ checks)) in
+      rest ∙ ap (λ r. run_answers key_eq setup.rules (record { check = check_made; answer = r } ∷ earlier) checks) (sym answer)
+
+  pub keeps-checked : b.registry.storage ≡ a.registry.storage → rules_of b.recency ≡ rules_of a.recency
+      → ChecksCells (rules_of a.recency) check_made s table (table_of key_eq b.recency) (cells_of a.registry) (cells_of b.registry) stays → Keeps setup (xs ++ checked made_check ∷ []) b
+  keeps-checked storage rules changed = record {
+    bounds = ap (λ d. d.empty) storage ∙ kept.bounds;
+    rules = rules ∙ kept.rules;
+    cells = λ t. changed.cells t ∙ ap (cond (not stays && series_key_eq s t) None) (kept.cells t) ∙ sym (cells-checked setup xs made_check t);
+    checks = λ checks.
+        ap (λ t. table_answers key_eq setup.rules t checks) (λ i kind key. (changed.notes kind key ∙ ap (λ r. table_after key_eq r check_made table kind key) kept.rules) i)
+        ∙ later checks (check-answer changed.answer)
+        ∙ ap (λ l. run_answers key_eq setup.rules l checks) (sym (ap reverse (checks-checked xs made_check) ∙ reverse-append (checks_in xs) (made_check ∷ [])));
+  }
+
+-- ---- the calls
+
+abbrev pub Done : Type 0
+Done = Result (Unit {0}) Error
+
+-- after an update, whatever it was answered
+pub update-after : (setup : Setup) (log : Log) (a b : Exporter) (key : KeyParts) (u : Update) (r : Done)
+    → OnOk r (UpdatesCells a.registry.storage.empty (series_of key u) u (cells_of a.registry) (cells_of b.registry))
+    → IfErr r (λ e. RefusesUpdate (cells_of a.registry (series_of key u)) e × (b.registry ≡ a.registry))
+    → b.registry.storage ≡ a.registry.storage → b.recency ≡ a.recency → IsAfter setup log a → IsAfter setup (log ++ updates key u r ∷ []) b
+update-after setup log a b key u (Ok done) changed refused storage recency after =
+    let P : List Step → Type 0 = λ xs. Keeps setup xs b in
+    subst P (sym (steps-push log (updates key u (Ok done)))) (keeps-updated setup (steps log) a b key u storage recency changed after)
+update-after setup log a b key u (Err e) changed refused storage recency after =
+    let P : List Step → Type 0 = λ xs. Keeps setup xs b in
+    subst P (sym (steps-push log (updates key u (Err e)) ∙ append-nil (steps log)))
+    (keeps-same setup (steps log) a b refused.1 (ap rules_of recency) (λ kind q. ap (λ n. table_of key_eq n kind q) recency) after)
+
+-- an update is refused as full exactly where a sample finds no room
+pub update-full : (setup : Setup) (log : Log) (a : Exporter) (key : KeyParts) (u : Update) (r : Done) (P : Error → Type 0)
+    → OnOk r (TakesUpdate (cells_of a.registry (series_of key u)))
+    → IfErr r (λ e. RefusesUpdate (cells_of a.registry (series_of key u)) e × P e)
+    → IsAfter setup log a → (r ≡ Err CountFull) ↔ IsFull (steps log) key u
+update-full setup log a key u r P taken refused after = go r taken refused (cell_has_room (cells_of a.registry (series_of key u))) refl
+  where
+    same : cell_has_room (cells_of a.registry (series_of key u)) ≡ cell_has_room (cells_after setup (steps log) (series_of key u))
+    same = ap cell_has_room (after.cells (series_of key u))
+
+    from-full : IsFull (steps log) key u → cell_has_room (cells_of a.registry (series_of key u)) ≡ false
+    from-full full = same ∙ (full-cells setup (steps log) key u).1 full
+
+    go : (q : Done) → OnOk q (TakesUpdate (cells_of a.registry (series_of key u))) → IfErr q (λ e. RefusesUpdate (cells_of a.registry (series_of key u)) e × P e)
+        → (b : Bool) → cell_has_room (cells_of a.registry (series_of key u)) ≡ b → (q ≡ Err CountFull) ↔ IsFull (steps log) key u
+    go (Ok done) t f b e = (λ h. absurd (let g : Ok done ≡ Err CountFull = h in cc), λ full. absurd (false≢true (sym (from-full full) ∙ t)))
+    go (Err x) t f true e = (
+      λ h. absurd (let g : x ≡ CountFull = err_inside h in let k : x ≡ Memory = f.0 ∙ ap (λ c. cond c Memory CountFull) e in let m : Memory ≡ CountFull = sym k ∙ g in cc),
+      λ full. absurd (false≢true (sym (from-full full) ∙ e)),
+    )
+    go (Err x) t f false e = (
+      λ h. (full-cells setup (steps log) key u).0 (sym same ∙ e),
+      λ full. ap Err (f.0 ∙ ap (λ c. cond c Memory CountFull) e),
+    )
+
+-- what refuses an update
+pub update-refused : (o : Option Cell) (r : Done) (P : Type 0) → IfErr r (λ e. RefusesUpdate o e × P) → IfErr r (λ e. ((e ≡ Memory) ⊎ (e ≡ CountFull)) × P)
+update-refused o (Ok done) P h = tt
+update-refused o (Err e) P h = (go (cell_has_room o) h.0, h.1)
+  where
+    go : (b : Bool) → e ≡ cond b Memory CountFull → (e ≡ Memory) ⊎ (e ≡ CountFull)
+    go true k = inl k
+    go false k = inr k

@@ -1,0 +1,9 @@
+pub mod RegistryLemmas
+pub mod GatheringLemmas
+pub mod SortedLemmas
+pub mod NumberLemmas
+pub mod StepLemmas
+pub mod FullLemmas
+pub mod KeptLemmas
+pub mod ExpiryLemmas
+pub mod LawLemmas

@@ -1,0 +1,32 @@
+use Rattle.std.proofs.Common.{rules, ◌≡◌, ◌∙◌, ◌++◌, List, ap, sym, subst, string_bytes}
+use Rattle.std.proofs.lemmas.List.{take_all}
+use Rattle.metrics_names.specs.Names.{SeriesKey}
+use Rattle.metrics_exporter.specs.Exporting.{AreSeries, steps}
+use Rattle.metrics_exporter.specs.ExporterText.{series_line, series_text}
+use Rattle.metrics_exporter.specs.Gathering.{all_shown, series_shown}
+use Rattle.metrics_exporter.specs.Kept.{cells_of}
+use Rattle.metrics_exporter.proofs.ExpiryLemmas.{text-more, text-made}
+use Rattle.metrics_exporter.proofs.GatheringLemmas.{shown-get, shown-within, shown-end, shown-held}
+use Rattle.metrics_exporter.proofs.exporter.Exporter.text.Goals as goal
+
+pub write_series-requires : goal.write_series-requires
+write_series-requires c =
+    let rows = c.deref-row-items.result.now in
+    let S : List SeriesKey → Type 0 = AreSeries (cells_of c.args.self.now.registry) in
+    shown-held (cells_of c.args.self.now.registry) rows c.loop-row.row-index c.row-item.result (subst S (ap all_shown (sym c.deref-row-items.ensures.value)) c.in_ok-series.ensures.0) c.loop-row-test.true c.row-item.is
+
+pub loop-row-preserved : goal.loop-row-preserved
+loop-row-preserved c =
+    let rows = c.deref-row-items.result.now in
+    let cells = cells_of c.args.self.now.registry in
+    let s = series_shown c.row-item.result in
+    let e : string_bytes c.write_series.new.text ≡ string_bytes c.loop-row.text ++ series_line s (cells s) = search rules in
+    e ∙ ap (λ l. l ++ series_line s (cells s)) c.loop-row.invariant
+    ∙ sym (text-more cells (all_shown rows) c.loop-row.row-index s (shown-within rows c.loop-row.row-index c.loop-row-test.true) (shown-get rows c.loop-row.row-index c.row-item.result c.row-item.is))
+
+pub returns : goal.returns
+returns c = λ setup log after.
+    let rows = c.deref-row-items.result.now in
+    let S : List SeriesKey → Type 0 = AreSeries (cells_of c.args.self.now.registry) in
+    text-made setup (steps log) c.args.self.now (all_shown rows) (string_bytes c.loop-row.text) after (subst S (ap all_shown (sym c.deref-row-items.ensures.value)) c.in_ok-series.ensures.0)
+    (c.loop-row.invariant ∙ ap (series_text (cells_of c.args.self.now.registry)) (take_all c.loop-row.row-index (all_shown rows) (shown-end rows c.loop-row.row-index c.loop-row-test.false)))

@@ -1,0 +1,49 @@
+-- What an exporter keeps, and the list of calls for which that stands.
+use Rattle.std.specs.Prelude.{◌≡◌, List, Option, option_map, reverse, ℕ, ℤ}
+use Rattle.metrics_names.specs.declared.kind.MetricKind.TheVariants.{Counter, Gauge, Histogram}
+use Rattle.metrics_names.specs.declared.kind.MetricKind.{MetricKind}
+use Rattle.metrics_names.specs.Names.{KeyParts, SeriesKey, key_eq}
+use Rattle.metrics_storage.specs.Histogram.{Distribution, no_samples}
+use Rattle.metrics_registry.specs.declared.generation.Counted.{Counted}
+use Rattle.metrics_registry.specs.Held.{held, Registry}
+use Rattle.metrics_registry.specs.Recency.{Rules, Check, Table, table_answers}
+use Rattle.metrics_registry.specs.RecencyEntries.{rules_of, table_of}
+use Rattle.metrics_registry.specs.Idleness.{Answered, run_answers}
+use Rattle.metrics_exporter.specs.declared.cells.CountedCells.{CountedCells}
+use Rattle.metrics_exporter.specs.declared.exporter.Exporter.{Exporter}
+use Rattle.metrics_exporter.specs.Exporting.{Setup, Log, Step, steps, Reading, count, level, samples, Cell, Cells, cells_after, checks_in}
+
+-- the cells of the series
+abbrev pub SeriesRegistry : Type 0
+SeriesRegistry = Registry CountedCells KeyParts (Counted ℕ) (Counted ℤ) (Counted Distribution)
+
+abbrev pub cell_in : {C : Type 0} → (C → Reading) → Counted C → Cell
+cell_in read c = record { reading = read c.inner; generation = c.generation }
+
+abbrev pub cells_at : SeriesRegistry → MetricKind → KeyParts → Option Cell
+cells_at r Counter key = option_map (cell_in count) (held key_eq r.counters key)
+cells_at r Gauge key = option_map (cell_in level) (held key_eq r.gauges key)
+cells_at r Histogram key = option_map (cell_in samples) (held key_eq r.histograms key)
+
+-- the cell of each series
+abbrev pub cells_of : SeriesRegistry → Cells
+cells_of r s = cells_at r s.kind s.key
+
+-- the storage and the number of the shards stay
+abbrev pub KeepsSetting : SeriesRegistry → SeriesRegistry → Type 0
+KeepsSetting old new = (new.storage ≡ old.storage) × (new.count ≡ old.count)
+
+-- a table answers all checks to come as idleness is defined, after these checks
+abbrev pub AnswersAfter : Rules → Table KeyParts → List (Answered KeyParts) → Type 0
+AnswersAfter rules table answered = (checks : List (Check KeyParts)) → table_answers key_eq rules table checks ≡ run_answers key_eq rules (reverse answered) checks
+
+-- an exporter of this setup keeps what these steps give
+pub record Keeps (setup : Setup) (xs : List Step) (e : Exporter) : Type 0 where
+  pub bounds : e.registry.storage.empty ≡ no_samples setup.bounds
+  pub rules : rules_of e.recency ≡ setup.rules
+  pub cells : (s : SeriesKey) → cells_of e.registry s ≡ cells_after setup xs s
+  pub checks : AnswersAfter setup.rules (table_of key_eq e.recency) (checks_in xs)
+
+-- an exporter of this setup stands as after these calls
+abbrev pub IsAfter : Setup → Log → Exporter → Type 0
+IsAfter setup log e = Keeps setup (steps log) e

@@ -1,0 +1,192 @@
+//! Updates and checks of the cells.
+ghost use Rattle.std.specs.Prelude.{◌≡◌, true, false, ◌↔◌, ◌+◌, ◌<◌, ◌∷◌, [], pos, IsErr, Err, None};
+ghost use Rattle.std.specs.Prelude.{IsSome, OnOk, IfOk, IfErr};
+ghost use Rattle.metrics_names.specs.declared.kind.MetricKind.{MetricKind as AnyKind};
+ghost use Rattle.metrics.specs.declared.handles.Update.TheVariants.{Record as RecordUpdate};
+ghost use Rattle.metrics_names.specs.Names.{KeyParts, key_eq};
+ghost use Rattle.metrics.specs.declared.error.Error.TheVariants.{Memory as OutOfMemory, CountFull};
+ghost use Rattle.metrics_storage.specs.Histogram.{with_samples};
+ghost use Rattle.metrics_registry.specs.Held.{held, CountersAlone, GaugesAlone, HistogramsAlone};
+ghost use Rattle.metrics_registry.specs.RecencyEntries.{rules_of, table_of};
+ghost use Rattle.metrics_exporter.specs.Exporting.{series_of, check_of_held};
+ghost use Rattle.metrics_exporter.specs.Kept.{cells_of, KeepsSetting};
+ghost use Rattle.metrics_exporter.specs.Stepping.{count_with, level_with, counted_with, has_room, UpdatesEntry, UpdatesCells};
+ghost use Rattle.metrics_exporter.specs.Stepping.{TakesUpdate, RefusesUpdate, ChecksCells};
+
+use crate::cells::CountedCells;
+use metrics::{CompositeKey, Error, Key, MetricKind, Update};
+use metrics_registry::{Counted, OwnedRecency, OwnedRegistry};
+use metrics_storage::Histogram;
+
+fn count_with(count: u64, by: Update) -> u64
+    ensures { result ≡ count_with by count }
+{
+    match by {
+        Update::Increment(more) => count.wrapping_add(more),
+        Update::Absolute(least) => count.max(least),
+        _ => count,
+    }
+}
+
+fn level_with(level: i64, by: Update) -> i64
+    ensures { result ≡ level_with by level }
+{
+    match by {
+        Update::Add(more) => level.saturating_add(more),
+        Update::Subtract(less) => level.saturating_sub(less),
+        Update::Set(to) => to,
+        _ => level,
+    }
+}
+
+fn update_counter(
+    registry: &mut OwnedRegistry<Key, CountedCells>,
+    key: &Key,
+    by: Update,
+) -> Result<(), Error>
+    ensures ok { OnOk result (UpdatesEntry (count_with by) 0 key.now registry.old.counters registry.new.counters) }
+    ensures err { IfErr result (λ e. (e ≡ OutOfMemory) × (registry.new ≡ registry.old)
+        × (held key_eq registry.old.counters key.now ≡ None)) }
+    ensures rest { CountersAlone registry.old registry.new }
+{
+    registry.get_or_create_counter(
+        key,
+        |cell: &mut Counted<u64>|
+            ensures { cell.new ≡ counted_with (count_with by) cell.old }
+        {
+            cell.with_increment(
+                |count: &mut u64|
+                    ensures { count.new ≡ count_with by count.old }
+                { *count = count_with(*count, by) },
+            )
+        },
+    )
+}
+
+fn update_gauge(
+    registry: &mut OwnedRegistry<Key, CountedCells>,
+    key: &Key,
+    by: Update,
+) -> Result<(), Error>
+    ensures ok { OnOk result (UpdatesEntry (level_with by) (pos 0) key.now registry.old.gauges registry.new.gauges) }
+    ensures err { IfErr result (λ e. (e ≡ OutOfMemory) × (registry.new ≡ registry.old)
+        × (held key_eq registry.old.gauges key.now ≡ None)) }
+    ensures rest { GaugesAlone registry.old registry.new }
+{
+    registry.get_or_create_gauge(
+        key,
+        |cell: &mut Counted<i64>|
+            ensures { cell.new ≡ counted_with (level_with by) cell.old }
+        {
+            cell.with_increment(
+                |level: &mut i64|
+                    ensures { level.new ≡ level_with by level.old }
+                { *level = level_with(*level, by) },
+            )
+        },
+    )
+}
+
+/// Whether the count of a key's samples can take one more.
+fn has_room(registry: &OwnedRegistry<Key, CountedCells>, key: &Key) -> bool
+    ensures { result ≡ has_room (held key_eq registry.now.histograms key.now) }
+{
+    match registry.get_histogram(key) {
+        Some(cell) => cell.get_inner().count() < u64::MAX,
+        None => true,
+    }
+}
+
+fn record(
+    registry: &mut OwnedRegistry<Key, CountedCells>,
+    key: &Key,
+    sample: i64,
+) -> Result<(), Error>
+    requires { has_room (held key_eq registry.old.histograms key.now) ≡ true }
+    ensures ok { OnOk result (UpdatesEntry (with_samples
+        (sample ∷ [])) registry.old.storage.empty key.now registry.old.histograms registry.new.histograms) }
+    ensures err { IfErr result (λ e. (e ≡ OutOfMemory) × (registry.new ≡ registry.old)
+        × (held key_eq registry.old.histograms key.now ≡ None)) }
+    ensures rest { HistogramsAlone registry.old registry.new }
+{
+    let recorded = registry.get_or_create_histogram(
+        key,
+        |cell: &mut Counted<Histogram>| -> Result<(), Error>
+            ensures recorded { OnOk result (cell.new ≡ counted_with (with_samples (sample ∷ [])) cell.old) }
+            ensures refused { IsErr result → u64.MAX < cell.old.inner.count + 1 }
+        { cell.with_increment(|histogram: &mut Histogram| histogram.record(sample)) },
+    )?;
+    match recorded {
+        Ok(()) => Ok(()),
+        Err(_) => unreachable!(),
+    }
+}
+
+/// Updates the cell of a key, which is made where there is none.
+pub(crate) fn update_cells(
+    registry: &mut OwnedRegistry<Key, CountedCells>,
+    key: &Key,
+    by: Update,
+) -> Result<(), Error>
+    ensures ok { OnOk result (UpdatesCells registry.old.storage.empty (series_of key.now by) by (cells_of registry.old)
+        (cells_of registry.new)) }
+    ensures room { OnOk result (TakesUpdate (cells_of registry.old (series_of key.now by))) }
+    ensures err { IfErr result (λ e. RefusesUpdate (cells_of registry.old (series_of key.now by)) e
+        × (registry.new ≡ registry.old)) }
+    ensures absent { result ≡ Err OutOfMemory → cells_of registry.old (series_of key.now by) ≡ None }
+    ensures storage { KeepsSetting registry.old registry.new }
+{
+    match by {
+        Update::Increment(_) | Update::Absolute(_) => update_counter(registry, key, by),
+        Update::Add(_) | Update::Subtract(_) | Update::Set(_) => update_gauge(registry, key, by),
+        Update::Record(sample) => {
+            if !has_room(registry, key) {
+                return Err(Error::CountFull);
+            }
+            record(registry, key, sample)
+        }
+    }
+}
+
+/// Checks a series that is held, with its generation, and removes it where it is idle.
+pub(crate) fn check_series(
+    registry: &mut OwnedRegistry<Key, CountedCells>,
+    recency: &mut OwnedRecency<Key>,
+    series: &CompositeKey,
+    now: u64,
+) -> Result<bool, Error>
+    requires { IsSome (cells_of registry.old series.now) }
+    ensures rules { rules_of recency.new ≡ rules_of recency.old }
+    ensures ok { IfOk result (ChecksCells (rules_of recency.old)
+        (check_of_held (cells_of registry.old) now series.now) series.now (table_of key_eq recency.old)
+        (table_of key_eq recency.new) (cells_of registry.old) (cells_of registry.new)) }
+    ensures err { IfErr result (λ e. (e ≡ OutOfMemory)
+        × ((kind : AnyKind) (key : KeyParts)
+        → table_of key_eq recency.new kind key ≡ table_of key_eq recency.old kind key) × (registry.new ≡ registry.old)) }
+    ensures storage { KeepsSetting registry.old registry.new }
+{
+    let key = series.key();
+    match series.kind() {
+        MetricKind::Counter => {
+            let Some(cell) = registry.get_counter(key) else {
+                unreachable!()
+            };
+            let generation = cell.get_generation();
+            recency.should_store_counter(key, generation, now, registry)
+        }
+        MetricKind::Gauge => {
+            let Some(cell) = registry.get_gauge(key) else {
+                unreachable!()
+            };
+            let generation = cell.get_generation();
+            recency.should_store_gauge(key, generation, now, registry)
+        }
+        MetricKind::Histogram => {
+            let Some(cell) = registry.get_histogram(key) else {
+                unreachable!()
+            };
+            let generation = cell.get_generation();
+            recency.should_store_histogram(key, generation, now, registry)
+        }
+    }
+}

@@ -1,0 +1,131 @@
+//! An exporter of series as text.
+ghost use Rattle.std.specs.Prelude.{◌≡◌, ◌↔◌, ◌+◌, ◌*◌, ◌<◌, ◌≤◌, ◌++◌, ◌∷◌, ℕ, List};
+ghost use Rattle.std.specs.Prelude.{[], true, length, if◌then◌else◌, string_bytes, Ok, Err, None, IfOk, IfErr, OnOk};
+ghost use Rattle.std.specs.Prelude.{MatchResult, IsSome, ◌⊎◌, nat_lt, min};
+ghost use Rattle.metrics.specs.declared.error.Error.TheVariants.{Memory as OutOfMemory, BadShards as NotShards};
+ghost use Rattle.metrics.specs.declared.error.Error.TheVariants.{NoBounds as WithoutBounds, CountFull as Full};
+ghost use Rattle.metrics.specs.Layers.{mask_has};
+ghost use Rattle.metrics_names.specs.Names.{SeriesKey, KeyParts, key_eq};
+ghost use Rattle.metrics_registry.specs.Held.{is_shard_count as is_count};
+ghost use Rattle.metrics_registry.specs.Idleness.{Answered};
+ghost use Rattle.metrics_exporter.specs.Exporting.{Setup, Log, updates, expires, steps, IsFull, IsExpiry, IsHeldNumber};
+ghost use Rattle.metrics_exporter.specs.Exporting.{cells_after, series_of};
+ghost use Rattle.metrics_exporter.specs.ExporterText.{IsText};
+
+use crate::cells::CountedCells;
+use crate::changes::{check_series, update_cells};
+use crate::keys::{held_number, sorted_keys, sorted_series};
+use crate::lines::write_series;
+use metrics::{CompositeKey, Error, Key, MetricKindMask, Update};
+use metrics_registry::{OwnedRecency, OwnedRegistry, is_shard_count, recency_law};
+use metrics_storage::Histogram;
+use std::alloc::Global;
+
+/// Series by kind and key, whose values come as text, and of which idle ones are removed.
+#[derive(Drop)]
+pub struct Exporter {
+    alloc: Global,
+    registry: OwnedRegistry<Key, CountedCells>,
+    recency: OwnedRecency<Key>,
+}
+
+impl Exporter {
+    ghost use Rattle.metrics_exporter.specs.Kept.{IsAfter};
+
+    /// An exporter without series, whose registry has so many shards, a power of two from 1 to 1,024. Its histograms count at
+    /// the bounds, of which there has to be one.
+    ///
+    /// `expire` removes a series of a kind of the mask that has kept its generation over checks which lie further apart than
+    /// the timeout; without a timeout it removes none. The timeout and the moments are in one unit of the caller's choice.
+    pub fn new(
+        alloc: Global,
+        shards: usize,
+        mask: MetricKindMask,
+        idle_timeout: Option<u64>,
+        bounds: &[i64],
+    ) -> Result<Exporter, Error>
+        ensures ok { IfOk result (IsAfter (record {
+          bounds = bounds.now;
+          rules = record { timeout = idle_timeout; mask = λ kind. mask_has kind mask };
+        }) []) }
+        ensures shards { IfOk result (λ e. e.registry.count ≡ shards) }
+        ensures asked { OnOk result ((is_count shards ≡ true) × (0 < length bounds.now)) }
+        ensures err { IfErr result (λ e. e ≡
+            (if is_count shards then (if nat_lt 0 (length bounds.now) then OutOfMemory else WithoutBounds) else NotShards)) }
+    {
+        recency_law::<Key>();
+        if !is_shard_count(shards) {
+            return Err(Error::BadShards);
+        }
+        let Some(empty) = Histogram::new(alloc, bounds)? else {
+            return Err(Error::NoBounds);
+        };
+        let registry = OwnedRegistry::new(alloc, CountedCells::new(empty), shards)?;
+        let recency = OwnedRecency::new(alloc, mask, idle_timeout);
+        Ok(Exporter {
+            alloc,
+            registry,
+            recency,
+        })
+    }
+
+    /// Updates the series of the key and of the update's own kind, which is made where it isn't held.
+    ///
+    /// A refusal changes nothing. `Error::Memory` never meets a series that is held; `Error::CountFull` comes where the count
+    /// of a histogram's samples would pass 2^64 - 1.
+    pub fn update(&mut self, key: &Key, by: Update) -> Result<(), Error>
+        ensures calls { (setup : Setup) (log : Log) → IsAfter setup log self.old
+            → IsAfter setup (log ++ updates key.now by result ∷ []) self.new }
+        ensures full { (setup : Setup) (log : Log) → IsAfter setup log self.old
+            → (result ≡ Err Full) ↔ IsFull (steps log) key.now by }
+        ensures absent { (setup : Setup) (log : Log) → IsAfter setup log self.old → result ≡ Err OutOfMemory
+            → cells_after setup (steps log) (series_of key.now by) ≡ None }
+        ensures shards { self.new.registry.count ≡ self.old.registry.count }
+        ensures err { IfErr result (λ e. ((e ≡ OutOfMemory) ⊎ (e ≡ Full)) × (self.new ≡ self.old)) }
+    {
+        update_cells(&mut self.registry, key, by)
+    }
+
+    /// Checks every series that is held, in composite key order, and removes those that are idle. Answers how many.
+    ///
+    /// Where it is refused, a front of these checks was made, and what they removed is gone.
+    pub fn expire(&mut self, now: u64) -> Result<usize, Error>
+        ensures expired { (setup : Setup) (log : Log) → IsAfter setup log self.old →
+            (checks : List (Answered KeyParts)) × IsExpiry setup (steps log) now checks result
+            × IsAfter setup (log ++ expires now checks result ∷ []) self.new }
+        ensures shards { self.new.registry.count ≡ self.old.registry.count }
+    {
+        let keys = sorted_keys(self.alloc, &self.registry)?;
+        let mut removed = 0;
+        for series in &keys {
+            if !check_series(&mut self.registry, &mut self.recency, series, now)? {
+                removed += 1;
+            }
+        }
+        Ok(removed)
+    }
+
+    /// A line for each series that is held, in composite key order.
+    pub fn text(&self) -> Result<String, Error>
+        ensures { (setup : Setup) (log : Log) → IsAfter setup log self.now →
+            MatchResult result (λ text. IsText (cells_after setup (steps log)) (string_bytes text)) (λ e. e ≡ OutOfMemory) }
+    {
+        let series = sorted_series(self.alloc, &self.registry)?;
+        let mut text = String::new(self.alloc);
+        for row in &series {
+            let (kind, key) = *row;
+            write_series(&mut text, &self.registry, kind, key)?;
+        }
+        Ok(text)
+    }
+
+    /// The number of the series that are held, which is the number of the lines of `text`. It takes no memory.
+    ///
+    /// More than 2^64 - 1 series, which no memory holds, would be told as 2^64 - 1.
+    pub fn len(&self) -> usize
+        ensures { (setup : Setup) (log : Log) → IsAfter setup log self.now →
+            (held : ℕ) × IsHeldNumber (cells_after setup (steps log)) held × (result ≡ min held usize.MAX) }
+    {
+        held_number(&self.registry)
+    }
+}

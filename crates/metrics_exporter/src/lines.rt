@@ -1,0 +1,122 @@
+//! The lines of series.
+ghost use Rattle.std.specs.Prelude.{◌≡◌, ◌++◌, IsSome, OnOk, IfErr, string_bytes};
+ghost use Rattle.metrics.specs.declared.error.Error.TheVariants.{Memory as OutOfMemory};
+ghost use Rattle.metrics_exporter.specs.Exporting.{samples};
+ghost use Rattle.metrics_exporter.specs.ExporterText.{kind_word, name_word, label_words, bucket_words, reading_words, cell_words};
+ghost use Rattle.metrics_exporter.specs.ExporterText.{series_line, series_text};
+ghost use Rattle.metrics_exporter.specs.Gathering.{series_at};
+ghost use Rattle.metrics_exporter.specs.Kept.{cells_of};
+
+use crate::cells::CountedCells;
+use metrics::{Error, Key, Label, MetricKind};
+use metrics_registry::OwnedRegistry;
+use metrics_storage::Histogram;
+use std::alloc::AllocError;
+
+fn kind_text(kind: MetricKind) -> &'static str
+    ensures { result.now ≡ kind_word kind }
+{
+    match kind {
+        MetricKind::Counter => "counter",
+        MetricKind::Gauge => "gauge",
+        MetricKind::Histogram => "histogram",
+    }
+}
+
+/// A name, where the empty one is a dash.
+fn shown_name(name: &str) -> &str
+    ensures { result.now ≡ name_word name.now }
+{
+    if name.is_empty() { "-" } else { name }
+}
+
+fn write_labels(text: &mut String, labels: &[Label]) -> Result<(), AllocError>
+    ensures { OnOk result (string_bytes text.new ≡ string_bytes text.old ++ label_words labels.now) }
+{
+    for label in labels {
+        let key = label.key();
+        let value = label.value();
+        write!(text, " {key}={value}")?;
+    }
+    Ok(())
+}
+
+fn write_buckets(text: &mut String, buckets: &[(i64, u64)]) -> Result<(), AllocError>
+    ensures { OnOk result (string_bytes text.new ≡ string_bytes text.old ++ bucket_words buckets.now) }
+{
+    for (bound, count) in buckets {
+        write!(text, " le {bound} {count}")?;
+    }
+    Ok(())
+}
+
+fn write_samples(text: &mut String, histogram: &Histogram) -> Result<(), Error>
+    ensures ok { OnOk result (string_bytes text.new ≡ string_bytes text.old ++ reading_words (samples histogram.now)) }
+    ensures err { IfErr result (λ e. e ≡ OutOfMemory) }
+{
+    let buckets = histogram.buckets()?;
+    let count = histogram.count();
+    let sum = histogram.sum();
+    write!(text, " count {count} sum {sum}")?;
+    write_buckets(text, &buckets)?;
+    Ok(())
+}
+
+/// Writes the value of a series that is held.
+fn write_reading(
+    text: &mut String,
+    registry: &OwnedRegistry<Key, CountedCells>,
+    kind: MetricKind,
+    key: &Key,
+) -> Result<(), Error>
+    requires { IsSome (cells_of registry.now (series_at kind key.now)) }
+    ensures ok { OnOk result (string_bytes text.new
+        ≡ string_bytes text.old ++ cell_words (cells_of registry.now (series_at kind key.now))) }
+    ensures err { IfErr result (λ e. e ≡ OutOfMemory) }
+{
+    match kind {
+        MetricKind::Counter => {
+            let Some(cell) = registry.get_counter(key) else {
+                unreachable!()
+            };
+            let count = *cell.get_inner();
+            write!(text, " value {count}")?;
+            Ok(())
+        }
+        MetricKind::Gauge => {
+            let Some(cell) = registry.get_gauge(key) else {
+                unreachable!()
+            };
+            let level = *cell.get_inner();
+            write!(text, " value {level}")?;
+            Ok(())
+        }
+        MetricKind::Histogram => {
+            let Some(cell) = registry.get_histogram(key) else {
+                unreachable!()
+            };
+            write_samples(text, cell.get_inner())
+        }
+    }
+}
+
+/// Writes the line of a series that is held.
+pub(crate) fn write_series(
+    text: &mut String,
+    registry: &OwnedRegistry<Key, CountedCells>,
+    kind: MetricKind,
+    key: &Key,
+) -> Result<(), Error>
+    requires { IsSome (cells_of registry.now (series_at kind key.now)) }
+    ensures ok { OnOk result (string_bytes text.new
+        ≡ string_bytes text.old ++ series_line (series_at kind key.now) (cells_of registry.now (series_at kind key.now))) }
+    ensures err { IfErr result (λ e. e ≡ OutOfMemory) }
+{
+    let word = kind_text(kind);
+    let name = shown_name(key.name());
+    write!(text, "{word} {name}")?;
+    write_labels(text, key.labels())?;
+    write_reading(text, registry, kind, key)?;
+    text.push_str("\n")?;
+    Ok(())
+}
