@@ -1,5 +1,5 @@
 -- The first run, by computing.
-use Rattle.std.proofs.Common.{◌≡◌, ℕ, List, [], ◌∷◌, ◌++◌, ◌<◌, zero, suc, codes, IsUtf8, Bool, true, ◌&&◌, nat_lt, length, Option, Some, refl, ap, arith}
+use Rattle.std.proofs.Common.{◌≡◌, ℕ, List, [], ◌∷◌, ◌<◌, zero, suc, codes, IsUtf8, Bool, true, ◌&&◌, nat_lt, length, Some, refl, ap, arith}
 use Rattle.std.specs.Str.{IsAscii}
 use Rattle.std.proofs.lemmas.Str.{IsUtf8-from_ascii}
 use Rattle.std.specs.Fmt.{digits}
@@ -9,7 +9,6 @@ use Rattle.metrics_names.specs.declared.common.Unit.TheVariants.{Count}
 use Rattle.metrics.specs.declared.handles.Update.TheVariants.{Increment}
 use Rattle.metrics.specs.declared.calls.Call.{Call}
 use Rattle.metrics.specs.declared.calls.Call.TheVariants as call
-use Rattle.metrics.specs.Meaning.{Meaning}
 use Rattle.tool_grammar.specs.Grammar.{IsName, IsLabel, CanBeSpelled}
 use Rattle.tool_grammar.proofs.WordsLemmas.{lacks_literal}
 use Rattle.tool_tree_lines.specs.Trees.{Tree, Book, Prefix, meaning_of, BeginsWithTree}

@@ -1,7 +1,7 @@
 -- What is written for what is read.
-use Rattle.std.proofs.Common.{◌≡◌, ◌≢◌, ℕ, zero, suc, ◌<◌, List, [], ◌∷◌, ◌++◌, ◌⊎◌, inl, inr, length, map, codes, decimal, Option, Some, None, IfSome, OnSome, Result, Ok, Err, refl, sym, ap, subst, ◌∙◌, arith, append_assoc, append-nil, length-append}
+use Rattle.std.proofs.Common.{◌≡◌, ◌≢◌, ℕ, List, [], ◌∷◌, ◌++◌, inl, inr, length, map, codes, decimal, Option, Some, None, IfSome, OnSome, Result, Ok, Err, refl, sym, ap, subst, ◌∙◌, arith, append_assoc, append-nil, length-append}
 use Rattle.std.specs.List.{AllByRecursion}
-use Rattle.std.specs.Io.KnownBytes.{Consumes, Appends, Keeps, IsAtEnd}
+use Rattle.std.specs.Io.KnownBytes.{Consumes, Keeps, IsAtEnd}
 use Rattle.metrics_names.specs.declared.refused.Refused.{Refused}
 use Rattle.metrics_names.specs.declared.refused.Refused.TheVariants as refused
 use Rattle.metrics.specs.declared.calls.Call.{Call}
@@ -9,8 +9,8 @@ use Rattle.metrics.specs.declared.calls.Answer.{Answer}
 use Rattle.metrics.specs.declared.calls.Answer.TheVariants as answer
 use Rattle.metrics.specs.Book.{RowParts}
 use Rattle.metrics.specs.Meaning.{Meaning, Targets, AreNew}
-use Rattle.metrics.specs.History.{Log, IsOrMeets, MayMeetMemory, plain_answer, ArePlainFrom, ArePlain, plain_log_from, plain_log}
-use Rattle.tool_grammar.specs.Grammar.{kind_word, name_word, label_words, unit_word, spelling, CanBeSpelled, Spells, IsBad}
+use Rattle.metrics.specs.History.{Log, IsOrMeets, MayMeetMemory, plain_answer, ArePlainFrom, ArePlain, plain_log_from}
+use Rattle.tool_grammar.specs.Grammar.{kind_word, name_word, label_words, unit_word, spelling, CanBeSpelled, IsBad}
 use Rattle.tool_grammar.specs.Printing.{value_text, note_text, row_text, rows_text, book_of, refusal_text_of, text_of, registers_in, print_from, print}
 use Rattle.tool_grammar.specs.declared.error.RunError.{RunError}
 use Rattle.tool_grammar.specs.declared.error.RunError.TheVariants.{Memory, BadLine, Device}
@@ -21,10 +21,10 @@ use Rattle.tool_tree_lines.specs.declared.tree_line.TreeLine.TheVariants as line
 use Rattle.tool_tree_lines.specs.Words.{spelling as tree_spelling}
 use Rattle.tool_tree_lines.specs.Trees.{Tree, tree_lines, meaning_of, IsAllowed, BeginsWithTree, NoTree}
 use Rattle.tool_tree_lines.proofs.Runs.{one_tree}
-use Rattle.tool_lines.specs.Lines.{lines_of, ended, unlines}
+use Rattle.tool_lines.specs.Lines.{lines_of, unlines}
 use Rattle.tool_lines.specs.Running.{AreSpelled, AreMade, AreFirst, IsFlushed}
 use Rattle.tool_lines.specs.TreeReading.{AreRead, BuildsTree, RefusesTree}
-use Rattle.tool_lines.specs.Output.{IsStop, BeginsWithCalls, Input, answers_text, printed, LacksWant, IsAnswered, AnswersCalls, AnswersAll, AnswersFirst, RunsOver, RunsKnown, Prints}
+use Rattle.tool_lines.specs.Output.{IsStop, BeginsWithCalls, Input, answers_text, printed, LacksWant, IsAnswered, AnswersCalls, AnswersAll, AnswersFirst, RunsKnown, Prints}
 use Rattle.tool_lines.proofs.LinesLemmas.{lines-cut, lines-front}
 use Rattle.tool_lines.proofs.Loop.{Finished, unlines_push}
 use Rattle.tool_lines.proofs.TreesLemmas.{means_new}

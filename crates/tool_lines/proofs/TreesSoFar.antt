@@ -1,22 +1,21 @@
 -- How far the lines of a tree are read, and how that ends.
-use Rattle.std.proofs.Common.{◌≡◌, ℕ, suc, ◌+◌, ◌<◌, List, [], ◌∷◌, ◌++◌, length, Option, Some, None, OnSome, Result, Ok, Err, MatchResult, Bool, true, false, refl, sym, ap, subst, ◌∙◌, inl, inr, arith, append_assoc, append-nil}
+use Rattle.std.proofs.Common.{◌≡◌, ℕ, suc, ◌+◌, ◌<◌, List, [], ◌∷◌, ◌++◌, length, Option, OnSome, Result, Ok, Err, MatchResult, true, false, refl, sym, ap, subst, ◌∙◌, inl, inr, arith, append-nil}
 use Rattle.std.specs.List.{AllByRecursion}
 use Rattle.std.specs.Io.KnownBytes.{Consumes, IsAtEnd}
 use Rattle.std.proofs.KnownBytes.{Consumes-nil, Consumes-trans}
 use Rattle.metrics.specs.Meaning.{Meaning}
 use Rattle.tool_grammar.specs.declared.error.RunError.{RunError}
-use Rattle.tool_grammar.specs.declared.error.RunError.TheVariants.{Memory, BadLine, Device}
+use Rattle.tool_grammar.specs.declared.error.RunError.TheVariants.{BadLine, Device}
 use Rattle.tool_tree_lines.specs.declared.tree_line.TreeLine.{TreeLine}
-use Rattle.tool_tree_lines.specs.declared.tree_line.TreeLine.TheVariants as line
 use Rattle.tool_tree_lines.specs.Words.{spelling, Spells}
-use Rattle.tool_tree_lines.specs.Trees.{Tree, last_line, tree_lines, meaning_of, IsAllowed, NoTree, AreOfTrees}
+use Rattle.tool_tree_lines.specs.Trees.{Tree, last_line, tree_lines, IsAllowed, NoTree, AreOfTrees}
 use Rattle.tool_tree_lines.specs.Steps.{Steps}
 use Rattle.tool_tree_lines.proofs.Runs.{all_lines, lines_push, of_trees, first_bad, no_end}
 use Rattle.tool_tree_levels.specs.declared.level.Level.{Level}
 use Rattle.tool_tree_levels.specs.declared.level.LineError.{LineError}
 use Rattle.tool_tree_levels.specs.declared.level.LineError.TheVariants as levels
 use Rattle.tool_tree_levels.specs.Levels.{level_meaning}
-use Rattle.tool_tree_levels.specs.Doing.{IsBuilt, AreBuilt, DoesLine}
+use Rattle.tool_tree_levels.specs.Doing.{AreBuilt, DoesLine}
 use Rattle.tool_tree_levels.proofs.Doing.{built_allowed}
 use Rattle.tool_lines.specs.Lines.{lines_of, ended, unlines, IsLine}
 use Rattle.tool_lines.specs.declared.stream.Fault.{Fault}

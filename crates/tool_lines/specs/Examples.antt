@@ -11,4 +11,5 @@ first_input =
 abbrev pub first_output : List ℕ
 first_output =
     codes "described 1\nregistered 0 1\nupdated 1\nupdated 1\n"
-    ++ (codes "snapshot 0 1\ncounter app.hits host=a unit count value 5 text all hits\n" ++ codes "snapshot 0 1\ncounter app.hits host=a unit count value 0 text all hits\n")
+    ++ (codes "snapshot 0 1\ncounter app.hits host=a unit count value 5 text all hits\n"
+    ++ codes "snapshot 0 1\ncounter app.hits host=a unit count value 0 text all hits\n")

@@ -45,7 +45,8 @@ printed i = answers_text (meaning_of i.tree) i.calls
 abbrev pub LacksWant : List ℕ → Type 0
 LacksWant text = AllByRecursion (λ l. (more : List ℕ) → l ≡ codes "refused E1" ++ more → ⊥) (lines_of text)
 
--- An answer to each call, the plain one or want of memory, printed; and just the text of the plain ones, where no line of it tells want of memory.
+-- An answer to each call, the plain one or want of memory, printed; and where no line tells want of memory, just the text of the plain
+-- answers.
 pub record IsAnswered (m : Meaning) (calls : List Call) (text : List ℕ) : Type 0 where
   pub log : Log
   pub each : map (λ e. e.0) log ≡ calls
@@ -55,9 +56,11 @@ pub record IsAnswered (m : Meaning) (calls : List Call) (text : List ℕ) : Type
 
 -- ---- a run over lines
 
--- What was written for the lines of calls on a recorder of new books, by the result: all were answered, or those before a bad line.
+-- What was written for the lines of calls on a recorder of new books, by the result: all were answered, or those before a
+-- bad line.
 abbrev pub AnswersCalls : {A : Type 0} → Meaning → List (List ℕ) → (List ℕ → Type 0) → Result A RunError → Type 0
-AnswersCalls m ls Writes (Ok done) = (calls : List Call) × (text : List ℕ) × BeginsWithCalls ls calls [] × IsAnswered m calls text × Writes text
+AnswersCalls m ls Writes (Ok done) = (calls : List Call) × (text : List ℕ)
+    × BeginsWithCalls ls calls [] × IsAnswered m calls text × Writes text
 AnswersCalls m ls Writes (Err (BadLine k)) = (calls : List Call) × (text : List ℕ) × (bad : List ℕ) × (more : List (List ℕ))
     × BeginsWithCalls ls calls (bad ∷ more) × IsAnswered m calls text × Writes text
 AnswersCalls m ls Writes (Err (Memory at)) = Unit {0}
@@ -65,12 +68,14 @@ AnswersCalls m ls Writes (Err Device) = Unit {0}
 
 -- all lines are an input, and its calls were answered
 abbrev pub AnswersAll : List (List ℕ) → (List ℕ → Type 0) → Type 0
-AnswersAll ls Writes = (i : Input ls) × (text : List ℕ) × (i.rest ≡ []) × IsAnswered (meaning_of i.tree) i.calls text × Writes text
+AnswersAll ls Writes = (i : Input ls) × (text : List ℕ)
+    × (i.rest ≡ []) × IsAnswered (meaning_of i.tree) i.calls text × Writes text
 
 -- a bad line stands behind the calls, and those before it were answered; or the lines begin with no tree, and nothing was written
 abbrev pub AnswersFirst : List (List ℕ) → (List ℕ → Type 0) → Type 0
 AnswersFirst ls Writes =
-    ((i : Input ls) × (text : List ℕ) × (0 < length i.rest) × IsAnswered (meaning_of i.tree) i.calls text × Writes text) ⊎ (NoTree ls × Writes [])
+    ((i : Input ls) × (text : List ℕ) × (0 < length i.rest) × IsAnswered (meaning_of i.tree) i.calls text × Writes text)
+    ⊎ (NoTree ls × Writes [])
 
 -- what was written for lines, by the result
 abbrev pub RunsOver : {A : Type 0} → List (List ℕ) → (List ℕ → Type 0) → Result A RunError → Type 0

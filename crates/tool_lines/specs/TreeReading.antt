@@ -1,5 +1,5 @@
 -- What reading the lines of a tree did.
-use Rattle.std.specs.Prelude.{◌≡◌, ℕ, suc, List, [], ◌∷◌, ◌++◌, length, ◌⊎◌, Some, None}
+use Rattle.std.specs.Prelude.{◌≡◌, ℕ, suc, List, [], ◌∷◌, ◌++◌, length, ◌⊎◌, Some}
 use Rattle.metrics.specs.Meaning.{Meaning}
 use Rattle.tool_grammar.specs.declared.error.RunError.{RunError}
 use Rattle.tool_grammar.specs.declared.error.RunError.TheVariants.{Memory, BadLine, Device}
@@ -10,7 +10,8 @@ use Rattle.tool_tree_levels.specs.declared.level.LineError.{LineError}
 use Rattle.tool_tree_levels.specs.declared.level.LineError.TheVariants as levels
 use Rattle.tool_lines.specs.Lines.{lines_of, unlines}
 
--- These lines were read: each with its line feed, so that what is read after them has its own lines; or they are all, at the reader's end.
+-- These lines were read: each with its line feed, so that what is read after them has its own lines; or they are all, at the
+-- reader's end.
 abbrev pub AreRead : Type 0 → List ℕ → List (List ℕ) → Type 0
 AreRead at_end read ls =
     ((read ≡ unlines ls) × ((rest : List ℕ) → lines_of (read ++ rest) ≡ ls ++ lines_of rest)) ⊎ (at_end × (lines_of read ≡ ls))
@@ -18,7 +19,8 @@ AreRead at_end read ls =
 -- What was read is the lines of a tree and `end`, the recorder is that tree, and the next line has this number.
 abbrev pub BuildsTree : Type 0 → List ℕ → Meaning → ℕ → Type 0
 BuildsTree at_end read m number = (t : Tree)
-    × IsAllowed t × (m ≡ meaning_of t) × AreRead at_end read (tree_lines t ++ spelling line.End ∷ []) × (number ≡ suc (suc (length (tree_lines t))))
+    × IsAllowed t × (m ≡ meaning_of t)
+    × AreRead at_end read (tree_lines t ++ spelling line.End ∷ []) × (number ≡ suc (suc (length (tree_lines t))))
 
 -- The first bad line, behind the lines of trees; or the reader is at its end behind such lines, and they have no `end`.
 abbrev pub RefusesTree : Type 0 → List ℕ → RunError → Type 0

@@ -28,7 +28,8 @@ fn at_tree_line(error: LineError, number: u64) -> RunError
 
 /// The one recorder of the stack.
 fn only_one(mut stack: Vec<Level>) -> Option<Child<DebuggingRecorder>>
-    ensures { IfSome result (λ child. (l : Stacked) → stack.items ≡ l ∷ [] → ⟦<Child<DebuggingRecorder> as Recorder>⟧.meaning child ≡ level_meaning l) }
+    ensures { IfSome result (λ child. (l : Stacked) → stack.items ≡ l ∷ []
+        → ⟦<Child<DebuggingRecorder> as Recorder>⟧.meaning child ≡ level_meaning l) }
 {
     match stack.pop() {
         Some(Level { child, .. }) => Some(child),
@@ -40,7 +41,8 @@ fn only_one(mut stack: Vec<Level>) -> Option<Child<DebuggingRecorder>>
 fn built(stack: Vec<Level>, number: u64) -> Result<(Child<DebuggingRecorder>, u64), RunError>
     requires { number + 1 < 2 ^ 64 }
     ensures { MatchResult result
-        (λ found. (found.1 ≡ number + 1) × ((l : Stacked) → stack.items ≡ l ∷ [] → ⟦<Child<DebuggingRecorder> as Recorder>⟧.meaning found.0 ≡ level_meaning l))
+        (λ found. (found.1 ≡ number + 1) × ((l : Stacked) → stack.items ≡ l ∷ []
+        → ⟦<Child<DebuggingRecorder> as Recorder>⟧.meaning found.0 ≡ level_meaning l))
         (λ e. e ≡ NoDevice) }
 {
     match only_one(stack) {
@@ -60,7 +62,8 @@ pub fn tree<I: BufRead>(
 ) -> Result<(Child<DebuggingRecorder>, u64), RunError>
     ensures { (read : List ℕ) × Consumes (I.remaining input.old) (I.remaining input.new) read
         × MatchResult result
-        (λ found. BuildsTree (OnSome (I.remaining input.old) (IsAtEnd (I.remaining input.new))) read (⟦<Child<DebuggingRecorder> as Recorder>⟧.meaning found.0) found.1)
+        (λ found. BuildsTree (OnSome (I.remaining input.old) (IsAtEnd (I.remaining input.new))) read
+        (⟦<Child<DebuggingRecorder> as Recorder>⟧.meaning found.0) found.1)
         (λ e. RefusesTree (OnSome (I.remaining input.old) (IsAtEnd (I.remaining input.new))) read e) }
 {
     let mut stack = Vec::new(alloc);

@@ -1,5 +1,5 @@
 -- What a line does, from what was taken and what was made of it.
-use Rattle.std.proofs.Common.{◌≡◌, ℕ, zero, suc, ◌<◌, ◌≤◌, max, List, [], ◌∷◌, ◌++◌, length, map, Result, Ok, Err, refl, sym, ap, subst, ◌∙◌, ◌+◌, arith, append_assoc, append-nil, length-append, Bool}
+use Rattle.std.proofs.Common.{◌≡◌, ℕ, suc, ◌<◌, ◌≤◌, max, List, [], ◌∷◌, ◌++◌, length, map, Result, Ok, Err, refl, sym, ap, subst, ◌∙◌, arith, length-append, Bool}
 use Rattle.std.specs.List.{AllByRecursion, sum_by}
 use Rattle.metrics.specs.Book.{new_book}
 use Rattle.metrics.specs.Meaning.{Meaning, nothing, one_book}
@@ -8,8 +8,8 @@ use Rattle.tool_tree_lines.specs.declared.tree_line.RouteWord.{RouteWord}
 use Rattle.tool_tree_lines.specs.declared.tree_line.TreeLine.{TreeLine}
 use Rattle.tool_tree_lines.specs.declared.tree_line.TreeLine.TheVariants as line
 use Rattle.tool_tree_lines.specs.Words.{CanBeSpelled}
-use Rattle.tool_tree_lines.specs.Trees.{Tree, Book, Noop, Prefix, Filter, Fanout, Router, Trees, none, more, number_of, last_line, meaning_of, meanings_of, levels_of, most_levels, books_in, route_of, NameTargets, IsMade, IsTop, IsAllowed, AreAllowed}
-use Rattle.tool_tree_lines.specs.Steps.{list_of, taken, Steps}
+use Rattle.tool_tree_lines.specs.Trees.{Tree, Book, Noop, Prefix, Filter, Fanout, Router, number_of, last_line, meaning_of, meanings_of, levels_of, most_levels, books_in, route_of, NameTargets, IsMade, IsTop, IsAllowed}
+use Rattle.tool_tree_lines.specs.Steps.{taken, Steps}
 use Rattle.tool_tree_lines.proofs.Runs.{from_list, list_of-from, length-list_of, length-taken, arity, tree_same, split_same, are_allowed}
 use Rattle.tool_tree_levels.specs.declared.level.Level.{Level}
 use Rattle.tool_tree_levels.specs.declared.level.LineError.{LineError}

@@ -1,5 +1,5 @@
 -- Recorders side by side, and routes.
-use Rattle.std.proofs.Common.{◌≡◌, ◌≢◌, ℕ, zero, suc, ◌<◌, ◌≤◌, ◌+◌, ◌-◌, max, Bool, true, false, ◌&&◌, ◌||◌, if◌then◌else◌, nat_eq, nat_lt, List, [], ◌∷◌, ◌++◌, length, map, Option, Some, None, refl, sym, ap, subst, ◌∙◌, arith, append_assoc, append-nil, length-append, inl, inr}
+use Rattle.std.proofs.Common.{◌≡◌, ◌≢◌, ℕ, zero, suc, ◌<◌, ◌≤◌, ◌+◌, max, Bool, true, false, ◌&&◌, ◌||◌, if◌then◌else◌, nat_eq, nat_lt, List, [], ◌∷◌, ◌++◌, length, Some, None, refl, sym, ap, ◌∙◌, arith, append_assoc, length-append}
 use Rattle.std.specs.Option.{option_or}
 use Rattle.std.specs.Str.{bytes_eq}
 use Rattle.std.proofs.lemmas.Bool.Decides.{nat_tests}
@@ -9,8 +9,7 @@ use Rattle.metrics.specs.declared.error.Error.{Error}
 use Rattle.metrics.specs.declared.error.Error.TheVariants as error
 use Rattle.metrics.specs.Meaning.{Meaning}
 use Rattle.metrics.specs.Layers.{Route, mask_has, joined_all}
-use Rattle.metrics_trees.specs.Nodes.{most_books}
-use Rattle.metrics_trees.specs.Recorders.{BooksFit, refusal, route_refusal, target_refusal}
+use Rattle.metrics_trees.specs.Recorders.{refusal, route_refusal, target_refusal}
 use Rattle.metrics_trees.specs.Routing.{RouteTables, AreTablesOf, last_target}
 use Rattle.metrics_trees.proofs.JoinedLemmas.{books-append}
 use Rattle.tool_tree_lines.specs.declared.tree_line.Kinds.{Kinds}
@@ -20,7 +19,7 @@ use Rattle.tool_tree_lines.proofs.Runs.{split_same}
 use Rattle.tool_tree_levels.specs.declared.level.Level.{Level}
 use Rattle.tool_tree_levels.specs.declared.level.LineError.{LineError}
 use Rattle.tool_tree_levels.specs.declared.level.LineError.TheVariants.{Memory, Bad}
-use Rattle.tool_tree_levels.specs.Levels.{backwards, level_meaning, level_meanings, most_of, Adds, CantAdd}
+use Rattle.tool_tree_levels.specs.Levels.{backwards, level_meaning, level_meanings, most_of, CantAdd}
 use Rattle.tool_tree_levels.proofs.Doing.{backwards-push}
 
 -- ---- recorders side by side

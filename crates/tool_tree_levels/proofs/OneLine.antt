@@ -1,16 +1,15 @@
 -- One line over the stack.
-use Rattle.std.proofs.Common.{◌≡◌, ℕ, List, [], ◌∷◌, length, Result, Ok, Err, MatchResult, Bool, true, false, refl, sym, ap, subst, ◌∙◌, arith}
+use Rattle.std.proofs.Common.{◌≡◌, ℕ, List, length, Result, Ok, Err, MatchResult, Bool, true, false, refl, sym, ap, subst, ◌∙◌}
 use Rattle.tool_tree_lines.specs.declared.tree_line.TreeLine.{TreeLine}
 use Rattle.tool_tree_lines.specs.declared.tree_line.TreeLine.TheVariants as line
 use Rattle.tool_tree_lines.specs.Words.{spelling, Spells, IsNoLine}
-use Rattle.tool_tree_lines.specs.Trees.{Tree}
 use Rattle.tool_tree_lines.specs.Steps.{Steps}
 use Rattle.tool_tree_lines.proofs.Lines.{line_same}
 use Rattle.tool_tree_lines.proofs.Runs.{not_end}
 use Rattle.tool_tree_levels.specs.declared.level.Level.{Level}
 use Rattle.tool_tree_levels.specs.declared.level.LineError.{LineError}
 use Rattle.tool_tree_levels.specs.declared.level.LineError.TheVariants.{Memory, Bad}
-use Rattle.tool_tree_levels.specs.Doing.{AreBuilt, Does, is_end, DoesLine}
+use Rattle.tool_tree_levels.specs.Doing.{Does, is_end, DoesLine}
 use Rattle.tool_tree_levels.proofs.Doing.{built_length}
 
 is_the_end : (l : TreeLine) → is_end l ≡ true → l ≡ line.End

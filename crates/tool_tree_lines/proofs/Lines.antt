@@ -1,5 +1,5 @@
 -- Bytes spell one line at most.
-use Rattle.std.proofs.Common.{◌≡◌, ◌≢◌, ℕ, zero, suc, ◌<◌, ◌≤◌, ◌^◌, List, [], ◌∷◌, ◌++◌, length, Bool, true, false, ◌||◌, cond, eqb, codes, decimal, get_or, refl, sym, ap, subst, ◌∙◌, ◌+◌, arith}
+use Rattle.std.proofs.Common.{◌≡◌, ◌≢◌, ℕ, ◌<◌, ◌^◌, List, [], ◌∷◌, ◌++◌, Bool, true, false, ◌||◌, eqb, codes, decimal, get_or, refl, sym, ap, ◌∙◌, arith}
 use Rattle.std.specs.List.{AllByRecursion}
 use Rattle.std.specs.Str.Parse.{AllDigits, digits_value}
 use Rattle.std.proofs.lemmas.List.Elements.{recursion_from_All, All-from_recursion, All-append}
@@ -13,7 +13,7 @@ use Rattle.tool_tree_lines.specs.declared.tree_line.Kinds.{Kinds}
 use Rattle.tool_tree_lines.specs.declared.tree_line.RouteWord.{RouteWord}
 use Rattle.tool_tree_lines.specs.declared.tree_line.TreeLine.{TreeLine}
 use Rattle.tool_tree_lines.specs.declared.tree_line.TreeLine.TheVariants as line
-use Rattle.tool_tree_lines.specs.Words.{letter, words, case_word, form_word, kinds_word, route_word, line_word, line_rest, spelling, IsRoute, CanBeSpelled, Spells, IsNoLine, SpellsFrom, IsNoLineFrom}
+use Rattle.tool_tree_lines.specs.Words.{letter, words, case_word, form_word, kinds_word, route_word, line_word, line_rest, spelling, IsRoute, CanBeSpelled}
 
 pub tail_same : (x : ℕ) (a b : List ℕ) → x ∷ a ≡ x ∷ b → a ≡ b
 tail_same x a b e = cc

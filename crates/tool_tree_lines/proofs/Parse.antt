@@ -1,18 +1,18 @@
 -- Words and lines as they are read.
-use Rattle.std.proofs.Common.{◌≡◌, ◌≢◌, ℕ, zero, suc, ◌<◌, ◌≤◌, ◌^◌, List, [], ◌∷◌, ◌++◌, length, Bool, true, false, Option, Some, None, MatchOption, codes, decimal, get_or, refl, sym, ap, subst, ◌∙◌, arith, append_assoc, append-nil, IsUtf8, ◌+◌, ◌*◌}
+use Rattle.std.proofs.Common.{◌≡◌, ◌≢◌, ℕ, ◌<◌, ◌≤◌, ◌^◌, List, [], ◌∷◌, ◌++◌, length, Bool, Option, Some, None, MatchOption, codes, decimal, get_or, refl, sym, ap, subst, ◌∙◌, arith, append_assoc, append-nil, IsUtf8}
 use Rattle.std.proofs.lemmas.List.Elements.{recursion_from_All, All-from_recursion}
 use Rattle.std.specs.List.{AllByRecursion}
 use Rattle.tool_grammar.specs.Cuts.{Lacks, StartsAt}
 use Rattle.tool_grammar.specs.Grammar.{name_word, IsName}
-use Rattle.tool_grammar.proofs.WordsLemmas.{before_same, first_same, lacks_name, lacks_decimal, not_cut}
+use Rattle.tool_grammar.proofs.WordsLemmas.{before_same, first_same, lacks_decimal, not_cut}
 use Rattle.tool_tree_lines.specs.declared.tree_line.Kinds.{Kinds}
 use Rattle.tool_tree_lines.specs.declared.tree_line.RouteWord.{RouteWord}
 use Rattle.tool_tree_lines.specs.declared.tree_line.TreeLine.{TreeLine}
 use Rattle.tool_tree_lines.specs.declared.tree_line.TreeLine.TheVariants as line
 use Rattle.tool_tree_lines.specs.declared.tree_line.First.{First}
 use Rattle.tool_tree_lines.specs.declared.tree_line.First.TheVariants as first
-use Rattle.tool_tree_lines.specs.Words.{HasKind, words, case_word, form_word, kinds_word, route_word, first_word, line_word, line_rest, spelling, IsRoute, CanBeSpelled, Spells, IsNoLine, SpellsFrom, IsNoLineFrom}
-use Rattle.tool_tree_lines.proofs.Lines.{tail_same, starts_words, lacks_route, lacks_case, lacks_form, cut_line, lacks_kinds, slashless, route_parts, decimal_same}
+use Rattle.tool_tree_lines.specs.Words.{HasKind, words, case_word, form_word, kinds_word, route_word, first_word, line_word, IsRoute, Spells, IsNoLine, SpellsFrom, IsNoLineFrom}
+use Rattle.tool_tree_lines.proofs.Lines.{tail_same, starts_words, lacks_case, lacks_form, cut_line, lacks_kinds, route_parts, decimal_same}
 
 -- ---- words behind spaces
 

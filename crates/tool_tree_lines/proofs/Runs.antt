@@ -1,10 +1,9 @@
 -- Reading lines, one after the other: what stands behind a tree's lines doesn't hang on how they are read.
-use Rattle.std.proofs.Common.{◌≡◌, ℕ, zero, suc, ◌<◌, ◌≤◌, List, [], ◌∷◌, ◌++◌, length, Option, Some, None, refl, sym, ap, subst, ◌∙◌, ◌+◌, arith, append_assoc, append-nil, length-append, ◌⊎◌, inl, inr}
+use Rattle.std.proofs.Common.{◌≡◌, ℕ, zero, suc, ◌≤◌, List, [], ◌∷◌, ◌++◌, length, Option, Some, None, refl, sym, ap, subst, ◌∙◌, ◌+◌, arith, append_assoc, append-nil, length-append, ◌⊎◌, inl, inr}
 use Rattle.std.specs.List.{AllByRecursion}
-use Rattle.tool_tree_lines.specs.declared.tree_line.RouteWord.{RouteWord}
 use Rattle.tool_tree_lines.specs.declared.tree_line.TreeLine.{TreeLine}
 use Rattle.tool_tree_lines.specs.declared.tree_line.TreeLine.TheVariants as line
-use Rattle.tool_tree_lines.specs.Words.{spelling, CanBeSpelled, Spells}
+use Rattle.tool_tree_lines.specs.Words.{spelling, Spells}
 use Rattle.tool_tree_lines.specs.Trees.{Tree, Book, Noop, Prefix, Filter, Fanout, Router, Trees, none, more, number_of, last_line, tree_lines, trees_lines, IsTop, IsAllowed, AreAllowed, BeginsWithTree, NoTreeFrom, NoTree, AreOfTrees, IsFirstBad}
 use Rattle.tool_tree_lines.specs.Steps.{list_of, taken, Steps}
 use Rattle.tool_tree_lines.proofs.Lines.{line_same}

@@ -1,5 +1,5 @@
 -- The trees that tree lines spell: their lines, what is required of them, and what they mean.
-use Rattle.std.specs.Prelude.{if◌then◌else◌, ◌≡◌, ℕ, zero, suc, ◌+◌, ◌<◌, ◌≤◌, ◌⊎◌, max, Bool, List, [], ◌∷◌, ◌++◌, codes, length, map}
+use Rattle.std.specs.Prelude.{if◌then◌else◌, ◌≡◌, ℕ, suc, ◌+◌, ◌<◌, ◌≤◌, ◌⊎◌, max, Bool, List, [], ◌∷◌, ◌++◌, codes, length, map}
 use Rattle.std.specs.List.{sum_by}
 use Rattle.std.specs.Str.{bytes_eq}
 use Rattle.metrics.specs.Book.{new_book}

@@ -1,5 +1,5 @@
 use Rattle.std.proofs.Common.{◌≡◌, [], ◌∷◌, ◌∙◌, ap}
-use Rattle.metrics.specs.Book.{Content, new_book}
+use Rattle.metrics.specs.Book.{Content}
 use Rattle.metrics.specs.Meaning.{one_book}
 use Rattle.tool_tree_levels.proofs.building.book.Goals as goal
 

@@ -1,4 +1,4 @@
-use Rattle.std.proofs.Common.{◌≡◌, max, [], ◌∷◌, ◌++◌, sym, ap, ◌∙◌, arith}
+use Rattle.std.proofs.Common.{◌≡◌, [], ◌∷◌, ◌++◌, arith}
 use Rattle.metrics_trees.specs.Builders.{fanout_recorders}
 use Rattle.tool_tree_levels.specs.Levels.{level_meaning}
 use Rattle.tool_tree_levels.proofs.Joins.{fits_more, added_more, greatest_more, too_many, too_many_all}

@@ -1,4 +1,4 @@
-use Rattle.std.proofs.Common.{◌≡◌, ℕ, length, ap, sym, arith, length-append}
+use Rattle.std.proofs.Common.{length, ap, arith, length-append}
 use Rattle.tool_tree_levels.specs.Levels.{backwards}
 use Rattle.tool_tree_levels.proofs.Doing.{length-backwards}
 use Rattle.tool_tree_levels.proofs.Joins.{taken_more}

@@ -1,4 +1,4 @@
-use Rattle.std.proofs.Common.{◌≡◌, ◌+◌, ◌≤◌, suc, [], ◌∷◌, ◌++◌, length, sym, subst, arith}
+use Rattle.std.proofs.Common.{◌≡◌, ◌+◌, ◌≤◌, suc, [], ◌∷◌, length, arith}
 use Rattle.std.specs.List.{sum_by}
 use Rattle.metrics.specs.Layers.{filtered}
 use Rattle.metrics_debugging.specs.DebuggingMeaning as book

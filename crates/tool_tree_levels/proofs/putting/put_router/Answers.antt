@@ -1,4 +1,4 @@
-use Rattle.std.proofs.Common.{◌≡◌, ◌≤◌, ◌-◌, ◌+◌, suc, map, length, sym, ◌∙◌, subst, arith}
+use Rattle.std.proofs.Common.{◌≡◌, ◌≤◌, ◌-◌, suc, map, length, ◌∙◌, subst, arith}
 use Rattle.metrics.specs.Layers.{routed}
 use Rattle.metrics_debugging.specs.DebuggingMeaning as book
 use Rattle.metrics_trees.specs.Nodes.{node_meaning}

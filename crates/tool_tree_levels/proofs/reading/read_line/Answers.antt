@@ -1,4 +1,4 @@
-use Rattle.std.proofs.Common.{◌≡◌, sym, ◌∙◌}
+use Rattle.std.proofs.Common.{sym, ◌∙◌}
 use Rattle.tool_tree_levels.proofs.OneLine.{unsaid, ended, said_done, said_refused}
 use Rattle.tool_tree_levels.proofs.reading.read_line.Goals as goal
 

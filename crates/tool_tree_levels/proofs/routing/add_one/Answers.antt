@@ -1,4 +1,4 @@
-use Rattle.std.proofs.Common.{◌≡◌, ℕ, ◌<◌, ◌+◌, suc, max, [], ◌∷◌, ◌++◌, refl, sym, ap, ◌∙◌, arith, inr}
+use Rattle.std.proofs.Common.{◌≡◌, ◌+◌, suc, refl, ap, ◌∙◌, arith, inr}
 use Rattle.metrics_trees.specs.Builders.{router_recorders}
 use Rattle.tool_tree_levels.specs.Levels.{level_meaning}
 use Rattle.tool_tree_levels.proofs.Joins.{not_empty, routes_as, to_earlier, to_next, cant_add}

@@ -1,6 +1,6 @@
 use Rattle.tool_tree_lines.specs.Trees.{route_of}
 use Rattle.std.proofs.Common.{◌≡◌, map, take, length, sym, subst, ◌∙◌, eqb-true, arith}
-use Rattle.metrics_trees.specs.Builders.{router_recorders, HasRoutes}
+use Rattle.metrics_trees.specs.Builders.{router_recorders}
 use Rattle.metrics_trees.specs.Routing.{AreTablesOf}
 use Rattle.tool_tree_levels.proofs.Routes.{added_step, step_more, step_bad, step_end}
 use Rattle.tool_tree_levels.proofs.routing.add_routes.Goals as goal

@@ -1,4 +1,4 @@
-use Rattle.std.proofs.Common.{◌≡◌, ◌++◌, ◌∷◌, [], map, sym, ◌∙◌}
+use Rattle.std.proofs.Common.{map, ◌∙◌}
 use Rattle.metrics_debugging.specs.DebuggingMeaning as book
 use Rattle.metrics_trees.specs.Nodes.{node_meaning}
 use Rattle.metrics_trees.specs.Builders.{router_recorders}

@@ -1,4 +1,4 @@
-use Rattle.std.proofs.Common.{ℕ, ◌<◌, ◌^◌, decimal, arith, rules}
+use Rattle.std.proofs.Common.{◌<◌, ◌^◌, decimal, arith, rules}
 use Rattle.tool_grammar.proofs.WordsLemmas.{lacks_decimal}
 use Rattle.tool_tree_lines.proofs.Parse.{too_great}
 use Rattle.tool_tree_lines.proofs.words.count_of.Goals as goal

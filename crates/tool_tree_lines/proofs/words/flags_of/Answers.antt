@@ -1,4 +1,4 @@
-use Rattle.tool_tree_lines.proofs.Parse.{no_case, no_more, no_form}
+use Rattle.tool_tree_lines.proofs.Parse.{no_case, no_form}
 use Rattle.tool_tree_lines.proofs.words.flags_of.Goals as goal
 
 pub returns-in_err-fold : goal.returns-in_err-fold

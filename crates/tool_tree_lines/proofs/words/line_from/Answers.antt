@@ -1,9 +1,6 @@
-use Rattle.std.proofs.Common.{◌≡◌, ℕ, List, [], ◌∷◌, ◌++◌}
-use Rattle.tool_tree_lines.specs.declared.tree_line.First.{First}
-use Rattle.tool_tree_lines.specs.declared.tree_line.First.TheVariants as first
 use Rattle.tool_tree_lines.proofs.Lines.{starts_words}
 use Rattle.tool_grammar.specs.Grammar.{name_word}
-use Rattle.tool_tree_lines.specs.Words.{first_word, route_word, words, IsNoLineFrom}
+use Rattle.tool_tree_lines.specs.Words.{route_word, words}
 use Rattle.tool_tree_lines.proofs.Parse.{no_filter, no_router, no_routes}
 use Rattle.tool_tree_lines.proofs.words.line_from.Goals as goal
 

@@ -1,9 +1,7 @@
 use Rattle.std.proofs.Common.{◌≡◌, ℕ, Bool, false, eqb, ◌<◌, arith}
-use Rattle.tool_grammar.specs.Grammar.{name_word, IsName}
-use Rattle.tool_grammar.proofs.WordsLemmas.{lacks_name}
 use Rattle.tool_tree_lines.specs.Words.{route_word, IsRoute}
 use Rattle.tool_tree_lines.proofs.Lines.{lacks_route}
-use Rattle.tool_tree_lines.proofs.Parse.{no_words, next_of, words_none, words_more}
+use Rattle.tool_tree_lines.proofs.Parse.{no_words, next_of, words_more}
 use Rattle.tool_tree_lines.proofs.words.routes_of.Goals as goal
 
 positive : (n : ℕ) (b : Bool) → b ≡ eqb n 0 → b ≡ false → 0 < n

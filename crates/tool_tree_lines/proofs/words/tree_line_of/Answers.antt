@@ -1,4 +1,4 @@
-use Rattle.tool_tree_lines.proofs.Parse.{no_first, whole_line}
+use Rattle.tool_tree_lines.proofs.Parse.{no_first}
 use Rattle.tool_tree_lines.proofs.words.tree_line_of.Goals as goal
 
 pub returns-in-None : goal.returns-in-None
