@@ -48,8 +48,7 @@ pub fn increment<K: Hashable + EqualClone + Drop>(
     registry: &mut Registry<K>,
     kind: MetricKind,
     key: &K,
-) -> Result<u64, Error>
-{
+) -> Result<u64, Error> {
     match kind {
         MetricKind::Counter => registry.get_or_create_counter(key, |cell: &mut u64| {
             *cell = cell.wrapping_add(1);
@@ -114,8 +113,7 @@ pub fn handles<K: Hashable + EqualClone + Drop>(
     alloc: Global,
     registry: &Registry<K>,
     kind: MetricKind,
-) -> Result<usize, Error>
-{
+) -> Result<usize, Error> {
     Ok(match kind {
         MetricKind::Counter => registry.get_counter_handles(alloc)?.len(),
         MetricKind::Gauge => registry.get_gauge_handles(alloc)?.len(),

@@ -1,7 +1,7 @@
 //! Places of cells, in one shard.
 
 use crate::given::Numbers;
-use metrics::{Error, Key};
+use metrics::Key;
 use metrics_registry::Kinds;
 use std::alloc::Global;
 use std::test::Fail;
@@ -9,7 +9,7 @@ use std::test::Fail;
 type Shard = Kinds<Key, Numbers>;
 
 /// Adds one to a counter, and answers its place.
-fn place_of(alloc: Global, shard: &mut Shard, name: &str) -> Result<Option<usize>, Error> {
+fn place_of(alloc: Global, shard: &mut Shard, name: &str) -> Result<Option<usize>, Fail> {
     let key = Key::from_name(alloc, name)?;
     shard.get_or_create_counter(&Numbers, &key, |cell: &mut u64| {
         *cell = cell.wrapping_add(1);
