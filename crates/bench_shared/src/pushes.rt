@@ -97,7 +97,8 @@ struct Four {
     third: Pen,
     fourth: Pen,
     ghost own: { (first.home ≡ bucket) × (second.home ≡ bucket) × (third.home ≡ bucket) × (fourth.home ≡ bucket) },
-    ghost free: { (first.ticket ≡ false) × (second.ticket ≡ false) × (third.ticket ≡ false) × (fourth.ticket ≡ false) },
+    ghost free: { (first.ticket ≡ false) × (second.ticket ≡ false) × (third.ticket ≡ false)
+        × (fourth.ticket ≡ false) },
 }
 
 /// Two threads push 16,384 values each.
@@ -135,20 +136,28 @@ fn push_in_four<R: Threads + Wait + Sync>(
     third: Pen,
     fourth: Pen,
 ) -> (Pen, Pen, Pen, Pen, u64)
-    requires one { (first.home ≡ bucket.now) × (first.ticket ≡ false) × (second.home ≡ bucket.now) × (second.ticket ≡ false) }
-    requires other { (third.home ≡ bucket.now) × (third.ticket ≡ false) × (fourth.home ≡ bucket.now) × (fourth.ticket ≡ false) }
-    ensures one { (result.0.home ≡ bucket.now) × (result.0.ticket ≡ false) × (result.1.home ≡ bucket.now) × (result.1.ticket ≡ false) }
-    ensures other { (result.2.home ≡ bucket.now) × (result.2.ticket ≡ false) × (result.3.home ≡ bucket.now) × (result.3.ticket ≡ false) }
+    requires one { (first.home ≡ bucket.now) × (first.ticket ≡ false) × (second.home ≡ bucket.now)
+        × (second.ticket ≡ false) }
+    requires other { (third.home ≡ bucket.now) × (third.ticket ≡ false) × (fourth.home ≡ bucket.now)
+        × (fourth.ticket ≡ false) }
+    ensures one { (result.0.home ≡ bucket.now) × (result.0.ticket ≡ false) × (result.1.home ≡ bucket.now)
+        × (result.1.ticket ≡ false) }
+    ensures other { (result.2.home ≡ bucket.now) × (result.2.ticket ≡ false) × (result.3.home ≡ bucket.now)
+        × (result.3.ticket ≡ false) }
 {
     let ((first, second, a), (third, fourth, b)) = join(
         rt,
         || -> (Pen, Pen, u64)
-            requires { (first.home ≡ bucket.now) × (first.ticket ≡ false) × (second.home ≡ bucket.now) × (second.ticket ≡ false) }
-            ensures { (result.0.home ≡ first.home) × (result.0.ticket ≡ false) × (result.1.home ≡ second.home) × (result.1.ticket ≡ false) }
+            requires { (first.home ≡ bucket.now) × (first.ticket ≡ false) × (second.home ≡ bucket.now)
+                × (second.ticket ≡ false) }
+            ensures { (result.0.home ≡ first.home) × (result.0.ticket ≡ false) × (result.1.home ≡ second.home)
+                × (result.1.ticket ≡ false) }
         { push_in_two(rt, bucket, first, second) },
         || -> (Pen, Pen, u64)
-            requires { (third.home ≡ bucket.now) × (third.ticket ≡ false) × (fourth.home ≡ bucket.now) × (fourth.ticket ≡ false) }
-            ensures { (result.0.home ≡ third.home) × (result.0.ticket ≡ false) × (result.1.home ≡ fourth.home) × (result.1.ticket ≡ false) }
+            requires { (third.home ≡ bucket.now) × (third.ticket ≡ false) × (fourth.home ≡ bucket.now)
+                × (fourth.ticket ≡ false) }
+            ensures { (result.0.home ≡ third.home) × (result.0.ticket ≡ false) × (result.1.home ≡ fourth.home)
+                × (result.1.ticket ≡ false) }
         { push_in_two(rt, bucket, third, fourth) },
     );
     (first, second, third, fourth, a.wrapping_add(b))

@@ -104,7 +104,8 @@ impl Snapshot {
 /// Puts a row into a map that has room for it.
 fn put(map: &mut HashMap<CompositeKey, RowValue>, key: CompositeKey, value: RowValue)
     requires { 0 < spare map.old }
-    ensures rows { (k : SeriesKey) → get series_key_eq map.new k ≡ cond (series_key_eq key k) (Some value) (get series_key_eq map.old k) }
+    ensures rows { (k : SeriesKey) → get series_key_eq map.new k
+        ≡ cond (series_key_eq key k) (Some value) (get series_key_eq map.old k) }
     ensures room { spare map.old ≤ spare map.new + 1 }
 {
     let Ok(_) = map.insert(key, value) else {

@@ -47,7 +47,8 @@ pub trait Recorder: Drop {
         key: &Key,
     ) -> Result<Vec<Address>, Refused>
         ensures keeps { KeepsTargets (meaning self.old) (meaning self.new) }
-        ensures registers { Registers (meaning self.old) (meaning self.new) kind key.now (result_map_both (λ v. v.items) (λ e. e) result) };
+        ensures registers { Registers (meaning self.old) (meaning self.new) kind key.now
+            (result_map_both (λ v. v.items) (λ e. e) result) };
 
     /// Whether a series of that kind stands at the address.
     fn holds(&self, kind: MetricKind, at: Address) -> bool

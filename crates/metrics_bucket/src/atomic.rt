@@ -17,8 +17,8 @@ const PENS: usize = 64;
 
 /// A bucket that any thread may push into, read and clear. It has two sides, each with 64 places for each block.
 ///
-/// It keeps 64 pens. A call borrows one of them while it runs, and is refused with `Error::NoPen` where all are lent. A lock is held
-/// only while a pen is lent or comes back.
+/// It keeps 64 pens. A call borrows one of them while it runs, and is refused with `Error::NoPen` where all are lent. A
+/// lock is held only while a pen is lent or comes back.
 #[derive(Drop)]
 pub struct AtomicBucket<T: Sample> {
     pens: Mutex<Vec<Box<Lent<T>, Global>>>,
@@ -72,7 +72,8 @@ impl<T: Sample> AtomicBucket<T> {
         pushed
     }
 
-    /// All values since the last clear, in blocks of 64, the newest block first. It waits for pushes that were under way when it looked.
+    /// All values since the last clear, in blocks of 64, the newest block first. It waits for pushes that were under way
+    /// when it looked.
     ///
     /// `Busy`: another walk is under way.
     pub fn data<R: Wait>(&self, rt: &R, alloc: Global) -> Result<Vec<T>, Error>
@@ -86,11 +87,12 @@ impl<T: Sample> AtomicBucket<T> {
         values
     }
 
-    /// Reads all values as `data` does, and shows them to `f` in chunks of 64, the newest chunk first. It answers how many values it read.
-    /// `f` may push into this bucket.
+    /// Reads all values as `data` does, and shows them to `f` in chunks of 64, the newest chunk first. It answers how
+    /// many values it read. `f` may push into this bucket.
     pub fn data_with<R: Wait, F: FnMut(&[T])>(&self, rt: &R, f: F) -> Result<usize, Error>
         requires { F.IsAlwaysCallable f }
-        ensures ok { IfOk result (λ n. (words : List ℕ) × (length words ≡ n) × ((last : F) × FoldsTo (λ p x q. CalledAt F.FnMut p x tt q) f (valued T.value (newest_first words)) last)) }
+        ensures ok { IfOk result (λ n. (words : List ℕ) × (length words ≡ n)
+            × ((last : F) × FoldsTo (λ p x q. CalledAt F.FnMut p x tt q) f (valued T.value (newest_first words)) last)) }
         ensures err { IfErr result (λ e. (e ≡ Error.Busy) ⊎ (e ≡ Error.NoPen)) }
     {
         let Some(mut lent) = self.lend(rt) else {
@@ -110,13 +112,15 @@ impl<T: Sample> AtomicBucket<T> {
         self.clear_with(rt, |_| {})
     }
 
-    /// Takes all values, and shows them to `f` in chunks of 64, the newest chunk first. It waits for pushes that were under way when it
-    /// took them; later pushes are for the next walk. It answers how many values it took. `f` may push into this bucket.
+    /// Takes all values, and shows them to `f` in chunks of 64, the newest chunk first. It waits for pushes that were
+    /// under way when it took them; later pushes are for the next walk. It answers how many values it took. `f` may push
+    /// into this bucket.
     ///
     /// `Busy`: another walk is under way.
     pub fn clear_with<R: Wait, F: FnMut(&[T])>(&self, rt: &R, f: F) -> Result<usize, Error>
         requires { F.IsAlwaysCallable f }
-        ensures ok { IfOk result (λ n. (words : List ℕ) × (length words ≡ n) × ((last : F) × FoldsTo (λ p x q. CalledAt F.FnMut p x tt q) f (valued T.value (newest_first words)) last)) }
+        ensures ok { IfOk result (λ n. (words : List ℕ) × (length words ≡ n)
+            × ((last : F) × FoldsTo (λ p x q. CalledAt F.FnMut p x tt q) f (valued T.value (newest_first words)) last)) }
         ensures err { IfErr result (λ e. (e ≡ Error.Busy) ⊎ (e ≡ Error.NoPen)) }
     {
         let Some(mut lent) = self.lend(rt) else {

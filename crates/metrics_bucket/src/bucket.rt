@@ -1,5 +1,7 @@
 //! The bucket, and the calls that push.
-ghost use Rattle.std.specs.Prelude.{◌≡◌, ℕ, ◌+◌, ◌*◌, ◌^◌, ◌<◌, ◌≤◌, ◌↔◌, ◌⊎◌, true, false, IsTrue, IfOk, OnOk, IfErr, OnErr, MatchResult, length, take, drop, map, [], ◌++◌, ◌-◌, vec_capacity};
+ghost use Rattle.std.specs.Prelude.{◌≡◌, ℕ, ◌+◌, ◌*◌, ◌^◌, ◌<◌, ◌≤◌, ◌↔◌, ◌⊎◌, true};
+ghost use Rattle.std.specs.Prelude.{false, IsTrue, IfOk, OnOk, IfErr, OnErr, MatchResult, length, take, drop, map, [], ◌++◌};
+ghost use Rattle.std.specs.Prelude.{◌-◌, vec_capacity};
 ghost use Rattle.metrics_bucket.specs.Account.{first_account, with_ticket, IsPushed};
 ghost use Rattle.metrics_bucket.specs.BucketState.{place_index};
 ghost use Rattle.metrics_bucket.specs.Blocks.{Settled};
@@ -44,7 +46,8 @@ impl<T: Sample> Model for RuledBucket<T> {
 
     ghost view = { λ b. record { table = (arc_value b.table).shared.table_id; places = b.places } };
 
-    ghost invariant = { λ b. ((arc_value b.table).shared.table_id.words ≡ 2 + 4 * b.places) × ((arc_value b.table).shared.key ≡ b.places) × (0 < b.places) × (b.places < 2 ^ 60) };
+    ghost invariant = { λ b. ((arc_value b.table).shared.table_id.words ≡ 2 + 4 * b.places)
+        × ((arc_value b.table).shared.key ≡ b.places) × (0 < b.places) × (b.places < 2 ^ 60) };
 }
 
 impl<T: Sample> RuledBucket<T> {
@@ -119,7 +122,8 @@ impl<T: Sample> RuledBucket<T> {
         if side == 0 { at } else { self.places + at }
     }
 
-    /// Whether no ticket of the live side was given. A push that is under way counts, and a value that a clear is about to take does not.
+    /// Whether no ticket of the live side was given. A push that is under way counts, and a value that a clear is about
+    /// to take does not.
     pub fn is_empty_as(&self, pen: &mut Pen) -> bool
         requires own { pen.old.home ≡ self.now }
         requires free { pen.old.ticket ≡ false }
@@ -129,16 +133,19 @@ impl<T: Sample> RuledBucket<T> {
         self.table.shared.load::<LookAtControl>(&mut pen.seat, 0) < 2
     }
 
-    /// Draws a ticket, which `finish_as` uses up. A walk that comes to its place waits until then, so a pen that never finishes leaves
-    /// walks waiting.
+    /// Draws a ticket, which `finish_as` uses up. A walk that comes to its place waits until then, so a pen that never
+    /// finishes leaves walks waiting.
     ///
-    /// `Full`: all places of the live side are given. `Raced`: another thread changed the control word in between; another try may succeed.
+    /// `Full`: all places of the live side are given. `Raced`: another thread changed the control word in between;
+    /// another try may succeed.
     pub fn begin_as(&self, pen: &mut Pen) -> Result<(), Error>
         requires own { pen.old.home ≡ self.now }
         requires free { pen.old.ticket ≡ false }
         ensures ok { OnOk result (pen.new ≡ with_ticket pen.old true) }
         ensures err { IfErr result (λ e. (pen.new ≡ pen.old) × ((e ≡ Error.Full) ⊎ (e ≡ Error.Raced))) }
-        ensures whole { pen.old.weight ≡ 1024 → MatchResult result (λ _. length pen.old.pushed < count_all pen.old.taken + self.now.places) (λ e. (e ≡ Error.Full) × IsFullFor self.now.places pen.old.pushed pen.old.taken) }
+        ensures whole { pen.old.weight ≡ 1024
+            → MatchResult result (λ _. length pen.old.pushed < count_all pen.old.taken + self.now.places)
+            (λ e. (e ≡ Error.Full) × IsFullFor self.now.places pen.old.pushed pen.old.taken) }
     {
         let found = self.table.shared.load::<LookAtControl>(&mut pen.seat, 0);
         let given = (found / 2) as usize;
@@ -178,8 +185,11 @@ impl<T: Sample> RuledBucket<T> {
         requires own { pen.old.home ≡ self.now }
         requires free { pen.old.ticket ≡ false }
         ensures ok { OnOk result (IsPushed pen.old (T.word value) pen.new) }
-        ensures err { IfErr result (λ e. (pen.new ≡ pen.old) × ((e.0 ≡ Error.Full) ⊎ (e.0 ≡ Error.Raced)) × (e.1 ≡ value)) }
-        ensures whole { pen.old.weight ≡ 1024 → MatchResult result (λ _. length pen.old.pushed < count_all pen.old.taken + self.now.places) (λ e. (e.0 ≡ Error.Full) × IsFullFor self.now.places pen.old.pushed pen.old.taken) }
+        ensures err { IfErr result (λ e. (pen.new ≡ pen.old) × ((e.0 ≡ Error.Full) ⊎ (e.0 ≡ Error.Raced))
+            × (e.1 ≡ value)) }
+        ensures whole { pen.old.weight ≡ 1024
+            → MatchResult result (λ _. length pen.old.pushed < count_all pen.old.taken + self.now.places)
+            (λ e. (e.0 ≡ Error.Full) × IsFullFor self.now.places pen.old.pushed pen.old.taken) }
     {
         match self.begin_as(pen) {
             Ok(()) => {
@@ -196,7 +206,9 @@ impl<T: Sample> RuledBucket<T> {
         requires free { pen.old.ticket ≡ false }
         ensures ok { OnOk result (IsPushed pen.old (T.word value) pen.new) }
         ensures err { IfErr result (λ e. (pen.new ≡ pen.old) × (e.0 ≡ Error.Full) × (e.1 ≡ value)) }
-        ensures whole { pen.old.weight ≡ 1024 → MatchResult result (λ _. length pen.old.pushed < count_all pen.old.taken + self.now.places) (λ e. (e.0 ≡ Error.Full) × IsFullFor self.now.places pen.old.pushed pen.old.taken) }
+        ensures whole { pen.old.weight ≡ 1024
+            → MatchResult result (λ _. length pen.old.pushed < count_all pen.old.taken + self.now.places)
+            (λ e. (e.0 ≡ Error.Full) × IsFullFor self.now.places pen.old.pushed pen.old.taken) }
     {
         let pause = Backoff::new();
         for _ in rt.forever() {
@@ -222,11 +234,13 @@ impl<T: Sample> RuledBucket<T> {
         values: &mut Vec<T>,
     )
         requires home { (seat.old.table_id ≡ self.now.table) × (seat.old.me.0.places ≡ self.now.places) }
-        requires knows { (0 < seat.old.me.0.weight) × (side < 2) × (seat.old.me.0.hold ≡ Settling side (values_known seat.old.me.0.hold)) }
+        requires knows { (0 < seat.old.me.0.weight) × (side < 2)
+            × (seat.old.me.0.hold ≡ Settling side (values_known seat.old.me.0.hold)) }
         requires part { (start ≤ end) × (end ≤ length (values_known seat.old.me.0.hold)) × (end ≤ self.now.places) }
         requires room { length values.old.items + (end - start) ≤ vec_capacity values.old }
         ensures seat { (seat.new.table_id ≡ seat.old.table_id) × (seat.new.me ≡ seat.old.me) }
-        ensures values { values.new.items ≡ values.old.items ++ map T.value (take (end - start) (drop start (values_known seat.old.me.0.hold))) }
+        ensures values { values.new.items ≡ values.old.items
+            ++ map T.value (take (end - start) (drop start (values_known seat.old.me.0.hold))) }
         ensures room { vec_capacity values.new ≡ vec_capacity values.old }
     {
         for at in start..end {
@@ -241,7 +255,8 @@ impl<T: Sample> RuledBucket<T> {
         requires home { (seat.old.table_id ≡ self.now.table) × (seat.old.me.0.places ≡ self.now.places) }
         requires whole { (seat.old.me.0.weight ≡ 1024) × (seat.old.me.0.hold ≡ Nothing) × (seat.old.me.1 ≡ []) }
         requires room { (values.old.items ≡ []) × (self.now.places ≤ vec_capacity values.old) }
-        ensures { Settled T.value seat.old.me.0.pushed seat.old.me.0.taken values.new.items × ArePartsOf seat.old.me.0.read seat.old.me.0.pushed }
+        ensures { Settled T.value seat.old.me.0.pushed seat.old.me.0.taken values.new.items
+            × ArePartsOf seat.old.me.0.read seat.old.me.0.pushed }
     {
         let control = self.table.shared.load::<LookToSettle>(seat, 0);
         let side = (control % 2) as usize;
@@ -255,8 +270,8 @@ impl<T: Sample> RuledBucket<T> {
         }
     }
 
-    /// Ends the bucket, and gives the values that were pushed and not taken: by their tickets in blocks of 64, the newest block first.
-    /// Where there is no memory for all places of a side, bucket and pen come back.
+    /// Ends the bucket, and gives the values that were pushed and not taken: by their tickets in blocks of 64, the
+    /// newest block first. Where there is no memory for all places of a side, bucket and pen come back.
     pub fn settle(self, alloc: Global, pen: Pen) -> Result<Vec<T>, (RuledBucket<T>, Pen)>
         requires own { pen.home ≡ self }
         requires whole { pen.weight ≡ 1024 }

@@ -28,15 +28,21 @@ impl<T: Sample> RuledBucket<T> {
         seat: &mut Seat<Turn, View>,
         visitor: &mut V,
     ) -> Result<usize, Error>
-        requires home { (seat.old.table_id ≡ self.now.table) × (seat.old.me.0.places ≡ self.now.places) × (0 < seat.old.me.0.weight) }
+        requires home { (seat.old.table_id ≡ self.now.table) × (seat.old.me.0.places ≡ self.now.places)
+            × (0 < seat.old.me.0.weight) }
         requires hold { (seat.old.me.0.hold ≡ Nothing) × (seat.old.me.1 ≡ []) }
         requires call { V.ready visitor.old }
         ensures table { seat.new.table_id ≡ seat.old.table_id }
-        ensures ok { IfOk result (λ n. (w : Walk) × (k : ℕ) × (length w.values ≡ n) × (seat.new.me ≡ (has_taken seat.old.me.0 k w, [])) × Covers seat.old.me.0.pushed w × (seat.old.me.0.weight ≡ 1024 → w.epoch ≡ length seat.old.me.0.taken) × FoldsTo V.saw visitor.old (valued T.value (newest_first w.values)) visitor.new) }
+        ensures ok { IfOk result (λ n. (w : Walk) × (k : ℕ) × (length w.values ≡ n)
+            × (seat.new.me ≡ (has_taken seat.old.me.0 k w, [])) × Covers seat.old.me.0.pushed w
+            × (seat.old.me.0.weight ≡ 1024 → w.epoch ≡ length seat.old.me.0.taken)
+            × FoldsTo V.saw visitor.old (valued T.value (newest_first w.values)) visitor.new) }
         ensures count { IfOk result (λ n. n ≤ self.now.places) }
         ensures ready { V.ready visitor.new }
-        ensures whole { seat.old.me.0.weight ≡ 1024 → OnOk result ((h : ℕ → ℕ) → weigh_pushes h seat.new.me.0.pushed ≡ weigh_walks h seat.new.me.0.taken) }
-        ensures err { IfErr result (λ e. (seat.new.me ≡ seat.old.me) × (visitor.new ≡ visitor.old) × (e ≡ Error.Busy) × (seat.old.me.0.weight ≢ 1024)) }
+        ensures whole { seat.old.me.0.weight ≡ 1024
+            → OnOk result ((h : ℕ → ℕ) → weigh_pushes h seat.new.me.0.pushed ≡ weigh_walks h seat.new.me.0.taken) }
+        ensures err { IfErr result (λ e. (seat.new.me ≡ seat.old.me) × (visitor.new ≡ visitor.old) × (e ≡ Error.Busy)
+            × (seat.old.me.0.weight ≢ 1024)) }
     {
         let shared = &self.table.shared;
         if shared.compare_exchange::<ClaimTurn>(seat, 1, 0, 1) != 0 {
@@ -49,9 +55,9 @@ impl<T: Sample> RuledBucket<T> {
         Ok(given)
     }
 
-    /// Takes all values that were pushed and not taken, and shows them to the visitor in chunks of 64 by their tickets, the newest chunk
-    /// first. It waits for pushes that drew a ticket before it took the side; later ones go to the other side. It answers how many values
-    /// it took.
+    /// Takes all values that were pushed and not taken, and shows them to the visitor in chunks of 64 by their tickets,
+    /// the newest chunk first. It waits for pushes that drew a ticket before it took the side; later ones go to the
+    /// other side. It answers how many values it took.
     ///
     /// `Busy`: another walk is under way, or this pen's own closure or visitor is inside one.
     pub fn clear_to_as<R: Wait, V: Visitor<T>>(
@@ -63,10 +69,12 @@ impl<T: Sample> RuledBucket<T> {
         requires own { pen.old.home ≡ self.now }
         requires free { pen.old.ticket ≡ false }
         requires call { V.ready visitor.old }
-        ensures ok { IfOk result (λ n. (walk : Walk) × (length walk.values ≡ n) × IsTaken pen.old walk pen.new × FoldsTo V.saw visitor.old (valued T.value (newest_first walk.values)) visitor.new) }
+        ensures ok { IfOk result (λ n. (walk : Walk) × (length walk.values ≡ n) × IsTaken pen.old walk pen.new
+            × FoldsTo V.saw visitor.old (valued T.value (newest_first walk.values)) visitor.new) }
         ensures count { IfOk result (λ n. n ≤ self.now.places) }
         ensures ready { V.ready visitor.new }
-        ensures err { IfErr result (λ e. (pen.new ≡ pen.old) × (visitor.new ≡ visitor.old) × (e ≡ Error.Busy) × (pen.old.weight ≢ 1024)) }
+        ensures err { IfErr result (λ e. (pen.new ≡ pen.old) × (visitor.new ≡ visitor.old) × (e ≡ Error.Busy)
+            × (pen.old.weight ≢ 1024)) }
     {
         self.claim_and_clear(rt, &mut pen.seat, visitor)
     }
@@ -81,7 +89,8 @@ impl<T: Sample> RuledBucket<T> {
         requires own { pen.old.home ≡ self.now }
         requires free { pen.old.ticket ≡ false }
         requires call { F.IsAlwaysCallable f }
-        ensures ok { IfOk result (λ n. (walk : Walk) × (length walk.values ≡ n) × IsTaken pen.old walk pen.new × ((last : F) × FoldsTo (λ p x q. CalledAt F.FnMut p x tt q) f (valued T.value (newest_first walk.values)) last)) }
+        ensures ok { IfOk result (λ n. (walk : Walk) × (length walk.values ≡ n) × IsTaken pen.old walk pen.new
+            × ((last : F) × FoldsTo (λ p x q. CalledAt F.FnMut p x tt q) f (valued T.value (newest_first walk.values)) last)) }
         ensures err { IfErr result (λ e. (pen.new ≡ pen.old) × (e ≡ Error.Busy) × (pen.old.weight ≢ 1024)) }
     {
         let mut shown = Shown { f };

@@ -1,5 +1,6 @@
 //! A pen that is lent for a call.
-ghost use Rattle.std.specs.Prelude.{◌≡◌, ℕ, ◌+◌, ◌<◌, ◌≤◌, ◌⊎◌, length, map, false, OnOk, IfOk, IfErr, vec_len};
+ghost use Rattle.std.specs.Prelude.{◌≡◌, ℕ, ◌+◌, ◌<◌, ◌≤◌, ◌⊎◌, length, map, false, OnOk, IfOk};
+ghost use Rattle.std.specs.Prelude.{IfErr, vec_len};
 ghost use Rattle.std.specs.Arc.{arc_value};
 ghost use Rattle.std.specs.Fn.{CalledAt};
 ghost use Rattle.std.specs.List.{FoldsTo};
@@ -74,7 +75,8 @@ impl<T: Sample> Lent<T> {
     }
 
     pub(crate) fn data<R: Wait>(&mut self, rt: &R, alloc: Global) -> Result<Vec<T>, Error>
-        ensures ok { IfOk result (λ v. (walk : Walk) × (v.items ≡ map T.value (blocks walk.values)) × IsRead self.old.pen walk self.new.pen) }
+        ensures ok { IfOk result (λ v. (walk : Walk) × (v.items ≡ map T.value (blocks walk.values))
+            × IsRead self.old.pen walk self.new.pen) }
         ensures err { IfErr result (λ e. (self.new.pen ≡ self.old.pen) × ((e ≡ Error.Memory) ⊎ (e ≡ Error.Busy))) }
     {
         self.bucket.data_as(rt, alloc, &mut self.pen)
@@ -86,7 +88,8 @@ impl<T: Sample> Lent<T> {
         f: F,
     ) -> Result<usize, Error>
         requires { F.IsAlwaysCallable f }
-        ensures ok { IfOk result (λ n. (walk : Walk) × (length walk.values ≡ n) × IsRead self.old.pen walk self.new.pen × ((last : F) × FoldsTo (λ p x q. CalledAt F.FnMut p x tt q) f (valued T.value (newest_first walk.values)) last)) }
+        ensures ok { IfOk result (λ n. (walk : Walk) × (length walk.values ≡ n) × IsRead self.old.pen walk self.new.pen
+            × ((last : F) × FoldsTo (λ p x q. CalledAt F.FnMut p x tt q) f (valued T.value (newest_first walk.values)) last)) }
         ensures err { IfErr result (λ e. (self.new.pen ≡ self.old.pen) × (e ≡ Error.Busy)) }
     {
         self.bucket.data_with_as(rt, &mut self.pen, f)
@@ -98,7 +101,8 @@ impl<T: Sample> Lent<T> {
         f: F,
     ) -> Result<usize, Error>
         requires { F.IsAlwaysCallable f }
-        ensures ok { IfOk result (λ n. (walk : Walk) × (length walk.values ≡ n) × IsTaken self.old.pen walk self.new.pen × ((last : F) × FoldsTo (λ p x q. CalledAt F.FnMut p x tt q) f (valued T.value (newest_first walk.values)) last)) }
+        ensures ok { IfOk result (λ n. (walk : Walk) × (length walk.values ≡ n) × IsTaken self.old.pen walk self.new.pen
+            × ((last : F) × FoldsTo (λ p x q. CalledAt F.FnMut p x tt q) f (valued T.value (newest_first walk.values)) last)) }
         ensures err { IfErr result (λ e. (self.new.pen ≡ self.old.pen) × (e ≡ Error.Busy)) }
     {
         self.bucket.clear_with_as(rt, &mut self.pen, f)

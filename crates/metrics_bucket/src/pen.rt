@@ -13,8 +13,8 @@ use std::sync::Arc;
 
 pub(crate) type Words = Table<Turn, View, usize, BucketRule, Global>;
 
-/// A thread's part of one bucket, which each call on the bucket takes. It has a weight, a part of the right to know the whole: a bucket
-/// has 1024 parts, all of them with its first pen.
+/// A thread's part of one bucket, which each call on the bucket takes. It has a weight, a part of the right to know the
+/// whole: a bucket has 1024 parts, all of them with its first pen.
 ///
 /// Contracts see it as its account: what it pushed, took and read, its weight, and whether it has a ticket.
 #[derive(Drop)]

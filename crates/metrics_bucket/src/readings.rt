@@ -1,5 +1,6 @@
 //! The calls that read all values.
-ghost use Rattle.std.specs.Prelude.{◌≡◌, ℕ, ◌+◌, ◌-◌, ◌/◌, ◌%◌, ◌<◌, ◌≤◌, ◌⊎◌, length, map, ◌≢◌, [], ◌∷◌, false, IfOk, IfErr};
+ghost use Rattle.std.specs.Prelude.{◌≡◌, ℕ, ◌+◌, ◌-◌, ◌/◌, ◌%◌, ◌<◌, ◌≤◌, ◌⊎◌, length};
+ghost use Rattle.std.specs.Prelude.{map, ◌≢◌, [], ◌∷◌, false, IfOk, IfErr};
 ghost use Rattle.metrics_bucket.specs.Facts.{weigh, weigh_pushes, weigh_walks};
 ghost use Rattle.metrics_bucket.specs.declared.view.Walk.{Walk};
 ghost use Rattle.metrics_bucket.specs.Places.{Reaches, Covers};
@@ -29,11 +30,15 @@ use std::sync::Wait;
 impl<T: Sample> RuledBucket<T> {
     // Claims the turn, and looks how many places were given: answers the control word.
     fn claim_and_look(&self, seat: &mut Seat<Turn, View>) -> Result<u64, Error>
-        requires home { (seat.old.table_id ≡ self.now.table) × (seat.old.me.0.places ≡ self.now.places) × (0 < seat.old.me.0.weight) }
+        requires home { (seat.old.table_id ≡ self.now.table) × (seat.old.me.0.places ≡ self.now.places)
+            × (0 < seat.old.me.0.weight) }
         requires hold { (seat.old.me.0.hold ≡ Nothing) × (seat.old.me.1 ≡ []) }
         ensures table { seat.new.table_id ≡ seat.old.table_id }
-        ensures ok { IfOk result (λ r. (e : ℕ) × (n : ℕ) × (seat.new.me ≡ (looked_to_read seat.old.me.0 e n r, (0, turn_at n) ∷ [])) × (r / 2 ≤ self.now.places) × Reaches seat.old.me.0.pushed e (r / 2) × (seat.old.me.0.weight ≡ 1024 → e ≡ length seat.old.me.0.taken)) }
-        ensures err { IfErr result (λ e. (seat.new.me ≡ seat.old.me) × (e ≡ Error.Busy) × (seat.old.me.0.weight ≢ 1024)) }
+        ensures ok { IfOk result (λ r. (e : ℕ) × (n : ℕ)
+            × (seat.new.me ≡ (looked_to_read seat.old.me.0 e n r, (0, turn_at n) ∷ [])) × (r / 2 ≤ self.now.places)
+            × Reaches seat.old.me.0.pushed e (r / 2) × (seat.old.me.0.weight ≡ 1024 → e ≡ length seat.old.me.0.taken)) }
+        ensures err { IfErr result (λ e. (seat.new.me ≡ seat.old.me) × (e ≡ Error.Busy)
+            × (seat.old.me.0.weight ≢ 1024)) }
     {
         let shared = &self.table.shared;
         if shared.compare_exchange::<ClaimTurn>(seat, 1, 0, 1) != 0 {
@@ -58,14 +63,21 @@ impl<T: Sample> RuledBucket<T> {
         seat: &mut Seat<Turn, View>,
         visitor: &mut V,
     ) -> Result<usize, Error>
-        requires home { (seat.old.table_id ≡ self.now.table) × (seat.old.me.0.places ≡ self.now.places) × (0 < seat.old.me.0.weight) }
+        requires home { (seat.old.table_id ≡ self.now.table) × (seat.old.me.0.places ≡ self.now.places)
+            × (0 < seat.old.me.0.weight) }
         requires hold { (seat.old.me.0.hold ≡ Nothing) × (seat.old.me.1 ≡ []) }
         requires call { V.ready visitor.old }
         ensures table { seat.new.table_id ≡ seat.old.table_id }
-        ensures ok { IfOk result (λ n. (w : Walk) × (k : ℕ) × (length w.values ≡ n) × (seat.new.me ≡ (has_read seat.old.me.0 k w, [])) × Covers seat.old.me.0.pushed w × (seat.old.me.0.weight ≡ 1024 → w.epoch ≡ length seat.old.me.0.taken) × (seat.old.me.0.weight ≡ 1024 → (h : ℕ → ℕ) → weigh_pushes h seat.old.me.0.pushed ≡ weigh h w.values + weigh_walks h seat.old.me.0.taken) × FoldsTo V.saw visitor.old (valued T.value (newest_first w.values)) visitor.new) }
+        ensures ok { IfOk result (λ n. (w : Walk) × (k : ℕ) × (length w.values ≡ n)
+            × (seat.new.me ≡ (has_read seat.old.me.0 k w, [])) × Covers seat.old.me.0.pushed w
+            × (seat.old.me.0.weight ≡ 1024 → w.epoch ≡ length seat.old.me.0.taken)
+            × (seat.old.me.0.weight ≡ 1024 → (h : ℕ → ℕ)
+            → weigh_pushes h seat.old.me.0.pushed ≡ weigh h w.values + weigh_walks h seat.old.me.0.taken)
+            × FoldsTo V.saw visitor.old (valued T.value (newest_first w.values)) visitor.new) }
         ensures count { IfOk result (λ n. n ≤ self.now.places) }
         ensures ready { V.ready visitor.new }
-        ensures err { IfErr result (λ e. (seat.new.me ≡ seat.old.me) × (visitor.new ≡ visitor.old) × (e ≡ Error.Busy) × (seat.old.me.0.weight ≢ 1024)) }
+        ensures err { IfErr result (λ e. (seat.new.me ≡ seat.old.me) × (visitor.new ≡ visitor.old) × (e ≡ Error.Busy)
+            × (seat.old.me.0.weight ≢ 1024)) }
     {
         let control = self.claim_and_look(seat)?;
         let given = (control / 2) as usize;
@@ -80,11 +92,17 @@ impl<T: Sample> RuledBucket<T> {
         alloc: Global,
         seat: &mut Seat<Turn, View>,
     ) -> Result<Vec<T>, Error>
-        requires home { (seat.old.table_id ≡ self.now.table) × (seat.old.me.0.places ≡ self.now.places) × (0 < seat.old.me.0.weight) }
+        requires home { (seat.old.table_id ≡ self.now.table) × (seat.old.me.0.places ≡ self.now.places)
+            × (0 < seat.old.me.0.weight) }
         requires hold { (seat.old.me.0.hold ≡ Nothing) × (seat.old.me.1 ≡ []) }
         ensures table { seat.new.table_id ≡ seat.old.table_id }
-        ensures ok { IfOk result (λ v. (w : Walk) × (k : ℕ) × (v.items ≡ map T.value (blocks w.values)) × (seat.new.me ≡ (has_read seat.old.me.0 k w, [])) × Covers seat.old.me.0.pushed w × (seat.old.me.0.weight ≡ 1024 → w.epoch ≡ length seat.old.me.0.taken) × (seat.old.me.0.weight ≡ 1024 → (h : ℕ → ℕ) → weigh_pushes h seat.old.me.0.pushed ≡ weigh h w.values + weigh_walks h seat.old.me.0.taken)) }
-        ensures err { IfErr result (λ e. IsFree seat.old.me seat.new.me × ((e ≡ Error.Memory) ⊎ ((e ≡ Error.Busy) × (seat.old.me.0.weight ≢ 1024)))) }
+        ensures ok { IfOk result (λ v. (w : Walk) × (k : ℕ) × (v.items ≡ map T.value (blocks w.values))
+            × (seat.new.me ≡ (has_read seat.old.me.0 k w, [])) × Covers seat.old.me.0.pushed w
+            × (seat.old.me.0.weight ≡ 1024 → w.epoch ≡ length seat.old.me.0.taken)
+            × (seat.old.me.0.weight ≡ 1024 → (h : ℕ → ℕ)
+            → weigh_pushes h seat.old.me.0.pushed ≡ weigh h w.values + weigh_walks h seat.old.me.0.taken)) }
+        ensures err { IfErr result (λ e. IsFree seat.old.me seat.new.me
+            × ((e ≡ Error.Memory) ⊎ ((e ≡ Error.Busy) × (seat.old.me.0.weight ≢ 1024)))) }
     {
         let control = self.claim_and_look(seat)?;
         let given = (control / 2) as usize;
@@ -103,21 +121,23 @@ impl<T: Sample> RuledBucket<T> {
         Ok(gathered.values)
     }
 
-    /// All values that were pushed and not taken, as they stand: by their tickets in blocks of 64, the newest block first. It waits for
-    /// pushes that drew a ticket before it looked.
+    /// All values that were pushed and not taken, as they stand: by their tickets in blocks of 64, the newest block
+    /// first. It waits for pushes that drew a ticket before it looked.
     ///
     /// `Busy`: another walk is under way.
     pub fn data_as<R: Wait>(&self, rt: &R, alloc: Global, pen: &mut Pen) -> Result<Vec<T>, Error>
         requires own { pen.old.home ≡ self.now }
         requires free { pen.old.ticket ≡ false }
-        ensures ok { IfOk result (λ v. (walk : Walk) × (v.items ≡ map T.value (blocks walk.values)) × IsRead pen.old walk pen.new) }
-        ensures err { IfErr result (λ e. (pen.new ≡ pen.old) × ((e ≡ Error.Memory) ⊎ ((e ≡ Error.Busy) × (pen.old.weight ≢ 1024)))) }
+        ensures ok { IfOk result (λ v. (walk : Walk) × (v.items ≡ map T.value (blocks walk.values))
+            × IsRead pen.old walk pen.new) }
+        ensures err { IfErr result (λ e. (pen.new ≡ pen.old)
+            × ((e ≡ Error.Memory) ⊎ ((e ≡ Error.Busy) × (pen.old.weight ≢ 1024)))) }
     {
         self.gather_values(rt, alloc, &mut pen.seat)
     }
 
-    /// Reads all values as `data_as` does, and shows them to the visitor in chunks of 64, the newest chunk first. It answers how many
-    /// values it read.
+    /// Reads all values as `data_as` does, and shows them to the visitor in chunks of 64, the newest chunk first. It
+    /// answers how many values it read.
     pub fn data_to_as<R: Wait, V: Visitor<T>>(
         &self,
         rt: &R,
@@ -127,10 +147,12 @@ impl<T: Sample> RuledBucket<T> {
         requires own { pen.old.home ≡ self.now }
         requires free { pen.old.ticket ≡ false }
         requires call { V.ready visitor.old }
-        ensures ok { IfOk result (λ n. (walk : Walk) × (length walk.values ≡ n) × IsRead pen.old walk pen.new × FoldsTo V.saw visitor.old (valued T.value (newest_first walk.values)) visitor.new) }
+        ensures ok { IfOk result (λ n. (walk : Walk) × (length walk.values ≡ n) × IsRead pen.old walk pen.new
+            × FoldsTo V.saw visitor.old (valued T.value (newest_first walk.values)) visitor.new) }
         ensures count { IfOk result (λ n. n ≤ self.now.places) }
         ensures ready { V.ready visitor.new }
-        ensures err { IfErr result (λ e. (pen.new ≡ pen.old) × (visitor.new ≡ visitor.old) × (e ≡ Error.Busy) × (pen.old.weight ≢ 1024)) }
+        ensures err { IfErr result (λ e. (pen.new ≡ pen.old) × (visitor.new ≡ visitor.old) × (e ≡ Error.Busy)
+            × (pen.old.weight ≢ 1024)) }
     {
         self.show_to(rt, &mut pen.seat, visitor)
     }
@@ -145,7 +167,8 @@ impl<T: Sample> RuledBucket<T> {
         requires own { pen.old.home ≡ self.now }
         requires free { pen.old.ticket ≡ false }
         requires call { F.IsAlwaysCallable f }
-        ensures ok { IfOk result (λ n. (walk : Walk) × (length walk.values ≡ n) × IsRead pen.old walk pen.new × ((last : F) × FoldsTo (λ p x q. CalledAt F.FnMut p x tt q) f (valued T.value (newest_first walk.values)) last)) }
+        ensures ok { IfOk result (λ n. (walk : Walk) × (length walk.values ≡ n) × IsRead pen.old walk pen.new
+            × ((last : F) × FoldsTo (λ p x q. CalledAt F.FnMut p x tt q) f (valued T.value (newest_first walk.values)) last)) }
         ensures err { IfErr result (λ e. (pen.new ≡ pen.old) × (e ≡ Error.Busy) × (pen.old.weight ≢ 1024)) }
     {
         let mut shown = Shown { f };

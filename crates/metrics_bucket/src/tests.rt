@@ -393,8 +393,10 @@ fn clear_and_push<R: Threads + Wait + Sync>(
             ensures { (result.0.home ≡ clearer.home) × (result.0.ticket ≡ false) }
         { cleared(rt, alloc, bucket, clearer) },
         || -> (Pen, Pen, bool)
-            requires { (slow.home ≡ bucket.now) × (slow.ticket ≡ true) × (other.home ≡ bucket.now) × (other.ticket ≡ false) }
-            ensures { (result.0.home ≡ slow.home) × (result.0.ticket ≡ false) × (result.1.home ≡ other.home) × (result.1.ticket ≡ false) }
+            requires { (slow.home ≡ bucket.now) × (slow.ticket ≡ true) × (other.home ≡ bucket.now)
+                × (other.ticket ≡ false) }
+            ensures { (result.0.home ≡ slow.home) × (result.0.ticket ≡ false) × (result.1.home ≡ other.home)
+                × (result.1.ticket ≡ false) }
         { push_beside(rt, bucket, slow, other) },
     );
     other.join(slow);
@@ -552,7 +554,8 @@ fn push_and_walk<R: Threads + Wait + Sync>(
             ensures { IfOk result (λ p. (p.home ≡ pusher.home) × (p.ticket ≡ false)) }
         { push_to_the_end(rt, bucket, pusher, ended) },
         || -> (Pen, Vec<u64>, bool)
-            requires { (clearer.home ≡ bucket.now) × (clearer.ticket ≡ false) × (reader.home ≡ bucket.now) × (reader.ticket ≡ false) }
+            requires { (clearer.home ≡ bucket.now) × (clearer.ticket ≡ false) × (reader.home ≡ bucket.now)
+                × (reader.ticket ≡ false) }
             ensures { (result.0.home ≡ clearer.home) × (result.0.ticket ≡ false) }
         { walk_to_the_end(rt, alloc, bucket, clearer, reader, ended) },
     );

@@ -23,11 +23,14 @@ pub(crate) trait Walker {
         side: usize,
         at: usize,
     )
-        requires home { (seat.old.table_id ≡ bucket.now.table) × (seat.old.me.0.places ≡ bucket.now.places) × (0 < seat.old.me.0.weight) }
-        requires hold { (side < 2) × (at < bucket.now.places) × (seat.old.me.0.hold ≡ walking kind side (visits_of seat.old.me.0.hold)) }
+        requires home { (seat.old.table_id ≡ bucket.now.table) × (seat.old.me.0.places ≡ bucket.now.places)
+            × (0 < seat.old.me.0.weight) }
+        requires hold { (side < 2) × (at < bucket.now.places)
+            × (seat.old.me.0.hold ≡ walking kind side (visits_of seat.old.me.0.hold)) }
         requires visit { (x : ℕ) × (get_elem? (visits_of seat.old.me.0.hold) at ≡ some (Read x)) }
         ensures table { seat.new.table_id ≡ seat.old.table_id }
-        ensures visit { (x : ℕ) → get_elem? (visits_of seat.old.me.0.hold) at ≡ some (Read x) → seat.new.me ≡ (holding seat.old.me.0 (put_visit seat.old.me.0.hold at (visited kind x)), seat.old.me.1) };
+        ensures visit { (x : ℕ) → get_elem? (visits_of seat.old.me.0.hold) at ≡ some (Read x)
+            → seat.new.me ≡ (holding seat.old.me.0 (put_visit seat.old.me.0.hold at (visited kind x)), seat.old.me.1) };
 }
 
 // It leaves the place as it was.

@@ -1,5 +1,6 @@
 //! The walk over the places of a side, which clears and readings have in common.
-ghost use Rattle.std.specs.Prelude.{◌≡◌, ℕ, ◌+◌, ◌-◌, ◌*◌, ◌^◌, ◌<◌, ◌≤◌, length, take, drop, map, replicate, slice_set, [], ◌∷◌};
+ghost use Rattle.std.specs.Prelude.{◌≡◌, ℕ, ◌+◌, ◌-◌, ◌*◌, ◌^◌, ◌<◌, ◌≤◌, length, take, drop};
+ghost use Rattle.std.specs.Prelude.{map, replicate, slice_set, [], ◌∷◌};
 ghost use Rattle.std.specs.List.{FoldsTo};
 ghost use Rattle.metrics_bucket.specs.Blocks.{valued, newest_first};
 ghost use mathlib.Core.Option.{some};
@@ -25,9 +26,12 @@ use std::sync::Wait;
 impl<T: Sample> RuledBucket<T> {
     // Waits until the place's mark is 1.
     fn wait_for<R: Wait>(&self, rt: &R, seat: &mut Seat<Turn, View>, side: usize, at: usize)
-        requires home { (seat.old.table_id ≡ self.now.table) × (seat.old.me.0.places ≡ self.now.places) × (0 < seat.old.me.0.weight) }
-        requires visit { (side < 2) × (at < self.now.places) × (side_of seat.old.me.0.hold ≡ side) × HasVisit seat.old.me.0.hold at Unseen }
-        ensures { (seat.new.table_id ≡ seat.old.table_id) × (seat.new.me ≡ (holding seat.old.me.0 (put_visit seat.old.me.0.hold at Marked), seat.old.me.1)) }
+        requires home { (seat.old.table_id ≡ self.now.table) × (seat.old.me.0.places ≡ self.now.places)
+            × (0 < seat.old.me.0.weight) }
+        requires visit { (side < 2) × (at < self.now.places) × (side_of seat.old.me.0.hold ≡ side)
+            × HasVisit seat.old.me.0.hold at Unseen }
+        ensures { (seat.new.table_id ≡ seat.old.table_id)
+            × (seat.new.me ≡ (holding seat.old.me.0 (put_visit seat.old.me.0.hold at Marked), seat.old.me.1)) }
     {
         let word = 2 + 2 * self.places + self.place_index(side, at);
         let pause = Backoff::new();
@@ -44,7 +48,8 @@ impl<T: Sample> RuledBucket<T> {
     fn count_walk(&self, seat: &mut Seat<Turn, View>)
         requires home { seat.old.table_id ≡ self.now.table }
         requires turn { seat.old.me.1 ≡ (0, turn_at seat.old.me.0.turn) ∷ [] }
-        ensures { (seat.new.table_id ≡ seat.old.table_id) × (seat.new.me ≡ (seat.old.me.0, (0, turn_at (seat.old.me.0.turn + 1)) ∷ [])) }
+        ensures { (seat.new.table_id ≡ seat.old.table_id)
+            × (seat.new.me ≡ (seat.old.me.0, (0, turn_at (seat.old.me.0.turn + 1)) ∷ [])) }
     {
         let turn = seat.slot_mut(&self.table.shared, 0);
         turn.walks = turn.walks.wrapping_add(1);
@@ -58,10 +63,17 @@ impl<T: Sample> RuledBucket<T> {
         side: usize,
         at: usize,
     ) -> T
-        requires home { (seat.old.table_id ≡ self.now.table) × (seat.old.me.0.places ≡ self.now.places) × (0 < seat.old.me.0.weight) }
-        requires hold { (side < 2) × (at < self.now.places) × (seat.old.me.0.hold ≡ walking W.kind side (visits_of seat.old.me.0.hold)) }
+        requires home { (seat.old.table_id ≡ self.now.table) × (seat.old.me.0.places ≡ self.now.places)
+            × (0 < seat.old.me.0.weight) }
+        requires hold { (side < 2) × (at < self.now.places)
+            × (seat.old.me.0.hold ≡ walking W.kind side (visits_of seat.old.me.0.hold)) }
         requires visit { get_elem? (visits_of seat.old.me.0.hold) at ≡ some Unseen }
-        ensures { (x : ℕ) × (result ≡ T.value x) × (seat.new.table_id ≡ seat.old.table_id) × (seat.new.me ≡ (holding seat.old.me.0 (walking W.kind side (slice_set (visits_of seat.old.me.0.hold) at (visited W.kind x))), seat.old.me.1)) }
+        ensures { (x : ℕ) × (result ≡ T.value x) × (seat.new.table_id ≡ seat.old.table_id)
+            × (seat.new.me ≡ (
+              holding seat.old.me.0
+                  (walking W.kind side (slice_set (visits_of seat.old.me.0.hold) at (visited W.kind x))),
+              seat.old.me.1,
+            )) }
     {
         self.wait_for(rt, seat, side, at);
         let place_index = self.place_index(side, at);
@@ -80,12 +92,15 @@ impl<T: Sample> RuledBucket<T> {
         end: usize,
         room: &mut [T],
     )
-        requires home { (seat.old.table_id ≡ self.now.table) × (seat.old.me.0.places ≡ self.now.places) × (0 < seat.old.me.0.weight) }
-        requires hold { (side < 2) × (end ≤ self.now.places) × (seat.old.me.0.hold ≡ walking W.kind side (visits_of seat.old.me.0.hold)) }
+        requires home { (seat.old.table_id ≡ self.now.table) × (seat.old.me.0.places ≡ self.now.places)
+            × (0 < seat.old.me.0.weight) }
+        requires hold { (side < 2) × (end ≤ self.now.places)
+            × (seat.old.me.0.hold ≡ walking W.kind side (visits_of seat.old.me.0.hold)) }
         requires part { (start ≤ end) × (end - start ≤ length room.old) }
         requires visits { AreUnseen start end (visits_of seat.old.me.0.hold) }
         ensures seat { (seat.new.table_id ≡ seat.old.table_id) × Walks W.kind seat.old.me seat.new.me side start end }
-        ensures room { take (end - start) room.new ≡ map T.value (take (end - start) (drop start (values_in (visits_of seat.new.me.0.hold)))) }
+        ensures room { take (end - start) room.new
+            ≡ map T.value (take (end - start) (drop start (values_in (visits_of seat.new.me.0.hold)))) }
     {
         for at in start..end {
             room[at - start] = self.walk_place::<R, W>(rt, seat, side, at);
@@ -101,12 +116,15 @@ impl<T: Sample> RuledBucket<T> {
         given: usize,
         visitor: &mut V,
     )
-        requires home { (seat.old.table_id ≡ self.now.table) × (seat.old.me.0.places ≡ self.now.places) × (0 < seat.old.me.0.weight) }
-        requires hold { (side < 2) × (given ≤ self.now.places) × (seat.old.me.0.hold ≡ walking W.kind side (replicate given Unseen)) }
+        requires home { (seat.old.table_id ≡ self.now.table) × (seat.old.me.0.places ≡ self.now.places)
+            × (0 < seat.old.me.0.weight) }
+        requires hold { (side < 2) × (given ≤ self.now.places)
+            × (seat.old.me.0.hold ≡ walking W.kind side (replicate given Unseen)) }
         requires size { given < 2 ^ 60 }
         requires call { V.ready visitor.old }
         ensures seat { (seat.new.table_id ≡ seat.old.table_id) × Walks W.kind seat.old.me seat.new.me side 0 given }
-        ensures calls { FoldsTo V.saw visitor.old (valued T.value (newest_first (values_in (visits_of seat.new.me.0.hold)))) visitor.new }
+        ensures calls { FoldsTo V.saw visitor.old
+            (valued T.value (newest_first (values_in (visits_of seat.new.me.0.hold)))) visitor.new }
         ensures ready { V.ready visitor.new }
     {
         let mut room = [T::of_word(0); BLOCK_SIZE];
@@ -129,13 +147,19 @@ impl<T: Sample> RuledBucket<T> {
         given: usize,
         visitor: &mut V,
     )
-        requires home { (seat.old.table_id ≡ self.now.table) × (seat.old.me.0.places ≡ self.now.places) × (0 < seat.old.me.0.weight) }
-        requires hold { (side < 2) × (given ≤ self.now.places) × (seat.old.me.0.hold ≡ walking W.kind side (replicate given Unseen)) }
+        requires home { (seat.old.table_id ≡ self.now.table) × (seat.old.me.0.places ≡ self.now.places)
+            × (0 < seat.old.me.0.weight) }
+        requires hold { (side < 2) × (given ≤ self.now.places)
+            × (seat.old.me.0.hold ≡ walking W.kind side (replicate given Unseen)) }
         requires turn { seat.old.me.1 ≡ (0, turn_at seat.old.me.0.turn) ∷ [] }
         requires reach { Reaches seat.old.me.0.pushed seat.old.me.0.epoch given }
         requires call { V.ready visitor.old }
         ensures table { seat.new.table_id ≡ seat.old.table_id }
-        ensures walked { (w : Walk) × (length w.values ≡ given) × (seat.new.me ≡ (with_walk W.kind seat.old.me.0 w, [])) × (w.epoch ≡ seat.old.me.0.epoch) × Covers seat.old.me.0.pushed w × (seat.old.me.0.weight ≡ 1024 → (h : ℕ → ℕ) → weigh_pushes h seat.old.me.0.pushed ≡ weigh h w.values + weigh_walks h seat.old.me.0.taken) × FoldsTo V.saw visitor.old (valued T.value (newest_first w.values)) visitor.new }
+        ensures walked { (w : Walk) × (length w.values ≡ given) × (seat.new.me ≡ (with_walk W.kind seat.old.me.0 w, []))
+            × (w.epoch ≡ seat.old.me.0.epoch) × Covers seat.old.me.0.pushed w
+            × (seat.old.me.0.weight ≡ 1024 → (h : ℕ → ℕ)
+            → weigh_pushes h seat.old.me.0.pushed ≡ weigh h w.values + weigh_walks h seat.old.me.0.taken)
+            × FoldsTo V.saw visitor.old (valued T.value (newest_first w.values)) visitor.new }
         ensures ready { V.ready visitor.new }
     {
         let shared = &self.table.shared;

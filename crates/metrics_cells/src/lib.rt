@@ -7,6 +7,6 @@ mod handles;
 #[cfg(test)]
 mod tests;
 
-pub use generation::AtomicGeneration;
 pub use atomics::{counter_value, gauge_value};
+pub use generation::AtomicGeneration;
 pub use handles::{CounterFn, GaugeFn, HistogramFn};

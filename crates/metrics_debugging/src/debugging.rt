@@ -26,7 +26,8 @@ pub struct DebuggingRecorder {
 impl DebuggingRecorder {
     /// A new book. It takes no memory yet.
     pub fn new(alloc: Global) -> Result<DebuggingRecorder, Refused>
-        ensures new_book { MatchResult result (λ r. IsNewBook (⟦<DebuggingRecorder as Recorder>⟧.meaning r)) (λ e. e ≡ Memory 0) }
+        ensures new_book { MatchResult result (λ r. IsNewBook (⟦<DebuggingRecorder as Recorder>⟧.meaning r))
+            (λ e. e ≡ Memory 0) }
         ensures succeeds { IsOk result }
     {
         Ok(DebuggingRecorder {

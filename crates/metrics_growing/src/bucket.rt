@@ -1,9 +1,11 @@
 //! The growing bucket, and the calls that push.
-ghost use Rattle.std.specs.Prelude.{◌≡◌, ℕ, ◌+◌, ◌*◌, ◌<◌, ◌≤◌, ◌^◌, ◌⊎◌, IfOk, OnOk, IfErr, Some, All, slice_index_or, length, [], ◌∷◌, ◌++◌};
+ghost use Rattle.std.specs.Prelude.{◌≡◌, ℕ, ◌+◌, ◌*◌, ◌<◌, ◌≤◌, ◌^◌, ◌⊎◌, IfOk, OnOk, IfErr};
+ghost use Rattle.std.specs.Prelude.{Some, All, slice_index_or, length, [], ◌∷◌, ◌++◌};
 ghost use Rattle.once_cell.specs.Once.{cell_name};
 ghost use Rattle.metrics_bucket.specs.Account.{first_account};
 ghost use Rattle.metrics_bucket.specs.Spares.{spare_account};
-ghost use Rattle.metrics_growing.specs.Parts.{Part, IsOf, IsNew, IsWhole, IsFilled, IsPassed, MayRace, Keeps, ChangedAt, PushedIn, Pushed};
+ghost use Rattle.metrics_growing.specs.Parts.{Part, IsOf, IsNew, IsWhole, IsFilled, IsPassed, MayRace, Keeps, ChangedAt};
+ghost use Rattle.metrics_growing.specs.Parts.{PushedIn, Pushed};
 
 use crate::known::Known;
 use crate::pen::GrowPen;
@@ -83,7 +85,8 @@ impl<T: Sample> GrowingBucket<T> {
     /// A bucket whose first segment has 1 to 1024 blocks on each side, and its first pen, which is whole.
     pub fn new(alloc: Global, blocks: usize) -> Result<(GrowingBucket<T>, GrowPen), Error>
         ensures own { IfOk result (λ r. IsOf r.0 r.1) }
-        ensures first { IfOk result (λ r. (p : Part) × (r.1 ≡ p ∷ []) × (p.account ≡ first_account p.account.home) × (p.account.home.places ≡ 64 * blocks)) }
+        ensures first { IfOk result (λ r. (p : Part) × (r.1 ≡ p ∷ []) × (p.account ≡ first_account p.account.home)
+            × (p.account.home.places ≡ 64 * blocks)) }
         ensures good { (0 < blocks) × (blocks ≤ 1024) → IfErr result (λ e. e ≡ Error.Memory) }
         ensures bad { (blocks ≡ 0) ⊎ (1024 < blocks) → result ≡ Err Error.BadBlocks }
     {
@@ -152,7 +155,8 @@ impl<T: Sample> GrowingBucket<T> {
         requires own { IsOf self.now known.old.items }
         ensures own { IsOf self.now known.new.items }
         ensures ok { OnOk result ((p : Part) × (known.new.items ≡ known.old.items ++ p ∷ []) × IsNew p) }
-        ensures err { IfErr result (λ e. (known.new.items ≡ known.old.items) × ((e ≡ Error.Memory) ⊎ ((e ≡ Error.NoPen) × (length known.old.items < length self.now)))) }
+        ensures err { IfErr result (λ e. (known.new.items ≡ known.old.items)
+            × ((e ≡ Error.Memory) ⊎ ((e ≡ Error.NoPen) × (length known.old.items < length self.now)))) }
     {
         let at = known.len();
         let Some(link) = self.links.get(at) else {
@@ -177,7 +181,8 @@ impl<T: Sample> GrowingBucket<T> {
         ensures own { IsOf self.now known.new.items }
         ensures ok { OnOk result (ChangedAt (PushedIn word) at known.old.items known.new.items) }
         ensures err { IfErr result (λ e. (known.new.items ≡ known.old.items) × ((e ≡ Error.Full) ⊎ (e ≡ Error.Raced))) }
-        ensures whole { IfErr result (λ e. (d : Part) → IsWhole (slice_index_or known.old.items at d) → (e ≡ Error.Full) × IsFilled (slice_index_or known.old.items at d)) }
+        ensures whole { IfErr result (λ e. (d : Part) → IsWhole (slice_index_or known.old.items at d)
+            → (e ≡ Error.Full) × IsFilled (slice_index_or known.old.items at d)) }
     {
         let Some(link) = self.links.get(at) else {
             unreachable!()
@@ -194,7 +199,8 @@ impl<T: Sample> GrowingBucket<T> {
         requires at { at ≤ length known.old.items }
         ensures own { IsOf self.now known.new.items }
         ensures ok { OnOk result ((at < length known.new.items) × Keeps known.old.items known.new.items) }
-        ensures err { IfErr result (λ e. (at ≡ length known.old.items) × (known.new.items ≡ known.old.items) × ((e ≡ Error.Memory) ⊎ (e ≡ Error.NoPen))) }
+        ensures err { IfErr result (λ e. (at ≡ length known.old.items) × (known.new.items ≡ known.old.items)
+            × ((e ≡ Error.Memory) ⊎ (e ≡ Error.NoPen))) }
     {
         if at < known.len() {
             return Ok(());
@@ -207,7 +213,9 @@ impl<T: Sample> GrowingBucket<T> {
         requires own { IsOf self.now known.old.items }
         ensures own { IsOf self.now known.new.items }
         ensures ok { OnOk result (Pushed word known.old.items known.new.items) }
-        ensures err { IfErr result (λ e. Keeps known.old.items known.new.items × ((((e ≡ Error.Memory) ⊎ (e ≡ Error.NoPen)) × All IsPassed known.new.items) ⊎ ((e ≡ Error.Raced) × MayRace known.new.items))) }
+        ensures err { IfErr result (λ e. Keeps known.old.items known.new.items
+            × ((((e ≡ Error.Memory) ⊎ (e ≡ Error.NoPen)) × All IsPassed known.new.items)
+            ⊎ ((e ≡ Error.Raced) × MayRace known.new.items))) }
     {
         // The loop's facts are of the links.
         let _ = &self.links;
@@ -231,7 +239,9 @@ impl<T: Sample> GrowingBucket<T> {
         requires own { IsOf self.now pen.old }
         ensures own { IsOf self.now pen.new }
         ensures ok { OnOk result (Pushed (T.word value) pen.old pen.new) }
-        ensures err { IfErr result (λ e. Keeps pen.old pen.new × ((((e.0 ≡ Error.Memory) ⊎ (e.0 ≡ Error.NoPen)) × All IsPassed pen.new) ⊎ ((e.0 ≡ Error.Raced) × MayRace pen.new)) × (e.1 ≡ value)) }
+        ensures err { IfErr result (λ e. Keeps pen.old pen.new
+            × ((((e.0 ≡ Error.Memory) ⊎ (e.0 ≡ Error.NoPen)) × All IsPassed pen.new)
+            ⊎ ((e.0 ≡ Error.Raced) × MayRace pen.new)) × (e.1 ≡ value)) }
     {
         match self.try_word(&mut pen.known, value.to_word()) {
             Ok(()) => Ok(()),
@@ -244,7 +254,8 @@ impl<T: Sample> GrowingBucket<T> {
         requires own { IsOf self.now pen.old }
         ensures own { IsOf self.now pen.new }
         ensures ok { OnOk result (Pushed (T.word value) pen.old pen.new) }
-        ensures err { IfErr result (λ e. Keeps pen.old pen.new × ((e.0 ≡ Error.Memory) ⊎ (e.0 ≡ Error.NoPen)) × All IsPassed pen.new × (e.1 ≡ value)) }
+        ensures err { IfErr result (λ e. Keeps pen.old pen.new × ((e.0 ≡ Error.Memory) ⊎ (e.0 ≡ Error.NoPen))
+            × All IsPassed pen.new × (e.1 ≡ value)) }
     {
         let pause = Backoff::new();
         for _ in rt.forever() {

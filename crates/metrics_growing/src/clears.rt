@@ -1,5 +1,6 @@
 //! The calls that take all values.
-ghost use Rattle.std.specs.Prelude.{◌≡◌, ◌≢◌, ℕ, ◌+◌, ◌*◌, ◌<◌, ◌≤◌, ◌^◌, ◌⊎◌, List, map, length, slice_index_or, IfOk, OnOk, IfErr};
+ghost use Rattle.std.specs.Prelude.{◌≡◌, ◌≢◌, ℕ, ◌+◌, ◌*◌, ◌<◌, ◌≤◌, ◌^◌, ◌⊎◌, List};
+ghost use Rattle.std.specs.Prelude.{map, length, slice_index_or, IfOk, OnOk, IfErr};
 ghost use Rattle.std.specs.Fn.{CalledAt};
 ghost use Rattle.std.specs.List.{FoldsTo};
 ghost use Rattle.metrics_bucket.specs.declared.view.Walk.{Walk};
@@ -22,7 +23,8 @@ impl<T: Sample> GrowingBucket<T> {
         requires own { IsOf self.now known.old.items }
         ensures own { IsOf self.now known.new.items }
         ensures keeps { Keeps known.old.items known.new.items }
-        ensures err { IfErr result (λ e. (e ≡ Error.Memory) ⊎ ((e ≡ Error.NoPen) × (length known.new.items < length self.now))) }
+        ensures err { IfErr result (λ e. (e ≡ Error.Memory)
+            ⊎ ((e ≡ Error.NoPen) × (length known.new.items < length self.now))) }
     {
         for _ in 0..64 {
             let Some(link) = self.links.get(known.len()) else {
@@ -95,10 +97,14 @@ impl<T: Sample> GrowingBucket<T> {
         ensures own { IsOf self.now known.new.items }
         ensures homes { map home_of known.new.items ≡ map home_of known.old.items }
         ensures size { length known.new.items ≡ length known.old.items }
-        ensures ok { IfOk result (λ n. (walk : Walk) × (length walk.values ≡ n) × ChangedAt (TakenIn walk) at known.old.items known.new.items × FoldsTo V.saw visitor.old (valued T.value (newest_first walk.values)) visitor.new) }
-        ensures count { IfOk result (λ n. (n < 2 ^ 58) × ((d : Part) → n ≤ places_in (slice_index_or known.old.items at d))) }
+        ensures ok { IfOk result (λ n. (walk : Walk) × (length walk.values ≡ n)
+            × ChangedAt (TakenIn walk) at known.old.items known.new.items
+            × FoldsTo V.saw visitor.old (valued T.value (newest_first walk.values)) visitor.new) }
+        ensures count { IfOk result (λ n. (n < 2 ^ 58)
+            × ((d : Part) → n ≤ places_in (slice_index_or known.old.items at d))) }
         ensures ready { V.ready visitor.new }
-        ensures err { IfErr result (λ e. (known.new.items ≡ known.old.items) × (visitor.new ≡ visitor.old) × (e ≡ Error.Busy) × (at ≡ 0 → first_weight known.old.items ≢ 1024)) }
+        ensures err { IfErr result (λ e. (known.new.items ≡ known.old.items) × (visitor.new ≡ visitor.old)
+            × (e ≡ Error.Busy) × (at ≡ 0 → first_weight known.old.items ≢ 1024)) }
     {
         let Some(link) = self.links.get(at) else {
             unreachable!()
@@ -125,10 +131,14 @@ impl<T: Sample> GrowingBucket<T> {
         ensures own { IsOf self.now known.new.items }
         ensures homes { map home_of known.new.items ≡ map home_of known.old.items }
         ensures size { length known.new.items ≡ length known.old.items }
-        ensures ok { IfOk result (λ n. (walk : Walk) × (length walk.values ≡ n) × ChangedAt (TakenIn walk) at known.old.items known.new.items × FoldsTo V.saw visitor.old (valued T.value (newest_first walk.values)) visitor.new) }
-        ensures count { IfOk result (λ n. (n < 2 ^ 58) × ((d : Part) → n ≤ places_in (slice_index_or known.old.items at d))) }
+        ensures ok { IfOk result (λ n. (walk : Walk) × (length walk.values ≡ n)
+            × ChangedAt (TakenIn walk) at known.old.items known.new.items
+            × FoldsTo V.saw visitor.old (valued T.value (newest_first walk.values)) visitor.new) }
+        ensures count { IfOk result (λ n. (n < 2 ^ 58)
+            × ((d : Part) → n ≤ places_in (slice_index_or known.old.items at d))) }
         ensures ready { V.ready visitor.new }
-        ensures err { IfErr result (λ e. (known.new.items ≡ known.old.items) × (visitor.new ≡ visitor.old) × (at ≡ 0) × (e ≡ Error.Busy) × (first_weight known.old.items ≢ 1024)) }
+        ensures err { IfErr result (λ e. (known.new.items ≡ known.old.items) × (visitor.new ≡ visitor.old) × (at ≡ 0)
+            × (e ≡ Error.Busy) × (first_weight known.old.items ≢ 1024)) }
     {
         let pause = Backoff::new();
         for _ in rt.forever() {
@@ -153,10 +163,13 @@ impl<T: Sample> GrowingBucket<T> {
         requires buckets { buckets.now ≡ map home_of known.old.items }
         requires call { V.ready visitor.old }
         ensures own { IsOf self.now known.new.items }
-        ensures ok { IfOk result (λ n. (walks : List Walk) × (length walks ≡ length known.old.items) × (count_all walks ≡ n) × Took known.old.items walks known.new.items × FoldsTo V.saw visitor.old (valued T.value (all_chunks walks)) visitor.new) }
+        ensures ok { IfOk result (λ n. (walks : List Walk) × (length walks ≡ length known.old.items)
+            × (count_all walks ≡ n) × Took known.old.items walks known.new.items
+            × FoldsTo V.saw visitor.old (valued T.value (all_chunks walks)) visitor.new) }
         ensures count { IfOk result (λ n. n ≤ sum_of places_in known.old.items) }
         ensures ready { V.ready visitor.new }
-        ensures err { IfErr result (λ e. (known.new.items ≡ known.old.items) × (visitor.new ≡ visitor.old) × (e ≡ Error.Busy) × (0 < length known.old.items) × (first_weight known.old.items ≢ 1024)) }
+        ensures err { IfErr result (λ e. (known.new.items ≡ known.old.items) × (visitor.new ≡ visitor.old)
+            × (e ≡ Error.Busy) × (0 < length known.old.items) × (first_weight known.old.items ≢ 1024)) }
     {
         let mut count = 0usize;
         for at in 0..self.count_known(known) {
@@ -182,9 +195,11 @@ impl<T: Sample> GrowingBucket<T> {
         requires call { V.ready visitor.old }
         ensures ready { V.ready visitor.new }
         ensures own { IsOf self.now pen.new }
-        ensures ok { IfOk result (λ n. (walks : List Walk) × (count_all walks ≡ n) × TookAll pen.old walks pen.new × FoldsTo V.saw visitor.old (valued T.value (all_chunks walks)) visitor.new) }
+        ensures ok { IfOk result (λ n. (walks : List Walk) × (count_all walks ≡ n) × TookAll pen.old walks pen.new
+            × FoldsTo V.saw visitor.old (valued T.value (all_chunks walks)) visitor.new) }
         ensures count { IfOk result (λ n. n ≤ sum_of places_in pen.new) }
-        ensures err { IfErr result (λ e. Keeps pen.old pen.new × (visitor.new ≡ visitor.old) × (((e ≡ Error.Busy) × (first_weight pen.new ≢ 1024)) ⊎ (e ≡ Error.NoPen) ⊎ (e ≡ Error.Memory))) }
+        ensures err { IfErr result (λ e. Keeps pen.old pen.new × (visitor.new ≡ visitor.old)
+            × (((e ≡ Error.Busy) × (first_weight pen.new ≢ 1024)) ⊎ (e ≡ Error.NoPen) ⊎ (e ≡ Error.Memory))) }
     {
         let known = &mut pen.known;
         self.meet_all(known)?;
@@ -203,9 +218,11 @@ impl<T: Sample> GrowingBucket<T> {
         requires own { IsOf self.now pen.old }
         requires call { F.IsAlwaysCallable f }
         ensures own { IsOf self.now pen.new }
-        ensures ok { IfOk result (λ n. (walks : List Walk) × (count_all walks ≡ n) × TookAll pen.old walks pen.new × ((last : F) × FoldsTo (λ p x q. CalledAt F.FnMut p x tt q) f (valued T.value (all_chunks walks)) last)) }
+        ensures ok { IfOk result (λ n. (walks : List Walk) × (count_all walks ≡ n) × TookAll pen.old walks pen.new
+            × ((last : F) × FoldsTo (λ p x q. CalledAt F.FnMut p x tt q) f (valued T.value (all_chunks walks)) last)) }
         ensures count { IfOk result (λ n. n ≤ sum_of places_in pen.new) }
-        ensures err { IfErr result (λ e. Keeps pen.old pen.new × (((e ≡ Error.Busy) × (first_weight pen.new ≢ 1024)) ⊎ (e ≡ Error.NoPen) ⊎ (e ≡ Error.Memory))) }
+        ensures err { IfErr result (λ e. Keeps pen.old pen.new
+            × (((e ≡ Error.Busy) × (first_weight pen.new ≢ 1024)) ⊎ (e ≡ Error.NoPen) ⊎ (e ≡ Error.Memory))) }
     {
         let mut shown = Shown { f };
         self.clear_to(rt, pen, &mut shown)

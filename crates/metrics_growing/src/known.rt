@@ -1,5 +1,6 @@
 //! What a pen has of one segment.
-ghost use Rattle.std.specs.Prelude.{◌≡◌, ◌≢◌, ◌<◌, ◌≤◌, ◌^◌, ◌⊎◌, ◌↔◌, false, IsTrue, length, IfOk, OnOk, IfErr};
+ghost use Rattle.std.specs.Prelude.{◌≡◌, ◌≢◌, ◌<◌, ◌≤◌, ◌^◌, ◌⊎◌, ◌↔◌, false, IsTrue};
+ghost use Rattle.std.specs.Prelude.{length, IfOk, OnOk, IfErr};
 ghost use Rattle.once_cell.specs.Once.{cell_name};
 ghost use Rattle.std.specs.List.{FoldsTo};
 ghost use Rattle.metrics_bucket.specs.declared.view.Walk.{Walk};
@@ -91,10 +92,12 @@ impl Known {
         requires link { self.old.link ≡ cell_name link.now }
         requires bucket { self.old.account.home ≡ bucket.now }
         requires call { V.ready visitor.old }
-        ensures ok { IfOk result (λ n. (walk : Walk) × (length walk.values ≡ n) × TakenIn walk self.old self.new × FoldsTo V.saw visitor.old (valued T.value (newest_first walk.values)) visitor.new) }
+        ensures ok { IfOk result (λ n. (walk : Walk) × (length walk.values ≡ n) × TakenIn walk self.old self.new
+            × FoldsTo V.saw visitor.old (valued T.value (newest_first walk.values)) visitor.new) }
         ensures count { IfOk result (λ n. (n ≤ self.old.account.home.places) × (n < 2 ^ 58)) }
         ensures ready { V.ready visitor.new }
-        ensures err { IfErr result (λ e. (self.new ≡ self.old) × (visitor.new ≡ visitor.old) × (e ≡ Error.Busy) × (self.old.account.weight ≢ 1024)) }
+        ensures err { IfErr result (λ e. (self.new ≡ self.old) × (visitor.new ≡ visitor.old) × (e ≡ Error.Busy)
+            × (self.old.account.weight ≢ 1024)) }
     {
         // It tells that the segment has few places, so that counts of several add up.
         self.places(link);

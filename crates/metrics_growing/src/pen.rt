@@ -74,7 +74,8 @@ impl GrowPen {
     pub fn join(&mut self, other: GrowPen) -> Result<(), (Error, GrowPen)>
         requires own { AreOfOne self.old other }
         ensures ok { OnOk result (self.new ≡ joined_parts self.old other) }
-        ensures sums { OnOk result ((h : ℕ → ℕ) → (pushed_by h self.new ≡ pushed_by h self.old + pushed_by h other) × (taken_by h self.new ≡ taken_by h self.old + taken_by h other)) }
+        ensures sums { OnOk result ((h : ℕ → ℕ) → (pushed_by h self.new ≡ pushed_by h self.old + pushed_by h other)
+            × (taken_by h self.new ≡ taken_by h self.old + taken_by h other)) }
         ensures own { (links : List ℕ) → IsOf links self.old → IsOf links other → IsOf links self.new }
         ensures err { IfErr result (λ e. (self.new ≡ self.old) × (e.0 ≡ Error.Memory) × (e.1 ≡ other)) }
     {

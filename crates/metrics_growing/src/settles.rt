@@ -1,5 +1,6 @@
 //! The call that gives all values that are left.
-ghost use Rattle.std.specs.Prelude.{◌≡◌, ◌<◌, ◌^◌, ◌⊎◌, ◌↔◌, IsTrue, All, length, slice_index_or, IfOk, IfErr};
+ghost use Rattle.std.specs.Prelude.{◌≡◌, ◌<◌, ◌^◌, ◌⊎◌, ◌↔◌, IsTrue, All, length, slice_index_or, IfOk};
+ghost use Rattle.std.specs.Prelude.{IfErr};
 ghost use Rattle.metrics_growing.specs.Parts.{Part, IsOf, IsWhole, Gathered as GatheredIn, ChangedAt, EachOf, SpareIn};
 ghost use Rattle.metrics_growing.specs.Bags.{sum_of, places_in, Settled};
 
@@ -94,7 +95,8 @@ impl<T: Sample> GrowingBucket<T> {
         requires own { IsOf self.now pen.old }
         ensures own { IsOf self.now pen.new }
         ensures ok { IfOk result (λ v. Settled T.value pen.old pen.new v.items) }
-        ensures err { IfErr result (λ e. GatheredIn pen.old pen.new × ((e ≡ Error.Memory) ⊎ ((e ≡ Error.NoPen) × (All IsWhole pen.new → ⊥)))) }
+        ensures err { IfErr result (λ e. GatheredIn pen.old pen.new
+            × ((e ≡ Error.Memory) ⊎ ((e ≡ Error.NoPen) × (All IsWhole pen.new → ⊥)))) }
     {
         let known = &mut pen.known;
         if let Err(Error::Memory) = self.meet_all(known) {

@@ -1,5 +1,6 @@
 //! All shards under one lock.
-ghost use Rattle.std.specs.Prelude.{◌≡◌, ◌<◌, ◌≤◌, ◌%◌, ◌+◌, true, false, if◌then◌else◌, map, IfOk, IfErr, vec_len, vec_capacity};
+ghost use Rattle.std.specs.Prelude.{◌≡◌, ◌<◌, ◌≤◌, ◌%◌, ◌+◌, true, false, if◌then◌else◌, map, IfOk};
+ghost use Rattle.std.specs.Prelude.{IfErr, vec_len, vec_capacity};
 ghost use Rattle.metrics.specs.declared.error.Error.TheVariants.{Memory as OutOfMemory, BadShards as NotShards};
 ghost use Rattle.metrics_registry.specs.Held.{is_shard_count as is_count};
 ghost use Rattle.metrics_journal.specs.Journal.{AreJournals, replies_in, key_of};
@@ -28,7 +29,8 @@ struct Journals<K: Hashable, S: Storage<K>, T: Ledger, F: Ledger> {
 }
 
 impl<K: Hashable, S: Storage<K>, T: Ledger, F: Ledger> Model for Journals<K, S, T, F> {
-    ghost use Rattle.std.specs.Prelude.{◌≡◌, ◌<◌, ◌≤◌, ◌+◌, ◌*◌, true, false, List, vec_len, vec_capacity};
+    ghost use Rattle.std.specs.Prelude.{◌≡◌, ◌<◌, ◌≤◌, ◌+◌, ◌*◌, true, false, List, vec_len};
+    ghost use Rattle.std.specs.Prelude.{vec_capacity};
     ghost use Rattle.metrics_journal.specs.Journal.{Journal, replies_in};
     ghost use Rattle.metrics_journal.specs.Journals.{journals_of, AreShards};
 
@@ -162,7 +164,8 @@ where
     ) -> Result<(Self, Tally<T, F>), Error>
         requires trues { (trues.name ≡ T.name) × (trues.parts ≡ T.parts) × (T.parts ≡ 1024) }
         requires falses { (falses.name ≡ F.name) × (falses.parts ≡ F.parts) × (F.parts ≡ 1024) }
-        ensures ok { IfOk result (λ r. (is_count shards ≡ true) × (r.1 ≡ record { weight = 1024; shards = shards; trues = 0; falses = 0 })) }
+        ensures ok { IfOk result (λ r. (is_count shards ≡ true)
+            × (r.1 ≡ record { weight = 1024; shards = shards; trues = 0; falses = 0 })) }
         ensures err { IfErr result (λ e. e ≡ (if is_count shards then OutOfMemory else NotShards)) }
     {
         if !is_shard_count(shards) {

@@ -50,7 +50,8 @@ where
     /// The shard of this number, from 0, among so many shards, with no calls and no keys. It takes no memory.
     pub fn new(alloc: Global, shard: usize, shards: usize) -> Part<K, S>
         ensures place { (result.shard ≡ shard) × (result.shards ≡ shards) }
-        ensures empty { (result.journal ≡ []) × (result.cells.counters ≡ []) × (result.cells.gauges ≡ []) × (result.cells.histograms ≡ []) }
+        ensures empty { (result.journal ≡ []) × (result.cells.counters ≡ []) × (result.cells.gauges ≡ [])
+            × (result.cells.histograms ≡ []) }
     {
         Part {
             shard,
@@ -67,7 +68,8 @@ where
         ensures err { IfErr result (λ e. (e ≡ OutOfMemory) × (self.new ≡ self.old)) }
         ensures place { (self.new.shard ≡ self.old.shard) × (self.new.shards ≡ self.old.shards) }
         ensures cells { KeepsCells K.eq self.old.cells self.new.cells }
-        ensures made { HasMadeCells K.eq S.makes_counter S.makes_gauge S.makes_histogram storage.now self.old.cells → HasMadeCells K.eq S.makes_counter S.makes_gauge S.makes_histogram storage.now self.new.cells }
+        ensures made { HasMadeCells K.eq S.makes_counter S.makes_gauge S.makes_histogram storage.now self.old.cells
+            → HasMadeCells K.eq S.makes_counter S.makes_gauge S.makes_histogram storage.now self.new.cells }
     {
         self.journal.reserve(1)?;
         let reply = answer(storage, &mut self.cells, &call)?;
@@ -134,7 +136,8 @@ where
     /// The number of shards is a power of two from 1 to 1,024.
     pub fn new(alloc: Global, storage: S, shard: usize, shards: usize) -> Result<Self, Error>
         requires { shard < shards }
-        ensures ok { IfOk result (λ s. (is_count shards ≡ true) × (s.storage ≡ storage) × (s.shard ≡ shard) × (s.shards ≡ shards) × (s.journal ≡ [])
+        ensures ok { IfOk result (λ s. (is_count shards ≡ true) × (s.storage ≡ storage) × (s.shard ≡ shard)
+            × (s.shards ≡ shards) × (s.journal ≡ [])
             × (s.cells.counters ≡ []) × (s.cells.gauges ≡ []) × (s.cells.histograms ≡ [])) }
         ensures err { IfErr result (λ e. e ≡ (if is_count shards then OutOfMemory else NotShards)) }
     {
@@ -150,7 +153,8 @@ where
         requires { K.number (key_of call) % self.old.shards ≡ self.old.shard }
         ensures ok { IfOk result (λ reply. self.new.journal ≡ self.old.journal ++ (call, reply) ∷ []) }
         ensures err { IfErr result (λ e. (e ≡ OutOfMemory) × (self.new ≡ self.old)) }
-        ensures place { (self.new.storage ≡ self.old.storage) × (self.new.shard ≡ self.old.shard) × (self.new.shards ≡ self.old.shards) }
+        ensures place { (self.new.storage ≡ self.old.storage) × (self.new.shard ≡ self.old.shard)
+            × (self.new.shards ≡ self.old.shards) }
         ensures cells { KeepsCells K.eq self.old.cells self.new.cells }
     {
         self.part.call(&self.storage, call)

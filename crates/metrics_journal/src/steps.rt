@@ -39,10 +39,12 @@ where
     S::Counter: Drop,
     S::Gauge: Drop,
     S::Histogram: Drop,
-    ensures ok { OnOk result ((k : AnyKind) (q : K) → has_key K.eq cells.new k q ≡ (has_key K.eq cells.old k q || (kind_eq kind k && K.eq key.now q))) }
+    ensures ok { OnOk result ((k : AnyKind) (q : K)
+        → has_key K.eq cells.new k q ≡ (has_key K.eq cells.old k q || (kind_eq kind k && K.eq key.now q))) }
     ensures err { IfErr result (λ e. (e ≡ OutOfMemory) × (cells.new ≡ cells.old)) }
     ensures kept { KeepsCells K.eq cells.old cells.new }
-    ensures made { HasMadeCells K.eq S.makes_counter S.makes_gauge S.makes_histogram storage.now cells.old → HasMadeCells K.eq S.makes_counter S.makes_gauge S.makes_histogram storage.now cells.new }
+    ensures made { HasMadeCells K.eq S.makes_counter S.makes_gauge S.makes_histogram storage.now cells.old
+        → HasMadeCells K.eq S.makes_counter S.makes_gauge S.makes_histogram storage.now cells.new }
 {
     match kind {
         MetricKind::Counter => {
@@ -83,9 +85,11 @@ where
     S::Gauge: Drop,
     S::Histogram: Drop,
     ensures answer { result ≡ has_key K.eq cells.old kind key.now }
-    ensures removed { (k : AnyKind) (q : K) → has_key K.eq cells.new k q ≡ (has_key K.eq cells.old k q && not (kind_eq kind k && K.eq key.now q)) }
+    ensures removed { (k : AnyKind) (q : K) → has_key K.eq cells.new k q
+        ≡ (has_key K.eq cells.old k q && not (kind_eq kind k && K.eq key.now q)) }
     ensures kept { KeepsCells K.eq cells.old cells.new }
-    ensures made { (storage : S) → HasMadeCells K.eq S.makes_counter S.makes_gauge S.makes_histogram storage cells.old → HasMadeCells K.eq S.makes_counter S.makes_gauge S.makes_histogram storage cells.new }
+    ensures made { (storage : S) → HasMadeCells K.eq S.makes_counter S.makes_gauge S.makes_histogram storage cells.old
+        → HasMadeCells K.eq S.makes_counter S.makes_gauge S.makes_histogram storage cells.new }
 {
     match kind {
         MetricKind::Counter => cells.counters.remove(key),
@@ -107,7 +111,8 @@ where
     ensures ok { IfOk result (λ reply. Replies K.eq cells.old cells.new call.now reply) }
     ensures err { IfErr result (λ e. (e ≡ OutOfMemory) × (cells.new ≡ cells.old)) }
     ensures kept { KeepsCells K.eq cells.old cells.new }
-    ensures made { HasMadeCells K.eq S.makes_counter S.makes_gauge S.makes_histogram storage.now cells.old → HasMadeCells K.eq S.makes_counter S.makes_gauge S.makes_histogram storage.now cells.new }
+    ensures made { HasMadeCells K.eq S.makes_counter S.makes_gauge S.makes_histogram storage.now cells.old
+        → HasMadeCells K.eq S.makes_counter S.makes_gauge S.makes_histogram storage.now cells.new }
 {
     match call {
         ShardCall::Create(kind, key) => {

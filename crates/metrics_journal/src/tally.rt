@@ -1,5 +1,6 @@
 //! What a thread was answered.
-ghost use Rattle.std.specs.Prelude.{◌≡◌, ◌+◌, ◌-◌, ◌*◌, ◌/◌, ◌≤◌, true, false, IsTrue, ◌↔◌, IfOk, IfErr};
+ghost use Rattle.std.specs.Prelude.{◌≡◌, ◌+◌, ◌-◌, ◌*◌, ◌/◌, ◌≤◌, true, false, IsTrue, ◌↔◌};
+ghost use Rattle.std.specs.Prelude.{IfOk, IfErr};
 ghost use Rattle.metrics.specs.declared.error.Error.TheVariants.{NoPen as Least};
 ghost use Rattle.metrics_journal.specs.Journal.{one_if};
 ghost use Rattle.metrics_journal.specs.Tally.{counted, joined};
@@ -77,7 +78,8 @@ impl<T: Ledger, F: Ledger> Tally<T, F> {
 
     /// Gives away half of the weight, rounded down, to a tally that has counted nothing. A weight of 1 is refused.
     pub fn split(&mut self) -> Result<Tally<T, F>, Error>
-        ensures ok { IfOk result (λ t. (t.weight ≡ self.old.weight / 2) × (t.trues ≡ 0) × (t.falses ≡ 0) × (self.old ≡ joined self.new t)) }
+        ensures ok { IfOk result (λ t. (t.weight ≡ self.old.weight / 2) × (t.trues ≡ 0) × (t.falses ≡ 0)
+            × (self.old ≡ joined self.new t)) }
         ensures err { IfErr result (λ e. (e ≡ Least) × (self.old.weight ≡ 1) × (self.new ≡ self.old)) }
     {
         let weight = self.weight / 2;

@@ -1,5 +1,8 @@
 //! What the definitions give, worked out.
-ghost use Rattle.metrics_laws.specs.Examples.{TwoRounds, DescriptionKeepsUnit, KeptGauges, CountersWrap, GaugesStop, BlocksOf65, BlocksOf130, PlainRefusals, PrefixInPrefix, EmptyPrefix, FilterWithoutPattern, FilterWithEmptyPattern, FilterFolded, LongestPatternWins, LaterRouteReplaces, FanoutStops};
+ghost use Rattle.metrics_laws.specs.Examples.{TwoRounds, DescriptionKeepsUnit, KeptGauges, CountersWrap, GaugesStop, BlocksOf65};
+ghost use Rattle.metrics_laws.specs.Examples.{BlocksOf130, PlainRefusals, PrefixInPrefix, EmptyPrefix, FilterWithoutPattern};
+ghost use Rattle.metrics_laws.specs.Examples.{FilterWithEmptyPattern, FilterFolded, LongestPatternWins, LaterRouteReplaces};
+ghost use Rattle.metrics_laws.specs.Examples.{FanoutStops};
 
 /// Takes nothing and does nothing: its contract has worked examples of what the definitions give, with the
 /// expected values written out.

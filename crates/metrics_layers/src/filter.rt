@@ -1,5 +1,6 @@
 //! A filter of names by the patterns that stand in them.
-ghost use Rattle.std.specs.Prelude.{◌≡◌, ◌↔◌, ◌<◌, ◌≤◌, true, false, [], ◌∷◌, ◌++◌, map, length, IsTrue, IfOk, IfErr, MatchResult};
+ghost use Rattle.std.specs.Prelude.{◌≡◌, ◌↔◌, ◌<◌, ◌≤◌, true, false, [], ◌∷◌, ◌++◌, map, length};
+ghost use Rattle.std.specs.Prelude.{IsTrue, IfOk, IfErr, MatchResult};
 ghost use Rattle.std.specs.List.{sum_by};
 ghost use Rattle.metrics.specs.Layers.{matches, filtered};
 ghost use Rattle.metrics_layers.specs.Filters.{with_pattern, with_folding, with_table, fault_of};

@@ -1,5 +1,6 @@
 //! Quantiles and their labels.
-ghost use Rattle.std.specs.Prelude.{◌≡◌, ◌≤◌, ◌<◌, ◌+◌, ◌/◌, ◌%◌, ◌^◌, ◌++◌, ◌∷◌, [], map, pos, string_bytes, IfOk, OnOk, MatchResult};
+ghost use Rattle.std.specs.Prelude.{◌≡◌, ◌≤◌, ◌<◌, ◌+◌, ◌/◌, ◌%◌, ◌^◌, ◌++◌, ◌∷◌, []};
+ghost use Rattle.std.specs.Prelude.{map, pos, string_bytes, IfOk, OnOk, MatchResult};
 ghost use Rattle.std.specs.Fmt.{decimal};
 ghost use Rattle.metrics.specs.declared.error.Error.TheVariants.{Memory as OutOfMemory};
 ghost use Rattle.metrics_registry.specs.Quantiles.{clamped, low_digits, without_trailing_zeros, label_of};
@@ -30,7 +31,8 @@ fn push_decimals(label: &mut String, decimals: u64) -> Result<(), AllocError>
 
 /// The label of a quantile that is neither the least nor the greatest.
 fn percentile(alloc: Global, billionths: u64) -> Result<String, AllocError>
-    ensures { IfOk result (λ s. string_bytes s ≡ 112 ∷ decimal (billionths / 10 ^ 7) ++ without_trailing_zeros (low_digits 7 (billionths % 10 ^ 7))) }
+    ensures { IfOk result (λ s. string_bytes s
+        ≡ 112 ∷ decimal (billionths / 10 ^ 7) ++ without_trailing_zeros (low_digits 7 (billionths % 10 ^ 7))) }
 {
     let mut label = format!(in alloc; "p{}", billionths / PERCENT)?;
     push_decimals(&mut label, billionths % PERCENT)?;

@@ -1,5 +1,6 @@
 //! Which series are still in use.
-ghost use Rattle.std.specs.Prelude.{◌≡◌, ◌&&◌, true, if◌then◌else◌, Some, None, OnOk, OnErr, IfOk, IfErr, is_some};
+ghost use Rattle.std.specs.Prelude.{◌≡◌, ◌&&◌, true, if◌then◌else◌, Some, None, OnOk, OnErr, IfOk, IfErr};
+ghost use Rattle.std.specs.Prelude.{is_some};
 ghost use Rattle.std.specs.List.{IsDistinct};
 ghost use Rattle.std.specs.Map.{keys_of};
 ghost use Rattle.std.specs.HashMap.{get};
@@ -39,8 +40,10 @@ fn note<K: Hash + EqualClone + Drop>(
 ) -> Result<bool, Error>
     ensures answer { IfOk result (λ stays. stays ≡ (watch_step (Some timeout) seen true (get K.eq noted.old key.now)).0) }
     ensures ok { IfOk result (λ stays. (q : K) → get K.eq noted.new q
-        ≡ (if stays && K.eq key.now q then (watch_step (Some timeout) seen true (get K.eq noted.old key.now)).1 else get K.eq noted.old q)) }
-    ensures err { IfErr result (λ e. (e ≡ OutOfMemory) × ((q : K) → get K.eq noted.new q ≡ get K.eq noted.old q) × (get K.eq noted.old key.now ≡ None)) }
+        ≡ (if stays && K.eq key.now q then (watch_step (Some timeout) seen true (get K.eq noted.old key.now)).1
+        else get K.eq noted.old q)) }
+    ensures err { IfErr result (λ e. (e ≡ OutOfMemory) × ((q : K) → get K.eq noted.new q ≡ get K.eq noted.old q)
+        × (get K.eq noted.old key.now ≡ None)) }
 {
     let Some(note) = noted.get_mut(key) else {
         noted.insert(key.clone()?, seen)?;
@@ -61,21 +64,14 @@ fn check<K: Hash + EqualClone + Drop, C: Drop>(
     seen: Noted,
     cells: &mut Cells<K, C>,
 ) -> Result<bool, Error>
-    ensures noted { IsNoted K.eq (watch_step (Some timeout) seen (is_some (held K.eq cells.old key.now)) (get K.eq noted.old key.now))
+    ensures noted { IsNoted K.eq (watch_step (Some timeout) seen (is_some (held K.eq cells.old key.now))
+        (get K.eq noted.old key.now))
         key.now result (get K.eq noted.old) (get K.eq noted.new) }
     ensures cells { IfOk result (λ stays. StaysOrGoes K.eq key.now stays cells.old cells.new) }
     ensures once { OnOk result (IsDistinct K.eq (keys_of cells.old) → IsDistinct K.eq (keys_of cells.new)) }
     ensures err { OnErr result ((cells.new ≡ cells.old) × (get K.eq noted.old key.now ≡ None)) }
 {
-    let Some(note) = noted.get_mut(key) else {
-        noted.insert(key.clone()?, seen)?;
-        return Ok(true);
-    };
-    if note.generation != seen.generation {
-        *note = seen;
-        return Ok(true);
-    }
-    if seen.moment.saturating_sub(note.moment) <= timeout || !cells.remove(key) {
+    if note(noted, timeout, key, seen)? || !cells.remove(key) {
         return Ok(true);
     }
     noted.remove(key);
@@ -244,10 +240,13 @@ impl<K: Hashable + EqualClone + Drop> OwnedRecency<K> {
         now: u64,
     ) -> Result<bool, Error>
         ensures rules { rules_of self.new ≡ rules_of self.old }
-        ensures answer { IfOk result (λ stays. stays ≡ table_answer (rules_of self.old) (check_of kind key.now generation now true) (table_of K.eq self.old)) }
+        ensures answer { IfOk result (λ stays. stays
+            ≡ table_answer (rules_of self.old) (check_of kind key.now generation now true) (table_of K.eq self.old)) }
         ensures ok { IfOk result (λ stays. (k : AnyKind) (q : K) → table_of K.eq self.new k q
-            ≡ (if stays then table_after K.eq (rules_of self.old) (check_of kind key.now generation now true) (table_of K.eq self.old) k q else table_of K.eq self.old k q)) }
-        ensures err { IfErr result (λ e. (e ≡ OutOfMemory) × ((k : AnyKind) (q : K) → table_of K.eq self.new k q ≡ table_of K.eq self.old k q)
+            ≡ (if stays then table_after K.eq (rules_of self.old) (check_of kind key.now generation now true)
+            (table_of K.eq self.old) k q else table_of K.eq self.old k q)) }
+        ensures err { IfErr result (λ e. (e ≡ OutOfMemory)
+            × ((k : AnyKind) (q : K) → table_of K.eq self.new k q ≡ table_of K.eq self.old k q)
             × (table_of K.eq self.old kind key.now ≡ None)) }
     {
         let Some(timeout) = self.timeout_of(kind) else {
@@ -263,7 +262,8 @@ impl<K: Hashable + EqualClone + Drop> OwnedRecency<K> {
     /// Lets go what is noted of a series.
     pub fn forget(&mut self, kind: MetricKind, key: &K)
         ensures rules { rules_of self.new ≡ rules_of self.old }
-        ensures gone { (k : AnyKind) (q : K) → table_of K.eq self.new k q ≡ (if kind_eq kind k && K.eq key.now q then None else table_of K.eq self.old k q) }
+        ensures gone { (k : AnyKind) (q : K) → table_of K.eq self.new k q
+            ≡ (if kind_eq kind k && K.eq key.now q then None else table_of K.eq self.old k q) }
     {
         self.noted.of_mut(kind).remove(key);
     }

@@ -92,7 +92,8 @@ where
         ensures counters { entries_of (map (λ s. s.counters) result.now) ≡ self.now.counters }
         ensures gauges { entries_of (map (λ s. s.gauges) result.now) ≡ self.now.gauges }
         ensures histograms { entries_of (map (λ s. s.histograms) result.now) ≡ self.now.histograms }
-        ensures once { IsDistinct K.eq (keys_of self.now.counters) × IsDistinct K.eq (keys_of self.now.gauges) × IsDistinct K.eq (keys_of self.now.histograms) }
+        ensures once { IsDistinct K.eq (keys_of self.now.counters) × IsDistinct K.eq (keys_of self.now.gauges)
+            × IsDistinct K.eq (keys_of self.now.histograms) }
     {
         &self.shards
     }

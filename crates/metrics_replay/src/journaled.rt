@@ -77,7 +77,8 @@ impl<R: Recorder> Journaled<R> {
     ///
     /// Room is made first. `Err` comes only where it is refused, and then nothing was called or noted.
     pub fn call(&mut self, call: Call) -> Result<&Answer, Refused>
-        ensures* noted { sem 𝓛 (follows_so (the_row R.row R.Recorder) (the_row R.row R.Recorder) self.entry.ghost_name none (λ _ _. ⊤)
+        ensures* noted { sem 𝓛 (follows_so (the_row R.row R.Recorder) (the_row R.row R.Recorder) self.entry.ghost_name none
+            (λ _ _. ⊤)
             (λ after. KeepsTargets (R.meaning self.old.0) (R.meaning after.0) × MatchResult result
             (λ answer. after.1 ≡ self.old.1 ++ (call, answer.now) ∷ [])
             (λ refused. (refused ≡ Memory 0) × (after ≡ self.old)))) }
@@ -89,7 +90,8 @@ impl<R: Recorder> Journaled<R> {
     /// The answer of the latest call.
     fn latest(&self) -> &Answer
         requires { (calls : Log) × (call : Called) × (answer : Answered) × (self.now.1 ≡ calls ++ (call, answer) ∷ []) }
-        ensures { (calls : Log) (call : Called) (answer : Answered) → self.now.1 ≡ calls ++ (call, answer) ∷ [] → result.now ≡ answer }
+        ensures { (calls : Log) (call : Called) (answer : Answered) → self.now.1 ≡ calls ++ (call, answer) ∷ []
+            → result.now ≡ answer }
     {
         &self.journal[self.journal.len() - 1].1
     }

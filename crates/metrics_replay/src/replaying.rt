@@ -1,12 +1,14 @@
 //! Lists of calls, made one after another.
-ghost use Rattle.std.specs.Prelude.{◌≡◌, ◌≤◌, ◌<◌, ◌+◌, ◌++◌, [], ℕ, List, length, vec_len, vec_capacity, map, IfOk, IfErr, Option, None, Some, option_map};
+ghost use Rattle.std.specs.Prelude.{◌≡◌, ◌≤◌, ◌<◌, ◌+◌, ◌++◌, [], ℕ, List, length, vec_len};
+ghost use Rattle.std.specs.Prelude.{vec_capacity, map, IfOk, IfErr, Option, None, Some, option_map};
 ghost use Rattle.std.specs.List.{filter_map};
 ghost use Rattle.metrics_names.specs.declared.refused.Refused.TheVariants.{Memory};
 ghost use Rattle.metrics_names.specs.Names.{kind_eq};
 ghost use Rattle.metrics.specs.Book.{kind_of, content_at};
 ghost use Rattle.metrics.specs.Meaning.{Meaning, KeepsTargets, AreNew};
 ghost use Rattle.metrics.specs.History.{reached, content_after, ArePlain};
-ghost use Rattle.metrics.specs.Answering.{Handle, handle_given, handle_named, handle, UpdatesCall, AllHeld, IsHeld, places, UpdatesAll, Answers};
+ghost use Rattle.metrics.specs.Answering.{Handle, handle_given, handle_named, handle, UpdatesCall, AllHeld, IsHeld, places};
+ghost use Rattle.metrics.specs.Answering.{UpdatesAll, Answers};
 ghost use Rattle.metrics_replay.specs.Replaying.{log_of, register_places, place_in_front, handle_seen, register_kind};
 
 use metrics::{Address, Answer, Call, Items, MetricKind, Recorder, Refused, Update, update_all};
@@ -34,7 +36,8 @@ pub fn answer_of<R: Recorder>(
     handle: Option<(MetricKind, &[Address])>,
 ) -> Answer
     ensures keeps { KeepsTargets (R.meaning on.old) (R.meaning on.new) }
-    ensures answers { IsHeld (option_map handle_seen handle.entry) (R.meaning on.old).contents → Answers (R.meaning on.old) (R.meaning on.new) (option_map handle_seen handle.entry) call.now result }
+    ensures answers { IsHeld (option_map handle_seen handle.entry) (R.meaning on.old).contents
+        → Answers (R.meaning on.old) (R.meaning on.new) (option_map handle_seen handle.entry) call.now result }
 {
     match call {
         Call::Describe(kind, name, unit, text) => match on.describe(
@@ -70,7 +73,8 @@ fn update_of<R: Recorder>(
     handle: Option<(MetricKind, &[Address])>,
 ) -> Answer
     ensures keeps { KeepsTargets (R.meaning on.old) (R.meaning on.new) }
-    ensures updates { IsHeld (option_map handle_seen handle.entry) (R.meaning on.old).contents → UpdatesCall (R.meaning on.old) (R.meaning on.new) (option_map handle_seen handle.entry) by result }
+    ensures updates { IsHeld (option_map handle_seen handle.entry) (R.meaning on.old).contents
+        → UpdatesCall (R.meaning on.old) (R.meaning on.new) (option_map handle_seen handle.entry) by result }
 {
     match handle {
         None => Answer::Refused(Refused::BadHandle),
@@ -179,8 +183,10 @@ pub fn replay<R: Recorder>(
     // Where the books are new, each answer is the plain one, and the books hold what the calls and answers give.
     ensures answers { AreNew (R.meaning on.old).contents → IfOk result (λ answers.
         ArePlain (R.meaning on.old).targets (length (R.meaning on.old).contents) (log_of calls.now answers.items)) }
-    ensures contents { AreNew (R.meaning on.old).contents → IfOk result (λ answers. (b : ℕ) → b < length (R.meaning on.new).contents →
-        content_at b (R.meaning on.new).contents ≡ content_after (reached (R.meaning on.old).targets b (log_of calls.now answers.items))) }
+    ensures contents { AreNew (R.meaning on.old).contents
+        → IfOk result (λ answers. (b : ℕ) → b < length (R.meaning on.new).contents →
+        content_at b (R.meaning on.new).contents
+        ≡ content_after (reached (R.meaning on.old).targets b (log_of calls.now answers.items))) }
 
     // Books and targets stay.
     ensures books { length (R.meaning on.new).contents ≡ length (R.meaning on.old).contents }

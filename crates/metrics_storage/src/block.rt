@@ -1,5 +1,6 @@
 //! A block: 64 places of raw memory, of which the first are filled.
-ghost use Rattle.std.specs.Prelude.{◌≡◌, ◌<◌, ◌≤◌, ◌==◌, [], ◌∷◌, ◌++◌, length, MatchResult, IfErr, IsOk, OnOk, ◌↔◌};
+ghost use Rattle.std.specs.Prelude.{◌≡◌, ◌<◌, ◌≤◌, ◌==◌, [], ◌∷◌, ◌++◌, length, MatchResult, IfErr};
+ghost use Rattle.std.specs.Prelude.{IsOk, OnOk, ◌↔◌};
 ghost use Rattle.metrics.specs.declared.error.Error.TheVariants.{Memory as OutOfMemory};
 
 pub use crate::places::BLOCK_SIZE;

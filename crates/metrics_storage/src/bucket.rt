@@ -1,5 +1,6 @@
 //! A bucket of one owner: a list of blocks, of which only the last has room.
-ghost use Rattle.std.specs.Prelude.{◌≡◌, ◌==◌, ◌%◌, [], ◌∷◌, ◌++◌, length, reverse, IfOk, IfErr, OnOk, OnErr, MatchResult};
+ghost use Rattle.std.specs.Prelude.{◌≡◌, ◌==◌, ◌%◌, [], ◌∷◌, ◌++◌, length, reverse, IfOk, IfErr, OnOk};
+ghost use Rattle.std.specs.Prelude.{OnErr, MatchResult};
 ghost use Rattle.std.specs.List.{AllZip};
 ghost use Rattle.metrics.specs.Book.{chunks, blocks as bucket_order, joined_lists};
 ghost use Rattle.metrics_storage.specs.Bucket.{AddsToLast, HasNoRoom, IsCalledAtEach, TakesEach, TakesInTurn};
@@ -13,7 +14,8 @@ use std::marker::Model;
 /// Adds a value to the last block, or gives it back where that has no room.
 fn push_last<T>(blocks: &mut Vec<Block<T>>, value: T) -> Result<(), T>
     ensures ok { OnOk result (AddsToLast blocks.old.items value blocks.new.items) }
-    ensures err { IfErr result (λ back. (back ≡ value) × HasNoRoom blocks.old.items × (blocks.new.items ≡ blocks.old.items)) }
+    ensures err { IfErr result (λ back. (back ≡ value) × HasNoRoom blocks.old.items
+        × (blocks.new.items ≡ blocks.old.items)) }
 {
     match blocks.last_mut() {
         Some(block) => block.push(value),

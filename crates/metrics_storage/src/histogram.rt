@@ -1,6 +1,8 @@
 //! A histogram over fixed bounds.
-ghost use Rattle.std.specs.Prelude.{◌≡◌, ◌+◌, ◌^◌, ◌<◌, ◌≤◌, [], ◌∷◌, length, replicate, None, IfOk, IsErr, MatchResult, MatchOption, Ok, ◌↔◌};
-ghost use Rattle.metrics_storage.specs.Histogram.{Distribution, sum_of, no_samples, with_samples, rank, sum_up_to, buckets_of, ranked, all_ranked, total, IsSumOf};
+ghost use Rattle.std.specs.Prelude.{◌≡◌, ◌+◌, ◌^◌, ◌<◌, ◌≤◌, [], ◌∷◌, length, replicate, None};
+ghost use Rattle.std.specs.Prelude.{IfOk, IsErr, MatchResult, MatchOption, Ok, ◌↔◌};
+ghost use Rattle.metrics_storage.specs.Histogram.{Distribution, sum_of, no_samples, with_samples, rank, sum_up_to, buckets_of};
+ghost use Rattle.metrics_storage.specs.Histogram.{ranked, all_ranked, total, IsSumOf};
 ghost use Rattle.metrics.specs.declared.error.Error.TheVariants.{Memory as OutOfMemory, CountFull};
 
 #[cfg(test)]
@@ -28,7 +30,8 @@ impl Model for Histogram {
 
     ghost view = { λ h. record { buckets = buckets_of h.bounds.items h.ranks.items; count = h.count; sum = h.sum } };
 
-    ghost invariant = { λ h. (length h.ranks.items ≡ length h.bounds.items + 1) × (total h.ranks.items ≡ h.count) × (h.count < 2 ^ 64) × IsSumOf h.count h.sum };
+    ghost invariant = { λ h. (length h.ranks.items ≡ length h.bounds.items + 1) × (total h.ranks.items ≡ h.count)
+        × (h.count < 2 ^ 64) × IsSumOf h.count h.sum };
 }
 
 impl Histogram {
@@ -77,7 +80,8 @@ impl Histogram {
 
     /// Adds a sample. It is refused with `Error::CountFull` where the count would pass 2^64 - 1.
     pub fn record(&mut self, sample: i64) -> Result<(), Error>
-        ensures step { MatchResult result (λ _. self.new ≡ with_samples (sample ∷ []) self.old) (λ e. (e ≡ CountFull) × (self.new ≡ self.old)) }
+        ensures step { MatchResult result (λ _. self.new ≡ with_samples (sample ∷ []) self.old)
+            (λ e. (e ≡ CountFull) × (self.new ≡ self.old)) }
         ensures refused { IsErr result ↔ (u64.MAX < self.old.count + 1) }
     {
         if self.count == u64::MAX {
@@ -92,7 +96,8 @@ impl Histogram {
     /// Adds samples, each as `record` does. They are refused together, with `Error::CountFull`, where the count would
     /// pass 2^64 - 1.
     pub fn record_many(&mut self, samples: &[i64]) -> Result<(), Error>
-        ensures step { MatchResult result (λ _. self.new ≡ with_samples samples.now self.old) (λ e. (e ≡ CountFull) × (self.new ≡ self.old)) }
+        ensures step { MatchResult result (λ _. self.new ≡ with_samples samples.now self.old)
+            (λ e. (e ≡ CountFull) × (self.new ≡ self.old)) }
         ensures refused { IsErr result ↔ (u64.MAX < self.old.count + length samples.now) }
     {
         if u64::MAX - self.count < samples.len() as u64 {

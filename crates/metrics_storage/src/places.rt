@@ -74,7 +74,8 @@ pub(crate) fn allocate<T, A: Allocator>(
     alloc: &A,
 ) -> Result<(BlockPtr<T>, Places<T>, Allocation<T, A>), AllocError>
     requires { FitsInBlock T.row 64 }
-    ensures { IfOk result (λ r. (r.1.at ≡ r.0.ptr) × (r.1.values ≡ []) × (r.2.at ≡ r.0.ptr) × (r.2.alloc ≡ alloc.now)) }
+    ensures { IfOk result (λ r. (r.1.at ≡ r.0.ptr) × (r.1.values ≡ []) × (r.2.at ≡ r.0.ptr)
+        × (r.2.alloc ≡ alloc.now)) }
 {
     match alloc.allocate(BLOCK_SIZE * size_of::<T>(), align_of::<T>()) {
         Ok(block) => {
@@ -98,7 +99,8 @@ pub(crate) fn deallocate<T, A: Allocator>(
     places: Places<T>,
     allocation: Allocation<T, A>,
 )
-    requires { (places.at ≡ start.ptr) × (places.values ≡ []) × (allocation.at ≡ start.ptr) × (allocation.alloc ≡ alloc.now) }
+    requires { (places.at ≡ start.ptr) × (places.values ≡ []) × (allocation.at ≡ start.ptr)
+        × (allocation.alloc ≡ alloc.now) }
 {
     let Places { mark: _ } = places;
     let Allocation { mark: _ } = allocation;

@@ -1,6 +1,7 @@
 //! A sampling reservoir: a fixed number of values out of all that were pushed, each kept with the same chance where the
 //! draws are even.
-ghost use Rattle.std.specs.Prelude.{◌≡◌, ◌+◌, ◌*◌, ◌^◌, ◌<◌, ◌≤◌, ◌==◌, ◌↔◌, min, length, vec_capacity, pos, neg_ℤ, ◌≤ℤ◌, IsErr, IfSome, MatchResult, Some};
+ghost use Rattle.std.specs.Prelude.{◌≡◌, ◌+◌, ◌*◌, ◌^◌, ◌<◌, ◌≤◌, ◌==◌, ◌↔◌, min, length};
+ghost use Rattle.std.specs.Prelude.{vec_capacity, pos, neg_ℤ, ◌≤ℤ◌, IsErr, IfSome, MatchResult, Some};
 ghost use Rattle.std.specs.Iterator.{at_most, UpTo};
 ghost use Rattle.metrics_storage.specs.Reservoir.{place_step};
 ghost use Rattle.metrics_storage.specs.Drains.{Drained, drain_of, drain_step, rate_of};
@@ -67,7 +68,8 @@ impl Reservoir {
     /// pass 2^64 - 1.
     pub fn push(&mut self, value: i64, draw: u64) -> Result<(), Error>
         requires { draw ≤ self.old.pushed }
-        ensures step { MatchResult result (λ _. self.new ≡ after_push value draw self.old) (λ e. (e ≡ CountFull) × (self.new ≡ self.old)) }
+        ensures step { MatchResult result (λ _. self.new ≡ after_push value draw self.old)
+            (λ e. (e ≡ CountFull) × (self.new ≡ self.old)) }
         ensures refused { IsErr result ↔ (u64.MAX < self.old.pushed + 1) }
     {
         if self.pushed == u64::MAX {

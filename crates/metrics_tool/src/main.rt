@@ -9,8 +9,8 @@ use std::thread::Threads;
 use std::{env, io};
 use tool_lines::command;
 
-/// The status of the whole program, or an error where there was no memory to begin with. Both arguments are the runtime: `rt` starts
-/// threads and waits, `host` gives memory, words and streams.
+/// The status of the whole program, or an error where there was no memory to begin with. Both arguments are the runtime:
+/// `rt` starts threads and waits, `host` gives memory, words and streams.
 fn status<R: Threads + Wait + Sync>(rt: &R, host: &HostRuntime) -> io::Result<u8> {
     let mut arguments: Vec<String> = Vec::new(host.alloc());
     match env::args(host) {

@@ -1,10 +1,12 @@
 //! Recorders of which each name goes to one.
-ghost use Rattle.std.specs.Prelude.{◌≡◌, ◌≤◌, ◌<◌, ◌-◌, ◌++◌, ◌∷◌, [], List, suc, false, None, is_some, nat_eq, length, MatchResult};
+ghost use Rattle.std.specs.Prelude.{◌≡◌, ◌≤◌, ◌<◌, ◌-◌, ◌++◌, ◌∷◌, [], List, suc, false, None};
+ghost use Rattle.std.specs.Prelude.{is_some, nat_eq, length, MatchResult};
 ghost use Rattle.std.specs.Option.{option_map};
 ghost use Rattle.metrics.specs.Layers.{Route, routed, joined_all};
 ghost use Rattle.metrics_trees.specs.Nodes.{node_meaning, most_books};
 ghost use Rattle.metrics_trees.specs.Routing.{TargetsBelow};
-ghost use Rattle.metrics_trees.specs.Recorders.{meanings, all_meanings, books_in, BooksFit, HasSpare, route_refusal, target_refusal};
+ghost use Rattle.metrics_trees.specs.Recorders.{meanings, all_meanings, books_in, BooksFit, HasSpare, route_refusal};
+ghost use Rattle.metrics_trees.specs.Recorders.{target_refusal};
 
 use crate::child::{Child, Router};
 use crate::reach::Reach;

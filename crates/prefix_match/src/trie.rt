@@ -1,5 +1,6 @@
 //! The longest stored pattern that a text begins with.
-ghost use Rattle.std.specs.Prelude.{◌≡◌, ◌≢◌, ℕ, List, [], Option, Some, IfOk, OnOk, IfErr, OnErr, IfSome, IfNone, IsOk};
+ghost use Rattle.std.specs.Prelude.{◌≡◌, ◌≢◌, ℕ, List, [], Option, Some, IfOk, OnOk, IfErr, OnErr, IfSome, IfNone};
+ghost use Rattle.std.specs.Prelude.{IsOk};
 ghost use Rattle.prefix_match.specs.TriePatterns.{stored, HasNoFront, IsLongest, HasRoom};
 ghost use Rattle.prefix_match.specs.declared.error.MatchError.TheVariants.{Memory};
 

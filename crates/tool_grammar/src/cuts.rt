@@ -1,5 +1,6 @@
 //! Cuts of bytes at a byte.
-ghost use Rattle.std.specs.Prelude.{◌≡◌, ℕ, List, ◌∷◌, ◌++◌, ◌<◌, ◌≤◌, take, length, MatchOption, slice_index};
+ghost use Rattle.std.specs.Prelude.{◌≡◌, ℕ, List, ◌∷◌, ◌++◌, ◌<◌, ◌≤◌, take, length, MatchOption};
+ghost use Rattle.std.specs.Prelude.{slice_index};
 ghost use Rattle.tool_grammar.specs.Cuts.{Lacks, StartsAt};
 
 /// How many bytes stand before the first such byte, or all.

@@ -1,7 +1,8 @@
 //! Answers to text.
 ghost use Rattle.std.specs.Prelude.{◌≡◌, ◌++◌, ◌∷◌, [], OnOk, IfOk, string_bytes};
 ghost use Rattle.tool_grammar.specs.Grammar.{kind_word, unit_word, name_word, label_words};
-ghost use Rattle.tool_grammar.specs.Printing.{samples_text, value_text, note_text, row_text, rows_text, text_of, refusal_text_of, book_of};
+ghost use Rattle.tool_grammar.specs.Printing.{samples_text, value_text, note_text, row_text, rows_text, text_of, refusal_text_of};
+ghost use Rattle.tool_grammar.specs.Printing.{book_of};
 
 use metrics::{Answer, Call, DebugValue, Label, MetricKind, Refused, Row, Text, Unit};
 use std::alloc::{AllocError, Global};

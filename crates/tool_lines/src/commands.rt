@@ -156,7 +156,8 @@ pub fn command<R: Threads + Wait + Sync, I: BufRead, O: Write, E: Write>(
         → IfSome (I.remaining input.old) (λ bytes. IfSome (O.contents output.old) (λ held.
         AnswersFirst (lines_of bytes) (λ text. O.contents output.new ≡ Some (held ++ text)))) }
     // Words that ask for nothing have status 2.
-    ensures wrong { ((asked : Asked) → Asks (map (λ w. w.now) words.now) asked → ⊥) → (result ≡ 2) × (output.new ≡ output.old) }
+    ensures wrong { ((asked : Asked) → Asks (map (λ w. w.now) words.now) asked → ⊥) → (result ≡ 2)
+        × (output.new ≡ output.old) }
 {
     let Some(request) = request_of(words) else {
         let _ = writeln!(errors, "{USAGE}");

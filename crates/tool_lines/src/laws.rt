@@ -6,7 +6,8 @@ ghost use Rattle.tool_lines.specs.Output.{Input, printed, Prints};
 
 /// Lines are one input at most, so there is one text for them.
 pub fn one_text_at_most()
-    ensures input { (ls : List (List ℕ)) (i j : Input ls) → (i.tree ≡ j.tree) × (i.calls ≡ j.calls) × (i.rest ≡ j.rest) }
+    ensures input { (ls : List (List ℕ)) (i j : Input ls) → (i.tree ≡ j.tree) × (i.calls ≡ j.calls)
+        × (i.rest ≡ j.rest) }
     ensures text { (ls : List (List ℕ)) (a b : List ℕ) → Prints ls a → Prints ls b → a ≡ b }
 {}
 

@@ -40,7 +40,8 @@ fn number_within(word: &str, least: u64, most: u64) -> Option<u64>
 
 /// A storm of these numbers, where it allows them: 1 to 64 pushers, at most 1,000,000 values, 1 to 1,024 blocks.
 fn plan_of(pushers: &str, values: &str, blocks: &str) -> Option<StormPlan>
-    ensures { MatchOption result ((plan : Plan) → IsAllowedPlan plan → IsPlanOf pushers.now values.now blocks.now plan → ⊥)
+    ensures { MatchOption result ((plan : Plan) → IsAllowedPlan plan → IsPlanOf pushers.now values.now blocks.now plan
+        → ⊥)
         (λ plan. IsAllowedPlan plan × IsPlanOf pushers.now values.now blocks.now plan) }
 {
     let pushers = number_within(pushers, 1, 64)?;

@@ -1,5 +1,6 @@
 //! The loop over call lines: a line, its answer, and so on.
-ghost use Rattle.std.specs.Prelude.{◌≡◌, ◌++◌, ◌<◌, ℕ, List, Some, IfSome, OnSome, OnOk, MatchResult, length, option_map};
+ghost use Rattle.std.specs.Prelude.{◌≡◌, ◌++◌, ◌<◌, ℕ, List, Some, IfSome, OnSome, OnOk, MatchResult, length};
+ghost use Rattle.std.specs.Prelude.{option_map};
 ghost use Rattle.std.specs.Io.KnownBytes.{Consumes, Appends, Keeps, IsAtEnd};
 ghost use Rattle.metrics.specs.Meaning.{AreNew};
 ghost use Rattle.metrics.specs.History.{Log};
@@ -9,7 +10,8 @@ ghost use Rattle.tool_lines.specs.Output.{AnswersCalls};
 ghost use Rattle.tool_grammar.specs.Grammar.{Spells};
 ghost use Rattle.tool_grammar.specs.Printing.{print, text_of};
 ghost use Rattle.tool_lines.specs.Handles.{entries, entry_named, HasRoom};
-ghost use Rattle.tool_lines.specs.Running.{IsRun, AreSpelled, AreMade, AreHeld, AnswersLine, addresses_in, IsUnread, IsWritten, fault_at, IsFlushed};
+ghost use Rattle.tool_lines.specs.Running.{IsRun, AreSpelled, AreMade, AreHeld, AnswersLine, addresses_in, IsUnread, IsWritten};
+ghost use Rattle.tool_lines.specs.Running.{fault_at, IsFlushed};
 
 use crate::handles::Handles;
 use crate::stream::{Broken, Fault, Found, next_line, write_text};

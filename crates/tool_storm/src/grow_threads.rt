@@ -131,7 +131,8 @@ pub(crate) fn run<'s, 'e, R: Threads + Wait + Sync, G: Gate + Sync>(
         promise,
         move || -> Result<GrowWorked, RunError>
             requires { IsFreshPen shared.now.bucket mine × (shared.now.values < 2 ^ 63) }
-            ensures { IfOk result (λ w. IsGrowWorked shared.entry.now.bucket mine shared.entry.now.values w) × IfErr result (λ e. e ≡ Memory None) }
+            ensures { IfOk result (λ w. IsGrowWorked shared.entry.now.bucket mine shared.entry.now.values w)
+                × IfErr result (λ e. e ≡ Memory None) }
         { work(rt, shared, gate, mine, worker) },
     ) {
         Ok(thread) => {

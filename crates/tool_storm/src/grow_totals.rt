@@ -1,5 +1,6 @@
 //! A storm on a growing bucket as a whole.
-ghost use Rattle.std.specs.Prelude.{◌≡◌, ◌+◌, ◌-◌, ◌*◌, ◌<◌, ◌≤◌, ◌^◌, List, length, None, IfOk, OnOk, IfErr};
+ghost use Rattle.std.specs.Prelude.{◌≡◌, ◌+◌, ◌-◌, ◌*◌, ◌<◌, ◌≤◌, ◌^◌, List, length, None, IfOk};
+ghost use Rattle.std.specs.Prelude.{OnOk, IfErr};
 ghost use Rattle.tool_grammar.specs.declared.error.RunError.TheVariants.{Memory};
 ghost use Rattle.metrics_growing.specs.Parts.{Part};
 ghost use Rattle.tool_storm.specs.Numbers.{sum_below};
@@ -99,8 +100,10 @@ fn run_all<R: Threads + Wait + Sync, G: Gate + Sync>(
         thread::scope_env(),
         rt,
         |scope| -> Result<GrowRan, RunError>
-            requires { IsFreshPen shared.now.bucket pen × AreFreshPens shared.now.bucket pens.items × (shared.now.values < 2 ^ 63) × (length pens.items < 2 ^ 63) }
-            ensures { IfOk result (λ r. IsGrowRan shared.entry.now.bucket shared.entry.now.values (length pens.items) r) × IfErr result (λ e. e ≡ Memory None) }
+            requires { IsFreshPen shared.now.bucket pen × AreFreshPens shared.now.bucket pens.items
+                × (shared.now.values < 2 ^ 63) × (length pens.items < 2 ^ 63) }
+            ensures { IfOk result (λ r. IsGrowRan shared.entry.now.bucket shared.entry.now.values (length pens.items) r)
+                × IfErr result (λ e. e ≡ Memory None) }
         { run(scope, rt, shared, gate, pens, pen, 0) },
     )
 }

@@ -47,7 +47,8 @@ impl Promise<Result<GrowWorked, RunError>> for GrowWorks {
     ghost use Rattle.tool_grammar.specs.declared.error.RunError.TheVariants.{Memory};
     ghost use Rattle.tool_storm.specs.Growing.{IsGrowWorked};
 
-    ghost kept_by = { λ p r. IfOk r (λ w. IsGrowWorked p.bucket.value p.pen.value p.values w) × IfErr r (λ e. e ≡ Memory None) };
+    ghost kept_by = { λ p r. IfOk r (λ w. IsGrowWorked p.bucket.value p.pen.value p.values w)
+        × IfErr r (λ e. e ≡ Memory None) };
 }
 
 /// Pushes the numbers below `values` into the bucket and the reservoir.

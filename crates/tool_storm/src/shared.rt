@@ -6,8 +6,8 @@ use metrics_shared::reservoir::AtomicSamplingReservoir;
 use rand_xoshiro::Xoshiro256PlusPlus;
 use std::sync::atomic::AtomicUsize;
 
-/// The bucket and the reservoir that the workers push into, the numbers that each pushes (those below `values`), and how many workers
-/// have ended.
+/// The bucket and the reservoir that the workers push into, the numbers that each pushes (those below `values`), and how
+/// many workers have ended.
 #[derive(Drop)]
 pub(crate) struct Shared {
     pub(crate) bucket: RuledBucket<u64>,

@@ -1,5 +1,6 @@
 //! Workers in threads of their own, and the clearer.
-ghost use Rattle.std.specs.Prelude.{◌≡◌, ℕ, ◌+◌, ◌<◌, ◌^◌, [], false, if◌then◌else◌, None, IfOk, IfErr, length};
+ghost use Rattle.std.specs.Prelude.{◌≡◌, ℕ, ◌+◌, ◌<◌, ◌^◌, [], false, if◌then◌else◌, None, IfOk, IfErr};
+ghost use Rattle.std.specs.Prelude.{length};
 ghost use Rattle.metrics_bucket.specs.Account.{joined_account};
 ghost use Rattle.tool_grammar.specs.declared.error.RunError.TheVariants.{Memory};
 ghost use Rattle.tool_storm.specs.Tallies.{Adds};
@@ -18,7 +19,8 @@ use std::sync::Wait;
 use std::thread::{Scope, Threads};
 use tool_grammar::RunError;
 
-/// Workers that ended, and the clearer: the pen into which theirs were joined, what was pushed and found, and how many the gate stopped.
+/// Workers that ended, and the clearer: the pen into which theirs were joined, what was pushed and found, and how many
+/// the gate stopped.
 #[derive(Drop)]
 pub(crate) struct Ran {
     pub(crate) pen: Pen,
@@ -67,8 +69,8 @@ fn joined(ran: Ran, worked: Worked) -> Ran
     }
 }
 
-/// Starts a worker for each pen, from the number `worker` on, clears until they ended, and joins them. Where a thread can't be started,
-/// those that were end first.
+/// Starts a worker for each pen, from the number `worker` on, clears until they ended, and joins them. Where a thread
+/// can't be started, those that were end first.
 pub(crate) fn run<'s, 'e, R: Threads + Wait + Sync, G: Gate + Sync>(
     scope: &'s Scope<'s, &'e ()>,
     rt: &'e R,

@@ -105,15 +105,17 @@ fn run_all<R: Threads + Wait + Sync, G: Gate + Sync>(
         thread::scope_env(),
         rt,
         |scope| -> Result<Ran, RunError>
-            requires { IsFresh shared.now.bucket pen × AreFresh shared.now.bucket pens.items × (shared.now.values < 2 ^ 63) × (length pens.items < 2 ^ 63) }
-            ensures { IfOk result (λ r. IsRan shared.entry.now.bucket shared.entry.now.values pen.weight pens.items r) × IfErr result (λ e. e ≡ Memory None) }
+            requires { IsFresh shared.now.bucket pen × AreFresh shared.now.bucket pens.items × (shared.now.values < 2 ^ 63)
+                × (length pens.items < 2 ^ 63) }
+            ensures { IfOk result (λ r. IsRan shared.entry.now.bucket shared.entry.now.values pen.weight pens.items r)
+                × IfErr result (λ e. e ≡ Memory None) }
         { run(scope, rt, shared, gate, pens, pen, 0) },
     )
 }
 
-/// Starts `pushers` workers, 1 to 64, which pass the gate and then push the numbers below `values`, at most 1,000,000, into one bucket of
-/// 1 to 1,024 blocks, where each tries again while the bucket is full, and into a reservoir of 16. Meanwhile the calling thread clears the
-/// bucket, until all workers ended. A worker that the gate stops pushes nothing.
+/// Starts `pushers` workers, 1 to 64, which pass the gate and then push the numbers below `values`, at most 1,000,000,
+/// into one bucket of 1 to 1,024 blocks, where each tries again while the bucket is full, and into a reservoir of 16.
+/// Meanwhile the calling thread clears the bucket, until all workers ended. A worker that the gate stops pushes nothing.
 ///
 /// The only error is want of memory; a thread that can't be started is one.
 pub fn storm<R: Threads + Wait + Sync, G: Gate + Sync>(

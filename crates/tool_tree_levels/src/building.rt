@@ -17,7 +17,8 @@ use std::alloc::Global;
 
 /// A new book.
 pub fn book(alloc: Global) -> Result<Child<DebuggingRecorder>, LineError>
-    ensures { MatchResult result (λ c. ⟦<Child<DebuggingRecorder> as Recorder>⟧.meaning c ≡ one_book new_book) (λ e. e ≡ NoMemory) }
+    ensures { MatchResult result (λ c. ⟦<Child<DebuggingRecorder> as Recorder>⟧.meaning c ≡ one_book new_book)
+        (λ e. e ≡ NoMemory) }
 {
     let book = DebuggingRecorder::new(alloc)?;
     Ok(Child::leaf(book))
@@ -30,7 +31,8 @@ pub fn below_prefix(
     prefix: &Text,
 ) -> Result<Child<DebuggingRecorder>, LineError>
     ensures { MatchResult result
-        (λ c. ⟦<Child<DebuggingRecorder> as Recorder>⟧.meaning c ≡ prefixed prefix.now (⟦<Child<DebuggingRecorder> as Recorder>⟧.meaning child))
+        (λ c. ⟦<Child<DebuggingRecorder> as Recorder>⟧.meaning c
+        ≡ prefixed prefix.now (⟦<Child<DebuggingRecorder> as Recorder>⟧.meaning child))
         (λ e. e ≡ NoMemory) }
 {
     let Ok(layer) = PrefixLayer::new(alloc, prefix.as_str()) else {
@@ -49,7 +51,8 @@ fn filter_layer(
     table: bool,
     patterns: &[Text],
 ) -> Result<FilterLayer, LineError>
-    ensures { MatchResult result (λ l. l ≡ record { listed = patterns.now; fold_case = fold; table = table }) (λ e. e ≡ NoMemory) }
+    ensures { MatchResult result (λ l. l ≡ record { listed = patterns.now; fold_case = fold; table = table })
+        (λ e. e ≡ NoMemory) }
 {
     let mut layer = FilterLayer::default(alloc);
     layer.case_insensitive(fold).use_dfa(table);
@@ -71,7 +74,8 @@ pub fn below_filter(
 ) -> Result<Child<DebuggingRecorder>, LineError>
     ensures { MatchResult result
         (λ c. (sum_by length patterns.now ≤ 1048576)
-        × (⟦<Child<DebuggingRecorder> as Recorder>⟧.meaning c ≡ filtered fold patterns.now (⟦<Child<DebuggingRecorder> as Recorder>⟧.meaning child)))
+        × (⟦<Child<DebuggingRecorder> as Recorder>⟧.meaning c
+        ≡ filtered fold patterns.now (⟦<Child<DebuggingRecorder> as Recorder>⟧.meaning child)))
         (λ e. e ≡ IsBadLine → 1048576 < sum_by length patterns.now) }
 {
     let Ok(layer) = filter_layer(alloc, fold, table, patterns) else {

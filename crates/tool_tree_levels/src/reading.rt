@@ -34,7 +34,8 @@ fn ends(said: &TreeLine) -> bool
 
 /// The stack must hold just one recorder.
 fn is_one(stack: &Vec<Level>) -> Result<bool, LineError>
-    ensures { MatchResult result (λ one. (one ≡ true) × (length stack.now.items ≡ 1)) (λ e. (e ≡ IsBadLine) × (length stack.now.items ≡ 1 → ⊥)) }
+    ensures { MatchResult result (λ one. (one ≡ true) × (length stack.now.items ≡ 1))
+        (λ e. (e ≡ IsBadLine) × (length stack.now.items ≡ 1 → ⊥)) }
 {
     if stack.len() == 1 {
         Ok(true)

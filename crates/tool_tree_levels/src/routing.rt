@@ -1,5 +1,6 @@
 //! Routers.
-ghost use Rattle.std.specs.Prelude.{◌≡◌, ◌<◌, ◌≤◌, ◌+◌, ◌^◌, ◌++◌, ◌∷◌, [], ℕ, suc, ◌-◌, max, length, map, List, if◌then◌else◌, OnOk, MatchResult};
+ghost use Rattle.std.specs.Prelude.{◌≡◌, ◌<◌, ◌≤◌, ◌+◌, ◌^◌, ◌++◌, ◌∷◌, [], ℕ, suc, ◌-◌};
+ghost use Rattle.std.specs.Prelude.{max, length, map, List, if◌then◌else◌, OnOk, MatchResult};
 ghost use Rattle.std.specs.List.{AllByRecursion};
 ghost use Rattle.metrics_names.specs.declared.kind.MetricKind.{MetricKind as Kind};
 ghost use Rattle.metrics.specs.Layers.{Route, mask_has, routed};
@@ -51,7 +52,8 @@ fn add_one(
     requires is_route { IsRoute route.now }
     requires named { suc named ≡ length (router_recorders builder.old) }
     requires few { named + length targets.old.items < 2 ^ 64 }
-    ensures routes { OnOk result ((rs : List Route) → HasRoutes builder.old rs → HasRoutes builder.new (rs ++ route_of route.now ∷ [])) }
+    ensures routes { OnOk result ((rs : List Route) → HasRoutes builder.old rs
+        → HasRoutes builder.new (rs ++ route_of route.now ∷ [])) }
     ensures step { MatchResult result
         (λ next. Adds route.now.target named most (router_recorders builder.old) (router_recorders builder.new) targets.old.items targets.new.items next)
         (λ e. e ≡ IsBadLine → CantAdd route.now.target named (router_recorders builder.old) targets.old.items) }
@@ -123,7 +125,8 @@ pub fn router_over(
         (λ made. NameTargets (length taken.items - 1) 0 routes.now × (books_in (level_meanings all) ≤ 65536)
         × (⟦<Child<DebuggingRecorder> as Recorder>⟧.meaning made.0 ≡ routed (map route_of routes.now) (level_meanings all))
         × (made.1 ≡ suc (most_of all)))
-        (λ e. e ≡ IsBadLine → NameTargets (length taken.items - 1) 0 routes.now → books_in (level_meanings all) ≤ 65536 → ⊥) }
+        (λ e. e ≡ IsBadLine → NameTargets (length taken.items - 1) 0 routes.now
+        → books_in (level_meanings all) ≤ 65536 → ⊥) }
 {
     let Some(Level { child, levels }) = taken.pop() else {
         return Err(LineError::Memory);

@@ -1,12 +1,14 @@
 //! The words of tree lines.
-ghost use Rattle.std.specs.Prelude.{◌≡◌, ℕ, List, [], ◌∷◌, ◌++◌, ◌<◌, ◌≤◌, ◌^◌, Bool, IsUtf8, IfOk, MatchOption, codes, decimal};
+ghost use Rattle.std.specs.Prelude.{◌≡◌, ℕ, List, [], ◌∷◌, ◌++◌, ◌<◌, ◌≤◌, ◌^◌, Bool, IsUtf8};
+ghost use Rattle.std.specs.Prelude.{IfOk, MatchOption, codes, decimal};
 ghost use Rattle.std.specs.List.{AllByRecursion};
 ghost use Rattle.tool_grammar.specs.Cuts.{Lacks, StartsAt};
 ghost use Rattle.tool_grammar.specs.Grammar.{name_word, IsName};
 ghost use Rattle.tool_tree_lines.specs.declared.tree_line.Kinds.{Kinds as Named};
 ghost use Rattle.tool_tree_lines.specs.declared.tree_line.RouteWord.{RouteWord as Written};
 ghost use Rattle.tool_tree_lines.specs.declared.tree_line.First.{First as Begin};
-ghost use Rattle.tool_tree_lines.specs.Words.{HasKind, words, case_word, form_word, kinds_word, route_word, first_word, IsRoute, Spells, IsNoLine, SpellsFrom, IsNoLineFrom};
+ghost use Rattle.tool_tree_lines.specs.Words.{HasKind, words, case_word, form_word, kinds_word, route_word, first_word, IsRoute};
+ghost use Rattle.tool_tree_lines.specs.Words.{Spells, IsNoLine, SpellsFrom, IsNoLineFrom};
 
 use crate::tree_line::{First, Kinds, RouteWord, TreeLine};
 use metrics::{Items, Text};
@@ -26,7 +28,8 @@ fn folds(word: &[u8]) -> Option<bool>
 
 /// Whether a word asks for a table.
 fn tabulates(word: &[u8]) -> Option<bool>
-    ensures { MatchOption result ((table : Bool) → word.now ≡ form_word table → ⊥) (λ table. word.now ≡ form_word table) }
+    ensures { MatchOption result ((table : Bool) → word.now ≡ form_word table → ⊥)
+        (λ table. word.now ≡ form_word table) }
 {
     match word {
         b"links" => Some(false),
@@ -37,7 +40,8 @@ fn tabulates(word: &[u8]) -> Option<bool>
 
 /// The first word of a line.
 fn first_of(word: &[u8]) -> Option<First>
-    ensures { MatchOption result ((first : Begin) → word.now ≡ first_word first → ⊥) (λ first. word.now ≡ first_word first) }
+    ensures { MatchOption result ((first : Begin) → word.now ≡ first_word first → ⊥)
+        (λ first. word.now ≡ first_word first) }
 {
     match word {
         b"book" => Some(First::Book),
@@ -189,8 +193,10 @@ fn prefix_of(alloc: Global, bytes: &[u8]) -> Result<Option<Text>, AllocError>
 /// The flags of a filter line, and what stands behind them, from the bytes behind its first word.
 fn flags_of(bytes: &[u8]) -> Option<(bool, bool, &[u8])>
     ensures { MatchOption result
-        ((fold table : Bool) (others : List ℕ) → StartsAt 32 others → bytes.now ≡ 32 ∷ (case_word fold ++ 32 ∷ (form_word table ++ others)) → ⊥)
-        (λ found. StartsAt 32 found.2.now × (bytes.now ≡ 32 ∷ (case_word found.0 ++ 32 ∷ (form_word found.1 ++ found.2.now)))) }
+        ((fold table : Bool) (others : List ℕ) → StartsAt 32 others
+        → bytes.now ≡ 32 ∷ (case_word fold ++ 32 ∷ (form_word table ++ others)) → ⊥)
+        (λ found. StartsAt 32 found.2.now ×
+        (bytes.now ≡ 32 ∷ (case_word found.0 ++ 32 ∷ (form_word found.1 ++ found.2.now)))) }
 {
     let (case, rest) = next_word(bytes)?;
     let fold = folds(case)?;
@@ -211,7 +217,8 @@ fn count_of(bytes: &[u8]) -> Option<u64>
 /// The number of targets of a router line, and what stands behind it, from the bytes behind its first word.
 fn targets_of(bytes: &[u8]) -> Option<(u64, &[u8])>
     ensures { MatchOption result
-        ((n : ℕ) (others : List ℕ) → n < 2 ^ 64 → StartsAt 32 others → bytes.now ≡ 32 ∷ (decimal n ++ others) → ⊥)
+        ((n : ℕ) (others : List ℕ) → n < 2 ^ 64 → StartsAt 32 others → bytes.now ≡ 32 ∷ (decimal n ++ others)
+        → ⊥)
         (λ found. (found.0 < 2 ^ 64) × StartsAt 32 found.1.now × (bytes.now ≡ 32 ∷ (decimal found.0 ++ found.1.now))) }
 {
     let (word, others) = next_word(bytes)?;
@@ -228,7 +235,8 @@ fn alone(bytes: &[u8], line: TreeLine) -> Option<TreeLine>
 
 /// The line of a first word, by what stands behind it.
 fn line_from(alloc: Global, first: First, bytes: &[u8]) -> Result<Option<TreeLine>, AllocError>
-    ensures { IfOk result (λ found. MatchOption found (IsNoLineFrom (first_word first) bytes.now) (SpellsFrom (first_word first) bytes.now)) }
+    ensures { IfOk result (λ found. MatchOption found (IsNoLineFrom (first_word first) bytes.now)
+        (SpellsFrom (first_word first) bytes.now)) }
 {
     match first {
         First::Book => Ok(alone(bytes, TreeLine::Book)),

@@ -60,7 +60,10 @@ impl Descriptions {
         unit: Option<Unit>,
         text: &str,
     ) -> Result<(), Refused>
-        ensures ok { OnOk result ((k : _) (n : _) → described_by self.new k n ≡ (if kind_eq kind k && bytes_eq name.now n then described_again unit text.now (described_by self.old k n) else described_by self.old k n)) }
+        ensures ok { OnOk result ((k : _) (n : _)
+            → described_by self.new k n ≡
+            (if kind_eq kind k && bytes_eq name.now n
+            then described_again unit text.now (described_by self.old k n) else described_by self.old k n)) }
         ensures err { OnErr result ((k : _) (n : _) → described_by self.new k n ≡ described_by self.old k n) }
         ensures memory { IfErr result (λ e. e ≡ Memory 0) }
     {
@@ -75,8 +78,11 @@ fn describe_name(
     unit: Option<Unit>,
     text: &str,
 ) -> Result<(), Refused>
-    ensures ok { OnOk result ((n : _) → description_of (get_by_text names.new n) ≡ (if bytes_eq name.now n then described_again unit text.now (description_of (get_by_text names.old n)) else description_of (get_by_text names.old n))) }
-    ensures err { OnErr result ((n : _) → description_of (get_by_text names.new n) ≡ description_of (get_by_text names.old n)) }
+    ensures ok { OnOk result ((n : _) → description_of (get_by_text names.new n)
+        ≡ (if bytes_eq name.now n then described_again unit text.now (description_of (get_by_text names.old n))
+        else description_of (get_by_text names.old n))) }
+    ensures err { OnErr result ((n : _) → description_of (get_by_text names.new n)
+        ≡ description_of (get_by_text names.old n)) }
     ensures memory { IfErr result (λ e. e ≡ Memory 0) }
 {
     let text = Text::new(alloc, text)?;

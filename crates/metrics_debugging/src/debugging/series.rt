@@ -1,5 +1,6 @@
 //! Series in order of first registration.
-ghost use Rattle.std.specs.Prelude.{◌≡◌, ◌∷◌, [], ◌++◌, ◌<◌, if◌then◌else◌, OnOk, OnErr, IfOk, IfErr, None, length, map, option_map, slice_get, position};
+ghost use Rattle.std.specs.Prelude.{◌≡◌, ◌∷◌, [], ◌++◌, ◌<◌, if◌then◌else◌, OnOk, OnErr, IfOk, IfErr};
+ghost use Rattle.std.specs.Prelude.{None, length, map, option_map, slice_get, position};
 ghost use Rattle.metrics_names.specs.declared.refused.Refused.TheVariants.{Memory};
 ghost use Rattle.metrics.specs.Book.{is_of, new_series, after_reset, row_of, new_value};
 ghost use Rattle.metrics.specs.Kinds.{of_kind};
@@ -161,7 +162,8 @@ impl SeriesList {
                 placed.place,
                 |found: &mut Numbered|
                     ensures same { tag found.new ≡ tag found.old }
-                    ensures cell { value_of found.new.cell ≡ (if resets then new_value (kind_of_value (value_of found.old.cell)) else value_of found.old.cell) }
+                    ensures cell { value_of found.new.cell
+                        ≡ (if resets then new_value (kind_of_value (value_of found.old.cell)) else value_of found.old.cell) }
                 {
                     if resets {
                         found.cell.reset();

@@ -1,8 +1,10 @@
 //! The automaton as a full table.
-ghost use Rattle.std.specs.Prelude.{◌≡◌, ℕ, ◌+◌, ◌*◌, ◌<◌, ◌≤◌, ◌⊎◌, Bool, false, true, List, length, get_or, IfOk};
+ghost use Rattle.std.specs.Prelude.{◌≡◌, ℕ, ◌+◌, ◌*◌, ◌<◌, ◌≤◌, ◌⊎◌, Bool, false, true, List};
+ghost use Rattle.std.specs.Prelude.{length, get_or, IfOk};
 ghost use Rattle.prefix_match.specs.Substring.{lowered, lowered_byte};
 ghost use Rattle.prefix_match.specs.SubstringStates.{IsTree, IsByDepth, Falls, IsLinked};
-ghost use Rattle.prefix_match.specs.SubstringTable.{entry_of, MarksBytes, IsNumbering, HasColumns, WritesChildren, CopiesRow, FillsRow, IsSomeTable, WalksTable, IsTableOf};
+ghost use Rattle.prefix_match.specs.SubstringTable.{entry_of, MarksBytes, IsNumbering, HasColumns, WritesChildren, CopiesRow};
+ghost use Rattle.prefix_match.specs.SubstringTable.{FillsRow, IsSomeTable, WalksTable, IsTableOf};
 
 use super::bytes::lowered;
 use super::trie::{Node, Place};
