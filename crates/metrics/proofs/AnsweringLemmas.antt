@@ -23,7 +23,7 @@ use Rattle.metrics.specs.Book.{Content, rows, describe_in, register_in, update_i
 use Rattle.metrics.specs.Meaning.{Meaning, Targets, TakesMemory, AreNew, key_in_book, address_in, addresses}
 use Rattle.metrics.specs.History.{Log, Registration, registration_of, registration, Event, describes, registers, updates, snapshots, snapshots_by, updates_by, reached_by, reached, series_after, content_after, acted, plain_address, plain_update, plain_snapshot, UpdateMayMeet, IsOrMeets, IsPlain}
 use Rattle.metrics.specs.Answering.{Handle, handle_given, handle_of, handle, handle_named, AllHeld, IsHeld, places, DescribesCall, RegistersCall, UpdatesHeld, UpdatesCall, IsBadHandle, SnapshotsCall, Answers}
-use Rattle.metrics_names.proofs.NamesLemmas.{kind_eq-Decides}
+use Rattle.metrics_names.specs.Equality.{kind_eq-Decides}
 use Rattle.metrics.proofs.ContentLemmas.{step, ReachesAll, run, any-now, place-now, series-other}
 use Rattle.metrics.proofs.HistoryLemmas.{Kept, AllLead, AllThere, LeadsTo, lead-at, is_there, stays-describe, stays-register, stays-update, stays-reset, kept_then, kept_same, all_there, all_held, after_targets-places, place-registered, content_at-change_at, content_at-after_targets}
 

@@ -16,7 +16,7 @@ use Rattle.metrics.specs.Book.{Content, Series, Description, new_value, new_seri
 use Rattle.metrics.specs.Rows.{last}
 use Rattle.metrics.specs.History.{Event, describes, registers, updates, snapshots, key_of, firsts_from, series_after, description_of, description, is_reset_of, after_snapshot, update_of, since, series_now, content_after}
 use Rattle.metrics.proofs.RowsLemmas.{last-push}
-use Rattle.metrics_names.proofs.NamesLemmas.{key_exact, key_same}
+use Rattle.metrics_names.specs.Equality.{key_exact, key_same}
 
 pub or_true : (b : Bool) → (b || true) ≡ true
 or_true true = refl

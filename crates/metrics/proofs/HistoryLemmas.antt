@@ -20,7 +20,7 @@ use Rattle.metrics.specs.Book.{Content, Series, new_series, with_update, is_of, 
 use Rattle.metrics.specs.Meaning.{Targets, is_kind, key_in_book, address_in, addresses}
 use Rattle.metrics.specs.History.{Log, Registration, registration_of, Event, updates, reached, reached_from, reached_by, content_after, IsPlain, ArePlainFrom}
 use Rattle.metrics.specs.Answering.{AllHeld, places}
-use Rattle.metrics_names.proofs.NamesLemmas.{and_left, and_both, key_same}
+use Rattle.metrics_names.specs.Equality.{and_left, and_both, key_same}
 use Rattle.metrics.proofs.ContentLemmas.{step, IsSound, ReachesAll, run, content-run, sound-run}
 
 -- ---- one more call

@@ -11,7 +11,7 @@ use Rattle.std.proofs.lemmas.Bool.Decides.{nat_tests}
 use Rattle.std.proofs.Math.Seq.{take-append_seam}
 use Rattle.metrics_names.specs.declared.kind.MetricKind.{MetricKind}
 use Rattle.metrics.specs.Layers.{folded, IsSubstring, Matches, is_substring, matches, Route, fits, NoneFits, IsWinner, better, winner_from, winner}
-use Rattle.metrics_names.proofs.NamesLemmas.{and_left, and_right}
+use Rattle.metrics_names.specs.Equality.{and_left, and_right}
 
 -- ---- substrings
 

@@ -14,7 +14,7 @@ use Rattle.metrics_names.specs.declared.kind.MetricKind.TheVariants.{Counter, Ga
 use Rattle.metrics_names.specs.declared.refused.Refused.{Refused}
 use Rattle.metrics_names.specs.declared.refused.Refused.TheVariants.{Memory, NoSuchAddress, NoSuchBook, BadHandle}
 use Rattle.metrics_names.specs.Names.{KeyParts, SeriesKey, kind_eq, key_eq, series_key_eq}
-use Rattle.metrics_names.proofs.NamesLemmas.{kind_eq-Decides, key_eq-Decides, series_key_eq-Decides}
+use Rattle.metrics_names.specs.Equality.{kind_eq-Decides, key_eq-Decides, series_key_eq-Decides}
 use Rattle.metrics.specs.declared.debugging.Reset.{Reset}
 use Rattle.metrics.specs.declared.kind.PerKind.{PerKind}
 use Rattle.metrics.specs.declared.handles.Update.{Update}

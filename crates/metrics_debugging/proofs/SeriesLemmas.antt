@@ -8,7 +8,7 @@ use Rattle.std.proofs.lemmas.Bool.Decides.{nat_tests}
 use Rattle.std.proofs.lemmas.Grind.{common_steps}
 use Rattle.metrics_names.specs.declared.kind.MetricKind.{MetricKind}
 use Rattle.metrics_names.specs.Names.{SeriesKey, series_key_eq}
-use Rattle.metrics_names.proofs.NamesLemmas.{series_key_eq-Decides}
+use Rattle.metrics_names.specs.Equality.{series_key_eq-Decides}
 use Rattle.metrics.specs.Book.{Content, Series, Description, is_of, new_series, register_in, place}
 use Rattle.metrics.proofs.ContentLemmas.{map-push}
 

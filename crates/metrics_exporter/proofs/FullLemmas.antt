@@ -7,7 +7,7 @@ use Rattle.std.proofs.lemmas.List.{length_push}
 use Rattle.metrics_names.specs.declared.kind.MetricKind.{MetricKind}
 use Rattle.metrics_names.specs.declared.kind.MetricKind.TheVariants.{Counter, Gauge, Histogram}
 use Rattle.metrics_names.specs.Names.{KeyParts, SeriesKey, series_key_eq}
-use Rattle.metrics_names.proofs.NamesLemmas.{key_exact}
+use Rattle.metrics_names.specs.Equality.{key_exact}
 use Rattle.metrics.specs.declared.debugging.DebugValue.TheVariants as value
 use Rattle.metrics.specs.declared.handles.Update.{Update}
 use Rattle.metrics.specs.declared.handles.Update.TheVariants.{Increment, Absolute, Add, Subtract, Set, Record}

@@ -15,7 +15,7 @@ use Rattle.std.proofs.lemmas.Map.Keys.{IsDistinct-head, IsDistinct-tail, IsDisti
 use Rattle.metrics_names.specs.declared.kind.MetricKind.{MetricKind}
 use Rattle.metrics_names.specs.declared.kind.MetricKind.TheVariants.{Counter, Gauge, Histogram}
 use Rattle.metrics_names.specs.Names.{KeyParts, SeriesKey, kind_eq, key_eq, series_key_eq, series_key_cmp}
-use Rattle.metrics_names.proofs.NamesLemmas.{key_exact, key_same, key_eq-Decides}
+use Rattle.metrics_names.specs.Equality.{key_exact, key_same, key_eq-Decides}
 use Rattle.metrics_registry.specs.Held.{held}
 use Rattle.metrics_exporter.specs.Exporting.{count, level, samples, AreSeries, IsHeldNumber}
 use Rattle.metrics_exporter.specs.Kept.{SeriesRegistry, cell_in, cells_of}

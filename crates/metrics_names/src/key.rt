@@ -1,5 +1,11 @@
 //! Names and keys.
 ghost use Rattle.std.specs.Prelude.{◌≡◌, MatchResult, []};
+ghost use Rattle.std.specs.Cmp.{decided, partial_equiv_from_equiv};
+ghost use Rattle.std.specs.Hash as fed;
+ghost use Rattle.std.specs.Hash.{same_Alike};
+ghost use Rattle.metrics_names.specs.Hashing.{key_number};
+ghost use Rattle.metrics_names.specs.Names.{key_eq};
+ghost use Rattle.metrics_names.specs.Equality.{key_eq-Decides};
 ghost use Rattle.metrics_names.specs.declared.refused.Refused.TheVariants.{Memory};
 
 use crate::kind::MetricKind;
@@ -8,6 +14,8 @@ use crate::refused::Refused;
 use crate::shared_items::SharedItems;
 use crate::text::Text;
 use std::alloc::Global;
+use std::fmt;
+use std::hash::{FoldHasher, Hash, Hasher};
 use std::marker::Model;
 
 /// The name of a metric. Any text is a name, the empty one too. Names are ordered by their bytes.
@@ -54,20 +62,77 @@ impl From<Text> for KeyName {
 /// A name with labels. Keys are ordered by name, then by their labels one after another.
 ///
 /// A copy of a key shares its labels: it copies the name alone.
-#[derive(Clone, Debug, PartialEq, Eq, PartialOrd, Ord, Hash, Drop)]
+///
+/// A key keeps its number, which is made of its name and labels once, when the key is made. Its `Hash` writes this number
+/// alone, so whoever picks names and labels can make keys collide in any map, whatever the map's hasher.
+#[derive(Clone, Drop)]
+#[derive_where(PartialOrd, Ord)]
 pub struct Key {
     name: KeyName,
     labels: SharedItems<Label>,
+    #[derive_where(skip(EqHashOrd))]
+    number: u64,
 }
 
 impl Model for Key {
+    ghost use Rattle.std.specs.Prelude.{◌≡◌};
     ghost use Rattle.metrics_names.specs.Names.{KeyParts};
+    ghost use Rattle.metrics_names.specs.Hashing.{key_number};
 
     ghost Value = { KeyParts };
 
     ghost view = { λ a. record { name = a.name; labels = a.labels } };
 
-    ghost inverse = { λ k. record { name = k.name; labels = k.labels } };
+    ghost invariant = { λ a. a.number ≡ key_number (record { name = a.name; labels = a.labels }) };
+
+    ghost inverse = { λ k. record { name = k.name; labels = k.labels; number = key_number k } };
+}
+
+/// The number of the key of this name and these labels, by std's fast hasher, whose seed is fixed.
+fn number_of(name: &KeyName, labels: &SharedItems<Label>) -> u64
+    ensures { result ≡ key_number (record { name = name.now; labels = labels.now }) }
+{
+    let mut state = FoldHasher::default();
+    name.hash(&mut state);
+    labels.hash(&mut state);
+    state.finish()
+}
+
+impl PartialEq for Key {
+    ghost eq = { key_eq };
+
+    ghost laws = { partial_equiv_from_equiv (decided key_eq key_eq-Decides) };
+
+    /// Keys of different numbers differ, so that most are told apart by these.
+    fn eq(&self, other: &Key) -> bool {
+        if self.number != other.number {
+            return false;
+        }
+        self.name == other.name && self.labels == other.labels
+    }
+}
+
+impl Eq for Key {
+    ghost laws = { decided key_eq key_eq-Decides };
+}
+
+impl Hash for Key {
+    ghost hash_input = { λ k. fed.u64 (key_number k) };
+
+    ghost respects_eq = { (same_Alike (λ k. fed.u64 (key_number k)) key_eq-Decides).fed };
+
+    fn hash<H: Hasher>(&self, state: &mut H) {
+        state.write_u64(self.number);
+    }
+}
+
+impl fmt::Debug for Key {
+    fn fmt<W: fmt::Write>(&self, f: &mut fmt::Formatter<W>) -> fmt::Result {
+        f.debug_struct("Key")
+            .field("name", &self.name)
+            .field("labels", &self.labels)
+            .finish()
+    }
 }
 
 impl Key {
@@ -84,7 +149,12 @@ impl Key {
     {
         let name = KeyName::new(alloc, name)?;
         let labels = SharedItems::new(alloc, labels)?;
-        Ok(Key { name, labels })
+        let number = number_of(&name, &labels);
+        Ok(Key {
+            name,
+            labels,
+            number,
+        })
     }
 
     pub fn name(&self) -> &str
@@ -104,7 +174,19 @@ impl Key {
         ensures { MatchResult result (λ k. k ≡ record { name = name; labels = self.now.labels }) (λ e. e ≡ Memory 0) }
     {
         let labels = self.labels.clone()?;
-        Ok(Key { name, labels })
+        let number = number_of(&name, &labels);
+        Ok(Key {
+            name,
+            labels,
+            number,
+        })
+    }
+
+    /// The number of the key, which equal keys share. It was made when the key was.
+    pub fn number(&self) -> u64
+        ensures { result ≡ key_number self.now }
+    {
+        self.number
     }
 }
 

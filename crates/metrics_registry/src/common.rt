@@ -1,8 +1,7 @@
 //! Keys by the number that picks their shard, and hashers.
 ghost use Rattle.std.specs.Prelude.{◌≡◌, ℕ, true, Some, IsSome};
-ghost use Rattle.metrics_registry.specs.Hashing.{hash_number};
+ghost use Rattle.metrics_names.specs.Hashing.{hash_number, key_number, key_number_same};
 ghost use Rattle.std.proofs.Common.{ap};
-ghost use Rattle.metrics_names.specs.contracts.key.KeyHash.TheImpl.Laws.{respects_eq-law};
 
 use metrics_names::Key;
 use std::hash::{FoldHasher, Hash, Hasher};
@@ -37,12 +36,13 @@ fn folded<H: Hash>(value: &H) -> u64
 }
 
 impl Hashable for Key {
-    ghost number = { λ k. hash_number (⟦<Key as Hash>⟧.hash_input k) };
+    ghost number = { key_number };
 
-    ghost same = { λ x y e. ap hash_number (respects_eq-law x y e) };
+    ghost same = { key_number_same };
 
+    /// The number that the key keeps.
     fn hashable(&self) -> u64 {
-        folded(self)
+        self.number()
     }
 }
 
@@ -50,12 +50,12 @@ impl EqualClone for Key {
     ghost use Rattle.std.specs.Prelude.{List};
     ghost use Rattle.std.proofs.Common.{sym, ◌∙◌};
     ghost use Rattle.metrics_names.specs.Names.{KeyParts};
-    ghost use Rattle.metrics_names.proofs.NamesLemmas.{key_eq-Decides};
+    ghost use Rattle.metrics_names.specs.Equality.{key_eq-Decides};
 
     ghost clones = { λ k c h.
         let name : h.0.name ≡ h.1.name = sym h.4.0.2 ∙ (sym h.4.0.4 ∙ h.4.0.3) in
         let P : List ℕ → List (List ℕ × List ℕ) → KeyParts = λ n l. record { name = n; labels = l } in
-        (key_eq-Decides k c).1 (sym h.2 ∙ (ap (λ n. P n h.0.labels) name ∙ (ap (λ l. P h.1.name l) (sym h.4.1) ∙ h.3))) };
+        (key_eq-Decides k c).1 (sym h.2 ∙ (ap (λ n. P n h.0.labels) name ∙ (ap (λ l. P h.1.name l) (sym h.4.1.0) ∙ h.3))) };
 }
 
 impl EqualClone for u64 {

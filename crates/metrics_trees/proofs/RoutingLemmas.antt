@@ -9,7 +9,7 @@ use Rattle.metrics_names.specs.declared.kind.MetricKind.{MetricKind}
 use Rattle.metrics_names.specs.declared.kind.MetricKind.TheVariants.{Counter, Gauge, Histogram}
 use Rattle.metrics.specs.Layers.{Route, mask_has, fits, NoneFits, IsWinner, winner}
 use Rattle.metrics.proofs.LayersLemmas.{IsBest, winner-IsBest}
-use Rattle.metrics_names.proofs.NamesLemmas.{and_left, and_right}
+use Rattle.metrics_names.specs.Equality.{and_left, and_right}
 use Rattle.prefix_match.specs.TriePatterns.{stored, IsFront, HasNoFront, IsLongestFront, IsLongest}
 use Rattle.prefix_match.proofs.TrieFronts.{front_begins, begins_fits, begins_take}
 use Rattle.metrics.specs.Kinds.{of_kind}

@@ -1,4 +1,4 @@
-use Rattle.metrics_names.proofs.NamesLemmas.{series_key_eq-Decides}
+use Rattle.metrics_names.specs.Equality.{series_key_eq-Decides}
 use Rattle.metrics.proofs.LayersLemmas.{matches-Decides, winner-IsBest}
 use Rattle.metrics.proofs.BookLemmas.{joined-chunks}
 use Rattle.metrics_laws.proofs.laws.definition_laws.Goals as goal

@@ -5,7 +5,7 @@ use Rattle.metrics.specs.declared.calls.Answer.TheVariants.{Refused}
 use Rattle.metrics_names.specs.Names.{kind_eq}
 use Rattle.metrics.specs.Book.{kind_of}
 use Rattle.metrics.specs.Answering.{Handle, AllHeld, IsHeld, UpdatesCall, UpdatesHeld, IsBadHandle, places}
-use Rattle.metrics_names.proofs.NamesLemmas.{kind_eq-Decides}
+use Rattle.metrics_names.specs.Equality.{kind_eq-Decides}
 use Rattle.metrics.proofs.HandlesLemmas.{handled}
 use Rattle.metrics_replay.specs.Replaying.{handle_seen}
 use Rattle.metrics_replay.proofs.replaying.update_of.Goals as goal

@@ -1,6 +1,6 @@
 use Rattle.std.proofs.Common.{◌≡◌, ◌∙◌, ◌++◌, ◌∷◌, [], ap, sym, refl, subst, length, arith, rules, of_calls, List}
 use Rattle.metrics_names.specs.Names.{key_eq, KeyParts}
-use Rattle.metrics_names.proofs.NamesLemmas.{key_eq-Decides}
+use Rattle.metrics_names.specs.Equality.{key_eq-Decides}
 use Rattle.metrics_registry.specs.contracts.common.KeyEqualClone.TheImpl.Laws.{clones-law}
 use Rattle.metrics.specs.Kinds.{of_kind}
 use Rattle.metrics_registry.specs.Held.{held}

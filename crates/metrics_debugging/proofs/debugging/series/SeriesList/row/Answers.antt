@@ -2,7 +2,7 @@ use Rattle.std.proofs.Common.{◌≡◌, ◌∙◌, ap, sym, [], Some, None, sli
 use Rattle.std.specs.Map.Iter.{deref_pair}
 use Rattle.std.proofs.lemmas.Option.{slice_get-get_or, get_or_from_slice_get}
 use Rattle.metrics_names.specs.Names.{KeyParts}
-use Rattle.metrics_names.proofs.NamesLemmas.{key_eq-Decides}
+use Rattle.metrics_names.specs.Equality.{key_eq-Decides}
 use Rattle.metrics.specs.Book.{Description, row_of, snapshot_value}
 use Rattle.metrics.specs.Kinds.{of_kind}
 use Rattle.metrics_registry.specs.contracts.common.KeyEqualClone.TheImpl.Laws.{clones-law}
