@@ -120,7 +120,13 @@ impl<K: Hashable, S: Storage<K>> Model for JournaledShard<K, S> {
 
     ghost Value = { ShardState K S (Kinds K S S.Counter S.Gauge S.Histogram) };
 
-    ghost view = { λ s. record { storage = s.storage; shard = s.part.shard; shards = s.part.shards; cells = s.part.cells; journal = s.part.journal } };
+    ghost view = { λ s. record {
+      storage = s.storage;
+      shard = s.part.shard;
+      shards = s.part.shards;
+      cells = s.part.cells;
+      journal = s.part.journal;
+    } };
 
     ghost invariant = { λ s. HasMadeCells K.eq S.makes_counter S.makes_gauge S.makes_histogram s.storage s.part.cells };
 }

@@ -33,7 +33,12 @@ impl<T: Ledger, F: Ledger> Model for Tally<T, F> {
 
     ghost Value = { Account };
 
-    ghost view = { λ t. record { weight = t.weight; shards = t.shards; trues = t.trues.amount / 2048; falses = t.falses.amount } };
+    ghost view = { λ t. record {
+      weight = t.weight;
+      shards = t.shards;
+      trues = t.trues.amount / 2048;
+      falses = t.falses.amount;
+    } };
 
     ghost invariant = { λ t. (0 < t.weight)
         × (t.trues.parts ≡ t.weight)
