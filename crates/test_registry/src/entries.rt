@@ -3,7 +3,7 @@
 use crate::given::{
     KINDS, Numbers, Registry, delete, handles, increment, number, retain_prefix, visits,
 };
-use metrics::{Error, Key, MetricKind};
+use metrics::{Key, MetricKind};
 use metrics_registry::OwnedRegistry;
 use std::alloc::Global;
 use std::process::Abort;
@@ -21,49 +21,49 @@ fn holding(alloc: Global, shards: usize, names: &[&str]) -> Result<Registry<Key>
     Ok(registry)
 }
 
+/// A key comes once, and each call is on its cell.
 fn a_key_comes_once(
     rt: &impl Abort,
-    alloc: Global,
-    shards: usize,
+    registry: &mut Registry<Key>,
     kind: MetricKind,
+    key: &Key,
 ) -> Result<(), Fail> {
-    let mut registry = OwnedRegistry::new(alloc, Numbers, shards)?;
-    let key = Key::from_name(alloc, "foobar")?;
-    let first = increment(&mut registry, kind, &key)?;
-    let second = increment(&mut registry, kind, &key)?;
-    assert_eq!(rt; (first, second), (1, 2));
-    assert_eq!(rt; number(&registry, kind, &key), Some(2));
+    let first = increment(registry, kind, key)?;
+    let second = increment(registry, kind, key)?;
+    assert_eq!(rt; (first, second), (2, 3));
+    assert_eq!(rt; number(registry, kind, key), Some(3));
     Ok(())
 }
 
-fn a_key_stays_or_goes(
+/// Of `foobar` and `baz` a retain takes `baz` away, and a delete `foobar`.
+fn keys_go(
     rt: &impl Abort,
     alloc: Global,
-    shards: usize,
+    registry: &mut Registry<Key>,
     kind: MetricKind,
+    foobar: &Key,
 ) -> Result<(), Fail> {
-    let mut registry = holding(alloc, shards, &["foobar", "baz"])?;
-    assert_eq!(rt; retain_prefix(&mut registry, kind, "foo"), 2);
-    assert_eq!(rt; visits(&registry, kind), 1);
-    let key = Key::from_name(alloc, "foobar")?;
-    let first = delete(&mut registry, kind, &key);
-    let second = delete(&mut registry, kind, &key);
+    assert_eq!(rt; retain_prefix(registry, kind, "foo"), 2);
+    assert_eq!(rt;
+        (visits(registry, kind), handles(alloc, registry, kind)?),
+        (1, 1)
+    );
+    let first = delete(registry, kind, foobar);
+    let second = delete(registry, kind, foobar);
     assert_eq!(rt; (first, second), (true, false));
-    assert_eq!(rt; handles(alloc, &registry, kind)?, 0);
     Ok(())
 }
 
-fn a_clear_takes_all(
-    rt: &impl Abort,
-    alloc: Global,
-    shards: usize,
-    kind: MetricKind,
-) -> Result<(), Fail> {
-    let mut registry = holding(alloc, shards, &["baz"])?;
-    let key = Key::from_name(alloc, "baz")?;
-    assert_eq!(rt; number(&registry, kind, &key), Some(1));
+fn expect_entries(rt: &impl Abort, alloc: Global, shards: usize) -> Result<(), Fail> {
+    let mut registry = holding(alloc, shards, &["foobar", "baz"])?;
+    let foobar = Key::from_name(alloc, "foobar")?;
+    for kind in KINDS {
+        a_key_comes_once(rt, &mut registry, kind, &foobar)?;
+        keys_go(rt, alloc, &mut registry, kind, &foobar)?;
+    }
+    increment(&mut registry, MetricKind::Gauge, &foobar)?;
     registry.clear();
-    assert_eq!(rt; number(&registry, kind, &key), None);
+    assert_eq!(rt; number(&registry, MetricKind::Gauge, &foobar), None);
     Ok(())
 }
 
@@ -82,36 +82,9 @@ fn none_is_kept(rt: &impl Abort, alloc: Global, shards: usize) -> Result<(), Fai
 
 #[test]
 fn keys_come_and_go(rt: HostRuntime) -> Result<(), Fail> {
-    for kind in KINDS {
-        for shards in [1, 2, 8] {
-            a_key_comes_once(&rt, rt.alloc(), shards, kind)?;
-            a_key_stays_or_goes(&rt, rt.alloc(), shards, kind)?;
-            a_clear_takes_all(&rt, rt.alloc(), shards, kind)?;
-        }
-    }
-    Ok(())
-}
-
-#[test]
-fn a_retain_may_keep_none(rt: HostRuntime) -> Result<(), Fail> {
     for shards in [1, 2, 8] {
+        expect_entries(&rt, rt.alloc(), shards)?;
         none_is_kept(&rt, rt.alloc(), shards)?;
     }
     Ok(())
-}
-
-/// Whether a number of shards is refused.
-fn is_refused(alloc: Global, shards: usize) -> Option<Error> {
-    let registry: Result<Registry<Key>, Error> = OwnedRegistry::new(alloc, Numbers, shards);
-    registry.err()
-}
-
-#[test]
-fn shards_are_a_power_of_two(rt: HostRuntime) {
-    for shards in [0, 3, 2048] {
-        assert_eq!(rt; is_refused(rt.alloc(), shards), Some(Error::BadShards));
-    }
-    for shards in [1, 1024] {
-        assert_eq!(rt; is_refused(rt.alloc(), shards), None);
-    }
 }

@@ -15,5 +15,3 @@ mod plain;
 mod quantiles;
 #[cfg(test)]
 mod recency;
-#[cfg(test)]
-mod values;

@@ -24,17 +24,6 @@ fn doubled(shard: &mut Shard, place: usize) -> Option<u64> {
     })
 }
 
-#[test]
-fn cells_have_places(rt: HostRuntime) -> Result<(), Fail> {
-    let mut shard = Kinds::new(rt.alloc());
-    assert_eq!(rt; place_of(rt.alloc(), &mut shard, "a")?, Some(0));
-    assert_eq!(rt; place_of(rt.alloc(), &mut shard, "b")?, Some(1));
-    assert_eq!(rt; place_of(rt.alloc(), &mut shard, "a")?, Some(0));
-    assert_eq!(rt; doubled(&mut shard, 0), Some(4));
-    assert_eq!(rt; doubled(&mut shard, 2), None);
-    Ok(())
-}
-
 /// The sum of the numbers in the cells, and of their places.
 fn sums(shard: &Shard) -> (u64, usize) {
     let mut numbers = 0u64;
@@ -47,11 +36,15 @@ fn sums(shard: &Shard) -> (u64, usize) {
 }
 
 #[test]
-fn entries_are_met_once(rt: HostRuntime) -> Result<(), Fail> {
+fn cells_have_places(rt: HostRuntime) -> Result<(), Fail> {
     let mut shard = Kinds::new(rt.alloc());
-    for name in ["a", "b", "a", "c"] {
-        place_of(rt.alloc(), &mut shard, name)?;
+    for (name, place) in [("a", 0), ("b", 1), ("a", 0), ("c", 2)] {
+        assert_eq!(rt; place_of(rt.alloc(), &mut shard, name)?, Some(place));
     }
     assert_eq!(rt; (shard.counters.len(), sums(&shard)), (3, (4, 3)));
+    assert_eq!(rt;
+        (doubled(&mut shard, 0), doubled(&mut shard, 3)),
+        (Some(4), None)
+    );
     Ok(())
 }

@@ -61,49 +61,34 @@ const MASKS: [(MetricKind, MetricKindMask); 3] = [
     (MetricKind::Histogram, MetricKindMask::HISTOGRAM),
 ];
 
-fn expect_in_each_kind(rt: &impl Abort, alloc: Global, rows: &[Row]) -> Result<(), Fail> {
-    for (kind, mask) in MASKS {
-        expect_answers(rt, alloc, kind, mask, rows)?;
-    }
-    Ok(())
-}
-
-#[test]
-fn an_idle_cell_goes(rt: HostRuntime) -> Result<(), Fail> {
-    let rows = [(10, true, true), (15, true, true), (16, true, false)];
-    expect_in_each_kind(&rt, rt.alloc(), &rows)
-}
-
-#[test]
-fn a_key_that_is_not_held_stays_noted(rt: HostRuntime) -> Result<(), Fail> {
-    let rows = [
+/// An idle cell goes; a key that isn't held stays noted; a moment that goes back counts as zero.
+const ROWS: [&[Row]; 3] = [
+    &[(10, true, true), (15, true, true), (16, true, false)],
+    &[
         (10, true, true),
         (15, true, true),
         (16, false, true),
         (17, true, false),
-    ];
-    expect_in_each_kind(&rt, rt.alloc(), &rows)
-}
-
-#[test]
-fn a_moment_that_goes_back_counts_as_zero(rt: HostRuntime) -> Result<(), Fail> {
-    let rows = [
+    ],
+    &[
         (100, true, true),
         (0, true, true),
         (105, true, true),
         (106, true, false),
-    ];
-    expect_in_each_kind(&rt, rt.alloc(), &rows)
-}
+    ],
+];
+
+/// What is checked in no kind that the mask has stays.
+const UNCHECKED: [Row; 2] = [(10, true, true), (16, true, true)];
 
 #[test]
-fn other_kinds_are_not_checked(rt: HostRuntime) -> Result<(), Fail> {
-    let rows = [(10, true, true), (16, true, true)];
-    expect_answers(
-        &rt,
-        rt.alloc(),
-        MetricKind::Gauge,
-        MetricKindMask::COUNTER,
-        &rows,
-    )
+fn an_idle_cell_goes(rt: HostRuntime) -> Result<(), Fail> {
+    let alloc = rt.alloc();
+    for (kind, mask) in MASKS {
+        for rows in ROWS {
+            expect_answers(&rt, alloc, kind, mask, rows)?;
+        }
+    }
+    let mask = MetricKindMask::COUNTER;
+    expect_answers(&rt, alloc, MetricKind::Gauge, mask, &UNCHECKED)
 }
