@@ -1,0 +1,90 @@
+#!/usr/bin/env python3
+"""Writes the figures of docs/BENCHMARKS.md and its chart, docs/benchmarks.svg.
+
+    docs/benchmarks.py OURS THEIRS
+
+OURS and THEIRS are what several runs of the benchmarks printed (lines `name ns_per_op`), ours and the Rust crate's. A row
+of a table with a ratio names ours and, behind 'beside', the other side's where it has another name. Its figure is the least
+of the runs, with the middle one in brackets. Without words it draws the chart of the figures that stand."""
+import html
+import math
+import os
+import re
+import statistics
+import sys
+
+HERE = os.path.dirname(os.path.abspath(__file__))
+TABLE = os.path.join(HERE, "BENCHMARKS.md")
+CHART = os.path.join(HERE, "benchmarks.svg")
+ROW = re.compile(r"^\| `(\w+)`(?:, beside `(\w+)`)? \| (.*?) \| ([^|]*) \| ([^|]*) \| ([\d.]+) \|$")
+
+
+def figures(path):
+    """The runs' figures by name."""
+    found = {}
+    for line in open(path):
+        words = line.split()
+        if len(words) == 2 and not line.startswith("#"):
+            found.setdefault(words[0], []).append(float(words[1]))
+    return found
+
+
+def shown(runs):
+    least, middle = min(runs), statistics.median(runs)
+    return " (".join(f"{n:.0f}" if n >= 1000 else f"{n:.4g}" for n in (least, middle)) + ")"
+
+
+def rewritten(line, ours, theirs):
+    row = ROW.match(line)
+    if not row:
+        return line
+    name, beside, text = row.group(1), row.group(2), row.group(3)
+    mine, other = ours.get(name), theirs.get(beside or name)
+    if not mine or not other:
+        return line
+    names = f"`{name}`" + (f", beside `{beside}`" if beside else "")
+    return f"| {names} | {text} | {shown(mine)} | {shown(other)} | {min(mine) / min(other):.2f} |"
+
+
+def chart(rows):
+    """A bar for each ratio, on a logarithmic scale: to the left of the line ours is ahead."""
+    left, wide, high = 420, 440, 16
+    scale = lambda ratio: left + wide * (math.log10(ratio) + 1.5) / 2.5
+    parts = []
+    for at in (0.05, 0.1, 0.2, 0.5, 1, 2, 5, 10):
+        x = scale(at)
+        parts.append(f'<line x1="{x:.1f}" y1="24" x2="{x:.1f}" y2="{high * len(rows) + 30}" '
+                     f'stroke="{"#333" if at == 1 else "#ddd"}"/>'
+                     f'<text x="{x:.1f}" y="18" text-anchor="middle">{at:g}</text>')
+    for at, (name, ratio) in enumerate(rows):
+        y = 28 + high * at
+        a, b = sorted((scale(1), scale(min(max(ratio, 0.032), 10))))
+        parts.append(f'<text x="{left - 8}" y="{y + 11}" text-anchor="end">{html.escape(name)}</text>'
+                     f'<rect x="{a:.1f}" y="{y + 2}" width="{max(b - a, 1):.1f}" height="{high - 4}" '
+                     f'fill="{"#2a7" if ratio <= 1 else "#c62"}"/>'
+                     f'<text x="{left + wide + 8}" y="{y + 11}">{ratio:.2f}</text>')
+    return (f'<svg xmlns="http://www.w3.org/2000/svg" width="{left + wide + 60}" height="{high * len(rows) + 40}" '
+            'font-family="sans-serif" font-size="11"><rect width="100%" height="100%" fill="white"/>'
+            + "\n".join(parts) + "</svg>\n")
+
+
+def compared(lines):
+    """Names and ratios of the tables that have the Rust crate's figures."""
+    theirs = False
+    for line in lines:
+        theirs = line.startswith("|") and (theirs or "The Rust crate, ns" in line)
+        row = ROW.match(line)
+        if theirs and row:
+            yield row.group(1), float(row.group(6))
+
+
+def main():
+    lines = open(TABLE).read().split("\n")
+    if len(sys.argv) == 3:
+        ours, theirs = figures(sys.argv[1]), figures(sys.argv[2])
+        lines = [rewritten(line, ours, theirs) for line in lines]
+        open(TABLE, "w").write("\n".join(lines))
+    open(CHART, "w").write(chart(list(compared(lines))))
+
+
+main()
