@@ -56,7 +56,7 @@ fn add_one(
         → HasRoutes builder.new (rs ++ route_of route.now ∷ [])) }
     ensures step { MatchResult result
         (λ next. Adds route.now.target named most (router_recorders builder.old) (router_recorders builder.new)
-            targets.old.items targets.new.items next)
+        targets.old.items targets.new.items next)
         (λ e. e ≡ IsBadLine → CantAdd route.now.target named (router_recorders builder.old) targets.old.items) }
 {
     let mask = mask_from(route.kinds);
