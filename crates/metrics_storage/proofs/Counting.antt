@@ -1,11 +1,11 @@
 -- Counts of samples by their ranks, and in buckets.
 use Rattle.std.proofs.Common.{◌≡◌, ℕ, zero, suc, ◌+◌, ◌<◌, ◌≤◌, inl, inr, cond, true, false, List, [], ◌∷◌, ◌++◌, map, length, take, drop, take_at, set, get_or, replicate, refl, ap, sym, ◌∙◌, arith}
-use Rattle.std.specs.Prelude.{ℤ, ◌<ℤ◌, ◌≤ℤ◌, int_lt, int_le, Bool, nat_lt}
+use Rattle.std.specs.Prelude.{ℤ, pos, ◌<ℤ◌, ◌≤ℤ◌, int_lt, int_le, Bool, nat_lt}
 use Rattle.std.proofs.lemmas.Int.{ints}
 use Rattle.std.proofs.lemmas.Bool.{cases_lt, lt-ltb, le-ltb}
-use Rattle.std.proofs.lemmas.List.{length-set}
+use Rattle.std.proofs.lemmas.List.{length-set, length-map}
 use Rattle.std.proofs.lemmas.List.Sums.{sum_by-cons, count_by-le-length}
-use Rattle.metrics_storage.specs.Histogram.{Distribution, at_most, no_samples, bucket_with, rank, sum_up_to, total, buckets_of, ranked, all_ranked}
+use Rattle.metrics_storage.specs.Histogram.{Distribution, at_most, no_samples, bucket_with, rank, sum_up_to, total, buckets_of, ranked, all_ranked, own_ranks}
 
 abbrev one : Bool → ℕ
 one b = cond b 1 0
@@ -47,6 +47,12 @@ sum-next ks n lt = ap (λ m. sum_up_to m ks) (let e : n + 1 ≡ suc n = omega ar
     go [] n lt = absurd (omega arith)
     go (k ∷ ks) zero lt = omega arith
     go (k ∷ ks) (suc n) lt = let on = go ks n (omega arith) in omega (arith, on)
+
+pub sum-more : (ks : List ℕ) (m n : ℕ) → m ≤ n → sum_up_to m ks ≤ sum_up_to n ks
+sum-more ks zero n le = omega arith
+sum-more [] (suc m) n le = omega arith
+sum-more (k ∷ ks) (suc m) zero le = absurd (omega (arith, le))
+sum-more (k ∷ ks) (suc m) (suc n) le = let on = sum-more ks m n (omega (arith, le)) in omega (arith, on)
 
 -- ---- ranks
 
@@ -186,3 +192,29 @@ pub get-map : {A B : Type 0} (f : A → B) (xs : List A) (i : ℕ) (d : A) (e : 
 get-map f [] i d e lt = absurd (omega arith)
 get-map f (x ∷ xs) zero d e lt = refl
 get-map f (x ∷ xs) (suc i) d e lt = get-map f xs i d e (omega arith)
+
+-- a list around one of its items
+pub split-at : {A : Type 0} (xs : List A) (i : ℕ) (d : A) → i < length xs → xs ≡ take i xs ++ get_or xs i d ∷ drop (suc i) xs
+split-at [] i d lt = absurd (omega (arith, lt))
+split-at (x ∷ xs) zero d lt = refl
+split-at (x ∷ xs) (suc i) d lt = ap (λ l. x ∷ l) (split-at xs i d (omega (arith, lt)))
+
+-- ---- a bucket by the rank that is kept of its bound
+
+module _ (bounds : List ℤ) (own : List ℕ) (is : own ≡ own_ranks bounds) where
+  pub own-length : length own ≡ length bounds
+  own-length = ap length is ∙ length-map {B = ℕ} bounds (rank bounds)
+
+  own-at : (i : ℕ) → i < length bounds → get_or own i 0 ≡ rank bounds (get_or bounds i (pos 0))
+  own-at i lt = ap (λ l. get_or l i 0) is ∙ get-map (rank bounds) bounds i (pos 0) 0 lt
+
+  pub own-within : (i : ℕ) → i < length bounds → get_or own i 0 ≤ length bounds
+  own-within i lt = omega (arith, own-at i lt, rank-le bounds (get_or bounds i (pos 0)))
+
+  pub bucket-at : (ranks : List ℕ) (i sum : ℕ) → i < length bounds → sum ≡ sum_up_to (get_or own i 0 + 1) ranks → (get_or bounds i (pos 0), sum) ≡ get_or (buckets_of bounds ranks) i (pos 0, 0)
+  bucket-at ranks i sum lt total =
+      let count = total ∙ ap (λ r. sum_up_to (r + 1) ranks) (own-at i lt) in
+      (λ j. (get_or bounds i (pos 0), count j)) ∙ sym (get-map (λ bound. (bound, sum_up_to (rank bounds bound + 1) ranks)) bounds i (pos 0) (pos 0, 0) lt)
+
+pub buckets-length : (bounds : List ℤ) (ranks : List ℕ) → length (buckets_of bounds ranks) ≡ length bounds
+buckets-length bounds ranks = length-map {B = ℤ × ℕ} bounds (λ bound. (bound, sum_up_to (rank bounds bound + 1) ranks))

@@ -1,6 +1,8 @@
 -- A histogram over bounds, and what samples add to it.
 use Rattle.std.specs.Prelude.{ℕ, zero, suc, ◌+◌, ◌*◌, ◌^◌, ℤ, pos, neg_ℤ, ◌+ℤ◌, ◌≤ℤ◌, int_le, int_lt, List, [], ◌∷◌, map, length, fold, slice_set, slice_index}
-use Rattle.std.specs.List.{count_by}
+use Rattle.std.specs.Prelude.{◌≡◌, ◌++◌}
+use Rattle.std.specs.List.{count_by, FoldsTo}
+use Rattle.std.specs.Fn.{Mut, Called, Takes}
 
 -- each bound with the number of samples at most it, and the count and the sum of all samples
 pub record Distribution : Type 0 where
@@ -37,6 +39,10 @@ with_samples samples h = record {
 abbrev pub rank : List ℤ → ℤ → ℕ
 rank bounds x = count_by (λ bound. int_lt bound x) bounds
 
+-- the rank of each bound
+abbrev pub own_ranks : List ℤ → List ℕ
+own_ranks bounds = map (rank bounds) bounds
+
 -- the sum of the first n numbers, and of all
 abbrev pub sum_up_to : ℕ → List ℕ → ℕ
 sum_up_to zero ks = 0
@@ -61,3 +67,13 @@ all_ranked bounds (x ∷ samples) ranks = all_ranked bounds samples (ranked boun
 -- a sum of so many i64
 abbrev pub IsSumOf : ℕ → ℤ → Type 0
 IsSumOf count sum = (neg_ℤ (pos (2 ^ 63 * count)) ≤ℤ sum) × (sum ≤ℤ pos (2 ^ 63 * count))
+
+-- ---- a visit
+
+-- calls of f at each bucket, in order, left it as it is in last
+abbrev pub ShowsBuckets : {F : Type 0} → Mut F (ℤ × (ℕ × Unit {0})) (Unit {0}) → F → List (ℤ × ℕ) → F → Type 0
+ShowsBuckets g f bs last = FoldsTo (λ p b q. Called g p (b.0, (b.1, tt)) tt q) f bs last
+
+-- f may be called at each bucket, as calls at those before it left it
+pub record TakesBuckets {F : Type 0} (g : Mut F (ℤ × (ℕ × Unit {0})) (Unit {0})) (f : F) (bs : List (ℤ × ℕ)) : Type 0 where
+  pub at : (before after : List (ℤ × ℕ)) (f' : F) (b : ℤ × ℕ) → bs ≡ before ++ b ∷ after → ShowsBuckets g f before f' → Takes g f' (b.0, (b.1, tt))

@@ -2,11 +2,9 @@
 ghost use Rattle.std.specs.Prelude.{◌≡◌, ◌+◌, ◌^◌, ◌<◌, ◌≤◌, [], ◌∷◌, length, replicate, None};
 ghost use Rattle.std.specs.Prelude.{IfOk, IsErr, MatchResult, MatchOption, Ok, ◌↔◌};
 ghost use Rattle.metrics_storage.specs.Histogram.{Distribution, sum_of, no_samples, with_samples, rank, sum_up_to, buckets_of};
-ghost use Rattle.metrics_storage.specs.Histogram.{ranked, all_ranked, total, IsSumOf};
+ghost use Rattle.metrics_storage.specs.Histogram.{ranked, all_ranked, total, IsSumOf, own_ranks};
+ghost use Rattle.metrics_storage.specs.Histogram.{TakesBuckets, ShowsBuckets};
 ghost use Rattle.metrics.specs.declared.error.Error.TheVariants.{Memory as OutOfMemory, CountFull};
-
-#[cfg(test)]
-mod tests;
 
 use metrics::Error;
 use std::alloc::{AllocError, Global};
@@ -18,6 +16,8 @@ use std::marker::Model;
 #[derive(Drop)]
 pub struct Histogram {
     bounds: Vec<i64>,
+    /// The rank of each bound: how many of the bounds are below it.
+    own: Vec<usize>,
     /// At each rank the number of samples above so many bounds. A bucket is the sum up to its bound's own rank, so that
     /// a sample changes one number, in whatever order the bounds stand.
     ranks: Vec<u64>,
@@ -31,7 +31,7 @@ impl Model for Histogram {
     ghost view = { λ h. record { buckets = buckets_of h.bounds.items h.ranks.items; count = h.count; sum = h.sum } };
 
     ghost invariant = { λ h. (length h.ranks.items ≡ length h.bounds.items + 1) × (total h.ranks.items ≡ h.count)
-        × (h.count < 2 ^ 64) × IsSumOf h.count h.sum };
+        × (h.count < 2 ^ 64) × IsSumOf h.count h.sum × (h.own.items ≡ own_ranks h.bounds.items) };
 }
 
 impl Histogram {
@@ -50,6 +50,7 @@ impl Histogram {
         own.extend_from_slice(bounds)?;
         Ok(Some(Histogram {
             bounds: own,
+            own: ranks_of(alloc, bounds)?,
             ranks: zeros(alloc, bounds.len() + 1)?,
             count: 0,
             sum: 0,
@@ -75,7 +76,23 @@ impl Histogram {
     pub fn buckets(&self) -> Result<Vec<(i64, u64)>, Error>
         ensures { MatchResult result (λ v. v.items ≡ self.now.buckets) (λ e. e ≡ OutOfMemory) }
     {
-        Ok(told(*self.ranks.allocator(), &self.bounds, &self.ranks)?)
+        Ok(told(
+            *self.ranks.allocator(),
+            &self.bounds,
+            &self.own,
+            &self.ranks,
+        )?)
+    }
+
+    /// Calls `f` once for each bound, with the number of samples at most that bound, in the order in which the bounds were
+    /// given, and gives it back as the calls left it. It takes no memory.
+    ///
+    /// One pass over the counts serves bounds that rise or that fall; where they turn, it goes back over those between.
+    pub fn visit_buckets<F: FnMut(i64, u64)>(&self, f: F) -> F
+        requires { TakesBuckets F.FnMut f self.now.buckets }
+        ensures { ShowsBuckets F.FnMut f self.now.buckets result }
+    {
+        show(&self.bounds, &self.own, &self.ranks, f)
     }
 
     /// Adds a sample. It is refused with `Error::CountFull` where the count would pass 2^64 - 1.
@@ -116,6 +133,7 @@ impl Clone for Histogram {
     fn clone(&self) -> Result<Histogram, AllocError> {
         Ok(Histogram {
             bounds: self.bounds.clone()?,
+            own: self.own.clone()?,
             ranks: self.ranks.clone()?,
             count: self.count,
             sum: self.sum,
@@ -130,28 +148,98 @@ fn zeros(alloc: Global, len: usize) -> Result<Vec<u64>, AllocError>
     Vec::from_elem(alloc, 0, len)
 }
 
+/// The rank of each bound.
+fn ranks_of(alloc: Global, bounds: &[i64]) -> Result<Vec<usize>, AllocError>
+    ensures { IfOk result (λ v. v.items ≡ own_ranks bounds.now) }
+{
+    let mut ranks = Vec::with_capacity(alloc, bounds.len())?;
+    for bound in bounds {
+        ranks.push(rank_of(bounds, *bound))?;
+    }
+    Ok(ranks)
+}
+
 /// Each bound with its count.
-fn told(alloc: Global, bounds: &[i64], ranks: &[u64]) -> Result<Vec<(i64, u64)>, AllocError>
+fn told(
+    alloc: Global,
+    bounds: &[i64],
+    own: &[usize],
+    ranks: &[u64],
+) -> Result<Vec<(i64, u64)>, AllocError>
     requires same { length ranks.now ≡ length bounds.now + 1 }
     requires fits { total ranks.now ≤ u64.MAX }
+    requires own { own.now ≡ own_ranks bounds.now }
     ensures { IfOk result (λ v. v.items ≡ buckets_of bounds.now ranks.now) }
 {
     let mut told = Vec::with_capacity(alloc, bounds.len())?;
-    for bound in bounds {
-        told.push((*bound, up_to(ranks, rank_of(bounds, *bound))))?;
+    let mut first = 0usize;
+    let mut sum = 0u64;
+    for i in 0..bounds.len() {
+        let next = own[i] + 1;
+        sum = moved(ranks, first, sum, next);
+        first = next;
+        told.push((bounds[i], sum))?;
     }
     Ok(told)
 }
 
-/// The sum of the numbers up to a place.
-fn up_to(ranks: &[u64], last: usize) -> u64
-    requires within { last < length ranks.now }
+/// Shows each bound with its count to `f`.
+fn show<F: FnMut(i64, u64)>(bounds: &[i64], own: &[usize], ranks: &[u64], f: F) -> F
+    requires same { length ranks.now ≡ length bounds.now + 1 }
     requires fits { total ranks.now ≤ u64.MAX }
-    ensures { result ≡ sum_up_to (last + 1) ranks.now }
+    requires own { own.now ≡ own_ranks bounds.now }
+    requires takes { TakesBuckets F.FnMut f (buckets_of bounds.now ranks.now) }
+    ensures { ShowsBuckets F.FnMut f (buckets_of bounds.now ranks.now) result }
 {
+    let mut f = f;
+    let mut first = 0usize;
     let mut sum = 0u64;
-    for i in 0..last + 1 {
+    for i in 0..bounds.len() {
+        let next = own[i] + 1;
+        sum = moved(ranks, first, sum, next);
+        first = next;
+        f(bounds[i], sum);
+    }
+    f
+}
+
+/// The sum of the first `to` numbers, from that of the first `from`.
+fn moved(ranks: &[u64], from: usize, sum: u64, to: usize) -> u64
+    requires within { (from ≤ length ranks.now) × (to ≤ length ranks.now) }
+    requires fits { total ranks.now ≤ u64.MAX }
+    requires sum { sum ≡ sum_up_to from ranks.now }
+    ensures { result ≡ sum_up_to to ranks.now }
+{
+    if from <= to {
+        raised(ranks, from, sum, to)
+    } else {
+        lowered(ranks, from, sum, to)
+    }
+}
+
+/// The sum of the first `to` numbers, from that of fewer.
+fn raised(ranks: &[u64], from: usize, sum: u64, to: usize) -> u64
+    requires within { (from ≤ to) × (to ≤ length ranks.now) }
+    requires fits { total ranks.now ≤ u64.MAX }
+    requires sum { sum ≡ sum_up_to from ranks.now }
+    ensures { result ≡ sum_up_to to ranks.now }
+{
+    let mut sum = sum;
+    for i in from..to {
         sum += ranks[i];
+    }
+    sum
+}
+
+/// The sum of the first `to` numbers, from that of more.
+fn lowered(ranks: &[u64], from: usize, sum: u64, to: usize) -> u64
+    requires within { (to ≤ from) × (from ≤ length ranks.now) }
+    requires sum { sum ≡ sum_up_to from ranks.now }
+    ensures { result ≡ sum_up_to to ranks.now }
+{
+    let mut sum = sum;
+    for i in to..from {
+        sum -= ranks[i];
     }
     sum
 }

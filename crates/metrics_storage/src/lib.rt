@@ -7,8 +7,6 @@ mod histogram;
 mod laws;
 mod places;
 pub mod reservoir;
-#[cfg(test)]
-mod tests;
 
 pub use block::{BLOCK_SIZE, Block};
 pub use bucket::OwnedBucket;

@@ -1,6 +1,10 @@
-use Rattle.std.proofs.Common.{◌≡◌, take}
-use Rattle.metrics_storage.specs.Histogram.{buckets_of}
+use Rattle.std.proofs.Common.{◌≡◌, ◌≤◌, take, length}
+use Rattle.metrics_storage.specs.Histogram.{buckets_of, sum_up_to}
 use Rattle.metrics_storage.proofs.histogram.told.Given as goal
 
-abbrev pub invariant-loop-bound : goal.invariant-loop-bound
-invariant-loop-bound l = l.told.items ≡ take l.bound-index (buckets_of l.fn.bounds l.fn.ranks)
+abbrev pub invariant-loop-i : goal.invariant-loop-i
+invariant-loop-i l = record {
+  within : l.first ≤ length l.fn.ranks;
+  sum : l.sum ≡ sum_up_to l.first l.fn.ranks;
+  told : l.told.items ≡ take l.i (buckets_of l.fn.bounds l.fn.ranks);
+}

@@ -1,7 +1,7 @@
 use Rattle.std.proofs.Common.{◌≡◌, ◌+◌, ◌++◌, length, refl, ap, sym, ◌∙◌, arith, rules}
 use Rattle.std.proofs.lemmas.List.{length-replicate}
 use Rattle.std.proofs.lemmas.Int.{ints}
-use Rattle.metrics_storage.specs.Histogram.{total, buckets_of}
+use Rattle.metrics_storage.specs.Histogram.{total, buckets_of, own_ranks}
 use Rattle.metrics_storage.proofs.Counting.{total-zeros, buckets-zeros, same_distribution}
 use Rattle.metrics_storage.proofs.histogram.Histogram.new.Goals as goal
 
@@ -12,7 +12,7 @@ held c = (c.in_ok-extend_from_slice.ensures {u = tt}).items ∙ ap (λ l. l ++ c
 pub invariant_of-result : goal.invariant_of-result
 invariant_of-result c =
     let n = length c.args.bounds.now + 1 in let zeros = c.in_ok-zeros.ensures {u = tt} in
-    (ap length zeros ∙ length-replicate n 0 ∙ ap (λ l. length l + 1) (sym (held c)), ap total zeros ∙ total-zeros n, omega arith, (omega (arith, ints), omega (arith, ints)))
+    (ap length zeros ∙ length-replicate n 0 ∙ ap (λ l. length l + 1) (sym (held c)), ap total zeros ∙ total-zeros n, omega arith, (omega (arith, ints), omega (arith, ints)), c.in_ok-ranks_of.ensures {u = tt} ∙ ap own_ranks (sym (held c)))
 
 pub returns : goal.returns
 returns c =

@@ -20,6 +20,7 @@ invariant_of-self c =
       ap total (filled c) ∙ total-ranked bounds c.args.sample ranks h.0 ∙ ap (λ n. n + 1) h.1,
       omega (arith, h.2, c.if-self.false),
       (omega (arith, ints, h.3, e, f), omega (arith, ints, h.3, e, f)),
+      h.4,
     )
 
 pub returns-clause-step : goal.returns-clause-step

@@ -19,6 +19,7 @@ invariant_of-self c =
       ap total (filled c) ∙ total-all_ranked bounds samples ranks h.0 ∙ ap (λ n. n + length samples) h.1,
       omega (arith, h.2, room),
       (omega (arith, ints, h.3, e, room), omega (arith, ints, h.3, e, room)),
+      h.4,
     )
 
 pub returns-clause-step : goal.returns-clause-step

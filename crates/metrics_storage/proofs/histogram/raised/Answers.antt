@@ -1,6 +1,6 @@
 use Rattle.std.proofs.Common.{◌+◌, ◌<◌, length, get_or, ap, sym, ◌∙◌, arith}
 use Rattle.metrics_storage.proofs.Counting.{sum-next, sum-le-total}
-use Rattle.metrics_storage.proofs.histogram.up_to.Goals as goal
+use Rattle.metrics_storage.proofs.histogram.raised.Goals as goal
 
 pub overflow_add-sum : goal.overflow_add-sum
 overflow_add-sum c =

@@ -1,10 +1,8 @@
-//! Worked examples.
-use crate::reservoir::Reservoir;
-use crate::{Block, Error, Histogram, OwnedBucket, reservoir_law};
+//! Blocks and buckets with one owner.
 use metrics::HistogramCell;
+use metrics_storage::{Block, OwnedBucket};
 use std::alloc::{AllocError, Global};
 use std::cell::Cell;
-use std::mem;
 use std::string::String;
 use std::test::*;
 
@@ -140,7 +138,7 @@ fn the_end_of_a_bucket_ends_its_values(rt: HostRuntime) -> Result<(), Fail> {
 }
 
 #[test]
-fn a_refused_push_changes_nothing(rt: HostRuntime) -> Result<(), Fail> {
+fn three_blocks_are_cleared_newest_first(rt: HostRuntime) -> Result<(), Fail> {
     let mut bucket = OwnedBucket::<i64>::new(rt.alloc());
     for value in 0..130i64 {
         if let Err(back) = bucket.push(value) {
@@ -151,107 +149,5 @@ fn a_refused_push_changes_nothing(rt: HostRuntime) -> Result<(), Fail> {
     let mut told = 0usize;
     bucket.clear_with(|chunk| told = told.wrapping_mul(100).wrapping_add(chunk.len()));
     assert_eq!(rt; told, 26464);
-    Ok(())
-}
-
-#[test]
-fn a_histogram_counts_up_to_each_bound(rt: HostRuntime) -> Result<(), Fail> {
-    let mut histogram = Histogram::new(rt.alloc(), &[10, 25, 100])?.expect(&rt, "bounds");
-    assert!(rt;
-        histogram
-            .record_many(&[3, 2, 6, 12, 56, 82, 202, 100, 29])
-            .is_ok()
-    );
-    assert!(rt; histogram.record(89).is_ok());
-    let copy = histogram.clone()?;
-    assert_eq!(rt;
-        copy.buckets()?.as_slice(),
-        [(10, 3), (25, 4), (100, 9)].as_slice()
-    );
-    assert_eq!(rt; (copy.count(), copy.sum()), (10, 581));
-    Ok(())
-}
-
-#[test]
-fn bounds_may_fall(rt: HostRuntime) -> Result<(), Fail> {
-    let mut histogram = Histogram::new(rt.alloc(), &[25, 10])?.expect(&rt, "bounds");
-    assert!(rt; histogram.record_many(&[12]).is_ok());
-    assert_eq!(rt;
-        histogram.buckets()?.as_slice(),
-        [(25, 1), (10, 0)].as_slice()
-    );
-    assert!(rt; Histogram::new(rt.alloc(), &[])?.is_none());
-    Ok(())
-}
-
-/// The items of a reservoir, and what its drain tells.
-fn drained(
-    alloc: Global,
-    reservoir: &Reservoir,
-) -> Result<(Vec<i64>, u64, i128, (u64, u64)), AllocError> {
-    let drain = reservoir.drain();
-    let told = (
-        drain.unsampled_len(),
-        drain.unsampled_sum(),
-        drain.sample_rate(),
-    );
-    let mut items = Vec::new(alloc);
-    for item in drain {
-        items.push(item)?;
-    }
-    Ok((items, told.0, told.1, told.2))
-}
-
-fn reservoir_of(alloc: Global, size: usize, pushes: &[(i64, u64)]) -> Result<Reservoir, Error> {
-    let mut reservoir = Reservoir::new(alloc, size)?;
-    for (value, draw) in pushes {
-        if *draw <= reservoir.pushed() {
-            reservoir.push(*value, *draw)?;
-        }
-    }
-    Ok(reservoir)
-}
-
-#[test]
-fn a_reservoir_keeps_what_was_drawn(rt: HostRuntime) -> Result<(), Fail> {
-    let pushes = [(10, 0), (20, 0), (30, 1), (40, 3)];
-    let mut reservoir = reservoir_of(rt.alloc(), 2, &pushes)?;
-    let (items, len, sum, rate) = drained(rt.alloc(), &reservoir)?;
-    assert_eq!(rt; items.as_slice(), [10, 30].as_slice());
-    assert_eq!(rt; (len, sum, rate), (4, 100, (2, 4)));
-    assert_eq!(rt; reservoir.drain().len(), 2);
-    reservoir.reset();
-    assert!(rt; reservoir.is_empty());
-    assert_eq!(rt; drained(rt.alloc(), &reservoir)?.3, (1, 1));
-    reservoir_law();
-    Ok(())
-}
-
-#[test]
-fn a_reservoir_of_none_counts(rt: HostRuntime) -> Result<(), Fail> {
-    let reservoir = reservoir_of(rt.alloc(), 0, &[(1, 0), (1, 0), (1, 0)])?;
-    let (items, len, sum, rate) = drained(rt.alloc(), &reservoir)?;
-    assert_eq!(rt; (items.len(), len, sum, rate), (0, 3, 3, (0, 3)));
-    Ok(())
-}
-
-#[test]
-fn a_consume_empties_however_few_were_taken(rt: HostRuntime) -> Result<(), Fail> {
-    let pushes = [(10, 0), (20, 0), (30, 0)];
-    let mut reservoir = reservoir_of(rt.alloc(), 4, &pushes)?;
-    let mut first = None;
-    reservoir.consume(|mut drain| first = drain.next());
-    assert_eq!(rt; first, Some(10));
-    let (items, len, sum, rate) = drained(rt.alloc(), &reservoir)?;
-    assert_eq!(rt; (items.len(), len, sum, rate), (0, 0, 0, (1, 1)));
-    Ok(())
-}
-
-#[test]
-fn a_forgotten_drain_empties(rt: HostRuntime) -> Result<(), Fail> {
-    let mut reservoir = reservoir_of(rt.alloc(), 4, &[(10, 0), (20, 0)])?;
-    reservoir.consume(|drain| mem::forget(drain));
-    let (items, len, sum, rate) = drained(rt.alloc(), &reservoir)?;
-    assert_eq!(rt; (items.len(), len, sum, rate), (0, 0, 0, (1, 1)));
     Ok(())
 }

@@ -1,0 +1,6 @@
+use Rattle.std.proofs.Common.{◌≡◌, ◌+◌}
+use Rattle.metrics_storage.specs.Histogram.{sum_up_to}
+use Rattle.metrics_storage.proofs.histogram.lowered.Given as goal
+
+abbrev pub invariant-loop-i : goal.invariant-loop-i
+invariant-loop-i l = l.sum + sum_up_to l.i l.fn.ranks ≡ sum_up_to l.fn.from l.fn.ranks + sum_up_to l.fn.to l.fn.ranks

@@ -1,0 +1,43 @@
+use Rattle.std.proofs.Common.{List, ◌≡◌, ℤ, ℕ, suc, ◌+◌, ◌≤◌, length, take, drop, get_or, pos, ap, sym, subst, ◌∙◌, arith, rules, w64, to_z, of_z}
+use Rattle.std.proofs.Math.Facts.{to_z-of_z}
+use Rattle.std.proofs.Math.Seq.{take-suc}
+use Rattle.std.proofs.lemmas.Fn.{FoldsTo-push}
+use Rattle.std.specs.Fn.{Called, Takes}
+use Rattle.metrics_storage.specs.Histogram.{buckets_of, ShowsBuckets}
+use Rattle.metrics_storage.proofs.Counting.{own-within, bucket-at, buckets-length, split-at}
+use Rattle.metrics_storage.proofs.histogram.show.Goals as goal
+
+pub overflow_add-next : goal.overflow_add-next
+overflow_add-next g c =
+    let w : get_or c.args.own.now c.loop-i.i 0 + 1 ≤ length c.args.ranks.now = omega (arith, own-within c.args.bounds.now c.args.own.now c.requires.own c.loop-i.i c.loop-i-test.true, c.requires.same) in
+    search rules
+
+pub moved-sum-requires-clause-within : goal.moved-sum-requires-clause-within
+moved-sum-requires-clause-within g c = (c.loop-i.invariant.within, omega (arith, own-within c.args.bounds.now c.args.own.now c.requires.own c.loop-i.i c.loop-i-test.true, c.requires.same))
+
+pub f-requires : goal.f-requires
+f-requires g c =
+    let bounds = c.args.bounds.now in let ranks = c.args.ranks.now in let i = c.loop-i.i in let lt = c.loop-i-test.true in
+    let x = get_or bounds i (pos 0) in let sum = c.moved-sum.result in
+    let bs : List (ℤ × ℕ) = buckets_of bounds ranks in
+    let read : to_z w64 (of_z w64 x) ≡ x = to_z-of_z {w = w64} {z = x} (search rules) in
+    let bucket : (to_z w64 (of_z w64 x), sum) ≡ get_or bs i (pos 0, 0) = (λ j. (read j, sum)) ∙ bucket-at bounds c.args.own.now c.requires.own ranks i sum lt c.moved-sum.ensures in
+    let split = split-at bs i (pos 0, 0) (omega (arith, buckets-length bounds ranks, lt)) in
+    subst (λ (b : ℤ × ℕ). Takes g.F.FnMut c.loop-i.f (b.0, (b.1, tt))) (sym bucket)
+    (c.requires.takes.at (take i bs) (drop (suc i) bs) c.loop-i.f (get_or bs i (pos 0, 0)) split c.loop-i.invariant.calls)
+
+pub loop-i-preserved : goal.loop-i-preserved
+loop-i-preserved g c =
+    let bounds = c.args.bounds.now in let ranks = c.args.ranks.now in let i = c.loop-i.i in let lt = c.loop-i-test.true in
+    let x = get_or bounds i (pos 0) in let sum = c.moved-sum.result in let next : suc i ≡ i + 1 = omega arith in
+    let bs : List (ℤ × ℕ) = buckets_of bounds ranks in
+    let read : to_z w64 (of_z w64 x) ≡ x = to_z-of_z {w = w64} {z = x} (search rules) in
+    let bucket : (to_z w64 (of_z w64 x), sum) ≡ get_or bs i (pos 0, 0) = (λ j. (read j, sum)) ∙ bucket-at bounds c.args.own.now c.requires.own ranks i sum lt c.moved-sum.ensures in
+    let took = sym (take-suc bs i (pos 0, 0) (omega (arith, buckets-length bounds ranks, lt))) ∙ ap (λ k. take k bs) next in
+    record {
+      within = omega (arith, own-within bounds c.args.own.now c.requires.own i lt, c.requires.same);
+      sum = c.moved-sum.ensures;
+      calls = subst (λ ys. ShowsBuckets g.F.FnMut c.args.f ys c.f.new.self) took
+          (FoldsTo-push _ c.args.f (take i bs) c.loop-i.f (get_or bs i (pos 0, 0)) c.f.new.self c.loop-i.invariant.calls
+          (subst (λ (b : ℤ × ℕ). Called g.F.FnMut c.loop-i.f (b.0, (b.1, tt)) tt c.f.new.self) bucket c.f.ensures));
+    }
