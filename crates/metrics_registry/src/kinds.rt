@@ -133,7 +133,19 @@ pub fn shard_of<K: Hashable>(key: &K, count: usize) -> usize
     if count == 1 {
         return 0;
     }
-    (key.hashable() % count as u64) as usize
+    remainder(key.hashable(), count as u64) as usize
+}
+
+/// What is left of a number by a count, without a division where the count is a power of two, as that of a registry is.
+fn remainder(number: u64, count: u64) -> u64
+    requires { 0 < count }
+    ensures { result ≡ number % count }
+{
+    let power = 1u64.wrapping_shl(count.trailing_zeros());
+    if power == count {
+        return number & (count - 1);
+    }
+    number % count
 }
 
 /// Whether a registry may have so many shards: a power of two from 1 to 1,024.

@@ -168,6 +168,7 @@ where
     pub fn retain_counters<F: FnMut(&K, &S::Counter) -> bool + Drop>(&mut self, f: F)
         requires { TakesEach F.FnMut f self.old.counters }
         ensures retains { (last : F) × RetainsEach F.FnMut f self.old.counters self.new.counters last }
+        ensures once { IsDistinct K.eq (keys_of self.old.counters) }
         ensures rest { CountersAlone self.old self.new }
     {
         let mut f = f;
@@ -239,6 +240,7 @@ where
     pub fn retain_gauges<F: FnMut(&K, &S::Gauge) -> bool + Drop>(&mut self, f: F)
         requires { TakesEach F.FnMut f self.old.gauges }
         ensures retains { (last : F) × RetainsEach F.FnMut f self.old.gauges self.new.gauges last }
+        ensures once { IsDistinct K.eq (keys_of self.old.gauges) }
         ensures rest { GaugesAlone self.old self.new }
     {
         let mut f = f;
@@ -310,6 +312,7 @@ where
     pub fn retain_histograms<F: FnMut(&K, &S::Histogram) -> bool + Drop>(&mut self, f: F)
         requires { TakesEach F.FnMut f self.old.histograms }
         ensures retains { (last : F) × RetainsEach F.FnMut f self.old.histograms self.new.histograms last }
+        ensures once { IsDistinct K.eq (keys_of self.old.histograms) }
         ensures rest { HistogramsAlone self.old self.new }
     {
         let mut f = f;

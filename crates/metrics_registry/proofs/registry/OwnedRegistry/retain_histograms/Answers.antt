@@ -1,5 +1,8 @@
 use Rattle.std.proofs.Common.{rules, ◌∙◌, ap, refl, subst, List, map, take}
+use Rattle.std.specs.List.{IsDistinct}
+use Rattle.std.specs.Map.{keys_of}
 use Rattle.metrics_registry.specs.Held.{CallsAtEntry, Retains, entries_of}
+use Rattle.metrics_registry.proofs.HeldLemmas.{distinct-placed}
 use Rattle.metrics_registry.proofs.WalkLemmas.{folds-retained}
 use Rattle.metrics_registry.proofs.ShardLemmas.{storage_is, count_is, counters_are, gauges_are, histograms_are, takes-next, entries-all, retained-here, map-kept, as-before}
 use Rattle.metrics_registry.proofs.registry.OwnedRegistry.retain_histograms.Goals as goal
@@ -37,3 +40,8 @@ pub returns-clause-rest : goal.returns-clause-rest
 returns-clause-rest g c =
     let i = c.loop-i.invariant in
     (i.6 ∙ storage_is c.self.view_is, i.0 ∙ count_is c.self.view_is, ap entries_of i.4 ∙ counters_are c.self.view_is, ap entries_of i.5 ∙ gauges_are c.self.view_is)
+
+pub returns-clause-once : goal.returns-clause-once
+returns-clause-once g c =
+    let P : List (g.row.K.Denot × g.row.S-Histogram.Denot) → Type 0 = λ es. IsDistinct g.K.PartialEq.eq (keys_of es) in
+    subst P (histograms_are c.self.view_is) (distinct-placed g.met.K.Eq.laws g.K.Hashable.number g.met.K.Hashable.same c.self.inside.shards.len 0 (map (λ s. s.histograms) c.self.inside.shards.items) c.self.invariant.3)
