@@ -215,6 +215,14 @@ pub entry-there : (entries : Entries) (order : List Placed) (s : ℕ) (p : Place
 entry-there entries order s p agree at =
     omega (arith, inside (λ (m : KeyParts × (ℕ × MetricKind)). m.1) (marks entries p.kind) p.place (s, p.kind) (agree.stands s p at), length-map mark (of_kind p.kind entries))
 
+-- where a series of another kind stands, none of the update's is held
+pub not-held : (entries : Entries) (order : List Placed) (s : ℕ) (p : Placed) (by : Update) → slice_get order s ≡ Some p → kind_eq p.kind (kind_of by) ≡ false → is_held (all_series entries order) s by ≡ false
+not-held entries order s p by at other =
+    ap (is_kind (kind_of by)) (kinds-order entries order s ∙ ap (option_map (λ (q : Placed). q.kind)) at) ∙ turned (kind_of by) p.kind other
+  where
+    turned : (j k : MetricKind) → kind_eq k j ≡ false → kind_eq j k ≡ false
+    turned j k e = by_test (kind_eq j k) (λ t. absurd (true≢false (sym (subst (λ i. kind_eq i j ≡ true) ((kind_eq-Decides j k).0 t) (same_kind j)) ∙ e))) (λ t. t)
+
 -- ---- a change of one cell
 
 -- the cell of a series is there, so a call on it was made

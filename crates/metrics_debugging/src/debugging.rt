@@ -1,5 +1,5 @@
 //! A recorder that keeps one book in memory.
-ghost use Rattle.std.specs.Prelude.{◌≡◌, ◌≤◌, [], MatchResult, IsOk, vec_capacity};
+ghost use Rattle.std.specs.Prelude.{◌≡◌, MatchResult, IsOk};
 ghost use Rattle.metrics_names.specs.declared.refused.Refused.TheVariants.{Memory};
 ghost use Rattle.metrics.specs.Meaning.{KeepsTargets, Snapshots};
 ghost use Rattle.metrics_debugging.specs.Debugging.{IsNewBook};
@@ -73,12 +73,12 @@ impl Recorder for DebuggingRecorder {
         key: &Key,
     ) -> Result<Vec<Address>, Refused> {
         let Some(series) = self.series.find(kind, key) else {
-            let mut found = room_for_one(alloc)?;
+            let mut found = Vec::with_capacity(alloc, 1)?;
             let series = self.series.add(alloc, kind, key)?;
             found.push_reserved(Address { book: 0, series });
             return Ok(found);
         };
-        let Ok(mut found) = room_for_one(alloc) else {
+        let Ok(mut found) = Vec::with_capacity(alloc, 1) else {
             return Err(Refused::Memory { acted: 1 });
         };
         found.push_reserved(Address { book: 0, series });
@@ -154,11 +154,4 @@ impl Snapshotter {
     {
         on.snapshot(alloc, self.book)
     }
-}
-
-/// An empty list with room for one address.
-fn room_for_one(alloc: Global) -> Result<Vec<Address>, Refused>
-    ensures { MatchResult result (λ v. (v.items ≡ []) × (1 ≤ vec_capacity v)) (λ e. e ≡ Memory 0) }
-{
-    Ok(Vec::with_capacity(alloc, 1)?)
 }

@@ -1,5 +1,5 @@
 //! A prefix before each name.
-ghost use Rattle.std.specs.Prelude.{◌≡◌, None, IfOk, MatchResult, string_bytes};
+ghost use Rattle.std.specs.Prelude.{◌≡◌, None, IfOk, MatchResult};
 ghost use Rattle.metrics_names.specs.declared.refused.Refused.TheVariants.{Memory as MemoryRefused};
 ghost use Rattle.metrics.specs.Layers.{dotted, prefixed};
 ghost use Rattle.metrics.specs.declared.error.Error.TheVariants.{Memory};
@@ -48,17 +48,11 @@ impl PrefixLayer {
 pub fn dotted_name(alloc: Global, prefix: &str, name: &str) -> Result<KeyName, Refused>
     ensures { MatchResult result (λ n. n ≡ dotted prefix.now name.now) (λ e. e ≡ MemoryRefused 0) }
 {
-    Ok(KeyName::from(Text::from(dotted_text(alloc, prefix, name)?)))
-}
-
-fn dotted_text(alloc: Global, prefix: &str, name: &str) -> Result<String, AllocError>
-    ensures { IfOk result (λ s. string_bytes s ≡ dotted prefix.now name.now) }
-{
     let mut text = String::with_capacity(alloc, prefix.len() + 1 + name.len())?;
     text.push_str(prefix)?;
     text.push_str(".")?;
     text.push_str(name)?;
-    Ok(text)
+    Ok(KeyName::from(Text::from(text)))
 }
 
 impl<R: Recorder> Layer<R> for PrefixLayer {

@@ -2,7 +2,7 @@
 ghost use Rattle.std.specs.Prelude.{◌≡◌, ◌∷◌, [], ◌++◌, ◌<◌, if◌then◌else◌, OnOk, OnErr, IfOk, IfErr};
 ghost use Rattle.std.specs.Prelude.{None, length, map, option_map, slice_get, position};
 ghost use Rattle.metrics_names.specs.declared.refused.Refused.TheVariants.{Memory};
-ghost use Rattle.metrics.specs.Book.{is_of, new_series, after_reset, row_of, new_value};
+ghost use Rattle.metrics.specs.Book.{is_of, new_series, after_reset, row_of, new_value, kind_of};
 ghost use Rattle.metrics.specs.Kinds.{of_kind};
 ghost use Rattle.metrics_debugging.specs.Debugging.{content_of};
 ghost use Rattle.metrics_debugging.specs.DebuggingCells.{value_of, kind_of_value, UpdatesValue};
@@ -111,6 +111,9 @@ impl SeriesList {
             return Err(Refused::NoSuchAddress);
         }
         let placed = self.order[series];
+        if placed.kind != kind_of_update(by) {
+            return Err(Refused::NoSuchAddress);
+        }
         let updated = self.by_key.of_mut(placed.kind).change_at(
             placed.place,
             |found: &mut Numbered| -> Result<(), Refused>
@@ -171,5 +174,16 @@ impl SeriesList {
                 },
             );
         }
+    }
+}
+
+/// The kind that an update is for.
+fn kind_of_update(by: Update) -> MetricKind
+    ensures { result ≡ kind_of by }
+{
+    match by {
+        Update::Increment(_) | Update::Absolute(_) => MetricKind::Counter,
+        Update::Add(_) | Update::Subtract(_) | Update::Set(_) => MetricKind::Gauge,
+        Update::Record(_) => MetricKind::Histogram,
     }
 }

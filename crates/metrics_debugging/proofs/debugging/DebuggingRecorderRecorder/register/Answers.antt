@@ -7,8 +7,8 @@ use Rattle.metrics_debugging.specs.DebuggingOrder.{series_of}
 use Rattle.metrics_debugging.proofs.SeriesLemmas.{register_there, register_new}
 use Rattle.metrics_debugging.proofs.debugging.DebuggingRecorderRecorder.register.Goals as goal
 
-pub returns-in_default-room_for_one-clause-registers : goal.returns-in_default-room_for_one-clause-registers
-returns-in_default-room_for_one-clause-registers c =
+pub returns-in_default-with_capacity-clause-registers : goal.returns-in_default-with_capacity-clause-registers
+returns-in_default-with_capacity-clause-registers c =
     let xs = series_of c.args.self.now.series in
     let r = register_there xs (described_by c.args.self.now.descriptions) (series_key c.args.kind c.args.key.now) c.in-Some.series (sym c.in-Some.ensures) in
     (lit≤ tt, ap (λ (x : Content). x ∷ []) r.1)
@@ -18,7 +18,7 @@ returns-clause-registers c =
     let xs = series_of c.args.self.now.series in
     let r = register_there xs (described_by c.args.self.now.descriptions) (series_key c.args.kind c.args.key.now) c.in-Some.series (sym c.in-Some.ensures) in
     let address : ℕ → List Address = λ s. record { book = 0; series = s } ∷ [] in
-    (c.push_reserved-2.ensures.items ∙ ap (λ as'. as' ++ address c.in-Some.series) c.in-Ok.ensures.0 ∙ ap address r.0, ap (λ (x : Content). x ∷ []) r.1)
+    (c.push_reserved-2.ensures.items ∙ ap (λ as'. as' ++ address c.in-Some.series) (c.in-Ok.ensures {u = tt}).items ∙ ap address r.0, ap (λ (x : Content). x ∷ []) r.1)
 
 pub returns-in_default-clause-registers : goal.returns-in_default-clause-registers
 returns-in_default-clause-registers c =
@@ -26,7 +26,7 @@ returns-in_default-clause-registers c =
     let ys = series_of c.add.new.self in
     let r = register_new xs ys (described_by c.args.self.now.descriptions) (series_key c.args.kind c.args.key.now) (sym c.in_default.ensures) c.in_ok-series.ensures.ok in
     let address : ℕ → List Address = λ s. record { book = 0; series = s } ∷ [] in (
-      c.push_reserved.ensures.items ∙ ap (λ as'. as' ++ address c.in_ok-series.series) c.in_ok-found.ensures.0
+      c.push_reserved.ensures.items ∙ ap (λ as'. as' ++ address c.in_ok-series.series) (c.in_ok-found.ensures {u = tt}).items
           ∙ ap address (c.in_ok-series.ensures.number ∙ r.0),
       ap (λ (x : Content). x ∷ []) r.1,
     )

@@ -8,11 +8,11 @@ use Rattle.metrics_debugging.proofs.debugging.series.SeriesList.update.Goals as 
 pub invariant_of-self : goal.invariant_of-self
 invariant_of-self c =
     let self = c.args.self.now in
-    let p = c.index-placed.result.now in
+    let p = c.index.result.now in
     let es = c.of_mut.result.now in
     let fs = c.change_at-updated.new.self in
     let small : c.args.series < length self.order.items = omega (arith, c.if-series-len.false, c.len.ensures, self.order.ok.0) in
-    let at : slice_get self.order.items c.args.series ≡ Some p = slice_get_read self.order.items (length self.order.items) c.args.series p refl small c.index-placed.ensures in
+    let at : slice_get self.order.items c.args.series ≡ Some p = slice_get_read self.order.items (length self.order.items) c.args.series p refl small c.index.ensures in
     let m = made self.by_key self.order.items c.args.series p _ es fs c.change_at-updated.result self.agree at c.of_mut.ensures.value c.change_at-updated.ensures.found c.change_at-updated.ensures.some in
     let h = m.2.3 in
     let met = h.met in
@@ -23,18 +23,18 @@ invariant_of-self c =
 pub unreachable-requires : goal.unreachable-requires
 unreachable-requires c =
     let self = c.args.self.now in
-    let p = c.index-placed.result.now in
+    let p = c.index.result.now in
     let small : c.args.series < length self.order.items = omega (arith, c.if-series-len.false, c.len.ensures, self.order.ok.0) in
-    let at : slice_get self.order.items c.args.series ≡ Some p = slice_get_read self.order.items (length self.order.items) c.args.series p refl small c.index-placed.ensures in
+    let at : slice_get self.order.items c.args.series ≡ Some p = slice_get_read self.order.items (length self.order.items) c.args.series p refl small c.index.ensures in
     let m = made self.by_key self.order.items c.args.series p _ c.of_mut.result.now c.change_at-updated.new.self c.change_at-updated.result self.agree at c.of_mut.ensures.value c.change_at-updated.ensures.found c.change_at-updated.ensures.some in
     cc (c.in-None.is, m.1)
 
 pub returns : goal.returns
 returns c =
     let self = c.args.self.now in
-    let p = c.index-placed.result.now in
+    let p = c.index.result.now in
     let small : c.args.series < length self.order.items = omega (arith, c.if-series-len.false, c.len.ensures, self.order.ok.0) in
-    let at : slice_get self.order.items c.args.series ≡ Some p = slice_get_read self.order.items (length self.order.items) c.args.series p refl small c.index-placed.ensures in
+    let at : slice_get self.order.items c.args.series ≡ Some p = slice_get_read self.order.items (length self.order.items) c.args.series p refl small c.index.ensures in
     let changes = (c.in-Some.ensures {u = tt}).some in
     let h = changes.3 in
     let met = h.met in
