@@ -18,7 +18,8 @@ fn key(alloc: Global, i: u32) -> Result<Key> {
     Ok(Key::from_parts(alloc, "requests_total", labels)?)
 }
 
-fn keys_1000(alloc: Global) -> Result<Vec<Key>> {
+/// The keys of 1,000 routes.
+pub fn keys_1000(alloc: Global) -> Result<Vec<Key>> {
     let mut keys = Vec::new(alloc);
     for i in 0..1000u32 {
         keys.push(key(alloc, i)?)?;

@@ -1,8 +1,9 @@
-//! Benchmarks of storage and of the registry with one owner: see `bench_harness` for its words.
+//! Benchmarks of storage, of the registry with one owner and of the exporter: see `bench_harness` for its words.
 #![tactic(auto)]
 
 mod buckets;
 mod cells;
+mod exporters;
 mod histograms;
 mod reservoirs;
 
@@ -10,6 +11,7 @@ use anyhow::Result;
 use bench_harness::{Size, Words, report};
 use buckets::{Clears, Pushes};
 use cells::{Checks, Creates};
+use exporters::{Expires, Texts, Updates};
 use histograms::{Records, RecordsMany};
 use reservoirs::{Filling, Sampling};
 use std::alloc::Global;
@@ -106,10 +108,22 @@ fn cell_rows<R: Clock + Print + Eprint>(rt: &R, words: &Words, alloc: Global) ->
     )
 }
 
+/// Calls on an exporter that holds 1,000 counters.
+fn exporter_rows<R: Clock + Print + Eprint>(rt: &R, words: &Words, alloc: Global) -> Result<()> {
+    let size = Size::together(1000, OPERATIONS);
+    let name = "exporter_update_counter_held_1000";
+    report(rt, words, name, Updates::new(alloc), size)?;
+    let name = "exporter_text_1000_per_series";
+    report(rt, words, name, Texts::new(alloc), size)?;
+    let name = "exporter_expire_1000_per_series";
+    report(rt, words, name, Expires::new(alloc), size)
+}
+
 fn main(rt: HostRuntime) -> Result<()> {
     let alloc = rt.alloc();
     let words = Words::new(&rt)?;
     sample_rows(&rt, &words, alloc)?;
     bucket_rows(&rt, &words, alloc)?;
-    cell_rows(&rt, &words, alloc)
+    cell_rows(&rt, &words, alloc)?;
+    exporter_rows(&rt, &words, alloc)
 }

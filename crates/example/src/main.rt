@@ -1,41 +1,29 @@
-//! A book under a prefix and a filter, beside a second book: a counter that reaches both, and their rows.
+//! Counts under a prefix and past a filter, as the text that a collector reads.
 #![tactic(auto)]
 
 use anyhow::Result;
-use metrics::{Error, Key, KeyName, Label, Recorder, Unit};
+use metrics::{Error, Key, MetricKindMask, Recorder, Reset};
 use metrics_util::debugging::DebuggingRecorder;
-use metrics_util::layers::{Child, Fanout, FanoutBuilder, FilterLayer, PrefixLayer};
+use metrics_util::exporter::Exporter;
+use metrics_util::layers::{Child, FilterLayer, PrefixLayer};
 use std::alloc::Global;
 
-fn tree(alloc: Global) -> Result<Fanout<DebuggingRecorder>, Error> {
+fn tree(alloc: Global) -> Result<Child<DebuggingRecorder>, Error> {
     let prefix = PrefixLayer::new(alloc, "app")?;
     let filter = FilterLayer::from_patterns(alloc, &["debug"])?;
     let book = Child::leaf(DebuggingRecorder::new(alloc)?);
-    let book = book.prefix(alloc, &prefix)?.filter(alloc, &filter)?;
-    let mut both = FanoutBuilder::default(alloc);
-    both.add_recorder(book)?;
-    both.add_recorder(Child::leaf(DebuggingRecorder::new(alloc)?))?;
-    Ok(both.build())
-}
-
-fn run<R: Recorder>(rt: &(impl Print + AllocGlobal), mut on: R) -> Result<()> {
-    let alloc = rt.alloc();
-    let name = KeyName::new(alloc, "hits")?;
-    on.describe_counter(alloc, &name, Some(Unit::Count), "all hits")?;
-    let labels = vec![in alloc; Label::new(alloc, "host", "a")?]?;
-    let hits = on.register_counter(alloc, &Key::from_parts(alloc, "hits", labels)?)?;
-    hits.increment(&mut on, 2)?;
-    on.register_counter(alloc, &Key::from_name(alloc, "debug.hits")?)?;
-    for book in 0..on.books() {
-        let snapshot = on.snapshot(alloc, book)?;
-        for (key, unit, text, value) in snapshot.as_slice() {
-            let name = key.key().name();
-            println!(rt; "book {book}: {name} {unit:?} {text:?} {value:?}")?;
-        }
-    }
-    Ok(())
+    Ok(book.prefix(alloc, &prefix)?.filter(alloc, &filter)?)
 }
 
 fn main(rt: HostRuntime) -> Result<()> {
-    run(&rt, tree(rt.alloc())?)
+    let alloc = rt.alloc();
+    let mut on = tree(alloc)?;
+    for (name, by) in [("hits", 2), ("debug.hits", 5)] {
+        let counter = on.register_counter(alloc, &Key::from_name(alloc, name)?)?;
+        counter.increment(&mut on, by)?;
+    }
+    let mut exporter = Exporter::new(alloc, 1, MetricKindMask::ALL, Some(60), &[10])?;
+    exporter.absorb(&on.snapshot_with(alloc, 0, Reset::KeepGauges)?)?;
+    print!(rt; "{}", exporter.text()?)?;
+    Ok(())
 }

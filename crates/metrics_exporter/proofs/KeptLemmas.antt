@@ -78,7 +78,7 @@ keeps-updated setup xs a b key u storage recency changed kept = record {
 
 -- ---- a check
 
-err_inside : {x y : Error} → ◌≡◌ {A = Result (Unit {0}) Error} (Err x) (Err y) → x ≡ y
+pub err_inside : {x y : Error} → ◌≡◌ {A = Result (Unit {0}) Error} (Err x) (Err y) → x ≡ y
 err_inside {x} h = ap (λ (r : Result (Unit {0}) Error). elim r as (λ _. Error) [ Ok _ ↦ x | Err e ↦ e ]) h
 
 head_or : {A : Type 0} → A → List A → A

@@ -4,6 +4,9 @@ pub mod SortedLemmas
 pub mod NumberLemmas
 pub mod StepLemmas
 pub mod FullLemmas
+pub mod EntryLemmas
+pub mod RoomLemmas
 pub mod KeptLemmas
+pub mod AbsorbLemmas
 pub mod ExpiryLemmas
 pub mod LawLemmas

@@ -29,6 +29,10 @@ cells_at r Histogram key = option_map (cell_in samples) (held key_eq r.histogram
 abbrev pub cells_of : SeriesRegistry → Cells
 cells_of r s = cells_at r s.kind s.key
 
+-- what an exporter keeps of each series; after a list of calls it is what these give (the field `cells` of `Keeps`)
+abbrev pub held_cells : Exporter → Cells
+held_cells e = cells_of e.registry
+
 -- the storage and the number of the shards stay
 abbrev pub KeepsSetting : SeriesRegistry → SeriesRegistry → Type 0
 KeepsSetting old new = (new.storage ≡ old.storage) × (new.count ≡ old.count)

@@ -1,5 +1,5 @@
 -- One update and one check of what an exporter keeps.
-use Rattle.std.specs.Prelude.{if◌then◌else◌, ◌≡◌, ℕ, ◌+◌, ◌-◌, nat_lt, true, ◌%◌, ◌^◌, ℤ, pos, Bool, not, ◌&&◌, List, [], ◌∷◌, Option, None, Some}
+use Rattle.std.specs.Prelude.{if◌then◌else◌, ◌≡◌, ℕ, ◌+◌, ◌-◌, nat_lt, true, false, ◌%◌, ◌^◌, ℤ, pos, Bool, not, ◌&&◌, List, [], ◌∷◌, Option, None, Some, Result, Ok, Err}
 use Rattle.metrics_names.specs.declared.kind.MetricKind.{MetricKind}
 use Rattle.metrics_names.specs.declared.kind.MetricKind.TheVariants.{Counter, Gauge, Histogram}
 use Rattle.metrics_names.specs.Names.{KeyParts, SeriesKey, key_eq, series_key_eq}
@@ -85,6 +85,11 @@ UpdatesEntry f fresh key old new = Sets key_eq key (Some (counted_with f (or_new
 abbrev pub has_room : Option (Counted Distribution) → Bool
 has_room None = true
 has_room (Some c) = nat_lt c.inner.count (2 ^ 64 - 1)
+
+-- a cell takes a sample, and is refused as full where its count can't take one more
+abbrev pub TakesSample : ℤ → Counted Distribution → Result (Unit {0}) Error → Counted Distribution → Type 0
+TakesSample sample old (Ok done) new = (new ≡ counted_with (with_samples (sample ∷ [])) old) × (has_room (Some old) ≡ true)
+TakesSample sample old (Err e) new = (new ≡ old) × (e ≡ CountFull) × (has_room (Some old) ≡ false)
 
 abbrev pub reading_has_room : Reading → Bool
 reading_has_room (count n) = true

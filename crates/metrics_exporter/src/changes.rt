@@ -1,6 +1,6 @@
 //! Updates and checks of the cells.
 ghost use Rattle.std.specs.Prelude.{◌≡◌, true, false, ◌↔◌, ◌+◌, ◌<◌, ◌∷◌, [], pos, IsErr, Err, None};
-ghost use Rattle.std.specs.Prelude.{IsSome, OnOk, IfOk, IfErr};
+ghost use Rattle.std.specs.Prelude.{IsSome, OnOk, IfOk, IfErr, MatchResult, if◌then◌else◌};
 ghost use Rattle.metrics_names.specs.declared.kind.MetricKind.{MetricKind as AnyKind};
 ghost use Rattle.metrics.specs.declared.handles.Update.TheVariants.{Record as RecordUpdate};
 ghost use Rattle.metrics_names.specs.Names.{KeyParts, key_eq};
@@ -11,6 +11,7 @@ ghost use Rattle.metrics_registry.specs.RecencyEntries.{rules_of, table_of};
 ghost use Rattle.metrics_exporter.specs.Exporting.{series_of, check_of_held};
 ghost use Rattle.metrics_exporter.specs.Kept.{cells_of, KeepsSetting};
 ghost use Rattle.metrics_exporter.specs.Stepping.{count_with, level_with, counted_with, has_room, UpdatesEntry, UpdatesCells};
+ghost use Rattle.metrics_exporter.specs.Stepping.{TakesSample};
 ghost use Rattle.metrics_exporter.specs.Stepping.{TakesUpdate, RefusesUpdate, ChecksCells};
 
 use crate::cells::CountedCells;
@@ -87,39 +88,36 @@ fn update_gauge(
     )
 }
 
-/// Whether the count of a key's samples can take one more.
-fn has_room(registry: &OwnedRegistry<Key, CountedCells>, key: &Key) -> bool
-    ensures { result ≡ has_room (held key_eq registry.now.histograms key.now) }
-{
-    match registry.get_histogram(key) {
-        Some(cell) => cell.get_inner().count() < u64::MAX,
-        None => true,
-    }
-}
-
+/// Adds a sample to the cell of a key.
 fn record(
     registry: &mut OwnedRegistry<Key, CountedCells>,
     key: &Key,
     sample: i64,
 ) -> Result<(), Error>
-    requires { has_room (held key_eq registry.old.histograms key.now) ≡ true }
     ensures ok { OnOk result (UpdatesEntry (with_samples
         (sample ∷ [])) registry.old.storage.empty key.now registry.old.histograms registry.new.histograms) }
-    ensures err { IfErr result (λ e. (e ≡ OutOfMemory) × (registry.new ≡ registry.old)
-        × (held key_eq registry.old.histograms key.now ≡ None)) }
+    ensures room { OnOk result (has_room (held key_eq registry.old.histograms key.now) ≡ true) }
+    ensures err { IfErr result (λ e.
+        (e ≡ (if has_room (held key_eq registry.old.histograms key.now) then OutOfMemory else CountFull))
+        × (registry.new ≡ registry.old)) }
+    ensures absent { result ≡ Err OutOfMemory → held key_eq registry.old.histograms key.now ≡ None }
     ensures rest { HistogramsAlone registry.old registry.new }
 {
-    let recorded = registry.get_or_create_histogram(
+    let _shards = registry.shards();
+    registry.get_or_create_histogram(
         key,
         |cell: &mut Counted<Histogram>| -> Result<(), Error>
-            ensures recorded { OnOk result (cell.new ≡ counted_with (with_samples (sample ∷ [])) cell.old) }
-            ensures refused { IsErr result → u64.MAX < cell.old.inner.count + 1 }
-        { cell.with_increment(|histogram: &mut Histogram| histogram.record(sample)) },
-    )?;
-    match recorded {
-        Ok(()) => Ok(()),
-        Err(_) => unreachable!(),
-    }
+            ensures { TakesSample sample cell.old result cell.new }
+        {
+            cell.try_increment(
+                |histogram: &mut Histogram| -> Result<(), Error>
+                    ensures step { MatchResult result (λ _. histogram.new ≡ with_samples (sample ∷ []) histogram.old)
+                        (λ e. (e ≡ CountFull) × (histogram.new ≡ histogram.old)) }
+                    ensures refused { IsErr result ↔ (u64.MAX < histogram.old.count + 1) }
+                { histogram.record(sample) },
+            )
+        },
+    )?
 }
 
 /// Updates the cell of a key, which is made where there is none.
@@ -139,12 +137,7 @@ pub(crate) fn update_cells(
     match by {
         Update::Increment(_) | Update::Absolute(_) => update_counter(registry, key, by),
         Update::Add(_) | Update::Subtract(_) | Update::Set(_) => update_gauge(registry, key, by),
-        Update::Record(sample) => {
-            if !has_room(registry, key) {
-                return Err(Error::CountFull);
-            }
-            record(registry, key, sample)
-        }
+        Update::Record(sample) => record(registry, key, sample),
     }
 }
 

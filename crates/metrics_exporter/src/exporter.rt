@@ -11,6 +11,11 @@ ghost use Rattle.metrics_registry.specs.Idleness.{Answered};
 ghost use Rattle.metrics_exporter.specs.Exporting.{Setup, Log, updates, expires, steps, IsFull, IsExpiry, IsHeldNumber};
 ghost use Rattle.metrics_exporter.specs.Exporting.{cells_after, series_of};
 ghost use Rattle.metrics_exporter.specs.ExporterText.{IsText};
+ghost use Rattle.metrics_exporter.specs.Absorbing.{is_level};
+ghost use Rattle.metrics_exporter.specs.Gathering.{series_at};
+ghost use Rattle.metrics_names.specs.declared.kind.MetricKind.TheVariants.{Gauge as GaugeKind};
+
+mod held;
 
 use crate::cells::CountedCells;
 use crate::changes::{check_series, update_cells};
@@ -127,5 +132,16 @@ impl Exporter {
             (held : ℕ) × IsHeldNumber (cells_after setup (steps log)) held × (result ≡ min held usize.MAX) }
     {
         held_number(&self.registry)
+    }
+
+    /// Whether a gauge is held, and its value is this one.
+    pub(crate) fn has_level(&self, key: &Key, level: i64) -> bool
+        ensures { (setup : Setup) (log : Log) → IsAfter setup log self.now →
+            result ≡ is_level level (cells_after setup (steps log) (series_at GaugeKind key.now)) }
+    {
+        match self.registry.get_gauge(key) {
+            Some(cell) => *cell.get_inner() == level,
+            None => false,
+        }
     }
 }

@@ -9,7 +9,7 @@ pub mod debugging {
 
 /// Series over a registry, as text.
 pub mod exporter {
-    pub use metrics_exporter::{Exporter, exporter_law};
+    pub use metrics_exporter::{Exporter, PartlyAbsorbed, exporter_law};
 }
 
 /// Layers over recorders.

@@ -4,6 +4,4 @@
 #![tactic(auto)]
 
 #[cfg(test)]
-mod refusals;
-#[cfg(test)]
 mod rows;

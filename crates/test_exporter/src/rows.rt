@@ -1,6 +1,6 @@
 //! A counter that goes once it was idle, and begins again.
 
-use metrics::{Key, Label, MetricKindMask, Update};
+use metrics::{Error, Key, Label, MetricKindMask, Refused, Update};
 use metrics_exporter::Exporter;
 use std::alloc::Global;
 use std::process::Abort;
@@ -10,12 +10,30 @@ const COUNTER: &str = "counter hits host=a value 2\n";
 
 const AGAIN: &str = "counter hits host=a value 1\n";
 
-const OTHERS: &str = "gauge temp value -3\nhistogram lat count 1 sum 12 le 10 0 le 25 1\n";
+/// Series that no check takes away, of which one has the empty name.
+const OTHERS: [(&str, Update); 3] = [
+    ("temp", Update::Set(-3)),
+    ("", Update::Set(7)),
+    ("lat", Update::Record(12)),
+];
 
-fn hits(alloc: Global) -> Result<Key, Fail> {
-    let mut labels = Vec::new(alloc);
-    labels.push(Label::new(alloc, "host", "a")?)?;
-    Ok(Key::from_parts(alloc, "hits", labels)?)
+const OTHER_LINES: &str =
+    "gauge - value 7\ngauge temp value -3\nhistogram lat count 1 sum 12 le 10 0 le 25 1\n";
+
+fn hits(alloc: Global) -> Result<Key, Refused> {
+    let labels = Vec::from_array(alloc, [Label::new(alloc, "host", "a")?])?;
+    Key::from_parts(alloc, "hits", labels)
+}
+
+/// An exporter whose counters go once they were idle for more than 5.
+fn exporter(alloc: Global, hits: &Key) -> Result<Exporter, Error> {
+    let mask = MetricKindMask::COUNTER;
+    let mut exporter = Exporter::new(alloc, 4, mask, Some(5), &[10, 25])?;
+    exporter.update(hits, Update::Increment(2))?;
+    for (name, by) in OTHERS {
+        exporter.update(&Key::from_name(alloc, name)?, by)?;
+    }
+    Ok(exporter)
 }
 
 /// Expires at a moment, and compares how many series went, how many stay, and their lines.
@@ -24,34 +42,37 @@ fn expect_scrape(
     exporter: &mut Exporter,
     now: u64,
     removed: usize,
-    lines: (&str, &str),
+    first: &str,
 ) -> Result<(), Fail> {
     assert_eq!(rt; exporter.expire(now)?, removed, "at {now}");
     let text = exporter.text()?;
-    let (first, others) = lines;
-    assert!(rt; text.starts_with(first), "at {now}: {text}");
-    assert!(rt; text.ends_with(others), "at {now}: {text}");
-    assert_eq!(rt; text.len(), first.len() + others.len(), "at {now}: {text}");
+    assert!(rt;
+        text.starts_with(first) && text.ends_with(OTHER_LINES),
+        "at {now}"
+    );
+    assert_eq!(rt; text.len(), first.len() + OTHER_LINES.len(), "at {now}");
     assert_eq!(rt;
         exporter.len(),
-        2 + usize::from(!first.is_empty()),
+        OTHERS.len() + usize::from(!first.is_empty()),
         "at {now}"
     );
     Ok(())
 }
 
+/// The moments of checks, how many series go, and the counter's line.
+const CHECKS: [(u64, usize, &str); 3] = [(10, 0, COUNTER), (15, 0, COUNTER), (16, 1, "")];
+
+fn expect_scrapes(rt: &impl Abort, exporter: &mut Exporter, hits: &Key) -> Result<(), Fail> {
+    for (now, removed, first) in CHECKS {
+        expect_scrape(rt, exporter, now, removed, first)?;
+    }
+    exporter.update(hits, Update::Increment(1))?;
+    expect_scrape(rt, exporter, 17, 0, AGAIN)
+}
+
 #[test]
 fn an_idle_counter_goes_and_begins_again(rt: HostRuntime) -> Result<(), Fail> {
-    let alloc = rt.alloc();
-    let mask = MetricKindMask::COUNTER;
-    let mut exporter = Exporter::new(alloc, 4, mask, Some(5), &[10, 25])?;
-    let hits = hits(alloc)?;
-    exporter.update(&hits, Update::Increment(2))?;
-    exporter.update(&Key::from_name(alloc, "temp")?, Update::Set(-3))?;
-    exporter.update(&Key::from_name(alloc, "lat")?, Update::Record(12))?;
-    expect_scrape(&rt, &mut exporter, 10, 0, (COUNTER, OTHERS))?;
-    expect_scrape(&rt, &mut exporter, 15, 0, (COUNTER, OTHERS))?;
-    expect_scrape(&rt, &mut exporter, 16, 1, ("", OTHERS))?;
-    exporter.update(&hits, Update::Increment(1))?;
-    expect_scrape(&rt, &mut exporter, 17, 0, (AGAIN, OTHERS))
+    let hits = hits(rt.alloc())?;
+    let mut exporter = exporter(rt.alloc(), &hits)?;
+    expect_scrapes(&rt, &mut exporter, &hits)
 }

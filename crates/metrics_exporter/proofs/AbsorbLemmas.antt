@@ -1,0 +1,121 @@
+-- Updates of a key one after another, and rows one after another.
+use Rattle.std.proofs.Common.{◌≡◌, ℕ, suc, ◌<◌, ◌≤◌, ◌+◌, List, [], ◌∷◌, ◌++◌, map, take, drop, get_or, length, None, Result, Ok, Err, IfErr, refl, ap, sym, ◌∙◌, subst, arith, append_assoc, append-nil, take-append-drop, drop-cons}
+use Rattle.std.specs.Prelude.{◌↔◌, ◌⊎◌, ℤ, Some}
+use Rattle.std.proofs.lemmas.List.{length-map, length-take-le, map-append, take_more, take_all}
+use Rattle.metrics_names.specs.Names.{KeyParts}
+use Rattle.metrics.specs.declared.error.Error.{Error}
+use Rattle.metrics.specs.declared.error.Error.TheVariants.{Memory, CountFull}
+use Rattle.metrics.specs.declared.handles.Update.{Update}
+use Rattle.metrics.specs.declared.handles.Update.TheVariants.{Record}
+use Rattle.metrics.specs.declared.debugging.DebugValue.{DebugValue}
+use Rattle.metrics.specs.Book.{RowParts}
+use Rattle.metrics_exporter.specs.declared.absorb.PartlyAbsorbed.{PartlyAbsorbed}
+use Rattle.metrics_exporter.specs.declared.exporter.Exporter.{Exporter}
+use Rattle.metrics_exporter.specs.Exporting.{Setup, Log, updates, steps, series_of, cells_after, IsFull}
+use Rattle.metrics_exporter.specs.Kept.{IsAfter}
+use Rattle.metrics_exporter.specs.Absorbing.{updates_of, made, asked_by, with_row, with_rows, Refuses, StopsIn, MakesUpdates, StopsAt, Absorbs}
+use Rattle.metrics_exporter.proofs.KeptLemmas.{Done, err_inside}
+
+-- ---- one more update
+
+pub made-push : (key : KeyParts) (us : List Update) (u : Update) → made key (us ++ u ∷ []) ≡ made key us ++ updates key u (Ok tt) ∷ []
+made-push key us u = map-append (λ v. updates key v (Ok tt)) us (u ∷ [])
+
+-- why an update was refused
+pub refuses : (setup : Setup) (log : Log) (key : KeyParts) (u : Update) (r : Done) (e : Error) → r ≡ Err e
+    → ((r ≡ Err CountFull) ↔ IsFull (steps log) key u) → (r ≡ Err Memory → cells_after setup (steps log) (series_of key u) ≡ None) → (e ≡ Memory) ⊎ (e ≡ CountFull)
+    → Refuses setup log key u e
+refuses setup log key u r e is full absent either = record {
+  either = either;
+  absent = λ h. absent (is ∙ ap Err h);
+  full = (λ h. full.0 (is ∙ ap Err h), λ h. err_inside (sym is ∙ full.1 h));
+}
+
+-- an update that was refused behind others of its key
+pub stops-in : (setup : Setup) (log : Log) (key : KeyParts) (first rest all : List Update) (u : Update) (e : Error) (n : ℕ) (a b : Exporter)
+    → all ≡ first ++ u ∷ rest → n ≡ length first → IsAfter setup (log ++ made key first) a → b ≡ a → Refuses setup (log ++ made key first) key u e
+    → StopsIn setup log key all e n b
+stops-in setup log key first rest all u e n a b split number after same refused = record {
+  first = first;
+  next = u;
+  rest = rest;
+  updates = split;
+  number = number;
+  stands = let P : Exporter → Type 0 = IsAfter setup (log ++ made key first) in subst P (sym same) after;
+  refused = refused;
+}
+
+-- ---- one more element of a list
+
+pub split-at : {A : Type 0} (xs : List A) (i : ℕ) (x : A) → i < length xs → x ≡ get_or xs i x → xs ≡ take i xs ++ x ∷ drop (suc i) xs
+split-at xs i x small at =
+    sym (take-append-drop i xs) ∙ ap (λ l. take i xs ++ l) (drop-cons xs i x small ∙ ap (λ y. y ∷ drop (suc i) xs) (sym at))
+
+pub taken : {A : Type 0} (xs : List A) (i : ℕ) (x : A) → i < length xs → x ≡ get_or xs i x → take (i + 1) xs ≡ take i xs ++ x ∷ []
+taken xs i x small at = take_more xs i x small ∙ ap (λ y. take i xs ++ y ∷ []) (sym at)
+
+-- ---- samples
+
+pub samples-split : (xs : List ℤ) (i : ℕ) (x : ℤ) → i < length xs → x ≡ get_or xs i x → map Record xs ≡ map Record (take i xs) ++ Record x ∷ map Record (drop (suc i) xs)
+samples-split xs i x small at = ap (map Record) (split-at xs i x small at) ∙ map-append Record (take i xs) (x ∷ drop (suc i) xs)
+
+pub samples-number : (xs : List ℤ) (i : ℕ) → i < length xs → i ≡ length (map Record (take i xs))
+samples-number xs i small = sym (length-map (take i xs) Record ∙ length-take-le i xs (omega (arith, small)))
+
+pub samples-more : (log : Log) (key : KeyParts) (xs : List ℤ) (i : ℕ) (x : ℤ) → i < length xs → x ≡ get_or xs i x
+    → (log ++ made key (map Record (take i xs))) ++ updates key (Record x) (Ok tt) ∷ [] ≡ log ++ made key (map Record (take (i + 1) xs))
+samples-more log key xs i x small at =
+    append_assoc log (made key (map Record (take i xs))) (updates key (Record x) (Ok tt) ∷ [])
+    ∙ ap (λ l. log ++ l) (sym (made-push key (map Record (take i xs)) (Record x)))
+    ∙ ap (λ l. log ++ made key l) (sym (map-append Record (take i xs) (x ∷ [])) ∙ ap (map Record) (sym (taken xs i x small at)))
+
+-- ---- rows
+
+rows-push : (setup : Setup) (log : Log) (rows : List RowParts) (row : RowParts) → with_rows setup log (rows ++ row ∷ []) ≡ with_row setup (with_rows setup log rows) row
+rows-push setup log [] row = refl
+rows-push setup log (r ∷ rows) row = rows-push setup (with_row setup log r) rows row
+
+pub rows-more : (setup : Setup) (log : Log) (rows : List RowParts) (i : ℕ) (row : RowParts) → i < length rows → row ≡ get_or rows i row
+    → with_row setup (with_rows setup log (take i rows)) row ≡ with_rows setup log (take (i + 1) rows)
+rows-more setup log rows i row small at = sym (ap (with_rows setup log) (taken rows i row small at) ∙ rows-push setup log (take i rows) row)
+
+pub stops-at : (setup : Setup) (log : Log) (rows : List RowParts) (i : ℕ) (row : RowParts) (stop : PartlyAbsorbed) (after : Exporter) → i < length rows → row ≡ get_or rows i row → stop.rows ≡ i
+    → StopsIn setup (with_rows setup log (take i rows)) row.0.key (asked_by setup (with_rows setup log (take i rows)) row) stop.error stop.samples after
+    → StopsAt setup log rows stop after
+stops-at setup log rows i row stop after small at is within = record {
+  first = take i rows;
+  next = row;
+  rest = drop (suc i) rows;
+  all = split-at rows i row small at;
+  number = is ∙ sym (length-take-le i rows (omega (arith, small)));
+  within = within;
+}
+
+-- a row that was absorbed whole
+pub row-absorbed : (setup : Setup) (log : Log) (items rows : List RowParts) (i : ℕ) (row : RowParts) (key : KeyParts) (r : Result (Unit {0}) (Error × ℕ)) (done : Unit {0}) (after : Exporter)
+    → items ≡ rows → i < length items → row ≡ get_or items i row → key ≡ row.0.key → r ≡ Ok done
+    → MakesUpdates setup (with_rows setup log (take i rows)) key (updates_of (cells_after setup (steps (with_rows setup log (take i rows)))) key row.3) r after
+    → IsAfter setup (with_rows setup log (take (i + 1) rows)) after
+row-absorbed setup log items rows i row key r done after same small at is ok makes =
+    let before : Log = with_rows setup log (take i rows) in
+    let K : KeyParts → Type 0 = λ k. MakesUpdates setup before k (updates_of (cells_after setup (steps before)) k row.3) r after in
+    let R : Result (Unit {0}) (Error × ℕ) → Type 0 = λ q. MakesUpdates setup before row.0.key (asked_by setup before row) q after in
+    let S : List RowParts → Type 0 = λ l. i < length l in
+    let G : List RowParts → Type 0 = λ l. row ≡ get_or l i row in
+    let L : Log → Type 0 = λ l. IsAfter setup l after in
+    let made : IsAfter setup (with_row setup before row) after = subst R ok (subst K is makes) in
+    subst L (rows-more setup log rows i row (subst S same small) (subst G same at)) made
+
+-- a row in which an update was refused
+pub row-stopped : (setup : Setup) (log : Log) (items rows : List RowParts) (i : ℕ) (row : RowParts) (key : KeyParts) (r : Result (Unit {0}) (Error × ℕ)) (error : Error) (n : ℕ) (after : Exporter)
+    → items ≡ rows → i < length items → row ≡ get_or items i row → key ≡ row.0.key → r ≡ Err (error, n)
+    → MakesUpdates setup (with_rows setup log (take i rows)) key (updates_of (cells_after setup (steps (with_rows setup log (take i rows)))) key row.3) r after
+    → StopsAt setup log rows (record { error = error; rows = i; samples = n }) after
+row-stopped setup log items rows i row key r error n after same small at is refused makes =
+    let before : Log = with_rows setup log (take i rows) in
+    let K : KeyParts → Type 0 = λ k. MakesUpdates setup before k (updates_of (cells_after setup (steps before)) k row.3) r after in
+    let R : Result (Unit {0}) (Error × ℕ) → Type 0 = λ q. MakesUpdates setup before row.0.key (asked_by setup before row) q after in
+    let S : List RowParts → Type 0 = λ l. i < length l in
+    let G : List RowParts → Type 0 = λ l. row ≡ get_or l i row in
+    let stops : StopsIn setup before row.0.key (asked_by setup before row) error n after = subst R refused (subst K is makes) in
+    stops-at setup log rows i row (record { error = error; rows = i; samples = n }) after (subst S same small) (subst G same at) refl stops
