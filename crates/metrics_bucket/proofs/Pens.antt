@@ -1,8 +1,26 @@
--- A pen's ticket against what its seat holds.
+-- What a pen's account says of its seat.
 use Rattle.std.proofs.Common.{◌≡◌, ℕ, false, true≢false, Option, Some, None, refl}
+use Rattle.metrics_bucket.specs.declared.pen.Pen.TheInside.{Inside}
 use Rattle.metrics_bucket.specs.declared.view.Hold.TheVariants.{Nothing}
-use Rattle.metrics_bucket.specs.Account.{hold_of, has_ticket}
+use Rattle.metrics_bucket.specs.Account.{hold_of, has_ticket, IsPushed}
+use Rattle.metrics_bucket.specs.Pens.{account_of}
+use Rattle.metrics_bucket.specs.Pushed.{HasPushed}
 
 pub free_hold : (t : Option (ℕ × ℕ)) → has_ticket t ≡ false → hold_of t ≡ Nothing
 free_hold None e = refl
 free_hold (Some t) e = absurd (true≢false e)
+
+pub account_pushed : (p p' : Inside) (x : ℕ) → p'.seat.table_id ≡ p.seat.table_id → has_ticket p'.ticket ≡ false → HasPushed p.seat.me x p'.seat.me → IsPushed (account_of p) x (account_of p')
+account_pushed p p' x table ticket (e, i, below, is) = (
+  e,
+  i,
+  below,
+  λ k. record {
+    home = record { table = table k; places = (is k).0.places };
+    weight = (is k).0.weight;
+    pushed = (is k).0.pushed;
+    taken = (is k).0.taken;
+    read = (is k).0.read;
+    ticket = ticket k;
+  },
+)

@@ -3,72 +3,62 @@ ghost use Rattle.std.specs.Prelude.{◌≡◌, ℕ, ◌<◌, ◌≤◌, ◌⊎�
 ghost use Rattle.std.specs.Fn.{CalledAt};
 ghost use Rattle.std.specs.List.{FoldsTo};
 ghost use Rattle.metrics_bucket.specs.Blocks.{valued, newest_first};
+ghost use Rattle.metrics_bucket.specs.Lending.{home_of};
 
 use crate::bucket::RuledBucket;
-use crate::lent::Lent;
+use crate::rack::{Loan, Pens};
 use crate::sample::Sample;
+use crate::visitor::Shown;
 use metrics::Error;
 use metrics_cells::HistogramFn;
 use std::alloc::Global;
-use std::sync::{Arc, Mutex, Wait};
-
-/// How many calls may be under way at once.
-const PENS: usize = 64;
+use std::sync::Wait;
 
 /// A bucket that any thread may push into, read and clear. It has two sides, each with 64 places for each block.
 ///
-/// It keeps 64 pens. A call borrows one of them while it runs, and is refused with `Error::NoPen` where all are lent. A
-/// lock is held only while a pen is lent or comes back.
+/// It keeps 64 pens. A call borrows one of them while it runs; where all are lent, it pauses until one is back. No lock is
+/// taken. One block takes some 3 KB of memory, each further one 2 KB.
 #[derive(Drop)]
 pub struct AtomicBucket<T: Sample> {
-    pens: Mutex<Vec<Box<Lent<T>, Global>>>,
+    bucket: RuledBucket<T>,
+    pens: Pens,
+    ghost own: { bucket ≡ home_of pens.table.shared.key },
 }
 
 impl<T: Sample> AtomicBucket<T> {
+    ghost use Rattle.metrics_bucket.specs.Loans.{IsLoanOf};
+
     /// An empty bucket of 1 to 1024 blocks on each side.
     pub fn new(alloc: Global, blocks: usize) -> Result<AtomicBucket<T>, Error>
         ensures good { (0 < blocks) × (blocks ≤ 1024) → IfErr result (λ e. e ≡ Error.Memory) }
         ensures bad { (blocks ≡ 0) ⊎ (1024 < blocks) → result ≡ Err Error.BadBlocks }
     {
         let (bucket, pen) = RuledBucket::<T>::new(alloc, blocks)?;
-        let bucket = Arc::new(alloc, bucket)?;
-        let mut pens = Vec::with_capacity(alloc, PENS)?;
-        Lent::share(alloc, &bucket, pen, PENS, &mut pens)?;
-        Ok(AtomicBucket {
-            pens: Mutex::new(pens),
-        })
+        let pens = Pens::new(alloc, pen)?;
+        Ok(AtomicBucket { bucket, pens })
     }
 
-    fn lend<R: Wait>(&self, rt: &R) -> Option<Box<Lent<T>, Global>> {
-        self.pens.lock(rt).pop()
-    }
-
-    // There is room for it, since there was before it was lent.
-    fn give_back<R: Wait>(&self, rt: &R, lent: Box<Lent<T>, Global>) {
-        let _ = self.pens.lock(rt).push(lent);
+    // A pen. The calls begin to look at different places: at as many as tickets were given.
+    fn lend<R: Wait>(&self, rt: &R) -> Loan
+        ensures { IsLoanOf self.now.pens result }
+    {
+        self.pens.lend(rt, self.bucket.control() / 2)
     }
 
     /// Whether no value was pushed since the last clear. A push that is under way counts as a value.
-    pub fn is_empty<R: Wait>(&self, rt: &R) -> Result<bool, Error>
+    pub fn is_empty<R: Wait>(&self, _rt: &R) -> Result<bool, Error>
         ensures { IfErr result (λ e. e ≡ Error.NoPen) }
     {
-        let Some(mut lent) = self.lend(rt) else {
-            return Err(Error::NoPen);
-        };
-        let empty = lent.is_empty();
-        self.give_back(rt, lent);
-        Ok(empty)
+        Ok(self.bucket.control() < 2)
     }
 
     /// Pushes a value, or gives it back. `Full`: all places of the live side are given.
     pub fn push<R: Wait>(&self, rt: &R, value: T) -> Result<(), (Error, T)>
         ensures { IfErr result (λ e. ((e.0 ≡ Error.Full) ⊎ (e.0 ≡ Error.NoPen)) × (e.1 ≡ value)) }
     {
-        let Some(mut lent) = self.lend(rt) else {
-            return Err((Error::NoPen, value));
-        };
-        let pushed = lent.push(rt, value);
-        self.give_back(rt, lent);
+        let mut loan = self.lend(rt);
+        let pushed = self.bucket.push_by(rt, &mut loan.pen, value);
+        self.pens.give_back(loan);
         pushed
     }
 
@@ -79,11 +69,9 @@ impl<T: Sample> AtomicBucket<T> {
     pub fn data<R: Wait>(&self, rt: &R, alloc: Global) -> Result<Vec<T>, Error>
         ensures { IfErr result (λ e. (e ≡ Error.Memory) ⊎ (e ≡ Error.Busy) ⊎ (e ≡ Error.NoPen)) }
     {
-        let Some(mut lent) = self.lend(rt) else {
-            return Err(Error::NoPen);
-        };
-        let values = lent.data(rt, alloc);
-        self.give_back(rt, lent);
+        let mut loan = self.lend(rt);
+        let values = self.bucket.gather_values(rt, alloc, &mut loan.pen);
+        self.pens.give_back(loan);
         values
     }
 
@@ -95,11 +83,10 @@ impl<T: Sample> AtomicBucket<T> {
             × ((last : F) × FoldsTo (λ p x q. CalledAt F.FnMut p x tt q) f (valued T.value (newest_first words)) last)) }
         ensures err { IfErr result (λ e. (e ≡ Error.Busy) ⊎ (e ≡ Error.NoPen)) }
     {
-        let Some(mut lent) = self.lend(rt) else {
-            return Err(Error::NoPen);
-        };
-        let count = lent.data_with(rt, f);
-        self.give_back(rt, lent);
+        let mut shown = Shown { f };
+        let mut loan = self.lend(rt);
+        let count = self.bucket.show_to(rt, &mut loan.pen, &mut shown);
+        self.pens.give_back(loan);
         count
     }
 
@@ -123,11 +110,10 @@ impl<T: Sample> AtomicBucket<T> {
             × ((last : F) × FoldsTo (λ p x q. CalledAt F.FnMut p x tt q) f (valued T.value (newest_first words)) last)) }
         ensures err { IfErr result (λ e. (e ≡ Error.Busy) ⊎ (e ≡ Error.NoPen)) }
     {
-        let Some(mut lent) = self.lend(rt) else {
-            return Err(Error::NoPen);
-        };
-        let count = lent.clear_with(rt, f);
-        self.give_back(rt, lent);
+        let mut shown = Shown { f };
+        let mut loan = self.lend(rt);
+        let count = self.bucket.claim_and_clear(rt, &mut loan.pen, &mut shown);
+        self.pens.give_back(loan);
         count
     }
 }

@@ -3,9 +3,10 @@ ghost use Rattle.std.specs.Prelude.{◌≡◌, ℕ, ◌+◌, ◌*◌, ◌^◌, �
 ghost use Rattle.std.specs.Prelude.{false, IsTrue, IfOk, OnOk, IfErr, OnErr, MatchResult, length, take, drop, map, [], ◌++◌};
 ghost use Rattle.std.specs.Prelude.{◌-◌, vec_capacity};
 ghost use Rattle.metrics_bucket.specs.Account.{first_account, with_ticket, IsPushed};
-ghost use Rattle.metrics_bucket.specs.BucketState.{place_index};
+ghost use Rattle.metrics_bucket.specs.BucketState.{place_index, holding_at, pushing};
+ghost use Rattle.metrics_bucket.specs.Pushed.{HasPushed};
 ghost use Rattle.metrics_bucket.specs.Blocks.{Settled};
-ghost use Rattle.metrics_bucket.specs.declared.view.Hold.TheVariants.{Nothing, Settling};
+ghost use Rattle.metrics_bucket.specs.declared.view.Hold.TheVariants.{Nothing, Ticket, Settling};
 ghost use Rattle.metrics_bucket.specs.Steps.{count_all, IsFullFor, values_known, ArePartsOf};
 
 use crate::pen::{Pen, Words};
@@ -122,6 +123,11 @@ impl<T: Sample> RuledBucket<T> {
         if side == 0 { at } else { self.places + at }
     }
 
+    // The control word, as far as a look without a pen tells.
+    pub(crate) fn control(&self) -> u64 {
+        self.table.shared.peek(0)
+    }
+
     /// Whether no ticket of the live side was given. A push that is under way counts, and a value that a clear is about
     /// to take does not.
     pub fn is_empty_as(&self, pen: &mut Pen) -> bool
@@ -147,17 +153,49 @@ impl<T: Sample> RuledBucket<T> {
             → MatchResult result (λ _. length pen.old.pushed < count_all pen.old.taken + self.now.places)
             (λ e. (e ≡ Error.Full) × IsFullFor self.now.places pen.old.pushed pen.old.taken) }
     {
-        let found = self.table.shared.load::<LookAtControl>(&mut pen.seat, 0);
+        pen.ticket = Some(self.draw(&mut pen.seat)?);
+        Ok(())
+    }
+
+    // Draws a ticket: its side and its place. The errors are those of `begin_as`.
+    fn draw(&self, seat: &mut Seat<Turn, View>) -> Result<(usize, usize), Error>
+        requires home { (seat.old.table_id ≡ self.now.table) × (seat.old.me.0.places ≡ self.now.places)
+            × (0 < seat.old.me.0.weight) }
+        requires hold { seat.old.me.0.hold ≡ Nothing }
+        ensures table { seat.new.table_id ≡ seat.old.table_id }
+        ensures ok { IfOk result (λ t. (e : ℕ) × (t.0 < 2) × (t.1 < self.now.places)
+            × (seat.new.me ≡ (holding_at seat.old.me.0 e (Ticket t.0 t.1), seat.old.me.1))) }
+        ensures err { IfErr result (λ e. (seat.new.me ≡ seat.old.me) × ((e ≡ Error.Full) ⊎ (e ≡ Error.Raced))) }
+        ensures whole { seat.old.me.0.weight ≡ 1024
+            → MatchResult result (λ _. length seat.old.me.0.pushed < count_all seat.old.me.0.taken + self.now.places)
+            (λ e. (e ≡ Error.Full) × IsFullFor self.now.places seat.old.me.0.pushed seat.old.me.0.taken) }
+    {
+        let found = self.table.shared.load::<LookAtControl>(seat, 0);
         let given = (found / 2) as usize;
         if given >= self.places {
             return Err(Error::Full);
         }
         let shared = &self.table.shared;
-        if shared.compare_exchange::<DrawTicket>(&mut pen.seat, 0, found, found + 2) != found {
+        if shared.compare_exchange::<DrawTicket>(seat, 0, found, found + 2) != found {
             return Err(Error::Raced);
         }
-        pen.ticket = Some(((found % 2) as usize, given));
-        Ok(())
+        Ok(((found % 2) as usize, given))
+    }
+
+    // Stores the value at a ticket's place.
+    fn fill(&self, seat: &mut Seat<Turn, View>, side: usize, at: usize, value: T)
+        requires home { (seat.old.table_id ≡ self.now.table) × (seat.old.me.0.places ≡ self.now.places)
+            × (0 < seat.old.me.0.weight) }
+        requires ticket { (side < 2) × (at < self.now.places) × (seat.old.me.0.hold ≡ Ticket side at) }
+        ensures table { seat.new.table_id ≡ seat.old.table_id }
+        ensures pushed { seat.new.me ≡ (pushing seat.old.me.0 at (T.word value), seat.old.me.1) }
+    {
+        let place_index = self.place_index(side, at);
+        self.table
+            .shared
+            .store::<WriteValue>(seat, 2 + place_index, value.to_word());
+        let mark = 2 + 2 * self.places + place_index;
+        self.table.shared.store::<FinishPush>(seat, mark, 1);
     }
 
     /// Stores the value at the ticket's place.
@@ -169,14 +207,7 @@ impl<T: Sample> RuledBucket<T> {
         let Some((side, at)) = pen.ticket else {
             unreachable!()
         };
-        let place_index = self.place_index(side, at);
-        self.table
-            .shared
-            .store::<WriteValue>(&mut pen.seat, 2 + place_index, value.to_word());
-        let mark = 2 + 2 * self.places + place_index;
-        self.table
-            .shared
-            .store::<FinishPush>(&mut pen.seat, mark, 1);
+        self.fill(&mut pen.seat, side, at, value);
         pen.ticket = None;
     }
 
@@ -210,11 +241,31 @@ impl<T: Sample> RuledBucket<T> {
             → MatchResult result (λ _. length pen.old.pushed < count_all pen.old.taken + self.now.places)
             (λ e. (e.0 ≡ Error.Full) × IsFullFor self.now.places pen.old.pushed pen.old.taken) }
     {
+        self.push_by(rt, &mut pen.seat, value)
+    }
+
+    // Pushes a value by a seat that holds nothing; a lost race is tried again.
+    pub(crate) fn push_by<R: Wait>(
+        &self,
+        rt: &R,
+        seat: &mut Seat<Turn, View>,
+        value: T,
+    ) -> Result<(), (Error, T)>
+        requires home { (seat.old.table_id ≡ self.now.table) × (seat.old.me.0.places ≡ self.now.places)
+            × (0 < seat.old.me.0.weight) }
+        requires hold { seat.old.me.0.hold ≡ Nothing }
+        ensures table { seat.new.table_id ≡ seat.old.table_id }
+        ensures ok { OnOk result (HasPushed seat.old.me (T.word value) seat.new.me) }
+        ensures err { IfErr result (λ e. (seat.new.me ≡ seat.old.me) × (e.0 ≡ Error.Full) × (e.1 ≡ value)) }
+        ensures whole { seat.old.me.0.weight ≡ 1024
+            → MatchResult result (λ _. length seat.old.me.0.pushed < count_all seat.old.me.0.taken + self.now.places)
+            (λ e. (e.0 ≡ Error.Full) × IsFullFor self.now.places seat.old.me.0.pushed seat.old.me.0.taken) }
+    {
         let pause = Backoff::new();
         for _ in rt.forever() {
-            match self.begin_as(pen) {
-                Ok(()) => {
-                    self.finish_as(pen, value);
+            match self.draw(seat) {
+                Ok((side, at)) => {
+                    self.fill(seat, side, at, value);
                     return Ok(());
                 }
                 Err(Error::Full) => return Err((Error::Full, value)),

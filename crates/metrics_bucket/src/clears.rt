@@ -22,7 +22,7 @@ use metrics::Error;
 use std::sync::Wait;
 
 impl<T: Sample> RuledBucket<T> {
-    fn claim_and_clear<R: Wait, V: Visitor<T>>(
+    pub(crate) fn claim_and_clear<R: Wait, V: Visitor<T>>(
         &self,
         rt: &R,
         seat: &mut Seat<Turn, View>,

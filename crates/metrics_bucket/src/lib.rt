@@ -6,15 +6,13 @@ mod bucket;
 mod clears;
 mod gathered;
 mod law;
-mod lent;
 mod pen;
+mod rack;
 mod readings;
 mod rule;
 mod sample;
 mod spares;
 mod steps;
-#[cfg(test)]
-mod tests;
 mod view;
 mod visitor;
 mod walker;

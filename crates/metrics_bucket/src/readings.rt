@@ -57,7 +57,7 @@ impl<T: Sample> RuledBucket<T> {
     }
 
     // Reads all places that were given, and shows the values to the visitor.
-    fn show_to<R: Wait, V: Visitor<T>>(
+    pub(crate) fn show_to<R: Wait, V: Visitor<T>>(
         &self,
         rt: &R,
         seat: &mut Seat<Turn, View>,
@@ -86,7 +86,7 @@ impl<T: Sample> RuledBucket<T> {
     }
 
     // Reads all places that were given into one vector.
-    fn gather_values<R: Wait>(
+    pub(crate) fn gather_values<R: Wait>(
         &self,
         rt: &R,
         alloc: Global,

@@ -1,5 +1,5 @@
 //! What makes cells that several threads change.
-ghost use Rattle.std.specs.Prelude.{◌≡◌};
+ghost use Rattle.std.specs.Prelude.{◌≡◌, ◌<◌, ◌≤◌, ◌⊎◌, MatchResult};
 
 use crate::generational::Generational;
 use metrics::Error;
@@ -9,20 +9,39 @@ use std::alloc::Global;
 use std::sync::Arc;
 use std::sync::atomic::AtomicU64;
 
-/// The blocks of each side of a histogram's bucket.
+/// The blocks of each side of a histogram's bucket, where no other number was asked for.
 const BLOCKS: usize = 16;
 
 /// Makes cells that any thread may change: a word that begins at 0 for a counter and for a gauge, and for a histogram an empty
-/// bucket of 16 blocks, 1,024 samples.
+/// bucket of 16 blocks, 1,024 samples, or of as many blocks as the storage was made with.
 #[derive(Clone, Copy, Debug)]
 pub struct AtomicStorage {
     alloc: Global,
+    blocks: usize,
+    ghost some_blocks: { (0 < blocks) × (blocks ≤ 1024) },
 }
 
 impl AtomicStorage {
-    /// A storage whose cells take their memory from `alloc`.
-    pub fn new(alloc: Global) -> AtomicStorage {
-        AtomicStorage { alloc }
+    /// A storage whose cells take their memory from `alloc`. A histogram takes some 34 KB.
+    pub fn new(alloc: Global) -> AtomicStorage
+        ensures { result.blocks ≡ 16 }
+    {
+        AtomicStorage {
+            alloc,
+            blocks: BLOCKS,
+        }
+    }
+
+    /// A storage whose histograms have this many blocks of 64 samples, 1 to 1,024. One takes some 1 KB, and 2 KB for each
+    /// block.
+    pub fn with_blocks(alloc: Global, blocks: usize) -> Result<AtomicStorage, Error>
+        ensures { MatchResult result (λ s. (s.blocks ≡ blocks) × (0 < blocks) × (blocks ≤ 1024))
+            (λ e. (e ≡ Error.BadBlocks) × ((blocks ≡ 0) ⊎ (1024 < blocks))) }
+    {
+        if blocks == 0 || blocks > 1024 {
+            return Err(Error::BadBlocks);
+        }
+        Ok(AtomicStorage { alloc, blocks })
     }
 }
 
@@ -49,7 +68,7 @@ impl<K> Storage<K> for AtomicStorage {
     }
 
     fn histogram(&self, _key: &K) -> Result<Arc<AtomicBucket<i64>>, Error> {
-        let bucket = AtomicBucket::new(self.alloc, BLOCKS)?;
+        let bucket = AtomicBucket::new(self.alloc, self.blocks)?;
         Ok(Arc::new(self.alloc, bucket)?)
     }
 }
@@ -77,6 +96,15 @@ impl GenerationalStorage<AtomicStorage> {
     /// A storage whose cells and generations take their memory from `alloc`.
     pub fn atomic(alloc: Global) -> GenerationalAtomicStorage {
         GenerationalStorage::new(alloc, AtomicStorage::new(alloc))
+    }
+
+    /// The same, whose histograms have this many blocks of 64 samples, 1 to 1,024.
+    pub fn with_blocks(alloc: Global, blocks: usize) -> Result<GenerationalAtomicStorage, Error>
+        ensures { MatchResult result (λ s. (s.inner.blocks ≡ blocks) × (0 < blocks) × (blocks ≤ 1024))
+            (λ e. (e ≡ Error.BadBlocks) × ((blocks ≡ 0) ⊎ (1024 < blocks))) }
+    {
+        let inner = AtomicStorage::with_blocks(alloc, blocks)?;
+        Ok(GenerationalStorage::new(alloc, inner))
     }
 }
 

@@ -144,3 +144,27 @@ fn a_walk_may_push(rt: HostRuntime) -> Result<(), Fail> {
     assert!(rt; values.len() == 100 && values.iter().all(|value| *value >= 1000));
     Ok(())
 }
+
+/// How many of 70 clears and 70 readings are `Busy`.
+fn busy_walks<R: Wait>(rt: &R, alloc: Global, bucket: &AtomicBucket<u64>) -> usize {
+    let mut busy = 0usize;
+    for _ in 0..70 {
+        if matches!(bucket.clear(rt), Err(Error::Busy)) {
+            busy = busy.wrapping_add(1);
+        }
+        if matches!(bucket.data(rt, alloc), Err(Error::Busy)) {
+            busy = busy.wrapping_add(1);
+        }
+    }
+    busy
+}
+
+#[test]
+fn busy_walks_give_their_pens_back(rt: HostRuntime) -> Result<(), Fail> {
+    let bucket = AtomicBucket::<u64>::new(rt.alloc(), 1)?;
+    push_run(&rt, &bucket, 5, 6);
+    let mut busy = 0usize;
+    let cleared = bucket.clear_with(&rt, |_| busy = busy_walks(&rt, rt.alloc(), &bucket));
+    assert!(rt; cleared == Ok(1) && busy == 140 && bucket.push(&rt, 7).is_ok());
+    Ok(())
+}

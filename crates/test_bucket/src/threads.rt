@@ -6,7 +6,7 @@ use std::alloc::Global;
 use std::sync::Wait;
 use std::sync::atomic::{AtomicUsize, Ordering};
 use std::test::Fail;
-use std::thread::{Threads, join};
+use std::thread::{Threads, join, map_indices};
 
 /// Pushes the values from `from` on, below `end`, each until it is in.
 fn push_all<R: Wait>(rt: &R, bucket: &AtomicBucket<u64>, from: u64, end: u64) {
@@ -86,5 +86,26 @@ fn each_value_comes_out_once(rt: HostRuntime) -> Result<(), Fail> {
     let bucket = AtomicBucket::<u64>::new(rt.alloc(), 1)?;
     let shown = push_and_clear(&rt, rt.alloc(), &bucket);
     assert!(rt; are_all_once(shown, 2000) && bucket.is_empty(&rt) == Ok(true));
+    Ok(())
+}
+
+/// Pushes 8,000 values, each once, and counts those that were refused.
+fn refusals<R: Wait>(rt: &R, bucket: &AtomicBucket<u64>) -> usize {
+    let mut refused = 0usize;
+    for value in 0..8000u64 {
+        if bucket.push(rt, value).is_err() {
+            refused = refused.wrapping_add(1);
+        }
+    }
+    refused
+}
+
+#[test]
+fn no_push_is_refused_beside_others(rt: HostRuntime) -> Result<(), Fail> {
+    let bucket = AtomicBucket::<u64>::new(rt.alloc(), 1024)?;
+    let shared = &bucket;
+    let refused = map_indices(&rt, rt.alloc(), 8, &|_| refusals(&rt, shared))?;
+    assert!(rt; refused.iter().all(|count| *count == 0));
+    assert!(rt; bucket.data_with(&rt, |_| {}) == Ok(64_000));
     Ok(())
 }

@@ -1,0 +1,14 @@
+use Rattle.std.proofs.Common.{rules, ◌≡◌, ℕ, false, ◌∙◌, ap, subst}
+use Rattle.std.proofs.lemmas.Result.{IfOk-weaker}
+use Rattle.metrics_bucket.specs.Account.{Account, has_ticket, IsPushed}
+use Rattle.metrics_bucket.specs.Pens.{account_of}
+use Rattle.metrics_bucket.proofs.Pens.{account_pushed}
+use Rattle.metrics_bucket.proofs.bucket.RuledBucket.push_as.Goals as goal
+
+pub returns-clause-ok : goal.returns-clause-ok
+returns-clause-ok g c =
+    let p = c.pen.inside in
+    let x : ℕ = g.T.Sample.word c.args.value in
+    let p' = record p { seat = c.push_by.new.seat } in
+    let free : has_ticket p.ticket ≡ false = ap (λ (a : Account). a.ticket) c.pen.view_is ∙ c.requires.free in
+    IfOk-weaker c.push_by.result _ _ (λ _ h. subst (λ (a : Account). IsPushed a x (account_of p')) c.pen.view_is (account_pushed p p' x c.push_by.ensures.table free h)) c.push_by.ensures.ok
