@@ -170,6 +170,3 @@ fn copied(alloc: Global, patterns: &[&str]) -> Result<Vec<Vec<u8>>, AllocError>
     }
     Ok(kept)
 }
-
-#[cfg(test)]
-mod tests;

@@ -9,8 +9,6 @@ mod grow_worker;
 mod pens;
 mod shared;
 mod tally;
-#[cfg(test)]
-mod tests;
 mod threads;
 mod totals;
 mod worker;

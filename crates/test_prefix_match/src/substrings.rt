@@ -1,5 +1,6 @@
 //! Both forms of the automaton, with expected answers and counts from outside.
-use super::*;
+use prefix_match::SubstringSet;
+use std::alloc::{AllocError, Global};
 use std::process::Abort;
 use std::test::Fail;
 

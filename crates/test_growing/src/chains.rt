@@ -2,9 +2,9 @@
 ghost use Rattle.std.specs.Prelude.{◌<◌, ◌≤◌, IfOk};
 ghost use Rattle.metrics_growing.specs.Parts.{IsOf};
 
-use crate::{GrowPen, GrowingBucket, chain_law};
 use metrics::Error;
 use metrics_bucket::Visitor;
+use metrics_growing::{GrowPen, GrowingBucket, chain_law};
 use std::alloc::Global;
 use std::sync::Wait;
 use std::sync::atomic::{AtomicU64, Ordering};

@@ -1,4 +1,4 @@
-use Rattle.metrics_growing.proofs.tests.+refused_in.Given as goal
+use Rattle.test_growing.proofs.chains.+refused_in.Given as goal
 
 abbrev pub decreases-refused_in : goal.decreases-refused_in
 decreases-refused_in l = l.depth

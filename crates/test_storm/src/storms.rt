@@ -1,8 +1,8 @@
-use crate::{Gate, Totals, storm, storm_growing};
 use std::sync::Wait;
 use std::sync::atomic::{AtomicU64, Ordering};
 use std::test::Fail;
 use std::time::Duration;
+use tool_storm::{Gate, Totals, storm, storm_growing};
 
 struct Open;
 

@@ -1,0 +1,9 @@
+//! Tests of `prefix_match`, through what it hands out.
+//!
+//! They stand in a crate of their own: a crate with tests is proved twice.
+#![tactic(auto)]
+
+#[cfg(test)]
+mod fronts;
+#[cfg(test)]
+mod substrings;
