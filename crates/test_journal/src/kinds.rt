@@ -1,7 +1,7 @@
 //! Calls of each kind on two keys, read in the journals of two shards.
 ghost use Rattle.std.specs.Prelude.{◌≡◌};
 
-use crate::pairs::{Registry, key};
+use crate::given::{Registry, key};
 use metrics::{Error, Key, MetricKind};
 use metrics_journal::ShardCall;
 use metrics_registry::{PlainStorage, shard_of};
@@ -22,7 +22,11 @@ enum Act {
 /// A call, and what it replies.
 type Row = (Act, MetricKind, &'static str, bool);
 
-const ROWS: [Row; 12] = [
+const ROWS: [Row; 16] = [
+    (Act::Create, MetricKind::Counter, "a", true),
+    (Act::Create, MetricKind::Counter, "a", false),
+    (Act::Delete, MetricKind::Counter, "a", true),
+    (Act::Delete, MetricKind::Counter, "a", false),
     (Act::Create, MetricKind::Gauge, "a", true),
     (Act::Has, MetricKind::Gauge, "a", true),
     (Act::Has, MetricKind::Histogram, "a", false),

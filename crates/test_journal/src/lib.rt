@@ -4,9 +4,9 @@
 #![tactic(auto)]
 
 #[cfg(test)]
-mod kinds;
+mod given;
 #[cfg(test)]
-mod pairs;
+mod kinds;
 #[cfg(test)]
 mod shard;
 #[cfg(test)]

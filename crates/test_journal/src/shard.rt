@@ -1,6 +1,6 @@
 //! One shard by itself.
 
-use crate::pairs::{create, key};
+use crate::given::{create, key};
 use metrics::MetricKind;
 use metrics_journal::{JournaledShard, ShardCall};
 use metrics_registry::PlainStorage;

@@ -1,7 +1,7 @@
 //! Calls of several threads.
 ghost use Rattle.std.specs.Prelude.{◌≡◌};
 
-use crate::pairs::{Registry, create};
+use crate::given::{Registry, create};
 use metrics::{Error, Key};
 use metrics_journal::{ShardCall, Tally};
 use metrics_registry::PlainStorage;

@@ -2,7 +2,7 @@
 
 use crate::round::{ROUND, expect_row, is_value, key_of};
 use metrics::{
-    Address, Answer, Call, CompositeKey, Counter, Error, Key, MetricKind, Recorder, Refused, Reset,
+    Address, Answer, Call, CompositeKey, Counter, Error, Key, MetricKind, Recorder, Refused,
     RowValue, Snapshot, Update,
 };
 use metrics_debugging::DebuggingRecorder;
@@ -48,8 +48,9 @@ fn snapshots(alloc: Global, answers: Vec<Answer>) -> Result<Vec<Snapshot>, Alloc
 fn both_rounds<R: Recorder>(
     rt: &impl Abort,
     alloc: Global,
-    mut book: R,
+    book: Result<R, Refused>,
 ) -> Result<Vec<Snapshot>, Fail> {
+    let mut book = book?;
     let answers = replay(alloc, &mut book, two_rounds(alloc)?.as_slice())?;
     assert_eq!(rt; answers.len(), 18);
     let found = snapshots(alloc, answers)?;
@@ -57,15 +58,11 @@ fn both_rounds<R: Recorder>(
     Ok(found)
 }
 
-#[test]
-fn two_rounds_read_as_lists(rt: HostRuntime) -> Result<(), Fail> {
-    let alloc = rt.alloc();
-    for snapshot in both_rounds(&rt, alloc, DebuggingRecorder::new(alloc)?)? {
-        let rows = snapshot.into_vec();
-        assert_eq!(rt; rows.len(), 4);
-        for (row, (kind, name, _, want)) in rows.iter().zip(ROUND) {
-            expect_row(&rt, row, kind, &key_of(alloc, kind, name)?, want);
-        }
+fn expect_rows(rt: &impl Abort, alloc: Global, snapshot: Snapshot) -> Result<(), Fail> {
+    let rows = snapshot.into_vec();
+    assert_eq!(rt; rows.len(), 4);
+    for (row, (kind, name, _, want)) in rows.iter().zip(ROUND) {
+        expect_row(rt, row, kind, &key_of(alloc, kind, name)?, want);
     }
     Ok(())
 }
@@ -86,52 +83,22 @@ fn expect_map(
     Ok(())
 }
 
+/// The first round is read as a list, and the second as a map.
+fn expect_rounds(rt: &impl Abort, alloc: Global, mut snapshots: Vec<Snapshot>) -> Result<(), Fail> {
+    let second = snapshots.pop().ok_or("no second round")?;
+    let map = second.into_hashmap(alloc).ok().ok_or("memory")?;
+    expect_map(rt, alloc, &map)?;
+    expect_rows(rt, alloc, snapshots.pop().ok_or("no first round")?)
+}
+
 #[test]
-fn two_rounds_read_as_maps(rt: HostRuntime) -> Result<(), Fail> {
+fn two_rounds_are_read(rt: HostRuntime) -> Result<(), Fail> {
     let alloc = rt.alloc();
-    for snapshot in both_rounds(&rt, alloc, DebuggingRecorder::new(alloc)?)? {
-        let map = snapshot.into_hashmap(alloc).ok().ok_or("memory")?;
-        expect_map(&rt, alloc, &map)?;
-    }
-    Ok(())
-}
-
-/// A gauge and a counter, and snapshots of which the first and the last keep the gauge.
-fn kept(alloc: Global) -> Result<Vec<Call>, Refused> {
-    let mut calls = Vec::new(alloc);
-    let gauge = Key::from_name(alloc, "g")?;
-    calls.push(Call::Register(MetricKind::Gauge, gauge))?;
-    let counter = Key::from_name(alloc, "c")?;
-    calls.push(Call::Register(MetricKind::Counter, counter))?;
-    calls.push(Call::Update(0, Update::Add(5)))?;
-    calls.push(Call::Update(1, Update::Increment(3)))?;
-    calls.push(Call::SnapshotWith(0, Reset::KeepGauges))?;
-    calls.push(Call::Update(0, Update::Add(2)))?;
-    calls.push(Call::Snapshot(0))?;
-    calls.push(Call::SnapshotWith(0, Reset::KeepGauges))?;
-    Ok(calls)
-}
-
-fn expect_values(rt: &impl Abort, snapshot: &Snapshot, gauge: i64, counter: i64) {
-    let rows = snapshot.as_slice();
-    assert_eq!(rt; rows.len(), 2);
-    assert!(rt; is_value(&rows[0].3, MetricKind::Gauge, gauge));
-    assert!(rt; is_value(&rows[1].3, MetricKind::Counter, counter));
-}
-
-fn expect_kept<R: Recorder>(rt: &impl Abort, alloc: Global, mut book: R) -> Result<(), Fail> {
-    let answers = replay(alloc, &mut book, kept(alloc)?.as_slice())?;
-    let found = snapshots(alloc, answers)?;
-    assert_eq!(rt; found.len(), 3);
-    expect_values(rt, &found[0], 5, 3);
-    expect_values(rt, &found[1], 7, 0);
-    expect_values(rt, &found[2], 0, 0);
-    Ok(())
-}
-
-#[test]
-fn a_replay_keeps_gauges(rt: HostRuntime) -> Result<(), Fail> {
-    expect_kept(&rt, rt.alloc(), DebuggingRecorder::new(rt.alloc())?)
+    expect_rounds(
+        &rt,
+        alloc,
+        both_rounds(&rt, alloc, DebuggingRecorder::new(alloc))?,
+    )
 }
 
 /// An update of a handle, by `answer_of`.
@@ -140,18 +107,18 @@ fn updated<R: Recorder>(alloc: Global, on: &mut R, found: &[Address]) -> Answer 
     answer_of(alloc, on, &call, Some((MetricKind::Counter, found)))
 }
 
-fn expect_one_by_one<R: Recorder>(rt: &impl Abort, alloc: Global, mut book: R) -> Result<(), Fail> {
+fn expect_one_by_one<R: Recorder>(
+    rt: &impl Abort,
+    alloc: Global,
+    book: Result<R, Refused>,
+) -> Result<(), Fail> {
+    let mut book = book?;
     let found = book.register(alloc, MetricKind::Counter, &Key::from_name(alloc, "c")?)?;
     let held = updated(alloc, &mut book, &found);
     assert!(rt; matches!(&held, Answer::Updated(1)));
     let other = updated(alloc, &mut book, &[Address { book: 0, series: 9 }]);
     assert!(rt; matches!(&other, Answer::Refused(Refused::NoSuchAddress)));
     Ok(())
-}
-
-#[test]
-fn calls_one_by_one(rt: HostRuntime) -> Result<(), Fail> {
-    expect_one_by_one(&rt, rt.alloc(), DebuggingRecorder::new(rt.alloc())?)
 }
 
 /// Addresses (0, 0) and (1, 0) at a recorder of one book.
@@ -162,7 +129,12 @@ fn past_the_books(alloc: Global) -> Result<Counter, AllocError> {
     Ok(Counter::from(found))
 }
 
-fn expect_unchanged<R: Recorder>(rt: &impl Abort, alloc: Global, mut book: R) -> Result<(), Fail> {
+fn expect_unchanged<R: Recorder>(
+    rt: &impl Abort,
+    alloc: Global,
+    book: Result<R, Refused>,
+) -> Result<(), Fail> {
+    let mut book = book?;
     book.register(alloc, MetricKind::Counter, &Key::from_name(alloc, "c")?)?;
     let refused = past_the_books(alloc)?.increment(&mut book, 1);
     assert_eq!(rt; refused, Err(Refused::NoSuchAddress));
@@ -173,8 +145,10 @@ fn expect_unchanged<R: Recorder>(rt: &impl Abort, alloc: Global, mut book: R) ->
 }
 
 #[test]
-fn a_handle_with_an_address_that_is_not_held_changes_nothing(rt: HostRuntime) -> Result<(), Fail> {
-    expect_unchanged(&rt, rt.alloc(), DebuggingRecorder::new(rt.alloc())?)
+fn an_address_that_is_not_held_changes_nothing(rt: HostRuntime) -> Result<(), Fail> {
+    let alloc = rt.alloc();
+    expect_one_by_one(&rt, alloc, DebuggingRecorder::new(alloc))?;
+    expect_unchanged(&rt, alloc, DebuggingRecorder::new(alloc))
 }
 
 #[test]

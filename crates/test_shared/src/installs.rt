@@ -1,7 +1,7 @@
 //! Cells, each filled once.
 
 use crate::books::{count, expect_count, key};
-use metrics::{Key, KeyName, MetricKind, Recorder};
+use metrics::{Key, KeyName, MetricKind, Recorder, Refused};
 use metrics_debugging::DebuggingRecorder;
 use metrics_layers::Stack;
 use metrics_shared::{Install, RecoverableRecorder, SetRecorderError, SlotRecorder};
@@ -15,9 +15,10 @@ use std::thread::{Threads, join};
 fn expect_installed<R: Abort + Wait, B: Recorder>(
     rt: &R,
     alloc: Global,
-    first: B,
-    mut second: B,
+    first: Result<B, Refused>,
+    second: Result<B, Refused>,
 ) -> Result<(), Fail> {
+    let (first, mut second) = (first?, second?);
     let cell = OnceLock::new();
     assert!(rt; first.install(rt, &cell).is_ok());
     count(alloc, &mut second, 3)?;
@@ -35,34 +36,13 @@ fn expect_installed<R: Abort + Wait, B: Recorder>(
     Ok(())
 }
 
-#[test]
-fn a_book_is_installed_once(rt: HostRuntime) -> Result<(), Fail> {
-    let alloc = rt.alloc();
-    expect_installed(
-        &rt,
-        alloc,
-        DebuggingRecorder::new(alloc)?,
-        DebuggingRecorder::new(alloc)?,
-    )
-}
-
-#[test]
-fn a_stack_is_installed_once(rt: HostRuntime) -> Result<(), Fail> {
-    let alloc = rt.alloc();
-    expect_installed(
-        &rt,
-        alloc,
-        Stack::new(DebuggingRecorder::new(alloc)?),
-        Stack::new(DebuggingRecorder::new(alloc)?),
-    )
-}
-
 fn expect_recoverable<R: Abort + Wait, B: Recorder>(
     rt: &R,
     alloc: Global,
-    first: B,
-    mut second: B,
+    first: Result<B, Refused>,
+    second: Result<B, Refused>,
 ) -> Result<(), Fail> {
+    let (first, mut second) = (first?, second?);
     let cell = OnceLock::new();
     let handle = RecoverableRecorder::new(first).install(rt, alloc, &cell);
     let handle = handle.ok().ok_or("not installed")?;
@@ -84,15 +64,20 @@ fn expect_recoverable<R: Abort + Wait, B: Recorder>(
     expect_count(rt, alloc, handle.into_inner(rt)?, 0)
 }
 
+fn book(alloc: Global) -> Result<DebuggingRecorder, Refused> {
+    DebuggingRecorder::new(alloc)
+}
+
+fn stack(alloc: Global) -> Result<Stack<DebuggingRecorder>, Refused> {
+    Ok(Stack::new(book(alloc)?))
+}
+
 #[test]
-fn a_recoverable_book_is_installed_once(rt: HostRuntime) -> Result<(), Fail> {
+fn a_recorder_is_installed_once(rt: HostRuntime) -> Result<(), Fail> {
     let alloc = rt.alloc();
-    expect_recoverable(
-        &rt,
-        alloc,
-        DebuggingRecorder::new(alloc)?,
-        DebuggingRecorder::new(alloc)?,
-    )
+    expect_installed(&rt, alloc, book(alloc), book(alloc))?;
+    expect_installed(&rt, alloc, stack(alloc), stack(alloc))?;
+    expect_recoverable(&rt, alloc, book(alloc), book(alloc))
 }
 
 /// How many targets a register call meets that is made as soon as the cell is filled.

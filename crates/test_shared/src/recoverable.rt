@@ -61,8 +61,12 @@ fn add_by_handle<R: Wait, B: Recorder>(
 }
 
 /// That a handle reaches the counter through the slot until the book is taken back.
-fn expect_handle<R: Abort + Wait, B: Recorder>(rt: &R, alloc: Global, book: B) -> Result<(), Fail> {
-    let built = RecoverableRecorder::new(book).build(rt, alloc);
+fn expect_handle<R: Abort + Wait, B: Recorder>(
+    rt: &R,
+    alloc: Global,
+    book: Result<B, Refused>,
+) -> Result<(), Fail> {
+    let built = RecoverableRecorder::new(book?).build(rt, alloc);
     let (slot, handle) = built.ok().ok_or("memory")?;
     let counter = key(alloc, "c")?;
     let found = slot.with(rt, |book| book.register_counter(alloc, &counter));
@@ -71,11 +75,6 @@ fn expect_handle<R: Abort + Wait, B: Recorder>(rt: &R, alloc: Global, book: B) -
     let book = handle.into_inner(rt)?;
     assert!(rt; add_by_handle(rt, &slot, &counter).is_none());
     expect_count(rt, alloc, book, 5)
-}
-
-#[test]
-fn a_handle_reaches_the_book_in_a_slot(rt: HostRuntime) -> Result<(), Fail> {
-    expect_handle(&rt, rt.alloc(), DebuggingRecorder::new(rt.alloc())?)
 }
 
 /// That an emptied slot answers each call, and does nothing.
@@ -116,9 +115,9 @@ fn expect_values<B: Recorder>(rt: &impl Abort, alloc: Global, mut book: B) -> Re
 fn expect_recovered<R: Abort + Wait, B: Recorder>(
     rt: &R,
     alloc: Global,
-    book: B,
+    book: Result<B, Refused>,
 ) -> Result<(), Fail> {
-    let built = RecoverableRecorder::new(book).build(rt, alloc);
+    let built = RecoverableRecorder::new(book?).build(rt, alloc);
     let (slot, handle) = built.ok().ok_or("memory")?;
     for (kind, name, by, times, _) in SERIES {
         change(rt, alloc, &slot, kind, name, by, times)?;
@@ -130,7 +129,9 @@ fn expect_recovered<R: Abort + Wait, B: Recorder>(
 
 #[test]
 fn a_book_is_recovered(rt: HostRuntime) -> Result<(), Fail> {
-    expect_recovered(&rt, rt.alloc(), DebuggingRecorder::new(rt.alloc())?)
+    let alloc = rt.alloc();
+    expect_handle(&rt, alloc, DebuggingRecorder::new(alloc))?;
+    expect_recovered(&rt, alloc, DebuggingRecorder::new(alloc))
 }
 
 /// A recorder of these tests' own, without books. Its end sets the flag to 1.

@@ -103,8 +103,12 @@ fn expect_acted(rt: &impl Abort, found: Result<Vec<Address>, Refused>) {
     assert!(rt; found.err() == Some(Refused::Memory { acted: 1 }));
 }
 
-fn expect_shared<R: Abort + Wait, B: Recorder>(rt: &R, alloc: Global, book: B) -> Result<(), Fail> {
-    let shared = Shared::new(book);
+fn expect_shared<R: Abort + Wait, B: Recorder>(
+    rt: &R,
+    alloc: Global,
+    book: Result<B, Refused>,
+) -> Result<(), Fail> {
+    let shared = Shared::new(book?);
     let found = shared.register(rt, alloc, MetricKind::Histogram, &key(alloc, "h")?)?;
     let at = first(&found)?;
     let taken = shared.update(rt, at, Update::Record(5));
@@ -112,11 +116,6 @@ fn expect_shared<R: Abort + Wait, B: Recorder>(rt: &R, alloc: Global, book: B) -
     let refused = shared.register(rt, alloc, MetricKind::Histogram, &key(alloc, "h")?);
     expect_acted(rt, refused);
     expect_sample(rt, &shared.snapshot(rt, alloc, 0)?)
-}
-
-#[test]
-fn a_shared_book_stands_after_a_refusal(rt: HostRuntime) -> Result<(), Fail> {
-    expect_shared(&rt, rt.alloc(), new_book(rt.alloc())?)
 }
 
 /// Records in the slot's book, which refuses the second sample.
@@ -136,8 +135,12 @@ fn expect_full<R: Abort + Wait, B: Recorder>(
     Ok(())
 }
 
-fn expect_slot<R: Abort + Wait, B: Recorder>(rt: &R, alloc: Global, book: B) -> Result<(), Fail> {
-    let built = RecoverableRecorder::new(book).build(rt, alloc);
+fn expect_slot<R: Abort + Wait, B: Recorder>(
+    rt: &R,
+    alloc: Global,
+    book: Result<B, Refused>,
+) -> Result<(), Fail> {
+    let built = RecoverableRecorder::new(book?).build(rt, alloc);
     let (slot, handle) = built.ok().ok_or("memory")?;
     expect_full(rt, alloc, &slot)?;
     let mut book = handle.into_inner(rt)?;
@@ -145,6 +148,8 @@ fn expect_slot<R: Abort + Wait, B: Recorder>(rt: &R, alloc: Global, book: B) -> 
 }
 
 #[test]
-fn a_slot_stays_full_after_a_refusal(rt: HostRuntime) -> Result<(), Fail> {
-    expect_slot(&rt, rt.alloc(), new_book(rt.alloc())?)
+fn a_book_stands_after_a_refusal(rt: HostRuntime) -> Result<(), Fail> {
+    let alloc = rt.alloc();
+    expect_shared(&rt, alloc, new_book(alloc))?;
+    expect_slot(&rt, alloc, new_book(alloc))
 }

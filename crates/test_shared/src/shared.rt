@@ -54,9 +54,9 @@ fn expect_first(rt: &impl Abort, snapshot: &Snapshot, want: u64) -> Result<(), F
 fn expect_described<R: Abort + Wait, B: Recorder>(
     rt: &R,
     alloc: Global,
-    book: B,
+    book: Result<B, Refused>,
 ) -> Result<(), Fail> {
-    let shared = Shared::new(book);
+    let shared = Shared::new(book?);
     assert_eq!(rt; describe(rt, alloc, &shared)?, 1);
     add_one(rt, alloc, &shared)?;
     add_one(rt, alloc, &shared)?;
@@ -97,8 +97,12 @@ fn with_gauge<R: Wait, B: Recorder>(rt: &R, alloc: Global, book: B) -> Result<Sh
     Ok(shared)
 }
 
-fn expect_gauges<R: Abort + Wait, B: Recorder>(rt: &R, alloc: Global, book: B) -> Result<(), Fail> {
-    let shared = with_gauge(rt, alloc, book)?;
+fn expect_gauges<R: Abort + Wait, B: Recorder>(
+    rt: &R,
+    alloc: Global,
+    book: Result<B, Refused>,
+) -> Result<(), Fail> {
+    let shared = with_gauge(rt, alloc, book?)?;
     let resets = [
         (Reset::KeepGauges, 5),
         (Reset::All, 5),
@@ -113,13 +117,10 @@ fn expect_gauges<R: Abort + Wait, B: Recorder>(rt: &R, alloc: Global, book: B) -
 }
 
 #[test]
-fn a_shared_gauge_is_kept_or_reset(rt: HostRuntime) -> Result<(), Fail> {
-    expect_gauges(&rt, rt.alloc(), DebuggingRecorder::new(rt.alloc())?)
-}
-
-#[test]
-fn a_shared_counter(rt: HostRuntime) -> Result<(), Fail> {
-    expect_described(&rt, rt.alloc(), DebuggingRecorder::new(rt.alloc())?)
+fn calls_of_a_shared_book(rt: HostRuntime) -> Result<(), Fail> {
+    let alloc = rt.alloc();
+    expect_gauges(&rt, alloc, DebuggingRecorder::new(alloc))?;
+    expect_described(&rt, alloc, DebuggingRecorder::new(alloc))
 }
 
 /// Adds 1 to the counter a thousand times, and tells whether each was done.

@@ -40,11 +40,6 @@ fn expect_refused<R: Abort + Wait>(rt: &R, alloc: Global) -> Result<(), Fail> {
     Ok(())
 }
 
-#[test]
-fn a_refused_sample_raises_the_generation_by_one(rt: HostRuntime) -> Result<(), Fail> {
-    expect_refused(&rt, rt.alloc())
-}
-
 fn expect_counter<R: Abort>(rt: &R, alloc: Global) -> Result<(), Fail> {
     let cell = Generational::new(alloc, AtomicU64::new(0))?;
     CounterFn::increment(&cell, 3);
@@ -53,11 +48,6 @@ fn expect_counter<R: Abort>(rt: &R, alloc: Global) -> Result<(), Fail> {
     assert!(rt; cell.get_generation() == after(2));
     assert_eq!(rt; cell.get_inner().load(Ordering::SeqCst), 9);
     Ok(())
-}
-
-#[test]
-fn each_call_of_a_counter_raises_its_generation_by_one(rt: HostRuntime) -> Result<(), Fail> {
-    expect_counter(&rt, rt.alloc())
 }
 
 fn expect_gauge<R: Abort + Wait>(rt: &R, alloc: Global) -> Result<(), Fail> {
@@ -72,11 +62,6 @@ fn expect_gauge<R: Abort + Wait>(rt: &R, alloc: Global) -> Result<(), Fail> {
     Ok(())
 }
 
-#[test]
-fn each_call_of_a_gauge_raises_its_generation_by_one(rt: HostRuntime) -> Result<(), Fail> {
-    expect_gauge(&rt, rt.alloc())
-}
-
 /// The generation is raised once the closure ran.
 fn expect_before<R: Abort>(rt: &R, alloc: Global) -> Result<(), Fail> {
     let cell = Generational::new(alloc, AtomicU64::new(0))?;
@@ -87,8 +72,12 @@ fn expect_before<R: Abort>(rt: &R, alloc: Global) -> Result<(), Fail> {
 }
 
 #[test]
-fn the_generation_is_raised_after_the_call(rt: HostRuntime) -> Result<(), Fail> {
-    expect_before(&rt, rt.alloc())
+fn each_call_raises_the_generation_by_one_once_it_ran(rt: HostRuntime) -> Result<(), Fail> {
+    let alloc = rt.alloc();
+    expect_refused(&rt, alloc)?;
+    expect_counter(&rt, alloc)?;
+    expect_gauge(&rt, alloc)?;
+    expect_before(&rt, alloc)
 }
 
 /// Records a number of samples in a histogram of a registry, and answers how many were refused.

@@ -76,52 +76,33 @@ where
 fn expect_entries<R: Abort + Wait, S: Storage<Key> + Drop>(
     rt: &R,
     alloc: Global,
-    registry: &Registry<Key, S>,
+    registry: Result<Registry<Key, S>, Error>,
 ) -> Result<(), Fail>
 where
     S::Counter: Counting,
     S::Gauge: Counting,
     S::Histogram: Counting,
 {
+    let registry = registry?;
     let foobar = Key::from_name(alloc, "foobar")?;
     let baz = Key::from_name(alloc, "baz")?;
     for kind in KINDS {
-        a_key_comes_once(rt, registry, kind, &foobar)?;
-        increment(rt, registry, kind, &baz)?;
-        keys_go(rt, alloc, registry, kind, &foobar)?;
-        a_clear_takes_all(rt, registry, kind, &baz)?;
+        a_key_comes_once(rt, &registry, kind, &foobar)?;
+        increment(rt, &registry, kind, &baz)?;
+        keys_go(rt, alloc, &registry, kind, &foobar)?;
+        a_clear_takes_all(rt, &registry, kind, &baz)?;
     }
     Ok(())
 }
 
 #[test]
-fn words_come_and_go(rt: HostRuntime) -> Result<(), Fail> {
+fn keys_come_and_go(rt: HostRuntime) -> Result<(), Fail> {
+    let alloc = rt.alloc();
     for shards in [1, 2, 8] {
-        expect_entries(&rt, rt.alloc(), &plain(rt.alloc(), shards)?)?;
-    }
-    Ok(())
-}
-
-#[test]
-fn words_with_generations_come_and_go(rt: HostRuntime) -> Result<(), Fail> {
-    for shards in [1, 2, 8] {
-        expect_entries(&rt, rt.alloc(), &dated_words(rt.alloc(), shards)?)?;
-    }
-    Ok(())
-}
-
-#[test]
-fn atomic_cells_come_and_go(rt: HostRuntime) -> Result<(), Fail> {
-    for shards in [1, 2, 8] {
-        expect_entries(&rt, rt.alloc(), &Registry::atomic(rt.alloc(), shards)?)?;
-    }
-    Ok(())
-}
-
-#[test]
-fn atomic_cells_with_generations_come_and_go(rt: HostRuntime) -> Result<(), Fail> {
-    for shards in [1, 2, 8] {
-        expect_entries(&rt, rt.alloc(), &dated_cells(rt.alloc(), shards)?)?;
+        expect_entries(&rt, alloc, plain(alloc, shards))?;
+        expect_entries(&rt, alloc, dated_words(alloc, shards))?;
+        expect_entries(&rt, alloc, Registry::atomic(alloc, shards))?;
+        expect_entries(&rt, alloc, dated_cells(alloc, shards))?;
     }
     Ok(())
 }
@@ -149,23 +130,4 @@ fn a_retain_may_keep_none(rt: HostRuntime) -> Result<(), Fail> {
         none_is_kept(&rt, rt.alloc(), shards)?;
     }
     Ok(())
-}
-
-/// The refusals of a number of shards, by both ways to make a registry.
-fn refusals(alloc: Global, shards: usize) -> (Option<Error>, Option<Error>) {
-    (
-        plain(alloc, shards).err(),
-        Registry::atomic(alloc, shards).err(),
-    )
-}
-
-#[test]
-fn shards_are_a_power_of_two(rt: HostRuntime) {
-    let refused = (Some(Error::BadShards), Some(Error::BadShards));
-    for shards in [0, 3, 2048] {
-        assert_eq!(rt; refusals(rt.alloc(), shards), refused);
-    }
-    for shards in [1, 1024] {
-        assert_eq!(rt; refusals(rt.alloc(), shards), (None, None));
-    }
 }

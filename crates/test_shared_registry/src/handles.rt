@@ -42,28 +42,20 @@ where
 fn expect_shared<R: Abort + Wait, S: Storage<Key> + Drop>(
     rt: &R,
     alloc: Global,
-    registry: &Registry<Key, S>,
+    registry: Result<Registry<Key, S>, Error>,
 ) -> Result<(), Fail>
 where
     S::Counter: Counting,
     S::Gauge: Counting,
     S::Histogram: Counting,
 {
+    let registry = registry?;
     let key = Key::from_name(alloc, "a")?;
     for kind in KINDS {
-        increment(rt, registry, kind, &key)?;
-        increment(rt, registry, kind, &key)?;
-        assert_eq!(rt; add(rt, alloc, registry, kind, &key)?, Some(3));
-        assert_eq!(rt; count(rt, registry, kind, &key)?, Some(3));
-    }
-    Ok(())
-}
-
-#[test]
-fn a_handle_has_the_very_cell(rt: HostRuntime) -> Result<(), Fail> {
-    for shards in [1, 8] {
-        expect_shared(&rt, rt.alloc(), &plain(rt.alloc(), shards)?)?;
-        expect_shared(&rt, rt.alloc(), &dated_cells(rt.alloc(), shards)?)?;
+        increment(rt, &registry, kind, &key)?;
+        increment(rt, &registry, kind, &key)?;
+        assert_eq!(rt; add(rt, alloc, &registry, kind, &key)?, Some(3));
+        assert_eq!(rt; count(rt, &registry, kind, &key)?, Some(3));
     }
     Ok(())
 }
@@ -115,9 +107,12 @@ fn expect_owned<R: Abort + Wait>(rt: &R, alloc: Global, shards: usize) -> Result
 }
 
 #[test]
-fn a_handle_of_an_owned_registry_has_the_very_cell(rt: HostRuntime) -> Result<(), Fail> {
+fn a_handle_has_the_very_cell(rt: HostRuntime) -> Result<(), Fail> {
+    let alloc = rt.alloc();
     for shards in [1, 8] {
-        expect_owned(&rt, rt.alloc(), shards)?;
+        expect_shared(&rt, alloc, plain(alloc, shards))?;
+        expect_shared(&rt, alloc, dated_cells(alloc, shards))?;
+        expect_owned(&rt, alloc, shards)?;
     }
     Ok(())
 }

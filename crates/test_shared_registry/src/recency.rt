@@ -71,7 +71,7 @@ where
 fn expect_answers<R: Abort + Wait, S: Storage<Key> + Drop>(
     rt: &R,
     alloc: Global,
-    registry: &Registry<Key, S>,
+    registry: Result<Registry<Key, S>, Error>,
     kind: MetricKind,
     mask: MetricKindMask,
     rows: &[Row],
@@ -81,12 +81,13 @@ where
     S::Gauge: Dated,
     S::Histogram: Dated,
 {
+    let registry = registry?;
     let recency = Recency::new(alloc, mask, Some(5));
     let key = Key::from_name(alloc, "a")?;
-    increment(rt, registry, kind, &key)?;
-    let first = generation(rt, registry, kind, &key)?.ok_or("no cell")?;
+    increment(rt, &registry, kind, &key)?;
+    let first = generation(rt, &registry, kind, &key)?.ok_or("no cell")?;
     for row in rows {
-        expect_row(rt, &recency, registry, kind, &key, first, row)?;
+        expect_row(rt, &recency, &registry, kind, &key, first, row)?;
     }
     Ok(())
 }
@@ -98,48 +99,37 @@ const MASKS: [(MetricKind, MetricKindMask); 3] = [
     (MetricKind::Histogram, MetricKindMask::HISTOGRAM),
 ];
 
-fn expect_in_each_kind<R: Abort + Wait>(rt: &R, alloc: Global, rows: &[Row]) -> Result<(), Fail> {
-    for (kind, mask) in MASKS {
-        expect_answers(rt, alloc, &dated_words(alloc, 2)?, kind, mask, rows)?;
-        expect_answers(rt, alloc, &dated_cells(alloc, 2)?, kind, mask, rows)?;
-    }
-    Ok(())
-}
-
-#[test]
-fn an_idle_cell_goes(rt: HostRuntime) -> Result<(), Fail> {
-    let rows = [(10, true, true), (15, true, true), (16, true, false)];
-    expect_in_each_kind(&rt, rt.alloc(), &rows)
-}
-
-#[test]
-fn a_key_that_is_not_held_stays_noted(rt: HostRuntime) -> Result<(), Fail> {
-    let rows = [
+/// An idle cell goes; a key that isn't held stays noted; a moment that goes back counts as zero.
+const ROWS: [&[Row]; 3] = [
+    &[(10, true, true), (15, true, true), (16, true, false)],
+    &[
         (10, true, true),
         (15, true, true),
         (16, false, true),
         (17, true, false),
-    ];
-    expect_in_each_kind(&rt, rt.alloc(), &rows)
-}
-
-#[test]
-fn a_moment_that_goes_back_counts_as_zero(rt: HostRuntime) -> Result<(), Fail> {
-    let rows = [
+    ],
+    &[
         (100, true, true),
         (0, true, true),
         (105, true, true),
         (106, true, false),
-    ];
-    expect_in_each_kind(&rt, rt.alloc(), &rows)
-}
+    ],
+];
+
+/// What is checked in no kind that the mask has stays.
+const UNCHECKED: [Row; 2] = [(10, true, true), (16, true, true)];
 
 #[test]
-fn other_kinds_are_not_checked(rt: HostRuntime) -> Result<(), Fail> {
-    let rows = [(10, true, true), (16, true, true)];
-    let registry = dated_cells(rt.alloc(), 1)?;
+fn an_idle_cell_goes(rt: HostRuntime) -> Result<(), Fail> {
+    let alloc = rt.alloc();
+    for (kind, mask) in MASKS {
+        for rows in ROWS {
+            expect_answers(&rt, alloc, dated_cells(alloc, 2), kind, mask, rows)?;
+        }
+    }
+    let gauges = MetricKind::Gauge;
     let mask = MetricKindMask::COUNTER;
-    expect_answers(&rt, rt.alloc(), &registry, MetricKind::Gauge, mask, &rows)
+    expect_answers(&rt, alloc, dated_cells(alloc, 1), gauges, mask, &UNCHECKED)
 }
 
 /// A changed generation counts as use.
@@ -164,11 +154,6 @@ fn expect_new_run<R: Abort + Wait>(rt: &R, alloc: Global) -> Result<(), Fail> {
     Ok(())
 }
 
-#[test]
-fn a_cell_that_changes_stays(rt: HostRuntime) -> Result<(), Fail> {
-    expect_new_run(&rt, rt.alloc())
-}
-
 /// A clone of a cell has its generation: a change through either is seen in both.
 fn expect_shared<R: Abort + Wait>(rt: &R, alloc: Global) -> Result<(), Fail> {
     let registry = dated_words(alloc, 8)?;
@@ -185,6 +170,7 @@ fn expect_shared<R: Abort + Wait>(rt: &R, alloc: Global) -> Result<(), Fail> {
 }
 
 #[test]
-fn clones_share_a_generation(rt: HostRuntime) -> Result<(), Fail> {
+fn a_changed_cell_stays(rt: HostRuntime) -> Result<(), Fail> {
+    expect_new_run(&rt, rt.alloc())?;
     expect_shared(&rt, rt.alloc())
 }
