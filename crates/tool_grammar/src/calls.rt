@@ -111,8 +111,8 @@ fn labels_of(alloc: Global, bytes: &[u8]) -> Result<Option<Vec<Label>>, Refused>
     Ok(Some(labels))
 }
 
-/// Name and labels of a register line.
-fn key_of(alloc: Global, bytes: &[u8]) -> Result<Option<Key>, Refused>
+/// The key that name and labels spell, if they do. An error is want of memory.
+pub fn key_of(alloc: Global, bytes: &[u8]) -> Result<Option<Key>, Refused>
     ensures { MatchResult result (λ found. MatchOption found
         ((key : KeyParts) → IsName key.name → AreLabels key.labels →
         bytes.now ≡ name_word key.name ++ label_words key.labels → ⊥)

@@ -1,5 +1,3 @@
-pub mod Known
-pub mod LinesLemmas
 pub mod LogLemmas
 pub mod Loop
 pub mod WordLists

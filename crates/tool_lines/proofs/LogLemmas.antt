@@ -15,12 +15,12 @@ use Rattle.metrics.proofs.HistoryLemmas.{Kept, plain-push}
 use Rattle.metrics.proofs.AnsweringLemmas.{call_kept, length_answers, kept_none, handle_held}
 use Rattle.tool_grammar.specs.Grammar.{Spells}
 use Rattle.tool_grammar.specs.Printing.{text_of, registers_in, print_from, print}
-use Rattle.tool_lines.specs.Handles.{entry_named, entries_by}
-use Rattle.tool_lines.specs.Running.{AreSpelled, AreMade, Handles, AreHeld, addresses_in}
+use Rattle.tool_lines.specs.Handles.{Entries, entry_named, entries_by}
+use Rattle.tool_lines.specs.Running.{AreSpelled, AreMade, AreHeld, addresses_in}
 
 -- ---- handles
 
-abbrev pub handles_of : Log → Handles
+abbrev pub handles_of : Log → Entries
 handles_of log = map handle_of (filter_map registration_of log)
 
 handle_at-map : (rs : List Registration) (n : ℕ) → option_and_then (λ (h : Option Handle). h) (slice_get (map handle_of rs) n) ≡ option_and_then handle_of (slice_get rs n)
@@ -36,7 +36,7 @@ entry_named-log (call.Snapshot b) log = refl
 entry_named-log (call.SnapshotWith b reset) log = refl
 
 -- the handle that a call names leads to series that are there
-pub named_held : (c : Call) (handles : Handles) (cs : List Content) → AreHeld handles cs → IsHeld (entry_named c handles) cs
+pub named_held : (c : Call) (handles : Entries) (cs : List Content) → AreHeld handles cs → IsHeld (entry_named c handles) cs
 named_held (call.Update n u) handles cs h = h n
 named_held (call.Describe kind name unit text) handles cs h = tt
 named_held (call.Register kind key) handles cs h = tt

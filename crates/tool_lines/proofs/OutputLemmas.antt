@@ -21,12 +21,14 @@ use Rattle.tool_tree_lines.specs.declared.tree_line.TreeLine.TheVariants as line
 use Rattle.tool_tree_lines.specs.Words.{spelling as tree_spelling}
 use Rattle.tool_tree_lines.specs.Trees.{Tree, tree_lines, meaning_of, IsAllowed, BeginsWithTree, NoTree}
 use Rattle.tool_tree_lines.proofs.Runs.{one_tree}
-use Rattle.tool_lines.specs.Lines.{lines_of, unlines}
-use Rattle.tool_lines.specs.Running.{AreSpelled, AreMade, AreFirst, IsFlushed}
+use Rattle.tool_stream.specs.Lines.{lines_of, unlines}
+use Rattle.tool_stream.specs.Answering.{AreFirst, IsFlushed}
+use Rattle.tool_lines.specs.Running.{AreSpelled, AreMade}
 use Rattle.tool_lines.specs.TreeReading.{AreRead, BuildsTree, RefusesTree}
 use Rattle.tool_lines.specs.Output.{IsStop, BeginsWithCalls, Input, answers_text, printed, LacksWant, IsAnswered, AnswersCalls, AnswersAll, AnswersFirst, RunsKnown, Prints}
-use Rattle.tool_lines.proofs.LinesLemmas.{lines-cut, lines-front}
-use Rattle.tool_lines.proofs.Loop.{Finished, unlines_push}
+use Rattle.tool_stream.proofs.LinesLemmas.{lines-cut, lines-front}
+use Rattle.tool_stream.proofs.Loop.{unlines_push}
+use Rattle.tool_lines.proofs.Loop.{Finished}
 use Rattle.tool_lines.proofs.TreesLemmas.{means_new}
 
 -- ---- one input at most

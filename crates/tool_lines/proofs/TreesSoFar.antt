@@ -17,13 +17,15 @@ use Rattle.tool_tree_levels.specs.declared.level.LineError.TheVariants as levels
 use Rattle.tool_tree_levels.specs.Levels.{level_meaning}
 use Rattle.tool_tree_levels.specs.Doing.{AreBuilt, DoesLine}
 use Rattle.tool_tree_levels.proofs.Doing.{built_allowed}
-use Rattle.tool_lines.specs.Lines.{lines_of, ended, unlines, IsLine}
-use Rattle.tool_lines.specs.declared.stream.Fault.{Fault}
-use Rattle.tool_lines.specs.declared.stream.Fault.TheVariants as faults
-use Rattle.tool_lines.specs.Running.{fault_at}
+use Rattle.tool_stream.specs.Lines.{lines_of, ended, unlines, IsLine}
+use Rattle.tool_stream.specs.declared.stream.Fault.{Fault}
+use Rattle.tool_stream.specs.declared.stream.Fault.TheVariants as faults
+use Rattle.tool_stream.specs.Answering.{fault_at}
 use Rattle.tool_lines.specs.TreeReading.{AreRead, BuildsTree, RefusesTree, error_at}
-use Rattle.tool_lines.proofs.LinesLemmas.{lines-last}
-use Rattle.tool_lines.proofs.Loop.{unlines_push, split_push, length_push, at_end_from}
+use Rattle.tool_stream.proofs.LinesLemmas.{lines-last}
+use Rattle.std.proofs.lemmas.List.{length_push}
+use Rattle.tool_stream.proofs.Loop.{unlines_push, split_push}
+use Rattle.tool_stream.proofs.Reading.{at_end_from}
 
 -- a line adds itself to the lines of the trees
 step_lines : (bytes : List ℕ) (said : TreeLine) (ts us : List Tree) → Spells bytes said → Steps said ts us → all_lines us ≡ all_lines ts ++ bytes ∷ []
@@ -62,7 +64,7 @@ module _ (a b c : Option (List ℕ)) (stack : List Level) (number : ℕ) (so : T
   trees_more new h r does =
       let (said, us, sp, st, built) = does so.trees so.built in
       let lines : all_lines us ≡ all_lines so.trees ++ bytes ∷ [] = step_lines bytes said so.trees us sp st in
-      let long : length (all_lines us) ≡ suc (length (all_lines so.trees)) = ap length lines ∙ length_push (all_lines so.trees) bytes in
+      let long : length (all_lines us) ≡ suc (length (all_lines so.trees)) = ap length lines ∙ omega (arith, length_push (all_lines so.trees) bytes) in
       record {
         trees = us;
         read = subst (λ (ls : List (List ℕ)). Consumes a c (unlines ls)) (sym lines) (subst (Consumes a c) (sym (unlines_push (all_lines so.trees) bytes)) (Consumes-trans a b c _ _ so.read r));
@@ -120,7 +122,7 @@ module _ (a b c : Option (List ℕ)) (stack : List Level) (number : ℕ) (so : T
   ended_early h p r e new does =
       let (said, us, sp, st, built) = does so.trees so.built in
       let lines : all_lines us ≡ all_lines so.trees ++ bytes ∷ [] = step_lines bytes said so.trees us sp st in
-      let long : length (all_lines us) ≡ suc (length (all_lines so.trees)) = ap length lines ∙ length_push (all_lines so.trees) bytes in
+      let long : length (all_lines us) ≡ suc (length (all_lines so.trees)) = ap length lines ∙ omega (arith, length_push (all_lines so.trees) bytes) in
       let whole : lines_of (unlines (all_lines so.trees) ++ bytes) ≡ all_lines us = so.split bytes ∙ ap (λ ls. all_lines so.trees ++ ls) (lines-last bytes h p) ∙ sym lines in
       let early = ends_early us (built_allowed new us built) _ whole in
       (unlines (all_lines so.trees) ++ bytes, Consumes-trans a b c _ _ so.read r, inr (at_end_from a b c _ so.read e, early.0, early.1, omega (arith, so.numbered, long, ap length whole)))

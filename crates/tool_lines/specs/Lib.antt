@@ -1,4 +1,3 @@
-pub mod Lines
 pub mod Handles
 pub mod Running
 pub mod Requests

@@ -1,5 +1,5 @@
 -- What a run over the lines of a stream calls and writes.
-use Rattle.std.specs.Prelude.{◌≡◌, ℕ, ◌+◌, ◌-◌, ◌^◌, ◌<◌, min, List, [], ◌∷◌, ◌++◌, length, ◌⊎◌, Result, Ok, Err, Option, Some, None}
+use Rattle.std.specs.Prelude.{◌≡◌, ℕ, ◌+◌, ◌<◌, List, [], ◌∷◌, ◌++◌, length, Result, Ok, Err, Option, Some, None}
 use Rattle.metrics.specs.declared.calls.Call.{Call}
 use Rattle.metrics.specs.declared.calls.Answer.{Answer}
 use Rattle.metrics.specs.declared.calls.Answer.TheVariants.{Described, Registered, Updated, Snapshot, Refused}
@@ -9,18 +9,15 @@ use Rattle.metrics.specs.Meaning.{Meaning, KeepsTargets, AreNew}
 use Rattle.metrics.specs.History.{Log, reached, content_after, ArePlain}
 use Rattle.metrics.specs.Answering.{Answers, IsHeld}
 use Rattle.tool_tree_lines.specs.Trees.{Tree, meaning_of, IsAllowed}
-use Rattle.tool_lines.specs.Lines.{lines_of, unlines}
+use Rattle.tool_stream.specs.Lines.{lines_of}
+use Rattle.tool_stream.specs.Answering.{capped, AreFirst}
+use Rattle.tool_stream.specs.declared.answering.Unanswered.{Unanswered}
+use Rattle.tool_stream.specs.declared.answering.Unanswered.TheVariants as unanswered
 use Rattle.tool_grammar.specs.Grammar.{Spells, IsBad}
 use Rattle.tool_grammar.specs.Printing.{text_of, print}
 use Rattle.tool_lines.specs.Handles.{Entries, entry_at, entry_named, entries_by}
-use Rattle.tool_lines.specs.declared.stream.Fault.{Fault}
-use Rattle.tool_lines.specs.declared.stream.Fault.TheVariants as FaultVariants
 use Rattle.tool_grammar.specs.declared.error.RunError.{RunError}
 use Rattle.tool_grammar.specs.declared.error.RunError.TheVariants.{Memory, BadLine, Device}
-
--- numbers stop at 2^64 - 1
-abbrev pub capped : ℕ → ℕ
-capped n = min n (2 ^ 64 - 1)
 
 -- each line spells its call
 abbrev pub AreSpelled : List (List ℕ) → Log → Type 0
@@ -36,11 +33,6 @@ pub record AreMade (old new : Meaning) (log : Log) : Type 0 where
   pub books : length new.contents ≡ length old.contents
   pub plain : AreNew old.contents → ArePlain old.targets (length old.contents) log
   pub contents : AreNew old.contents → (b : ℕ) → b < length new.contents → content_at b new.contents ≡ content_after (reached old.targets b log)
-
--- These are the first lines of what was read, each with its line feed; or all of them, where the reader is at its end.
-abbrev pub AreFirst : Type 0 → List ℕ → List (List ℕ) → Type 0
-AreFirst at_end read ls =
-    ((rest : List ℕ) × (read ≡ unlines ls ++ rest) × (lines_of read ≡ ls ++ lines_of rest)) ⊎ (at_end × (lines_of read ≡ ls))
 
 -- What was written begins the answers to the first lines.
 abbrev pub IsCutShort : Type 0 → Meaning → Meaning → List ℕ → List ℕ → Type 0
@@ -66,10 +58,6 @@ IsRun at_end first old new read text (Err Device) = IsCutShort at_end old new re
 
 -- ---- one line
 
--- the addresses that each register call gave
-abbrev pub Handles : Type 0
-Handles = Entries (List Address)
-
 -- what an answer gives to a register call
 abbrev pub addresses_in : Answer → Option (List Address)
 addresses_in (Registered found) = Some found
@@ -79,62 +67,25 @@ addresses_in (Snapshot rows) = None
 addresses_in (Refused e) = None
 
 -- each handle leads to series that are there
-abbrev pub AreHeld : Handles → List Content → Type 0
+abbrev pub AreHeld : Entries → List Content → Type 0
 AreHeld handles cs = (n : ℕ) → IsHeld (entry_at n handles) cs
 
--- The line spells the call, which was made and answered so.
-pub record IsAnswered (old new : Meaning) (before after : Handles) (line : List ℕ) (c : Call) (a : Answer) : Type 0 where
+-- The line spells the call, which was made; where the handles were held, it was answered so.
+pub record IsAnswered (old new : Meaning) (before after : Entries) (line : List ℕ) (c : Call) (a : Answer) : Type 0 where
   pub spells : Spells line c
   pub keeps : KeepsTargets old new
-  pub answers : Answers old new (entry_named c before) c a
+  pub answers : AreHeld before old.contents → Answers old new (entry_named c before) c a
   pub noted : after ≡ before ++ entries_by c (addresses_in a)
 
--- The line's call was made, and what was written begins its answer.
-abbrev pub IsCutAnswer : Meaning → Meaning → Handles → List ℕ → List ℕ → Type 0
-IsCutAnswer old new before line text = (c : Call) × (a : Answer) × (more : List ℕ)
-    × Spells line c × KeepsTargets old new × Answers old new (entry_named c before) c a × (text_of (length before) c a ≡ text ++ more)
+-- What the answer to one line did, and its text.
+abbrev pub AnswersLine : Meaning → Meaning → Entries → Entries → List ℕ → List ℕ → Type 0
+AnswersLine old new before after line text = (c : Call) × (a : Answer) × IsAnswered old new before after line c a × (text ≡ text_of (length before) c a)
 
 -- why a line gave no call
-abbrev pub IsUnread : List ℕ → ℕ → RunError → Type 0
-IsUnread line number (BadLine k) = IsBad line × (k ≡ number)
-IsUnread line number (Memory (Some k)) = k ≡ number
-IsUnread line number (Memory None) = ⊥
-IsUnread line number Device = ⊥
-
--- nothing more of a text is to be written, or memory or the device failed before that
-abbrev pub IsWritten : List ℕ → Result (Unit {0}) RunError → Type 0
-IsWritten more (Ok _) = more ≡ []
-IsWritten more (Err (Memory None)) = Unit {0}
-IsWritten more (Err Device) = Unit {0}
-IsWritten more (Err (Memory (Some k))) = ⊥
-IsWritten more (Err (BadLine k)) = ⊥
-
--- What the answer to one line did and wrote.
-abbrev pub AnswersLine : Meaning → Meaning → Handles → Handles → List ℕ → List ℕ → ℕ → Result (Unit {0}) RunError → Type 0
-AnswersLine old new before after line text number (Ok _) = (c : Call) × (a : Answer)
-    × IsAnswered old new before after line c a × (text ≡ text_of (length before) c a)
-AnswersLine old new before after line text number (Err (BadLine k)) = IsBad line × (new ≡ old) × (text ≡ []) × (k ≡ number)
-AnswersLine old new before after line text number (Err (Memory (Some k))) = (new ≡ old) × (text ≡ []) × (k ≡ number)
-AnswersLine old new before after line text number (Err (Memory None)) = IsCutAnswer old new before line text
-AnswersLine old new before after line text number (Err Device) = IsCutAnswer old new before line text
-
--- ---- the end
-
--- neither memory nor the device failed
-abbrev pub IsWhole : Result ℕ RunError → Type 0
-IsWhole (Ok n) = Unit {0}
-IsWhole (Err (BadLine k)) = Unit {0}
-IsWhole (Err (Memory at)) = ⊥
-IsWhole (Err Device) = ⊥
-
--- After a flush: what was answered before it; or the device failed at the flush, and nothing before it.
-abbrev pub IsFlushed : Result ℕ RunError → Result ℕ RunError → Type 0
-IsFlushed before after = (after ≡ before) ⊎ (IsWhole before × (after ≡ Err Device))
-
--- the error at a line with this number that could not be read
-abbrev pub fault_at : ℕ → Fault → RunError
-fault_at number FaultVariants.Memory = Memory (Some number)
-fault_at number FaultVariants.Device = Device
+abbrev pub IsUnread : List ℕ → Unanswered → Type 0
+IsUnread line unanswered.Bad = IsBad line
+IsUnread line unanswered.Memory = Unit {0}
+IsUnread line unanswered.Lost = ⊥
 
 -- ---- the whole program
 

@@ -4,13 +4,12 @@ ghost use Rattle.std.specs.Io.KnownBytes.{Appends};
 ghost use Rattle.tool_lines.specs.Running.{PrintsAnswers, status_number};
 ghost use Rattle.tool_lines.specs.declared.requests.Request.{Request as Asked};
 ghost use Rattle.tool_lines.specs.declared.requests.Request.TheVariants as ask;
-ghost use Rattle.tool_lines.specs.Lines.{lines_of};
+ghost use Rattle.tool_stream.specs.Lines.{lines_of};
 ghost use Rattle.tool_lines.specs.Output.{AnswersAll, AnswersFirst, RunsKnown};
 ghost use Rattle.tool_lines.specs.Requests.{IsAllowed, IsAllowedPlan, Asks, PrintsTotals, Prints, totals_text};
 
 use crate::requests::{Request, StormPlan, request_of};
-use crate::running::{flush, run};
-use crate::stream::write_text;
+use crate::running::run;
 use crate::totals::text_of_totals;
 use crate::trees::tree;
 use std::alloc::Global;
@@ -19,6 +18,7 @@ use std::sync::Wait;
 use std::thread::Threads;
 use tool_grammar::RunError;
 use tool_storm::{Gate, Totals, storm, storm_growing};
+use tool_stream::{flush, write_text};
 
 const USAGE: &str = "usage: metrics_tool run | storm P V B [grow] | export S M T B";
 

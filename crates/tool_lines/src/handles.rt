@@ -1,19 +1,20 @@
 //! What register calls gave, by their numbers.
 ghost use Rattle.std.specs.Prelude.{◌≡◌, ◌++◌, [], length, OnOk, option_map};
-ghost use Rattle.tool_lines.specs.Handles.{entries, entry_at, entry_named, entry_seen, entries_by, HasRoom};
+ghost use Rattle.metrics_replay.specs.Replaying.{handle_seen};
+ghost use Rattle.tool_lines.specs.Handles.{entries, entry_at, entry_named, entries_by, HasRoom};
 
-use metrics::{Call, MetricKind};
+use metrics::{Address, Call, Items, MetricKind};
 use std::alloc::{AllocError, Global};
 
 /// For each register call, in order: its kind and what it gave, and nothing where it was refused.
 #[derive(Drop)]
-pub struct Handles<H> {
-    entries: Vec<Option<(MetricKind, H)>>,
+pub struct Handles {
+    entries: Vec<Option<(MetricKind, Items<Address>)>>,
 }
 
-impl<H: Drop> Handles<H> {
+impl Handles {
     /// Before the first register call.
-    pub fn new(alloc: Global) -> Handles<H>
+    pub fn new(alloc: Global) -> Handles
         ensures { entries result ≡ [] }
     {
         Handles {
@@ -29,18 +30,18 @@ impl<H: Drop> Handles<H> {
     }
 
     /// The kind of the register call with that number, from 0, and what it gave.
-    pub fn entry(&self, number: usize) -> Option<(MetricKind, &H)>
-        ensures { option_map entry_seen result ≡ entry_at number (entries self.now) }
+    pub fn entry(&self, number: usize) -> Option<(MetricKind, &[Address])>
+        ensures { option_map handle_seen result ≡ entry_at number (entries self.now) }
     {
         match self.entries.get(number) {
-            Some(Some((kind, given))) => Some((*kind, given)),
+            Some(Some((kind, given))) => Some((*kind, given.as_slice())),
             Some(None) | None => None,
         }
     }
 
     /// The same of the register call that an update names. Other calls name none.
-    pub fn named(&self, call: &Call) -> Option<(MetricKind, &H)>
-        ensures { option_map entry_seen result ≡ entry_named call.now (entries self.now) }
+    pub fn named(&self, call: &Call) -> Option<(MetricKind, &[Address])>
+        ensures { option_map handle_seen result ≡ entry_named call.now (entries self.now) }
     {
         match call {
             Call::Update(number, _) => self.entry(*number),
@@ -62,7 +63,7 @@ impl<H: Drop> Handles<H> {
     }
 
     /// Notes what a call gave, if it was a register call.
-    pub fn note(&mut self, call: &Call, given: Option<H>)
+    pub fn note(&mut self, call: &Call, given: Option<Items<Address>>)
         requires { HasRoom call.now self.old }
         ensures { entries self.new ≡ entries self.old ++ entries_by call.now given }
     {

@@ -6,7 +6,6 @@ mod handles;
 mod laws;
 mod requests;
 mod running;
-mod stream;
 #[cfg(test)]
 mod tests;
 mod totals;

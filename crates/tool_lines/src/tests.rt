@@ -1,5 +1,4 @@
 use crate::*;
-use metrics::{Call, MetricKind, Reset};
 use metrics_debugging::DebuggingRecorder;
 use std::alloc::Global;
 use std::io;
@@ -353,25 +352,5 @@ fn fanouts_of_many_noops(rt: HostRuntime) -> Result<(), Fail> {
         );
         assert_eq!(rt; status, want);
     }
-    Ok(())
-}
-
-#[test]
-fn handles_are_numbered_by_register_calls(rt: HostRuntime) -> Result<(), Fail> {
-    let mut handles: Handles<usize> = Handles::new(rt.alloc());
-    let register = Call::Register(MetricKind::Gauge, metrics::Key::from_name(rt.alloc(), "g")?);
-    let calls = [Call::Snapshot(0), Call::SnapshotWith(0, Reset::KeepGauges)];
-    for call in &calls {
-        handles.reserve_for(call)?;
-        handles.note(call, Some(9));
-        assert!(rt; handles.named(call).is_none());
-    }
-    for given in [None, Some(4)] {
-        handles.reserve_for(&register)?;
-        handles.note(&register, given);
-    }
-    assert_eq!(rt; handles.len(), 2);
-    assert!(rt; handles.entry(0).is_none());
-    assert_eq!(rt; handles.entry(1), Some((MetricKind::Gauge, &4)));
     Ok(())
 }

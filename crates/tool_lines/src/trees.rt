@@ -7,14 +7,13 @@ ghost use Rattle.tool_tree_levels.specs.declared.level.Level.{Level as Stacked};
 ghost use Rattle.tool_tree_levels.specs.Levels.{level_meaning};
 ghost use Rattle.tool_lines.specs.TreeReading.{BuildsTree, RefusesTree, error_at};
 
-use crate::running::at_line;
-use crate::stream::{Found, next_line};
 use metrics::Recorder;
 use metrics_debugging::DebuggingRecorder;
 use metrics_trees::Child;
 use std::alloc::Global;
 use std::io::BufRead;
 use tool_grammar::RunError;
+use tool_stream::{Found, at_line, next_line};
 use tool_tree_levels::{Level, LineError, read_line};
 
 /// The error at a tree line with this number.

@@ -1,8 +1,8 @@
 use Rattle.std.proofs.Common.{◌≡◌, ℕ, ◌-◌, List, ◌++◌, length, take, drop, sym, ap, ◌∙◌, append_assoc, take-append-drop}
 use Rattle.std.proofs.lemmas.List.{take_rest}
 use Rattle.std.proofs.KnownBytes.{Appends-trans, Appends-kept}
-use Rattle.tool_lines.proofs.stream.write_text.Goals.{in-Ok, in-Err+else-ne}
-use Rattle.tool_lines.proofs.stream.write_text.Goals as goal
+use Rattle.tool_stream.proofs.stream.write_text.Goals.{in-Ok, in-Err+else-ne}
+use Rattle.tool_stream.proofs.stream.write_text.Goals as goal
 
 moves_front : (all done rest : List ℕ) (n : ℕ) → all ≡ done ++ rest → all ≡ (done ++ take n rest) ++ take (length rest - n) (drop n rest)
 moves_front all done rest n e =

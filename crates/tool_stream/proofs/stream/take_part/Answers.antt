@@ -1,8 +1,8 @@
 use Rattle.std.proofs.Common.{◌≡◌, [], refl, sym, subst, ◌∙◌, eqb-true, length}
 use Rattle.std.specs.Io.BufRead.{FillKeeps}
 use Rattle.std.proofs.KnownBytes.{Consumes-nil, Consumes-kept}
-use Rattle.tool_lines.proofs.Known.{at_end, IfSome-weaker}
-use Rattle.tool_lines.proofs.stream.take_part.Goals as goal
+use Rattle.tool_stream.proofs.Known.{at_end, IfSome-weaker}
+use Rattle.tool_stream.proofs.stream.take_part.Goals as goal
 
 pub returns-then-is_empty : goal.returns-then-is_empty
 returns-then-is_empty g c =

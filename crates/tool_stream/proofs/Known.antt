@@ -2,7 +2,7 @@
 use Rattle.std.proofs.Common.{◌≡◌, ℕ, ◌+◌, ◌<◌, List, [], ◌∷◌, ◌++◌, Some, None, IfSome, OnSome, Option, take, ap, ◌∙◌, get_or, length, add-one}
 use Rattle.std.proofs.Math.Seq.{take-suc}
 use Rattle.std.specs.Io.KnownBytes.{IsAtEnd, Keeps}
-use Rattle.tool_lines.specs.Lines.{ended}
+use Rattle.tool_stream.specs.Lines.{ended}
 
 pub at_end : (a b : Option (List ℕ)) → Keeps a b → IfSome a (λ xs. xs ≡ []) → OnSome a (IsAtEnd b)
 at_end None b k e = tt

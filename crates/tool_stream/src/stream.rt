@@ -1,7 +1,7 @@
 //! Lines from a buffered reader, and whole texts to a writer.
 ghost use Rattle.std.specs.Prelude.{◌≡◌, List, ℕ, [], ◌++◌, OnOk};
 ghost use Rattle.std.specs.Io.KnownBytes.{Appends};
-ghost use Rattle.tool_lines.specs.Lines.{TakesPart, ReadsLine};
+ghost use Rattle.tool_stream.specs.Lines.{IsLine, TakesPart, ReadsRest, ReadsLine};
 
 use std::alloc::AllocError;
 use std::io::{BufRead, ErrorKind, Write};
@@ -15,7 +15,7 @@ pub enum Fault {
 }
 
 impl From<AllocError> for Fault {
-    ghost use Rattle.tool_lines.specs.declared.stream.Fault.TheVariants.{Memory};
+    ghost use Rattle.tool_stream.specs.declared.stream.Fault.TheVariants.{Memory};
 
     ghost from_gives = { λ _ e. e ≡ Memory };
 
@@ -27,6 +27,16 @@ impl From<AllocError> for Fault {
 /// The writer failed.
 #[derive(Clone, Copy)]
 pub struct Broken;
+
+impl From<Broken> for Fault {
+    ghost use Rattle.tool_stream.specs.declared.stream.Fault.TheVariants.{Device};
+
+    ghost from_gives = { λ _ e. e ≡ Device };
+
+    fn from(_error: Broken) -> Fault {
+        Fault::Device
+    }
+}
 
 /// Writes the text by single writes, each of which may take less than it is offered.
 pub fn write_text<O: Write>(output: &mut O, text: &[u8]) -> Result<(), Broken>
@@ -74,10 +84,16 @@ pub enum Found {
     End,
 }
 
-/// Moves what the reader shows of the line to the end of `line`.
-fn take_part<I: BufRead>(input: &mut I, line: &mut Vec<u8>) -> Result<Part, Fault>
+/// Moves what the reader shows of the line to the end of `line`. `at_hand` is then how many bytes the reader shows behind
+/// it: at 0 the next look at the reader may wait.
+pub fn take_part<I: BufRead>(
+    input: &mut I,
+    line: &mut Vec<u8>,
+    at_hand: &mut usize,
+) -> Result<Part, Fault>
     ensures { TakesPart (I.remaining input.old) (I.remaining input.new) line.old.items line.new.items result }
 {
+    *at_hand = 0;
     let shown = match input.fill_buf() {
         Ok(shown) => shown,
         Err(e) => {
@@ -95,6 +111,7 @@ fn take_part<I: BufRead>(input: &mut I, line: &mut Vec<u8>) -> Result<Part, Faul
     let is_ended = end < shown.len();
     line.extend_from_slice(&shown[..end])?;
     if is_ended {
+        *at_hand = shown.len() - end - 1;
         input.consume(end + 1);
         Ok(Part::Feed)
     } else {
@@ -103,13 +120,19 @@ fn take_part<I: BufRead>(input: &mut I, line: &mut Vec<u8>) -> Result<Part, Faul
     }
 }
 
-/// Reads the next line into `line`, in place of what it held, without its line feed.
-pub fn next_line<I: BufRead>(input: &mut I, line: &mut Vec<u8>) -> Result<Found, Fault>
-    ensures { ReadsLine (I.remaining input.old) (I.remaining input.new) line.new.items result }
+/// Reads what is left of the line, and puts it behind what `line` holds, without its line feed. `at_hand` is as
+/// `take_part` leaves it.
+pub fn rest_of_line<I: BufRead>(
+    input: &mut I,
+    line: &mut Vec<u8>,
+    at_hand: &mut usize,
+) -> Result<Found, Fault>
+    requires { IsLine line.old.items }
+    ensures { (rest : List ℕ) × (line.new.items ≡ line.old.items ++ rest)
+        × ReadsRest (I.remaining input.old) (I.remaining input.new) line.new.items rest result }
 {
-    line.clear();
     for _ in 0..u64::MAX {
-        match take_part(input, line)? {
+        match take_part(input, line, at_hand)? {
             Part::Feed => return Ok(Found::Line),
             Part::More => {}
             Part::Nothing => {
@@ -122,4 +145,13 @@ pub fn next_line<I: BufRead>(input: &mut I, line: &mut Vec<u8>) -> Result<Found,
         }
     }
     Err(Fault::Device)
+}
+
+/// Reads the next line into `line`, in place of what it held, without its line feed.
+pub fn next_line<I: BufRead>(input: &mut I, line: &mut Vec<u8>) -> Result<Found, Fault>
+    ensures { ReadsLine (I.remaining input.old) (I.remaining input.new) line.new.items result }
+{
+    line.clear();
+    let mut at_hand = 0;
+    rest_of_line(input, line, &mut at_hand)
 }

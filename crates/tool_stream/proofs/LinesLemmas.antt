@@ -3,7 +3,7 @@ use Rattle.std.proofs.Common.{◌≡◌, ◌≢◌, ℕ, ◌<◌, List, [], ◌�
 use Rattle.std.specs.Bool.{◌==◌, if◌then◌else◌}
 use Rattle.std.specs.List.{AllByRecursion}
 use Rattle.std.proofs.lemmas.List.Elements.{recursion_from_All}
-use Rattle.tool_lines.specs.Lines.{onto, lines_of, ended, unlines, IsLine}
+use Rattle.tool_stream.specs.Lines.{onto, lines_of, ended, unlines, IsLine}
 
 is_not : (x : ℕ) → x ≢ 10 → (x == 10) ≡ false
 is_not x ne = grind arith

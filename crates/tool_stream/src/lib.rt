@@ -1,0 +1,10 @@
+//! Lines from a buffered reader, each answered by a text to a writer.
+#![tactic(auto)]
+
+mod answering;
+mod stream;
+mod waiting;
+
+pub use answering::{LineMachine, Unanswered, at_line, flush, run_lines};
+pub use stream::{Broken, Fault, Found, next_line, write_text};
+pub use tool_grammar::RunError;
