@@ -1,0 +1,48 @@
+-- No two samples of a text are of one series.
+use Rattle.std.proofs.Common.{◌≡◌, Bool, true, false, List, [], ◌∷◌, None, refl}
+use Rattle.std.specs.Prelude.{bytes_eq}
+use Rattle.std.specs.List.{AllByRecursion, IsDistinct, list_any, flat_map}
+use Rattle.std.specs.List.Sorted.{IsSorted}
+use Rattle.std.specs.Cmp.Lexicographic.{pointwise}
+use Rattle.metrics_names.specs.declared.kind.MetricKind.TheVariants.{Histogram}
+use Rattle.metrics_names.specs.Names.{label_eq, kind_eq}
+use Rattle.metrics_exporter.specs.Exporting.{Cells}
+use Rattle.metrics_prometheus.specs.Samples.{Sample}
+use Rattle.metrics_prometheus.specs.Exposition.{Row, row_cmp, is_histogram_of, is_taken, samples_of, reading_at}
+use Rattle.metrics_prometheus.specs.Written.{written, samples_written, is_same_series}
+use Rattle.metrics_prometheus.proofs.PairLemmas.{each-map, each-all, each-both, Pairs, pairs-with, pairs-flat}
+use Rattle.metrics_prometheus.proofs.SameLemmas.{both-true, bytes-same, same-bytes, same-labels}
+use Rattle.metrics_prometheus.proofs.SampleLemmas.{Differ, IsAmong, IsFree, ReadsAs, row-differs, rows-differ, or-first, or-second, both}
+use Rattle.metrics_prometheus.proofs.WrittenLemmas.{IsBefore, before-apart, written-ascend, written-each, written-free}
+
+among : (rows : List Row) → AllByRecursion (IsAmong rows) rows
+among [] = tt
+among (x ∷ xs) = (
+  (λ h. or-first (is_histogram_of x.name x) (list_any (is_histogram_of x.name) xs) (both (kind_eq x.kind Histogram) (bytes_eq x.name x.name) h (bytes-same x.name x.name refl))),
+  each-map (IsAmong xs) (IsAmong (x ∷ xs)) (λ q f h. or-second (is_histogram_of q.name x) (list_any (is_histogram_of q.name) xs) (f h)) xs (among xs),
+)
+
+none-true : (b : Bool) → (b ≡ true → ⊥) → b ≡ false
+none-true true h = absurd (h refl)
+none-true false h = refl
+
+apart-test : (s t : Sample) → Differ s t → is_same_series s t ≡ false
+apart-test s t differ =
+    none-true (is_same_series s t) (λ e.
+    let parts = both-true (bytes_eq s.name t.name) (pointwise label_eq s.labels t.labels) e in
+    differ (same-bytes s.name t.name parts.0) (same-labels s.labels t.labels parts.1))
+
+distinct-from : (ss : List Sample) → Pairs Differ ss → IsDistinct is_same_series ss
+unfolding IsDistinct
+distinct-from [] p = tt
+distinct-from (s ∷ ss) p = (each-map (Differ s) (λ t. is_same_series s t ≡ false) (apart-test s) ss p.0, distinct-from ss p.1)
+
+pub samples-distinct : (cells : Cells) (rows : List Row) → IsSorted row_cmp rows → ((r : Row) → ReadsAs r.kind (reading_at cells r)) → IsDistinct is_same_series (samples_written cells rows)
+samples-distinct cells rows up reads =
+    let done = written rows None rows in
+    let f : Row → List Sample = λ r. samples_of r (reading_at cells r) in
+    let Across : Row → Row → Type 0 = λ a b. AllByRecursion (λ s. AllByRecursion (Differ s) (f b)) (f a) in
+    let free : AllByRecursion (IsFree rows) done = each-both (λ r. is_taken rows r.name ≡ false) (IsAmong rows) done (written-free rows None rows) (written-each (IsAmong rows) rows None rows (among rows)) in
+    let own = each-all (λ r. Pairs Differ (f r)) (λ r. row-differs r (reading_at cells r) (reads r)) done in
+    let across = pairs-with (IsFree rows) IsBefore Across (λ a b fa fb before. rows-differ rows a b (reading_at cells a) (reading_at cells b) (reads a) (reads b) fa fb (before-apart a b before)) done free (written-ascend rows up) in
+    distinct-from (flat_map f done) (pairs-flat f Differ done own across)

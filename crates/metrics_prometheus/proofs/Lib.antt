@@ -1,0 +1,13 @@
+pub mod Yielded
+pub mod LineLemmas
+pub mod RowLemmas
+pub mod TextLemmas
+pub mod PairLemmas
+pub mod SameLemmas
+pub mod WrittenLemmas
+pub mod NumeralLemmas
+pub mod SampleLemmas
+pub mod ReadingLemmas
+pub mod DistinctLemmas
+pub mod ToldLemmas
+pub mod TextLineLemmas

@@ -1,0 +1,39 @@
+-- The text of rows, one row after another.
+use Rattle.std.proofs.Common.{◌≡◌, ◌∙◌, ◌+◌, ◌<◌, ◌++◌, ℕ, Bool, true, false, not, List, Option, Some, None, Result, Ok, Err, MatchResult, length, get_or, drop, refl, cond, ap, sym, append_assoc}
+use Rattle.std.proofs.lemmas.List.{at_drop_more}
+use Rattle.metrics_exporter.specs.Exporting.{Cells}
+use Rattle.metrics_prometheus.specs.Exposition.{Row, is_left_out, row_text, last_after, rows_text, AreRows, IsExposition}
+use Rattle.metrics_prometheus.specs.Rows.{RowParts, row_shown, rows_shown}
+
+if-true : {A : Type 0} (b written : Bool) (x y : A) → written ≡ not b → written ≡ true → y ≡ cond b x y
+if-true true written x y is was = absurd (let e : true ≡ false = sym was ∙ is in cc)
+if-true false written x y is was = refl
+
+if-false : {A : Type 0} (b written : Bool) (x y : A) → written ≡ not b → written ≡ false → x ≡ cond b x y
+if-false true written x y is was = refl
+if-false false written x y is was = absurd (let e : true ≡ false = sym is ∙ was in cc)
+
+-- the row that was written last, where this one was
+pub last-written : (all : List Row) (last : Option Row) (r : Row) (written : Bool) → written ≡ not (is_left_out all last r) → written ≡ true → Some r ≡ last_after all last r
+last-written all last r written is was = if-true (is_left_out all last r) written last (Some r) is was
+
+-- and where it wasn't
+pub last-kept : (all : List Row) (last : Option Row) (r : Row) (written : Bool) → written ≡ not (is_left_out all last r) → written ≡ false → last ≡ last_after all last r
+last-kept all last r written is was = if-false (is_left_out all last r) written last (Some r) is was
+
+-- the text with one more row
+pub text-more : (cells : Cells) (all : List Row) (last after : Option Row) (xs : List RowParts) (i : ℕ) (x : RowParts) (before now whole : List ℕ)
+    → i < length xs → x ≡ get_or xs i x → now ≡ before ++ row_text cells all last (row_shown x) → after ≡ last_after all last (row_shown x)
+    → before ++ rows_text cells all last (rows_shown (drop i xs)) ≡ whole → now ++ rows_text cells all after (rows_shown (drop (i + 1) xs)) ≡ whole
+text-more cells all last after xs i x before now whole small at is then was =
+    let text : Option Row → List ℕ = λ l. rows_text cells all l (rows_shown (drop (i + 1) xs)) in
+    ap (λ t. t ++ text after) is ∙ ap (λ l. (before ++ row_text cells all last (row_shown x)) ++ text l) then
+    ∙ append_assoc before (row_text cells all last (row_shown x)) (text (last_after all last (row_shown x)))
+    ∙ ap (λ t. before ++ t) (sym (at_drop_more (λ ys. rows_text cells all last (rows_shown ys)) xs i x small ∙ ap (λ y. row_text cells all last (row_shown y) ++ text (last_after all last (row_shown y))) (sym at)))
+    ∙ was
+
+-- the text of the rows of the held series
+pub text-of-rows : {T E : Type 0} (bytes : T → List ℕ) (P : E → Type 0) (cells : Cells) (rows : List Row) → AreRows cells rows → (r : Result T E) → MatchResult r (λ t. bytes t ≡ rows_text cells rows None rows) P
+    → MatchResult r (λ t. IsExposition cells (bytes t)) P
+text-of-rows bytes P cells rows all (Ok t) is = record { rows = rows; all = all; is = is }
+text-of-rows bytes P cells rows all (Err e) is = is

@@ -1,0 +1,7 @@
+-- The labels so far, and those to come.
+use Rattle.std.proofs.Common.{◌≡◌, drop}
+use Rattle.metrics_prometheus.specs.Labels.{with_labels, shown_labels}
+use Rattle.metrics_prometheus.proofs.labels.shown_labels.Given as goal
+
+abbrev pub invariant-loop-label : goal.invariant-loop-label
+invariant-loop-label l = with_labels l.shown.items (drop l.label-index l.labels) ≡ shown_labels l.labels

@@ -1,0 +1,39 @@
+-- The labels of a series as Prometheus is shown them.
+use Rattle.std.specs.Prelude.{if◌then◌else◌, ℕ, Bool, false, not, ◌&&◌, ◌||◌, List, [], ◌∷◌, codes, bytes_eq}
+use Rattle.std.specs.List.{list_any}
+use Rattle.std.specs.Ordering.{is_lt}
+use Rattle.metrics_names.specs.declared.kind.MetricKind.{MetricKind}
+use Rattle.metrics_names.specs.declared.kind.MetricKind.TheVariants.{Histogram}
+use Rattle.metrics_names.specs.Names.{LabelParts, kind_eq, label_cmp}
+use Rattle.metrics_prometheus.specs.Names.{label_name}
+
+-- the labels in order, with one more in its place
+abbrev pub placed : LabelParts → List LabelParts → List LabelParts
+placed l [] = l ∷ []
+placed l (m ∷ ms) = if is_lt (label_cmp l m) then l ∷ m ∷ ms else m ∷ placed l ms
+
+-- a label without a value is to Prometheus no label, and is left out
+abbrev pub added : List ℕ → List ℕ → List LabelParts → List LabelParts
+added name [] labels = labels
+added name (c ∷ value) labels = placed (label_name name, c ∷ value) labels
+
+abbrev pub with_labels : List LabelParts → List LabelParts → List LabelParts
+with_labels shown [] = shown
+with_labels shown (l ∷ ls) = with_labels (added l.0 l.1 shown) ls
+
+-- the labels in order of their names
+abbrev pub shown_labels : List LabelParts → List LabelParts
+shown_labels labels = with_labels [] labels
+
+-- two labels have one name
+abbrev pub repeats : List LabelParts → Bool
+repeats [] = false
+repeats (l ∷ ls) = list_any (λ m. bytes_eq m.0 l.0) ls || repeats ls
+
+-- a name that Prometheus gives itself: the metric's, and the bound of a histogram's bucket
+abbrev pub is_reserved : MetricKind → List ℕ → Bool
+is_reserved kind name = bytes_eq name (codes "__name__") || (kind_eq kind Histogram && bytes_eq name (codes "le"))
+
+-- labels that a series of the kind can be shown with: no name twice, and none that is reserved
+abbrev pub are_fit : MetricKind → List LabelParts → Bool
+are_fit kind labels = not (repeats labels) && not (list_any (λ l. is_reserved kind l.0) labels)

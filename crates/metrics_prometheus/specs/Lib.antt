@@ -1,0 +1,6 @@
+pub mod Names
+pub mod Labels
+pub mod Samples
+pub mod Exposition
+pub mod Rows
+pub mod Written

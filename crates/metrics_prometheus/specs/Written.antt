@@ -1,0 +1,54 @@
+-- The samples that a text of rows has.
+use Rattle.std.specs.Prelude.{if◌then◌else◌, ◌≡◌, ℕ, Bool, ◌&&◌, bytes_eq, List, [], ◌∷◌, ◌++◌, Option, None, Some, Contains}
+use Rattle.std.specs.List.{flat_map, filter_map}
+use Rattle.std.specs.Cmp.Lexicographic.{pointwise}
+use Rattle.metrics_names.specs.Names.{label_eq}
+use Rattle.metrics_exporter.specs.Exporting.{Cells}
+use Rattle.metrics_prometheus.specs.Samples.{Sample, sample_line, lines}
+use Rattle.metrics_prometheus.specs.Exposition.{Row, is_left_out, samples_of, reading_at, type_line, left_out_line}
+
+-- the rows that are not left out
+abbrev pub written : List Row → Option Row → List Row → List Row
+written rows last [] = []
+written rows last (r ∷ rs) = if is_left_out rows last r then written rows last rs else r ∷ written rows (Some r) rs
+
+-- their samples, in order
+abbrev pub samples_written : Cells → List Row → List Sample
+samples_written cells rows = flat_map (λ r. samples_of r (reading_at cells r)) (written rows None rows)
+
+-- two samples have the same name and labels: to Prometheus they are one series
+abbrev pub is_same_series : Sample → Sample → Bool
+is_same_series a b = bytes_eq a.name b.name && pointwise label_eq a.labels b.labels
+
+-- rows of one name are of one kind, and have other labels
+abbrev pub AreApart : Row → Row → Type 0
+AreApart a b = a.name ≡ b.name → (a.kind ≡ b.kind) × (a.labels ≡ b.labels → ⊥)
+
+-- a row is written, and its samples stand in the text; or the line stands there that says that it is left out
+pub data IsTold (cells : Cells) (rows : List Row) (text : List ℕ) (r : Row) : Type 0 where
+  shown : (before after : List ℕ) → Contains (written rows None rows) r → text ≡ before ++ (lines (samples_of r (reading_at cells r)) ++ after) → IsTold cells rows text r
+  left_out : (before after : List ℕ) → text ≡ before ++ (left_out_line r ++ after) → IsTold cells rows text r
+
+-- ---- the lines of a text
+
+-- a line has a sample, or it tells the kind of a row's name or that a row is left out
+pub data Line : Type 0 where
+  has : Sample → Line
+  tells_kind : Row → Line
+  leaves_out : Row → Line
+
+abbrev pub line_text : Line → List ℕ
+line_text (has s) = sample_line s
+line_text (tells_kind r) = type_line r
+line_text (leaves_out r) = left_out_line r
+
+abbrev pub sample_in : Line → Option Sample
+sample_in (has s) = Some s
+sample_in (tells_kind r) = None
+sample_in (leaves_out r) = None
+
+-- a text of lines, of which these are the samples
+pub record HasSamples (text : List ℕ) (samples : List Sample) : Type 0 where
+  pub all : List Line
+  pub text_is : text ≡ flat_map line_text all
+  pub samples_are : filter_map sample_in all ≡ samples

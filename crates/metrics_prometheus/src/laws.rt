@@ -1,0 +1,30 @@
+//! Laws of the exposition.
+ghost use Rattle.std.specs.Prelude.{ℕ, List, None, All, AllPairs, FitsSigned};
+ghost use Rattle.std.specs.Int.{w64};
+ghost use Rattle.std.specs.List.{IsDistinct};
+ghost use Rattle.metrics_names.specs.Names.{SeriesKey};
+ghost use Rattle.metrics_exporter.specs.Exporting.{Cells, Setup, Step, IsHeld, cells_after};
+ghost use Rattle.metrics_prometheus.specs.Exposition.{IsExposition, row_of};
+ghost use Rattle.metrics_prometheus.specs.Written.{written, samples_written, is_same_series};
+ghost use Rattle.metrics_prometheus.specs.Written.{AreApart, HasSamples, IsTold};
+
+use crate::rows::row_order;
+
+/// Takes nothing and does nothing: its contract has the laws of the text.
+pub fn exposition_law()
+    // A text consists of lines: these samples, in this order, and comments.
+    ensures samples { (cells : Cells) (text : List ℕ) (e : IsExposition cells text)
+        → HasSamples text (samples_written cells e.rows) }
+    // No two of these samples have the same name and labels.
+    ensures distinct { (setup : Setup) (xs : List Step) (text : List ℕ) → All (FitsSigned w64) setup.bounds
+        → (e : IsExposition (cells_after setup xs) text)
+        → IsDistinct is_same_series (samples_written (cells_after setup xs) e.rows) }
+    // A name that is written has one kind.
+    ensures apart { (cells : Cells) (text : List ℕ) (e : IsExposition cells text)
+        → AllPairs AreApart (written e.rows None e.rows) }
+    // Each held series has its samples in the text, or a line that says that it is left out.
+    ensures told { (cells : Cells) (text : List ℕ) (e : IsExposition cells text) (s : SeriesKey) → IsHeld cells s
+        → IsTold cells e.rows text (row_of s) }
+{
+    row_order();
+}

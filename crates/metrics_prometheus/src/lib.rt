@@ -1,0 +1,14 @@
+//! Prometheus's text exposition format of the series that an exporter holds.
+#![tactic(auto)]
+
+mod labels;
+mod laws;
+mod names;
+mod rows;
+mod samples;
+mod text;
+
+pub use laws::exposition_law;
+pub use metrics::Error;
+pub use metrics_exporter::Exporter;
+pub use text::exposition;

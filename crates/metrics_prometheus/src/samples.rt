@@ -1,0 +1,182 @@
+//! The lines of samples.
+ghost use Rattle.std.specs.Prelude.{◌≡◌, ◌++◌, ◌∷◌, [], codes, string_bytes};
+ghost use Rattle.std.specs.Prelude.{IfOk, OnOk, IfErr, flat_map, map};
+ghost use Rattle.std.specs.Fmt.{signed_decimal};
+ghost use Rattle.metrics.specs.declared.error.Error.TheVariants.{Memory as OutOfMemory};
+ghost use Rattle.metrics_prometheus.specs.Samples.{label_text, joined, labels_text, sample_line, lines, bucket_placed, ascending};
+ghost use Rattle.metrics_prometheus.specs.Samples.{bucket_sample, histogram_samples};
+
+use crate::names::write_value;
+use metrics::{Error, Label};
+use metrics_storage::Histogram;
+use std::alloc::{AllocError, Global};
+
+/// Writes a label: NAME="VALUE", the value escaped.
+fn write_label(text: &mut String, name: &str, value: &str) -> Result<(), AllocError>
+    ensures { OnOk result (string_bytes text.new ≡ string_bytes text.old ++ label_text (name.now, value.now)) }
+{
+    text.push_str(name)?;
+    text.push_str("=\"")?;
+    write_value(text, value)?;
+    text.push_str("\"")
+}
+
+/// Writes labels with a comma before each.
+fn write_more(text: &mut String, labels: &[Label]) -> Result<(), AllocError>
+    ensures { OnOk result (string_bytes text.new ≡ string_bytes text.old ++ flat_map (λ m. 44 ∷ label_text m) labels.now) }
+{
+    for label in labels {
+        text.push_str(",")?;
+        write_label(text, label.key(), label.value())?;
+    }
+    Ok(())
+}
+
+/// Writes labels in braces, and nothing for none.
+pub(crate) fn write_labels(text: &mut String, labels: &[Label]) -> Result<(), AllocError>
+    ensures { OnOk result (string_bytes text.new ≡ string_bytes text.old ++ labels_text labels.now) }
+{
+    match labels {
+        [] => Ok(()),
+        [first, rest @ ..] => {
+            text.push_str("{")?;
+            write_label(text, first.key(), first.value())?;
+            write_more(text, rest)?;
+            text.push_str("}")
+        }
+    }
+}
+
+/// Writes labels and a bucket's bound with a comma before each.
+fn write_more_bounded(text: &mut String, labels: &[Label], bound: &str) -> Result<(), AllocError>
+    ensures { OnOk result (string_bytes text.new ≡ string_bytes text.old
+        ++ flat_map (λ m. 44 ∷ label_text m) (labels.now ++ (codes "le", bound.now) ∷ [])) }
+{
+    write_more(text, labels)?;
+    text.push_str(",")?;
+    write_label(text, "le", bound)
+}
+
+/// Writes labels and a bucket's bound in braces.
+fn write_bounded(text: &mut String, labels: &[Label], bound: &str) -> Result<(), AllocError>
+    ensures { OnOk result (string_bytes text.new
+        ≡ string_bytes text.old ++ labels_text (labels.now ++ (codes "le", bound.now) ∷ [])) }
+{
+    match labels {
+        [] => {
+            text.push_str("{")?;
+            write_label(text, "le", bound)?;
+            text.push_str("}")
+        }
+        [first, rest @ ..] => {
+            text.push_str("{")?;
+            write_label(text, first.key(), first.value())?;
+            write_more_bounded(text, rest, bound)?;
+            text.push_str("}")
+        }
+    }
+}
+
+/// Writes the line of a sample that is no bucket; its name has an end behind the metric's name.
+pub(crate) fn write_sample(
+    text: &mut String,
+    name: &str,
+    end: &str,
+    labels: &[Label],
+    value: i128,
+) -> Result<(), AllocError>
+    ensures { OnOk result (string_bytes text.new ≡ string_bytes text.old
+        ++ sample_line (record { name = name.now ++ end.now; labels = labels.now; value = signed_decimal value })) }
+{
+    text.push_str(name)?;
+    text.push_str(end)?;
+    write_labels(text, labels)?;
+    write!(text, " {value}\n")?;
+    Ok(())
+}
+
+/// Writes the line of a bucket.
+fn write_bucket(
+    text: &mut String,
+    name: &str,
+    labels: &[Label],
+    bound: &str,
+    count: u64,
+) -> Result<(), AllocError>
+    ensures { OnOk result (string_bytes text.new
+        ≡ string_bytes text.old ++ sample_line (bucket_sample name.now labels.now bound.now count)) }
+{
+    text.push_str(name)?;
+    text.push_str("_bucket")?;
+    write_bounded(text, labels, bound)?;
+    write!(text, " {count}\n")?;
+    Ok(())
+}
+
+/// Writes the line of each bucket.
+fn write_buckets(
+    text: &mut String,
+    name: &str,
+    labels: &[Label],
+    buckets: &[(i64, u64)],
+) -> Result<(), AllocError>
+    ensures { OnOk result (string_bytes text.new ≡ string_bytes text.old
+        ++ lines (map (λ b. bucket_sample name.now labels.now (signed_decimal b.0) b.1) buckets.now)) }
+{
+    for (bound, count) in buckets {
+        let shown = format!(in *text.allocator(); "{bound}")?;
+        write_bucket(text, name, labels, &shown, *count)?;
+    }
+    Ok(())
+}
+
+/// Adds a bucket in its place, unless its bound stands there already.
+fn add_bucket(buckets: &mut Vec<(i64, u64)>, bound: i64, count: u64) -> Result<(), AllocError>
+    ensures { OnOk result (buckets.new.items ≡ bucket_placed (bound, count) buckets.old.items) }
+{
+    for at in 0..buckets.len() {
+        let other = buckets[at].0;
+        if bound < other {
+            buckets.insert(at, (bound, count))?;
+            return Ok(());
+        }
+        if bound == other {
+            return Ok(());
+        }
+    }
+    buckets.push((bound, count))?;
+    Ok(())
+}
+
+/// Each bound once, in ascending order.
+fn ascending(alloc: Global, buckets: &[(i64, u64)]) -> Result<Vec<(i64, u64)>, AllocError>
+    ensures { IfOk result (λ v. v.items ≡ ascending buckets.now) }
+{
+    let mut ascending = Vec::new(alloc);
+    for (bound, count) in buckets {
+        add_bucket(&mut ascending, *bound, *count)?;
+    }
+    Ok(ascending)
+}
+
+/// Writes the lines of a histogram.
+pub(crate) fn write_histogram(
+    alloc: Global,
+    text: &mut String,
+    name: &str,
+    labels: &[Label],
+    histogram: &Histogram,
+) -> Result<(), Error>
+    ensures ok { OnOk result (string_bytes text.new
+        ≡ string_bytes text.old ++ lines (histogram_samples name.now labels.now histogram.now)) }
+    ensures err { IfErr result (λ e. e ≡ OutOfMemory) }
+{
+    let buckets = ascending(alloc, &histogram.buckets()?)?;
+    let count = histogram.count();
+    let sum = histogram.sum();
+    write_buckets(text, name, labels, &buckets)?;
+    write_bucket(text, name, labels, "+Inf", count)?;
+    write_sample(text, name, "_sum", labels, sum)?;
+    write_sample(text, name, "_count", labels, i128::from(count))?;
+    Ok(())
+}
