@@ -1,5 +1,6 @@
 //! The pens of a bucket that any thread may use.
-ghost use Rattle.std.specs.Prelude.{◌≡◌, ℕ, ◌+◌, ◌<◌, ◌≤◌, [], ◌∷◌, false, All, Option, IfOk, OnOk, IfSome, IfErr, vec_len};
+ghost use Rattle.std.specs.Prelude.{◌≡◌, ℕ, ◌+◌, ◌<◌, ◌≤◌, [], ◌∷◌, false, All};
+ghost use Rattle.std.specs.Prelude.{Option, IfOk, OnOk, IfSome, IfErr, vec_len};
 ghost use Rattle.metrics_bucket.specs.Lending.{home_of, IsThere};
 
 use crate::pen::Pen;

@@ -55,7 +55,8 @@ impl EqualClone for Key {
     ghost clones = { λ k c h.
         let name : h.0.name ≡ h.1.name = sym h.4.0.2 ∙ (sym h.4.0.4 ∙ h.4.0.3) in
         let P : List ℕ → List (List ℕ × List ℕ) → KeyParts = λ n l. record { name = n; labels = l } in
-        (key_eq-Decides k c).1 (sym h.2 ∙ (ap (λ n. P n h.0.labels) name ∙ (ap (λ l. P h.1.name l) (sym h.4.1.0) ∙ h.3))) };
+        (key_eq-Decides k c).1
+        (sym h.2 ∙ (ap (λ n. P n h.0.labels) name ∙ (ap (λ l. P h.1.name l) (sym h.4.1.0) ∙ h.3))) };
 }
 
 impl EqualClone for u64 {
