@@ -1,0 +1,6 @@
+mod RequestLemmas
+mod SpellingLemmas
+mod PlainLemmas
+mod AnswerLemmas
+mod SessionLemmas
+mod BoundsLemmas

@@ -1,0 +1,4 @@
+pub mod Requests
+pub mod Exported
+pub mod Exporting
+pub mod Plans

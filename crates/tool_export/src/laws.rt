@@ -1,0 +1,22 @@
+//! Laws of the definitions.
+ghost use Rattle.std.specs.Prelude.{◌≡◌, ◌++◌, ℕ, List};
+ghost use Rattle.metrics_exporter.specs.Exporting.{Setup};
+ghost use Rattle.tool_export.specs.declared.requests.Request.{Request};
+ghost use Rattle.tool_export.specs.Requests.{Spells};
+ghost use Rattle.tool_export.specs.Exported.{IsExported};
+
+use metrics_exporter::exporter_law;
+
+/// Takes nothing and does nothing: its contract has the laws of what lines print.
+pub fn export_law()
+    // A line spells one request at most.
+    ensures request { (line : List ℕ) (r s : Request) → Spells line r → Spells line s → r ≡ s }
+    // Lines print one text at most.
+    ensures one { (setup : Setup) (ls : List (List ℕ)) (a b : List ℕ) → IsExported setup ls a → IsExported setup ls b
+        → a ≡ b }
+    // The text of the first lines begins the text of all.
+    ensures begins { (setup : Setup) (ls later : List (List ℕ)) (a b : List ℕ) → IsExported setup ls a
+        → IsExported setup (ls ++ later) b → (more : List ℕ) × (b ≡ a ++ more) }
+{
+    exporter_law();
+}

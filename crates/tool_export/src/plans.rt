@@ -1,0 +1,176 @@
+//! What the words behind `export` ask for.
+ghost use Rattle.std.specs.Prelude.{◌≡◌, ℕ, ℤ, List, [], ◌∷◌, ◌<◌, ◌^◌, Option as Maybe, IfSome};
+ghost use Rattle.std.specs.Prelude.{true, false, MatchResult, MatchOption, decimal, if◌then◌else◌};
+ghost use Rattle.metrics_registry.specs.Held.{is_shard_count as is_count};
+ghost use Rattle.metrics.specs.Layers.{mask_has};
+ghost use Rattle.metrics_names.specs.declared.kind.MetricKind.{MetricKind as Kind};
+ghost use Rattle.tool_grammar.specs.Printing.{samples_text};
+ghost use Rattle.tool_export.specs.declared.plans.Watched.{Watched as Kinds};
+ghost use Rattle.tool_export.specs.declared.plans.ExportPlan.{ExportPlan as Plan};
+ghost use Rattle.tool_export.specs.Plans.{IsAllowed, AreSamples, plan_words, timeout_word, watched_word, watches};
+
+use metrics::{Items, MetricKindMask};
+use metrics_registry::is_shard_count;
+use std::alloc::{AllocError, Global};
+use tool_grammar::{number_of, signed_number_of, split_at_first};
+
+/// The kinds whose series may be removed.
+#[derive(Clone, Copy)]
+pub struct Watched {
+    pub counters: bool,
+    pub gauges: bool,
+    pub histograms: bool,
+}
+
+/// What an exporter is to be made with.
+#[derive(Drop)]
+pub struct ExportPlan {
+    pub shards: usize,
+    pub watched: Watched,
+    pub idle_timeout: Option<u64>,
+    /// In the order of the command line.
+    pub bounds: Items<i64>,
+}
+
+/// The kinds that a word of letters names; a dash names none.
+fn watched_of(word: &[u8]) -> Option<Watched>
+    ensures { MatchOption result ((kinds : Kinds) → word.now ≡ watched_word kinds → ⊥)
+        (λ kinds. word.now ≡ watched_word kinds) }
+{
+    let (counters, gauges, histograms) = match word {
+        b"-" => (false, false, false),
+        b"c" => (true, false, false),
+        b"g" => (false, true, false),
+        b"h" => (false, false, true),
+        b"cg" => (true, true, false),
+        b"ch" => (true, false, true),
+        b"gh" => (false, true, true),
+        b"cgh" => (true, true, true),
+        _ => return None,
+    };
+    Some(Watched {
+        counters,
+        gauges,
+        histograms,
+    })
+}
+
+fn only_if(is_there: bool, mask: MetricKindMask) -> MetricKindMask
+    ensures { result ≡ (if is_there then mask else 0) }
+{
+    if is_there { mask } else { MetricKindMask::NONE }
+}
+
+/// The mask of these kinds.
+pub fn mask_from(watched: Watched) -> MetricKindMask
+    ensures { (kind : Kind) → mask_has kind result ≡ watches watched kind }
+{
+    only_if(watched.counters, MetricKindMask::COUNTER)
+        | only_if(watched.gauges, MetricKindMask::GAUGE)
+        | only_if(watched.histograms, MetricKindMask::HISTOGRAM)
+}
+
+/// A number, or a dash for none.
+fn timeout_of(word: &[u8]) -> Option<Option<u64>>
+    ensures { MatchOption result
+        ((timeout : Maybe ℕ) → IfSome timeout (λ n. n < 2 ^ 64) → word.now ≡ timeout_word timeout → ⊥)
+        (λ timeout. IfSome timeout (λ n. n < 2 ^ 64) × (word.now ≡ timeout_word timeout)) }
+{
+    if word == b"-".as_slice() {
+        return Some(None);
+    }
+    let timeout = number_of(word)?;
+    Some(Some(timeout))
+}
+
+/// Numbers with a comma between two, one at least.
+fn bounds_of(alloc: Global, word: &[u8]) -> Result<Option<Vec<i64>>, AllocError>
+    ensures { MatchResult result (λ found. MatchOption found
+        ((ns : List ℤ) → AreSamples ns → word.now ≡ samples_text ns → ⊥)
+        (λ ns. AreSamples ns.items × (word.now ≡ samples_text ns.items))) (λ _. Unit {0}) }
+{
+    let mut bounds = Vec::new(alloc);
+    let mut rest = word;
+    while let Some((digits, behind)) = split_at_first(rest, b',') {
+        let Some(bound) = signed_number_of(digits) else {
+            return Ok(None);
+        };
+        bounds.push(bound)?;
+        rest = behind;
+    }
+    let Some(last) = signed_number_of(rest) else {
+        return Ok(None);
+    };
+    bounds.push(last)?;
+    Ok(Some(bounds))
+}
+
+/// Whether a word is numbers with a comma between two, one at least.
+fn are_bounds(word: &[u8]) -> bool
+    ensures are { result ≡ true → (ns : List ℤ) × AreSamples ns × (word.now ≡ samples_text ns) }
+    ensures not_are { result ≡ false → (ns : List ℤ) → AreSamples ns → word.now ≡ samples_text ns → ⊥ }
+{
+    let mut rest = word;
+    while let Some((digits, behind)) = split_at_first(rest, b',') {
+        let Some(_bound) = signed_number_of(digits) else {
+            return false;
+        };
+        rest = behind;
+    }
+    match signed_number_of(rest) {
+        Some(_last) => true,
+        None => false,
+    }
+}
+
+/// How many shards a word asks for: a power of two from 1 to 1,024.
+fn shards_of(word: &[u8]) -> Option<usize>
+    ensures { MatchOption result ((n : ℕ) → is_count n ≡ true → word.now ≡ decimal n → ⊥)
+        (λ n. (is_count n ≡ true) × (word.now ≡ decimal n)) }
+{
+    let shards = number_of(word)? as usize;
+    if is_shard_count(shards) {
+        Some(shards)
+    } else {
+        None
+    }
+}
+
+/// What the words S, M, T and B ask for: shards, the kinds whose series may be idle, the timeout, and the bounds of histograms.
+/// An error is want of memory for the bounds, where the words ask for an exporter.
+pub fn plan_of(
+    alloc: Global,
+    shards: &str,
+    kinds: &str,
+    timeout: &str,
+    bounds: &str,
+) -> Result<Option<ExportPlan>, AllocError>
+    ensures { let words = shards.now ∷ kinds.now ∷ timeout.now ∷ bounds.now ∷ [] in
+        MatchResult result (λ found. MatchOption found
+        ((plan : Plan) → IsAllowed plan → words ≡ plan_words plan → ⊥)
+        (λ plan. IsAllowed plan × (words ≡ plan_words plan)))
+        (λ _. (plan : Plan) × IsAllowed plan × (words ≡ plan_words plan)) }
+{
+    let Some(shards) = shards_of(shards.as_bytes()) else {
+        return Ok(None);
+    };
+    let Some(watched) = watched_of(kinds.as_bytes()) else {
+        return Ok(None);
+    };
+    let Some(idle_timeout) = timeout_of(timeout.as_bytes()) else {
+        return Ok(None);
+    };
+    if !are_bounds(bounds.as_bytes()) {
+        return Ok(None);
+    }
+    match bounds_of(alloc, bounds.as_bytes()) {
+        Ok(Some(found)) => Ok(Some(ExportPlan {
+            shards,
+            watched,
+            idle_timeout,
+            bounds: Items::from(found),
+        })),
+        Ok(None) => Ok(None),
+        Err(refused) => Err(refused),
+    }
+}
