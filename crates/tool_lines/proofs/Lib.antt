@@ -5,3 +5,4 @@ pub mod TreesSoFar
 pub mod TreesLemmas
 pub mod OutputLemmas
 pub mod FirstRun
+pub mod ExportWords

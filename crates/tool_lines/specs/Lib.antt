@@ -4,3 +4,4 @@ pub mod Requests
 pub mod TreeReading
 pub mod Output
 pub mod Examples
+pub mod Exports

@@ -1,6 +1,8 @@
 //! The whole program, over the words of its command line.
-ghost use Rattle.std.specs.Prelude.{◌≡◌, ◌≤◌, ◌++◌, ℕ, List, Some, IfSome, OnOk, map};
-ghost use Rattle.std.specs.Io.KnownBytes.{Appends};
+ghost use Rattle.std.specs.Prelude.{◌≡◌, ◌≤◌, ◌++◌, ◌⊎◌, ℕ, List, Some, IfSome, OnSome, OnOk, map};
+ghost use Rattle.std.specs.Io.KnownBytes.{Consumes, Appends, IsAtEnd};
+ghost use Rattle.tool_export.specs.declared.plans.ExportPlan.{ExportPlan as Plan};
+ghost use Rattle.tool_lines.specs.Exports.{AsksExport, end_status, EndsExport};
 ghost use Rattle.tool_lines.specs.Running.{PrintsAnswers, status_number};
 ghost use Rattle.tool_lines.specs.declared.requests.Request.{Request as Asked};
 ghost use Rattle.tool_lines.specs.declared.requests.Request.TheVariants as ask;
@@ -8,6 +10,7 @@ ghost use Rattle.tool_stream.specs.Lines.{lines_of};
 ghost use Rattle.tool_lines.specs.Output.{AnswersAll, AnswersFirst, RunsKnown};
 ghost use Rattle.tool_lines.specs.Requests.{IsAllowed, IsAllowedPlan, Asks, PrintsTotals, Prints, totals_text};
 
+use crate::exports::export_of;
 use crate::requests::{Request, StormPlan, request_of};
 use crate::running::run;
 use crate::totals::text_of_totals;
@@ -16,6 +19,7 @@ use std::alloc::Global;
 use std::io::{BufRead, Write};
 use std::sync::Wait;
 use std::thread::Threads;
+use tool_export::{ExportPlan, export_new};
 use tool_grammar::RunError;
 use tool_storm::{Gate, Totals, storm, storm_growing};
 use tool_stream::{flush, write_text};
@@ -133,9 +137,8 @@ fn status_of(e: RunError) -> u8
     }
 }
 
-/// Runs the program over the words after its name, and answers its status. Why it stopped goes to
-/// `errors`, whose faults are ignored.
-pub fn command<R: Threads + Wait + Sync, I: BufRead, O: Write, E: Write>(
+/// Does what words other than those of an export ask for, and answers the status.
+fn answer_words<R: Threads + Wait + Sync, I: BufRead, O: Write, E: Write>(
     rt: &R,
     alloc: Global,
     words: &[&str],
@@ -143,19 +146,14 @@ pub fn command<R: Threads + Wait + Sync, I: BufRead, O: Write, E: Write>(
     output: &mut O,
     errors: &mut E,
 ) -> u8
-    // Status 0 comes only where the words ask for something, and it is what was written: the answers to calls on a tree of
-    // new books, or the three lines of a storm.
     ensures done { result ≡ 0 → (asked : Asked) × (text : List ℕ) × Asks (map (λ w. w.now) words.now) asked
         × Appends (O.contents output.old) (O.contents output.new) text × Prints asked text }
-    // For a run, where the bytes are known: with status 0 they are a tree and calls, and what was written is their output.
     ensures whole { result ≡ 0 → Asks (map (λ w. w.now) words.now) ask.Run
         → IfSome (I.remaining input.old) (λ bytes. IfSome (O.contents output.old) (λ held.
         AnswersAll (lines_of bytes) (λ text. O.contents output.new ≡ Some (held ++ text)))) }
-    // With status 2 one of their lines is bad, and what was written is the output of those before it.
     ensures first { result ≡ 2 → Asks (map (λ w. w.now) words.now) ask.Run
         → IfSome (I.remaining input.old) (λ bytes. IfSome (O.contents output.old) (λ held.
         AnswersFirst (lines_of bytes) (λ text. O.contents output.new ≡ Some (held ++ text)))) }
-    // Words that ask for nothing have status 2.
     ensures wrong { ((asked : Asked) → Asks (map (λ w. w.now) words.now) asked → ⊥) → (result ≡ 2)
         × (output.new ≡ output.old) }
 {
@@ -169,5 +167,76 @@ pub fn command<R: Threads + Wait + Sync, I: BufRead, O: Write, E: Write>(
             let _ = writeln!(errors, "{e}");
             status_of(e)
         }
+    }
+}
+
+/// The status at the end of a run. Why it stopped goes to `errors`, whose faults are ignored.
+fn told<E: Write>(errors: &mut E, answered: Result<u64, RunError>) -> u8
+    ensures { result ≡ end_status answered }
+{
+    match answered {
+        Ok(_) => 0,
+        Err(e) => {
+            let _ = writeln!(errors, "{e}");
+            status_of(e)
+        }
+    }
+}
+
+/// Answers the lines of an exporter, and tells the status at its end.
+fn answer_export<I: BufRead, O: Write, E: Write>(
+    alloc: Global,
+    plan: &ExportPlan,
+    input: &mut I,
+    output: &mut O,
+    errors: &mut E,
+) -> u8
+    ensures { EndsExport plan.now (OnSome (I.remaining input.old) (IsAtEnd (I.remaining input.new)))
+        (Consumes (I.remaining input.old) (I.remaining input.new))
+        (Appends (O.contents output.old) (O.contents output.new)) result }
+{
+    let answered = export_new(alloc, plan, input, output);
+    told(errors, answered)
+}
+
+/// Runs the program over the words after its name, and answers its status. Why it stopped goes to
+/// `errors`, whose faults are ignored.
+pub fn command<R: Threads + Wait + Sync, I: BufRead, O: Write, E: Write>(
+    rt: &R,
+    alloc: Global,
+    words: &[&str],
+    input: &mut I,
+    output: &mut O,
+    errors: &mut E,
+) -> u8
+    // Status 0 comes only where the words ask for something, and it is what was written: the answers to calls on a tree of
+    // new books, or the three lines of a storm; or what an exporter answers, which is told below.
+    ensures done { result ≡ 0 → ((asked : Asked) × (text : List ℕ) × Asks (map (λ w. w.now) words.now) asked
+        × Appends (O.contents output.old) (O.contents output.new) text × Prints asked text)
+        ⊎ ((plan : Plan) × AsksExport (map (λ w. w.now) words.now) plan) }
+    // For a run, where the bytes are known: with status 0 they are a tree and calls, and what was written is their output.
+    ensures whole { result ≡ 0 → Asks (map (λ w. w.now) words.now) ask.Run
+        → IfSome (I.remaining input.old) (λ bytes. IfSome (O.contents output.old) (λ held.
+        AnswersAll (lines_of bytes) (λ text. O.contents output.new ≡ Some (held ++ text)))) }
+    // With status 2 one of their lines is bad, and what was written is the output of those before it.
+    ensures first { result ≡ 2 → Asks (map (λ w. w.now) words.now) ask.Run
+        → IfSome (I.remaining input.old) (λ bytes. IfSome (O.contents output.old) (λ held.
+        AnswersFirst (lines_of bytes) (λ text. O.contents output.new ≡ Some (held ++ text)))) }
+    // For an export: what was read and written, and how that ended. Where no line was answered with want of memory, the text is
+    // just what the lines print, up to the end or the first bad one.
+    ensures exported { (any : Plan) → AsksExport (map (λ w. w.now) words.now) any
+        → (plan : Plan) × AsksExport (map (λ w. w.now) words.now) plan
+        × EndsExport plan (OnSome (I.remaining input.old) (IsAtEnd (I.remaining input.new)))
+        (Consumes (I.remaining input.old) (I.remaining input.new))
+        (Appends (O.contents output.old) (O.contents output.new)) result }
+    // Words that ask for nothing have status 2.
+    ensures wrong { ((asked : Asked) → Asks (map (λ w. w.now) words.now) asked → ⊥)
+        → ((plan : Plan) → AsksExport (map (λ w. w.now) words.now) plan → ⊥)
+        → (result ≡ 2) × (output.new ≡ output.old) }
+{
+    match export_of(alloc, words) {
+        Ok(Some(plan)) => answer_export(alloc, &plan, input, output, errors),
+        Ok(None) => answer_words(rt, alloc, words, input, output, errors),
+        Err(_) => told(errors, Err(RunError::Memory(None))),
     }
 }

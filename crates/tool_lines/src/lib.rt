@@ -2,6 +2,7 @@
 #![tactic(auto)]
 
 mod commands;
+mod exports;
 mod handles;
 mod laws;
 mod requests;

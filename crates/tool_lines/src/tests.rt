@@ -1,6 +1,8 @@
 use crate::*;
+use metrics::{Address, Call, Items, Key, MetricKind, Reset};
 use metrics_debugging::DebuggingRecorder;
 use std::alloc::Global;
+use std::cell::Cell;
 use std::io;
 use std::io::{BufReader, ErrorKind, Read, Write};
 use std::sync::Wait;
@@ -168,7 +170,7 @@ fn whole_run<R: Threads + Wait + Sync>(
 
 #[test]
 fn wrong_words(rt: HostRuntime) -> Result<(), Fail> {
-    let wrong: [&[&str]; 18] = [
+    let wrong: [&[&str]; 39] = [
         &[],
         &["walk"],
         &[""],
@@ -187,6 +189,27 @@ fn wrong_words(rt: HostRuntime) -> Result<(), Fail> {
         &["storm", "1", "1", "one"],
         &["storm", "1", "1", "1", "grows"],
         &["storm", "1", "1", "1", "grow", "grow"],
+        &["export"],
+        &["export", "1", "c", "5"],
+        &["export", "1", "c", "5", "10", "10"],
+        &["exports", "1", "c", "5", "10"],
+        &["export", "0", "c", "5", "10"],
+        &["export", "3", "c", "5", "10"],
+        &["export", "2048", "c", "5", "10"],
+        &["export", "01", "c", "5", "10"],
+        &["export", "-1", "c", "5", "10"],
+        &["export", "1", "", "5", "10"],
+        &["export", "1", "gc", "5", "10"],
+        &["export", "1", "cc", "5", "10"],
+        &["export", "1", "x", "5", "10"],
+        &["export", "1", "c", "", "10"],
+        &["export", "1", "c", "-1", "10"],
+        &["export", "1", "c", "18446744073709551616", "10"],
+        &["export", "1", "c", "5", ""],
+        &["export", "1", "c", "5", "10,"],
+        &["export", "1", "c", "5", ",10"],
+        &["export", "1", "c", "5", "10,-0"],
+        &["export", "1", "c", "5", "9223372036854775808"],
     ];
     for words in wrong {
         let mut output = writer(rt.alloc(), 1000, 1000, true);
@@ -352,5 +375,125 @@ fn fanouts_of_many_noops(rt: HostRuntime) -> Result<(), Fail> {
         );
         assert_eq!(rt; status, want);
     }
+    Ok(())
+}
+
+// Lines, each of 11 bytes; each has the answer `snapshot 0 0`, of 13 bytes with its line feed.
+const TYPED: &[u8] = b"snapshot 0\nsnapshot 0\nsnapshot 0\nsnapshot 0\nsnapshot 0\n";
+
+// Gives at most `most` bytes a read, and notes where an answer to a line that it gave is not out by then.
+#[derive(Drop)]
+struct Typist<'a> {
+    rest: &'a [u8],
+    most: usize,
+    out: &'a Cell<usize>,
+    is_kept_waiting: &'a Cell<bool>,
+}
+
+impl Read for Typist<'_> {
+    fn read(&mut self, buf: &mut [u8]) -> io::Result<usize> {
+        let lines = TYPED.len().saturating_sub(self.rest.len()) / 11;
+        if self.out.get() < lines.saturating_mul(13) {
+            self.is_kept_waiting.set(true);
+        }
+        let n = buf.len().min(self.rest.len()).min(self.most);
+        buf[..n].copy_from_slice(&self.rest[..n]);
+        self.rest = &self.rest[n..];
+        Ok(n)
+    }
+}
+
+// Takes all bytes, and counts them.
+#[derive(Drop)]
+struct Screen<'a> {
+    out: &'a Cell<usize>,
+}
+
+impl Write for Screen<'_> {
+    fn write(&mut self, buf: &[u8]) -> io::Result<usize> {
+        self.out.set(self.out.get().saturating_add(buf.len()));
+        Ok(buf.len())
+    }
+
+    fn flush(&mut self) -> io::Result<()> {
+        Ok(())
+    }
+}
+
+#[test]
+fn answers_are_out_before_a_read(rt: HostRuntime) -> Result<(), Fail> {
+    for most in [1, 3, 11, 16, 22, 30, 1000] {
+        let out = Cell::new(0);
+        let is_kept_waiting = Cell::new(false);
+        let typist = Typist {
+            rest: TYPED,
+            most,
+            out: &out,
+            is_kept_waiting: &is_kept_waiting,
+        };
+        let mut input = BufReader::new(rt.alloc(), typist)?;
+        let mut book = DebuggingRecorder::new(rt.alloc())?;
+        let found = run(
+            rt.alloc(),
+            &mut book,
+            &mut input,
+            &mut Screen { out: &out },
+            1,
+        );
+        assert_eq!(rt; found, Ok(5));
+        assert_eq!(rt; out.get(), 65);
+        assert!(rt; !is_kept_waiting.get(), "{most} bytes a read");
+    }
+    Ok(())
+}
+
+#[test]
+fn lines_at_hand_are_answered_by_one_write(rt: HostRuntime) -> Result<(), Fail> {
+    let mut book = DebuggingRecorder::new(rt.alloc())?;
+    let mut input = TYPED;
+    let mut output = writer(rt.alloc(), 1000, 1, true);
+    let found = run(rt.alloc(), &mut book, &mut input, &mut output, 1);
+    assert_eq!(rt; found, Ok(5));
+    assert_eq!(rt; output.held.len(), 65);
+    Ok(())
+}
+
+// What waits is a block of 8192 bytes at most, and an answer behind it.
+#[test]
+fn many_answers_are_written_in_blocks(rt: HostRuntime) -> Result<(), Fail> {
+    let mut text = Vec::new(rt.alloc());
+    for _ in 0..400 {
+        text.extend_from_slice(TYPED)?;
+    }
+    let mut book = DebuggingRecorder::new(rt.alloc())?;
+    let mut input = text.as_slice();
+    let mut output = writer(rt.alloc(), 10_000, 4, true);
+    let found = run(rt.alloc(), &mut book, &mut input, &mut output, 1);
+    assert_eq!(rt; found, Ok(2000));
+    assert_eq!(rt; output.held.len(), 26_000);
+    Ok(())
+}
+
+#[test]
+fn handles_are_numbered_by_register_calls(rt: HostRuntime) -> Result<(), Fail> {
+    let mut handles = Handles::new(rt.alloc());
+    let register = Call::Register(MetricKind::Gauge, Key::from_name(rt.alloc(), "g")?);
+    let calls = [Call::Snapshot(0), Call::SnapshotWith(0, Reset::KeepGauges)];
+    for call in &calls {
+        handles.reserve_for(call)?;
+        handles.note(call, None);
+        assert!(rt; handles.named(call).is_none());
+    }
+    let at = Address { book: 0, series: 4 };
+    handles.reserve_for(&register)?;
+    handles.note(&register, None);
+    handles.reserve_for(&register)?;
+    handles.note(&register, Some(Items::from(vec![in rt.alloc(); at]?)));
+    assert_eq!(rt; handles.len(), 2);
+    assert!(rt; handles.entry(0).is_none());
+    assert_eq!(rt;
+        handles.entry(1),
+        Some((MetricKind::Gauge, [at].as_slice()))
+    );
     Ok(())
 }

@@ -1,5 +1,8 @@
-use Rattle.tool_lines.specs.declared.requests.Request.TheVariants as ask
+use Rattle.std.proofs.Common.{[], inr, refl, Err, None}
+use Rattle.std.proofs.KnownBytes.{Consumes-nil, Appends-nil}
+use Rattle.tool_grammar.specs.declared.error.RunError.TheVariants.{Memory}
 use Rattle.tool_lines.proofs.commands.command.Goals as goal
 
-pub returns-in_default-clause-first : goal.returns-in_default-clause-first
-returns-in_default-clause-first g c = λ two run. absurd (c.in_default.ensures ask.Run run)
+pub returns-in-Err-clause-exported : goal.returns-in-Err-clause-exported
+returns-in-Err-clause-exported g c = λ any asks.
+    (any, asks, ([], [], Err (Memory None), Consumes-nil _, Appends-nil _, inr (refl, refl, refl), c.told.ensures))

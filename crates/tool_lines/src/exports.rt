@@ -1,0 +1,22 @@
+//! The words of a command line that ask for an exporter.
+ghost use Rattle.std.specs.Prelude.{◌≡◌, map, MatchResult, MatchOption};
+ghost use Rattle.tool_export.specs.declared.plans.ExportPlan.{ExportPlan as Plan};
+ghost use Rattle.tool_lines.specs.Exports.{AsksExport};
+
+use std::alloc::{AllocError, Global};
+use tool_export::{ExportPlan, plan_of};
+
+/// What the words `export S M T B` ask for. An error is want of memory for the bounds, where they do ask for an exporter.
+pub fn export_of(alloc: Global, words: &[&str]) -> Result<Option<ExportPlan>, AllocError>
+    ensures { MatchResult result
+        (λ found. MatchOption found ((plan : Plan) → AsksExport (map (λ w. w.now) words.now) plan → ⊥)
+        (λ plan. AsksExport (map (λ w. w.now) words.now) plan))
+        (λ _. (plan : Plan) × AsksExport (map (λ w. w.now) words.now) plan) }
+{
+    match words {
+        [word, shards, kinds, timeout, bounds] if *word == "export" => {
+            plan_of(alloc, shards, kinds, timeout, bounds)
+        }
+        _ => Ok(None),
+    }
+}
