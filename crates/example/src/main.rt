@@ -1,10 +1,10 @@
-//! Counts under a prefix and past a filter, as the text that a collector reads.
+//! Counts under a prefix and past a filter, as the text that Prometheus collects.
 #![tactic(auto)]
 
 use anyhow::Result;
 use metrics::{Error, Key, MetricKindMask, Recorder, Reset};
 use metrics_util::debugging::DebuggingRecorder;
-use metrics_util::exporter::Exporter;
+use metrics_util::exporter::{Exporter, exposition};
 use metrics_util::layers::{Child, FilterLayer, PrefixLayer};
 use std::alloc::Global;
 
@@ -24,6 +24,6 @@ fn main(rt: HostRuntime) -> Result<()> {
     }
     let mut exporter = Exporter::new(alloc, 1, MetricKindMask::ALL, Some(60), &[10])?;
     exporter.absorb(&on.snapshot_with(alloc, 0, Reset::KeepGauges)?)?;
-    print!(rt; "{}", exporter.text()?)?;
+    print!(rt; "{}", exposition(&exporter, alloc)?)?;
     Ok(())
 }

@@ -10,6 +10,7 @@ pub mod debugging {
 /// Series over a registry, as text.
 pub mod exporter {
     pub use metrics_exporter::{Exporter, PartlyAbsorbed, exporter_law};
+    pub use metrics_prometheus::{exposition, exposition_law};
 }
 
 /// Layers over recorders.
