@@ -5,6 +5,7 @@ use anyhow::Result;
 use bench_harness::Bench;
 use metrics::{Key, MetricKindMask, Update};
 use metrics_exporter::Exporter;
+use metrics_prometheus::exposition;
 use std::alloc::Global;
 
 /// An exporter without a timeout in sight, and the keys of its counters.
@@ -69,6 +70,27 @@ impl Texts {
 impl<R> Bench<R> for Texts {
     fn walk(&mut self, _rt: &R) -> Result<u64> {
         let text = self.held.exporter.text()?;
+        Ok(u64::try_from(text.len()).unwrap_or(0))
+    }
+}
+
+/// Writes all counters in Prometheus's format.
+#[derive(Drop)]
+pub struct Expositions {
+    held: Held,
+    alloc: Global,
+}
+
+impl Expositions {
+    pub fn new(alloc: Global) -> Result<Expositions> {
+        let held = Held::new(alloc)?;
+        Ok(Expositions { held, alloc })
+    }
+}
+
+impl<R> Bench<R> for Expositions {
+    fn walk(&mut self, _rt: &R) -> Result<u64> {
+        let text = exposition(&self.held.exporter, self.alloc)?;
         Ok(u64::try_from(text.len()).unwrap_or(0))
     }
 }

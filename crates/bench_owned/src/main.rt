@@ -11,7 +11,7 @@ use anyhow::Result;
 use bench_harness::{Size, Words, report};
 use buckets::{Clears, Pushes};
 use cells::{Checks, Creates};
-use exporters::{Expires, Texts, Updates};
+use exporters::{Expires, Expositions, Texts, Updates};
 use histograms::{Records, RecordsMany};
 use reservoirs::{Filling, Sampling};
 use std::alloc::Global;
@@ -115,6 +115,8 @@ fn exporter_rows<R: Clock + Print + Eprint>(rt: &R, words: &Words, alloc: Global
     report(rt, words, name, Updates::new(alloc), size)?;
     let name = "exporter_text_1000_per_series";
     report(rt, words, name, Texts::new(alloc), size)?;
+    let name = "exposition_1000_per_series";
+    report(rt, words, name, Expositions::new(alloc), size)?;
     let name = "exporter_expire_1000_per_series";
     report(rt, words, name, Expires::new(alloc), size)
 }
