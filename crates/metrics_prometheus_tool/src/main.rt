@@ -1,0 +1,49 @@
+//! Reads updates and scrapes from standard input, keeps the series, and prints an exposition for Prometheus at each scrape.
+#![tactic(auto)]
+
+use std::io::BufReader;
+use std::process::ExitCode;
+use std::{env, io};
+use tool_prometheus::command;
+
+/// The status of the whole program, or an error where there was no memory to begin with.
+fn status(host: &HostRuntime) -> io::Result<u8> {
+    let mut arguments: Vec<String> = Vec::new(host.alloc());
+    match env::args(host) {
+        Ok(all) => {
+            for argument in all.skip(1) {
+                arguments.push(argument)?;
+            }
+        }
+        Err(e) => {
+            // A word that is no text is a wrong word, so none are passed on.
+            if e.kind() != io::ErrorKind::InvalidData {
+                return Err(e);
+            }
+        }
+    }
+    let mut words: Vec<&str> = Vec::new(host.alloc());
+    for argument in &arguments {
+        words.push(argument.as_str())?;
+    }
+    let mut input = BufReader::new(host.alloc(), host.reader())?;
+    let mut output = io::writer(host);
+    let mut errors = host.stderr();
+    Ok(command(
+        host.alloc(),
+        &words,
+        &mut input,
+        &mut output,
+        &mut errors,
+    ))
+}
+
+fn main(rt: HostRuntime) -> ExitCode {
+    match status(&rt) {
+        Ok(status) => ExitCode::from(status),
+        Err(_) => {
+            let _ = eprintln!(rt; "memory");
+            ExitCode::from(1)
+        }
+    }
+}
