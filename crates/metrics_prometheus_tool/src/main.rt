@@ -29,13 +29,7 @@ fn status(host: &HostRuntime) -> io::Result<u8> {
     let mut input = BufReader::new(host.alloc(), host.reader())?;
     let mut output = io::writer(host);
     let mut errors = host.stderr();
-    Ok(command(
-        host.alloc(),
-        &words,
-        &mut input,
-        &mut output,
-        &mut errors,
-    ))
+    Ok(command(host.alloc(), &words, &mut input, &mut output, &mut errors))
 }
 
 fn main(rt: HostRuntime) -> ExitCode {
