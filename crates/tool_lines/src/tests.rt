@@ -9,10 +9,26 @@ use std::sync::Wait;
 use std::test::Fail;
 use std::thread::Threads;
 
-const GOOD: &[u8] = b"book\nend\nregister counter c\nincrement 0 2\nsnapshot 0 keep\nsnapshot 0\n";
+const GOOD: &[u8] = b"book
+prefix app
+end
+describe counter hits count all hits
+register counter hits host=a
+increment 0 2
+increment 0 3
+snapshot 0
+snapshot 0
+";
 
-const GOOD_TEXT: &[u8] =
-    b"registered 0 1\nupdated 1\nsnapshot 0 1\ncounter c unit - value 2\nsnapshot 0 1\ncounter c unit - value 0\n";
+const GOOD_TEXT: &[u8] = b"described 1
+registered 0 1
+updated 1
+updated 1
+snapshot 0 1
+counter app.hits host=a unit count value 5 text all hits
+snapshot 0 1
+counter app.hits host=a unit count value 0 text all hits
+";
 
 const BAD: &[u8] = b"book\nend\nincrement 0 1\njump\n";
 
@@ -170,7 +186,7 @@ fn whole_run<R: Threads + Wait + Sync>(
 
 #[test]
 fn wrong_words(rt: HostRuntime) -> Result<(), Fail> {
-    let wrong: [&[&str]; 39] = [
+    let wrong: [&[&str]; 45] = [
         &[],
         &["walk"],
         &[""],
@@ -187,6 +203,12 @@ fn wrong_words(rt: HostRuntime) -> Result<(), Fail> {
         &["storm", "01", "1", "1"],
         &["storm", "1", "-1", "1"],
         &["storm", "1", "1", "one"],
+        &["storm", "-0", "1", "1"],
+        &["storm", "1", "-0", "1"],
+        &["storm", "1", "00", "1"],
+        &["storm", "1", "1", "01"],
+        &["storm", "18446744073709551617", "1", "1"],
+        &["storm", "1", "1", "18446744073709551617"],
         &["storm", "1", "1", "1", "grows"],
         &["storm", "1", "1", "1", "grow", "grow"],
         &["export"],
