@@ -54,13 +54,15 @@ impl Read for FaultyReader<'_> {
     }
 }
 
-// Takes at most `most` bytes a write, and fails at the write before which `left` is 0, or at a flush.
+// Takes at most `most` bytes a write, and fails at the write before which `left` is 0, or at a flush. It notes how many bytes it
+// was offered at most.
 #[derive(Drop)]
 struct FaultyWriter {
     held: Vec<u8>,
     most: usize,
     left: usize,
     is_flush_good: bool,
+    offered: usize,
 }
 
 impl Write for FaultyWriter {
@@ -69,6 +71,7 @@ impl Write for FaultyWriter {
             return Err(io::Error::from(ErrorKind::Other));
         }
         self.left -= 1;
+        self.offered = self.offered.max(buf.len());
         let n = self.most.min(buf.len());
         self.held.extend_from_slice(&buf[..n])?;
         Ok(n)
@@ -89,6 +92,7 @@ fn writer(alloc: Global, most: usize, left: usize, is_flush_good: bool) -> Fault
         most,
         left,
         is_flush_good,
+        offered: 0,
     }
 }
 
@@ -480,7 +484,8 @@ fn lines_at_hand_are_answered_by_one_write(rt: HostRuntime) -> Result<(), Fail> 
     Ok(())
 }
 
-// What waits is a block of 8192 bytes at most, and an answer behind it.
+// What waits is less than a block of 8192 bytes, and an answer behind it. So answers of 13 bytes leave in pieces of 631, which
+// are 8203 bytes, and there are four pieces.
 #[test]
 fn many_answers_are_written_in_blocks(rt: HostRuntime) -> Result<(), Fail> {
     let mut text = Vec::new(rt.alloc());
@@ -492,7 +497,7 @@ fn many_answers_are_written_in_blocks(rt: HostRuntime) -> Result<(), Fail> {
     let mut output = writer(rt.alloc(), 10_000, 4, true);
     let found = run(rt.alloc(), &mut book, &mut input, &mut output, 1);
     assert_eq!(rt; found, Ok(2000));
-    assert_eq!(rt; output.held.len(), 26_000);
+    assert_eq!(rt; (output.held.len(), output.offered), (26_000, 8203));
     Ok(())
 }
 
