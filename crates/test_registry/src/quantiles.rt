@@ -3,12 +3,13 @@
 use metrics_registry::{Quantile, parse_quantiles};
 use std::test::Fail;
 
-const LABELS: [(i64, &str); 8] = [
+const LABELS: [(i64, &str); 9] = [
     (990_000_000, "p99"),
     (550_000_000, "p55"),
     (5_000_000, "p05"),
     (1, "p00000001"),
     (-1, "min"),
+    (-1_000_000_000, "min"),
     (1_200_000_000, "max"),
     (999_000_000, "p999"),
     (999_900_000, "p9999"),
