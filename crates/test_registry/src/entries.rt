@@ -28,10 +28,11 @@ fn a_key_comes_once(
     kind: MetricKind,
     key: &Key,
 ) -> Result<(), Fail> {
+    assert_eq!(rt; number(registry, kind, key), None);
     let first = increment(registry, kind, key)?;
     let second = increment(registry, kind, key)?;
-    assert_eq!(rt; (first, second), (2, 3));
-    assert_eq!(rt; number(registry, kind, key), Some(3));
+    assert_eq!(rt; (first, second), (1, 2));
+    assert_eq!(rt; number(registry, kind, key), Some(2));
     Ok(())
 }
 
@@ -44,26 +45,39 @@ fn keys_go(
     foobar: &Key,
 ) -> Result<(), Fail> {
     assert_eq!(rt; retain_prefix(registry, kind, "foo"), 2);
-    assert_eq!(rt;
-        (visits(registry, kind), handles(alloc, registry, kind)?),
-        (1, 1)
-    );
+    assert_eq!(rt; visits(registry, kind), 1);
+    assert_eq!(rt; handles(alloc, registry, kind, foobar)?, (1, Some(2)));
     let first = delete(registry, kind, foobar);
     let second = delete(registry, kind, foobar);
     assert_eq!(rt; (first, second), (true, false));
+    assert_eq!(rt; handles(alloc, registry, kind, foobar)?, (0, None));
+    Ok(())
+}
+
+/// A key that is made again is found, until a clear.
+fn a_clear_takes_all(
+    rt: &impl Abort,
+    registry: &mut Registry<Key>,
+    kind: MetricKind,
+    key: &Key,
+) -> Result<(), Fail> {
+    increment(registry, kind, key)?;
+    assert_eq!(rt; number(registry, kind, key), Some(1));
+    registry.clear();
+    assert_eq!(rt; number(registry, kind, key), None);
     Ok(())
 }
 
 fn expect_entries(rt: &impl Abort, alloc: Global, shards: usize) -> Result<(), Fail> {
-    let mut registry = holding(alloc, shards, &["foobar", "baz"])?;
+    let mut registry = OwnedRegistry::new(alloc, Numbers, shards)?;
     let foobar = Key::from_name(alloc, "foobar")?;
+    let baz = Key::from_name(alloc, "baz")?;
     for kind in KINDS {
         a_key_comes_once(rt, &mut registry, kind, &foobar)?;
+        increment(&mut registry, kind, &baz)?;
         keys_go(rt, alloc, &mut registry, kind, &foobar)?;
+        a_clear_takes_all(rt, &mut registry, kind, &baz)?;
     }
-    increment(&mut registry, MetricKind::Gauge, &foobar)?;
-    registry.clear();
-    assert_eq!(rt; number(&registry, MetricKind::Gauge, &foobar), None);
     Ok(())
 }
 
@@ -76,7 +90,11 @@ fn none_is_kept(rt: &impl Abort, alloc: Global, shards: usize) -> Result<(), Fai
         false
     });
     assert_eq!(rt; (calls, visits(&registry, MetricKind::Counter)), (3, 0));
-    assert_eq!(rt; handles(alloc, &registry, MetricKind::Gauge)?, 3);
+    let key = Key::from_name(alloc, "b")?;
+    assert_eq!(rt;
+        handles(alloc, &registry, MetricKind::Gauge, &key)?,
+        (3, Some(1))
+    );
     Ok(())
 }
 

@@ -108,16 +108,29 @@ pub fn visits<K: Hashable + EqualClone + Drop>(registry: &Registry<K>, kind: Met
     calls
 }
 
-/// The number of handles.
+/// The number of handles, and what the handle of a key has.
 pub fn handles<K: Hashable + EqualClone + Drop>(
     alloc: Global,
     registry: &Registry<K>,
     kind: MetricKind,
-) -> Result<usize, Error> {
+    key: &K,
+) -> Result<(usize, Option<u64>), Error> {
     Ok(match kind {
-        MetricKind::Counter => registry.get_counter_handles(alloc)?.len(),
-        MetricKind::Gauge => registry.get_gauge_handles(alloc)?.len(),
-        MetricKind::Histogram => registry.get_histogram_handles(alloc)?.len(),
+        MetricKind::Counter => {
+            let handles = registry.get_counter_handles(alloc)?;
+            (handles.len(), handles.get(key).copied())
+        }
+        MetricKind::Gauge => {
+            let handles = registry.get_gauge_handles(alloc)?;
+            (
+                handles.len(),
+                handles.get(key).map(|cell| cell.unsigned_abs()),
+            )
+        }
+        MetricKind::Histogram => {
+            let handles = registry.get_histogram_handles(alloc)?;
+            (handles.len(), handles.get(key).copied())
+        }
     })
 }
 
