@@ -22,16 +22,18 @@ fn hits(alloc: Global) -> Result<Key, Refused> {
     Key::from_name(alloc, "hits")
 }
 
-/// The value of the first row of the book's snapshot.
+/// The text and the value of the first row of the book's snapshot.
 fn expect_first<R: Recorder>(
     rt: &impl Abort,
     alloc: Global,
     on: &mut R,
     reset: Reset,
+    text: &str,
     want: &DebugValue,
 ) -> Result<(), Fail> {
     let snapshot = Snapshotter::of(0).snapshot_with(alloc, on, reset)?;
     let row = snapshot.as_slice().first().ok_or("no row")?;
+    assert_eq!(rt; row.2.as_ref().map_or("", |text| text.as_str()), text);
     assert!(rt; row.3 == *want);
     Ok(())
 }
@@ -45,9 +47,16 @@ fn expect_kept<R: Recorder>(
     let at = registered(alloc, &mut on, MetricKind::Gauge, &hits(alloc)?)?;
     on.update(at, Update::Add(5))?;
     let five = DebugValue::Gauge(5);
-    expect_first(rt, alloc, &mut on, Reset::KeepGauges, &five)?;
-    expect_first(rt, alloc, &mut on, Reset::All, &five)?;
-    expect_first(rt, alloc, &mut on, Reset::KeepGauges, &DebugValue::Gauge(0))?;
+    expect_first(rt, alloc, &mut on, Reset::KeepGauges, "", &five)?;
+    expect_first(rt, alloc, &mut on, Reset::All, "", &five)?;
+    expect_first(
+        rt,
+        alloc,
+        &mut on,
+        Reset::KeepGauges,
+        "",
+        &DebugValue::Gauge(0),
+    )?;
     let snapshot = Snapshotter::of(0).snapshot(alloc, &mut on)?;
     assert_eq!(rt; snapshot.as_slice().len(), 1);
     Ok(())
@@ -75,10 +84,15 @@ fn counter_calls<R: Recorder>(
     let name = KeyName::new(alloc, "hits")?;
     let targets = on.describe_counter(alloc, &name, Some(Unit::Count), "all")?;
     assert_eq!(rt; targets, 1);
+    for _ in 0..2 {
+        let counter = on.register_counter(alloc, &hits(alloc)?)?;
+        assert_eq!(rt; counter.increment(on, 1)?, 1);
+    }
+    let two = DebugValue::Counter(2);
+    expect_first(rt, alloc, on, Reset::All, "all", &two)?;
     let counter = on.register_counter(alloc, &hits(alloc)?)?;
-    assert_eq!(rt; counter.increment(on, 2)?, 1);
     assert_eq!(rt; counter.absolute(on, 7)?, 1);
-    expect_first(rt, alloc, on, Reset::All, &DebugValue::Counter(7))
+    expect_first(rt, alloc, on, Reset::All, "all", &DebugValue::Counter(7))
 }
 
 fn gauge_calls<R: Recorder>(
@@ -93,7 +107,7 @@ fn gauge_calls<R: Recorder>(
     assert_eq!(rt; gauge.set(on, 5)?, 1);
     assert_eq!(rt; gauge.increment(on, 4)?, 1);
     assert_eq!(rt; gauge.decrement(on, 2)?, 1);
-    expect_first(rt, alloc, on, Reset::All, &DebugValue::Gauge(7))
+    expect_first(rt, alloc, on, Reset::All, "all", &DebugValue::Gauge(7))
 }
 
 fn histogram_calls<R: Recorder>(
@@ -107,7 +121,7 @@ fn histogram_calls<R: Recorder>(
     let histogram = on.register_histogram(alloc, &hits(alloc)?)?;
     assert_eq!(rt; histogram.record(on, 3)?, 1);
     assert_eq!(rt; histogram.addresses().len(), 1);
-    expect_first(rt, alloc, on, Reset::All, &samples(alloc, &[3])?)
+    expect_first(rt, alloc, on, Reset::All, "all", &samples(alloc, &[3])?)
 }
 
 #[test]
