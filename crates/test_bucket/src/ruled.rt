@@ -356,7 +356,7 @@ fn push_beside<R: Wait>(
         }
     }
     let pushed = bucket.try_push_as(&mut other, 3).is_ok();
-    let busy = bucket.clear_as(rt, &mut other) == Err(Error::Busy);
+    let busy = bucket.clear_with_as(rt, &mut other, |_| {}) == Err(Error::Busy);
     bucket.finish_as(&mut slow, 1);
     (slow, other, pushed && busy)
 }
@@ -416,16 +416,19 @@ fn clear_and_push<R: Threads + Wait + Sync>(
     )
 }
 
-/// What a reading finds, and then what is left.
+/// What a reading finds while the other pen is out, and then what is left.
 fn read_and_settled(
     rt: &impl Wait,
     alloc: Global,
     bucket: RuledBucket<u64>,
     mut pen: Pen,
+    other: Pen,
 ) -> Result<(Vec<u64>, Vec<u64>), Fail>
-    requires { (pen.home ≡ bucket) × (pen.ticket ≡ false) }
+    requires pen { (pen.home ≡ bucket) × (pen.ticket ≡ false) }
+    requires other { (other.home ≡ bucket) × (other.ticket ≡ false) }
 {
     let read = bucket.data_as(rt, alloc, &mut pen)?;
+    pen.join(other);
     let rest = settled(bucket, alloc, pen)?;
     Ok((read, rest))
 }
@@ -440,8 +443,7 @@ fn a_clear_waits_and_a_second_one_is_busy(rt: HostRuntime) -> Result<(), Fail> {
     let pushed = bucket.try_push_as(&mut quick, 2).is_ok();
     let empty = bucket.is_empty_as(&mut other);
     let (pen, as_told) = clear_and_push(&rt, rt.alloc(), &bucket, slow, other, clearer);
-    quick.join(pen);
-    let (read, rest) = read_and_settled(&rt, rt.alloc(), bucket, quick)?;
+    let (read, rest) = read_and_settled(&rt, rt.alloc(), bucket, quick, pen)?;
     assert!(rt; pushed && !empty && as_told);
     assert!(rt; read.as_slice() == [3].as_slice() && rest.as_slice() == [3].as_slice());
     Ok(())
