@@ -3,17 +3,19 @@ use metrics::HistogramCell;
 use metrics_storage::{Block, OwnedBucket};
 use std::alloc::{AllocError, Global};
 use std::cell::Cell;
+use std::process::Abort;
 use std::string::String;
 use std::test::*;
 
-/// Counts its end.
+/// Has a number, and counts its end.
 struct Counted<'a> {
+    number: i64,
     ends: &'a Cell<u64>,
 }
 
 impl<'a> Drop for Counted<'a> {
     fn drop(self) {
-        let Self { ends } = self;
+        let Self { number: _, ends } = self;
         ends.set(ends.get().wrapping_add(1));
     }
 }
@@ -58,8 +60,46 @@ fn a_block_takes_texts(rt: HostRuntime) -> Result<(), Fail> {
     for value in 0..64i64 {
         assert!(rt; block.push(text(rt.alloc(), value)?).is_ok());
     }
-    assert!(rt; block.push(text(rt.alloc(), 42)?).is_err());
-    assert_eq!(rt; block.data().last().map(|last| last.len()), Some(2));
+    let text_42 = text(rt.alloc(), 42)?;
+    assert_eq!(rt; block.push(text_42.clone()?), Err(text_42));
+    for (told, value) in block.data().iter().zip(0..64i64) {
+        assert!(rt; *told == text(rt.alloc(), value)?);
+    }
+    Ok(())
+}
+
+/// The first number of a chunk, behind those of the chunks before it; or -1 where its numbers don't rise one by one.
+fn firsts(told: i64, chunk: &[Counted]) -> i64 {
+    let first = chunk.first().map_or(-1, |first| first.number);
+    let mut next = first;
+    for value in chunk {
+        if value.number != next {
+            return -1;
+        }
+        next = next.wrapping_add(1);
+    }
+    told.wrapping_mul(1000).wrapping_add(first)
+}
+
+fn fill_block(rt: &impl Abort, alloc: Global, ends: &Cell<u64>) -> Result<(), Fail> {
+    let mut block = Block::<Counted>::new(alloc)?;
+    for number in 1..65i64 {
+        assert!(rt; block.push(Counted { number, ends }).is_ok());
+    }
+    let back = block.push(Counted { number: 42, ends }).err();
+    assert_eq!(rt; back.map(|back| back.number), Some(42));
+    assert_eq!(rt;
+        (block.len(), firsts(7, block.data()), ends.get()),
+        (64, 7001, 1)
+    );
+    Ok(())
+}
+
+#[test]
+fn a_block_takes_values_that_end(rt: HostRuntime) -> Result<(), Fail> {
+    let ends = Cell::new(0u64);
+    fill_block(&rt, rt.alloc(), &ends)?;
+    assert_eq!(rt; ends.get(), 65);
     Ok(())
 }
 
@@ -112,14 +152,17 @@ fn texts_come_newest_block_first(rt: HostRuntime) -> Result<(), Fail> {
 
 #[test]
 fn each_value_ends_once(rt: HostRuntime) -> Result<(), Fail> {
-    let ends = Cell::new(0u64);
+    let ends = &Cell::new(0u64);
     let mut bucket = OwnedBucket::<Counted>::new(rt.alloc());
-    for _value in 0..130 {
-        assert!(rt; bucket.push(Counted { ends: &ends }).is_ok());
+    for number in 0..130i64 {
+        assert!(rt; bucket.push(Counted { number, ends }).is_ok());
     }
-    assert_eq!(rt; ends.get(), 0);
-    bucket.clear();
-    assert_eq!(rt; ends.get(), 130);
+    let mut told = 0;
+    bucket.data_with(|chunk| told = firsts(told, chunk));
+    assert_eq!(rt; (told, ends.get()), (128_064_000, 0));
+    told = 0;
+    bucket.clear_with(|chunk| told = firsts(told, chunk));
+    assert_eq!(rt; (told, ends.get()), (128_064_000, 130));
     drop(bucket);
     assert_eq!(rt; ends.get(), 130);
     Ok(())
@@ -130,7 +173,14 @@ fn the_end_of_a_bucket_ends_its_values(rt: HostRuntime) -> Result<(), Fail> {
     let ends = Cell::new(0u64);
     let mut bucket = OwnedBucket::<Counted>::new(rt.alloc());
     for _value in 0..130 {
-        assert!(rt; bucket.push(Counted { ends: &ends }).is_ok());
+        assert!(rt;
+            bucket
+                .push(Counted {
+                    number: 0,
+                    ends: &ends
+                })
+                .is_ok()
+        );
     }
     drop(bucket);
     assert_eq!(rt; ends.get(), 130);
