@@ -108,7 +108,12 @@ fn keys_come_and_go(rt: HostRuntime) -> Result<(), Fail> {
 }
 
 /// Each kind has entries of its own: a retain that keeps none takes those of its kind alone.
-fn none_is_kept<R: Abort + Wait>(rt: &R, alloc: Global, shards: usize) -> Result<(), Fail> {
+fn none_is_kept<R: Abort + Wait>(
+    rt: &R,
+    alloc: Global,
+    shards: usize,
+    gone: MetricKind,
+) -> Result<(), Fail> {
     let registry = plain(alloc, shards)?;
     for name in ["a", "b", "c"] {
         let key = Key::from_name(alloc, name)?;
@@ -116,9 +121,9 @@ fn none_is_kept<R: Abort + Wait>(rt: &R, alloc: Global, shards: usize) -> Result
             increment(rt, &registry, kind, &key)?;
         }
     }
-    assert_eq!(rt; retain_prefix(rt, &registry, MetricKind::Gauge, "x"), 3);
+    assert_eq!(rt; retain_prefix(rt, &registry, gone, "x"), 3);
     for kind in KINDS {
-        let left = if kind == MetricKind::Gauge { 0 } else { 3 };
+        let left = if kind == gone { 0 } else { 3 };
         assert_eq!(rt; visits(rt, &registry, kind), left);
     }
     Ok(())
@@ -127,7 +132,9 @@ fn none_is_kept<R: Abort + Wait>(rt: &R, alloc: Global, shards: usize) -> Result
 #[test]
 fn a_retain_may_keep_none(rt: HostRuntime) -> Result<(), Fail> {
     for shards in [1, 2, 8] {
-        none_is_kept(&rt, rt.alloc(), shards)?;
+        for gone in KINDS {
+            none_is_kept(&rt, rt.alloc(), shards, gone)?;
+        }
     }
     Ok(())
 }
