@@ -1,0 +1,339 @@
+//! Calls as data, made one after another on a tree of books, each compared with the plain rules.
+
+use crate::plain::{Plain, Reach};
+use metrics::{
+    Address, Answer, Call, Items, Key, KeyName, Label, MetricKind, Recorder, Refused, Reset, Row,
+    Text, Unit, Update,
+};
+use metrics_debugging::DebuggingRecorder;
+use metrics_replay::answer_of;
+use metrics_trees::Child;
+use std::alloc::Global;
+use tool_lines::{RunError, tree};
+use tool_refusals_trial::{Trial, Wrong, done, expect};
+
+/// What a call does. Register calls have the numbers 0, 1, 2, by which updates name them.
+#[derive(Clone, Copy)]
+pub enum Does {
+    Describe(MetricKind, &'static str, Option<Unit>, &'static str),
+    Register(usize, MetricKind, &'static str),
+    Update(usize, Update),
+    Snapshot(usize, Reset),
+}
+
+/// A call, and the books that it reaches by the plain rules, each with the name there.
+pub type Step = (Does, &'static [Reach]);
+
+/// How many register calls an example has at most.
+const REGISTERS: usize = 16;
+
+/// What calls are made on.
+pub trait Target {
+    /// Makes a call. An update has the handle that it names, if there is one.
+    fn answer(
+        &mut self,
+        alloc: Global,
+        call: &Call,
+        handle: Option<(MetricKind, &[Address])>,
+    ) -> Answer;
+}
+
+/// A recorder itself.
+#[derive(Drop)]
+pub struct Direct<R: Recorder> {
+    pub on: R,
+}
+
+impl<R: Recorder> Target for Direct<R> {
+    fn answer(
+        &mut self,
+        alloc: Global,
+        call: &Call,
+        handle: Option<(MetricKind, &[Address])>,
+    ) -> Answer {
+        answer_of(alloc, &mut self.on, call, handle)
+    }
+}
+
+/// The plain books, which books the register calls reached that were done, and what these gave.
+#[derive(Drop)]
+pub struct Known {
+    plain: Plain,
+    given: Vec<Option<(MetricKind, &'static [Reach])>>,
+    found: Vec<Option<(MetricKind, Items<Address>)>>,
+}
+
+impl Known {
+    pub fn new(alloc: Global) -> Result<Known, Wrong> {
+        let plain = Plain::new(alloc)?;
+        let mut given = Vec::new(alloc);
+        let mut found = Vec::new(alloc);
+        for _ in 0..REGISTERS {
+            if given.push(None).is_err() || found.push(None).is_err() {
+                return Err("refused with memory at hand");
+            }
+        }
+        Ok(Known {
+            plain,
+            given,
+            found,
+        })
+    }
+
+    /// The kind of the call's handle, and the books that it reaches.
+    fn reached(&self, number: usize) -> Option<(MetricKind, &'static [Reach])> {
+        if number < self.given.len() {
+            self.given[number]
+        } else {
+            None
+        }
+    }
+
+    /// The handle that a call names.
+    pub fn handle(&self, does: Does) -> Option<(MetricKind, &[Address])> {
+        let Does::Update(number, _) = does else {
+            return None;
+        };
+        match self.found.get(number) {
+            Some(Some((kind, found))) => Some((*kind, found.as_slice())),
+            _ => None,
+        }
+    }
+
+    /// Keeps the handle that a register call gave.
+    pub fn keep(&mut self, does: Does, answer: Answer) {
+        if let (Does::Register(number, kind, _), Answer::Registered(found)) = (does, answer) {
+            if number < self.found.len() {
+                self.found[number] = Some((kind, found));
+            }
+        }
+    }
+
+    /// Takes an answer into the plain books. `false`: memory was refused, and the first targets alone were done.
+    pub fn take(&mut self, step: Step, answer: &Answer) -> Result<bool, Wrong> {
+        match answer {
+            Answer::Refused(Refused::Memory { acted }) => {
+                self.act(step, *acted)?;
+                Ok(false)
+            }
+            answer => {
+                self.take_answer(step, answer)?;
+                Ok(true)
+            }
+        }
+    }
+
+    /// The books that a call reaches, where its handle isn't bad.
+    fn reaches(&self, (does, reaches): Step) -> Option<&'static [Reach]> {
+        match does {
+            Does::Update(number, _) => match self.reached(number) {
+                Some((_, reaches)) => Some(reaches),
+                None => None,
+            },
+            Does::Describe(..) | Does::Register(..) | Does::Snapshot(..) => Some(reaches),
+        }
+    }
+
+    /// Acts on the first targets of a call.
+    fn act(&mut self, step: Step, acted: usize) -> Result<(), Wrong> {
+        let reaches = self.reaches(step).ok_or("memory, and the handle is bad")?;
+        if acted > reaches.len() {
+            return Err("acted on more than there are");
+        }
+        self.act_on(step.0, acted, &reaches[..acted])
+    }
+
+    fn act_on(&mut self, does: Does, acted: usize, front: &[Reach]) -> Result<(), Wrong> {
+        match does {
+            Does::Describe(kind, _, unit, text) => self.plain.describe(kind, unit, text, front),
+            Does::Register(_, kind, _) => self.plain.register(kind, front),
+            Does::Update(_, by) => {
+                self.plain.update(MetricKind::Histogram, by, front);
+                expect(
+                    matches!(by, Update::Record(_)),
+                    "an update that takes no memory",
+                )
+            }
+            Does::Snapshot(..) => expect(acted == 0, "a snapshot acted"),
+        }
+    }
+
+    fn take_answer(&mut self, (does, reaches): Step, answer: &Answer) -> Result<(), Wrong> {
+        match (does, answer) {
+            (Does::Describe(kind, _, unit, text), Answer::Described(count)) => {
+                expect(*count == reaches.len(), "another number of targets")?;
+                self.plain.describe(kind, unit, text, reaches)
+            }
+            (Does::Register(number, kind, _), Answer::Registered(found)) => {
+                self.plain.register(kind, reaches)?;
+                self.expect_addresses(kind, reaches, found.as_slice())?;
+                if number < self.given.len() {
+                    self.given[number] = Some((kind, reaches));
+                }
+                Ok(())
+            }
+            (Does::Update(number, by), answer) => self.take_update(number, by, answer),
+            (Does::Snapshot(book, reset), Answer::Snapshot(rows)) => {
+                self.plain.snapshot(book, reset, rows.as_slice())
+            }
+            _ => Err("another answer"),
+        }
+    }
+
+    /// That these are the rows of a book before a snapshot.
+    pub fn expect_rows(&mut self, book: usize, rows: &[Row]) -> Result<(), Wrong> {
+        self.plain.snapshot(book, Reset::All, rows)
+    }
+
+    fn take_update(&mut self, number: usize, by: Update, answer: &Answer) -> Result<(), Wrong> {
+        match (self.reached(number), answer) {
+            (Some((kind, reaches)), Answer::Updated(count)) => {
+                expect(*count == reaches.len(), "another number of updates")?;
+                self.plain.update(kind, by, reaches);
+                Ok(())
+            }
+            (None, Answer::Refused(Refused::BadHandle)) => Ok(()),
+            _ => Err("another answer to an update"),
+        }
+    }
+
+    fn expect_addresses(
+        &self,
+        kind: MetricKind,
+        reaches: &[Reach],
+        found: &[Address],
+    ) -> Result<(), Wrong> {
+        expect(found.len() == reaches.len(), "another number of addresses")?;
+        for (at, reach) in found.iter().zip(reaches) {
+            let wanted = self.plain.address(kind, *reach);
+            expect(wanted == Some(*at), "another address")?;
+        }
+        Ok(())
+    }
+}
+
+/// The call of a step as a value.
+pub fn call_of(alloc: Global, does: Does) -> Result<Call, Refused> {
+    Ok(match does {
+        Does::Describe(kind, name, unit, text) => Call::Describe(
+            kind,
+            KeyName::new(alloc, name)?,
+            unit,
+            Text::new(alloc, text)?,
+        ),
+        Does::Register(_, kind, name) => Call::Register(kind, key(alloc, name)?),
+        Does::Update(number, by) => Call::Update(number, by),
+        Does::Snapshot(book, Reset::All) => Call::Snapshot(book),
+        Does::Snapshot(book, reset) => Call::SnapshotWith(book, reset),
+    })
+}
+
+/// A key with one label.
+pub fn key(alloc: Global, name: &str) -> Result<Key, Refused> {
+    let mut labels = Vec::new(alloc);
+    labels.push(Label::new(alloc, "counter.key", "counter.value")?)?;
+    Key::from_parts(alloc, name, labels)
+}
+
+/// Makes a call, and takes its answer. Whether it was done.
+fn make<T: Target>(
+    trial: &mut Trial,
+    on: &mut T,
+    known: &mut Known,
+    step: Step,
+) -> Result<bool, Wrong> {
+    let answer = match call_of(trial.alloc, step.0) {
+        Ok(call) => on.answer(trial.alloc, &call, known.handle(step.0)),
+        Err(refused) => Answer::Refused(refused),
+    };
+    let is_done = known.take(step, &answer)?;
+    known.keep(step.0, answer);
+    trial.refusals = trial.refusals.saturating_add(u64::from(!is_done));
+    Ok(is_done)
+}
+
+/// Makes each call while memory may be refused, once.
+pub fn make_all<T: Target>(
+    trial: &mut Trial,
+    on: &mut T,
+    known: &mut Known,
+    steps: &[Step],
+) -> Result<(), Wrong> {
+    trial.begin();
+    for step in steps {
+        make(trial, on, known, *step)?;
+    }
+    trial.calm();
+    Ok(())
+}
+
+/// Makes each call with memory at hand.
+fn make_at_hand<T: Target>(
+    trial: &mut Trial,
+    on: &mut T,
+    known: &mut Known,
+    steps: &[Step],
+) -> Result<(), Wrong> {
+    for step in steps {
+        let is_done = make(trial, on, known, *step)?;
+        expect(is_done, "refused with memory at hand")?;
+    }
+    Ok(())
+}
+
+/// That each book is as the plain one.
+pub fn expect_books<R: Recorder>(
+    alloc: Global,
+    on: &mut R,
+    known: &mut Known,
+) -> Result<(), Wrong> {
+    for book in 0..on.books() {
+        let rows = done(on.snapshot(alloc, book))?;
+        known.expect_rows(book, rows.as_slice())?;
+    }
+    Ok(())
+}
+
+/// Makes calls while memory is refused, looks at what they left, and makes them again with memory at hand.
+fn play_all<R: Recorder>(
+    trial: &mut Trial,
+    direct: &mut Direct<R>,
+    known: &mut Known,
+    steps: &[Step],
+) -> Result<(), Wrong> {
+    make_all(trial, direct, known, steps)?;
+    expect_books(trial.alloc, &mut direct.on, known)?;
+    make_at_hand(trial, direct, known, steps)?;
+    expect_books(trial.alloc, &mut direct.on, known)
+}
+
+/// Plays calls on a recorder whose books are new.
+pub fn play<R: Recorder>(trial: &mut Trial, on: R, steps: &[Step]) -> Result<(), Wrong> {
+    let mut direct = Direct { on };
+    let mut known = Known::new(trial.alloc)?;
+    play_all(trial, &mut direct, &mut known, steps)
+}
+
+/// Makes a tree of its lines while memory is refused, and again with memory at hand where that was.
+fn grown(trial: &mut Trial, lines: &str) -> Result<Child<DebuggingRecorder>, Wrong> {
+    trial.begin();
+    let first = tree(trial.alloc, &mut lines.as_bytes());
+    trial.calm();
+    let second = match first {
+        Err(RunError::Memory(_)) => {
+            trial.refusals = trial.refusals.saturating_add(1);
+            tree(trial.alloc, &mut lines.as_bytes())
+        }
+        first => first,
+    };
+    match second {
+        Ok((on, _)) => Ok(on),
+        Err(_) => Err("the tree is refused"),
+    }
+}
+
+/// Plays calls on a tree of its lines.
+pub fn play_on(trial: &mut Trial, lines: &str, steps: &[Step]) -> Result<(), Wrong> {
+    let on = grown(trial, lines)?;
+    play(trial, on, steps)
+}

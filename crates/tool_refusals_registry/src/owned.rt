@@ -1,0 +1,184 @@
+//! A registry with one owner.
+
+use crate::entries::{Added, Entries, begins, play};
+use crate::idle;
+use metrics::{Error, Key, MetricKind, MetricKindMask};
+use metrics_registry::{Counted, OwnedRecency, OwnedRegistry, PlainStorage};
+use std::alloc::Global;
+use std::sync::Wait;
+use tool_refusals_trial::{Trial, Wrong, made};
+
+type Registry = OwnedRegistry<Key, PlainStorage>;
+
+/// A registry and the recency of its entries.
+#[derive(Drop)]
+struct Owned {
+    registry: Registry,
+    recency: OwnedRecency<Key>,
+}
+
+impl Entries for Owned {
+    fn one_more<W: Wait>(&mut self, _rt: &W, kind: MetricKind, key: &Key) -> Added {
+        let mut calls = 0u64;
+        let ones = match kind {
+            MetricKind::Counter => self.registry.get_or_create_counter(key, |cell: &mut u64| {
+                calls = calls.wrapping_add(1);
+                *cell = cell.wrapping_add(1);
+                (*cell, true)
+            }),
+            MetricKind::Gauge => self.registry.get_or_create_gauge(key, |cell: &mut i64| {
+                calls = calls.wrapping_add(1);
+                *cell = cell.wrapping_add(1);
+                (cell.unsigned_abs(), true)
+            }),
+            MetricKind::Histogram => self.registry.get_or_create_histogram(key, |cell| {
+                calls = calls.wrapping_add(1);
+                let is_taken = cell.push(1).is_ok();
+                let mut ones = 0u64;
+                cell.data_with(|chunk| ones = ones.wrapping_add(chunk.len() as u64));
+                (ones, is_taken)
+            }),
+        };
+        Added { calls, ones }
+    }
+
+    fn ones<W: Wait>(&self, _rt: &W, kind: MetricKind, key: &Key) -> Result<Option<u64>, Error> {
+        Ok(match kind {
+            MetricKind::Counter => self.registry.get_counter(key).copied(),
+            MetricKind::Gauge => self.registry.get_gauge(key).map(|cell| cell.unsigned_abs()),
+            MetricKind::Histogram => match self.registry.get_histogram(key) {
+                Some(cell) => {
+                    let mut ones = 0u64;
+                    cell.data_with(|chunk| ones = ones.wrapping_add(chunk.len() as u64));
+                    Some(ones)
+                }
+                None => None,
+            },
+        })
+    }
+
+    fn handles<W: Wait>(
+        &self,
+        _rt: &W,
+        alloc: Global,
+        kind: MetricKind,
+    ) -> Result<Option<usize>, Error> {
+        Ok(match kind {
+            MetricKind::Counter => Some(self.registry.get_counter_handles(alloc)?.len()),
+            MetricKind::Gauge => Some(self.registry.get_gauge_handles(alloc)?.len()),
+            MetricKind::Histogram => None,
+        })
+    }
+
+    fn retain<W: Wait>(&mut self, _rt: &W, kind: MetricKind, prefix: &str) -> usize {
+        let mut calls = 0usize;
+        match kind {
+            MetricKind::Counter => {
+                self.registry
+                    .retain_counters(|key: &Key, _| begins(&mut calls, key, prefix))
+            }
+            MetricKind::Gauge => {
+                self.registry
+                    .retain_gauges(|key: &Key, _| begins(&mut calls, key, prefix))
+            }
+            MetricKind::Histogram => {
+                self.registry
+                    .retain_histograms(|key: &Key, _| begins(&mut calls, key, prefix))
+            }
+        }
+        calls
+    }
+
+    fn visits<W: Wait>(&self, _rt: &W, kind: MetricKind) -> usize {
+        let mut calls = 0usize;
+        match kind {
+            MetricKind::Counter => self
+                .registry
+                .visit_counters(|_, _| calls = calls.wrapping_add(1)),
+            MetricKind::Gauge => self
+                .registry
+                .visit_gauges(|_, _| calls = calls.wrapping_add(1)),
+            MetricKind::Histogram => {
+                self.registry
+                    .visit_histograms(|_, _| calls = calls.wrapping_add(1))
+            }
+        }
+        calls
+    }
+
+    fn delete<W: Wait>(&mut self, _rt: &W, kind: MetricKind, key: &Key) -> bool {
+        match kind {
+            MetricKind::Counter => self.registry.delete_counter(key),
+            MetricKind::Gauge => self.registry.delete_gauge(key),
+            MetricKind::Histogram => self.registry.delete_histogram(key),
+        }
+    }
+
+    fn clear<W: Wait>(&mut self, _rt: &W) {
+        self.registry.clear();
+    }
+
+    fn is_used<W: Wait>(
+        &mut self,
+        _rt: &W,
+        kind: MetricKind,
+        key: &Key,
+        now: u64,
+    ) -> Result<bool, Error> {
+        let first = Counted::new(0u64).get_generation();
+        let (recency, registry) = (&mut self.recency, &mut self.registry);
+        match kind {
+            MetricKind::Counter => recency.should_store_counter(key, first, now, registry),
+            MetricKind::Gauge => recency.should_store_gauge(key, first, now, registry),
+            MetricKind::Histogram => recency.should_store_histogram(key, first, now, registry),
+        }
+    }
+}
+
+/// A registry of so many shards, where the first try may be refused.
+fn new_registry(trial: &mut Trial, shards: usize, mask: MetricKindMask) -> Result<Owned, Wrong> {
+    let alloc = trial.alloc;
+    let registry = made(
+        trial,
+        &move || Registry::new(alloc, PlainStorage::new(alloc), shards),
+    )?;
+    let recency = OwnedRecency::new(alloc, mask, Some(idle::TIMEOUT));
+    Ok(Owned { registry, recency })
+}
+
+/// Entries of a kind in registries of 1, 2 and 8 shards.
+fn entries<W: Wait>(rt: &W, trial: &mut Trial, kind: MetricKind) -> Result<(), Wrong> {
+    for shards in [1usize, 2, 8] {
+        let mut on = new_registry(trial, shards, MetricKindMask::ALL)?;
+        play(rt, trial, &mut on, kind)?;
+    }
+    Ok(())
+}
+
+/// The idle entries of each kind.
+fn idle_entries<W: Wait>(rt: &W, trial: &mut Trial) -> Result<(), Wrong> {
+    for (kind, mask, other) in idle::MASKS {
+        let mut on = new_registry(trial, 2, mask)?;
+        idle::play(rt, trial, &mut on, (kind, other))?;
+    }
+    Ok(())
+}
+
+/// The names of the examples of this file.
+pub const NAMES: &[&str] = &[
+    "counters_of_one_owner",
+    "gauges_of_one_owner",
+    "histograms_of_one_owner",
+    "idle_entries_of_one_owner",
+];
+
+/// Runs the example of this name, if it is one of these.
+pub fn run<W: Wait>(rt: &W, trial: &mut Trial, name: &str) -> Option<Result<(), Wrong>> {
+    Some(match name {
+        "counters_of_one_owner" => entries(rt, trial, MetricKind::Counter),
+        "gauges_of_one_owner" => entries(rt, trial, MetricKind::Gauge),
+        "histograms_of_one_owner" => entries(rt, trial, MetricKind::Histogram),
+        "idle_entries_of_one_owner" => idle_entries(rt, trial),
+        _ => return None,
+    })
+}

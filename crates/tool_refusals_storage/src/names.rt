@@ -1,0 +1,216 @@
+//! The automata of names, and labels of quantiles.
+
+use metrics::Error;
+use metrics_registry::{Quantile, parse_quantiles};
+use prefix_match::{PrefixTrie, SubstringSet};
+use tool_refusals_trial::{Trial, Wrong, expect, made};
+
+const AT_HAND: Wrong = "refused with memory at hand";
+
+const LABELS: [(i64, &str); 10] = [
+    (990_000_000, "p99"),
+    (550_000_000, "p55"),
+    (5_000_000, "p05"),
+    (1, "p00000001"),
+    (-1, "min"),
+    (0, "min"),
+    (999_000_000, "p999"),
+    (999_900_000, "p9999"),
+    (1_000_000_000, "max"),
+    (1_200_000_000, "max"),
+];
+
+fn labels_of_quantiles(trial: &mut Trial) -> Result<(), Wrong> {
+    let alloc = trial.alloc;
+    for (value, label) in LABELS {
+        let quantile = made(trial, &move || Quantile::new(alloc, value))?;
+        expect(quantile.label() == label, "another label")?;
+    }
+    Ok(())
+}
+
+fn quantiles_are_parsed_in_order(trial: &mut Trial) -> Result<(), Wrong> {
+    let alloc = trial.alloc;
+    let none = made(trial, &move || parse_quantiles(alloc, &[]))?;
+    expect(none.is_empty(), "a quantile of nothing")?;
+    let all = made(
+        trial,
+        &move || parse_quantiles(alloc, &[0, 500_000_000, 1_000_000_000]),
+    )?;
+    let mut labels = all.iter();
+    for label in ["min", "p50", "max"] {
+        let quantile = labels.next().ok_or("a quantile is missing")?;
+        expect(quantile.label() == label, "another label")?;
+    }
+    expect(labels.next().is_none(), "a quantile too many")
+}
+
+/// A pattern and its value.
+type Entry = (&'static str, usize);
+
+const ENTRIES: [Entry; 6] = [("abc", 1), ("a", 0), ("", 2), ("a", 3), ("é", 4), ("è", 5)];
+
+/// The value of the longest of the entries that begins a text, the last of equal ones.
+fn plain_longest(entries: &[Entry], text: &str) -> Option<usize> {
+    let mut best: Option<Entry> = None;
+    for (pattern, value) in entries {
+        let length = best.map_or(0, |(pattern, _)| pattern.len());
+        if text.as_bytes().starts_with(pattern.as_bytes()) && length <= pattern.len() {
+            best = Some((pattern, *value));
+        }
+    }
+    best.map(|(_, value)| value)
+}
+
+/// The value that an entry replaces.
+fn plain_old(entries: &[Entry], text: &str) -> Option<usize> {
+    let mut old = None;
+    for (pattern, value) in entries {
+        if *pattern == text {
+            old = Some(*value);
+        }
+    }
+    old
+}
+
+fn expect_longest(trie: &PrefixTrie, entries: &[Entry]) -> Result<(), Wrong> {
+    for text in ["abcx", "abd", "x", "", "éa", "è", "ê"] {
+        let found = trie.longest(text.as_bytes());
+        expect(found == plain_longest(entries, text), "another value")?;
+    }
+    Ok(())
+}
+
+/// Inserts an entry, and again where memory was refused, which leaves every answer as it was.
+fn insert(trial: &mut Trial, trie: &mut PrefixTrie, at: usize) -> Result<(), Wrong> {
+    let (before, rest) = ENTRIES.split_at(at.min(ENTRIES.len()));
+    let Some((pattern, value)) = rest.first() else {
+        return Ok(());
+    };
+    trial.begin();
+    let first = trie.insert(pattern.as_bytes(), *value);
+    trial.calm();
+    let second = match first {
+        Ok(old) => Ok(old),
+        Err(_) => {
+            trial.note(Error::Memory)?;
+            expect_longest(trie, before)?;
+            trie.insert(pattern.as_bytes(), *value)
+        }
+    };
+    match second {
+        Ok(old) => expect(old == plain_old(before, pattern), "another old value"),
+        Err(_) => Err(AT_HAND),
+    }
+}
+
+fn a_trie_of_routes(trial: &mut Trial) -> Result<(), Wrong> {
+    let mut trie = PrefixTrie::new(trial.alloc);
+    for at in 0..ENTRIES.len() {
+        insert(trial, &mut trie, at)?;
+        let (held, _) = ENTRIES.split_at((at + 1).min(ENTRIES.len()));
+        expect_longest(&trie, held)?;
+    }
+    Ok(())
+}
+
+/// Reserves a pattern, where the first try may be refused and leaves every answer. Its insert takes no memory then.
+fn reserve(trial: &mut Trial, trie: &mut PrefixTrie) -> Result<(), Wrong> {
+    trial.begin();
+    let first = trie.reserve(b"abd").is_ok();
+    trial.calm();
+    if !first {
+        trial.note(Error::Memory)?;
+        expect(trie.longest(b"abdx").is_none(), "another value")?;
+        expect(trie.reserve(b"abd").is_ok(), AT_HAND)?;
+    }
+    expect(trie.longest(b"abcd") == Some(1), "another value")?;
+    trial.begin();
+    let is_inserted = trie.insert(b"abd", 2).is_ok();
+    trial.calm();
+    expect(is_inserted, "an insert that was reserved is refused")?;
+    expect(trie.longest(b"abdx") == Some(2), "another value")
+}
+
+fn a_reserved_route(trial: &mut Trial) -> Result<(), Wrong> {
+    let mut trie = PrefixTrie::new(trial.alloc);
+    expect(trie.insert(b"abc", 1).is_ok(), AT_HAND)?;
+    reserve(trial, &mut trie)
+}
+
+/// Patterns, whether they are folded, a text, and the answers of the table and of the links with their moves.
+type Match = (
+    &'static [&'static str],
+    bool,
+    &'static str,
+    [(bool, u64); 2],
+);
+
+const MATCHES: [Match; 6] = [
+    (
+        &["he", "she", "his", "hers"],
+        false,
+        "ushers",
+        [(true, 3), (true, 3)],
+    ),
+    (&["ab"], false, "aab", [(true, 2), (true, 4)]),
+    (&["abcd", "bx"], false, "abcbx", [(true, 5), (true, 6)]),
+    (&["AB"], true, "xab", [(true, 2), (true, 2)]),
+    (&[""], false, "x", [(true, 0), (true, 0)]),
+    (&[], false, "x", [(false, 0), (false, 0)]),
+];
+
+/// The automaton of patterns, where the first try may be refused.
+fn automaton(
+    trial: &mut Trial,
+    patterns: &[&str],
+    is_folded: bool,
+    is_table: bool,
+) -> Result<SubstringSet, Wrong> {
+    trial.begin();
+    let first = SubstringSet::new(trial.alloc, patterns, is_folded, is_table);
+    trial.calm();
+    let second = match first {
+        Ok(set) => Ok(set),
+        Err(_) => {
+            trial.note(Error::Memory)?;
+            SubstringSet::new(trial.alloc, patterns, is_folded, is_table)
+        }
+    };
+    match second {
+        Ok(set) => Ok(set),
+        Err(_) => Err(AT_HAND),
+    }
+}
+
+fn automata_of_patterns(trial: &mut Trial) -> Result<(), Wrong> {
+    for (patterns, is_folded, text, [by_table, by_links]) in MATCHES {
+        for (is_table, wanted) in [(true, by_table), (false, by_links)] {
+            let set = automaton(trial, patterns, is_folded, is_table)?;
+            let answer = set.is_match_counted(text.as_bytes());
+            expect(answer == wanted, "another answer")?;
+        }
+    }
+    Ok(())
+}
+
+/// The names of the examples of this file.
+pub const NAMES: &[&str] = &[
+    "labels_of_quantiles",
+    "quantiles_are_parsed_in_order",
+    "a_trie_of_routes",
+    "a_reserved_route",
+    "automata_of_patterns",
+];
+
+/// Runs the example of this name, if it is one of these.
+pub fn run(trial: &mut Trial, name: &str) -> Option<Result<(), Wrong>> {
+    Some(match name {
+        "labels_of_quantiles" => labels_of_quantiles(trial),
+        "quantiles_are_parsed_in_order" => quantiles_are_parsed_in_order(trial),
+        "a_trie_of_routes" => a_trie_of_routes(trial),
+        "a_reserved_route" => a_reserved_route(trial),
+        "automata_of_patterns" => automata_of_patterns(trial),
+        _ => return None,
+    })
+}
