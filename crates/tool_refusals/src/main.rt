@@ -4,6 +4,7 @@
 
 mod books;
 mod builders;
+mod ends;
 mod most;
 mod plain;
 mod replays;
@@ -15,12 +16,13 @@ use std::sync::Wait;
 use tool_refusals_trial::{Trial, Wrong, first_word, is_asked, list, report};
 
 /// The names of the examples, by module.
-const NAMES: [&[&str]; 5] = [
+const NAMES: [&[&str]; 6] = [
     books::NAMES,
     builders::NAMES,
     slots::NAMES,
     replays::NAMES,
     most::NAMES,
+    ends::NAMES,
 ];
 
 /// Runs the example of a name.
@@ -35,6 +37,9 @@ fn run_one<R: Wait>(rt: &R, trial: &mut Trial, name: &str) -> Result<(), Wrong> 
         return ended;
     }
     if let Some(ended) = replays::run(trial, name) {
+        return ended;
+    }
+    if let Some(ended) = ends::run(rt, trial, name) {
         return ended;
     }
     most::run(trial, name).unwrap_or(Err("no such example"))

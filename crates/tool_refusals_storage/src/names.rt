@@ -1,18 +1,19 @@
-//! The automata of names, and labels of quantiles.
+//! The automata of names, labels of quantiles, and kinds.
 
-use metrics::Error;
+use metrics::{CompositeKey, Error, Key, MetricKind, MetricKindMask};
 use metrics_registry::{Quantile, parse_quantiles};
 use prefix_match::{PrefixTrie, SubstringSet};
 use tool_refusals_trial::{Trial, Wrong, expect, made};
 
 const AT_HAND: Wrong = "refused with memory at hand";
 
-const LABELS: [(i64, &str); 10] = [
+const LABELS: [(i64, &str); 11] = [
     (990_000_000, "p99"),
     (550_000_000, "p55"),
     (5_000_000, "p05"),
     (1, "p00000001"),
     (-1, "min"),
+    (-1_000_000_000, "min"),
     (0, "min"),
     (999_000_000, "p999"),
     (999_900_000, "p9999"),
@@ -194,6 +195,38 @@ fn automata_of_patterns(trial: &mut Trial) -> Result<(), Wrong> {
     Ok(())
 }
 
+fn kinds_of_a_mask() -> Result<(), Wrong> {
+    let two = MetricKindMask::COUNTER | MetricKindMask::HISTOGRAM;
+    for (mask, wanted) in [
+        (two, [true, false, true]),
+        (MetricKindMask::NONE, [false, false, false]),
+        (MetricKindMask::ALL, [true, true, true]),
+    ] {
+        expect(
+            mask.matches(MetricKind::Counter) == wanted[0],
+            "another counter",
+        )?;
+        expect(
+            mask.matches(MetricKind::Gauge) == wanted[1],
+            "another gauge",
+        )?;
+        expect(
+            mask.matches(MetricKind::Histogram) == wanted[2],
+            "another histogram",
+        )?;
+    }
+    Ok(())
+}
+
+fn a_key_of_two_kinds(trial: &mut Trial) -> Result<(), Wrong> {
+    let alloc = trial.alloc;
+    let key = move || -> Result<Key, Error> { Ok(Key::from_name(alloc, "a")?) };
+    let counter = CompositeKey::new(MetricKind::Counter, made(trial, &key)?);
+    let gauge = CompositeKey::new(MetricKind::Gauge, made(trial, &key)?);
+    expect(counter != gauge, "a counter is a gauge")?;
+    expect(counter < gauge, "the counter doesn't come first")
+}
+
 /// The names of the examples of this file.
 pub const NAMES: &[&str] = &[
     "labels_of_quantiles",
@@ -201,6 +234,8 @@ pub const NAMES: &[&str] = &[
     "a_trie_of_routes",
     "a_reserved_route",
     "automata_of_patterns",
+    "kinds_of_a_mask",
+    "a_key_of_two_kinds",
 ];
 
 /// Runs the example of this name, if it is one of these.
@@ -211,6 +246,8 @@ pub fn run(trial: &mut Trial, name: &str) -> Option<Result<(), Wrong>> {
         "a_trie_of_routes" => a_trie_of_routes(trial),
         "a_reserved_route" => a_reserved_route(trial),
         "automata_of_patterns" => automata_of_patterns(trial),
+        "kinds_of_a_mask" => kinds_of_a_mask(),
+        "a_key_of_two_kinds" => a_key_of_two_kinds(trial),
         _ => return None,
     })
 }
