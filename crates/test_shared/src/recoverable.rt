@@ -1,16 +1,12 @@
 //! Recorders that are taken back.
 
 use crate::books::{expect_count, first, key};
-use metrics::{
-    Address, Counter, DebugValue, Key, KeyName, MetricKind, Recorder, Refused, Reset, Snapshot,
-    Unit, Update,
-};
+use metrics::{Address, Counter, DebugValue, KeyName, MetricKind, Recorder, Refused, Update};
 use metrics_debugging::DebuggingRecorder;
 use metrics_shared::{RecoverableRecorder, SlotRecorder};
 use std::alloc::Global;
 use std::process::Abort;
-use std::sync::atomic::{AtomicU64, Ordering};
-use std::sync::{Arc, Wait};
+use std::sync::Wait;
 use std::test::Fail;
 
 /// A series of each kind: its name, what it is updated by and how often, and what it is updated by once the book is
@@ -132,81 +128,4 @@ fn a_book_is_recovered(rt: HostRuntime) -> Result<(), Fail> {
     let alloc = rt.alloc();
     expect_handle(&rt, alloc, DebuggingRecorder::new(alloc))?;
     expect_recovered(&rt, alloc, DebuggingRecorder::new(alloc))
-}
-
-/// A recorder of these tests' own, without books. Its end sets the flag to 1.
-struct Flagged {
-    flag: Arc<AtomicU64, Global>,
-}
-
-impl Drop for Flagged {
-    fn drop(self) {
-        let Flagged { flag } = self;
-        flag.store(1, Ordering::SeqCst);
-    }
-}
-
-impl Recorder for Flagged {
-    ghost use Rattle.metrics.specs.Meaning.{nothing};
-
-    ghost meaning = { λ _. nothing };
-
-    fn books(&self) -> usize {
-        0
-    }
-
-    fn describe(
-        &mut self,
-        _alloc: Global,
-        _kind: MetricKind,
-        _name: &KeyName,
-        _unit: Option<Unit>,
-        _text: &str,
-    ) -> Result<usize, Refused> {
-        Ok(0)
-    }
-
-    fn register(
-        &mut self,
-        alloc: Global,
-        _kind: MetricKind,
-        _key: &Key,
-    ) -> Result<Vec<Address>, Refused> {
-        Ok(Vec::new(alloc))
-    }
-
-    fn holds(&self, _kind: MetricKind, _at: Address) -> bool {
-        false
-    }
-
-    fn update(&mut self, _at: Address, _by: Update) -> Result<(), Refused> {
-        Err(Refused::NoSuchAddress)
-    }
-
-    fn snapshot_with(
-        &mut self,
-        _alloc: Global,
-        _book: usize,
-        _reset: Reset,
-    ) -> Result<Snapshot, Refused> {
-        Err(Refused::NoSuchBook)
-    }
-}
-
-#[test]
-fn a_recovered_recorder_ends(rt: HostRuntime) -> Result<(), Fail> {
-    let alloc = rt.alloc();
-    let flag = Arc::new(alloc, AtomicU64::new(0))?;
-    let recorder = Flagged {
-        flag: Arc::try_clone(&flag)?,
-    };
-    let built = RecoverableRecorder::new(recorder).build(&rt, alloc);
-    let (slot, handle) = built.ok().ok_or("memory")?;
-    let refused = slot.update(&rt, Address { book: 0, series: 0 }, Update::Add(1));
-    assert_eq!(&rt; refused, Err(Refused::NoSuchAddress));
-    let recorder = handle.into_inner(&rt)?;
-    assert_eq!(&rt; flag.load(Ordering::SeqCst), 0);
-    drop(recorder);
-    assert_eq!(&rt; flag.load(Ordering::SeqCst), 1);
-    Ok(())
 }
