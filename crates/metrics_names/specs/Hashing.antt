@@ -1,8 +1,8 @@
--- The number of a key by what it feeds a hasher.
-use Rattle.std.specs.Prelude.{◌≡◌, ℕ, true, false, List, ◌++◌, fold, refl}
+-- The number of a key by what std's fast hasher makes of its texts.
+use Rattle.std.specs.Prelude.{◌≡◌, ℕ, true, false, List, fold, refl}
 use Rattle.std.proofs.Common.{ap}
-use Rattle.std.specs.Hash as fed
 use Rattle.std.specs.Hash.FoldHasher as folding
+use Rattle.std.specs.declared.hash.FoldHasher.{FoldHasher}
 use Rattle.metrics_names.specs.Names.{KeyParts, key_eq}
 use Rattle.metrics_names.specs.Equality.{key_eq-Decides}
 
@@ -10,17 +10,13 @@ use Rattle.metrics_names.specs.Equality.{key_eq-Decides}
 abbrev pub hash_number : List (List ℕ) → ℕ
 hash_number writes = folding.finish (fold folding.write folding.initial writes)
 
--- what a label's key and value feed a hasher
-abbrev pub label_writes : List ℕ × List ℕ → List (List ℕ)
-label_writes l = fed.str l.0 ++ fed.str l.1
+-- the state of a hasher after a label's key and value
+abbrev pub after_label : FoldHasher → List ℕ × List ℕ → FoldHasher
+after_label state l = folding.write (folding.write state l.0) l.1
 
--- what a key's name and labels feed a hasher
-abbrev pub key_writes : KeyParts → List (List ℕ)
-key_writes k = fed.str k.name ++ fed.slice label_writes k.labels
-
--- the number of a key
+-- the number of a key: a write of its name, and two of each label
 unfoldable pub key_number : KeyParts → ℕ
-key_number k = hash_number (key_writes k)
+key_number k = folding.finish (fold after_label (folding.write folding.initial k.name) k.labels)
 
 -- equal keys have equal numbers
 pub key_number_same : (a b : KeyParts) → key_eq a b ≡ true → key_number a ≡ key_number b

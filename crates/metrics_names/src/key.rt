@@ -88,13 +88,17 @@ impl Model for Key {
     ghost inverse = { λ k. record { name = k.name; labels = k.labels; number = key_number k } };
 }
 
-/// The number of the key of this name and these labels, by std's fast hasher, whose seed is fixed.
+/// The number of the key of this name and these labels, by std's fast hasher, whose seed is fixed. It mixes in how long each
+/// text is, so nothing stands between them.
 fn number_of(name: &KeyName, labels: &SharedItems<Label>) -> u64
     ensures { result ≡ key_number (record { name = name.now; labels = labels.now }) }
 {
     let mut state = FoldHasher::default();
-    name.hash(&mut state);
-    labels.hash(&mut state);
+    state.write(name.as_str().as_bytes());
+    for label in labels.as_slice() {
+        state.write(label.key().as_bytes());
+        state.write(label.value().as_bytes());
+    }
     state.finish()
 }
 

@@ -30,15 +30,15 @@ const ROWS: [Row; 16] = [
     (Act::Create, MetricKind::Gauge, "a", true),
     (Act::Has, MetricKind::Gauge, "a", true),
     (Act::Has, MetricKind::Histogram, "a", false),
-    (Act::Create, MetricKind::Histogram, "d", true),
-    (Act::Create, MetricKind::Histogram, "d", false),
-    (Act::Has, MetricKind::Counter, "d", false),
+    (Act::Create, MetricKind::Histogram, "b", true),
+    (Act::Create, MetricKind::Histogram, "b", false),
+    (Act::Has, MetricKind::Counter, "b", false),
     (Act::Delete, MetricKind::Gauge, "a", true),
     (Act::Has, MetricKind::Gauge, "a", false),
     (Act::Delete, MetricKind::Gauge, "a", false),
-    (Act::Has, MetricKind::Histogram, "d", true),
-    (Act::Delete, MetricKind::Histogram, "d", true),
-    (Act::Delete, MetricKind::Counter, "d", false),
+    (Act::Has, MetricKind::Histogram, "b", true),
+    (Act::Delete, MetricKind::Histogram, "b", true),
+    (Act::Delete, MetricKind::Counter, "b", false),
 ];
 
 fn call_of(alloc: Global, row: &Row) -> Result<ShardCall<Key>, Error> {
