@@ -10,7 +10,9 @@ use Rattle.tool_tree_lines.specs.declared.tree_line.TreeLine.{TreeLine}
 use Rattle.tool_tree_lines.specs.Words.{spelling, Spells}
 use Rattle.tool_tree_lines.specs.Trees.{Tree, last_line, tree_lines, IsAllowed, NoTree, AreOfTrees}
 use Rattle.tool_tree_lines.specs.Steps.{Steps}
-use Rattle.tool_tree_lines.proofs.Runs.{all_lines, lines_push, of_trees, first_bad, no_end}
+use Rattle.tool_tree_lines.proofs.LastLines.{all_lines, lines_push}
+use Rattle.tool_tree_lines.proofs.Readings.{no_end}
+use Rattle.tool_tree_lines.proofs.OneListAtMost.{of_trees, first_bad}
 use Rattle.tool_tree_levels.specs.declared.level.Level.{Level}
 use Rattle.tool_tree_levels.specs.declared.level.LineError.{LineError}
 use Rattle.tool_tree_levels.specs.declared.level.LineError.TheVariants as levels

@@ -10,7 +10,8 @@ use Rattle.tool_tree_lines.specs.declared.tree_line.TreeLine.TheVariants as line
 use Rattle.tool_tree_lines.specs.Words.{CanBeSpelled}
 use Rattle.tool_tree_lines.specs.Trees.{Tree, Book, Noop, Prefix, Filter, Fanout, Router, number_of, last_line, meaning_of, meanings_of, levels_of, most_levels, books_in, route_of, NameTargets, IsMade, IsTop, IsAllowed}
 use Rattle.tool_tree_lines.specs.Steps.{taken, Steps}
-use Rattle.tool_tree_lines.proofs.Runs.{from_list, list_of-from, length-list_of, length-taken, arity, tree_same, split_same, are_allowed}
+use Rattle.tool_tree_lines.proofs.LastLines.{from_list, list_of-from, length-list_of, length-taken, arity, tree_same, split_same}
+use Rattle.tool_tree_lines.proofs.OneListAtMost.{are_allowed}
 use Rattle.tool_tree_levels.specs.declared.level.Level.{Level}
 use Rattle.tool_tree_levels.specs.declared.level.LineError.{LineError}
 use Rattle.tool_tree_levels.specs.declared.level.LineError.TheVariants.{Memory, Bad}

@@ -15,7 +15,7 @@ use Rattle.metrics_trees.proofs.JoinedLemmas.{books-append}
 use Rattle.tool_tree_lines.specs.declared.tree_line.Kinds.{Kinds}
 use Rattle.tool_tree_lines.specs.Words.{HasKind}
 use Rattle.tool_tree_lines.specs.Trees.{books_in, mask_of}
-use Rattle.tool_tree_lines.proofs.Runs.{split_same}
+use Rattle.tool_tree_lines.proofs.LastLines.{split_same}
 use Rattle.tool_tree_levels.specs.declared.level.Level.{Level}
 use Rattle.tool_tree_levels.specs.declared.level.LineError.{LineError}
 use Rattle.tool_tree_levels.specs.declared.level.LineError.TheVariants.{Memory, Bad}

@@ -5,7 +5,7 @@ use Rattle.tool_tree_lines.specs.declared.tree_line.TreeLine.TheVariants as line
 use Rattle.tool_tree_lines.specs.Words.{spelling, Spells, IsNoLine}
 use Rattle.tool_tree_lines.specs.Steps.{Steps}
 use Rattle.tool_tree_lines.proofs.Lines.{line_same}
-use Rattle.tool_tree_lines.proofs.Runs.{not_end}
+use Rattle.tool_tree_lines.proofs.LastLines.{not_end}
 use Rattle.tool_tree_levels.specs.declared.level.Level.{Level}
 use Rattle.tool_tree_levels.specs.declared.level.LineError.{LineError}
 use Rattle.tool_tree_levels.specs.declared.level.LineError.TheVariants.{Memory, Bad}
