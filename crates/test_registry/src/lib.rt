@@ -4,14 +4,6 @@
 #![tactic(auto)]
 
 #[cfg(test)]
-mod entries;
-#[cfg(test)]
-mod given;
-#[cfg(test)]
-mod places;
-#[cfg(test)]
-mod plain;
-#[cfg(test)]
 mod quantiles;
 #[cfg(test)]
 mod recency;
