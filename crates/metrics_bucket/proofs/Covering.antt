@@ -17,7 +17,7 @@ use Rattle.metrics_bucket.proofs.Sums.{total_set, total_two, total_zero, given_h
 use Rattle.metrics_bucket.proofs.Keep.{other_side}
 use Rattle.metrics_bucket.proofs.Leaving.{whole_marks}
 use Rattle.metrics_bucket.proofs.Placing.{own_push, own_reach}
-use Rattle.metrics_bucket.proofs.PlacingSteps.{value_there}
+use Rattle.metrics_bucket.proofs.WipedVisits.{value_there}
 
 module _ (places : ℕ) (w : BucketState) (id : ℕ) (v : View) (f : Facts places 1024 w) (p : Placed places w) (at : get_elem? w.views id ≡ some v) (has : 0 < v.weight) where
   pub reaches : Reaches v.pushed w.epoch w.given

@@ -1,5 +1,5 @@
--- What one step leaves of the facts of the others.
-use Rattle.std.proofs.Common.{◌≡◌, ◌≢◌, ℕ, zero, suc, ◌+◌, ◌<◌, ◌≤◌, List, [], ◌∷◌, length, get_or, set, refl, sym, ap, ◌∙◌, subst, ⊎_elim, arith, eq-eqb, ne_eqb}
+-- What one step leaves of the facts of the others, and which facts are left to it.
+use Rattle.std.proofs.Common.{◌≡◌, ◌≢◌, ℕ, zero, suc, ◌+◌, ◌<◌, ◌≤◌, ◌%◌, List, [], ◌∷◌, length, get_or, set, refl, sym, ap, ◌∙◌, subst, ⊎_elim, arith, eq-eqb, ne_eqb}
 use mathlib.Core.Logic.{dite}
 use mathlib.Core.Option.{some, some-ne-none}
 use native.Mathlib.Decide.{ℕ_discrete}
@@ -11,8 +11,8 @@ use Rattle.metrics_bucket.specs.declared.view.Hold.{Hold}
 use Rattle.metrics_bucket.specs.declared.view.Hold.TheVariants.{Nothing, Ticket, Written, Claimed, SideKnown, Reading, Clearing, Settling}
 use Rattle.metrics_bucket.specs.declared.view.Visit.{Visit}
 use Rattle.metrics_bucket.specs.declared.view.Visit.TheVariants.{Unseen, Marked, Read, Wiped}
-use Rattle.metrics_bucket.specs.BucketState.{total, BucketState, other, place_index}
-use Rattle.metrics_bucket.specs.Facts.{weigh, given_at, ticket_in, ticket_at, open_at, is_open, owed_in, owed_at, turn_in, turn_of, weight_of, pushed_of, VisitFits, HoldFits, ViewFits, Facts}
+use Rattle.metrics_bucket.specs.BucketState.{total, BucketState, other, place_index, holding}
+use Rattle.metrics_bucket.specs.Facts.{weigh, stands, given_at, ticket_in, ticket_at, open_at, is_open, owed_in, owed_at, turn_in, turn_of, took_of, weight_of, pushed_of, taken_of, VisitFits, HoldFits, ViewFits, Facts}
 use Rattle.metrics_bucket.proofs.Sums.{total_set, total_one, total_two, total_zero, total_le, same_here, given_le, given_else}
 
 pub at_below : {A : Type 0} (l : List A) (i : ℕ) (a : A) → get_elem? l i ≡ some a → i < length l
@@ -150,3 +150,58 @@ each_after p all w w' id v v' f at some_weight is same_places same_weight grows 
       reads = λ n xs e h. let a = g.reads n xs e h in let b = more h in omega arith;
     })
     (at_set w.views id j v' u (sym (ap (λ (l : List View). get_elem? l j) is) ∙ there))
+
+-- a thread by what it holds
+pub held_by : (w : BucketState) (id : ℕ) (v : View) (hold : Hold) → get_elem? w.views id ≡ some v → v.hold ≡ hold → get_elem? w.views id ≡ some (holding v hold)
+held_by w id v hold at e = at ∙ (λ k. some (holding v (e k)))
+
+-- the facts after a step of one that takes no side: what is left is which words, and which sums of the thread, it changes
+module _ (places all : ℕ) (w w' : BucketState) (id : ℕ) (v u : View) (f : Facts places all w) (at : get_elem? w.views id ≡ some v) (has : 0 < v.weight) (views : w'.views ≡ set w.views id u) (live : w'.live ≡ w.live)
+    (same_places : u.places ≡ v.places) (same_weight : u.weight ≡ v.weight) (took : took_of u ≡ took_of v) where
+  new_total : (g : View → ℕ) → total g w'.views + g v ≡ total g w.views + g u
+  new_total g = ap (λ (l : List View). total g l + g v) views ∙ total_set g w.views id v u at
+
+  pub facts_after : w.given ≤ w'.given → w'.given ≤ places → length w'.values ≡ places + places → length w'.marks ≡ places + places
+      → ((s i : ℕ) → s < 2 → i < places → get_or w'.marks (place_index places s i) 0 + ticket_at s i u + (given_at w.live w.given s i + owed_at s i v) ≡ get_or w.marks (place_index places s i) 0 + ticket_at s i v + (given_at w.live w'.given s i + owed_at s i u))
+      → w'.turn + turn_of v ≡ w.turn + turn_of u → w'.turn ≤ 1
+      → ((h : ℕ → ℕ) → pushed_of h u + (stands h w.values w.marks + taken_of h v) ≡ pushed_of h v + (stands h w'.values w'.marks + taken_of h u))
+      → ((h : ℕ → ℕ) → pushed_of h v ≤ pushed_of h u) → HoldFits places all w' u.weight u.hold → ((n : ℕ) (xs : Walk) → get_elem? u.read n ≡ some xs → (h : ℕ → ℕ) → weigh h xs.values ≤ total (pushed_of h) w.views)
+      → ((j : ℕ) (z : View) → j ≢ id → get_elem? w.views j ≡ some z → (s i : ℕ) → s < 2 → i < places → ticket_in s i z.hold ≡ 1 → get_or w'.values (place_index places s i) 0 ≡ get_or w.values (place_index places s i) 0)
+      → ((j : ℕ) (z : View) → j ≢ id → get_elem? w.views j ≡ some z → (s i : ℕ) → s < 2 → i < places → turn_in z.hold ≡ 1 → get_or w.marks (place_index places s i) 0 ≡ 1
+      → (get_or w'.marks (place_index places s i) 0 ≡ 1) × (get_or w'.values (place_index places s i) 0 ≡ get_or w.values (place_index places s i) 0))
+      → Facts places all w'
+  facts_after more room values_long marks_long even turn one_turn bags grows mine reads tickets walks = record {
+    side = subst (λ (n : ℕ). n < 2) (sym live) f.side;
+    room = room;
+    values_long = values_long;
+    marks_long = marks_long;
+    even = λ s i a b.
+        let x = f.even s i a b in
+        let y = even s i a b in
+        let t = new_total (ticket_at s i) in
+        let o = new_total (owed_at s i) in
+        let g : given_at w'.live w'.given s i ≡ given_at w.live w'.given s i = ap (λ (n : ℕ). given_at n w'.given s i) live in
+        omega arith;
+    turns = let x = f.turns in let t = new_total turn_of in omega arith;
+    one_turn = one_turn;
+    swaps = let t = new_total took_of in let same_total : total took_of w.views ≡ total took_of w'.views = omega arith in live ∙ (f.swaps ∙ ap (λ (n : ℕ). n % 2) same_total);
+    shares = let x = f.shares in let t = new_total weight_of in omega arith;
+    bags = λ h. let x = f.bags h in let y = bags h in let t = new_total (pushed_of h) in let k = new_total (taken_of h) in omega arith;
+    each = each_after places all w w' id v u f at has views same_places same_weight grows mine reads (λ _ _ _ _ _. (live, more)) tickets walks;
+  }
+
+  -- where no word of the places changes
+  pub facts_beside : w.given ≡ w'.given → w.values ≡ w'.values → w.marks ≡ w'.marks → ((s i : ℕ) → ticket_at s i u + owed_at s i v ≡ ticket_at s i v + owed_at s i u) → w'.turn + turn_of v ≡ w.turn + turn_of u → w'.turn ≤ 1
+      → ((h : ℕ → ℕ) → pushed_of h u + taken_of h v ≡ pushed_of h v + taken_of h u) → ((h : ℕ → ℕ) → pushed_of h v ≤ pushed_of h u)
+      → HoldFits places all w' u.weight u.hold → ((n : ℕ) (xs : Walk) → get_elem? u.read n ≡ some xs → (h : ℕ → ℕ) → weigh h xs.values ≤ total (pushed_of h) w.views) → Facts places all w'
+  facts_beside given values marks even turn one_turn bags grows mine reads =
+      let room = f.room in
+      facts_after (omega arith) (omega arith) (ap length (sym values) ∙ f.values_long) (ap length (sym marks) ∙ f.marks_long)
+      (λ s i a b.
+      let y = even s i in
+      let m : get_or w.marks (place_index places s i) 0 ≡ get_or w'.marks (place_index places s i) 0 = ap (λ (l : List ℕ). get_or l (place_index places s i) 0) marks in
+      let g : given_at w.live w.given s i ≡ given_at w.live w'.given s i = ap (λ (n : ℕ). given_at w.live n s i) given in
+      omega arith)
+      turn one_turn (λ h. let y = bags h in let s : stands h w.values w.marks ≡ stands h w'.values w'.marks = (λ k. stands h (values k) (marks k)) in omega arith) grows mine reads
+      (λ j z n there s i a b t. ap (λ (l : List ℕ). get_or l (place_index places s i) 0) (sym values))
+      (λ j z n there s i a b t m. (ap (λ (l : List ℕ). get_or l (place_index places s i) 0) (sym marks) ∙ m, ap (λ (l : List ℕ). get_or l (place_index places s i) 0) (sym values)))

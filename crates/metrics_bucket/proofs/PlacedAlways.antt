@@ -20,8 +20,12 @@ use Rattle.metrics_bucket.proofs.Visits.{new_visit}
 use Rattle.metrics_bucket.proofs.Keep.{at_below, other_side}
 use Rattle.metrics_bucket.proofs.Shares.{zeros, fresh, IsNew}
 use Rattle.metrics_bucket.proofs.Histories.{step_facts, opened_facts, opened_new}
-use Rattle.metrics_bucket.proofs.Placing.{pushes_at-append, values_at-append, lengths_of-append, walks_in-append, walks_at-append, cond_same, hold_kept, view_kept}
-use Rattle.metrics_bucket.proofs.PlacingSteps.{keeps_places, tickets, writes, finishes, takes_side, wipes, leaves_clear, leaves_read, reads_push, wiped_same}
+use Rattle.metrics_bucket.proofs.Placing.{visits_find, pushes_at-append, values_at-append, lengths_of-append, walks_in-append, walks_at-append, cond_same, hold_kept, view_kept}
+use Rattle.metrics_bucket.proofs.WipedVisits.{wiped_same}
+use Rattle.metrics_bucket.proofs.PlacedCounts.{keeps_places}
+use Rattle.metrics_bucket.proofs.PlacedPushes.{tickets, writes, finishes}
+use Rattle.metrics_bucket.proofs.PlacedTakes.{takes_side}
+use Rattle.metrics_bucket.proofs.PlacedWalks.{wipes, leaves_clear, leaves_read, reads_push}
 
 none_here : (i : ℕ) → below i 0 ≡ 0
 none_here i = refl
@@ -166,19 +170,12 @@ module _ (places : ℕ) (w : BucketState) (p : Placed places w) where
       (at_set vs other_id j (new_view 0 0) u r))
 
 module _ (places all : ℕ) (w : BucketState) (id : ℕ) (v : View) (f : Facts places all w) (p : Placed places w) (at : get_elem? w.views id ≡ some v) (has : 0 < v.weight) where
-  -- one visit of a walk is seen or read
-  visits_find : (e i : ℕ) (visits : List Visit) (d : Visit) → VisitsFind w e visits → VisitFinds w e i d → VisitsFind w e (set visits i d)
-  visits_find e i visits d k new j c there = ⊎_elim
-      (λ (t : (j ≡ i) × (d ≡ c)). subst (λ (z : ℕ × Visit). VisitFinds w e z.0 z.1) (λ l. (sym t.0 l, t.1 l)) new)
-      (λ (t : (j ≢ i) × (get_elem? visits j ≡ some c)). k j c t.1)
-      (at_set visits i j d c there)
-
   visit_reading : (s i : ℕ) (visits : List Visit) (d : Visit) → v.hold ≡ Reading s visits → VisitFinds w v.epoch i d → Placed places record w { views = set w.views id (holding v (Reading s (set visits i d))) }
   visit_reading s i visits d e new =
       let placed : HoldPlaced w v.epoch (Reading s visits) = subst (HoldPlaced w v.epoch) e (p.each id v at).hold in
       keeps_places places all w id v f p at has w.turn v.epoch v.turn (Reading s (set visits i d))
       (λ k j. sym (ap (held_in k j v.epoch) e)) (λ k. sym (ap (clearing_of k v.epoch) e)) (λ k j. sym (ap (wiped_hold k j v.epoch) e)) (sym (ap took_in e)) (λ k. ap (λ (n : ℕ). cond (eqb k v.epoch) n 0) (sym (ap took_in e)))
-      (placed.0, visits_find v.epoch i visits d placed.1 new) (λ _. (p.each id v at).turn (ap turn_in e))
+      (placed.0, visits_find w v.epoch i visits d placed.1 new) (λ _. (p.each id v at).turn (ap turn_in e))
 
   visit_clearing : (s i : ℕ) (visits : List Visit) (c d : Visit) → v.hold ≡ Clearing s visits → get_elem? visits i ≡ some c → is_wiped d ≡ is_wiped c → VisitFinds w v.epoch i d → Placed places record w { views = set w.views id (holding v (Clearing s (set visits i d))) }
   visit_clearing s i visits c d e there same_wiped new =
@@ -187,7 +184,7 @@ module _ (places all : ℕ) (w : BucketState) (id : ℕ) (v : View) (f : Facts p
       (λ k j. sym (ap (held_in k j v.epoch) e))
       (λ k. ap (λ (n : ℕ). cond (eqb k v.epoch) n 0) (length-set visits i d) ∙ sym (ap (clearing_of k v.epoch) e))
       (λ k j. ap (λ (n : ℕ). cond (eqb k v.epoch) n 0) (wiped_same visits i j c d there same_wiped) ∙ sym (ap (wiped_hold k j v.epoch) e)) (sym (ap took_in e)) (λ k. ap (λ (n : ℕ). cond (eqb k v.epoch) n 0) (sym (ap took_in e)))
-      (placed.0, visits_find v.epoch i visits d placed.1 new) (λ _. (p.each id v at).turn (ap turn_in e))
+      (placed.0, visits_find w v.epoch i visits d placed.1 new) (λ _. (p.each id v at).turn (ap turn_in e))
 
   sees : (i : ℕ) (hold : Hold) → v.hold ≡ hold → HasVisit hold i Unseen → Placed places record w { views = set w.views id (holding v (put_visit hold i Marked)) }
   sees i (Reading s visits) e c = visit_reading s i visits Marked e tt

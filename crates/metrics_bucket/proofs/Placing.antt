@@ -14,7 +14,7 @@ use Rattle.metrics_bucket.specs.declared.view.Visit.{Visit}
 use Rattle.metrics_bucket.specs.declared.view.Visit.TheVariants.{Unseen, Marked, Read, Wiped}
 use Rattle.metrics_bucket.specs.BucketState.{BucketState, total, walks_made, other}
 use Rattle.metrics_bucket.specs.Facts.{same, below, turn_in}
-use Rattle.metrics_bucket.specs.Places.{pushes_at, values_at, pushed_at, value_at, held_in, tickets_at, lengths_of, walks_in, given_of, walks_at, IsPush, WalkFinds, VisitFinds, HoldPlaced, ViewPlaced, Placed}
+use Rattle.metrics_bucket.specs.Places.{pushes_at, values_at, pushed_at, value_at, held_in, tickets_at, lengths_of, walks_in, given_of, walks_at, IsPush, WalkFinds, VisitFinds, VisitsFind, HoldPlaced, ViewPlaced, Placed}
 use Rattle.metrics_bucket.proofs.Sums.{total_set, total_one, same_here, same_else, below_under, below_over, below_le}
 
 pub total_add : (f g : View → ℕ) (vs : List View) → total (λ v. f v + g v) vs ≡ total f vs + total g vs
@@ -55,6 +55,10 @@ cond_here e e' x p = rw (eq-eqb e e' p) refl
 
 pub cond_else : (e e' x : ℕ) → e ≢ e' → cond (eqb e e') x 0 ≡ 0
 cond_else e e' x p = rw (ne_eqb e e' p) refl
+
+-- a hold that is no clear's counts no take
+pub no_take : (e e' n : ℕ) → n ≡ 0 → cond (eqb e e') n 0 ≡ 0
+no_take e e' n z = ap (λ (k : ℕ). cond (eqb e e') k 0) z ∙ cond_same e e' 0
 
 -- where no push is, there is no value
 no_value : (e i : ℕ) (ps : List Push) → pushes_at e i ps ≡ 0 → values_at e i ps ≡ 0
@@ -140,6 +144,13 @@ push_kept w w' id v u at is same_pushes e i x k =
     let k0 = k.0 in
     let k1 = k.1 in
     (omega arith, omega arith)
+
+-- one visit of a walk is seen or read
+pub visits_find : (w : BucketState) (e i : ℕ) (visits : List Visit) (d : Visit) → VisitsFind w e visits → VisitFinds w e i d → VisitsFind w e (set visits i d)
+visits_find w e i visits d k new j c there = ⊎_elim
+    (λ (t : (j ≡ i) × (d ≡ c)). subst (λ (z : ℕ × Visit). VisitFinds w e z.0 z.1) (λ l. (sym t.0 l, t.1 l)) new)
+    (λ (t : (j ≢ i) × (get_elem? visits j ≡ some c)). k j c t.1)
+    (at_set visits i j d c there)
 
 module _ (w w' : BucketState) (pushes : (e i x : ℕ) → IsPush w e i x → IsPush w' e i x) where
   pub visit_kept : (e i : ℕ) (c : Visit) → VisitFinds w e i c → VisitFinds w' e i c

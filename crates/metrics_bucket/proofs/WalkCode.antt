@@ -25,7 +25,7 @@ use Rattle.metrics_bucket.specs.Places.{Reaches, Finds, Covers}
 use Rattle.metrics_bucket.proofs.Blocks.{chunk, chunks_from, chunks_front, drop_more, part_next}
 use Rattle.metrics_bucket.specs.Steps.{Seated}
 use Rattle.metrics_bucket.specs.WalkSteps.{IsValueOf, IsClearing}
-use Rattle.metrics_bucket.proofs.AllowedWalks.{value_word}
+use Rattle.metrics_bucket.proofs.AllowedVisits.{value_word}
 use Rattle.metrics_bucket.specs.Facts.{weigh, weigh_pushes, weigh_walks}
 use Rattle.metrics_bucket.specs.declared.view.Walk.{Walk}
 use Rattle.metrics_bucket.specs.declared.view.View.{View}

@@ -13,7 +13,7 @@ use Rattle.metrics_bucket.specs.declared.view.Visit.TheVariants.{Unseen, Marked,
 use Rattle.metrics_bucket.specs.BucketState.{total, BucketState, other, place_index, live_values, holding, holding_at, claiming, walks_made, look_to_settle, claim, look_to_read, look_to_clear, takes, state_after}
 use Rattle.metrics_bucket.specs.Facts.{given_at, ticket_in, ticket_at, is_open, owed_in, owed_at, turn_in, turn_of, took_in, took_of, weight_of, pushed_of, taken_of, wiped, wiped_visit, wiped_in, VisitFits, VisitsFit, HoldFits, ViewFits, Facts}
 use Rattle.metrics_bucket.proofs.Sums.{total_set, total_one, weigh-append, index_apart, index_below, here_or, same_here, same_else, given_here, given_else, open_new, below_over, stands_unmark}
-use Rattle.metrics_bucket.proofs.Keep.{other_side, turn_alone, owed_le, each_after}
+use Rattle.metrics_bucket.proofs.Keep.{other_side, turn_alone, owed_le, each_after, held_by, facts_beside}
 use Rattle.metrics_bucket.proofs.Visits.{open_kept, wiped_set, wiped_new, new_visit, length_new, other_next}
 
 given_none : (live s i : ℕ) → given_at live 0 s i ≡ 0
@@ -32,64 +32,14 @@ module _ (places all : ℕ) (w : BucketState) (id : ℕ) (v : View) (f : Facts p
   -- a step that changes no word, and in what the thread holds nothing that is counted
   pub keeps_hold : (epoch : ℕ) (hold : Hold) → ((s i : ℕ) → ticket_in s i hold ≡ ticket_in s i v.hold) → ((s i : ℕ) → owed_in s i hold ≡ owed_in s i v.hold) → turn_in hold ≡ turn_in v.hold → took_in hold ≡ took_in v.hold
       → ((h : ℕ → ℕ) → wiped h hold ≡ wiped h v.hold) → HoldFits places all (with_hold_at epoch hold) v.weight hold → Facts places all (with_hold_at epoch hold)
-  keeps_hold epoch hold ticket owed turn took wipes fits = let u : View = holding_at v epoch hold in record {
-    side = f.side;
-    room = f.room;
-    values_long = f.values_long;
-    marks_long = f.marks_long;
-    even = λ s i a b.
-        let x = f.even s i a b in
-        let t = total_set (ticket_at s i) w.views id v u at in
-        let t0 = ticket s i in
-        let o = total_set (owed_at s i) w.views id v u at in
-        let o0 = owed s i in
-        omega arith;
-    turns = let x = f.turns in let t = total_set turn_of w.views id v u at in omega arith;
-    one_turn = f.one_turn;
-    swaps = let t = total_set took_of w.views id v u at in let same_total : total took_of w.views ≡ total took_of (set w.views id u) = omega arith in
-        f.swaps ∙ ap (λ (n : ℕ). n % 2) same_total;
-    shares = let x = f.shares in let t = total_set weight_of w.views id v u at in omega arith;
-    bags = λ h.
-        let x = f.bags h in
-        let t = total_set (pushed_of h) w.views id v u at in
-        let k = total_set (taken_of h) w.views id v u at in
-        let k0 = wipes h in
-        omega arith;
-    each = each_after places all w (with_hold_at epoch hold) id v u f at has refl refl refl (λ h. omega arith) fits mine.reads
-        (λ j z n there _. (refl, omega arith))
-        (λ j z n there s i a b t. refl)
-        (λ j z n there s i a b t m. (m, refl));
-  }
+  keeps_hold epoch hold ticket owed turn took wipes fits =
+      facts_beside places all w (with_hold_at epoch hold) id v (holding_at v epoch hold) f at has refl refl refl refl (omega arith) refl refl refl (λ s i. let t = ticket s i in let o = owed s i in omega arith) (omega arith) f.one_turn
+      (λ h. let k = wipes h in omega arith) (λ h. omega arith) fits mine.reads
 
   pub claims : v.hold ≡ Nothing → w.turn ≡ 0 → Facts places all (state_after places w id v claim)
-  claims e free = let u : View = claiming v (walks_made w) in record {
-    side = f.side;
-    room = f.room;
-    values_long = f.values_long;
-    marks_long = f.marks_long;
-    even = λ s i a b.
-        let x = f.even s i a b in
-        let t = total_set (ticket_at s i) w.views id v u at in
-        let t0 : ticket_at s i v ≡ 0 = ap (ticket_in s i) e in
-        let o = total_set (owed_at s i) w.views id v u at in
-        let o0 : owed_at s i v ≡ 0 = ap (owed_in s i) e in
-        omega arith;
-    turns = let x = f.turns in let t = total_set turn_of w.views id v u at in let t0 : turn_of v ≡ 0 = ap turn_in e in omega arith;
-    one_turn = omega arith;
-    swaps = let t = total_set took_of w.views id v u at in let t0 : took_in v.hold ≡ 0 = ap took_in e in let same_total : total took_of w.views ≡ total took_of (set w.views id u) = omega arith in
-        f.swaps ∙ ap (λ (n : ℕ). n % 2) same_total;
-    shares = let x = f.shares in let t = total_set weight_of w.views id v u at in omega arith;
-    bags = λ h.
-        let x = f.bags h in
-        let t = total_set (pushed_of h) w.views id v u at in
-        let k = total_set (taken_of h) w.views id v u at in
-        let k0 : wiped h v.hold ≡ 0 = ap (wiped h) e in
-        omega arith;
-    each = each_after places all w (state_after places w id v claim) id v u f at has refl refl refl (λ h. omega arith) tt mine.reads
-        (λ j z n there turn. (refl, omega arith))
-        (λ j z n there s i a b t. refl)
-        (λ j z n there s i a b t m. (m, refl));
-  }
+  claims e free =
+      facts_beside places all w (state_after places w id v claim) id (holding v Nothing) (claiming v (walks_made w)) f (held_by w id v Nothing at e) has refl refl refl refl refl refl refl refl (λ s i. refl) (omega arith) (omega arith)
+      (λ h. refl) (λ h. omega arith) tt mine.reads
 
   pub surveys : v.hold ≡ Claimed → Facts places all (state_after places w id v look_to_read)
   surveys e = keeps_hold w.epoch (Reading w.live (replicate w.given Unseen))

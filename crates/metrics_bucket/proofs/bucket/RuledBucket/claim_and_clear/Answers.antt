@@ -7,7 +7,7 @@ use Rattle.metrics_bucket.specs.Places.{Reaches, Covers}
 use Rattle.metrics_bucket.specs.declared.view.Push.{Push}
 use Rattle.metrics_bucket.specs.declared.view.Walk.{Walk}
 use Rattle.metrics_bucket.specs.declared.view.Hold.TheVariants.{Nothing}
-use Rattle.metrics_bucket.proofs.AllowedWalks.{claims_turn, aims_side, takes_all}
+use Rattle.metrics_bucket.proofs.AllowedClaims.{claims_turn, aims_side, takes_all}
 use Rattle.metrics_bucket.proofs.Visits.{weigh_walks-append}
 use Rattle.metrics_bucket.proofs.WalkCode.{one_minus}
 use Rattle.metrics_bucket.proofs.bucket.RuledBucket.claim_and_clear.Goals as goal

@@ -5,7 +5,7 @@ use Rattle.metrics_bucket.specs.declared.view.Visit.TheVariants.{Unseen}
 use Rattle.metrics_bucket.specs.BucketState.{holding_at}
 use Rattle.metrics_bucket.specs.Places.{Reaches}
 use Rattle.metrics_bucket.specs.Steps.{Seated}
-use Rattle.metrics_bucket.proofs.AllowedWalks.{claims_turn, surveys_side}
+use Rattle.metrics_bucket.proofs.AllowedClaims.{claims_turn, surveys_side}
 use Rattle.metrics_bucket.proofs.bucket.RuledBucket.claim_and_look.Goals as goal
 
 abbrev Weighs : Seated → Type 0

@@ -1,5 +1,5 @@
 use Rattle.std.proofs.Common.{rules, ◌≡◌, ◌+◌, ◌*◌, arith}
-use Rattle.metrics_bucket.proofs.AllowedWalks.{quits_turn}
+use Rattle.metrics_bucket.proofs.AllowedLeaves.{quits_turn}
 use Rattle.metrics_bucket.proofs.bucket.RuledBucket.give_turn_back.Goals as goal
 
 pub store-requires : goal.store-requires

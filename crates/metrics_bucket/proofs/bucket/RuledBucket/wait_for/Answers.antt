@@ -4,7 +4,7 @@ use Rattle.metrics_bucket.specs.BucketState.{place_index}
 use Rattle.metrics_bucket.specs.History.{HasVisit}
 use Rattle.metrics_bucket.specs.Steps.{Seated}
 use Rattle.metrics_bucket.specs.WalkSteps.{IsMarkOf}
-use Rattle.metrics_bucket.proofs.AllowedWalks.{sees_mark, mark_word}
+use Rattle.metrics_bucket.proofs.AllowedVisits.{sees_mark, mark_word}
 use Rattle.metrics_bucket.proofs.bucket.RuledBucket.wait_for.Goals as goal
 
 pub load-requires : goal.load-requires

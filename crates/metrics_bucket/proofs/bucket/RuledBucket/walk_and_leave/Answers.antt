@@ -7,7 +7,7 @@ use Rattle.metrics_bucket.specs.Places.{Finds}
 use Rattle.metrics_bucket.specs.WalkedPlaces.{WalkKind, walking, with_walk}
 use Rattle.metrics_bucket.specs.declared.view.Hold.TheVariants.{Nothing}
 use Rattle.metrics_bucket.specs.declared.view.Visit.{Visit}
-use Rattle.metrics_bucket.proofs.AllowedWalks.{leaves_turn}
+use Rattle.metrics_bucket.proofs.AllowedLeaves.{leaves_turn}
 use Rattle.metrics_bucket.proofs.WalkCode.{can_leave, left_walk, left_weigh, with_walk_held, length_walking, visits_walking, covered, length_values}
 use Rattle.metrics_bucket.proofs.bucket.RuledBucket.walk_and_leave.Goals as goal
 

@@ -6,7 +6,7 @@ use Rattle.metrics_bucket.specs.BucketState.{side_of, visits_of}
 use Rattle.metrics_bucket.specs.History.{HasVisit}
 use Rattle.metrics_bucket.specs.WalkedPlaces.{WalkKind}
 use Rattle.metrics_bucket.specs.Steps.{Seated}
-use Rattle.metrics_bucket.proofs.AllowedWalks.{reads_value}
+use Rattle.metrics_bucket.proofs.AllowedVisits.{reads_value}
 use Rattle.metrics_bucket.proofs.WalkCode.{side_walking, has_walking, place_marked, place_read, place_walked}
 use Rattle.metrics_bucket.proofs.bucket.RuledBucket.walk_place.Goals as goal
 

@@ -4,7 +4,7 @@ use Rattle.metrics_bucket.specs.declared.view.Hold.{Hold}
 use Rattle.metrics_bucket.specs.declared.view.Visit.TheVariants.{Read}
 use Rattle.metrics_bucket.specs.History.{HasVisit}
 use Rattle.metrics_bucket.specs.WalkSteps.{IsMarkOf}
-use Rattle.metrics_bucket.proofs.AllowedWalks.{wipes_mark, mark_word}
+use Rattle.metrics_bucket.proofs.AllowedVisits.{wipes_mark, mark_word}
 use Rattle.metrics_bucket.proofs.walker.ClearerWalker.leave_place.Goals as goal
 
 pub store-requires : goal.store-requires
