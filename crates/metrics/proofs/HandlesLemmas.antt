@@ -15,7 +15,7 @@ use Rattle.metrics.specs.Meaning.{Meaning, Updates, is_kind, holds_at}
 use Rattle.metrics_names.specs.Refusals.{after_front, CanFollow}
 use Rattle.metrics.specs.Answering.{AllHeld, places, UpdatesAll, holds_all, UpdatesHandle}
 use Rattle.metrics_names.specs.Equality.{and_left, and_right, and_both}
-use Rattle.metrics.proofs.HistoryLemmas.{content_at-change_at}
+use Rattle.metrics.proofs.StayingLemmas.{content_at-change_at}
 
 pub default_same : {A : Type 0} (xs : List A) (i : ℕ) (d e : A) → i < length xs → get_or xs i d ≡ get_or xs i e
 default_same [] i d e lt = absurd (omega arith)

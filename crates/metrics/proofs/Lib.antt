@@ -1,6 +1,11 @@
 pub mod RowsLemmas
+pub mod EventsLemmas
 pub mod ContentLemmas
+pub mod StayingLemmas
+pub mod AddressLemmas
 pub mod HistoryLemmas
+pub mod RegisteringLemmas
+pub mod UpdatingLemmas
 pub mod AnsweringLemmas
 pub mod MeaningLemmas
 pub mod LayersLemmas
