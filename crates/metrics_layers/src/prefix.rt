@@ -52,7 +52,7 @@ pub fn dotted_name(alloc: Global, prefix: &str, name: &str) -> Result<KeyName, R
     text.push_str(prefix)?;
     text.push_str(".")?;
     text.push_str(name)?;
-    Ok(KeyName::from(Text::from(text)))
+    Ok(KeyName::from(text))
 }
 
 impl<R: Recorder> Layer<R> for PrefixLayer {

@@ -59,6 +59,18 @@ impl From<Text> for KeyName {
     }
 }
 
+impl From<String> for KeyName {
+    ghost use Rattle.std.specs.Prelude.{string_bytes};
+
+    ghost from_gives = { λ s n. n ≡ string_bytes s };
+
+    fn from(string: String) -> KeyName {
+        KeyName {
+            text: Text { string },
+        }
+    }
+}
+
 /// A name with labels. Keys are ordered by name, then by their labels one after another.
 ///
 /// A copy of a key shares its labels: it copies the name alone.
@@ -94,7 +106,7 @@ fn number_of(name: &KeyName, labels: &SharedItems<Label>) -> u64
     ensures { result ≡ key_number (record { name = name.now; labels = labels.now }) }
 {
     let mut state = FoldHasher::default();
-    state.write(name.as_str().as_bytes());
+    state.write(name.text.as_str().as_bytes());
     for label in labels.as_slice() {
         state.write(label.key().as_bytes());
         state.write(label.value().as_bytes());
@@ -164,7 +176,7 @@ impl Key {
     pub fn name(&self) -> &str
         ensures { result.now ≡ self.now.name }
     {
-        self.name.as_str()
+        self.name.text.as_str()
     }
 
     pub fn labels(&self) -> &[Label]

@@ -18,7 +18,7 @@ use std::marker::Model;
 /// It is made from a `String` and gives it back without taking memory. Texts are ordered by their bytes.
 #[derive(Drop)]
 pub struct Text {
-    string: String,
+    pub(crate) string: String,
 }
 
 impl Model for Text {
