@@ -1,3 +1,5 @@
 pub mod SeriesLemmas
 pub mod DescriptionsLemmas
-pub mod OrderLemmas
+pub mod AgreesLemmas
+pub mod ChangedLemmas
+pub mod AddedLemmas

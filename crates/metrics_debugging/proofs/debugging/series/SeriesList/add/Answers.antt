@@ -6,7 +6,8 @@ use Rattle.metrics.specs.Kinds.{of_kind}
 use Rattle.metrics_registry.specs.Held.{held}
 use Rattle.metrics_debugging.specs.declared.debugging.series.Numbered.{Numbered}
 use Rattle.metrics_debugging.specs.declared.debugging.series.Placed.{Placed}
-use Rattle.metrics_debugging.proofs.OrderLemmas.{unheld, all-added, agree-added, agree-kept}
+use Rattle.metrics_debugging.proofs.AgreesLemmas.{unheld}
+use Rattle.metrics_debugging.proofs.AddedLemmas.{all-added, agree-added, agree-kept}
 use Rattle.metrics_debugging.proofs.debugging.series.SeriesList.add.Goals as goal
 
 pub create-created-requires-clause-absent : goal.create-created-requires-clause-absent

@@ -3,7 +3,7 @@ use Rattle.std.specs.Option.{option_copied}
 use Rattle.metrics_names.specs.Names.{key_eq}
 use Rattle.metrics_registry.specs.Held.{held}
 use Rattle.metrics_debugging.specs.declared.debugging.series.Numbered.{Numbered}
-use Rattle.metrics_debugging.proofs.OrderLemmas.{number-found}
+use Rattle.metrics_debugging.proofs.AgreesLemmas.{number-found}
 use Rattle.metrics_debugging.proofs.debugging.series.SeriesList.find.Goals as goal
 
 pub returns-in-Some : goal.returns-in-Some

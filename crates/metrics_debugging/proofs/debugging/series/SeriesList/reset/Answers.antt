@@ -5,7 +5,8 @@ use Rattle.metrics.specs.Targets.{change_at}
 use Rattle.metrics_debugging.specs.DebuggingCells.{value_of, kind_of_value}
 use Rattle.metrics_debugging.specs.DebuggingOrder.{series_of}
 use Rattle.metrics_debugging.specs.DebuggingSeries.{series_at, tag}
-use Rattle.metrics_debugging.proofs.OrderLemmas.{made, reset-step, agree-changed, first-more, first-all, length-map}
+use Rattle.std.proofs.lemmas.List.{length-map}
+use Rattle.metrics_debugging.proofs.ChangedLemmas.{made, reset-step, agree-changed, first-more, first-all}
 use Rattle.metrics_debugging.proofs.debugging.series.SeriesList.reset.Goals as goal
 
 pub invariant_of-self : goal.invariant_of-self
@@ -50,5 +51,5 @@ loop-series-preserved c =
 pub returns : goal.returns
 returns c =
     let old = c.args.self.now in
-    let past : length (series_of old) ≤ c.loop-series.series = omega (arith, c.loop-series-test.false, c.len-series-end.ensures, old.order.ok.0, length-map (series_at old.by_key) old.order.items) in
+    let past : length (series_of old) ≤ c.loop-series.series = omega (arith, c.loop-series-test.false, c.len-series-end.ensures, old.order.ok.0, length-map old.order.items (series_at old.by_key)) in
     c.loop-series.invariant.values ∙ first-all c.loop-series.series (after_reset c.args.reset) (series_of old) past

@@ -1,7 +1,7 @@
 use Rattle.std.proofs.Common.{◌≡◌}
 use Rattle.metrics.specs.Book.{after_reset}
 use Rattle.metrics_debugging.specs.DebuggingOrder.{series_of}
-use Rattle.metrics_debugging.proofs.OrderLemmas.{first-changed}
+use Rattle.metrics_debugging.proofs.ChangedLemmas.{first-changed}
 use Rattle.metrics_debugging.proofs.debugging.series.SeriesList.reset.Given as goal
 
 abbrev pub invariant-loop-series : goal.invariant-loop-series

@@ -2,7 +2,7 @@ use Rattle.std.proofs.Common.{◌≡◌, ◌∙◌, ap, sym, Some, slice_get, ge
 use Rattle.std.proofs.lemmas.Option.{slice_get-get_or}
 use Rattle.metrics_names.specs.declared.kind.MetricKind.TheVariants.{Counter}
 use Rattle.metrics_debugging.specs.declared.debugging.series.Placed.{Placed}
-use Rattle.metrics_debugging.proofs.OrderLemmas.{entry-there}
+use Rattle.metrics_debugging.proofs.AgreesLemmas.{entry-there}
 use Rattle.metrics_debugging.proofs.debugging.series.SeriesList.rows.Goals as goal
 
 pub row-requires : goal.row-requires

@@ -2,7 +2,7 @@ use Rattle.std.proofs.Common.{◌≡◌, ◌<◌, ◌∙◌, length, arith, ap, 
 use Rattle.std.proofs.lemmas.Option.{slice_get_read}
 use Rattle.metrics_debugging.specs.DebuggingCells.{value_of, UpdatesValue}
 use Rattle.metrics_debugging.specs.DebuggingSeries.{tag}
-use Rattle.metrics_debugging.proofs.OrderLemmas.{made, update-step, agree-changed}
+use Rattle.metrics_debugging.proofs.ChangedLemmas.{made, update-step, agree-changed}
 use Rattle.metrics_debugging.proofs.debugging.series.SeriesList.update.Goals as goal
 
 pub invariant_of-self : goal.invariant_of-self
