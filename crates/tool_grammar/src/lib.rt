@@ -12,5 +12,5 @@ pub use calls::{call_of, key_of};
 pub use cuts::{behind, place_of, split_at_first, split_before};
 pub use error::RunError;
 pub use laws::one_call_at_most;
-pub use printing::text;
+pub use printing::write_answer;
 pub use words::{name_of, number_of, signed_number_of, update_of};

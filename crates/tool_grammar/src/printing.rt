@@ -1,11 +1,11 @@
 //! Answers to text.
-ghost use Rattle.std.specs.Prelude.{◌≡◌, ◌++◌, ◌∷◌, [], OnOk, IfOk, string_bytes};
+ghost use Rattle.std.specs.Prelude.{◌≡◌, ◌++◌, ◌∷◌, [], OnOk, codes, decimal, length, string_bytes};
 ghost use Rattle.tool_grammar.specs.Grammar.{kind_word, unit_word, name_word, label_words};
 ghost use Rattle.tool_grammar.specs.Printing.{samples_text, value_text, note_text, row_text, rows_text, text_of, refusal_text_of};
 ghost use Rattle.tool_grammar.specs.Printing.{book_of};
 
 use metrics::{Answer, Call, DebugValue, Label, MetricKind, Refused, Row, Text, Unit};
-use std::alloc::{AllocError, Global};
+use std::alloc::AllocError;
 
 fn kind_text(kind: MetricKind) -> &'static str
     ensures { result.now ≡ kind_word kind }
@@ -119,40 +119,48 @@ fn book_number(call: &Call) -> usize
     }
 }
 
-fn refusal_text(alloc: Global, refused: Refused) -> Result<String, AllocError>
-    ensures { IfOk result (λ t. string_bytes t ≡ refusal_text_of refused) }
+fn write_refusal(text: &mut String, refused: Refused) -> Result<(), AllocError>
+    ensures { OnOk result (string_bytes text.new ≡ string_bytes text.old ++ refusal_text_of refused) }
 {
     match refused {
-        Refused::Memory { acted } => format!(in alloc; "refused E1 memory, acted {acted}\n"),
-        Refused::NoSuchAddress => String::from_str(alloc, "refused E2 no such address\n"),
-        Refused::NoSuchBook => String::from_str(alloc, "refused E3 no such book\n"),
-        Refused::BadHandle => String::from_str(alloc, "refused E18 bad handle\n"),
+        Refused::Memory { acted } => writeln!(text, "refused E1 memory, acted {acted}"),
+        Refused::NoSuchAddress => text.push_str("refused E2 no such address\n"),
+        Refused::NoSuchBook => text.push_str("refused E3 no such book\n"),
+        Refused::BadHandle => text.push_str("refused E18 bad handle\n"),
     }
 }
 
-/// The text of an answer. `registers` is the number of register calls before it.
-pub fn text(
-    alloc: Global,
+fn write_registered(text: &mut String, number: usize, count: usize) -> Result<(), AllocError>
+    ensures { OnOk result (string_bytes text.new ≡ string_bytes text.old
+        ++ (codes "registered " ++ (decimal number ++ (32 ∷ (decimal count ++ 10 ∷ []))))) }
+{
+    writeln!(text, "registered {number} {count}")
+}
+
+fn write_snapshot(text: &mut String, book: usize, rows: &[Row]) -> Result<(), AllocError>
+    ensures { OnOk result (string_bytes text.new ≡ string_bytes text.old
+        ++ (codes "snapshot " ++ (decimal book ++ (32 ∷ (decimal (length rows.now) ++ (10 ∷ rows_text rows.now)))))) }
+{
+    let count = rows.len();
+    writeln!(text, "snapshot {book} {count}")?;
+    write_rows(text, rows)
+}
+
+/// Puts the text of an answer behind what `text` holds. `registers` is the number of register calls before it. Where there
+/// is no memory for it, its front may stand there.
+pub fn write_answer(
+    text: &mut String,
     registers: usize,
     call: &Call,
     answer: &Answer,
-) -> Result<String, AllocError>
-    ensures { IfOk result (λ t. string_bytes t ≡ text_of registers call.now answer.now) }
+) -> Result<(), AllocError>
+    ensures { OnOk result (string_bytes text.new ≡ string_bytes text.old ++ text_of registers call.now answer.now) }
 {
     match answer {
-        Answer::Described(count) => format!(in alloc; "described {count}\n"),
-        Answer::Registered(found) => {
-            let count = found.as_slice().len();
-            format!(in alloc; "registered {registers} {count}\n")
-        }
-        Answer::Updated(count) => format!(in alloc; "updated {count}\n"),
-        Answer::Snapshot(rows) => {
-            let book = book_number(call);
-            let count = rows.as_slice().len();
-            let mut text = format!(in alloc; "snapshot {book} {count}\n")?;
-            write_rows(&mut text, rows.as_slice())?;
-            Ok(text)
-        }
-        Answer::Refused(refused) => refusal_text(alloc, *refused),
+        Answer::Described(count) => writeln!(text, "described {count}"),
+        Answer::Registered(found) => write_registered(text, registers, found.as_slice().len()),
+        Answer::Updated(count) => writeln!(text, "updated {count}"),
+        Answer::Snapshot(rows) => write_snapshot(text, book_number(call), rows.as_slice()),
+        Answer::Refused(refused) => write_refusal(text, *refused),
     }
 }

@@ -17,7 +17,7 @@ use metrics_replay::answer_of;
 use std::alloc::Global;
 use std::io::{BufRead, Write};
 use std::marker::PhantomData;
-use tool_grammar::{RunError, call_of, text};
+use tool_grammar::{RunError, call_of, write_answer};
 use tool_stream::{LineMachine, Unanswered, run_lines};
 
 /// What an answer gives to a register call.
@@ -48,21 +48,12 @@ fn read_call(alloc: Global, handles: &mut Handles, line: &[u8]) -> Result<Call, 
 }
 
 /// Puts the text of an answer behind what `said` holds. `registers` is the number of register calls before it.
-fn say(
-    alloc: Global,
-    registers: usize,
-    call: &Call,
-    answer: &Answer,
-    said: &mut String,
-) -> Result<(), Unanswered>
+fn say(registers: usize, call: &Call, answer: &Answer, said: &mut String) -> Result<(), Unanswered>
     ensures { MatchResult result
         (λ _. string_bytes said.new ≡ string_bytes said.old ++ text_of registers call.now answer.now)
         (λ e. e ≡ Lost) }
 {
-    let Ok(whole) = text(alloc, registers, call, answer) else {
-        return Err(Unanswered::Lost);
-    };
-    match said.push_str(&whole) {
+    match write_answer(said, registers, call, answer) {
         Ok(()) => Ok(()),
         Err(_) => Err(Unanswered::Lost),
     }
@@ -91,7 +82,7 @@ impl<R: Recorder> LineMachine for CallLines<R> {
     ) -> Result<(), Unanswered> {
         let call = read_call(alloc, notes, line)?;
         let answer = answer_of(alloc, on, &call, notes.named(&call));
-        let said = say(alloc, notes.len(), &call, &answer, text);
+        let said = say(notes.len(), &call, &answer, text);
         notes.note(&call, addresses(answer));
         said
     }

@@ -1,0 +1,7 @@
+//! Tests of `tool_lines`, through what it hands out.
+//!
+//! They stand in a crate of their own: a crate with tests is proved twice.
+#![tactic(auto)]
+
+#[cfg(test)]
+mod lines;

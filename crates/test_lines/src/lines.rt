@@ -1,0 +1,507 @@
+//! The line program over readers and writers that are slow, or fail.
+
+use metrics_debugging::DebuggingRecorder;
+use std::alloc::Global;
+use std::cell::Cell;
+use std::io;
+use std::io::{BufReader, ErrorKind, Read, Write};
+use std::sync::Wait;
+use std::test::Fail;
+use std::thread::Threads;
+use tool_lines::{RunError, command, run, tree};
+
+const GOOD: &[u8] = b"book
+prefix app
+end
+describe counter hits count all hits
+register counter hits host=a
+increment 0 2
+increment 0 3
+snapshot 0
+snapshot 0
+";
+
+const GOOD_TEXT: &[u8] = b"described 1
+registered 0 1
+updated 1
+updated 1
+snapshot 0 1
+counter app.hits host=a unit count value 5 text all hits
+snapshot 0 1
+counter app.hits host=a unit count value 0 text all hits
+";
+
+const BAD: &[u8] = b"book\nend\nincrement 0 1\njump\n";
+
+const BAD_TEXT: &[u8] = b"refused E18 bad handle\n";
+
+// Gives at most three bytes a read, and fails at the read before which `left` is 0.
+#[derive(Drop)]
+struct FaultyReader<'a> {
+    rest: &'a [u8],
+    left: usize,
+}
+
+impl Read for FaultyReader<'_> {
+    fn read(&mut self, buf: &mut [u8]) -> io::Result<usize> {
+        if self.left == 0 {
+            return Err(io::Error::from(ErrorKind::Other));
+        }
+        self.left -= 1;
+        let n = buf.len().min(self.rest.len()).min(3);
+        buf[..n].copy_from_slice(&self.rest[..n]);
+        self.rest = &self.rest[n..];
+        Ok(n)
+    }
+}
+
+// Takes at most `most` bytes a write, and fails at the write before which `left` is 0, or at a flush. It notes how many bytes it
+// was offered at most.
+#[derive(Drop)]
+struct FaultyWriter {
+    held: Vec<u8>,
+    most: usize,
+    left: usize,
+    is_flush_good: bool,
+    offered: usize,
+}
+
+impl Write for FaultyWriter {
+    fn write(&mut self, buf: &[u8]) -> io::Result<usize> {
+        if self.left == 0 {
+            return Err(io::Error::from(ErrorKind::Other));
+        }
+        self.left -= 1;
+        self.offered = self.offered.max(buf.len());
+        let n = self.most.min(buf.len());
+        self.held.extend_from_slice(&buf[..n])?;
+        Ok(n)
+    }
+
+    fn flush(&mut self) -> io::Result<()> {
+        if self.is_flush_good {
+            Ok(())
+        } else {
+            Err(io::Error::from(ErrorKind::Other))
+        }
+    }
+}
+
+fn writer(alloc: Global, most: usize, left: usize, is_flush_good: bool) -> FaultyWriter {
+    FaultyWriter {
+        held: Vec::new(alloc),
+        most,
+        left,
+        is_flush_good,
+        offered: 0,
+    }
+}
+
+// What the program writes to its errors, and its status.
+fn told<R: Threads + Wait + Sync>(
+    rt: &R,
+    alloc: Global,
+    text: &[u8],
+    reads: usize,
+    output: &mut FaultyWriter,
+) -> io::Result<(Vec<u8>, u8)> {
+    let reader = FaultyReader {
+        rest: text,
+        left: reads,
+    };
+    let mut input = BufReader::with_capacity(alloc, 4, reader)?;
+    let mut errors = writer(alloc, 1000, 1000, true);
+    let status = command(rt, alloc, &["run"], &mut input, output, &mut errors);
+    let FaultyWriter { held, .. } = errors;
+    Ok((held, status))
+}
+
+// Whether the program stopped since the device failed, and a beginning of the text is out.
+fn is_cut<R: Threads + Wait + Sync>(
+    rt: &R,
+    alloc: Global,
+    text: &[u8],
+    reads: usize,
+    writes: usize,
+    whole: &[u8],
+) -> io::Result<bool> {
+    let mut output = writer(alloc, 1, writes, true);
+    let (errors, status) = told(rt, alloc, text, reads, &mut output)?;
+    let said = errors.as_slice() == b"device failed\n".as_slice();
+    Ok(status == 1 && said && whole.starts_with(&output.held))
+}
+
+#[test]
+fn each_read_fails(rt: HostRuntime) -> Result<(), Fail> {
+    for (text, whole, good) in [(GOOD, GOOD_TEXT, 0), (BAD, BAD_TEXT, 2)] {
+        let most = text.len() / 3 + 2;
+        let mut output = writer(rt.alloc(), 1, 1000, true);
+        let (_, status) = told(&rt, rt.alloc(), text, most, &mut output)?;
+        assert_eq!(rt; status, good);
+        assert_eq!(rt; output.held.as_slice(), whole);
+        for reads in 0..text.len() / 3 {
+            assert!(rt;
+                is_cut(&rt, rt.alloc(), text, reads, 1000, whole)?,
+                "at read {reads}"
+            );
+        }
+    }
+    Ok(())
+}
+
+#[test]
+fn each_write_fails(rt: HostRuntime) -> Result<(), Fail> {
+    for (text, whole) in [(GOOD, GOOD_TEXT), (BAD, BAD_TEXT)] {
+        for writes in 0..whole.len() {
+            assert!(rt;
+                is_cut(&rt, rt.alloc(), text, 1000, writes, whole)?,
+                "at write {writes}"
+            );
+        }
+    }
+    Ok(())
+}
+
+#[test]
+fn the_flush_fails(rt: HostRuntime) -> Result<(), Fail> {
+    let before: &[u8] = b"book\njump\n";
+    for (text, whole) in [(GOOD, GOOD_TEXT), (BAD, BAD_TEXT), (before, b"".as_slice())] {
+        let mut output = writer(rt.alloc(), 1000, 1000, false);
+        let (errors, status) = told(&rt, rt.alloc(), text, 1000, &mut output)?;
+        assert_eq!(rt; errors.as_slice(), b"device failed\n".as_slice());
+        assert_eq!(rt; status, 1);
+        assert_eq!(rt; output.held.as_slice(), whole);
+    }
+    Ok(())
+}
+
+// What the program writes, what it writes to its errors, and its status.
+fn whole_run<R: Threads + Wait + Sync>(
+    rt: &R,
+    alloc: Global,
+    words: &[&str],
+    output: &mut FaultyWriter,
+) -> (Vec<u8>, u8) {
+    let mut input = GOOD;
+    let mut errors = writer(alloc, 1, 1000, true);
+    let status = command(rt, alloc, words, &mut input, output, &mut errors);
+    let FaultyWriter { held, .. } = errors;
+    (held, status)
+}
+
+// Words that ask for nothing.
+const WRONG: [&[&str]; 45] = [
+    &[],
+    &["walk"],
+    &[""],
+    &["run", "run"],
+    &["storm"],
+    &["storm", "1", "1"],
+    &["storm", "1", "1", "1", "1"],
+    &["stormy", "1", "1", "1"],
+    &["storm", "0", "1", "1"],
+    &["storm", "65", "1", "1"],
+    &["storm", "1", "1000001", "1"],
+    &["storm", "1", "1", "0"],
+    &["storm", "1", "1", "1025"],
+    &["storm", "01", "1", "1"],
+    &["storm", "1", "-1", "1"],
+    &["storm", "1", "1", "one"],
+    &["storm", "-0", "1", "1"],
+    &["storm", "1", "-0", "1"],
+    &["storm", "1", "00", "1"],
+    &["storm", "1", "1", "01"],
+    &["storm", "18446744073709551617", "1", "1"],
+    &["storm", "1", "1", "18446744073709551617"],
+    &["storm", "1", "1", "1", "grows"],
+    &["storm", "1", "1", "1", "grow", "grow"],
+    &["export"],
+    &["export", "1", "c", "5"],
+    &["export", "1", "c", "5", "10", "10"],
+    &["exports", "1", "c", "5", "10"],
+    &["export", "0", "c", "5", "10"],
+    &["export", "3", "c", "5", "10"],
+    &["export", "2048", "c", "5", "10"],
+    &["export", "01", "c", "5", "10"],
+    &["export", "-1", "c", "5", "10"],
+    &["export", "1", "", "5", "10"],
+    &["export", "1", "gc", "5", "10"],
+    &["export", "1", "cc", "5", "10"],
+    &["export", "1", "x", "5", "10"],
+    &["export", "1", "c", "", "10"],
+    &["export", "1", "c", "-1", "10"],
+    &["export", "1", "c", "18446744073709551616", "10"],
+    &["export", "1", "c", "5", ""],
+    &["export", "1", "c", "5", "10,"],
+    &["export", "1", "c", "5", ",10"],
+    &["export", "1", "c", "5", "10,-0"],
+    &["export", "1", "c", "5", "9223372036854775808"],
+];
+
+#[test]
+fn wrong_words(rt: HostRuntime) -> Result<(), Fail> {
+    for words in WRONG {
+        let mut output = writer(rt.alloc(), 1000, 1000, true);
+        let (errors, status) = whole_run(&rt, rt.alloc(), words, &mut output);
+        assert_eq!(rt; status, 2);
+        assert_eq!(rt; output.held.as_slice(), b"".as_slice());
+        assert_eq!(rt;
+            errors.as_slice(),
+            b"usage: metrics_tool run | storm P V B [grow] | export S M T B\n".as_slice()
+        );
+    }
+    Ok(())
+}
+
+// Words that ask for a storm, and its lines.
+const STORMS: [(&[&str], &str); 5] = [
+    (
+        &["storm", "2", "100", "1"],
+        "pushed 200 sum 9900\nfound 200 sum 9900\nsampled 16 of 200 sum 9900\n",
+    ),
+    (
+        &["storm", "1", "0", "1"],
+        "pushed 0 sum 0\nfound 0 sum 0\nsampled 0 of 0 sum 0\n",
+    ),
+    (
+        &["storm", "64", "3", "1024"],
+        "pushed 192 sum 192\nfound 192 sum 192\nsampled 16 of 192 sum 192\n",
+    ),
+    (
+        &["storm", "5", "3", "1"],
+        "pushed 15 sum 15\nfound 15 sum 15\nsampled 15 of 15 sum 15\n",
+    ),
+    (
+        &["storm", "2", "100", "1", "grow"],
+        "pushed 200 sum 9900\nfound 200 sum 9900\nsampled 16 of 200 sum 9900\n",
+    ),
+];
+
+#[test]
+fn storms(rt: HostRuntime) -> Result<(), Fail> {
+    for (words, want) in STORMS {
+        let mut output = writer(rt.alloc(), 7, 1000, true);
+        let (errors, status) = whole_run(&rt, rt.alloc(), words, &mut output);
+        assert_eq!(rt; status, 0);
+        assert_eq!(rt; output.held.as_slice(), want.as_bytes());
+        assert_eq!(rt; errors.as_slice(), b"".as_slice());
+    }
+    Ok(())
+}
+
+#[test]
+fn a_storm_whose_writer_fails(rt: HostRuntime) -> Result<(), Fail> {
+    let whole = b"pushed 3 sum 3\nfound 3 sum 3\nsampled 3 of 3 sum 3\n".as_slice();
+    for (writes, is_flush_good) in [(0, true), (1, true), (9, true), (1000, false)] {
+        let mut output = writer(rt.alloc(), 5, writes, is_flush_good);
+        let words = ["storm", "1", "3", "1"];
+        let (errors, status) = whole_run(&rt, rt.alloc(), &words, &mut output);
+        assert_eq!(rt; status, 1);
+        assert!(rt; whole.starts_with(&output.held));
+        assert_eq!(rt; errors.as_slice(), b"device failed\n".as_slice());
+    }
+    Ok(())
+}
+
+#[test]
+fn faults_of_errors_are_ignored(rt: HostRuntime) -> Result<(), Fail> {
+    let mut input = BAD;
+    let mut output = writer(rt.alloc(), 1000, 1000, true);
+    let mut errors = writer(rt.alloc(), 1000, 0, false);
+    let status = command(
+        &rt,
+        rt.alloc(),
+        &["run"],
+        &mut input,
+        &mut output,
+        &mut errors,
+    );
+    assert_eq!(rt; status, 2);
+    assert_eq!(rt; output.held.as_slice(), BAD_TEXT);
+    Ok(())
+}
+
+// What a run over a new book answers, from a line on.
+fn answered(alloc: Global, text: &[u8], first: u64) -> Result<Result<u64, RunError>, Fail> {
+    let mut book = DebuggingRecorder::new(alloc)?;
+    let mut input = text;
+    let mut output = writer(alloc, 1000, 1000, true);
+    Ok(run(alloc, &mut book, &mut input, &mut output, first))
+}
+
+#[test]
+fn numbers_of_lines_stop(rt: HostRuntime) -> Result<(), Fail> {
+    let bad = b"snapshot 0\nsnapshot 0\njump\n".as_slice();
+    for (first, number) in [
+        (1, 3),
+        (u64::MAX - 3, u64::MAX - 1),
+        (u64::MAX - 2, u64::MAX),
+        (u64::MAX - 1, u64::MAX),
+        (u64::MAX, u64::MAX),
+    ] {
+        let found = answered(rt.alloc(), bad, first)?;
+        assert_eq!(rt; found, Err(RunError::BadLine(number)));
+    }
+    let found = answered(rt.alloc(), b"snapshot 0\nsnapshot 7".as_slice(), u64::MAX)?;
+    assert_eq!(rt; found, Ok(2));
+    Ok(())
+}
+
+#[test]
+fn a_tree_is_read_up_to_its_end(rt: HostRuntime) -> Result<(), Fail> {
+    let mut input = b"book\nprefix a\nend\nsnapshot 0\n".as_slice();
+    let Ok((mut books, first)) = tree(rt.alloc(), &mut input) else {
+        return Err(Fail::from("no tree"));
+    };
+    assert_eq!(rt; first, 4);
+    let mut output = writer(rt.alloc(), 1000, 1000, true);
+    let found = run(rt.alloc(), &mut books, &mut input, &mut output, first);
+    assert_eq!(rt; found, Ok(1));
+    assert_eq!(rt; output.held.as_slice(), b"snapshot 0 0\n".as_slice());
+    Ok(())
+}
+
+#[test]
+fn texts_of_errors(rt: HostRuntime) -> Result<(), Fail> {
+    let texts = [
+        (RunError::Memory(Some(7)), "line 7: memory"),
+        (RunError::Memory(None), "memory"),
+        (
+            RunError::BadLine(u64::MAX),
+            "line 18446744073709551615: bad line",
+        ),
+        (RunError::Device, "device failed"),
+    ];
+    for (error, want) in texts {
+        let text = format!(in rt.alloc(); "{error}")?;
+        assert_eq!(rt; text.as_str(), want);
+    }
+    Ok(())
+}
+
+// A fanout takes at most 65,536 recorders, of which none needs to be a book.
+#[test]
+fn fanouts_of_many_noops(rt: HostRuntime) -> Result<(), Fail> {
+    let mut nodes = Vec::new(rt.alloc());
+    for _ in 0..65_537 {
+        nodes.extend_from_slice(b"noop\n")?;
+    }
+    let cases: [(&[u8], u8); 2] = [
+        (b"fanout 65536\nfanout 2\nend\n", 0),
+        (b"fanout 65537\nend\n", 2),
+    ];
+    for (tail, want) in cases {
+        let mut text = Vec::from_slice(rt.alloc(), &nodes)?;
+        text.extend_from_slice(tail)?;
+        let mut input = text.as_slice();
+        let mut output = writer(rt.alloc(), 1000, 1000, true);
+        let mut errors = writer(rt.alloc(), 1000, 1000, true);
+        let status = command(
+            &rt,
+            rt.alloc(),
+            &["run"],
+            &mut input,
+            &mut output,
+            &mut errors,
+        );
+        assert_eq!(rt; status, want);
+    }
+    Ok(())
+}
+
+// Lines, each of 11 bytes; each has the answer `snapshot 0 0`, of 13 bytes with its line feed.
+const TYPED: &[u8] = b"snapshot 0\nsnapshot 0\nsnapshot 0\nsnapshot 0\nsnapshot 0\n";
+
+// Gives at most `most` bytes a read, and notes where an answer to a line that it gave is not out by then.
+#[derive(Drop)]
+struct Typist<'a> {
+    rest: &'a [u8],
+    most: usize,
+    out: &'a Cell<usize>,
+    is_kept_waiting: &'a Cell<bool>,
+}
+
+impl Read for Typist<'_> {
+    fn read(&mut self, buf: &mut [u8]) -> io::Result<usize> {
+        let lines = TYPED.len().saturating_sub(self.rest.len()) / 11;
+        if self.out.get() < lines.saturating_mul(13) {
+            self.is_kept_waiting.set(true);
+        }
+        let n = buf.len().min(self.rest.len()).min(self.most);
+        buf[..n].copy_from_slice(&self.rest[..n]);
+        self.rest = &self.rest[n..];
+        Ok(n)
+    }
+}
+
+// Takes all bytes, and counts them.
+#[derive(Drop)]
+struct Screen<'a> {
+    out: &'a Cell<usize>,
+}
+
+impl Write for Screen<'_> {
+    fn write(&mut self, buf: &[u8]) -> io::Result<usize> {
+        self.out.set(self.out.get().saturating_add(buf.len()));
+        Ok(buf.len())
+    }
+
+    fn flush(&mut self) -> io::Result<()> {
+        Ok(())
+    }
+}
+
+#[test]
+fn answers_are_out_before_a_read(rt: HostRuntime) -> Result<(), Fail> {
+    for most in [1, 3, 11, 16, 22, 30, 1000] {
+        let out = Cell::new(0);
+        let is_kept_waiting = Cell::new(false);
+        let typist = Typist {
+            rest: TYPED,
+            most,
+            out: &out,
+            is_kept_waiting: &is_kept_waiting,
+        };
+        let mut input = BufReader::new(rt.alloc(), typist)?;
+        let mut book = DebuggingRecorder::new(rt.alloc())?;
+        let found = run(
+            rt.alloc(),
+            &mut book,
+            &mut input,
+            &mut Screen { out: &out },
+            1,
+        );
+        assert_eq!(rt; found, Ok(5));
+        assert_eq!(rt; out.get(), 65);
+        assert!(rt; !is_kept_waiting.get(), "{most} bytes a read");
+    }
+    Ok(())
+}
+
+#[test]
+fn lines_at_hand_are_answered_by_one_write(rt: HostRuntime) -> Result<(), Fail> {
+    let mut book = DebuggingRecorder::new(rt.alloc())?;
+    let mut input = TYPED;
+    let mut output = writer(rt.alloc(), 1000, 1, true);
+    let found = run(rt.alloc(), &mut book, &mut input, &mut output, 1);
+    assert_eq!(rt; found, Ok(5));
+    assert_eq!(rt; output.held.len(), 65);
+    Ok(())
+}
+
+// What waits is less than a block of 8192 bytes, and an answer behind it. So answers of 13 bytes leave in pieces of 631, which
+// are 8203 bytes, and there are four pieces.
+#[test]
+fn many_answers_are_written_in_blocks(rt: HostRuntime) -> Result<(), Fail> {
+    let mut text = Vec::new(rt.alloc());
+    for _ in 0..400 {
+        text.extend_from_slice(TYPED)?;
+    }
+    let mut book = DebuggingRecorder::new(rt.alloc())?;
+    let mut input = text.as_slice();
+    let mut output = writer(rt.alloc(), 10_000, 4, true);
+    let found = run(rt.alloc(), &mut book, &mut input, &mut output, 1);
+    assert_eq!(rt; found, Ok(2000));
+    assert_eq!(rt; (output.held.len(), output.offered), (26_000, 8203));
+    Ok(())
+}
