@@ -22,40 +22,44 @@ fn handle(alloc: Global, places: &[(usize, usize)]) -> Result<Counter, AllocErro
 }
 
 /// A handle that goes past the only book, and one that names a gauge.
-fn bad_handles(alloc: Global) -> Result<[Counter; 2], AllocError> {
-    Ok([handle(alloc, &[(0, 0), (1, 0)])?, handle(alloc, &[(0, 1)])?])
-}
+const BAD: [&[(usize, usize)]; 2] = [&[(0, 0), (1, 0)], &[(0, 1)]];
 
-/// A book with the counter 0 and the gauge 1.
-fn with_two<B: Recorder>(alloc: Global, mut book: B) -> Result<B, Fail> {
+/// Gives a book the counter 0 and the gauge 1.
+fn register_two<B: Recorder>(alloc: Global, book: &mut B) -> Result<(), Refused> {
     for kind in [MetricKind::Counter, MetricKind::Gauge] {
         book.register(alloc, kind, &key(alloc, "a")?)?;
-    }
-    Ok(book)
-}
-
-/// That the values of the two series are 0.
-fn expect_nothing<B: Recorder>(rt: &impl Abort, alloc: Global, mut book: B) -> Result<(), Fail> {
-    let rows = book.snapshot(alloc, 0)?.into_vec();
-    assert_eq!(rt; rows.len(), 2);
-    for row in &rows {
-        let is_nothing = match &row.3 {
-            DebugValue::Counter(n) => *n == 0,
-            DebugValue::Gauge(n) => *n == 0,
-            DebugValue::Histogram(_) => false,
-        };
-        assert!(rt; is_nothing);
     }
     Ok(())
 }
 
-fn expect_shared<R: Abort + Wait, B: Recorder>(rt: &R, alloc: Global, book: B) -> Result<(), Fail> {
-    let shared = Shared::new(with_two(alloc, book)?);
-    for counter in &bad_handles(alloc)? {
+/// Whether the values of the two series are 0.
+fn is_nothing<B: Recorder>(alloc: Global, mut book: B) -> Result<bool, Refused> {
+    let snapshot = book.snapshot(alloc, 0)?;
+    let mut is_nothing = snapshot.as_slice().len() == 2;
+    for row in snapshot.as_slice() {
+        is_nothing = is_nothing
+            && match &row.3 {
+                DebugValue::Counter(n) => *n == 0,
+                DebugValue::Gauge(n) => *n == 0,
+                DebugValue::Histogram(_) => false,
+            };
+    }
+    Ok(is_nothing)
+}
+
+fn expect_shared<R: Abort + Wait, B: Recorder>(
+    rt: &R,
+    alloc: Global,
+    shared: &Shared<B>,
+) -> Result<(), Fail> {
+    shared.with(rt, |book| register_two(alloc, book))?;
+    for places in BAD {
+        let counter = handle(alloc, places)?;
         let answer = shared.with(rt, |book| counter.increment(book, 1));
         assert_eq!(rt; answer, Err(Refused::NoSuchAddress));
     }
-    expect_nothing(rt, alloc, shared.into_inner())
+    assert_eq!(rt; shared.with(rt, |book| book.books()), 1);
+    Ok(())
 }
 
 fn expect_slot<R: Abort + Wait, B: Recorder>(
@@ -63,27 +67,34 @@ fn expect_slot<R: Abort + Wait, B: Recorder>(
     alloc: Global,
     slot: &SlotRecorder<B>,
 ) -> Result<(), Fail> {
-    for counter in &bad_handles(alloc)? {
+    slot.with(rt, |book| register_two(alloc, book))
+        .ok_or("no book")??;
+    for places in BAD {
+        let counter = handle(alloc, places)?;
         let answer = slot.with(rt, |book| counter.increment(book, 1));
         assert_eq!(rt; answer, Some(Err(Refused::NoSuchAddress)));
     }
     Ok(())
 }
 
-fn expect_recovered<R: Abort + Wait, B: Recorder>(
+fn expect_unchanged<R: Abort + Wait, B: Recorder>(
     rt: &R,
     alloc: Global,
     book: B,
+    other: B,
 ) -> Result<(), Fail> {
-    let built = RecoverableRecorder::new(with_two(alloc, book)?).build(rt, alloc);
+    let shared = Shared::new(book);
+    expect_shared(rt, alloc, &shared)?;
+    assert!(rt; is_nothing(alloc, shared.into_inner())?);
+    let built = RecoverableRecorder::new(other).build(rt, alloc);
     let (slot, handle) = built.ok().ok_or("memory")?;
     expect_slot(rt, alloc, &slot)?;
-    expect_nothing(rt, alloc, handle.into_inner(rt)?)
+    assert!(rt; is_nothing(alloc, handle.into_inner(rt)?)?);
+    Ok(())
 }
 
 #[test]
 fn a_bad_handle_changes_nothing_under_a_lock(rt: HostRuntime) -> Result<(), Fail> {
-    let alloc = rt.alloc();
-    expect_shared(&rt, alloc, DebuggingRecorder::new(alloc)?)?;
-    expect_recovered(&rt, alloc, DebuggingRecorder::new(alloc)?)
+    let book = DebuggingRecorder::new(rt.alloc())?;
+    expect_unchanged(&rt, rt.alloc(), book, DebuggingRecorder::new(rt.alloc())?)
 }

@@ -1,9 +1,8 @@
-//! Cells, each filled once.
+//! Cells that are filled with a recorder.
 
-use crate::books::{count, expect_count, key};
-use metrics::{Key, KeyName, MetricKind, Recorder, Refused};
+use crate::books::{count, key};
+use metrics::{DebugValue, Key, MetricKind, Recorder};
 use metrics_debugging::DebuggingRecorder;
-use metrics_layers::Stack;
 use metrics_shared::{Install, RecoverableRecorder, SetRecorderError, SlotRecorder};
 use std::alloc::Global;
 use std::process::Abort;
@@ -11,73 +10,32 @@ use std::sync::{OnceLock, Wait};
 use std::test::Fail;
 use std::thread::{Threads, join};
 
-/// That the first recorder goes into a new cell, and a second one comes back from it as it was.
-fn expect_installed<R: Abort + Wait, B: Recorder>(
+/// That a recorder is found in the cell that it was put into.
+fn expect_found<R: Abort + Wait, B: Recorder>(
     rt: &R,
     alloc: Global,
-    first: Result<B, Refused>,
-    second: Result<B, Refused>,
+    mut book: B,
 ) -> Result<(), Fail> {
-    let (first, mut second) = (first?, second?);
+    count(alloc, &mut book, 3)?;
     let cell = OnceLock::new();
-    assert!(rt; first.install(rt, &cell).is_ok());
-    count(alloc, &mut second, 3)?;
-    let Err(SetRecorderError::Taken(second)) = second.install(rt, &cell) else {
-        return Err("installed twice".into());
-    };
-    expect_count(rt, alloc, second, 3)?;
-    let taken = SetRecorderError::Taken(alloc);
-    assert_eq!(rt;
-        format!(in alloc; "{taken}: {taken:?}")?.as_str(),
-        "a recorder is installed already: Taken(..)"
-    );
-    let installed = cell.get().ok_or("no recorder")?;
-    assert_eq!(rt; installed.snapshot(rt, alloc, 0)?.as_slice().len(), 0);
+    assert!(rt; book.install(rt, &cell).is_ok());
+    let found = cell.get().ok_or("no recorder")?;
+    let snapshot = found.snapshot(rt, alloc, 0)?;
+    let row = snapshot.as_slice().first().ok_or("no row")?;
+    assert!(rt; row.3 == DebugValue::Counter(3));
     Ok(())
 }
 
-fn expect_recoverable<R: Abort + Wait, B: Recorder>(
-    rt: &R,
-    alloc: Global,
-    first: Result<B, Refused>,
-    second: Result<B, Refused>,
-) -> Result<(), Fail> {
-    let (first, mut second) = (first?, second?);
-    let cell = OnceLock::new();
-    let handle = RecoverableRecorder::new(first).install(rt, alloc, &cell);
-    let handle = handle.ok().ok_or("not installed")?;
-    count(alloc, &mut second, 3)?;
-    let Err(SetRecorderError::Taken(second)) = RecoverableRecorder::new(second).install(
-        rt, alloc, &cell,
-    ) else {
-        return Err("installed twice".into());
-    };
-    expect_count(rt, alloc, second, 3)?;
-    let slot = cell.get().ok_or("no recorder")?;
-    let name = KeyName::new(alloc, "c")?;
-    assert_eq!(rt;
-        slot.describe(rt, alloc, MetricKind::Counter, &name, None, "t")?,
-        1
-    );
-    let found = slot.register(rt, alloc, MetricKind::Counter, &key(alloc, "c")?)?;
-    assert_eq!(rt; found.len(), 1);
-    expect_count(rt, alloc, handle.into_inner(rt)?, 0)
-}
-
-fn book(alloc: Global) -> Result<DebuggingRecorder, Refused> {
-    DebuggingRecorder::new(alloc)
-}
-
-fn stack(alloc: Global) -> Result<Stack<DebuggingRecorder>, Refused> {
-    Ok(Stack::new(book(alloc)?))
-}
-
 #[test]
-fn a_recorder_is_installed_once(rt: HostRuntime) -> Result<(), Fail> {
+fn an_installed_recorder_is_found(rt: HostRuntime) -> Result<(), Fail> {
     let alloc = rt.alloc();
-    expect_installed(&rt, alloc, book(alloc), book(alloc))?;
-    expect_installed(&rt, alloc, stack(alloc), stack(alloc))?;
-    expect_recoverable(&rt, alloc, book(alloc), book(alloc))
+    let taken = SetRecorderError::Taken(alloc);
+    let printed = format!(in alloc; "{taken}: {taken:?}")?;
+    assert_eq!(&rt;
+        printed.as_str(),
+        "a recorder is installed already: Taken(..)"
+    );
+    expect_found(&rt, alloc, DebuggingRecorder::new(alloc)?)
 }
 
 /// How many targets a register call meets that is made as soon as the cell is filled.

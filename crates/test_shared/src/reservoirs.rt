@@ -42,56 +42,28 @@ fn consumed<R: Wait, G: Rng + Drop>(rt: &R, reservoir: &AtomicSamplingReservoir<
     told
 }
 
-/// Pushes and consumes by turns, and what each drain tells.
-fn expect_turns<R: Abort + Wait>(
-    rt: &R,
+/// A new reservoir of this size.
+fn sampling(
     alloc: Global,
     size: usize,
-    turns: &[(i64, Told)],
-) -> Result<(), Fail> {
-    let reservoir = AtomicSamplingReservoir::new(
-        alloc,
-        size,
-        Xoshiro256StarStar::seed_from_u64(1),
-    )?;
-    for (values, want) in turns {
-        assert!(rt; reservoir.is_empty(rt));
-        push_all(rt, &reservoir, *values)?;
-        assert_eq!(rt; reservoir.is_empty(rt), *values == 0);
-        assert!(rt; consumed(rt, &reservoir) == *want);
-    }
-    Ok(())
+    seed: u64,
+) -> Result<AtomicSamplingReservoir<Xoshiro256StarStar>, Error> {
+    AtomicSamplingReservoir::new(alloc, size, Xoshiro256StarStar::seed_from_u64(seed))
 }
 
 #[test]
-fn drains_tell_what_was_pushed(rt: HostRuntime) -> Result<(), Fail> {
-    let alloc = rt.alloc();
-    expect_turns(
-        &rt,
-        alloc,
-        64,
-        &[(0, (0, 0, (1, 1), 0)), (10, (10, 45, (1, 1), 10))],
-    )?;
-    expect_turns(&rt, alloc, 16, &[(1000, (1000, 499500, (16, 1000), 16))])?;
-    expect_turns(
-        &rt,
-        alloc,
-        64,
-        &[
-            (100, (100, 4950, (64, 100), 64)),
-            (50, (50, 1225, (1, 1), 50)),
-        ],
-    )?;
-    expect_turns(&rt, alloc, 0, &[(3, (3, 3, (0, 3), 0))])
+fn a_reservoir_without_room_counts(rt: HostRuntime) -> Result<(), Fail> {
+    let reservoir = sampling(rt.alloc(), 0, 1)?;
+    assert!(&rt; reservoir.is_empty(&rt));
+    push_all(&rt, &reservoir, 3)?;
+    assert!(&rt; !reservoir.is_empty(&rt));
+    assert!(&rt; consumed(&rt, &reservoir) == (3, 3, (0, 3), 0));
+    Ok(())
 }
 
 /// The value that a reservoir of size 1 holds after 1 and 2 were pushed.
 fn held<R: Wait>(rt: &R, alloc: Global, seed: u64) -> Result<i64, Error> {
-    let reservoir = AtomicSamplingReservoir::new(
-        alloc,
-        1,
-        Xoshiro256StarStar::seed_from_u64(seed),
-    )?;
+    let reservoir = sampling(alloc, 1, seed)?;
     reservoir.push(rt, 1)?;
     reservoir.record(rt, 2)?;
     let mut held = 0;
@@ -114,11 +86,7 @@ fn shared_reservoir_draws_the_whole_range(rt: HostRuntime) -> Result<(), Fail> {
 
 #[test]
 fn values_pushed_meanwhile_stay(rt: HostRuntime) -> Result<(), Fail> {
-    let reservoir = AtomicSamplingReservoir::new(
-        rt.alloc(),
-        4,
-        Xoshiro256StarStar::seed_from_u64(1),
-    )?;
+    let reservoir = sampling(rt.alloc(), 4, 1)?;
     push_all(&rt, &reservoir, 3)?;
     let mut is_pushed = false;
     reservoir.consume(&rt, |_drain| is_pushed = reservoir.push(&rt, 9).is_ok());
@@ -129,11 +97,7 @@ fn values_pushed_meanwhile_stay(rt: HostRuntime) -> Result<(), Fail> {
 
 #[test]
 fn a_forgotten_drain_empties(rt: HostRuntime) -> Result<(), Fail> {
-    let reservoir = AtomicSamplingReservoir::new(
-        rt.alloc(),
-        4,
-        Xoshiro256StarStar::seed_from_u64(1),
-    )?;
+    let reservoir = sampling(rt.alloc(), 4, 1)?;
     push_all(&rt, &reservoir, 3)?;
     reservoir.consume(&rt, |drain| mem::forget(drain));
     assert!(&rt; consumed(&rt, &reservoir) == (0, 0, (1, 1), 0));
@@ -181,11 +145,7 @@ fn expect_all<R: Abort + Threads + Wait + Sync, G: Rng + Drop + Send>(
 
 #[test]
 fn four_threads_push_while_one_consumes(rt: HostRuntime) -> Result<(), Fail> {
-    let reservoir = AtomicSamplingReservoir::new(
-        rt.alloc(),
-        16,
-        Xoshiro256StarStar::seed_from_u64(1),
-    )?;
+    let reservoir = sampling(rt.alloc(), 16, 1)?;
     expect_all(&rt, rt.alloc(), &reservoir)
 }
 
@@ -232,11 +192,7 @@ fn step_of_the_second<R: Threads + Wait + Sync, G: Rng + Drop + Send>(
 
 #[test]
 fn second_consume_waits_for_the_first(rt: HostRuntime) -> Result<(), Fail> {
-    let reservoir = AtomicSamplingReservoir::new(
-        rt.alloc(),
-        4,
-        Xoshiro256StarStar::seed_from_u64(1),
-    )?;
+    let reservoir = sampling(rt.alloc(), 4, 1)?;
     assert_eq!(&rt; step_of_the_second(&rt, &reservoir), 3);
     Ok(())
 }

@@ -1,15 +1,18 @@
 //! Cells, used as what they hold.
 
-use crate::given::Cells;
-use metrics::{Error, Key};
+use metrics::Key;
+use metrics_bucket::AtomicBucket;
 use metrics_cells::{CounterFn, GaugeFn, HistogramFn};
 use metrics_registry::{Counted, Generation};
 use metrics_shared_registry::{Generational, Registry};
 use std::alloc::Global;
 use std::process::Abort;
-use std::sync::Wait;
 use std::sync::atomic::{AtomicU64, Ordering};
+use std::sync::{Arc, Wait};
 use std::test::Fail;
+
+/// The histogram's cell of a registry.
+type Samples = Arc<AtomicBucket<i64>>;
 
 /// A histogram that refuses every sample.
 #[derive(Drop)]
@@ -80,28 +83,28 @@ fn each_call_raises_the_generation_by_one_once_it_ran(rt: HostRuntime) -> Result
     expect_before(&rt, alloc)
 }
 
-/// Records a number of samples in a histogram of a registry, and answers how many were refused.
-fn refused<W: Wait>(rt: &W, registry: &Cells, key: &Key, samples: i64) -> Result<u64, Error> {
+/// Records a number of samples, and answers how many were refused.
+fn refused<W: Wait>(rt: &W, cell: &Samples, samples: i64) -> u64 {
     let mut refused = 0u64;
     for sample in 0..samples {
-        let kept = registry.get_or_create_histogram(rt, key, |cell| cell.record(rt, sample))?;
-        refused = refused.saturating_add(u64::from(kept.is_err()));
+        refused = refused.saturating_add(u64::from(cell.record(rt, sample).is_err()));
     }
-    Ok(refused)
+    refused
 }
 
 /// A histogram has room for 1,024 samples.
-fn expect_room<R: Abort + Wait>(rt: &R, alloc: Global) -> Result<(), Fail> {
-    let registry = Registry::atomic(alloc, 2)?;
-    let key = Key::from_name(alloc, "a")?;
-    assert_eq!(rt; refused(rt, &registry, &key, 1025)?, 1);
-    let cell = registry.get_histogram(rt, &key)?.ok_or("no cell")?;
-    assert_eq!(rt; cell.clear(rt)?, 1024);
-    assert_eq!(rt; refused(rt, &registry, &key, 1)?, 0);
-    Ok(())
-}
-
 #[test]
 fn a_histogram_has_room(rt: HostRuntime) -> Result<(), Fail> {
-    expect_room(&rt, rt.alloc())
+    let registry = Registry::atomic(rt.alloc(), 2)?;
+    let key = Key::from_name(rt.alloc(), "a")?;
+    let first = registry.get_or_create_histogram(
+        &rt,
+        &key,
+        |cell: &Samples| refused(&rt, cell, 1025),
+    )?;
+    assert_eq!(rt; first, 1);
+    let cell = registry.get_histogram(&rt, &key)?.ok_or("no cell")?;
+    assert_eq!(rt; cell.clear(&rt), Ok(1024));
+    assert_eq!(rt; refused(&rt, &cell, 1), 0);
+    Ok(())
 }

@@ -6,12 +6,12 @@
 #[cfg(test)]
 mod cells;
 #[cfg(test)]
-mod entries;
-#[cfg(test)]
 mod given;
 #[cfg(test)]
 mod handles;
 #[cfg(test)]
 mod recency;
+#[cfg(test)]
+mod retains;
 #[cfg(test)]
 mod threads;

@@ -12,32 +12,49 @@ use std::thread::{Threads, join};
 /// How often each thread adds one.
 const TIMES: u64 = 2000;
 
-/// Adds ones to the cell of a key.
-fn add_all<W: Wait>(rt: &W, registry: &Plain, kind: MetricKind, key: &Key) -> Result<(), Error> {
+fn delete<W: Wait>(rt: &W, registry: &Plain, kind: MetricKind, key: &Key) -> bool {
+    match kind {
+        MetricKind::Counter => registry.delete_counter(rt, key),
+        MetricKind::Gauge => registry.delete_gauge(rt, key),
+        MetricKind::Histogram => registry.delete_histogram(rt, key),
+    }
+}
+
+/// Adds ones to the cell of the shared key, while the thread's own key comes and goes. Whether that was each time new, and
+/// then held.
+fn add_all<W: Wait>(
+    rt: &W,
+    registry: &Plain,
+    kind: MetricKind,
+    key: &Key,
+    own: &Key,
+) -> Result<bool, Error> {
+    let mut is_good = true;
     for _ in 0..TIMES {
         increment(rt, registry, kind, key)?;
+        let is_new = increment(rt, registry, kind, own)? == 1;
+        is_good = delete(rt, registry, kind, own) && is_new && is_good;
     }
-    Ok(())
+    Ok(is_good)
 }
 
 /// Both threads make the key's cell where it isn't there, and add to it.
 fn expect_sum<R: Threads + Wait + Abort + Sync>(
     rt: &R,
-    alloc: Global,
-    shards: usize,
+    registry: &Plain,
     kind: MetricKind,
+    key: &Key,
+    first: &Key,
+    second: &Key,
 ) -> Result<(), Fail>
     requires { IsSync R.row }
 {
-    let registry = &plain(alloc, shards)?;
-    let key = &Key::from_name(alloc, "a")?;
     let (one, other) = join(
         rt,
-        || add_all(rt, registry, kind, key),
-        || add_all(rt, registry, kind, key),
+        || add_all(rt, registry, kind, key, first),
+        || add_all(rt, registry, kind, key, second),
     );
-    one?;
-    other?;
+    assert!(rt; one? && other?);
     assert_eq!(rt; count(rt, registry, kind, key)?, Some(2 * TIMES));
     assert_eq!(rt; visits(rt, registry, kind), 1);
     Ok(())
@@ -45,9 +62,13 @@ fn expect_sum<R: Threads + Wait + Abort + Sync>(
 
 #[test]
 fn two_threads_add_to_one_cell(rt: HostRuntime) -> Result<(), Fail> {
+    let key = Key::from_name(rt.alloc(), "a")?;
+    let first = Key::from_name(rt.alloc(), "b")?;
+    let second = Key::from_name(rt.alloc(), "c")?;
     for kind in KINDS {
         for shards in [1, 8] {
-            expect_sum(&rt, rt.alloc(), shards, kind)?;
+            let registry = plain(rt.alloc(), shards)?;
+            expect_sum(&rt, &registry, kind, &key, &first, &second)?;
         }
     }
     Ok(())

@@ -7,8 +7,6 @@ mod handles;
 mod laws;
 mod requests;
 mod running;
-#[cfg(test)]
-mod tests;
 mod totals;
 mod trees;
 
