@@ -14,6 +14,9 @@ pub struct Added {
     pub ones: Result<(u64, bool), Error>,
 }
 
+/// How many handles a list has, and how many ones were added to the cell that it has for a key.
+pub type Handles = (usize, Option<u64>);
+
 /// A registry of cells that ones are added to, and its recency.
 pub trait Entries {
     fn one_more<W: Wait>(&mut self, rt: &W, kind: MetricKind, key: &Key) -> Added;
@@ -21,13 +24,14 @@ pub trait Entries {
     /// How many ones were added to a cell, if the key is held.
     fn ones<W: Wait>(&self, rt: &W, kind: MetricKind, key: &Key) -> Result<Option<u64>, Error>;
 
-    /// How many handles there are; none where cells of the kind have none.
+    /// The list of handles; none where cells of the kind have none.
     fn handles<W: Wait>(
         &self,
         rt: &W,
         alloc: Global,
         kind: MetricKind,
-    ) -> Result<Option<usize>, Error>;
+        key: &Key,
+    ) -> Result<Option<Handles>, Error>;
 
     /// Keeps the names that begin with a text. How often the closure was called.
     fn retain<W: Wait>(&mut self, rt: &W, kind: MetricKind, prefix: &str) -> usize;
@@ -55,23 +59,22 @@ pub fn begins(calls: &mut usize, key: &Key, prefix: &str) -> bool {
     key.name().starts_with(prefix)
 }
 
-/// A key, and how many ones were added to its cell, if it is held.
+/// A key of a kind, and how many ones were added to its cell, if it is held.
 #[derive(Drop)]
 pub struct Known {
-    key: Key,
+    pub kind: MetricKind,
+    pub key: Key,
     ones: Option<u64>,
 }
 
 impl Known {
-    pub fn new(trial: &Trial, name: &str) -> Result<Known, Wrong> {
+    pub fn new(trial: &Trial, kind: MetricKind, name: &str) -> Result<Known, Wrong> {
+        let key = done(Key::from_name(trial.alloc, name))?;
         Ok(Known {
-            key: done(Key::from_name(trial.alloc, name))?,
+            kind,
+            key,
             ones: None,
         })
-    }
-
-    pub fn key(&self) -> &Key {
-        &self.key
     }
 
     pub fn is_held(&self) -> bool {
@@ -84,13 +87,8 @@ impl Known {
     }
 
     /// That the registry has what is known.
-    pub fn expect_held<W: Wait, E: Entries>(
-        &self,
-        rt: &W,
-        on: &E,
-        kind: MetricKind,
-    ) -> Result<(), Wrong> {
-        let found = done(on.ones(rt, kind, &self.key))?;
+    pub fn expect_held<W: Wait, E: Entries>(&self, rt: &W, on: &E) -> Result<(), Wrong> {
+        let found = done(on.ones(rt, self.kind, &self.key))?;
         expect(found == self.ones, "another entry")
     }
 
@@ -100,9 +98,8 @@ impl Known {
         rt: &W,
         trial: &mut Trial,
         on: &mut E,
-        kind: MetricKind,
     ) -> Result<(), Wrong> {
-        let added = on.one_more(rt, kind, &self.key);
+        let added = on.one_more(rt, self.kind, &self.key);
         match added.ones {
             Ok((ones, is_taken)) => {
                 let wanted = self.ones.unwrap_or(0).saturating_add(u64::from(is_taken));
@@ -129,12 +126,11 @@ impl Known {
         rt: &W,
         trial: &mut Trial,
         on: &mut E,
-        kind: MetricKind,
     ) -> Result<(), Wrong> {
         trial.begin();
-        self.add(rt, trial, on, kind)?;
+        self.add(rt, trial, on)?;
         trial.calm();
-        self.expect_held(rt, on, kind)
+        self.expect_held(rt, on)
     }
 
     /// Adds a one, with memory at hand.
@@ -143,12 +139,11 @@ impl Known {
         rt: &W,
         trial: &mut Trial,
         on: &mut E,
-        kind: MetricKind,
     ) -> Result<(), Wrong> {
         let refusals = trial.refusals;
-        self.add(rt, trial, on, kind)?;
+        self.add(rt, trial, on)?;
         expect(trial.refusals == refusals, "refused with memory at hand")?;
-        self.expect_held(rt, on, kind)
+        self.expect_held(rt, on)
     }
 
     /// Deletes the key, which takes no memory.
@@ -157,16 +152,15 @@ impl Known {
         rt: &W,
         trial: &Trial,
         on: &mut E,
-        kind: MetricKind,
     ) -> Result<(), Wrong> {
         trial.begin();
-        let was_held = on.delete(rt, kind, &self.key);
-        let is_held = on.delete(rt, kind, &self.key);
+        let was_held = on.delete(rt, self.kind, &self.key);
+        let is_held = on.delete(rt, self.kind, &self.key);
         trial.calm();
         expect(was_held == self.is_held(), "another entry is deleted")?;
         expect(!is_held, "an entry is deleted twice")?;
         self.ones = None;
-        self.expect_held(rt, on, kind)
+        self.expect_held(rt, on)
     }
 }
 
@@ -179,22 +173,34 @@ fn count(all: &[Known]) -> usize {
     count
 }
 
-/// That there are as many handles as keys are held, where the first try may be refused.
+/// That a list of handles, if there is one, has what is known of a key, and as many keys as are held.
+fn expect_list(handles: Option<Handles>, known: &Known, all: &[Known]) -> Result<(), Wrong> {
+    match handles {
+        Some((length, ones)) => {
+            expect(length == count(all), "another number of handles")?;
+            expect(ones == known.ones, "another handle")
+        }
+        None => Ok(()),
+    }
+}
+
+/// That the handles are those of the keys that are held, whether or not memory may be refused.
 fn expect_handles<W: Wait, E: Entries>(
     rt: &W,
     trial: &mut Trial,
     on: &E,
-    kind: MetricKind,
     all: &[Known],
 ) -> Result<(), Wrong> {
-    trial.begin();
-    let first = on.handles(rt, trial.alloc, kind);
-    trial.calm();
-    if let Err(error) = first {
-        trial.note(error)?;
-    }
-    if let Some(handles) = done(on.handles(rt, trial.alloc, kind))? {
-        expect(handles == count(all), "another number of handles")?;
+    for known in all {
+        trial.begin();
+        let first = on.handles(rt, trial.alloc, known.kind, &known.key);
+        trial.calm();
+        match first {
+            Ok(handles) => expect_list(handles, known, all)?,
+            Err(error) => trial.note(error)?,
+        }
+        let second = done(on.handles(rt, trial.alloc, known.kind, &known.key))?;
+        expect_list(second, known, all)?;
     }
     Ok(())
 }
@@ -219,7 +225,7 @@ fn retain<W: Wait, E: Entries>(
         if !known.key.name().starts_with("foo") {
             known.ones = None;
         }
-        known.expect_held(rt, on, kind)?;
+        known.expect_held(rt, on)?;
     }
     expect(
         visits == count(all),
@@ -232,7 +238,6 @@ fn clear<W: Wait, E: Entries>(
     rt: &W,
     trial: &Trial,
     on: &mut E,
-    kind: MetricKind,
     all: &mut [Known],
 ) -> Result<(), Wrong> {
     trial.begin();
@@ -240,32 +245,47 @@ fn clear<W: Wait, E: Entries>(
     trial.calm();
     for known in all.iter_mut() {
         known.ones = None;
-        known.expect_held(rt, on, kind)?;
+        known.expect_held(rt, on)?;
     }
     Ok(())
 }
 
-/// Two keys come and go: the second try of a create that was refused is made with memory refused too, the last at hand.
-pub fn play<W: Wait, E: Entries>(
+/// Keys come and go: the second try of a create that was refused is made with memory refused too, the last at hand.
+fn come_and_go<W: Wait, E: Entries>(
     rt: &W,
     trial: &mut Trial,
     on: &mut E,
     kind: MetricKind,
+    all: &mut [Known],
 ) -> Result<(), Wrong> {
-    let mut all = [Known::new(trial, "foobar")?, Known::new(trial, "baz")?];
     for known in all.iter_mut() {
-        known.expect_held(rt, on, kind)?;
-        known.add_under_refusal(rt, trial, on, kind)?;
-        known.add_under_refusal(rt, trial, on, kind)?;
+        known.expect_held(rt, on)?;
+        known.add_under_refusal(rt, trial, on)?;
+        known.add_under_refusal(rt, trial, on)?;
     }
-    expect_handles(rt, trial, on, kind, &all)?;
-    retain(rt, trial, on, kind, &mut all)?;
+    expect_handles(rt, trial, on, all)?;
+    retain(rt, trial, on, kind, all)?;
     for known in all.iter_mut() {
-        known.add_at_hand(rt, trial, on, kind)?;
-        known.delete(rt, trial, on, kind)?;
-        known.add_under_refusal(rt, trial, on, kind)?;
+        known.add_at_hand(rt, trial, on)?;
+        known.delete(rt, trial, on)?;
+        known.add_under_refusal(rt, trial, on)?;
     }
-    expect_handles(rt, trial, on, kind, &all)?;
-    clear(rt, trial, on, kind, &mut all)?;
-    expect_handles(rt, trial, on, kind, &all)
+    expect_handles(rt, trial, on, all)?;
+    clear(rt, trial, on, all)?;
+    expect_handles(rt, trial, on, all)
+}
+
+/// Plays with two keys.
+pub fn play<W: Wait, E: Entries + Drop>(
+    rt: &W,
+    trial: &mut Trial,
+    on: E,
+    kind: MetricKind,
+) -> Result<(), Wrong> {
+    let mut on = on;
+    let mut all = [
+        Known::new(trial, kind, "foobar")?,
+        Known::new(trial, kind, "baz")?,
+    ];
+    come_and_go(rt, trial, &mut on, kind, &mut all)
 }

@@ -43,12 +43,12 @@ fn check<W: Wait, E: Entries>(
     rt: &W,
     trial: &mut Trial,
     on: &mut E,
-    (kind, known): (MetricKind, &Known),
+    known: &Known,
     now: u64,
     noted: Option<u64>,
 ) -> Result<Option<u64>, Wrong> {
     trial.begin();
-    let answer = on.is_used(rt, kind, known.key(), now);
+    let answer = on.is_used(rt, known.kind, &known.key, now);
     trial.calm();
     match answer {
         Ok(is_used) => {
@@ -70,71 +70,59 @@ fn put<W: Wait, E: Entries>(
     rt: &W,
     trial: &mut Trial,
     on: &mut E,
-    (kind, known): (MetricKind, &mut Known),
+    known: &mut Known,
     is_held: bool,
 ) -> Result<(), Wrong> {
-    if is_held && !known.is_held() {
-        known.add_at_hand(rt, trial, on, kind)?;
+    match (is_held, known.is_held()) {
+        (true, false) => known.add_at_hand(rt, trial, on),
+        (false, true) => known.delete(rt, trial, on),
+        _ => Ok(()),
     }
-    if !is_held && known.is_held() {
-        known.delete(rt, trial, on, kind)?;
-    }
-    Ok(())
 }
 
-/// One moment: the key is held or not, and is checked. When it was noted, if it still is.
-fn turn<W: Wait, E: Entries>(
-    rt: &W,
-    trial: &mut Trial,
-    on: &mut E,
-    (kind, known): (MetricKind, &mut Known),
-    (now, is_held): (u64, bool),
-    noted: Option<u64>,
-) -> Result<Option<u64>, Wrong> {
-    put(rt, trial, on, (kind, &mut *known), is_held)?;
-    let after = check(rt, trial, on, (kind, &*known), now, noted)?;
-    if noted.is_some() && after.is_none() {
-        known.forget();
-    }
-    known.expect_held(rt, on, kind)?;
-    Ok(after)
-}
-
-/// All moments, one after another.
+/// All moments, one after another: the key is held or not, and is checked.
 fn take_turns<W: Wait, E: Entries>(
     rt: &W,
     trial: &mut Trial,
     on: &mut E,
-    (kind, known): (MetricKind, &mut Known),
+    known: &mut Known,
 ) -> Result<(), Wrong> {
     let mut noted = None;
-    for at in CHECKS {
-        noted = turn(rt, trial, on, (kind, &mut *known), at, noted)?;
+    for (now, is_held) in CHECKS {
+        put(rt, trial, on, known, is_held)?;
+        let after = check(rt, trial, on, known, now, noted)?;
+        if noted.is_some() && after.is_none() {
+            known.forget();
+        }
+        known.expect_held(rt, on)?;
+        noted = after;
     }
     Ok(())
 }
 
-/// That an entry of a kind that the mask lacks stays.
-fn expect_stays<W: Wait, E: Entries>(
+/// Checks of one key of a kind that the mask has. An entry of another kind, which it lacks, stays.
+fn check_all<W: Wait, E: Entries>(
     rt: &W,
     trial: &mut Trial,
     on: &mut E,
-    (other, stays): (MetricKind, &Known),
+    known: &mut Known,
+    stays: &mut Known,
 ) -> Result<(), Wrong> {
-    check(rt, trial, on, (other, stays), 99, Some(99))?;
-    stays.expect_held(rt, on, other)
+    stays.add_at_hand(rt, trial, on)?;
+    take_turns(rt, trial, on, known)?;
+    check(rt, trial, on, stays, 99, Some(99))?;
+    stays.expect_held(rt, on)
 }
 
-/// Checks of one key of a kind that the mask has. An entry of another kind stays.
-pub fn play<W: Wait, E: Entries>(
+/// Plays with a key of each kind.
+pub fn play<W: Wait, E: Entries + Drop>(
     rt: &W,
     trial: &mut Trial,
-    on: &mut E,
+    on: E,
     (kind, other): (MetricKind, MetricKind),
 ) -> Result<(), Wrong> {
-    let mut stays = Known::new(trial, "a")?;
-    stays.add_at_hand(rt, trial, on, other)?;
-    let mut known = Known::new(trial, "a")?;
-    take_turns(rt, trial, on, (kind, &mut known))?;
-    expect_stays(rt, trial, on, (other, &stays))
+    let mut on = on;
+    let mut stays = Known::new(trial, other, "a")?;
+    let mut known = Known::new(trial, kind, "a")?;
+    check_all(rt, trial, &mut on, &mut known, &mut stays)
 }

@@ -1,6 +1,6 @@
 //! Registries under locks.
 
-use crate::entries::{Added, Entries, begins, play};
+use crate::entries::{Added, Entries, Handles, begins, play};
 use crate::idle;
 use metrics::{Error, Key, MetricKind, MetricKindMask};
 use metrics_bucket::AtomicBucket;
@@ -9,6 +9,7 @@ use metrics_shared_registry::{
     AtomicStorage, Generational, GenerationalAtomicStorage, GenerationalStorage, Recency, Registry,
 };
 use std::alloc::Global;
+use std::collections::HashMap;
 use std::sync::atomic::{AtomicU64, Ordering};
 use std::sync::{Arc, Wait};
 use tool_refusals_trial::{Trial, Wrong, expect, made};
@@ -53,6 +54,10 @@ impl<T: Counting> Counting for Generational<T> {
     fn ones<W: Wait>(&self, rt: &W) -> u64 {
         self.get_inner().ones(rt)
     }
+}
+
+fn handles_of<W: Wait, C: Counting>(rt: &W, handles: &HashMap<Key, C>, key: &Key) -> Handles {
+    (handles.len(), handles.get(key).map(|cell| cell.ones(rt)))
 }
 
 /// A registry and the recency of its entries.
@@ -114,11 +119,15 @@ where
         rt: &W,
         alloc: Global,
         kind: MetricKind,
-    ) -> Result<Option<usize>, Error> {
+        key: &Key,
+    ) -> Result<Option<Handles>, Error> {
+        let registry = &self.registry;
         Ok(Some(match kind {
-            MetricKind::Counter => self.registry.get_counter_handles(rt, alloc)?.len(),
-            MetricKind::Gauge => self.registry.get_gauge_handles(rt, alloc)?.len(),
-            MetricKind::Histogram => self.registry.get_histogram_handles(rt, alloc)?.len(),
+            MetricKind::Counter => handles_of(rt, &registry.get_counter_handles(rt, alloc)?, key),
+            MetricKind::Gauge => handles_of(rt, &registry.get_gauge_handles(rt, alloc)?, key),
+            MetricKind::Histogram => {
+                handles_of(rt, &registry.get_histogram_handles(rt, alloc)?, key)
+            }
         }))
     }
 
@@ -221,8 +230,7 @@ where
     S::Histogram: Counting,
 {
     let recency = Recency::new(trial.alloc, MetricKindMask::ALL, Some(idle::TIMEOUT));
-    let mut on = Locked { registry, recency };
-    play(rt, trial, &mut on, kind)
+    play(rt, trial, Locked { registry, recency }, kind)
 }
 
 /// Entries of a kind in registries of 1, 2 and 8 shards.
@@ -258,8 +266,7 @@ where
     S::Histogram: Counting,
 {
     let recency = Recency::new(trial.alloc, mask, Some(idle::TIMEOUT));
-    let mut on = Locked { registry, recency };
-    idle::play(rt, trial, &mut on, (kind, other))
+    idle::play(rt, trial, Locked { registry, recency }, (kind, other))
 }
 
 /// The idle entries of each kind.

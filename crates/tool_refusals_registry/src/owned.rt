@@ -1,6 +1,6 @@
 //! A registry with one owner.
 
-use crate::entries::{Added, Entries, begins, play};
+use crate::entries::{Added, Entries, Handles, begins, play};
 use crate::idle;
 use metrics::{Error, Key, MetricKind, MetricKindMask};
 use metrics_registry::{Counted, OwnedRecency, OwnedRegistry, PlainStorage};
@@ -62,10 +62,18 @@ impl Entries for Owned {
         _rt: &W,
         alloc: Global,
         kind: MetricKind,
-    ) -> Result<Option<usize>, Error> {
+        key: &Key,
+    ) -> Result<Option<Handles>, Error> {
         Ok(match kind {
-            MetricKind::Counter => Some(self.registry.get_counter_handles(alloc)?.len()),
-            MetricKind::Gauge => Some(self.registry.get_gauge_handles(alloc)?.len()),
+            MetricKind::Counter => {
+                let handles = self.registry.get_counter_handles(alloc)?;
+                Some((handles.len(), handles.get(key).copied()))
+            }
+            MetricKind::Gauge => {
+                let handles = self.registry.get_gauge_handles(alloc)?;
+                let ones = handles.get(key).map(|cell| cell.unsigned_abs());
+                Some((handles.len(), ones))
+            }
             MetricKind::Histogram => None,
         })
     }
@@ -149,8 +157,8 @@ fn new_registry(trial: &mut Trial, shards: usize, mask: MetricKindMask) -> Resul
 /// Entries of a kind in registries of 1, 2 and 8 shards.
 fn entries<W: Wait>(rt: &W, trial: &mut Trial, kind: MetricKind) -> Result<(), Wrong> {
     for shards in [1usize, 2, 8] {
-        let mut on = new_registry(trial, shards, MetricKindMask::ALL)?;
-        play(rt, trial, &mut on, kind)?;
+        let on = new_registry(trial, shards, MetricKindMask::ALL)?;
+        play(rt, trial, on, kind)?;
     }
     Ok(())
 }
@@ -158,8 +166,8 @@ fn entries<W: Wait>(rt: &W, trial: &mut Trial, kind: MetricKind) -> Result<(), W
 /// The idle entries of each kind.
 fn idle_entries<W: Wait>(rt: &W, trial: &mut Trial) -> Result<(), Wrong> {
     for (kind, mask, other) in idle::MASKS {
-        let mut on = new_registry(trial, 2, mask)?;
-        idle::play(rt, trial, &mut on, (kind, other))?;
+        let on = new_registry(trial, 2, mask)?;
+        idle::play(rt, trial, on, (kind, other))?;
     }
     Ok(())
 }
