@@ -3,7 +3,7 @@
 use metrics::Error;
 use metrics_bucket::AtomicBucket;
 use std::sync::Wait;
-use tool_refusals_trial::{Trial, Wrong, expect, made};
+use tool_refusals_trial::{Trial, Wrong, done, expect, made};
 
 /// A bucket of so many blocks, where the first try may be refused.
 fn bucket_of(trial: &mut Trial, blocks: usize) -> Result<AtomicBucket<u64>, Wrong> {
@@ -27,21 +27,22 @@ fn push_run<W: Wait>(
     expect(refused == 0, "a push is refused")
 }
 
-/// Reads more often than there are pens while memory may be refused, and once with memory at hand: each pen comes back, and no
-/// walk stays.
+/// Reads with memory at hand, more often than there are pens while memory may be refused, and with memory at hand again: each
+/// pen comes back, no walk stays, and each list is the same.
 fn read<W: Wait>(rt: &W, trial: &mut Trial, bucket: &AtomicBucket<u64>) -> Result<Vec<u64>, Wrong> {
+    let wanted = done(bucket.data(rt, trial.alloc))?;
     for _ in 0..70u32 {
         trial.begin();
         let answer = bucket.data(rt, trial.alloc);
         trial.calm();
-        if let Err(error) = answer {
-            trial.note(error)?;
+        match answer {
+            Ok(values) => expect(values.as_slice() == wanted.as_slice(), "another list")?,
+            Err(error) => trial.note(error)?,
         }
     }
-    match bucket.data(rt, trial.alloc) {
-        Ok(values) => Ok(values),
-        Err(_) => Err("refused with memory at hand"),
-    }
+    let last = done(bucket.data(rt, trial.alloc))?;
+    expect(last.as_slice() == wanted.as_slice(), "another list at last")?;
+    Ok(wanted)
 }
 
 /// That these are 128, 129, then 64 to 127, then 0 to 63.

@@ -126,14 +126,14 @@ fn blocks_are_1_to_1024(trial: &mut Trial) -> Result<(), Wrong> {
     trial.begin();
     let none = RuledBucket::<u64>::new(trial.alloc, 0).err();
     let many = RuledBucket::<u64>::new(trial.alloc, 1025).err();
-    let most = RuledBucket::<u64>::new(trial.alloc, 1024).err();
+    let most = RuledBucket::<u64>::new(trial.alloc, 1024);
     trial.calm();
-    expect(none == Some(Error::BadBlocks), "0 blocks are taken")?;
-    expect(many == Some(Error::BadBlocks), "1025 blocks are taken")?;
     match most {
-        Some(error) => trial.note(error),
-        None => Ok(()),
+        Ok((bucket, mut pen)) => fill(trial, &bucket, &mut pen, 65_536)?,
+        Err(error) => trial.note(error)?,
     }
+    expect(none == Some(Error::BadBlocks), "0 blocks are taken")?;
+    expect(many == Some(Error::BadBlocks), "1025 blocks are taken")
 }
 
 /// A pen of half the weight; none where memory is refused, and the pen is as before.
@@ -192,13 +192,13 @@ fn tickets_keep_their_places(trial: &mut Trial) -> Result<(), Wrong> {
     expect_settled(trial, bucket, pen, &[5, 7])
 }
 
-/// Pushes the values below 64, and tries one more.
-fn fill(trial: &Trial, bucket: &RuledBucket<u64>, pen: &mut Pen) -> Result<(), Wrong>
+/// Pushes so many values, and tries one more.
+fn fill(trial: &Trial, bucket: &RuledBucket<u64>, pen: &mut Pen, count: u64) -> Result<(), Wrong>
     requires { (pen.old.home ≡ bucket.now) × (pen.old.ticket ≡ false) }
 {
     let mut refused = 0u64;
     trial.begin();
-    for value in 0..64u64 {
+    for value in 0..count {
         refused = refused.wrapping_add(u64::from(bucket.try_push_as(pen, value).is_err()));
     }
     let more = bucket.try_push_as(pen, 9);
@@ -209,7 +209,7 @@ fn fill(trial: &Trial, bucket: &RuledBucket<u64>, pen: &mut Pen) -> Result<(), W
 
 fn a_full_bucket_gives_the_value_back(trial: &mut Trial) -> Result<(), Wrong> {
     let (bucket, mut pen) = bucket_of_one(trial)?;
-    fill(trial, &bucket, &mut pen)
+    fill(trial, &bucket, &mut pen, 64)
 }
 
 /// How often the pen is split until it is the lightest. The first twelve tries may be refused.

@@ -5,7 +5,7 @@ use metrics::Error;
 use metrics_storage::{Block, Histogram, OwnedBucket};
 use std::sync::Arc;
 use std::sync::atomic::{AtomicU64, Ordering};
-use tool_refusals_trial::{Trial, Wrong, expect, made};
+use tool_refusals_trial::{Trial, Wrong, done, expect, made};
 
 /// Pushes a value, and again where memory was refused: then it came back, and the bucket needs a block.
 fn push<T: Drop>(
@@ -41,15 +41,14 @@ fn push_run(trial: &mut Trial, bucket: &mut OwnedBucket<u64>) -> Result<(), Wron
 /// Reads and clears.
 fn read(trial: &mut Trial, bucket: &mut OwnedBucket<u64>) -> Result<(), Wrong> {
     trial.begin();
-    let first = bucket.data().err();
+    let first = bucket.data();
     trial.calm();
-    if first.is_some() {
-        trial.note(Error::Memory)?;
-    }
-    match bucket.data() {
+    match first {
         Ok(values) => expect_newest_first(values.as_slice())?,
-        Err(_) => return Err("refused with memory at hand"),
+        Err(_) => trial.note(Error::Memory)?,
     }
+    let values = done(bucket.data())?;
+    expect_newest_first(values.as_slice())?;
     trial.begin();
     bucket.clear();
     trial.calm();
