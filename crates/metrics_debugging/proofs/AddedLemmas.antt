@@ -58,6 +58,10 @@ kind-new Histogram = refl
 
 -- ---- a new series
 
+-- an entry was added at a clone of the key
+pub appended : (old : Entries) (kind : MetricKind) (key k : KeyParts) (n : Numbered) (es fs : List (KeyParts × Numbered)) → es ≡ of_kind kind old → k ≡ key → fs ≡ es ++ (k, n) ∷ [] → fs ≡ of_kind kind old ++ (key, n) ∷ []
+appended old kind key k n es fs is same put = put ∙ (ap (λ xs. xs ++ (k, n) ∷ []) is ∙ ap (λ q. of_kind kind old ++ (q, n) ∷ []) same)
+
 -- where nothing was added all stays
 pub agree-kept : (old : Entries) (order after : List Placed) (kind : MetricKind) (fs : List (KeyParts × Numbered)) → Agrees (marks old) order → fs ≡ of_kind kind old → after ≡ order → Agrees (marks (with_kind kind old fs)) after
 agree-kept old order after kind fs agree same stays =

@@ -108,8 +108,8 @@ fn number_of(name: &KeyName, labels: &SharedItems<Label>) -> u64
     let mut state = FoldHasher::default();
     state.write(name.text.as_str().as_bytes());
     for label in labels.as_slice() {
-        state.write(label.key().as_bytes());
-        state.write(label.value().as_bytes());
+        state.write(label.key.as_str().as_bytes());
+        state.write(label.value.as_str().as_bytes());
     }
     state.finish()
 }

@@ -10,8 +10,8 @@ use std::marker::Model;
 /// A label of a key: the label's own key, and its value. Labels are ordered by key, then by value.
 #[derive(Clone, Debug, PartialEq, Eq, PartialOrd, Ord, Hash, Drop)]
 pub struct Label {
-    key: Text,
-    value: Text,
+    pub(crate) key: Text,
+    pub(crate) value: Text,
 }
 
 impl Model for Label {

@@ -1,5 +1,5 @@
 //! The cells of one kind.
-ghost use Rattle.std.specs.Prelude.{◌≡◌, ◌<◌, ◌^◌, ◌∷◌, [], None, Some, IfOk, IfErr, OnOk, IfSome, IfNone};
+ghost use Rattle.std.specs.Prelude.{◌≡◌, ◌<◌, ◌^◌, ◌∷◌, ◌++◌, [], None, Some, IfOk, IfErr, OnOk, IfSome, IfNone};
 ghost use Rattle.std.specs.Prelude.{is_some, length, option_map, slice_get};
 ghost use Rattle.std.specs.Option.{option_copied, option_copied_mut};
 ghost use Rattle.std.specs.Map.{keys_of};
@@ -160,6 +160,25 @@ impl<K: Hash + Drop, C: Drop> Cells<K, C> {
             unreachable!()
         };
         Ok(answer)
+    }
+
+    /// Adds a cell at a key that isn't held, and answers its place. A refusal changes nothing, and drops the cell.
+    pub fn insert(&mut self, key: &K, cell: C) -> Result<usize, Error>
+    where
+        K: EqualClone,
+        requires { held K.eq self.old key.now ≡ None }
+        ensures place { IfOk result (λ place. place ≡ length self.old) }
+        ensures ok { OnOk result ((k : K) × K.is_clone key.now k × (self.new ≡ self.old ++ (k, cell) ∷ [])) }
+        ensures err { IfErr result (λ e. (e ≡ OutOfMemory) × (self.new ≡ self.old)) }
+        ensures once { OnOk result (IsDistinct K.eq (keys_of self.new)) }
+    {
+        let key = key.clone()?;
+        self.map.reserve(1)?;
+        let place = self.map.len();
+        let Ok(_) = self.map.insert(key, cell) else {
+            unreachable!()
+        };
+        Ok(place)
     }
 
     /// Removes a key, and tells whether it was held.

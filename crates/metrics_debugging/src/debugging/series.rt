@@ -76,16 +76,8 @@ impl SeriesList {
         self.order.reserve(1)?;
         let cell = Cell::new(alloc, kind);
         let cells = self.by_key.of_mut(kind);
-        let place = cells.len();
-        let created = cells.create(
-            key,
-            Numbered { number, cell },
-            |new: &mut Numbered|
-                ensures { new.new ≡ new.old }
-            {},
-        );
-        match created {
-            Ok(()) => {
+        match cells.insert(key, Numbered { number, cell }) {
+            Ok(place) => {
                 self.order.push_reserved(Placed { kind, place });
                 Ok(number)
             }
