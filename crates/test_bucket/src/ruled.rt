@@ -1,10 +1,12 @@
 //! `RuledBucket`, by hand and with threads.
-ghost use Rattle.std.specs.Prelude.{◌≡◌, ◌<◌, ◌≤◌, false, IfOk};
+ghost use Rattle.std.specs.Prelude.{◌≡◌, ◌<◌, ◌≤◌, true, false, IfOk};
+ghost use Rattle.std.specs.Arc.{arc_value};
 
 use metrics::Error;
 use metrics_bucket::{Pen, RuledBucket, Sample, Visitor, bucket_law};
 use std::alloc::Global;
-use std::sync::Wait;
+use std::sync::atomic::{AtomicUsize, Ordering};
+use std::sync::{Arc, Wait};
 use std::test::*;
 use std::thread::{Threads, join};
 
@@ -51,6 +53,20 @@ fn bucket_order(alloc: Global) -> Result<Vec<u64>, Fail> {
 }
 
 #[test]
+fn tickets_keep_their_places(rt: HostRuntime) -> Result<(), Fail> {
+    let (bucket, mut a) = RuledBucket::<u64>::new(rt.alloc(), 1)?;
+    let mut b = a.split()?;
+    bucket.begin_as(&mut a)?;
+    assert!(rt; a.has_ticket() && !a.is_whole());
+    assert!(rt; bucket.try_push_as(&mut b, 7).is_ok());
+    bucket.finish_as(&mut a, 5);
+    a.join(b);
+    let values = settled(bucket, rt.alloc(), a)?;
+    assert!(rt; values.as_slice() == [5, 7].as_slice());
+    Ok(())
+}
+
+#[test]
 fn settle_gives_the_newest_block_first(rt: HostRuntime) -> Result<(), Fail> {
     let (bucket, pen) = RuledBucket::<u64>::new(rt.alloc(), 3)?;
     let (pen, refused) = push_run(&bucket, pen, 0, 130);
@@ -60,13 +76,53 @@ fn settle_gives_the_newest_block_first(rt: HostRuntime) -> Result<(), Fail> {
     Ok(())
 }
 
-/// A push that waits for others finds no place either.
 #[test]
 fn a_full_bucket_refuses(rt: HostRuntime) -> Result<(), Fail> {
     let (bucket, pen) = RuledBucket::<u64>::new(rt.alloc(), 1)?;
     let (mut pen, refused) = push_run(&bucket, pen, 0, 64);
-    assert!(rt; refused == 0 && bucket.push_as(&rt, &mut pen, 9) == Err((Error::Full, 9)));
+    assert!(rt; refused == 0);
+    assert!(rt; bucket.try_push_as(&mut pen, 9) == Err((Error::Full, 9)));
+    assert!(rt; bucket.push_as(&rt, &mut pen, 9) == Err((Error::Full, 9)));
     Ok(())
+}
+
+/// How often the pen is split, of this many times.
+fn splits(pen: &mut Pen, times: u64) -> u64
+    requires { pen.old.ticket ≡ false }
+    ensures { pen.new.ticket ≡ false }
+{
+    let mut count = 0u64;
+    for _ in 0..times {
+        if pen.split().is_ok() {
+            count = count.wrapping_add(1);
+        }
+    }
+    count
+}
+
+#[test]
+fn the_lightest_pen_isnt_split(rt: HostRuntime) -> Result<(), Fail> {
+    let (_bucket, mut pen) = RuledBucket::<u64>::new(rt.alloc(), 1)?;
+    assert!(rt; splits(&mut pen, 20) == 10);
+    assert!(rt; matches!(pen.split(), Err(Error::NoPen)));
+    Ok(())
+}
+
+#[test]
+fn blocks_are_1_to_1024(rt: HostRuntime) {
+    assert!(rt;
+        matches!(
+            RuledBucket::<u64>::new(rt.alloc(), 0),
+            Err(Error::BadBlocks)
+        )
+    );
+    assert!(rt;
+        matches!(
+            RuledBucket::<i64>::new(rt.alloc(), 1025),
+            Err(Error::BadBlocks)
+        )
+    );
+    assert!(rt; RuledBucket::<i64>::new(rt.alloc(), 1024).is_ok());
 }
 
 #[test]
@@ -78,6 +134,18 @@ fn words_of_samples(rt: HostRuntime) {
         assert!(rt; i64::of_word(value.to_word()) == value);
     }
     bucket_law();
+}
+
+#[test]
+fn signed_values(rt: HostRuntime) -> Result<(), Fail> {
+    let (bucket, mut pen) = RuledBucket::<i64>::new(rt.alloc(), 2)?;
+    assert!(rt; bucket.push_as(&rt, &mut pen, i64::MIN).is_ok());
+    assert!(rt; bucket.push_as(&rt, &mut pen, -1).is_ok());
+    let values = bucket.data_as(&rt, rt.alloc(), &mut pen)?;
+    assert!(rt; values.as_slice() == [i64::MIN, -1].as_slice());
+    assert!(rt; bucket.clear_as(&rt, &mut pen) == Ok(2));
+    assert!(rt; bucket.is_empty_as(&mut pen));
+    Ok(())
 }
 
 /// How many chunks a walk showed, and the sum of their values.
@@ -114,13 +182,45 @@ fn walks_show_chunks(rt: HostRuntime) -> Result<(), Fail> {
     Ok(())
 }
 
-/// Pushes the values from `from` on, below `end`, each once.
-fn push_all<R: Wait>(rt: &R, bucket: &RuledBucket<u64>, mut pen: Pen, from: u64, end: u64) -> Pen
+#[test]
+fn closures_are_shown_chunks(rt: HostRuntime) -> Result<(), Fail> {
+    let (bucket, pen) = RuledBucket::<u64>::new(rt.alloc(), 2)?;
+    let (mut pen, _) = push_run(&bucket, pen, 0, 65);
+    let mut lengths = (0usize, 0usize);
+    let read = bucket.data_with_as(&rt, &mut pen, |part| lengths = (lengths.1, part.len()));
+    assert!(rt; read == Ok(65) && lengths == (1, 64));
+    let taken = bucket.clear_with_as(&rt, &mut pen, |part| lengths = (part.len(), lengths.0));
+    assert!(rt; taken == Ok(65) && lengths == (64, 1));
+    Ok(())
+}
+
+/// Pushes one value; where it waits, it tries again while the bucket is full.
+fn push_waiting<R: Wait>(rt: &R, bucket: &RuledBucket<u64>, pen: &mut Pen, value: u64, waits: bool)
+    requires { (pen.old.home ≡ bucket.now) × (pen.old.ticket ≡ false) }
+    ensures { (pen.new.home ≡ pen.old.home) × (pen.new.weight ≡ pen.old.weight) × (pen.new.ticket ≡ false) }
+{
+    for _ in rt.forever() {
+        if bucket.push_as(rt, pen, value).is_ok() || !waits {
+            return;
+        }
+    }
+    unreachable!()
+}
+
+/// Pushes the values from `from` on, below `end`: each until it is in, or each once.
+fn push_all<R: Wait>(
+    rt: &R,
+    bucket: &RuledBucket<u64>,
+    mut pen: Pen,
+    from: u64,
+    end: u64,
+    waits: bool,
+) -> Pen
     requires { (pen.home ≡ bucket.now) × (pen.ticket ≡ false) }
     ensures { (result.home ≡ pen.home) × (result.weight ≡ pen.weight) × (result.ticket ≡ false) }
 {
     for value in from..end {
-        let _ = bucket.push_as(rt, &mut pen, value);
+        push_waiting(rt, bucket, &mut pen, value, waits);
     }
     pen
 }
@@ -132,6 +232,7 @@ fn push_in_two<R: Threads + Wait + Sync>(
     mut pen: Pen,
     from: u64,
     each: u64,
+    waits: bool,
 ) -> Result<Pen, Error>
     requires pen { (pen.home ≡ bucket.now) × (pen.ticket ≡ false) }
     requires range { (from < 100000) × (each ≤ 8000) }
@@ -145,11 +246,11 @@ fn push_in_two<R: Threads + Wait + Sync>(
         || -> Pen
             requires { (pen.home ≡ bucket.now) × (pen.ticket ≡ false) }
             ensures { (result.home ≡ pen.home) × (result.weight ≡ pen.weight) × (result.ticket ≡ false) }
-        { push_all(rt, bucket, pen, from, middle) },
+        { push_all(rt, bucket, pen, from, middle, waits) },
         || -> Pen
             requires { (other.home ≡ bucket.now) × (other.ticket ≡ false) }
             ensures { (result.home ≡ other.home) × (result.weight ≡ other.weight) × (result.ticket ≡ false) }
-        { push_all(rt, bucket, other, middle, end) },
+        { push_all(rt, bucket, other, middle, end, waits) },
     );
     a.join(b);
     Ok(a)
@@ -162,6 +263,7 @@ fn push_in_four<R: Threads + Wait + Sync>(
     mut pen: Pen,
     from: u64,
     each: u64,
+    waits: bool,
 ) -> Result<Pen, Error>
     requires pen { (pen.home ≡ bucket.now) × (pen.ticket ≡ false) }
     requires range { (from < 50000) × (each ≤ 8000) }
@@ -174,11 +276,11 @@ fn push_in_four<R: Threads + Wait + Sync>(
         || -> Result<Pen, Error>
             requires { (pen.home ≡ bucket.now) × (pen.ticket ≡ false) × (from < 100000) × (each ≤ 8000) }
             ensures { IfOk result (λ p. (p.home ≡ pen.home) × (p.weight ≡ pen.weight) × (p.ticket ≡ false)) }
-        { push_in_two(rt, bucket, pen, from, each) },
+        { push_in_two(rt, bucket, pen, from, each, waits) },
         || -> Result<Pen, Error>
             requires { (other.home ≡ bucket.now) × (other.ticket ≡ false) × (middle < 100000) × (each ≤ 8000) }
             ensures { IfOk result (λ p. (p.home ≡ other.home) × (p.weight ≡ other.weight) × (p.ticket ≡ false)) }
-        { push_in_two(rt, bucket, other, middle, each) },
+        { push_in_two(rt, bucket, other, middle, each, waits) },
     );
     let mut a = a?;
     a.join(b?);
@@ -203,11 +305,11 @@ fn push_in_eight<R: Threads + Wait + Sync>(
         || -> Result<Pen, Error>
             requires { (pen.home ≡ bucket.now) × (pen.ticket ≡ false) × (each ≤ 8000) }
             ensures { IfOk result (λ p. (p.home ≡ pen.home) × (p.weight ≡ pen.weight) × (p.ticket ≡ false)) }
-        { push_in_four(rt, bucket, pen, 0, each) },
+        { push_in_four(rt, bucket, pen, 0, each, false) },
         || -> Result<Pen, Error>
             requires { (other.home ≡ bucket.now) × (other.ticket ≡ false) × (middle < 50000) × (each ≤ 8000) }
             ensures { IfOk result (λ p. (p.home ≡ other.home) × (p.weight ≡ other.weight) × (p.ticket ≡ false)) }
-        { push_in_four(rt, bucket, other, middle, each) },
+        { push_in_four(rt, bucket, other, middle, each, false) },
     );
     let mut a = a?;
     a.join(b?);
@@ -233,5 +335,323 @@ fn a_lost_race_isnt_full(rt: HostRuntime) -> Result<(), Fail> {
     let pen = push_in_eight(&rt, &bucket, pen, 8000)?;
     let values = settled(bucket, rt.alloc(), pen)?;
     assert!(rt; are_all_once(values, 64_000));
+    Ok(())
+}
+
+/// Once the side is taken, pushes 3, tries to clear too, and then finishes the push of 1.
+fn push_beside<R: Wait>(
+    rt: &R,
+    bucket: &RuledBucket<u64>,
+    mut slow: Pen,
+    mut other: Pen,
+) -> (Pen, Pen, bool)
+    requires slow { (slow.home ≡ bucket.now) × (slow.ticket ≡ true) }
+    requires other { (other.home ≡ bucket.now) × (other.ticket ≡ false) }
+    ensures slow { (result.0.home ≡ slow.home) × (result.0.ticket ≡ false) }
+    ensures other { (result.1.home ≡ other.home) × (result.1.ticket ≡ false) }
+{
+    for _ in rt.forever() {
+        if bucket.is_empty_as(&mut other) {
+            break;
+        }
+    }
+    let pushed = bucket.try_push_as(&mut other, 3).is_ok();
+    let busy = bucket.clear_with_as(rt, &mut other, |_| {}) == Err(Error::Busy);
+    bucket.finish_as(&mut slow, 1);
+    (slow, other, pushed && busy)
+}
+
+/// What a clear showed, and whether it answered its number.
+fn cleared<R: Wait>(
+    rt: &R,
+    alloc: Global,
+    bucket: &RuledBucket<u64>,
+    mut pen: Pen,
+) -> (Pen, Vec<u64>, bool)
+    requires { (pen.home ≡ bucket.now) × (pen.ticket ≡ false) }
+    ensures { (result.0.home ≡ pen.home) × (result.0.ticket ≡ false) }
+{
+    let mut shown = Vec::new(alloc);
+    let answer = bucket.clear_with_as(rt, &mut pen, |part| {
+        for value in part {
+            let _ = shown.push(*value);
+        }
+    });
+    let number = answer == Ok(shown.len());
+    (pen, shown, number)
+}
+
+/// A clear that waits for a pending ticket, while another pen pushes and is refused a clear. All three pens come back as one.
+fn clear_and_push<R: Threads + Wait + Sync>(
+    rt: &R,
+    alloc: Global,
+    bucket: &RuledBucket<u64>,
+    slow: Pen,
+    other: Pen,
+    clearer: Pen,
+) -> (Pen, bool)
+    requires slow { (slow.home ≡ bucket.now) × (slow.ticket ≡ true) }
+    requires other { (other.home ≡ bucket.now) × (other.ticket ≡ false) }
+    requires clearer { (clearer.home ≡ bucket.now) × (clearer.ticket ≡ false) }
+    ensures { (result.0.home ≡ bucket.now) × (result.0.ticket ≡ false) }
+{
+    let ((clearer, shown, number), (slow, mut other, refused)) = join(
+        rt,
+        || -> (Pen, Vec<u64>, bool)
+            requires { (clearer.home ≡ bucket.now) × (clearer.ticket ≡ false) }
+            ensures { (result.0.home ≡ clearer.home) × (result.0.ticket ≡ false) }
+        { cleared(rt, alloc, bucket, clearer) },
+        || -> (Pen, Pen, bool)
+            requires { (slow.home ≡ bucket.now) × (slow.ticket ≡ true) × (other.home ≡ bucket.now)
+                × (other.ticket ≡ false) }
+            ensures { (result.0.home ≡ slow.home) × (result.0.ticket ≡ false) × (result.1.home ≡ other.home)
+                × (result.1.ticket ≡ false) }
+        { push_beside(rt, bucket, slow, other) },
+    );
+    other.join(slow);
+    other.join(clearer);
+    (
+        other,
+        number && refused && shown.as_slice() == [1, 2].as_slice(),
+    )
+}
+
+/// What a reading finds while the other pen is out, and then what is left.
+fn read_and_settled(
+    rt: &impl Wait,
+    alloc: Global,
+    bucket: RuledBucket<u64>,
+    mut pen: Pen,
+    other: Pen,
+) -> Result<(Vec<u64>, Vec<u64>), Fail>
+    requires pen { (pen.home ≡ bucket) × (pen.ticket ≡ false) }
+    requires other { (other.home ≡ bucket) × (other.ticket ≡ false) }
+{
+    let read = bucket.data_as(rt, alloc, &mut pen)?;
+    pen.join(other);
+    let rest = settled(bucket, alloc, pen)?;
+    Ok((read, rest))
+}
+
+#[test]
+fn a_clear_waits_and_a_second_one_is_busy(rt: HostRuntime) -> Result<(), Fail> {
+    let (bucket, mut quick) = RuledBucket::<u64>::new(rt.alloc(), 1)?;
+    let mut slow = quick.split()?;
+    let mut other = quick.split()?;
+    let clearer = quick.split()?;
+    bucket.begin_as(&mut slow)?;
+    let pushed = bucket.try_push_as(&mut quick, 2).is_ok();
+    let empty = bucket.is_empty_as(&mut other);
+    let (pen, as_told) = clear_and_push(&rt, rt.alloc(), &bucket, slow, other, clearer);
+    let (read, rest) = read_and_settled(&rt, rt.alloc(), bucket, quick, pen)?;
+    assert!(rt; pushed && !empty && as_told);
+    assert!(rt; read.as_slice() == [3].as_slice() && rest.as_slice() == [3].as_slice());
+    Ok(())
+}
+
+/// Four threads push 0 to 3999, and then it is told that they ended.
+fn push_to_the_end<R: Threads + Wait + Sync>(
+    rt: &R,
+    bucket: &RuledBucket<u64>,
+    pen: Pen,
+    ended: &AtomicUsize,
+) -> Result<Pen, Error>
+    requires pen { (pen.home ≡ bucket.now) × (pen.ticket ≡ false) }
+    ensures { IfOk result (λ p. (p.home ≡ pen.home) × (p.ticket ≡ false)) }
+{
+    let answer = push_in_four(rt, bucket, pen, 0, 1000, true);
+    ended.store(1, Ordering::SeqCst);
+    answer
+}
+
+/// What clears showed until the pushes ended.
+fn clear_to_the_end<R: Wait>(
+    rt: &R,
+    alloc: Global,
+    bucket: &RuledBucket<u64>,
+    mut pen: Pen,
+    ended: &AtomicUsize,
+) -> (Pen, Vec<u64>)
+    requires { (pen.home ≡ bucket.now) × (pen.ticket ≡ false) }
+    ensures { (result.0.home ≡ pen.home) × (result.0.ticket ≡ false) }
+{
+    let mut shown = Vec::new(alloc);
+    for _ in rt.forever() {
+        let last = ended.load(Ordering::SeqCst) == 1;
+        let _ = bucket.clear_with_as(rt, &mut pen, |part| {
+            for value in part {
+                let _ = shown.push(*value);
+            }
+        });
+        if last {
+            break;
+        }
+    }
+    (pen, shown)
+}
+
+/// Whether readings until the pushes ended found only values below 4000.
+fn read_to_the_end<R: Wait>(
+    rt: &R,
+    alloc: Global,
+    bucket: &RuledBucket<u64>,
+    mut pen: Pen,
+    ended: &AtomicUsize,
+) -> (Pen, bool)
+    requires { (pen.home ≡ bucket.now) × (pen.ticket ≡ false) }
+    ensures { (result.0.home ≡ pen.home) × (result.0.ticket ≡ false) }
+{
+    let mut known = true;
+    for _ in rt.forever() {
+        let last = ended.load(Ordering::SeqCst) == 1;
+        if let Ok(values) = bucket.data_as(rt, alloc, &mut pen) {
+            known = known && values.iter().all(|value| *value < 4000);
+        }
+        if last {
+            break;
+        }
+    }
+    (pen, known)
+}
+
+/// A clearer and a reader at once, until the pushes ended.
+fn walk_to_the_end<R: Threads + Wait + Sync>(
+    rt: &R,
+    alloc: Global,
+    bucket: &RuledBucket<u64>,
+    clearer: Pen,
+    reader: Pen,
+    ended: &AtomicUsize,
+) -> (Pen, Vec<u64>, bool)
+    requires clearer { (clearer.home ≡ bucket.now) × (clearer.ticket ≡ false) }
+    requires reader { (reader.home ≡ bucket.now) × (reader.ticket ≡ false) }
+    ensures { (result.0.home ≡ bucket.now) × (result.0.ticket ≡ false) }
+{
+    let ((mut clearer, shown), (reader, known)) = join(
+        rt,
+        || -> (Pen, Vec<u64>)
+            requires { (clearer.home ≡ bucket.now) × (clearer.ticket ≡ false) }
+            ensures { (result.0.home ≡ clearer.home) × (result.0.ticket ≡ false) }
+        { clear_to_the_end(rt, alloc, bucket, clearer, ended) },
+        || -> (Pen, bool)
+            requires { (reader.home ≡ bucket.now) × (reader.ticket ≡ false) }
+            ensures { (result.0.home ≡ reader.home) × (result.0.ticket ≡ false) }
+        { read_to_the_end(rt, alloc, bucket, reader, ended) },
+    );
+    clearer.join(reader);
+    (clearer, shown, known)
+}
+
+/// Pushers, a clearer and a reader at once. One pen comes back, with what the clearer showed.
+fn push_and_walk<R: Threads + Wait + Sync>(
+    rt: &R,
+    alloc: Global,
+    bucket: &RuledBucket<u64>,
+    pusher: Pen,
+    clearer: Pen,
+    reader: Pen,
+) -> Result<(Pen, Vec<u64>, bool), Error>
+    requires pusher { (pusher.home ≡ bucket.now) × (pusher.ticket ≡ false) }
+    requires clearer { (clearer.home ≡ bucket.now) × (clearer.ticket ≡ false) }
+    requires reader { (reader.home ≡ bucket.now) × (reader.ticket ≡ false) }
+    ensures { IfOk result (λ r. (r.0.home ≡ bucket.now) × (r.0.ticket ≡ false)) }
+{
+    let counter = AtomicUsize::new(0);
+    let ended = &counter;
+    let (pushed, (mut pen, shown, known)) = join(
+        rt,
+        || -> Result<Pen, Error>
+            requires { (pusher.home ≡ bucket.now) × (pusher.ticket ≡ false) }
+            ensures { IfOk result (λ p. (p.home ≡ pusher.home) × (p.ticket ≡ false)) }
+        { push_to_the_end(rt, bucket, pusher, ended) },
+        || -> (Pen, Vec<u64>, bool)
+            requires { (clearer.home ≡ bucket.now) × (clearer.ticket ≡ false) × (reader.home ≡ bucket.now)
+                × (reader.ticket ≡ false) }
+            ensures { (result.0.home ≡ clearer.home) × (result.0.ticket ≡ false) }
+        { walk_to_the_end(rt, alloc, bucket, clearer, reader, ended) },
+    );
+    pen.join(pushed?);
+    Ok((pen, shown, known))
+}
+
+#[test]
+fn each_value_comes_out_once(rt: HostRuntime) -> Result<(), Fail> {
+    let (bucket, mut pusher) = RuledBucket::<u64>::new(rt.alloc(), 4)?;
+    let clearer = pusher.split()?;
+    let reader = pusher.split()?;
+    let (pen, mut shown, known) = push_and_walk(&rt, rt.alloc(), &bucket, pusher, clearer, reader)?;
+    let rest = settled(bucket, rt.alloc(), pen)?;
+    for value in rest.as_slice() {
+        shown.push(*value)?;
+    }
+    assert!(rt; known && are_all_once(shown, 4000));
+    Ok(())
+}
+
+/// A pen beside its bucket, as a walk's closure may hold it.
+#[derive(Drop)]
+struct Lent {
+    bucket: Arc<RuledBucket<u64>, Global>,
+    pen: Pen,
+    ghost own: { pen.home ≡ arc_value bucket },
+    ghost free: { pen.ticket ≡ false },
+}
+
+impl Lent {
+    fn new(bucket: &Arc<RuledBucket<u64>, Global>, pen: Pen) -> Result<Lent, Error>
+        requires { (pen.home ≡ arc_value bucket.now) × (pen.ticket ≡ false) }
+    {
+        let Ok(bucket) = Arc::try_clone(bucket) else {
+            return Err(Error::Memory);
+        };
+        Ok(Lent { bucket, pen })
+    }
+
+    fn push(self, value: u64) -> (Lent, bool) {
+        let Lent { bucket, mut pen } = self;
+        let pushed = bucket.try_push_as(&mut pen, value).is_ok();
+        (Lent { bucket, pen }, pushed)
+    }
+
+    fn clear_with<R: Wait, F: FnMut(&[u64])>(self, rt: &R, f: F) -> (Lent, Result<usize, Error>)
+        requires { F.IsAlwaysCallable f }
+    {
+        let Lent { bucket, mut pen } = self;
+        let answer = bucket.clear_with_as(rt, &mut pen, f);
+        (Lent { bucket, pen }, answer)
+    }
+
+    fn data<R: Wait>(self, rt: &R, alloc: Global) -> Result<Vec<u64>, Error> {
+        let Lent { bucket, mut pen } = self;
+        bucket.data_as(rt, alloc, &mut pen)
+    }
+}
+
+/// Two pens of one bucket of one block.
+fn two_pens(alloc: Global) -> Result<(Lent, Lent), Error> {
+    let (bucket, mut pen) = RuledBucket::<u64>::new(alloc, 1)?;
+    let other = pen.split()?;
+    let Ok(bucket) = Arc::new(alloc, bucket) else {
+        return Err(Error::Memory);
+    };
+    Ok((Lent::new(&bucket, pen)?, Lent::new(&bucket, other)?))
+}
+
+#[test]
+fn a_clears_closure_may_push(rt: HostRuntime) -> Result<(), Fail> {
+    let (pen, other) = two_pens(rt.alloc())?;
+    let (pen, pushed) = pen.push(1);
+    let mut inside = false;
+    let mut lent = Some(other);
+    let (pen, answer) = pen.clear_with(&rt, |_| {
+        if let Some(other) = lent.take() {
+            let (other, pushed) = other.push(2);
+            inside = pushed;
+            lent = Some(other);
+        }
+    });
+    assert!(rt; pushed && inside && answer == Ok(1));
+    let values = pen.data(&rt, rt.alloc())?;
+    assert!(rt; values.as_slice() == [2].as_slice());
     Ok(())
 }

@@ -7,3 +7,5 @@
 mod quantiles;
 #[cfg(test)]
 mod recency;
+#[cfg(test)]
+mod retains;
