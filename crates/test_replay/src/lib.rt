@@ -1,4 +1,4 @@
-//! Tests of books and of what updates them, through what the crates hand out.
+//! Tests of books and of lists of calls, through what the crates hand out.
 //!
 //! They stand in a crate of their own: a crate with tests is proved twice.
 #![tactic(auto)]
@@ -7,3 +7,9 @@
 mod books;
 #[cfg(test)]
 mod handles;
+#[cfg(test)]
+mod journals;
+#[cfg(test)]
+mod replays;
+#[cfg(test)]
+mod round;
