@@ -8,4 +8,6 @@ mod given;
 #[cfg(test)]
 mod kinds;
 #[cfg(test)]
+mod shard;
+#[cfg(test)]
 mod threads;

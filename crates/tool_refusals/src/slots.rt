@@ -295,20 +295,6 @@ fn install_second<W: Wait, R: Recorder>(
     }
 }
 
-/// That a cell has a slot through which a recorder of one book is called.
-fn expect_filled<W: Wait, R: Recorder>(
-    rt: &W,
-    cell: &OnceLock<SlotRecorder<R>>,
-) -> Result<(), Wrong> {
-    match cell.get() {
-        Some(slot) => expect(
-            slot.with(rt, |on| on.books()) == Some(1),
-            "another recorder is called",
-        ),
-        None => Err("the cell isn't filled"),
-    }
-}
-
 /// Fills a cell with the slot of a recorder, and tries another, which comes back.
 fn install_slot<W: Wait, R: Recorder>(
     rt: &W,
@@ -319,9 +305,7 @@ fn install_slot<W: Wait, R: Recorder>(
 ) -> Result<(), Wrong> {
     let handle = install_first(rt, trial, cell, first)?;
     install_second(rt, trial, cell, second)?;
-    let filled = expect_filled(rt, cell);
-    expect_gauge(trial, done(handle.into_inner(rt))?)?;
-    filled
+    expect_gauge(trial, done(handle.into_inner(rt))?)
 }
 
 fn an_installed_slot_gives_its_recorder_back<W: Wait>(
