@@ -3,7 +3,7 @@ ghost use Rattle.std.specs.Prelude.{◌≡◌};
 
 use crate::given::{Registry, key};
 use metrics::{Error, Key, MetricKind};
-use metrics_journal::ShardCall;
+use metrics_journal::{ShardCall, Tally};
 use metrics_registry::{PlainStorage, shard_of};
 use std::alloc::Global;
 use std::marker::Brand;
@@ -71,6 +71,33 @@ fn expect_journal<R: Abort>(
     Ok(())
 }
 
+/// Both journals have the rows of their keys.
+fn expect_journals<R: Abort>(
+    rt: &R,
+    alloc: Global,
+    journals: &[Vec<(ShardCall<Key>, bool)>],
+) -> Result<(), Fail> {
+    assert_eq!(rt; journals.len(), 2);
+    for (shard, journal) in journals.iter().enumerate() {
+        expect_journal(rt, alloc, shard, journal.as_slice())?;
+    }
+    Ok(())
+}
+
+/// Makes the calls, each of which replies what its row says.
+fn call_all<T: Ledger, F: Ledger, R: Wait + Abort>(
+    rt: &R,
+    alloc: Global,
+    registry: &Registry<T, F>,
+    tally: &mut Tally<T, F>,
+) -> Result<(), Fail> {
+    for row in &ROWS {
+        let reply = registry.call(rt, tally, call_of(alloc, row)?)?;
+        assert_eq!(rt; reply, row.3);
+    }
+    Ok(())
+}
+
 fn expect_rows<T: Ledger, F: Ledger, R: Wait + Abort>(
     rt: &R,
     alloc: Global,
@@ -87,19 +114,11 @@ fn expect_rows<T: Ledger, F: Ledger, R: Wait + Abort>(
         trues,
         falses,
     )?;
-    for row in &ROWS {
-        let reply = registry.call(rt, &mut tally, call_of(alloc, row)?)?;
-        assert_eq!(rt; reply, row.3);
-    }
+    call_all(rt, alloc, &registry, &mut tally)?;
     if !tally.is_whole() {
         return Err("not whole".into());
     }
-    let journals = registry.finish(tally);
-    assert_eq!(rt; journals.len(), 2);
-    for (shard, journal) in journals.iter().enumerate() {
-        expect_journal(rt, alloc, shard, journal.as_slice())?;
-    }
-    Ok(())
+    expect_journals(rt, alloc, registry.finish(tally).as_slice())
 }
 
 #[test]

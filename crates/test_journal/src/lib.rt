@@ -8,6 +8,4 @@ mod given;
 #[cfg(test)]
 mod kinds;
 #[cfg(test)]
-mod shard;
-#[cfg(test)]
 mod threads;

@@ -59,6 +59,17 @@ fn joined<T: Ledger, F: Ledger>(told: Vec<Result<Told<T, F>, Error>>) -> Result<
     Ok((tally, new))
 }
 
+/// Creates the counters in four threads.
+fn create_in_four<T: Ledger + Send + Sync, F: Ledger + Send + Sync, R: Threads + Wait + Sync>(
+    rt: &R,
+    alloc: Global,
+    registry: &Registry<T, F>,
+    tally: Tally<T, F>,
+) -> Result<Told<T, F>, Fail> {
+    let parts = in_four(alloc, tally)?;
+    joined(thread::map_vec(rt, parts, &|part| create_all(rt, alloc, registry, part))?)
+}
+
 /// How many pairs of all journals have this call, and how many of these were answered true.
 fn found(journals: &[Vec<(ShardCall<Key>, bool)>], call: &ShardCall<Key>) -> (usize, usize) {
     let mut pairs = 0usize;
@@ -74,12 +85,16 @@ fn found(journals: &[Vec<(ShardCall<Key>, bool)>], call: &ShardCall<Key>) -> (us
     (pairs, new)
 }
 
-/// Each counter was created four times, and was new once.
+/// Each counter was created four times, and was new once. There are no other pairs.
 fn expect_names<R: Abort>(
     rt: &R,
     alloc: Global,
     journals: &[Vec<(ShardCall<Key>, bool)>],
 ) -> Result<(), Fail> {
+    let pairs: usize = journals
+        .iter()
+        .fold(0, |sum: usize, journal| sum.saturating_add(journal.len()));
+    assert_eq!(rt; (journals.len(), pairs), (4, 40));
     for name in NAMES {
         assert_eq!(rt; found(journals, &create(alloc, name)?), (4, 1), "{name}");
     }
@@ -102,21 +117,12 @@ fn expect_all<T: Ledger + Send + Sync, F: Ledger + Send + Sync, R: Threads + Wai
         trues,
         falses,
     )?;
-    let parts = in_four(alloc, tally)?;
-    let shared = &registry;
-    let told = thread::map_vec(rt, parts, &|part| create_all(rt, alloc, shared, part))?;
-    let (tally, new) = joined(told)?;
+    let (tally, new) = create_in_four(rt, alloc, &registry, tally)?;
     assert_eq!(rt; new, 10);
     if !tally.is_whole() {
         return Err("not whole".into());
     }
-    let journals = registry.finish(tally);
-    assert_eq!(rt; journals.len(), 4);
-    let pairs: usize = journals
-        .iter()
-        .fold(0, |sum: usize, journal| sum.saturating_add(journal.len()));
-    assert_eq!(rt; pairs, 40);
-    expect_names(rt, alloc, journals.as_slice())
+    expect_names(rt, alloc, registry.finish(tally).as_slice())
 }
 
 #[test]
