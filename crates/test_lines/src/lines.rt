@@ -189,58 +189,56 @@ fn whole_run<R: Threads + Wait + Sync>(
     (held, status)
 }
 
-// Words that ask for nothing.
-const WRONG: [&[&str]; 45] = [
-    &[],
-    &["walk"],
-    &[""],
-    &["run", "run"],
-    &["storm"],
-    &["storm", "1", "1"],
-    &["storm", "1", "1", "1", "1"],
-    &["stormy", "1", "1", "1"],
-    &["storm", "0", "1", "1"],
-    &["storm", "65", "1", "1"],
-    &["storm", "1", "1000001", "1"],
-    &["storm", "1", "1", "0"],
-    &["storm", "1", "1", "1025"],
-    &["storm", "01", "1", "1"],
-    &["storm", "1", "-1", "1"],
-    &["storm", "1", "1", "one"],
-    &["storm", "-0", "1", "1"],
-    &["storm", "1", "-0", "1"],
-    &["storm", "1", "00", "1"],
-    &["storm", "1", "1", "01"],
-    &["storm", "18446744073709551617", "1", "1"],
-    &["storm", "1", "1", "18446744073709551617"],
-    &["storm", "1", "1", "1", "grows"],
-    &["storm", "1", "1", "1", "grow", "grow"],
-    &["export"],
-    &["export", "1", "c", "5"],
-    &["export", "1", "c", "5", "10", "10"],
-    &["exports", "1", "c", "5", "10"],
-    &["export", "0", "c", "5", "10"],
-    &["export", "3", "c", "5", "10"],
-    &["export", "2048", "c", "5", "10"],
-    &["export", "01", "c", "5", "10"],
-    &["export", "-1", "c", "5", "10"],
-    &["export", "1", "", "5", "10"],
-    &["export", "1", "gc", "5", "10"],
-    &["export", "1", "cc", "5", "10"],
-    &["export", "1", "x", "5", "10"],
-    &["export", "1", "c", "", "10"],
-    &["export", "1", "c", "-1", "10"],
-    &["export", "1", "c", "18446744073709551616", "10"],
-    &["export", "1", "c", "5", ""],
-    &["export", "1", "c", "5", "10,"],
-    &["export", "1", "c", "5", ",10"],
-    &["export", "1", "c", "5", "10,-0"],
-    &["export", "1", "c", "5", "9223372036854775808"],
-];
-
 #[test]
 fn wrong_words(rt: HostRuntime) -> Result<(), Fail> {
-    for words in WRONG {
+    let wrong: [&[&str]; 45] = [
+        &[],
+        &["walk"],
+        &[""],
+        &["run", "run"],
+        &["storm"],
+        &["storm", "1", "1"],
+        &["storm", "1", "1", "1", "1"],
+        &["stormy", "1", "1", "1"],
+        &["storm", "0", "1", "1"],
+        &["storm", "65", "1", "1"],
+        &["storm", "1", "1000001", "1"],
+        &["storm", "1", "1", "0"],
+        &["storm", "1", "1", "1025"],
+        &["storm", "01", "1", "1"],
+        &["storm", "1", "-1", "1"],
+        &["storm", "1", "1", "one"],
+        &["storm", "-0", "1", "1"],
+        &["storm", "1", "-0", "1"],
+        &["storm", "1", "00", "1"],
+        &["storm", "1", "1", "01"],
+        &["storm", "18446744073709551617", "1", "1"],
+        &["storm", "1", "1", "18446744073709551617"],
+        &["storm", "1", "1", "1", "grows"],
+        &["storm", "1", "1", "1", "grow", "grow"],
+        &["export"],
+        &["export", "1", "c", "5"],
+        &["export", "1", "c", "5", "10", "10"],
+        &["exports", "1", "c", "5", "10"],
+        &["export", "0", "c", "5", "10"],
+        &["export", "3", "c", "5", "10"],
+        &["export", "2048", "c", "5", "10"],
+        &["export", "01", "c", "5", "10"],
+        &["export", "-1", "c", "5", "10"],
+        &["export", "1", "", "5", "10"],
+        &["export", "1", "gc", "5", "10"],
+        &["export", "1", "cc", "5", "10"],
+        &["export", "1", "x", "5", "10"],
+        &["export", "1", "c", "", "10"],
+        &["export", "1", "c", "-1", "10"],
+        &["export", "1", "c", "18446744073709551616", "10"],
+        &["export", "1", "c", "5", ""],
+        &["export", "1", "c", "5", "10,"],
+        &["export", "1", "c", "5", ",10"],
+        &["export", "1", "c", "5", "10,-0"],
+        &["export", "1", "c", "5", "9223372036854775808"],
+    ];
+    for words in wrong {
         let mut output = writer(rt.alloc(), 1000, 1000, true);
         let (errors, status) = whole_run(&rt, rt.alloc(), words, &mut output);
         assert_eq!(rt; status, 2);
@@ -253,33 +251,31 @@ fn wrong_words(rt: HostRuntime) -> Result<(), Fail> {
     Ok(())
 }
 
-// Words that ask for a storm, and its lines.
-const STORMS: [(&[&str], &str); 5] = [
-    (
-        &["storm", "2", "100", "1"],
-        "pushed 200 sum 9900\nfound 200 sum 9900\nsampled 16 of 200 sum 9900\n",
-    ),
-    (
-        &["storm", "1", "0", "1"],
-        "pushed 0 sum 0\nfound 0 sum 0\nsampled 0 of 0 sum 0\n",
-    ),
-    (
-        &["storm", "64", "3", "1024"],
-        "pushed 192 sum 192\nfound 192 sum 192\nsampled 16 of 192 sum 192\n",
-    ),
-    (
-        &["storm", "5", "3", "1"],
-        "pushed 15 sum 15\nfound 15 sum 15\nsampled 15 of 15 sum 15\n",
-    ),
-    (
-        &["storm", "2", "100", "1", "grow"],
-        "pushed 200 sum 9900\nfound 200 sum 9900\nsampled 16 of 200 sum 9900\n",
-    ),
-];
-
 #[test]
 fn storms(rt: HostRuntime) -> Result<(), Fail> {
-    for (words, want) in STORMS {
+    let cases: [(&[&str], &str); 5] = [
+        (
+            &["storm", "2", "100", "1"],
+            "pushed 200 sum 9900\nfound 200 sum 9900\nsampled 16 of 200 sum 9900\n",
+        ),
+        (
+            &["storm", "1", "0", "1"],
+            "pushed 0 sum 0\nfound 0 sum 0\nsampled 0 of 0 sum 0\n",
+        ),
+        (
+            &["storm", "64", "3", "1024"],
+            "pushed 192 sum 192\nfound 192 sum 192\nsampled 16 of 192 sum 192\n",
+        ),
+        (
+            &["storm", "5", "3", "1"],
+            "pushed 15 sum 15\nfound 15 sum 15\nsampled 15 of 15 sum 15\n",
+        ),
+        (
+            &["storm", "2", "100", "1", "grow"],
+            "pushed 200 sum 9900\nfound 200 sum 9900\nsampled 16 of 200 sum 9900\n",
+        ),
+    ];
+    for (words, want) in cases {
         let mut output = writer(rt.alloc(), 7, 1000, true);
         let (errors, status) = whole_run(&rt, rt.alloc(), words, &mut output);
         assert_eq!(rt; status, 0);
