@@ -295,6 +295,20 @@ fn install_second<W: Wait, R: Recorder>(
     }
 }
 
+/// The slot in a cell has the recorder that was installed.
+fn expect_filled<W: Wait, R: Recorder>(
+    rt: &W,
+    cell: &OnceLock<SlotRecorder<R>>,
+) -> Result<(), Wrong> {
+    let Some(slot) = cell.get() else {
+        return Err("the cell is empty");
+    };
+    expect(
+        slot.with(rt, |on| on.books()) == Some(1),
+        "the slot in the cell is another one",
+    )
+}
+
 /// Fills a cell with the slot of a recorder, and tries another, which comes back.
 fn install_slot<W: Wait, R: Recorder>(
     rt: &W,
@@ -304,6 +318,7 @@ fn install_slot<W: Wait, R: Recorder>(
     second: R,
 ) -> Result<(), Wrong> {
     let handle = install_first(rt, trial, cell, first)?;
+    expect_filled(rt, cell)?;
     install_second(rt, trial, cell, second)?;
     expect_gauge(trial, done(handle.into_inner(rt))?)
 }
