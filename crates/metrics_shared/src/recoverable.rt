@@ -5,9 +5,6 @@ ghost use Rattle.std.specs.Result.{result_map_both};
 ghost use Rattle.metrics.specs.Meaning.{KeepsTargets, Describes, Registers, Updates};
 ghost use Rattle.metrics.specs.declared.error.Error.TheVariants.{Memory as OutOfMemory, Gone};
 
-#[cfg(test)]
-mod tests;
-
 use crate::install::SetRecorderError;
 use crate::slot::Slot;
 use metrics::{Address, Error, Key, KeyName, MetricKind, Recorder, Refused, Unit, Update};
