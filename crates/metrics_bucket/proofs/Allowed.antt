@@ -13,9 +13,9 @@ use Rattle.metrics_bucket.specs.declared.view.Push.{Push}
 use Rattle.metrics_bucket.specs.declared.view.Turn.{Turn}
 use Rattle.metrics_bucket.specs.declared.view.Hold.{Hold}
 use Rattle.metrics_bucket.specs.declared.view.Hold.TheVariants.{Nothing, Ticket, Written, Settling}
-use Rattle.metrics_bucket.specs.BucketState.{BucketState, base, place_index, words_of, live_values, new_view, whole_view, holding, holding_at, pushing, total, walks_of, walks_made, Act, ticket, write, finish, look_to_settle, split, join, state_after, left_part, right_part, both_parts}
+use Rattle.metrics_bucket.specs.BucketState.{BucketState, base, place_index, words_of, live_values, new_view, whole_view, holding, holding_at, seeing, pushing, total, walks_of, walks_made, Act, look, ticket, write, finish, look_to_settle, split, join, state_after, left_part, right_part, both_parts}
 use Rattle.metrics_bucket.specs.Facts.{weigh, weigh_pushes, weight_of, HoldFits, Facts}
-use Rattle.metrics_bucket.specs.Steps.{Seated, IsControl, control_looked, ticket_drawn, value_written, push_finished, live_side_looked, settled_value_looked}
+use Rattle.metrics_bucket.specs.Steps.{Seated, IsControl, control_looked, weight_looked, ticket_drawn, value_written, push_finished, live_side_looked, settled_value_looked}
 use Rattle.metrics_bucket.specs.History.{May, opened, turn_at, at_home, homes_of, FollowsHistory}
 use Rattle.metrics_bucket.proofs.PlacedAlways.{placed}
 use Rattle.metrics_bucket.proofs.Covering.{covers}
@@ -103,18 +103,28 @@ module _ (places : ℕ) where
       let r = live_length places w (facts places s k) in
       (omega arith, omega arith)
 
-  pub looks : (slots id : ℕ) (me : Seated) → Allows (FollowsHistory places) slots id me 0 (λ n. n) (control_looked (step slots 0 0 0 none) me)
-  looks slots id me s k _ at _ =
-      let most : me.0.weight ≤ 1024 = (let a = total_one weight_of k.1.views id me.0 (seated s k id me.0 at) in let b = (facts places s k).shares in omega arith) in
+  most : (s : TableState) (k : FollowsHistory places s) (id : ℕ) (v : View) → get_elem? s.views id ≡ some v → v.weight ≤ 1024
+  most s k id v at = let a = total_one weight_of k.1.views id v (seated s k id v at) in let b = (facts places s k).shares in omega arith
+
+  pub looks : (slots id : ℕ) (me : Seated) → 0 < me.0.weight → Allows (FollowsHistory places) slots id me 0 (λ n. n) (control_looked (step slots 0 0 0 none) me)
+  looks slots id me has s k _ at _ =
+      let w : BucketState = k.1 in
+      let x : ℕ = get_or s.words 0 0 in
       let c = control s k in
       let side = (facts places s k).side in
+      let there = seated s k id me.0 at in
+      let size = ((facts places s k).each id me.0 there).size has in
       let room = (facts places s k).room in (
-        me.0,
+        seeing me.0 x,
         keeps,
         tt,
-        still s k 0 id me.1 me.0 at,
-        (refl, most, (λ has. let size = ((facts places s k).each id me.0 (seated s k id me.0 at)).size has in omega arith), λ free. whole_control s k id me.0 at free),
+        subst (λ (n : ℕ). FollowsHistory places (stepped s 0 x id me.1 (seeing me.0 n) keeps)) (sym c)
+            (moved s k 0 x id me.1 me.0 (seeing me.0 (2 * w.given + w.live)) look there has tt (k.3 ∙ sym (set-get_or s.words 0 0) ∙ sym (ap (λ (l : List ℕ). set l 0 x) k.3)) refl refl refl),
+        (refl, most s k id me.0 at, (λ _. omega arith), λ free. whole_control s k id me.0 at free),
       )
+
+  pub weighs : (slots id : ℕ) (me : Seated) → Allows (FollowsHistory places) slots id me 0 (λ n. n) (weight_looked (step slots 0 0 0 none) me)
+  weighs slots id me s k _ at _ = (me.0, keeps, tt, still s k 0 id me.1 me.0 at, (refl, most s k id me.0 at))
 
   pub draws : (slots id : ℕ) (me : Seated) (old : ℕ) → 0 < me.0.weight → me.0.hold ≡ Nothing → old / 2 < places
       → Allows (FollowsHistory places) slots id me 0 (λ n. either (eqb n old) (old + 2) n) (ticket_drawn (step slots 0 old (old + 2) none) me)

@@ -1,5 +1,5 @@
 -- Each step keeps the facts, so each history does.
-use Rattle.std.proofs.Common.{◌≡◌, ℕ, zero, suc, ◌+◌, ◌<◌, List, [], ◌∷◌, ◌++◌, get_or, replicate, refl, sym, ap, ◌∙◌, subst, arith}
+use Rattle.std.proofs.Common.{◌≡◌, ℕ, zero, suc, ◌+◌, ◌*◌, ◌<◌, List, [], ◌∷◌, ◌++◌, get_or, replicate, refl, sym, ap, ◌∙◌, subst, arith}
 use mathlib.Core.Option.{some, some-injective, some-ne-none}
 use lib.ListN.{get_elem?}
 use Rattle.atomic_table.specs.Table.{State}
@@ -9,11 +9,12 @@ use Rattle.metrics_bucket.specs.declared.view.Turn.{Turn}
 use Rattle.metrics_bucket.specs.declared.view.Hold.{Hold}
 use Rattle.metrics_bucket.specs.declared.view.Hold.TheVariants.{Nothing, Ticket, Written, Claimed, SideKnown, Reading, Clearing, Settling}
 use Rattle.metrics_bucket.specs.declared.view.Visit.TheVariants.{Unseen, Marked, Read, Wiped}
-use Rattle.metrics_bucket.specs.BucketState.{total, BucketState, Act, look, look_to_settle, ticket, write, finish, claim, look_to_read, look_to_clear, takes, see, read, wipe, leave, quit, split, join, both_parts, place_index, side_of, put_visit, new_view, whole_view, holding, left_from, state_after}
+use Rattle.metrics_bucket.specs.BucketState.{total, BucketState, Act, look, look_to_settle, ticket, write, finish, claim, look_to_read, look_to_clear, takes, see, read, wipe, leave, quit, split, join, both_parts, place_index, side_of, put_visit, new_view, whole_view, holding, seeing, left_from, state_after}
 use Rattle.metrics_bucket.specs.Facts.{ticket_in, owed_in, turn_in, took_in, wiped, weight_of, is_open, HoldFits, Facts}
 use Rattle.metrics_bucket.specs.History.{HasVisit, CanLeave, CanQuit, May, Event, Runs, opened, FollowsHistory}
 use Rattle.metrics_bucket.proofs.Pushes.{tickets, writes, finishes}
-use Rattle.metrics_bucket.proofs.Walks.{keeps_hold, claims, surveys, aims, gathers, takes_side, visit_reading, visit_clearing}
+use Rattle.metrics_bucket.proofs.Keep.{facts_beside}
+use Rattle.metrics_bucket.proofs.Walks.{claims, surveys, aims, gathers, takes_side, visit_reading, visit_clearing}
 use Rattle.metrics_bucket.proofs.Leaving.{wipes, leaves_clear, leaves_read, quits}
 use Rattle.metrics_bucket.proofs.Shares.{opens, splits, joins, IsNew}
 
@@ -63,10 +64,10 @@ module _ (places all : ℕ) (w : BucketState) (id : ℕ) (v : View) (f : Facts p
   quits_any (Written a b x) e c = absurd c
   quits_any (Settling a xs) e c = absurd c
 
-  same_hold : (hold : Hold) → v.hold ≡ hold → HoldFits places all record w { views = Rattle.std.proofs.Common.set w.views id (holding v hold) } v.weight hold
-  same_hold hold e = go hold (subst (HoldFits places all w v.weight) e (f.each id v at).hold)
+  same_hold : (views : List View) (hold : Hold) → HoldFits places all w v.weight hold → HoldFits places all record w { views = views } v.weight hold
+  same_hold views hold fits = go hold fits
     where
-      go : (z : Hold) → HoldFits places all w v.weight z → HoldFits places all record w { views = Rattle.std.proofs.Common.set w.views id (holding v hold) } v.weight z
+      go : (z : Hold) → HoldFits places all w v.weight z → HoldFits places all record w { views = views } v.weight z
       go Nothing h = tt
       go (Ticket s i) h = h
       go (Written s i x) h = h
@@ -77,7 +78,10 @@ module _ (places all : ℕ) (w : BucketState) (id : ℕ) (v : View) (f : Facts p
       go (Settling s xs) h = h
 
   pub step_facts : (act : Act) → May places all w id v act → Facts places all (state_after places w id v act)
-  step_facts look m = keeps_hold places all w id v f at has v.epoch v.hold (λ s i. refl) (λ s i. refl) refl refl (λ h. refl) (same_hold v.hold refl)
+  step_facts look m =
+      let w' : BucketState = state_after places w id v look in
+      facts_beside places all w w' id v (seeing v (2 * w.given + w.live)) f at has refl refl refl refl refl refl refl refl (λ s i. refl) refl f.one_turn (λ h. refl) (λ h. omega arith)
+      (same_hold w'.views v.hold (f.each id v at).hold) (f.each id v at).reads
   step_facts look_to_settle m = gathers places all w id v f at has m.0 m.1
   step_facts ticket m = tickets places all w id v f at has m.0 m.1
   step_facts (write s i x) m = writes places all w id v f at has s i x m

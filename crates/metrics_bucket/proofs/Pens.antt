@@ -22,5 +22,6 @@ account_pushed p p' x table ticket (e, i, below, is) = (
     taken = (is k).0.taken;
     read = (is k).0.read;
     ticket = ticket k;
+    seen = p'.seat.me.0.seen;
   },
 )

@@ -89,7 +89,7 @@ module _ (places all : ℕ) (w : BucketState) (id : ℕ) (v : View) (f : Facts p
 
   -- only the step that gives a ticket changes the tickets
   tickets_same : (act : Act) → May places all w id v act → ((n : ℕ) → gives_in n n act ≡ 0) → (e i : ℕ) → total (tickets_at e i) (state_after places w id v act).views ≡ total (tickets_at e i) w.views
-  tickets_same look m other_act e i = by_view e i v refl
+  tickets_same look m other_act e i = by_view e i (view_after places w v look) refl
   tickets_same look_to_settle m other_act e i = by_view e i (view_after places w v look_to_settle) (let a : held_in e i v.epoch v.hold ≡ 0 = ap (held_in e i v.epoch) m.0 in omega arith)
   tickets_same ticket m other_act e i = let a = other_act 0 in absurd (omega arith)
   tickets_same (write s j x) m other_act e i = by_view e i (view_after places w v (write s j x)) (let a : held_in e i v.epoch v.hold ≡ same e i v.epoch j = ap (held_in e i v.epoch) m in omega arith)
@@ -167,7 +167,7 @@ module _ (places all : ℕ) (w : BucketState) (id : ℕ) (v : View) (f : Facts p
 
   -- a walk is finished where the turn comes back with a list
   turns_after : (act : Act) → May places all w id v act → is_claim act + (walks_made w + w.turn) ≡ walks_made (state_after places w id v act) + is_quit act + (state_after places w id v act).turn
-  turns_after look m = let a = same_walks v refl in omega arith
+  turns_after look m = let a = same_walks (view_after places w v look) refl in omega arith
   turns_after look_to_settle m = let a = same_walks (view_after places w v look_to_settle) refl in omega arith
   turns_after ticket m = let a = same_walks (view_after places w v ticket) refl in omega arith
   turns_after (write s j x) m = let a = same_walks (view_after places w v (write s j x)) refl in omega arith

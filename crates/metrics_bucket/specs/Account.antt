@@ -18,7 +18,7 @@ pub record Home : Type 0 where
 abbrev pub home_code : Coded Home
 home_code = code_by (TableId × ℕ) (coded× table_id_coded coded_ℕ) (λ e. (e.table, e.places)) (λ p. record { table = p.0; places = p.1 }) (λ _. refl)
 
--- A pen's account: what it pushed, the walks that took and those that only read, its weight, and whether it has a ticket
+-- A pen's account: what it pushed, the walks that took and those that only read, its weight, whether it has a ticket, and the control word that it saw last, which is twice the number of tickets given and the live side
 pub record Account : Type 0 where
   pub home : Home
   pub weight : ℕ
@@ -26,6 +26,7 @@ pub record Account : Type 0 where
   pub taken : List Walk
   pub read : List Walk
   pub ticket : Bool
+  pub seen : ℕ
 
 abbrev push_code : Coded Push
 push_code = code_by (ℕ × (ℕ × ℕ)) (coded× coded_ℕ (coded× coded_ℕ coded_ℕ)) (λ e. (e.epoch, (e.place, e.value))) (λ p. record { epoch = p.0; place = p.1.0; value = p.1.1 }) (λ _. refl)
@@ -35,10 +36,10 @@ walk_code = code_by (ℕ × List ℕ) (coded× coded_ℕ (coded_list coded_ℕ))
 
 abbrev pub account_code : Coded Account
 account_code =
-    code_by (Home × (ℕ × (List Push × (List Walk × (List Walk × Bool)))))
-    (coded× home_code (coded× coded_ℕ (coded× (coded_list push_code) (coded× (coded_list walk_code) (coded× (coded_list walk_code) coded_bool)))))
-    (λ e. (e.home, (e.weight, (e.pushed, (e.taken, (e.read, e.ticket))))))
-    (λ p. record { home = p.0; weight = p.1.0; pushed = p.1.1.0; taken = p.1.1.1.0; read = p.1.1.1.1.0; ticket = p.1.1.1.1.1 })
+    code_by (Home × (ℕ × (List Push × (List Walk × (List Walk × (Bool × ℕ))))))
+    (coded× home_code (coded× coded_ℕ (coded× (coded_list push_code) (coded× (coded_list walk_code) (coded× (coded_list walk_code) (coded× coded_bool coded_ℕ))))))
+    (λ e. (e.home, (e.weight, (e.pushed, (e.taken, (e.read, (e.ticket, e.seen)))))))
+    (λ p. record { home = p.0; weight = p.1.0; pushed = p.1.1.0; taken = p.1.1.1.0; read = p.1.1.1.1.0; ticket = p.1.1.1.1.1.0; seen = p.1.1.1.1.1.1 })
     (λ _. refl)
 
 abbrev pub hold_of : Option (ℕ × ℕ) → Hold
@@ -56,23 +57,30 @@ TicketFits (Some t) places = (t.0 < 2) × (t.1 < places)
 
 -- the first pen of a bucket
 abbrev pub first_account : Home → Account
-first_account home = record { home = home; weight = 1024; pushed = []; taken = []; read = []; ticket = false }
+first_account home = record { home = home; weight = 1024; pushed = []; taken = []; read = []; ticket = false; seen = 0 }
 
 abbrev pub with_ticket : Account → Bool → Account
 with_ticket a ticket = record a { ticket = ticket }
 
+abbrev pub looked_at : Account → ℕ → Account
+looked_at a seen = record a { seen = seen }
+
+-- nothing changed but the control word that it saw last
+abbrev pub IsLooked : Account → Account → Type 0
+IsLooked old new = new ≡ looked_at old new.seen
+
 abbrev pub with_push : Account → Push → Account
 with_push a p = record a { pushed = a.pushed ++ p ∷ []; ticket = false }
 
--- the account after a push of this value, and no other change
+-- the account after a push of this value, and no other change but of the control word that it saw last
 abbrev pub IsPushed : Account → ℕ → Account → Type 0
-IsPushed old x new = (e i : ℕ) × (i < old.home.places) × (new ≡ with_push old (push e i x))
+IsPushed old x new = (e i : ℕ) × (i < old.home.places) × (new ≡ with_push (looked_at old new.seen) (push e i x))
 
 abbrev pub left_account : Account → Account
 left_account a = record a { weight = a.weight - a.weight / 2 }
 
 abbrev pub right_account : Account → Account
-right_account a = record { home = a.home; weight = a.weight / 2; pushed = []; taken = []; read = []; ticket = false }
+right_account a = record { home = a.home; weight = a.weight / 2; pushed = []; taken = []; read = []; ticket = false; seen = 0 }
 
 abbrev pub joined_account : Account → Account → Account
 joined_account a b = record a { weight = a.weight + b.weight; pushed = a.pushed ++ b.pushed; taken = a.taken ++ b.taken; read = a.read ++ b.read }

@@ -48,14 +48,21 @@ abbrev pub walks_made : BucketState → ℕ
 walks_made w = total walks_of w.views
 
 abbrev pub new_view : ℕ → ℕ → View
-new_view places weight = record { places = places; weight = weight; pushed = []; taken = []; read = []; hold = Nothing; epoch = 0; turn = 0 }
+new_view places weight = record { places = places; weight = weight; pushed = []; taken = []; read = []; hold = Nothing; epoch = 0; turn = 0; seen = 0 }
 
 abbrev pub whole_view : ℕ → View
 whole_view places = new_view places 1024
 
--- it holds something, of this epoch, and knows this many walks
+-- it holds something, of this epoch, knows this many walks, and saw this control word
+abbrev pub knows_as : View → ℕ → ℕ → ℕ → Hold → View
+knows_as v epoch turn seen hold = record { places = v.places; weight = v.weight; pushed = v.pushed; taken = v.taken; read = v.read; hold = hold; epoch = epoch; turn = turn; seen = seen }
+
 abbrev pub holds_as : View → ℕ → ℕ → Hold → View
-holds_as v epoch turn hold = record { places = v.places; weight = v.weight; pushed = v.pushed; taken = v.taken; read = v.read; hold = hold; epoch = epoch; turn = turn }
+holds_as v epoch turn hold = knows_as v epoch turn v.seen hold
+
+-- it saw this control word, and nothing else changed
+abbrev pub seeing : View → ℕ → View
+seeing v seen = knows_as v v.epoch v.turn seen v.hold
 
 abbrev pub holding : View → Hold → View
 holding v hold = holds_as v v.epoch v.turn hold
@@ -73,7 +80,7 @@ abbrev pub walk : ℕ → List ℕ → Walk
 walk epoch values = record { epoch = epoch; values = values }
 
 abbrev pub pushing : View → ℕ → ℕ → View
-pushing v i x = record { places = v.places; weight = v.weight; pushed = v.pushed ++ push v.epoch i x ∷ []; taken = v.taken; read = v.read; hold = Nothing; epoch = v.epoch; turn = v.turn }
+pushing v i x = record { places = v.places; weight = v.weight; pushed = v.pushed ++ push v.epoch i x ∷ []; taken = v.taken; read = v.read; hold = Nothing; epoch = v.epoch; turn = v.turn; seen = v.seen }
 
 -- a walk's visits, at another place of it
 abbrev pub visits_of : Hold → List Visit
@@ -102,10 +109,10 @@ values_in (c ∷ cs) = value_in c ∷ values_in cs
 
 -- with one more list taken or read, and nothing held
 abbrev pub with_taken : View → Walk → View
-with_taken v xs = record { places = v.places; weight = v.weight; pushed = v.pushed; taken = v.taken ++ xs ∷ []; read = v.read; hold = Nothing; epoch = v.epoch; turn = v.turn }
+with_taken v xs = record { places = v.places; weight = v.weight; pushed = v.pushed; taken = v.taken ++ xs ∷ []; read = v.read; hold = Nothing; epoch = v.epoch; turn = v.turn; seen = v.seen }
 
 abbrev pub with_read : View → Walk → View
-with_read v xs = record { places = v.places; weight = v.weight; pushed = v.pushed; taken = v.taken; read = v.read ++ xs ∷ []; hold = Nothing; epoch = v.epoch; turn = v.turn }
+with_read v xs = record { places = v.places; weight = v.weight; pushed = v.pushed; taken = v.taken; read = v.read ++ xs ∷ []; hold = Nothing; epoch = v.epoch; turn = v.turn; seen = v.seen }
 
 -- a walk that leaves adds its list
 abbrev pub left_from : View → Hold → View
@@ -122,16 +129,16 @@ live_values places w = take w.given (drop (base places w.live) w.values)
 
 -- what a thread that splits gives away, and what is left to it
 abbrev pub left_part : View → View
-left_part v = record { places = v.places; weight = v.weight - v.weight / 2; pushed = v.pushed; taken = v.taken; read = v.read; hold = v.hold; epoch = v.epoch; turn = v.turn }
+left_part v = record { places = v.places; weight = v.weight - v.weight / 2; pushed = v.pushed; taken = v.taken; read = v.read; hold = v.hold; epoch = v.epoch; turn = v.turn; seen = v.seen }
 
 abbrev pub right_part : View → View
 right_part v = new_view v.places (v.weight / 2)
 
 -- what a thread has that takes in another
 abbrev pub both_parts : View → View → View
-both_parts v x = record { places = v.places; weight = v.weight + x.weight; pushed = v.pushed ++ x.pushed; taken = v.taken ++ x.taken; read = v.read ++ x.read; hold = v.hold; epoch = v.epoch; turn = v.turn }
+both_parts v x = record { places = v.places; weight = v.weight + x.weight; pushed = v.pushed ++ x.pushed; taken = v.taken ++ x.taken; read = v.read ++ x.read; hold = v.hold; epoch = v.epoch; turn = v.turn; seen = v.seen }
 
--- One step of a thread. A compare-exchange that finds another word is a look
+-- One step of a thread. A look is at the control word. A compare-exchange that finds another word is no step
 pub data Act : Type 0 where
   look : Act
   look_to_settle : Act
@@ -151,7 +158,7 @@ pub data Act : Type 0 where
   join : ℕ → View → Act
 
 abbrev pub view_after : ℕ → BucketState → View → Act → View
-view_after places w v look = v
+view_after places w v look = seeing v (2 * w.given + w.live)
 view_after places w v look_to_settle = holding v (Settling w.live (live_values places w))
 view_after places w v ticket = holding_at v w.epoch (Ticket w.live w.given)
 view_after places w v (write s i x) = holding v (Written s i x)

@@ -12,6 +12,7 @@ account_of p = record {
   taken = p.seat.me.0.taken;
   read = p.seat.me.0.read;
   ticket = has_ticket p.ticket;
+  seen = p.seat.me.0.seen;
 }
 
 pub record IsPen (p : Inside) : Type 0 where

@@ -9,7 +9,7 @@ use Rattle.metrics_bucket.specs.declared.view.Push.{Push}
 use Rattle.metrics_bucket.specs.declared.view.Walk.{Walk}
 use Rattle.metrics_bucket.specs.declared.view.Hold.{Hold}
 use Rattle.metrics_bucket.specs.declared.view.Hold.TheVariants.{Nothing, Ticket, Written, Settling}
-use Rattle.metrics_bucket.specs.BucketState.{place_index, holding, holding_at, walk, pushing}
+use Rattle.metrics_bucket.specs.BucketState.{place_index, holding, holding_at, seeing, walk, pushing}
 use Rattle.metrics_bucket.specs.Facts.{weigh, weigh_pushes, weigh_walks}
 use Rattle.metrics_bucket.specs.Places.{Covers}
 
@@ -25,7 +25,14 @@ abbrev pub IsControl : View → ℕ → Type 0
 IsControl v r = v.weight ≡ 1024 → (r % 2 ≡ length v.taken % 2) × (r / 2 + count_all v.taken ≡ length v.pushed)
 
 abbrev pub control_looked : Step Turn → Seated → ℕ → Seated → Type 0
-control_looked st m r m' = (m' ≡ m) × (m.0.weight ≤ 1024) × (0 < m.0.weight → r / 2 ≤ m.0.places) × (m.0.hold ≡ Nothing → IsControl m.0 r)
+control_looked st m r m' = (m' ≡ (seeing m.0 r, m.1)) × (m.0.weight ≤ 1024) × (0 < m.0.weight → r / 2 ≤ m.0.places) × (m.0.hold ≡ Nothing → IsControl m.0 r)
+
+abbrev pub weight_looked : Step Turn → Seated → ℕ → Seated → Type 0
+weight_looked st m r m' = (m' ≡ m) × (m.0.weight ≤ 1024)
+
+-- nothing changed but the control word that it saw last
+abbrev pub HasLooked : Seated → Seated → Type 0
+HasLooked m m' = m' ≡ (seeing m.0 m'.0.seen, m.1)
 
 -- what a refusal says to a thread with the whole weight: the side is full
 abbrev pub IsFullFor : ℕ → List Push → List Walk → Type 0

@@ -1,13 +1,13 @@
 //! The bucket, and the calls that push.
 ghost use Rattle.std.specs.Prelude.{◌≡◌, ℕ, ◌+◌, ◌*◌, ◌^◌, ◌<◌, ◌≤◌, ◌↔◌, ◌⊎◌, true};
 ghost use Rattle.std.specs.Prelude.{false, IsTrue, IfOk, OnOk, IfErr, OnErr, MatchResult, length, take, drop, map, [], ◌++◌};
-ghost use Rattle.std.specs.Prelude.{◌-◌, vec_capacity};
-ghost use Rattle.metrics_bucket.specs.Account.{first_account, with_ticket, IsPushed};
-ghost use Rattle.metrics_bucket.specs.BucketState.{place_index, holding_at, pushing};
+ghost use Rattle.std.specs.Prelude.{◌-◌, ◌/◌, vec_capacity};
+ghost use Rattle.metrics_bucket.specs.Account.{first_account, with_ticket, looked_at, IsLooked, IsPushed};
+ghost use Rattle.metrics_bucket.specs.BucketState.{place_index, holding_at, seeing, pushing};
 ghost use Rattle.metrics_bucket.specs.Pushed.{HasPushed};
 ghost use Rattle.metrics_bucket.specs.Blocks.{Settled};
 ghost use Rattle.metrics_bucket.specs.declared.view.Hold.TheVariants.{Nothing, Ticket, Settling};
-ghost use Rattle.metrics_bucket.specs.Steps.{count_all, IsFullFor, values_known, ArePartsOf};
+ghost use Rattle.metrics_bucket.specs.Steps.{count_all, HasLooked, IsFullFor, values_known, ArePartsOf};
 
 use crate::pen::{Pen, Words};
 use crate::sample::Sample;
@@ -128,12 +128,13 @@ impl<T: Sample> RuledBucket<T> {
         self.table.shared.peek(0)
     }
 
-    /// Whether no ticket of the live side was given. A push that is under way counts, and a value that a clear is about
-    /// to take does not.
+    /// Whether no ticket of the live side was given, by the word that it sees. A push that is under way counts, and a
+    /// value that a clear is about to take does not.
     pub fn is_empty_as(&self, pen: &mut Pen) -> bool
         requires own { pen.old.home ≡ self.now }
         requires free { pen.old.ticket ≡ false }
-        ensures same { pen.new ≡ pen.old }
+        ensures looked { IsLooked pen.old pen.new }
+        ensures seen { IsTrue result ↔ (pen.new.seen / 2 ≡ 0) }
         ensures whole { pen.old.weight ≡ 1024 → (IsTrue result ↔ (length pen.old.pushed ≡ count_all pen.old.taken)) }
     {
         self.table.shared.load::<LookAtControl>(&mut pen.seat, 0) < 2
@@ -142,13 +143,15 @@ impl<T: Sample> RuledBucket<T> {
     /// Draws a ticket, which `finish_as` uses up. A walk that comes to its place waits until then, so a pen that never
     /// finishes leaves walks waiting.
     ///
-    /// `Full`: all places of the live side are given. `Raced`: another thread changed the control word in between;
-    /// another try may succeed.
+    /// `Full`: the word that it sees has all places of the live side given. `Raced`: that word has not, and another
+    /// thread changed it in between; another try may succeed.
     pub fn begin_as(&self, pen: &mut Pen) -> Result<(), Error>
         requires own { pen.old.home ≡ self.now }
         requires free { pen.old.ticket ≡ false }
-        ensures ok { OnOk result (pen.new ≡ with_ticket pen.old true) }
-        ensures err { IfErr result (λ e. (pen.new ≡ pen.old) × ((e ≡ Error.Full) ⊎ (e ≡ Error.Raced))) }
+        ensures ok { OnOk result ((pen.new ≡ with_ticket (looked_at pen.old pen.new.seen) true)
+            × (pen.new.seen / 2 < self.now.places)) }
+        ensures err { IfErr result (λ e. IsLooked pen.old pen.new × (((e ≡ Error.Full) × (self.now.places ≤ pen.new.seen / 2))
+            ⊎ ((e ≡ Error.Raced) × (pen.new.seen / 2 < self.now.places)))) }
         ensures whole { pen.old.weight ≡ 1024
             → MatchResult result (λ _. length pen.old.pushed < count_all pen.old.taken + self.now.places)
             (λ e. (e ≡ Error.Full) × IsFullFor self.now.places pen.old.pushed pen.old.taken) }
@@ -164,8 +167,11 @@ impl<T: Sample> RuledBucket<T> {
         requires hold { seat.old.me.0.hold ≡ Nothing }
         ensures table { seat.new.table_id ≡ seat.old.table_id }
         ensures ok { IfOk result (λ t. (e : ℕ) × (t.0 < 2) × (t.1 < self.now.places)
-            × (seat.new.me ≡ (holding_at seat.old.me.0 e (Ticket t.0 t.1), seat.old.me.1))) }
-        ensures err { IfErr result (λ e. (seat.new.me ≡ seat.old.me) × ((e ≡ Error.Full) ⊎ (e ≡ Error.Raced))) }
+            × (seat.new.me ≡ (holding_at (seeing seat.old.me.0 seat.new.me.0.seen) e (Ticket t.0 t.1), seat.old.me.1))
+            × (seat.new.me.0.seen / 2 < self.now.places)) }
+        ensures err { IfErr result (λ e. HasLooked seat.old.me seat.new.me
+            × (((e ≡ Error.Full) × (self.now.places ≤ seat.new.me.0.seen / 2))
+            ⊎ ((e ≡ Error.Raced) × (seat.new.me.0.seen / 2 < self.now.places)))) }
         ensures whole { seat.old.me.0.weight ≡ 1024
             → MatchResult result (λ _. length seat.old.me.0.pushed < count_all seat.old.me.0.taken + self.now.places)
             (λ e. (e ≡ Error.Full) × IsFullFor self.now.places seat.old.me.0.pushed seat.old.me.0.taken) }
@@ -202,7 +208,8 @@ impl<T: Sample> RuledBucket<T> {
     pub fn finish_as(&self, pen: &mut Pen, value: T)
         requires own { pen.old.home ≡ self.now }
         requires ticket { pen.old.ticket ≡ true }
-        ensures { IsPushed pen.old (T.word value) pen.new }
+        ensures pushed { IsPushed pen.old (T.word value) pen.new }
+        ensures seen { pen.new.seen ≡ pen.old.seen }
     {
         let Some((side, at)) = pen.ticket else {
             unreachable!()
@@ -215,9 +222,9 @@ impl<T: Sample> RuledBucket<T> {
     pub fn try_push_as(&self, pen: &mut Pen, value: T) -> Result<(), (Error, T)>
         requires own { pen.old.home ≡ self.now }
         requires free { pen.old.ticket ≡ false }
-        ensures ok { OnOk result (IsPushed pen.old (T.word value) pen.new) }
-        ensures err { IfErr result (λ e. (pen.new ≡ pen.old) × ((e.0 ≡ Error.Full) ⊎ (e.0 ≡ Error.Raced))
-            × (e.1 ≡ value)) }
+        ensures ok { OnOk result (IsPushed pen.old (T.word value) pen.new × (pen.new.seen / 2 < self.now.places)) }
+        ensures err { IfErr result (λ e. IsLooked pen.old pen.new × (((e.0 ≡ Error.Full) × (self.now.places ≤ pen.new.seen / 2))
+            ⊎ ((e.0 ≡ Error.Raced) × (pen.new.seen / 2 < self.now.places))) × (e.1 ≡ value)) }
         ensures whole { pen.old.weight ≡ 1024
             → MatchResult result (λ _. length pen.old.pushed < count_all pen.old.taken + self.now.places)
             (λ e. (e.0 ≡ Error.Full) × IsFullFor self.now.places pen.old.pushed pen.old.taken) }
@@ -231,12 +238,14 @@ impl<T: Sample> RuledBucket<T> {
         }
     }
 
-    /// Pushes a value; a lost race is tried again. `Full` gives the value back.
+    /// Pushes a value; a lost race is tried again. `Full` gives the value back: the word that it saw last has all places
+    /// of the live side given.
     pub fn push_as<R: Wait>(&self, rt: &R, pen: &mut Pen, value: T) -> Result<(), (Error, T)>
         requires own { pen.old.home ≡ self.now }
         requires free { pen.old.ticket ≡ false }
-        ensures ok { OnOk result (IsPushed pen.old (T.word value) pen.new) }
-        ensures err { IfErr result (λ e. (pen.new ≡ pen.old) × (e.0 ≡ Error.Full) × (e.1 ≡ value)) }
+        ensures ok { OnOk result (IsPushed pen.old (T.word value) pen.new × (pen.new.seen / 2 < self.now.places)) }
+        ensures err { IfErr result (λ e. IsLooked pen.old pen.new × (self.now.places ≤ pen.new.seen / 2) × (e.0 ≡ Error.Full)
+            × (e.1 ≡ value)) }
         ensures whole { pen.old.weight ≡ 1024
             → MatchResult result (λ _. length pen.old.pushed < count_all pen.old.taken + self.now.places)
             (λ e. (e.0 ≡ Error.Full) × IsFullFor self.now.places pen.old.pushed pen.old.taken) }
@@ -255,8 +264,10 @@ impl<T: Sample> RuledBucket<T> {
             × (0 < seat.old.me.0.weight) }
         requires hold { seat.old.me.0.hold ≡ Nothing }
         ensures table { seat.new.table_id ≡ seat.old.table_id }
-        ensures ok { OnOk result (HasPushed seat.old.me (T.word value) seat.new.me) }
-        ensures err { IfErr result (λ e. (seat.new.me ≡ seat.old.me) × (e.0 ≡ Error.Full) × (e.1 ≡ value)) }
+        ensures ok { OnOk result (HasPushed seat.old.me (T.word value) seat.new.me
+            × (seat.new.me.0.seen / 2 < self.now.places)) }
+        ensures err { IfErr result (λ e. HasLooked seat.old.me seat.new.me × (self.now.places ≤ seat.new.me.0.seen / 2)
+            × (e.0 ≡ Error.Full) × (e.1 ≡ value)) }
         ensures whole { seat.old.me.0.weight ≡ 1024
             → MatchResult result (λ _. length seat.old.me.0.pushed < count_all seat.old.me.0.taken + self.now.places)
             (λ e. (e.0 ≡ Error.Full) × IsFullFor self.now.places seat.old.me.0.pushed seat.old.me.0.taken) }

@@ -3,7 +3,7 @@ ghost use Rattle.std.specs.Prelude.{◌≡◌, ◌<◌, ◌↔◌, true, false, 
 ghost use Rattle.metrics_bucket.specs.Account.{left_account, right_account, joined_account};
 
 use crate::rule::BucketRule;
-use crate::steps::{Halves, LookAtControl};
+use crate::steps::{Halves, LookAtWeight};
 use crate::view::{Turn, View};
 use atomic_table::{Seat, Table};
 use metrics::Error;
@@ -16,7 +16,8 @@ pub(crate) type Words = Table<Turn, View, usize, BucketRule, Global>;
 /// A thread's part of one bucket, which each call on the bucket takes. It has a weight, a part of the right to know the
 /// whole: a bucket has 1024 parts, all of them with its first pen.
 ///
-/// Contracts see it as its account: what it pushed, took and read, its weight, and whether it has a ticket.
+/// Contracts see it as its account: what it pushed, took and read, its weight, whether it has a ticket, and the control
+/// word that it saw last.
 #[derive(Drop)]
 pub struct Pen {
     pub(crate) table: Arc<Words, Global>,
@@ -91,7 +92,7 @@ impl Pen {
             ticket: _,
         } = other;
         table.shared.join_seat::<Halves>(&mut self.seat, seat);
-        table.shared.load::<LookAtControl>(&mut self.seat, 0);
+        table.shared.load::<LookAtWeight>(&mut self.seat, 0);
         self.weight += weight;
     }
 }

@@ -1,5 +1,5 @@
 //! What each step on the table tells.
-ghost use Rattle.metrics_bucket.specs.Steps.{control_looked, ticket_drawn, value_written, push_finished, live_side_looked};
+ghost use Rattle.metrics_bucket.specs.Steps.{control_looked, weight_looked, ticket_drawn, value_written, push_finished, live_side_looked};
 ghost use Rattle.metrics_bucket.specs.Steps.{settled_value_looked};
 ghost use Rattle.metrics_bucket.specs.WalkSteps.{turn_claimed, reading_looked, clear_looked, side_taken, mark_looked, value_read};
 ghost use Rattle.metrics_bucket.specs.WalkSteps.{mark_wiped, turn_left, turn_given_back};
@@ -12,6 +12,12 @@ pub(crate) struct LookAtControl;
 
 impl Play<Turn, View> for LookAtControl {
     ghost then = { control_looked };
+}
+
+pub(crate) struct LookAtWeight;
+
+impl Play<Turn, View> for LookAtWeight {
+    ghost then = { weight_looked };
 }
 
 pub(crate) struct DrawTicket;

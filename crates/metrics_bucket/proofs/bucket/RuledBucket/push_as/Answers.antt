@@ -11,4 +11,4 @@ returns-clause-ok g c =
     let x : ℕ = g.T.Sample.word c.args.value in
     let p' = record p { seat = c.push_by.new.seat } in
     let free : has_ticket p.ticket ≡ false = ap (λ (a : Account). a.ticket) c.pen.view_is ∙ c.requires.free in
-    IfOk-weaker c.push_by.result _ _ (λ _ h. subst (λ (a : Account). IsPushed a x (account_of p')) c.pen.view_is (account_pushed p p' x c.push_by.ensures.table free h)) c.push_by.ensures.ok
+    IfOk-weaker c.push_by.result _ _ (λ _ h. (subst (λ (a : Account). IsPushed a x (account_of p')) c.pen.view_is (account_pushed p p' x c.push_by.ensures.table free h.0), h.1)) c.push_by.ensures.ok

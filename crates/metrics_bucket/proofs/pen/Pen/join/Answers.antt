@@ -1,7 +1,7 @@
 use Rattle.std.proofs.Common.{rules, ◌≡◌, false, ◌<◌, ◌∙◌}
 use Rattle.metrics_bucket.specs.Account.{has_ticket}
 use Rattle.metrics_bucket.proofs.Pens.{free_hold}
-use Rattle.metrics_bucket.proofs.Allowed.{glues, looks}
+use Rattle.metrics_bucket.proofs.Allowed.{glues, weighs}
 use Rattle.metrics_bucket.proofs.pen.Pen.join.Goals as goal
 
 pub join_seat-requires : goal.join_seat-requires
@@ -14,4 +14,4 @@ join_seat-requires c =
     (search rules, search rules, search rules, search rules, glues _ _ _ _ _ some_weight (i.holds ∙ free_hold _ free) (o.holds ∙ free_hold _ free_too))
 
 pub load-requires : goal.load-requires
-load-requires c = (search rules, search rules, looks _ _ _ _)
+load-requires c = (search rules, search rules, weighs _ _ _ _)
