@@ -13,7 +13,7 @@ use Rattle.metrics_bucket.specs.declared.view.Visit.{Visit}
 use Rattle.metrics_bucket.specs.declared.view.Visit.TheVariants.{Unseen, Marked, Read, Wiped}
 use Rattle.metrics_bucket.specs.BucketState.{BucketState, total, walks_of, walks_made, place_index, side_of, put_visit, new_view, whole_view, holds_as, holding, left_from, left_part, right_part, both_parts, live_values, Act, look, look_to_settle, ticket, write, finish, claim, look_to_read, look_to_clear, takes, see, read, wipe, leave, quit, split, join, state_after}
 use Rattle.metrics_bucket.specs.Facts.{below, turn_in, took_in, took_of, HoldFits, Facts}
-use Rattle.metrics_bucket.specs.Places.{pushes_at, pushed_at, value_at, held_in, tickets_at, lengths_of, clearing_of, told_of, walks_in, takes_in, given_of, walks_at, is_wiped, wiped_hold, wipes_at, mark_of, IsPush, VisitFinds, VisitsFind, HoldPlaced, ViewPlaced, Placed}
+use Rattle.metrics_bucket.specs.Places.{pushes_at, pushed_at, value_at, held_in, tickets_at, lengths_of, clearing_of, told_of, walks_in, takes_in, given_of, walks_at, is_wiped, wiped_hold, wipes_at, mark_of, IsPush, VisitFinds, HoldPlaced, ViewPlaced, Placed}
 use Rattle.metrics_bucket.specs.History.{HasVisit, CanLeave, CanQuit, May, Event, Runs, opened, FollowsHistory}
 use Rattle.metrics_bucket.proofs.Sums.{total_set, total_snoc, total_zero}
 use Rattle.metrics_bucket.proofs.Visits.{new_visit}

@@ -4,7 +4,7 @@ use mathlib.Core.Option.{some}
 use lib.ListN.{get_elem?}
 use Rattle.metrics_bucket.specs.declared.view.View.{View}
 use Rattle.metrics_bucket.specs.declared.view.Hold.{Hold}
-use Rattle.metrics_bucket.specs.BucketState.{BucketState, total, walks_of, walks_made, place_index, knows_as, holding}
+use Rattle.metrics_bucket.specs.BucketState.{BucketState, total, walks_of, walks_made, place_index, knows_as}
 use Rattle.metrics_bucket.specs.Facts.{below, turn_in, took_in, took_of, Facts}
 use Rattle.metrics_bucket.specs.Places.{pushed_at, held_in, tickets_at, clearing_of, told_of, takes_in, given_of, wiped_hold, wipes_at, mark_of, IsPush, IsEpochOf, HoldPlaced, ViewPlaced, Placed}
 use Rattle.metrics_bucket.proofs.Sums.{total_set}

@@ -1,5 +1,5 @@
 -- Spare pens: their weights, and the marks of their perches.
-use Rattle.std.proofs.Common.{◌≡◌, ℕ, zero, suc, ◌+◌, ◌-◌, ◌*◌, ◌/◌, ◌^◌, ◌<◌, ◌==◌, Bool, true, false, true≢false, List, [], ◌∷◌, ◌++◌, slice_set, refl, sym, ap, subst, ◌∙◌, arith}
+use Rattle.std.proofs.Common.{◌≡◌, ℕ, zero, suc, ◌+◌, ◌-◌, ◌*◌, ◌/◌, ◌^◌, ◌<◌, ◌==◌, Bool, true, false, true≢false, List, [], ◌∷◌, slice_set, sym, ap, subst, ◌∙◌, arith}
 use Rattle.std.proofs.lemmas.List.{append-nil}
 use Rattle.std.proofs.Math.Nat.{pow-succ'}
 use mathlib.Core.Option.{some, some-injective, some-ne-none}
@@ -10,7 +10,7 @@ use Rattle.atomic_table.specs.Seated.{TableId}
 use Rattle.atomic_table.specs.Marked.{Post}
 use Rattle.metrics_bucket.specs.declared.view.View.{View}
 use Rattle.metrics_bucket.specs.declared.view.Hold.TheVariants.{Nothing}
-use Rattle.metrics_bucket.specs.Spares.{fresh_account, spare_account, IsVacantFor, found_vacant, IsSpareOf, WithSpares}
+use Rattle.metrics_bucket.specs.Spares.{fresh_account, spare_account, IsVacantFor, IsSpareOf, WithSpares}
 
 halved : (w p : ℕ) → w ≡ 8 * (2 * p) → (w / 2 ≡ 8 * p) × (w - w / 2 ≡ 8 * p)
 halved w p e = (omega arith, omega arith)

@@ -1,4 +1,4 @@
-use Rattle.std.proofs.Common.{rules, ◌≡◌, ℕ, Some, None, ◌<◌, refl, sym, ap, ◌∙◌, subst}
+use Rattle.std.proofs.Common.{ℕ, Some, None, refl, sym, ap, ◌∙◌, subst}
 use Rattle.metrics_bucket.specs.Account.{Account, TicketFits, IsPushed}
 use Rattle.metrics_bucket.specs.Pens.{account_of}
 use Rattle.metrics_bucket.specs.BucketState.{seeing, pushing}

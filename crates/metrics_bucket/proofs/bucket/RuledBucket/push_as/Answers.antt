@@ -1,4 +1,4 @@
-use Rattle.std.proofs.Common.{rules, ◌≡◌, ℕ, false, ◌∙◌, ap, subst}
+use Rattle.std.proofs.Common.{◌≡◌, ℕ, false, ◌∙◌, ap, subst}
 use Rattle.std.proofs.lemmas.Result.{IfOk-weaker}
 use Rattle.metrics_bucket.specs.Account.{Account, has_ticket, IsPushed}
 use Rattle.metrics_bucket.specs.Pens.{account_of}
