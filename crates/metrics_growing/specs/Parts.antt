@@ -3,12 +3,16 @@ use Rattle.std.specs.Prelude.{◌≡◌, ◌⊎◌, ℕ, List, [], ◌∷◌, �
 use Rattle.std.specs.Coded.{Coded, code_by, coded×, coded_ℕ}
 use Rattle.metrics.specs.Book.{blocks}
 use Rattle.metrics_bucket.specs.declared.view.Walk.{Walk}
-use Rattle.metrics_bucket.specs.Account.{Home, Account, account_code, left_account, right_account, joined_account, IsPushed, IsTaken}
+use Rattle.metrics_bucket.specs.Account.{Home, Account, account_code, left_account, right_account, joined_account, looked_at, IsPushed, IsTaken}
 use Rattle.metrics_bucket.specs.Blocks.{newest_first}
 use Rattle.metrics_bucket.specs.Steps.{IsFullFor}
 use Rattle.metrics_bucket.specs.Spares.{spare_account, WithSpares}
 
--- the link by which the segment is found, and the account of the pen that is used there
+-- an account but for the control word that was seen last
+abbrev pub unseen : Account → Account
+unseen a = looked_at a 0
+
+-- the link by which the segment is found, and the account of the pen that is used there, but for what it saw
 pub record Part : Type 0 where
   pub link : ℕ
   pub account : Account
