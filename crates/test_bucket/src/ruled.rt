@@ -53,20 +53,6 @@ fn bucket_order(alloc: Global) -> Result<Vec<u64>, Fail> {
 }
 
 #[test]
-fn tickets_keep_their_places(rt: HostRuntime) -> Result<(), Fail> {
-    let (bucket, mut a) = RuledBucket::<u64>::new(rt.alloc(), 1)?;
-    let mut b = a.split()?;
-    bucket.begin_as(&mut a)?;
-    assert!(rt; a.has_ticket() && !a.is_whole());
-    assert!(rt; bucket.try_push_as(&mut b, 7).is_ok());
-    bucket.finish_as(&mut a, 5);
-    a.join(b);
-    let values = settled(bucket, rt.alloc(), a)?;
-    assert!(rt; values.as_slice() == [5, 7].as_slice());
-    Ok(())
-}
-
-#[test]
 fn settle_gives_the_newest_block_first(rt: HostRuntime) -> Result<(), Fail> {
     let (bucket, pen) = RuledBucket::<u64>::new(rt.alloc(), 3)?;
     let (pen, refused) = push_run(&bucket, pen, 0, 130);
@@ -77,62 +63,9 @@ fn settle_gives_the_newest_block_first(rt: HostRuntime) -> Result<(), Fail> {
 }
 
 #[test]
-fn a_full_bucket_refuses(rt: HostRuntime) -> Result<(), Fail> {
-    let (bucket, pen) = RuledBucket::<u64>::new(rt.alloc(), 1)?;
-    let (mut pen, refused) = push_run(&bucket, pen, 0, 64);
-    assert!(rt; refused == 0);
-    assert!(rt; bucket.try_push_as(&mut pen, 9) == Err((Error::Full, 9)));
-    assert!(rt; bucket.push_as(&rt, &mut pen, 9) == Err((Error::Full, 9)));
-    Ok(())
-}
-
-/// How often the pen is split, of this many times.
-fn splits(pen: &mut Pen, times: u64) -> u64
-    requires { pen.old.ticket ≡ false }
-    ensures { pen.new.ticket ≡ false }
-{
-    let mut count = 0u64;
-    for _ in 0..times {
-        if pen.split().is_ok() {
-            count = count.wrapping_add(1);
-        }
-    }
-    count
-}
-
-#[test]
-fn the_lightest_pen_isnt_split(rt: HostRuntime) -> Result<(), Fail> {
-    let (_bucket, mut pen) = RuledBucket::<u64>::new(rt.alloc(), 1)?;
-    assert!(rt; splits(&mut pen, 20) == 10);
-    assert!(rt; matches!(pen.split(), Err(Error::NoPen)));
-    Ok(())
-}
-
-#[test]
-fn blocks_are_1_to_1024(rt: HostRuntime) {
-    assert!(rt;
-        matches!(
-            RuledBucket::<u64>::new(rt.alloc(), 0),
-            Err(Error::BadBlocks)
-        )
-    );
-    assert!(rt;
-        matches!(
-            RuledBucket::<i64>::new(rt.alloc(), 1025),
-            Err(Error::BadBlocks)
-        )
-    );
-    assert!(rt; RuledBucket::<i64>::new(rt.alloc(), 1024).is_ok());
-}
-
-#[test]
 fn words_of_samples(rt: HostRuntime) {
-    for value in [0, 1, u64::MAX] {
-        assert!(rt; u64::of_word(value.to_word()) == value);
-    }
-    for value in [i64::MIN, -2, -1, 0, 1, i64::MAX] {
-        assert!(rt; i64::of_word(value.to_word()) == value);
-    }
+    assert!(rt; u64::of_word(u64::MAX.to_word()) == u64::MAX);
+    assert!(rt; i64::of_word(i64::MIN.to_word()) == i64::MIN);
     bucket_law();
 }
 
@@ -440,11 +373,12 @@ fn a_clear_waits_and_a_second_one_is_busy(rt: HostRuntime) -> Result<(), Fail> {
     let mut other = quick.split()?;
     let clearer = quick.split()?;
     bucket.begin_as(&mut slow)?;
+    let begun = slow.has_ticket();
     let pushed = bucket.try_push_as(&mut quick, 2).is_ok();
     let empty = bucket.is_empty_as(&mut other);
     let (pen, as_told) = clear_and_push(&rt, rt.alloc(), &bucket, slow, other, clearer);
     let (read, rest) = read_and_settled(&rt, rt.alloc(), bucket, quick, pen)?;
-    assert!(rt; pushed && !empty && as_told);
+    assert!(rt; begun && pushed && !empty && as_told);
     assert!(rt; read.as_slice() == [3].as_slice() && rest.as_slice() == [3].as_slice());
     Ok(())
 }
