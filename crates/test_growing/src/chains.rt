@@ -37,65 +37,6 @@ fn cleared<R: Wait>(rt: &R, bucket: &GrowingBucket<u64>, pen: &mut GrowPen) -> u
     if answer == Ok(count) { count } else { 0 }
 }
 
-/// The numbers from 0 on, below `end`.
-fn numbers(alloc: Global, end: u64) -> Result<Vec<u64>, Fail> {
-    let mut told = Vec::new(alloc);
-    for value in 0..end {
-        told.push(value)?;
-    }
-    Ok(told)
-}
-
-#[test]
-fn a_second_segment_takes_the_65th_value(rt: HostRuntime) -> Result<(), Fail> {
-    let (bucket, mut pen) = GrowingBucket::<u64>::new(rt.alloc(), 1)?;
-    assert!(rt; push_run(&bucket, &mut pen, 65) == 0);
-    let values = bucket.settle(&rt, rt.alloc(), &mut pen)?;
-    let want = numbers(rt.alloc(), 65)?;
-    assert!(rt; values.as_slice() == want.as_slice());
-    chain_law();
-    Ok(())
-}
-
-#[test]
-fn a_clear_takes_all_segments(rt: HostRuntime) -> Result<(), Fail> {
-    let (bucket, mut pen) = GrowingBucket::<u64>::new(rt.alloc(), 1)?;
-    assert!(rt; push_run(&bucket, &mut pen, 65) == 0);
-    assert!(rt; cleared(&rt, &bucket, &mut pen) == 65);
-    assert!(rt; bucket.push(&rt, &mut pen, 7).is_ok());
-    let values = bucket.settle(&rt, rt.alloc(), &mut pen)?;
-    assert!(rt; values.as_slice() == [7].as_slice());
-    Ok(())
-}
-
-#[test]
-fn another_pen_clears_segments_that_it_did_not_know(rt: HostRuntime) -> Result<(), Fail> {
-    let (bucket, mut pen) = GrowingBucket::<u64>::new(rt.alloc(), 1)?;
-    let mut other = pen.split()?;
-    assert!(rt; push_run(&bucket, &mut pen, 65) == 0);
-    assert!(rt; cleared(&rt, &bucket, &mut other) == 65);
-    let Ok(()) = pen.join(other) else {
-        return Err(Fail::from("memory"));
-    };
-    let values = bucket.settle(&rt, rt.alloc(), &mut pen)?;
-    assert!(rt; values.is_empty());
-    Ok(())
-}
-
-#[test]
-fn settle_wants_all_pens(rt: HostRuntime) -> Result<(), Fail> {
-    let (bucket, mut pen) = GrowingBucket::<u64>::new(rt.alloc(), 1)?;
-    assert!(rt; bucket.try_push(&mut pen, 1).is_ok());
-    let other = pen.split()?;
-    assert!(rt; bucket.settle(&rt, rt.alloc(), &mut pen) == Err(Error::NoPen));
-    let Ok(()) = pen.join(other) else {
-        return Err(Fail::from("memory"));
-    };
-    let values = bucket.settle(&rt, rt.alloc(), &mut pen)?;
-    assert!(rt; values.as_slice() == [1].as_slice());
-    Ok(())
-}
-
 #[test]
 fn each_segment_has_twice_the_places_of_the_one_before(rt: HostRuntime) -> Result<(), Fail> {
     let (bucket, mut pen) = GrowingBucket::<u64>::new(rt.alloc(), 1)?;
@@ -109,6 +50,7 @@ fn each_segment_has_twice_the_places_of_the_one_before(rt: HostRuntime) -> Resul
     assert!(rt;
         taken == Ok(449) && firsts.as_slice() == [0, 128, 64, 384, 320, 256, 192, 448].as_slice()
     );
+    chain_law();
     Ok(())
 }
 
@@ -385,20 +327,4 @@ fn eight_threads_and_a_clearer_lose_nothing(rt: HostRuntime) -> Result<(), Fail>
     }
     assert!(rt; are_all_once(shown, 2000));
     Ok(())
-}
-
-#[test]
-fn blocks_are_1_to_1024(rt: HostRuntime) {
-    assert!(rt;
-        matches!(
-            GrowingBucket::<u64>::new(rt.alloc(), 0),
-            Err(Error::BadBlocks)
-        )
-    );
-    assert!(rt;
-        matches!(
-            GrowingBucket::<u64>::new(rt.alloc(), 1025),
-            Err(Error::BadBlocks)
-        )
-    );
 }
