@@ -34,37 +34,12 @@ fn reservoir_of(alloc: Global, size: usize, pushes: &[(i64, u64)]) -> Result<Res
 }
 
 #[test]
-fn a_reservoir_keeps_what_was_drawn(rt: HostRuntime) -> Result<(), Fail> {
-    let pushes = [(10, 0), (20, 0), (30, 1), (40, 3)];
-    let mut reservoir = reservoir_of(rt.alloc(), 2, &pushes)?;
-    let (items, len, sum, rate) = drained(rt.alloc(), &reservoir)?;
-    assert_eq!(rt; items.as_slice(), [10, 30].as_slice());
-    assert_eq!(rt; (len, sum, rate), (4, 100, (2, 4)));
+fn a_reservoir_is_reset(rt: HostRuntime) -> Result<(), Fail> {
+    let mut reservoir = reservoir_of(rt.alloc(), 2, &[(10, 0), (20, 0), (30, 1)])?;
     assert_eq!(rt; reservoir.drain().len(), 2);
     reservoir.reset();
     assert!(rt; reservoir.is_empty());
-    assert_eq!(rt; drained(rt.alloc(), &reservoir)?.3, (1, 1));
     reservoir_law();
-    Ok(())
-}
-
-#[test]
-fn a_reservoir_of_none_counts(rt: HostRuntime) -> Result<(), Fail> {
-    let reservoir = reservoir_of(rt.alloc(), 0, &[(1, 0), (1, 0), (1, 0)])?;
-    let (items, len, sum, rate) = drained(rt.alloc(), &reservoir)?;
-    assert_eq!(rt; (items.len(), len, sum, rate), (0, 3, 3, (0, 3)));
-    Ok(())
-}
-
-#[test]
-fn a_consume_empties_however_few_were_taken(rt: HostRuntime) -> Result<(), Fail> {
-    let pushes = [(10, 0), (20, 0), (30, 0)];
-    let mut reservoir = reservoir_of(rt.alloc(), 4, &pushes)?;
-    let mut first = None;
-    reservoir.consume(|mut drain| first = drain.next());
-    assert_eq!(rt; first, Some(10));
-    let (items, len, sum, rate) = drained(rt.alloc(), &reservoir)?;
-    assert_eq!(rt; (items.len(), len, sum, rate), (0, 0, 0, (1, 1)));
     Ok(())
 }
 
