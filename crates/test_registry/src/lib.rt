@@ -6,6 +6,4 @@
 #[cfg(test)]
 mod quantiles;
 #[cfg(test)]
-mod recency;
-#[cfg(test)]
 mod retains;
