@@ -11,5 +11,3 @@ mod handles;
 mod journals;
 #[cfg(test)]
 mod replays;
-#[cfg(test)]
-mod round;
