@@ -4,10 +4,6 @@
 #![tactic(auto)]
 
 #[cfg(test)]
-mod books;
-#[cfg(test)]
 mod given;
 #[cfg(test)]
 mod mixed;
-#[cfg(test)]
-mod stacks;
