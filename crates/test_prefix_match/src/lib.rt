@@ -4,6 +4,4 @@
 #![tactic(auto)]
 
 #[cfg(test)]
-mod fronts;
-#[cfg(test)]
 mod substrings;
