@@ -59,36 +59,6 @@ impl Gate for Pair {
 }
 
 #[test]
-fn two_push_a_hundred(rt: HostRuntime) -> Result<(), Fail> {
-    let totals = storm(&rt, rt.alloc(), 2, 100, 1, &Open)?;
-    assert!(rt;
-        totals
-            == Totals {
-                pushed: (200, 9900),
-                found: (200, 9900),
-                sampled: (16, 200, 9900),
-                stopped: 0
-            }
-    );
-    Ok(())
-}
-
-#[test]
-fn nothing_to_push(rt: HostRuntime) -> Result<(), Fail> {
-    let totals = storm(&rt, rt.alloc(), 1, 0, 1, &Open)?;
-    assert!(rt;
-        totals
-            == Totals {
-                pushed: (0, 0),
-                found: (0, 0),
-                sampled: (0, 0, 0),
-                stopped: 0
-            }
-    );
-    Ok(())
-}
-
-#[test]
 fn few_are_sampled_whole(rt: HostRuntime) -> Result<(), Fail> {
     let totals = storm(&rt, rt.alloc(), 3, 5, 2, &Open)?;
     assert!(rt; totals.sampled == (15, 15, 30));
@@ -129,21 +99,6 @@ fn workers_run_at_once(rt: HostRuntime) -> Result<(), Fail> {
     };
     let totals = storm(&rt, rt.alloc(), 2, 100, 4, &gate)?;
     assert!(rt; totals.stopped == 0 && totals.found == (200, 9900));
-    Ok(())
-}
-
-#[test]
-fn two_push_a_hundred_into_a_growing_bucket(rt: HostRuntime) -> Result<(), Fail> {
-    let totals = storm_growing(&rt, rt.alloc(), 2, 100, 1, &Open)?;
-    assert!(rt;
-        totals
-            == Totals {
-                pushed: (200, 9900),
-                found: (200, 9900),
-                sampled: (16, 200, 9900),
-                stopped: 0
-            }
-    );
     Ok(())
 }
 
