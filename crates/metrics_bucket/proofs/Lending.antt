@@ -1,15 +1,15 @@
 -- Each step at a place keeps the rule of the places.
-use Rattle.std.proofs.Common.{◌≡◌, ℕ, zero, suc, ◌<◌, ◌≢◌, List, [], ◌∷◌, map, length, get_or, set, sym, refl, ◌∙◌, subst, ap, arith, Option, None, Some, All, length-set, get_or-set_same}
+use Rattle.std.proofs.Common.{◌≡◌, ℕ, zero, suc, ◌<◌, ◌≢◌, List, [], ◌∷◌, map, length, get_or, set, sym, refl, ◌∙◌, subst, ap, arith, All, length-set, get_or-set_same}
 use mathlib.Core.Logic.{dite}
 use mathlib.Core.Option.{none, some}
 use native.Mathlib.Decide.{ℕ_discrete}
 use lib.ListN.{get_elem?}
-use Rattle.atomic_table.specs.Table.{State, Me, step, keeps, takes, gives, Allows, Arrives}
+use Rattle.atomic_table.specs.Table.{Me, step, keeps, takes, gives, Allows, Arrives}
 use Rattle.atomic_table.proofs.Lists.{set_here, set_else}
 use Rattle.metrics_bucket.specs.declared.view.View.{View}
 use Rattle.metrics_bucket.specs.declared.view.Hold.TheVariants.{Nothing}
 use Rattle.metrics_bucket.specs.Steps.{Seated}
-use Rattle.metrics_bucket.specs.Lending.{PenSeat, IsRested, IsThere, FreeHavePens, pen_lent}
+use Rattle.metrics_bucket.specs.Lending.{PenSeat, IsRested, FreeHavePens, pen_lent}
 
 get_else : (l : List ℕ) (i j x : ℕ) → j ≢ i → get_or (set l i x) j 0 ≡ get_or l j 0
 get_else [] i j x n = refl
@@ -18,28 +18,27 @@ get_else (y ∷ l) zero (suc j) x n = refl
 get_else (y ∷ l) (suc i) zero x n = refl
 get_else (y ∷ l) (suc i) (suc j) x n = get_else l i j x (λ e. n (ap suc e))
 
-pub pens_at : (key : PenSeat) (pens : List (Option PenSeat)) (n : ℕ) → All (IsThere key) pens → n < length pens
-    → (pen : PenSeat) × (get_elem? (map some pens) n ≡ some (some (Some pen))) × IsRested key pen
+pub pens_at : (key : PenSeat) (pens : List PenSeat) (n : ℕ) → All (IsRested key) pens → n < length pens
+    → (pen : PenSeat) × (get_elem? (map some pens) n ≡ some (some pen)) × IsRested key pen
 pens_at key [] n all l = absurd (omega arith)
-pens_at key (None ∷ pens) n all l = absurd (all 0 None (omega arith))
-pens_at key (Some pen ∷ pens) zero all l = (pen, refl, all 0 None (omega arith))
-pens_at key (Some pen ∷ pens) (suc n) all l = pens_at key pens n (λ k d h. all (suc k) d (omega arith)) (omega arith)
+pens_at key (pen ∷ pens) zero all l = (pen, refl, all 0 pen (omega arith))
+pens_at key (pen ∷ pens) (suc n) all l = pens_at key pens n (λ k d h. all (suc k) d (omega arith)) (omega arith)
 
 module _ (key : PenSeat) where
-  pub returns : (slots id at : ℕ) (m : Me (Option PenSeat) PenSeat) (v pen : PenSeat) (more : List (ℕ × Option PenSeat)) → at < slots → m ≡ (v, (at, Some pen) ∷ more) → IsRested key pen
+  pub returns : (slots id at : ℕ) (m : Me PenSeat PenSeat) (v pen : PenSeat) (more : List (ℕ × PenSeat)) → at < slots → m ≡ (v, (at, pen) ∷ more) → IsRested key pen
       → Allows (FreeHavePens key) slots id m at (λ _. 0) (λ _ _. Unit {0})
   returns slots id at m v pen more below e rested =
-      subst (λ (x : Me (Option PenSeat) PenSeat). Allows (FreeHavePens key) slots id x at (λ _. 0) (λ _ _. Unit {0})) (sym e)
+      subst (λ (x : Me PenSeat PenSeat). Allows (FreeHavePens key) slots id x at (λ _. 0) (λ _ _. Unit {0})) (sym e)
       (λ s g long me _.
-      let there : get_elem? (set s.homes at (some (Some pen))) at ≡ some (some (Some pen)) = set_here s.homes at (some (Some pen)) (omega arith) in (
+      let there : get_elem? (set s.homes at (some pen)) at ≡ some (some pen) = set_here s.homes at (some pen) (omega arith) in (
         v,
         gives,
         tt,
         (
           length-set s.words at 0 ∙ g.0,
           λ n l z. dite (ℕ_discrete n at)
-              (λ here. (pen, subst (λ (j : ℕ). get_elem? (set s.homes at (some (Some pen))) j ≡ some (some (Some pen))) (sym here) there, rested))
-              (λ away. let t = g.1 n l (sym (get_else s.words at n 0 away) ∙ z) in (t.0, set_else s.homes at n (some (Some pen)) away ∙ t.1, t.2)),
+              (λ here. (pen, subst (λ (j : ℕ). get_elem? (set s.homes at (some pen)) j ≡ some (some pen)) (sym here) there, rested))
+              (λ away. let t = g.1 n l (sym (get_else s.words at n 0 away) ∙ z) in (t.0, set_else s.homes at n (some pen) away ∙ t.1, t.2)),
         ),
         tt,
       ))
@@ -53,7 +52,7 @@ module _ (key : PenSeat) where
       (λ free.
       let t = g.1 at below free in (
         key,
-        takes at (Some t.0),
+        takes at t.0,
         t.1,
         (
           size ∙ g.0,

@@ -1,5 +1,5 @@
 -- Pens that lie at their places until a call borrows them.
-use Rattle.std.specs.Prelude.{◌≡◌, ℕ, ◌+◌, ◌<◌, List, [], ◌∷◌, Option, None, Some, All, length, slice_index}
+use Rattle.std.specs.Prelude.{◌≡◌, ℕ, ◌<◌, [], ◌∷◌, length, slice_index}
 use mathlib.Core.Option.{some}
 use lib.ListN.{get_elem?}
 use Rattle.atomic_table.specs.Table.{State, Me, Step}
@@ -20,18 +20,13 @@ pub record IsRested (key pen : PenSeat) : Type 0 where
   pub some_weight : 0 < pen.me.0.weight
   pub free : pen.me.0.hold ≡ Nothing
 
--- such a pen is there
-abbrev pub IsThere : PenSeat → Option PenSeat → Type 0
-IsThere key None = ⊥
-IsThere key (Some pen) = IsRested key pen
-
 -- a place whose word is 0 has such a pen
-abbrev pub FreeHavePens : PenSeat → State (Option PenSeat) PenSeat → Type 0
-FreeHavePens key s = (length s.words ≡ 64) × ((n : ℕ) → n < 64 → slice_index s.words n ≡ 0 → (pen : PenSeat) × (get_elem? s.homes n ≡ some (some (Some pen))) × IsRested key pen)
+abbrev pub FreeHavePens : PenSeat → State PenSeat PenSeat → Type 0
+FreeHavePens key s = (length s.words ≡ 64) × ((n : ℕ) → n < 64 → slice_index s.words n ≡ 0 → (pen : PenSeat) × (get_elem? s.homes n ≡ some (some pen)) × IsRested key pen)
 
 -- who found 0 at a place has its pen
-abbrev pub pen_lent : Step (Option PenSeat) → Me (Option PenSeat) PenSeat → ℕ → Me (Option PenSeat) PenSeat → Type 0
-pen_lent st m found m' = found ≡ 0 → (pen : PenSeat) × (m'.1 ≡ (st.word, Some pen) ∷ []) × IsRested m.0 pen
+abbrev pub pen_lent : Step PenSeat → Me PenSeat PenSeat → ℕ → Me PenSeat PenSeat → Type 0
+pen_lent st m found m' = found ≡ 0 → (pen : PenSeat) × (m'.1 ≡ (st.word, pen) ∷ []) × IsRested m.0 pen
 
 -- the bucket that a pen is of
 abbrev pub home_of : PenSeat → Home

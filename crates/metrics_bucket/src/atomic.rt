@@ -38,11 +38,11 @@ impl<T: Sample> AtomicBucket<T> {
         Ok(AtomicBucket { bucket, pens })
     }
 
-    // A pen. The calls begin to look at different places: at as many as tickets were given.
+    // A pen for a walk.
     fn lend<R: Wait>(&self, rt: &R) -> Loan
         ensures { IsLoanOf self.now.pens result }
     {
-        self.pens.lend(rt, self.bucket.control() / 2)
+        self.pens.lend(rt, self.bucket.control())
     }
 
     /// Whether no value was pushed since the last clear. A push that is under way counts as a value.
@@ -56,8 +56,9 @@ impl<T: Sample> AtomicBucket<T> {
     pub fn push<R: Wait>(&self, rt: &R, value: T) -> Result<(), (Error, T)>
         ensures { IfErr result (λ e. ((e.0 ≡ Error.Full) ⊎ (e.0 ≡ Error.NoPen)) × (e.1 ≡ value)) }
     {
-        let mut loan = self.lend(rt);
-        let pushed = self.bucket.push_by(rt, &mut loan.pen, value);
+        let mut loan = self.pens.lend(rt, value.to_word());
+        let pen = loan.place.slot_mut(&self.pens.table.shared, loan.at);
+        let pushed = self.bucket.push_by(rt, pen, value);
         self.pens.give_back(loan);
         pushed
     }
@@ -70,7 +71,8 @@ impl<T: Sample> AtomicBucket<T> {
         ensures { IfErr result (λ e. (e ≡ Error.Memory) ⊎ (e ≡ Error.Busy) ⊎ (e ≡ Error.NoPen)) }
     {
         let mut loan = self.lend(rt);
-        let values = self.bucket.gather_values(rt, alloc, &mut loan.pen);
+        let pen = loan.place.slot_mut(&self.pens.table.shared, loan.at);
+        let values = self.bucket.gather_values(rt, alloc, pen);
         self.pens.give_back(loan);
         values
     }
@@ -85,7 +87,8 @@ impl<T: Sample> AtomicBucket<T> {
     {
         let mut shown = Shown { f };
         let mut loan = self.lend(rt);
-        let count = self.bucket.show_to(rt, &mut loan.pen, &mut shown);
+        let pen = loan.place.slot_mut(&self.pens.table.shared, loan.at);
+        let count = self.bucket.show_to(rt, pen, &mut shown);
         self.pens.give_back(loan);
         count
     }
@@ -112,7 +115,8 @@ impl<T: Sample> AtomicBucket<T> {
     {
         let mut shown = Shown { f };
         let mut loan = self.lend(rt);
-        let count = self.bucket.claim_and_clear(rt, &mut loan.pen, &mut shown);
+        let pen = loan.place.slot_mut(&self.pens.table.shared, loan.at);
+        let count = self.bucket.claim_and_clear(rt, pen, &mut shown);
         self.pens.give_back(loan);
         count
     }

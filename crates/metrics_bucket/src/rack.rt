@@ -1,7 +1,7 @@
 //! The pens of a bucket that any thread may use.
 ghost use Rattle.std.specs.Prelude.{◌≡◌, ℕ, ◌+◌, ◌<◌, ◌≤◌, [], ◌∷◌, false, All};
-ghost use Rattle.std.specs.Prelude.{Option, IfOk, OnOk, IfSome, IfErr, vec_len};
-ghost use Rattle.metrics_bucket.specs.Lending.{home_of, IsThere};
+ghost use Rattle.std.specs.Prelude.{IfOk, OnOk, IfSome, IfErr, vec_len};
+ghost use Rattle.metrics_bucket.specs.Lending.{home_of, IsRested};
 
 use crate::pen::Pen;
 use crate::view::{Turn, View};
@@ -14,13 +14,22 @@ use std::sync::Wait;
 /// How many calls may be under way at once.
 const PENS: usize = 64;
 
+/// How many places have their words in one cache line.
+const LINE: usize = 8;
+
+// An odd number near 2^64 divided by the golden ratio: what it is multiplied with gets bits that differ.
+const SPREAD: u64 = 0x9E37_79B9_7F4A_7C15;
+
 // A pen between two calls. It has no bytes.
 pub(crate) type PenSeat = Seat<Turn, View>;
+
+// A place that was emptied, and its pen.
+pub(crate) type Place = Seat<PenSeat, PenSeat>;
 
 // The rule of the places, whose key is a pen of the same bucket: a place whose word is 0 has a pen.
 pub(crate) struct FreeHave;
 
-impl TableRule<Option<PenSeat>, PenSeat, PenSeat> for FreeHave {
+impl TableRule<PenSeat, PenSeat, PenSeat> for FreeHave {
     ghost use Rattle.metrics_bucket.specs.Lending.{FreeHavePens};
 
     ghost holds = { FreeHavePens };
@@ -30,7 +39,7 @@ impl TableRule<Option<PenSeat>, PenSeat, PenSeat> for FreeHave {
 
 struct Lend;
 
-impl Play<Option<PenSeat>, PenSeat> for Lend {
+impl Play<PenSeat, PenSeat> for Lend {
     ghost use Rattle.metrics_bucket.specs.Lending.{pen_lent};
 
     ghost then = { pen_lent };
@@ -38,7 +47,7 @@ impl Play<Option<PenSeat>, PenSeat> for Lend {
 
 struct GiveBack;
 
-impl Play<Option<PenSeat>, PenSeat> for GiveBack {
+impl Play<PenSeat, PenSeat> for GiveBack {
     ghost use Rattle.std.specs.Prelude.{⊤};
 
     ghost then = { λ _ _ _ _. ⊤ };
@@ -47,16 +56,15 @@ impl Play<Option<PenSeat>, PenSeat> for GiveBack {
 /// 64 pens of one bucket, each at a place of its own, which one exchange of a word empties and one store fills.
 #[derive(Drop)]
 pub(crate) struct Pens {
-    pub(crate) table: Table<Option<PenSeat>, PenSeat, PenSeat, FreeHave, Global>,
+    pub(crate) table: Table<PenSeat, PenSeat, PenSeat, FreeHave, Global>,
     ghost sized: { (table.shared.table_id.words ≡ 64) × (table.shared.table_id.slots ≡ 64) },
 }
 
-/// A pen that is lent, and the right to put it back at its place.
+/// The right to use the pen of one place, and to fill the place again.
 #[derive(Drop)]
 pub(crate) struct Loan {
-    pub(crate) pen: PenSeat,
-    place: Seat<Option<PenSeat>, PenSeat>,
-    at: usize,
+    pub(crate) place: Place,
+    pub(crate) at: usize,
 }
 
 impl Pens {
@@ -80,32 +88,44 @@ impl Pens {
     }
 
     // The pen that lies at this place, if one does.
+    #[inline(always)]
     fn lend_at(&self, at: usize) -> Option<Loan>
         requires { at < 64 }
         ensures { IfSome result (λ loan. IsLoanOf self.now loan) }
     {
-        let shared = &self.table.shared;
-        if shared.peek(at) != 0 {
-            return None;
-        }
-        let (found, mut place) = shared.swap_new_seat::<Lend>(at, 1);
+        let (found, place) = self.table.shared.swap_new_seat::<Lend>(at, 1);
         if found != 0 {
             return None;
         }
-        let pen = shared.exchange(&mut place, at, None).unwrap();
-        Some(Loan { pen, place, at })
+        Some(Loan { place, at })
     }
 
-    /// A pen, looked for from this place on. Where all are lent it pauses, and looks again.
-    pub(crate) fn lend<R: Wait>(&self, rt: &R, from: u64) -> Loan
+    /// A pen. The hint names the place where it is looked for first.
+    #[inline(always)]
+    pub(crate) fn lend<R: Wait>(&self, rt: &R, hint: u64) -> Loan
+        ensures { IsLoanOf self.now result }
+    {
+        let at = (hint.wrapping_mul(SPREAD) >> 58) as usize % PENS;
+        match self.lend_at(at) {
+            Some(loan) => loan,
+            None => self.look_from(rt, at),
+        }
+    }
+
+    // A pen, looked for from this place on, each time a line further. Where all are lent it pauses, and looks again.
+    #[inline(never)]
+    fn look_from<R: Wait>(&self, rt: &R, from: usize) -> Loan
+        requires { from < 64 }
         ensures { IsLoanOf self.now result }
     {
         let pause = Backoff::new();
         for _ in rt.forever() {
-            for step in 0..PENS {
-                let at = (from % 64) as usize + step;
-                if let Some(loan) = self.lend_at(at % PENS) {
-                    return loan;
+            for step in 1..=PENS {
+                let at = (from + LINE * step + step / LINE % LINE) % PENS;
+                if self.table.shared.peek(at) == 0 {
+                    if let Some(loan) = self.lend_at(at) {
+                        return loan;
+                    }
                 }
             }
             pause.snooze();
@@ -113,29 +133,23 @@ impl Pens {
         unreachable!()
     }
 
-    /// Puts a pen back at its place.
+    /// Fills a place again.
+    #[inline(always)]
     pub(crate) fn give_back(&self, loan: Loan)
         requires { IsLoanOf self.now loan }
     {
-        let Loan { pen, mut place, at } = loan;
-        let shared = &self.table.shared;
-        drop(shared.exchange(&mut place, at, Some(pen)));
-        shared.store::<GiveBack>(&mut place, at, 0);
+        let Loan { mut place, at } = loan;
+        self.table.shared.store::<GiveBack>(&mut place, at, 0);
     }
 }
 
 // Divides a pen into so many, and puts them behind the others.
-fn share(
-    mut pen: Pen,
-    count: usize,
-    key: &PenSeat,
-    slots: &mut Vec<Option<PenSeat>>,
-) -> Result<(), Error>
+fn share(mut pen: Pen, count: usize, key: &PenSeat, slots: &mut Vec<PenSeat>) -> Result<(), Error>
     requires some { (0 < count) × (count ≤ pen.weight) }
     requires own { pen.home ≡ home_of key.now }
     requires free { pen.ticket ≡ false }
-    requires there { All (IsThere key.now) slots.old.items }
-    ensures ok { OnOk result ((vec_len slots.new ≡ vec_len slots.old + count) × All (IsThere key.now) slots.new.items) }
+    requires there { All (IsRested key.now) slots.old.items }
+    ensures ok { OnOk result ((vec_len slots.new ≡ vec_len slots.old + count) × All (IsRested key.now) slots.new.items) }
     ensures err { IfErr result (λ e. e ≡ Error.Memory) }
 {
     if count == 1 {
@@ -147,11 +161,11 @@ fn share(
 }
 
 // Puts a pen behind the others.
-fn put(pen: Pen, key: &PenSeat, slots: &mut Vec<Option<PenSeat>>) -> Result<(), Error>
+fn put(pen: Pen, key: &PenSeat, slots: &mut Vec<PenSeat>) -> Result<(), Error>
     requires own { pen.home ≡ home_of key.now }
     requires free { pen.ticket ≡ false }
-    requires there { All (IsThere key.now) slots.old.items }
-    ensures ok { OnOk result ((vec_len slots.new ≡ vec_len slots.old + 1) × All (IsThere key.now) slots.new.items) }
+    requires there { All (IsRested key.now) slots.old.items }
+    ensures ok { OnOk result ((vec_len slots.new ≡ vec_len slots.old + 1) × All (IsRested key.now) slots.new.items) }
     ensures err { IfErr result (λ e. e ≡ Error.Memory) }
 {
     let Pen {
@@ -161,7 +175,7 @@ fn put(pen: Pen, key: &PenSeat, slots: &mut Vec<Option<PenSeat>>) -> Result<(), 
         ticket: _,
     } = pen;
     let _key = key;
-    if slots.push(Some(seat)).is_err() {
+    if slots.push(seat).is_err() {
         return Err(Error::Memory);
     }
     Ok(())

@@ -1,8 +1,8 @@
-use Rattle.std.proofs.Common.{rules, ◌≡◌, ◌<◌, ◌++◌, ◌∷◌, [], false, List, Option, Some, sym, subst, ap, ◌∙◌}
+use Rattle.std.proofs.Common.{rules, ◌≡◌, ◌<◌, ◌++◌, ◌∷◌, [], false, List, sym, subst, ap, ◌∙◌}
 use Rattle.std.specs.List.{All}
 use Rattle.std.proofs.lemmas.List.Elements.{All-push}
 use Rattle.metrics_bucket.specs.Account.{Account, Home, has_ticket}
-use Rattle.metrics_bucket.specs.Lending.{PenSeat, IsRested, IsThere}
+use Rattle.metrics_bucket.specs.Lending.{PenSeat, IsRested}
 use Rattle.metrics_bucket.proofs.Pens.{free_hold}
 use Rattle.metrics_bucket.proofs.rack.put.Goals as goal
 
@@ -19,5 +19,5 @@ returns-clause-ok c =
       some_weight = weight;
       free = i.holds ∙ free_hold _ free;
     } in
-    let is : c.push.new.self.items ≡ c.args.slots.now.items ++ Some p.seat ∷ [] = search rules in
-    (search rules, subst (λ (ps : List (Option PenSeat)). All (IsThere c.args.key.now) ps) (sym is) (All-push (IsThere c.args.key.now) c.args.slots.now.items (Some p.seat) c.requires.there rested))
+    let is : c.push.new.self.items ≡ c.args.slots.now.items ++ p.seat ∷ [] = search rules in
+    (search rules, subst (λ (ps : List PenSeat). All (IsRested c.args.key.now) ps) (sym is) (All-push (IsRested c.args.key.now) c.args.slots.now.items p.seat c.requires.there rested))
