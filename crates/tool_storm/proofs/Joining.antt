@@ -3,7 +3,7 @@ use Rattle.std.proofs.Common.{◌≡◌, ℕ, zero, suc, ◌+◌, ◌-◌, ◌*�
 use Rattle.metrics.specs.Book.{blocks}
 use Rattle.metrics_bucket.specs.declared.view.Push.{Push}
 use Rattle.metrics_bucket.specs.BucketState.{push}
-use Rattle.metrics_bucket.specs.Account.{Home, Account, joined_account, with_push, IsPushed}
+use Rattle.metrics_bucket.specs.Account.{Home, Account, joined_account, looked_at, with_push, IsPushed}
 use Rattle.metrics_bucket.specs.Facts.{weigh, weigh_pushes, weigh_walks}
 use Rattle.metrics_bucket.specs.Blocks.{Settled}
 use Rattle.metrics_bucket.proofs.Sums.{weigh-append, weigh_pushes-append}
@@ -52,7 +52,7 @@ pub joins_more : (home : Home) (values weight : ℕ) (front : List Account) (min
     → r.pen ≡ joined_account ran.pen w.pen → Adds ran.pushed w.pushed.count w.pushed.sum r.pushed → r.found ≡ ran.found → r.stopped ≡ ran.stopped + (if w.stopped then 1 else 0) → IsRan home values weight (front ++ mine ∷ []) r
 joins_more home values weight front mine ran w r k fresh works pen pushed found stopped =
     let xs : List ℕ = pushes_of w.stopped values in
-    let same : w.pen ≡ with_pushed mine w.pen.pushed = works.pen.0 in
+    let same : w.pen ≡ with_pushed mine w.pen.pushed w.pen.seen = works.pen.0 in
     let mine_pushed : (h : ℕ → ℕ) → weigh_pushes h w.pen.pushed ≡ weigh h xs = λ h. let a = works.pen.1 h in let b : weigh_pushes h mine.pushed ≡ 0 = ap (weigh_pushes h) fresh.2 in omega arith in
     let mine_taken : w.pen.taken ≡ [] = ap (λ (a : Account). a.taken) same ∙ fresh.3 in
     let mine_weight : w.pen.weight ≡ mine.weight = ap (λ (a : Account). a.weight) same in
@@ -124,9 +124,9 @@ pub pushed_next : (p q r : Account) (v : ℕ) → HasPushed p (below v) q → Is
 pushed_next p q r v before (e, i, l, now) =
     let x : Push = push e i v in
     let next : v + 1 ≡ suc v = omega arith in
-    let same : r ≡ with_pushed p (q.pushed ++ x ∷ []) = now ∙ ap (λ (z : Account). with_push z x) before.0 in
+    let same : r ≡ with_pushed p (q.pushed ++ x ∷ []) r.seen = now ∙ ap (λ (z : Account). with_push (looked_at z r.seen) x) before.0 in
     let is : r.pushed ≡ q.pushed ++ x ∷ [] = ap (λ (z : Account). z.pushed) now in (
-      same ∙ ap (with_pushed p) (sym is),
+      same ∙ ap (λ (l : List Push). with_pushed p l r.seen) (sym is),
       λ h.
           let a = before.1 h in
           let b : weigh_pushes h r.pushed ≡ weigh_pushes h (q.pushed ++ x ∷ []) = ap (weigh_pushes h) is in

@@ -22,10 +22,10 @@ weights (a ∷ more) = a.weight + weights more
 abbrev pub with_taken : Account → List Walk → Account
 with_taken a walks = record a { taken = walks }
 
--- a pen without ticket that pushed these values, and is else as it was
-abbrev pub with_pushed : Account → List Push → Account
-with_pushed a pushes = record a { pushed = pushes; ticket = false }
+-- a pen without ticket that pushed these values, saw this control word last, and is else as it was
+abbrev pub with_pushed : Account → List Push → ℕ → Account
+with_pushed a pushes seen = record a { pushed = pushes; ticket = false; seen = seen }
 
--- the values were pushed, and nothing else changed
+-- the values were pushed, and nothing else changed but the control word that was seen last
 abbrev pub HasPushed : Account → List ℕ → Account → Type 0
-HasPushed old values new = (new ≡ with_pushed old new.pushed) × ((h : ℕ → ℕ) → weigh_pushes h new.pushed ≡ weigh_pushes h old.pushed + weigh h values)
+HasPushed old values new = (new ≡ with_pushed old new.pushed new.seen) × ((h : ℕ → ℕ) → weigh_pushes h new.pushed ≡ weigh_pushes h old.pushed + weigh h values)
