@@ -1,6 +1,6 @@
 //! What each step on the table tells.
-ghost use Rattle.metrics_bucket.specs.Steps.{control_looked, weight_looked, ticket_drawn, value_written, push_finished, live_side_looked};
-ghost use Rattle.metrics_bucket.specs.Steps.{settled_value_looked};
+ghost use Rattle.metrics_bucket.specs.Steps.{control_looked, ticket_drawn, value_written, push_finished, live_side_looked};
+ghost use Rattle.metrics_bucket.specs.Steps.{weight_looked, settled_value_looked};
 ghost use Rattle.metrics_bucket.specs.WalkSteps.{turn_claimed, reading_looked, clear_looked, side_taken, mark_looked, value_read};
 ghost use Rattle.metrics_bucket.specs.WalkSteps.{mark_wiped, turn_left, turn_given_back};
 ghost use Rattle.metrics_bucket.specs.BucketState.{new_view, left_part, right_part, both_parts};
