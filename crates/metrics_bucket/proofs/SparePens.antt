@@ -5,7 +5,7 @@ use Rattle.std.proofs.Math.Nat.{pow-succ'}
 use mathlib.Core.Option.{some, some-injective, some-ne-none}
 use lib.ListN.{get_elem?}
 use prog.Atomic.{either}
-use Rattle.metrics_bucket.specs.Account.{Home, Account, left_account, right_account, joined_account}
+use Rattle.metrics_bucket.specs.Account.{Home, Account, left_account, right_account, joined_account, looked_at, IsLooked}
 use Rattle.atomic_table.specs.Seated.{TableId}
 use Rattle.atomic_table.specs.Marked.{Post}
 use Rattle.metrics_bucket.specs.declared.view.View.{View}
@@ -25,6 +25,20 @@ pub right_half : (a o : Account) (d : ℕ) → o ≡ right_account a → 0 < d �
 right_half a o d is l e =
     let w : a.weight ≡ 8 * 2 ^ d = ap (λ (x : Account). x.weight) e in
     subst (λ (x : Account). x ≡ fresh_account x.home (8 * 2 ^ (d - 1))) (sym is) (ap (fresh_account a.home) ((half a.weight d l w).0))
+
+-- the same of a pen that looked
+pub right_looked : (a o : Account) (d : ℕ) → o ≡ right_account a → 0 < d → IsLooked (fresh_account a.home (8 * 2 ^ d)) a → o ≡ fresh_account o.home (8 * 2 ^ (d - 1))
+right_looked a o d is l e =
+    let w : a.weight ≡ 8 * 2 ^ d = ap (λ (x : Account). x.weight) e in
+    subst (λ (x : Account). x ≡ fresh_account x.home (8 * 2 ^ (d - 1))) (sym is) (ap (fresh_account a.home) ((half a.weight d l w).0))
+
+pub left_looked : (a o : Account) (d : ℕ) → o ≡ left_account a → 0 < d → IsLooked (fresh_account a.home (8 * 2 ^ d)) a → IsLooked (fresh_account o.home (8 * 2 ^ (d - 1))) o
+left_looked a o d is l e =
+    let w : a.weight ≡ 8 * 2 ^ d = ap (λ (x : Account). x.weight) e in
+    subst
+    (λ (x : Account). IsLooked (fresh_account x.home (8 * 2 ^ (d - 1))) x)
+    (sym is)
+    (ap (λ (x : Account). record x { weight = a.weight - a.weight / 2 }) e ∙ ap (λ (n : ℕ). looked_at (fresh_account a.home n) a.seen) ((half a.weight d l w).1))
 
 pub left_half : (a o : Account) (d : ℕ) → o ≡ left_account a → 0 < d → a ≡ fresh_account a.home (8 * 2 ^ d) → o ≡ fresh_account o.home (8 * 2 ^ (d - 1))
 left_half a o d is l e =

@@ -1,6 +1,6 @@
 //! Pens of a bucket that wait for those who come to know it.
 ghost use Rattle.std.specs.Prelude.{◌≡◌, ◌*◌, ◌^◌, ◌⊎◌, true, false, All, IfOk, OnOk, IfErr};
-ghost use Rattle.metrics_bucket.specs.Account.{first_account};
+ghost use Rattle.metrics_bucket.specs.Account.{first_account, looked_at, IsLooked};
 ghost use Rattle.metrics_bucket.specs.Spares.{fresh_account, spare_account, IsSpareOf, WithSpares};
 
 use crate::pen::{Pen, Words};
@@ -71,9 +71,9 @@ impl Model for Spares {
 impl Spares {
     /// Divides a bucket's first pen into 128. The pen stays one of them, and the others wait.
     pub fn new(alloc: Global, places: usize, pen: &mut Pen) -> Result<Spares, Error>
-        requires first { pen.old ≡ first_account pen.old.home }
+        requires first { IsLooked (first_account pen.old.home) pen.old }
         requires places { pen.old.home.places ≡ places }
-        ensures ok { IfOk result (λ s. (s ≡ pen.old.home) × (pen.new ≡ spare_account pen.old.home)) }
+        ensures ok { IfOk result (λ s. (s ≡ pen.old.home) × (pen.new ≡ looked_at (spare_account pen.old.home) pen.old.seen)) }
         ensures err { IfErr result (λ e. e ≡ Error.Memory) }
     {
         let Ok(mut posts) = Vec::with_capacity(alloc, SPARES) else {
@@ -164,9 +164,10 @@ impl Spares {
 
 // Puts all parts of weight 8 but one on perches, and leaves that one to the pen.
 fn divide(pen: &mut Pen, depth: usize, posts: &mut Vec<Post>) -> Result<(), Error>
-    requires fresh { pen.old ≡ fresh_account pen.old.home (8 * 2 ^ depth) }
+    requires fresh { IsLooked (fresh_account pen.old.home (8 * 2 ^ depth)) pen.old }
     requires spares { All (IsSpareOf pen.old.home) posts.old.items }
-    ensures ok { OnOk result ((pen.new ≡ spare_account pen.old.home) × All (IsSpareOf pen.old.home) posts.new.items) }
+    ensures ok { OnOk result ((pen.new ≡ looked_at (spare_account pen.old.home) pen.old.seen)
+        × All (IsSpareOf pen.old.home) posts.new.items) }
     ensures err { IfErr result (λ e. e ≡ Error.Memory) }
 {
     if depth == 0 {
