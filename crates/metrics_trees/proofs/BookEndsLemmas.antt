@@ -1,6 +1,6 @@
 -- Ends and totals.
 use Rattle.std.proofs.Common.{◌≡◌, ℕ, zero, suc, ◌+◌, ◌-◌, ◌<◌, ◌≤◌, true, false, List, [], ◌∷◌, ◌++◌, length, take, drop, get_or, Option, None, Some, refl, ap, sym, ◌∙◌, subst, arith, slice_get, slice_set, append-nil}
-use Rattle.std.specs.Prelude.{nat_le}
+use Rattle.std.specs.Prelude.{nat_le, nat_eq, IsTrue}
 use Rattle.std.proofs.lemmas.List.{take_all}
 use Rattle.std.proofs.Math.ListN.{drop_of_length-le}
 use Rattle.metrics.specs.declared.handles.Address.{Address}
@@ -71,6 +71,19 @@ last-is ends ns x e h = if-some ns x (h ∙ ap (λ es. slice_get es (length es -
 
 pub none-is : (ends ns : List ℕ) → ends ≡ ends_from 0 ns → slice_get ends (length ends - 1) ≡ None → 0 ≡ total ns
 none-is ends ns e h = if-none ns (sym (last-ends ns) ∙ sym (ap (λ es. slice_get es (length es - 1)) e) ∙ h)
+
+-- the recorder of a number begins at the book of that number, and has one
+pub begins-is : (ends ns : List ℕ) (number front : ℕ) → ends ≡ ends_from 0 ns → number < length ends → number < get_or ends number 0 →
+    front ≡ total (take number ns) → IsTrue (nat_eq front number) → IsPlace ns number (number, 0)
+begins-is ends ns number front e lt above f t =
+    let inside : number < length ns = (let l = ap length e ∙ length-ends 0 ns in omega (arith, lt, l)) in
+    let end = ap (λ es. get_or es number 0) e ∙ end-total 0 ns number 0 inside in
+    let more = total-more ns number 0 inside in
+    let same = equal front number t in
+    record { recorder = inside; number = omega (arith, f, same); below = omega (arith, above, end, more, f, same) }
+  where
+    equal : (a b : ℕ) → IsTrue (nat_eq a b) → a ≡ b
+    equal a b t = grind (arith, nat_tests)
 
 -- the ends rise
 pub partitioned : (ends ns : List ℕ) (book : ℕ) → ends ≡ ends_from 0 ns → IsPartitionedBy (λ e. nat_le e book) ends

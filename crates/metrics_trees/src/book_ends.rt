@@ -1,5 +1,5 @@
 //! Where the books of several recorders stand.
-ghost use Rattle.std.specs.Prelude.{◌≡◌, ◌≤◌, ◌++◌, ℕ, List, length, take, MatchOption, OnOk};
+ghost use Rattle.std.specs.Prelude.{◌≡◌, ◌≤◌, ◌++◌, ℕ, List, length, take, IsTrue, MatchOption, OnOk};
 ghost use Rattle.std.specs.Result.{result_map_both};
 ghost use Rattle.metrics_trees.specs.BookEnds.{ends_from, total, IsPlace, raised, IsAppended, CanRaise, CanAppend};
 
@@ -25,8 +25,33 @@ pub(crate) fn books_before(ends: &[usize], recorder: usize) -> usize
     all_books(&ends[..recorder])
 }
 
-/// The recorder that has a book, and the book's number there.
+/// Whether the recorder of a number begins at the book of that number, as where each has one book.
+fn begins_at(ends: &[usize], number: usize) -> bool
+    ensures { (sizes : List ℕ) → ends.now ≡ ends_from 0 sizes → IsTrue result → IsPlace sizes number (number, 0) }
+{
+    if number >= ends.len() {
+        return false;
+    }
+    if ends[number] <= number {
+        return false;
+    }
+    books_before(ends, number) == number
+}
+
+/// The recorder that has a book, and the book's number there. It looks first at the recorder of the book's number.
 pub(crate) fn place_of(ends: &[usize], book: usize) -> Option<(usize, usize)>
+    requires ends { (sizes : List ℕ) × (ends.now ≡ ends_from 0 sizes) }
+    ensures { (sizes : List ℕ) → ends.now ≡ ends_from 0 sizes →
+        MatchOption result (total sizes ≤ book) (IsPlace sizes book) }
+{
+    if begins_at(ends, book) {
+        return Some((book, 0));
+    }
+    searched_place(ends, book)
+}
+
+/// The same, by a binary search.
+fn searched_place(ends: &[usize], book: usize) -> Option<(usize, usize)>
     requires ends { (sizes : List ℕ) × (ends.now ≡ ends_from 0 sizes) }
     ensures { (sizes : List ℕ) → ends.now ≡ ends_from 0 sizes →
         MatchOption result (total sizes ≤ book) (IsPlace sizes book) }

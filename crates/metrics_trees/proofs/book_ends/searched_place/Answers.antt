@@ -2,7 +2,7 @@ use Rattle.std.proofs.Common.{rules, of_calls, arith}
 use Rattle.std.proofs.lemmas.Fn.{always_returns_same}
 use Rattle.std.specs.Prelude.{nat_le}
 use Rattle.metrics_trees.proofs.BookEndsLemmas.{partitioned, before-le, past-all, place-is}
-use Rattle.metrics_trees.proofs.book_ends.place_of.Goals as goal
+use Rattle.metrics_trees.proofs.book_ends.searched_place.Goals as goal
 
 pub returns-then-recorder-ends : goal.returns-then-recorder-ends
 returns-then-recorder-ends c sizes e =
