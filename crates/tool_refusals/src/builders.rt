@@ -1,91 +1,17 @@
 //! What is refused for memory gives the recorder back, as it was.
 
 use crate::books::{A_FILTER_THAT_FOLDS, PREFIXES_OVER_ONE_ANOTHER};
+use crate::gauges::{
+    Book, Takes, book_of_gauge, expect_gauge, expect_last, expect_made, new_book, refused, taken,
+    two_books, two_books_of_gauge,
+};
 use crate::steps::{Does, Step, play};
 use metrics::MetricKind::{Counter, Gauge, Histogram};
-use metrics::{DebugValue, Error, Key, MetricKind, MetricKindMask, Recorder, Reset, Update};
-use metrics_debugging::DebuggingRecorder;
-use metrics_layers::{FilterLayer, Layer, PrefixLayer, Stack};
+use metrics::{Error, MetricKindMask, Recorder};
+use metrics_layers::{FilterLayer, Layer, Prefix, PrefixLayer, Stack};
 use metrics_trees::{Child, FanoutBuilder, RouterBuilder};
+use std::alloc::Global;
 use tool_refusals_trial::{Trial, Wrong, done, expect};
-
-pub type Book = DebuggingRecorder;
-
-/// A new book.
-pub fn new_book(trial: &Trial) -> Result<Book, Wrong> {
-    done(DebuggingRecorder::new(trial.alloc))
-}
-
-/// Puts the gauge `g` with the value 3 into a recorder.
-fn put_gauge<R: Recorder>(trial: &Trial, on: &mut R) -> Result<(), Wrong> {
-    let key = done(Key::from_name(trial.alloc, "g"))?;
-    let found = done(on.register(trial.alloc, MetricKind::Gauge, &key))?;
-    let at = *found.as_slice().first().ok_or("no address")?;
-    done(on.update(at, Update::Set(3)))
-}
-
-/// A book whose only series is the gauge `g` with the value 3.
-pub fn book_of_gauge(trial: &Trial) -> Result<Book, Wrong> {
-    let mut on = new_book(trial)?;
-    put_gauge(trial, &mut on)?;
-    Ok(on)
-}
-
-/// That the last book has the one gauge, which stands.
-fn expect_row<R: Recorder>(trial: &Trial, on: &mut R) -> Result<(), Wrong> {
-    let last = on.books().checked_sub(1).ok_or("no book")?;
-    let rows = done(on.snapshot_with(trial.alloc, last, Reset::KeepGauges))?;
-    expect(rows.as_slice().len() == 1, "another number of rows")?;
-    let row = rows.as_slice().first().ok_or("no row")?;
-    expect(row.0.key().name() == "g", "another name")?;
-    expect(row.3 == DebugValue::Gauge(3), "another value")
-}
-
-/// Gives a recorder back whose last book has the one gauge.
-pub fn with_gauge<R: Recorder>(trial: &Trial, mut on: R) -> Result<R, Wrong> {
-    expect_row(trial, &mut on)?;
-    Ok(on)
-}
-
-/// That the last book of a recorder has the one gauge.
-pub fn expect_gauge<R: Recorder>(trial: &Trial, mut on: R) -> Result<(), Wrong> {
-    expect_row(trial, &mut on)
-}
-
-/// What a call gave, or the recorder that came back from a refusal for memory, as it was.
-pub fn or_back<T: Drop, R: Recorder>(
-    trial: &mut Trial,
-    answer: Result<T, (Error, R)>,
-) -> Result<Result<T, R>, Wrong> {
-    trial.calm();
-    match answer {
-        Ok(made) => Ok(Ok(made)),
-        Err((error, back)) => {
-            trial.note(error)?;
-            Ok(Err(with_gauge(trial, back)?))
-        }
-    }
-}
-
-fn expect_layered<L: Layer<Book>>(trial: &mut Trial, layer: &L) -> Result<(), Wrong> {
-    let inner = book_of_gauge(trial)?;
-    trial.begin();
-    let answer = layer.layer(trial.alloc, inner);
-    match or_back(trial, answer)? {
-        Ok(made) => expect_gauge(trial, made),
-        Err(back) => expect_gauge(trial, done(layer.layer(trial.alloc, back))?),
-    }
-}
-
-fn expect_pushed<L: Layer<Book>>(trial: &mut Trial, first: L, second: L) -> Result<(), Wrong> {
-    let inner = book_of_gauge(trial)?;
-    trial.begin();
-    let answer = Stack::new(inner).push(trial.alloc, first);
-    match or_back(trial, answer)? {
-        Ok(made) => expect_gauge(trial, made),
-        Err(back) => expect_gauge(trial, done(Stack::new(back).push(trial.alloc, second))?),
-    }
-}
 
 fn prefix(trial: &Trial, text: &str) -> Result<PrefixLayer, Wrong> {
     done(PrefixLayer::new(trial.alloc, text))
@@ -95,10 +21,53 @@ fn filter(trial: &Trial) -> Result<FilterLayer, Wrong> {
     done(FilterLayer::from_patterns(trial.alloc, &["todo", "he"]))
 }
 
+/// Puts a layer over a recorder.
+#[derive(Drop)]
+struct Layering<L> {
+    layer: L,
+}
+
+impl<R: Recorder, L: Layer<R>> Takes<R, L::Output> for Layering<L> {
+    fn take(&mut self, alloc: Global, on: R) -> Result<L::Output, (Error, R)> {
+        self.layer.layer(alloc, on)
+    }
+}
+
+fn expect_layered<L: Layer<Book>>(trial: &mut Trial, layer: L) -> Result<(), Wrong> {
+    let book = book_of_gauge(trial)?;
+    expect_made(trial, Layering { layer }, book)
+}
+
 fn a_layer_gives_its_recorder_back(trial: &mut Trial) -> Result<(), Wrong> {
-    let (prefix, filter) = (prefix(trial, "a")?, filter(trial)?);
-    expect_layered(trial, &prefix)?;
-    expect_layered(trial, &filter)
+    let layer = prefix(trial, "a")?;
+    expect_layered(trial, layer)?;
+    let layer = filter(trial)?;
+    expect_layered(trial, layer)
+}
+
+/// Pushes a layer, and where that is refused another.
+#[derive(Drop)]
+struct Pushing<L> {
+    first: Option<L>,
+    second: Option<L>,
+}
+
+impl<R: Recorder, L: Layer<R>> Takes<R, Stack<L::Output>> for Pushing<L> {
+    fn take(&mut self, alloc: Global, on: R) -> Result<Stack<L::Output>, (Error, R)> {
+        match self.first.take() {
+            Some(layer) => Stack::new(on).push(alloc, layer),
+            None => match self.second.take() {
+                Some(layer) => Stack::new(on).push(alloc, layer),
+                None => Err((Error::Gone, on)),
+            },
+        }
+    }
+}
+
+fn expect_pushed<L: Layer<Book>>(trial: &mut Trial, first: L, second: L) -> Result<(), Wrong> {
+    let book = book_of_gauge(trial)?;
+    let (first, second) = (Some(first), Some(second));
+    expect_made(trial, Pushing { first, second }, book)
 }
 
 fn a_push_gives_the_recorder_back(trial: &mut Trial) -> Result<(), Wrong> {
@@ -108,113 +77,153 @@ fn a_push_gives_the_recorder_back(trial: &mut Trial) -> Result<(), Wrong> {
     expect_pushed(trial, first, second)
 }
 
+/// A stack with a prefix over all that stands.
+fn pushed<R: Recorder>(
+    trial: &Trial,
+    stack: Stack<R>,
+    text: &str,
+) -> Result<Stack<Prefix<R>>, Wrong> {
+    let layer = prefix(trial, text)?;
+    done(stack.push(trial.alloc, layer))
+}
+
 /// Plays on a stack of two prefixes.
 fn prefixes_in_a_stack(trial: &mut Trial) -> Result<(), Wrong> {
-    let (a, b) = (prefix(trial, "a")?, prefix(trial, "b")?);
     let stack = Stack::new(new_book(trial)?);
-    let stack = done(stack.push(trial.alloc, a))?;
-    let stack = done(stack.push(trial.alloc, b))?;
+    let stack = pushed(trial, stack, "a")?;
+    let stack = pushed(trial, stack, "b")?;
     play(trial, stack, PREFIXES_OVER_ONE_ANOTHER)
 }
 
 /// Plays on a book under a filter.
 fn play_filtered(trial: &mut Trial, layer: &FilterLayer, steps: &[Step]) -> Result<(), Wrong> {
-    let filter = done(layer.layer(trial.alloc, new_book(trial)?))?;
+    let book = new_book(trial)?;
+    let filter = done(layer.layer(trial.alloc, book))?;
     play(trial, filter, steps)
 }
 
 /// What passes a filter whose pattern memory refused.
 const A_NAME_PASSES: &[Step] = &[(Does::Register(0, Counter, "a.todo"), &[(0, "a.todo")])];
 
-/// A pattern that is refused leaves the layer as it was.
-fn a_refused_pattern_filters_nothing(trial: &mut Trial) -> Result<(), Wrong> {
-    let mut layer = FilterLayer::default(trial.alloc);
-    layer.case_insensitive(true);
+/// Adds a pattern. The first try may be refused, and leaves the layer as it was.
+fn add_pattern(trial: &mut Trial, layer: &mut FilterLayer) -> Result<(), Wrong> {
     trial.begin();
     let first = layer.add_pattern("OdO");
     trial.calm();
-    if let Err(error) = first {
-        trial.note(error)?;
-        play_filtered(trial, &layer, A_NAME_PASSES)?;
-        done(layer.add_pattern("OdO"))?;
+    match first {
+        Ok(()) => Ok(()),
+        Err(error) => {
+            trial.note(error)?;
+            play_filtered(trial, layer, A_NAME_PASSES)?;
+            done(layer.add_pattern("OdO"))
+        }
     }
+}
+
+fn a_refused_pattern_filters_nothing(trial: &mut Trial) -> Result<(), Wrong> {
+    let mut layer = FilterLayer::default(trial.alloc);
+    layer.case_insensitive(true);
+    add_pattern(trial, &mut layer)?;
     play_filtered(trial, &layer, A_FILTER_THAT_FOLDS)
 }
 
-fn expect_prefixed(trial: &mut Trial, child: Child<Book>) -> Result<(), Wrong> {
-    let layer = prefix(trial, "a")?;
-    trial.begin();
-    let answer = child.prefix(trial.alloc, &layer);
-    match or_back(trial, answer)? {
-        Ok(made) => expect_gauge(trial, made),
-        Err(back) => expect_gauge(trial, done(back.prefix(trial.alloc, &layer))?),
+/// Puts a prefix over a child.
+#[derive(Drop)]
+struct Prefixing {
+    layer: PrefixLayer,
+}
+
+impl<B: Recorder> Takes<Child<B>, Child<B>> for Prefixing {
+    fn take(&mut self, alloc: Global, on: Child<B>) -> Result<Child<B>, (Error, Child<B>)> {
+        on.prefix(alloc, &self.layer)
     }
 }
 
-fn expect_filtered(trial: &mut Trial, child: Child<Book>) -> Result<(), Wrong> {
-    let layer = filter(trial)?;
-    trial.begin();
-    let answer = child.filter(trial.alloc, &layer);
-    match or_back(trial, answer)? {
-        Ok(made) => expect_gauge(trial, made),
-        Err(back) => expect_gauge(trial, done(back.filter(trial.alloc, &layer))?),
+/// Puts a filter over a child.
+#[derive(Drop)]
+struct Filtering {
+    layer: FilterLayer,
+}
+
+impl<B: Recorder> Takes<Child<B>, Child<B>> for Filtering {
+    fn take(&mut self, alloc: Global, on: Child<B>) -> Result<Child<B>, (Error, Child<B>)> {
+        on.filter(alloc, &self.layer)
     }
+}
+
+fn expect_over_child<T: Takes<Child<Book>, Child<Book>>>(
+    trial: &mut Trial,
+    call: T,
+) -> Result<(), Wrong> {
+    let book = book_of_gauge(trial)?;
+    expect_made(trial, call, Child::leaf(book))
 }
 
 fn a_child_comes_back_from_a_layer(trial: &mut Trial) -> Result<(), Wrong> {
-    let child = Child::leaf(book_of_gauge(trial)?);
-    expect_prefixed(trial, child)?;
-    let child = Child::leaf(book_of_gauge(trial)?);
-    expect_filtered(trial, child)
+    let layer = prefix(trial, "a")?;
+    expect_over_child(trial, Prefixing { layer })?;
+    let layer = filter(trial)?;
+    expect_over_child(trial, Filtering { layer })
 }
 
-/// Adds a recorder, which comes back from want of memory.
-fn add_recorder(trial: &mut Trial, builder: &mut FanoutBuilder<Book>) -> Result<(), Wrong> {
-    let child = Child::leaf(book_of_gauge(trial)?);
-    trial.begin();
-    let answer = builder.add_recorder(child);
-    match or_back(trial, answer)? {
-        Ok(()) => Ok(()),
-        Err(back) => done(builder.add_recorder(back)),
+/// The children of a fanout have no numbers: each is told as 0.
+impl<B: Recorder> Takes<Child<B>, usize> for FanoutBuilder<B> {
+    fn take(&mut self, _alloc: Global, on: Child<B>) -> Result<usize, (Error, Child<B>)> {
+        match self.add_recorder(on) {
+            Ok(()) => Ok(0),
+            Err(refused) => Err(refused),
+        }
     }
 }
 
 fn a_fanout_gives_its_recorder_back(trial: &mut Trial) -> Result<(), Wrong> {
-    let mut builder = FanoutBuilder::default(trial.alloc);
-    add_recorder(trial, &mut builder)?;
+    let book = book_of_gauge(trial)?;
+    let builder = FanoutBuilder::default(trial.alloc);
+    let builder = taken(trial, builder, Child::leaf(book), true)?;
     expect_gauge(trial, builder.build())
 }
 
-/// Adds a route to a recorder of its own, which comes back from an empty mask and from want of memory.
-fn add_route(trial: &mut Trial, builder: &mut RouterBuilder<Book>) -> Result<(), Wrong> {
-    let target = refused_by_an_empty_mask(trial, builder)?;
-    trial.begin();
-    let answer = builder.add_route(MetricKindMask::ALL, "q", target);
-    let number = match or_back(trial, answer)? {
-        Ok(number) => number,
-        Err(back) => done(builder.add_route(MetricKindMask::ALL, "q", back))?,
-    };
-    expect(number == 0, "another number of a target")
+/// Adds routes to targets of their own.
+#[derive(Drop)]
+struct Routing<B: Recorder> {
+    builder: RouterBuilder<B>,
+    mask: MetricKindMask,
 }
 
-fn refused_by_an_empty_mask(
-    trial: &mut Trial,
-    builder: &mut RouterBuilder<Book>,
-) -> Result<Child<Book>, Wrong> {
-    let target = Child::leaf(book_of_gauge(trial)?);
-    trial.begin();
-    let answer = builder.add_route(MetricKindMask::NONE, "q", target);
-    trial.calm();
-    match answer {
-        Err((Error::EmptyMask, back)) => with_gauge(trial, back),
-        _ => Err("an empty mask is taken"),
+impl<B: Recorder> Takes<Child<B>, usize> for Routing<B> {
+    fn take(&mut self, _alloc: Global, on: Child<B>) -> Result<usize, (Error, Child<B>)> {
+        self.builder.add_route(self.mask, "q", on)
     }
 }
 
-/// Adds a second route to the first target.
-fn add_route_again(
+/// Tries to add a route for no kind. The target comes back as it was.
+fn back_from_no_kind<R: Recorder, T: Takes<R, usize>>(
     trial: &mut Trial,
-    builder: &mut RouterBuilder<Book>,
+    mut call: T,
+    target: R,
+) -> Result<(T, R), Wrong> {
+    let (error, mut back) = refused(trial, &mut call, target)?;
+    expect(error == Error::EmptyMask, "an empty mask is taken")?;
+    expect_last(trial, &mut back, true)?;
+    Ok((call, back))
+}
+
+/// A builder with a route to a target of its own. The first try may be refused.
+fn routed<B: Recorder>(
+    trial: &mut Trial,
+    builder: RouterBuilder<B>,
+    mask: MetricKindMask,
+    target: Child<B>,
+    has_gauge: bool,
+) -> Result<RouterBuilder<B>, Wrong> {
+    let Routing { builder, .. } = taken(trial, Routing { builder, mask }, target, has_gauge)?;
+    Ok(builder)
+}
+
+/// Adds a second route to the first target. The first try may be refused.
+fn add_route_again<B: Recorder>(
+    trial: &mut Trial,
+    builder: &mut RouterBuilder<B>,
     pattern: &str,
 ) -> Result<(), Wrong> {
     trial.begin();
@@ -229,12 +238,23 @@ fn add_route_again(
     }
 }
 
+/// Builds a router with routes to a target that came back from an empty mask before.
+fn build_router<B: Recorder>(trial: &mut Trial, default: B, target: B) -> Result<(), Wrong> {
+    let routing = Routing {
+        builder: RouterBuilder::from_recorder(trial.alloc, Child::leaf(default)),
+        mask: MetricKindMask::NONE,
+    };
+    let (routing, target) = back_from_no_kind(trial, routing, Child::leaf(target))?;
+    let Routing { builder, .. } = routing;
+    let mut builder = routed(trial, builder, MetricKindMask::ALL, target, true)?;
+    let added = add_route_again(trial, &mut builder, "bar");
+    let built = expect_gauge(trial, builder.build());
+    added.and(built)
+}
+
 fn a_router_gives_its_recorder_back(trial: &mut Trial) -> Result<(), Wrong> {
-    let default = Child::leaf(book_of_gauge(trial)?);
-    let mut builder = RouterBuilder::from_recorder(trial.alloc, default);
-    add_route(trial, &mut builder)?;
-    add_route_again(trial, &mut builder, "bar")?;
-    expect_gauge(trial, builder.build())
+    let (default, target) = two_books_of_gauge(trial)?;
+    build_router(trial, default, target)
 }
 
 const TWO_KINDS_ARE_ROUTED: &[Step] = &[
@@ -243,27 +263,11 @@ const TWO_KINDS_ARE_ROUTED: &[Step] = &[
     (Does::Register(2, Histogram, "q"), &[(0, "q")]),
 ];
 
-/// Adds the route of two kinds to a new book, where the first try may be refused.
-fn add_route_of_two(trial: &mut Trial, builder: &mut RouterBuilder<Book>) -> Result<(), Wrong> {
-    let mask = MetricKindMask::COUNTER | MetricKindMask::GAUGE;
-    let target = Child::leaf(new_book(trial)?);
-    trial.begin();
-    let answer = builder.add_route(mask, "q", target);
-    trial.calm();
-    let number = match answer {
-        Ok(number) => number,
-        Err((error, back)) => {
-            trial.note(error)?;
-            done(builder.add_route(mask, "q", back))?
-        }
-    };
-    expect(number == 0, "another number of a target")
-}
-
 fn a_route_of_two_kinds(trial: &mut Trial) -> Result<(), Wrong> {
-    let default = Child::leaf(new_book(trial)?);
-    let mut builder = RouterBuilder::from_recorder(trial.alloc, default);
-    add_route_of_two(trial, &mut builder)?;
+    let (default, target) = two_books(trial)?;
+    let builder = RouterBuilder::from_recorder(trial.alloc, Child::leaf(default));
+    let mask = MetricKindMask::COUNTER | MetricKindMask::GAUGE;
+    let builder = routed(trial, builder, mask, Child::leaf(target), false)?;
     play(trial, builder.build(), TWO_KINDS_ARE_ROUTED)
 }
 

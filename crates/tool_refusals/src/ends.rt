@@ -3,7 +3,7 @@
 use metrics::{
     Address, Key, KeyName, MetricKind, Recorder, Refused, Reset, Snapshot, Unit, Update,
 };
-use metrics_shared::RecoverableRecorder;
+use metrics_shared::{RecoverableRecorder, RecoveryHandle, SlotRecorder};
 use std::alloc::Global;
 use std::sync::atomic::{AtomicU64, Ordering};
 use std::sync::{Arc, Wait};
@@ -73,37 +73,45 @@ fn is_set(flag: &Arc<AtomicU64, Global>) -> bool {
     flag.load(Ordering::SeqCst) == 1
 }
 
-fn a_recovered_recorder_ends<W: Wait>(rt: &W, trial: &mut Trial) -> Result<(), Wrong> {
-    let alloc = trial.alloc;
-    let flag = done(Arc::new(alloc, AtomicU64::new(0)))?;
+/// Puts a recorder into a slot. The first try may be refused, and the recorder that comes back hasn't ended.
+fn built<W: Wait, R: Recorder>(
+    rt: &W,
+    trial: &mut Trial,
+    recorder: R,
+    flag: &Arc<AtomicU64, Global>,
+) -> Result<(SlotRecorder<R>, RecoveryHandle<R>), Wrong> {
+    trial.begin();
+    let answer = RecoverableRecorder::new(recorder).build(rt, trial.alloc);
+    trial.calm();
+    match answer {
+        Ok(built) => Ok(built),
+        Err((error, back)) => {
+            trial.note(error)?;
+            expect(!is_set(flag), "a recorder that came back has ended")?;
+            done(RecoverableRecorder::new(back).build(rt, trial.alloc))
+        }
+    }
+}
+
+/// That a recorder that is taken out of its slot ends when it is dropped, and not before.
+fn expect_end<W: Wait, R: Recorder>(
+    rt: &W,
+    trial: &mut Trial,
+    recorder: R,
+    flag: &Arc<AtomicU64, Global>,
+) -> Result<(), Wrong> {
+    let (slot, handle) = built(rt, trial, recorder, flag)?;
+    drop(slot);
+    let recorder = done(handle.into_inner(rt))?;
+    expect(!is_set(flag), "a recorder that was taken out has ended")?;
+    drop(recorder);
+    expect(is_set(flag), "the recorder hasn't ended")
+}
+
+pub fn a_recovered_recorder_ends<W: Wait>(rt: &W, trial: &mut Trial) -> Result<(), Wrong> {
+    let flag = done(Arc::new(trial.alloc, AtomicU64::new(0)))?;
     let recorder = Flagged {
         flag: done(Arc::try_clone(&flag))?,
     };
-    trial.begin();
-    let answer = RecoverableRecorder::new(recorder).build(rt, alloc);
-    trial.calm();
-    let (slot, handle) = match answer {
-        Ok(built) => built,
-        Err((error, back)) => {
-            trial.note(error)?;
-            expect(!is_set(&flag), "a recorder that came back has ended")?;
-            done(RecoverableRecorder::new(back).build(rt, alloc))?
-        }
-    };
-    drop(slot);
-    let recorder = done(handle.into_inner(rt))?;
-    expect(!is_set(&flag), "a recorder that was taken out has ended")?;
-    drop(recorder);
-    expect(is_set(&flag), "the recorder hasn't ended")
-}
-
-/// The names of the examples of this file.
-pub const NAMES: &[&str] = &["a_recovered_recorder_ends"];
-
-/// Runs the example of this name, if it is one of these.
-pub fn run<W: Wait>(rt: &W, trial: &mut Trial, name: &str) -> Option<Result<(), Wrong>> {
-    match name {
-        "a_recovered_recorder_ends" => Some(a_recovered_recorder_ends(rt, trial)),
-        _ => None,
-    }
+    expect_end(rt, trial, recorder, &flag)
 }

@@ -5,6 +5,7 @@
 mod books;
 mod builders;
 mod ends;
+mod gauges;
 mod most;
 mod plain;
 mod replays;
@@ -16,13 +17,12 @@ use std::sync::Wait;
 use tool_refusals_trial::{Trial, Wrong, first_word, is_asked, list, report};
 
 /// The names of the examples, by module.
-const NAMES: [&[&str]; 6] = [
+const NAMES: [&[&str]; 5] = [
     books::NAMES,
     builders::NAMES,
     slots::NAMES,
     replays::NAMES,
-    most::NAMES,
-    ends::NAMES,
+    &["a_fanout_of_most_books", "a_recovered_recorder_ends"],
 ];
 
 /// Runs the example of a name.
@@ -39,10 +39,11 @@ fn run_one<R: Wait>(rt: &R, trial: &mut Trial, name: &str) -> Result<(), Wrong> 
     if let Some(ended) = replays::run(trial, name) {
         return ended;
     }
-    if let Some(ended) = ends::run(rt, trial, name) {
-        return ended;
+    match name {
+        "a_fanout_of_most_books" => most::a_fanout_of_most_books(trial),
+        "a_recovered_recorder_ends" => ends::a_recovered_recorder_ends(rt, trial),
+        _ => Err("no such example"),
     }
-    most::run(trial, name).unwrap_or(Err("no such example"))
 }
 
 /// Runs those of the names that the word asks for. Whether all went well. Both arguments are the runtime.

@@ -1,6 +1,6 @@
 //! A fanout of as many books as there may be.
 
-use crate::builders::{Book, new_book};
+use crate::gauges::{Book, made_from, new_book, refused};
 use metrics::{Error, Recorder};
 use metrics_trees::{Child, FanoutBuilder};
 use tool_refusals_trial::{Trial, Wrong, done, expect};
@@ -27,39 +27,31 @@ fn make_book(trial: &mut Trial) -> Result<Book, Wrong> {
 
 /// Adds a book, where the first try may be refused and gives it back.
 fn add_under_refusal(trial: &mut Trial, builder: &mut FanoutBuilder<Book>) -> Result<(), Wrong> {
-    let child = Child::leaf(make_book(trial)?);
-    trial.begin();
-    let answer = builder.add_recorder(child);
-    trial.calm();
-    match answer {
-        Ok(()) => Ok(()),
-        Err((error, back)) => {
-            trial.note(error)?;
-            done(builder.add_recorder(back))
-        }
-    }
+    let book = make_book(trial)?;
+    made_from(trial, builder, Child::leaf(book), false)?;
+    Ok(())
 }
 
 /// Adds a book with memory at hand.
 fn add_at_hand(trial: &Trial, builder: &mut FanoutBuilder<Book>) -> Result<(), Wrong> {
-    let child = Child::leaf(new_book(trial)?);
-    done(builder.add_recorder(child))
+    let book = new_book(trial)?;
+    done(builder.add_recorder(Child::leaf(book)))
 }
 
 /// Tries one book more, which is refused whether or not memory is, and comes back.
-fn add_too_many(trial: &Trial, builder: &mut FanoutBuilder<Book>) -> Result<(), Wrong> {
-    let child = Child::leaf(new_book(trial)?);
-    trial.begin();
-    let answer = builder.add_recorder(child);
-    trial.calm();
-    match answer {
-        Err((Error::TooManyBooks, back)) => expect_count(&back, 1),
-        _ => Err("too many books are taken"),
-    }
+fn add_too_many(trial: &mut Trial, builder: &mut FanoutBuilder<Book>) -> Result<(), Wrong> {
+    let book = new_book(trial)?;
+    let (error, back) = refused(trial, builder, Child::leaf(book))?;
+    expect_too_many(error, back)
+}
+
+fn expect_too_many<R: Recorder>(error: Error, back: R) -> Result<(), Wrong> {
+    expect(error == Error::TooManyBooks, "too many books are taken")?;
+    expect_count(back, 1)
 }
 
 /// That a recorder has so many books.
-fn expect_count<R: Recorder>(on: &R, count: usize) -> Result<(), Wrong> {
+fn expect_count<R: Recorder>(on: R, count: usize) -> Result<(), Wrong> {
     expect(on.books() == count, "another number of books")
 }
 
@@ -75,19 +67,9 @@ fn add_most(trial: &mut Trial, builder: &mut FanoutBuilder<Book>) -> Result<(), 
     add_too_many(trial, builder)
 }
 
-fn a_fanout_of_most_books(trial: &mut Trial) -> Result<(), Wrong> {
+pub fn a_fanout_of_most_books(trial: &mut Trial) -> Result<(), Wrong> {
     let mut builder = FanoutBuilder::default(trial.alloc);
-    add_most(trial, &mut builder)?;
-    expect_count(&builder.build(), MOST)
-}
-
-/// The names of the examples of this file.
-pub const NAMES: &[&str] = &["a_fanout_of_most_books"];
-
-/// Runs the example of this name, if it is one of these.
-pub fn run(trial: &mut Trial, name: &str) -> Option<Result<(), Wrong>> {
-    match name {
-        "a_fanout_of_most_books" => Some(a_fanout_of_most_books(trial)),
-        _ => None,
-    }
+    let added = add_most(trial, &mut builder);
+    let counted = expect_count(builder.build(), MOST);
+    added.and(counted)
 }

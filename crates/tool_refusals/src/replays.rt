@@ -2,14 +2,16 @@
 ghost use Rattle.metrics.specs.Meaning.{AreNew};
 
 use crate::books::A_BOOK_OF_EACH_KIND;
-use crate::builders::new_book;
+use crate::gauges::{new_book, registered};
 use crate::steps::{Known, Step, call_of, expect_books, key};
 use metrics::{
-    Address, Answer, Call, CompositeKey, DebugValue, MetricKind, Recorder, Snapshot, Update,
+    Address, Answer, Call, CompositeKey, DebugValue, MetricKind, Recorder, RowValue, Snapshot,
+    Update,
 };
 use metrics_debugging::DebuggingRecorder;
 use metrics_replay::{Journaled, replay};
 use std::alloc::Global;
+use std::collections::HashMap;
 use tool_refusals_trial::{Trial, Wrong, done, expect};
 
 /// The calls of steps as values.
@@ -51,18 +53,27 @@ fn take_all(
 ) -> Result<(), Wrong> {
     expect(answers.len() == steps.len(), "another number of answers")?;
     for (step, answer) in steps.iter().zip(answers) {
-        let is_done = known.take(*step, answer)?;
-        trial.refusals = trial.refusals.saturating_add(u64::from(!is_done));
+        known.take(trial, *step, answer)?;
     }
     Ok(())
 }
 
+/// Replays calls on a recorder, and looks at what they left.
+fn replay_all<R: Recorder>(
+    trial: &mut Trial,
+    on: &mut R,
+    steps: &[Step],
+    calls: &[Call],
+) -> Result<(), Wrong> {
+    let mut known = Known::new(trial.alloc)?;
+    let answers = replayed(trial, on, &mut known, calls)?;
+    take_all(trial, &mut known, steps, answers.as_slice())?;
+    expect_books(trial.alloc, on, &mut known)
+}
+
 fn replay_on<R: Recorder>(trial: &mut Trial, mut on: R, steps: &[Step]) -> Result<(), Wrong> {
     let calls = calls_of(trial.alloc, steps)?;
-    let mut known = Known::new(trial.alloc)?;
-    let answers = replayed(trial, &mut on, &mut known, calls.as_slice())?;
-    take_all(trial, &mut known, steps, answers.as_slice())?;
-    expect_books(trial.alloc, &mut on, &mut known)
+    replay_all(trial, &mut on, steps, calls.as_slice())
 }
 
 fn a_replay_makes_each_call(trial: &mut Trial) -> Result<(), Wrong> {
@@ -84,8 +95,7 @@ fn is_noted<R: Recorder>(
     trial.calm();
     let is_noted = match answer {
         Ok(answer) => {
-            let is_done = known.take(step, answer)?;
-            trial.refusals = trial.refusals.saturating_add(u64::from(!is_done));
+            known.take(trial, step, answer)?;
             true
         }
         Err(refused) => {
@@ -130,41 +140,48 @@ fn a_journal_has_each_call(trial: &mut Trial) -> Result<(), Wrong> {
 
 /// Registers a histogram and a counter, and takes their snapshot.
 fn rows_of_two<R: Recorder>(trial: &Trial, mut on: R) -> Result<Snapshot, Wrong> {
-    for kind in [MetricKind::Histogram, MetricKind::Counter] {
-        let key = done(key(trial.alloc, "a"))?;
-        done(on.register(trial.alloc, kind, &key))?;
-    }
+    registered(trial, &mut on, MetricKind::Histogram, "a")?;
+    registered(trial, &mut on, MetricKind::Counter, "a")?;
     done(on.snapshot(trial.alloc, 0))
 }
 
-/// That a snapshot of a histogram and a counter becomes a map of two, where the first try may be refused and gives the
-/// snapshot back.
-fn expect_map(trial: &mut Trial, rows: Snapshot) -> Result<(), Wrong> {
+/// A snapshot as a map. The first try may be refused and gives the snapshot back.
+fn map_of(trial: &mut Trial, rows: Snapshot) -> Result<HashMap<CompositeKey, RowValue>, Snapshot> {
     trial.begin();
     let first = rows.into_hashmap(trial.alloc);
     trial.calm();
-    let second = match first {
+    match first {
         Ok(map) => Ok(map),
         Err(rows) => {
             trial.refusals = trial.refusals.saturating_add(1);
             rows.into_hashmap(trial.alloc)
         }
-    };
-    let Ok(map) = second else {
-        return Err("refused with memory at hand");
-    };
-    expect(map.len() == 2, "another number of entries")?;
-    let counter = CompositeKey::new(MetricKind::Counter, done(key(trial.alloc, "a"))?);
-    match map.get(&counter) {
+    }
+}
+
+/// That an entry is that of a counter of 0 without a description.
+fn expect_counter(entry: Option<&RowValue>) -> Result<(), Wrong> {
+    match entry {
         Some((None, None, DebugValue::Counter(0))) => Ok(()),
         _ => Err("another entry"),
     }
 }
 
+/// That a map has the entries of a histogram and a counter.
+fn expect_map(trial: &Trial, map: &HashMap<CompositeKey, RowValue>) -> Result<(), Wrong> {
+    expect(map.len() == 2, "another number of entries")?;
+    let key = done(key(trial.alloc, "a"))?;
+    let counter = CompositeKey::new(MetricKind::Counter, key);
+    expect_counter(map.get(&counter))
+}
+
 fn a_snapshot_becomes_a_map(trial: &mut Trial) -> Result<(), Wrong> {
     let book = new_book(trial)?;
     let rows = rows_of_two(trial, book)?;
-    expect_map(trial, rows)
+    match map_of(trial, rows) {
+        Ok(map) => expect_map(trial, &map),
+        Err(_) => Err("refused with memory at hand"),
+    }
 }
 
 /// Records a sample, and again where memory was refused.
@@ -217,9 +234,7 @@ fn expect_samples(rows: &Snapshot, newest: Option<i64>, others: i64) -> Result<(
 }
 
 fn record_65<R: Recorder>(trial: &mut Trial, mut on: R) -> Result<(), Wrong> {
-    let key = done(key(trial.alloc, "h"))?;
-    let found = done(on.register(trial.alloc, MetricKind::Histogram, &key))?;
-    let at = *found.as_slice().first().ok_or("no address")?;
+    let at = registered(trial, &mut on, MetricKind::Histogram, "h")?;
     for sample in 0..65i64 {
         record(trial, &mut on, at, sample)?;
     }

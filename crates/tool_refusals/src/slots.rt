@@ -1,10 +1,14 @@
 //! Recorders under locks: shared ones, those that can be taken back, and those that a cell was filled with.
 
 use crate::books::A_BOOK_OF_EACH_KIND;
-use crate::builders::{book_of_gauge, expect_gauge, new_book, or_back, with_gauge};
+use crate::gauges::{
+    Takes, book_of_gauge, expect_gauge, made_from, new_book, refused, two_books_of_gauge,
+};
 use crate::steps::{Does, Known, Step, Target, expect_books, make_all};
 use metrics::MetricKind::{Counter, Gauge, Histogram};
-use metrics::{Address, Answer, Call, Error, MetricKind, Recorder, Refused, Reset, Update};
+use metrics::{
+    Address, Answer, Call, Error, MetricKind, Recorder, Refused, Reset, Snapshot, Update,
+};
 use metrics_layers::Stack;
 use metrics_replay::answer_of;
 use metrics_shared::{
@@ -14,11 +18,24 @@ use std::alloc::Global;
 use std::sync::{OnceLock, Wait};
 use tool_refusals_trial::{Trial, Wrong, done, expect};
 
-/// The addresses of a counter, a gauge or a histogram; else the answer to an update without them.
-fn handle_of<'a>(handle: Option<(MetricKind, &'a [Address])>) -> Result<&'a [Address], Answer> {
-    match handle {
-        Some((_, found)) => Ok(found),
-        None => Err(Answer::Refused(Refused::BadHandle)),
+fn described(answer: Result<usize, Refused>) -> Answer {
+    match answer {
+        Ok(count) => Answer::Described(count),
+        Err(refused) => Answer::Refused(refused),
+    }
+}
+
+fn registered(answer: Result<Vec<Address>, Refused>) -> Answer {
+    match answer {
+        Ok(found) => Answer::Registered(found.into()),
+        Err(refused) => Answer::Refused(refused),
+    }
+}
+
+fn told(answer: Result<Snapshot, Refused>) -> Answer {
+    match answer {
+        Ok(rows) => Answer::Snapshot(rows),
+        Err(refused) => Answer::Refused(refused),
     }
 }
 
@@ -30,41 +47,17 @@ struct Sharing<'a, W, R: Recorder> {
 }
 
 impl<W: Wait, R: Recorder> Sharing<'_, W, R> {
-    fn update(&self, by: Update, found: &[Address]) -> Result<Answer, Refused> {
+    /// Updates the addresses of a handle, if there is one.
+    fn update(&self, by: Update, handle: Option<(MetricKind, &[Address])>) -> Answer {
+        let Some((_, found)) = handle else {
+            return Answer::Refused(Refused::BadHandle);
+        };
         for at in found {
-            self.shared.update(self.rt, *at, by)?;
+            if let Err(refused) = self.shared.update(self.rt, *at, by) {
+                return Answer::Refused(refused);
+            }
         }
-        Ok(Answer::Updated(found.len()))
-    }
-
-    fn call(
-        &self,
-        alloc: Global,
-        call: &Call,
-        handle: Option<(MetricKind, &[Address])>,
-    ) -> Result<Answer, Refused> {
-        let (rt, shared) = (self.rt, self.shared);
-        match call {
-            Call::Describe(kind, name, unit, text) => Ok(Answer::Described(shared.describe(
-                rt,
-                alloc,
-                *kind,
-                name,
-                *unit,
-                text.as_str(),
-            )?)),
-            Call::Register(kind, key) => Ok(Answer::Registered(
-                shared.register(rt, alloc, *kind, key)?.into(),
-            )),
-            Call::Update(_, by) => match handle_of(handle) {
-                Ok(found) => self.update(*by, found),
-                Err(answer) => Ok(answer),
-            },
-            Call::Snapshot(book) => Ok(Answer::Snapshot(shared.snapshot(rt, alloc, *book)?)),
-            Call::SnapshotWith(book, reset) => Ok(Answer::Snapshot(shared.snapshot_with(
-                rt, alloc, *book, *reset,
-            )?)),
-        }
+        Answer::Updated(found.len())
     }
 }
 
@@ -75,9 +68,15 @@ impl<W: Wait, R: Recorder> Target for Sharing<'_, W, R> {
         call: &Call,
         handle: Option<(MetricKind, &[Address])>,
     ) -> Answer {
-        match self.call(alloc, call, handle) {
-            Ok(answer) => answer,
-            Err(refused) => Answer::Refused(refused),
+        let (rt, on) = (self.rt, self.shared);
+        match call {
+            Call::Describe(kind, name, unit, text) => {
+                described(on.describe(rt, alloc, *kind, name, *unit, text.as_str()))
+            }
+            Call::Register(kind, key) => registered(on.register(rt, alloc, *kind, key)),
+            Call::Update(_, by) => self.update(*by, handle),
+            Call::Snapshot(book) => told(on.snapshot(rt, alloc, *book)),
+            Call::SnapshotWith(book, reset) => told(on.snapshot_with(rt, alloc, *book, *reset)),
         }
     }
 }
@@ -105,8 +104,10 @@ fn expect_shared<W: Wait, R: Recorder>(
     shared: &Shared<R>,
     known: &mut Known,
 ) -> Result<(), Wrong> {
-    let rows = done(shared.snapshot(rt, trial.alloc, 0))?;
-    known.expect_rows(0, rows.as_slice())
+    match shared.snapshot(rt, trial.alloc, 0) {
+        Ok(rows) => known.expect_rows(0, rows.as_slice()),
+        Err(_) => Err("refused with memory at hand"),
+    }
 }
 
 /// A counter that is described and raised twice, and a snapshot.
@@ -133,41 +134,17 @@ struct Slotted<'a, W, R: Recorder> {
 }
 
 impl<W: Wait, R: Recorder> Slotted<'_, W, R> {
-    fn update(&self, by: Update, found: &[Address]) -> Result<Answer, Refused> {
+    /// Updates the addresses of a handle, if there is one.
+    fn update(&self, by: Update, handle: Option<(MetricKind, &[Address])>) -> Answer {
+        let Some((_, found)) = handle else {
+            return Answer::Refused(Refused::BadHandle);
+        };
         for at in found {
-            self.slot.update(self.rt, *at, by)?;
-        }
-        Ok(Answer::Updated(found.len()))
-    }
-
-    fn call(
-        &self,
-        alloc: Global,
-        call: &Call,
-        handle: Option<(MetricKind, &[Address])>,
-    ) -> Result<Answer, Refused> {
-        let (rt, slot) = (self.rt, self.slot);
-        match call {
-            Call::Describe(kind, name, unit, text) => Ok(Answer::Described(slot.describe(
-                rt,
-                alloc,
-                *kind,
-                name,
-                *unit,
-                text.as_str(),
-            )?)),
-            Call::Register(kind, key) => Ok(Answer::Registered(
-                slot.register(rt, alloc, *kind, key)?.into(),
-            )),
-            Call::Update(_, by) => match handle_of(handle) {
-                Ok(found) => self.update(*by, found),
-                Err(answer) => Ok(answer),
-            },
-            Call::Snapshot(_) | Call::SnapshotWith(..) => {
-                let answer = slot.with(rt, |on| answer_of(alloc, on, call, None));
-                answer.ok_or(Refused::NoSuchBook)
+            if let Err(refused) = self.slot.update(self.rt, *at, by) {
+                return Answer::Refused(refused);
             }
         }
+        Answer::Updated(found.len())
     }
 }
 
@@ -178,9 +155,16 @@ impl<W: Wait, R: Recorder> Target for Slotted<'_, W, R> {
         call: &Call,
         handle: Option<(MetricKind, &[Address])>,
     ) -> Answer {
-        match self.call(alloc, call, handle) {
-            Ok(answer) => answer,
-            Err(refused) => Answer::Refused(refused),
+        let (rt, on) = (self.rt, self.slot);
+        match call {
+            Call::Describe(kind, name, unit, text) => {
+                described(on.describe(rt, alloc, *kind, name, *unit, text.as_str()))
+            }
+            Call::Register(kind, key) => registered(on.register(rt, alloc, *kind, key)),
+            Call::Update(_, by) => self.update(*by, handle),
+            Call::Snapshot(_) | Call::SnapshotWith(..) => on
+                .with(rt, |on| answer_of(alloc, on, call, None))
+                .unwrap_or(Answer::Refused(Refused::NoSuchBook)),
         }
     }
 }
@@ -220,17 +204,35 @@ fn make_slotted<W: Wait, R: Recorder>(
     Ok(known)
 }
 
+/// What is taken out of a slot, which takes no memory.
+fn taken_out<W: Wait, R: Recorder>(
+    rt: &W,
+    trial: &Trial,
+    handle: RecoveryHandle<R>,
+) -> Result<R, Wrong> {
+    trial.begin();
+    let recovered = handle.into_inner(rt);
+    trial.calm();
+    done(recovered)
+}
+
+fn recover_from<W: Wait, R: Recorder>(
+    rt: &W,
+    trial: &mut Trial,
+    slot: &SlotRecorder<R>,
+    handle: RecoveryHandle<R>,
+) -> Result<(), Wrong> {
+    let mut known = make_slotted(rt, trial, slot, A_SLOT_TAKES)?;
+    let mut on = taken_out(rt, trial, handle)?;
+    make_slotted(rt, trial, slot, AN_EMPTY_SLOT_TAKES)?;
+    expect_books(trial.alloc, &mut on, &mut known)
+}
+
 fn recover<W: Wait, R: Recorder>(rt: &W, trial: &mut Trial, on: R) -> Result<(), Wrong> {
     let Ok((slot, handle)) = RecoverableRecorder::new(on).build(rt, trial.alloc) else {
         return Err("refused with memory at hand");
     };
-    let mut known = make_slotted(rt, trial, &slot, A_SLOT_TAKES)?;
-    trial.begin();
-    let recovered = handle.into_inner(rt);
-    trial.calm();
-    let mut on = done(recovered)?;
-    drop(make_slotted(rt, trial, &slot, AN_EMPTY_SLOT_TAKES)?);
-    expect_books(trial.alloc, &mut on, &mut known)
+    recover_from(rt, trial, &slot, handle)
 }
 
 fn a_recovered_book_has_what_its_slot_took<W: Wait>(
@@ -241,58 +243,66 @@ fn a_recovered_book_has_what_its_slot_took<W: Wait>(
     recover(rt, trial, book)
 }
 
-fn a_slot_gives_its_recorder_back<W: Wait>(rt: &W, trial: &mut Trial) -> Result<(), Wrong> {
-    let inner = book_of_gauge(trial)?;
-    trial.begin();
-    let answer = RecoverableRecorder::new(inner).build(rt, trial.alloc);
-    let (slot, handle) = match or_back(trial, answer)? {
-        Ok(made) => made,
-        Err(back) => done(RecoverableRecorder::new(back).build(rt, trial.alloc))?,
-    };
-    drop(slot);
-    expect_gauge(trial, done(handle.into_inner(rt))?)
+/// Puts a recorder into a slot.
+#[derive(Drop)]
+struct Building<'a, W> {
+    rt: &'a W,
 }
 
-/// Fills a cell with the slot of a recorder, where the first try may be refused and gives the recorder back.
-fn install_first<W: Wait, R: Recorder>(
-    rt: &W,
-    trial: &mut Trial,
-    cell: &OnceLock<SlotRecorder<R>>,
-    first: R,
-) -> Result<RecoveryHandle<R>, Wrong> {
-    trial.begin();
-    let answer = RecoverableRecorder::new(first).install(rt, trial.alloc, cell);
-    trial.calm();
-    match answer {
-        Ok(handle) => Ok(handle),
-        Err(SetRecorderError::Taken(_)) => Err("the cell is taken"),
-        Err(SetRecorderError::Memory(back)) => {
-            trial.note(Error::Memory)?;
-            expect(cell.get().is_none(), "the cell is filled")?;
-            let back = with_gauge(trial, back)?;
-            done(RecoverableRecorder::new(back).install(rt, trial.alloc, cell))
+impl<W: Wait, R: Recorder> Takes<R, (SlotRecorder<R>, RecoveryHandle<R>)> for Building<'_, W> {
+    fn take(
+        &mut self,
+        alloc: Global,
+        on: R,
+    ) -> Result<(SlotRecorder<R>, RecoveryHandle<R>), (Error, R)> {
+        RecoverableRecorder::new(on).build(self.rt, alloc)
+    }
+}
+
+/// Puts a recorder into a slot, and takes it out once the slot has ended.
+fn build_slot<W: Wait, R: Recorder>(rt: &W, trial: &mut Trial, on: R) -> Result<(), Wrong> {
+    let (slot, handle) = made_from(trial, &mut Building { rt }, on, true)?;
+    drop(slot);
+    let on = taken_out(rt, trial, handle)?;
+    expect_gauge(trial, on)
+}
+
+fn a_slot_gives_its_recorder_back<W: Wait>(rt: &W, trial: &mut Trial) -> Result<(), Wrong> {
+    let book = book_of_gauge(trial)?;
+    build_slot(rt, trial, book)
+}
+
+/// What tells here that a cell is taken. No call on a slot gives it.
+const TAKEN: Error = Error::Full;
+
+/// Fills a cell with the slot of a recorder.
+#[derive(Drop)]
+struct Installing<'a, W, R: Recorder> {
+    rt: &'a W,
+    cell: &'a OnceLock<SlotRecorder<R>>,
+}
+
+impl<W: Wait, R: Recorder> Takes<R, RecoveryHandle<R>> for Installing<'_, W, R> {
+    fn take(&mut self, alloc: Global, on: R) -> Result<RecoveryHandle<R>, (Error, R)> {
+        match RecoverableRecorder::new(on).install(self.rt, alloc, self.cell) {
+            Ok(handle) => Ok(handle),
+            Err(SetRecorderError::Taken(back)) => Err((TAKEN, back)),
+            Err(SetRecorderError::Memory(back)) => Err((Error::Memory, back)),
         }
     }
 }
 
 /// Tries to fill a cell that is filled, which gives the recorder back.
-fn install_second<W: Wait, R: Recorder>(
-    rt: &W,
+fn expect_taken<R: Recorder, M: Drop, T: Takes<R, M>>(
     trial: &mut Trial,
-    cell: &OnceLock<SlotRecorder<R>>,
+    call: &mut T,
     second: R,
 ) -> Result<(), Wrong> {
-    trial.begin();
-    let answer = RecoverableRecorder::new(second).install(rt, trial.alloc, cell);
-    trial.calm();
-    match answer {
-        Ok(_) => Err("installed twice"),
-        Err(SetRecorderError::Taken(back)) => expect_gauge(trial, back),
-        Err(SetRecorderError::Memory(back)) => {
-            trial.note(Error::Memory)?;
-            expect_gauge(trial, back)
-        }
+    let (error, back) = refused(trial, call, second)?;
+    if error != TAKEN {
+        trial.note(error)?;
     }
+    expect_gauge(trial, back)
 }
 
 /// The slot in a cell has the recorder that was installed.
@@ -317,25 +327,38 @@ fn install_slot<W: Wait, R: Recorder>(
     first: R,
     second: R,
 ) -> Result<(), Wrong> {
-    let handle = install_first(rt, trial, cell, first)?;
+    let mut call = Installing { rt, cell };
+    let handle = made_from(trial, &mut call, first, true)?;
     expect_filled(rt, cell)?;
-    install_second(rt, trial, cell, second)?;
-    expect_gauge(trial, done(handle.into_inner(rt))?)
+    expect_taken(trial, &mut call, second)?;
+    let on = taken_out(rt, trial, handle)?;
+    expect_gauge(trial, on)
 }
 
 fn an_installed_slot_gives_its_recorder_back<W: Wait>(
     rt: &W,
     trial: &mut Trial,
 ) -> Result<(), Wrong> {
+    let (first, second) = two_books_of_gauge(trial)?;
     let cell = OnceLock::new();
-    let (first, second) = (book_of_gauge(trial)?, book_of_gauge(trial)?);
     install_slot(rt, trial, &cell, first, second)
+}
+
+/// That a recorder comes back from a cell that is taken.
+fn expect_back<R: Recorder>(
+    trial: &Trial,
+    answer: Result<(), SetRecorderError<R>>,
+) -> Result<(), Wrong> {
+    match answer {
+        Err(SetRecorderError::Taken(back)) => expect_gauge(trial, back),
+        _ => Err("installed twice"),
+    }
 }
 
 /// Fills a cell with a recorder, and tries another, which comes back.
 fn install_twice<W: Wait, R: Recorder>(
     rt: &W,
-    trial: &mut Trial,
+    trial: &Trial,
     first: R,
     second: R,
 ) -> Result<(), Wrong> {
@@ -344,17 +367,14 @@ fn install_twice<W: Wait, R: Recorder>(
     let answer = first.install(rt, &cell);
     let again = second.install(rt, &cell);
     trial.calm();
-    expect(answer.is_ok(), "not installed")?;
-    match again {
-        Err(SetRecorderError::Taken(back)) => expect_gauge(trial, back),
-        _ => Err("installed twice"),
-    }
+    let installed = expect(answer.is_ok(), "not installed");
+    installed.and(expect_back(trial, again))
 }
 
 fn a_recorder_is_installed_once<W: Wait>(rt: &W, trial: &mut Trial) -> Result<(), Wrong> {
-    let (first, second) = (book_of_gauge(trial)?, book_of_gauge(trial)?);
+    let (first, second) = two_books_of_gauge(trial)?;
     install_twice(rt, trial, first, second)?;
-    let (first, second) = (book_of_gauge(trial)?, book_of_gauge(trial)?);
+    let (first, second) = two_books_of_gauge(trial)?;
     install_twice(rt, trial, Stack::new(first), Stack::new(second))
 }
 

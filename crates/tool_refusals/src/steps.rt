@@ -2,8 +2,8 @@
 
 use crate::plain::{Plain, Reach};
 use metrics::{
-    Address, Answer, Call, Items, Key, KeyName, Label, MetricKind, Recorder, Refused, Reset, Row,
-    Text, Unit, Update,
+    Address, Answer, Call, Key, KeyName, Label, MetricKind, Recorder, Refused, Reset, Row, Text,
+    Unit, Update,
 };
 use metrics_debugging::DebuggingRecorder;
 use metrics_replay::answer_of;
@@ -23,9 +23,6 @@ pub enum Does {
 
 /// A call, and the books that it reaches by the plain rules, each with the name there.
 pub type Step = (Does, &'static [Reach]);
-
-/// How many register calls an example has at most.
-const REGISTERS: usize = 16;
 
 /// What calls are made on.
 pub trait Target {
@@ -55,64 +52,65 @@ impl<R: Recorder> Target for Direct<R> {
     }
 }
 
-/// The plain books, which books the register calls reached that were done, and what these gave.
+/// A register call that was done: the books that it reached, and where its addresses stand among all that were given.
+#[derive(Clone, Copy)]
+struct Given {
+    number: usize,
+    kind: MetricKind,
+    reaches: &'static [Reach],
+    first: usize,
+    end: usize,
+}
+
+/// The plain books, the register calls that were done, and the addresses that these gave.
 #[derive(Drop)]
 pub struct Known {
     plain: Plain,
-    given: Vec<Option<(MetricKind, &'static [Reach])>>,
-    found: Vec<Option<(MetricKind, Items<Address>)>>,
+    given: Vec<Given>,
+    found: Vec<Address>,
 }
 
 impl Known {
+    /// New books, with room for all that an example does.
     pub fn new(alloc: Global) -> Result<Known, Wrong> {
-        let plain = Plain::new(alloc)?;
-        let mut given = Vec::new(alloc);
-        let mut found = Vec::new(alloc);
-        for _ in 0..REGISTERS {
-            if given.push(None).is_err() || found.push(None).is_err() {
-                return Err("refused with memory at hand");
-            }
-        }
         Ok(Known {
-            plain,
-            given,
-            found,
+            plain: Plain::new(alloc)?,
+            given: done(Vec::with_capacity(alloc, 64))?,
+            found: done(Vec::with_capacity(alloc, 64))?,
         })
     }
 
-    /// The kind of the call's handle, and the books that it reaches.
-    fn reached(&self, number: usize) -> Option<(MetricKind, &'static [Reach])> {
-        if number < self.given.len() {
-            self.given[number]
+    /// What the register call of a number gave when it was last done.
+    fn given(&self, number: usize) -> Option<Given> {
+        let mut given = None;
+        for one in &self.given {
+            if one.number == number {
+                given = Some(*one);
+            }
+        }
+        given
+    }
+
+    /// The handle that a call names.
+    fn handle(&self, does: Does) -> Option<(MetricKind, &[Address])> {
+        let Does::Update(number, _) = does else {
+            return None;
+        };
+        let given = self.given(number)?;
+        let found = self.found.as_slice();
+        if given.first <= given.end && given.end <= found.len() {
+            Some((given.kind, &found[given.first..given.end]))
         } else {
             None
         }
     }
 
-    /// The handle that a call names.
-    pub fn handle(&self, does: Does) -> Option<(MetricKind, &[Address])> {
-        let Does::Update(number, _) = does else {
-            return None;
-        };
-        match self.found.get(number) {
-            Some(Some((kind, found))) => Some((*kind, found.as_slice())),
-            _ => None,
-        }
-    }
-
-    /// Keeps the handle that a register call gave.
-    pub fn keep(&mut self, does: Does, answer: Answer) {
-        if let (Does::Register(number, kind, _), Answer::Registered(found)) = (does, answer) {
-            if number < self.found.len() {
-                self.found[number] = Some((kind, found));
-            }
-        }
-    }
-
-    /// Takes an answer into the plain books. `false`: memory was refused, and the first targets alone were done.
-    pub fn take(&mut self, step: Step, answer: &Answer) -> Result<bool, Wrong> {
+    /// Takes an answer into the plain books, and counts a refusal for memory, after which the first targets alone were
+    /// done. Whether the call was done.
+    pub fn take(&mut self, trial: &mut Trial, step: Step, answer: &Answer) -> Result<bool, Wrong> {
         match answer {
             Answer::Refused(Refused::Memory { acted }) => {
+                trial.refusals = trial.refusals.saturating_add(1);
                 self.act(step, *acted)?;
                 Ok(false)
             }
@@ -126,10 +124,7 @@ impl Known {
     /// The books that a call reaches, where its handle isn't bad.
     fn reaches(&self, (does, reaches): Step) -> Option<&'static [Reach]> {
         match does {
-            Does::Update(number, _) => match self.reached(number) {
-                Some((_, reaches)) => Some(reaches),
-                None => None,
-            },
+            Does::Update(number, _) => Some(self.given(number)?.reaches),
             Does::Describe(..) | Does::Register(..) | Does::Snapshot(..) => Some(reaches),
         }
     }
@@ -166,11 +161,7 @@ impl Known {
             }
             (Does::Register(number, kind, _), Answer::Registered(found)) => {
                 self.plain.register(kind, reaches)?;
-                self.expect_addresses(kind, reaches, found.as_slice())?;
-                if number < self.given.len() {
-                    self.given[number] = Some((kind, reaches));
-                }
-                Ok(())
+                self.take_addresses(number, kind, reaches, found.as_slice())
             }
             (Does::Update(number, by), answer) => self.take_update(number, by, answer),
             (Does::Snapshot(book, reset), Answer::Snapshot(rows)) => {
@@ -186,10 +177,10 @@ impl Known {
     }
 
     fn take_update(&mut self, number: usize, by: Update, answer: &Answer) -> Result<(), Wrong> {
-        match (self.reached(number), answer) {
-            (Some((kind, reaches)), Answer::Updated(count)) => {
-                expect(*count == reaches.len(), "another number of updates")?;
-                self.plain.update(kind, by, reaches);
+        match (self.given(number), answer) {
+            (Some(given), Answer::Updated(count)) => {
+                expect(*count == given.reaches.len(), "another number of updates")?;
+                self.plain.update(given.kind, by, given.reaches);
                 Ok(())
             }
             (None, Answer::Refused(Refused::BadHandle)) => Ok(()),
@@ -197,18 +188,31 @@ impl Known {
         }
     }
 
-    fn expect_addresses(
-        &self,
+    /// Takes the addresses that a register call gave.
+    fn take_addresses(
+        &mut self,
+        number: usize,
         kind: MetricKind,
-        reaches: &[Reach],
+        reaches: &'static [Reach],
         found: &[Address],
     ) -> Result<(), Wrong> {
         expect(found.len() == reaches.len(), "another number of addresses")?;
+        let first = self.found.len();
         for (at, reach) in found.iter().zip(reaches) {
             let wanted = self.plain.address(kind, *reach);
             expect(wanted == Some(*at), "another address")?;
+            done(self.found.push(*at))?;
         }
-        Ok(())
+        let end = self.found.len();
+        done(
+            self.given.push(Given {
+                number,
+                kind,
+                reaches,
+                first,
+                end,
+            }),
+        )
     }
 }
 
@@ -246,10 +250,7 @@ fn make<T: Target>(
         Ok(call) => on.answer(trial.alloc, &call, known.handle(step.0)),
         Err(refused) => Answer::Refused(refused),
     };
-    let is_done = known.take(step, &answer)?;
-    known.keep(step.0, answer);
-    trial.refusals = trial.refusals.saturating_add(u64::from(!is_done));
-    Ok(is_done)
+    known.take(trial, step, &answer)
 }
 
 /// Makes each call while memory may be refused, once.
@@ -314,21 +315,28 @@ pub fn play<R: Recorder>(trial: &mut Trial, on: R, steps: &[Step]) -> Result<(),
     play_all(trial, &mut direct, &mut known, steps)
 }
 
-/// Makes a tree of its lines while memory is refused, and again with memory at hand where that was.
+/// Makes a tree again whose first try was refused for memory.
+fn grown_again(
+    trial: &mut Trial,
+    lines: &str,
+    error: RunError,
+) -> Result<Child<DebuggingRecorder>, Wrong> {
+    let RunError::Memory(_) = error else {
+        return Err("the tree is refused");
+    };
+    trial.refusals = trial.refusals.saturating_add(1);
+    let (on, _) = done(tree(trial.alloc, &mut lines.as_bytes()))?;
+    Ok(on)
+}
+
+/// Makes a tree of its lines. The first try may be refused.
 fn grown(trial: &mut Trial, lines: &str) -> Result<Child<DebuggingRecorder>, Wrong> {
     trial.begin();
     let first = tree(trial.alloc, &mut lines.as_bytes());
     trial.calm();
-    let second = match first {
-        Err(RunError::Memory(_)) => {
-            trial.refusals = trial.refusals.saturating_add(1);
-            tree(trial.alloc, &mut lines.as_bytes())
-        }
-        first => first,
-    };
-    match second {
+    match first {
         Ok((on, _)) => Ok(on),
-        Err(_) => Err("the tree is refused"),
+        Err(error) => grown_again(trial, lines, error),
     }
 }
 
