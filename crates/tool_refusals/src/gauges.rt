@@ -59,17 +59,20 @@ pub fn two_books_of_gauge(trial: &Trial) -> Result<(Book, Book), Wrong> {
     both(first, book_of_gauge(trial))
 }
 
+/// Whether a row is the gauge `g` with the value 3.
+fn is_gauge(row: &Row) -> bool {
+    row.0.key().name() == "g" && matches!(row.3, DebugValue::Gauge(3))
+}
+
 /// That these rows are the one gauge, or none.
 fn expect_rows(rows: &[Row], has_gauge: bool) -> Result<(), Wrong> {
-    expect(
-        rows.len() == usize::from(has_gauge),
-        "another number of rows",
-    )?;
-    for row in rows {
-        expect(row.0.key().name() == "g", "another name")?;
-        expect(matches!(row.3, DebugValue::Gauge(3)), "another value")?;
+    match rows.first() {
+        Some(row) => expect(
+            has_gauge && rows.len() == 1 && is_gauge(row),
+            "another gauge, or another row",
+        ),
+        None => expect(!has_gauge, "the gauge is missing"),
     }
-    Ok(())
 }
 
 /// That the last book of a recorder has the one gauge, which stands, or nothing.

@@ -10,7 +10,6 @@ use metrics::{
     Address, Answer, Call, Error, MetricKind, Recorder, Refused, Reset, Snapshot, Update,
 };
 use metrics_layers::Stack;
-use metrics_replay::answer_of;
 use metrics_shared::{
     Install, RecoverableRecorder, RecoveryHandle, SetRecorderError, Shared, SlotRecorder,
 };
@@ -162,9 +161,8 @@ impl<W: Wait, R: Recorder> Target for Slotted<'_, W, R> {
             }
             Call::Register(kind, key) => registered(on.register(rt, alloc, *kind, key)),
             Call::Update(_, by) => self.update(*by, handle),
-            Call::Snapshot(_) | Call::SnapshotWith(..) => on
-                .with(rt, |on| answer_of(alloc, on, call, None))
-                .unwrap_or(Answer::Refused(Refused::NoSuchBook)),
+            // A slot tells no rows.
+            Call::Snapshot(_) | Call::SnapshotWith(..) => Answer::Refused(Refused::NoSuchBook),
         }
     }
 }

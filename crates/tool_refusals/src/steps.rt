@@ -234,8 +234,9 @@ pub fn call_of(alloc: Global, does: Does) -> Result<Call, Refused> {
 
 /// A key with one label.
 pub fn key(alloc: Global, name: &str) -> Result<Key, Refused> {
+    let label = Label::new(alloc, "counter.key", "counter.value")?;
     let mut labels = Vec::new(alloc);
-    labels.push(Label::new(alloc, "counter.key", "counter.value")?)?;
+    labels.push(label)?;
     Key::from_parts(alloc, name, labels)
 }
 
