@@ -1,29 +1,31 @@
 //! Cells that are filled with a recorder.
 
-use crate::books::{count, key};
-use metrics::{DebugValue, Key, MetricKind, Recorder};
+use crate::books::{AT, count_of, key};
+use metrics::{Key, MetricKind, Recorder, Update};
 use metrics_debugging::DebuggingRecorder;
-use metrics_shared::{Install, RecoverableRecorder, SetRecorderError, SlotRecorder};
+use metrics_shared::{Install, RecoverableRecorder, SetRecorderError, Shared, SlotRecorder};
 use std::alloc::Global;
 use std::process::Abort;
 use std::sync::{OnceLock, Wait};
 use std::test::Fail;
 use std::thread::{Threads, join};
 
+/// What the recorder in a cell counts.
+fn counted<R: Wait, B: Recorder>(rt: &R, alloc: Global, cell: &OnceLock<Shared<B>>) -> Option<u64> {
+    match cell.get()?.snapshot(rt, alloc, 0) {
+        Ok(rows) => count_of(&rows),
+        Err(_) => None,
+    }
+}
+
 /// That a recorder is found in the cell that it was put into.
-fn expect_found<R: Abort + Wait, B: Recorder>(
-    rt: &R,
-    alloc: Global,
-    mut book: B,
-) -> Result<(), Fail> {
-    count(alloc, &mut book, 3)?;
+fn expect_found<R: Abort + Wait, B: Recorder>(rt: &R, alloc: Global, book: B, key: &Key) {
+    let mut book = book;
+    assert!(rt; book.register(alloc, MetricKind::Counter, key).is_ok());
+    assert_eq!(rt; book.update(AT, Update::Increment(3)), Ok(()));
     let cell = OnceLock::new();
     assert!(rt; book.install(rt, &cell).is_ok());
-    let found = cell.get().ok_or("no recorder")?;
-    let snapshot = found.snapshot(rt, alloc, 0)?;
-    let row = snapshot.as_slice().first().ok_or("no row")?;
-    assert!(rt; row.3 == DebugValue::Counter(3));
-    Ok(())
+    assert_eq!(rt; counted(rt, alloc, &cell), Some(3));
 }
 
 #[test]
@@ -35,7 +37,9 @@ fn an_installed_recorder_is_found(rt: HostRuntime) -> Result<(), Fail> {
         printed.as_str(),
         "a recorder is installed already: Taken(..)"
     );
-    expect_found(&rt, alloc, DebuggingRecorder::new(alloc)?)
+    let book = DebuggingRecorder::new(alloc)?;
+    expect_found(&rt, alloc, book, &key(alloc, "c")?);
+    Ok(())
 }
 
 /// How many targets a register call meets that is made as soon as the cell is filled.

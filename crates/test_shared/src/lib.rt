@@ -6,11 +6,7 @@
 #[cfg(test)]
 mod books;
 #[cfg(test)]
-mod handles;
-#[cfg(test)]
 mod installs;
-#[cfg(test)]
-mod recoverable;
 #[cfg(test)]
 mod reservoirs;
 #[cfg(test)]

@@ -14,8 +14,8 @@ use std::test::Fail;
 use std::thread::{self, Threads, join};
 use std::time::Duration;
 
-/// What a drain told: the number of values and their sum, the rate, and how many items came.
-type Told = (u64, i128, (u64, u64), usize);
+/// What a drain told: the number of values and their sum, the rate, and the last item.
+type Told = (u64, i128, (u64, u64), Option<i64>);
 
 /// Pushes the numbers below `values`.
 fn push_all<R: Wait, G: Rng + Drop>(
@@ -30,14 +30,14 @@ fn push_all<R: Wait, G: Rng + Drop>(
 }
 
 fn consumed<R: Wait, G: Rng + Drop>(rt: &R, reservoir: &AtomicSamplingReservoir<G>) -> Told {
-    let mut told = (0, 0, (0, 0), 0);
+    let mut told = (0, 0, (0, 0), None);
     reservoir.consume(rt, |drain| {
         let (len, sum, rate) = (
             drain.unsampled_len(),
             drain.unsampled_sum(),
             drain.sample_rate(),
         );
-        told = (len, sum, rate, drain.count());
+        told = (len, sum, rate, drain.last());
     });
     told
 }
@@ -57,18 +57,16 @@ fn a_reservoir_without_room_counts(rt: HostRuntime) -> Result<(), Fail> {
     assert!(&rt; reservoir.is_empty(&rt));
     push_all(&rt, &reservoir, 3)?;
     assert!(&rt; !reservoir.is_empty(&rt));
-    assert!(&rt; consumed(&rt, &reservoir) == (3, 3, (0, 3), 0));
+    assert!(&rt; consumed(&rt, &reservoir) == (3, 3, (0, 3), None));
     Ok(())
 }
 
 /// The value that a reservoir of size 1 holds after 1 and 2 were pushed.
-fn held<R: Wait>(rt: &R, alloc: Global, seed: u64) -> Result<i64, Error> {
+fn held<R: Wait>(rt: &R, alloc: Global, seed: u64) -> Result<Option<i64>, Error> {
     let reservoir = sampling(alloc, 1, seed)?;
     reservoir.push(rt, 1)?;
     reservoir.record(rt, 2)?;
-    let mut held = 0;
-    reservoir.consume(rt, |drain| held = drain.last().unwrap_or(0));
-    Ok(held)
+    Ok(consumed(rt, &reservoir).3)
 }
 
 #[test]
@@ -77,8 +75,8 @@ fn shared_reservoir_draws_the_whole_range(rt: HostRuntime) -> Result<(), Fail> {
     let mut is_second_held = false;
     for seed in 0..64 {
         let value = held(&rt, rt.alloc(), seed)?;
-        is_first_held |= value == 1;
-        is_second_held |= value == 2;
+        is_first_held |= value == Some(1);
+        is_second_held |= value == Some(2);
     }
     assert!(&rt; is_first_held && is_second_held);
     Ok(())
@@ -91,7 +89,7 @@ fn values_pushed_meanwhile_stay(rt: HostRuntime) -> Result<(), Fail> {
     let mut is_pushed = false;
     reservoir.consume(&rt, |_drain| is_pushed = reservoir.push(&rt, 9).is_ok());
     assert!(&rt; is_pushed);
-    assert!(&rt; consumed(&rt, &reservoir) == (1, 9, (1, 1), 1));
+    assert!(&rt; consumed(&rt, &reservoir) == (1, 9, (1, 1), Some(9)));
     Ok(())
 }
 
@@ -100,7 +98,7 @@ fn a_forgotten_drain_empties(rt: HostRuntime) -> Result<(), Fail> {
     let reservoir = sampling(rt.alloc(), 4, 1)?;
     push_all(&rt, &reservoir, 3)?;
     reservoir.consume(&rt, |drain| mem::forget(drain));
-    assert!(&rt; consumed(&rt, &reservoir) == (0, 0, (1, 1), 0));
+    assert!(&rt; consumed(&rt, &reservoir) == (0, 0, (1, 1), None));
     Ok(())
 }
 

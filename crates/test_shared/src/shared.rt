@@ -1,8 +1,8 @@
 //! A book that threads share.
 
-use crate::books::{counted, first, key};
+use crate::books::{AT, count_of, key};
 use metrics::{
-    Address, DebugValue, Key, KeyName, Label, MetricKind, Recorder, Refused, Reset, Unit, Update,
+    DebugValue, Key, KeyName, Label, MetricKind, Recorder, Refused, Reset, Row, Unit, Update,
 };
 use metrics_debugging::DebuggingRecorder;
 use metrics_shared::Shared;
@@ -12,24 +12,19 @@ use std::sync::Wait;
 use std::test::Fail;
 use std::thread::{self, Threads};
 
-/// The value of the gauge that stands alone in the first book, before the call resets what it is to reset. It has the
-/// label `host` `a`, and is described by `t`.
-fn gauge_before<R: Abort + Wait, B: Recorder>(
-    rt: &R,
-    alloc: Global,
-    shared: &Shared<B>,
-    reset: Reset,
-) -> Result<i64, Fail> {
-    let snapshot = shared.snapshot_with(rt, alloc, 0, reset)?;
-    let row = snapshot.as_slice().first().ok_or("no row")?;
-    let label = row.0.key().labels().first().ok_or("no label")?;
-    assert!(rt; (label.key(), label.value()) == ("host", "a"));
-    assert!(rt; row.1 == Some(Unit::Count));
-    assert_eq!(rt; row.2.as_ref().ok_or("no text")?.as_str(), "t");
-    match row.3 {
-        DebugValue::Gauge(value) => Ok(value),
-        _ => Err("no gauge".into()),
-    }
+/// Whether the first row is of a gauge of this value, which has the label `host` `a` and is described by `t`.
+fn is_gauge(rows: &[Row], value: i64) -> bool {
+    let Some(row) = rows.first() else {
+        return false;
+    };
+    let Some(label) = row.0.key().labels().first() else {
+        return false;
+    };
+    let (Some(text), DebugValue::Gauge(found)) = (&row.2, &row.3) else {
+        return false;
+    };
+    let is_described = row.1 == Some(Unit::Count) && text.as_str() == "t";
+    is_described && (label.key(), label.value()) == ("host", "a") && *found == value
 }
 
 /// A gauge of a label, described by `t`, is set to 5.
@@ -39,29 +34,29 @@ fn set_gauge<R: Abort + Wait, B: Recorder>(
     shared: &Shared<B>,
     name: &KeyName,
     key: &Key,
-) -> Result<(), Fail> {
+) {
     let unit = Some(Unit::Count);
-    assert_eq!(rt;
-        shared.describe(rt, alloc, MetricKind::Gauge, name, unit, "t")?,
-        1
-    );
-    let found = shared.register(rt, alloc, MetricKind::Gauge, key)?;
-    shared.update(rt, first(&found)?, Update::Set(5))?;
-    Ok(())
+    let told = shared.describe(rt, alloc, MetricKind::Gauge, name, unit, "t");
+    assert_eq!(rt; told, Ok(1));
+    assert!(rt; shared.register(rt, alloc, MetricKind::Gauge, key).is_ok());
+    assert_eq!(rt; shared.update(rt, AT, Update::Set(5)), Ok(()));
 }
+
+/// How a snapshot resets, and the value of the gauge before.
+const RESETS: [(Reset, i64); 3] = [
+    (Reset::KeepGauges, 5),
+    (Reset::All, 5),
+    (Reset::KeepGauges, 0),
+];
 
 fn expect_gauges<R: Abort + Wait, B: Recorder>(
     rt: &R,
     alloc: Global,
     shared: &Shared<B>,
-) -> Result<(), Fail> {
-    let resets = [
-        (Reset::KeepGauges, 5),
-        (Reset::All, 5),
-        (Reset::KeepGauges, 0),
-    ];
-    for (reset, want) in resets {
-        assert_eq!(rt; gauge_before(rt, alloc, shared, reset)?, want);
+) -> Result<(), Refused> {
+    for (reset, value) in RESETS {
+        let rows = shared.snapshot_with(rt, alloc, 0, reset)?;
+        assert!(rt; is_gauge(rows.as_slice(), value));
     }
     let refused = shared.snapshot_with(rt, alloc, 1, Reset::All);
     assert!(rt; refused.err() == Some(Refused::NoSuchBook));
@@ -74,15 +69,16 @@ fn calls_of_a_shared_book(rt: HostRuntime) -> Result<(), Fail> {
     let shared = Shared::new(DebuggingRecorder::new(alloc)?);
     let labels = vec![in alloc; Label::new(alloc, "host", "a")?]?;
     let key = Key::from_parts(alloc, "g", labels)?;
-    set_gauge(&rt, alloc, &shared, &KeyName::new(alloc, "g")?, &key)?;
-    expect_gauges(&rt, alloc, &shared)
+    set_gauge(&rt, alloc, &shared, &KeyName::new(alloc, "g")?, &key);
+    expect_gauges(&rt, alloc, &shared)?;
+    Ok(())
 }
 
 /// Adds 1 to the counter a thousand times, and tells whether each was done.
-fn add_many<R: Wait, B: Recorder>(rt: &R, shared: &Shared<B>, at: Address) -> bool {
+fn add_many<R: Wait, B: Recorder>(rt: &R, shared: &Shared<B>) -> bool {
     let mut is_done = true;
     for _ in 0..1000 {
-        is_done &= shared.update(rt, at, Update::Increment(1)).is_ok();
+        is_done &= shared.update(rt, AT, Update::Increment(1)).is_ok();
     }
     is_done
 }
@@ -90,18 +86,19 @@ fn add_many<R: Wait, B: Recorder>(rt: &R, shared: &Shared<B>, at: Address) -> bo
 fn expect_all<R: Abort + Threads + Wait + Sync, B: Recorder + Send>(
     rt: &R,
     alloc: Global,
-    book: B,
+    shared: &Shared<B>,
+    key: &Key,
 ) -> Result<(), Fail> {
-    let shared = Shared::new(book);
-    let found = shared.register(rt, alloc, MetricKind::Counter, &key(alloc, "c")?)?;
-    let at = first(&found)?;
-    let done = thread::map_indices(rt, alloc, 4, &|_| add_many(rt, &shared, at))?;
+    assert!(rt; shared.register(rt, alloc, MetricKind::Counter, key).is_ok());
+    let done = thread::map_indices(rt, alloc, 4, &|_| add_many(rt, shared))?;
     assert!(rt; done.iter().all(|is_done| *is_done));
-    assert_eq!(rt; counted(alloc, shared.into_inner())?, Some(4000));
+    assert_eq!(rt; count_of(&shared.snapshot(rt, alloc, 0)?), Some(4000));
     Ok(())
 }
 
 #[test]
 fn four_threads_add(rt: HostRuntime) -> Result<(), Fail> {
-    expect_all(&rt, rt.alloc(), DebuggingRecorder::new(rt.alloc())?)
+    let alloc = rt.alloc();
+    let shared = Shared::new(DebuggingRecorder::new(alloc)?);
+    expect_all(&rt, alloc, &shared, &key(alloc, "c")?)
 }
