@@ -3,16 +3,12 @@
 use metrics::Key;
 use metrics_bucket::AtomicBucket;
 use metrics_cells::{CounterFn, GaugeFn, HistogramFn};
-use metrics_registry::{Counted, Generation};
+use metrics_registry::{Generation, Storage};
 use metrics_shared_registry::{Generational, Registry};
-use std::alloc::Global;
 use std::process::Abort;
+use std::sync::Wait;
 use std::sync::atomic::{AtomicU64, Ordering};
-use std::sync::{Arc, Wait};
 use std::test::Fail;
-
-/// The histogram's cell of a registry.
-type Samples = Arc<AtomicBucket<i64>>;
 
 /// A histogram that refuses every sample.
 #[derive(Drop)]
@@ -26,65 +22,59 @@ impl HistogramFn for Full {
     }
 }
 
-/// The generation of a value that was changed so often.
-fn after(changes: u64) -> Generation {
-    let mut counted = Counted::new(0u64);
-    for _ in 0..changes {
-        counted.with_increment(|_: &mut u64| {});
-    }
-    counted.get_generation()
+/// The cell was changed so often.
+fn expect_changes<R: Abort, T>(rt: &R, cell: &Generational<T>, changes: u64) {
+    assert!(rt; cell.get_generation() == Generation::new(changes));
 }
 
-fn expect_refused<R: Abort + Wait>(rt: &R, alloc: Global) -> Result<(), Fail> {
-    let cell = Generational::new(alloc, Full)?;
-    assert!(rt; cell.get_generation() == after(0));
-    assert!(rt; cell.record(rt, 3).err() == Some(3));
-    assert!(rt; cell.get_generation() == after(1));
-    Ok(())
+/// What the cell holds, after so many changes.
+fn expect_value<R: Abort>(rt: &R, cell: &Generational<AtomicU64>, changes: u64, value: u64) {
+    expect_changes(rt, cell, changes);
+    assert_eq!(rt; cell.get_inner().load(Ordering::SeqCst), value);
 }
 
-fn expect_counter<R: Abort>(rt: &R, alloc: Global) -> Result<(), Fail> {
-    let cell = Generational::new(alloc, AtomicU64::new(0))?;
-    CounterFn::increment(&cell, 3);
-    assert!(rt; cell.get_generation() == after(1));
+fn expect_counter<R: Abort>(rt: &R, cell: &Generational<AtomicU64>) {
+    CounterFn::increment(cell, 3);
+    expect_value(rt, cell, 1, 3);
     cell.absolute(9);
-    assert!(rt; cell.get_generation() == after(2));
-    assert_eq!(rt; cell.get_inner().load(Ordering::SeqCst), 9);
-    Ok(())
+    expect_value(rt, cell, 2, 9);
 }
 
-fn expect_gauge<R: Abort + Wait>(rt: &R, alloc: Global) -> Result<(), Fail> {
-    let cell = Generational::new(alloc, AtomicU64::new(0))?;
+/// The counter's cell, used as a gauge.
+fn expect_gauge<R: Abort + Wait>(rt: &R, cell: &Generational<AtomicU64>) {
     cell.set(5);
-    assert!(rt; cell.get_generation() == after(1));
-    GaugeFn::increment(&cell, rt, 3);
-    assert!(rt; cell.get_generation() == after(2));
+    expect_value(rt, cell, 3, 5);
+    GaugeFn::increment(cell, rt, 3);
+    expect_value(rt, cell, 4, 8);
     cell.decrement(rt, 1);
-    assert!(rt; cell.get_generation() == after(3));
-    assert_eq!(rt; cell.get_inner().load(Ordering::SeqCst), 7);
-    Ok(())
+    expect_value(rt, cell, 5, 7);
 }
 
 /// The generation is raised once the closure ran.
-fn expect_before<R: Abort>(rt: &R, alloc: Global) -> Result<(), Fail> {
-    let cell = Generational::new(alloc, AtomicU64::new(0))?;
+fn expect_before<R: Abort>(rt: &R, cell: &Generational<AtomicU64>) {
     let inside = cell.with_increment(|_: &AtomicU64| cell.get_generation());
-    assert!(rt; inside == after(0));
-    assert!(rt; cell.get_generation() == after(1));
-    Ok(())
+    assert!(rt; inside == Generation::new(5));
+    expect_changes(rt, cell, 6);
+}
+
+fn expect_refused<R: Abort + Wait>(rt: &R, cell: &Generational<Full>) {
+    expect_changes(rt, cell, 0);
+    assert_eq!(rt; cell.record(rt, 3), Err(3));
+    expect_changes(rt, cell, 1);
 }
 
 #[test]
 fn each_call_raises_the_generation_by_one_once_it_ran(rt: HostRuntime) -> Result<(), Fail> {
-    let alloc = rt.alloc();
-    expect_refused(&rt, alloc)?;
-    expect_counter(&rt, alloc)?;
-    expect_gauge(&rt, alloc)?;
-    expect_before(&rt, alloc)
+    let cell = Generational::new(rt.alloc(), AtomicU64::new(0))?;
+    expect_counter(&rt, &cell);
+    expect_gauge(&rt, &cell);
+    expect_before(&rt, &cell);
+    expect_refused(&rt, &Generational::new(rt.alloc(), Full)?);
+    Ok(())
 }
 
 /// Records a number of samples, and answers how many were refused.
-fn refused<W: Wait>(rt: &W, cell: &Samples, samples: i64) -> u64 {
+fn refused<W: Wait>(rt: &W, cell: &AtomicBucket<i64>, samples: i64) -> u64 {
     let mut refused = 0u64;
     for sample in 0..samples {
         refused = refused.saturating_add(u64::from(cell.record(rt, sample).is_err()));
@@ -92,18 +82,14 @@ fn refused<W: Wait>(rt: &W, cell: &Samples, samples: i64) -> u64 {
     refused
 }
 
-/// A histogram has room for 1,024 samples.
+/// A histogram that a registry's storage makes has room for 1,024 samples.
 #[test]
 fn a_histogram_has_room(rt: HostRuntime) -> Result<(), Fail> {
-    let registry = Registry::atomic(rt.alloc(), 2)?;
-    let key = Key::from_name(rt.alloc(), "a")?;
-    let first = registry.get_or_create_histogram(
-        &rt,
-        &key,
-        |cell: &Samples| refused(&rt, cell, 1025),
-    )?;
-    assert_eq!(rt; first, 1);
-    let cell = registry.get_histogram(&rt, &key)?.ok_or("no cell")?;
+    let registry = Registry::atomic(rt.alloc(), 1)?;
+    let cell = registry
+        .storage()
+        .histogram(&Key::from_name(rt.alloc(), "a")?)?;
+    assert_eq!(rt; refused(&rt, &cell, 1025), 1);
     assert_eq!(rt; cell.clear(&rt), Ok(1024));
     assert_eq!(rt; refused(&rt, &cell, 1), 0);
     Ok(())

@@ -77,35 +77,23 @@ pub fn increment<W: Wait>(
     key: &Key,
 ) -> Result<u64, Error> {
     match kind {
-        MetricKind::Counter => registry.get_or_create_counter(rt, key, |c: &Word| one_more(c)),
-        MetricKind::Gauge => registry.get_or_create_gauge(rt, key, |c: &Word| one_more(c)),
-        MetricKind::Histogram => registry.get_or_create_histogram(rt, key, |c: &Word| one_more(c)),
+        MetricKind::Counter => registry.get_or_create_counter(rt, key, one_more),
+        MetricKind::Gauge => registry.get_or_create_gauge(rt, key, one_more),
+        MetricKind::Histogram => registry.get_or_create_histogram(rt, key, one_more),
     }
 }
 
-/// How many ones were added to the word of a key, if it is held.
-pub fn count<W: Wait>(
-    rt: &W,
-    registry: &Plain,
-    kind: MetricKind,
-    key: &Key,
-) -> Result<Option<u64>, Error> {
-    let word = match kind {
-        MetricKind::Counter => registry.get_counter(rt, key)?,
-        MetricKind::Gauge => registry.get_gauge(rt, key)?,
-        MetricKind::Histogram => registry.get_histogram(rt, key)?,
-    };
-    Ok(word.map(|c: Word| c.load(Ordering::SeqCst)))
-}
-
-/// The number of calls of a visit's closure.
-pub fn visits<W: Wait>(rt: &W, registry: &Plain, kind: MetricKind) -> usize {
+/// Keeps nothing of a kind, and answers the number of calls of the closure.
+pub fn retain_none<W: Wait>(rt: &W, registry: &Plain, kind: MetricKind) -> usize {
     let mut calls = 0usize;
-    let visit = |_: &Key, _: &Word| calls = calls.wrapping_add(1);
+    let keep = |_: &Key, _: &Word| {
+        calls = calls.wrapping_add(1);
+        false
+    };
     match kind {
-        MetricKind::Counter => registry.visit_counters(rt, visit),
-        MetricKind::Gauge => registry.visit_gauges(rt, visit),
-        MetricKind::Histogram => registry.visit_histograms(rt, visit),
+        MetricKind::Counter => registry.retain_counters(rt, keep),
+        MetricKind::Gauge => registry.retain_gauges(rt, keep),
+        MetricKind::Histogram => registry.retain_histograms(rt, keep),
     }
     calls
 }

@@ -1,7 +1,7 @@
 //! Two threads on one registry.
 ghost use Rattle.std.specs.Thread.{IsSync};
 
-use crate::given::{KINDS, Plain, count, increment, plain, visits};
+use crate::given::{KINDS, Plain, increment, plain, retain_none};
 use metrics::{Error, Key, MetricKind};
 use std::alloc::Global;
 use std::process::Abort;
@@ -46,7 +46,7 @@ fn expect_sum<R: Threads + Wait + Abort + Sync>(
     key: &Key,
     first: &Key,
     second: &Key,
-) -> Result<(), Fail>
+)
     requires { IsSync R.row }
 {
     let (one, other) = join(
@@ -54,10 +54,10 @@ fn expect_sum<R: Threads + Wait + Abort + Sync>(
         || add_all(rt, registry, kind, key, first),
         || add_all(rt, registry, kind, key, second),
     );
-    assert!(rt; one? && other?);
-    assert_eq!(rt; count(rt, registry, kind, key)?, Some(2 * TIMES));
-    assert_eq!(rt; visits(rt, registry, kind), 1);
-    Ok(())
+    assert_eq!(rt; one, Ok(true));
+    assert_eq!(rt; other, Ok(true));
+    assert_eq!(rt; increment(rt, registry, kind, key), Ok(2 * TIMES + 1));
+    assert_eq!(rt; retain_none(rt, registry, kind), 1);
 }
 
 #[test]
@@ -68,7 +68,7 @@ fn two_threads_add_to_one_cell(rt: HostRuntime) -> Result<(), Fail> {
     for kind in KINDS {
         for shards in [1, 8] {
             let registry = plain(rt.alloc(), shards)?;
-            expect_sum(&rt, &registry, kind, &key, &first, &second)?;
+            expect_sum(&rt, &registry, kind, &key, &first, &second);
         }
     }
     Ok(())
