@@ -1,9 +1,9 @@
 //! Calls of each kind on two keys, read in the journals of two shards.
 ghost use Rattle.std.specs.Prelude.{◌≡◌};
 
-use crate::given::{Registry, key};
-use metrics::{Error, Key, MetricKind};
-use metrics_journal::{ShardCall, Tally};
+use crate::given::{Act, Pair, Registry, call_of, is_call};
+use metrics::{Error, MetricKind};
+use metrics_journal::Tally;
 use metrics_registry::{PlainStorage, shard_of};
 use std::alloc::Global;
 use std::marker::Brand;
@@ -11,13 +11,6 @@ use std::process::Abort;
 use std::sync::Wait;
 use std::sync::ledger::{Blank, Ledger};
 use std::test::Fail;
-
-#[derive(Clone, Copy, Debug)]
-enum Act {
-    Create,
-    Has,
-    Delete,
-}
 
 /// A call, and what it replies.
 type Row = (Act, MetricKind, &'static str, bool);
@@ -41,47 +34,27 @@ const ROWS: [Row; 16] = [
     (Act::Delete, MetricKind::Counter, "b", false),
 ];
 
-fn call_of(alloc: Global, row: &Row) -> Result<ShardCall<Key>, Error> {
-    let key = key(alloc, row.2)?;
-    Ok(match row.0 {
-        Act::Create => ShardCall::Create(row.1, key),
-        Act::Has => ShardCall::Has(row.1, key),
-        Act::Delete => ShardCall::Delete(row.1, key),
-    })
+/// Whether a pair is that of a row.
+fn is_row(pair: Option<&Pair>, row: &Row) -> bool {
+    match pair {
+        Some((call, reply)) => is_call(call, row.0, row.1, row.2) && *reply == row.3,
+        None => false,
+    }
 }
 
-/// The journal of a shard has the rows of its keys, and no others.
-fn expect_journal<R: Abort>(
-    rt: &R,
-    alloc: Global,
-    shard: usize,
-    journal: &[(ShardCall<Key>, bool)],
-) -> Result<(), Fail> {
-    assert!(rt; !journal.is_empty(), "shard {shard}");
-    let mut told = journal.iter();
+/// Whether the journal of a shard has the rows of a key of this shard, and no others.
+fn has_rows(shard: usize, journal: &[Pair]) -> bool {
+    let Some((call, _)) = journal.first() else {
+        return false;
+    };
+    let key = call.key();
+    let mut pairs = journal.iter();
     for row in &ROWS {
-        let call = call_of(alloc, row)?;
-        if shard_of(call.key(), 2) == shard {
-            let pair = told.next().ok_or("a pair is missing")?;
-            assert!(rt; pair.0 == call, "shard {shard}");
-            assert_eq!(rt; pair.1, row.3, "shard {shard}");
+        if row.2 == key.name() && !is_row(pairs.next(), row) {
+            return false;
         }
     }
-    assert!(rt; told.next().is_none(), "shard {shard}");
-    Ok(())
-}
-
-/// Both journals have the rows of their keys.
-fn expect_journals<R: Abort>(
-    rt: &R,
-    alloc: Global,
-    journals: &[Vec<(ShardCall<Key>, bool)>],
-) -> Result<(), Fail> {
-    assert_eq!(rt; journals.len(), 2);
-    for (shard, journal) in journals.iter().enumerate() {
-        expect_journal(rt, alloc, shard, journal.as_slice())?;
-    }
-    Ok(())
+    pairs.next().is_none() && shard_of(key, 2) == shard
 }
 
 /// Makes the calls, each of which replies what its row says.
@@ -90,9 +63,9 @@ fn call_all<T: Ledger, F: Ledger, R: Wait + Abort>(
     alloc: Global,
     registry: &Registry<T, F>,
     tally: &mut Tally<T, F>,
-) -> Result<(), Fail> {
+) -> Result<(), Error> {
     for row in &ROWS {
-        let reply = registry.call(rt, tally, call_of(alloc, row)?)?;
+        let reply = registry.call(rt, tally, call_of(alloc, row.0, row.1, row.2)?)?;
         assert_eq!(rt; reply, row.3);
     }
     Ok(())
@@ -118,7 +91,12 @@ fn expect_rows<T: Ledger, F: Ledger, R: Wait + Abort>(
     if !tally.is_whole() {
         return Err("not whole".into());
     }
-    expect_journals(rt, alloc, registry.finish(tally).as_slice())
+    let journals = registry.finish(tally);
+    assert_eq!(rt; journals.len(), 2);
+    for (shard, journal) in journals.iter().enumerate() {
+        assert!(rt; has_rows(shard, journal.as_slice()), "shard {shard}");
+    }
+    Ok(())
 }
 
 #[test]
