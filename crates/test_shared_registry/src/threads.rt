@@ -38,21 +38,32 @@ fn add_all<W: Wait>(
     Ok(is_good)
 }
 
-/// Both threads make the key's cell where it isn't there, and add to it.
-fn expect_sum<R: Threads + Wait + Abort + Sync>(
-    rt: &R,
+/// The same with an own key of this name.
+fn add_beside<W: Wait>(
+    rt: &W,
+    alloc: Global,
     registry: &Plain,
     kind: MetricKind,
     key: &Key,
-    first: &Key,
-    second: &Key,
+    own: &str,
+) -> Result<bool, Error> {
+    add_all(rt, registry, kind, key, &Key::from_name(alloc, own)?)
+}
+
+/// Both threads make the key's cell where it isn't there, and add to it.
+fn expect_sum<R: Threads + Wait + Abort + Sync>(
+    rt: &R,
+    alloc: Global,
+    registry: &Plain,
+    kind: MetricKind,
+    key: &Key,
 )
     requires { IsSync R.row }
 {
     let (one, other) = join(
         rt,
-        || add_all(rt, registry, kind, key, first),
-        || add_all(rt, registry, kind, key, second),
+        || add_beside(rt, alloc, registry, kind, key, "b"),
+        || add_beside(rt, alloc, registry, kind, key, "c"),
     );
     assert_eq!(rt; one, Ok(true));
     assert_eq!(rt; other, Ok(true));
@@ -63,12 +74,10 @@ fn expect_sum<R: Threads + Wait + Abort + Sync>(
 #[test]
 fn two_threads_add_to_one_cell(rt: HostRuntime) -> Result<(), Fail> {
     let key = Key::from_name(rt.alloc(), "a")?;
-    let first = Key::from_name(rt.alloc(), "b")?;
-    let second = Key::from_name(rt.alloc(), "c")?;
     for kind in KINDS {
         for shards in [1, 8] {
             let registry = plain(rt.alloc(), shards)?;
-            expect_sum(&rt, &registry, kind, &key, &first, &second);
+            expect_sum(&rt, rt.alloc(), &registry, kind, &key);
         }
     }
     Ok(())
