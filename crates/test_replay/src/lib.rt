@@ -8,6 +8,4 @@ mod books;
 #[cfg(test)]
 mod handles;
 #[cfg(test)]
-mod journals;
-#[cfg(test)]
 mod replays;
