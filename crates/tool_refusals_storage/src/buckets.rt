@@ -55,23 +55,22 @@ pub fn expect_settled(
     trial.begin();
     let first = bucket.settle(trial.alloc, pen);
     trial.calm();
-    let second = match first {
-        Ok(values) => Ok(values),
+    match first {
+        Ok(values) => expect(values.as_slice() == wanted, "other values"),
         Err((bucket, pen)) => {
             trial.refusals = trial.refusals.saturating_add(1);
-            bucket.settle(trial.alloc, pen)
+            match bucket.settle(trial.alloc, pen) {
+                Ok(values) => expect(values.as_slice() == wanted, "other values"),
+                Err(_) => Err(AT_HAND),
+            }
         }
-    };
-    match second {
-        Ok(values) => expect(values.as_slice() == wanted, "other values"),
-        Err(_) => Err(AT_HAND),
     }
 }
 
-fn settle_gives_bucket_and_pen_back(trial: &mut Trial) -> Result<(), Wrong> {
+pub fn settle_gives_bucket_and_pen_back(trial: &mut Trial) -> Result<(), Wrong> {
     let (bucket, mut pen) = bucket_of_one(trial)?;
-    push_two(trial, &bucket, &mut pen)?;
-    expect_settled(trial, bucket, pen, &[5, 7])
+    let pushed = push_two(trial, &bucket, &mut pen);
+    pushed.and(expect_settled(trial, bucket, pen, &[5, 7]))
 }
 
 /// Whether values were read, which are these. Else memory was refused.
@@ -86,10 +85,7 @@ pub fn is_read<W: Wait>(
     ensures { (pen.new.home ≡ bucket.now) × (pen.new.ticket ≡ false) }
 {
     match bucket.data_as(rt, trial.alloc, pen) {
-        Ok(values) => {
-            expect(values.as_slice() == wanted, "other values")?;
-            Ok(true)
-        }
+        Ok(values) => { expect(values.as_slice() == wanted, "other values").and(Ok(true)) }
         Err(error) => {
             trial.note(error)?;
             Ok(false)
@@ -97,43 +93,38 @@ pub fn is_read<W: Wait>(
     }
 }
 
-/// Reads twice while memory may be refused, and once with memory at hand, and clears then. No walk is busy.
-fn read_thrice<W: Wait>(
-    rt: &W,
-    trial: &mut Trial,
-    bucket: &RuledBucket<u64>,
-    pen: &mut Pen,
-) -> Result<(), Wrong>
-    requires { (pen.old.home ≡ bucket.now) × (pen.old.ticket ≡ false) }
-{
-    push_two(trial, bucket, pen)?;
-    trial.begin();
-    is_read(rt, trial, bucket, pen, &[5, 7])?;
-    is_read(rt, trial, bucket, pen, &[5, 7])?;
-    trial.calm();
-    let is_last_read = is_read(rt, trial, bucket, pen, &[5, 7])?;
-    expect(is_last_read, AT_HAND)?;
-    expect(bucket.clear_as(rt, pen) == Ok(2), "another number")
-}
-
-/// A reading that is refused has left, so the next walk isn't busy.
-fn a_refused_reading_leaves<W: Wait>(rt: &W, trial: &mut Trial) -> Result<(), Wrong> {
+/// A reading that is refused has left, so the next walk isn't busy: it reads twice while memory may be refused, and once with
+/// memory at hand, and clears then.
+pub fn a_refused_reading_leaves<W: Wait>(rt: &W, trial: &mut Trial) -> Result<(), Wrong> {
     let (bucket, mut pen) = bucket_of_one(trial)?;
-    read_thrice(rt, trial, &bucket, &mut pen)
+    let pushed = push_two(trial, &bucket, &mut pen);
+    trial.begin();
+    let first = is_read(rt, trial, &bucket, &mut pen, &[5, 7]);
+    let second = is_read(rt, trial, &bucket, &mut pen, &[5, 7]);
+    trial.calm();
+    let last = is_read(rt, trial, &bucket, &mut pen, &[5, 7]);
+    let cleared = bucket.clear_as(rt, &mut pen);
+    pushed
+        .and(first)
+        .and(second)
+        .and(expect(last == Ok(true), AT_HAND))
+        .and(expect(cleared == Ok(2), "another number"))
 }
 
-fn blocks_are_1_to_1024(trial: &mut Trial) -> Result<(), Wrong> {
+pub fn blocks_are_1_to_1024(trial: &mut Trial) -> Result<(), Wrong> {
     trial.begin();
     let none = RuledBucket::<u64>::new(trial.alloc, 0).err();
     let many = RuledBucket::<u64>::new(trial.alloc, 1025).err();
     let most = RuledBucket::<u64>::new(trial.alloc, 1024);
     trial.calm();
-    match most {
-        Ok((bucket, mut pen)) => fill(trial, &bucket, &mut pen, 65_536)?,
-        Err(error) => trial.note(error)?,
-    }
-    expect(none == Some(Error::BadBlocks), "0 blocks are taken")?;
-    expect(many == Some(Error::BadBlocks), "1025 blocks are taken")
+    let are_bad = expect(none == Some(Error::BadBlocks), "0 blocks are taken").and(expect(
+        many == Some(Error::BadBlocks),
+        "1025 blocks are taken",
+    ));
+    are_bad.and(match most {
+        Ok((bucket, mut pen)) => fill(trial, &bucket, &mut pen, 65_536),
+        Err(error) => trial.note(error),
+    })
 }
 
 /// A pen of half the weight; none where memory is refused, and the pen is as before.
@@ -186,10 +177,10 @@ fn push_between(trial: &mut Trial, bucket: &RuledBucket<u64>, pen: &mut Pen) -> 
     expect(begun.is_ok() && pushed.is_ok(), "a push is refused")
 }
 
-fn tickets_keep_their_places(trial: &mut Trial) -> Result<(), Wrong> {
+pub fn tickets_keep_their_places(trial: &mut Trial) -> Result<(), Wrong> {
     let (bucket, mut pen) = bucket_of_one(trial)?;
-    push_between(trial, &bucket, &mut pen)?;
-    expect_settled(trial, bucket, pen, &[5, 7])
+    let pushed = push_between(trial, &bucket, &mut pen);
+    pushed.and(expect_settled(trial, bucket, pen, &[5, 7]))
 }
 
 /// Pushes so many values, and tries one more.
@@ -203,11 +194,10 @@ fn fill(trial: &Trial, bucket: &RuledBucket<u64>, pen: &mut Pen, count: u64) -> 
     }
     let more = bucket.try_push_as(pen, 9);
     trial.calm();
-    expect(refused == 0, "a push is refused")?;
-    expect(more == Err((Error::Full, 9)), "not full")
+    expect(refused == 0, "a push is refused").and(expect(more == Err((Error::Full, 9)), "not full"))
 }
 
-fn a_full_bucket_gives_the_value_back(trial: &mut Trial) -> Result<(), Wrong> {
+pub fn a_full_bucket_gives_the_value_back(trial: &mut Trial) -> Result<(), Wrong> {
     let (bucket, mut pen) = bucket_of_one(trial)?;
     fill(trial, &bucket, &mut pen, 64)
 }
@@ -232,43 +222,31 @@ fn splits(trial: &mut Trial, pen: &mut Pen) -> Result<u64, Wrong>
     Err("a pen has no end")
 }
 
-fn the_lightest_pen_is_not_split(trial: &mut Trial) -> Result<(), Wrong> {
+pub fn the_lightest_pen_is_not_split(trial: &mut Trial) -> Result<(), Wrong> {
     let (_bucket, mut pen) = bucket_of_one(trial)?;
-    let count = splits(trial, &mut pen)?;
-    expect(count == 10, "another number of splits")
+    let count = splits(trial, &mut pen);
+    expect(count == Ok(10), "another number of splits")
+}
+
+/// Splits the pen, where it may be refused, and joins it again.
+fn split_and_join(trial: &mut Trial, pen: &mut Pen) -> Result<(), Wrong>
+    requires { pen.old.ticket ≡ false }
+    ensures { (pen.new.home ≡ pen.old.home) × (pen.new.ticket ≡ false) }
+{
+    match half(trial, pen)? {
+        Some(other) => {
+            pen.join(other);
+            Ok(())
+        }
+        None => Ok(()),
+    }
 }
 
 /// A split that is refused leaves the pen, with which the bucket is settled.
-fn a_refused_split_leaves_the_pen(trial: &mut Trial) -> Result<(), Wrong> {
+pub fn a_refused_split_leaves_the_pen(trial: &mut Trial) -> Result<(), Wrong> {
     let (bucket, mut pen) = bucket_of_one(trial)?;
-    push_two(trial, &bucket, &mut pen)?;
-    if let Some(other) = half(trial, &mut pen)? {
-        pen.join(other);
-    }
-    expect_settled(trial, bucket, pen, &[5, 7])
-}
-
-/// The names of the examples of this file.
-pub const NAMES: &[&str] = &[
-    "settle_gives_bucket_and_pen_back",
-    "a_refused_reading_leaves",
-    "blocks_are_1_to_1024",
-    "tickets_keep_their_places",
-    "a_full_bucket_gives_the_value_back",
-    "the_lightest_pen_is_not_split",
-    "a_refused_split_leaves_the_pen",
-];
-
-/// Runs the example of this name, if it is one of these.
-pub fn run<W: Wait>(rt: &W, trial: &mut Trial, name: &str) -> Option<Result<(), Wrong>> {
-    Some(match name {
-        "settle_gives_bucket_and_pen_back" => settle_gives_bucket_and_pen_back(trial),
-        "a_refused_reading_leaves" => a_refused_reading_leaves(rt, trial),
-        "blocks_are_1_to_1024" => blocks_are_1_to_1024(trial),
-        "tickets_keep_their_places" => tickets_keep_their_places(trial),
-        "a_full_bucket_gives_the_value_back" => a_full_bucket_gives_the_value_back(trial),
-        "the_lightest_pen_is_not_split" => the_lightest_pen_is_not_split(trial),
-        "a_refused_split_leaves_the_pen" => a_refused_split_leaves_the_pen(trial),
-        _ => return None,
-    })
+    let pushed = push_two(trial, &bucket, &mut pen);
+    let split = split_and_join(trial, &mut pen);
+    let settled = expect_settled(trial, bucket, pen, &[5, 7]);
+    pushed.and(split).and(settled)
 }

@@ -43,8 +43,7 @@ fn is_pushed(
         Ok(()) => Ok(true),
         Err((error, back)) => {
             trial.note(error)?;
-            expect(back == value, "another value comes back")?;
-            Ok(false)
+            expect(back == value, "another value comes back").and(Ok(false))
         }
     }
 }
@@ -81,32 +80,41 @@ fn expect_settled<W: Wait>(
     trial.begin();
     let first = bucket.settle(rt, trial.alloc, pen);
     trial.calm();
-    let second = match first {
-        Ok(values) => Ok(values),
+    match first {
+        Ok(values) => expect_run(values.as_slice(), wanted),
         Err(error) => {
             trial.note(error)?;
-            bucket.settle(rt, trial.alloc, pen)
+            match bucket.settle(rt, trial.alloc, pen) {
+                Ok(values) => expect_run(values.as_slice(), wanted),
+                Err(_) => Err(AT_HAND),
+            }
         }
-    };
-    match second {
-        Ok(values) => expect_run(values.as_slice(), wanted),
-        Err(_) => Err(AT_HAND),
     }
 }
 
 /// That these are the values of a range, in order.
-fn expect_run(values: &[u64], wanted: Range<u64>) -> Result<(), Wrong> {
-    let mut found = values.iter();
-    for value in wanted {
-        expect(found.next().copied() == Some(value), "another value")?;
+pub fn expect_run(values: &[u64], wanted: Range<u64>) -> Result<(), Wrong> {
+    let mut next = wanted.start;
+    let mut others = 0u64;
+    for value in values {
+        others = others.wrapping_add(u64::from(*value != next));
+        next = next.wrapping_add(1);
     }
-    expect(found.next().is_none(), "a value too many")
+    expect(others == 0, "another value").and(expect(next == wanted.end, "another number of values"))
 }
 
-fn a_growing_bucket_settles<W: Wait>(rt: &W, trial: &mut Trial) -> Result<(), Wrong> {
+pub fn a_growing_bucket_settles<W: Wait>(rt: &W, trial: &mut Trial) -> Result<(), Wrong> {
     let (bucket, mut pen) = grown(trial)?;
-    push_65(trial, &bucket, &mut pen)?;
-    expect_settled(rt, trial, &bucket, &mut pen, 0..65)
+    let pushed = push_65(trial, &bucket, &mut pen);
+    pushed.and(expect_settled(rt, trial, &bucket, &mut pen, 0..65))
+}
+
+/// How many values are cleared.
+fn clear<W: Wait>(rt: &W, bucket: &GrowingBucket<u64>, pen: &mut GrowPen) -> Result<usize, Error>
+    requires { IsOf bucket.now pen.old }
+    ensures { IsOf bucket.now pen.new }
+{
+    bucket.clear_with(rt, pen, |_| {})
 }
 
 /// Clears, where the first try may be refused. A pen that doesn't know a segment takes memory for a pen of it.
@@ -120,25 +128,28 @@ fn expect_cleared<W: Wait>(
     ensures { IsOf bucket.now pen.new }
 {
     trial.begin();
-    let first = bucket.clear_with(rt, pen, |_| {});
+    let first = clear(rt, bucket, pen);
     trial.calm();
     match first {
         Ok(count) => expect(count == 65, "another number is cleared"),
         Err(error) => {
-            trial.note(error)?;
-            let second = bucket.clear_with(rt, pen, |_| {});
-            expect(second == Ok(65), "another number is cleared")
+            let looked = trial.note(error);
+            let second = clear(rt, bucket, pen);
+            looked.and(expect(second == Ok(65), "another number is cleared"))
         }
     }
 }
 
-fn a_growing_bucket_is_cleared<W: Wait>(rt: &W, trial: &mut Trial) -> Result<(), Wrong> {
+pub fn a_growing_bucket_is_cleared<W: Wait>(rt: &W, trial: &mut Trial) -> Result<(), Wrong> {
     let (bucket, mut pen) = grown(trial)?;
-    push_65(trial, &bucket, &mut pen)?;
-    expect_cleared(rt, trial, &bucket, &mut pen)?;
-    let is_taken = is_pushed(trial, &bucket, &mut pen, 7)?;
-    expect(is_taken, AT_HAND)?;
-    expect_settled(rt, trial, &bucket, &mut pen, 7..8)
+    let pushed = push_65(trial, &bucket, &mut pen);
+    let cleared = expect_cleared(rt, trial, &bucket, &mut pen);
+    let is_taken = is_pushed(trial, &bucket, &mut pen, 7);
+    let settled = expect_settled(rt, trial, &bucket, &mut pen, 7..8);
+    pushed
+        .and(cleared)
+        .and(expect(is_taken == Ok(true), AT_HAND))
+        .and(settled)
 }
 
 /// A pen of half the weight; none where memory is refused, and the pen is as before.
@@ -180,11 +191,9 @@ fn join(
     match first {
         Ok(()) => Ok(()),
         Err((error, other)) => {
-            trial.note(error)?;
-            match pen.join(other) {
-                Ok(()) => Ok(()),
-                Err(_) => Err(AT_HAND),
-            }
+            let looked = trial.note(error);
+            let second = pen.join(other).is_ok();
+            looked.and(expect(second, AT_HAND))
         }
     }
 }
@@ -200,21 +209,22 @@ fn clear_with_another<W: Wait>(
     ensures { IsOf bucket.now pen.new }
 {
     let Some(mut other) = half(trial, bucket, pen)? else {
-        push_65(trial, bucket, pen)?;
-        return expect_cleared(rt, trial, bucket, pen);
+        let pushed = push_65(trial, bucket, pen);
+        return pushed.and(expect_cleared(rt, trial, bucket, pen));
     };
-    push_65(trial, bucket, pen)?;
-    expect_cleared(rt, trial, bucket, &mut other)?;
-    join(trial, bucket, pen, other)
+    let pushed = push_65(trial, bucket, pen);
+    let cleared = expect_cleared(rt, trial, bucket, &mut other);
+    let joined = join(trial, bucket, pen, other);
+    pushed.and(cleared).and(joined)
 }
 
-fn another_pen_clears_what_it_does_not_know<W: Wait>(
+pub fn another_pen_clears_what_it_does_not_know<W: Wait>(
     rt: &W,
     trial: &mut Trial,
 ) -> Result<(), Wrong> {
     let (bucket, mut pen) = grown(trial)?;
-    clear_with_another(rt, trial, &bucket, &mut pen)?;
-    expect_settled(rt, trial, &bucket, &mut pen, 0..0)
+    let cleared = clear_with_another(rt, trial, &bucket, &mut pen);
+    cleared.and(expect_settled(rt, trial, &bucket, &mut pen, 0..0))
 }
 
 /// While another pen is out, a settling has no pen, whether or not memory is refused.
@@ -233,38 +243,18 @@ fn settle_too_early<W: Wait>(
     trial.begin();
     let settled = bucket.settle(rt, trial.alloc, pen).err();
     trial.calm();
+    let joined = join(trial, bucket, pen, other);
     match settled {
-        Some(Error::NoPen) => {}
-        Some(error) => trial.note(error)?,
-        None => return Err("settled without all pens"),
+        Some(Error::NoPen) => joined,
+        Some(error) => trial.note(error).and(joined),
+        None => Err("settled without all pens"),
     }
-    join(trial, bucket, pen, other)
 }
 
-fn settle_wants_all_pens<W: Wait>(rt: &W, trial: &mut Trial) -> Result<(), Wrong> {
+pub fn settle_wants_all_pens<W: Wait>(rt: &W, trial: &mut Trial) -> Result<(), Wrong> {
     let (bucket, mut pen) = grown(trial)?;
-    push_65(trial, &bucket, &mut pen)?;
-    settle_too_early(rt, trial, &bucket, &mut pen)?;
-    expect_settled(rt, trial, &bucket, &mut pen, 0..65)
-}
-
-/// The names of the examples of this file.
-pub const NAMES: &[&str] = &[
-    "a_growing_bucket_settles",
-    "a_growing_bucket_is_cleared",
-    "another_pen_clears_what_it_does_not_know",
-    "settle_wants_all_pens",
-];
-
-/// Runs the example of this name, if it is one of these.
-pub fn run<W: Wait>(rt: &W, trial: &mut Trial, name: &str) -> Option<Result<(), Wrong>> {
-    Some(match name {
-        "a_growing_bucket_settles" => a_growing_bucket_settles(rt, trial),
-        "a_growing_bucket_is_cleared" => a_growing_bucket_is_cleared(rt, trial),
-        "another_pen_clears_what_it_does_not_know" => {
-            another_pen_clears_what_it_does_not_know(rt, trial)
-        }
-        "settle_wants_all_pens" => settle_wants_all_pens(rt, trial),
-        _ => return None,
-    })
+    let pushed = push_65(trial, &bucket, &mut pen);
+    let early = settle_too_early(rt, trial, &bucket, &mut pen);
+    let settled = expect_settled(rt, trial, &bucket, &mut pen, 0..65);
+    pushed.and(early).and(settled)
 }

@@ -21,7 +21,7 @@ const LABELS: [(i64, &str); 11] = [
     (1_200_000_000, "max"),
 ];
 
-fn labels_of_quantiles(trial: &mut Trial) -> Result<(), Wrong> {
+pub fn labels_of_quantiles(trial: &mut Trial) -> Result<(), Wrong> {
     let alloc = trial.alloc;
     for (value, label) in LABELS {
         let quantile = made(trial, &move || Quantile::new(alloc, value))?;
@@ -30,20 +30,28 @@ fn labels_of_quantiles(trial: &mut Trial) -> Result<(), Wrong> {
     Ok(())
 }
 
-fn quantiles_are_parsed_in_order(trial: &mut Trial) -> Result<(), Wrong> {
-    let alloc = trial.alloc;
-    let none = made(trial, &move || parse_quantiles(alloc, &[]))?;
-    expect(none.is_empty(), "a quantile of nothing")?;
-    let all = made(
-        trial,
-        &move || parse_quantiles(alloc, &[0, 500_000_000, 1_000_000_000]),
-    )?;
-    let mut labels = all.iter();
-    for label in ["min", "p50", "max"] {
-        let quantile = labels.next().ok_or("a quantile is missing")?;
-        expect(quantile.label() == label, "another label")?;
+/// Quantiles that are parsed together, and their labels.
+const PARSED: [(&[i64], &[&str]); 2] = [
+    (&[], &[]),
+    (&[0, 500_000_000, 1_000_000_000], &["min", "p50", "max"]),
+];
+
+fn expect_labels(quantiles: &[Quantile], labels: &[&str]) -> Result<(), Wrong> {
+    let mut found = quantiles.iter();
+    for label in labels {
+        let quantile = found.next().ok_or("a quantile is missing")?;
+        expect(quantile.label() == *label, "another label")?;
     }
-    expect(labels.next().is_none(), "a quantile too many")
+    expect(found.next().is_none(), "a quantile too many")
+}
+
+pub fn quantiles_are_parsed_in_order(trial: &mut Trial) -> Result<(), Wrong> {
+    let alloc = trial.alloc;
+    for (values, labels) in PARSED {
+        let quantiles = made(trial, &move || parse_quantiles(alloc, values))?;
+        expect_labels(quantiles.as_slice(), labels)?;
+    }
+    Ok(())
 }
 
 /// A pattern and its value.
@@ -53,14 +61,15 @@ const ENTRIES: [Entry; 6] = [("abc", 1), ("a", 0), ("", 2), ("a", 3), ("é", 4),
 
 /// The value of the longest of the entries that begins a text, the last of equal ones.
 fn plain_longest(entries: &[Entry], text: &str) -> Option<usize> {
-    let mut best: Option<Entry> = None;
+    let mut best = None;
+    let mut length = 0;
     for (pattern, value) in entries {
-        let length = best.map_or(0, |(pattern, _)| pattern.len());
         if text.as_bytes().starts_with(pattern.as_bytes()) && length <= pattern.len() {
-            best = Some((pattern, *value));
+            best = Some(*value);
+            length = pattern.len();
         }
     }
-    best.map(|(_, value)| value)
+    best
 }
 
 /// The value that an entry replaces.
@@ -105,7 +114,7 @@ fn insert(trial: &mut Trial, trie: &mut PrefixTrie, at: usize) -> Result<(), Wro
     }
 }
 
-fn a_trie_of_routes(trial: &mut Trial) -> Result<(), Wrong> {
+pub fn a_trie_of_routes(trial: &mut Trial) -> Result<(), Wrong> {
     let mut trie = PrefixTrie::new(trial.alloc);
     for at in 0..ENTRIES.len() {
         insert(trial, &mut trie, at)?;
@@ -115,28 +124,35 @@ fn a_trie_of_routes(trial: &mut Trial) -> Result<(), Wrong> {
     Ok(())
 }
 
-/// Reserves a pattern, where the first try may be refused and leaves every answer. Its insert takes no memory then.
+/// Reserves a pattern, where the first try may be refused and leaves every answer.
 fn reserve(trial: &mut Trial, trie: &mut PrefixTrie) -> Result<(), Wrong> {
     trial.begin();
-    let first = trie.reserve(b"abd").is_ok();
+    let is_first = trie.reserve(b"abd").is_ok();
     trial.calm();
-    expect(trie.longest(b"abdx").is_none(), "another value")?;
-    if !first {
-        trial.note(Error::Memory)?;
-        expect(trie.reserve(b"abd").is_ok(), AT_HAND)?;
+    let looked = expect(trie.longest(b"abdx").is_none(), "another value");
+    if is_first {
+        return looked;
     }
-    expect(trie.longest(b"abcd") == Some(1), "another value")?;
+    let noted = trial.note(Error::Memory);
+    let second = trie.reserve(b"abd").is_ok();
+    looked.and(noted).and(expect(second, AT_HAND))
+}
+
+/// An insert that was reserved takes no memory.
+pub fn a_reserved_route(trial: &mut Trial) -> Result<(), Wrong> {
+    let mut trie = PrefixTrie::new(trial.alloc);
+    let is_held = trie.insert(b"abc", 1).is_ok();
+    let reserved = reserve(trial, &mut trie);
+    let held = trie.longest(b"abcd");
     trial.begin();
     let is_inserted = trie.insert(b"abd", 2).is_ok();
     trial.calm();
-    expect(is_inserted, "an insert that was reserved is refused")?;
-    expect(trie.longest(b"abdx") == Some(2), "another value")
-}
-
-fn a_reserved_route(trial: &mut Trial) -> Result<(), Wrong> {
-    let mut trie = PrefixTrie::new(trial.alloc);
-    expect(trie.insert(b"abc", 1).is_ok(), AT_HAND)?;
-    reserve(trial, &mut trie)
+    let inserted = trie.longest(b"abdx");
+    expect(is_held, AT_HAND)
+        .and(reserved)
+        .and(expect(held == Some(1), "another value"))
+        .and(expect(is_inserted, "an insert that was reserved is refused"))
+        .and(expect(inserted == Some(2), "another value"))
 }
 
 /// Patterns, whether they are folded, a text, and the answers of the table and of the links with their moves.
@@ -184,7 +200,7 @@ fn automaton(
     }
 }
 
-fn automata_of_patterns(trial: &mut Trial) -> Result<(), Wrong> {
+pub fn automata_of_patterns(trial: &mut Trial) -> Result<(), Wrong> {
     for (patterns, is_folded, text, [by_table, by_links]) in MATCHES {
         for (is_table, wanted) in [(true, by_table), (false, by_links)] {
             let set = automaton(trial, patterns, is_folded, is_table)?;
@@ -195,59 +211,31 @@ fn automata_of_patterns(trial: &mut Trial) -> Result<(), Wrong> {
     Ok(())
 }
 
-fn kinds_of_a_mask() -> Result<(), Wrong> {
+pub fn kinds_of_a_mask() -> Result<(), Wrong> {
     let two = MetricKindMask::COUNTER | MetricKindMask::HISTOGRAM;
     for (mask, wanted) in [
-        (two, [true, false, true]),
-        (MetricKindMask::NONE, [false, false, false]),
-        (MetricKindMask::ALL, [true, true, true]),
+        (two, (true, false, true)),
+        (MetricKindMask::NONE, (false, false, false)),
+        (MetricKindMask::ALL, (true, true, true)),
     ] {
+        let has_counters = mask.matches(MetricKind::Counter);
+        let has_gauges = mask.matches(MetricKind::Gauge);
+        let has_histograms = mask.matches(MetricKind::Histogram);
         expect(
-            mask.matches(MetricKind::Counter) == wanted[0],
-            "another counter",
-        )?;
-        expect(
-            mask.matches(MetricKind::Gauge) == wanted[1],
-            "another gauge",
-        )?;
-        expect(
-            mask.matches(MetricKind::Histogram) == wanted[2],
-            "another histogram",
+            (has_counters, has_gauges, has_histograms) == wanted,
+            "other kinds",
         )?;
     }
     Ok(())
 }
 
-fn a_key_of_two_kinds(trial: &mut Trial) -> Result<(), Wrong> {
+pub fn a_key_of_two_kinds(trial: &mut Trial) -> Result<(), Wrong> {
     let alloc = trial.alloc;
     let key = move || -> Result<Key, Error> { Ok(Key::from_name(alloc, "a")?) };
     let counter = CompositeKey::new(MetricKind::Counter, made(trial, &key)?);
     let gauge = CompositeKey::new(MetricKind::Gauge, made(trial, &key)?);
-    expect(counter != gauge, "a counter is a gauge")?;
-    expect(counter < gauge, "the counter doesn't come first")
-}
-
-/// The names of the examples of this file.
-pub const NAMES: &[&str] = &[
-    "labels_of_quantiles",
-    "quantiles_are_parsed_in_order",
-    "a_trie_of_routes",
-    "a_reserved_route",
-    "automata_of_patterns",
-    "kinds_of_a_mask",
-    "a_key_of_two_kinds",
-];
-
-/// Runs the example of this name, if it is one of these.
-pub fn run(trial: &mut Trial, name: &str) -> Option<Result<(), Wrong>> {
-    Some(match name {
-        "labels_of_quantiles" => labels_of_quantiles(trial),
-        "quantiles_are_parsed_in_order" => quantiles_are_parsed_in_order(trial),
-        "a_trie_of_routes" => a_trie_of_routes(trial),
-        "a_reserved_route" => a_reserved_route(trial),
-        "automata_of_patterns" => automata_of_patterns(trial),
-        "kinds_of_a_mask" => kinds_of_a_mask(),
-        "a_key_of_two_kinds" => a_key_of_two_kinds(trial),
-        _ => return None,
-    })
+    expect(counter != gauge, "a counter is a gauge").and(expect(
+        counter < gauge,
+        "the counter doesn't come first",
+    ))
 }

@@ -36,18 +36,21 @@ fn drain(trial: &Trial, reservoir: &mut Reservoir, row: &Row) -> Result<(), Wron
         }
     }
     trial.calm();
-    expect(refused == 0, "a push is refused")?;
     let mut drain = reservoir.drain();
-    expect(drain.unsampled_len() == told.0, "another number")?;
-    expect(drain.unsampled_sum() == told.1, "another sum")?;
-    expect(drain.sample_rate() == told.2, "another rate")?;
+    let (count, sum) = (drain.unsampled_len(), drain.unsampled_sum());
+    let rate = drain.sample_rate();
+    let mut others = 0u64;
     for item in items.iter() {
-        expect(drain.next() == Some(*item), "another item")?;
+        others = others.wrapping_add(u64::from(drain.next() != Some(*item)));
     }
-    expect(drain.next().is_none(), "an item too many")
+    let more = drain.next();
+    expect(refused == 0, "a push is refused")
+        .and(expect((count, sum, rate) == *told, "another drain"))
+        .and(expect(others == 0, "another item"))
+        .and(expect(more.is_none(), "an item too many"))
 }
 
-fn reservoirs_of_one_owner(trial: &mut Trial) -> Result<(), Wrong> {
+pub fn reservoirs_of_one_owner(trial: &mut Trial) -> Result<(), Wrong> {
     for row in &ROWS {
         let (alloc, size) = (trial.alloc, row.0);
         let mut reservoir = made(trial, &move || Reservoir::new(alloc, size))?;
@@ -79,9 +82,9 @@ fn turn<W: Wait>(
         told = ((count, sum, rate), drain.count());
     });
     trial.calm();
-    expect(was_empty, "not empty")?;
-    expect(refused == 0, "a push is refused")?;
-    expect(told == wanted, "another drain")
+    expect(was_empty, "not empty")
+        .and(expect(refused == 0, "a push is refused"))
+        .and(expect(told == wanted, "another drain"))
 }
 
 /// The size, and by turns how many values are pushed, what a drain tells and how many items it gives.
@@ -114,7 +117,7 @@ fn take_turns<W: Wait>(
     Ok(())
 }
 
-fn reservoirs_that_are_shared<W: Wait>(rt: &W, trial: &mut Trial) -> Result<(), Wrong> {
+pub fn reservoirs_that_are_shared<W: Wait>(rt: &W, trial: &mut Trial) -> Result<(), Wrong> {
     for (size, turns) in TURNS {
         let alloc = trial.alloc;
         let reservoir = made(
@@ -126,16 +129,4 @@ fn reservoirs_that_are_shared<W: Wait>(rt: &W, trial: &mut Trial) -> Result<(), 
         take_turns(rt, trial, &reservoir, turns)?;
     }
     Ok(())
-}
-
-/// The names of the examples of this file.
-pub const NAMES: &[&str] = &["reservoirs_of_one_owner", "reservoirs_that_are_shared"];
-
-/// Runs the example of this name, if it is one of these.
-pub fn run<W: Wait>(rt: &W, trial: &mut Trial, name: &str) -> Option<Result<(), Wrong>> {
-    Some(match name {
-        "reservoirs_of_one_owner" => reservoirs_of_one_owner(trial),
-        "reservoirs_that_are_shared" => reservoirs_that_are_shared(rt, trial),
-        _ => return None,
-    })
 }

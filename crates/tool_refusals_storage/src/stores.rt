@@ -5,7 +5,7 @@ use metrics::Error;
 use metrics_storage::{Block, Histogram, OwnedBucket};
 use std::sync::Arc;
 use std::sync::atomic::{AtomicU64, Ordering};
-use tool_refusals_trial::{Trial, Wrong, done, expect, made};
+use tool_refusals_trial::{Trial, Wrong, expect, made};
 
 /// Pushes a value, and again where memory was refused: then it came back, and the bucket needs a block.
 fn push<T: Drop>(
@@ -20,22 +20,14 @@ fn push<T: Drop>(
     match first {
         Ok(()) => Ok(()),
         Err(back) => {
-            trial.note(Error::Memory)?;
-            expect(place % 64 == 0, "a push without need of memory is refused")?;
-            match bucket.push(back) {
-                Ok(()) => Ok(()),
-                Err(_) => Err("refused with memory at hand"),
-            }
+            let looked = trial.note(Error::Memory);
+            let needs_memory = expect(place % 64 == 0, "a push without need of memory is refused");
+            let second = bucket.push(back).is_ok();
+            looked
+                .and(needs_memory)
+                .and(expect(second, "refused with memory at hand"))
         }
     }
-}
-
-/// Pushes the values below 130.
-fn push_run(trial: &mut Trial, bucket: &mut OwnedBucket<u64>) -> Result<(), Wrong> {
-    for value in 0..130u64 {
-        push(trial, bucket, value, value)?;
-    }
-    Ok(())
 }
 
 /// Reads and clears.
@@ -43,22 +35,29 @@ fn read(trial: &mut Trial, bucket: &mut OwnedBucket<u64>) -> Result<(), Wrong> {
     trial.begin();
     let first = bucket.data();
     trial.calm();
-    match first {
-        Ok(values) => expect_newest_first(values.as_slice())?,
-        Err(_) => trial.note(Error::Memory)?,
-    }
-    let values = done(bucket.data())?;
-    expect_newest_first(values.as_slice())?;
+    let looked = match first {
+        Ok(values) => expect_newest_first(values.as_slice()),
+        Err(_) => trial.note(Error::Memory),
+    };
+    let again = match bucket.data() {
+        Ok(values) => expect_newest_first(values.as_slice()),
+        Err(_) => Err("refused with memory at hand"),
+    };
     trial.begin();
     bucket.clear();
     trial.calm();
-    expect(bucket.is_empty(), "a value is left")
+    looked
+        .and(again)
+        .and(expect(bucket.is_empty(), "a value is left"))
 }
 
-fn blocks_of_one_owner(trial: &mut Trial) -> Result<(), Wrong> {
+pub fn blocks_of_one_owner(trial: &mut Trial) -> Result<(), Wrong> {
     let mut bucket: OwnedBucket<u64> = OwnedBucket::new(trial.alloc);
-    push_run(trial, &mut bucket)?;
-    read(trial, &mut bucket)
+    let mut pushed = Ok(());
+    for value in 0..130u64 {
+        pushed = pushed.and(push(trial, &mut bucket, value, value));
+    }
+    pushed.and(read(trial, &mut bucket))
 }
 
 /// A value whose end is counted.
@@ -89,18 +88,23 @@ fn push_endings(
 }
 
 /// Each value that was taken ends once, also where it came back first.
-fn each_value_ends_once(trial: &mut Trial) -> Result<(), Wrong> {
+pub fn each_value_ends_once(trial: &mut Trial) -> Result<(), Wrong> {
     let alloc = trial.alloc;
     let ends = made(trial, &move || Ok(Arc::new(alloc, AtomicU64::new(0))?))?;
     let mut bucket: OwnedBucket<Ending> = OwnedBucket::new(alloc);
-    push_endings(trial, &mut bucket, &ends)?;
-    expect(ends.load(Ordering::SeqCst) == 0, "a value ends early")?;
+    let pushed = push_endings(trial, &mut bucket, &ends);
+    let early = ends.load(Ordering::SeqCst);
     bucket.clear();
-    expect(ends.load(Ordering::SeqCst) == 130, "another number of ends")
+    let all = ends.load(Ordering::SeqCst);
+    pushed
+        .and(expect(early == 0, "a value ends early"))
+        .and(expect(all == 130, "another number of ends"))
 }
 
-/// Fills a block, which takes no memory.
-fn fill(trial: &Trial, block: &mut Block<u64>) -> Result<(), Wrong> {
+/// To fill a block takes no memory.
+pub fn a_block_of_64(trial: &mut Trial) -> Result<(), Wrong> {
+    let alloc = trial.alloc;
+    let mut block = made(trial, &move || Block::<u64>::new(alloc))?;
     let mut refused = 0u64;
     trial.begin();
     for value in 0..64u64 {
@@ -108,93 +112,75 @@ fn fill(trial: &Trial, block: &mut Block<u64>) -> Result<(), Wrong> {
     }
     let more = block.push(42);
     trial.calm();
-    expect(refused == 0, "a push is refused")?;
-    expect(more == Err(42), "not full")?;
     let mut sum = 0u64;
     for value in block.data() {
         sum = sum.wrapping_add(*value);
     }
-    expect(block.len() == 64 && sum == 2016, "other values")
+    expect(refused == 0, "a push is refused")
+        .and(expect(more == Err(42), "not full"))
+        .and(expect(block.len() == 64, "another number of values"))
+        .and(expect(sum == 2016, "other values"))
 }
 
-fn a_block_of_64(trial: &mut Trial) -> Result<(), Wrong> {
-    let alloc = trial.alloc;
-    let mut block = made(trial, &move || Block::<u64>::new(alloc))?;
-    fill(trial, &mut block)
+/// The bounds of a histogram, the samples that it takes at once and the one that comes alone, how many there are and their
+/// sum, and the counts of its buckets.
+pub struct Samples {
+    bounds: &'static [i64],
+    many: &'static [i64],
+    one: i64,
+    count: u64,
+    sum: i128,
+    buckets: &'static [(i64, u64)],
 }
 
-/// That the counts of a histogram are these, where the first try may be refused.
-fn expect_buckets(
-    trial: &mut Trial,
-    histogram: &Histogram,
-    wanted: &[(i64, u64)],
-) -> Result<(), Wrong> {
-    let buckets = made(trial, &|| histogram.buckets())?;
-    expect(buckets.as_slice() == wanted, "other counts")
-}
+pub const RISING: Samples = Samples {
+    bounds: &[10, 25, 100],
+    many: &[3, 2, 6, 12, 56, 82, 202, 100, 29],
+    one: 89,
+    count: 10,
+    sum: 581,
+    buckets: &[(10, 3), (25, 4), (100, 9)],
+};
 
-/// Records, which takes no memory.
-fn record(trial: &mut Trial, histogram: &mut Histogram) -> Result<(), Wrong> {
+pub const FALLING: Samples = Samples {
+    bounds: &[25, 10],
+    many: &[],
+    one: 12,
+    count: 1,
+    sum: 12,
+    buckets: &[(25, 1), (10, 0)],
+};
+
+pub const NONE: Samples = Samples {
+    bounds: &[],
+    many: &[],
+    one: 0,
+    count: 0,
+    sum: 0,
+    buckets: &[],
+};
+
+/// Records, which takes no memory, and reads the counts, where the first try may be refused.
+fn record(trial: &mut Trial, histogram: &mut Histogram, samples: &Samples) -> Result<(), Wrong> {
     trial.begin();
-    let many = histogram.record_many(&[3, 2, 6, 12, 56, 82, 202, 100, 29]);
-    let one = histogram.record(89);
+    let many = histogram.record_many(samples.many);
+    let one = histogram.record(samples.one);
     trial.calm();
-    expect(many.is_ok() && one.is_ok(), "a record is refused")?;
-    expect(histogram.count() == 10, "another count")?;
-    expect(histogram.sum() == 581, "another sum")?;
-    expect_buckets(trial, histogram, &[(10, 3), (25, 4), (100, 9)])
+    let buckets = made(trial, &|| histogram.buckets())?;
+    expect(!samples.bounds.is_empty(), "a histogram without bounds")
+        .and(expect(many.is_ok(), "many records are refused"))
+        .and(expect(one.is_ok(), "a record is refused"))
+        .and(expect(histogram.count() == samples.count, "another count"))
+        .and(expect(histogram.sum() == samples.sum, "another sum"))
+        .and(expect(buckets.as_slice() == samples.buckets, "other counts"))
 }
 
-fn a_bounded_histogram(trial: &mut Trial) -> Result<(), Wrong> {
-    let alloc = trial.alloc;
-    let histogram = made(trial, &move || Histogram::new(alloc, &[10, 25, 100]))?;
+/// A histogram, where the first try may be refused. There is none without bounds.
+pub fn histogram(trial: &mut Trial, samples: &Samples) -> Result<(), Wrong> {
+    let (alloc, bounds) = (trial.alloc, samples.bounds);
+    let histogram = made(trial, &move || Histogram::new(alloc, bounds))?;
     match histogram {
-        Some(mut histogram) => record(trial, &mut histogram),
-        None => Err("no histogram"),
+        Some(mut histogram) => record(trial, &mut histogram, samples),
+        None => expect(bounds.is_empty(), "no histogram"),
     }
-}
-
-/// Records 12.
-fn record_12(trial: &mut Trial, histogram: &mut Histogram) -> Result<(), Wrong> {
-    let one = histogram.record(12);
-    expect(one.is_ok(), "a record is refused")?;
-    expect_buckets(trial, histogram, &[(25, 1), (10, 0)])
-}
-
-fn bounds_may_fall(trial: &mut Trial) -> Result<(), Wrong> {
-    let alloc = trial.alloc;
-    let histogram = made(trial, &move || Histogram::new(alloc, &[25, 10]))?;
-    match histogram {
-        Some(mut histogram) => record_12(trial, &mut histogram),
-        None => Err("no histogram"),
-    }
-}
-
-fn no_bounds_make_no_histogram(trial: &mut Trial) -> Result<(), Wrong> {
-    let alloc = trial.alloc;
-    let histogram = made(trial, &move || Histogram::new(alloc, &[]))?;
-    expect(histogram.is_none(), "a histogram without bounds")
-}
-
-/// The names of the examples of this file.
-pub const NAMES: &[&str] = &[
-    "blocks_of_one_owner",
-    "each_value_ends_once",
-    "a_block_of_64",
-    "a_bounded_histogram",
-    "bounds_may_fall",
-    "no_bounds_make_no_histogram",
-];
-
-/// Runs the example of this name, if it is one of these.
-pub fn run(trial: &mut Trial, name: &str) -> Option<Result<(), Wrong>> {
-    Some(match name {
-        "blocks_of_one_owner" => blocks_of_one_owner(trial),
-        "each_value_ends_once" => each_value_ends_once(trial),
-        "a_block_of_64" => a_block_of_64(trial),
-        "a_bounded_histogram" => a_bounded_histogram(trial),
-        "bounds_may_fall" => bounds_may_fall(trial),
-        "no_bounds_make_no_histogram" => no_bounds_make_no_histogram(trial),
-        _ => return None,
-    })
 }

@@ -168,8 +168,10 @@ fn clear_and_push<R: Threads + Wait + Sync>(
     match clear_beside(rt, trial, bucket, pens) {
         Some((joined, is_told)) => {
             pen.join(joined);
-            expect(pushed && !is_empty && is_told, "another clear")?;
-            Ok(true)
+            expect(pushed, "a push is refused")
+                .and(expect(!is_empty, "empty after a push"))
+                .and(expect(is_told, "another clear"))
+                .and(Ok(true))
         }
         None => {
             trial.note(Error::Memory)?;
@@ -179,29 +181,17 @@ fn clear_and_push<R: Threads + Wait + Sync>(
 }
 
 /// A clear waits for a push that began before it. Where no thread can be started, it ends there.
-fn a_clear_waits_for_a_push<R: Threads + Wait + Sync>(
+pub fn a_clear_waits_for_a_push<R: Threads + Wait + Sync>(
     rt: &R,
     trial: &mut Trial,
 ) -> Result<(), Wrong> {
     let (bucket, mut pen) = bucket_of_one(trial)?;
-    if clear_and_push(rt, trial, &bucket, &mut pen)? {
-        let _ = is_read(rt, trial, &bucket, &mut pen, &[3])?;
-        return expect_settled(trial, bucket, pen, &[3]);
-    }
-    Ok(())
-}
-
-/// The names of the examples of this file.
-pub const NAMES: &[&str] = &["a_clear_waits_for_a_push"];
-
-/// Runs the example of this name, if it is one of these.
-pub fn run<R: Threads + Wait + Sync>(
-    rt: &R,
-    trial: &mut Trial,
-    name: &str,
-) -> Option<Result<(), Wrong>> {
-    match name {
-        "a_clear_waits_for_a_push" => Some(a_clear_waits_for_a_push(rt, trial)),
-        _ => None,
+    match clear_and_push(rt, trial, &bucket, &mut pen) {
+        Ok(true) => {
+            let read = is_read(rt, trial, &bucket, &mut pen, &[3]);
+            read.and(expect_settled(trial, bucket, pen, &[3]))
+        }
+        Ok(false) => Ok(()),
+        Err(wrong) => Err(wrong),
     }
 }
