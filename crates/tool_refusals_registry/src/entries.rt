@@ -103,19 +103,21 @@ impl Known {
         match added.ones {
             Ok((ones, is_taken)) => {
                 let wanted = self.ones.unwrap_or(0).saturating_add(u64::from(is_taken));
-                expect(added.calls == 1, "another number of calls")?;
-                expect(ones == wanted, "another sum")?;
                 self.ones = Some(wanted);
+                let looked = expect(added.calls == 1, "another number of calls").and(expect(
+                    ones == wanted,
+                    "another sum",
+                ));
                 if is_taken {
-                    Ok(())
+                    looked
                 } else {
-                    trial.note(Error::Memory)
+                    looked.and(trial.note(Error::Memory))
                 }
             }
             Err(error) => {
-                expect(added.calls == 0, "the closure of a refused call is called")?;
-                expect(self.ones.is_none(), "a refusal at a key that is held")?;
-                trial.note(error)
+                expect(added.calls == 0, "the closure of a refused call is called")
+                    .and(expect(self.ones.is_none(), "a refusal at a key that is held"))
+                    .and(trial.note(error))
             }
         }
     }
@@ -128,9 +130,9 @@ impl Known {
         on: &mut E,
     ) -> Result<(), Wrong> {
         trial.begin();
-        self.add(rt, trial, on)?;
+        let added = self.add(rt, trial, on);
         trial.calm();
-        self.expect_held(rt, on)
+        added.and(self.expect_held(rt, on))
     }
 
     /// Adds a one, with memory at hand.
@@ -141,9 +143,9 @@ impl Known {
         on: &mut E,
     ) -> Result<(), Wrong> {
         let refusals = trial.refusals;
-        self.add(rt, trial, on)?;
-        expect(trial.refusals == refusals, "refused with memory at hand")?;
-        self.expect_held(rt, on)
+        self.add(rt, trial, on)
+            .and(expect(trial.refusals == refusals, "refused with memory at hand"))
+            .and(self.expect_held(rt, on))
     }
 
     /// Deletes the key, which takes no memory.
@@ -157,10 +159,12 @@ impl Known {
         let was_held = on.delete(rt, self.kind, &self.key);
         let is_held = on.delete(rt, self.kind, &self.key);
         trial.calm();
-        expect(was_held == self.is_held(), "another entry is deleted")?;
-        expect(!is_held, "an entry is deleted twice")?;
+        let looked = expect(was_held == self.is_held(), "another entry is deleted").and(expect(
+            !is_held,
+            "an entry is deleted twice",
+        ));
         self.ones = None;
-        self.expect_held(rt, on)
+        looked.and(self.expect_held(rt, on))
     }
 }
 
@@ -176,10 +180,9 @@ fn count(all: &[Known]) -> usize {
 /// That a list of handles, if there is one, has what is known of a key, and as many keys as are held.
 fn expect_list(handles: Option<Handles>, known: &Known, all: &[Known]) -> Result<(), Wrong> {
     match handles {
-        Some((length, ones)) => {
-            expect(length == count(all), "another number of handles")?;
-            expect(ones == known.ones, "another handle")
-        }
+        Some((length, ones)) => expect(length == count(all), "another number of handles").and(
+            expect(ones == known.ones, "another handle"),
+        ),
         None => Ok(()),
     }
 }
@@ -195,12 +198,15 @@ fn expect_handles<W: Wait, E: Entries>(
         trial.begin();
         let first = on.handles(rt, trial.alloc, known.kind, &known.key);
         trial.calm();
-        match first {
-            Ok(handles) => expect_list(handles, known, all)?,
-            Err(error) => trial.note(error)?,
-        }
-        let second = done(on.handles(rt, trial.alloc, known.kind, &known.key))?;
-        expect_list(second, known, all)?;
+        let looked = match first {
+            Ok(handles) => expect_list(handles, known, all),
+            Err(error) => trial.note(error),
+        };
+        let again = match on.handles(rt, trial.alloc, known.kind, &known.key) {
+            Ok(handles) => expect_list(handles, known, all),
+            Err(_) => Err("refused with memory at hand"),
+        };
+        looked.and(again)?;
     }
     Ok(())
 }
@@ -217,20 +223,17 @@ fn retain<W: Wait, E: Entries>(
     let calls = on.retain(rt, kind, "foo");
     let visits = on.visits(rt, kind);
     trial.calm();
-    expect(
-        calls == count(all),
-        "a retain calls another number of times",
-    )?;
+    let held = count(all);
     for known in all.iter_mut() {
         if !known.key.name().starts_with("foo") {
             known.ones = None;
         }
         known.expect_held(rt, on)?;
     }
-    expect(
+    expect(calls == held, "a retain calls another number of times").and(expect(
         visits == count(all),
         "a visit calls another number of times",
-    )
+    ))
 }
 
 /// Clears the registry, which takes no memory.
@@ -259,20 +262,21 @@ fn come_and_go<W: Wait, E: Entries>(
     all: &mut [Known],
 ) -> Result<(), Wrong> {
     for known in all.iter_mut() {
-        known.expect_held(rt, on)?;
-        known.add_under_refusal(rt, trial, on)?;
-        known.add_under_refusal(rt, trial, on)?;
+        known
+            .expect_held(rt, on)
+            .and(known.add_under_refusal(rt, trial, on))
+            .and(known.add_under_refusal(rt, trial, on))?;
     }
-    expect_handles(rt, trial, on, all)?;
-    retain(rt, trial, on, kind, all)?;
+    expect_handles(rt, trial, on, all).and(retain(rt, trial, on, kind, all))?;
     for known in all.iter_mut() {
-        known.add_at_hand(rt, trial, on)?;
-        known.delete(rt, trial, on)?;
-        known.add_under_refusal(rt, trial, on)?;
+        known
+            .add_at_hand(rt, trial, on)
+            .and(known.delete(rt, trial, on))
+            .and(known.add_under_refusal(rt, trial, on))?;
     }
-    expect_handles(rt, trial, on, all)?;
-    clear(rt, trial, on, all)?;
     expect_handles(rt, trial, on, all)
+        .and(clear(rt, trial, on, all))
+        .and(expect_handles(rt, trial, on, all))
 }
 
 /// Plays with two keys.

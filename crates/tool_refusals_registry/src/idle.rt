@@ -89,12 +89,12 @@ fn take_turns<W: Wait, E: Entries>(
 ) -> Result<(), Wrong> {
     let mut noted = None;
     for (now, is_held) in CHECKS {
-        put(rt, trial, on, known, is_held)?;
+        let placed = put(rt, trial, on, known, is_held);
         let after = check(rt, trial, on, known, now, noted)?;
         if noted.is_some() && after.is_none() {
             known.forget();
         }
-        known.expect_held(rt, on)?;
+        placed.and(known.expect_held(rt, on))?;
         noted = after;
     }
     Ok(())
@@ -108,9 +108,10 @@ fn check_all<W: Wait, E: Entries>(
     known: &mut Known,
     stays: &mut Known,
 ) -> Result<(), Wrong> {
-    stays.add_at_hand(rt, trial, on)?;
-    take_turns(rt, trial, on, known)?;
-    check(rt, trial, on, stays, 99, Some(99))?;
+    stays
+        .add_at_hand(rt, trial, on)
+        .and(take_turns(rt, trial, on, known))
+        .and(check(rt, trial, on, stays, 99, Some(99)))?;
     stays.expect_held(rt, on)
 }
 

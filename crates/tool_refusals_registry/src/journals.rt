@@ -37,10 +37,10 @@ impl Known {
     ) -> Result<(), Wrong> {
         match answer {
             Ok(reply) => {
-                expect(reply == (creates != self.is_held), "another reply")?;
+                let is_right = reply == (creates != self.is_held);
                 self.is_held = creates;
                 self.noted = self.noted.wrapping_add(1);
-                Ok(())
+                expect(is_right, "another reply")
             }
             Err(error) => trial.note(error),
         }
@@ -79,18 +79,17 @@ fn call_all(trial: &mut Trial, shard: &mut Shard) -> Result<(), Wrong>
         }
         let answer = call(trial.alloc, shard, *creates);
         trial.calm();
-        expect(
-            at < REFUSED || answer.is_ok(),
-            "refused with memory at hand",
-        )?;
-        known.take(trial, *creates, answer)?;
-        expect(shard.journal().len() == known.noted, "another journal")?;
+        let is_answered = at < REFUSED || answer.is_ok();
+        known
+            .take(trial, *creates, answer)
+            .and(expect(is_answered, "refused with memory at hand"))
+            .and(expect(shard.journal().len() == known.noted, "another journal"))?;
     }
     Ok(())
 }
 
 /// The calls of a shard, refused ones apart, are in its journal.
-fn a_shard_notes_what_was_done(trial: &mut Trial) -> Result<(), Wrong> {
+pub fn a_shard_notes_what_was_done(trial: &mut Trial) -> Result<(), Wrong> {
     let made = Shard::new(trial.alloc, PlainStorage::new(trial.alloc), 0, 1);
     let Ok(mut shard) = made else {
         return Err("refused with memory at hand");
@@ -118,11 +117,10 @@ fn call_each<T: Ledger, F: Ledger, R: Wait>(
             Err(error) => Err(error),
         };
         trial.calm();
-        expect(
-            at < REFUSED || answer.is_ok(),
-            "refused with memory at hand",
-        )?;
-        known.take(trial, *creates, answer)?;
+        let is_answered = at < REFUSED || answer.is_ok();
+        known
+            .take(trial, *creates, answer)
+            .and(expect(is_answered, "refused with memory at hand"))?;
     }
     Ok(known.noted)
 }
@@ -151,21 +149,6 @@ fn journaled<T: Ledger, F: Ledger, R: Wait>(
     expect(journal.len() == noted, "another journal")
 }
 
-fn a_journal_notes_what_was_done<R: Wait>(rt: &R, trial: &mut Trial) -> Result<(), Wrong> {
+pub fn a_journal_notes_what_was_done<R: Wait>(rt: &R, trial: &mut Trial) -> Result<(), Wrong> {
     journaled::<Brand, Brand, _>(rt, trial, Blank::new(1024), Blank::new(1024))
-}
-
-/// The names of the examples of this file.
-pub const NAMES: &[&str] = &[
-    "a_shard_notes_what_was_done",
-    "a_journal_notes_what_was_done",
-];
-
-/// Runs the example of this name, if it is one of these.
-pub fn run<W: Wait>(rt: &W, trial: &mut Trial, name: &str) -> Option<Result<(), Wrong>> {
-    Some(match name {
-        "a_shard_notes_what_was_done" => a_shard_notes_what_was_done(trial),
-        "a_journal_notes_what_was_done" => a_journal_notes_what_was_done(rt, trial),
-        _ => return None,
-    })
 }

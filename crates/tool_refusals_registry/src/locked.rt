@@ -56,8 +56,34 @@ impl<T: Counting> Counting for Generational<T> {
     }
 }
 
-fn handles_of<W: Wait, C: Counting>(rt: &W, handles: &HashMap<Key, C>, key: &Key) -> Handles {
-    (handles.len(), handles.get(key).map(|cell| cell.ones(rt)))
+/// How many ones the cell has that is found, if there is one.
+fn ones_of<W: Wait, C: Counting>(
+    rt: &W,
+    found: Result<Option<C>, Error>,
+) -> Result<Option<u64>, Error> {
+    match found {
+        Ok(Some(cell)) => Ok(Some(cell.ones(rt))),
+        Ok(None) => Ok(None),
+        Err(error) => Err(error),
+    }
+}
+
+/// How many handles there are, and how many ones the cell of the key has.
+fn handles_of<W: Wait, C: Counting>(
+    rt: &W,
+    key: &Key,
+    listed: Result<HashMap<Key, C>, Error>,
+) -> Result<Option<Handles>, Error> {
+    match listed {
+        Ok(handles) => {
+            let ones = match handles.get(key) {
+                Some(cell) => Some(cell.ones(rt)),
+                None => None,
+            };
+            Ok(Some((handles.len(), ones)))
+        }
+        Err(error) => Err(error),
+    }
 }
 
 /// A registry and the recency of its entries.
@@ -107,11 +133,11 @@ where
 
     fn ones<W: Wait>(&self, rt: &W, kind: MetricKind, key: &Key) -> Result<Option<u64>, Error> {
         let registry = &self.registry;
-        Ok(match kind {
-            MetricKind::Counter => registry.get_counter(rt, key)?.map(|cell| cell.ones(rt)),
-            MetricKind::Gauge => registry.get_gauge(rt, key)?.map(|cell| cell.ones(rt)),
-            MetricKind::Histogram => registry.get_histogram(rt, key)?.map(|cell| cell.ones(rt)),
-        })
+        match kind {
+            MetricKind::Counter => ones_of(rt, registry.get_counter(rt, key)),
+            MetricKind::Gauge => ones_of(rt, registry.get_gauge(rt, key)),
+            MetricKind::Histogram => ones_of(rt, registry.get_histogram(rt, key)),
+        }
     }
 
     fn handles<W: Wait>(
@@ -122,13 +148,11 @@ where
         key: &Key,
     ) -> Result<Option<Handles>, Error> {
         let registry = &self.registry;
-        Ok(Some(match kind {
-            MetricKind::Counter => handles_of(rt, &registry.get_counter_handles(rt, alloc)?, key),
-            MetricKind::Gauge => handles_of(rt, &registry.get_gauge_handles(rt, alloc)?, key),
-            MetricKind::Histogram => {
-                handles_of(rt, &registry.get_histogram_handles(rt, alloc)?, key)
-            }
-        }))
+        match kind {
+            MetricKind::Counter => handles_of(rt, key, registry.get_counter_handles(rt, alloc)),
+            MetricKind::Gauge => handles_of(rt, key, registry.get_gauge_handles(rt, alloc)),
+            MetricKind::Histogram => handles_of(rt, key, registry.get_histogram_handles(rt, alloc)),
+        }
     }
 
     fn retain<W: Wait>(&mut self, rt: &W, kind: MetricKind, prefix: &str) -> usize {
@@ -203,114 +227,69 @@ where
     }
 }
 
-/// A registry of cells without generations.
-fn bare(alloc: Global, shards: usize) -> Result<Registry<Key, AtomicStorage>, Error> {
-    Registry::atomic(alloc, shards)
-}
-
-/// A registry of cells with generations, whose storage is shared.
-fn dated(
-    alloc: Global,
-    shards: usize,
-) -> Result<Registry<Key, Arc<GenerationalAtomicStorage>>, Error> {
-    let storage = Arc::new(alloc, GenerationalStorage::atomic(alloc))?;
-    Registry::new(alloc, storage, shards)
-}
-
-/// Entries of each kind while memory is refused.
-fn entries<W: Wait, S: Storage<Key> + Drop>(
-    rt: &W,
+/// A registry of cells without generations, where the first try may be refused.
+fn new_bare(
     trial: &mut Trial,
-    registry: Registry<Key, S>,
-    kind: MetricKind,
-) -> Result<(), Wrong>
-where
-    S::Counter: Counting,
-    S::Gauge: Counting,
-    S::Histogram: Counting,
-{
-    let recency = Recency::new(trial.alloc, MetricKindMask::ALL, Some(idle::TIMEOUT));
-    play(rt, trial, Locked { registry, recency }, kind)
+    shards: usize,
+    mask: MetricKindMask,
+) -> Result<Locked<AtomicStorage>, Wrong> {
+    let alloc = trial.alloc;
+    let registry = made(trial, &move || Registry::atomic(alloc, shards))?;
+    let recency = Recency::new(alloc, mask, Some(idle::TIMEOUT));
+    Ok(Locked { registry, recency })
+}
+
+/// A registry of cells with generations, whose storage is shared, where the first try may be refused.
+fn new_dated(
+    trial: &mut Trial,
+    shards: usize,
+) -> Result<Locked<Arc<GenerationalAtomicStorage>>, Wrong> {
+    let alloc = trial.alloc;
+    let registry = made(
+        trial,
+        &move || {
+            let storage = Arc::new(alloc, GenerationalStorage::atomic(alloc))?;
+            Registry::new(alloc, storage, shards)
+        },
+    )?;
+    let recency = Recency::new(alloc, MetricKindMask::ALL, Some(idle::TIMEOUT));
+    Ok(Locked { registry, recency })
 }
 
 /// Entries of a kind in registries of 1, 2 and 8 shards.
-fn bare_entries<W: Wait>(rt: &W, trial: &mut Trial, kind: MetricKind) -> Result<(), Wrong> {
-    let alloc = trial.alloc;
+pub fn bare_entries<W: Wait>(rt: &W, trial: &mut Trial, kind: MetricKind) -> Result<(), Wrong> {
     for shards in [1usize, 2, 8] {
-        let registry = made(trial, &move || bare(alloc, shards))?;
-        entries(rt, trial, registry, kind)?;
+        let on = new_bare(trial, shards, MetricKindMask::ALL)?;
+        play(rt, trial, on, kind)?;
     }
     Ok(())
 }
 
 /// The same with generations.
-fn dated_entries<W: Wait>(rt: &W, trial: &mut Trial, kind: MetricKind) -> Result<(), Wrong> {
-    let alloc = trial.alloc;
+pub fn dated_entries<W: Wait>(rt: &W, trial: &mut Trial, kind: MetricKind) -> Result<(), Wrong> {
     for shards in [1usize, 2, 8] {
-        let registry = made(trial, &move || dated(alloc, shards))?;
-        entries(rt, trial, registry, kind)?;
+        let on = new_dated(trial, shards)?;
+        play(rt, trial, on, kind)?;
     }
     Ok(())
-}
-
-/// Idle entries of a kind.
-fn idle_in<W: Wait, S: Storage<Key> + Drop>(
-    rt: &W,
-    trial: &mut Trial,
-    registry: Registry<Key, S>,
-    (kind, mask, other): (MetricKind, MetricKindMask, MetricKind),
-) -> Result<(), Wrong>
-where
-    S::Counter: Counting,
-    S::Gauge: Counting,
-    S::Histogram: Counting,
-{
-    let recency = Recency::new(trial.alloc, mask, Some(idle::TIMEOUT));
-    idle::play(rt, trial, Locked { registry, recency }, (kind, other))
 }
 
 /// The idle entries of each kind.
-fn idle_entries<W: Wait>(rt: &W, trial: &mut Trial) -> Result<(), Wrong> {
-    let alloc = trial.alloc;
-    for kinds in idle::MASKS {
-        let registry = made(trial, &move || bare(alloc, 2))?;
-        idle_in(rt, trial, registry, kinds)?;
+pub fn idle_entries<W: Wait>(rt: &W, trial: &mut Trial) -> Result<(), Wrong> {
+    for (kind, mask, other) in idle::MASKS {
+        let on = new_bare(trial, 2, mask)?;
+        idle::play(rt, trial, on, (kind, other))?;
     }
     Ok(())
 }
 
-fn shards_are_a_power_of_two(trial: &mut Trial) -> Result<(), Wrong> {
+pub fn shards_are_a_power_of_two(trial: &mut Trial) -> Result<(), Wrong> {
     trial.begin();
-    let three = bare(trial.alloc, 3).err();
-    let many = bare(trial.alloc, 2048).err();
+    let three = Registry::atomic(trial.alloc, 3).err();
+    let many = Registry::atomic(trial.alloc, 2048).err();
     trial.calm();
-    expect(three == Some(Error::BadShards), "three shards are taken")?;
-    expect(many == Some(Error::BadShards), "2048 shards are taken")
-}
-
-/// The names of the examples of this file.
-pub const NAMES: &[&str] = &[
-    "counters_under_locks",
-    "gauges_under_locks",
-    "histograms_under_locks",
-    "counters_with_generations",
-    "gauges_with_generations",
-    "histograms_with_generations",
-    "idle_entries_under_locks",
-    "shards_are_a_power_of_two",
-];
-
-/// Runs the example of this name, if it is one of these.
-pub fn run<W: Wait>(rt: &W, trial: &mut Trial, name: &str) -> Option<Result<(), Wrong>> {
-    Some(match name {
-        "counters_under_locks" => bare_entries(rt, trial, MetricKind::Counter),
-        "gauges_under_locks" => bare_entries(rt, trial, MetricKind::Gauge),
-        "histograms_under_locks" => bare_entries(rt, trial, MetricKind::Histogram),
-        "counters_with_generations" => dated_entries(rt, trial, MetricKind::Counter),
-        "gauges_with_generations" => dated_entries(rt, trial, MetricKind::Gauge),
-        "histograms_with_generations" => dated_entries(rt, trial, MetricKind::Histogram),
-        "idle_entries_under_locks" => idle_entries(rt, trial),
-        "shards_are_a_power_of_two" => shards_are_a_power_of_two(trial),
-        _ => return None,
-    })
+    expect(three == Some(Error::BadShards), "three shards are taken").and(expect(
+        many == Some(Error::BadShards),
+        "2048 shards are taken",
+    ))
 }

@@ -8,46 +8,91 @@ mod journals;
 mod locked;
 mod owned;
 
+use metrics::MetricKind;
 use std::process::ExitCode;
 use std::sync::Wait;
 use tool_refusals_trial::{Trial, Wrong, first_word, is_asked, list, report};
 
-/// The names of the examples, by module.
-const NAMES: [&[&str]; 3] = [owned::NAMES, locked::NAMES, journals::NAMES];
-
-/// Runs the example of a name.
-fn run_one<R: Wait>(rt: &R, trial: &mut Trial, name: &str) -> Result<(), Wrong> {
-    if let Some(ended) = owned::run(rt, trial, name) {
-        return ended;
-    }
-    if let Some(ended) = locked::run(rt, trial, name) {
-        return ended;
-    }
-    journals::run(rt, trial, name).unwrap_or(Err("no such example"))
+/// The examples: entries of a kind, idle ones, the number of shards, and journals.
+#[derive(Clone, Copy)]
+enum Example {
+    OfOneOwner(MetricKind),
+    IdleOfOneOwner,
+    UnderLocks(MetricKind),
+    WithGenerations(MetricKind),
+    IdleUnderLocks,
+    Shards,
+    ShardsJournal,
+    Journal,
 }
 
-/// Runs those of the names that the word asks for. Whether all went well. Both arguments are the runtime.
-fn run_named<R: Wait>(rt: &R, host: &HostRuntime, word: &str, names: &[&str]) -> bool {
-    let mut is_good = true;
-    for name in names {
-        if is_asked(word, name) {
-            let mut trial = Trial::new(host.alloc());
-            let ended = run_one(rt, &mut trial, name);
-            is_good = report(host, &trial, name, ended) && is_good;
-        }
+/// Each example by its name.
+const EXAMPLES: [(&str, Example); 14] = [
+    (
+        "counters_of_one_owner",
+        Example::OfOneOwner(MetricKind::Counter),
+    ),
+    (
+        "gauges_of_one_owner",
+        Example::OfOneOwner(MetricKind::Gauge),
+    ),
+    (
+        "histograms_of_one_owner",
+        Example::OfOneOwner(MetricKind::Histogram),
+    ),
+    ("idle_entries_of_one_owner", Example::IdleOfOneOwner),
+    (
+        "counters_under_locks",
+        Example::UnderLocks(MetricKind::Counter),
+    ),
+    ("gauges_under_locks", Example::UnderLocks(MetricKind::Gauge)),
+    (
+        "histograms_under_locks",
+        Example::UnderLocks(MetricKind::Histogram),
+    ),
+    (
+        "counters_with_generations",
+        Example::WithGenerations(MetricKind::Counter),
+    ),
+    (
+        "gauges_with_generations",
+        Example::WithGenerations(MetricKind::Gauge),
+    ),
+    (
+        "histograms_with_generations",
+        Example::WithGenerations(MetricKind::Histogram),
+    ),
+    ("idle_entries_under_locks", Example::IdleUnderLocks),
+    ("shards_are_a_power_of_two", Example::Shards),
+    ("a_shard_notes_what_was_done", Example::ShardsJournal),
+    ("a_journal_notes_what_was_done", Example::Journal),
+];
+
+/// Runs an example.
+fn run_one<R: Wait>(rt: &R, trial: &mut Trial, example: Example) -> Result<(), Wrong> {
+    match example {
+        Example::OfOneOwner(kind) => owned::entries(rt, trial, kind),
+        Example::IdleOfOneOwner => owned::idle_entries(rt, trial),
+        Example::UnderLocks(kind) => locked::bare_entries(rt, trial, kind),
+        Example::WithGenerations(kind) => locked::dated_entries(rt, trial, kind),
+        Example::IdleUnderLocks => locked::idle_entries(rt, trial),
+        Example::Shards => locked::shards_are_a_power_of_two(trial),
+        Example::ShardsJournal => journals::a_shard_notes_what_was_done(trial),
+        Example::Journal => journals::a_journal_notes_what_was_done(rt, trial),
     }
-    is_good
 }
 
-/// Does what the word asks for. Whether all went well.
+/// Prints the names, or runs the examples that the word asks for. Whether all went well. Both arguments are the runtime.
 fn do_all<R: Wait>(rt: &R, host: &HostRuntime, word: &str) -> bool {
     let mut is_good = true;
-    for names in NAMES {
-        is_good = if word == "list" {
-            list(host, names) && is_good
-        } else {
-            run_named(rt, host, word, names) && is_good
-        };
+    for (name, example) in EXAMPLES {
+        if word == "list" {
+            is_good = list(host, &[name]) && is_good;
+        } else if is_asked(word, name) {
+            let mut trial = Trial::new(host.alloc());
+            let ended = run_one(rt, &mut trial, example);
+            is_good = report(host, &trial, name, ended) && is_good;
+        }
     }
     is_good
 }

@@ -4,11 +4,19 @@ use crate::entries::{Added, Entries, Handles, begins, play};
 use crate::idle;
 use metrics::{Error, Key, MetricKind, MetricKindMask};
 use metrics_registry::{Counted, OwnedRecency, OwnedRegistry, PlainStorage};
+use metrics_storage::OwnedBucket;
 use std::alloc::Global;
 use std::sync::Wait;
 use tool_refusals_trial::{Trial, Wrong, made};
 
 type Registry = OwnedRegistry<Key, PlainStorage>;
+
+/// How many samples a cell has.
+fn samples_in(cell: &OwnedBucket<i64>) -> u64 {
+    let mut count = 0u64;
+    cell.data_with(|chunk| count = count.wrapping_add(chunk.len() as u64));
+    count
+}
 
 /// A registry and the recency of its entries.
 #[derive(Drop)]
@@ -34,9 +42,7 @@ impl Entries for Owned {
             MetricKind::Histogram => self.registry.get_or_create_histogram(key, |cell| {
                 calls = calls.wrapping_add(1);
                 let is_taken = cell.push(1).is_ok();
-                let mut ones = 0u64;
-                cell.data_with(|chunk| ones = ones.wrapping_add(chunk.len() as u64));
-                (ones, is_taken)
+                (samples_in(cell), is_taken)
             }),
         };
         Added { calls, ones }
@@ -45,13 +51,12 @@ impl Entries for Owned {
     fn ones<W: Wait>(&self, _rt: &W, kind: MetricKind, key: &Key) -> Result<Option<u64>, Error> {
         Ok(match kind {
             MetricKind::Counter => self.registry.get_counter(key).copied(),
-            MetricKind::Gauge => self.registry.get_gauge(key).map(|cell| cell.unsigned_abs()),
+            MetricKind::Gauge => match self.registry.get_gauge(key) {
+                Some(cell) => Some(cell.unsigned_abs()),
+                None => None,
+            },
             MetricKind::Histogram => match self.registry.get_histogram(key) {
-                Some(cell) => {
-                    let mut ones = 0u64;
-                    cell.data_with(|chunk| ones = ones.wrapping_add(chunk.len() as u64));
-                    Some(ones)
-                }
+                Some(cell) => Some(samples_in(cell)),
                 None => None,
             },
         })
@@ -71,7 +76,10 @@ impl Entries for Owned {
             }
             MetricKind::Gauge => {
                 let handles = self.registry.get_gauge_handles(alloc)?;
-                let ones = handles.get(key).map(|cell| cell.unsigned_abs());
+                let ones = match handles.get(key) {
+                    Some(cell) => Some(cell.unsigned_abs()),
+                    None => None,
+                };
                 Some((handles.len(), ones))
             }
             MetricKind::Histogram => None,
@@ -155,7 +163,7 @@ fn new_registry(trial: &mut Trial, shards: usize, mask: MetricKindMask) -> Resul
 }
 
 /// Entries of a kind in registries of 1, 2 and 8 shards.
-fn entries<W: Wait>(rt: &W, trial: &mut Trial, kind: MetricKind) -> Result<(), Wrong> {
+pub fn entries<W: Wait>(rt: &W, trial: &mut Trial, kind: MetricKind) -> Result<(), Wrong> {
     for shards in [1usize, 2, 8] {
         let on = new_registry(trial, shards, MetricKindMask::ALL)?;
         play(rt, trial, on, kind)?;
@@ -164,29 +172,10 @@ fn entries<W: Wait>(rt: &W, trial: &mut Trial, kind: MetricKind) -> Result<(), W
 }
 
 /// The idle entries of each kind.
-fn idle_entries<W: Wait>(rt: &W, trial: &mut Trial) -> Result<(), Wrong> {
+pub fn idle_entries<W: Wait>(rt: &W, trial: &mut Trial) -> Result<(), Wrong> {
     for (kind, mask, other) in idle::MASKS {
         let on = new_registry(trial, 2, mask)?;
         idle::play(rt, trial, on, (kind, other))?;
     }
     Ok(())
-}
-
-/// The names of the examples of this file.
-pub const NAMES: &[&str] = &[
-    "counters_of_one_owner",
-    "gauges_of_one_owner",
-    "histograms_of_one_owner",
-    "idle_entries_of_one_owner",
-];
-
-/// Runs the example of this name, if it is one of these.
-pub fn run<W: Wait>(rt: &W, trial: &mut Trial, name: &str) -> Option<Result<(), Wrong>> {
-    Some(match name {
-        "counters_of_one_owner" => entries(rt, trial, MetricKind::Counter),
-        "gauges_of_one_owner" => entries(rt, trial, MetricKind::Gauge),
-        "histograms_of_one_owner" => entries(rt, trial, MetricKind::Histogram),
-        "idle_entries_of_one_owner" => idle_entries(rt, trial),
-        _ => return None,
-    })
 }
