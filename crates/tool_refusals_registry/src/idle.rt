@@ -73,10 +73,13 @@ fn put<W: Wait, E: Entries>(
     known: &mut Known,
     is_held: bool,
 ) -> Result<(), Wrong> {
-    match (is_held, known.is_held()) {
-        (true, false) => known.add_at_hand(rt, trial, on),
-        (false, true) => known.delete(rt, trial, on),
-        _ => Ok(()),
+    if is_held == known.is_held() {
+        return Ok(());
+    }
+    if is_held {
+        known.add_at_hand(rt, trial, on)
+    } else {
+        known.delete(rt, trial, on)
     }
 }
 
