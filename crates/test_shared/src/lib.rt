@@ -6,6 +6,8 @@
 #[cfg(test)]
 mod books;
 #[cfg(test)]
+mod handles;
+#[cfg(test)]
 mod installs;
 #[cfg(test)]
 mod reservoirs;
