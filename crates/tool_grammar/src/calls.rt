@@ -89,13 +89,18 @@ fn label_of(alloc: Global, word: &[u8]) -> Result<Option<Label>, Refused>
     Ok(Some(Label::new(alloc, key_text, value_text)?))
 }
 
+/// How many labels stand there at most: each has a space before it.
+fn room_for(bytes: &[u8]) -> usize {
+    bytes.iter().filter(|byte| **byte == b' ').count()
+}
+
 /// The labels of a register line, each with a space before it.
 fn labels_of(alloc: Global, bytes: &[u8]) -> Result<Option<Vec<Label>>, Refused>
     ensures { MatchResult result (λ found. MatchOption found
         ((ls : List (List ℕ × List ℕ)) → AreLabels ls → bytes.now ≡ label_words ls → ⊥)
         (λ ls. AreLabels ls.items × (bytes.now ≡ label_words ls.items))) (λ e. e ≡ Memory 0) }
 {
-    let mut labels = Vec::new(alloc);
+    let mut labels = Vec::with_capacity(alloc, room_for(bytes))?;
     let mut rest = bytes;
     while !rest.is_empty() {
         let Some(others) = behind(rest, b" ") else {

@@ -3,18 +3,18 @@ ghost use Rattle.std.specs.Prelude.{◌≡◌, ℕ, List, ◌∷◌, ◌++◌, �
 ghost use Rattle.std.specs.Prelude.{slice_index};
 ghost use Rattle.tool_grammar.specs.Cuts.{Lacks, StartsAt};
 
+use memchr::memchr;
+
 /// How many bytes stand before the first such byte, or all.
 pub fn place_of(bytes: &[u8], byte: u8) -> usize
     ensures bound { result ≤ length bytes.now }
     ensures before { Lacks byte (take result bytes.now) }
     ensures at { result < length bytes.now → slice_index bytes.now result ≡ byte }
 {
-    for (i, other) in bytes.iter().enumerate() {
-        if *other == byte {
-            return i;
-        }
+    match memchr(byte, bytes) {
+        Some(place) => place,
+        None => bytes.len(),
     }
-    bytes.len()
 }
 
 /// What stands behind the front, if that is the line's.

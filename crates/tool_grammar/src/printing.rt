@@ -4,6 +4,7 @@ ghost use Rattle.tool_grammar.specs.Grammar.{kind_word, unit_word, name_word, la
 ghost use Rattle.tool_grammar.specs.Printing.{samples_text, value_text, note_text, row_text, rows_text, text_of, refusal_text_of};
 ghost use Rattle.tool_grammar.specs.Printing.{book_of};
 
+use itoa::Buffer;
 use metrics::{Answer, Call, DebugValue, Label, MetricKind, Refused, Row, Text, Unit};
 use std::alloc::AllocError;
 
@@ -130,11 +131,35 @@ fn write_refusal(text: &mut String, refused: Refused) -> Result<(), AllocError>
     }
 }
 
+/// Writes a line of words and a number, digit by digit, which is shorter than by a format.
+fn write_counted(text: &mut String, words: &str, count: usize) -> Result<(), AllocError>
+    ensures { OnOk result (string_bytes text.new ≡ string_bytes text.old ++ (words.now ++ (decimal count ++ 10 ∷ []))) }
+{
+    let mut buffer = Buffer::new();
+    text.push_str(words)?;
+    text.push_str(buffer.format(count))?;
+    text.push_str("\n")
+}
+
+/// Most updates meet one cell, so their line is at hand.
+fn write_updated(text: &mut String, count: usize) -> Result<(), AllocError>
+    ensures { OnOk result (string_bytes text.new ≡ string_bytes text.old
+        ++ (codes "updated " ++ (decimal count ++ 10 ∷ []))) }
+{
+    if count == 1 {
+        text.push_str("updated 1\n")
+    } else {
+        write_counted(text, "updated ", count)
+    }
+}
+
 fn write_registered(text: &mut String, number: usize, count: usize) -> Result<(), AllocError>
     ensures { OnOk result (string_bytes text.new ≡ string_bytes text.old
         ++ (codes "registered " ++ (decimal number ++ (32 ∷ (decimal count ++ 10 ∷ []))))) }
 {
-    writeln!(text, "registered {number} {count}")
+    text.push_str("registered ")?;
+    text.push_str(Buffer::new().format(number))?;
+    write_counted(text, " ", count)
 }
 
 fn write_snapshot(text: &mut String, book: usize, rows: &[Row]) -> Result<(), AllocError>
@@ -157,9 +182,9 @@ pub fn write_answer(
     ensures { OnOk result (string_bytes text.new ≡ string_bytes text.old ++ text_of registers call.now answer.now) }
 {
     match answer {
-        Answer::Described(count) => writeln!(text, "described {count}"),
+        Answer::Described(count) => write_counted(text, "described ", *count),
         Answer::Registered(found) => write_registered(text, registers, found.as_slice().len()),
-        Answer::Updated(count) => writeln!(text, "updated {count}"),
+        Answer::Updated(count) => write_updated(text, *count),
         Answer::Snapshot(rows) => write_snapshot(text, book_number(call), rows.as_slice()),
         Answer::Refused(refused) => write_refusal(text, *refused),
     }

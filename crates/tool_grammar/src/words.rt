@@ -1,5 +1,5 @@
 //! The words of a line: names, numbers, kinds, units and updates.
-ghost use Rattle.std.specs.Prelude.{◌≡◌, ℕ, List, ◌<◌, ◌^◌, ℤ, FitsSigned, MatchOption, Option, Some, decimal};
+ghost use Rattle.std.specs.Prelude.{◌≡◌, ℕ, List, ◌∷◌, ◌<◌, ◌+◌, ◌^◌, ℤ, FitsSigned, IfSome, MatchOption, Option, Some, decimal};
 ghost use Rattle.std.specs.Int.{w64};
 ghost use Rattle.std.specs.Fmt.{signed_decimal};
 ghost use Rattle.metrics_names.specs.declared.kind.MetricKind.{MetricKind};
@@ -64,8 +64,77 @@ pub fn unit_of(word: &[u8]) -> Option<Option<Unit>>
     }
 }
 
+/// The number that a digit stands for.
+fn digit_of(byte: u8) -> Option<u64>
+    ensures { IfSome result (λ d. (d < 10) × (byte ≡ 48 + d)) }
+{
+    if b'0' <= byte && byte <= b'9' {
+        Some((byte - b'0') as u64)
+    } else {
+        None
+    }
+}
+
+/// The number that digits print, one digit after another, which is the short way for most words. It takes no sign and no
+/// needless zero, and nothing past 2^64 - 1.
+fn plain_number_of(digits: &[u8]) -> Option<u64>
+    ensures { IfSome result (λ n. digits.now ≡ decimal n) }
+{
+    let (first, others) = digits.split_first()?;
+    let mut n = digit_of(*first)?;
+    for byte in others {
+        if n == 0 {
+            return None;
+        }
+        n = n.checked_mul(10)?.checked_add(digit_of(*byte)?)?;
+    }
+    Some(n)
+}
+
+/// The number from 0 to 2^63 - 1 that the digits of `n` print.
+fn signed(n: u64) -> Option<i64>
+    ensures { IfSome result (λ m. signed_decimal m ≡ decimal n) }
+{
+    if n <= i64::MAX as u64 {
+        Some(n as i64)
+    } else {
+        None
+    }
+}
+
+/// The number from -(2^63 - 1) to -1 that the digits of `n` print behind a minus.
+fn negated(n: u64) -> Option<i64>
+    ensures { IfSome result (λ m. signed_decimal m ≡ 45 ∷ decimal n) }
+{
+    if n == 0 || n > i64::MAX as u64 {
+        return None;
+    }
+    Some(-(n as i64))
+}
+
+/// The number from -(2^63 - 1) to 2^63 - 1 that a word prints, likewise.
+fn plain_signed_number_of(word: &[u8]) -> Option<i64>
+    ensures { IfSome result (λ n. word.now ≡ signed_decimal n) }
+{
+    match word.strip_prefix(b"-") {
+        None => signed(plain_number_of(word)?),
+        Some(digits) => negated(plain_number_of(digits)?),
+    }
+}
+
 /// A number below 2^64 as it is printed, and nothing else.
 pub fn number_of(digits: &[u8]) -> Option<u64>
+    ensures { MatchOption result ((n : ℕ) → n < 2 ^ 64 → digits.now ≡ decimal n → ⊥)
+        (λ n. digits.now ≡ decimal n) }
+{
+    match plain_number_of(digits) {
+        Some(n) => Some(n),
+        None => parsed_number_of(digits),
+    }
+}
+
+/// The same by what std reads of the text, printed once more: it tells what the short way left.
+fn parsed_number_of(digits: &[u8]) -> Option<u64>
     ensures { MatchOption result ((n : ℕ) → n < 2 ^ 64 → digits.now ≡ decimal n → ⊥)
         (λ n. digits.now ≡ decimal n) }
 {
@@ -87,6 +156,17 @@ pub fn number_of(digits: &[u8]) -> Option<u64>
 
 /// A number from -2^63 to 2^63 - 1 as it is printed, and nothing else.
 pub fn signed_number_of(word: &[u8]) -> Option<i64>
+    ensures { MatchOption result ((n : ℤ) → FitsSigned w64 n → word.now ≡ signed_decimal n → ⊥)
+        (λ n. word.now ≡ signed_decimal n) }
+{
+    match plain_signed_number_of(word) {
+        Some(n) => Some(n),
+        None => parsed_signed_number_of(word),
+    }
+}
+
+/// The same by what std reads of the text, printed once more.
+fn parsed_signed_number_of(word: &[u8]) -> Option<i64>
     ensures { MatchOption result ((n : ℤ) → FitsSigned w64 n → word.now ≡ signed_decimal n → ⊥)
         (λ n. word.now ≡ signed_decimal n) }
 {

@@ -4,7 +4,7 @@ use Rattle.std.specs.Fmt.{signed_decimal}
 use Rattle.std.proofs.lemmas.Fmt.{parse-signed_decimal, IsAscii-signed}
 use Rattle.std.proofs.lemmas.Str.{IsUtf8-from_ascii}
 use Rattle.std.proofs.lemmas.Slice.Eq.{bytes_eq-Decides}
-use Rattle.tool_grammar.proofs.words.signed_number_of.Goals as goal
+use Rattle.tool_grammar.proofs.words.parsed_signed_number_of.Goals as goal
 
 pub returns-in_default : goal.returns-in_default
 returns-in_default c = λ n h e. c.in_default.ensures.cases.0 (subst IsUtf8 (sym e) (IsUtf8-from_ascii _ (IsAscii-signed n h.sfits)))
