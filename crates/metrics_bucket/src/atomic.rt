@@ -17,7 +17,7 @@ use std::sync::Wait;
 /// A bucket that any thread may push into, read and clear. It has two sides, each with 64 places for each block.
 ///
 /// It keeps 64 pens. A call borrows one of them while it runs; where all are lent, it pauses until one is back. No lock is
-/// taken. One block takes some 3 KB of memory, each further one 2 KB.
+/// taken. Each block takes some 2 KB of memory.
 #[derive(Drop)]
 pub struct AtomicBucket<T: Sample> {
     bucket: RuledBucket<T>,

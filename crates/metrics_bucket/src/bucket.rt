@@ -150,7 +150,8 @@ impl<T: Sample> RuledBucket<T> {
         requires free { pen.old.ticket ≡ false }
         ensures ok { OnOk result ((pen.new ≡ with_ticket (looked_at pen.old pen.new.seen) true)
             × (pen.new.seen / 2 < self.now.places)) }
-        ensures err { IfErr result (λ e. IsLooked pen.old pen.new × (((e ≡ Error.Full) × (self.now.places ≤ pen.new.seen / 2))
+        ensures err { IfErr result (λ e. IsLooked pen.old pen.new
+            × (((e ≡ Error.Full) × (self.now.places ≤ pen.new.seen / 2))
             ⊎ ((e ≡ Error.Raced) × (pen.new.seen / 2 < self.now.places)))) }
         ensures whole { pen.old.weight ≡ 1024
             → MatchResult result (λ _. length pen.old.pushed < count_all pen.old.taken + self.now.places)
@@ -223,7 +224,8 @@ impl<T: Sample> RuledBucket<T> {
         requires own { pen.old.home ≡ self.now }
         requires free { pen.old.ticket ≡ false }
         ensures ok { OnOk result (IsPushed pen.old (T.word value) pen.new × (pen.new.seen / 2 < self.now.places)) }
-        ensures err { IfErr result (λ e. IsLooked pen.old pen.new × (((e.0 ≡ Error.Full) × (self.now.places ≤ pen.new.seen / 2))
+        ensures err { IfErr result (λ e. IsLooked pen.old pen.new
+            × (((e.0 ≡ Error.Full) × (self.now.places ≤ pen.new.seen / 2))
             ⊎ ((e.0 ≡ Error.Raced) × (pen.new.seen / 2 < self.now.places))) × (e.1 ≡ value)) }
         ensures whole { pen.old.weight ≡ 1024
             → MatchResult result (λ _. length pen.old.pushed < count_all pen.old.taken + self.now.places)
@@ -244,7 +246,8 @@ impl<T: Sample> RuledBucket<T> {
         requires own { pen.old.home ≡ self.now }
         requires free { pen.old.ticket ≡ false }
         ensures ok { OnOk result (IsPushed pen.old (T.word value) pen.new × (pen.new.seen / 2 < self.now.places)) }
-        ensures err { IfErr result (λ e. IsLooked pen.old pen.new × (self.now.places ≤ pen.new.seen / 2) × (e.0 ≡ Error.Full)
+        ensures err { IfErr result (λ e. IsLooked pen.old pen.new
+            × (self.now.places ≤ pen.new.seen / 2) × (e.0 ≡ Error.Full)
             × (e.1 ≡ value)) }
         ensures whole { pen.old.weight ≡ 1024
             → MatchResult result (λ _. length pen.old.pushed < count_all pen.old.taken + self.now.places)

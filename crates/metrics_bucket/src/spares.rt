@@ -73,7 +73,8 @@ impl Spares {
     pub fn new(alloc: Global, places: usize, pen: &mut Pen) -> Result<Spares, Error>
         requires first { IsLooked (first_account pen.old.home) pen.old }
         requires places { pen.old.home.places ≡ places }
-        ensures ok { IfOk result (λ s. (s ≡ pen.old.home) × (pen.new ≡ looked_at (spare_account pen.old.home) pen.old.seen)) }
+        ensures ok { IfOk result (λ s. (s ≡ pen.old.home)
+            × (pen.new ≡ looked_at (spare_account pen.old.home) pen.old.seen)) }
         ensures err { IfErr result (λ e. e ≡ Error.Memory) }
     {
         let Ok(mut posts) = Vec::with_capacity(alloc, SPARES) else {

@@ -22,7 +22,7 @@ pub struct AtomicStorage {
 }
 
 impl AtomicStorage {
-    /// A storage whose cells take their memory from `alloc`. A histogram takes some 34 KB.
+    /// A storage whose cells take their memory from `alloc`. A histogram takes some 33 KB.
     pub fn new(alloc: Global) -> AtomicStorage
         ensures { result.blocks ≡ 16 }
     {

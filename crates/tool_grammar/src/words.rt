@@ -1,5 +1,6 @@
 //! The words of a line: names, numbers, kinds, units and updates.
-ghost use Rattle.std.specs.Prelude.{◌≡◌, ℕ, List, ◌∷◌, ◌<◌, ◌+◌, ◌^◌, ℤ, FitsSigned, IfSome, MatchOption, Option, Some, decimal};
+ghost use Rattle.std.specs.Prelude.{◌≡◌, ℕ, List, ◌∷◌, ◌<◌, ◌+◌, ◌^◌, ℤ};
+ghost use Rattle.std.specs.Prelude.{FitsSigned, IfSome, MatchOption, Option, Some, decimal};
 ghost use Rattle.std.specs.Int.{w64};
 ghost use Rattle.std.specs.Fmt.{signed_decimal};
 ghost use Rattle.metrics_names.specs.declared.kind.MetricKind.{MetricKind};
