@@ -1,7 +1,7 @@
 //! Cells that are filled with a recorder.
 
 use crate::books::{AT, count_of, key};
-use metrics::{Key, MetricKind, Recorder, Update};
+use metrics::{Key, KeyName, MetricKind, Recorder, Snapshot, Unit, Update};
 use metrics_debugging::DebuggingRecorder;
 use metrics_shared::{Install, RecoverableRecorder, SetRecorderError, Shared, SlotRecorder};
 use std::alloc::Global;
@@ -83,4 +83,39 @@ fn a_recorder_is_there_once_it_can_be_found(rt: HostRuntime) -> Result<(), Fail>
         assert_eq!(&rt; targets_while_installed(&rt, alloc, book, &key), 1);
     }
     Ok(())
+}
+
+/// Whether the first row has the unit and the text that were described.
+fn is_described(rows: &Snapshot) -> bool {
+    match rows.as_slice().first() {
+        Some((_, unit, Some(text), _)) => *unit == Some(Unit::Count) && text.as_str() == "t",
+        _ => false,
+    }
+}
+
+/// Describes and registers a counter through a slot, and looks for text and unit in the book that is taken back.
+fn expect_described<R: Abort + Wait, B: Recorder>(
+    rt: &R,
+    alloc: Global,
+    book: B,
+    name: &KeyName,
+    key: &Key,
+) -> Result<(), Fail> {
+    let cell = OnceLock::new();
+    let installed = RecoverableRecorder::new(book).install(rt, alloc, &cell);
+    let handle = installed.ok().ok_or("memory")?;
+    let slot = cell.get().ok_or("no slot")?;
+    let told = slot.describe(rt, alloc, MetricKind::Counter, name, Some(Unit::Count), "t");
+    assert_eq!(rt; told, Ok(1));
+    assert!(rt; slot.register(rt, alloc, MetricKind::Counter, key).is_ok());
+    assert!(rt; is_described(&handle.into_inner(rt)?.snapshot(alloc, 0)?));
+    Ok(())
+}
+
+#[test]
+fn a_series_is_described_through_a_slot(rt: HostRuntime) -> Result<(), Fail> {
+    let alloc = rt.alloc();
+    let name = KeyName::new(alloc, "c")?;
+    let book = DebuggingRecorder::new(alloc)?;
+    expect_described(&rt, alloc, book, &name, &key(alloc, "c")?)
 }
