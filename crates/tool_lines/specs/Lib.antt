@@ -1,3 +1,4 @@
+pub mod Given
 pub mod Handles
 pub mod Running
 pub mod Requests

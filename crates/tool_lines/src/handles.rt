@@ -5,11 +5,57 @@ ghost use Rattle.tool_lines.specs.Handles.{entries, entry_at, entry_named, entri
 
 use metrics::{Address, Call, Items, MetricKind};
 use std::alloc::{AllocError, Global};
+use std::marker::Model;
+use std::slice;
+
+/// The addresses that a register call gave. Most give one, which stands here itself.
+#[derive(Drop)]
+enum Kept {
+    One(Address),
+    List(Items<Address>),
+}
+
+/// The same, seen as a list.
+#[derive(Drop)]
+struct Given {
+    kept: Kept,
+}
+
+impl Model for Given {
+    ghost use Rattle.std.specs.Prelude.{List};
+    ghost use Rattle.metrics.specs.declared.handles.Address.{Address};
+    ghost use Rattle.tool_lines.specs.Given.{kept_list};
+
+    ghost Value = { List Address };
+
+    ghost view = { λ given. kept_list given.kept };
+}
+
+impl Given {
+    fn new(found: Items<Address>) -> Given
+        ensures { result ≡ found }
+    {
+        let kept = match found.as_slice() {
+            [one] => Kept::One(*one),
+            _ => Kept::List(found),
+        };
+        Given { kept }
+    }
+
+    fn as_slice(&self) -> &[Address]
+        ensures { result.now ≡ self.now }
+    {
+        match &self.kept {
+            Kept::One(at) => slice::from_ref(at),
+            Kept::List(found) => found.as_slice(),
+        }
+    }
+}
 
 /// For each register call, in order: its kind and what it gave, and nothing where it was refused.
 #[derive(Drop)]
 pub struct Handles {
-    entries: Vec<Option<(MetricKind, Items<Address>)>>,
+    entries: Vec<Option<(MetricKind, Given)>>,
 }
 
 impl Handles {
@@ -70,7 +116,7 @@ impl Handles {
         match call {
             Call::Register(kind, _) => {
                 let entry = match given {
-                    Some(given) => Some((*kind, given)),
+                    Some(found) => Some((*kind, Given::new(found))),
                     None => None,
                 };
                 self.entries.push_reserved(entry);
