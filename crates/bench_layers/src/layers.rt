@@ -4,13 +4,10 @@ use crate::matching::{borrowed, names, names_of_routes, patterns, routes};
 use crate::sink::Sink;
 use anyhow::Result;
 use bench_harness::taken;
-use metrics::{Key, Refused};
-use metrics_util::MetricKindMask;
-use metrics_util::debugging::DebuggingRecorder;
-use metrics_util::layers::{
-    Child, Fanout, FanoutBuilder, Filter, FilterLayer, Layer, Prefix, PrefixLayer, Router,
-    RouterBuilder,
-};
+use metrics::{Key, MetricKindMask, Refused};
+use metrics_debugging::DebuggingRecorder;
+use metrics_layers::{Filter, FilterLayer, Layer, Prefix, PrefixLayer};
+use metrics_trees::{Child, Fanout, FanoutBuilder, Router, RouterBuilder};
 use std::alloc::Global;
 
 /// A key without labels for each name.

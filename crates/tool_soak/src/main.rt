@@ -6,8 +6,9 @@ ghost use Rattle.std.specs.Thread.{IsSync};
 
 use anyhow::{Result, anyhow};
 use metrics::{Error, Key, MetricKindMask};
-use metrics_util::registry::{AtomicStorage, Generation, Recency, Registry};
-use metrics_util::storage::AtomicBucket;
+use metrics_bucket::AtomicBucket;
+use metrics_registry::Generation;
+use metrics_shared_registry::{AtomicStorage, Recency, Registry};
 use std::alloc::Global;
 use std::env;
 use std::rt::{Clock, Env};
