@@ -115,18 +115,18 @@ want_parts : (a b : List ℕ) → EndsLine a → LacksWant (a ++ b) → LacksWan
 want_parts a b (body, e) w =
     let lines : lines_of (a ++ b) ≡ lines_of a ++ lines_of b =
     ap lines_of (ap (λ k. k ++ b) e ∙ append_assoc body (10 ∷ []) b) ∙ lines-cut body b ∙ ap (λ k. lines_of k ++ lines_of b) (sym e) in
-    let all = subst (AllByRecursion (λ l. (more : List ℕ) → l ≡ codes "refused E1" ++ more → ⊥)) lines w in
+    let all = subst (AllByRecursion (λ l. (more : List ℕ) → l ≡ codes "refused E1 memory" ++ more → ⊥)) lines w in
     (all_left _ (lines_of a) (lines_of b) all, all_right _ (lines_of a) (lines_of b) all)
 
-tells_want : (more : List ℕ) → LacksWant (codes "refused E1" ++ more) → ⊥
+tells_want : (more : List ℕ) → LacksWant (codes "refused E1 memory" ++ more) → ⊥
 tells_want more w =
-    let feedless : AllByRecursion (λ x. x ≢ 10) (codes "refused E1") = recursion_from_All (λ x. x ≢ 10) (codes "refused E1") (lacks_literal 10 (codes "refused E1") refl) in
-    let (l, ls, e) = lines-front (codes "refused E1") more feedless (omega arith) in
-    (subst (AllByRecursion (λ l. (more : List ℕ) → l ≡ codes "refused E1" ++ more → ⊥)) e w).0 l refl
+    let feedless : AllByRecursion (λ x. x ≢ 10) (codes "refused E1 memory") = recursion_from_All (λ x. x ≢ 10) (codes "refused E1 memory") (lacks_literal 10 (codes "refused E1 memory") refl) in
+    let (l, ls, e) = lines-front (codes "refused E1 memory") more feedless (omega arith) in
+    (subst (AllByRecursion (λ l. (more : List ℕ) → l ≡ codes "refused E1 memory" ++ more → ⊥)) e w).0 l refl
 
 -- an answer whose text tells no want of memory is the plain one
 plain_of : (plain : Answer) (May : ℕ → Type 0) (n : ℕ) (c : Call) (a : Answer) → IsOrMeets plain May a → LacksWant (text_of n c a) → a ≡ plain
-plain_of plain May n c (answer.Refused (refused.Memory k)) h w = absurd (tells_want (codes " memory, acted " ++ (decimal k ++ 10 ∷ [])) w)
+plain_of plain May n c (answer.Refused (refused.Memory k)) h w = absurd (tells_want (codes ", acted " ++ (decimal k ++ 10 ∷ [])) w)
 plain_of plain May n c (answer.Refused refused.NoSuchAddress) h w = h
 plain_of plain May n c (answer.Refused refused.NoSuchBook) h w = h
 plain_of plain May n c (answer.Refused refused.BadHandle) h w = h

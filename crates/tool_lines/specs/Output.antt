@@ -43,7 +43,7 @@ printed i = answers_text (meaning_of i.tree) i.calls
 
 -- no line of the text tells want of memory
 abbrev pub LacksWant : List ℕ → Type 0
-LacksWant text = AllByRecursion (λ l. (more : List ℕ) → l ≡ codes "refused E1" ++ more → ⊥) (lines_of text)
+LacksWant text = AllByRecursion (λ l. (more : List ℕ) → l ≡ codes "refused E1 memory" ++ more → ⊥) (lines_of text)
 
 -- An answer to each call, the plain one or want of memory, printed; and where no line tells want of memory, just the text of the plain
 -- answers.

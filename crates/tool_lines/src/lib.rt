@@ -1,4 +1,4 @@
-//! The line program as a library: a tree of recorders from tree lines, calls from call lines, and storms.
+//! The line program as a library: a tree of recorders from tree lines, calls from call lines, exporters and storms.
 #![tactic(auto)]
 
 mod commands;
