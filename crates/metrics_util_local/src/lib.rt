@@ -24,12 +24,13 @@ pub mod layers {
 pub mod registry {
     pub use metrics_registry::{
         Cells, Counted, Generation, Kinds, OwnedRecency, OwnedRegistry, PlainStorage, Storage,
+        recency_law,
     };
 }
 
 /// Storage of samples.
 pub mod storage {
-    pub use metrics_storage::{BLOCK_SIZE, Block, Histogram, OwnedBucket};
+    pub use metrics_storage::{BLOCK_SIZE, Block, Histogram, OwnedBucket, reservoir_law};
 
     /// A fixed number of values out of all that were pushed.
     pub mod reservoir {
