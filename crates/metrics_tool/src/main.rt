@@ -1,5 +1,5 @@
 //! Reads a tree of recorders and then calls from standard input, makes each call on a real tree of books
-//! and prints the answers; or runs a storm and prints its totals.
+//! and prints the answers; or answers the lines of an exporter; or runs a storm and prints its totals.
 #![tactic(auto)]
 
 use std::io::BufReader;

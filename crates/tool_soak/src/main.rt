@@ -1,5 +1,6 @@
-//! Eight threads push into the histograms of one registry and into one bucket, while their cells are made, cleared, removed and
-//! expired, for as many seconds as the program's word says. Each sample is counted in and out.
+//! Eight threads on the histograms of one registry and on one bucket, for as many seconds as the program's word says: six push
+//! into cells that are made where they aren't there, one clears, and one removes and expires cells. Each sample is counted in
+//! and out.
 #![tactic(auto)]
 
 ghost use Rattle.std.specs.Thread.{IsSync};
