@@ -9,8 +9,8 @@ use thiserror::Error as ThisError;
 /// Why a call of the library was refused. What was handed in comes back where the call says so.
 #[derive(Clone, Copy, Debug, PartialEq, Eq, ThisError)]
 pub enum Error {
-    /// A growth found no memory. Nothing changed, unless it was made of a `Refused`: the call then acted on as many of
-    /// its targets as that told.
+    /// A growth found no memory. Nothing changed but what the call itself tells: where it was made of a `Refused`, the
+    /// call acted on as many of its targets as that told; an expiry keeps its checks; a copy of rows keeps those before.
     #[error("memory")]
     Memory,
     /// The mask has no kind.
@@ -25,7 +25,7 @@ pub enum Error {
     /// The patterns have more than 1,048,576 bytes together.
     #[error("patterns too long")]
     PatternsTooLong,
-    /// The count would pass 2^64 - 1. Nothing changed.
+    /// The count would pass 2^64 - 1. Nothing changed but what the call itself tells.
     #[error("count full")]
     CountFull,
     /// The live side of a bucket has no free place. Nothing changed.
@@ -37,7 +37,8 @@ pub enum Error {
     /// Another walk holds the turn. This call changed nothing.
     #[error("busy")]
     Busy,
-    /// No pen is free, or a pen or tally of weight 1 was to be split. Nothing changed.
+    /// No pen is free, a pen or tally of weight 1 was to be split, or another pen is out where all are wanted. No value
+    /// has moved.
     #[error("no pen")]
     NoPen,
     /// The number of shards is not a power of two from 1 to 1,024. Nothing was made.
