@@ -1,5 +1,6 @@
 -- Chunks that are gathered in one list.
-use Rattle.std.proofs.Common.{◌≡◌, ℕ, zero, suc, ◌+◌, ◌/◌, ◌≤◌, List, [], ◌∷◌, ◌++◌, length, map, refl, sym, ap, ◌∙◌, arith, length-append, append-nil, append_assoc}
+use Rattle.std.proofs.Common.{◌≡◌, ℕ, zero, suc, ◌+◌, ◌-◌, ◌/◌, ◌≤◌, List, [], ◌∷◌, ◌++◌, length, map, refl, sym, ap, ◌∙◌, arith, length-append, append-nil, append_assoc}
+use Rattle.std.proofs.lemmas.List.{take_all}
 use Rattle.std.specs.Global.{Vec}
 use Rattle.std.specs.Prelude.{vec_capacity}
 use Rattle.std.specs.List.{FoldsTo}
@@ -9,11 +10,15 @@ use Rattle.metrics.specs.Book.{joined_lists, blocks}
 use Rattle.metrics_bucket.specs.Gathers.{Gathers}
 use Rattle.metrics_bucket.proofs.Blocks.{chunk, first_chunks, chunks_from, chunks_newest, chunks_joined, length_map, length_blocks}
 
+-- where there is room for all, all are put in
+pub gathers_all : {T : Type 0} (v w : Vec T) (xs : List T) → Gathers v xs w → length v.items + length xs ≤ vec_capacity v → (w.items ≡ v.items ++ xs) × (vec_capacity w ≡ vec_capacity v)
+gathers_all {T} v w xs put room = (put.0 ∙ ap (λ (l : List T). v.items ++ l) (take_all (vec_capacity v - length v.items) xs (omega arith)), put.1)
+
 pub gathers_fold : {T : Type 0} (xss : List (List T)) (v w : Vec T) → FoldsTo Gathers v xss w → length v.items + length (joined_lists xss) ≤ vec_capacity v → w.items ≡ v.items ++ joined_lists xss
 gathers_fold {T} [] v w e room = ap (λ (z : Vec T). z.items) (sym e) ∙ sym (append-nil v.items)
 gathers_fold {T} (xs ∷ xss) v w (u, r, f) room =
     let a = length-append xs (joined_lists xss) in
-    let step = r (omega arith) in
+    let step = gathers_all v u xs r (omega arith) in
     let b = length-append v.items xs in
     let c : length u.items ≡ length (v.items ++ xs) = ap (λ (l : List T). length l) step.0 in
     let d = step.1 in
@@ -34,3 +39,8 @@ gathered_are {T} f list v w none room folds =
     let c = length_blocks list in
     let d : length v.items ≡ 0 = ap (λ (l : List T). length l) none in
     gathers_fold (valued f (newest_first list)) v w folds (omega arith) ∙ (ap (λ (l : List T). l ++ joined_lists (valued f (newest_first list))) none ∙ is)
+
+pub gathered_many : {T : Type 0} (f : ℕ → T) (list : List ℕ) (v w : Vec T) → v.items ≡ [] → length list ≤ vec_capacity v → FoldsTo Gathers v (valued f (newest_first list)) w → length w.items ≡ length list
+gathered_many {T} f list v w none room folds =
+    let are = gathered_are f list v w none room folds in
+    ap (λ (l : List T). length l) are ∙ (length_map f (blocks list) ∙ length_blocks list)

@@ -1,5 +1,5 @@
 //! A bucket that any thread may use.
-ghost use Rattle.std.specs.Prelude.{◌≡◌, ℕ, ◌<◌, ◌≤◌, ◌⊎◌, List, length, IfOk, IfErr};
+ghost use Rattle.std.specs.Prelude.{◌≡◌, ℕ, ◌*◌, ◌<◌, ◌≤◌, ◌⊎◌, List, length, vec_len, IfOk, IfErr, IsOk};
 ghost use Rattle.std.specs.Fn.{CalledAt};
 ghost use Rattle.std.specs.List.{FoldsTo};
 ghost use Rattle.metrics_bucket.specs.Blocks.{valued, newest_first};
@@ -27,9 +27,11 @@ pub struct AtomicBucket<T: Sample> {
 
 impl<T: Sample> AtomicBucket<T> {
     ghost use Rattle.metrics_bucket.specs.Loans.{IsLoanOf};
+    ghost use Rattle.metrics_bucket.specs.Sides.{side_places};
 
     /// An empty bucket of 1 to 1024 blocks on each side.
     pub fn new(alloc: Global, blocks: usize) -> Result<AtomicBucket<T>, Error>
+        ensures places { IfOk result (λ b. side_places b ≡ 64 * blocks) }
         ensures good { (0 < blocks) × (blocks ≤ 1024) → IfErr result (λ e. e ≡ Error.Memory) }
         ensures bad { (blocks ≡ 0) ⊎ (1024 < blocks) → result ≡ Err Error.BadBlocks }
     {
@@ -47,14 +49,14 @@ impl<T: Sample> AtomicBucket<T> {
 
     /// Whether no value was pushed since the last clear. A push that is under way counts as a value.
     pub fn is_empty<R: Wait>(&self, _rt: &R) -> Result<bool, Error>
-        ensures { IfErr result (λ e. e ≡ Error.NoPen) }
+        ensures { IsOk result }
     {
         Ok(self.bucket.control() < 2)
     }
 
     /// Pushes a value, or gives it back. `Full`: all places of the live side are given.
     pub fn push<R: Wait>(&self, rt: &R, value: T) -> Result<(), (Error, T)>
-        ensures { IfErr result (λ e. ((e.0 ≡ Error.Full) ⊎ (e.0 ≡ Error.NoPen)) × (e.1 ≡ value)) }
+        ensures { IfErr result (λ e. (e.0 ≡ Error.Full) × (e.1 ≡ value)) }
     {
         let mut loan = self.pens.lend(rt, value.to_word());
         let pen = loan.place.slot_mut(&self.pens.table.shared, loan.at);
@@ -68,7 +70,8 @@ impl<T: Sample> AtomicBucket<T> {
     ///
     /// `Busy`: another walk is under way.
     pub fn data<R: Wait>(&self, rt: &R, alloc: Global) -> Result<Vec<T>, Error>
-        ensures { IfErr result (λ e. (e ≡ Error.Memory) ⊎ (e ≡ Error.Busy) ⊎ (e ≡ Error.NoPen)) }
+        ensures count { IfOk result (λ v. vec_len v ≤ side_places self.now) }
+        ensures err { IfErr result (λ e. (e ≡ Error.Memory) ⊎ (e ≡ Error.Busy)) }
     {
         let mut loan = self.lend(rt);
         let pen = loan.place.slot_mut(&self.pens.table.shared, loan.at);
@@ -83,7 +86,8 @@ impl<T: Sample> AtomicBucket<T> {
         requires { F.IsAlwaysCallable f }
         ensures ok { IfOk result (λ n. (words : List ℕ) × (length words ≡ n)
             × ((last : F) × FoldsTo (λ p x q. CalledAt F.FnMut p x tt q) f (valued T.value (newest_first words)) last)) }
-        ensures err { IfErr result (λ e. (e ≡ Error.Busy) ⊎ (e ≡ Error.NoPen)) }
+        ensures count { IfOk result (λ n. n ≤ side_places self.now) }
+        ensures err { IfErr result (λ e. e ≡ Error.Busy) }
     {
         let mut shown = Shown { f };
         let mut loan = self.lend(rt);
@@ -97,7 +101,8 @@ impl<T: Sample> AtomicBucket<T> {
     ///
     /// `Busy`: another walk is under way.
     pub fn clear<R: Wait>(&self, rt: &R) -> Result<usize, Error>
-        ensures { IfErr result (λ e. (e ≡ Error.Busy) ⊎ (e ≡ Error.NoPen)) }
+        ensures count { IfOk result (λ n. n ≤ side_places self.now) }
+        ensures err { IfErr result (λ e. e ≡ Error.Busy) }
     {
         self.clear_with(rt, |_| {})
     }
@@ -111,7 +116,8 @@ impl<T: Sample> AtomicBucket<T> {
         requires { F.IsAlwaysCallable f }
         ensures ok { IfOk result (λ n. (words : List ℕ) × (length words ≡ n)
             × ((last : F) × FoldsTo (λ p x q. CalledAt F.FnMut p x tt q) f (valued T.value (newest_first words)) last)) }
-        ensures err { IfErr result (λ e. (e ≡ Error.Busy) ⊎ (e ≡ Error.NoPen)) }
+        ensures count { IfOk result (λ n. n ≤ side_places self.now) }
+        ensures err { IfErr result (λ e. e ≡ Error.Busy) }
     {
         let mut shown = Shown { f };
         let mut loan = self.lend(rt);
@@ -127,7 +133,7 @@ impl HistogramFn for AtomicBucket<i64> {
 
     /// Pushes the sample.
     fn record<R: Wait>(&self, rt: &R, value: i64) -> Result<(), Error>
-        ensures { IfErr result (λ e. (e ≡ Error.Full) ⊎ (e ≡ Error.NoPen)) }
+        ensures { IfErr result (λ e. e ≡ Error.Full) }
     {
         match self.push(rt, value) {
             Ok(()) => Ok(()),

@@ -1,5 +1,4 @@
 //! A walk's values in one vector.
-ghost use Rattle.std.specs.Prelude.{◌≡◌, ◌+◌, ◌≤◌, length};
 ghost use Rattle.metrics_bucket.specs.Gathers.{Gathers};
 
 use crate::visitor::Visitor;
@@ -8,10 +7,9 @@ use crate::visitor::Visitor;
 fn append<T: Copy>(values: &mut Vec<T>, part: &[T])
     ensures { Gathers values.old part.now values.new }
 {
-    for x in part {
-        if values.len() < values.capacity() {
-            values.push_reserved(*x);
-        }
+    let room = values.capacity() - values.len();
+    for x in &part[..part.len().min(room)] {
+        values.push_reserved(*x);
     }
 }
 

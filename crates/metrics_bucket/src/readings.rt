@@ -1,6 +1,6 @@
 //! The calls that read all values.
 ghost use Rattle.std.specs.Prelude.{◌≡◌, ℕ, ◌+◌, ◌-◌, ◌/◌, ◌%◌, ◌<◌, ◌≤◌, ◌⊎◌, length};
-ghost use Rattle.std.specs.Prelude.{map, ◌≢◌, [], ◌∷◌, false, IfOk, IfErr};
+ghost use Rattle.std.specs.Prelude.{map, vec_len, ◌≢◌, [], ◌∷◌, false, IfOk, IfErr};
 ghost use Rattle.metrics_bucket.specs.Facts.{weigh, weigh_pushes, weigh_walks};
 ghost use Rattle.metrics_bucket.specs.declared.view.Walk.{Walk};
 ghost use Rattle.metrics_bucket.specs.Places.{Reaches, Covers};
@@ -101,6 +101,7 @@ impl<T: Sample> RuledBucket<T> {
             × (seat.old.me.0.weight ≡ 1024 → w.epoch ≡ length seat.old.me.0.taken)
             × (seat.old.me.0.weight ≡ 1024 → (h : ℕ → ℕ)
             → weigh_pushes h seat.old.me.0.pushed ≡ weigh h w.values + weigh_walks h seat.old.me.0.taken)) }
+        ensures count { IfOk result (λ v. vec_len v ≤ self.now.places) }
         ensures err { IfErr result (λ e. IsFree seat.old.me seat.new.me
             × ((e ≡ Error.Memory) ⊎ ((e ≡ Error.Busy) × (seat.old.me.0.weight ≢ 1024)))) }
     {

@@ -1,4 +1,4 @@
-use Rattle.std.proofs.Common.{rules, ◌≡◌, ℕ, List, [], ◌∷◌, ◌+◌, ◌/◌, ◌≤◌, refl, inl, sym, ap, ◌∙◌, subst, arith}
+use Rattle.std.proofs.Common.{rules, ◌≡◌, ℕ, List, [], ◌∷◌, ◌+◌, ◌/◌, ◌≤◌, length, refl, inl, sym, ap, ◌∙◌, subst, arith}
 use Rattle.metrics_bucket.specs.declared.view.Walk.{Walk}
 use Rattle.metrics_bucket.specs.declared.view.Push.{Push}
 use Rattle.metrics_bucket.specs.BucketState.{with_read, holds_as, holding}
@@ -7,10 +7,10 @@ use Rattle.metrics_bucket.specs.History.{turn_at, CanQuit}
 use Rattle.metrics_bucket.specs.Places.{Reaches, Covers}
 use Rattle.metrics_bucket.specs.Steps.{Seated}
 use Rattle.metrics_bucket.specs.Facts.{weigh, weigh_pushes, weigh_walks}
-use Rattle.std.specs.Prelude.{vec_capacity}
+use Rattle.std.specs.Prelude.{vec_capacity, vec_len}
 use Rattle.metrics_bucket.specs.Gathers.{Gathers}
 use Rattle.metrics_bucket.proofs.WalkCode.{folds_seen}
-use Rattle.metrics_bucket.proofs.Gathers.{gathered_are}
+use Rattle.metrics_bucket.proofs.Gathers.{gathered_are, gathered_many}
 use Rattle.metrics_bucket.proofs.bucket.RuledBucket.gather_values.Goals as goal
 
 abbrev IsOut : Seated → Type 0
@@ -42,6 +42,19 @@ returns-clause-ok g c =
       (λ whole. of_epoch ∙ e.5 whole),
       subst (λ (z : Seated). z.0.weight ≡ 1024 → (h : ℕ → ℕ) → weigh_pushes h z.0.pushed ≡ weigh h w.values + weigh_walks h z.0.taken) e.2 r.5,
     )
+
+pub returns-clause-count : goal.returns-clause-count
+returns-clause-count g c =
+    let e = c.in_ok-control.ensures.ok in
+    let r = c.walk_and_leave.ensures.walked in
+    let w : Walk = r.0 in
+    let most = e.3 in
+    let long = r.1 in
+    let none : c.in-Ok.values.items ≡ [] = search rules in
+    let room : c.in_ok-control.control / 2 ≤ vec_capacity c.in-Ok.values = search rules in
+    let many = gathered_many g.T.Sample.value w.values c.in-Ok.values c.walk_and_leave.new.visitor.values none (omega arith) (folds_seen Gathers (λ s. s.values) _ _ _ r.6) in
+    let n : vec_len c.walk_and_leave.new.visitor.values ≡ length c.walk_and_leave.new.visitor.values.items = search rules in
+    omega arith
 
 pub returns-in_default-clause-err : goal.returns-in_default-clause-err
 returns-in_default-clause-err g c =
