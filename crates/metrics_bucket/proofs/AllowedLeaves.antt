@@ -1,5 +1,5 @@
 -- What the rule allows the steps that give the turn back.
-use Rattle.std.proofs.Common.{◌≡◌, ℕ, zero, suc, ◌+◌, ◌<◌, ◌≤◌, List, [], ◌∷◌, length-append, get_or, set, take, drop, refl, sym, ap, ◌∙◌, subst, arith}
+use Rattle.std.proofs.Common.{◌≡◌, ℕ, zero, suc, ◌+◌, ◌<◌, ◌≤◌, List, [], ◌∷◌, get_or, set, take, drop, refl, sym, ap, ◌∙◌, subst, arith}
 use mathlib.Core.Option.{none, some}
 use lib.ListN.{get_elem?}
 use Rattle.atomic_table.specs.Table.{step, gives, rest as slots_rest, homes_after, Allows}
@@ -9,8 +9,8 @@ use Rattle.metrics_bucket.specs.declared.view.Turn.{Turn}
 use Rattle.metrics_bucket.specs.declared.view.Hold.{Hold}
 use Rattle.metrics_bucket.specs.declared.view.Hold.TheVariants.{Nothing, Ticket, Written, Claimed, SideKnown, Reading, Clearing, Settling}
 use Rattle.metrics_bucket.specs.declared.view.Visit.{Visit}
-use Rattle.metrics_bucket.specs.BucketState.{BucketState, base, place_index, live_values, walk, walks_of, walks_made, holding, leaving, left_from, value_in, values_in, read, leave, quit, state_after}
-use Rattle.metrics_bucket.specs.Facts.{weigh, weigh_pushes, weigh_walks, turn_in, VisitFits, HoldFits, Facts}
+use Rattle.metrics_bucket.specs.BucketState.{BucketState, base, place_index, live_values, walks_of, walks_made, holding, leaving, left_from, value_in, values_in, leave, quit, state_after}
+use Rattle.metrics_bucket.specs.Facts.{weigh, weigh_pushes, weigh_walks, VisitFits, HoldFits, Facts}
 use Rattle.metrics_bucket.specs.Steps.{Seated}
 use Rattle.metrics_bucket.specs.History.{CanLeave, CanQuit, turn_at, at_home, homes_of, FollowsHistory}
 use Rattle.metrics_bucket.specs.WalkSteps.{turn_left, turn_given_back, IsClearing}

@@ -10,7 +10,7 @@ use Rattle.metrics_bucket.specs.declared.view.Hold.{Hold}
 use Rattle.metrics_bucket.specs.declared.view.Hold.TheVariants.{Nothing, Ticket, Written, Claimed, SideKnown, Reading, Clearing, Settling}
 use Rattle.metrics_bucket.specs.declared.view.Visit.{Visit}
 use Rattle.metrics_bucket.specs.declared.view.Visit.TheVariants.{Unseen, Marked, Read, Wiped}
-use Rattle.metrics_bucket.specs.BucketState.{BucketState, other, place_index, words_of, holding, put_visit, side_of, see, read, wipe}
+use Rattle.metrics_bucket.specs.BucketState.{BucketState, place_index, words_of, holding, put_visit, side_of, see, read, wipe}
 use Rattle.metrics_bucket.specs.Facts.{HoldFits, Facts}
 use Rattle.metrics_bucket.specs.Steps.{Seated}
 use Rattle.metrics_bucket.specs.History.{HasVisit, FollowsHistory}

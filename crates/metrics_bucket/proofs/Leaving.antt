@@ -11,7 +11,7 @@ use Rattle.metrics_bucket.specs.declared.view.Hold.TheVariants.{Nothing, Reading
 use Rattle.metrics_bucket.specs.declared.view.Visit.{Visit}
 use Rattle.metrics_bucket.specs.declared.view.Visit.TheVariants.{Read, Wiped}
 use Rattle.metrics_bucket.specs.BucketState.{total, BucketState, base, place_index, live_values, new_view, walk, holding, value_in, values_in, left_from}
-use Rattle.metrics_bucket.specs.Facts.{weigh, weigh_pushes, weigh_walks, stands, given_at, ticket_in, ticket_at, open_at, owed_in, owed_at, turn_in, turn_of, took_in, took_of, weight_of, pushed_of, taken_of, wiped, wiped_in, VisitFits, HoldFits, IsIdle, ViewFits, Facts}
+use Rattle.metrics_bucket.specs.Facts.{weigh, weigh_pushes, weigh_walks, stands, given_at, ticket_in, ticket_at, open_at, owed_in, owed_at, turn_in, turn_of, took_in, took_of, weight_of, pushed_of, taken_of, wiped, VisitFits, HoldFits, IsIdle, ViewFits, Facts}
 use Rattle.metrics_bucket.proofs.Sums.{total_set, total_one, total_two, total_zero, index_apart, index_below, here_or, given_here, given_else, below_under, below_over, stands_unmark}
 use Rattle.metrics_bucket.proofs.Keep.{at_below, other_side, turn_alone, held_by, facts_after, facts_beside}
 use Rattle.metrics_bucket.proofs.Visits.{open_here, open_set, open_else, wiped_set, AllWiped, all_wiped_open, all_wiped_weigh, weigh_walks-append, Standing, part_stands, stands_front}

@@ -4,9 +4,9 @@ use mathlib.Core.Option.{some}
 use lib.ListN.{get_elem?}
 use Rattle.metrics_bucket.specs.declared.view.View.{View}
 use Rattle.metrics_bucket.specs.declared.view.Hold.TheVariants.{Nothing, Ticket, Written}
-use Rattle.metrics_bucket.specs.BucketState.{BucketState, total, walks_of, walks_made, place_index, push, holding, holding_at, pushing, ticket, write, finish, takes, state_after}
-use Rattle.metrics_bucket.specs.Facts.{same, below, took_in, took_of, ticket_in, HoldFits, Facts}
-use Rattle.metrics_bucket.specs.Places.{pushed_at, value_at, held_in, tickets_at, clearing_of, told_of, takes_in, given_of, wiped_hold, wipes_at, IsPush, IsEpochOf, HoldPlaced, ViewPlaced, Placed}
+use Rattle.metrics_bucket.specs.BucketState.{BucketState, total, walks_of, walks_made, place_index, push, holding, holding_at, pushing, ticket, write, finish, state_after}
+use Rattle.metrics_bucket.specs.Facts.{below, took_in, took_of, HoldFits, Facts}
+use Rattle.metrics_bucket.specs.Places.{pushed_at, value_at, held_in, tickets_at, clearing_of, told_of, takes_in, given_of, wiped_hold, wipes_at, IsPush, IsEpochOf, ViewPlaced, Placed}
 use Rattle.metrics_bucket.proofs.Sums.{total_set, total_one, index_apart, here_or, same_here, same_else}
 use Rattle.metrics_bucket.proofs.Keep.{alone, held_by}
 use Rattle.metrics_bucket.proofs.Placing.{total_add, pushes_at-append, values_at-append, value_here, value_else, cond_same, no_take, no_values, given_more, push_kept, hold_kept, view_kept, each_kept, at_most_one}

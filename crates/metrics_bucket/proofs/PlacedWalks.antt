@@ -1,19 +1,18 @@
 -- The steps of a walk keep the pushes and the walks in their places.
-use Rattle.std.proofs.Common.{◌≡◌, ◌≢◌, ℕ, suc, ◌+◌, ◌<◌, cond, eqb, List, [], ◌∷◌, length, get_or, set, refl, sym, ap, ◌∙◌, subst, inr, ⊎_elim, arith, length-append, length-set, get_or-set_same, get_or-set_other}
+use Rattle.std.proofs.Common.{◌≡◌, ℕ, suc, ◌+◌, ◌<◌, cond, eqb, List, [], ◌∷◌, length, get_or, set, refl, sym, ap, ◌∙◌, subst, inr, ⊎_elim, arith, length-append, length-set, get_or-set_same, get_or-set_other}
 use mathlib.Core.Logic.{dite}
 use mathlib.Core.Option.{some}
 use native.Mathlib.Decide.{ℕ_discrete}
 use lib.ListN.{get_elem?}
-use Rattle.atomic_table.proofs.Lists.{at_set, at_snoc}
+use Rattle.atomic_table.proofs.Lists.{at_snoc}
 use Rattle.metrics_bucket.specs.declared.view.Walk.{Walk}
 use Rattle.metrics_bucket.specs.declared.view.View.{View}
-use Rattle.metrics_bucket.specs.declared.view.Hold.{Hold}
 use Rattle.metrics_bucket.specs.declared.view.Hold.TheVariants.{Reading, Clearing}
 use Rattle.metrics_bucket.specs.declared.view.Visit.{Visit}
 use Rattle.metrics_bucket.specs.declared.view.Visit.TheVariants.{Read, Wiped}
-use Rattle.metrics_bucket.specs.BucketState.{BucketState, total, walks_of, walks_made, other, place_index, walk, holds_as, holding, left_from, value_in, values_in, takes}
-use Rattle.metrics_bucket.specs.Facts.{below, turn_in, took_in, took_of, HoldFits, Facts}
-use Rattle.metrics_bucket.specs.Places.{lengths_of, pushed_at, held_in, tickets_at, clearing_of, told_of, takes_in, given_of, is_wiped, wiped_place, wiped_hold, wipes_at, IsPush, IsEpochOf, WalkFinds, VisitFinds, HoldPlaced, ViewPlaced, Placed}
+use Rattle.metrics_bucket.specs.BucketState.{BucketState, walks_of, walks_made, other, place_index, walk, holding, left_from, value_in, values_in}
+use Rattle.metrics_bucket.specs.Facts.{below, HoldFits, Facts}
+use Rattle.metrics_bucket.specs.Places.{lengths_of, is_wiped, wiped_place, IsPush, IsEpochOf, WalkFinds, VisitFinds, HoldPlaced, Placed}
 use Rattle.metrics_bucket.proofs.Sums.{total_set, index_apart, index_below, here_or}
 use Rattle.metrics_bucket.proofs.Keep.{at_below, other_side, turn_alone, held_by}
 use Rattle.metrics_bucket.proofs.Placing.{lengths_of-append, walks_at-append, walks_in-append, cond_same, cond_here, cond_else, push_kept, visit_kept, visits_find, walk_kept}

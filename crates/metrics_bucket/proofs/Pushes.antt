@@ -1,12 +1,12 @@
 -- The steps of a push keep the facts.
-use Rattle.std.proofs.Common.{◌≡◌, ℕ, ◌+◌, ◌%◌, ◌<◌, [], ◌∷◌, get_or, set, refl, ap, ◌∙◌, subst, ⊎_elim, arith, length-set, get_or-set_same, get_or-set_other}
+use Rattle.std.proofs.Common.{◌≡◌, ℕ, ◌+◌, ◌<◌, [], ◌∷◌, get_or, set, refl, ap, ◌∙◌, ⊎_elim, arith, length-set, get_or-set_same, get_or-set_other}
 use mathlib.Core.Option.{some}
 use lib.ListN.{get_elem?}
 use Rattle.metrics_bucket.specs.declared.view.View.{View}
 use Rattle.metrics_bucket.specs.declared.view.Hold.TheVariants.{Nothing, Ticket, Written}
-use Rattle.metrics_bucket.specs.BucketState.{total, BucketState, place_index, holding, holding_at, push, pushing, ticket, write, finish, state_after}
-use Rattle.metrics_bucket.specs.Facts.{same, ticket_in, ticket_at, owed_in, owed_at, turn_in, turn_of, took_in, took_of, weight_of, pushed_of, taken_of, wiped, HoldFits, ViewFits, Facts}
-use Rattle.metrics_bucket.proofs.Sums.{total_set, weigh_pushes-append, stands_value, stands_mark, index_apart, index_below, here_or, same_here, same_else, given_next}
+use Rattle.metrics_bucket.specs.BucketState.{BucketState, place_index, holding, holding_at, push, pushing, ticket, write, finish, state_after}
+use Rattle.metrics_bucket.specs.Facts.{ticket_in, pushed_of, HoldFits, ViewFits, Facts}
+use Rattle.metrics_bucket.proofs.Sums.{weigh_pushes-append, stands_value, stands_mark, index_apart, index_below, here_or, same_here, same_else, given_next}
 use Rattle.metrics_bucket.proofs.Keep.{alone, held_by, facts_after}
 
 module _ (places all : ℕ) (w : BucketState) (id : ℕ) (v : View) (f : Facts places all w) (at : get_elem? w.views id ≡ some v) (has : 0 < v.weight) where

@@ -1,4 +1,4 @@
-use Rattle.std.proofs.Common.{rules, ◌≡◌, ◌<◌, arith}
+use Rattle.std.proofs.Common.{rules, ◌≡◌, ◌<◌}
 use Rattle.metrics_bucket.proofs.SparePens.{right_looked, left_looked}
 use Rattle.metrics_bucket.specs.Account.{left_account, right_account}
 use Rattle.metrics_bucket.proofs.spares.+divide.Goals as goal

@@ -1,4 +1,4 @@
-use Rattle.std.proofs.Common.{rules, ◌≡◌, ◌<◌, arith}
+use Rattle.std.proofs.Common.{rules, ◌≡◌, ◌<◌}
 use Rattle.metrics_bucket.proofs.SparePens.{right_half, left_half}
 use Rattle.metrics_bucket.specs.Account.{left_account, right_account}
 use Rattle.metrics_bucket.proofs.spares.+scatter.Goals as goal

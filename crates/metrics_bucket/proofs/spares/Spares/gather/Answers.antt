@@ -1,5 +1,5 @@
-use Rattle.std.proofs.Common.{rules, ◌≡◌, false, ap, ◌∙◌}
-use Rattle.metrics_bucket.specs.Account.{Account, joined_account}
+use Rattle.std.proofs.Common.{rules, ◌≡◌}
+use Rattle.metrics_bucket.specs.Account.{joined_account}
 use Rattle.metrics_bucket.specs.Spares.{spare_account}
 use Rattle.metrics_bucket.proofs.SparePens.{more_spares}
 use Rattle.metrics_bucket.proofs.spares.Spares.gather.Goals.{in-Ok, in-Err-NoPen}

@@ -1,7 +1,6 @@
-use Rattle.std.proofs.Common.{rules, ◌≡◌, subst, ap}
+use Rattle.std.proofs.Common.{rules, ◌≡◌, subst}
 use Rattle.std.specs.Arc.{arc_value}
 use Rattle.std.specs.List.{All}
-use Rattle.atomic_table.specs.Seated.{TableId}
 use Rattle.metrics_bucket.specs.Account.{Home}
 use Rattle.metrics_bucket.specs.Spares.{IsSpareOf}
 use Rattle.metrics_bucket.proofs.spares.Spares.new.Goals as goal
