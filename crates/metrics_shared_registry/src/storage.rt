@@ -1,5 +1,7 @@
 //! What makes cells that several threads change.
-ghost use Rattle.std.specs.Prelude.{◌≡◌, ◌<◌, ◌≤◌, ◌⊎◌, MatchResult};
+ghost use Rattle.std.specs.Prelude.{◌≡◌, ◌*◌, ◌<◌, ◌≤◌, ◌⊎◌, MatchResult};
+ghost use Rattle.std.specs.Arc.{arc_value};
+ghost use Rattle.metrics_bucket.specs.Sides.{side_places};
 
 use crate::generational::Generational;
 use metrics::Error;
@@ -45,7 +47,7 @@ impl AtomicStorage {
     }
 }
 
-/// No contract says what a cell holds.
+/// A histogram has the room that the storage notes. No contract says what a cell holds.
 impl<K> Storage<K> for AtomicStorage {
     type Counter = Arc<AtomicU64>;
 
@@ -57,7 +59,7 @@ impl<K> Storage<K> for AtomicStorage {
 
     ghost makes_gauge = { λ storage key cell. Unit {0} };
 
-    ghost makes_histogram = { λ storage key cell. Unit {0} };
+    ghost makes_histogram = { λ storage key cell. side_places (arc_value cell) ≡ 64 * storage.blocks };
 
     fn counter(&self, _key: &K) -> Result<Arc<AtomicU64>, Error> {
         Ok(Arc::new(self.alloc, AtomicU64::new(0))?)
@@ -94,7 +96,9 @@ pub type GenerationalAtomicStorage = GenerationalStorage<AtomicStorage>;
 
 impl GenerationalStorage<AtomicStorage> {
     /// A storage whose cells and generations take their memory from `alloc`.
-    pub fn atomic(alloc: Global) -> GenerationalAtomicStorage {
+    pub fn atomic(alloc: Global) -> GenerationalAtomicStorage
+        ensures { result.inner.blocks ≡ 16 }
+    {
         GenerationalStorage::new(alloc, AtomicStorage::new(alloc))
     }
 
