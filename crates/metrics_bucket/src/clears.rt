@@ -91,6 +91,7 @@ impl<T: Sample> RuledBucket<T> {
         requires call { F.IsAlwaysCallable f }
         ensures ok { IfOk result (λ n. (walk : Walk) × (length walk.values ≡ n) × IsTaken pen.old walk pen.new
             × ((last : F) × FoldsTo (λ p x q. CalledAt F.FnMut p x tt q) f (valued T.value (newest_first walk.values)) last)) }
+        ensures count { IfOk result (λ n. n ≤ self.now.places) }
         ensures err { IfErr result (λ e. (pen.new ≡ pen.old) × (e ≡ Error.Busy) × (pen.old.weight ≢ 1024)) }
     {
         let mut shown = Shown { f };
@@ -102,6 +103,7 @@ impl<T: Sample> RuledBucket<T> {
         requires own { pen.old.home ≡ self.now }
         requires free { pen.old.ticket ≡ false }
         ensures ok { IfOk result (λ n. (walk : Walk) × (length walk.values ≡ n) × IsTaken pen.old walk pen.new) }
+        ensures count { IfOk result (λ n. n ≤ self.now.places) }
         ensures err { IfErr result (λ e. (pen.new ≡ pen.old) × (e ≡ Error.Busy) × (pen.old.weight ≢ 1024)) }
     {
         self.clear_with_as(rt, pen, |_| {})

@@ -131,6 +131,7 @@ impl<T: Sample> RuledBucket<T> {
         requires free { pen.old.ticket ≡ false }
         ensures ok { IfOk result (λ v. (walk : Walk) × (v.items ≡ map T.value (blocks walk.values))
             × IsRead pen.old walk pen.new) }
+        ensures count { IfOk result (λ v. vec_len v ≤ self.now.places) }
         ensures err { IfErr result (λ e. (pen.new ≡ pen.old)
             × ((e ≡ Error.Memory) ⊎ ((e ≡ Error.Busy) × (pen.old.weight ≢ 1024)))) }
     {
@@ -170,6 +171,7 @@ impl<T: Sample> RuledBucket<T> {
         requires call { F.IsAlwaysCallable f }
         ensures ok { IfOk result (λ n. (walk : Walk) × (length walk.values ≡ n) × IsRead pen.old walk pen.new
             × ((last : F) × FoldsTo (λ p x q. CalledAt F.FnMut p x tt q) f (valued T.value (newest_first walk.values)) last)) }
+        ensures count { IfOk result (λ n. n ≤ self.now.places) }
         ensures err { IfErr result (λ e. (pen.new ≡ pen.old) × (e ≡ Error.Busy) × (pen.old.weight ≢ 1024)) }
     {
         let mut shown = Shown { f };

@@ -312,7 +312,8 @@ impl Registry<Key, AtomicStorage> {
     /// A registry of a metric's keys with nothing in it, whose cells any thread may change, in this many shards, a power of two
     /// from 1 to 1,024.
     pub fn atomic(alloc: Global, shards: usize) -> Result<Registry<Key, AtomicStorage>, Error>
-        ensures ok { IfOk result (λ r. (is_count shards ≡ true) × (r.storage.blocks ≡ 16) × (vec_len r.shards ≡ shards)) }
+        ensures ok { IfOk result (λ r. (is_count shards ≡ true) × (vec_len r.shards ≡ shards)) }
+        ensures blocks { IfOk result (λ r. r.storage.blocks ≡ 16) }
         ensures err { IfErr result (λ e. e ≡ (if is_count shards then OutOfMemory else NotShards)) }
     {
         Registry::new(alloc, AtomicStorage::new(alloc), shards)
