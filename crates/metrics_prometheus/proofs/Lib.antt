@@ -11,3 +11,10 @@ pub mod ReadingLemmas
 pub mod DistinctLemmas
 pub mod ToldLemmas
 pub mod TextLineLemmas
+pub mod NameLemmas
+pub mod FeedLemmas
+pub mod HeadLemmas
+pub mod LabelLemmas
+pub mod HeldLemmas
+pub mod BackLemmas
+pub mod SampleLabelLemmas

@@ -13,6 +13,7 @@ use Rattle.metrics.specs.Book.{new_value, updated, value_from}
 use Rattle.metrics_storage.specs.Histogram.{bucket_with}
 use Rattle.metrics_exporter.specs.Exporting.{reading, cell_of}
 use Rattle.metrics_prometheus.proofs.SampleLemmas.{IsSmall, ReadsAs}
+use Rattle.metrics_prometheus.proofs.SampleLabelLemmas.{IsOfKind}
 
 abbrev value_kind : DebugValue → MetricKind
 value_kind (value.Counter n) = Counter
@@ -60,3 +61,13 @@ reads-value bounds small k (value.Histogram xs) e = (ap (λ j. kind_eq j Histogr
 pub reads : (bounds : List ℤ) → AllByRecursion (λ b. mag b < 2 ^ 63) bounds → (s : SeriesKey) (us : List Update) → ReadsAs s.kind (option_map (λ c. c.reading) (cell_of bounds s us))
 reads bounds small s [] = tt
 reads bounds small s (u ∷ us) = reads-value bounds small s.kind (value_from (new_value s.kind) (u ∷ us)) (kept-by (u ∷ us) (new_value s.kind) ∙ new-kind s.kind)
+
+-- the same with any bounds
+kind-value : (bounds : List ℤ) (k : MetricKind) (v : DebugValue) → value_kind v ≡ k → IsOfKind k (Some (reading bounds v))
+kind-value bounds k (value.Counter n) e = tt
+kind-value bounds k (value.Gauge n) e = tt
+kind-value bounds k (value.Histogram xs) e = ap (λ j. kind_eq j Histogram) (sym e)
+
+pub of-kind : (bounds : List ℤ) (s : SeriesKey) (us : List Update) → IsOfKind s.kind (option_map (λ c. c.reading) (cell_of bounds s us))
+of-kind bounds s [] = tt
+of-kind bounds s (u ∷ us) = kind-value bounds s.kind (value_from (new_value s.kind) (u ∷ us)) (kept-by (u ∷ us) (new_value s.kind) ∙ new-kind s.kind)

@@ -21,14 +21,17 @@ use Rattle.metrics_prometheus.specs.Written.{written, AreApart}
 use Rattle.metrics_prometheus.proofs.PairLemmas.{each-map, Pairs, pairs-from-places}
 use Rattle.metrics_prometheus.proofs.SameLemmas.{same-kind, bytes-same, labels-same}
 
-abbrev names : List ℕ → List ℕ → Ordering
+abbrev pub names : List ℕ → List ℕ → Ordering
 names = slice_cmp nat_cmp
 
 abbrev label_lists : List LabelParts → List LabelParts → Ordering
 label_lists = slice_cmp label_cmp
 
+pub label_total : IsTotalOrder label_cmp
+label_total = then_total (on_total (λ l. l.0) nat_list_cmp_total) (on_total (λ l. l.1) nat_list_cmp_total)
+
 label_lists_total : IsTotalOrder label_lists
-label_lists_total = lists_total (then_total (on_total (λ l. l.0) nat_list_cmp_total) (on_total (λ l. l.1) nat_list_cmp_total))
+label_lists_total = lists_total label_total
 
 -- a row stands before another: its name comes before, or it has the same name and kind, and its labels come before
 abbrev pub IsBefore : Row → Row → Type 0
@@ -40,7 +43,7 @@ before-trans a b c (inl h) (inr g) = inl (ap (names a.name) (sym g.0) ∙ h)
 before-trans a b c (inr h) (inl g) = inl (ap (λ n. names n c.name) h.0 ∙ g)
 before-trans a b c (inr h) (inr g) = inr (h.0 ∙ g.0, (h.1.0 ∙ g.1.0, label_lists_total.trans a.labels b.labels c.labels h.1.1 g.1.1))
 
-never : {K : Type 0} (R : K → K → Ordering) (total : IsTotalOrder R) (x : K) → R x x ≡ Less → ⊥
+pub never : {K : Type 0} (R : K → K → Ordering) (total : IsTotalOrder R) (x : K) → R x x ≡ Less → ⊥
 never R total x e = let g : Less ≡ Greater = sym e ∙ total.antisymm x x ∙ ap ordering_reverse e in cc
 
 -- rows that stand before one another are apart
@@ -49,12 +52,12 @@ before-apart a b (inl h) e = absurd (never names nat_list_cmp_total b.name (ap (
 before-apart a b (inr h) e = (h.1.0, λ same. never label_lists label_lists_total b.labels (ap (λ l. label_lists l b.labels) (sym same) ∙ h.1.1))
 
 -- what is not above comes before or is equal
-turn : (o p : Ordering) → o ≡ ordering_reverse p → is_lt p ≡ false → (o ≡ Less) ⊎ (p ≡ Equal)
+pub turn : (o p : Ordering) → o ≡ ordering_reverse p → is_lt p ≡ false → (o ≡ Less) ⊎ (p ≡ Equal)
 turn o Less e up = absurd (let g : true ≡ false = up in cc)
 turn o Equal e up = inr refl
 turn o Greater e up = inl e
 
-first-part : (o p : Ordering) → is_lt (ordering_then o p) ≡ false → is_lt o ≡ false
+pub first-part : (o p : Ordering) → is_lt (ordering_then o p) ≡ false → is_lt o ≡ false
 first-part Less p up = up
 first-part Equal p up = refl
 first-part Greater p up = refl
@@ -97,7 +100,7 @@ in-order a b up free =
 abbrev pub IsUp : Row → Row → Type 0
 IsUp a b = is_lt (row_cmp b a) ≡ false
 
-left-case : (b x y : Bool) → (not b || (x || y)) ≡ false → (x ≡ false) × (y ≡ false)
+pub left-case : (b x y : Bool) → (not b || (x || y)) ≡ false → (x ≡ false) × (y ≡ false)
 left-case true false y e = (refl, e)
 left-case true true y e = absurd (let g : true ≡ false = e in cc)
 left-case false x y e = absurd (let g : true ≡ false = e in cc)
@@ -127,6 +130,18 @@ written-each P all last (r ∷ rs) h =
     cond_both (is_left_out all last r) (written all last rs) (r ∷ written all (Some r) rs) (AllByRecursion P)
     (λ e. written-each P all last rs h.1)
     (λ e. (h.0, written-each P all (Some r) rs h.1))
+
+-- labels of rows that are written are fit
+pub written-fit : (all : List Row) (last : Option Row) (rs : List Row) → AllByRecursion (λ r. are_fit r.kind r.labels ≡ true) (written all last rs)
+written-fit all last [] = tt
+written-fit all last (r ∷ rs) =
+    cond_both (is_left_out all last r) (written all last rs) (r ∷ written all (Some r) rs) (AllByRecursion (λ q. are_fit q.kind q.labels ≡ true))
+    (λ e. written-fit all last rs)
+    (λ e. (fit-case (are_fit r.kind r.labels) (is_taken all r.name) (clashes last r) e, written-fit all (Some r) rs))
+  where
+    fit-case : (b x y : Bool) → (not b || (x || y)) ≡ false → b ≡ true
+    fit-case true x y e = refl
+    fit-case false x y e = absurd (let g : true ≡ false = e in cc)
 
 -- no name that is written is that of a histogram's samples
 pub written-free : (all : List Row) (last : Option Row) (rs : List Row) → AllByRecursion (λ r. is_taken all r.name ≡ false) (written all last rs)

@@ -4,3 +4,4 @@ pub mod Samples
 pub mod Exposition
 pub mod Rows
 pub mod Written
+pub mod Reading

@@ -1,5 +1,6 @@
 -- Names and label values as Prometheus allows and writes them.
 use Rattle.std.specs.Prelude.{if◌then◌else◌, ℕ, Bool, true, false, ◌&&◌, ◌||◌, nat_eq, List, [], ◌∷◌, map, codes, chars, flat_map, encode_utf8}
+use Rattle.std.specs.List.{list_all}
 use Rattle.std.specs.Char.{is_ascii_alphabetic, is_ascii_digit}
 
 -- a name begins with a letter or an underscore, a metric's also with a colon
@@ -28,6 +29,11 @@ metric_name name = or_one (spelled true (chars name))
 
 abbrev pub label_name : List ℕ → List ℕ
 label_name name = or_one (spelled false (chars name))
+
+-- a name that Prometheus allows
+abbrev pub is_name : Bool → List ℕ → Bool
+is_name colons [] = false
+is_name colons (c ∷ cs) = begins colons c && list_all (goes_on colons) cs
 
 -- a backslash stands before a backslash and a double quote, and a line feed is a backslash and an n
 abbrev pub escape : ℕ → List ℕ

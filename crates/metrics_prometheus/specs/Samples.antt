@@ -27,6 +27,10 @@ abbrev pub labels_text : List LabelParts → List ℕ
 labels_text [] = []
 labels_text (l ∷ ls) = 123 ∷ (joined (l ∷ ls) ++ codes "}")
 
+-- NAME{LABELS}: what stands in front of the value
+abbrev pub series_text : Sample → List ℕ
+series_text s = s.name ++ labels_text s.labels
+
 -- NAME{LABELS} VALUE
 abbrev pub sample_line : Sample → List ℕ
 sample_line s = s.name ++ (labels_text s.labels ++ (32 ∷ (s.value ++ 10 ∷ [])))

@@ -1,6 +1,6 @@
 -- The samples that a text of rows has.
-use Rattle.std.specs.Prelude.{if◌then◌else◌, ◌≡◌, ℕ, Bool, ◌&&◌, bytes_eq, List, [], ◌∷◌, ◌++◌, Option, None, Some, Contains}
-use Rattle.std.specs.List.{flat_map, filter_map}
+use Rattle.std.specs.Prelude.{if◌then◌else◌, ◌≡◌, ◌≢◌, ℕ, Bool, false, not, ◌&&◌, bytes_eq, nat_eq, List, [], ◌∷◌, ◌++◌, Option, None, Some, is_some, Contains}
+use Rattle.std.specs.List.{flat_map, filter_map, AllByRecursion}
 use Rattle.std.specs.Cmp.Lexicographic.{pointwise}
 use Rattle.metrics_names.specs.Names.{label_eq}
 use Rattle.metrics_exporter.specs.Exporting.{Cells}
@@ -47,8 +47,25 @@ sample_in (has s) = Some s
 sample_in (tells_kind r) = None
 sample_in (leaves_out r) = None
 
--- a text of lines, of which these are the samples
+-- a line feed stands at its end, and nowhere else
+pub record IsLine (bytes : List ℕ) : Type 0 where
+  pub inside : List ℕ
+  pub is : bytes ≡ inside ++ 10 ∷ []
+  pub none : AllByRecursion (λ c. c ≢ 10) inside
+
+-- a comment begins with `#`
+abbrev pub begins_comment : List ℕ → Bool
+begins_comment [] = false
+begins_comment (c ∷ cs) = nat_eq c 35
+
+-- a line has one line feed, at its end, and is a comment unless it has a sample
+pub record IsReadable (l : Line) : Type 0 where
+  pub ends : IsLine (line_text l)
+  pub comment : begins_comment (line_text l) ≡ not (is_some (sample_in l))
+
+-- a text of lines that can be told apart, of which these are the samples
 pub record HasSamples (text : List ℕ) (samples : List Sample) : Type 0 where
   pub all : List Line
   pub text_is : text ≡ flat_map line_text all
+  pub readable : AllByRecursion IsReadable all
   pub samples_are : filter_map sample_in all ≡ samples

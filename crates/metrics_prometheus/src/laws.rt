@@ -1,11 +1,13 @@
 //! Laws of the exposition.
-ghost use Rattle.std.specs.Prelude.{ℕ, List, None, All, AllPairs, FitsSigned};
+ghost use Rattle.std.specs.Prelude.{◌≡◌, ◌∷◌, ◌++◌, ℕ, List, None, All, AllPairs, FitsSigned};
 ghost use Rattle.std.specs.Int.{w64};
-ghost use Rattle.std.specs.List.{IsDistinct};
+ghost use Rattle.std.specs.List.{IsDistinct, AllByRecursion};
 ghost use Rattle.metrics_names.specs.Names.{SeriesKey};
 ghost use Rattle.metrics_exporter.specs.Exporting.{Cells, Setup, Step, IsHeld, cells_after};
 ghost use Rattle.metrics_prometheus.specs.Exposition.{IsExposition, row_of};
 ghost use Rattle.metrics_prometheus.specs.Written.{written, samples_written, is_same_series};
+ghost use Rattle.metrics_prometheus.specs.Samples.{Sample, series_text};
+ghost use Rattle.metrics_prometheus.specs.Reading.{HasNames, AreTexts, Ascend, NamesOnce};
 ghost use Rattle.metrics_prometheus.specs.Written.{AreApart, HasSamples, IsTold};
 
 use crate::rows::row_order;
@@ -27,4 +29,22 @@ pub fn exposition_law()
         → IsTold cells e.rows text (row_of s) }
 {
     row_order();
+}
+
+/// Takes nothing and does nothing: its contract has the laws of what a reader finds in the text.
+pub fn exposition_text_law()
+    // The names of samples and of their labels are such as Prometheus allows.
+    ensures names { (cells : Cells) (text : List ℕ) (e : IsExposition cells text)
+        → AllByRecursion HasNames (samples_written cells e.rows) }
+    // What stands in front of a sample's value tells its name and its labels, where the labels' values are texts.
+    ensures read_back { (s t : Sample) → HasNames s → HasNames t → AreTexts s.labels → AreTexts t.labels
+        → (x y : List ℕ) → series_text s ++ 32 ∷ x ≡ series_text t ++ 32 ∷ y
+        → (s.name ≡ t.name) × ((s.labels ≡ t.labels) × (x ≡ y)) }
+    // The labels of a written row ascend by their names.
+    ensures labels { (cells : Cells) (text : List ℕ) (e : IsExposition cells text)
+        → AllByRecursion (λ r. Ascend r.labels) (written e.rows None e.rows) }
+    // No sample has two labels of one name, a bucket's bound included.
+    ensures once { (setup : Setup) (xs : List Step) (text : List ℕ) (e : IsExposition (cells_after setup xs) text)
+        → AllByRecursion NamesOnce (samples_written (cells_after setup xs) e.rows) }
+{
 }

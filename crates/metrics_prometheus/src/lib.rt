@@ -8,7 +8,7 @@ mod rows;
 mod samples;
 mod text;
 
-pub use laws::exposition_law;
+pub use laws::{exposition_law, exposition_text_law};
 pub use metrics::Error;
 pub use metrics_exporter::Exporter;
 pub use text::exposition;

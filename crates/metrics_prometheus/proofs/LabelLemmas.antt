@@ -1,0 +1,154 @@
+-- The labels that are shown.
+use Rattle.std.proofs.Common.{◌≡◌, ◌∙◌, ◌⊎◌, inl, inr, ℕ, Bool, true, false, not, ◌||◌, ◌&&◌, cond, List, [], ◌∷◌, ◌++◌, codes, refl, ap, sym}
+use Rattle.std.specs.Prelude.{bytes_eq}
+use Rattle.std.specs.List.{AllByRecursion, IsDistinct, list_any}
+use Rattle.std.specs.List.Sorted.{IsStrictlySortedBy}
+use Rattle.std.specs.Cmp.{IsTotalOrder}
+use Rattle.std.specs.Ordering.{is_lt, on, nat_cmp, ordering_then, ordering_reverse}
+use Rattle.std.specs.Cmp.Lexicographic.{slice_cmp}
+use Rattle.std.specs.declared.cmp.Ordering.{Ordering}
+use Rattle.std.specs.declared.cmp.Ordering.TheVariants.{Less, Equal, Greater}
+use Rattle.std.proofs.lemmas.Cmp.{nat_list_cmp_total}
+use Rattle.std.proofs.lemmas.Map.Lookups.{exact_bytes}
+use Rattle.metrics_names.specs.declared.kind.MetricKind.{MetricKind}
+use Rattle.metrics_names.specs.declared.kind.MetricKind.TheVariants.{Histogram}
+use Rattle.std.proofs.lemmas.Bool.{cond_both}
+use Rattle.metrics_names.specs.Names.{LabelParts, label_cmp, kind_eq}
+use Rattle.metrics_prometheus.specs.Names.{label_name, is_name}
+use Rattle.metrics_prometheus.specs.Labels.{placed, added, with_labels, shown_labels, repeats, is_reserved, are_fit}
+use Rattle.metrics_prometheus.specs.Reading.{Ascend}
+use Rattle.metrics_prometheus.proofs.PairLemmas.{each-all, each-map, Pairs, pairs-append}
+use Rattle.metrics_prometheus.proofs.SameLemmas.{both-true, bytes-same, same-bytes}
+use Rattle.metrics_prometheus.proofs.WrittenLemmas.{never, turn, first-part, label_total}
+use Rattle.metrics_prometheus.proofs.NameLemmas.{AreKeyed, label-name}
+
+placed-each : (P : LabelParts → Type 0) (l : LabelParts) (ms : List LabelParts) → P l → AllByRecursion P ms → AllByRecursion P (placed l ms)
+placed-each P l [] h hs = (h, tt)
+placed-each P l (m ∷ ms) h hs = cond_both (is_lt (label_cmp l m)) (l ∷ m ∷ ms) (m ∷ placed l ms) (AllByRecursion P) (λ _. (h, hs)) (λ _. (hs.0, placed-each P l ms h hs.1))
+
+-- what holds of a label as it is shown, from what holds of it as it was
+module _ (P Q : LabelParts → Type 0) (f : (n v : List ℕ) → P (n, v) → Q (label_name n, v)) where
+  added-each : (n v : List ℕ) (shown : List LabelParts) → P (n, v) → AllByRecursion Q shown → AllByRecursion Q (added n v shown)
+  added-each n [] shown h hs = hs
+  added-each n (c ∷ v) shown h hs = placed-each Q (label_name n, c ∷ v) shown (f n (c ∷ v) h) hs
+
+  with-each : (shown ls : List LabelParts) → AllByRecursion P ls → AllByRecursion Q shown → AllByRecursion Q (with_labels shown ls)
+  with-each shown [] h hs = hs
+  with-each shown (l ∷ ls) h hs = with-each (added l.0 l.1 shown) ls h.1 (added-each l.0 l.1 shown h.0 hs)
+
+  pub shown-each : (ls : List LabelParts) → AllByRecursion P ls → AllByRecursion Q (shown_labels ls)
+  shown-each ls h = with-each [] ls h tt
+
+pub labels-keyed : (ls : List LabelParts) → AreKeyed (shown_labels ls)
+labels-keyed ls = shown-each (λ l. Unit {0}) (λ l. is_name false l.0 ≡ true) (λ n v _. label-name n) ls (each-all (λ l. Unit {0}) (λ _. tt) ls)
+
+-- ---- their order
+
+-- a label doesn't come before another
+abbrev IsUp : LabelParts → LabelParts → Type 0
+IsUp l m = is_lt (label_cmp m l) ≡ false
+
+less : (o : Ordering) → is_lt o ≡ true → o ≡ Less
+less Less e = refl
+less Equal e = absurd (let g : false ≡ true = e in cc)
+less Greater e = absurd (let g : false ≡ true = e in cc)
+
+not-less : (o : Ordering) → (o ≡ Less → ⊥) → is_lt o ≡ false
+not-less Less h = absurd (h refl)
+not-less Equal h = refl
+not-less Greater h = refl
+
+-- what comes before a label isn't behind it
+up-from : (l m : LabelParts) → label_cmp l m ≡ Less → IsUp l m
+up-from l m e = not-less (label_cmp m l) (λ g. never label_cmp label_total l (label_total.trans l m l e g))
+
+up-through : (l m n : LabelParts) → label_cmp l m ≡ Less → IsUp m n → IsUp l n
+up-through l m n e up = not-less (label_cmp n l) (λ g. let f : true ≡ false = sym (ap is_lt (label_total.trans n l m g e)) ∙ up in cc)
+
+placed-up : (l : LabelParts) (ms : List LabelParts) → Pairs IsUp ms → Pairs IsUp (placed l ms)
+placed-up l [] up = (tt, tt)
+placed-up l (m ∷ ms) up =
+    cond_both (is_lt (label_cmp l m)) (l ∷ m ∷ ms) (m ∷ placed l ms) (Pairs IsUp)
+    (λ e. let first = less (label_cmp l m) e in ((up-from l m first, each-map (IsUp m) (IsUp l) (λ n. up-through l m n first) ms up.0), up))
+    (λ e. (placed-each (IsUp m) l ms e up.0, placed-up l ms up.1))
+
+added-up : (n v : List ℕ) (shown : List LabelParts) → Pairs IsUp shown → Pairs IsUp (added n v shown)
+added-up n [] shown up = up
+added-up n (c ∷ v) shown up = placed-up (label_name n, c ∷ v) shown up
+
+with-up : (shown ls : List LabelParts) → Pairs IsUp shown → Pairs IsUp (with_labels shown ls)
+with-up shown [] up = up
+with-up shown (l ∷ ls) up = with-up (added l.0 l.1 shown) ls (added-up l.0 l.1 shown up)
+
+abbrev names : List ℕ → List ℕ → Ordering
+names = slice_cmp nat_cmp
+
+or-false : (a b : Bool) → (a || b) ≡ false → (a ≡ false) × (b ≡ false)
+or-false true b e = absurd (let g : true ≡ false = e in cc)
+or-false false b e = (refl, e)
+
+not-true : (b : Bool) → not b ≡ true → b ≡ false
+not-true true e = absurd (let g : false ≡ true = e in cc)
+not-true false e = refl
+
+name-below : (l m : LabelParts) → bytes_eq m.0 l.0 ≡ false → IsUp l m → names l.0 m.0 ≡ Less
+name-below l m other up = elim (turn (names l.0 m.0) (names m.0 l.0) (nat_list_cmp_total.antisymm l.0 m.0) (first-part (names m.0 l.0) _ up)) [
+  | inl e ↦ e
+  | inr e ↦ absurd (let g : true ≡ false = sym (bytes-same m.0 l.0 (exact_bytes m.0 l.0 e)) ∙ other in cc)
+]
+
+names-below : (l : LabelParts) (ms : List LabelParts) → list_any (λ m. bytes_eq m.0 l.0) ms ≡ false → AllByRecursion (IsUp l) ms → AllByRecursion (λ m. names l.0 m.0 ≡ Less) ms
+names-below l [] once up = tt
+names-below l (m ∷ ms) once up =
+    let parts = or-false (bytes_eq m.0 l.0) (list_any (λ m. bytes_eq m.0 l.0) ms) once in
+    (name-below l m parts.0 up.0, names-below l ms parts.1 up.1)
+
+ascend : (ls : List LabelParts) → repeats ls ≡ false → Pairs IsUp ls → Ascend ls
+unfolding IsStrictlySortedBy
+ascend [] once up = tt
+ascend (l ∷ ls) once up =
+    let parts = or-false (list_any (λ m. bytes_eq m.0 l.0) ls) (repeats ls) once in
+    (names-below l ls parts.0 up.0, ascend ls parts.1 up.1)
+
+pub fit-ascend : (k : MetricKind) (ls : List LabelParts) → are_fit k (shown_labels ls) ≡ true → Ascend (shown_labels ls)
+fit-ascend k ls fit =
+    let shown = shown_labels ls in
+    ascend shown (not-true (repeats shown) (both-true (not (repeats shown)) (not (list_any (λ l. is_reserved k l.0) shown)) fit).0) (with-up [] ls tt)
+
+-- ---- no name comes twice
+
+abbrev Others : LabelParts → LabelParts → Type 0
+Others l m = bytes_eq l.0 m.0 ≡ false
+
+below-other : (l m : LabelParts) → names l.0 m.0 ≡ Less → Others l m
+below-other l m e = none-true (bytes_eq l.0 m.0) (λ g. never names nat_list_cmp_total m.0 (ap (λ n. names n m.0) (sym (same-bytes l.0 m.0 g)) ∙ e))
+  where
+    none-true : (b : Bool) → (b ≡ true → ⊥) → b ≡ false
+    none-true true h = absurd (h refl)
+    none-true false h = refl
+
+others : (ls : List LabelParts) → Ascend ls → Pairs Others ls
+unfolding IsStrictlySortedBy
+others [] up = tt
+others (l ∷ ls) up = (each-map (λ m. names l.0 m.0 ≡ Less) (Others l) (below-other l) ls up.0, others ls up.1)
+
+once-from : (ls : List LabelParts) → Pairs Others ls → IsDistinct (λ l m. bytes_eq l.0 m.0) ls
+unfolding IsDistinct
+once-from [] p = tt
+once-from (l ∷ ls) p = (p.0, once-from ls p.1)
+
+pub once : (ls : List LabelParts) → Ascend ls → IsDistinct (λ l m. bytes_eq l.0 m.0) ls
+once ls up = once-from ls (others ls up)
+
+not-le : (k : MetricKind) (v : List ℕ) → kind_eq k Histogram ≡ true → (ls : List LabelParts) → list_any (λ l. is_reserved k l.0) ls ≡ false → AllByRecursion (λ l. AllByRecursion (Others l) ((codes "le", v) ∷ [])) ls
+not-le k v hist [] h = tt
+not-le k v hist (l ∷ ls) h =
+    let parts = or-false (is_reserved k l.0) (list_any (λ l. is_reserved k l.0) ls) h in
+    let own = or-false (bytes_eq l.0 (codes "__name__")) (kind_eq k Histogram && bytes_eq l.0 (codes "le")) parts.0 in
+    ((sym (ap (λ b. b && bytes_eq l.0 (codes "le")) hist) ∙ own.1, tt), not-le k v hist ls parts.1)
+
+-- with the bound of a bucket behind them
+pub once-bounded : (k : MetricKind) (ls : List LabelParts) (v : List ℕ) → kind_eq k Histogram ≡ true → are_fit k ls ≡ true → Ascend ls → IsDistinct (λ l m. bytes_eq l.0 m.0) (ls ++ (codes "le", v) ∷ [])
+once-bounded k ls v hist fit up =
+    let none = not-true (list_any (λ l. is_reserved k l.0) ls) (both-true (not (repeats ls)) (not (list_any (λ l. is_reserved k l.0) ls)) fit).1 in
+    once-from (ls ++ (codes "le", v) ∷ []) (pairs-append Others ls ((codes "le", v) ∷ []) (others ls up) (tt, tt) (not-le k v hist ls none))

@@ -1,0 +1,75 @@
+-- The names and labels of the samples that are written.
+use Rattle.std.proofs.Common.{◌≡◌, ◌∙◌, ◌<◌, ◌^◌, ℕ, ℤ, Bool, true, false, List, [], ◌∷◌, ◌++◌, map, codes, decimal, Option, Some, None, refl, ap, sym}
+use Rattle.std.specs.Prelude.{bytes_eq}
+use Rattle.std.specs.Str.{IsUtf8}
+use Rattle.std.specs.Fmt.{signed_decimal}
+use Rattle.std.specs.List.{AllByRecursion, IsDistinct, flat_map}
+use Rattle.metrics_names.specs.declared.kind.MetricKind.{MetricKind}
+use Rattle.metrics_names.specs.declared.kind.MetricKind.TheVariants.{Histogram}
+use Rattle.metrics_names.specs.Names.{LabelParts, SeriesKey, kind_eq}
+use Rattle.metrics_exporter.specs.Exporting.{Cells, IsHeld, Reading, count, level, samples}
+use Rattle.metrics_prometheus.specs.Labels.{are_fit}
+use Rattle.metrics_prometheus.specs.Samples.{Sample, ascending, bucket_sample, histogram_samples}
+use Rattle.metrics_prometheus.specs.Exposition.{Row, row_of, samples_of, reading_at, AreRows, IsExposition}
+use Rattle.metrics_prometheus.specs.Written.{written, samples_written}
+use Rattle.metrics_prometheus.specs.Reading.{HasNames, Ascend, NamesOnce}
+use Rattle.metrics_prometheus.proofs.PairLemmas.{each-map, each-all, each-both, each-append, each-flat}
+use Rattle.metrics_prometheus.proofs.WrittenLemmas.{written-each, written-fit}
+use Rattle.metrics_prometheus.proofs.NameLemmas.{metric-name}
+use Rattle.metrics_prometheus.proofs.LabelLemmas.{labels-keyed, fit-ascend, once, once-bounded}
+use Rattle.metrics_prometheus.proofs.HeldLemmas.{each-row}
+use Rattle.metrics_prometheus.proofs.TextLineLemmas.{IsPlain, IsNamedRow, samples-plain}
+
+-- ---- names
+
+pub samples-named : (cells : Cells) (text : List ℕ) (e : IsExposition cells text) → AllByRecursion HasNames (samples_written cells e.rows)
+samples-named cells text e =
+    let done = written e.rows None e.rows in
+    let named = written-each IsNamedRow e.rows None e.rows (each-row IsNamedRow cells e.rows e.all (λ s held. (metric-name s.key.name, labels-keyed s.key.labels))) in
+    each-flat (λ r. samples_of r (reading_at cells r)) HasNames done
+    (each-map IsNamedRow (λ r. AllByRecursion HasNames (samples_of r (reading_at cells r)))
+    (λ r h. each-map IsPlain HasNames (λ s p. record { name = p.name; keys = p.keys }) (samples_of r (reading_at cells r)) (samples-plain r h (reading_at cells r))) done named)
+
+-- ---- the order of labels
+
+abbrev IsFit : Row → Type 0
+IsFit r = are_fit r.kind r.labels ≡ true
+
+rows-ascend : (cells : Cells) (rows : List Row) → AreRows cells rows → AllByRecursion (λ r. IsFit r → Ascend r.labels) rows
+rows-ascend cells rows are = each-row (λ r. IsFit r → Ascend r.labels) cells rows are (λ s held fit. fit-ascend s.kind s.key.labels fit)
+
+rows-fit : (cells : Cells) (rows : List Row) → AreRows cells rows → AllByRecursion (λ r. IsFit r × Ascend r.labels) (written rows None rows)
+rows-fit cells rows are =
+    let done = written rows None rows in
+    each-map (λ r. IsFit r × (IsFit r → Ascend r.labels)) (λ r. IsFit r × Ascend r.labels) (λ r h. (h.0, h.1 h.0)) done
+    (each-both IsFit (λ r. IsFit r → Ascend r.labels) done (written-fit rows None rows) (written-each (λ r. IsFit r → Ascend r.labels) rows None rows (rows-ascend cells rows are)))
+
+pub labels-ascend : (cells : Cells) (text : List ℕ) (e : IsExposition cells text) → AllByRecursion (λ r. Ascend r.labels) (written e.rows None e.rows)
+labels-ascend cells text e = each-map (λ r. IsFit r × Ascend r.labels) (λ r. Ascend r.labels) (λ r h. h.1) (written e.rows None e.rows) (rows-fit cells e.rows e.all)
+
+-- ---- no label twice
+
+-- samples at bounds are those of a histogram
+abbrev pub IsOfKind : MetricKind → Option Reading → Type 0
+IsOfKind k None = Unit {0}
+IsOfKind k (Some (count n)) = Unit {0}
+IsOfKind k (Some (level n)) = Unit {0}
+IsOfKind k (Some (samples d)) = kind_eq k Histogram ≡ true
+
+buckets-once : (r : Row) → kind_eq r.kind Histogram ≡ true → IsFit r → Ascend r.labels → (bs : List (ℤ × ℕ)) → AllByRecursion NamesOnce (map (λ b. bucket_sample r.name r.labels (signed_decimal b.0) b.1) bs)
+buckets-once r hist fit up [] = tt
+buckets-once r hist fit up (b ∷ bs) = (once-bounded r.kind r.labels (signed_decimal b.0) hist fit up, buckets-once r hist fit up bs)
+
+row-once : (r : Row) (o : Option Reading) → IsOfKind r.kind o → IsFit r → Ascend r.labels → AllByRecursion NamesOnce (samples_of r o)
+row-once r None k fit up = tt
+row-once r (Some (count n)) k fit up = (once r.labels up, tt)
+row-once r (Some (level n)) k fit up = (once r.labels up, tt)
+row-once r (Some (samples d)) k fit up =
+    each-append NamesOnce (map (λ b. bucket_sample r.name r.labels (signed_decimal b.0) b.1) (ascending d.buckets)) _ (buckets-once r k fit up (ascending d.buckets))
+    (once-bounded r.kind r.labels (codes "+Inf") k fit up, (once r.labels up, (once r.labels up, tt)))
+
+pub samples-once : (cells : Cells) → ((r : Row) → IsOfKind r.kind (reading_at cells r)) → (text : List ℕ) (e : IsExposition cells text) → AllByRecursion NamesOnce (samples_written cells e.rows)
+samples-once cells kinds text e =
+    let done = written e.rows None e.rows in
+    each-flat (λ r. samples_of r (reading_at cells r)) NamesOnce done
+    (each-map (λ r. IsFit r × Ascend r.labels) (λ r. AllByRecursion NamesOnce (samples_of r (reading_at cells r))) (λ r h. row-once r (reading_at cells r) (kinds r) h.0 h.1) done (rows-fit cells e.rows e.all))
