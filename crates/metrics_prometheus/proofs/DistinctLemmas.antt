@@ -1,5 +1,5 @@
 -- No two samples of a text are of one series.
-use Rattle.std.proofs.Common.{◌≡◌, Bool, true, false, List, [], ◌∷◌, None, refl}
+use Rattle.std.proofs.Common.{◌≡◌, Bool, true, false, List, [], ◌∷◌, ◌++◌, ℕ, None, refl, ap}
 use Rattle.std.specs.Prelude.{bytes_eq}
 use Rattle.std.specs.List.{AllByRecursion, IsDistinct, list_any, flat_map}
 use Rattle.std.specs.List.Sorted.{IsSorted}
@@ -7,9 +7,12 @@ use Rattle.std.specs.Cmp.Lexicographic.{pointwise}
 use Rattle.metrics_names.specs.declared.kind.MetricKind.TheVariants.{Histogram}
 use Rattle.metrics_names.specs.Names.{label_eq, kind_eq}
 use Rattle.metrics_exporter.specs.Exporting.{Cells}
-use Rattle.metrics_prometheus.specs.Samples.{Sample}
-use Rattle.metrics_prometheus.specs.Exposition.{Row, row_cmp, is_histogram_of, is_taken, samples_of, reading_at}
+use Rattle.metrics_prometheus.specs.Samples.{Sample, series_text}
+use Rattle.metrics_prometheus.specs.Exposition.{Row, row_cmp, is_histogram_of, is_taken, samples_of, reading_at, IsExposition}
 use Rattle.metrics_prometheus.specs.Written.{written, samples_written, is_same_series}
+use Rattle.metrics_prometheus.specs.Reading.{HasNames, AreTexts, HoldsTexts, is_same_text}
+use Rattle.metrics_prometheus.proofs.BackLemmas.{read-back}
+use Rattle.metrics_prometheus.proofs.SampleLabelLemmas.{samples-named, samples-texts}
 use Rattle.metrics_prometheus.proofs.PairLemmas.{each-map, each-all, each-both, Pairs, pairs-with, pairs-flat}
 use Rattle.metrics_prometheus.proofs.SameLemmas.{both-true, bytes-same, same-bytes, same-labels}
 use Rattle.metrics_prometheus.proofs.SampleLemmas.{Differ, IsAmong, IsFree, ReadsAs, row-differs, rows-differ, or-first, or-second, both}
@@ -37,12 +40,37 @@ unfolding IsDistinct
 distinct-from [] p = tt
 distinct-from (s ∷ ss) p = (each-map (Differ s) (λ t. is_same_series s t ≡ false) (apart-test s) ss p.0, distinct-from ss p.1)
 
-pub samples-distinct : (cells : Cells) (rows : List Row) → IsSorted row_cmp rows → ((r : Row) → ReadsAs r.kind (reading_at cells r)) → IsDistinct is_same_series (samples_written cells rows)
-samples-distinct cells rows up reads =
+pub samples-differ : (cells : Cells) (rows : List Row) → IsSorted row_cmp rows → ((r : Row) → ReadsAs r.kind (reading_at cells r)) → Pairs Differ (samples_written cells rows)
+samples-differ cells rows up reads =
     let done = written rows None rows in
     let f : Row → List Sample = λ r. samples_of r (reading_at cells r) in
     let Across : Row → Row → Type 0 = λ a b. AllByRecursion (λ s. AllByRecursion (Differ s) (f b)) (f a) in
     let free : AllByRecursion (IsFree rows) done = each-both (λ r. is_taken rows r.name ≡ false) (IsAmong rows) done (written-free rows None rows) (written-each (IsAmong rows) rows None rows (among rows)) in
     let own = each-all (λ r. Pairs Differ (f r)) (λ r. row-differs r (reading_at cells r) (reads r)) done in
     let across = pairs-with (IsFree rows) IsBefore Across (λ a b fa fb before. rows-differ rows a b (reading_at cells a) (reading_at cells b) (reads a) (reads b) fa fb (before-apart a b before)) done free (written-ascend rows up) in
-    distinct-from (flat_map f done) (pairs-flat f Differ done own across)
+    pairs-flat f Differ done own across
+
+pub samples-distinct : (cells : Cells) (rows : List Row) → IsSorted row_cmp rows → ((r : Row) → ReadsAs r.kind (reading_at cells r)) → IsDistinct is_same_series (samples_written cells rows)
+samples-distinct cells rows up reads = distinct-from (samples_written cells rows) (samples-differ cells rows up reads)
+
+-- ---- as text
+
+abbrev OtherText : Sample → Sample → Type 0
+OtherText s t = is_same_text s t ≡ false
+
+text-test : (s t : Sample) → HasNames s × AreTexts s.labels → HasNames t × AreTexts t.labels → Differ s t → OtherText s t
+text-test s t hs ht differ =
+    none-true (is_same_text s t) (λ e.
+    let same = read-back s t hs.0 ht.0 hs.1 ht.1 [] [] (ap (λ l. l ++ 32 ∷ []) (same-bytes (series_text s) (series_text t) e)) in
+    differ same.0 same.1.0)
+
+texts-from : (ss : List Sample) → Pairs OtherText ss → IsDistinct is_same_text ss
+unfolding IsDistinct
+texts-from [] p = tt
+texts-from (s ∷ ss) p = (p.0, texts-from ss p.1)
+
+pub texts-distinct : (cells : Cells) → HoldsTexts cells → ((r : Row) → ReadsAs r.kind (reading_at cells r)) → (text : List ℕ) (e : IsExposition cells text) → IsDistinct is_same_text (samples_written cells e.rows)
+texts-distinct cells holds reads text e =
+    let ss = samples_written cells e.rows in
+    let known = each-both HasNames (λ s. AreTexts s.labels) ss (samples-named cells text e) (samples-texts cells holds reads text e) in
+    texts-from ss (pairs-with (λ s. HasNames s × AreTexts s.labels) Differ OtherText text-test ss known (samples-differ cells e.rows e.all.ordered reads))

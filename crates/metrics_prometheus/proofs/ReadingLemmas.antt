@@ -1,6 +1,8 @@
 -- What is held of a series is of its kind.
 use Rattle.std.proofs.Common.{◌≡◌, ◌∙◌, ◌<◌, ◌^◌, ℤ, List, [], ◌∷◌, map, Some, option_map, refl, ap, sym}
-use Rattle.std.specs.List.{AllByRecursion}
+use Rattle.std.specs.List.{All, AllByRecursion}
+use Rattle.std.specs.Int.{w64}
+use Rattle.std.specs.Int.RustNames.{FitsSigned}
 use Rattle.std.specs.Int.Signed.{mag}
 use Rattle.metrics_names.specs.declared.kind.MetricKind.{MetricKind}
 use Rattle.metrics_names.specs.declared.kind.MetricKind.TheVariants.{Counter, Gauge, Histogram}
@@ -11,7 +13,10 @@ use Rattle.metrics.specs.declared.debugging.DebugValue.{DebugValue}
 use Rattle.metrics.specs.declared.debugging.DebugValue.TheVariants as value
 use Rattle.metrics.specs.Book.{new_value, updated, value_from}
 use Rattle.metrics_storage.specs.Histogram.{bucket_with}
-use Rattle.metrics_exporter.specs.Exporting.{reading, cell_of}
+use Rattle.metrics_exporter.specs.Exporting.{Setup, Step, since, reading, cell_of, cells_after}
+use Rattle.metrics_exporter.specs.Gathering.{series_at}
+use Rattle.metrics_prometheus.specs.Exposition.{Row, reading_at}
+use Rattle.metrics_prometheus.proofs.PairLemmas.{each-places}
 use Rattle.metrics_prometheus.proofs.SampleLemmas.{IsSmall, ReadsAs}
 use Rattle.metrics_prometheus.proofs.SampleLabelLemmas.{IsOfKind}
 
@@ -58,7 +63,7 @@ reads-value bounds small k (value.Counter n) e = ap (λ j. kind_eq j Histogram) 
 reads-value bounds small k (value.Gauge n) e = ap (λ j. kind_eq j Histogram) (sym e)
 reads-value bounds small k (value.Histogram xs) e = (ap (λ j. kind_eq j Histogram) (sym e), small-buckets xs bounds small)
 
-pub reads : (bounds : List ℤ) → AllByRecursion (λ b. mag b < 2 ^ 63) bounds → (s : SeriesKey) (us : List Update) → ReadsAs s.kind (option_map (λ c. c.reading) (cell_of bounds s us))
+reads : (bounds : List ℤ) → AllByRecursion (λ b. mag b < 2 ^ 63) bounds → (s : SeriesKey) (us : List Update) → ReadsAs s.kind (option_map (λ c. c.reading) (cell_of bounds s us))
 reads bounds small s [] = tt
 reads bounds small s (u ∷ us) = reads-value bounds small s.kind (value_from (new_value s.kind) (u ∷ us)) (kept-by (u ∷ us) (new_value s.kind) ∙ new-kind s.kind)
 
@@ -68,6 +73,18 @@ kind-value bounds k (value.Counter n) e = tt
 kind-value bounds k (value.Gauge n) e = tt
 kind-value bounds k (value.Histogram xs) e = ap (λ j. kind_eq j Histogram) (sym e)
 
-pub of-kind : (bounds : List ℤ) (s : SeriesKey) (us : List Update) → IsOfKind s.kind (option_map (λ c. c.reading) (cell_of bounds s us))
+of-kind : (bounds : List ℤ) (s : SeriesKey) (us : List Update) → IsOfKind s.kind (option_map (λ c. c.reading) (cell_of bounds s us))
 of-kind bounds s [] = tt
 of-kind bounds s (u ∷ us) = kind-value bounds s.kind (value_from (new_value s.kind) (u ∷ us)) (kept-by (u ∷ us) (new_value s.kind) ∙ new-kind s.kind)
+
+small : (z : ℤ) → FitsSigned w64 z → mag z < 2 ^ 63
+small z h = h.sfits
+
+-- what is held of a row's series after some steps
+pub rows-read : (setup : Setup) (xs : List Step) → All (FitsSigned w64) setup.bounds → (r : Row) → ReadsAs r.kind (reading_at (cells_after setup xs) r)
+rows-read setup xs fits r =
+    let bounds = setup.bounds in
+    reads bounds (each-places (λ b. mag b < 2 ^ 63) bounds (λ k d within. small _ (fits k d within))) (series_at r.kind r.key) (since xs (series_at r.kind r.key))
+
+pub rows-of-kind : (setup : Setup) (xs : List Step) (r : Row) → IsOfKind r.kind (reading_at (cells_after setup xs) r)
+rows-of-kind setup xs r = of-kind setup.bounds (series_at r.kind r.key) (since xs (series_at r.kind r.key))

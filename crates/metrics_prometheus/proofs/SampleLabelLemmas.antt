@@ -1,22 +1,27 @@
 -- The names and labels of the samples that are written.
-use Rattle.std.proofs.Common.{◌≡◌, ◌∙◌, ◌<◌, ◌^◌, ℕ, ℤ, Bool, true, false, List, [], ◌∷◌, ◌++◌, map, codes, decimal, Option, Some, None, refl, ap, sym}
+use Rattle.std.proofs.Common.{◌≡◌, ◌∙◌, ◌<◌, ◌^◌, ℕ, ℤ, Bool, true, false, List, [], ◌∷◌, ◌++◌, map, codes, decimal, Option, Some, None, refl, ap, sym, arith}
 use Rattle.std.specs.Prelude.{bytes_eq}
 use Rattle.std.specs.Str.{IsUtf8}
 use Rattle.std.specs.Fmt.{signed_decimal}
+use Rattle.std.proofs.lemmas.Fmt.{IsAscii-signed}
+use Rattle.std.proofs.lemmas.Str.{IsUtf8-from_ascii}
+use Rattle.std.proofs.lemmas.Str.Ascii.{IsAscii-from_all}
+use Rattle.std.proofs.lemmas.List.Elements.{All-from_recursion}
 use Rattle.std.specs.List.{AllByRecursion, IsDistinct, flat_map}
 use Rattle.metrics_names.specs.declared.kind.MetricKind.{MetricKind}
 use Rattle.metrics_names.specs.declared.kind.MetricKind.TheVariants.{Histogram}
 use Rattle.metrics_names.specs.Names.{LabelParts, SeriesKey, kind_eq}
 use Rattle.metrics_exporter.specs.Exporting.{Cells, IsHeld, Reading, count, level, samples}
-use Rattle.metrics_prometheus.specs.Labels.{are_fit}
+use Rattle.metrics_prometheus.specs.Labels.{are_fit, shown_labels}
 use Rattle.metrics_prometheus.specs.Samples.{Sample, ascending, bucket_sample, histogram_samples}
 use Rattle.metrics_prometheus.specs.Exposition.{Row, row_of, samples_of, reading_at, AreRows, IsExposition}
 use Rattle.metrics_prometheus.specs.Written.{written, samples_written}
-use Rattle.metrics_prometheus.specs.Reading.{HasNames, Ascend, NamesOnce}
+use Rattle.metrics_prometheus.specs.Reading.{HasNames, AreTexts, HoldsTexts, Ascend, NamesOnce}
 use Rattle.metrics_prometheus.proofs.PairLemmas.{each-map, each-all, each-both, each-append, each-flat}
 use Rattle.metrics_prometheus.proofs.WrittenLemmas.{written-each, written-fit}
 use Rattle.metrics_prometheus.proofs.NameLemmas.{metric-name}
-use Rattle.metrics_prometheus.proofs.LabelLemmas.{labels-keyed, fit-ascend, once, once-bounded}
+use Rattle.metrics_prometheus.proofs.LabelLemmas.{labels-keyed, shown-each, fit-ascend, once, once-bounded}
+use Rattle.metrics_prometheus.proofs.SampleLemmas.{IsSmall, ReadsAs, with-each}
 use Rattle.metrics_prometheus.proofs.HeldLemmas.{each-row}
 use Rattle.metrics_prometheus.proofs.TextLineLemmas.{IsPlain, IsNamedRow, samples-plain}
 
@@ -73,3 +78,41 @@ samples-once cells kinds text e =
     let done = written e.rows None e.rows in
     each-flat (λ r. samples_of r (reading_at cells r)) NamesOnce done
     (each-map (λ r. IsFit r × Ascend r.labels) (λ r. AllByRecursion NamesOnce (samples_of r (reading_at cells r))) (λ r h. row-once r (reading_at cells r) (kinds r) h.0 h.1) done (rows-fit cells e.rows e.all))
+
+-- ---- values of labels
+
+ascii-text : (bs : List ℕ) → AllByRecursion (λ b. b < 128) bs → IsUtf8 bs
+ascii-text bs h = IsUtf8-from_ascii bs (IsAscii-from_all bs (All-from_recursion (λ b. b < 128) bs h))
+
+infinity-text : IsUtf8 (codes "+Inf")
+infinity-text = ascii-text (codes "+Inf") (omega arith, (omega arith, (omega arith, (omega arith, tt))))
+
+labels-texts : (ls : List LabelParts) → AreTexts ls → AreTexts (shown_labels ls)
+labels-texts ls h = shown-each (λ l. IsUtf8 l.1) (λ l. IsUtf8 l.1) (λ n v u. u) ls h
+
+bounded-texts : (ls : List LabelParts) (v : List ℕ) → AreTexts ls → IsUtf8 v → AreTexts (ls ++ (codes "le", v) ∷ [])
+bounded-texts ls v h u = each-append (λ l. IsUtf8 l.1) ls ((codes "le", v) ∷ []) h (u, tt)
+
+abbrev HasTexts : Sample → Type 0
+HasTexts s = AreTexts s.labels
+
+buckets-texts : (r : Row) → AreTexts r.labels → (bs : List (ℤ × ℕ)) → AllByRecursion IsSmall bs → AllByRecursion HasTexts (map (λ b. bucket_sample r.name r.labels (signed_decimal b.0) b.1) bs)
+buckets-texts r h [] small = tt
+buckets-texts r h (b ∷ bs) small =
+    let z = b.0 in
+    (bounded-texts r.labels (signed_decimal z) h (IsUtf8-from_ascii (signed_decimal z) (IsAscii-signed z small.0)), buckets-texts r h bs small.1)
+
+row-texts : (r : Row) (o : Option Reading) → ReadsAs r.kind o → AreTexts r.labels → AllByRecursion HasTexts (samples_of r o)
+row-texts r None k h = tt
+row-texts r (Some (count n)) k h = (h, tt)
+row-texts r (Some (level n)) k h = (h, tt)
+row-texts r (Some (samples d)) k h =
+    each-append HasTexts (map (λ b. bucket_sample r.name r.labels (signed_decimal b.0) b.1) (ascending d.buckets)) _ (buckets-texts r h (ascending d.buckets) (with-each IsSmall [] d.buckets tt k.1))
+    (bounded-texts r.labels (codes "+Inf") h infinity-text, (h, (h, tt)))
+
+pub samples-texts : (cells : Cells) → HoldsTexts cells → ((r : Row) → ReadsAs r.kind (reading_at cells r)) → (text : List ℕ) (e : IsExposition cells text) → AllByRecursion HasTexts (samples_written cells e.rows)
+samples-texts cells holds reads text e =
+    let done = written e.rows None e.rows in
+    let rows = each-row (λ r. AreTexts r.labels) cells e.rows e.all (λ s held. labels-texts s.key.labels (holds s held)) in
+    each-flat (λ r. samples_of r (reading_at cells r)) HasTexts done
+    (each-map (λ r. AreTexts r.labels) (λ r. AllByRecursion HasTexts (samples_of r (reading_at cells r))) (λ r h. row-texts r (reading_at cells r) (reads r) h) done (written-each (λ r. AreTexts r.labels) e.rows None e.rows rows))

@@ -149,11 +149,11 @@ placed-up b (c ∷ cs) up =
     (λ e. ((e, each-map (IsBelow c) (IsBelow b) (λ d f. lt-trans b.0 c.0 d.0 e f) cs up.0), up))
     (λ _. cond_both (int_lt c.0 b.0) (c ∷ bucket_placed b cs) (c ∷ cs) (Pairs IsBelow) (λ e. (placed-each (IsBelow c) b cs e up.0, placed-up b cs up.1)) (λ _. up))
 
-with-each : (P : ℤ × ℕ → Type 0) (done bs : List (ℤ × ℕ)) → AllByRecursion P done → AllByRecursion P bs → AllByRecursion P (with_buckets done bs)
+pub with-each : (P : ℤ × ℕ → Type 0) (done bs : List (ℤ × ℕ)) → AllByRecursion P done → AllByRecursion P bs → AllByRecursion P (with_buckets done bs)
 with-each P done [] h hs = h
 with-each P done (b ∷ bs) h hs = with-each P (bucket_placed b done) bs (placed-each P b done hs.0 h) hs.1
 
-with-up : (done bs : List (ℤ × ℕ)) → Pairs IsBelow done → Pairs IsBelow (with_buckets done bs)
+pub with-up : (done bs : List (ℤ × ℕ)) → Pairs IsBelow done → Pairs IsBelow (with_buckets done bs)
 with-up done [] up = up
 with-up done (b ∷ bs) up = with-up (bucket_placed b done) bs (placed-up b done up)
 

@@ -7,7 +7,7 @@ ghost use Rattle.metrics_exporter.specs.Exporting.{Cells, Setup, Step, IsHeld, c
 ghost use Rattle.metrics_prometheus.specs.Exposition.{IsExposition, row_of};
 ghost use Rattle.metrics_prometheus.specs.Written.{written, samples_written, is_same_series};
 ghost use Rattle.metrics_prometheus.specs.Samples.{Sample, series_text};
-ghost use Rattle.metrics_prometheus.specs.Reading.{HasNames, AreTexts, Ascend, NamesOnce};
+ghost use Rattle.metrics_prometheus.specs.Reading.{HasNames, AreTexts, HoldsTexts, is_same_text, Ascend, NamesOnce};
 ghost use Rattle.metrics_prometheus.specs.Written.{AreApart, HasSamples, IsTold};
 
 use crate::rows::row_order;
@@ -40,6 +40,10 @@ pub fn exposition_text_law()
     ensures read_back { (s t : Sample) → HasNames s → HasNames t → AreTexts s.labels → AreTexts t.labels
         → (x y : List ℕ) → series_text s ++ 32 ∷ x ≡ series_text t ++ 32 ∷ y
         → (s.name ≡ t.name) × ((s.labels ≡ t.labels) × (x ≡ y)) }
+    // No two samples have the same text in front of their values.
+    ensures distinct { (setup : Setup) (xs : List Step) (text : List ℕ) → All (FitsSigned w64) setup.bounds
+        → HoldsTexts (cells_after setup xs) → (e : IsExposition (cells_after setup xs) text)
+        → IsDistinct is_same_text (samples_written (cells_after setup xs) e.rows) }
     // The labels of a written row ascend by their names.
     ensures labels { (cells : Cells) (text : List ℕ) (e : IsExposition cells text)
         → AllByRecursion (λ r. Ascend r.labels) (written e.rows None e.rows) }
