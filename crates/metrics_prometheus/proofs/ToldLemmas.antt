@@ -1,17 +1,41 @@
--- Each row is told in the text: by its samples, or by a line that it is left out.
-use Rattle.std.proofs.Common.{◌≡◌, ◌∙◌, ◌<◌, ◌⊎◌, inl, inr, ℕ, zero, suc, Bool, true, false, cond, List, [], ◌∷◌, ◌++◌, map, length, get_or, Contains, Option, Some, None, refl, ap, sym, subst, arith, append_assoc}
+-- Each row is told in the text: by its samples, or by a line that it is left out, and then something keeps it from the text.
+use Rattle.std.proofs.Common.{◌≡◌, ◌∙◌, ◌<◌, ◌⊎◌, ◌↔◌, inl, inr, ℕ, zero, suc, Bool, true, false, not, ◌&&◌, ◌||◌, cond, List, [], ◌∷◌, ◌++◌, map, length, get_or, Contains, Option, Some, None, refl, ap, sym, subst, arith, append_assoc}
+use Rattle.std.specs.Prelude.{bytes_eq}
+use Rattle.std.specs.List.{AllByRecursion, IsDistinct}
+use Rattle.std.specs.List.Sorted.{IsSorted, IsStrictlySortedBy}
+use Rattle.std.specs.Cmp.{IsTotalOrder}
+use Rattle.std.specs.Cmp.Lexicographic.{pointwise}
+use Rattle.std.specs.declared.cmp.Ordering.TheVariants.{Less}
+use Rattle.std.proofs.lemmas.Bool.Decides.{same_from_decides}
+use Rattle.std.proofs.lemmas.Cmp.{nat_list_cmp_total, lists_total, then_total, on_total, nat_cmp_total}
 use Rattle.std.proofs.lemmas.List.Sorted.{Contains-permutation}
-use Rattle.metrics_names.specs.Names.{SeriesKey}
+use Rattle.std.proofs.lemmas.Map.Keys.{IsDistinct-IsPermutation}
+use Rattle.metrics_names.specs.Names.{SeriesKey, kind_number, kind_eq, label_eq, series_key_eq, series_key_cmp}
+use Rattle.metrics_names.specs.Equality.{kind_eq-Decides, series_key_eq-Decides, key_exact}
 use Rattle.metrics_exporter.specs.Exporting.{Cells, IsHeld}
+use Rattle.metrics_exporter.specs.Gathering.{series_at}
 use Rattle.metrics_prometheus.specs.Samples.{lines}
-use Rattle.metrics_prometheus.specs.Exposition.{Row, row_of, is_left_out, type_text, samples_of, reading_at, left_out_line, row_text, last_after, rows_text, AreRows, IsExposition}
-use Rattle.metrics_prometheus.specs.Written.{written, IsTold, shown, left_out}
+use Rattle.metrics_prometheus.specs.Labels.{are_fit}
+use Rattle.metrics_prometheus.specs.Exposition.{Row, row_of, row_cmp, is_taken, clashes, is_left_out, type_text, samples_of, reading_at, left_out_line, row_text, last_after, rows_text, AreRows, IsExposition}
+use Rattle.metrics_prometheus.specs.Written.{written, AreApart, MayStand, IsTold, shown, left_out}
+use Rattle.metrics_prometheus.proofs.PairLemmas.{each-map, each-at, Pairs}
+use Rattle.metrics_prometheus.proofs.SameLemmas.{same-bytes, same-labels}
+use Rattle.metrics_prometheus.proofs.WrittenLemmas.{IsBefore, before-apart, never, label_total, written-ascend, written-fit, written-free}
 use Rattle.metrics_prometheus.proofs.RowLemmas.{map-length, map-get}
 
+-- what keeps a row from the text: its own labels or name, or one of the rows that are written in all
+abbrev Blocked : List Row → List Row → Row → Type 0
+Blocked all whole r = (is_left_out all None r ≡ true) ⊎ ((w : Row) × Contains whole w × (w ≡ r → ⊥) × (is_left_out all (Some w) r ≡ true))
+
 -- the same of a part of the text, and the rows that it shows
-data Part (cells : Cells) (r : Row) (text : List ℕ) (done : List Row) : Type 0 where
-  with-samples : (before after : List ℕ) → Contains done r → text ≡ before ++ (lines (samples_of r (reading_at cells r)) ++ after) → Part cells r text done
-  with-line : (before after : List ℕ) → text ≡ before ++ (left_out_line r ++ after) → Part cells r text done
+data Part (cells : Cells) (all whole : List Row) (r : Row) (text : List ℕ) (done : List Row) : Type 0 where
+  with-samples : (before after : List ℕ) → Contains done r → text ≡ before ++ (lines (samples_of r (reading_at cells r)) ++ after) → Part cells all whole r text done
+  with-line : Blocked all whole r → (before after : List ℕ) → text ≡ before ++ (left_out_line r ++ after) → Part cells all whole r text done
+
+-- the row that was written last is one of all, and none of those to come
+abbrev Known : List Row → Option Row → List Row → Type 0
+Known whole None xs = Unit {0}
+Known whole (Some w) xs = Contains whole w × AllByRecursion (λ q. w ≡ q → ⊥) xs
 
 first : (x : Row) (xs : List Row) → Contains (x ∷ xs) x
 first x xs = (zero, omega arith, refl)
@@ -23,16 +47,20 @@ split : (x : Row) (xs : List Row) (r : Row) (k : ℕ) → k < length (x ∷ xs) 
 split x xs r zero small is = inl is
 split x xs r (suc k) small is = inr (k, omega (arith, small), is)
 
-module _ (cells : Cells) (all : List Row) where
+module _ (cells : Cells) (all whole : List Row) where
+  blocked : (last : Option Row) (x : Row) (xs : List Row) → Known whole last (x ∷ xs) → is_left_out all last x ≡ true → Blocked all whole x
+  blocked None x xs known out = inl out
+  blocked (Some w) x xs known out = inr (w, known.0, known.1.0, out)
+
   -- the row that comes first
-  here : (x : Row) (kind rest : List ℕ) (b : Bool) (skipped done : List Row)
-      → Part cells x (cond b (left_out_line x) (kind ++ lines (samples_of x (reading_at cells x))) ++ rest) (cond b skipped (x ∷ done))
-  here x kind rest true skipped done = with-line [] rest refl
-  here x kind rest false skipped done = with-samples kind rest (first x done) (append_assoc kind (lines (samples_of x (reading_at cells x))) rest)
+  here : (x : Row) (kind rest : List ℕ) (b : Bool) (skipped done : List Row) → (b ≡ true → Blocked all whole x)
+      → Part cells all whole x (cond b (left_out_line x) (kind ++ lines (samples_of x (reading_at cells x))) ++ rest) (cond b skipped (x ∷ done))
+  here x kind rest true skipped done out = with-line (out refl) [] rest refl
+  here x kind rest false skipped done out = with-samples kind rest (first x done) (append_assoc kind (lines (samples_of x (reading_at cells x))) rest)
 
   -- a row behind it
-  behind : (x r : Row) (line rest : List ℕ) (b : Bool) (skipped done : List Row) → Part cells r rest (cond b skipped done) → Part cells r (line ++ rest) (cond b skipped (x ∷ done))
-  behind x r line rest b skipped done (with-line before after is) = with-line (line ++ before) after (ap (λ t. line ++ t) is ∙ sym (append_assoc line before (left_out_line r ++ after)))
+  behind : (x r : Row) (line rest : List ℕ) (b : Bool) (skipped done : List Row) → Part cells all whole r rest (cond b skipped done) → Part cells all whole r (line ++ rest) (cond b skipped (x ∷ done))
+  behind x r line rest b skipped done (with-line out before after is) = with-line out (line ++ before) after (ap (λ t. line ++ t) is ∙ sym (append_assoc line before (left_out_line r ++ after)))
   behind x r line rest b skipped done (with-samples before after has is) =
       with-samples (line ++ before) after (kept b has) (ap (λ t. line ++ t) is ∙ sym (append_assoc line before (lines (samples_of r (reading_at cells r)) ++ after)))
     where
@@ -40,26 +68,136 @@ module _ (cells : Cells) (all : List Row) where
       kept true has = has
       kept false has = later x done r has
 
-  -- what follows a row, by whether it is left out
-  rest-of : (last : Option Row) (x : Row) (xs : List Row) (r : Row) (b : Bool) → ((next : Option Row) → Part cells r (rows_text cells all next xs) (written all next xs))
-      → Part cells r (rows_text cells all (cond b last (Some x)) xs) (cond b (written all last xs) (written all (Some x) xs))
-  rest-of last x xs r true h = h last
-  rest-of last x xs r false h = h (Some x)
+  known-next : (last : Option Row) (x : Row) (xs : List Row) → Known whole last (x ∷ xs) → Known whole last xs
+  known-next None x xs known = tt
+  known-next (Some w) x xs known = (known.0, known.1.1)
 
-  part-of : (xs : List Row) (last : Option Row) (r : Row) → Contains xs r → Part cells r (rows_text cells all last xs) (written all last xs)
-  part-of [] last r (k, small, is) = absurd (omega (arith, small))
-  part-of (x ∷ xs) last r (k, small, is) = elim (split x xs r k small is) [
+  abbrev AreAmong : List Row → Type 0
+  AreAmong done = (q : Row) → Contains done q → Contains whole q
+
+  -- what follows a row, by whether it is left out
+  rest-of : (last : Option Row) (x : Row) (xs : List Row) (r : Row) (b : Bool) → Known whole last (x ∷ xs) → AllByRecursion (λ q. x ≡ q → ⊥) xs
+      → AreAmong (cond b (written all last xs) (x ∷ written all (Some x) xs))
+      → ((next : Option Row) → Known whole next xs → AreAmong (written all next xs) → Part cells all whole r (rows_text cells all next xs) (written all next xs))
+      → Part cells all whole r (rows_text cells all (cond b last (Some x)) xs) (cond b (written all last xs) (written all (Some x) xs))
+  rest-of last x xs r true known apart among h = h last (known-next last x xs known) among
+  rest-of last x xs r false known apart among h = h (Some x) (among x (first x (written all (Some x) xs)), apart) (λ q has. among q (later x (written all (Some x) xs) q has))
+
+  part-of : (xs : List Row) (last : Option Row) (r : Row) → Pairs (λ p q. p ≡ q → ⊥) xs → Known whole last xs → AreAmong (written all last xs) → Contains xs r
+      → Part cells all whole r (rows_text cells all last xs) (written all last xs)
+  part-of [] last r apart known among (k, small, is) = absurd (omega (arith, small))
+  part-of (x ∷ xs) last r apart known among (k, small, is) = elim (split x xs r k small is) [
     | inl e ↦
-        let P : Row → Type 0 = λ q. Part cells q (rows_text cells all last (x ∷ xs)) (written all last (x ∷ xs)) in
-        subst P e (here x (type_text last x) (rows_text cells all (last_after all last x) xs) (is_left_out all last x) (written all last xs) (written all (Some x) xs))
+        let P : Row → Type 0 = λ q. Part cells all whole q (rows_text cells all last (x ∷ xs)) (written all last (x ∷ xs)) in
+        subst P e (here x (type_text last x) (rows_text cells all (last_after all last x) xs) (is_left_out all last x) (written all last xs) (written all (Some x) xs) (blocked last x xs known))
     | inr has ↦
         behind x r (row_text cells all last x) (rows_text cells all (last_after all last x) xs) (is_left_out all last x) (written all last xs) (written all (Some x) xs)
-        (rest-of last x xs r (is_left_out all last x) (λ next. part-of xs next r has))
+        (rest-of last x xs r (is_left_out all last x) known apart.0 among (λ next known among. part-of xs next r apart.1 known among has))
   ]
 
-  told-of : (text : List ℕ) (r : Row) → text ≡ rows_text cells all None all → Part cells r (rows_text cells all None all) (written all None all) → IsTold cells all text r
-  told-of text r e (with-samples before after has is) = shown before after has (e ∙ is)
-  told-of text r e (with-line before after is) = left_out before after (e ∙ is)
+part-all : (cells : Cells) (rows : List Row) (r : Row) → Pairs (λ p q. p ≡ q → ⊥) rows → Contains rows r → Part cells rows (written rows None rows) r (rows_text cells rows None rows) (written rows None rows)
+part-all cells rows r apart has = part-of cells rows (written rows None rows) rows None r apart tt (λ q h. h) has
+
+-- ---- which rows are written
+
+each-in : {A : Type 0} (P : A → Type 0) (xs : List A) (x : A) → AllByRecursion P xs → Contains xs x → P x
+each-in P xs x h (k, small, is) = subst P is (each-at P xs k x h small)
+
+-- two elements of a list are one, or the relation holds one way or the other
+either : {A : Type 0} (R : A → A → Type 0) (xs : List A) (x y : A) → Pairs R xs → Contains xs x → Contains xs y → (x ≡ y) ⊎ (R x y ⊎ R y x)
+either R [] x y p (k, small, is) hy = absurd (omega (arith, small))
+either R (z ∷ zs) x y p (zero, small, is) (zero, small', is') = inl (sym is ∙ is')
+either R (z ∷ zs) x y p (zero, small, is) (suc j, small', is') = inr (inl (subst (λ q. R q y) is (each-in (R z) zs y p.0 (j, omega (arith, small'), is'))))
+either R (z ∷ zs) x y p (suc k, small, is) (zero, small', is') = inr (inr (subst (λ q. R q x) is' (each-in (R z) zs x p.0 (k, omega (arith, small), is))))
+either R (z ∷ zs) x y p (suc k, small, is) (suc j, small', is') = either R zs x y p.1 (k, omega (arith, small), is) (j, omega (arith, small'), is')
+
+turned : (a b : Row) → AreApart a b → AreApart b a
+turned a b apart e = let h = apart (sym e) in (sym h.0, λ same. h.1 (sym same))
+
+written-stands : (rows : List Row) → IsSorted row_cmp rows → (r : Row) → Contains (written rows None rows) r → MayStand rows r
+written-stands rows up r has =
+    let done = written rows None rows in
+    record {
+      fit = each-in (λ q. are_fit q.kind q.labels ≡ true) done r (written-fit rows None rows) has;
+      free = each-in (λ q. is_taken rows q.name ≡ false) done r (written-free rows None rows) has;
+      apart = λ w its. elim (either IsBefore done w r (written-ascend rows up) its has) [
+        | inl e ↦ inl e
+        | inr (inl b) ↦ inr (before-apart w r b)
+        | inr (inr b) ↦ inr (turned r w (before-apart r w b))
+      ];
+    }
+
+-- a row that may stand is left out by a clash alone
+clash-left : (fit taken clash : Bool) → fit ≡ true → taken ≡ false → (not fit || (taken || clash)) ≡ true → clash ≡ true
+clash-left true false clash f t e = e
+clash-left true true clash f t e = absurd (let g : true ≡ false = t in cc)
+clash-left false taken clash f t e = absurd (let g : false ≡ true = f in cc)
+
+clash-parts : (n k l : Bool) → (n && (not k || l)) ≡ true → (n ≡ true) × (k ≡ true → l ≡ true)
+clash-parts true true l e = (refl, λ _. e)
+clash-parts true false l e = (refl, λ k. absurd (let g : false ≡ true = k in cc))
+clash-parts false k l e = absurd (let g : false ≡ true = e in cc)
+
+no-clash : (w r : Row) → AreApart w r → clashes (Some w) r ≡ true → ⊥
+no-clash w r apart e =
+    let parts = clash-parts (bytes_eq w.name r.name) (kind_eq w.kind r.kind) (pointwise label_eq w.labels r.labels) e in
+    let h = apart (same-bytes w.name r.name parts.0) in
+    h.1 (same-labels w.labels r.labels (parts.1 ((kind_eq-Decides w.kind r.kind).1 h.0)))
+
+blocked-stays : (rows : List Row) (r : Row) → Blocked rows (written rows None rows) r → MayStand rows r → ⊥
+blocked-stays rows r (inl out) may = absurd (let g : false ≡ true = clash-left (are_fit r.kind r.labels) (is_taken rows r.name) false may.fit may.free out in cc)
+blocked-stays rows r (inr (w, has, other, out)) may =
+    let clash = clash-left (are_fit r.kind r.labels) (is_taken rows r.name) (clashes (Some w) r) may.fit may.free out in
+    elim (may.apart w has) [
+      | inl e ↦ other e
+      | inr apart ↦ no-clash w r apart clash
+    ]
+
+-- ---- the rows are of different series
+
+abbrev series_of_row : Row → SeriesKey
+series_of_row r = series_at r.kind r.key
+
+key_total : IsTotalOrder series_key_cmp
+key_total = then_total (on_total (λ k. kind_number k.kind) nat_cmp_total) (on_total (λ k. k.key) (then_total (on_total (λ k. k.name) nat_list_cmp_total) (on_total (λ k. k.labels) (lists_total label_total))))
+
+keys-differ : (ks : List SeriesKey) → IsStrictlySortedBy series_key_cmp ks → Pairs (λ a b. a ≡ b → ⊥) ks
+unfolding IsStrictlySortedBy
+keys-differ [] up = tt
+keys-differ (k ∷ ks) up = (each-map (λ j. series_key_cmp k j ≡ Less) (λ j. k ≡ j → ⊥) (λ j less e. never series_key_cmp key_total j (ap (λ i. series_key_cmp i j) (sym e) ∙ less)) ks up.0, keys-differ ks up.1)
+
+abbrev same_row : Row → Row → Bool
+same_row a b = series_key_eq (series_of_row a) (series_of_row b)
+
+tests-from : (ks : List SeriesKey) → Pairs (λ a b. a ≡ b → ⊥) ks → IsDistinct same_row (map row_of ks)
+unfolding IsDistinct
+tests-from [] p = tt
+tests-from (k ∷ ks) p = (each k ks p.0, tests-from ks p.1)
+  where
+    none-true : (b : Bool) → (b ≡ true → ⊥) → b ≡ false
+    none-true true h = absurd (h refl)
+    none-true false h = refl
+
+    each : (k : SeriesKey) (ks : List SeriesKey) → AllByRecursion (λ j. k ≡ j → ⊥) ks → AllByRecursion (λ r. same_row (row_of k) r ≡ false) (map row_of ks)
+    each k [] h = tt
+    each k (j ∷ js) h = (none-true (series_key_eq k j) (λ e. h.0 (key_exact k j e)), each k js h.1)
+
+flips : (a b : Row) → same_row a b ≡ same_row b a
+flips a b =
+    let x = series_of_row a in
+    let y = series_of_row b in
+    let there = series_key_eq-Decides x y in
+    let back = series_key_eq-Decides y x in
+    same_from_decides (series_key_eq x y) (series_key_eq y x) there ((λ e. sym (back.0 e)), (λ e. back.1 (sym e)))
+
+differ-from : (rs : List Row) → IsDistinct same_row rs → Pairs (λ p q. p ≡ q → ⊥) rs
+unfolding IsDistinct
+differ-from [] h = tt
+differ-from (r ∷ rs) h =
+    (each-map (λ q. same_row r q ≡ false) (λ q. r ≡ q → ⊥) (λ q no e. let g : true ≡ false = sym ((series_key_eq-Decides (series_of_row r) (series_of_row q)).1 (ap series_of_row e)) ∙ no in cc) rs h.0, differ-from rs h.1)
+
+rows-apart : (cells : Cells) (rows : List Row) → AreRows cells rows → Pairs (λ p q. p ≡ q → ⊥) rows
+rows-apart cells rows are = differ-from rows (IsDistinct-IsPermutation same_row flips (map row_of are.keys) rows are.same (tests-from are.keys (keys-differ are.keys are.series.ascending)))
 
 row-held : (cells : Cells) (rows : List Row) → AreRows cells rows → (s : SeriesKey) → IsHeld cells s → Contains rows (row_of s)
 row-held cells rows are s held = Contains-permutation (map row_of are.keys) rows (row_of s) are.same (mapped ((are.series.held s).1 held))
@@ -67,5 +205,21 @@ row-held cells rows are s held = Contains-permutation (map row_of are.keys) rows
     mapped : Contains are.keys s → Contains (map row_of are.keys) (row_of s)
     mapped (k, small, is) = (k, omega (arith, small, map-length row_of are.keys), map-get row_of are.keys k (row_of s) s small ∙ ap row_of is)
 
-pub series-told : (cells : Cells) (text : List ℕ) (e : IsExposition cells text) (s : SeriesKey) → IsHeld cells s → IsTold cells e.rows text (row_of s)
-series-told cells text e s held = told-of cells e.rows text (row_of s) e.is (part-of cells e.rows e.rows None (row_of s) (row-held cells e.rows e.all s held))
+told-of : (cells : Cells) (rows : List Row) → IsSorted row_cmp rows → (text : List ℕ) (r : Row) → text ≡ rows_text cells rows None rows
+    → Part cells rows (written rows None rows) r (rows_text cells rows None rows) (written rows None rows) → IsTold cells rows text r
+told-of cells rows up text r e (with-samples before after has is) = shown (written-stands rows up r has) before after (e ∙ is)
+told-of cells rows up text r e (with-line out before after is) = left_out (blocked-stays rows r out) before after (e ∙ is)
+
+stands-of : (cells : Cells) (rows : List Row) (r : Row) → Part cells rows (written rows None rows) r (rows_text cells rows None rows) (written rows None rows) → MayStand rows r → Contains (written rows None rows) r
+stands-of cells rows r (with-samples before after has is) may = has
+stands-of cells rows r (with-line out before after is) may = absurd (blocked-stays rows r out may)
+
+module _ (cells : Cells) (text : List ℕ) (e : IsExposition cells text) (s : SeriesKey) (held : IsHeld cells s) where
+  part : Part cells e.rows (written e.rows None e.rows) (row_of s) (rows_text cells e.rows None e.rows) (written e.rows None e.rows)
+  part = part-all cells e.rows (row_of s) (rows-apart cells e.rows e.all) (row-held cells e.rows e.all s held)
+
+  pub series-told : IsTold cells e.rows text (row_of s)
+  series-told = told-of cells e.rows e.all.ordered text (row_of s) e.is part
+
+  pub series-written : Contains (written e.rows None e.rows) (row_of s) ↔ MayStand e.rows (row_of s)
+  series-written = (written-stands e.rows e.all.ordered (row_of s), stands-of cells e.rows (row_of s) part)

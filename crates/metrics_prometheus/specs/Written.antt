@@ -1,11 +1,12 @@
 -- The samples that a text of rows has.
-use Rattle.std.specs.Prelude.{if◌then◌else◌, ◌≡◌, ◌≢◌, ℕ, Bool, false, not, ◌&&◌, bytes_eq, nat_eq, List, [], ◌∷◌, ◌++◌, Option, None, Some, is_some, Contains}
+use Rattle.std.specs.Prelude.{if◌then◌else◌, ◌≡◌, ◌≢◌, ◌⊎◌, ℕ, Bool, true, false, not, ◌&&◌, bytes_eq, nat_eq, List, [], ◌∷◌, ◌++◌, Option, None, Some, is_some, Contains}
 use Rattle.std.specs.List.{flat_map, filter_map, AllByRecursion}
 use Rattle.std.specs.Cmp.Lexicographic.{pointwise}
 use Rattle.metrics_names.specs.Names.{label_eq}
 use Rattle.metrics_exporter.specs.Exporting.{Cells}
 use Rattle.metrics_prometheus.specs.Samples.{Sample, sample_line, lines}
-use Rattle.metrics_prometheus.specs.Exposition.{Row, is_left_out, samples_of, reading_at, type_line, left_out_line}
+use Rattle.metrics_prometheus.specs.Labels.{are_fit}
+use Rattle.metrics_prometheus.specs.Exposition.{Row, is_taken, is_left_out, samples_of, reading_at, type_line, left_out_line}
 
 -- the rows that are not left out
 abbrev pub written : List Row → Option Row → List Row → List Row
@@ -24,10 +25,17 @@ is_same_series a b = bytes_eq a.name b.name && pointwise label_eq a.labels b.lab
 abbrev pub AreApart : Row → Row → Type 0
 AreApart a b = a.name ≡ b.name → (a.kind ≡ b.kind) × (a.labels ≡ b.labels → ⊥)
 
--- a row is written, and its samples stand in the text; or the line stands there that says that it is left out
+-- nothing keeps a row from the text: its labels are fit, its name is none of a histogram's samples, and it is apart from each
+-- other row that is written
+pub record MayStand (rows : List Row) (r : Row) : Type 0 where
+  pub fit : are_fit r.kind r.labels ≡ true
+  pub free : is_taken rows r.name ≡ false
+  pub apart : (w : Row) → Contains (written rows None rows) w → (w ≡ r) ⊎ AreApart w r
+
+-- a row that may stand is written, and its samples stand in the text; of another the line stands there that it is left out
 pub data IsTold (cells : Cells) (rows : List Row) (text : List ℕ) (r : Row) : Type 0 where
-  shown : (before after : List ℕ) → Contains (written rows None rows) r → text ≡ before ++ (lines (samples_of r (reading_at cells r)) ++ after) → IsTold cells rows text r
-  left_out : (before after : List ℕ) → text ≡ before ++ (left_out_line r ++ after) → IsTold cells rows text r
+  shown : MayStand rows r → (before after : List ℕ) → text ≡ before ++ (lines (samples_of r (reading_at cells r)) ++ after) → IsTold cells rows text r
+  left_out : (MayStand rows r → ⊥) → (before after : List ℕ) → text ≡ before ++ (left_out_line r ++ after) → IsTold cells rows text r
 
 -- ---- the lines of a text
 

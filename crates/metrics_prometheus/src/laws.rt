@@ -1,5 +1,5 @@
 //! Laws of the exposition.
-ghost use Rattle.std.specs.Prelude.{◌≡◌, ◌∷◌, ◌++◌, ℕ, List, None, All, AllPairs, FitsSigned};
+ghost use Rattle.std.specs.Prelude.{◌≡◌, ◌↔◌, ◌∷◌, ◌++◌, ℕ, List, None, All, AllPairs, Contains, FitsSigned};
 ghost use Rattle.std.specs.Int.{w64};
 ghost use Rattle.std.specs.List.{IsDistinct, AllByRecursion};
 ghost use Rattle.metrics_names.specs.Names.{SeriesKey};
@@ -8,7 +8,7 @@ ghost use Rattle.metrics_prometheus.specs.Exposition.{IsExposition, row_of};
 ghost use Rattle.metrics_prometheus.specs.Written.{written, samples_written, is_same_series};
 ghost use Rattle.metrics_prometheus.specs.Samples.{Sample, series_text};
 ghost use Rattle.metrics_prometheus.specs.Reading.{HasNames, AreTexts, HoldsTexts, is_same_text, Ascend, NamesOnce};
-ghost use Rattle.metrics_prometheus.specs.Written.{AreApart, HasSamples, IsTold};
+ghost use Rattle.metrics_prometheus.specs.Written.{AreApart, HasSamples, MayStand, IsTold};
 
 use crate::rows::row_order;
 
@@ -24,7 +24,10 @@ pub fn exposition_law()
     // A name that is written has one kind.
     ensures apart { (cells : Cells) (text : List ℕ) (e : IsExposition cells text)
         → AllPairs AreApart (written e.rows None e.rows) }
-    // Each held series has its samples in the text, or a line that says that it is left out.
+    // A held series' row is written exactly where nothing keeps it from the text.
+    ensures written { (cells : Cells) (text : List ℕ) (e : IsExposition cells text) (s : SeriesKey) → IsHeld cells s
+        → Contains (written e.rows None e.rows) (row_of s) ↔ MayStand e.rows (row_of s) }
+    // It has its samples in the text, or, where something keeps it from the text, a line that says that it is left out.
     ensures told { (cells : Cells) (text : List ℕ) (e : IsExposition cells text) (s : SeriesKey) → IsHeld cells s
         → IsTold cells e.rows text (row_of s) }
 {

@@ -5,7 +5,7 @@ use Rattle.metrics_prometheus.proofs.PairLemmas.{pairs-map, pairs-places}
 use Rattle.metrics_prometheus.proofs.WrittenLemmas.{IsBefore, before-apart, written-ascend}
 use Rattle.metrics_prometheus.proofs.ReadingLemmas.{rows-read}
 use Rattle.metrics_prometheus.proofs.DistinctLemmas.{samples-distinct}
-use Rattle.metrics_prometheus.proofs.ToldLemmas.{series-told}
+use Rattle.metrics_prometheus.proofs.ToldLemmas.{series-told, series-written}
 use Rattle.metrics_prometheus.proofs.TextLineLemmas.{text-has}
 use Rattle.metrics_prometheus.proofs.laws.exposition_law.Goals as goal
 
@@ -22,3 +22,6 @@ returns-clause-told c = series-told
 
 pub returns-clause-samples : goal.returns-clause-samples
 returns-clause-samples c = text-has
+
+pub returns-clause-written : goal.returns-clause-written
+returns-clause-written c = series-written
