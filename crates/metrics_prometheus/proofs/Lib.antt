@@ -18,3 +18,4 @@ pub mod LabelLemmas
 pub mod HeldLemmas
 pub mod BackLemmas
 pub mod SampleLabelLemmas
+pub mod BucketLemmas

@@ -1,5 +1,5 @@
 -- What holds of each element of a list, and of each pair, by recursion.
-use Rattle.std.proofs.Common.{◌<◌, ℕ, zero, suc, List, [], ◌∷◌, ◌++◌, length, get_or, arith}
+use Rattle.std.proofs.Common.{◌≡◌, ◌<◌, ◌⊎◌, inl, inr, ℕ, zero, suc, List, [], ◌∷◌, ◌++◌, length, get_or, Contains, refl, subst, arith}
 use Rattle.std.specs.List.{AllByRecursion, AllPairs, flat_map}
 
 pub each-map : {A : Type 0} (P Q : A → Type 0) → ((x : A) → P x → Q x) → (xs : List A) → AllByRecursion P xs → AllByRecursion Q xs
@@ -75,3 +75,21 @@ pub pairs-from-places : {A : Type 0} (R : A → A → Type 0) (xs : List A) → 
 pairs-from-places R [] f = tt
 pairs-from-places R (x ∷ xs) f =
     (each-places (R x) xs (λ j d small. f zero (suc j) d (omega arith) (omega (arith, small))), pairs-from-places R xs (λ i j d below small. f (suc i) (suc j) d (omega (arith, below)) (omega (arith, small))))
+
+-- ---- elements of a list
+
+pub in-first : {A : Type 0} (x : A) (xs : List A) → Contains (x ∷ xs) x
+in-first x xs = (zero, omega arith, refl)
+
+pub in-later : {A : Type 0} (x : A) (xs : List A) (r : A) → Contains xs r → Contains (x ∷ xs) r
+in-later x xs r (k, small, is) = (suc k, omega (arith, small), is)
+
+pub in-split : {A : Type 0} (x : A) (xs : List A) (r : A) → Contains (x ∷ xs) r → (x ≡ r) ⊎ Contains xs r
+in-split x xs r (zero, small, is) = inl is
+in-split x xs r (suc k, small, is) = inr (k, omega (arith, small), is)
+
+pub in-none : {A : Type 0} (r : A) → Contains [] r → ⊥
+in-none r (k, small, is) = absurd (omega (arith, small))
+
+pub each-in : {A : Type 0} (P : A → Type 0) (xs : List A) (x : A) → AllByRecursion P xs → Contains xs x → P x
+each-in P xs x h (k, small, is) = subst P is (each-at P xs k x h small)

@@ -1,5 +1,5 @@
 -- What is held of a series is of its kind.
-use Rattle.std.proofs.Common.{◌≡◌, ◌∙◌, ◌<◌, ◌^◌, ℤ, List, [], ◌∷◌, map, Some, option_map, refl, ap, sym}
+use Rattle.std.proofs.Common.{◌≡◌, ◌∙◌, ◌<◌, ◌^◌, ℤ, List, [], ◌∷◌, map, Some, None, Option, option_map, subst, refl, ap, sym}
 use Rattle.std.specs.List.{All, AllByRecursion}
 use Rattle.std.specs.Int.{w64}
 use Rattle.std.specs.Int.RustNames.{FitsSigned}
@@ -12,10 +12,13 @@ use Rattle.metrics.specs.declared.handles.Update.TheVariants.{Increment, Absolut
 use Rattle.metrics.specs.declared.debugging.DebugValue.{DebugValue}
 use Rattle.metrics.specs.declared.debugging.DebugValue.TheVariants as value
 use Rattle.metrics.specs.Book.{new_value, updated, value_from}
-use Rattle.metrics_storage.specs.Histogram.{bucket_with}
-use Rattle.metrics_exporter.specs.Exporting.{Setup, Step, since, reading, cell_of, cells_after}
+use Rattle.metrics_storage.specs.Histogram.{Distribution, bucket_with, no_samples, with_samples}
+use Rattle.metrics_exporter.specs.Exporting.{Reading, count, level, samples, Setup, Step, since, reading, cell_of, cells_after}
 use Rattle.metrics_exporter.specs.Gathering.{series_at}
-use Rattle.metrics_prometheus.specs.Exposition.{Row, reading_at}
+use Rattle.metrics_prometheus.specs.Samples.{histogram_samples}
+use Rattle.metrics_prometheus.specs.Exposition.{Row, reading_at, samples_of}
+use Rattle.metrics_prometheus.specs.Reading.{AreBuckets}
+use Rattle.metrics_prometheus.proofs.BucketLemmas.{buckets-are}
 use Rattle.metrics_prometheus.proofs.PairLemmas.{each-places}
 use Rattle.metrics_prometheus.proofs.SampleLemmas.{IsSmall, ReadsAs}
 use Rattle.metrics_prometheus.proofs.SampleLabelLemmas.{IsOfKind}
@@ -88,3 +91,29 @@ rows-read setup xs fits r =
 
 pub rows-of-kind : (setup : Setup) (xs : List Step) (r : Row) → IsOfKind r.kind (reading_at (cells_after setup xs) r)
 rows-of-kind setup xs r = of-kind setup.bounds (series_at r.kind r.key) (since xs (series_at r.kind r.key))
+
+-- ---- samples at bounds are those of a list
+
+abbrev IsMade : List ℤ → Option Reading → Type 0
+IsMade bounds None = Unit {0}
+IsMade bounds (Some (count n)) = Unit {0}
+IsMade bounds (Some (level n)) = Unit {0}
+IsMade bounds (Some (samples d)) = (zs : List ℤ) × (with_samples zs (no_samples bounds) ≡ d)
+
+made-value : (bounds : List ℤ) (v : DebugValue) → IsMade bounds (Some (reading bounds v))
+made-value bounds (value.Counter n) = tt
+made-value bounds (value.Gauge n) = tt
+made-value bounds (value.Histogram zs) = (zs, refl)
+
+made : (bounds : List ℤ) (s : SeriesKey) (us : List Update) → IsMade bounds (option_map (λ c. c.reading) (cell_of bounds s us))
+made bounds s [] = tt
+made bounds s (u ∷ us) = made-value bounds (value_from (new_value s.kind) (u ∷ us))
+
+-- the samples of a row whose series is a histogram
+pub rows-buckets : (setup : Setup) (xs : List Step) (r : Row) (d : Distribution) → reading_at (cells_after setup xs) r ≡ Some (samples d)
+    → AreBuckets r.name r.labels d (samples_of r (reading_at (cells_after setup xs) r))
+rows-buckets setup xs r d e =
+    let s = series_at r.kind r.key in
+    let from = subst (IsMade setup.bounds) e (made setup.bounds s (since xs s)) in
+    let is = subst (λ k. AreBuckets r.name r.labels k (histogram_samples r.name r.labels k)) from.1 (buckets-are from.0 setup.bounds r.name r.labels) in
+    subst (λ o. AreBuckets r.name r.labels d (samples_of r o)) (sym e) is

@@ -18,7 +18,7 @@ use Rattle.metrics_prometheus.specs.Samples.{lines}
 use Rattle.metrics_prometheus.specs.Labels.{are_fit}
 use Rattle.metrics_prometheus.specs.Exposition.{Row, row_of, row_cmp, is_taken, clashes, is_left_out, type_text, samples_of, reading_at, left_out_line, row_text, last_after, rows_text, AreRows, IsExposition}
 use Rattle.metrics_prometheus.specs.Written.{written, AreApart, MayStand, IsTold, shown, left_out}
-use Rattle.metrics_prometheus.proofs.PairLemmas.{each-map, each-at, Pairs}
+use Rattle.metrics_prometheus.proofs.PairLemmas.{each-map, each-in, in-first, in-later, in-split, in-none, Pairs}
 use Rattle.metrics_prometheus.proofs.SameLemmas.{same-bytes, same-labels}
 use Rattle.metrics_prometheus.proofs.WrittenLemmas.{IsBefore, before-apart, never, label_total, written-ascend, written-fit, written-free}
 use Rattle.metrics_prometheus.proofs.RowLemmas.{map-length, map-get}
@@ -37,16 +37,6 @@ abbrev Known : List Row → Option Row → List Row → Type 0
 Known whole None xs = Unit {0}
 Known whole (Some w) xs = Contains whole w × AllByRecursion (λ q. w ≡ q → ⊥) xs
 
-first : (x : Row) (xs : List Row) → Contains (x ∷ xs) x
-first x xs = (zero, omega arith, refl)
-
-later : (x : Row) (xs : List Row) (r : Row) → Contains xs r → Contains (x ∷ xs) r
-later x xs r (k, small, is) = (suc k, omega (arith, small), is)
-
-split : (x : Row) (xs : List Row) (r : Row) (k : ℕ) → k < length (x ∷ xs) → get_or (x ∷ xs) k r ≡ r → (x ≡ r) ⊎ Contains xs r
-split x xs r zero small is = inl is
-split x xs r (suc k) small is = inr (k, omega (arith, small), is)
-
 module _ (cells : Cells) (all whole : List Row) where
   blocked : (last : Option Row) (x : Row) (xs : List Row) → Known whole last (x ∷ xs) → is_left_out all last x ≡ true → Blocked all whole x
   blocked None x xs known out = inl out
@@ -56,7 +46,7 @@ module _ (cells : Cells) (all whole : List Row) where
   here : (x : Row) (kind rest : List ℕ) (b : Bool) (skipped done : List Row) → (b ≡ true → Blocked all whole x)
       → Part cells all whole x (cond b (left_out_line x) (kind ++ lines (samples_of x (reading_at cells x))) ++ rest) (cond b skipped (x ∷ done))
   here x kind rest true skipped done out = with-line (out refl) [] rest refl
-  here x kind rest false skipped done out = with-samples kind rest (first x done) (append_assoc kind (lines (samples_of x (reading_at cells x))) rest)
+  here x kind rest false skipped done out = with-samples kind rest (in-first x done) (append_assoc kind (lines (samples_of x (reading_at cells x))) rest)
 
   -- a row behind it
   behind : (x r : Row) (line rest : List ℕ) (b : Bool) (skipped done : List Row) → Part cells all whole r rest (cond b skipped done) → Part cells all whole r (line ++ rest) (cond b skipped (x ∷ done))
@@ -66,7 +56,7 @@ module _ (cells : Cells) (all whole : List Row) where
     where
       kept : (b : Bool) → Contains (cond b skipped done) r → Contains (cond b skipped (x ∷ done)) r
       kept true has = has
-      kept false has = later x done r has
+      kept false has = in-later x done r has
 
   known-next : (last : Option Row) (x : Row) (xs : List Row) → Known whole last (x ∷ xs) → Known whole last xs
   known-next None x xs known = tt
@@ -81,27 +71,24 @@ module _ (cells : Cells) (all whole : List Row) where
       → ((next : Option Row) → Known whole next xs → AreAmong (written all next xs) → Part cells all whole r (rows_text cells all next xs) (written all next xs))
       → Part cells all whole r (rows_text cells all (cond b last (Some x)) xs) (cond b (written all last xs) (written all (Some x) xs))
   rest-of last x xs r true known apart among h = h last (known-next last x xs known) among
-  rest-of last x xs r false known apart among h = h (Some x) (among x (first x (written all (Some x) xs)), apart) (λ q has. among q (later x (written all (Some x) xs) q has))
+  rest-of last x xs r false known apart among h = h (Some x) (among x (in-first x (written all (Some x) xs)), apart) (λ q has. among q (in-later x (written all (Some x) xs) q has))
 
   part-of : (xs : List Row) (last : Option Row) (r : Row) → Pairs (λ p q. p ≡ q → ⊥) xs → Known whole last xs → AreAmong (written all last xs) → Contains xs r
       → Part cells all whole r (rows_text cells all last xs) (written all last xs)
-  part-of [] last r apart known among (k, small, is) = absurd (omega (arith, small))
-  part-of (x ∷ xs) last r apart known among (k, small, is) = elim (split x xs r k small is) [
+  part-of [] last r apart known among has = absurd (in-none r has)
+  part-of (x ∷ xs) last r apart known among has = elim (in-split x xs r has) [
     | inl e ↦
         let P : Row → Type 0 = λ q. Part cells all whole q (rows_text cells all last (x ∷ xs)) (written all last (x ∷ xs)) in
         subst P e (here x (type_text last x) (rows_text cells all (last_after all last x) xs) (is_left_out all last x) (written all last xs) (written all (Some x) xs) (blocked last x xs known))
-    | inr has ↦
+    | inr its ↦
         behind x r (row_text cells all last x) (rows_text cells all (last_after all last x) xs) (is_left_out all last x) (written all last xs) (written all (Some x) xs)
-        (rest-of last x xs r (is_left_out all last x) known apart.0 among (λ next known among. part-of xs next r apart.1 known among has))
+        (rest-of last x xs r (is_left_out all last x) known apart.0 among (λ next known among. part-of xs next r apart.1 known among its))
   ]
 
 part-all : (cells : Cells) (rows : List Row) (r : Row) → Pairs (λ p q. p ≡ q → ⊥) rows → Contains rows r → Part cells rows (written rows None rows) r (rows_text cells rows None rows) (written rows None rows)
 part-all cells rows r apart has = part-of cells rows (written rows None rows) rows None r apart tt (λ q h. h) has
 
 -- ---- which rows are written
-
-each-in : {A : Type 0} (P : A → Type 0) (xs : List A) (x : A) → AllByRecursion P xs → Contains xs x → P x
-each-in P xs x h (k, small, is) = subst P is (each-at P xs k x h small)
 
 -- two elements of a list are one, or the relation holds one way or the other
 either : {A : Type 0} (R : A → A → Type 0) (xs : List A) (x y : A) → Pairs R xs → Contains xs x → Contains xs y → (x ≡ y) ⊎ (R x y ⊎ R y x)

@@ -1,14 +1,16 @@
 -- What a reader of a text needs of its samples.
-use Rattle.std.specs.Prelude.{◌≡◌, Bool, true, false, List, bytes_eq}
+use Rattle.std.specs.Prelude.{◌≡◌, ◌↔◌, ◌≤◌, ◌<ℤ◌, ℕ, ℤ, Bool, true, false, List, ◌++◌, map, Contains, AllPairs, bytes_eq}
+use Rattle.std.specs.Fmt.{signed_decimal}
 use Rattle.std.specs.List.{AllByRecursion, IsDistinct}
 use Rattle.std.specs.List.Sorted.{IsStrictlySortedBy}
 use Rattle.std.specs.Str.{IsUtf8}
 use Rattle.std.specs.Cmp.Lexicographic.{slice_cmp}
 use Rattle.std.specs.Ordering.{nat_cmp, on}
 use Rattle.metrics_names.specs.Names.{LabelParts, SeriesKey}
+use Rattle.metrics_storage.specs.Histogram.{Distribution}
 use Rattle.metrics_exporter.specs.Exporting.{Cells, IsHeld}
 use Rattle.metrics_prometheus.specs.Names.{is_name}
-use Rattle.metrics_prometheus.specs.Samples.{Sample, series_text}
+use Rattle.metrics_prometheus.specs.Samples.{Sample, series_text, bucket_sample, histogram_ends}
 
 -- its name and those of its labels are such as Prometheus allows
 pub record HasNames (s : Sample) : Type 0 where
@@ -34,3 +36,14 @@ Ascend labels = IsStrictlySortedBy (on (λ l. l.0) (slice_cmp nat_cmp)) labels
 -- no two labels of a sample have one name
 abbrev pub NamesOnce : Sample → Type 0
 NamesOnce s = IsDistinct (λ l m. bytes_eq l.0 m.0) s.labels
+
+-- ---- the samples of a histogram
+
+-- each bucket once, by ascending bounds, with numbers that don't fall and aren't above the count; behind them +Inf's bucket,
+-- which has the count, the sum and the count
+pub record AreBuckets (name : List ℕ) (labels : List LabelParts) (d : Distribution) (ss : List Sample) : Type 0 where
+  pub buckets : List (ℤ × ℕ)
+  pub all : (b : ℤ × ℕ) → Contains buckets b ↔ Contains d.buckets b
+  pub ascend : AllPairs (λ a b. (a.0 <ℤ b.0) × (a.1 ≤ b.1)) buckets
+  pub within : AllByRecursion (λ b. b.1 ≤ d.count) buckets
+  pub are : ss ≡ map (λ b. bucket_sample name labels (signed_decimal b.0) b.1) buckets ++ histogram_ends name labels d

@@ -57,11 +57,14 @@ ascending buckets = with_buckets [] buckets
 abbrev pub bucket_sample : List ℕ → List LabelParts → List ℕ → ℕ → Sample
 bucket_sample name labels bound n = record { name = name ++ codes "_bucket"; labels = labels ++ (codes "le", bound) ∷ []; value = decimal n }
 
--- a bucket for each bound and one for all samples, their sum and their number
-abbrev pub histogram_samples : List ℕ → List LabelParts → Distribution → List Sample
-histogram_samples name labels d =
-    map (λ b. bucket_sample name labels (signed_decimal b.0) b.1) (ascending d.buckets)
-    ++ (bucket_sample name labels (codes "+Inf") d.count
+-- behind the buckets one for all samples, their sum and their number
+abbrev pub histogram_ends : List ℕ → List LabelParts → Distribution → List Sample
+histogram_ends name labels d =
+    bucket_sample name labels (codes "+Inf") d.count
     ∷ record { name = name ++ codes "_sum"; labels = labels; value = signed_decimal d.sum }
     ∷ record { name = name ++ codes "_count"; labels = labels; value = decimal d.count }
-    ∷ [])
+    ∷ []
+
+-- a bucket for each bound, and these
+abbrev pub histogram_samples : List ℕ → List LabelParts → Distribution → List Sample
+histogram_samples name labels d = map (λ b. bucket_sample name labels (signed_decimal b.0) b.1) (ascending d.buckets) ++ histogram_ends name labels d

@@ -1,13 +1,14 @@
 //! Laws of the exposition.
-ghost use Rattle.std.specs.Prelude.{◌≡◌, ◌↔◌, ◌∷◌, ◌++◌, ℕ, List, None, All, AllPairs, Contains, FitsSigned};
+ghost use Rattle.std.specs.Prelude.{◌≡◌, ◌↔◌, ◌∷◌, ◌++◌, ℕ, List, None, Some, All, AllPairs, Contains, FitsSigned};
 ghost use Rattle.std.specs.Int.{w64};
 ghost use Rattle.std.specs.List.{IsDistinct, AllByRecursion};
 ghost use Rattle.metrics_names.specs.Names.{SeriesKey};
-ghost use Rattle.metrics_exporter.specs.Exporting.{Cells, Setup, Step, IsHeld, cells_after};
-ghost use Rattle.metrics_prometheus.specs.Exposition.{IsExposition, row_of};
+ghost use Rattle.metrics_storage.specs.Histogram.{Distribution};
+ghost use Rattle.metrics_exporter.specs.Exporting.{samples, Cells, Setup, Step, IsHeld, cells_after};
+ghost use Rattle.metrics_prometheus.specs.Exposition.{IsExposition, Row, row_of, reading_at, samples_of};
 ghost use Rattle.metrics_prometheus.specs.Written.{written, samples_written, is_same_series};
 ghost use Rattle.metrics_prometheus.specs.Samples.{Sample, series_text};
-ghost use Rattle.metrics_prometheus.specs.Reading.{HasNames, AreTexts, HoldsTexts, is_same_text, Ascend, NamesOnce};
+ghost use Rattle.metrics_prometheus.specs.Reading.{AreBuckets, HasNames, AreTexts, HoldsTexts, is_same_text, Ascend, NamesOnce};
 ghost use Rattle.metrics_prometheus.specs.Written.{AreApart, HasSamples, MayStand, IsTold};
 
 use crate::rows::row_order;
@@ -24,6 +25,10 @@ pub fn exposition_law()
     // A name that is written has one kind.
     ensures apart { (cells : Cells) (text : List ℕ) (e : IsExposition cells text)
         → AllPairs AreApart (written e.rows None e.rows) }
+    // The buckets of a histogram ascend, and +Inf's, the last one, has the count.
+    ensures buckets { (setup : Setup) (xs : List Step) (r : Row) (d : Distribution)
+        → reading_at (cells_after setup xs) r ≡ Some (samples d)
+        → AreBuckets r.name r.labels d (samples_of r (reading_at (cells_after setup xs) r)) }
     // A held series' row is written exactly where nothing keeps it from the text.
     ensures written { (cells : Cells) (text : List ℕ) (e : IsExposition cells text) (s : SeriesKey) → IsHeld cells s
         → Contains (written e.rows None e.rows) (row_of s) ↔ MayStand e.rows (row_of s) }

@@ -3,7 +3,7 @@ use Rattle.metrics_exporter.specs.Exporting.{cells_after}
 use Rattle.metrics_prometheus.specs.Written.{written, AreApart}
 use Rattle.metrics_prometheus.proofs.PairLemmas.{pairs-map, pairs-places}
 use Rattle.metrics_prometheus.proofs.WrittenLemmas.{IsBefore, before-apart, written-ascend}
-use Rattle.metrics_prometheus.proofs.ReadingLemmas.{rows-read}
+use Rattle.metrics_prometheus.proofs.ReadingLemmas.{rows-read, rows-buckets}
 use Rattle.metrics_prometheus.proofs.DistinctLemmas.{samples-distinct}
 use Rattle.metrics_prometheus.proofs.ToldLemmas.{series-told, series-written}
 use Rattle.metrics_prometheus.proofs.TextLineLemmas.{text-has}
@@ -25,3 +25,6 @@ returns-clause-samples c = text-has
 
 pub returns-clause-written : goal.returns-clause-written
 returns-clause-written c = series-written
+
+pub returns-clause-buckets : goal.returns-clause-buckets
+returns-clause-buckets c = rows-buckets
