@@ -1,7 +1,7 @@
 //! Laws of the exposition.
 ghost use Rattle.std.specs.Prelude.{◌≡◌, ◌↔◌, ◌∷◌, ◌++◌, ℕ, List, None, Some, All, AllPairs, Contains, FitsSigned};
 ghost use Rattle.std.specs.Int.{w64};
-ghost use Rattle.std.specs.List.{IsDistinct, AllByRecursion};
+ghost use Rattle.std.specs.List.{IsDistinct};
 ghost use Rattle.metrics_names.specs.Names.{SeriesKey};
 ghost use Rattle.metrics_storage.specs.Histogram.{Distribution};
 ghost use Rattle.metrics_exporter.specs.Exporting.{samples, Cells, Setup, Step, IsHeld, cells_after};
@@ -15,7 +15,7 @@ use crate::rows::row_order;
 
 /// Takes nothing and does nothing: its contract has the laws of the text.
 pub fn exposition_law()
-    // A text consists of lines: these samples, in this order, and comments.
+    // A text consists of lines, which end at its line feeds: these samples, in this order, and comments, which begin with `#`.
     ensures samples { (cells : Cells) (text : List ℕ) (e : IsExposition cells text)
         → HasSamples text (samples_written cells e.rows) }
     // No two of these samples have the same name and labels.
@@ -43,7 +43,7 @@ pub fn exposition_law()
 pub fn exposition_text_law()
     // The names of samples and of their labels are such as Prometheus allows.
     ensures names { (cells : Cells) (text : List ℕ) (e : IsExposition cells text)
-        → AllByRecursion HasNames (samples_written cells e.rows) }
+        → All HasNames (samples_written cells e.rows) }
     // What stands in front of a sample's value tells its name and its labels, where the labels' values are texts.
     ensures read_back { (s t : Sample) → HasNames s → HasNames t → AreTexts s.labels → AreTexts t.labels
         → (x y : List ℕ) → series_text s ++ 32 ∷ x ≡ series_text t ++ 32 ∷ y
@@ -54,9 +54,9 @@ pub fn exposition_text_law()
         → IsDistinct is_same_text (samples_written (cells_after setup xs) e.rows) }
     // The labels of a written row ascend by their names.
     ensures labels { (cells : Cells) (text : List ℕ) (e : IsExposition cells text)
-        → AllByRecursion (λ r. Ascend r.labels) (written e.rows None e.rows) }
+        → All (λ r. Ascend r.labels) (written e.rows None e.rows) }
     // No sample has two labels of one name, a bucket's bound included.
     ensures once { (setup : Setup) (xs : List Step) (text : List ℕ) (e : IsExposition (cells_after setup xs) text)
-        → AllByRecursion NamesOnce (samples_written (cells_after setup xs) e.rows) }
+        → All NamesOnce (samples_written (cells_after setup xs) e.rows) }
 {
 }

@@ -1,3 +1,7 @@
+use Rattle.std.proofs.Common.{None}
+use Rattle.std.proofs.lemmas.List.Elements.{All-from_recursion}
+use Rattle.metrics_prometheus.specs.Written.{written, samples_written}
+use Rattle.metrics_prometheus.specs.Reading.{HasNames, Ascend, NamesOnce}
 use Rattle.metrics_exporter.specs.Exporting.{cells_after}
 use Rattle.metrics_prometheus.proofs.BackLemmas.{read-back}
 use Rattle.metrics_prometheus.proofs.ReadingLemmas.{rows-read, rows-of-kind}
@@ -6,7 +10,7 @@ use Rattle.metrics_prometheus.proofs.SampleLabelLemmas.{samples-named, labels-as
 use Rattle.metrics_prometheus.proofs.laws.exposition_text_law.Goals as goal
 
 pub returns-clause-names : goal.returns-clause-names
-returns-clause-names c = samples-named
+returns-clause-names c = λ cells text e. All-from_recursion HasNames (samples_written cells e.rows) (samples-named cells text e)
 
 pub returns-clause-read_back : goal.returns-clause-read_back
 returns-clause-read_back c = read-back
@@ -15,7 +19,9 @@ pub returns-clause-distinct : goal.returns-clause-distinct
 returns-clause-distinct c = λ setup xs text fits holds. texts-distinct (cells_after setup xs) holds (rows-read setup xs fits) text
 
 pub returns-clause-labels : goal.returns-clause-labels
-returns-clause-labels c = labels-ascend
+returns-clause-labels c = λ cells text e. All-from_recursion (λ r. Ascend r.labels) (written e.rows None e.rows) (labels-ascend cells text e)
 
 pub returns-clause-once : goal.returns-clause-once
-returns-clause-once c = λ setup xs. samples-once (cells_after setup xs) (rows-of-kind setup xs)
+returns-clause-once c = λ setup xs text e.
+    let cells = cells_after setup xs in
+    All-from_recursion NamesOnce (samples_written cells e.rows) (samples-once cells (rows-of-kind setup xs) text e)
