@@ -5,10 +5,11 @@ use Rattle.std.specs.List.{AllByRecursion}
 use Rattle.std.specs.Str.{IsUtf8}
 use Rattle.std.proofs.lemmas.Bool.{eqb-true, eq-eqb}
 use Rattle.std.proofs.lemmas.Str.{encode_same, encode_ascii, encodes-chars}
+use Rattle.std.proofs.lemmas.List.{append_cancel_right}
 use Rattle.metrics_names.specs.Names.{LabelParts}
 use Rattle.metrics_prometheus.specs.Names.{goes_on, is_name, escape, escaped}
-use Rattle.metrics_prometheus.specs.Samples.{Sample, label_text, joined, labels_text, series_text}
-use Rattle.metrics_prometheus.specs.Reading.{HasNames, AreTexts}
+use Rattle.metrics_prometheus.specs.Samples.{Sample, label_text, joined, labels_text, sample_line, series_text}
+use Rattle.metrics_prometheus.specs.Reading.{HasNames, AreTexts, CanBeRead}
 use Rattle.metrics_prometheus.proofs.NameLemmas.{IsNamed, named, AreKeyed}
 
 -- ---- names
@@ -175,8 +176,14 @@ same-line n m ls ks x y hn hm hl hk tl tk e =
     (sym (ap (λ z. n ++ z) (parts-of ls x)) ∙ e ∙ ap (λ z. m ++ z) (parts-of ks y)) in
     (first.0, same-labels ls ks x y hl hk tl tk (parts-of ls x ∙ first.1 ∙ sym (parts-of ks y)))
 
-pub read-back : (s t : Sample) → HasNames s → HasNames t → AreTexts s.labels → AreTexts t.labels → (x y : List ℕ) → series_text s ++ 32 ∷ x ≡ series_text t ++ 32 ∷ y
-    → (s.name ≡ t.name) × ((s.labels ≡ t.labels) × (x ≡ y))
-read-back s t hs ht us ut x y e =
-    same-line s.name t.name s.labels t.labels x y hs.name ht.name hs.keys ht.keys us ut
+pub read-back : (s t : Sample) → CanBeRead s → CanBeRead t → (x y : List ℕ) → series_text s ++ 32 ∷ x ≡ series_text t ++ 32 ∷ y → (s.name ≡ t.name) × ((s.labels ≡ t.labels) × (x ≡ y))
+read-back s t hs ht x y e =
+    same-line s.name t.name s.labels t.labels x y hs.names.name ht.names.name hs.names.keys ht.names.keys hs.texts ht.texts
     (sym (append_assoc s.name (labels_text s.labels) (32 ∷ x)) ∙ e ∙ append_assoc t.name (labels_text t.labels) (32 ∷ y))
+
+-- and the line tells the sample
+pub same-sample : (s t : Sample) → CanBeRead s → CanBeRead t → sample_line s ≡ sample_line t → s ≡ t
+same-sample s t hs ht e =
+    let h = same-line s.name t.name s.labels t.labels (s.value ++ 10 ∷ []) (t.value ++ 10 ∷ []) hs.names.name ht.names.name hs.names.keys ht.names.keys hs.texts ht.texts e in
+    let value = append_cancel_right s.value t.value (10 ∷ []) h.1.1 in
+    ap (λ n. record { name = n; labels = s.labels; value = s.value }) h.0 ∙ ap (λ l. record { name = t.name; labels = l; value = s.value }) h.1.0 ∙ ap (λ v. record { name = t.name; labels = t.labels; value = v }) value

@@ -10,9 +10,9 @@ use Rattle.metrics_exporter.specs.Exporting.{Cells}
 use Rattle.metrics_prometheus.specs.Samples.{Sample, series_text}
 use Rattle.metrics_prometheus.specs.Exposition.{Row, row_cmp, is_histogram_of, is_taken, samples_of, reading_at, IsExposition}
 use Rattle.metrics_prometheus.specs.Written.{written, samples_written, is_same_series}
-use Rattle.metrics_prometheus.specs.Reading.{HasNames, AreTexts, HoldsTexts, is_same_text}
+use Rattle.metrics_prometheus.specs.Reading.{CanBeRead, HoldsTexts, is_same_text}
 use Rattle.metrics_prometheus.proofs.BackLemmas.{read-back}
-use Rattle.metrics_prometheus.proofs.SampleLabelLemmas.{samples-named, samples-texts}
+use Rattle.metrics_prometheus.proofs.SampleLabelLemmas.{samples-read}
 use Rattle.metrics_prometheus.proofs.PairLemmas.{each-map, each-all, each-both, Pairs, pairs-with, pairs-flat}
 use Rattle.metrics_prometheus.proofs.SameLemmas.{both-true, bytes-same, same-bytes, same-labels}
 use Rattle.metrics_prometheus.proofs.SampleLemmas.{Differ, IsAmong, IsFree, ReadsAs, row-differs, rows-differ, or-first, or-second, both}
@@ -58,10 +58,10 @@ samples-distinct cells rows up reads = distinct-from (samples_written cells rows
 abbrev OtherText : Sample → Sample → Type 0
 OtherText s t = is_same_text s t ≡ false
 
-text-test : (s t : Sample) → HasNames s × AreTexts s.labels → HasNames t × AreTexts t.labels → Differ s t → OtherText s t
+text-test : (s t : Sample) → CanBeRead s → CanBeRead t → Differ s t → OtherText s t
 text-test s t hs ht differ =
     none-true (is_same_text s t) (λ e.
-    let same = read-back s t hs.0 ht.0 hs.1 ht.1 [] [] (ap (λ l. l ++ 32 ∷ []) (same-bytes (series_text s) (series_text t) e)) in
+    let same = read-back s t hs ht [] [] (ap (λ l. l ++ 32 ∷ []) (same-bytes (series_text s) (series_text t) e)) in
     differ same.0 same.1.0)
 
 texts-from : (ss : List Sample) → Pairs OtherText ss → IsDistinct is_same_text ss
@@ -72,5 +72,4 @@ texts-from (s ∷ ss) p = (p.0, texts-from ss p.1)
 pub texts-distinct : (cells : Cells) → HoldsTexts cells → ((r : Row) → ReadsAs r.kind (reading_at cells r)) → (text : List ℕ) (e : IsExposition cells text) → IsDistinct is_same_text (samples_written cells e.rows)
 texts-distinct cells holds reads text e =
     let ss = samples_written cells e.rows in
-    let known = each-both HasNames (λ s. AreTexts s.labels) ss (samples-named cells text e) (samples-texts cells holds reads text e) in
-    texts-from ss (pairs-with (λ s. HasNames s × AreTexts s.labels) Differ OtherText text-test ss known (samples-differ cells e.rows e.all.ordered reads))
+    texts-from ss (pairs-with CanBeRead Differ OtherText text-test ss (samples-read cells holds reads text e) (samples-differ cells e.rows e.all.ordered reads))

@@ -19,3 +19,4 @@ pub mod HeldLemmas
 pub mod BackLemmas
 pub mod SampleLabelLemmas
 pub mod BucketLemmas
+pub mod OneReadingLemmas

@@ -16,7 +16,7 @@ use Rattle.metrics_prometheus.specs.Labels.{are_fit, shown_labels}
 use Rattle.metrics_prometheus.specs.Samples.{Sample, ascending, bucket_sample, histogram_samples}
 use Rattle.metrics_prometheus.specs.Exposition.{Row, row_of, samples_of, reading_at, AreRows, IsExposition}
 use Rattle.metrics_prometheus.specs.Written.{written, samples_written}
-use Rattle.metrics_prometheus.specs.Reading.{HasNames, AreTexts, HoldsTexts, Ascend, NamesOnce}
+use Rattle.metrics_prometheus.specs.Reading.{HasNames, CanBeRead, AreTexts, HoldsTexts, Ascend, NamesOnce}
 use Rattle.metrics_prometheus.proofs.PairLemmas.{each-map, each-all, each-both, each-append, each-flat}
 use Rattle.metrics_prometheus.proofs.WrittenLemmas.{written-each, written-fit}
 use Rattle.metrics_prometheus.proofs.NameLemmas.{metric-name}
@@ -110,9 +110,14 @@ row-texts r (Some (samples d)) k h =
     each-append HasTexts (map (λ b. bucket_sample r.name r.labels (signed_decimal b.0) b.1) (ascending d.buckets)) _ (buckets-texts r h (ascending d.buckets) (with-each IsSmall [] d.buckets tt k.1))
     (bounded-texts r.labels (codes "+Inf") h infinity-text, (h, (h, tt)))
 
-pub samples-texts : (cells : Cells) → HoldsTexts cells → ((r : Row) → ReadsAs r.kind (reading_at cells r)) → (text : List ℕ) (e : IsExposition cells text) → AllByRecursion HasTexts (samples_written cells e.rows)
+samples-texts : (cells : Cells) → HoldsTexts cells → ((r : Row) → ReadsAs r.kind (reading_at cells r)) → (text : List ℕ) (e : IsExposition cells text) → AllByRecursion HasTexts (samples_written cells e.rows)
 samples-texts cells holds reads text e =
     let done = written e.rows None e.rows in
     let rows = each-row (λ r. AreTexts r.labels) cells e.rows e.all (λ s held. labels-texts s.key.labels (holds s held)) in
     each-flat (λ r. samples_of r (reading_at cells r)) HasTexts done
     (each-map (λ r. AreTexts r.labels) (λ r. AllByRecursion HasTexts (samples_of r (reading_at cells r))) (λ r h. row-texts r (reading_at cells r) (reads r) h) done (written-each (λ r. AreTexts r.labels) e.rows None e.rows rows))
+
+pub samples-read : (cells : Cells) → HoldsTexts cells → ((r : Row) → ReadsAs r.kind (reading_at cells r)) → (text : List ℕ) (e : IsExposition cells text) → AllByRecursion CanBeRead (samples_written cells e.rows)
+samples-read cells holds reads text e =
+    let ss = samples_written cells e.rows in
+    each-map (λ s. HasNames s × HasTexts s) CanBeRead (λ s h. record { names = h.0; texts = h.1 }) ss (each-both HasNames HasTexts ss (samples-named cells text e) (samples-texts cells holds reads text e))

@@ -21,7 +21,12 @@ pub record HasNames (s : Sample) : Type 0 where
 abbrev pub AreTexts : List LabelParts → Type 0
 AreTexts labels = AllByRecursion (λ l. IsUtf8 l.1) labels
 
--- those of all held series are: keys are made of strings
+-- a sample that is told by its line
+pub record CanBeRead (s : Sample) : Type 0 where
+  pub names : HasNames s
+  pub texts : AreTexts s.labels
+
+-- the values of all held series' labels are texts: keys are made of strings
 abbrev pub HoldsTexts : Cells → Type 0
 HoldsTexts cells = (s : SeriesKey) → IsHeld cells s → AreTexts s.key.labels
 

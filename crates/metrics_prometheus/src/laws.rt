@@ -8,7 +8,7 @@ ghost use Rattle.metrics_exporter.specs.Exporting.{samples, Cells, Setup, Step, 
 ghost use Rattle.metrics_prometheus.specs.Exposition.{IsExposition, Row, row_of, reading_at, samples_of};
 ghost use Rattle.metrics_prometheus.specs.Written.{written, samples_written, is_same_series};
 ghost use Rattle.metrics_prometheus.specs.Samples.{Sample, series_text};
-ghost use Rattle.metrics_prometheus.specs.Reading.{AreBuckets, HasNames, AreTexts, HoldsTexts, is_same_text, Ascend, NamesOnce};
+ghost use Rattle.metrics_prometheus.specs.Reading.{AreBuckets, HasNames, CanBeRead, HoldsTexts, is_same_text, Ascend, NamesOnce};
 ghost use Rattle.metrics_prometheus.specs.Written.{AreApart, HasSamples, MayStand, IsTold};
 
 use crate::rows::row_order;
@@ -44,10 +44,17 @@ pub fn exposition_text_law()
     // The names of samples and of their labels are such as Prometheus allows.
     ensures names { (cells : Cells) (text : List ℕ) (e : IsExposition cells text)
         → All HasNames (samples_written cells e.rows) }
-    // What stands in front of a sample's value tells its name and its labels, where the labels' values are texts.
-    ensures read_back { (s t : Sample) → HasNames s → HasNames t → AreTexts s.labels → AreTexts t.labels
+    // They and the values of the labels can be read.
+    ensures readable { (setup : Setup) (xs : List Step) (text : List ℕ) → All (FitsSigned w64) setup.bounds
+        → HoldsTexts (cells_after setup xs) → (e : IsExposition (cells_after setup xs) text)
+        → All CanBeRead (samples_written (cells_after setup xs) e.rows) }
+    // What stands in front of a sample's value tells its name and its labels.
+    ensures read_back { (s t : Sample) → CanBeRead s → CanBeRead t
         → (x y : List ℕ) → series_text s ++ 32 ∷ x ≡ series_text t ++ 32 ∷ y
         → (s.name ≡ t.name) × ((s.labels ≡ t.labels) × (x ≡ y)) }
+    // A text has one list of samples at most.
+    ensures one_reading { (text : List ℕ) (ss ts : List Sample) → HasSamples text ss → HasSamples text ts
+        → All CanBeRead ss → All CanBeRead ts → ss ≡ ts }
     // No two samples have the same text in front of their values.
     ensures distinct { (setup : Setup) (xs : List Step) (text : List ℕ) → All (FitsSigned w64) setup.bounds
         → HoldsTexts (cells_after setup xs) → (e : IsExposition (cells_after setup xs) text)

@@ -1,12 +1,13 @@
 use Rattle.std.proofs.Common.{None}
 use Rattle.std.proofs.lemmas.List.Elements.{All-from_recursion}
 use Rattle.metrics_prometheus.specs.Written.{written, samples_written}
-use Rattle.metrics_prometheus.specs.Reading.{HasNames, Ascend, NamesOnce}
+use Rattle.metrics_prometheus.specs.Reading.{HasNames, CanBeRead, Ascend, NamesOnce}
 use Rattle.metrics_exporter.specs.Exporting.{cells_after}
 use Rattle.metrics_prometheus.proofs.BackLemmas.{read-back}
+use Rattle.metrics_prometheus.proofs.OneReadingLemmas.{one-reading}
 use Rattle.metrics_prometheus.proofs.ReadingLemmas.{rows-read, rows-of-kind}
 use Rattle.metrics_prometheus.proofs.DistinctLemmas.{texts-distinct}
-use Rattle.metrics_prometheus.proofs.SampleLabelLemmas.{samples-named, labels-ascend, samples-once}
+use Rattle.metrics_prometheus.proofs.SampleLabelLemmas.{samples-named, samples-read, labels-ascend, samples-once}
 use Rattle.metrics_prometheus.proofs.laws.exposition_text_law.Goals as goal
 
 pub returns-clause-names : goal.returns-clause-names
@@ -14,6 +15,14 @@ returns-clause-names c = λ cells text e. All-from_recursion HasNames (samples_w
 
 pub returns-clause-read_back : goal.returns-clause-read_back
 returns-clause-read_back c = read-back
+
+pub returns-clause-readable : goal.returns-clause-readable
+returns-clause-readable c = λ setup xs text fits holds e.
+    let cells = cells_after setup xs in
+    All-from_recursion CanBeRead (samples_written cells e.rows) (samples-read cells holds (rows-read setup xs fits) text e)
+
+pub returns-clause-one_reading : goal.returns-clause-one_reading
+returns-clause-one_reading c = one-reading
 
 pub returns-clause-distinct : goal.returns-clause-distinct
 returns-clause-distinct c = λ setup xs text fits holds. texts-distinct (cells_after setup xs) holds (rows-read setup xs fits) text
