@@ -1,6 +1,7 @@
 //! The labels of a series as Prometheus is shown them.
-ghost use Rattle.std.specs.Prelude.{◌≡◌, ◌≤◌, length, insert, bytes_eq, MatchResult};
+ghost use Rattle.std.specs.Prelude.{◌≡◌, ◌≤◌, length, insert, bytes_eq, MatchResult, OnOk, All};
 ghost use Rattle.std.specs.List.{list_any};
+ghost use Rattle.std.specs.Str.{IsUtf8};
 ghost use Rattle.metrics.specs.declared.error.Error.TheVariants.{Memory as OutOfMemory};
 ghost use Rattle.metrics_names.specs.Names.{LabelParts, label_cmp};
 ghost use Rattle.metrics_prometheus.specs.Labels.{placed, added, shown_labels, repeats, is_reserved, are_fit};
@@ -28,12 +29,19 @@ fn place_of(labels: &[Label], label: &Label) -> usize
     labels.len()
 }
 
+/// Does nothing: its contract says that a string is UTF-8.
+fn is_text(value: &str)
+    ensures { IsUtf8 value.now }
+{}
+
 /// Adds a label by its name as Prometheus allows it, unless it has no value.
 fn add_label(alloc: Global, shown: &mut Vec<Label>, label: &Label) -> Result<(), Error>
-    ensures { MatchResult result (λ _. shown.new.items ≡ added label.now.0 label.now.1 shown.old.items)
+    ensures shown { MatchResult result (λ _. shown.new.items ≡ added label.now.0 label.now.1 shown.old.items)
         (λ e. e ≡ OutOfMemory) }
+    ensures text { OnOk result (IsUtf8 label.now.1) }
 {
     let value = label.value();
+    is_text(value);
     if value.is_empty() {
         return Ok(());
     }
@@ -46,7 +54,8 @@ fn add_label(alloc: Global, shown: &mut Vec<Label>, label: &Label) -> Result<(),
 
 /// The labels that Prometheus is shown, in order of their names.
 pub(crate) fn shown_labels(alloc: Global, labels: &[Label]) -> Result<Vec<Label>, Error>
-    ensures { MatchResult result (λ shown. shown.items ≡ shown_labels labels.now) (λ e. e ≡ OutOfMemory) }
+    ensures shown { MatchResult result (λ shown. shown.items ≡ shown_labels labels.now) (λ e. e ≡ OutOfMemory) }
+    ensures texts { OnOk result (All (λ l. IsUtf8 l.1) labels.now) }
 {
     let mut shown = Vec::new(alloc);
     for label in labels {

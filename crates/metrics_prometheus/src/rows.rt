@@ -1,9 +1,11 @@
 //! The held series in the order in which they are written.
-ghost use Rattle.std.specs.Prelude.{◌≡◌, MatchResult, map};
+ghost use Rattle.std.specs.Prelude.{◌≡◌, MatchResult, OnOk, All, map};
+ghost use Rattle.std.specs.Str.{IsUtf8};
 ghost use Rattle.metrics.specs.declared.error.Error.TheVariants.{Memory as OutOfMemory};
 ghost use Rattle.metrics_exporter.specs.Gathering.{all_shown, series_at};
 ghost use Rattle.metrics_exporter.specs.Kept.{held_cells};
 ghost use Rattle.metrics_prometheus.specs.Exposition.{row_of, row_cmp, AreRows};
+ghost use Rattle.metrics_prometheus.specs.Reading.{HoldsTexts};
 ghost use Rattle.metrics_prometheus.specs.Rows.{RowParts, row_shown, rows_shown};
 
 use crate::labels::shown_labels;
@@ -16,7 +18,8 @@ use std::alloc::Global;
 pub(crate) type Row<'a> = (KeyName, MetricKind, Items<Label>, &'a Key);
 
 fn row_of<'a>(alloc: Global, kind: MetricKind, key: &'a Key) -> Result<Row<'a>, Error>
-    ensures { MatchResult result (λ row. row_shown row ≡ row_of (series_at kind key.now)) (λ e. e ≡ OutOfMemory) }
+    ensures row { MatchResult result (λ row. row_shown row ≡ row_of (series_at kind key.now)) (λ e. e ≡ OutOfMemory) }
+    ensures texts { OnOk result (All (λ l. IsUtf8 l.1) key.now.labels) }
 {
     let name = metric_name(alloc, key.name())?;
     let labels = shown_labels(alloc, key.labels())?;
@@ -30,8 +33,9 @@ fn row_of<'a>(alloc: Global, kind: MetricKind, key: &'a Key) -> Result<Row<'a>, 
 
 /// A row for each series, in their order.
 fn rows_of<'a>(alloc: Global, series: &[SeriesRef<'a>]) -> Result<Vec<Row<'a>>, Error>
-    ensures { MatchResult result (λ rows. rows_shown rows.items ≡ map row_of (all_shown series.now))
+    ensures rows { MatchResult result (λ rows. rows_shown rows.items ≡ map row_of (all_shown series.now))
         (λ e. e ≡ OutOfMemory) }
+    ensures texts { OnOk result (All (λ s. All (λ l. IsUtf8 l.1) s.1.now.labels) series.now) }
 {
     let mut rows = Vec::with_capacity(alloc, series.len())?;
     for entry in series {
@@ -48,7 +52,9 @@ pub(crate) fn row_order()
 
 /// The rows of the held series, in order.
 pub(crate) fn sorted_rows<'a>(alloc: Global, exporter: &'a Exporter) -> Result<Vec<Row<'a>>, Error>
-    ensures { MatchResult result (λ rows. AreRows (held_cells exporter.now) (rows_shown rows.items)) (λ e. e ≡ OutOfMemory) }
+    ensures rows { MatchResult result (λ rows. AreRows (held_cells exporter.now) (rows_shown rows.items))
+        (λ e. e ≡ OutOfMemory) }
+    ensures texts { OnOk result (HoldsTexts (held_cells exporter.now)) }
 {
     let series = exporter.series()?;
     let mut rows = rows_of(alloc, &series)?;

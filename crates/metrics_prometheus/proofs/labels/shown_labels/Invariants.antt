@@ -1,7 +1,13 @@
 -- The labels so far, and those to come.
-use Rattle.std.proofs.Common.{◌≡◌, drop}
+use Rattle.std.proofs.Common.{◌≡◌, drop, take}
+use Rattle.std.specs.Prelude.{All}
+use Rattle.std.specs.Str.{IsUtf8}
 use Rattle.metrics_prometheus.specs.Labels.{with_labels, shown_labels}
 use Rattle.metrics_prometheus.proofs.labels.shown_labels.Given as goal
 
 abbrev pub invariant-loop-label : goal.invariant-loop-label
-invariant-loop-label l = with_labels l.shown.items (drop l.label-index l.labels) ≡ shown_labels l.labels
+invariant-loop-label l =
+    record {
+      shown : with_labels l.shown.items (drop l.label-index l.labels) ≡ shown_labels l.labels;
+      texts : All (λ m. IsUtf8 m.1) (take l.label-index l.labels);
+    }
