@@ -1,5 +1,5 @@
 -- What stands in front of a sample's value tells its name and its labels.
-use Rattle.std.proofs.Common.{◌≡◌, ◌≢◌, ◌∙◌, ℕ, Bool, true, false, cond, List, [], ◌∷◌, ◌++◌, codes, chars, drop, get_or, nat_eq, append_assoc, append-nil, refl, ap, sym, subst, arith}
+use Rattle.std.proofs.Common.{◌≡◌, ◌≢◌, ◌∙◌, ℕ, Bool, true, false, cond, List, [], ◌∷◌, ◌++◌, codes, chars, drop, get_or, nat_eq, append_assoc, refl, ap, sym, arith}
 use Rattle.std.specs.Prelude.{encode_utf8, flat_map, encode_utf8_all}
 use Rattle.std.specs.List.{AllByRecursion}
 use Rattle.std.specs.Str.{IsUtf8}
@@ -9,8 +9,8 @@ use Rattle.std.proofs.lemmas.List.{append_cancel_right}
 use Rattle.metrics_names.specs.Names.{LabelParts}
 use Rattle.metrics_prometheus.specs.Names.{goes_on, is_name, escape, escaped}
 use Rattle.metrics_prometheus.specs.Samples.{Sample, label_text, joined, labels_text, sample_line, series_text}
-use Rattle.metrics_prometheus.specs.Reading.{HasNames, AreTexts, CanBeRead}
-use Rattle.metrics_prometheus.proofs.NameLemmas.{IsNamed, named, AreKeyed}
+use Rattle.metrics_prometheus.specs.Reading.{AreTexts, CanBeRead}
+use Rattle.metrics_prometheus.proofs.NameLemmas.{named, AreKeyed}
 
 -- ---- names
 

@@ -1,14 +1,14 @@
 -- A histogram's buckets as they are written.
-use Rattle.std.proofs.Common.{◌≡◌, ◌∙◌, ◌<◌, ◌≤◌, ◌+◌, ◌⊎◌, inl, inr, ℕ, ℤ, Bool, true, false, cond, List, [], ◌∷◌, ◌++◌, map, length, Contains, refl, ap, sym, subst, arith}
+use Rattle.std.proofs.Common.{◌≡◌, ◌∙◌, ◌≤◌, ◌+◌, ◌⊎◌, inl, inr, ℕ, ℤ, Bool, true, false, cond, List, [], ◌∷◌, map, Contains, refl, ap, sym, subst, arith}
 use Rattle.std.specs.Prelude.{int_lt, int_le, ◌<ℤ◌}
-use Rattle.std.specs.List.{AllByRecursion, count_by}
+use Rattle.std.specs.List.{AllByRecursion}
 use Rattle.std.proofs.lemmas.Int.{ints}
 use Rattle.std.proofs.lemmas.List.Sums.{count_by-le-length, sum_by-cons}
 use Rattle.metrics_names.specs.Names.{LabelParts}
-use Rattle.metrics_storage.specs.Histogram.{Distribution, at_most, bucket_with, no_samples, with_samples}
+use Rattle.metrics_storage.specs.Histogram.{at_most, bucket_with, no_samples, with_samples}
 use Rattle.metrics_prometheus.specs.Samples.{bucket_placed, with_buckets, ascending, histogram_samples}
 use Rattle.metrics_prometheus.specs.Reading.{AreBuckets}
-use Rattle.metrics_prometheus.proofs.PairLemmas.{each-map, each-all, each-in, in-first, in-later, in-split, in-none, Pairs, pairs-map, pairs-with, pairs-places}
+use Rattle.metrics_prometheus.proofs.PairLemmas.{each-map, in-first, in-later, in-split, in-none, pairs-with, pairs-places}
 use Rattle.metrics_prometheus.proofs.SampleLemmas.{IsBelow, with-each, with-up}
 
 -- ---- each bucket stands there
@@ -24,9 +24,9 @@ placed-only b (c ∷ cs) x h = by-tests (placed-only b cs x) (int_lt b.0 c.0) (i
     by-tests rest false true h = elim (in-split c (bucket_placed b cs) x h) [
       | inl e ↦ inr (subst (Contains (c ∷ cs)) e (in-first c cs))
       | inr its ↦ elim (rest its) [
-          | inl e ↦ inl e
-          | inr its ↦ inr (in-later c cs x its)
-        ]
+        | inl e ↦ inl e
+        | inr its ↦ inr (in-later c cs x its)
+      ]
     ]
 
 placed-keeps : (b : ℤ × ℕ) (cs : List (ℤ × ℕ)) (x : ℤ × ℕ) → Contains cs x → Contains (bucket_placed b cs) x
@@ -80,9 +80,9 @@ module _ (samples : List ℤ) where
   with-only done (b ∷ bs) x h = elim (with-only (bucket_placed b done) bs x h) [
     | inr its ↦ inr (in-later b bs x its)
     | inl its ↦ elim (placed-only b done x its) [
-        | inl e ↦ inr (subst (Contains (b ∷ bs)) e (in-first b bs))
-        | inr its ↦ inl its
-      ]
+      | inl e ↦ inr (subst (Contains (b ∷ bs)) e (in-first b bs))
+      | inr its ↦ inl its
+    ]
   ]
 
   -- ---- the numbers don't fall
@@ -121,10 +121,13 @@ module _ (samples : List ℤ) where
       let all-counted = with-each IsCounted [] d.buckets tt counted in
       record {
         buckets = done;
-        all = λ b. ((λ h. elim (with-only [] d.buckets b h) [
-          | inl its ↦ absurd (in-none b its)
-          | inr its ↦ its
-        ]), with-has [] d.buckets b tt counted);
+        all = λ b. (
+          (λ h. elim (with-only [] d.buckets b h) [
+            | inl its ↦ absurd (in-none b its)
+            | inr its ↦ its
+          ]),
+          with-has [] d.buckets b tt counted,
+        );
         ascend = pairs-places IsNext done (pairs-with IsCounted IsBelow IsNext next-from done all-counted (with-up [] d.buckets tt));
         within = each-map IsCounted (λ b. b.1 ≤ d.count) (λ b h. let le = count_by-le-length (λ x. int_le x b.0) samples in omega (arith, h, le)) done all-counted;
         are = refl;

@@ -1,17 +1,16 @@
 -- No line feed stands in a name, a label's value or a number.
-use Rattle.std.proofs.Common.{◌≡◌, ◌≢◌, ◌∙◌, ◌<◌, ◌≤◌, ◌⊎◌, ◌+◌, ◌/◌, ◌%◌, inl, inr, ℕ, ℤ, pos, negsuc, zero, suc, Bool, true, false, ◌||◌, List, [], ◌∷◌, ◌++◌, map, codes, chars, length, get_or, append-nil, append_assoc, nat_eq, nat_lt, refl, ap, sym, subst, arith}
+use Rattle.std.proofs.Common.{◌≡◌, ◌≢◌, ◌∙◌, ◌<◌, ◌+◌, ◌/◌, ◌%◌, ℕ, ℤ, pos, negsuc, zero, suc, Bool, true, false, ◌||◌, List, [], ◌∷◌, ◌++◌, codes, chars, length, get_or, append-nil, nat_eq, nat_lt, refl, ap, sym, arith}
 use Rattle.std.specs.Prelude.{encode_utf8, flat_map, ◌==◌}
 use Rattle.std.specs.List.{AllByRecursion, list_any}
 use Rattle.std.specs.Fmt.{signed_decimal, decimal, digits, digits_onto, digit_glyph}
-use Rattle.std.proofs.lemmas.Bool.{cond_both, eqb-true, eq-eqb}
-use Rattle.std.proofs.lemmas.Bool.Decides.{nat_tests}
+use Rattle.std.proofs.lemmas.Bool.{cond_both, eq-eqb}
 use Rattle.std.proofs.lemmas.Str.{inside_one}
 use Rattle.std.proofs.lemmas.Grind.{get_or_default_zero}
 use Rattle.metrics_names.specs.Names.{LabelParts}
 use Rattle.metrics_prometheus.specs.Names.{goes_on, is_name, escape, escaped}
-use Rattle.metrics_prometheus.specs.Samples.{Sample, label_text, joined, labels_text, sample_line}
-use Rattle.metrics_prometheus.proofs.PairLemmas.{each-map, each-append, each-places, each-flat}
-use Rattle.metrics_prometheus.proofs.NameLemmas.{IsNamed, named, AreKeyed}
+use Rattle.metrics_prometheus.specs.Samples.{label_text, joined, labels_text}
+use Rattle.metrics_prometheus.proofs.PairLemmas.{each-map, each-append, each-places}
+use Rattle.metrics_prometheus.proofs.NameLemmas.{named, AreKeyed}
 
 abbrev pub HasNoFeed : List ℕ → Type 0
 HasNoFeed bs = AllByRecursion (λ c. c ≢ 10) bs

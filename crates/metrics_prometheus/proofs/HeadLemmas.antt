@@ -1,7 +1,7 @@
 -- A sample's line begins with a character of a name, and so is no comment.
 use Rattle.std.proofs.Common.{◌≡◌, ◌∙◌, ℕ, Bool, true, false, List, [], ◌∷◌, ◌++◌, nat_eq, refl, ap, sym}
 use Rattle.std.proofs.lemmas.Bool.{eqb-true}
-use Rattle.metrics_prometheus.specs.Names.{goes_on, begins, is_name}
+use Rattle.metrics_prometheus.specs.Names.{goes_on, is_name}
 use Rattle.metrics_prometheus.specs.Written.{begins_comment}
 use Rattle.metrics_prometheus.proofs.NameLemmas.{named}
 

@@ -1,5 +1,5 @@
 -- Each row is that of a held series.
-use Rattle.std.proofs.Common.{◌≡◌, ℕ, List, map, length, get_or, subst}
+use Rattle.std.proofs.Common.{List, map, get_or, subst}
 use Rattle.std.specs.List.{All, AllByRecursion}
 use Rattle.std.specs.Borrow.{Bor}
 use Rattle.std.specs.Str.{IsUtf8}

@@ -1,9 +1,8 @@
 -- A text has one list of samples at most: its line feeds tell its lines, and each line tells its sample.
-use Rattle.std.proofs.Common.{◌≡◌, ◌≢◌, ◌∙◌, ℕ, Bool, true, false, not, List, [], ◌∷◌, ◌++◌, length, drop, get_or, Option, Some, None, is_some, refl, ap, sym, subst, append_assoc, arith}
+use Rattle.std.proofs.Common.{◌≡◌, ◌≢◌, ◌∙◌, ℕ, true, false, not, List, [], ◌∷◌, ◌++◌, length, drop, get_or, is_some, refl, ap, sym, subst, append_assoc, arith}
 use Rattle.std.specs.List.{All, AllByRecursion, flat_map, filter_map, cons_option}
 use Rattle.std.proofs.lemmas.List.Elements.{recursion_from_All}
-use Rattle.metrics_prometheus.specs.Samples.{Sample, sample_line}
-use Rattle.metrics_prometheus.specs.Exposition.{Row, type_line, left_out_line}
+use Rattle.metrics_prometheus.specs.Samples.{Sample}
 use Rattle.metrics_prometheus.specs.Written.{Line, has, tells_kind, leaves_out, line_text, sample_in, begins_comment, IsLine, IsReadable, HasSamples}
 use Rattle.metrics_prometheus.specs.Reading.{CanBeRead}
 use Rattle.metrics_prometheus.proofs.BackLemmas.{same-sample}

@@ -1,23 +1,22 @@
 -- The names and labels of the samples that are written.
-use Rattle.std.proofs.Common.{◌≡◌, ◌∙◌, ◌<◌, ◌^◌, ℕ, ℤ, Bool, true, false, List, [], ◌∷◌, ◌++◌, map, codes, decimal, Option, Some, None, refl, ap, sym, arith}
-use Rattle.std.specs.Prelude.{bytes_eq}
+use Rattle.std.proofs.Common.{◌≡◌, ◌<◌, ℕ, ℤ, true, List, [], ◌∷◌, ◌++◌, map, codes, Option, Some, None, arith}
 use Rattle.std.specs.Str.{IsUtf8}
 use Rattle.std.specs.Fmt.{signed_decimal}
 use Rattle.std.proofs.lemmas.Fmt.{IsAscii-signed}
 use Rattle.std.proofs.lemmas.Str.{IsUtf8-from_ascii}
 use Rattle.std.proofs.lemmas.Str.Ascii.{IsAscii-from_all}
 use Rattle.std.proofs.lemmas.List.Elements.{All-from_recursion}
-use Rattle.std.specs.List.{AllByRecursion, IsDistinct, flat_map}
+use Rattle.std.specs.List.{AllByRecursion}
 use Rattle.metrics_names.specs.declared.kind.MetricKind.{MetricKind}
 use Rattle.metrics_names.specs.declared.kind.MetricKind.TheVariants.{Histogram}
-use Rattle.metrics_names.specs.Names.{LabelParts, SeriesKey, kind_eq}
-use Rattle.metrics_exporter.specs.Exporting.{Cells, IsHeld, Reading, count, level, samples}
+use Rattle.metrics_names.specs.Names.{LabelParts, kind_eq}
+use Rattle.metrics_exporter.specs.Exporting.{Cells, Reading, count, level, samples}
 use Rattle.metrics_prometheus.specs.Labels.{are_fit, shown_labels}
-use Rattle.metrics_prometheus.specs.Samples.{Sample, ascending, bucket_sample, histogram_samples}
-use Rattle.metrics_prometheus.specs.Exposition.{Row, row_of, samples_of, reading_at, AreRows, IsExposition}
+use Rattle.metrics_prometheus.specs.Samples.{Sample, ascending, bucket_sample}
+use Rattle.metrics_prometheus.specs.Exposition.{Row, samples_of, reading_at, AreRows, IsExposition}
 use Rattle.metrics_prometheus.specs.Written.{written, samples_written}
 use Rattle.metrics_prometheus.specs.Reading.{HasNames, CanBeRead, AreTexts, HoldsTexts, Ascend, NamesOnce}
-use Rattle.metrics_prometheus.proofs.PairLemmas.{each-map, each-all, each-both, each-append, each-flat}
+use Rattle.metrics_prometheus.proofs.PairLemmas.{each-map, each-both, each-append, each-flat}
 use Rattle.metrics_prometheus.proofs.WrittenLemmas.{written-each, written-fit}
 use Rattle.metrics_prometheus.proofs.NameLemmas.{metric-name}
 use Rattle.metrics_prometheus.proofs.LabelLemmas.{labels-keyed, shown-each, fit-ascend, once, once-bounded}

@@ -1,5 +1,5 @@
 -- The lines of a text, and the samples that they have.
-use Rattle.std.proofs.Common.{◌≡◌, ◌∙◌, ℕ, ℤ, Bool, true, false, cond, List, [], ◌∷◌, ◌++◌, map, codes, decimal, Option, Some, None, refl, ap, sym, append-nil, append_assoc}
+use Rattle.std.proofs.Common.{◌≡◌, ◌∙◌, ℕ, ℤ, Bool, true, false, cond, List, [], ◌∷◌, ◌++◌, map, codes, Option, Some, None, refl, ap, sym, append-nil, append_assoc}
 use Rattle.std.specs.Prelude.{bytes_eq}
 use Rattle.std.specs.Fmt.{signed_decimal}
 use Rattle.std.specs.List.{AllByRecursion, flat_map, filter_map, list_all}
@@ -10,8 +10,8 @@ use Rattle.metrics_names.specs.declared.kind.MetricKind.TheVariants.{Counter, Ga
 use Rattle.metrics_exporter.specs.Exporting.{Cells, Reading, count, level, samples}
 use Rattle.metrics_exporter.specs.ExporterText.{kind_word}
 use Rattle.metrics_prometheus.specs.Names.{goes_on, is_name}
-use Rattle.metrics_prometheus.specs.Samples.{Sample, labels_text, sample_line, lines, ascending, bucket_sample, histogram_samples}
-use Rattle.metrics_prometheus.specs.Exposition.{Row, row_of, is_left_out, type_line, type_text, samples_of, reading_at, left_out_line, rows_text, IsExposition}
+use Rattle.metrics_prometheus.specs.Samples.{Sample, labels_text, sample_line, lines, ascending, bucket_sample}
+use Rattle.metrics_prometheus.specs.Exposition.{Row, is_left_out, type_line, type_text, samples_of, reading_at, left_out_line, rows_text, IsExposition}
 use Rattle.metrics_prometheus.specs.Written.{written, samples_written, has, tells_kind, leaves_out, line_text, sample_in, IsLine, IsReadable, HasSamples}
 use Rattle.metrics_prometheus.proofs.PairLemmas.{each-append}
 use Rattle.metrics_prometheus.proofs.NameLemmas.{AreKeyed, metric-name, name-more, named-from}

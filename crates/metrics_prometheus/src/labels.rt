@@ -29,11 +29,6 @@ fn place_of(labels: &[Label], label: &Label) -> usize
     labels.len()
 }
 
-/// Does nothing: its contract says that a string is UTF-8.
-fn is_text(value: &str)
-    ensures { IsUtf8 value.now }
-{}
-
 /// Adds a label by its name as Prometheus allows it, unless it has no value.
 fn add_label(alloc: Global, shown: &mut Vec<Label>, label: &Label) -> Result<(), Error>
     ensures shown { MatchResult result (λ _. shown.new.items ≡ added label.now.0 label.now.1 shown.old.items)
@@ -41,7 +36,6 @@ fn add_label(alloc: Global, shown: &mut Vec<Label>, label: &Label) -> Result<(),
     ensures text { OnOk result (IsUtf8 label.now.1) }
 {
     let value = label.value();
-    is_text(value);
     if value.is_empty() {
         return Ok(());
     }

@@ -65,5 +65,4 @@ pub fn exposition_text_law()
     // No sample has two labels of one name, a bucket's bound included.
     ensures once { (setup : Setup) (xs : List Step) (text : List ℕ) (e : IsExposition (cells_after setup xs) text)
         → All NamesOnce (samples_written (cells_after setup xs) e.rows) }
-{
-}
+{}
