@@ -9,7 +9,8 @@ use Rattle.std.proofs.lemmas.List.{append_cancel_right}
 use Rattle.metrics_names.specs.Names.{LabelParts}
 use Rattle.metrics_prometheus.specs.Names.{goes_on, is_name, escape, escaped}
 use Rattle.metrics_prometheus.specs.Samples.{Sample, label_text, joined, labels_text, sample_line, series_text}
-use Rattle.metrics_prometheus.specs.Reading.{AreTexts, CanBeRead}
+use Rattle.metrics_prometheus.specs.Labels.{AreTexts}
+use Rattle.metrics_prometheus.specs.Reading.{CanBeRead}
 use Rattle.metrics_prometheus.proofs.NameLemmas.{named, AreKeyed}
 
 -- ---- names

@@ -10,7 +10,7 @@ use Rattle.metrics_exporter.specs.Exporting.{Cells}
 use Rattle.metrics_prometheus.specs.Samples.{Sample, series_text}
 use Rattle.metrics_prometheus.specs.Exposition.{Row, row_cmp, is_histogram_of, is_taken, samples_of, reading_at, IsExposition}
 use Rattle.metrics_prometheus.specs.Written.{written, samples_written, is_same_series}
-use Rattle.metrics_prometheus.specs.Reading.{CanBeRead, HoldsTexts, is_same_text}
+use Rattle.metrics_prometheus.specs.Reading.{CanBeRead, is_same_text}
 use Rattle.metrics_prometheus.proofs.BackLemmas.{read-back}
 use Rattle.metrics_prometheus.proofs.SampleLabelLemmas.{samples-read}
 use Rattle.metrics_prometheus.proofs.PairLemmas.{each-map, each-all, each-both, Pairs, pairs-with, pairs-flat}
@@ -69,7 +69,7 @@ unfolding IsDistinct
 texts-from [] p = tt
 texts-from (s ∷ ss) p = (p.0, texts-from ss p.1)
 
-pub texts-distinct : (cells : Cells) → HoldsTexts cells → ((r : Row) → ReadsAs r.kind (reading_at cells r)) → (text : List ℕ) (e : IsExposition cells text) → IsDistinct is_same_text (samples_written cells e.rows)
-texts-distinct cells holds reads text e =
+pub texts-distinct : (cells : Cells) → ((r : Row) → ReadsAs r.kind (reading_at cells r)) → (text : List ℕ) (e : IsExposition cells text) → IsDistinct is_same_text (samples_written cells e.rows)
+texts-distinct cells reads text e =
     let ss = samples_written cells e.rows in
-    texts-from ss (pairs-with CanBeRead Differ OtherText text-test ss (samples-read cells holds reads text e) (samples-differ cells e.rows e.all.ordered reads))
+    texts-from ss (pairs-with CanBeRead Differ OtherText text-test ss (samples-read cells reads text e) (samples-differ cells e.rows e.all.ordered reads))

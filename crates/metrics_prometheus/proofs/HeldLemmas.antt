@@ -10,8 +10,7 @@ use Rattle.metrics_names.specs.declared.kind.MetricKind.{MetricKind}
 use Rattle.metrics_names.specs.Names.{KeyParts, LabelParts, SeriesKey}
 use Rattle.metrics_exporter.specs.Exporting.{Cells, IsHeld, AreSeries}
 use Rattle.metrics_exporter.specs.Gathering.{series_shown, all_shown}
-use Rattle.metrics_prometheus.specs.Reading.{HoldsTexts}
-use Rattle.metrics_prometheus.specs.Exposition.{Row, row_of, AreRows}
+use Rattle.metrics_prometheus.specs.Exposition.{Row, row_of, AreRows, HoldsTexts}
 
 pub each-row : (P : Row → Type 0) (cells : Cells) (rows : List Row) → AreRows cells rows → ((s : SeriesKey) → IsHeld cells s → P (row_of s)) → AllByRecursion P rows
 each-row P cells rows are f =

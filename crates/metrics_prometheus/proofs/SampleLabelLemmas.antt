@@ -11,11 +11,11 @@ use Rattle.metrics_names.specs.declared.kind.MetricKind.{MetricKind}
 use Rattle.metrics_names.specs.declared.kind.MetricKind.TheVariants.{Histogram}
 use Rattle.metrics_names.specs.Names.{LabelParts, kind_eq}
 use Rattle.metrics_exporter.specs.Exporting.{Cells, Reading, count, level, samples}
-use Rattle.metrics_prometheus.specs.Labels.{are_fit, shown_labels}
+use Rattle.metrics_prometheus.specs.Labels.{are_fit, shown_labels, AreTexts}
 use Rattle.metrics_prometheus.specs.Samples.{Sample, ascending, bucket_sample}
 use Rattle.metrics_prometheus.specs.Exposition.{Row, samples_of, reading_at, AreRows, IsExposition}
 use Rattle.metrics_prometheus.specs.Written.{written, samples_written}
-use Rattle.metrics_prometheus.specs.Reading.{HasNames, CanBeRead, AreTexts, HoldsTexts, Ascend, NamesOnce}
+use Rattle.metrics_prometheus.specs.Reading.{HasNames, CanBeRead, Ascend, NamesOnce}
 use Rattle.metrics_prometheus.proofs.PairLemmas.{each-map, each-both, each-append, each-flat}
 use Rattle.metrics_prometheus.proofs.WrittenLemmas.{written-each, written-fit}
 use Rattle.metrics_prometheus.proofs.NameLemmas.{metric-name}
@@ -109,14 +109,14 @@ row-texts r (Some (samples d)) k h =
     each-append HasTexts (map (λ b. bucket_sample r.name r.labels (signed_decimal b.0) b.1) (ascending d.buckets)) _ (buckets-texts r h (ascending d.buckets) (with-each IsSmall [] d.buckets tt k.1))
     (bounded-texts r.labels (codes "+Inf") h infinity-text, (h, (h, tt)))
 
-samples-texts : (cells : Cells) → HoldsTexts cells → ((r : Row) → ReadsAs r.kind (reading_at cells r)) → (text : List ℕ) (e : IsExposition cells text) → AllByRecursion HasTexts (samples_written cells e.rows)
-samples-texts cells holds reads text e =
+samples-texts : (cells : Cells) → ((r : Row) → ReadsAs r.kind (reading_at cells r)) → (text : List ℕ) (e : IsExposition cells text) → AllByRecursion HasTexts (samples_written cells e.rows)
+samples-texts cells reads text e =
     let done = written e.rows None e.rows in
-    let rows = each-row (λ r. AreTexts r.labels) cells e.rows e.all (λ s held. labels-texts s.key.labels (holds s held)) in
+    let rows = each-row (λ r. AreTexts r.labels) cells e.rows e.all (λ s held. labels-texts s.key.labels (e.texts s held)) in
     each-flat (λ r. samples_of r (reading_at cells r)) HasTexts done
     (each-map (λ r. AreTexts r.labels) (λ r. AllByRecursion HasTexts (samples_of r (reading_at cells r))) (λ r h. row-texts r (reading_at cells r) (reads r) h) done (written-each (λ r. AreTexts r.labels) e.rows None e.rows rows))
 
-pub samples-read : (cells : Cells) → HoldsTexts cells → ((r : Row) → ReadsAs r.kind (reading_at cells r)) → (text : List ℕ) (e : IsExposition cells text) → AllByRecursion CanBeRead (samples_written cells e.rows)
-samples-read cells holds reads text e =
+pub samples-read : (cells : Cells) → ((r : Row) → ReadsAs r.kind (reading_at cells r)) → (text : List ℕ) (e : IsExposition cells text) → AllByRecursion CanBeRead (samples_written cells e.rows)
+samples-read cells reads text e =
     let ss = samples_written cells e.rows in
-    each-map (λ s. HasNames s × HasTexts s) CanBeRead (λ s h. record { names = h.0; texts = h.1 }) ss (each-both HasNames HasTexts ss (samples-named cells text e) (samples-texts cells holds reads text e))
+    each-map (λ s. HasNames s × HasTexts s) CanBeRead (λ s h. record { names = h.0; texts = h.1 }) ss (each-both HasNames HasTexts ss (samples-named cells text e) (samples-texts cells reads text e))

@@ -2,7 +2,7 @@
 use Rattle.std.proofs.Common.{◌≡◌, ◌∙◌, ◌+◌, ◌<◌, ◌++◌, ℕ, Bool, true, false, not, List, Option, Some, None, Result, Ok, Err, MatchResult, length, get_or, drop, refl, cond, ap, sym, append_assoc}
 use Rattle.std.proofs.lemmas.List.{at_drop_more}
 use Rattle.metrics_exporter.specs.Exporting.{Cells}
-use Rattle.metrics_prometheus.specs.Exposition.{Row, is_left_out, row_text, last_after, rows_text, AreRows, IsExposition}
+use Rattle.metrics_prometheus.specs.Exposition.{Row, is_left_out, row_text, last_after, rows_text, AreRows, HoldsTexts, IsExposition}
 use Rattle.metrics_prometheus.specs.Rows.{RowParts, row_shown, rows_shown}
 
 if-true : {A : Type 0} (b written : Bool) (x y : A) → written ≡ not b → written ≡ true → y ≡ cond b x y
@@ -33,7 +33,7 @@ text-more cells all last after xs i x before now whole small at is then was =
     ∙ was
 
 -- the text of the rows of the held series
-pub text-of-rows : {T E : Type 0} (bytes : T → List ℕ) (P : E → Type 0) (cells : Cells) (rows : List Row) → AreRows cells rows → (r : Result T E) → MatchResult r (λ t. bytes t ≡ rows_text cells rows None rows) P
+pub text-of-rows : {T E : Type 0} (bytes : T → List ℕ) (P : E → Type 0) (cells : Cells) (rows : List Row) → AreRows cells rows → HoldsTexts cells → (r : Result T E) → MatchResult r (λ t. bytes t ≡ rows_text cells rows None rows) P
     → MatchResult r (λ t. IsExposition cells (bytes t)) P
-text-of-rows bytes P cells rows all (Ok t) is = record { rows = rows; all = all; is = is }
-text-of-rows bytes P cells rows all (Err e) is = is
+text-of-rows bytes P cells rows all texts (Ok t) is = record { rows = rows; all = all; texts = texts; is = is }
+text-of-rows bytes P cells rows all texts (Err e) is = is

@@ -8,11 +8,11 @@ use Rattle.std.specs.Ordering.{nat_cmp, on, then_cmp}
 use Rattle.metrics_names.specs.declared.kind.MetricKind.{MetricKind}
 use Rattle.metrics_names.specs.declared.kind.MetricKind.TheVariants.{Histogram}
 use Rattle.metrics_names.specs.Names.{KeyParts, LabelParts, SeriesKey, kind_number, kind_eq, label_eq, label_cmp, key_cmp}
-use Rattle.metrics_exporter.specs.Exporting.{Reading, count, level, samples, Cells, AreSeries}
+use Rattle.metrics_exporter.specs.Exporting.{Reading, count, level, samples, Cells, IsHeld, AreSeries}
 use Rattle.metrics_exporter.specs.ExporterText.{kind_word}
 use Rattle.metrics_exporter.specs.Gathering.{series_at}
 use Rattle.metrics_prometheus.specs.Names.{metric_name}
-use Rattle.metrics_prometheus.specs.Labels.{shown_labels, are_fit}
+use Rattle.metrics_prometheus.specs.Labels.{shown_labels, are_fit, AreTexts}
 use Rattle.metrics_prometheus.specs.Samples.{Sample, lines, labels_text, histogram_samples}
 
 -- a series as Prometheus is shown it, beside its own key
@@ -91,8 +91,13 @@ pub record AreRows (cells : Cells) (rows : List Row) : Type 0 where
   pub same : IsPermutation (map row_of keys) rows
   pub ordered : IsSorted row_cmp rows
 
--- a text has for each held series its samples, or one line that says that it is left out
+-- the values of all held series' labels are UTF-8
+abbrev pub HoldsTexts : Cells → Type 0
+HoldsTexts cells = (s : SeriesKey) → IsHeld cells s → AreTexts s.key.labels
+
+-- a text has for each held series its samples, or one line that says that it is left out; label values are UTF-8
 pub record IsExposition (cells : Cells) (text : List ℕ) : Type 0 where
   pub rows : List Row
   pub all : AreRows cells rows
+  pub texts : HoldsTexts cells
   pub is : text ≡ rows_text cells rows None rows

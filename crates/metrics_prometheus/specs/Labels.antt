@@ -1,6 +1,7 @@
 -- The labels of a series as Prometheus is shown them.
 use Rattle.std.specs.Prelude.{if◌then◌else◌, ℕ, Bool, false, not, ◌&&◌, ◌||◌, List, [], ◌∷◌, codes, bytes_eq}
-use Rattle.std.specs.List.{list_any}
+use Rattle.std.specs.List.{AllByRecursion, list_any}
+use Rattle.std.specs.Str.{IsUtf8}
 use Rattle.std.specs.Ordering.{is_lt}
 use Rattle.metrics_names.specs.declared.kind.MetricKind.{MetricKind}
 use Rattle.metrics_names.specs.declared.kind.MetricKind.TheVariants.{Histogram}
@@ -37,3 +38,7 @@ is_reserved kind name = bytes_eq name (codes "__name__") || (kind_eq kind Histog
 -- labels that a series of the kind can be shown with: no name twice, and none that is reserved
 abbrev pub are_fit : MetricKind → List LabelParts → Bool
 are_fit kind labels = not (repeats labels) && not (list_any (λ l. is_reserved kind l.0) labels)
+
+-- the values of labels are UTF-8
+abbrev pub AreTexts : List LabelParts → Type 0
+AreTexts labels = AllByRecursion (λ l. IsUtf8 l.1) labels

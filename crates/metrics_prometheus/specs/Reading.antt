@@ -3,13 +3,12 @@ use Rattle.std.specs.Prelude.{◌≡◌, ◌↔◌, ◌≤◌, ◌<ℤ◌, ℕ, 
 use Rattle.std.specs.Fmt.{signed_decimal}
 use Rattle.std.specs.List.{AllByRecursion, IsDistinct}
 use Rattle.std.specs.List.Sorted.{IsStrictlySortedBy}
-use Rattle.std.specs.Str.{IsUtf8}
 use Rattle.std.specs.Cmp.Lexicographic.{slice_cmp}
 use Rattle.std.specs.Ordering.{nat_cmp, on}
-use Rattle.metrics_names.specs.Names.{LabelParts, SeriesKey}
+use Rattle.metrics_names.specs.Names.{LabelParts}
 use Rattle.metrics_storage.specs.Histogram.{Distribution}
-use Rattle.metrics_exporter.specs.Exporting.{Cells, IsHeld}
 use Rattle.metrics_prometheus.specs.Names.{is_name}
+use Rattle.metrics_prometheus.specs.Labels.{AreTexts}
 use Rattle.metrics_prometheus.specs.Samples.{Sample, series_text, bucket_sample, histogram_ends}
 
 -- its name and those of its labels are such as Prometheus allows
@@ -17,18 +16,10 @@ pub record HasNames (s : Sample) : Type 0 where
   pub name : is_name true s.name ≡ true
   pub keys : AllByRecursion (λ l. is_name false l.0 ≡ true) s.labels
 
--- the values of labels are texts
-abbrev pub AreTexts : List LabelParts → Type 0
-AreTexts labels = AllByRecursion (λ l. IsUtf8 l.1) labels
-
 -- a sample that is told by its line
 pub record CanBeRead (s : Sample) : Type 0 where
   pub names : HasNames s
   pub texts : AreTexts s.labels
-
--- the values of all held series' labels are texts: keys are made of strings
-abbrev pub HoldsTexts : Cells → Type 0
-HoldsTexts cells = (s : SeriesKey) → IsHeld cells s → AreTexts s.key.labels
 
 -- two samples have the same text in front of their values
 abbrev pub is_same_text : Sample → Sample → Bool

@@ -8,7 +8,7 @@ ghost use Rattle.metrics_exporter.specs.Exporting.{samples, Cells, Setup, Step, 
 ghost use Rattle.metrics_prometheus.specs.Exposition.{IsExposition, Row, row_of, reading_at, samples_of};
 ghost use Rattle.metrics_prometheus.specs.Written.{written, samples_written, is_same_series};
 ghost use Rattle.metrics_prometheus.specs.Samples.{Sample, series_text};
-ghost use Rattle.metrics_prometheus.specs.Reading.{AreBuckets, HasNames, CanBeRead, HoldsTexts, is_same_text, Ascend, NamesOnce};
+ghost use Rattle.metrics_prometheus.specs.Reading.{AreBuckets, HasNames, CanBeRead, is_same_text, Ascend, NamesOnce};
 ghost use Rattle.metrics_prometheus.specs.Written.{AreApart, HasSamples, MayStand, IsTold};
 
 use crate::rows::row_order;
@@ -46,7 +46,7 @@ pub fn exposition_text_law()
         → All HasNames (samples_written cells e.rows) }
     // They and the values of the labels can be read.
     ensures readable { (setup : Setup) (xs : List Step) (text : List ℕ) → All (FitsSigned w64) setup.bounds
-        → HoldsTexts (cells_after setup xs) → (e : IsExposition (cells_after setup xs) text)
+        → (e : IsExposition (cells_after setup xs) text)
         → All CanBeRead (samples_written (cells_after setup xs) e.rows) }
     // What stands in front of a sample's value tells its name and its labels.
     ensures read_back { (s t : Sample) → CanBeRead s → CanBeRead t
@@ -57,7 +57,7 @@ pub fn exposition_text_law()
         → All CanBeRead ss → All CanBeRead ts → ss ≡ ts }
     // No two samples have the same text in front of their values.
     ensures distinct { (setup : Setup) (xs : List Step) (text : List ℕ) → All (FitsSigned w64) setup.bounds
-        → HoldsTexts (cells_after setup xs) → (e : IsExposition (cells_after setup xs) text)
+        → (e : IsExposition (cells_after setup xs) text)
         → IsDistinct is_same_text (samples_written (cells_after setup xs) e.rows) }
     // The labels of a written row ascend by their names.
     ensures labels { (cells : Cells) (text : List ℕ) (e : IsExposition cells text)

@@ -4,8 +4,7 @@ ghost use Rattle.std.specs.Str.{IsUtf8};
 ghost use Rattle.metrics.specs.declared.error.Error.TheVariants.{Memory as OutOfMemory};
 ghost use Rattle.metrics_exporter.specs.Gathering.{all_shown, series_at};
 ghost use Rattle.metrics_exporter.specs.Kept.{held_cells};
-ghost use Rattle.metrics_prometheus.specs.Exposition.{row_of, row_cmp, AreRows};
-ghost use Rattle.metrics_prometheus.specs.Reading.{HoldsTexts};
+ghost use Rattle.metrics_prometheus.specs.Exposition.{row_of, row_cmp, AreRows, HoldsTexts};
 ghost use Rattle.metrics_prometheus.specs.Rows.{RowParts, row_shown, rows_shown};
 
 use crate::labels::shown_labels;

@@ -9,7 +9,6 @@ ghost use Rattle.metrics_prometheus.specs.Exposition.{is_histogram_of, is_part, 
 ghost use Rattle.metrics_prometheus.specs.Exposition.{type_line, type_text};
 ghost use Rattle.metrics_prometheus.specs.Exposition.{samples_of, reading_at, left_out_line, row_text, rows_text, last_after};
 ghost use Rattle.metrics_prometheus.specs.Exposition.{IsExposition};
-ghost use Rattle.metrics_prometheus.specs.Reading.{HoldsTexts};
 ghost use Rattle.metrics_prometheus.specs.Rows.{row_shown, rows_shown};
 ghost use Rattle.metrics_prometheus.specs.Samples.{lines};
 
@@ -192,10 +191,8 @@ fn rows_text(alloc: Global, exporter: &Exporter, rows: &[Row<'_>]) -> Result<Str
 ///
 /// The text is made whole in memory, beside a row for each series. It is refused with `Error::Memory` where there is no room.
 pub fn exposition(exporter: &Exporter, alloc: Global) -> Result<String, Error>
-    ensures text { (setup : Setup) (log : Log) → IsAfter setup log exporter.now →
+    ensures { (setup : Setup) (log : Log) → IsAfter setup log exporter.now →
         MatchResult result (λ text. IsExposition (cells_after setup (steps log)) (string_bytes text)) (λ e. e ≡ OutOfMemory) }
-    ensures texts { (setup : Setup) (log : Log) → IsAfter setup log exporter.now →
-        OnOk result (HoldsTexts (cells_after setup (steps log))) }
 {
     let rows = sorted_rows(alloc, exporter)?;
     rows_text(alloc, exporter, &rows)

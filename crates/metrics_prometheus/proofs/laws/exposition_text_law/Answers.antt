@@ -17,15 +17,15 @@ pub returns-clause-read_back : goal.returns-clause-read_back
 returns-clause-read_back c = read-back
 
 pub returns-clause-readable : goal.returns-clause-readable
-returns-clause-readable c = λ setup xs text fits holds e.
+returns-clause-readable c = λ setup xs text fits e.
     let cells = cells_after setup xs in
-    All-from_recursion CanBeRead (samples_written cells e.rows) (samples-read cells holds (rows-read setup xs fits) text e)
+    All-from_recursion CanBeRead (samples_written cells e.rows) (samples-read cells (rows-read setup xs fits) text e)
 
 pub returns-clause-one_reading : goal.returns-clause-one_reading
 returns-clause-one_reading c = one-reading
 
 pub returns-clause-distinct : goal.returns-clause-distinct
-returns-clause-distinct c = λ setup xs text fits holds. texts-distinct (cells_after setup xs) holds (rows-read setup xs fits) text
+returns-clause-distinct c = λ setup xs text fits. texts-distinct (cells_after setup xs) (rows-read setup xs fits) text
 
 pub returns-clause-labels : goal.returns-clause-labels
 returns-clause-labels c = λ cells text e. All-from_recursion (λ r. Ascend r.labels) (written e.rows None e.rows) (labels-ascend cells text e)
