@@ -1,5 +1,6 @@
 //! Laws of the exposition.
-ghost use Rattle.std.specs.Prelude.{◌≡◌, ◌↔◌, ◌∷◌, ◌++◌, ℕ, List, None, Some, All, AllPairs, Contains, FitsSigned};
+ghost use Rattle.std.specs.Prelude.{◌≡◌, ◌↔◌, ◌∷◌, ◌++◌, ℕ, List, None, Some};
+ghost use Rattle.std.specs.Prelude.{All, AllPairs, Contains, FitsSigned};
 ghost use Rattle.std.specs.Int.{w64};
 ghost use Rattle.std.specs.List.{IsDistinct};
 ghost use Rattle.metrics_names.specs.Names.{SeriesKey};
