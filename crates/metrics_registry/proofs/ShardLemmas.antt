@@ -149,7 +149,7 @@ module _ {A K C : Type 0} {eq : K → K → Bool} (laws : IsEquivalence eq) (num
       where
         by_result : (r : Result Bool Error) → IsChecked eq rules (check_of kind key generation moment (is_some (held eq old key))) r table table' (p a) (p b)
             → ArePlaced eq number count 0 (map p (set xs i b)) × IsChecked eq rules (check_of kind key generation moment (is_some (held eq old key))) r table table' old (entries_of (map p (set xs i b)))
-        by_result (Err e) c = (kept-placed eq number count i xs a b is p placed c.2, (c.0, c.1, kept-entries eq number count i xs a b is p c.2 ∙ view, c.3))
+        by_result (Err e) c = (kept-placed eq number count i xs a b is p placed c.2, (c.0, c.1, kept-entries eq number count i xs a b is p c.2 ∙ view, c.3, c.4))
         by_result (Ok true) c = (kept-placed eq number count i xs a b is p placed c.2, (c.0, c.1, kept-entries eq number count i xs a b is p c.2 ∙ view))
         by_result (Ok false) c = let all = sets-there None c.2 (distinct (distinct-at eq number count 0 i (map p xs) (p a) placed fits there)) in (all.0, (c.0, c.1, all.1))
 

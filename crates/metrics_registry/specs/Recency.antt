@@ -47,9 +47,13 @@ watch_step timeout seen held (Some noted) =
     then (if is_late timeout noted.moment seen.moment && held then (false, None) else (true, Some noted))
     else (true, Some seen)
 
--- one check: without a timeout, or where the mask lacks the kind, the answer is true and nothing is noted
+-- notes are taken of a kind: there is a timeout, and the mask has the kind
+abbrev pub is_watched : Rules → MetricKind → Bool
+is_watched rules kind = is_some rules.timeout && rules.mask kind
+
+-- one check: of a kind that is not watched the answer is true and nothing is noted
 abbrev pub check_step : {K : Type 0} → Rules → Check K → Option Noted → Bool × Option Noted
-check_step rules c noted = if is_some rules.timeout && rules.mask c.kind then watch_step rules.timeout (noted_now c) c.held noted else (true, noted)
+check_step rules c noted = if is_watched rules c.kind then watch_step rules.timeout (noted_now c) c.held noted else (true, noted)
 
 -- the answer to a check by the table
 abbrev pub table_answer : {K : Type 0} → Rules → Check K → Table K → Bool

@@ -225,7 +225,7 @@ impl<K: Hashable + EqualClone + Drop> OwnedRecency<K> {
 
 /// The two parts of a check, for a caller that looks at the cells only where the notes ask for it.
 impl<K: Hashable + EqualClone + Drop> OwnedRecency<K> {
-    ghost use Rattle.metrics_registry.specs.Recency.{table_answer, table_after};
+    ghost use Rattle.metrics_registry.specs.Recency.{is_watched, table_answer, table_after};
     ghost use Rattle.metrics_registry.specs.RecencyEntries.{rules_of, table_of, check_of};
 
     /// Whether a series that has this generation at this moment is still in use, as far as the notes tell. Where it isn't,
@@ -248,6 +248,7 @@ impl<K: Hashable + EqualClone + Drop> OwnedRecency<K> {
         ensures err { IfErr result (λ e. (e ≡ OutOfMemory)
             × ((k : AnyKind) (q : K) → table_of K.eq self.new k q ≡ table_of K.eq self.old k q)
             × (table_of K.eq self.old kind key.now ≡ None)) }
+        ensures watched { OnErr result (is_watched (rules_of self.old) kind ≡ true) }
     {
         let Some(timeout) = self.timeout_of(kind) else {
             return Ok(true);
