@@ -10,7 +10,7 @@ ghost use Rattle.std.specs.List.{IsDistinct};
 ghost use Rattle.std.specs.HashMap.{get};
 ghost use Rattle.metrics.specs.declared.error.Error.TheVariants.{Memory as OutOfMemory};
 ghost use Rattle.metrics_registry.specs.Held.{held, place_of, Removes, Calls, Adds, Appends, ChangesAt};
-ghost use Rattle.metrics_registry.specs.Held.{TakesEach, CallsEach, RetainsEach, Copies, AreCopied};
+ghost use Rattle.metrics_registry.specs.Held.{TakesEach, CallsEach, RetainsEach, Copies, CopiesFront, AreCopied};
 
 use crate::common::EqualClone;
 use indexmap::IndexMap;
@@ -45,7 +45,7 @@ fn copy_one<K: Hash + EqualClone, C: Clone>(
     cell: &C,
 ) -> Result<(), Error>
     ensures ok { OnOk result (Copies K.eq C.is_clone ((key.now, cell.now) ∷ []) (get K.eq handles.old) (get K.eq handles.new)) }
-    ensures err { IfErr result (λ e. e ≡ OutOfMemory) }
+    ensures err { IfErr result (λ e. (e ≡ OutOfMemory) × ((q : K) → get K.eq handles.new q ≡ get K.eq handles.old q)) }
 {
     let key = key.clone()?;
     let cell = cell.clone()?;
@@ -227,13 +227,14 @@ impl<K: Hash + Drop, C: Drop> Cells<K, C> {
         Ok(handles)
     }
 
-    /// Puts a clone of each cell among the handles. After a refusal some of them may be there.
+    /// Puts a clone of each cell among the handles, in the order of their places. After a refusal the first of them may be there.
     pub fn copy_into(&self, handles: &mut HashMap<K, C>) -> Result<(), Error>
     where
         K: EqualClone,
         C: Clone,
         ensures ok { OnOk result (Copies K.eq C.is_clone self.now (get K.eq handles.old) (get K.eq handles.new)) }
-        ensures err { IfErr result (λ e. e ≡ OutOfMemory) }
+        ensures err { IfErr result (λ e. (e ≡ OutOfMemory)
+            × CopiesFront K.eq C.is_clone self.now (get K.eq handles.old) (get K.eq handles.new)) }
     {
         for (key, cell) in &self.map {
             copy_one(handles, key, cell)?;

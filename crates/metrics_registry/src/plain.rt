@@ -34,15 +34,21 @@ impl<K> Storage<K> for PlainStorage {
 
     ghost makes_histogram = { λ storage key cell. cell ≡ [] };
 
-    fn counter(&self, _key: &K) -> Result<u64, Error> {
+    fn counter(&self, _key: &K) -> Result<u64, Error>
+        ensures { result ≡ Ok 0 }
+    {
         Ok(0)
     }
 
-    fn gauge(&self, _key: &K) -> Result<i64, Error> {
+    fn gauge(&self, _key: &K) -> Result<i64, Error>
+        ensures { result ≡ Ok (pos 0) }
+    {
         Ok(0)
     }
 
-    fn histogram(&self, _key: &K) -> Result<OwnedBucket<i64>, Error> {
+    fn histogram(&self, _key: &K) -> Result<OwnedBucket<i64>, Error>
+        ensures { result ≡ Ok [] }
+    {
         Ok(OwnedBucket::new(self.alloc))
     }
 }
