@@ -1,6 +1,6 @@
 //! Lists of calls, made one after another.
 ghost use Rattle.std.specs.Prelude.{◌≡◌, ◌≤◌, ◌<◌, ◌+◌, ◌++◌, [], ℕ, List, length, vec_len};
-ghost use Rattle.std.specs.Prelude.{vec_capacity, map, IfOk, IfErr, Option, None, Some, option_map};
+ghost use Rattle.std.specs.Prelude.{vec_capacity, map, IfOk, IfErr, Option, None, Some, option_map, false};
 ghost use Rattle.std.specs.List.{filter_map};
 ghost use Rattle.metrics_names.specs.declared.refused.Refused.TheVariants.{Memory};
 ghost use Rattle.metrics_names.specs.Names.{kind_eq};
@@ -10,6 +10,7 @@ ghost use Rattle.metrics.specs.History.{reached, content_after, ArePlain};
 ghost use Rattle.metrics.specs.Answering.{Handle, handle_given, handle_named, handle, UpdatesCall, AllHeld, IsHeld, places};
 ghost use Rattle.metrics.specs.Answering.{UpdatesAll, Answers};
 ghost use Rattle.metrics_replay.specs.Replaying.{log_of, register_places, place_in_front, handle_seen, register_kind};
+ghost use Rattle.metrics_replay.specs.Replaying.{holds_handle, UpdatesUnheld, AnswersUnheld};
 
 use metrics::{Address, Answer, Call, Items, MetricKind, Recorder, Refused, Update, update_all};
 use std::alloc::Global;
@@ -28,7 +29,7 @@ fn takes(kind: MetricKind, by: Update) -> bool
 /// Makes one call on a recorder.
 ///
 /// `handle` is what the register call of an update's number gave, if it was successful; other calls name none.
-/// Its addresses are to be held: an update of a handle that isn't answers `NoSuchAddress`, and changes nothing.
+/// Its addresses are to be held: an update of its kind answers `NoSuchAddress` where they aren't, and changes nothing.
 pub fn answer_of<R: Recorder>(
     alloc: Global,
     on: &mut R,
@@ -38,6 +39,8 @@ pub fn answer_of<R: Recorder>(
     ensures keeps { KeepsTargets (R.meaning on.old) (R.meaning on.new) }
     ensures answers { IsHeld (option_map handle_seen handle.entry) (R.meaning on.old).contents
         → Answers (R.meaning on.old) (R.meaning on.new) (option_map handle_seen handle.entry) call.now result }
+    ensures unheld { holds_handle (option_map handle_seen handle.entry) (R.meaning on.old).contents ≡ false
+        → AnswersUnheld (R.meaning on.old) (R.meaning on.new) (option_map handle_seen handle.entry) call.now result }
 {
     match call {
         Call::Describe(kind, name, unit, text) => match on.describe(
@@ -75,6 +78,8 @@ fn update_of<R: Recorder>(
     ensures keeps { KeepsTargets (R.meaning on.old) (R.meaning on.new) }
     ensures updates { IsHeld (option_map handle_seen handle.entry) (R.meaning on.old).contents
         → UpdatesCall (R.meaning on.old) (R.meaning on.new) (option_map handle_seen handle.entry) by result }
+    ensures unheld { holds_handle (option_map handle_seen handle.entry) (R.meaning on.old).contents ≡ false
+        → UpdatesUnheld (R.meaning on.old) (R.meaning on.new) (option_map handle_seen handle.entry) by result }
 {
     match handle {
         None => Answer::Refused(Refused::BadHandle),
@@ -191,7 +196,7 @@ pub fn replay<R: Recorder>(
     // Books and targets stay.
     ensures books { length (R.meaning on.new).contents ≡ length (R.meaning on.old).contents }
     ensures keeps { KeepsTargets (R.meaning on.old) (R.meaning on.new) }
-    ensures err { IfErr result (λ e. (e ≡ Memory 0) × ((R.meaning on.new).contents ≡ (R.meaning on.old).contents)) }
+    ensures err { IfErr result (λ e. (e ≡ Memory 0) × (on.new ≡ on.old)) }
 {
     let mut answers = Vec::new(alloc);
     answers.reserve(calls.len())?;
