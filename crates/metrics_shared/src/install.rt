@@ -1,4 +1,6 @@
 //! Filling the one cell that a program's threads read a recorder from.
+ghost use Rattle.std.specs.Prelude.{◌≡◌, IfErr};
+ghost use Rattle.metrics_shared.specs.declared.install.SetRecorderError.TheVariants.{Taken};
 
 use crate::shared::Shared;
 use metrics::Recorder;
@@ -34,7 +36,9 @@ pub trait Install: Recorder + Sized {
         self,
         rt: &W,
         cell: &OnceLock<Shared<Self>>,
-    ) -> Result<(), SetRecorderError<Self>> {
+    ) -> Result<(), SetRecorderError<Self>>
+        ensures { IfErr result (λ e. (recorder : Self) × (e ≡ Taken recorder)) }
+    {
         match cell.set(rt, Shared::new(self)) {
             Ok(_) => Ok(()),
             Err(shared) => Err(SetRecorderError::Taken(shared.into_inner())),

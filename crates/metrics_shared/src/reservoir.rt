@@ -1,5 +1,5 @@
 //! A sampling reservoir under a lock.
-ghost use Rattle.std.specs.Prelude.{◌≡◌, ◌≤◌, ℕ, IfErr, MatchResult};
+ghost use Rattle.std.specs.Prelude.{◌≡◌, ◌≤◌, ◌<◌, ◌+◌, ◌↔◌, ℕ, IfErr, IsErr, MatchResult};
 ghost use Rattle.metrics.specs.declared.error.Error.TheVariants.{Memory as OutOfMemory, CountFull};
 ghost use Rattle.metrics_storage.specs.Drains.{Drained};
 ghost use Rattle.metrics_storage.specs.Sample.{new_sample, after_push};
@@ -25,9 +25,11 @@ struct Filling<G> {
 impl<G: Rng> Filling<G> {
     /// Takes a value, with a draw from 0 to the number of values before it, both included.
     fn push(&mut self, value: i64) -> Result<(), Error>
-        ensures { (draw : ℕ) × (draw ≤ self.old.reservoir.pushed) × MatchResult result
+        ensures step { (draw : ℕ) × (draw ≤ self.old.reservoir.pushed) × MatchResult result
             (λ _. self.new.reservoir ≡ after_push value draw self.old.reservoir)
             (λ e. (e ≡ CountFull) × (self.new.reservoir ≡ self.old.reservoir)) }
+        ensures refused { IsErr result ↔ (u64.MAX < self.old.reservoir.pushed + 1) }
+        ensures size { self.new.size ≡ self.old.size }
     {
         let pushed = self.reservoir.pushed();
         let draw = if pushed < self.size {
