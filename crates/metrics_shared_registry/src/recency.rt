@@ -1,6 +1,8 @@
 //! Which series are still in use, asked by several threads.
-ghost use Rattle.std.specs.Prelude.{◌≡◌, IfErr};
+ghost use Rattle.std.specs.Prelude.{◌≡◌, IfErr, true, false};
+ghost use Rattle.metrics.specs.Layers.{mask_has};
 ghost use Rattle.metrics.specs.declared.error.Error.TheVariants.{Memory as OutOfMemory};
+ghost use Rattle.metrics_registry.specs.Recency.{is_watched};
 
 use crate::registry::Registry;
 use metrics::{Error, MetricKind, MetricKindMask};
@@ -10,18 +12,33 @@ use std::sync::{Mutex, Wait};
 
 /// An `OwnedRecency` under a lock, over a `Registry`.
 ///
-/// A check holds this lock until it returns. Where it removes it takes the one of the key's shard too.
+/// A check of a kind that is watched holds this lock until it returns. Where it removes it takes the one of the key's shard too.
 #[derive(Drop)]
 pub struct Recency<K: Hashable> {
+    mask: MetricKindMask,
+    timeout: Option<u64>,
     noted: Mutex<OwnedRecency<K>>,
 }
 
 impl<K: Hashable + EqualClone + Drop> Recency<K> {
+    ghost use Rattle.metrics_shared_registry.specs.Watching.{rules_of};
+
     /// Checks the kinds of the mask. Moments and the timeout are in one unit of the caller's choice, as nanoseconds.
-    pub fn new(alloc: Global, mask: MetricKindMask, timeout: Option<u64>) -> Recency<K> {
+    pub fn new(alloc: Global, mask: MetricKindMask, timeout: Option<u64>) -> Recency<K>
+        ensures { rules_of result ≡ record { timeout = timeout; mask = λ kind. mask_has kind mask } }
+    {
         Recency {
+            mask,
+            timeout,
             noted: Mutex::new(OwnedRecency::new(alloc, mask, timeout)),
         }
+    }
+
+    /// Whether notes are taken of the kind: there is a timeout, and the mask has the kind.
+    fn watches(&self, kind: MetricKind) -> bool
+        ensures { result ≡ is_watched (rules_of self.now) kind }
+    {
+        self.timeout.is_some() && self.mask.matches(kind)
     }
 
     /// One check, where `remove` removes the series from the registry and tells whether it was held.
@@ -35,8 +52,12 @@ impl<K: Hashable + EqualClone + Drop> Recency<K> {
         remove: F,
     ) -> Result<bool, Error>
         requires { F.IsAlwaysCallable remove }
-        ensures { IfErr result (λ e. e ≡ OutOfMemory) }
+        ensures err { IfErr result (λ e. e ≡ OutOfMemory) }
+        ensures unwatched { is_watched (rules_of self.now) kind ≡ false → result ≡ Ok true }
     {
+        if !self.watches(kind) {
+            return Ok(true);
+        }
         let mut noted = self.noted.lock(rt);
         if noted.note(kind, key, generation, now)? || !remove() {
             return Ok(true);
@@ -60,7 +81,8 @@ impl<K: Hashable + EqualClone + Drop> Recency<K> {
         S::Counter: Drop,
         S::Gauge: Drop,
         S::Histogram: Drop,
-        ensures { IfErr result (λ e. e ≡ OutOfMemory) }
+        ensures err { IfErr result (λ e. e ≡ OutOfMemory) }
+        ensures unwatched { is_watched (rules_of self.now) MetricKind.Counter ≡ false → result ≡ Ok true }
     {
         let remove = || registry.delete_counter(rt, key);
         self.check(rt, MetricKind::Counter, key, generation, now, remove)
@@ -81,7 +103,8 @@ impl<K: Hashable + EqualClone + Drop> Recency<K> {
         S::Counter: Drop,
         S::Gauge: Drop,
         S::Histogram: Drop,
-        ensures { IfErr result (λ e. e ≡ OutOfMemory) }
+        ensures err { IfErr result (λ e. e ≡ OutOfMemory) }
+        ensures unwatched { is_watched (rules_of self.now) MetricKind.Gauge ≡ false → result ≡ Ok true }
     {
         let remove = || registry.delete_gauge(rt, key);
         self.check(rt, MetricKind::Gauge, key, generation, now, remove)
@@ -102,7 +125,8 @@ impl<K: Hashable + EqualClone + Drop> Recency<K> {
         S::Counter: Drop,
         S::Gauge: Drop,
         S::Histogram: Drop,
-        ensures { IfErr result (λ e. e ≡ OutOfMemory) }
+        ensures err { IfErr result (λ e. e ≡ OutOfMemory) }
+        ensures unwatched { is_watched (rules_of self.now) MetricKind.Histogram ≡ false → result ≡ Ok true }
     {
         let remove = || registry.delete_histogram(rt, key);
         self.check(rt, MetricKind::Histogram, key, generation, now, remove)
