@@ -1,4 +1,4 @@
--- Which kinds are watched.
+-- Which kinds recency watches.
 use Rattle.metrics.specs.Layers.{mask_has}
 use Rattle.metrics_registry.specs.Recency.{Rules}
 use Rattle.metrics_shared_registry.specs.declared.recency.Recency.{Recency}

@@ -1,4 +1,4 @@
-use Rattle.std.proofs.Common.{◌≡◌, ◌∙◌, ap, List, map, subst}
+use Rattle.std.proofs.Common.{◌∙◌, ap, List, map, subst}
 use Rattle.std.specs.List.{IsDistinct}
 use Rattle.std.specs.Map.{keys_of}
 use Rattle.metrics_registry.specs.Held.{entries_of}
