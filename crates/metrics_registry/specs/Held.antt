@@ -148,9 +148,10 @@ RetainsEach g f old new last = Retains (λ p e b q. CallsAtEntry g p e b q) f ol
 abbrev pub Copies : {K C : Type 0} → (K → K → Bool) → (C → C → Type 0) → List (K × C) → (K → Option C) → (K → Option C) → Type 0
 Copies {K} eq clone es old new = (q : K) → MatchOption (held eq es q) (new q ≡ old q) (λ c. IsSomeAnd (new q) (clone c))
 
--- new has so what a front of the entries gives
+-- so it is of a front of the entries, behind which another one stands
 abbrev pub CopiesFront : {K C : Type 0} → (K → K → Bool) → (C → C → Type 0) → List (K × C) → (K → Option C) → (K → Option C) → Type 0
-CopiesFront {K} {C} eq clone es old new = (front : List (K × C)) × (rest : List (K × C)) × (es ≡ front ++ rest) × Copies eq clone front old new
+CopiesFront {K} {C} eq clone es old new =
+    (front : List (K × C)) × (next : K × C) × (rest : List (K × C)) × (es ≡ front ++ next ∷ rest) × Copies eq clone front old new
 
 -- a map has a clone of each cell, and nothing else; or memory was refused
 abbrev pub AreCopied : {K C S : Type 0} → (K → K → Bool) → (C → C → Type 0) → List (K × C) → Result (HashMap K C S) Error → Type 0

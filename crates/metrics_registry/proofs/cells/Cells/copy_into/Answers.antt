@@ -30,6 +30,8 @@ returns-in_err-copy_one-clause-err g c =
     let es = map deref_pair c.loop-key.yielded in
     let so : c.self.inside.map.entries ≡ es ++ c.loop-key.key-iterator =
     sym c.into_iter-key-iterator.ensures.into_iter_gives.0 ∙ rest_so_far deref_pair c.loop-key.yielded _ _ c.loop-key.yielded_by in
+    let e : g.row.K.Denot × g.row.C.Denot = (c.in-Some.key.now, c.in-Some.cell.now) in
+    let more : c.loop-key.key-iterator ≡ e ∷ c.next.new.self = rest_more deref_pair _ _ _ (c.in-Some.key, c.in-Some.cell) c.in-Some.is c.next.ensures.steps in
     let front : CopiesFront eq g.C.Clone.is_clone c.args.self.now (get eq c.args.handles.now) (get eq c.copy_one.new.handles) =
-    (es, c.loop-key.key-iterator, sym c.self.view_is ∙ so, copies-along eq g.C.Clone.is_clone es (get eq c.args.handles.now) (get eq c.loop-key.handles) (get eq c.copy_one.new.handles) c.loop-key.invariant c.in_err-copy_one.ensures.err.1) in
+    (es, e, c.next.new.self, sym c.self.view_is ∙ (so ∙ ap (λ t. es ++ t) more), copies-along eq g.C.Clone.is_clone es (get eq c.args.handles.now) (get eq c.loop-key.handles) (get eq c.copy_one.new.handles) c.loop-key.invariant c.in_err-copy_one.ensures.err.1) in
     search (rules, front)
