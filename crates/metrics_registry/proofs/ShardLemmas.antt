@@ -153,6 +153,25 @@ module _ {A K C : Type 0} {eq : K → K → Bool} (laws : IsEquivalence eq) (num
         by_result (Ok true) c = (kept-placed eq number count i xs a b is p placed c.2, (c.0, c.1, kept-entries eq number count i xs a b is p c.2 ∙ view))
         by_result (Ok false) c = let all = sets-there None c.2 (distinct (distinct-at eq number count 0 i (map p xs) (p a) placed fits there)) in (all.0, (c.0, c.1, all.1))
 
+-- ---- a shard with something in it
+
+none-append : {A : Type 0} (xs ys : List A) → xs ++ ys ≡ [] → (xs ≡ []) × (ys ≡ [])
+none-append [] ys e = (refl, e)
+none-append (x ∷ xs) ys e = absurd (cc e)
+
+none-at : {A K C : Type 0} (xs : List A) (p : A → List (K × C)) (i : ℕ) (a : A) → i < length xs → a ≡ get_or xs i a → entries_of (map p xs) ≡ [] → p a ≡ []
+none-at [] p i a small is none = absurd (omega (arith, small))
+none-at (x ∷ xs) p zero a small is none = ap p is ∙ (none-append (p x) (entries_of (map p xs)) none).0
+none-at (x ∷ xs) p (suc i) a small is none = none-at xs p i a (omega (arith, small)) is (none-append (p x) (entries_of (map p xs)) none).1
+
+-- then there are entries
+pub some-entry : {A K C : Type 0} (xs : List A) (p : A → List (K × C)) (i : ℕ) (a : A) (front : List (K × C)) (next : K × C) (rest : List (K × C))
+    → i < length xs → a ≡ get_or xs i a → p a ≡ front ++ next ∷ rest → ¬ (entries_of (map p xs) ≡ [])
+some-entry xs p i a front next rest small is split none =
+    let bare : front ++ next ∷ rest ≡ [] = sym split ∙ none-at xs p i a small is none in
+    let apart : next ∷ rest ≡ [] = (none-append front (next ∷ rest) bare).1 in
+    cc apart
+
 -- ---- shards with nothing in them
 
 abbrev pub IsBare : {A K C : Type 0} → (A → List (K × C)) → A → Type 0

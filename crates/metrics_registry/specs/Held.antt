@@ -153,9 +153,9 @@ abbrev pub CopiesFront : {K C : Type 0} → (K → K → Bool) → (C → C → 
 CopiesFront {K} {C} eq clone es old new =
     (front : List (K × C)) × (next : K × C) × (rest : List (K × C)) × (es ≡ front ++ next ∷ rest) × Copies eq clone front old new
 
--- a map has a clone of each cell, and nothing else; or memory was refused
+-- a map has a clone of each cell, and nothing else; or memory was refused, where there are entries
 abbrev pub AreCopied : {K C S : Type 0} → (K → K → Bool) → (C → C → Type 0) → List (K × C) → Result (HashMap K C S) Error → Type 0
-AreCopied {K} {C} eq clone es result = MatchResult result (λ m. Copies eq clone es (λ _. None) (get eq m)) (λ e. e ≡ Memory)
+AreCopied {K} {C} eq clone es result = MatchResult result (λ m. Copies eq clone es (λ _. None) (get eq m)) (λ e. (e ≡ Memory) × ¬ (es ≡ []))
 
 -- ---- what stays
 
