@@ -1,6 +1,6 @@
 //! Lists of calls, made one after another.
 ghost use Rattle.std.specs.Prelude.{◌≡◌, ◌≤◌, ◌<◌, ◌+◌, ◌++◌, [], ℕ, List, length, vec_len};
-ghost use Rattle.std.specs.Prelude.{vec_capacity, map, IfOk, IfErr, Option, None, Some, option_map, false};
+ghost use Rattle.std.specs.Prelude.{vec_capacity, map, IfOk, IfErr, OnErr, Option, None, Some, option_map, false};
 ghost use Rattle.std.specs.List.{filter_map};
 ghost use Rattle.metrics_names.specs.declared.refused.Refused.TheVariants.{Memory};
 ghost use Rattle.metrics_names.specs.Names.{kind_eq};
@@ -197,6 +197,7 @@ pub fn replay<R: Recorder>(
     ensures books { length (R.meaning on.new).contents ≡ length (R.meaning on.old).contents }
     ensures keeps { KeepsTargets (R.meaning on.old) (R.meaning on.new) }
     ensures err { IfErr result (λ e. (e ≡ Memory 0) × (on.new ≡ on.old)) }
+    ensures asked { OnErr result (0 < length calls.now) }
 {
     let mut answers = Vec::new(alloc);
     answers.reserve(calls.len())?;
