@@ -1,6 +1,6 @@
 //! Quantiles and their labels.
 ghost use Rattle.std.specs.Prelude.{◌≡◌, ◌≤◌, ◌<◌, ◌+◌, ◌/◌, ◌%◌, ◌^◌, ◌++◌, ◌∷◌, []};
-ghost use Rattle.std.specs.Prelude.{map, pos, string_bytes, IfOk, OnOk, MatchResult};
+ghost use Rattle.std.specs.Prelude.{length, map, pos, string_bytes, IfOk, OnOk, MatchResult};
 ghost use Rattle.std.specs.Fmt.{decimal};
 ghost use Rattle.metrics.specs.declared.error.Error.TheVariants.{Memory as OutOfMemory};
 ghost use Rattle.metrics_registry.specs.Quantiles.{clamped, low_digits, without_trailing_zeros, label_of};
@@ -99,7 +99,8 @@ impl Quantile {
 
 /// The quantile of each number of billionths, in their order.
 pub fn parse_quantiles(alloc: Global, values: &[i64]) -> Result<Vec<Quantile>, Error>
-    ensures { MatchResult result (λ qs. qs.items ≡ map clamped values.now) (λ e. e ≡ OutOfMemory) }
+    ensures { MatchResult result (λ qs. qs.items ≡ map clamped values.now)
+        (λ e. (e ≡ OutOfMemory) × (0 < length values.now)) }
 {
     let mut quantiles = Vec::new(alloc);
     for value in values {
