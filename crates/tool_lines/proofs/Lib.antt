@@ -6,3 +6,4 @@ pub mod TreesLemmas
 pub mod OutputLemmas
 pub mod FirstRun
 pub mod ExportWords
+pub mod Asking

@@ -19,6 +19,7 @@ use Rattle.tool_stream.specs.declared.answering.Unanswered.TheVariants as unansw
 use Rattle.tool_tree_lines.specs.Trees.{Tree, meaning_of, IsAllowed}
 use Rattle.tool_lines.specs.Handles.{Entries, entry_named, entries_by}
 use Rattle.tool_lines.specs.Running.{AreHeld, addresses_in, AreSpelled, AreMade, IsRun, IsAnswered, AnswersLine, PrintsAnswers}
+use Rattle.tool_lines.specs.Requests.{Begins}
 use Rattle.tool_lines.proofs.LogLemmas.{handles_of, handles-push, print-push, spelled_push, spelled_length, Made, made_none, made_more, are_made, handles_held}
 
 -- These lines spell calls, which were made, and the text is their answers'.
@@ -120,9 +121,17 @@ pub known : (a b x y : Option (List ℕ)) (s t : Meaning) (first : ℕ) (r : Res
 known a b x y s t first (Ok n) h = known_ok a b x y s t first n h
 known a b x y s t first (Err e) h = tt
 
--- an `Ok` prints answers to calls on the tree
+-- a text of answers to calls on the tree was written, or a beginning of one
 pub prints_more : (a b x y : Option (List ℕ)) (s t : Meaning) (first : ℕ) (r : Result ℕ RunError) (tree : Tree) → IsAllowed tree → s ≡ meaning_of tree → AreNew s.contents → Finished a b x y first s t r
-    → OnOk r ((text : List ℕ) × Appends x y text × PrintsAnswers text)
-prints_more a b x y s t first (Ok n) tree allowed means new (read, text, r, w, (log, e, spelled, made, is, count)) =
-    (text, w, record { tree = tree; allowed = allowed; old = s; new = t; log = log; means = means; are_new = new; are_made = made; text_is = is })
-prints_more a b x y s t first (Err e) tree allowed means new h = tt
+    → Begins PrintsAnswers (Appends x y) r
+prints_more a b x y s t first r tree allowed means new = of r
+  where
+    printed : (log : Log) (text : List ℕ) → AreMade s t log → text ≡ print log → PrintsAnswers text
+    printed log text made is = record { tree = tree; allowed = allowed; old = s; new = t; log = log; means = means; are_new = new; are_made = made; text_is = is }
+
+    of : (q : Result ℕ RunError) → Finished a b x y first s t q → Begins PrintsAnswers (Appends x y) q
+    of (Ok n) (read, text, took, w, (log, e, spelled, made, is, count)) = (text, [], w, printed log (text ++ []) made (append-nil text ∙ is), refl)
+    of (Err (BadLine k)) (read, text, took, w, (ls, bad, log, at, lines, is_bad, spelled, made, is, count)) = (text, [], w, printed log (text ++ []) made (append-nil text ∙ is), tt)
+    of (Err (Memory (Some k))) (read, text, took, w, (ls, log, at, spelled, made, is, count)) = (text, [], w, printed log (text ++ []) made (append-nil text ∙ is), tt)
+    of (Err (Memory None)) (read, text, took, w, (ls, log, more, at, spelled, made, is)) = (text, more, w, printed log (text ++ more) made (sym is), tt)
+    of (Err Device) (read, text, took, w, (ls, log, more, at, spelled, made, is)) = (text, more, w, printed log (text ++ more) made (sym is), tt)

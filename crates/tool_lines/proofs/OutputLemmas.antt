@@ -1,7 +1,9 @@
 -- What is written for what is read.
-use Rattle.std.proofs.Common.{◌≡◌, ◌≢◌, ℕ, List, [], ◌∷◌, ◌++◌, inl, inr, length, map, codes, decimal, Option, Some, None, IfSome, OnSome, Result, Ok, Err, refl, sym, ap, subst, ◌∙◌, arith, append_assoc, append-nil, length-append}
+use Rattle.std.proofs.Common.{◌≡◌, ◌≢◌, ℕ, List, [], ◌∷◌, ◌++◌, inl, inr, length, map, codes, decimal, Option, Some, None, IfSome, OnSome, OnOk, Result, Ok, Err, refl, sym, ap, subst, ◌∙◌, arith, append_assoc, append-nil, length-append}
 use Rattle.std.specs.List.{AllByRecursion}
-use Rattle.std.specs.Io.KnownBytes.{Consumes, Keeps, IsAtEnd}
+use Rattle.std.specs.Io.KnownBytes.{Consumes, Appends, Keeps, IsAtEnd}
+use Rattle.std.proofs.KnownBytes.{Appends-nil, Appends-kept}
+use Rattle.std.proofs.lemmas.List.{append_cancel_right}
 use Rattle.metrics_names.specs.declared.refused.Refused.{Refused}
 use Rattle.metrics_names.specs.declared.refused.Refused.TheVariants as refused
 use Rattle.metrics.specs.declared.calls.Call.{Call}
@@ -19,15 +21,17 @@ use Rattle.tool_grammar.proofs.WordsLemmas.{lacks_literal}
 use Rattle.tool_grammar.proofs.CallLemmas.{call_same}
 use Rattle.tool_tree_lines.specs.declared.tree_line.TreeLine.TheVariants as line
 use Rattle.tool_tree_lines.specs.Words.{spelling as tree_spelling}
-use Rattle.tool_tree_lines.specs.Trees.{Tree, tree_lines, meaning_of, IsAllowed, BeginsWithTree, NoTree}
+use Rattle.tool_tree_lines.specs.Trees.{Tree, Book, tree_lines, meaning_of, IsAllowed, BeginsWithTree, NoTree}
 use Rattle.tool_tree_lines.proofs.Readings.{one_tree}
 use Rattle.tool_stream.specs.Lines.{lines_of, unlines}
 use Rattle.tool_stream.specs.Answering.{AreFirst, IsFlushed}
-use Rattle.tool_lines.specs.Running.{AreSpelled, AreMade}
+use Rattle.tool_lines.specs.Running.{AreSpelled, AreMade, PrintsAnswers}
 use Rattle.tool_lines.specs.TreeReading.{AreRead, BuildsTree, RefusesTree}
-use Rattle.tool_lines.specs.Output.{IsStop, BeginsWithCalls, Input, answers_text, printed, LacksWant, IsAnswered, AnswersCalls, AnswersAll, AnswersFirst, RunsKnown, Prints}
+use Rattle.tool_lines.specs.Output.{IsStop, BeginsWithCalls, Input, answers_text, printed, LacksWant, IsAnswered, AnswersSome, AnswersCalls, AnswersAll, AnswersFirst, AnswersPart, RunsKnown, Prints}
+use Rattle.tool_lines.specs.Requests.{Begins}
 use Rattle.tool_stream.proofs.LinesLemmas.{lines-cut, lines-front}
 use Rattle.tool_stream.proofs.Loop.{unlines_push}
+use Rattle.tool_lines.proofs.LogLemmas.{made_none, are_made}
 use Rattle.tool_lines.proofs.Loop.{Finished}
 use Rattle.tool_lines.proofs.TreesLemmas.{means_new}
 
@@ -175,6 +179,21 @@ first_lines ys left read ks bad took (inl (rest, whole, lines)) is =
     (lines_of (rest ++ left), ap lines_of all ∙ lines-cut body (rest ++ left) ∙ ap (λ k. k ++ lines_of (rest ++ left)) here ∙ append_assoc ks (bad ∷ []) (lines_of (rest ++ left)))
 first_lines ys left read ks bad took (inr (e, f)) is = ([], ap lines_of (took ∙ ap (λ k. read ++ k) e ∙ append-nil read) ∙ is)
 
+unlines_end : (l : List ℕ) (ls : List (List ℕ)) → EndsLine (unlines (l ∷ ls))
+unlines_end l [] = (l, append-nil (l ++ 10 ∷ []))
+unlines_end l (k ∷ ls) = ends_behind (l ++ 10 ∷ []) (unlines (k ∷ ls)) (unlines_end k ls)
+
+-- so do any first lines
+some_lines : (ys left read : List ℕ) (ls : List (List ℕ)) → ys ≡ read ++ left → AreFirst (left ≡ []) read ls → (more : List (List ℕ)) × (lines_of ys ≡ ls ++ more)
+some_lines ys left read [] took at = (lines_of ys, refl)
+some_lines ys left read (l ∷ ls) took (inl (rest, whole, lines)) =
+    let (body, e) = unlines_end l ls in
+    let cut : read ≡ body ++ 10 ∷ rest = whole ∙ ap (λ k. k ++ rest) e ∙ append_assoc body (10 ∷ []) rest in
+    let here : lines_of (body ++ 10 ∷ []) ≡ l ∷ ls = append_cancel_right (lines_of (body ++ 10 ∷ [])) (l ∷ ls) (lines_of rest) (sym (lines-cut body rest) ∙ ap lines_of (sym cut) ∙ lines) in
+    let all : ys ≡ body ++ 10 ∷ (rest ++ left) = took ∙ ap (λ k. k ++ left) cut ∙ append_assoc body (10 ∷ rest) left in
+    (lines_of (rest ++ left), ap lines_of all ∙ lines-cut body (rest ++ left) ∙ ap (λ k. k ++ lines_of (rest ++ left)) here)
+some_lines ys left read (l ∷ ls) took (inr (e, f)) = ([], ap lines_of (took ∙ ap (λ k. read ++ k) e ∙ append-nil read) ∙ f ∙ sym (append-nil (l ∷ ls)))
+
 -- lines that spell calls are their lines
 spelled_calls : (ls : List (List ℕ)) (log : Log) → AreSpelled ls log → AllByRecursion CanBeSpelled (map (λ e. e.0) log) × (ls ≡ map spelling (map (λ e. e.0) log))
 spelled_calls [] [] h = (tt, refl)
@@ -185,6 +204,14 @@ spelled_calls (l ∷ ls) (e ∷ log) h =
     ((h.0.0, rest.0), ap (λ z. z ∷ ls) h.0.1 ∙ ap (λ zs. spelling e.0 ∷ zs) rest.1)
 
 -- ---- a run over lines
+
+-- the calls of first lines were made, and this much of their answers was written
+answers_some : (m : Meaning) (ys left read : List ℕ) (W : List ℕ → Type 0) (ls : List (List ℕ)) (log : Log) (text more : List ℕ) → ys ≡ read ++ left → AreFirst (left ≡ []) read ls → AreSpelled ls log
+    → ArePlain m.targets (length m.contents) log → print log ≡ text ++ more → W text → AnswersSome m (lines_of ys) W
+answers_some m ys left read W ls log text more took at spelled plain is w =
+    let (behind, whole) = some_lines ys left read ls took at in
+    let calls = spelled_calls ls log spelled in
+    (map (λ e. e.0) log, behind, text, more, calls.0, whole ∙ ap (λ k. k ++ behind) calls.1, answered m log (text ++ more) plain (sym is), w)
 
 module _ (xs ys left held : List ℕ) (y : Option (List ℕ)) (s t : Meaning) (tree : Tree) (allowed : IsAllowed tree) (is : s ≡ meaning_of tree) (front : lines_of xs ≡ (tree_lines tree ++ tree_spelling line.End ∷ []) ++ lines_of ys) where
   abbrev input : (calls : List Call) (rest : List (List ℕ)) → BeginsWithCalls (lines_of ys) calls rest → Input (lines_of xs)
@@ -211,6 +238,13 @@ module _ (xs ys left held : List ℕ) (y : Option (List ℕ)) (s t : Meaning) (t
       let lines = spelled_calls ks log spelled in
       inl (input (map (λ e. e.0) log) (bad ∷ more) (lines.0, whole ∙ ap (λ k. k ++ bad ∷ more) lines.1, is_bad), text, omega arith, output log text made e, now)
 
+  some_answered : (read : List ℕ) (ks : List (List ℕ)) (log : Log) (text more : List ℕ) → ys ≡ read ++ left → AreFirst (left ≡ []) read ks → AreSpelled ks log → AreMade s t log → print log ≡ text ++ more → y ≡ Some (held ++ text)
+      → AnswersPart (lines_of xs) (λ w. y ≡ Some (held ++ w))
+  some_answered read ks log text more took at spelled made e now =
+      let plain = subst (λ (m : Meaning). ArePlain m.targets (length m.contents) log) is (made.plain (means_new s tree is)) in
+      inr (tree, lines_of ys, (allowed, front ∙ append_assoc (tree_lines tree) (tree_spelling line.End ∷ []) (lines_of ys)),
+      answers_some (meaning_of tree) ys left read (λ w. y ≡ Some (held ++ w)) ks log text more took at spelled plain e now)
+
 -- what is known of a run behind a tree
 pub runs_over : (a b c x y : Option (List ℕ)) (s t : Meaning) (first : ℕ) (r : Result ℕ RunError) (read : List ℕ) → Consumes a b read → BuildsTree (OnSome a (IsAtEnd b)) read s first → Finished b c x y first s t r
     → RunsKnown a x y r
@@ -227,8 +261,15 @@ runs_over (Some xs) (Some ys) (Some left) (Some held) (Some now) s t first (Err 
     let front = read_lines xs ys read (tree_lines tree ++ tree_spelling line.End ∷ []) took are in
     let (behind, whole) = first_lines ys left more ls bad took' at lines in
     first_answered xs ys left held (Some now) s t tree allowed is front ls bad behind log text whole is_bad spelled made text_is (ap Some w)
-runs_over (Some xs) (Some ys) (Some left) (Some held) (Some now) s t first (Err (Memory at)) read took built h = tt
-runs_over (Some xs) (Some ys) (Some left) (Some held) (Some now) s t first (Err Device) read took built h = tt
+runs_over (Some xs) (Some ys) (Some left) (Some held) (Some now) s t first (Err (Memory (Some k))) read took (tree, allowed, is, are, number) (more, text, took', w, (ls, log, at, spelled, made, text_is, count)) =
+    let front = read_lines xs ys read (tree_lines tree ++ tree_spelling line.End ∷ []) took are in
+    some_answered xs ys left held (Some now) s t tree allowed is front more ls log text [] took' at spelled made (sym text_is ∙ sym (append-nil text)) (ap Some w)
+runs_over (Some xs) (Some ys) (Some left) (Some held) (Some now) s t first (Err (Memory None)) read took (tree, allowed, is, are, number) (more, text, took', w, (ls, log, rest, at, spelled, made, text_is)) =
+    let front = read_lines xs ys read (tree_lines tree ++ tree_spelling line.End ∷ []) took are in
+    some_answered xs ys left held (Some now) s t tree allowed is front more ls log text rest took' at spelled made text_is (ap Some w)
+runs_over (Some xs) (Some ys) (Some left) (Some held) (Some now) s t first (Err Device) read took (tree, allowed, is, are, number) (more, text, took', w, (ls, log, rest, at, spelled, made, text_is)) =
+    let front = read_lines xs ys read (tree_lines tree ++ tree_spelling line.End ∷ []) took are in
+    some_answered xs ys left held (Some now) s t tree allowed is front more ls log text rest took' at spelled made text_is (ap Some w)
 
 -- ---- a tree that was refused
 
@@ -244,18 +285,40 @@ refuses_over (Some xs) b None y e read took h k = tt
 refuses_over (Some xs) None (Some held) y e read took h k = absurd took
 refuses_over (Some xs) (Some ys) (Some held) None e read took h k = absurd k
 refuses_over (Some xs) (Some ys) (Some held) (Some now) (BadLine n) read took h k = inr (no_tree xs ys read n took h, ap Some (k ∙ sym (append-nil held)))
-refuses_over (Some xs) (Some ys) (Some held) (Some now) (Memory at) read took h k = tt
-refuses_over (Some xs) (Some ys) (Some held) (Some now) Device read took h k = tt
+refuses_over (Some xs) (Some ys) (Some held) (Some now) (Memory at) read took h k = inl (ap Some (k ∙ sym (append-nil held)))
+refuses_over (Some xs) (Some ys) (Some held) (Some now) Device read took h k = inl (ap Some (k ∙ sym (append-nil held)))
 
-device_over : (a x y : Option (List ℕ)) → RunsKnown {A = ℕ} a x y (Err Device)
-device_over None x y = tt
-device_over (Some xs) None y = tt
-device_over (Some xs) (Some held) y = tt
+device_over : (a x y : Option (List ℕ)) → Keeps x y → RunsKnown {A = ℕ} a x y (Err Device)
+device_over None x y k = tt
+device_over (Some xs) None y k = tt
+device_over (Some xs) (Some held) None k = absurd k
+device_over (Some xs) (Some held) (Some now) k = inl (ap Some (k ∙ sym (append-nil held)))
 
 -- after a flush
 pub refused_over : (a b x y : Option (List ℕ)) (e : RunError) (r : Result ℕ RunError) (read : List ℕ) → Consumes a b read → RefusesTree (OnSome a (IsAtEnd b)) read e → IsFlushed (Err e) r → Keeps x y → RunsKnown a x y r
 refused_over a b x y e r read took h (inl is) k = rw is (refuses_over a b x y e read took h k)
-refused_over a b x y e r read took h (inr (whole, is)) k = rw is (device_over a x y)
+refused_over a b x y e r read took h (inr (whole, is)) k = rw is (device_over a x y k)
+
+-- nothing was written, which is what no calls print
+nothing_printed : PrintsAnswers []
+nothing_printed = record {
+  tree = Book;
+  allowed = (tt, tt, omega arith);
+  old = meaning_of Book;
+  new = meaning_of Book;
+  log = [];
+  means = refl;
+  are_new = means_new (meaning_of Book) Book refl;
+  are_made = are_made (meaning_of Book) (meaning_of Book) [] (made_none (meaning_of Book));
+  text_is = refl;
+}
+
+all_same : (r : Result ℕ RunError) (text : List ℕ) → OnOk r (text ≡ text)
+all_same (Ok n) text = refl
+all_same (Err e) text = tt
+
+pub begins_kept : (x y : Option (List ℕ)) (r : Result ℕ RunError) → Keeps x y → Begins PrintsAnswers (Appends x y) r
+begins_kept x y r k = ([], [], Appends-kept x x y [] (Appends-nil x) k, nothing_printed, all_same r [])
 
 -- ---- calls alone
 
@@ -273,5 +336,9 @@ run_answered (Some ys) (Some left) (Some held) (Some now) s t first (Err (BadLin
     let (behind, whole) = first_lines ys left read ls bad took at lines in
     let calls = spelled_calls ls log spelled in
     (map (λ e. e.0) log, text, bad, behind, (calls.0, whole ∙ ap (λ k. k ++ bad ∷ behind) calls.1, is_bad), answered s log text (made.plain new) is, ap Some w)
-run_answered (Some ys) (Some left) (Some held) (Some now) s t first (Err (Memory at)) h new = tt
-run_answered (Some ys) (Some left) (Some held) (Some now) s t first (Err Device) h new = tt
+run_answered (Some ys) (Some left) (Some held) (Some now) s t first (Err (Memory (Some k))) (read, text, took, w, (ls, log, at, spelled, made, is, count)) new =
+    answers_some s ys left read (λ w. Some now ≡ Some (held ++ w)) ls log text [] took at spelled (made.plain new) (sym is ∙ sym (append-nil text)) (ap Some w)
+run_answered (Some ys) (Some left) (Some held) (Some now) s t first (Err (Memory None)) (read, text, took, w, (ls, log, more, at, spelled, made, is)) new =
+    answers_some s ys left read (λ w. Some now ≡ Some (held ++ w)) ls log text more took at spelled (made.plain new) is (ap Some w)
+run_answered (Some ys) (Some left) (Some held) (Some now) s t first (Err Device) (read, text, took, w, (ls, log, more, at, spelled, made, is)) new =
+    answers_some s ys left read (λ w. Some now ≡ Some (held ++ w)) ls log text more took at spelled (made.plain new) is (ap Some w)

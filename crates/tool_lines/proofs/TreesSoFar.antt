@@ -1,5 +1,5 @@
 -- How far the lines of a tree are read, and how that ends.
-use Rattle.std.proofs.Common.{◌≡◌, ℕ, suc, ◌+◌, ◌<◌, List, [], ◌∷◌, ◌++◌, length, Option, OnSome, Result, Ok, Err, MatchResult, true, false, refl, sym, ap, subst, ◌∙◌, inl, inr, arith, append-nil}
+use Rattle.std.proofs.Common.{◌≡◌, ℕ, suc, ◌+◌, ◌<◌, ◌≤◌, List, [], ◌∷◌, ◌++◌, length, Option, OnSome, Result, Ok, Err, MatchResult, true, false, refl, sym, ap, subst, ◌∙◌, inl, inr, arith, append-nil}
 use Rattle.std.specs.List.{AllByRecursion}
 use Rattle.std.specs.Io.KnownBytes.{Consumes, IsAtEnd}
 use Rattle.std.proofs.KnownBytes.{Consumes-nil, Consumes-trans}
@@ -23,8 +23,8 @@ use Rattle.tool_stream.specs.Lines.{lines_of, ended, unlines, IsLine}
 use Rattle.tool_stream.specs.declared.stream.Fault.{Fault}
 use Rattle.tool_stream.specs.declared.stream.Fault.TheVariants as faults
 use Rattle.tool_stream.specs.Answering.{fault_at}
-use Rattle.tool_lines.specs.TreeReading.{AreRead, BuildsTree, RefusesTree, error_at}
-use Rattle.tool_stream.proofs.LinesLemmas.{lines-last}
+use Rattle.tool_lines.specs.TreeReading.{AreRead, StopsBehind, BuildsTree, RefusesTree, error_at}
+use Rattle.tool_stream.proofs.LinesLemmas.{lines-last, lines-one}
 use Rattle.std.proofs.lemmas.List.{length_push}
 use Rattle.tool_stream.proofs.Loop.{unlines_push, split_push}
 use Rattle.tool_stream.proofs.Reading.{at_end_from}
@@ -34,6 +34,14 @@ step_lines : (bytes : List ℕ) (said : TreeLine) (ts us : List Tree) → Spells
 step_lines bytes said ts us sp st =
     ap all_lines st.after ∙ lines_push st.front st.tree ∙ ap (λ ls. ls ++ spelling (last_line st.tree) ∷ []) (ap all_lines (sym st.before))
     ∙ ap (λ l. all_lines ts ++ spelling l ∷ []) st.line_is ∙ ap (λ b. all_lines ts ++ b ∷ []) (sym sp.1)
+
+-- a line is one at most
+line_or_none : (bytes : List ℕ) → IsLine bytes → length (lines_of bytes) ≤ 1
+line_or_none [] h = omega arith
+line_or_none (x ∷ bytes) h = omega (arith, ap length (lines-last (x ∷ bytes) h (omega arith)))
+
+one_line : (bytes : List ℕ) → IsLine bytes → length (lines_of (ended bytes)) ≤ 1
+one_line bytes h = omega (arith, ap length (lines-one bytes h))
 
 -- the lines of trees have no `end`
 ends_early : (ts : List Tree) → AllByRecursion IsAllowed ts → (ls : List (List ℕ)) → ls ≡ all_lines ts → AreOfTrees ls × NoTree ls
@@ -75,6 +83,12 @@ module _ (a b c : Option (List ℕ)) (stack : List Level) (number : ℕ) (so : T
         numbered = omega (arith, so.numbered, long);
       }
 
+  -- lines of trees were read, and this much more
+  stops : (part : List ℕ) → Consumes b c part → length (lines_of part) ≤ 1 → (read : List ℕ) × Consumes a c read × StopsBehind read (all_lines so.trees)
+  stops part r short =
+      let old = unlines (all_lines so.trees) in
+      (old ++ part, Consumes-trans a b c _ _ so.read r, (part, of_trees so.trees (built_allowed stack so.trees so.built), refl, so.split part, short))
+
   -- the line was read, with its line feed
   line_read : IsLine bytes → Consumes b c (ended bytes) → Ends a c (λ read. AreRead (OnSome a (IsAtEnd c)) read (all_lines so.trees ++ bytes ∷ []))
   line_read h r =
@@ -101,9 +115,9 @@ module _ (a b c : Option (List ℕ)) (stack : List Level) (number : ℕ) (so : T
           (read, took, (t, h.0.allowed, mean l (same ∙ sym p) ∙ h.0.meaning, subst (λ (ls : List (List ℕ)). AreRead (OnSome a (IsAtEnd c)) read ls) (ap (λ ls. ls ++ bytes ∷ []) lines ∙ ap (λ x. tree_lines t ++ x ∷ []) is) are, omega (arith, e, so.numbered, long)))
 
   -- it was bad
-  refuse : Ends a c (λ read. AreRead (OnSome a (IsAtEnd c)) read (all_lines so.trees ++ bytes ∷ [])) → (new : List Level) (e : LineError) → DoesLine bytes stack new (Err e) → Refused a c (error_at number e)
-  refuse (read, took, are) new levels.Memory does = (read, took, tt)
-  refuse (read, took, are) new levels.Bad does =
+  refuse : (part : List ℕ) → Consumes b c part → length (lines_of part) ≤ 1 → Ends a c (λ read. AreRead (OnSome a (IsAtEnd c)) read (all_lines so.trees ++ bytes ∷ [])) → (new : List Level) (e : LineError) → DoesLine bytes stack new (Err e) → Refused a c (error_at number e)
+  refuse part r short are new levels.Memory does = let (read, took, stopped) = stops part r short in (read, took, (all_lines so.trees, stopped, so.numbered))
+  refuse part r short (read, took, are) new levels.Bad does =
       let bad = does so.trees so.built in
       (read, took, inl (all_lines so.trees, bytes, are, first_bad so.trees bytes (built_allowed stack so.trees so.built) (record { no_end = bad.0; no_step = bad.1 }), so.numbered))
 
@@ -114,10 +128,10 @@ module _ (a b c : Option (List ℕ)) (stack : List Level) (number : ℕ) (so : T
   finish_last h p r e = finish (last_read h p r e)
 
   pub refuse_line : IsLine bytes → Consumes b c (ended bytes) → (new : List Level) (e : LineError) → DoesLine bytes stack new (Err e) → Refused a c (error_at number e)
-  refuse_line h r = refuse (line_read h r)
+  refuse_line h r = refuse (ended bytes) r (one_line bytes h) (line_read h r)
 
   pub refuse_last : IsLine bytes → 0 < length bytes → Consumes b c bytes → OnSome b (IsAtEnd c) → (new : List Level) (e : LineError) → DoesLine bytes stack new (Err e) → Refused a c (error_at number e)
-  refuse_last h p r e = refuse (last_read h p r e)
+  refuse_last h p r e = refuse bytes r (line_or_none bytes h) (last_read h p r e)
 
   -- the last line took its trees, and no `end` follows
   pub ended_early : IsLine bytes → 0 < length bytes → Consumes b c bytes → OnSome b (IsAtEnd c) → (new : List Level) → DoesLine bytes stack new (Ok false) → Refused a c (BadLine (number + 1))
@@ -137,22 +151,30 @@ module _ (a b c : Option (List ℕ)) (stack : List Level) (number : ℕ) (so : T
       (unlines (all_lines so.trees) ++ [], Consumes-trans a b c _ _ so.read r, inr (at_end_from a b c _ so.read e, early.0, early.1, omega (arith, so.numbered, ap length whole)))
 
   of_result : {F : Type 0} (mean : F → Meaning) (num : F → ℕ) (r : Result F RunError) (new : List Level) → MatchResult r (λ found. (num found ≡ number + 1) × ((l : Level) → new ≡ l ∷ [] → mean found ≡ level_meaning l)) (λ e. e ≡ Device)
-      → Ends a c (λ read. AreRead (OnSome a (IsAtEnd c)) read (all_lines so.trees ++ bytes ∷ [])) → DoesLine bytes stack new (Ok true)
+      → (part : List ℕ) → Consumes b c part → length (lines_of part) ≤ 1 → Ends a c (λ read. AreRead (OnSome a (IsAtEnd c)) read (all_lines so.trees ++ bytes ∷ [])) → DoesLine bytes stack new (Ok true)
       → Ends a c (λ read. MatchResult r (λ found. BuildsTree (OnSome a (IsAtEnd c)) read (mean found) (num found)) (λ e. RefusesTree (OnSome a (IsAtEnd c)) read e))
-  of_result mean num (Ok found) new h are does = finish are new does (mean found) (num found) h.0 h.1
-  of_result mean num (Err e) new h (read, took, are) does = (read, took, subst (RefusesTree (OnSome a (IsAtEnd c)) read) (sym h) tt)
+  of_result mean num (Ok found) new h part r short are does = finish are new does (mean found) (num found) h.0 h.1
+  of_result mean num (Err e) new h part r short are does =
+      let (read, took, stopped) = stops part r short in
+      (read, took, subst (RefusesTree (OnSome a (IsAtEnd c)) read) (sym h) (all_lines so.trees, stopped))
 
   pub result_line : {F : Type 0} (mean : F → Meaning) (num : F → ℕ) (r : Result F RunError) (new : List Level) → MatchResult r (λ found. (num found ≡ number + 1) × ((l : Level) → new ≡ l ∷ [] → mean found ≡ level_meaning l)) (λ e. e ≡ Device)
       → IsLine bytes → Consumes b c (ended bytes) → DoesLine bytes stack new (Ok true)
       → Ends a c (λ read. MatchResult r (λ found. BuildsTree (OnSome a (IsAtEnd c)) read (mean found) (num found)) (λ e. RefusesTree (OnSome a (IsAtEnd c)) read e))
-  result_line mean num r new h il took does = of_result mean num r new h (line_read il took) does
+  result_line mean num r new h il took does = of_result mean num r new h (ended bytes) took (one_line bytes il) (line_read il took) does
 
   pub result_last : {F : Type 0} (mean : F → Meaning) (num : F → ℕ) (r : Result F RunError) (new : List Level) → MatchResult r (λ found. (num found ≡ number + 1) × ((l : Level) → new ≡ l ∷ [] → mean found ≡ level_meaning l)) (λ e. e ≡ Device)
       → IsLine bytes → 0 < length bytes → Consumes b c bytes → OnSome b (IsAtEnd c) → DoesLine bytes stack new (Ok true)
       → Ends a c (λ read. MatchResult r (λ found. BuildsTree (OnSome a (IsAtEnd c)) read (mean found) (num found)) (λ e. RefusesTree (OnSome a (IsAtEnd c)) read e))
-  result_last mean num r new h il p took e does = of_result mean num r new h (last_read il p took e) does
+  result_last mean num r new h il p took e does = of_result mean num r new h bytes took (line_or_none bytes il) (last_read il p took e) does
 
   -- a line that could not be read
-  pub unread_tree : (f : Fault) → Consumes b c bytes → Refused a c (fault_at number f)
-  unread_tree faults.Memory r = (unlines (all_lines so.trees) ++ bytes, Consumes-trans a b c _ _ so.read r, tt)
-  unread_tree faults.Device r = (unlines (all_lines so.trees) ++ bytes, Consumes-trans a b c _ _ so.read r, tt)
+  pub unread_tree : (f : Fault) → IsLine bytes → Consumes b c bytes → Refused a c (fault_at number f)
+  unread_tree faults.Memory h r = let (read, took, stopped) = stops bytes r (line_or_none bytes h) in (read, took, (all_lines so.trees, stopped, so.numbered))
+  unread_tree faults.Device h r = let (read, took, stopped) = stops bytes r (line_or_none bytes h) in (read, took, (all_lines so.trees, stopped))
+
+-- more lines than have numbers
+pub given_up : (a b : Option (List ℕ)) (stack : List Level) (number : ℕ) → TreesSoFar a b stack number → Refused a b Device
+given_up a b stack number so =
+    let (read, took, stopped) = stops a b b stack number so [] [] (Consumes-nil b) (omega arith) in
+    (read, took, (all_lines so.trees, stopped))

@@ -56,15 +56,20 @@ pub record IsAnswered (m : Meaning) (calls : List Call) (text : List ℕ) : Type
 
 -- ---- a run over lines
 
+-- These calls were answered, whose lines are the first, and what was written begins that answer.
+abbrev pub AnswersSome : Meaning → List (List ℕ) → (List ℕ → Type 0) → Type 0
+AnswersSome m ls Writes = (calls : List Call) × (rest : List (List ℕ)) × (text more : List ℕ)
+    × AllByRecursion CanBeSpelled calls × (ls ≡ map spelling calls ++ rest) × IsAnswered m calls (text ++ more) × Writes text
+
 -- What was written for the lines of calls on a recorder of new books, by the result: all were answered, or those before a
--- bad line.
+-- bad line; or some, and a beginning of that.
 abbrev pub AnswersCalls : {A : Type 0} → Meaning → List (List ℕ) → (List ℕ → Type 0) → Result A RunError → Type 0
 AnswersCalls m ls Writes (Ok done) = (calls : List Call) × (text : List ℕ)
     × BeginsWithCalls ls calls [] × IsAnswered m calls text × Writes text
 AnswersCalls m ls Writes (Err (BadLine k)) = (calls : List Call) × (text : List ℕ) × (bad : List ℕ) × (more : List (List ℕ))
     × BeginsWithCalls ls calls (bad ∷ more) × IsAnswered m calls text × Writes text
-AnswersCalls m ls Writes (Err (Memory at)) = Unit {0}
-AnswersCalls m ls Writes (Err Device) = Unit {0}
+AnswersCalls m ls Writes (Err (Memory at)) = AnswersSome m ls Writes
+AnswersCalls m ls Writes (Err Device) = AnswersSome m ls Writes
 
 -- all lines are an input, and its calls were answered
 abbrev pub AnswersAll : List (List ℕ) → (List ℕ → Type 0) → Type 0
@@ -77,12 +82,17 @@ AnswersFirst ls Writes =
     ((i : Input ls) × (text : List ℕ) × (0 < length i.rest) × IsAnswered (meaning_of i.tree) i.calls text × Writes text)
     ⊎ (NoTree ls × Writes [])
 
+-- nothing was written; or a beginning of the answers to the first calls, on the tree with which the lines begin
+abbrev pub AnswersPart : List (List ℕ) → (List ℕ → Type 0) → Type 0
+AnswersPart ls Writes = Writes []
+    ⊎ ((tree : Tree) × (behind : List (List ℕ)) × BeginsWithTree ls tree behind × AnswersSome (meaning_of tree) behind Writes)
+
 -- what was written for lines, by the result
 abbrev pub RunsOver : {A : Type 0} → List (List ℕ) → (List ℕ → Type 0) → Result A RunError → Type 0
 RunsOver ls Writes (Ok done) = AnswersAll ls Writes
 RunsOver ls Writes (Err (BadLine k)) = AnswersFirst ls Writes
-RunsOver ls Writes (Err (Memory at)) = Unit {0}
-RunsOver ls Writes (Err Device) = Unit {0}
+RunsOver ls Writes (Err (Memory at)) = AnswersPart ls Writes
+RunsOver ls Writes (Err Device) = AnswersPart ls Writes
 
 -- the same, where the bytes to read are known and what the writer held: what it holds now is that and the text
 abbrev pub RunsKnown : {A : Type 0} → Option (List ℕ) → Option (List ℕ) → Option (List ℕ) → Result A RunError → Type 0

@@ -1,9 +1,10 @@
 -- What the words of a command line ask for, and what the program writes for it.
-use Rattle.std.specs.Prelude.{◌≡◌, ℕ, ℤ, ◌-◌, ◌*◌, ◌<◌, ◌≤◌, List, [], ◌∷◌, ◌++◌, codes, decimal}
+use Rattle.std.specs.Prelude.{◌≡◌, ℕ, ℤ, ◌-◌, ◌*◌, ◌<◌, ◌≤◌, List, [], ◌∷◌, ◌++◌, ◌⊎◌, codes, decimal, Result, OnOk}
 use Rattle.std.specs.Fmt.{signed_decimal}
 use Rattle.tool_storm.specs.declared.totals.Totals.{Totals}
 use Rattle.tool_storm.specs.Numbers.{sum_below}
-use Rattle.tool_lines.specs.Running.{PrintsAnswers}
+use Rattle.tool_grammar.specs.declared.error.RunError.{RunError}
+use Rattle.tool_lines.specs.Running.{PrintsAnswers, status_number}
 use Rattle.tool_lines.specs.declared.requests.StormPlan.{StormPlan}
 use Rattle.tool_lines.specs.declared.requests.Request.{Request}
 use Rattle.tool_lines.specs.declared.requests.Request.TheVariants.{Run, Storm, GrowingStorm}
@@ -33,6 +34,10 @@ request_words (GrowingStorm plan) = codes "storm" ∷ decimal plan.pushers ∷ d
 abbrev pub Asks : List (List ℕ) → Request → Type 0
 Asks words asked = IsAllowed asked × (words ≡ request_words asked)
 
+-- the words ask for a storm
+abbrev pub AsksStorm : List (List ℕ) → StormPlan → Type 0
+AsksStorm words plan = Asks words (Storm plan) ⊎ Asks words (GrowingStorm plan)
+
 -- ---- what is written
 
 -- the totals of a storm of so many pushers, each of which pushes the numbers below values
@@ -61,3 +66,11 @@ abbrev pub Prints : Request → List ℕ → Type 0
 Prints Run text = PrintsAnswers text
 Prints (Storm plan) text = PrintsTotals plan text
 Prints (GrowingStorm plan) text = PrintsTotals plan text
+
+-- What was written is a text that may be printed; where something failed, a beginning of one.
+abbrev pub Begins : {A : Type 0} → (List ℕ → Type 0) → (List ℕ → Type 0) → Result A RunError → Type 0
+Begins Print Writes r = (text more : List ℕ) × Writes text × Print (text ++ more) × OnOk r (more ≡ [])
+
+-- memory or the device failed, and no line was bad
+abbrev pub IsFault : RunError → Type 0
+IsFault e = status_number e ≡ 1

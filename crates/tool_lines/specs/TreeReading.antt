@@ -1,5 +1,5 @@
 -- What reading the lines of a tree did.
-use Rattle.std.specs.Prelude.{◌≡◌, ℕ, suc, List, [], ◌∷◌, ◌++◌, length, ◌⊎◌, Some}
+use Rattle.std.specs.Prelude.{◌≡◌, ◌≤◌, ℕ, suc, List, [], ◌∷◌, ◌++◌, length, ◌⊎◌, None, Some}
 use Rattle.metrics.specs.Meaning.{Meaning}
 use Rattle.tool_grammar.specs.declared.error.RunError.{RunError}
 use Rattle.tool_grammar.specs.declared.error.RunError.TheVariants.{Memory, BadLine, Device}
@@ -22,13 +22,20 @@ BuildsTree at_end read m number = (t : Tree)
     × IsAllowed t × (m ≡ meaning_of t)
     × AreRead at_end read (tree_lines t ++ spelling line.End ∷ []) × (number ≡ suc (suc (length (tree_lines t))))
 
+-- Lines of trees were read, one tree after the other, and behind them at most one line, or a part of it.
+abbrev pub StopsBehind : List ℕ → List (List ℕ) → Type 0
+StopsBehind read ls = (part : List ℕ)
+    × AreOfTrees ls × (read ≡ unlines ls ++ part) × (lines_of read ≡ ls ++ lines_of part) × (length (lines_of part) ≤ 1)
+
 -- The first bad line, behind the lines of trees; or the reader is at its end behind such lines, and they have no `end`.
+-- Want of memory tells the number of the line behind those of trees.
 abbrev pub RefusesTree : Type 0 → List ℕ → RunError → Type 0
 RefusesTree at_end read (BadLine k) =
     ((ls : List (List ℕ)) × (bad : List ℕ) × AreRead at_end read (ls ++ bad ∷ []) × IsFirstBad ls bad × (k ≡ suc (length ls)))
     ⊎ (at_end × AreOfTrees (lines_of read) × NoTree (lines_of read) × (k ≡ suc (length (lines_of read))))
-RefusesTree at_end read (Memory at) = Unit {0}
-RefusesTree at_end read Device = Unit {0}
+RefusesTree at_end read (Memory None) = ⊥
+RefusesTree at_end read (Memory (Some k)) = (ls : List (List ℕ)) × StopsBehind read ls × (k ≡ suc (length ls))
+RefusesTree at_end read Device = (ls : List (List ℕ)) × StopsBehind read ls
 
 -- the error at a tree line
 abbrev pub error_at : ℕ → LineError → RunError

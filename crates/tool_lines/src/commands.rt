@@ -1,14 +1,17 @@
 //! The whole program, over the words of its command line.
-ghost use Rattle.std.specs.Prelude.{◌≡◌, ◌≤◌, ◌++◌, ◌⊎◌, ℕ, List, Some, IfSome, OnSome, OnOk, map};
+ghost use Rattle.std.specs.Prelude.{◌≡◌, ◌≤◌, ◌++◌, ◌⊎◌, ℕ, List, Some, IfSome, OnSome, IfErr, map};
 ghost use Rattle.std.specs.Io.KnownBytes.{Consumes, Appends, IsAtEnd};
 ghost use Rattle.tool_export.specs.declared.plans.ExportPlan.{ExportPlan as Plan};
 ghost use Rattle.tool_lines.specs.Exports.{AsksExport, end_status, EndsExport};
 ghost use Rattle.tool_lines.specs.Running.{PrintsAnswers, status_number};
+ghost use Rattle.tool_grammar.specs.declared.error.RunError.TheVariants.{Device as NoDevice};
 ghost use Rattle.tool_lines.specs.declared.requests.Request.{Request as Asked};
+ghost use Rattle.tool_lines.specs.declared.requests.StormPlan.{StormPlan as Storm};
 ghost use Rattle.tool_lines.specs.declared.requests.Request.TheVariants as ask;
 ghost use Rattle.tool_stream.specs.Lines.{lines_of};
-ghost use Rattle.tool_lines.specs.Output.{AnswersAll, AnswersFirst, RunsKnown};
-ghost use Rattle.tool_lines.specs.Requests.{IsAllowed, IsAllowedPlan, Asks, PrintsTotals, Prints, totals_text};
+ghost use Rattle.tool_lines.specs.Output.{AnswersAll, AnswersFirst, AnswersPart, RunsKnown};
+ghost use Rattle.tool_lines.specs.Requests.{IsAllowed, IsAllowedPlan, Asks, AsksStorm, PrintsTotals, Prints, Begins};
+ghost use Rattle.tool_lines.specs.Requests.{IsFault, totals_text};
 
 use crate::exports::export_of;
 use crate::requests::{Request, StormPlan, request_of};
@@ -41,8 +44,7 @@ fn answer<I: BufRead, O: Write>(
     input: &mut I,
     output: &mut O,
 ) -> Result<u64, RunError>
-    ensures prints { OnOk result ((text : List ℕ)
-        × Appends (O.contents output.old) (O.contents output.new) text × PrintsAnswers text) }
+    ensures prints { Begins PrintsAnswers (Appends (O.contents output.old) (O.contents output.new)) result }
     ensures known { RunsKnown (I.remaining input.old) (O.contents output.old) (O.contents output.new) result }
 {
     match tree(alloc, input) {
@@ -53,7 +55,8 @@ fn answer<I: BufRead, O: Write>(
 
 /// Writes the text, and flushes the writer.
 fn write_whole<O: Write>(output: &mut O, text: &[u8]) -> Result<(), RunError>
-    ensures { OnOk result (Appends (O.contents output.old) (O.contents output.new) text.now) }
+    ensures prints { Begins (λ whole. whole ≡ text.now) (Appends (O.contents output.old) (O.contents output.new)) result }
+    ensures err { IfErr result (λ e. e ≡ NoDevice) }
 {
     write_text(output, text)?;
     match output.flush() {
@@ -64,8 +67,9 @@ fn write_whole<O: Write>(output: &mut O, text: &[u8]) -> Result<(), RunError>
 
 /// Writes the three lines of these totals.
 fn write_totals<O: Write>(alloc: Global, totals: &Totals, output: &mut O) -> Result<(), RunError>
-    ensures { OnOk result ((text : List ℕ)
-        × Appends (O.contents output.old) (O.contents output.new) text × (text ≡ totals_text totals.now)) }
+    ensures prints { Begins (λ whole. whole ≡ totals_text totals.now)
+        (Appends (O.contents output.old) (O.contents output.new)) result }
+    ensures err { IfErr result IsFault }
 {
     let text = text_of_totals(alloc, totals)?;
     write_whole(output, text.as_bytes())
@@ -79,8 +83,8 @@ fn answer_storm<R: Threads + Wait + Sync, O: Write>(
     output: &mut O,
 ) -> Result<(), RunError>
     requires { IsAllowedPlan plan }
-    ensures { OnOk result ((text : List ℕ)
-        × Appends (O.contents output.old) (O.contents output.new) text × PrintsTotals plan text) }
+    ensures prints { Begins (PrintsTotals plan) (Appends (O.contents output.old) (O.contents output.new)) result }
+    ensures err { IfErr result IsFault }
 {
     let totals = storm(rt, alloc, plan.pushers, plan.values, plan.blocks, &Open)?;
     write_totals(alloc, &totals, output)
@@ -94,8 +98,8 @@ fn answer_growing_storm<R: Threads + Wait + Sync, O: Write>(
     output: &mut O,
 ) -> Result<(), RunError>
     requires { IsAllowedPlan plan }
-    ensures { OnOk result ((text : List ℕ)
-        × Appends (O.contents output.old) (O.contents output.new) text × PrintsTotals plan text) }
+    ensures prints { Begins (PrintsTotals plan) (Appends (O.contents output.old) (O.contents output.new)) result }
+    ensures err { IfErr result IsFault }
 {
     let totals = storm_growing(rt, alloc, plan.pushers, plan.values, plan.blocks, &Open)?;
     write_totals(alloc, &totals, output)
@@ -110,8 +114,8 @@ fn answer_request<R: Threads + Wait + Sync, I: BufRead, O: Write>(
     output: &mut O,
 ) -> Result<(), RunError>
     requires { IsAllowed request }
-    ensures prints { OnOk result ((text : List ℕ)
-        × Appends (O.contents output.old) (O.contents output.new) text × Prints request text) }
+    ensures prints { Begins (Prints request) (Appends (O.contents output.old) (O.contents output.new)) result }
+    ensures err { IfErr result (λ e. (request ≡ ask.Run → ⊥) → IsFault e) }
     ensures known { request ≡ ask.Run
         → RunsKnown (I.remaining input.old) (O.contents output.old) (O.contents output.new) result }
 {
@@ -154,8 +158,15 @@ fn answer_words<R: Threads + Wait + Sync, I: BufRead, O: Write, E: Write>(
     ensures first { result ≡ 2 → Asks (map (λ w. w.now) words.now) ask.Run
         → IfSome (I.remaining input.old) (λ bytes. IfSome (O.contents output.old) (λ held.
         AnswersFirst (lines_of bytes) (λ text. O.contents output.new ≡ Some (held ++ text)))) }
+    ensures part { result ≡ 1 → Asks (map (λ w. w.now) words.now) ask.Run
+        → IfSome (I.remaining input.old) (λ bytes. IfSome (O.contents output.old) (λ held.
+        AnswersPart (lines_of bytes) (λ text. O.contents output.new ≡ Some (held ++ text)))) }
+    ensures begun { (asked : Asked) → Asks (map (λ w. w.now) words.now) asked
+        → (text more : List ℕ) × Appends (O.contents output.old) (O.contents output.new) text × Prints asked (text ++ more) }
     ensures wrong { ((asked : Asked) → Asks (map (λ w. w.now) words.now) asked → ⊥) → (result ≡ 2)
         × (output.new ≡ output.old) }
+    ensures status { result ≤ 2 }
+    ensures storm { (plan : Storm) → AsksStorm (map (λ w. w.now) words.now) plan → result ≤ 1 }
 {
     let Some(request) = request_of(words) else {
         let _ = writeln!(errors, "{USAGE}");
@@ -222,6 +233,14 @@ pub fn command<R: Threads + Wait + Sync, I: BufRead, O: Write, E: Write>(
     ensures first { result ≡ 2 → Asks (map (λ w. w.now) words.now) ask.Run
         → IfSome (I.remaining input.old) (λ bytes. IfSome (O.contents output.old) (λ held.
         AnswersFirst (lines_of bytes) (λ text. O.contents output.new ≡ Some (held ++ text)))) }
+    // With status 1 memory or the device failed, and a beginning of such an output was written.
+    ensures part { result ≡ 1 → Asks (map (λ w. w.now) words.now) ask.Run
+        → IfSome (I.remaining input.old) (λ bytes. IfSome (O.contents output.old) (λ held.
+        AnswersPart (lines_of bytes) (λ text. O.contents output.new ≡ Some (held ++ text)))) }
+    // With any status, also where the bytes aren't known: what was written begins a text that may be printed, so of a storm's
+    // totals.
+    ensures begun { (asked : Asked) → Asks (map (λ w. w.now) words.now) asked
+        → (text more : List ℕ) × Appends (O.contents output.old) (O.contents output.new) text × Prints asked (text ++ more) }
     // For an export: what was read and written, and how that ended. Where no line was answered with want of memory, the text is
     // just what the lines print, up to the end or the first bad one.
     ensures exported { (any : Plan) → AsksExport (map (λ w. w.now) words.now) any
@@ -233,6 +252,9 @@ pub fn command<R: Threads + Wait + Sync, I: BufRead, O: Write, E: Write>(
     ensures wrong { ((asked : Asked) → Asks (map (λ w. w.now) words.now) asked → ⊥)
         → ((plan : Plan) → AsksExport (map (λ w. w.now) words.now) plan → ⊥)
         → (result ≡ 2) × (output.new ≡ output.old) }
+    // No words have another status than 0, 1 and 2, and a storm never has 2.
+    ensures status { result ≤ 2 }
+    ensures storm { (plan : Storm) → AsksStorm (map (λ w. w.now) words.now) plan → result ≤ 1 }
 {
     match export_of(alloc, words) {
         Ok(Some(plan)) => answer_export(alloc, &plan, input, output, errors),

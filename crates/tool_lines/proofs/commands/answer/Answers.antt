@@ -1,5 +1,5 @@
 use Rattle.tool_lines.proofs.Loop.{prints_more}
-use Rattle.tool_lines.proofs.OutputLemmas.{runs_over, refused_over}
+use Rattle.tool_lines.proofs.OutputLemmas.{runs_over, refused_over, begins_kept}
 use Rattle.tool_lines.proofs.TreesLemmas.{means_new}
 use Rattle.tool_lines.proofs.commands.answer.Goals as goal
 
@@ -12,6 +12,9 @@ pub returns-in-Ok-clause-known : goal.returns-in-Ok-clause-known
 returns-in-Ok-clause-known g c =
     let (read, took, built) = c.in-Ok.ensures in
     runs_over _ _ _ _ _ _ _ c.in-Ok.first c.run.result read took built c.run.ensures.general
+
+pub returns-in-Err-clause-prints : goal.returns-in-Err-clause-prints
+returns-in-Err-clause-prints g c = begins_kept _ _ c.flush.result c.flush.ensures.bytes
 
 pub returns-in-Err-clause-known : goal.returns-in-Err-clause-known
 returns-in-Err-clause-known g c =

@@ -2,7 +2,7 @@ use Rattle.std.proofs.Common.{[], subst, Err}
 use Rattle.tool_tree_levels.specs.Doing.{DoesLine}
 use Rattle.metrics_debugging.specs.DebuggingMeaning as book
 use Rattle.metrics_trees.specs.Nodes.{node_meaning}
-use Rattle.tool_lines.proofs.TreesSoFar.{trees_more, result_line, result_last, refuse_line, refuse_last, ended_early, none_left, unread_tree}
+use Rattle.tool_lines.proofs.TreesSoFar.{trees_more, result_line, result_last, refuse_line, refuse_last, ended_early, none_left, unread_tree, given_up}
 use Rattle.tool_lines.proofs.trees.tree.Goals as goal
 
 pub loop-number-preserved : goal.loop-number-preserved
@@ -47,4 +47,7 @@ returns-in-Ok-End g c =
     none_left _ _ _ _ _ c.loop-number.invariant [] found.0 found.1
 
 pub returns-in-Err : goal.returns-in-Err
-returns-in-Err g c = rw c.at_line.ensures (unread_tree _ _ _ _ _ c.loop-number.invariant _ c.in-Err.fault c.in-Err.ensures.1)
+returns-in-Err g c = rw c.at_line.ensures (unread_tree _ _ _ _ _ c.loop-number.invariant _ c.in-Err.fault c.in-Err.ensures.0 c.in-Err.ensures.1)
+
+pub returns : goal.returns
+returns g c = given_up _ _ _ _ c.loop-number.invariant
