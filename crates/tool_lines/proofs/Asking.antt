@@ -1,5 +1,5 @@
 -- What words ask for, and what is written for it.
-use Rattle.std.proofs.Common.{◌≡◌, ℕ, pos, ◌-◌, ◌*◌, ◌≤◌, ◌∙◌, List, [], ◌∷◌, ◌++◌, length, get_or, codes, decimal, Result, Ok, Err, OnOk, refl, sym, ap, subst, arith}
+use Rattle.std.proofs.Common.{◌≡◌, ℕ, pos, ◌-◌, ◌*◌, ◌∙◌, List, [], ◌++◌, length, get_or, decimal, Result, Ok, Err, OnOk, refl, sym, ap, subst, arith}
 use Rattle.std.specs.Result.{IsErr}
 use Rattle.std.proofs.lemmas.Fmt.{decimal_injective}
 use Rattle.tool_grammar.specs.declared.error.RunError.{RunError}
@@ -8,7 +8,7 @@ use Rattle.tool_storm.specs.Numbers.{sum_below}
 use Rattle.tool_lines.specs.declared.requests.StormPlan.{StormPlan}
 use Rattle.tool_lines.specs.declared.requests.Request.{Request}
 use Rattle.tool_lines.specs.declared.requests.Request.TheVariants.{Run, Storm, GrowingStorm}
-use Rattle.tool_lines.specs.Requests.{IsAllowedPlan, request_words, Asks, IsStorm, totals_text, PrintsTotals, Prints, Begins}
+use Rattle.tool_lines.specs.Requests.{IsAllowedPlan, request_words, Asks, totals_text, PrintsTotals, Prints, Begins}
 
 -- ---- words ask for one thing at most
 

@@ -7,3 +7,4 @@ pub mod OutputLemmas
 pub mod FirstRun
 pub mod ExportWords
 pub mod Asking
+pub mod Beginnings

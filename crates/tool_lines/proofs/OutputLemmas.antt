@@ -37,7 +37,7 @@ use Rattle.tool_lines.proofs.TreesLemmas.{means_new}
 
 -- ---- one input at most
 
-tail_lines : (x y : List ℕ) (a b : List (List ℕ)) → x ∷ a ≡ y ∷ b → (x ≡ y) × (a ≡ b)
+pub tail_lines : (x y : List ℕ) (a b : List (List ℕ)) → x ∷ a ≡ y ∷ b → (x ≡ y) × (a ≡ b)
 tail_lines x y a b e = (cc, cc)
 
 calls_same : (cs ds : List Call) (p q : List (List ℕ)) → AllByRecursion CanBeSpelled cs → AllByRecursion CanBeSpelled ds → IsStop p → IsStop q → map spelling cs ++ p ≡ map spelling ds ++ q → (cs ≡ ds) × (p ≡ q)
@@ -242,8 +242,12 @@ module _ (xs ys left held : List ℕ) (y : Option (List ℕ)) (s t : Meaning) (t
       → AnswersPart (lines_of xs) (λ w. y ≡ Some (held ++ w))
   some_answered read ks log text more took at spelled made e now =
       let plain = subst (λ (m : Meaning). ArePlain m.targets (length m.contents) log) is (made.plain (means_new s tree is)) in
-      inr (tree, lines_of ys, (allowed, front ∙ append_assoc (tree_lines tree) (tree_spelling line.End ∷ []) (lines_of ys)),
-      answers_some (meaning_of tree) ys left read (λ w. y ≡ Some (held ++ w)) ks log text more took at spelled plain e now)
+      inr (
+        tree,
+        lines_of ys,
+        (allowed, front ∙ append_assoc (tree_lines tree) (tree_spelling line.End ∷ []) (lines_of ys)),
+        answers_some (meaning_of tree) ys left read (λ w. y ≡ Some (held ++ w)) ks log text more took at spelled plain e now,
+      )
 
 -- what is known of a run behind a tree
 pub runs_over : (a b c x y : Option (List ℕ)) (s t : Meaning) (first : ℕ) (r : Result ℕ RunError) (read : List ℕ) → Consumes a b read → BuildsTree (OnSome a (IsAtEnd b)) read s first → Finished b c x y first s t r

@@ -12,7 +12,7 @@ mod trees;
 
 pub use commands::command;
 pub use handles::Handles;
-pub use laws::{first_run, one_text_at_most};
+pub use laws::{first_run, one_text_at_most, part_begins_whole};
 pub use running::run;
 pub use tool_grammar::RunError;
 pub use trees::tree;

@@ -8,9 +8,9 @@ returns-in_default-clause-first g c = λ two run. absurd (c.in_default.ensures a
 
 pub returns-in_default-clause-storm : goal.returns-in_default-clause-storm
 returns-in_default-clause-storm g c = λ plan asks. elim asks [
-      | inl storm ↦ absurd (c.in_default.ensures (ask.Storm plan) storm)
-      | inr storm ↦ absurd (c.in_default.ensures (ask.GrowingStorm plan) storm)
-    ]
+  | inl storm ↦ absurd (c.in_default.ensures (ask.Storm plan) storm)
+  | inr storm ↦ absurd (c.in_default.ensures (ask.GrowingStorm plan) storm)
+]
 
 pub returns-in-Ok-clause-begun : goal.returns-in-Ok-clause-begun
 returns-in-Ok-clause-begun g c = begun _ c.in-Some.request _ _ c.in-Some.ensures c.answer_request.ensures.prints
