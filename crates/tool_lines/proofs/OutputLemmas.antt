@@ -27,7 +27,7 @@ use Rattle.tool_stream.specs.Lines.{lines_of, unlines}
 use Rattle.tool_stream.specs.Answering.{AreFirst, IsFlushed}
 use Rattle.tool_lines.specs.Running.{AreSpelled, AreMade, PrintsAnswers}
 use Rattle.tool_lines.specs.TreeReading.{AreRead, BuildsTree, RefusesTree}
-use Rattle.tool_lines.specs.Output.{IsStop, BeginsWithCalls, Input, answers_text, printed, LacksWant, IsAnswered, AnswersSome, AnswersCalls, AnswersAll, AnswersFirst, AnswersPart, RunsKnown, Prints}
+use Rattle.tool_lines.specs.Output.{IsStop, BeginsWithCalls, Input, answers_text, printed, LacksWant, IsAnswered, AnswersFront, AnswersCalls, AnswersAll, AnswersFirst, AnswersPart, RunsKnown, Prints}
 use Rattle.tool_lines.specs.Requests.{Begins}
 use Rattle.tool_stream.proofs.LinesLemmas.{lines-cut, lines-front}
 use Rattle.tool_stream.proofs.Loop.{unlines_push}
@@ -206,12 +206,12 @@ spelled_calls (l ∷ ls) (e ∷ log) h =
 -- ---- a run over lines
 
 -- the calls of first lines were made, and this much of their answers was written
-answers_some : (m : Meaning) (ys left read : List ℕ) (W : List ℕ → Type 0) (ls : List (List ℕ)) (log : Log) (text more : List ℕ) → ys ≡ read ++ left → AreFirst (left ≡ []) read ls → AreSpelled ls log
-    → ArePlain m.targets (length m.contents) log → print log ≡ text ++ more → W text → AnswersSome m (lines_of ys) W
-answers_some m ys left read W ls log text more took at spelled plain is w =
+answers_front : (m : Meaning) (ys left read : List ℕ) (ls : List (List ℕ)) (log : Log) (text : List ℕ) → ys ≡ read ++ left → AreFirst (left ≡ []) read ls → AreSpelled ls log
+    → ArePlain m.targets (length m.contents) log → text ≡ print log → AnswersFront m (lines_of ys) text
+answers_front m ys left read ls log text took at spelled plain is =
     let (behind, whole) = some_lines ys left read ls took at in
     let calls = spelled_calls ls log spelled in
-    (map (λ e. e.0) log, behind, text, more, calls.0, whole ∙ ap (λ k. k ++ behind) calls.1, answered m log (text ++ more) plain (sym is), w)
+    (map (λ e. e.0) log, behind, calls.0, whole ∙ ap (λ k. k ++ behind) calls.1, answered m log text plain is)
 
 module _ (xs ys left held : List ℕ) (y : Option (List ℕ)) (s t : Meaning) (tree : Tree) (allowed : IsAllowed tree) (is : s ≡ meaning_of tree) (front : lines_of xs ≡ (tree_lines tree ++ tree_spelling line.End ∷ []) ++ lines_of ys) where
   abbrev input : (calls : List Call) (rest : List (List ℕ)) → BeginsWithCalls (lines_of ys) calls rest → Input (lines_of xs)
@@ -246,7 +246,7 @@ module _ (xs ys left held : List ℕ) (y : Option (List ℕ)) (s t : Meaning) (t
         tree,
         lines_of ys,
         (allowed, front ∙ append_assoc (tree_lines tree) (tree_spelling line.End ∷ []) (lines_of ys)),
-        answers_some (meaning_of tree) ys left read (λ w. y ≡ Some (held ++ w)) ks log text more took at spelled plain e now,
+        (text, more, answers_front (meaning_of tree) ys left read ks log (text ++ more) took at spelled plain (sym e), now),
       )
 
 -- what is known of a run behind a tree
@@ -341,8 +341,8 @@ run_answered (Some ys) (Some left) (Some held) (Some now) s t first (Err (BadLin
     let calls = spelled_calls ls log spelled in
     (map (λ e. e.0) log, text, bad, behind, (calls.0, whole ∙ ap (λ k. k ++ bad ∷ behind) calls.1, is_bad), answered s log text (made.plain new) is, ap Some w)
 run_answered (Some ys) (Some left) (Some held) (Some now) s t first (Err (Memory (Some k))) (read, text, took, w, (ls, log, at, spelled, made, is, count)) new =
-    answers_some s ys left read (λ w. Some now ≡ Some (held ++ w)) ls log text [] took at spelled (made.plain new) (sym is ∙ sym (append-nil text)) (ap Some w)
+    (text, answers_front s ys left read ls log text took at spelled (made.plain new) is, ap Some w)
 run_answered (Some ys) (Some left) (Some held) (Some now) s t first (Err (Memory None)) (read, text, took, w, (ls, log, more, at, spelled, made, is)) new =
-    answers_some s ys left read (λ w. Some now ≡ Some (held ++ w)) ls log text more took at spelled (made.plain new) is (ap Some w)
+    (text, more, answers_front s ys left read ls log (text ++ more) took at spelled (made.plain new) (sym is), ap Some w)
 run_answered (Some ys) (Some left) (Some held) (Some now) s t first (Err Device) (read, text, took, w, (ls, log, more, at, spelled, made, is)) new =
-    answers_some s ys left read (λ w. Some now ≡ Some (held ++ w)) ls log text more took at spelled (made.plain new) is (ap Some w)
+    (text, more, answers_front s ys left read ls log (text ++ more) took at spelled (made.plain new) (sym is), ap Some w)

@@ -1,5 +1,5 @@
 -- What the program writes for what it reads.
-use Rattle.std.specs.Prelude.{◌≡◌, ℕ, ◌<◌, List, [], ◌∷◌, ◌++◌, ◌⊎◌, length, map, codes, Option, Some, IfSome, Result, Ok, Err}
+use Rattle.std.specs.Prelude.{◌≡◌, ℕ, ◌<◌, List, [], ◌∷◌, ◌++◌, ◌⊎◌, length, map, codes, Option, None, Some, IfSome, Result, Ok, Err}
 use Rattle.std.specs.List.{AllByRecursion}
 use Rattle.metrics.specs.declared.calls.Call.{Call}
 use Rattle.metrics.specs.Meaning.{Meaning}
@@ -56,19 +56,24 @@ pub record IsAnswered (m : Meaning) (calls : List Call) (text : List ℕ) : Type
 
 -- ---- a run over lines
 
--- These calls were answered, whose lines are the first, and what was written begins that answer.
+-- the text answers the calls of the first lines
+abbrev pub AnswersFront : Meaning → List (List ℕ) → List ℕ → Type 0
+AnswersFront m ls text = (calls : List Call) × (rest : List (List ℕ))
+    × AllByRecursion CanBeSpelled calls × (ls ≡ map spelling calls ++ rest) × IsAnswered m calls text
+
+-- what was written begins such a text
 abbrev pub AnswersSome : Meaning → List (List ℕ) → (List ℕ → Type 0) → Type 0
-AnswersSome m ls Writes = (calls : List Call) × (rest : List (List ℕ)) × (text more : List ℕ)
-    × AllByRecursion CanBeSpelled calls × (ls ≡ map spelling calls ++ rest) × IsAnswered m calls (text ++ more) × Writes text
+AnswersSome m ls Writes = (text more : List ℕ) × AnswersFront m ls (text ++ more) × Writes text
 
 -- What was written for the lines of calls on a recorder of new books, by the result: all were answered, or those before a
--- bad line; or some, and a beginning of that.
+-- bad line, or before one at which memory was wanted; or the writing stopped.
 abbrev pub AnswersCalls : {A : Type 0} → Meaning → List (List ℕ) → (List ℕ → Type 0) → Result A RunError → Type 0
 AnswersCalls m ls Writes (Ok done) = (calls : List Call) × (text : List ℕ)
     × BeginsWithCalls ls calls [] × IsAnswered m calls text × Writes text
 AnswersCalls m ls Writes (Err (BadLine k)) = (calls : List Call) × (text : List ℕ) × (bad : List ℕ) × (more : List (List ℕ))
     × BeginsWithCalls ls calls (bad ∷ more) × IsAnswered m calls text × Writes text
-AnswersCalls m ls Writes (Err (Memory at)) = AnswersSome m ls Writes
+AnswersCalls m ls Writes (Err (Memory (Some k))) = (text : List ℕ) × AnswersFront m ls text × Writes text
+AnswersCalls m ls Writes (Err (Memory None)) = AnswersSome m ls Writes
 AnswersCalls m ls Writes (Err Device) = AnswersSome m ls Writes
 
 -- all lines are an input, and its calls were answered

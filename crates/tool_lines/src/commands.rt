@@ -233,7 +233,7 @@ pub fn command<R: Threads + Wait + Sync, I: BufRead, O: Write, E: Write>(
     ensures first { result ≡ 2 → Asks (map (λ w. w.now) words.now) ask.Run
         → IfSome (I.remaining input.old) (λ bytes. IfSome (O.contents output.old) (λ held.
         AnswersFirst (lines_of bytes) (λ text. O.contents output.new ≡ Some (held ++ text)))) }
-    // With status 1 memory or the device failed, and a beginning of such an output was written.
+    // With status 1 nothing was written, or a beginning of the output of the first lines.
     ensures part { result ≡ 1 → Asks (map (λ w. w.now) words.now) ask.Run
         → IfSome (I.remaining input.old) (λ bytes. IfSome (O.contents output.old) (λ held.
         AnswersPart (lines_of bytes) (λ text. O.contents output.new ≡ Some (held ++ text)))) }

@@ -111,7 +111,8 @@ pub fn run<R: Recorder, I: BufRead, O: Write>(
     ensures known { OnOk result (IfSome (I.remaining input.old) (λ xs. IfSome (O.contents output.old) (λ held.
         (log : Log) × AreSpelled (lines_of xs) log × AreMade (R.meaning on.old) (R.meaning on.new) log
         × (O.contents output.new ≡ Some (held ++ print log))))) }
-    // Over new books: the lines are those of calls, up to the end or the first bad one, and what was written is their output.
+    // Over new books: the lines are those of calls, up to the end, the first bad one or a fault, and what was written is their
+    // output; where the writing stopped, a beginning of it.
     ensures answered { AreNew (R.meaning on.old).contents
         → IfSome (I.remaining input.old) (λ xs. IfSome (O.contents output.old) (λ held.
         AnswersCalls (R.meaning on.old) (lines_of xs) (λ text. O.contents output.new ≡ Some (held ++ text)) result)) }
