@@ -1,5 +1,6 @@
 -- What the program writes for what it reads.
-use Rattle.std.specs.Prelude.{◌≡◌, ℕ, ◌<◌, List, [], ◌∷◌, ◌++◌, ◌⊎◌, length, map, codes, Option, None, Some, IfSome, Result, Ok, Err}
+use Rattle.std.specs.Prelude.{◌≡◌, ℕ, ◌<◌, List, [], ◌∷◌, ◌++◌, ◌⊎◌, length, map, codes}
+use Rattle.std.specs.Prelude.{Option, None, Some, IfSome, Result, Ok, Err}
 use Rattle.std.specs.List.{AllByRecursion}
 use Rattle.metrics.specs.declared.calls.Call.{Call}
 use Rattle.metrics.specs.Meaning.{Meaning}
@@ -90,7 +91,8 @@ AnswersFirst ls Writes =
 -- nothing was written; or a beginning of the answers to the first calls, on the tree with which the lines begin
 abbrev pub AnswersPart : List (List ℕ) → (List ℕ → Type 0) → Type 0
 AnswersPart ls Writes = Writes []
-    ⊎ ((tree : Tree) × (behind : List (List ℕ)) × BeginsWithTree ls tree behind × AnswersSome (meaning_of tree) behind Writes)
+    ⊎ ((tree : Tree) × (behind : List (List ℕ)) × BeginsWithTree ls tree behind
+    × AnswersSome (meaning_of tree) behind Writes)
 
 -- what was written for lines, by the result
 abbrev pub RunsOver : {A : Type 0} → List (List ℕ) → (List ℕ → Type 0) → Result A RunError → Type 0

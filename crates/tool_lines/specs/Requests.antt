@@ -1,5 +1,6 @@
 -- What the words of a command line ask for, and what the program writes for it.
-use Rattle.std.specs.Prelude.{◌≡◌, ℕ, ℤ, ◌-◌, ◌*◌, ◌<◌, ◌≤◌, List, [], ◌∷◌, ◌++◌, ◌⊎◌, codes, decimal, Result, OnOk}
+use Rattle.std.specs.Prelude.{◌≡◌, ℕ, ℤ, ◌-◌, ◌*◌, ◌<◌, ◌≤◌, List, [], ◌∷◌, ◌++◌, ◌⊎◌}
+use Rattle.std.specs.Prelude.{codes, decimal, Result, OnOk}
 use Rattle.std.specs.Fmt.{signed_decimal}
 use Rattle.tool_storm.specs.declared.totals.Totals.{Totals}
 use Rattle.tool_storm.specs.Numbers.{sum_below}

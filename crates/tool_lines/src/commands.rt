@@ -162,7 +162,8 @@ fn answer_words<R: Threads + Wait + Sync, I: BufRead, O: Write, E: Write>(
         → IfSome (I.remaining input.old) (λ bytes. IfSome (O.contents output.old) (λ held.
         AnswersPart (lines_of bytes) (λ text. O.contents output.new ≡ Some (held ++ text)))) }
     ensures begun { (asked : Asked) → Asks (map (λ w. w.now) words.now) asked
-        → (text more : List ℕ) × Appends (O.contents output.old) (O.contents output.new) text × Prints asked (text ++ more) }
+        → (text more : List ℕ) × Appends (O.contents output.old) (O.contents output.new) text
+        × Prints asked (text ++ more) }
     ensures wrong { ((asked : Asked) → Asks (map (λ w. w.now) words.now) asked → ⊥) → (result ≡ 2)
         × (output.new ≡ output.old) }
     ensures status { result ≤ 2 }
@@ -240,7 +241,8 @@ pub fn command<R: Threads + Wait + Sync, I: BufRead, O: Write, E: Write>(
     // With any status, also where the bytes aren't known: what was written begins a text that may be printed, so of a storm's
     // totals.
     ensures begun { (asked : Asked) → Asks (map (λ w. w.now) words.now) asked
-        → (text more : List ℕ) × Appends (O.contents output.old) (O.contents output.new) text × Prints asked (text ++ more) }
+        → (text more : List ℕ) × Appends (O.contents output.old) (O.contents output.new) text
+        × Prints asked (text ++ more) }
     // For an export: what was read and written, and how that ended. Where no line was answered with want of memory, the text is
     // just what the lines print, up to the end or the first bad one.
     ensures exported { (any : Plan) → AsksExport (map (λ w. w.now) words.now) any
