@@ -10,7 +10,8 @@ use thiserror::Error as ThisError;
 #[derive(Clone, Copy, Debug, PartialEq, Eq, ThisError)]
 pub enum Error {
     /// A growth found no memory. Nothing changed but what the call itself tells: where it was made of a `Refused`, the
-    /// call acted on as many of its targets as that told; an expiry keeps its checks; a copy of rows keeps those before.
+    /// call acted on as many of its targets as that told; an expiry keeps its checks; a copy of cells into a map keeps the
+    /// first ones; a pen keeps the spare pens that it took in.
     #[error("memory")]
     Memory,
     /// The mask has no kind.

@@ -48,7 +48,7 @@ impl<T: Sample> AtomicBucket<T> {
         self.pens.lend(rt, self.bucket.control())
     }
 
-    /// Whether no value was pushed since the last clear. A push that is under way counts as a value.
+    /// Whether no value was pushed since the last clear. A push that is under way counts as a value. It is never refused.
     pub fn is_empty<R: Wait>(&self, _rt: &R) -> Result<bool, Error>
         ensures { IsOk result }
     {
@@ -83,6 +83,8 @@ impl<T: Sample> AtomicBucket<T> {
 
     /// Reads all values as `data` does, and shows them to `f` in chunks of 64, the newest chunk first. It answers how
     /// many values it read. `f` may push into this bucket.
+    ///
+    /// `Busy`: another walk is under way.
     pub fn data_with<R: Wait, F: FnMut(&[T])>(&self, rt: &R, f: F) -> Result<usize, Error>
         requires { F.IsAlwaysCallable f }
         ensures ok { IfOk result (λ n. (words : List ℕ) × (length words ≡ n)

@@ -49,11 +49,11 @@ pub fn exposition_text_law()
     ensures readable { (setup : Setup) (xs : List Step) (text : List ℕ) → All (FitsSigned w64) setup.bounds
         → (e : IsExposition (cells_after setup xs) text)
         → All CanBeRead (samples_written (cells_after setup xs) e.rows) }
-    // What stands in front of a sample's value tells its name and its labels.
+    // Of a sample that can be read, what stands in front of its value tells its name and its labels.
     ensures read_back { (s t : Sample) → CanBeRead s → CanBeRead t
         → (x y : List ℕ) → series_text s ++ 32 ∷ x ≡ series_text t ++ 32 ∷ y
         → (s.name ≡ t.name) × ((s.labels ≡ t.labels) × (x ≡ y)) }
-    // A text has one list of samples at most.
+    // A text has one list of samples that can be read at most.
     ensures one_reading { (text : List ℕ) (ss ts : List Sample) → HasSamples text ss → HasSamples text ts
         → All CanBeRead ss → All CanBeRead ts → ss ≡ ts }
     // No two samples have the same text in front of their values.

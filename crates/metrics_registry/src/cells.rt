@@ -215,7 +215,7 @@ impl<K: Hash + Drop, C: Drop> Cells<K, C> {
         keep(&mut self.map, f)
     }
 
-    /// The keys, each with a clone of its cell.
+    /// The keys, each with a clone of its cell. Where there are no entries it is never refused.
     pub fn handles(&self, alloc: Global) -> Result<HashMap<K, C>, Error>
     where
         K: EqualClone,

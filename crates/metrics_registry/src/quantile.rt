@@ -97,7 +97,7 @@ impl Quantile {
     }
 }
 
-/// The quantile of each number of billionths, in their order.
+/// The quantile of each number of billionths, in their order. No empty list is refused.
 pub fn parse_quantiles(alloc: Global, values: &[i64]) -> Result<Vec<Quantile>, Error>
     ensures { MatchResult result (λ qs. qs.items ≡ map clamped values.now)
         (λ e. (e ≡ OutOfMemory) × (0 < length values.now)) }

@@ -122,7 +122,8 @@ impl<K: Hashable + EqualClone + Drop> OwnedRecency<K> {
     /// Whether a series that has this generation at this moment is still in use, by what is noted of its kind and key. One that
     /// isn't is removed from the cells of its kind.
     ///
-    /// A refusal changes nothing, and never meets a series that is noted.
+    /// A refusal changes nothing, and never meets a series that is noted, nor a kind without notes: there is no
+    /// timeout, or the mask lacks the kind.
     pub fn check<C: Drop>(
         &mut self,
         kind: MetricKind,
@@ -149,7 +150,8 @@ impl<K: Hashable + EqualClone + Drop> OwnedRecency<K> {
 
     /// Whether a counter that has this generation at this moment is still in use. One that isn't is removed from the registry.
     ///
-    /// A refusal changes nothing, and never meets a counter that is noted.
+    /// A refusal changes nothing, and never meets a counter that is noted, nor a kind without notes: there is no
+    /// timeout, or the mask lacks the kind.
     pub fn should_store_counter<S: Storage<K> + Drop>(
         &mut self,
         key: &K,
@@ -174,7 +176,8 @@ impl<K: Hashable + EqualClone + Drop> OwnedRecency<K> {
 
     /// Whether a gauge that has this generation at this moment is still in use. One that isn't is removed from the registry.
     ///
-    /// A refusal changes nothing, and never meets a gauge that is noted.
+    /// A refusal changes nothing, and never meets a gauge that is noted, nor a kind without notes: there is no
+    /// timeout, or the mask lacks the kind.
     pub fn should_store_gauge<S: Storage<K> + Drop>(
         &mut self,
         key: &K,
@@ -199,7 +202,8 @@ impl<K: Hashable + EqualClone + Drop> OwnedRecency<K> {
 
     /// Whether a histogram that has this generation at this moment is still in use. One that isn't is removed from the registry.
     ///
-    /// A refusal changes nothing, and never meets a histogram that is noted.
+    /// A refusal changes nothing, and never meets a histogram that is noted, nor a kind without notes: there is no
+    /// timeout, or the mask lacks the kind.
     pub fn should_store_histogram<S: Storage<K> + Drop>(
         &mut self,
         key: &K,
@@ -231,7 +235,8 @@ impl<K: Hashable + EqualClone + Drop> OwnedRecency<K> {
     /// Whether a series that has this generation at this moment is still in use, as far as the notes tell. Where it isn't,
     /// nothing is noted yet: once the series was removed it is to be forgotten.
     ///
-    /// A refusal changes nothing, and never meets a series that is noted.
+    /// A refusal changes nothing, and never meets a series that is noted, nor a kind without notes: there is no
+    /// timeout, or the mask lacks the kind.
     pub fn note(
         &mut self,
         kind: MetricKind,

@@ -151,7 +151,7 @@ where
         }
     }
 
-    /// The keys of the counters, each with a clone of its cell.
+    /// The keys of the counters, each with a clone of its cell. Where there are none it is never refused.
     pub fn get_counter_handles(&self, alloc: Global) -> Result<HashMap<K, S::Counter>, Error>
     where
         S::Counter: Clone,
@@ -223,7 +223,7 @@ where
         }
     }
 
-    /// The keys of the gauges, each with a clone of its cell.
+    /// The keys of the gauges, each with a clone of its cell. Where there are none it is never refused.
     pub fn get_gauge_handles(&self, alloc: Global) -> Result<HashMap<K, S::Gauge>, Error>
     where
         S::Gauge: Clone,
@@ -295,7 +295,7 @@ where
         }
     }
 
-    /// The keys of the histograms, each with a clone of its cell.
+    /// The keys of the histograms, each with a clone of its cell. Where there are none it is never refused.
     pub fn get_histogram_handles(&self, alloc: Global) -> Result<HashMap<K, S::Histogram>, Error>
     where
         S::Histogram: Clone,

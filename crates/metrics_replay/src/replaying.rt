@@ -29,7 +29,8 @@ fn takes(kind: MetricKind, by: Update) -> bool
 /// Makes one call on a recorder.
 ///
 /// `handle` is what the register call of an update's number gave, if it was successful; other calls name none.
-/// Its addresses are to be held: an update of its kind answers `NoSuchAddress` where they aren't, and changes nothing.
+/// Its addresses are to be held. Where they aren't, an update of its kind answers `NoSuchAddress` and one of another kind
+/// `BadHandle`, and nothing changes.
 pub fn answer_of<R: Recorder>(
     alloc: Global,
     on: &mut R,
@@ -177,7 +178,7 @@ pub(crate) fn note_register(registers: &mut Vec<usize>, call: &Call, place: usiz
 /// Makes the calls in order, and answers each of them.
 ///
 /// Room is made first: for an answer to each call, and for as many numbers, the places of the register calls. `Err`
-/// comes only where it is refused, and then nothing was called.
+/// comes only where it is refused, which no empty list meets; then nothing was called, and the recorder is as it was.
 pub fn replay<R: Recorder>(
     alloc: Global,
     on: &mut R,

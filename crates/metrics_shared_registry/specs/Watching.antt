@@ -1,4 +1,4 @@
--- Which kinds recency watches.
+-- The timeout and the mask of a shared recency.
 use Rattle.metrics.specs.Layers.{mask_has}
 use Rattle.metrics_registry.specs.Recency.{Rules}
 use Rattle.metrics_shared_registry.specs.declared.recency.Recency.{Recency}

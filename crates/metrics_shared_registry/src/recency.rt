@@ -68,7 +68,7 @@ impl<K: Hashable + EqualClone + Drop> Recency<K> {
 
     /// Whether a counter that has this generation at this moment is still in use. One that isn't is removed from the registry.
     ///
-    /// A refusal changes nothing.
+    /// Without a timeout, or where the mask lacks the kind, the answer is true and no lock is taken. A refusal changes nothing.
     pub fn should_store_counter<W: Wait, S: Storage<K> + Drop>(
         &self,
         rt: &W,
@@ -90,7 +90,7 @@ impl<K: Hashable + EqualClone + Drop> Recency<K> {
 
     /// Whether a gauge that has this generation at this moment is still in use. One that isn't is removed from the registry.
     ///
-    /// A refusal changes nothing.
+    /// Without a timeout, or where the mask lacks the kind, the answer is true and no lock is taken. A refusal changes nothing.
     pub fn should_store_gauge<W: Wait, S: Storage<K> + Drop>(
         &self,
         rt: &W,
@@ -112,7 +112,7 @@ impl<K: Hashable + EqualClone + Drop> Recency<K> {
 
     /// Whether a histogram that has this generation at this moment is still in use. One that isn't is removed from the registry.
     ///
-    /// A refusal changes nothing.
+    /// Without a timeout, or where the mask lacks the kind, the answer is true and no lock is taken. A refusal changes nothing.
     pub fn should_store_histogram<W: Wait, S: Storage<K> + Drop>(
         &self,
         rt: &W,

@@ -310,7 +310,7 @@ where
 
 impl Registry<Key, AtomicStorage> {
     /// A registry of a metric's keys with nothing in it, whose cells any thread may change, in this many shards, a power of two
-    /// from 1 to 1,024.
+    /// from 1 to 1,024. Its histograms have 16 blocks.
     pub fn atomic(alloc: Global, shards: usize) -> Result<Registry<Key, AtomicStorage>, Error>
         ensures ok { IfOk result (λ r. (is_count shards ≡ true) × (vec_len r.shards ≡ shards)) }
         ensures blocks { IfOk result (λ r. r.storage.blocks ≡ 16) }

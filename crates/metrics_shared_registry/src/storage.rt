@@ -95,7 +95,7 @@ impl<S> GenerationalStorage<S> {
 pub type GenerationalAtomicStorage = GenerationalStorage<AtomicStorage>;
 
 impl GenerationalStorage<AtomicStorage> {
-    /// A storage whose cells and generations take their memory from `alloc`.
+    /// A storage whose cells and generations take their memory from `alloc`. Its histograms have 16 blocks.
     pub fn atomic(alloc: Global) -> GenerationalAtomicStorage
         ensures { result.inner.blocks ≡ 16 }
     {

@@ -56,6 +56,8 @@ fn built(stack: Vec<Level>, number: u64) -> Result<(Child<DebuggingRecorder>, u6
 /// The lines work on a stack of recorders. `book` and `noop` put one there, `prefix P` and `filter ..` wrap
 /// the top, `fanout N` and `router T ROUTE ..` take several, and at `end` there must be just one. An input
 /// that ends earlier has its bad line at the number after its last line.
+///
+/// Want of memory tells the number of the line behind those that were taken; at a device's fault at most one line more was read.
 pub fn tree<I: BufRead>(
     alloc: Global,
     input: &mut I,
