@@ -49,6 +49,13 @@ impl KeyName {
     {
         self.text.as_str()
     }
+
+    /// The text, whose memory it keeps.
+    pub fn into_text(self) -> Text
+        ensures { result ≡ self }
+    {
+        self.text
+    }
 }
 
 impl From<Text> for KeyName {
@@ -183,6 +190,14 @@ impl Key {
         ensures { result.now ≡ self.now.labels }
     {
         self.labels.as_slice()
+    }
+
+    /// The name, whose memory it keeps. The labels are let go.
+    pub fn into_name(self) -> KeyName
+        ensures { result ≡ self.name }
+    {
+        let Self { name, .. } = self;
+        name
     }
 
     /// The key of another name with the same labels, which both keys share.

@@ -10,7 +10,7 @@ use crate::node::Node;
 use metrics::{
     Address, Error, Key, KeyName, MetricKind, Recorder, Refused, Reset, Snapshot, Unit, Update,
 };
-use metrics_layers::{FilterLayer, PrefixLayer};
+use metrics_layers::{FilterLayer, NamePrefix, PrefixLayer};
 use std::alloc::Global;
 
 /// A tree of layers over leaves of one type `B`.
@@ -94,7 +94,7 @@ impl<B: Recorder> Child<B> {
         };
         let inner = self.boxed(alloc)?;
         Ok(Child {
-            node: Node::Prefixed(prefix, inner),
+            node: Node::Prefixed(NamePrefix::new(alloc, prefix), inner),
         })
     }
 

@@ -7,9 +7,9 @@ ghost use Rattle.metrics_trees.specs.Nodes.{node_meaning, books_of, IsSound, IsT
 use crate::book_ends::{all_books, append_answer, books_before, place_of};
 use crate::reach::Reach;
 use metrics::{
-    Address, Key, KeyName, MetricKind, Recorder, Refused, Reset, Snapshot, Text, Unit, Update,
+    Address, Key, KeyName, MetricKind, Recorder, Refused, Reset, Snapshot, Unit, Update,
 };
-use metrics_layers::{dotted_name, is_refused};
+use metrics_layers::{NamePrefix, is_refused};
 use prefix_match::SubstringSet;
 use std::alloc::Global;
 
@@ -18,7 +18,7 @@ use std::alloc::Global;
 pub enum Node<B> {
     Leaf(B),
     Noop,
-    Prefixed(Text, Box<Node<B>>),
+    Prefixed(NamePrefix, Box<Node<B>>),
     Filtered(SubstringSet, Box<Node<B>>),
     /// Recorders side by side, the number of books up to the end of each, and to which of them a name goes.
     Group(Vec<Node<B>>, Vec<usize>, Reach),
@@ -57,8 +57,10 @@ impl<B: Recorder> Node<B> {
             Node::Leaf(recorder) => recorder.describe(alloc, kind, name, unit, text),
             Node::Noop => Ok(0),
             Node::Prefixed(prefix, inner) => {
-                let full = dotted_name(alloc, prefix.as_str(), name.as_str())?;
-                inner.describe(alloc, kind, &full, unit, text)
+                let full = prefix.dotted(alloc, name.as_str())?;
+                let described = inner.describe(alloc, kind, &full, unit, text);
+                prefix.give_back(full);
+                described
             }
             Node::Filtered(patterns, inner) => {
                 if is_refused(patterns, name.as_str()) {
@@ -98,9 +100,11 @@ impl<B: Recorder> Node<B> {
             Node::Leaf(recorder) => recorder.register(alloc, kind, key),
             Node::Noop => Ok(Vec::new(alloc)),
             Node::Prefixed(prefix, inner) => {
-                let full = dotted_name(alloc, prefix.as_str(), key.name())?;
+                let full = prefix.dotted(alloc, key.name())?;
                 let there = key.renamed(full)?;
-                inner.register(alloc, kind, &there)
+                let found = inner.register(alloc, kind, &there);
+                prefix.give_back(there.into_name());
+                found
             }
             Node::Filtered(patterns, inner) => {
                 if is_refused(patterns, key.name()) {
