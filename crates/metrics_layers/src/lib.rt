@@ -8,5 +8,5 @@ mod stack;
 
 pub use filter::{Filter, FilterLayer, is_refused};
 pub use layer::Layer;
-pub use prefix::{NamePrefix, Prefix, PrefixLayer, dotted_name};
+pub use prefix::{Prefix, PrefixLayer, dotted_name};
 pub use stack::Stack;

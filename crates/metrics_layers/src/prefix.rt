@@ -11,7 +11,6 @@ use metrics::{
 };
 use std::alloc::{AllocError, Global};
 use std::marker::Model;
-use std::mem;
 
 /// Puts a prefix and a dot before each name. The dot stands after an empty prefix too; labels stay.
 #[derive(Debug, Drop)]
@@ -49,64 +48,11 @@ impl PrefixLayer {
 pub fn dotted_name(alloc: Global, prefix: &str, name: &str) -> Result<KeyName, Refused>
     ensures { MatchResult result (λ n. n ≡ dotted prefix.now name.now) (λ e. e ≡ MemoryRefused 0) }
 {
-    dotted_in(String::new(alloc), prefix, name)
-}
-
-/// The same in a text whose memory serves for it, in place of what it holds.
-fn dotted_in(mut text: String, prefix: &str, name: &str) -> Result<KeyName, Refused>
-    ensures { MatchResult result (λ n. n ≡ dotted prefix.now name.now) (λ e. e ≡ MemoryRefused 0) }
-{
-    text.clear();
-    text.reserve(prefix.len() + 1 + name.len())?;
+    let mut text = String::with_capacity(alloc, prefix.len() + 1 + name.len())?;
     text.push_str(prefix)?;
     text.push_str(".")?;
     text.push_str(name)?;
     Ok(KeyName::from(text))
-}
-
-/// A prefix that names are put behind, with the memory of one such name, which serves for the next.
-///
-/// Contracts see it as the prefix.
-#[derive(Drop)]
-pub struct NamePrefix {
-    prefix: Text,
-    spare: String,
-}
-
-impl Model for NamePrefix {
-    ghost use Rattle.std.specs.Prelude.{ℕ, List};
-
-    ghost Value = { List ℕ };
-
-    ghost view = { λ p. p.prefix };
-}
-
-impl NamePrefix {
-    /// A prefix with no memory for a name yet.
-    pub fn new(alloc: Global, prefix: Text) -> NamePrefix
-        ensures { result ≡ prefix }
-    {
-        NamePrefix {
-            prefix,
-            spare: String::new(alloc),
-        }
-    }
-
-    /// Prefix, dot, name. It takes memory only where the name is longer than the one that was given back last.
-    pub fn dotted(&mut self, alloc: Global, name: &str) -> Result<KeyName, Refused>
-        ensures stays { self.new ≡ self.old }
-        ensures dotted { MatchResult result (λ n. n ≡ dotted self.old name.now) (λ e. e ≡ MemoryRefused 0) }
-    {
-        let spare = mem::replace(&mut self.spare, String::new(alloc));
-        dotted_in(spare, self.prefix.as_str(), name)
-    }
-
-    /// Takes a name's memory for the next name.
-    pub fn give_back(&mut self, name: KeyName)
-        ensures { self.new ≡ self.old }
-    {
-        self.spare = name.into_text().into_string();
-    }
 }
 
 impl<R: Recorder> Layer<R> for PrefixLayer {
@@ -119,7 +65,8 @@ impl<R: Recorder> Layer<R> for PrefixLayer {
     fn layer(&self, alloc: Global, inner: R) -> Result<Prefix<R>, (Error, R)> {
         match self.prefix() {
             Ok(prefix) => Ok(Prefix {
-                prefix: NamePrefix::new(alloc, prefix),
+                prefix,
+                there: Key::from(KeyName::from(String::new(alloc))),
                 inner,
             }),
             Err(_) => Err((Error::Memory, inner)),
@@ -128,9 +75,14 @@ impl<R: Recorder> Layer<R> for PrefixLayer {
 }
 
 /// A prefix over a recorder: each name reaches it as prefix, dot, name.
+///
+/// It keeps the last key that was registered, whose labels that key shares with the caller's. So a register takes memory only
+/// for a name that is longer than each before it.
 #[derive(Drop)]
 pub struct Prefix<R> {
-    prefix: NamePrefix,
+    prefix: Text,
+    /// The last key as it reached the recorder. The next takes its place.
+    there: Key,
     inner: R,
 }
 
@@ -149,10 +101,8 @@ impl<R: Recorder> Recorder for Prefix<R> {
         unit: Option<Unit>,
         text: &str,
     ) -> Result<usize, Refused> {
-        let full = self.prefix.dotted(alloc, name.as_str())?;
-        let described = self.inner.describe(alloc, kind, &full, unit, text);
-        self.prefix.give_back(full);
-        described
+        let full = dotted_name(alloc, self.prefix.as_str(), name.as_str())?;
+        self.inner.describe(alloc, kind, &full, unit, text)
     }
 
     fn register(
@@ -161,11 +111,8 @@ impl<R: Recorder> Recorder for Prefix<R> {
         kind: MetricKind,
         key: &Key,
     ) -> Result<Vec<Address>, Refused> {
-        let full = self.prefix.dotted(alloc, key.name())?;
-        let there = key.renamed(full)?;
-        let found = self.inner.register(alloc, kind, &there);
-        self.prefix.give_back(there.into_name());
-        found
+        self.there.set_below(self.prefix.as_str(), key)?;
+        self.inner.register(alloc, kind, &self.there)
     }
 
     fn holds(&self, kind: MetricKind, at: Address) -> bool {

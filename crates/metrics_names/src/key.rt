@@ -1,5 +1,5 @@
 //! Names and keys.
-ghost use Rattle.std.specs.Prelude.{◌≡◌, MatchResult, []};
+ghost use Rattle.std.specs.Prelude.{◌≡◌, ◌++◌, ◌∷◌, MatchResult, OnOk, []};
 ghost use Rattle.std.specs.Cmp.{decided, partial_equiv_from_equiv};
 ghost use Rattle.std.specs.Hash as fed;
 ghost use Rattle.std.specs.Hash.{same_Alike};
@@ -13,7 +13,7 @@ use crate::label::Label;
 use crate::refused::Refused;
 use crate::shared_items::SharedItems;
 use crate::text::Text;
-use std::alloc::Global;
+use std::alloc::{AllocError, Global};
 use std::fmt;
 use std::hash::{FoldHasher, Hash, Hasher};
 use std::marker::Model;
@@ -50,11 +50,16 @@ impl KeyName {
         self.text.as_str()
     }
 
-    /// The text, whose memory it keeps.
-    pub fn into_text(self) -> Text
-        ensures { result ≡ self }
+    /// Becomes prefix, dot, name, in the memory that it has where that serves.
+    fn set_dotted(&mut self, prefix: &str, name: &str) -> Result<(), AllocError>
+        ensures { OnOk result (self.new ≡ prefix.now ++ 46 ∷ name.now) }
     {
-        self.text
+        let string = &mut self.text.string;
+        string.clear();
+        string.reserve(prefix.len() + 1 + name.len())?;
+        string.push_str(prefix)?;
+        string.push_str(".")?;
+        string.push_str(name)
     }
 }
 
@@ -158,6 +163,23 @@ impl fmt::Debug for Key {
     }
 }
 
+/// The key of the name, with no labels.
+impl From<KeyName> for Key {
+    ghost use Rattle.std.specs.Prelude.{[]};
+
+    ghost from_gives = { λ n k. k ≡ record { name = n; labels = [] } };
+
+    fn from(name: KeyName) -> Key {
+        let labels = SharedItems::empty();
+        let number = number_of(&name, &labels);
+        Key {
+            name,
+            labels,
+            number,
+        }
+    }
+}
+
 impl Key {
     /// The key of a copy of the name, with no labels.
     pub fn from_name(alloc: Global, name: &str) -> Result<Key, Refused>
@@ -192,14 +214,6 @@ impl Key {
         self.labels.as_slice()
     }
 
-    /// The name, whose memory it keeps. The labels are let go.
-    pub fn into_name(self) -> KeyName
-        ensures { result ≡ self.name }
-    {
-        let Self { name, .. } = self;
-        name
-    }
-
     /// The key of another name with the same labels, which both keys share.
     pub fn renamed(&self, name: KeyName) -> Result<Key, Refused>
         ensures { MatchResult result (λ k. k ≡ record { name = name; labels = self.now.labels }) (λ e. e ≡ Memory 0) }
@@ -211,6 +225,21 @@ impl Key {
             labels,
             number,
         })
+    }
+
+    /// Becomes the key of prefix, dot and the name of `key`, with its labels, which both keys share.
+    ///
+    /// It takes memory only where the name's doesn't serve. Where memory is refused it's some other key.
+    pub fn set_below(&mut self, prefix: &str, key: &Key) -> Result<(), Refused>
+        ensures { MatchResult result
+            (λ done. self.new ≡ record { name = prefix.now ++ 46 ∷ key.now.name; labels = key.now.labels })
+            (λ e. e ≡ Memory 0) }
+    {
+        let labels = key.labels.clone()?;
+        let named = self.name.set_dotted(prefix, key.name());
+        self.labels = labels;
+        self.number = number_of(&self.name, &self.labels);
+        Ok(named?)
     }
 
     /// The number of the key, which equal keys share. It was made when the key was.

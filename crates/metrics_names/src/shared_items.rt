@@ -1,5 +1,5 @@
 //! Lists that their copies share.
-ghost use Rattle.std.specs.Prelude.{◌≡◌, IfOk};
+ghost use Rattle.std.specs.Prelude.{◌≡◌, IfOk, []};
 ghost use Rattle.std.specs.Cmp.Lexicographic.{pointwise, slice_cmp, slice_partial_cmp, lists_equiv, lists_agrees, lists_total};
 ghost use Rattle.std.specs.Cmp.Lexicographic.{lists_ties, lists_per, lists_po};
 ghost use Rattle.std.specs.Hash as fed;
@@ -30,6 +30,13 @@ impl<T> Model for SharedItems<T> {
 }
 
 impl<T> SharedItems<T> {
+    /// No items.
+    pub(crate) fn empty() -> SharedItems<T>
+        ensures { result ≡ [] }
+    {
+        SharedItems { shared: None }
+    }
+
     /// The items of a `Vec`.
     pub(crate) fn new(alloc: Global, vec: Vec<T>) -> Result<SharedItems<T>, AllocError>
     where
@@ -37,7 +44,7 @@ impl<T> SharedItems<T> {
         ensures { IfOk result (λ items. items ≡ vec.items) }
     {
         if vec.is_empty() {
-            return Ok(SharedItems { shared: None });
+            return Ok(SharedItems::empty());
         }
         let shared = Arc::new(alloc, vec)?;
         Ok(SharedItems {
@@ -63,7 +70,7 @@ impl<T: Drop> Clone for SharedItems<T> {
             Some(vec) => Ok(SharedItems {
                 shared: Some(Arc::try_clone(vec)?),
             }),
-            None => Ok(SharedItems { shared: None }),
+            None => Ok(SharedItems::empty()),
         }
     }
 }

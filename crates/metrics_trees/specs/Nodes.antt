@@ -13,7 +13,7 @@ abbrev mutual
   pub node_meaning : {B : Type 0} → (B → Meaning) → Node B → Meaning
   node_meaning m (Leaf b) = m b
   node_meaning m Noop = nothing
-  node_meaning m (Prefixed' front p c) = prefixed front (node_meaning m c)
+  node_meaning m (Prefixed' front there p c) = prefixed front (node_meaning m c)
   node_meaning m (Filtered' patterns p c) = filtered patterns.fold_case patterns.listed (node_meaning m c)
   node_meaning m (Group' shape all ends reach) = group_meaning reach (row_meanings m all)
 
@@ -38,7 +38,7 @@ abbrev mutual
   pub IsSound : {B : Type 0} → (B → Meaning) → Node B → Type 0
   IsSound m (Leaf b) = Unit {0}
   IsSound m Noop = Unit {0}
-  IsSound m (Prefixed' front p c) = IsSound m c
+  IsSound m (Prefixed' front there p c) = IsSound m c
   IsSound m (Filtered' patterns p c) = IsSound m c
   IsSound m (Group' shape all ends reach) =
       AreEnds ends.items (row_meanings m all) × IsWithin reach (length (row_meanings m all)) × IsRowSound m all
@@ -61,7 +61,7 @@ mutual
   pub IsSound-prop : {B : Type 0} (m : B → Meaning) (n : Node B) → IsProp (IsSound m n)
   IsSound-prop m (Leaf b) = Unit-prop
   IsSound-prop m Noop = Unit-prop
-  IsSound-prop m (Prefixed' front p c) = IsSound-prop m c
+  IsSound-prop m (Prefixed' front there p c) = IsSound-prop m c
   IsSound-prop m (Filtered' patterns p c) = IsSound-prop m c
   IsSound-prop m (Group' shape all ends reach) =
       λ x y i. (Coded-set (coded_list coded_ℕ) ends.items (ends_from 0 (map books_of (row_meanings m all))) x.0 y.0 i, IsWithin-prop reach (length (row_meanings m all)) x.1 y.1 i, IsRowSound-prop m all x.2 y.2 i)

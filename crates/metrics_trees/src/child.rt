@@ -10,7 +10,7 @@ use crate::node::Node;
 use metrics::{
     Address, Error, Key, KeyName, MetricKind, Recorder, Refused, Reset, Snapshot, Unit, Update,
 };
-use metrics_layers::{FilterLayer, NamePrefix, PrefixLayer};
+use metrics_layers::{FilterLayer, PrefixLayer};
 use std::alloc::Global;
 
 /// A tree of layers over leaves of one type `B`.
@@ -92,9 +92,10 @@ impl<B: Recorder> Child<B> {
         let Ok(prefix) = layer.prefix() else {
             return Err((Error::Memory, self));
         };
+        let there = Key::from(KeyName::from(String::new(alloc)));
         let inner = self.boxed(alloc)?;
         Ok(Child {
-            node: Node::Prefixed(NamePrefix::new(alloc, prefix), inner),
+            node: Node::Prefixed(prefix, there, inner),
         })
     }
 

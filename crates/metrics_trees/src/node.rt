@@ -7,9 +7,9 @@ ghost use Rattle.metrics_trees.specs.Nodes.{node_meaning, books_of, IsSound, IsT
 use crate::book_ends::{all_books, append_answer, books_before, place_of};
 use crate::reach::Reach;
 use metrics::{
-    Address, Key, KeyName, MetricKind, Recorder, Refused, Reset, Snapshot, Unit, Update,
+    Address, Key, KeyName, MetricKind, Recorder, Refused, Reset, Snapshot, Text, Unit, Update,
 };
-use metrics_layers::{NamePrefix, is_refused};
+use metrics_layers::{dotted_name, is_refused};
 use prefix_match::SubstringSet;
 use std::alloc::Global;
 
@@ -18,7 +18,8 @@ use std::alloc::Global;
 pub enum Node<B> {
     Leaf(B),
     Noop,
-    Prefixed(NamePrefix, Box<Node<B>>),
+    /// A prefix, the last key as it reached the recorder, and that.
+    Prefixed(Text, Key, Box<Node<B>>),
     Filtered(SubstringSet, Box<Node<B>>),
     /// Recorders side by side, the number of books up to the end of each, and to which of them a name goes.
     Group(Vec<Node<B>>, Vec<usize>, Reach),
@@ -32,7 +33,7 @@ impl<B: Recorder> Node<B> {
         match self {
             Node::Leaf(recorder) => recorder.books(),
             Node::Noop => 0,
-            Node::Prefixed(_, inner) => inner.books(),
+            Node::Prefixed(_, _, inner) => inner.books(),
             Node::Filtered(_, inner) => inner.books(),
             Node::Group(_children, ends, _reach) => all_books(ends),
         }
@@ -56,11 +57,9 @@ impl<B: Recorder> Node<B> {
         match self {
             Node::Leaf(recorder) => recorder.describe(alloc, kind, name, unit, text),
             Node::Noop => Ok(0),
-            Node::Prefixed(prefix, inner) => {
-                let full = prefix.dotted(alloc, name.as_str())?;
-                let described = inner.describe(alloc, kind, &full, unit, text);
-                prefix.give_back(full);
-                described
+            Node::Prefixed(prefix, _there, inner) => {
+                let full = dotted_name(alloc, prefix.as_str(), name.as_str())?;
+                inner.describe(alloc, kind, &full, unit, text)
             }
             Node::Filtered(patterns, inner) => {
                 if is_refused(patterns, name.as_str()) {
@@ -99,12 +98,9 @@ impl<B: Recorder> Node<B> {
         match self {
             Node::Leaf(recorder) => recorder.register(alloc, kind, key),
             Node::Noop => Ok(Vec::new(alloc)),
-            Node::Prefixed(prefix, inner) => {
-                let full = prefix.dotted(alloc, key.name())?;
-                let there = key.renamed(full)?;
-                let found = inner.register(alloc, kind, &there);
-                prefix.give_back(there.into_name());
-                found
+            Node::Prefixed(prefix, there, inner) => {
+                there.set_below(prefix.as_str(), key)?;
+                inner.register(alloc, kind, there)
             }
             Node::Filtered(patterns, inner) => {
                 if is_refused(patterns, key.name()) {
@@ -136,7 +132,7 @@ impl<B: Recorder> Node<B> {
         match self {
             Node::Leaf(recorder) => recorder.holds(kind, at),
             Node::Noop => false,
-            Node::Prefixed(_, inner) => inner.holds(kind, at),
+            Node::Prefixed(_, _, inner) => inner.holds(kind, at),
             Node::Filtered(_, inner) => inner.holds(kind, at),
             Node::Group(children, ends, _reach) => match place_of(ends, at.book) {
                 None => false,
@@ -162,7 +158,7 @@ impl<B: Recorder> Node<B> {
         match self {
             Node::Leaf(recorder) => recorder.update(at, by),
             Node::Noop => Err(Refused::NoSuchAddress),
-            Node::Prefixed(_, inner) => inner.update(at, by),
+            Node::Prefixed(_, _, inner) => inner.update(at, by),
             Node::Filtered(_, inner) => inner.update(at, by),
             Node::Group(children, ends, _reach) => match place_of(ends, at.book) {
                 None => Err(Refused::NoSuchAddress),
@@ -193,7 +189,7 @@ impl<B: Recorder> Node<B> {
         match self {
             Node::Leaf(recorder) => recorder.snapshot_with(alloc, book, reset),
             Node::Noop => Err(Refused::NoSuchBook),
-            Node::Prefixed(_, inner) => inner.snapshot_with(alloc, book, reset),
+            Node::Prefixed(_, _, inner) => inner.snapshot_with(alloc, book, reset),
             Node::Filtered(_, inner) => inner.snapshot_with(alloc, book, reset),
             Node::Group(children, ends, _reach) => match place_of(ends, book) {
                 None => Err(Refused::NoSuchBook),

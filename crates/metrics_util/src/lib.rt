@@ -15,9 +15,7 @@ pub mod exporter {
 
 /// Layers over recorders.
 pub mod layers {
-    pub use metrics_layers::{
-        Filter, FilterLayer, Layer, NamePrefix, Prefix, PrefixLayer, Stack, dotted_name,
-    };
+    pub use metrics_layers::{Filter, FilterLayer, Layer, Prefix, PrefixLayer, Stack, dotted_name};
     pub use metrics_trees::{Child, Fanout, FanoutBuilder, Router, RouterBuilder};
 }
 
