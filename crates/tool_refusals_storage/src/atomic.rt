@@ -100,7 +100,12 @@ fn sum_of(values: &[u64]) -> u64 {
     sum
 }
 
-/// The values below a number are read, and cleared in chunks. Nothing is left.
+/// One chunk more, and its values.
+fn counted(seen: (u64, u64), chunk: &[u64]) -> (u64, u64) {
+    (seen.0.wrapping_add(1), seen.1.wrapping_add(sum_of(chunk)))
+}
+
+/// The values below a number are read and cleared, each in chunks. Nothing is left.
 fn expect_values<W: Wait>(
     rt: &W,
     trial: &mut Trial,
@@ -108,16 +113,18 @@ fn expect_values<W: Wait>(
     (count, sum, chunks): (u64, u64, u64),
 ) -> Result<(), Wrong> {
     let values = push_and_read(rt, trial, bucket, count)?;
-    let mut seen = (0u64, 0u64);
+    let mut shown = (0u64, 0u64);
+    let mut taken = (0u64, 0u64);
     trial.begin();
-    let cleared = bucket.clear_with(rt, |chunk| {
-        seen = (seen.0.wrapping_add(1), seen.1.wrapping_add(sum_of(chunk)));
-    });
+    let read = bucket.data_with(rt, |chunk| shown = counted(shown, chunk));
+    let cleared = bucket.clear_with(rt, |chunk| taken = counted(taken, chunk));
     trial.calm();
     expect(values.len() as u64 == count, "another number of values")
         .and(expect(sum_of(values.as_slice()) == sum, "another sum"))
+        .and(expect(read == Ok(values.len()), "another number is read"))
+        .and(expect(shown == (chunks, sum), "other chunks are read"))
         .and(expect(cleared == Ok(values.len()), "another number is cleared"))
-        .and(expect(seen == (chunks, sum), "other chunks"))
+        .and(expect(taken == (chunks, sum), "other chunks are cleared"))
         .and(read_again(rt, trial, bucket, &[]))
 }
 
