@@ -81,7 +81,20 @@ impl<T: PartialEq> PartialEq for SharedItems<T> {
     ghost laws = { lists_per T.laws };
 
     fn eq(&self, other: &SharedItems<T>) -> bool {
-        self.as_slice() == other.as_slice()
+        if self.shared.is_none() && other.shared.is_none() {
+            return true;
+        }
+        let items = self.as_slice();
+        let others = other.as_slice();
+        if items.len() != others.len() {
+            return false;
+        }
+        for i in 0..items.len() {
+            if items[i] != others[i] {
+                return false;
+            }
+        }
+        true
     }
 }
 
