@@ -1,10 +1,12 @@
 -- The loop over the children that a name goes to: the next child, and the node when the loop stops.
-use Rattle.std.proofs.Common.{◌≡◌, ◌+◌, ◌<◌, ◌≤◌, ℕ, List, map, length, take, get_or, set, Vec, Global, Result, Ok, Err, ap, ◌∙◌, subst, sym, arith, length-append}
+use Rattle.std.proofs.Common.{◌≡◌, ◌+◌, ◌<◌, ◌≤◌, ℕ, List, [], refl, map, length, take, get_or, set, Vec, Global, Result, Ok, Err, ap, ◌∙◌, subst, sym, arith, length-append}
 use Rattle.std.specs.List.{All}
+use Rattle.std.specs.Result.{result_map_both}
 use Rattle.std.specs.Vec.{vec_len, with_item}
 use Rattle.std.proofs.lemmas.List.Elements.{All-set}
 use Rattle.metrics_names.specs.declared.kind.MetricKind.{MetricKind}
 use Rattle.metrics_names.specs.declared.refused.Refused.{Refused}
+use Rattle.metrics_names.specs.declared.refused.Refused.TheVariants.{Memory, NoSuchAddress, NoSuchBook, BadHandle}
 use Rattle.metrics_names.specs.Refusals.{after_front, CanFollow}
 use Rattle.metrics.specs.declared.handles.Address.{Address}
 use Rattle.metrics.specs.Targets.{after_targets}
@@ -12,24 +14,40 @@ use Rattle.metrics.specs.TargetsLaws.{length-raise}
 use Rattle.metrics.specs.Book.{Content}
 use Rattle.metrics.specs.Layers.{joined_all}
 use Rattle.metrics.specs.Meaning.{Meaning, KeepsTargets, Acts, Registers, addresses}
-use Rattle.metrics_trees.specs.BookEnds.{total, ends_from, IsAppended, CanAppend}
+use Rattle.metrics_trees.specs.BookEnds.{total, ends_from, raised, IsAppended, CanAppend}
 use Rattle.metrics_trees.specs.Reaches.{group_meaning, range_of, IsWithin}
 use Rattle.metrics_trees.specs.Nodes.{node_meaning, books_of, most_books, IsSound}
 use Rattle.metrics_trees.specs.declared.reach.Reach.{Reach}
 use Rattle.metrics_trees.specs.declared.node.Node.{Node, Group}
 use Rattle.metrics_trees.proofs.JoinedLemmas.{contents-group}
 use Rattle.metrics_trees.proofs.OneChildLemmas.{before-is}
-use Rattle.metrics_trees.proofs.ChildrenLemmas.{Through, reached, reached-more, through-more, same-then, books-then, few-reached, acts-refused, can-follow, acted-all, range-within, registers, found_in, appended, refused-after, can-append}
+use Rattle.metrics_trees.proofs.ChildrenLemmas.{Through, through-none, found-none, reached, reached-more, through-more, same-then, books-then, few-reached, acts-refused, can-follow, acted-all, range-within, registers, found_in, appended, refused-after, can-append}
 use Rattle.metrics_trees.proofs.NodesLemmas.{IsGroup, Visit, visit, row-is, few-are, by-rows, still-sound}
 
 -- the children that were not called yet are as they were
 abbrev pub Unvisited : {B : Type 0} → List (Node B) → List (Node B) → ℕ → Type 0
 Unvisited {B = B} was now i = (length now ≡ length was) × ((k : ℕ) (d : Node B) → i ≤ k → get_or now k d ≡ get_or was k d)
 
+pub unvisited-yet : {B : Type 0} (was : List (Node B)) (i : ℕ) → Unvisited was was i
+unvisited-yet was i = (refl, λ k d past. refl)
+
 -- the loop over the children that a name goes to, by their range
 pub record Loop {B : Type 0} (m : B → Meaning) (v : Vec (Node B) Global) (ends : Vec ℕ Global) (reach : Reach) (old : Node B) (kind : MetricKind) (name : List ℕ) (range : ℕ × ℕ) : Type 0 where
   pub group : IsGroup m v ends reach old
   pub range_is : range ≡ range_of reach kind name (length v.items)
+
+-- a refusal behind no targets
+after-none : (d : Refused) → d ≡ after_front 0 d
+after-none (Memory acted) = let z : acted ≡ 0 + acted = omega arith in ap Memory z
+after-none NoSuchAddress = refl
+after-none NoSuchBook = refl
+after-none BadHandle = refl
+
+-- what is handed on is what would have been added to nothing
+by-answer : (front : ℕ) (r told : Result (List Address) Refused) → told ≡ result_map_both (raised front) (λ d. d) r → (P : Result (List Address) Refused → Type 0) →
+    ((after : List Address) → IsAppended {A = Unit {0}} [] after front r (Ok tt) → P (Ok after)) → ((d : Refused) → IsAppended {A = Unit {0}} [] [] front r (Err d) → P (Err d)) → P told
+by-answer front (Ok there) told same P ok err = subst P (sym same) (ok (raised front there) refl)
+by-answer front (Err d) told same P ok err = subst P (sym same) (err d (after-none d))
 
 module _ {B : Type 0} {m : B → Meaning} {v : Vec (Node B) Global} {ends : Vec ℕ Global} {reach : Reach} {old : Node B} (group : IsGroup m v ends reach old) (len : ℕ) (l : len ≡ vec_len v) where
   same_length : len ≡ length v.items
@@ -44,8 +62,15 @@ module _ {B : Type 0} {m : B → Meaning} {v : Vec (Node B) Global} {ends : Vec 
 
 module _ {B : Type 0} {m : B → Meaning} {v : Vec (Node B) Global} {ends : Vec ℕ Global} {reach : Reach} {old : Node B} {kind : MetricKind} {name : List ℕ} {range : ℕ × ℕ}
     (loop : Loop m v ends reach old kind name range) where
-  bounds : (range.0 ≤ range.1) × (range.1 ≤ length v.items)
+  pub bounds : (range.0 ≤ range.1) × (range.1 ≤ length v.items)
   bounds = range-within reach kind name (length v.items) range loop.range_is (row-is loop.group).within
+
+  -- where the range has one child
+  pub below-one : range.0 + 1 ≡ range.1 → range.0 < range.1
+  below-one one = omega (arith, one)
+
+  pub one-within : range.0 + 1 ≡ range.1 → range.0 < vec_len v
+  one-within one = let b = bounds.1 in omega (arith, one, b, v.ok.0)
 
   -- the next child
   pub visit-next : (now : List (Node B)) (i : ℕ) (x : Node B) → range.0 ≤ i → i < range.1 → Unvisited v.items now i → x ≡ get_or now i x → Visit loop.group i x
@@ -157,3 +182,43 @@ module _ {B : Type 0} {m : B → Meaning} {v : Vec (Node B) Global} {ends : Vec 
           (refused-after (node_meaning m) kind name labels v.items now.items range.0 i x y past at.within now-at at.same h found is keeps books reach range.1 loop.range_is lt A after r e
           (λ b. b ≡ addresses kind labels ((group_meaning reach (map (node_meaning m) v.items)).targets kind name) (group_meaning reach (map (node_meaning m) v.items)).contents)
           g (subst (λ k. IsAppended {A = A} found after k r (Err e)) (sym front-is) a))
+
+  -- ---- a register call of one child alone
+
+  module _ (labels : List (List ℕ × List ℕ)) {x : Node B} (y : Node B) (at : Visit loop.group range.0 x) (one : range.0 + 1 ≡ range.1)
+      (sub : IsSound m y) (keeps : KeepsTargets (node_meaning m x) (node_meaning m y)) (books : books_of (node_meaning m y) ≡ books_of (node_meaning m x))
+      (es : List ℕ) (e : es ≡ ends.items) (front : ℕ) (f : (sizes : List ℕ) → es ≡ ends_from 0 sizes → front ≡ total (take range.0 sizes))
+      (r : Result (List Address) Refused) (g : Registers (node_meaning m x) (node_meaning m y) kind (record { name = name; labels = labels }) r) where
+    start : Through (node_meaning m) kind name (registers (node_meaning m) kind name labels) v.items v.items range.0 range.0
+    start = through-none _ _ _ _ _ _
+
+    none : [] ≡ found_in (node_meaning m) kind name labels v.items range.0 range.0
+    none = found-none (node_meaning m) kind name labels v.items range.0
+
+    below : range.0 < range.1
+    below = below-one one
+
+    sound : All (IsSound m) v.items
+    sound = (row-is loop.group).sound
+
+    pub one-can-append : CanAppend [] front r
+    one-can-append = can-append-next v start none y at at.same (omega arith) below keeps books es e front f r g
+
+    pub one-sound : IsSound m (Group (with_item v range.0 y) ends reach)
+    one-sound = node-sound v start sound y at at.same (omega arith) below sub keeps books
+
+    pub one-keeps : KeepsTargets (node_meaning m old) (node_meaning m (Group (with_item v range.0 y) ends reach))
+    one-keeps = next-keeps v start sound y at at.same (omega arith) below sub keeps books
+
+    one-appended : (after : List Address) → IsAppended {A = Unit {0}} [] after front r (Ok tt) →
+        Registers (node_meaning m old) (node_meaning m (Group (with_item v range.0 y) ends reach)) kind (record { name = name; labels = labels }) (Ok after)
+    one-appended after a =
+        let told = appended-next v start none y at at.same (omega arith) below keeps books es e front f r g after tt a in
+        let next = next-sound v start sound y at at.same (omega arith) below sub keeps books in
+        (found-whole (with_item v range.0 y) told.0 told.1 one, (all-acted (with_item v range.0 y) told.0 next one).1)
+
+    pub one-registers : (told : Result (List Address) Refused) → told ≡ result_map_both (raised front) (λ d. d) r →
+        Registers (node_meaning m old) (node_meaning m (Group (with_item v range.0 y) ends reach)) kind (record { name = name; labels = labels }) told
+    one-registers told same =
+        by-answer front r told same (Registers (node_meaning m old) (node_meaning m (Group (with_item v range.0 y) ends reach)) kind (record { name = name; labels = labels })) one-appended
+        (λ d a. refused-append v start none y at at.same (omega arith) below keeps books es e front f r g (Unit {0}) [] d a)

@@ -1,5 +1,5 @@
 -- A node with several children, by the list of its children.
-use Rattle.std.proofs.Common.{◌≡◌, ◌<◌, ◌≤◌, ℕ, suc, List, ◌∷◌, map, length, get_or, Vec, Global, Result, Err, false, refl, ap, sym, ◌∙◌, subst, arith}
+use Rattle.std.proofs.Common.{◌≡◌, ◌<◌, ◌≤◌, ℕ, suc, List, ◌∷◌, map, length, get_or, Vec, Global, Result, Ok, Err, false, refl, ap, sym, ◌∙◌, subst, arith}
 use Rattle.std.specs.List.{All}
 use Rattle.std.specs.Vec.{vec_len, with_item}
 use Rattle.std.proofs.lemmas.List.{length-map}
@@ -9,15 +9,17 @@ use Rattle.metrics_names.specs.declared.kind.MetricKind.{MetricKind}
 use Rattle.metrics_names.specs.declared.refused.Refused.{Refused}
 use Rattle.metrics_names.specs.declared.refused.Refused.TheVariants.{NoSuchAddress, NoSuchBook}
 use Rattle.metrics.specs.declared.debugging.Reset.{Reset}
+use Rattle.metrics.specs.declared.handles.Address.{Address}
 use Rattle.metrics.specs.declared.handles.Update.{Update}
+use Rattle.metrics_names.specs.Names.{KeyParts}
 use Rattle.metrics.specs.Book.{RowParts}
-use Rattle.metrics.specs.Meaning.{Meaning, KeepsTargets, Updates, Snapshots, holds_at}
-use Rattle.metrics.specs.Layers.{joined_all}
+use Rattle.metrics.specs.Meaning.{Meaning, KeepsTargets, Registers, Updates, Snapshots, holds_at}
+use Rattle.metrics.specs.Layers.{joined_all, dotted, prefixed}
 use Rattle.metrics_trees.specs.BookEnds.{total, ends_from, IsPlace}
 use Rattle.metrics_trees.specs.Reaches.{group_meaning, IsWithin}
 use Rattle.metrics_trees.specs.Nodes.{node_meaning, row_meanings, books_of, most_books, AreEnds, IsSound, IsRowSound, IsTree}
 use Rattle.metrics_trees.specs.declared.reach.Reach.{Reach}
-use Rattle.metrics_trees.specs.declared.node.Node.{Node, Group, Group', Row_of-Node, end_of-Node, more_of-Node, items-the_row-Node, items_hidden-the_row-Node-0}
+use Rattle.metrics_trees.specs.declared.node.Node.{Node, Prefixed, Group, Group', Row_of-Node, end_of-Node, more_of-Node, items-the_row-Node, items_hidden-the_row-Node-0}
 use Rattle.metrics_trees.proofs.JoinedLemmas.{contents-group}
 use Rattle.metrics_trees.proofs.OneChildLemmas.{child-most, same-books, keeps-one, place-within, length-ends-of, holds-place, updates-place, snapshots-place, holds-none, updates-none, snapshots-none}
 
@@ -198,3 +200,21 @@ module _ {B : Type 0} {m : B → Meaning} {v : Vec (Node B) Global} {ends : Vec 
 
   pub none-snapshots : (reset : Reset) → Snapshots (node_meaning m old) (node_meaning m (Group v ends reach)) book reset (Err NoSuchBook)
   none-snapshots reset = by-rows group (λ a c. Snapshots a c book reset (Err NoSuchBook)) v (snapshots-none reach (map (node_meaning m) v.items) book past reset)
+
+-- ---- a register call below a prefix
+
+below_front : (a b : Meaning) (front : List ℕ) (kind : MetricKind) (key : KeyParts) (r : Result (List Address) Refused) →
+    Registers a b kind (record { name = dotted front key.name; labels = key.labels }) r → Registers (prefixed front a) (prefixed front b) kind key r
+below_front a b front kind key (Ok found) h = h
+below_front a b front kind key (Err e) h = h
+
+-- `front` is what the node has, `read` what its text shows
+pub registers-below : {B : Type 0} (m : B → Meaning) (old x y : Node B) (read front prefix : List ℕ) (there : _) (inner : _) (kind : MetricKind) (key below : KeyParts) (r : Result (List Address) Refused) →
+    old ≡ Prefixed prefix there inner → front ≡ prefix → x ≡ inner.value → read ≡ front → below ≡ record { name = dotted read key.name; labels = key.labels } →
+    Registers (node_meaning m x) (node_meaning m y) kind below r → Registers (node_meaning m old) (prefixed front (node_meaning m y)) kind key r
+registers-below m old x y read front prefix there inner kind key below r is same child shown set h =
+    let key_is : below ≡ record { name = dotted front key.name; labels = key.labels } = set ∙ ap (λ (f : List ℕ). record { name = dotted f key.name; labels = key.labels }) shown in
+    let node_is : prefixed front (node_meaning m x) ≡ node_meaning m old =
+        ap (λ f. prefixed f (node_meaning m x)) same ∙ ap (λ c. prefixed prefix (node_meaning m c)) child ∙ ap (node_meaning m) (sym is) in
+    subst (λ a. Registers a (prefixed front (node_meaning m y)) kind key r) node_is
+    (below_front (node_meaning m x) (node_meaning m y) front kind key r (subst (λ k. Registers (node_meaning m x) (node_meaning m y) kind k r) key_is h))

@@ -1,11 +1,11 @@
-use Rattle.std.proofs.Common.{rules, arith, ◌∙◌}
+use Rattle.std.proofs.Common.{rules, arith, ap, ◌∙◌}
 use Rattle.std.specs.Result.{result_map_both}
 use Rattle.metrics.proofs.MeaningLemmas.{length-registers}
 use Rattle.metrics_trees.specs.Nodes.{node_meaning, IsTree}
 use Rattle.metrics_trees.specs.declared.node.Node.{the_lemmas}
-use Rattle.metrics_trees.proofs.NodesLemmas.{group-of, row-is, ends-within}
+use Rattle.metrics_trees.proofs.NodesLemmas.{group-of, row-is, ends-within, registers-below}
 use Rattle.metrics_trees.proofs.ChildrenLemmas.{through-none, found-none}
-use Rattle.metrics_trees.proofs.LoopLemmas.{reach-within, loop-of, visit-next, next-within, loop-end, end-sound, end-keeps, all-acted, next-sound, node-sound, next-keeps, found-whole, can-append-next, appended-next, refused-append}
+use Rattle.metrics_trees.proofs.LoopLemmas.{reach-within, loop-of, visit-next, next-within, loop-end, end-sound, end-keeps, all-acted, next-sound, node-sound, next-keeps, bounds, below-one, one-within, unvisited-yet, one-can-append, one-sound, one-keeps, one-registers, found-whole, can-append-next, appended-next, refused-append}
 use Rattle.metrics_trees.proofs.node.Node.+register.Goals as goal
 
 pub range-first-requires : goal.range-first-requires
@@ -14,8 +14,8 @@ range-first-requires g t c =
     let group = group-of g.B.Recorder.meaning c.in-Group.is tree c.in-Group.children-is c.in-Group.ends-is c.in-Group.reach-is in
     reach-within group _ c.len.ensures
 
-pub index_mut-requires : goal.index_mut-requires
-index_mut-requires g t c =
+pub index_mut-requires-in-loop-i : goal.index_mut-requires-in-loop-i
+index_mut-requires-in-loop-i g t c =
     let tree : IsTree g.B.Recorder.meaning c.args.self.now = search rules in
     let group = group-of g.B.Recorder.meaning c.in-Group.is tree c.in-Group.children-is c.in-Group.ends-is c.in-Group.reach-is in
     let loop = loop-of group _ c.len.ensures c.args.kind c.args.key.now.name _ c.name-in-Group.ensures _ c.range-first.ensures in
@@ -26,7 +26,7 @@ register-answer-requires g t c κs within =
     let tree : IsTree g.B.Recorder.meaning c.args.self.now = search rules in
     let group = group-of g.B.Recorder.meaning c.in-Group.is tree c.in-Group.children-is c.in-Group.ends-is c.in-Group.reach-is in
     let loop = loop-of group _ c.len.ensures c.args.kind c.args.key.now.name _ c.name-in-Group.ensures _ c.range-first.ensures in
-    let at = visit-next loop _ c.loop-i.i c.index_mut.result.now c.loop-i.auto.i c.loop-i-test.true c.loop-i.invariant.unvisited c.index_mut.ensures.value in
+    let at = visit-next loop _ c.loop-i.i c.index_mut-in-loop-i.result.now c.loop-i.auto.i c.loop-i-test.true c.loop-i.invariant.unvisited c.index_mut-in-loop-i.ensures.value in
     (search (rules, the_lemmas), (search rules, at.subtree))
 
 pub loop-i-init : goal.loop-i-init
@@ -41,7 +41,7 @@ books_before-front-requires g t c =
     let group = group-of g.B.Recorder.meaning c.in-Group.is tree c.in-Group.children-is c.in-Group.ends-is c.in-Group.reach-is in
     let loop = loop-of group _ c.len.ensures c.args.kind c.args.key.now.name _ c.name-in-Group.ensures _ c.range-first.ensures in
     let lt = next-within loop c.loop-i.children c.loop-i.i c.loop-i-test.true c.loop-i.invariant.unvisited in
-    let l = ends-within group _ c.deref.ensures.value in
+    let l = ends-within group _ c.deref-in-loop-i.ensures.value in
     let u = c.loop-i.invariant.unvisited.0 in
     record { within = omega (arith, lt, l, u, c.loop-i.children.ok.0) }
 
@@ -50,51 +50,51 @@ append_answer-requires g t c =
     let tree : IsTree g.B.Recorder.meaning c.args.self.now = search rules in
     let group = group-of g.B.Recorder.meaning c.in-Group.is tree c.in-Group.children-is c.in-Group.ends-is c.in-Group.reach-is in
     let loop = loop-of group _ c.len.ensures c.args.kind c.args.key.now.name _ c.name-in-Group.ensures _ c.range-first.ensures in
-    let at = visit-next loop _ c.loop-i.i c.index_mut.result.now c.loop-i.auto.i c.loop-i-test.true c.loop-i.invariant.unvisited c.index_mut.ensures.value in
+    let at = visit-next loop _ c.loop-i.i c.index_mut-in-loop-i.result.now c.loop-i.auto.i c.loop-i-test.true c.loop-i.invariant.unvisited c.index_mut-in-loop-i.ensures.value in
     let h = c.register-answer.ensures in
-    let books = length-registers (node_meaning g.B.Recorder.meaning c.index_mut.result.now) (node_meaning g.B.Recorder.meaning c.register-answer.new.self) c.args.kind c.args.key.now (result_map_both (λ v. v.items) (λ e. e) c.register-answer.result) h.registers in
-    can-append-next loop c.loop-i.children c.loop-i.invariant.through c.loop-i.invariant.found c.register-answer.new.self at c.index_mut.ensures.value c.loop-i.auto.i c.loop-i-test.true h.keeps books _ c.deref.ensures.value _ c.books_before-front.ensures _ h.registers
+    let books = length-registers (node_meaning g.B.Recorder.meaning c.index_mut-in-loop-i.result.now) (node_meaning g.B.Recorder.meaning c.register-answer.new.self) c.args.kind c.args.key.now (result_map_both (λ v. v.items) (λ e. e) c.register-answer.result) h.registers in
+    can-append-next loop c.loop-i.children c.loop-i.invariant.through c.loop-i.invariant.found c.register-answer.new.self at c.index_mut-in-loop-i.ensures.value c.loop-i.auto.i c.loop-i-test.true h.keeps books _ c.deref-in-loop-i.ensures.value _ c.books_before-front.ensures _ h.registers
 
 pub loop-i-preserved : goal.loop-i-preserved
 loop-i-preserved g t c =
     let tree : IsTree g.B.Recorder.meaning c.args.self.now = search rules in
     let group = group-of g.B.Recorder.meaning c.in-Group.is tree c.in-Group.children-is c.in-Group.ends-is c.in-Group.reach-is in
     let loop = loop-of group _ c.len.ensures c.args.kind c.args.key.now.name _ c.name-in-Group.ensures _ c.range-first.ensures in
-    let at = visit-next loop _ c.loop-i.i c.index_mut.result.now c.loop-i.auto.i c.loop-i-test.true c.loop-i.invariant.unvisited c.index_mut.ensures.value in
+    let at = visit-next loop _ c.loop-i.i c.index_mut-in-loop-i.result.now c.loop-i.auto.i c.loop-i-test.true c.loop-i.invariant.unvisited c.index_mut-in-loop-i.ensures.value in
     let h = c.register-answer.ensures in
-    let books = length-registers (node_meaning g.B.Recorder.meaning c.index_mut.result.now) (node_meaning g.B.Recorder.meaning c.register-answer.new.self) c.args.kind c.args.key.now (result_map_both (λ v. v.items) (λ e. e) c.register-answer.result) h.registers in
-    let told = appended-next loop c.loop-i.children c.loop-i.invariant.through c.loop-i.invariant.found c.register-answer.new.self at c.index_mut.ensures.value c.loop-i.auto.i c.loop-i-test.true h.keeps books _ c.deref.ensures.value _ c.books_before-front.ensures _ h.registers _ tt (c.in-Ok.ensures {u = tt}) in
-    record { unvisited = search rules; through = told.0; found = told.1; sound = next-sound loop c.loop-i.children c.loop-i.invariant.through c.loop-i.invariant.sound c.register-answer.new.self at c.index_mut.ensures.value c.loop-i.auto.i c.loop-i-test.true h.sound h.keeps books }
+    let books = length-registers (node_meaning g.B.Recorder.meaning c.index_mut-in-loop-i.result.now) (node_meaning g.B.Recorder.meaning c.register-answer.new.self) c.args.kind c.args.key.now (result_map_both (λ v. v.items) (λ e. e) c.register-answer.result) h.registers in
+    let told = appended-next loop c.loop-i.children c.loop-i.invariant.through c.loop-i.invariant.found c.register-answer.new.self at c.index_mut-in-loop-i.ensures.value c.loop-i.auto.i c.loop-i-test.true h.keeps books _ c.deref-in-loop-i.ensures.value _ c.books_before-front.ensures _ h.registers _ tt (c.in-Ok.ensures {u = tt}) in
+    record { unvisited = search rules; through = told.0; found = told.1; sound = next-sound loop c.loop-i.children c.loop-i.invariant.through c.loop-i.invariant.sound c.register-answer.new.self at c.index_mut-in-loop-i.ensures.value c.loop-i.auto.i c.loop-i-test.true h.sound h.keeps books }
 
 pub returns-in-Err-clause-registers : goal.returns-in-Err-clause-registers
 returns-in-Err-clause-registers g t c =
     let tree : IsTree g.B.Recorder.meaning c.args.self.now = search rules in
     let group = group-of g.B.Recorder.meaning c.in-Group.is tree c.in-Group.children-is c.in-Group.ends-is c.in-Group.reach-is in
     let loop = loop-of group _ c.len.ensures c.args.kind c.args.key.now.name _ c.name-in-Group.ensures _ c.range-first.ensures in
-    let at = visit-next loop _ c.loop-i.i c.index_mut.result.now c.loop-i.auto.i c.loop-i-test.true c.loop-i.invariant.unvisited c.index_mut.ensures.value in
+    let at = visit-next loop _ c.loop-i.i c.index_mut-in-loop-i.result.now c.loop-i.auto.i c.loop-i-test.true c.loop-i.invariant.unvisited c.index_mut-in-loop-i.ensures.value in
     let h = c.register-answer.ensures in
-    let books = length-registers (node_meaning g.B.Recorder.meaning c.index_mut.result.now) (node_meaning g.B.Recorder.meaning c.register-answer.new.self) c.args.kind c.args.key.now (result_map_both (λ v. v.items) (λ e. e) c.register-answer.result) h.registers in
-    refused-append loop c.loop-i.children c.loop-i.invariant.through c.loop-i.invariant.found c.register-answer.new.self at c.index_mut.ensures.value c.loop-i.auto.i c.loop-i-test.true h.keeps books _ c.deref.ensures.value _ c.books_before-front.ensures _ h.registers (Prim.Unit {0}) _ c.in-Err.refused (c.in-Err.ensures {u = tt})
+    let books = length-registers (node_meaning g.B.Recorder.meaning c.index_mut-in-loop-i.result.now) (node_meaning g.B.Recorder.meaning c.register-answer.new.self) c.args.kind c.args.key.now (result_map_both (λ v. v.items) (λ e. e) c.register-answer.result) h.registers in
+    refused-append loop c.loop-i.children c.loop-i.invariant.through c.loop-i.invariant.found c.register-answer.new.self at c.index_mut-in-loop-i.ensures.value c.loop-i.auto.i c.loop-i-test.true h.keeps books _ c.deref-in-loop-i.ensures.value _ c.books_before-front.ensures _ h.registers (Prim.Unit {0}) _ c.in-Err.refused (c.in-Err.ensures {u = tt})
 
 pub returns-in-Err-clause-sound : goal.returns-in-Err-clause-sound
 returns-in-Err-clause-sound g t c =
     let tree : IsTree g.B.Recorder.meaning c.args.self.now = search rules in
     let group = group-of g.B.Recorder.meaning c.in-Group.is tree c.in-Group.children-is c.in-Group.ends-is c.in-Group.reach-is in
     let loop = loop-of group _ c.len.ensures c.args.kind c.args.key.now.name _ c.name-in-Group.ensures _ c.range-first.ensures in
-    let at = visit-next loop _ c.loop-i.i c.index_mut.result.now c.loop-i.auto.i c.loop-i-test.true c.loop-i.invariant.unvisited c.index_mut.ensures.value in
+    let at = visit-next loop _ c.loop-i.i c.index_mut-in-loop-i.result.now c.loop-i.auto.i c.loop-i-test.true c.loop-i.invariant.unvisited c.index_mut-in-loop-i.ensures.value in
     let h = c.register-answer.ensures in
-    let books = length-registers (node_meaning g.B.Recorder.meaning c.index_mut.result.now) (node_meaning g.B.Recorder.meaning c.register-answer.new.self) c.args.kind c.args.key.now (result_map_both (λ v. v.items) (λ e. e) c.register-answer.result) h.registers in
-    node-sound loop c.loop-i.children c.loop-i.invariant.through c.loop-i.invariant.sound c.register-answer.new.self at c.index_mut.ensures.value c.loop-i.auto.i c.loop-i-test.true h.sound h.keeps books
+    let books = length-registers (node_meaning g.B.Recorder.meaning c.index_mut-in-loop-i.result.now) (node_meaning g.B.Recorder.meaning c.register-answer.new.self) c.args.kind c.args.key.now (result_map_both (λ v. v.items) (λ e. e) c.register-answer.result) h.registers in
+    node-sound loop c.loop-i.children c.loop-i.invariant.through c.loop-i.invariant.sound c.register-answer.new.self at c.index_mut-in-loop-i.ensures.value c.loop-i.auto.i c.loop-i-test.true h.sound h.keeps books
 
 pub returns-in-Err-clause-keeps : goal.returns-in-Err-clause-keeps
 returns-in-Err-clause-keeps g t c =
     let tree : IsTree g.B.Recorder.meaning c.args.self.now = search rules in
     let group = group-of g.B.Recorder.meaning c.in-Group.is tree c.in-Group.children-is c.in-Group.ends-is c.in-Group.reach-is in
     let loop = loop-of group _ c.len.ensures c.args.kind c.args.key.now.name _ c.name-in-Group.ensures _ c.range-first.ensures in
-    let at = visit-next loop _ c.loop-i.i c.index_mut.result.now c.loop-i.auto.i c.loop-i-test.true c.loop-i.invariant.unvisited c.index_mut.ensures.value in
+    let at = visit-next loop _ c.loop-i.i c.index_mut-in-loop-i.result.now c.loop-i.auto.i c.loop-i-test.true c.loop-i.invariant.unvisited c.index_mut-in-loop-i.ensures.value in
     let h = c.register-answer.ensures in
-    let books = length-registers (node_meaning g.B.Recorder.meaning c.index_mut.result.now) (node_meaning g.B.Recorder.meaning c.register-answer.new.self) c.args.kind c.args.key.now (result_map_both (λ v. v.items) (λ e. e) c.register-answer.result) h.registers in
-    next-keeps loop c.loop-i.children c.loop-i.invariant.through c.loop-i.invariant.sound c.register-answer.new.self at c.index_mut.ensures.value c.loop-i.auto.i c.loop-i-test.true h.sound h.keeps books
+    let books = length-registers (node_meaning g.B.Recorder.meaning c.index_mut-in-loop-i.result.now) (node_meaning g.B.Recorder.meaning c.register-answer.new.self) c.args.kind c.args.key.now (result_map_both (λ v. v.items) (λ e. e) c.register-answer.result) h.registers in
+    next-keeps loop c.loop-i.children c.loop-i.invariant.through c.loop-i.invariant.sound c.register-answer.new.self at c.index_mut-in-loop-i.ensures.value c.loop-i.auto.i c.loop-i-test.true h.sound h.keeps books
 
 pub returns-after-loop-i-clause-sound : goal.returns-after-loop-i-clause-sound
 returns-after-loop-i-clause-sound g t c =
@@ -117,3 +117,81 @@ returns-after-loop-i-clause-registers g t c =
     let loop = loop-of group _ c.len.ensures c.args.kind c.args.key.now.name _ c.name-in-Group.ensures _ c.range-first.ensures in
     let end = loop-end loop c.loop-i.i c.loop-i.auto.i-end c.loop-i-test.false in
     (found-whole loop c.loop-i.children c.loop-i.invariant.through c.loop-i.invariant.found end, (all-acted loop c.loop-i.children c.loop-i.invariant.through c.loop-i.invariant.sound end).1)
+
+-- ---- where one child alone is called
+
+pub books_before-before-requires : goal.books_before-before-requires
+books_before-before-requires g t c =
+    let tree : IsTree g.B.Recorder.meaning c.args.self.now = search rules in
+    let group = group-of g.B.Recorder.meaning c.in-Group.is tree c.in-Group.children-is c.in-Group.ends-is c.in-Group.reach-is in
+    let loop = loop-of group _ c.len.ensures c.args.kind c.args.key.now.name _ c.name-in-Group.ensures _ c.range-first.ensures in
+    let lt = below-one loop c.if-first-end.true in
+    let b = (bounds loop).1 in
+    let l = ends-within group _ c.deref.ensures.value in
+    record { within = omega (arith, lt, b, l) }
+
+pub index_mut-requires : goal.index_mut-requires
+index_mut-requires g t c =
+    let tree : IsTree g.B.Recorder.meaning c.args.self.now = search rules in
+    let group = group-of g.B.Recorder.meaning c.in-Group.is tree c.in-Group.children-is c.in-Group.ends-is c.in-Group.reach-is in
+    let loop = loop-of group _ c.len.ensures c.args.kind c.args.key.now.name _ c.name-in-Group.ensures _ c.range-first.ensures in
+    one-within loop c.if-first-end.true
+
+pub register-one-requires : goal.register-one-requires
+register-one-requires g t c κs within =
+    let tree : IsTree g.B.Recorder.meaning c.args.self.now = search rules in
+    let group = group-of g.B.Recorder.meaning c.in-Group.is tree c.in-Group.children-is c.in-Group.ends-is c.in-Group.reach-is in
+    let loop = loop-of group _ c.len.ensures c.args.kind c.args.key.now.name _ c.name-in-Group.ensures _ c.range-first.ensures in
+    let lt = below-one loop c.if-first-end.true in
+    let at = visit-next loop _ _ c.index_mut.result.now (omega arith) lt (unvisited-yet _ _) c.index_mut.ensures.value in
+    (search (rules, the_lemmas), (search rules, at.subtree))
+
+pub raise_answer-requires : goal.raise_answer-requires
+raise_answer-requires g t c =
+    let tree : IsTree g.B.Recorder.meaning c.args.self.now = search rules in
+    let group = group-of g.B.Recorder.meaning c.in-Group.is tree c.in-Group.children-is c.in-Group.ends-is c.in-Group.reach-is in
+    let loop = loop-of group _ c.len.ensures c.args.kind c.args.key.now.name _ c.name-in-Group.ensures _ c.range-first.ensures in
+    let lt = below-one loop c.if-first-end.true in
+    let at = visit-next loop _ _ c.index_mut.result.now (omega arith) lt (unvisited-yet _ _) c.index_mut.ensures.value in
+    let h = c.register-one.ensures in
+    let books = length-registers (node_meaning g.B.Recorder.meaning c.index_mut.result.now) (node_meaning g.B.Recorder.meaning c.register-one.new.self) c.args.kind c.args.key.now (result_map_both (λ v. v.items) (λ e. e) c.register-one.result) h.registers in
+    one-can-append loop c.args.key.now.labels c.register-one.new.self at c.if-first-end.true h.sound h.keeps books _ c.deref.ensures.value _ c.books_before-before.ensures _ h.registers
+
+pub returns-then-first-end-clause-sound : goal.returns-then-first-end-clause-sound
+returns-then-first-end-clause-sound g t c =
+    let tree : IsTree g.B.Recorder.meaning c.args.self.now = search rules in
+    let group = group-of g.B.Recorder.meaning c.in-Group.is tree c.in-Group.children-is c.in-Group.ends-is c.in-Group.reach-is in
+    let loop = loop-of group _ c.len.ensures c.args.kind c.args.key.now.name _ c.name-in-Group.ensures _ c.range-first.ensures in
+    let lt = below-one loop c.if-first-end.true in
+    let at = visit-next loop _ _ c.index_mut.result.now (omega arith) lt (unvisited-yet _ _) c.index_mut.ensures.value in
+    let h = c.register-one.ensures in
+    let books = length-registers (node_meaning g.B.Recorder.meaning c.index_mut.result.now) (node_meaning g.B.Recorder.meaning c.register-one.new.self) c.args.kind c.args.key.now (result_map_both (λ v. v.items) (λ e. e) c.register-one.result) h.registers in
+    one-sound loop c.args.key.now.labels c.register-one.new.self at c.if-first-end.true h.sound h.keeps books _ c.deref.ensures.value _ c.books_before-before.ensures _ h.registers
+
+pub returns-then-first-end-clause-keeps : goal.returns-then-first-end-clause-keeps
+returns-then-first-end-clause-keeps g t c =
+    let tree : IsTree g.B.Recorder.meaning c.args.self.now = search rules in
+    let group = group-of g.B.Recorder.meaning c.in-Group.is tree c.in-Group.children-is c.in-Group.ends-is c.in-Group.reach-is in
+    let loop = loop-of group _ c.len.ensures c.args.kind c.args.key.now.name _ c.name-in-Group.ensures _ c.range-first.ensures in
+    let lt = below-one loop c.if-first-end.true in
+    let at = visit-next loop _ _ c.index_mut.result.now (omega arith) lt (unvisited-yet _ _) c.index_mut.ensures.value in
+    let h = c.register-one.ensures in
+    let books = length-registers (node_meaning g.B.Recorder.meaning c.index_mut.result.now) (node_meaning g.B.Recorder.meaning c.register-one.new.self) c.args.kind c.args.key.now (result_map_both (λ v. v.items) (λ e. e) c.register-one.result) h.registers in
+    one-keeps loop c.args.key.now.labels c.register-one.new.self at c.if-first-end.true h.sound h.keeps books _ c.deref.ensures.value _ c.books_before-before.ensures _ h.registers
+
+pub returns-then-first-end-clause-registers : goal.returns-then-first-end-clause-registers
+returns-then-first-end-clause-registers g t c =
+    let tree : IsTree g.B.Recorder.meaning c.args.self.now = search rules in
+    let group = group-of g.B.Recorder.meaning c.in-Group.is tree c.in-Group.children-is c.in-Group.ends-is c.in-Group.reach-is in
+    let loop = loop-of group _ c.len.ensures c.args.kind c.args.key.now.name _ c.name-in-Group.ensures _ c.range-first.ensures in
+    let lt = below-one loop c.if-first-end.true in
+    let at = visit-next loop _ _ c.index_mut.result.now (omega arith) lt (unvisited-yet _ _) c.index_mut.ensures.value in
+    let h = c.register-one.ensures in
+    let books = length-registers (node_meaning g.B.Recorder.meaning c.index_mut.result.now) (node_meaning g.B.Recorder.meaning c.register-one.new.self) c.args.kind c.args.key.now (result_map_both (λ v. v.items) (λ e. e) c.register-one.result) h.registers in
+    one-registers loop c.args.key.now.labels c.register-one.new.self at c.if-first-end.true h.sound h.keeps books _ c.deref.ensures.value _ c.books_before-before.ensures _ h.registers _ c.raise_answer.ensures
+
+pub returns-in_ok-set_below-in-Prefixed-clause-registers : goal.returns-in_ok-set_below-in-Prefixed-clause-registers
+returns-in_ok-set_below-in-Prefixed-clause-registers g t c =
+    let child = c.deref_mut.ensures.value ∙ ap (λ b. b.value) c.in-Prefixed.inner-is in
+    registers-below g.B.Recorder.meaning c.args.self.now c.deref_mut.result.now c.register-in-Prefixed.new.self _ _ _ _ _ c.args.kind c.args.key.now _ _
+    c.in-Prefixed.is c.in-Prefixed.prefix-is child c.as_str.ensures (c.in_ok-set_below-in-Prefixed.ensures {u = tt}) c.register-in-Prefixed.ensures.registers
