@@ -1,35 +1,22 @@
 -- A new series at the end keeps the agreement.
-use Rattle.std.proofs.Common.{◌≡◌, ℕ, zero, suc, ◌+◌, ◌<◌, ◌≤◌, Bool, true, false, cond, ◌&&◌, List, [], ◌∷◌, ◌++◌, length, map, get_or, Option, None, Some, Result, Ok, Err, position, refl, ap, sym, ◌∙◌, subst, arith, add-one, length-append, slice_get, option_map, inl, inr, true≢false, is_some, IfSome}
-use Rattle.std.specs.Map.{lookup, values_of}
+use Rattle.std.proofs.Common.{◌≡◌, ℕ, zero, suc, ◌+◌, false, cond, ◌&&◌, List, [], ◌∷◌, ◌++◌, length, map, get_or, None, Some, position, refl, ap, sym, ◌∙◌, subst, arith, length-append, slice_get, inl, inr}
+use Rattle.std.specs.Map.{lookup}
 use Rattle.std.proofs.lemmas.Bool.{cases_lt}
 use Rattle.std.proofs.lemmas.List.{length-map, map-append, append-nil, get_or_append_left}
-use Rattle.std.proofs.lemmas.Option.{slice_get-get_or, slice_get_past, slice_get-map, get_or_from_slice_get}
-use Rattle.std.proofs.lemmas.Map.Made.{lookup-map_values}
-use Rattle.std.proofs.Math.ListN.{get_or-map}
+use Rattle.std.proofs.lemmas.Option.{slice_get-get_or}
 use Rattle.std.proofs.Math.Seq.{get_or-append_seam}
-use Rattle.std.proofs.Math.Path.{fun_ext}
-use Rattle.indexmap.specs.IndexMap.{set_value_at}
 use Rattle.metrics_names.specs.declared.kind.MetricKind.{MetricKind}
 use Rattle.metrics_names.specs.declared.kind.MetricKind.TheVariants.{Counter, Gauge, Histogram}
-use Rattle.metrics_names.specs.declared.refused.Refused.{Refused}
-use Rattle.metrics_names.specs.declared.refused.Refused.TheVariants.{Memory, NoSuchAddress, NoSuchBook, BadHandle}
 use Rattle.metrics_names.specs.Names.{KeyParts, SeriesKey, kind_eq, key_eq, series_key_eq}
 use Rattle.metrics_names.specs.Equality.{kind_eq-Decides, key_eq-Decides, series_key_eq-Decides}
-use Rattle.metrics.specs.declared.debugging.Reset.{Reset}
 use Rattle.metrics.specs.declared.kind.PerKind.{PerKind}
-use Rattle.metrics.specs.declared.handles.Update.{Update}
-use Rattle.metrics.specs.Book.{Series, is_of, new_series, new_value, kind_of, with_update, resets, after_reset}
+use Rattle.metrics.specs.Book.{is_of, new_series, new_value}
 use Rattle.metrics.specs.Kinds.{of_kind, with_kind}
-use Rattle.metrics.specs.Meaning.{is_kind}
-use Rattle.metrics.specs.Targets.{change_at}
-use Rattle.metrics_registry.specs.Held.{held, ChangesAt}
-use Rattle.metrics_debugging.specs.declared.debugging.series.Numbered.{Numbered}
-use Rattle.metrics_debugging.specs.declared.debugging.series.Placed.{Placed}
-use Rattle.metrics_debugging.specs.DebuggingCells.{value_of, kind_of_value, UpdatesValue}
-use Rattle.metrics_debugging.specs.DebuggingSeries.{Entries, series_key, entry_series, no_entry, series_at, all_series, tag, marks, key_at, Agrees}
-use Rattle.metrics_debugging.specs.DebuggingUpdates.{UpdatesAt, is_held}
-use Rattle.metrics_debugging.proofs.SeriesLemmas.{key_of, position-keys, push-absent, push-other}
-use Rattle.metrics_debugging.proofs.AgreesLemmas.{by_test, inside, option-none, map-other, mark, of-same, of-other, same_kind, keys-order, position-order, kinds-order, entry-there}
+use Rattle.metrics_debugging.specs.declared.debugging.series.Stored.{Stored}
+use Rattle.metrics_debugging.specs.DebuggingCells.{value_of, kind_of_value}
+use Rattle.metrics_debugging.specs.DebuggingSeries.{Numbers, series_key, spot, no_key, key_at, series_at, all_series, IsWithin, Agrees}
+use Rattle.metrics_debugging.proofs.SeriesLemmas.{key_of, push-absent, push-other}
+use Rattle.metrics_debugging.proofs.AgreesLemmas.{by_test, inside, map-other, kind-new, of-same, of-other, same_kind, keys-order, position-order, key-there}
 use Rattle.metrics_registry.proofs.HeldLemmas.{lookup-append_none, lookup-append_rest}
 
 module _ {A : Type 0} where
@@ -39,137 +26,133 @@ module _ {A : Type 0} where
   last-at (x ∷ xs) y zero e = absurd (omega (arith, e))
   last-at (x ∷ xs) y (suc i) e = last-at xs y i (omega (arith, e))
 
-module _ {A B : Type 0} (f : A → B) where
   -- what stands in a list stays where more comes behind it
-  front-at : (xs ys : List A) (i : ℕ) (y : B) → option_map f (slice_get xs i) ≡ Some y → option_map f (slice_get (xs ++ ys) i) ≡ Some y
+  front-at : (xs ys : List A) (i : ℕ) (y : A) → slice_get xs i ≡ Some y → slice_get (xs ++ ys) i ≡ Some y
   front-at [] ys i y h = cc
   front-at (x ∷ xs) ys zero y h = h
   front-at (x ∷ xs) ys (suc i) y h = front-at xs ys i y h
 
-pub with-own : {T : Type 0} (m : PerKind T) (k : MetricKind) → with_kind k m (of_kind k m) ≡ m
+with-own : {T : Type 0} (m : PerKind T) (k : MetricKind) → with_kind k m (of_kind k m) ≡ m
 with-own m Counter = refl
 with-own m Gauge = refl
 with-own m Histogram = refl
 
-kind-new : (k : MetricKind) → kind_of_value (new_value k) ≡ k
-kind-new Counter = refl
-kind-new Gauge = refl
-kind-new Histogram = refl
-
 -- ---- a new series
 
--- an entry was added at a clone of the key
-pub appended : (old : Entries) (kind : MetricKind) (key k : KeyParts) (n : Numbered) (es fs : List (KeyParts × Numbered)) → es ≡ of_kind kind old → k ≡ key → fs ≡ es ++ (k, n) ∷ [] → fs ≡ of_kind kind old ++ (key, n) ∷ []
+-- a number was added at a clone of the key
+pub appended : (old : Numbers) (kind : MetricKind) (key k : KeyParts) (n : ℕ) (es fs : List (KeyParts × ℕ)) → es ≡ of_kind kind old → k ≡ key → fs ≡ es ++ (k, n) ∷ [] → fs ≡ of_kind kind old ++ (key, n) ∷ []
 appended old kind key k n es fs is same put = put ∙ (ap (λ xs. xs ++ (k, n) ∷ []) is ∙ ap (λ q. of_kind kind old ++ (q, n) ∷ []) same)
 
 -- where nothing was added all stays
-pub agree-kept : (old : Entries) (order after : List Placed) (kind : MetricKind) (fs : List (KeyParts × Numbered)) → Agrees (marks old) order → fs ≡ of_kind kind old → after ≡ order → Agrees (marks (with_kind kind old fs)) after
-agree-kept old order after kind fs agree same stays =
-    subst (λ (m : Entries). Agrees (marks m) after) (sym (ap (with_kind kind old) same ∙ with-own old kind)) (subst (λ (ps : List Placed). Agrees (marks old) ps) (sym stays) agree)
+pub agree-kept : (old : Numbers) (stored after : List Stored) (kind : MetricKind) (fs : List (KeyParts × ℕ)) → Agrees old (map spot stored) → fs ≡ of_kind kind old → after ≡ stored → Agrees (with_kind kind old fs) (map spot after)
+agree-kept old stored after kind fs agree same stays =
+    subst (λ (m : Numbers). Agrees m (map spot after)) (sym (ap (with_kind kind old) same ∙ with-own old kind)) (subst (λ (xs : List Stored). Agrees old (map spot xs)) (sym stays) agree)
 
-module _ (old : Entries) (order after : List Placed) (agree : Agrees (marks old) order) (kind : MetricKind) (key : KeyParts)
-    (absent : position (is_of (series_key kind key)) (all_series old order) ≡ None) (n : Numbered) (number : n.number ≡ length order) (value : value_of n.cell ≡ new_value kind)
-    (place : ℕ) (at : place ≡ length (of_kind kind old)) (placed : after ≡ order ++ (record { kind = kind; place = place }) ∷ [])
-    (fs : List (KeyParts × Numbered)) (added : fs ≡ of_kind kind old ++ (key, n) ∷ []) where
-  abbrev pub grown : Entries
+module _ (old : Numbers) (stored after : List Stored) (agree : Agrees old (map spot stored)) (kind : MetricKind) (key : KeyParts)
+    (absent : position (is_of (series_key kind key)) (all_series old stored) ≡ None) (x : Stored) (value : value_of x.cell ≡ new_value kind)
+    (at : x.place ≡ length (of_kind kind old)) (put : after ≡ stored ++ x ∷ [])
+    (number : ℕ) (count : number ≡ length stored) (fs : List (KeyParts × ℕ)) (added : fs ≡ of_kind kind old ++ (key, number) ∷ []) where
+  abbrev pub grown : Numbers
   grown = with_kind kind old fs
 
   abbrev own : SeriesKey
   own = series_key kind key
 
-  abbrev p : Placed
-  p = record { kind = kind; place = place }
+  abbrev more : MetricKind → List (KeyParts × ℕ)
+  more k = cond (kind_eq kind k) ((key, number) ∷ []) []
 
-  abbrev more : MetricKind → List (KeyParts × Numbered)
-  more k = cond (kind_eq kind k) ((key, n) ∷ []) []
+  grown-own : of_kind kind grown ≡ of_kind kind old ++ (key, number) ∷ []
+  grown-own = of-same old fs kind ∙ added
 
-  entries-grown : (k : MetricKind) → of_kind k grown ≡ of_kind k old ++ more k
-  entries-grown k =
+  numbers-grown : (k : MetricKind) → of_kind k grown ≡ of_kind k old ++ more k
+  numbers-grown k =
       by_test (kind_eq kind k)
       (λ t.
-      subst (λ j. of_kind j grown ≡ of_kind j old ++ (key, n) ∷ []) ((kind_eq-Decides kind k).0 t) (of-same old fs kind ∙ added)
-      ∙ ap (λ b. of_kind k old ++ cond b ((key, n) ∷ []) []) (sym t))
-      (λ t. of-other old fs kind k t ∙ (sym (append-nil (of_kind k old)) ∙ ap (λ b. of_kind k old ++ cond b ((key, n) ∷ []) []) (sym t)))
-
-  marks-grown : (k : MetricKind) → marks grown k ≡ marks old k ++ map mark (more k)
-  marks-grown k = ap (map mark) (entries-grown k) ∙ map-append mark (of_kind k old) (more k)
+      subst (λ j. of_kind j grown ≡ of_kind j old ++ (key, number) ∷ []) ((kind_eq-Decides kind k).0 t) grown-own
+      ∙ ap (λ b. of_kind k old ++ cond b ((key, number) ∷ []) []) (sym t))
+      (λ t. of-other old fs kind k t ∙ (sym (append-nil (of_kind k old)) ∙ ap (λ b. of_kind k old ++ cond b ((key, number) ∷ []) []) (sym t)))
 
   -- series that stood there stay
-  stays : (t : ℕ) (q : Placed) → slice_get order t ≡ Some q → series_at grown q ≡ series_at old q
-  stays t q same =
-      ap (λ es. entry_series q.kind (get_or es q.place no_entry)) (entries-grown q.kind)
-      ∙ ap (entry_series q.kind) (get_or_append_left (of_kind q.kind old) (more q.kind) no_entry q.place (entry-there old order t q agree same))
+  stays : (t : ℕ) (y : Stored) → slice_get stored t ≡ Some y → series_at grown y ≡ series_at old y
+  stays t y same =
+      let k = kind_of_value (value_of y.cell) in
+      ap (λ (e : KeyParts × ℕ). record { key = series_key k e.0; value = value_of y.cell })
+      (ap (λ es. get_or es y.place no_key) (numbers-grown k) ∙ get_or_append_left (of_kind k old) (more k) no_key y.place (key-there old stored agree t y same))
 
-  at-new : series_at grown p ≡ new_series own
-  at-new =
-      ap (λ es. entry_series kind (get_or es place no_entry)) (of-same old fs kind ∙ added)
-      ∙ (ap (λ i. entry_series kind (get_or (of_kind kind old ++ (key, n) ∷ []) i no_entry)) at
-      ∙ (ap (entry_series kind) (get_or-append_seam (of_kind kind old) (key, n) [] no_entry) ∙ ap (λ v. record { key = own; value = v }) value))
+  spot-new : spot x ≡ (kind, length (of_kind kind old))
+  spot-new = ap (λ v. (kind_of_value v, x.place)) value ∙ ap (λ k. (k, x.place)) (kind-new kind) ∙ ap (λ i. (kind, i)) at
 
-  pub all-added : all_series grown after ≡ all_series old order ++ new_series own ∷ []
+  key-new : key_at grown (spot x) ≡ own
+  key-new =
+      ap (key_at grown) spot-new
+      ∙ ap (λ (e : KeyParts × ℕ). series_key kind e.0) (ap (λ es. get_or es (length (of_kind kind old)) no_key) grown-own ∙ get_or-append_seam (of_kind kind old) (key, number) [] no_key)
+
+  at-new : series_at grown x ≡ new_series own
+  at-new = ap (λ k. record { key = k; value = value_of x.cell }) key-new ∙ ap (λ v. record { key = own; value = v }) value
+
+  pub all-added : all_series grown after ≡ all_series old stored ++ new_series own ∷ []
   all-added =
-      ap (map (series_at grown)) placed
-      ∙ (map-append (series_at grown) order (p ∷ [])
-      ∙ (ap (λ xs. xs ++ series_at grown p ∷ []) (map-other (series_at old) (series_at grown) order stays) ∙ ap (λ x. all_series old order ++ x ∷ []) at-new))
+      ap (map (series_at grown)) put
+      ∙ (map-append (series_at grown) stored (x ∷ [])
+      ∙ (ap (λ xs. xs ++ series_at grown x ∷ []) (map-other (series_at old) (series_at grown) stored stays) ∙ ap (λ s. all_series old stored ++ s ∷ []) at-new))
 
-  keys-added : map (key_at (marks grown)) after ≡ map (key_at (marks old)) order ++ own ∷ []
+  abbrev keys : List SeriesKey
+  keys = map (key_at old) (map spot stored)
+
+  keys-added : map (key_at grown) (map spot after) ≡ keys ++ own ∷ []
   keys-added =
       sym (keys-order grown after)
-      ∙ (ap (map key_of) all-added ∙ (map-append key_of (all_series old order) (new_series own ∷ []) ∙ ap (λ ks. ks ++ own ∷ []) (keys-order old order)))
+      ∙ (ap (map key_of) all-added ∙ (map-append key_of (all_series old stored) (new_series own ∷ []) ∙ ap (λ ks. ks ++ own ∷ []) (keys-order old stored)))
 
-  tag-new : tag n ≡ (length order, kind)
-  tag-new = ap (λ i. (i, kind_of_value (value_of n.cell))) number ∙ ap (λ k. (length order, k)) (ap kind_of_value value ∙ kind-new kind)
+  within-more : (p : MetricKind × ℕ) → IsWithin old p → IsWithin grown p
+  within-more p within = let n = ap length (numbers-grown p.0) ∙ length-append (of_kind p.0 old) (more p.0) in omega (arith, within, n)
 
-  stands-added : (s : ℕ) (q : Placed) → slice_get after s ≡ Some q → option_map (λ m. m.1) (slice_get (marks grown q.kind) q.place) ≡ Some (s, q.kind)
-  stands-added s q h =
-      let here : slice_get (order ++ p ∷ []) s ≡ Some q = sym (ap (λ qs. slice_get qs s) placed) ∙ h in
-      elim (cases_lt s (length order)) as (λ _. option_map (λ m. m.1) (slice_get (marks grown q.kind) q.place) ≡ Some (s, q.kind)) [
+  within-new : IsWithin grown (spot x)
+  within-new =
+      let n = ap length grown-own ∙ length-append (of_kind kind old) ((key, number) ∷ []) in
+      subst (IsWithin grown) (sym spot-new) (omega (arith, n))
+
+  within-added : (s : ℕ) (p : MetricKind × ℕ) → slice_get (map spot after) s ≡ Some p → IsWithin grown p
+  within-added s p h =
+      let here : slice_get (map spot stored ++ spot x ∷ []) s ≡ Some p = sym (ap (λ xs. slice_get (map spot xs) s) put ∙ ap (λ ps. slice_get ps s) (map-append spot stored (x ∷ []))) ∙ h in
+      elim (cases_lt s (length (map spot stored))) as (λ _. IsWithin grown p) [
         | inl lt ↦
-            let was = slice_get-get_or order s q lt in
-            let stayed : option_map (λ (r : Placed). r) (slice_get (order ++ p ∷ []) s) ≡ Some (get_or order s q) = front-at (λ (r : Placed). r) order (p ∷ []) s (get_or order s q) (ap (option_map (λ (r : Placed). r)) was) in
-            let same : Some q ≡ Some (get_or order s q) = sym (ap (option_map (λ (r : Placed). r)) here) ∙ stayed in
-            ap (λ ms. option_map (λ m. m.1) (slice_get ms q.place)) (marks-grown q.kind)
-            ∙ front-at (λ (m : KeyParts × (ℕ × MetricKind)). m.1) (marks old q.kind) (map mark (more q.kind)) q.place (s, q.kind) (agree.stands s q (was ∙ sym same))
+            let was = slice_get-get_or (map spot stored) s p lt in
+            let same : Some p ≡ Some (get_or (map spot stored) s p) = sym here ∙ front-at (map spot stored) (spot x ∷ []) s (get_or (map spot stored) s p) was in
+            within-more p (agree.within s p (was ∙ sym same))
         | inr le ↦
-            let long : length (order ++ p ∷ []) ≡ length order + 1 = length-append order (p ∷ []) in
-            let last : s ≡ length order = omega (arith, le, long, inside (λ (r : Placed). r) (order ++ p ∷ []) s q (ap (option_map (λ (r : Placed). r)) here)) in
-            let same : Some p ≡ Some q = sym (last-at order p s last) ∙ here in
-            let is : p ≡ q = cc in
-            subst (λ (r : Placed). option_map (λ m. m.1) (slice_get (marks grown r.kind) r.place) ≡ Some (s, r.kind)) is
-            (ap (λ ms. option_map (λ m. m.1) (slice_get (map mark ms) place)) (of-same old fs kind ∙ added)
-            ∙ (ap (λ ms. option_map (λ m. m.1) (slice_get ms place)) (map-append mark (of_kind kind old) ((key, n) ∷ []))
-            ∙ (ap (option_map (λ m. m.1)) (last-at (map mark (of_kind kind old)) (mark (key, n)) place (at ∙ sym (length-map (of_kind kind old) mark)))
-            ∙ ap Some (tag-new ∙ ap (λ i. (i, kind)) (sym last)))))
+            let long : length (map spot stored ++ spot x ∷ []) ≡ length (map spot stored) + 1 = length-append (map spot stored) (spot x ∷ []) in
+            let last : s ≡ length (map spot stored) = omega (arith, le, long, inside (map spot stored ++ spot x ∷ []) s p here) in
+            let same : Some (spot x) ≡ Some p = sym (last-at (map spot stored) (spot x) s last) ∙ here in
+            let is : spot x ≡ p = cc in
+            subst (IsWithin grown) is within-new
       ]
 
-  found-added : (k : MetricKind) (q : KeyParts) → option_map (λ t. t.0) (lookup (key_eq q) (marks grown k)) ≡ position (series_key_eq (series_key k q)) (map (key_at (marks grown)) after)
+  found-added : (k : MetricKind) (q : KeyParts) → lookup (key_eq q) (of_kind k grown) ≡ position (series_key_eq (series_key k q)) (map (key_at grown) (map spot after))
   found-added k q =
       let r = series_key k q in
-      let keys = map (key_at (marks old)) order in
       by_test (series_key_eq r own)
       (λ t.
-      let P : SeriesKey → Type 0 = λ x. option_map (λ t. t.0) (lookup (key_eq x.key) (marks grown x.kind)) ≡ position (series_key_eq x) (map (key_at (marks grown)) after) in
-      let none : position (series_key_eq own) keys ≡ None = sym (position-order old order own) ∙ absent in
-      let unmarked = option-none (λ (t : ℕ × MetricKind). t.0) (lookup (key_eq key) (marks old kind)) (agree.found kind key ∙ none) in
+      let P : SeriesKey → Type 0 = λ y. lookup (key_eq y.key) (of_kind y.kind grown) ≡ position (series_key_eq y) (map (key_at grown) (map spot after)) in
+      let none : position (series_key_eq own) keys ≡ None = sym (position-order old stored own) ∙ absent in
+      let places : number ≡ length keys = count ∙ sym (length-map (map spot stored) (key_at old) ∙ length-map stored spot) in
       subst P (sym ((series_key_eq-Decides r own).0 t))
-      (ap (λ ms. option_map (λ t. t.0) (lookup (key_eq key) (map mark ms))) (of-same old fs kind ∙ added)
-      ∙ (ap (λ ms. option_map (λ t. t.0) (lookup (key_eq key) ms)) (map-append mark (of_kind kind old) ((key, n) ∷ []))
-      ∙ (ap (option_map (λ t. t.0)) (lookup-append_none (key_eq key) (marks old kind) (mark (key, n) ∷ []) unmarked
-      ∙ ap (λ b. cond b (Some (tag n)) None) ((key_eq-Decides key key).1 refl))
-      ∙ (ap (λ t. Some t.0) tag-new
-      ∙ (ap Some (sym (length-map order (key_at (marks old))))
-      ∙ (sym (push-absent (series_key_eq own) keys own none ((series_key_eq-Decides own own).1 refl)) ∙ ap (position (series_key_eq own)) (sym keys-added))))))))
+      (ap (lookup (key_eq key)) grown-own
+      ∙ (lookup-append_none (key_eq key) (of_kind kind old) ((key, number) ∷ []) (agree.found kind key ∙ none)
+      ∙ (ap (λ b. cond b (Some number) None) ((key_eq-Decides key key).1 refl)
+      ∙ (ap Some places
+      ∙ (sym (push-absent (series_key_eq own) keys own none ((series_key_eq-Decides own own).1 refl)) ∙ ap (position (series_key_eq own)) (sym keys-added)))))))
       (λ t.
-      let unlike : lookup (key_eq q) (map mark (more k)) ≡ None =
+      let unlike : lookup (key_eq q) (more k) ≡ None =
       by_test (kind_eq kind k)
       (λ y.
       let e = (kind_eq-Decides kind k).0 y in
       let differ : key_eq q key ≡ false = sym (ap (λ b. b && key_eq q key) (ap (kind_eq k) e ∙ same_kind k)) ∙ t in
-      ap (λ b. lookup (key_eq q) (map mark (cond b ((key, n) ∷ []) []))) y ∙ ap (λ b. cond b (Some (tag n)) None) differ)
-      (λ y. ap (λ b. lookup (key_eq q) (map mark (cond b ((key, n) ∷ []) []))) y) in
-      ap (λ ms. option_map (λ t. t.0) (lookup (key_eq q) ms)) (marks-grown k)
-      ∙ (ap (option_map (λ t. t.0)) (lookup-append_rest (key_eq q) (marks old k) (map mark (more k)) unlike)
+      ap (λ b. lookup (key_eq q) (cond b ((key, number) ∷ []) [])) y ∙ ap (λ b. cond b (Some number) None) differ)
+      (λ y. ap (λ b. lookup (key_eq q) (cond b ((key, number) ∷ []) [])) y) in
+      ap (lookup (key_eq q)) (numbers-grown k)
+      ∙ (lookup-append_rest (key_eq q) (of_kind k old) (more k) unlike
       ∙ (agree.found k q ∙ (sym (push-other (series_key_eq r) keys own t) ∙ ap (position (series_key_eq r)) (sym keys-added)))))
 
-  pub agree-added : Agrees (marks grown) after
-  agree-added = record { stands = stands-added; found = found-added }
+  pub agree-added : Agrees grown (map spot after)
+  agree-added = record { within = within-added; found = found-added }

@@ -1,57 +1,33 @@
--- What an order that agrees with the entries says of them.
-use Rattle.std.proofs.Common.{◌≡◌, ℕ, zero, suc, ◌+◌, ◌<◌, ◌≤◌, Bool, true, false, cond, ◌&&◌, List, [], ◌∷◌, ◌++◌, length, map, get_or, Option, None, Some, Result, Ok, Err, position, refl, ap, sym, ◌∙◌, subst, arith, add-one, length-append, slice_get, option_map, inl, inr, true≢false, is_some, IfSome}
-use Rattle.std.specs.Map.{lookup, values_of}
-use Rattle.std.proofs.lemmas.Bool.{cases_lt}
-use Rattle.std.proofs.lemmas.List.{length-map, map-append, append-nil, get_or_append_left}
-use Rattle.std.proofs.lemmas.Option.{slice_get-get_or, slice_get_past, slice_get-map, get_or_from_slice_get}
-use Rattle.std.proofs.lemmas.Map.Made.{lookup-map_values}
-use Rattle.std.proofs.Math.ListN.{get_or-map}
-use Rattle.std.proofs.Math.Seq.{get_or-append_seam}
-use Rattle.std.proofs.Math.Path.{fun_ext}
-use Rattle.indexmap.specs.IndexMap.{set_value_at}
+-- What numbers that agree with the series say of them.
+use Rattle.std.proofs.Common.{◌≡◌, ℕ, zero, suc, ◌<◌, Bool, true, false, List, [], ◌∷◌, length, map, Option, None, Some, position, refl, ap, sym, ◌∙◌, arith, slice_get, option_map, true≢false}
+use Rattle.std.proofs.lemmas.Option.{slice_get-map}
 use Rattle.metrics_names.specs.declared.kind.MetricKind.{MetricKind}
 use Rattle.metrics_names.specs.declared.kind.MetricKind.TheVariants.{Counter, Gauge, Histogram}
-use Rattle.metrics_names.specs.declared.refused.Refused.{Refused}
-use Rattle.metrics_names.specs.declared.refused.Refused.TheVariants.{Memory, NoSuchAddress, NoSuchBook, BadHandle}
 use Rattle.metrics_names.specs.Names.{KeyParts, SeriesKey, kind_eq, key_eq, series_key_eq}
-use Rattle.metrics_names.specs.Equality.{kind_eq-Decides, key_eq-Decides, series_key_eq-Decides}
-use Rattle.metrics.specs.declared.debugging.Reset.{Reset}
+use Rattle.metrics_names.specs.Equality.{kind_eq-Decides}
 use Rattle.metrics.specs.declared.kind.PerKind.{PerKind}
-use Rattle.metrics.specs.declared.handles.Update.{Update}
-use Rattle.metrics.specs.Book.{Series, is_of, new_series, new_value, kind_of, with_update, resets, after_reset}
+use Rattle.metrics.specs.Book.{Series, is_of, new_value}
 use Rattle.metrics.specs.Kinds.{of_kind, with_kind}
-use Rattle.metrics.specs.Meaning.{is_kind}
-use Rattle.metrics.specs.Targets.{change_at}
-use Rattle.metrics_registry.specs.Held.{held, ChangesAt}
-use Rattle.metrics_debugging.specs.declared.debugging.series.Numbered.{Numbered}
-use Rattle.metrics_debugging.specs.declared.debugging.series.Placed.{Placed}
-use Rattle.metrics_debugging.specs.DebuggingCells.{value_of, kind_of_value, UpdatesValue}
-use Rattle.metrics_debugging.specs.DebuggingSeries.{Entries, series_key, entry_series, no_entry, series_at, all_series, tag, marks, key_at, Agrees}
-use Rattle.metrics_debugging.specs.DebuggingUpdates.{UpdatesAt, is_held}
-use Rattle.metrics_debugging.proofs.SeriesLemmas.{key_of, position-keys, push-absent, push-other}
+use Rattle.metrics_registry.specs.Held.{held}
+use Rattle.metrics_debugging.specs.declared.debugging.series.Stored.{Stored}
+use Rattle.metrics_debugging.specs.DebuggingCells.{value_of, kind_of_value}
+use Rattle.metrics_debugging.specs.DebuggingSeries.{Numbers, series_key, spot, key_at, series_at, all_series, IsWithin, Agrees}
+use Rattle.metrics_debugging.proofs.SeriesLemmas.{key_of, position-keys}
 
 pub by_test : {P : Type 0} (b : Bool) → (b ≡ true → P) → (b ≡ false → P) → P
 by_test true p q = p refl
 by_test false p q = q refl
 
-module _ {A B : Type 0} (f : A → B) where
-  pub inside : (xs : List A) (i : ℕ) (y : B) → option_map f (slice_get xs i) ≡ Some y → i < length xs
+module _ {A : Type 0} where
+  pub inside : (xs : List A) (i : ℕ) (y : A) → slice_get xs i ≡ Some y → i < length xs
   inside [] i y h = cc
   inside (x ∷ xs) zero y h = omega arith
   inside (x ∷ xs) (suc i) y h = let r = inside xs i y h in omega (arith, r)
-
-  pub option-none : (o : Option A) → option_map f o ≡ None → o ≡ None
-  option-none None e = refl
-  option-none (Some x) e = cc
 
 module _ {A B : Type 0} (g h : A → B) where
   pub map-other : (xs : List A) → ((t : ℕ) (x : A) → slice_get xs t ≡ Some x → h x ≡ g x) → map h xs ≡ map g xs
   map-other [] other = refl
   map-other (x ∷ xs) other = ap (λ y. y ∷ map h xs) (other zero x refl) ∙ ap (λ ys. g x ∷ ys) (map-other xs (λ t. other (suc t)))
-
--- the mark of an entry
-abbrev pub mark : KeyParts × Numbered → KeyParts × (ℕ × MetricKind)
-mark e = (e.0, tag e.1)
 
 -- ---- kinds
 
@@ -72,53 +48,38 @@ module _ {T : Type 0} (m : PerKind T) (w : T) where
   of-other Histogram Gauge e = refl
   of-other Histogram Histogram e = absurd (true≢false e)
 
+pub kind-new : (k : MetricKind) → kind_of_value (new_value k) ≡ k
+kind-new Counter = refl
+kind-new Gauge = refl
+kind-new Histogram = refl
+
 pub same_kind : (k : MetricKind) → kind_eq k k ≡ true
 same_kind k = (kind_eq-Decides k k).1 refl
 
 -- ---- keys in order
 
-pub keys-order : (entries : Entries) (order : List Placed) → map key_of (all_series entries order) ≡ map (key_at (marks entries)) order
-keys-order entries [] = refl
-keys-order entries (p ∷ order) =
-    ap (λ (m : KeyParts × (ℕ × MetricKind)). series_key p.kind m.0 ∷ map key_of (all_series entries order)) (sym (get_or-map mark (of_kind p.kind entries) p.place no_entry))
-    ∙ ap (λ ks. key_at (marks entries) p ∷ ks) (keys-order entries order)
+module _ (numbers : Numbers) where
+  pub keys-order : (stored : List Stored) → map key_of (all_series numbers stored) ≡ map (key_at numbers) (map spot stored)
+  keys-order [] = refl
+  keys-order (s ∷ stored) = ap (λ ks. key_at numbers (spot s) ∷ ks) (keys-order stored)
 
-pub position-order : (entries : Entries) (order : List Placed) (k : SeriesKey) → position (is_of k) (all_series entries order) ≡ position (series_key_eq k) (map (key_at (marks entries)) order)
-position-order entries order k = position-keys k (all_series entries order) ∙ ap (position (series_key_eq k)) (keys-order entries order)
+  module _ (stored : List Stored) where
+    pub position-order : (k : SeriesKey) → position (is_of k) (all_series numbers stored) ≡ position (series_key_eq k) (map (key_at numbers) (map spot stored))
+    position-order k = position-keys k (all_series numbers stored) ∙ ap (position (series_key_eq k)) (keys-order stored)
 
--- the number at a key is that of the key's series
-pub number-found : (entries : Entries) (order : List Placed) (kind : MetricKind) (key : KeyParts) → Agrees (marks entries) order
-    → option_map (λ (n : Numbered). n.number) (held key_eq (of_kind kind entries) key) ≡ position (is_of (series_key kind key)) (all_series entries order)
-number-found entries order kind key agree =
-    tagged (held key_eq (of_kind kind entries) key)
-    ∙ (ap (option_map (λ (t : ℕ × MetricKind). t.0)) (sym (lookup-map_values tag (key_eq key) (of_kind kind entries)))
-    ∙ (agree.found kind key ∙ sym (position-order entries order (series_key kind key))))
-  where
-    tagged : (o : Option Numbered) → option_map (λ (n : Numbered). n.number) o ≡ option_map (λ (t : ℕ × MetricKind). t.0) (option_map tag o)
-    tagged None = refl
-    tagged (Some n) = refl
+    -- the kind of a series is that of its cell
+    pub kinds-order : (s : ℕ) → option_map (λ (x : Series). x.key.kind) (slice_get (all_series numbers stored) s) ≡ option_map (λ (x : Stored). kind_of_value (value_of x.cell)) (slice_get stored s)
+    kinds-order s = ap (option_map (λ (x : Series). x.key.kind)) (slice_get-map (series_at numbers) stored s) ∙ twice (slice_get stored s)
+      where
+        twice : (o : Option Stored) → option_map (λ (x : Series). x.key.kind) (option_map (series_at numbers) o) ≡ option_map (λ (x : Stored). kind_of_value (value_of x.cell)) o
+        twice None = refl
+        twice (Some x) = refl
 
--- a key that no series has isn't held
-pub unheld : (entries : Entries) (order : List Placed) (kind : MetricKind) (key : KeyParts) → Agrees (marks entries) order
-    → position (is_of (series_key kind key)) (all_series entries order) ≡ None → held key_eq (of_kind kind entries) key ≡ None
-unheld entries order kind key agree absent = option-none (λ (n : Numbered). n.number) (held key_eq (of_kind kind entries) key) (number-found entries order kind key agree ∙ absent)
+    module _ (agree : Agrees numbers (map spot stored)) where
+      -- the number at a key is that of the key's series
+      pub number-found : (kind : MetricKind) (key : KeyParts) → held key_eq (of_kind kind numbers) key ≡ position (is_of (series_key kind key)) (all_series numbers stored)
+      number-found kind key = agree.found kind key ∙ sym (position-order (series_key kind key))
 
-pub kinds-order : (entries : Entries) (order : List Placed) (s : ℕ) → option_map (λ (x : Series). x.key.kind) (slice_get (all_series entries order) s) ≡ option_map (λ (p : Placed). p.kind) (slice_get order s)
-kinds-order entries order s = ap (option_map (λ (x : Series). x.key.kind)) (slice_get-map (series_at entries) order s) ∙ twice (slice_get order s)
-  where
-    twice : (o : Option Placed) → option_map (λ (x : Series). x.key.kind) (option_map (series_at entries) o) ≡ option_map (λ (p : Placed). p.kind) o
-    twice None = refl
-    twice (Some p) = refl
-
--- each series has an entry
-pub entry-there : (entries : Entries) (order : List Placed) (s : ℕ) (p : Placed) → Agrees (marks entries) order → slice_get order s ≡ Some p → p.place < length (of_kind p.kind entries)
-entry-there entries order s p agree at =
-    omega (arith, inside (λ (m : KeyParts × (ℕ × MetricKind)). m.1) (marks entries p.kind) p.place (s, p.kind) (agree.stands s p at), length-map (of_kind p.kind entries) mark)
-
--- where a series of another kind stands, none of the update's is held
-pub not-held : (entries : Entries) (order : List Placed) (s : ℕ) (p : Placed) (by : Update) → slice_get order s ≡ Some p → kind_eq p.kind (kind_of by) ≡ false → is_held (all_series entries order) s by ≡ false
-not-held entries order s p by at other =
-    ap (is_kind (kind_of by)) (kinds-order entries order s ∙ ap (option_map (λ (q : Placed). q.kind)) at) ∙ turned (kind_of by) p.kind other
-  where
-    turned : (j k : MetricKind) → kind_eq k j ≡ false → kind_eq j k ≡ false
-    turned j k e = by_test (kind_eq j k) (λ t. absurd (true≢false (sym (subst (λ i. kind_eq i j ≡ true) ((kind_eq-Decides j k).0 t) (same_kind j)) ∙ e))) (λ t. t)
+      -- each series has a key
+      pub key-there : (s : ℕ) (x : Stored) → slice_get stored s ≡ Some x → IsWithin numbers (spot x)
+      key-there s x at = agree.within s (spot x) (slice_get-map spot stored s ∙ ap (option_map spot) at)

@@ -5,4 +5,4 @@ use Rattle.metrics_debugging.specs.declared.debugging.series.SeriesList.{SeriesL
 use Rattle.metrics_debugging.specs.DebuggingSeries.{all_series}
 
 abbrev pub series_of : SeriesList → List Series
-series_of l = all_series l.by_key l.order.items
+series_of l = all_series l.numbers l.series.items

@@ -1,58 +1,44 @@
--- The series of a book: their cells by kind and key, and their order.
-use Rattle.std.specs.Prelude.{◌≡◌, ℕ, List, map, option_map, position, slice_get, get_or, Some, []}
+-- The series of a book, and their numbers by kind and key.
+use Rattle.std.specs.Prelude.{◌≡◌, ◌<◌, ℕ, List, length, map, position, slice_get, get_or, Some, []}
 use Rattle.std.specs.Map.{lookup}
 use Rattle.metrics_names.specs.declared.kind.MetricKind.{MetricKind}
-use Rattle.metrics_names.specs.declared.kind.MetricKind.TheVariants.{Counter}
 use Rattle.metrics_names.specs.Names.{KeyParts, SeriesKey, key_eq, series_key_eq}
 use Rattle.metrics.specs.declared.kind.PerKind.{PerKind}
 use Rattle.metrics.specs.Book.{Series}
 use Rattle.metrics.specs.Kinds.{of_kind}
-use Rattle.metrics_debugging.specs.declared.debugging.cells.Cell.TheVariants.{Counter as CounterCell}
-use Rattle.metrics_debugging.specs.declared.debugging.series.Numbered.{Numbered}
-use Rattle.metrics_debugging.specs.declared.debugging.series.Placed.{Placed}
+use Rattle.metrics_debugging.specs.declared.debugging.series.Stored.{Stored}
 use Rattle.metrics_debugging.specs.DebuggingCells.{value_of, kind_of_value}
 
--- an entry: a key, and the cell of its series with the series' number
-abbrev pub Entry : Type 0
-Entry = KeyParts × Numbered
-
--- the entries of each kind, by their places
-abbrev pub Entries : Type 0
-Entries = PerKind (List (KeyParts × Numbered))
+-- of each kind, the keys by their places, each with the number of its series
+abbrev pub Numbers : Type 0
+Numbers = PerKind (List (KeyParts × ℕ))
 
 abbrev pub series_key : MetricKind → KeyParts → SeriesKey
 series_key kind key = record { kind = kind; key = key }
 
--- the series of an entry
-abbrev pub entry_series : MetricKind → KeyParts × Numbered → Series
-entry_series kind e = record { key = series_key kind e.0; value = value_of e.1.cell }
+-- where the key of a series stands: its kind, and its place there
+abbrev pub spot : Stored → MetricKind × ℕ
+spot s = (kind_of_value (value_of s.cell), s.place)
 
--- an entry that no series has
-abbrev pub no_entry : KeyParts × Numbered
-no_entry = (record { name = []; labels = [] }, record { number = 0; cell = CounterCell 0 })
+-- a key that no series has
+abbrev pub no_key : KeyParts × ℕ
+no_key = (record { name = []; labels = [] }, 0)
 
-abbrev pub series_at : Entries → Placed → Series
-series_at entries p = entry_series p.kind (get_or (of_kind p.kind entries) p.place no_entry)
+abbrev pub key_at : Numbers → MetricKind × ℕ → SeriesKey
+key_at numbers p = series_key p.0 (get_or (of_kind p.0 numbers) p.1 no_key).0
+
+abbrev pub series_at : Numbers → Stored → Series
+series_at numbers s = record { key = key_at numbers (spot s); value = value_of s.cell }
 
 -- the series in their order
-abbrev pub all_series : Entries → List Placed → List Series
-all_series entries order = map (series_at entries) order
+abbrev pub all_series : Numbers → List Stored → List Series
+all_series numbers stored = map (series_at numbers) stored
 
--- ---- what stays of an entry as its value changes
+-- a key stands there
+abbrev pub IsWithin : Numbers → MetricKind × ℕ → Type 0
+IsWithin numbers p = p.1 < length (of_kind p.0 numbers)
 
--- the number of the series, and the kind of its cell
-abbrev pub tag : Numbered → ℕ × MetricKind
-tag n = (n.number, kind_of_value (value_of n.cell))
-
--- of each entry of a kind: its key, and its tag
-abbrev pub marks : Entries → MetricKind → List (KeyParts × (ℕ × MetricKind))
-marks entries kind = map (λ e. (e.0, tag e.1)) (of_kind kind entries)
-
-abbrev pub key_at : (MetricKind → List (KeyParts × (ℕ × MetricKind))) → Placed → SeriesKey
-key_at ms p = series_key p.kind (get_or (ms p.kind) p.place (no_entry.0, tag no_entry.1)).0
-
--- the order and the numbers agree: each series' entry has its number and a cell of its kind, and the number at a key is that of the
--- first series of the key
-pub record Agrees (ms : MetricKind → List (KeyParts × (ℕ × MetricKind))) (order : List Placed) : Type 0 where
-  pub stands : (s : ℕ) (p : Placed) → slice_get order s ≡ Some p → option_map (λ m. m.1) (slice_get (ms p.kind) p.place) ≡ Some (s, p.kind)
-  pub found : (kind : MetricKind) (key : KeyParts) → option_map (λ t. t.0) (lookup (key_eq key) (ms kind)) ≡ position (series_key_eq (series_key kind key)) (map (key_at ms) order)
+-- each series has a key, and the number at a key is that of the first series of the key
+pub record Agrees (numbers : Numbers) (spots : List (MetricKind × ℕ)) : Type 0 where
+  pub within : (s : ℕ) (p : MetricKind × ℕ) → slice_get spots s ≡ Some p → IsWithin numbers p
+  pub found : (kind : MetricKind) (key : KeyParts) → lookup (key_eq key) (of_kind kind numbers) ≡ position (series_key_eq (series_key kind key)) (map (key_at numbers) spots)

@@ -1,11 +1,11 @@
 //! The cell of a series.
-ghost use Rattle.std.specs.Prelude.{◌≡◌, IfOk, IfErr};
+ghost use Rattle.std.specs.Prelude.{◌≡◌, if◌then◌else◌, IfOk, IfErr};
 ghost use Rattle.metrics_names.specs.declared.refused.Refused.TheVariants.{Memory};
-ghost use Rattle.metrics.specs.Book.{new_value, snapshot_value};
+ghost use Rattle.metrics.specs.Book.{new_value, resets, snapshot_value};
 ghost use Rattle.metrics_debugging.specs.DebuggingCells.{value_of, kind_of_value, UpdatesValue};
 
 use metrics::{
-    CounterCell, DebugValue, GaugeCell, HistogramCell, Items, MetricKind, Refused, Update,
+    CounterCell, DebugValue, GaugeCell, HistogramCell, Items, MetricKind, Refused, Reset, Update,
 };
 use metrics_storage::OwnedBucket;
 use std::alloc::Global;
@@ -30,6 +30,17 @@ impl Cell {
         }
     }
 
+    /// The kind of the series.
+    pub fn kind(&self) -> MetricKind
+        ensures { result ≡ kind_of_value (value_of self.now) }
+    {
+        match self {
+            Cell::Counter(_) => MetricKind::Counter,
+            Cell::Gauge(_) => MetricKind::Gauge,
+            Cell::Histogram(_) => MetricKind::Histogram,
+        }
+    }
+
     /// Takes an update of its kind.
     pub fn update(&mut self, by: Update) -> Result<(), Refused>
         ensures updates { UpdatesValue (value_of self.old) (value_of self.new) by result }
@@ -51,10 +62,14 @@ impl Cell {
         Ok(())
     }
 
-    /// Holds the value of a new series again. A histogram gives its blocks back.
-    pub fn reset(&mut self)
-        ensures { value_of self.new ≡ new_value (kind_of_value (value_of self.old)) }
+    /// Holds the value of a new series again, where its kind is reset. A histogram gives its blocks back.
+    pub fn reset(&mut self, reset: Reset)
+        ensures { value_of self.new ≡ (if resets reset (kind_of_value (value_of self.old))
+            then new_value (kind_of_value (value_of self.old)) else value_of self.old) }
     {
+        if !reset.resets(self.kind()) {
+            return;
+        }
         match self {
             Cell::Counter(count) => *count = 0,
             Cell::Gauge(gauge) => *gauge = 0,

@@ -1,4 +1,4 @@
-use Rattle.std.proofs.Common.{◌≡◌, ap, sym, refl, ◌∙◌, string_bytes, subst, Some, None, rules, cond, bytes_eq}
+use Rattle.std.proofs.Common.{◌≡◌, ap, sym, refl, ◌∙◌, string_bytes, Some, None, rules, cond, bytes_eq}
 use Rattle.std.specs.Option.{option_or, option_copied_mut}
 use Rattle.std.proofs.lemmas.Map.Text.{hash_map_updates_text}
 use Rattle.indexmap.specs.IndexMap.{get_by_text}

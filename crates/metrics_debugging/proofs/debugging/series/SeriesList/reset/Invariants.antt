@@ -1,4 +1,4 @@
-use Rattle.std.proofs.Common.{◌≡◌}
+use Rattle.std.proofs.Common.{◌≡◌, length}
 use Rattle.metrics.specs.Book.{after_reset}
 use Rattle.metrics_debugging.specs.DebuggingOrder.{series_of}
 use Rattle.metrics_debugging.proofs.ChangedLemmas.{first-changed}
@@ -6,6 +6,6 @@ use Rattle.metrics_debugging.proofs.debugging.series.SeriesList.reset.Given as g
 
 abbrev pub invariant-loop-series : goal.invariant-loop-series
 invariant-loop-series l = record {
-  order : l.self.order.items ≡ l.initial.self.order.items;
+  count : length l.self.series.items ≡ length l.initial.self.series.items;
   values : series_of l.self ≡ first-changed l.series (after_reset l.reset) (series_of l.initial.self);
 }

@@ -1,15 +1,13 @@
-use Rattle.std.proofs.Common.{◌≡◌, ◌∙◌, ap, sym, Some, slice_get, get_or}
-use Rattle.std.proofs.lemmas.Option.{slice_get-get_or}
-use Rattle.metrics_names.specs.declared.kind.MetricKind.TheVariants.{Counter}
-use Rattle.metrics_debugging.specs.declared.debugging.series.Placed.{Placed}
-use Rattle.metrics_debugging.proofs.AgreesLemmas.{entry-there}
+use Rattle.std.proofs.Common.{◌≡◌, ◌∙◌, ap, sym, refl, length, Some, slice_get}
+use Rattle.std.proofs.lemmas.Option.{slice_get_read}
+use Rattle.metrics_debugging.proofs.AgreesLemmas.{key-there}
 use Rattle.metrics_debugging.proofs.debugging.series.SeriesList.rows.Goals as goal
 
 pub row-requires : goal.row-requires
 row-requires c =
     let self = c.args.self.now in
-    let placed = c.deref-placed-items.result.now in
-    let s = c.loop-placed.placed-index in
-    let none : Placed = record { kind = Counter; place = 0 } in
-    let at : slice_get self.order.items s ≡ Some (get_or placed s none) = ap (λ ps. slice_get ps s) (sym c.deref-placed-items.ensures.value) ∙ slice_get-get_or placed s none c.loop-placed-test.true in
-    entry-there self.by_key self.order.items s (get_or placed s none) self.agree at
+    let all = c.deref-stored-items.result.now in
+    let s = c.loop-stored.stored-index in
+    let x = c.stored-item.result in
+    let at : slice_get self.series.items s ≡ Some x = ap (λ xs. slice_get xs s) (sym c.deref-stored-items.ensures.value) ∙ slice_get_read all (length all) s x refl c.loop-stored-test.true c.stored-item.is in
+    key-there self.numbers self.series.items self.agree s x at
