@@ -1,7 +1,6 @@
 -- The loop over the children that a name goes to: the next child, and the node when the loop stops.
-use Rattle.std.proofs.Common.{◌≡◌, ◌+◌, ◌<◌, ◌≤◌, ℕ, List, [], refl, map, length, take, get_or, set, Vec, Global, Result, Ok, Err, ap, ◌∙◌, subst, sym, arith, length-append}
+use Rattle.std.proofs.Common.{◌≡◌, ◌+◌, ◌<◌, ◌≤◌, ℕ, List, [], ◌∷◌, refl, map, length, take, get_or, set, Vec, Global, Result, Ok, Err, ap, ◌∙◌, subst, sym, arith, length-append}
 use Rattle.std.specs.List.{All}
-use Rattle.std.specs.Result.{result_map_both}
 use Rattle.std.specs.Vec.{vec_len, with_item}
 use Rattle.std.proofs.lemmas.List.Elements.{All-set}
 use Rattle.metrics_names.specs.declared.kind.MetricKind.{MetricKind}
@@ -43,11 +42,17 @@ after-none NoSuchAddress = refl
 after-none NoSuchBook = refl
 after-none BadHandle = refl
 
--- what is handed on is what would have been added to nothing
-by-answer : (front : ℕ) (r told : Result (List Address) Refused) → told ≡ result_map_both (raised front) (λ d. d) r → (P : Result (List Address) Refused → Type 0) →
-    ((after : List Address) → IsAppended {A = Unit {0}} [] after front r (Ok tt) → P (Ok after)) → ((d : Refused) → IsAppended {A = Unit {0}} [] [] front r (Err d) → P (Err d)) → P told
-by-answer front (Ok there) told same P ok err = subst P (sym same) (ok (raised front there) refl)
-by-answer front (Err d) told same P ok err = subst P (sym same) (err d (after-none d))
+raised-none : (found : List Address) → raised 0 found ≡ found
+raised-none [] = refl
+raised-none (a ∷ found) =
+    let same : 0 + a.book ≡ a.book = omega arith in
+    ap (λ (n : ℕ). record { book = n; series = a.series } ∷ raised 0 found) same ∙ ap (λ as'. a ∷ as') (raised-none found)
+
+-- what stands behind no books is what would have been added to nothing
+by-answer : (r : Result (List Address) Refused) (P : Result (List Address) Refused → Type 0) →
+    ((after : List Address) → IsAppended {A = Unit {0}} [] after 0 r (Ok tt) → P (Ok after)) → ((d : Refused) → IsAppended {A = Unit {0}} [] [] 0 r (Err d) → P (Err d)) → P r
+by-answer (Ok there) P ok err = ok there (sym (raised-none there))
+by-answer (Err d) P ok err = err d (after-none d)
 
 module _ {B : Type 0} {m : B → Meaning} {v : Vec (Node B) Global} {ends : Vec ℕ Global} {reach : Reach} {old : Node B} (group : IsGroup m v ends reach old) (len : ℕ) (l : len ≡ vec_len v) where
   same_length : len ≡ length v.items
@@ -62,15 +67,15 @@ module _ {B : Type 0} {m : B → Meaning} {v : Vec (Node B) Global} {ends : Vec 
 
 module _ {B : Type 0} {m : B → Meaning} {v : Vec (Node B) Global} {ends : Vec ℕ Global} {reach : Reach} {old : Node B} {kind : MetricKind} {name : List ℕ} {range : ℕ × ℕ}
     (loop : Loop m v ends reach old kind name range) where
-  pub bounds : (range.0 ≤ range.1) × (range.1 ≤ length v.items)
+  bounds : (range.0 ≤ range.1) × (range.1 ≤ length v.items)
   bounds = range-within reach kind name (length v.items) range loop.range_is (row-is loop.group).within
 
   -- where the range has one child
-  pub below-one : range.0 + 1 ≡ range.1 → range.0 < range.1
-  below-one one = omega (arith, one)
+  pub below-one : range.0 ≡ 0 → range.1 ≡ 1 → range.0 < range.1
+  below-one first end = omega (arith, first, end)
 
-  pub one-within : range.0 + 1 ≡ range.1 → range.0 < vec_len v
-  one-within one = let b = bounds.1 in omega (arith, one, b, v.ok.0)
+  pub one-within : range.0 ≡ 0 → range.1 ≡ 1 → range.0 < vec_len v
+  one-within first end = let b = bounds.1 in omega (arith, first, end, b, v.ok.0)
 
   -- the next child
   pub visit-next : (now : List (Node B)) (i : ℕ) (x : Node B) → range.0 ≤ i → i < range.1 → Unvisited v.items now i → x ≡ get_or now i x → Visit loop.group i x
@@ -183,11 +188,10 @@ module _ {B : Type 0} {m : B → Meaning} {v : Vec (Node B) Global} {ends : Vec 
           (λ b. b ≡ addresses kind labels ((group_meaning reach (map (node_meaning m) v.items)).targets kind name) (group_meaning reach (map (node_meaning m) v.items)).contents)
           g (subst (λ k. IsAppended {A = A} found after k r (Err e)) (sym front-is) a))
 
-  -- ---- a register call of one child alone
+  -- ---- a register call of the first child alone
 
-  module _ (labels : List (List ℕ × List ℕ)) {x : Node B} (y : Node B) (at : Visit loop.group range.0 x) (one : range.0 + 1 ≡ range.1)
+  module _ (labels : List (List ℕ × List ℕ)) {x : Node B} (y : Node B) (at : Visit loop.group range.0 x) (first : range.0 ≡ 0) (end : range.1 ≡ 1)
       (sub : IsSound m y) (keeps : KeepsTargets (node_meaning m x) (node_meaning m y)) (books : books_of (node_meaning m y) ≡ books_of (node_meaning m x))
-      (es : List ℕ) (e : es ≡ ends.items) (front : ℕ) (f : (sizes : List ℕ) → es ≡ ends_from 0 sizes → front ≡ total (take range.0 sizes))
       (r : Result (List Address) Refused) (g : Registers (node_meaning m x) (node_meaning m y) kind (record { name = name; labels = labels }) r) where
     start : Through (node_meaning m) kind name (registers (node_meaning m) kind name labels) v.items v.items range.0 range.0
     start = through-none _ _ _ _ _ _
@@ -196,13 +200,16 @@ module _ {B : Type 0} {m : B → Meaning} {v : Vec (Node B) Global} {ends : Vec 
     none = found-none (node_meaning m) kind name labels v.items range.0
 
     below : range.0 < range.1
-    below = below-one one
+    below = below-one first end
+
+    one : range.0 + 1 ≡ range.1
+    one = omega (arith, first, end)
 
     sound : All (IsSound m) v.items
     sound = (row-is loop.group).sound
 
-    pub one-can-append : CanAppend [] front r
-    one-can-append = can-append-next v start none y at at.same (omega arith) below keeps books es e front f r g
+    no_books : (sizes : List ℕ) → ends.items ≡ ends_from 0 sizes → 0 ≡ total (take range.0 sizes)
+    no_books sizes e = ap (λ i. total (take i sizes)) (sym first)
 
     pub one-sound : IsSound m (Group (with_item v range.0 y) ends reach)
     one-sound = node-sound v start sound y at at.same (omega arith) below sub keeps books
@@ -210,15 +217,14 @@ module _ {B : Type 0} {m : B → Meaning} {v : Vec (Node B) Global} {ends : Vec 
     pub one-keeps : KeepsTargets (node_meaning m old) (node_meaning m (Group (with_item v range.0 y) ends reach))
     one-keeps = next-keeps v start sound y at at.same (omega arith) below sub keeps books
 
-    one-appended : (after : List Address) → IsAppended {A = Unit {0}} [] after front r (Ok tt) →
+    one-appended : (after : List Address) → IsAppended {A = Unit {0}} [] after 0 r (Ok tt) →
         Registers (node_meaning m old) (node_meaning m (Group (with_item v range.0 y) ends reach)) kind (record { name = name; labels = labels }) (Ok after)
     one-appended after a =
-        let told = appended-next v start none y at at.same (omega arith) below keeps books es e front f r g after tt a in
+        let told = appended-next v start none y at at.same (omega arith) below keeps books ends.items refl 0 no_books r g after tt a in
         let next = next-sound v start sound y at at.same (omega arith) below sub keeps books in
         (found-whole (with_item v range.0 y) told.0 told.1 one, (all-acted (with_item v range.0 y) told.0 next one).1)
 
-    pub one-registers : (told : Result (List Address) Refused) → told ≡ result_map_both (raised front) (λ d. d) r →
-        Registers (node_meaning m old) (node_meaning m (Group (with_item v range.0 y) ends reach)) kind (record { name = name; labels = labels }) told
-    one-registers told same =
-        by-answer front r told same (Registers (node_meaning m old) (node_meaning m (Group (with_item v range.0 y) ends reach)) kind (record { name = name; labels = labels })) one-appended
-        (λ d a. refused-append v start none y at at.same (omega arith) below keeps books es e front f r g (Unit {0}) [] d a)
+    pub one-registers : Registers (node_meaning m old) (node_meaning m (Group (with_item v range.0 y) ends reach)) kind (record { name = name; labels = labels }) r
+    one-registers =
+        by-answer r (Registers (node_meaning m old) (node_meaning m (Group (with_item v range.0 y) ends reach)) kind (record { name = name; labels = labels })) one-appended
+        (λ d a. refused-append v start none y at at.same (omega arith) below keeps books ends.items refl 0 no_books r g (Unit {0}) [] d a)

@@ -215,6 +215,6 @@ pub registers-below : {B : Type 0} (m : B → Meaning) (old x y : Node B) (read 
 registers-below m old x y read front prefix there inner kind key below r is same child shown set h =
     let key_is : below ≡ record { name = dotted front key.name; labels = key.labels } = set ∙ ap (λ (f : List ℕ). record { name = dotted f key.name; labels = key.labels }) shown in
     let node_is : prefixed front (node_meaning m x) ≡ node_meaning m old =
-        ap (λ f. prefixed f (node_meaning m x)) same ∙ ap (λ c. prefixed prefix (node_meaning m c)) child ∙ ap (node_meaning m) (sym is) in
+    ap (λ f. prefixed f (node_meaning m x)) same ∙ ap (λ c. prefixed prefix (node_meaning m c)) child ∙ ap (node_meaning m) (sym is) in
     subst (λ a. Registers a (prefixed front (node_meaning m y)) kind key r) node_is
     (below_front (node_meaning m x) (node_meaning m y) front kind key r (subst (λ k. Registers (node_meaning m x) (node_meaning m y) kind k r) key_is h))

@@ -1,5 +1,5 @@
 //! Where the books of several recorders stand.
-ghost use Rattle.std.specs.Prelude.{◌≡◌, ◌≤◌, ◌++◌, ℕ, List, [], length, take, IsTrue, MatchOption, OnOk};
+ghost use Rattle.std.specs.Prelude.{◌≡◌, ◌≤◌, ◌++◌, ℕ, List, length, take, IsTrue, MatchOption, OnOk};
 ghost use Rattle.std.specs.Result.{result_map_both};
 ghost use Rattle.metrics_trees.specs.BookEnds.{ends_from, total, IsPlace, raised, IsAppended, CanRaise, CanAppend};
 
@@ -114,20 +114,4 @@ pub(crate) fn append_answer(
         Ok(()) => Ok(()),
         Err(_) => Err(Refused::Memory { acted }),
     }
-}
-
-/// What a register call of a recorder behind `front` books answered, for who sees all the books.
-#[inline(always)]
-pub(crate) fn raise_answer(
-    front: usize,
-    mut answer: Result<Vec<Address>, Refused>,
-) -> Result<Vec<Address>, Refused>
-    requires { CanAppend [] front (result_map_both (λ v. v.items) (λ e. e) answer) }
-    ensures { result_map_both (λ v. v.items) (λ e. e) result
-        ≡ result_map_both (raised front) (λ e. e) (result_map_both (λ v. v.items) (λ e. e) answer) }
-{
-    if let Ok(found) = &mut answer {
-        raise(found, front);
-    }
-    answer
 }

@@ -4,7 +4,7 @@ ghost use Rattle.std.specs.Result.{result_map_both};
 ghost use Rattle.metrics.specs.Meaning.{KeepsTargets, Describes, Registers, Updates, Snapshots, holds_at};
 ghost use Rattle.metrics_trees.specs.Nodes.{node_meaning, books_of, IsSound, IsTree};
 
-use crate::book_ends::{all_books, append_answer, books_before, place_of, raise_answer};
+use crate::book_ends::{all_books, append_answer, books_before, place_of};
 use crate::reach::Reach;
 use metrics::{
     Address, Key, KeyName, MetricKind, Recorder, Refused, Reset, Snapshot, Text, Unit, Update,
@@ -111,10 +111,9 @@ impl<B: Recorder> Node<B> {
             }
             Node::Group(children, ends, reach) => {
                 let (first, end) = reach.range(kind, key.name(), children.len());
-                if first + 1 == end {
-                    let before = books_before(ends, first);
-                    let one = children[first].register(alloc, kind, key);
-                    return raise_answer(before, one);
+                if first == 0 && end == 1 {
+                    // its books have their numbers already
+                    return children[first].register(alloc, kind, key);
                 }
                 let mut found = Vec::new(alloc);
                 for i in first..end {

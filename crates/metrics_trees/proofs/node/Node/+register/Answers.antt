@@ -5,7 +5,7 @@ use Rattle.metrics_trees.specs.Nodes.{node_meaning, IsTree}
 use Rattle.metrics_trees.specs.declared.node.Node.{the_lemmas}
 use Rattle.metrics_trees.proofs.NodesLemmas.{group-of, row-is, ends-within, registers-below}
 use Rattle.metrics_trees.proofs.ChildrenLemmas.{through-none, found-none}
-use Rattle.metrics_trees.proofs.LoopLemmas.{reach-within, loop-of, visit-next, next-within, loop-end, end-sound, end-keeps, all-acted, next-sound, node-sound, next-keeps, bounds, below-one, one-within, unvisited-yet, one-can-append, one-sound, one-keeps, one-registers, found-whole, can-append-next, appended-next, refused-append}
+use Rattle.metrics_trees.proofs.LoopLemmas.{reach-within, loop-of, visit-next, next-within, loop-end, end-sound, end-keeps, all-acted, next-sound, node-sound, next-keeps, below-one, one-within, unvisited-yet, one-sound, one-keeps, one-registers, found-whole, can-append-next, appended-next, refused-append}
 use Rattle.metrics_trees.proofs.node.Node.+register.Goals as goal
 
 pub range-first-requires : goal.range-first-requires
@@ -41,7 +41,7 @@ books_before-front-requires g t c =
     let group = group-of g.B.Recorder.meaning c.in-Group.is tree c.in-Group.children-is c.in-Group.ends-is c.in-Group.reach-is in
     let loop = loop-of group _ c.len.ensures c.args.kind c.args.key.now.name _ c.name-in-Group.ensures _ c.range-first.ensures in
     let lt = next-within loop c.loop-i.children c.loop-i.i c.loop-i-test.true c.loop-i.invariant.unvisited in
-    let l = ends-within group _ c.deref-in-loop-i.ensures.value in
+    let l = ends-within group _ c.deref.ensures.value in
     let u = c.loop-i.invariant.unvisited.0 in
     record { within = omega (arith, lt, l, u, c.loop-i.children.ok.0) }
 
@@ -53,7 +53,7 @@ append_answer-requires g t c =
     let at = visit-next loop _ c.loop-i.i c.index_mut-in-loop-i.result.now c.loop-i.auto.i c.loop-i-test.true c.loop-i.invariant.unvisited c.index_mut-in-loop-i.ensures.value in
     let h = c.register-answer.ensures in
     let books = length-registers (node_meaning g.B.Recorder.meaning c.index_mut-in-loop-i.result.now) (node_meaning g.B.Recorder.meaning c.register-answer.new.self) c.args.kind c.args.key.now (result_map_both (λ v. v.items) (λ e. e) c.register-answer.result) h.registers in
-    can-append-next loop c.loop-i.children c.loop-i.invariant.through c.loop-i.invariant.found c.register-answer.new.self at c.index_mut-in-loop-i.ensures.value c.loop-i.auto.i c.loop-i-test.true h.keeps books _ c.deref-in-loop-i.ensures.value _ c.books_before-front.ensures _ h.registers
+    can-append-next loop c.loop-i.children c.loop-i.invariant.through c.loop-i.invariant.found c.register-answer.new.self at c.index_mut-in-loop-i.ensures.value c.loop-i.auto.i c.loop-i-test.true h.keeps books _ c.deref.ensures.value _ c.books_before-front.ensures _ h.registers
 
 pub loop-i-preserved : goal.loop-i-preserved
 loop-i-preserved g t c =
@@ -63,7 +63,7 @@ loop-i-preserved g t c =
     let at = visit-next loop _ c.loop-i.i c.index_mut-in-loop-i.result.now c.loop-i.auto.i c.loop-i-test.true c.loop-i.invariant.unvisited c.index_mut-in-loop-i.ensures.value in
     let h = c.register-answer.ensures in
     let books = length-registers (node_meaning g.B.Recorder.meaning c.index_mut-in-loop-i.result.now) (node_meaning g.B.Recorder.meaning c.register-answer.new.self) c.args.kind c.args.key.now (result_map_both (λ v. v.items) (λ e. e) c.register-answer.result) h.registers in
-    let told = appended-next loop c.loop-i.children c.loop-i.invariant.through c.loop-i.invariant.found c.register-answer.new.self at c.index_mut-in-loop-i.ensures.value c.loop-i.auto.i c.loop-i-test.true h.keeps books _ c.deref-in-loop-i.ensures.value _ c.books_before-front.ensures _ h.registers _ tt (c.in-Ok.ensures {u = tt}) in
+    let told = appended-next loop c.loop-i.children c.loop-i.invariant.through c.loop-i.invariant.found c.register-answer.new.self at c.index_mut-in-loop-i.ensures.value c.loop-i.auto.i c.loop-i-test.true h.keeps books _ c.deref.ensures.value _ c.books_before-front.ensures _ h.registers _ tt (c.in-Ok.ensures {u = tt}) in
     record { unvisited = search rules; through = told.0; found = told.1; sound = next-sound loop c.loop-i.children c.loop-i.invariant.through c.loop-i.invariant.sound c.register-answer.new.self at c.index_mut-in-loop-i.ensures.value c.loop-i.auto.i c.loop-i-test.true h.sound h.keeps books }
 
 pub returns-in-Err-clause-registers : goal.returns-in-Err-clause-registers
@@ -74,7 +74,7 @@ returns-in-Err-clause-registers g t c =
     let at = visit-next loop _ c.loop-i.i c.index_mut-in-loop-i.result.now c.loop-i.auto.i c.loop-i-test.true c.loop-i.invariant.unvisited c.index_mut-in-loop-i.ensures.value in
     let h = c.register-answer.ensures in
     let books = length-registers (node_meaning g.B.Recorder.meaning c.index_mut-in-loop-i.result.now) (node_meaning g.B.Recorder.meaning c.register-answer.new.self) c.args.kind c.args.key.now (result_map_both (λ v. v.items) (λ e. e) c.register-answer.result) h.registers in
-    refused-append loop c.loop-i.children c.loop-i.invariant.through c.loop-i.invariant.found c.register-answer.new.self at c.index_mut-in-loop-i.ensures.value c.loop-i.auto.i c.loop-i-test.true h.keeps books _ c.deref-in-loop-i.ensures.value _ c.books_before-front.ensures _ h.registers (Prim.Unit {0}) _ c.in-Err.refused (c.in-Err.ensures {u = tt})
+    refused-append loop c.loop-i.children c.loop-i.invariant.through c.loop-i.invariant.found c.register-answer.new.self at c.index_mut-in-loop-i.ensures.value c.loop-i.auto.i c.loop-i-test.true h.keeps books _ c.deref.ensures.value _ c.books_before-front.ensures _ h.registers (Prim.Unit {0}) _ c.in-Err.refused (c.in-Err.ensures {u = tt})
 
 pub returns-in-Err-clause-sound : goal.returns-in-Err-clause-sound
 returns-in-Err-clause-sound g t c =
@@ -118,77 +118,52 @@ returns-after-loop-i-clause-registers g t c =
     let end = loop-end loop c.loop-i.i c.loop-i.auto.i-end c.loop-i-test.false in
     (found-whole loop c.loop-i.children c.loop-i.invariant.through c.loop-i.invariant.found end, (all-acted loop c.loop-i.children c.loop-i.invariant.through c.loop-i.invariant.sound end).1)
 
--- ---- where one child alone is called
-
-pub books_before-before-requires : goal.books_before-before-requires
-books_before-before-requires g t c =
-    let tree : IsTree g.B.Recorder.meaning c.args.self.now = search rules in
-    let group = group-of g.B.Recorder.meaning c.in-Group.is tree c.in-Group.children-is c.in-Group.ends-is c.in-Group.reach-is in
-    let loop = loop-of group _ c.len.ensures c.args.kind c.args.key.now.name _ c.name-in-Group.ensures _ c.range-first.ensures in
-    let lt = below-one loop c.if-first-end.true in
-    let b = (bounds loop).1 in
-    let l = ends-within group _ c.deref.ensures.value in
-    record { within = omega (arith, lt, b, l) }
+-- ---- where the first child alone is called
 
 pub index_mut-requires : goal.index_mut-requires
 index_mut-requires g t c =
     let tree : IsTree g.B.Recorder.meaning c.args.self.now = search rules in
     let group = group-of g.B.Recorder.meaning c.in-Group.is tree c.in-Group.children-is c.in-Group.ends-is c.in-Group.reach-is in
     let loop = loop-of group _ c.len.ensures c.args.kind c.args.key.now.name _ c.name-in-Group.ensures _ c.range-first.ensures in
-    one-within loop c.if-first-end.true
+    one-within loop c.if-first-eq0.true c.if-end-eq1.true
 
-pub register-one-requires : goal.register-one-requires
-register-one-requires g t c κs within =
+pub register-requires-then-end-eq1 : goal.register-requires-then-end-eq1
+register-requires-then-end-eq1 g t c κs within =
     let tree : IsTree g.B.Recorder.meaning c.args.self.now = search rules in
     let group = group-of g.B.Recorder.meaning c.in-Group.is tree c.in-Group.children-is c.in-Group.ends-is c.in-Group.reach-is in
     let loop = loop-of group _ c.len.ensures c.args.kind c.args.key.now.name _ c.name-in-Group.ensures _ c.range-first.ensures in
-    let lt = below-one loop c.if-first-end.true in
-    let at = visit-next loop _ _ c.index_mut.result.now (omega arith) lt (unvisited-yet _ _) c.index_mut.ensures.value in
+    let at = visit-next loop _ _ c.index_mut.result.now (omega arith) (below-one loop c.if-first-eq0.true c.if-end-eq1.true) (unvisited-yet _ _) c.index_mut.ensures.value in
     (search (rules, the_lemmas), (search rules, at.subtree))
 
-pub raise_answer-requires : goal.raise_answer-requires
-raise_answer-requires g t c =
+pub returns-then-end-eq1-clause-sound : goal.returns-then-end-eq1-clause-sound
+returns-then-end-eq1-clause-sound g t c =
     let tree : IsTree g.B.Recorder.meaning c.args.self.now = search rules in
     let group = group-of g.B.Recorder.meaning c.in-Group.is tree c.in-Group.children-is c.in-Group.ends-is c.in-Group.reach-is in
     let loop = loop-of group _ c.len.ensures c.args.kind c.args.key.now.name _ c.name-in-Group.ensures _ c.range-first.ensures in
-    let lt = below-one loop c.if-first-end.true in
-    let at = visit-next loop _ _ c.index_mut.result.now (omega arith) lt (unvisited-yet _ _) c.index_mut.ensures.value in
-    let h = c.register-one.ensures in
-    let books = length-registers (node_meaning g.B.Recorder.meaning c.index_mut.result.now) (node_meaning g.B.Recorder.meaning c.register-one.new.self) c.args.kind c.args.key.now (result_map_both (λ v. v.items) (λ e. e) c.register-one.result) h.registers in
-    one-can-append loop c.args.key.now.labels c.register-one.new.self at c.if-first-end.true h.sound h.keeps books _ c.deref.ensures.value _ c.books_before-before.ensures _ h.registers
+    let at = visit-next loop _ _ c.index_mut.result.now (omega arith) (below-one loop c.if-first-eq0.true c.if-end-eq1.true) (unvisited-yet _ _) c.index_mut.ensures.value in
+    let h = c.register-then-end-eq1.ensures in
+    let books = length-registers (node_meaning g.B.Recorder.meaning c.index_mut.result.now) (node_meaning g.B.Recorder.meaning c.register-then-end-eq1.new.self) c.args.kind c.args.key.now (result_map_both (λ v. v.items) (λ e. e) c.register-then-end-eq1.result) h.registers in
+    one-sound loop c.args.key.now.labels c.register-then-end-eq1.new.self at c.if-first-eq0.true c.if-end-eq1.true h.sound h.keeps books _ h.registers
 
-pub returns-then-first-end-clause-sound : goal.returns-then-first-end-clause-sound
-returns-then-first-end-clause-sound g t c =
+pub returns-then-end-eq1-clause-keeps : goal.returns-then-end-eq1-clause-keeps
+returns-then-end-eq1-clause-keeps g t c =
     let tree : IsTree g.B.Recorder.meaning c.args.self.now = search rules in
     let group = group-of g.B.Recorder.meaning c.in-Group.is tree c.in-Group.children-is c.in-Group.ends-is c.in-Group.reach-is in
     let loop = loop-of group _ c.len.ensures c.args.kind c.args.key.now.name _ c.name-in-Group.ensures _ c.range-first.ensures in
-    let lt = below-one loop c.if-first-end.true in
-    let at = visit-next loop _ _ c.index_mut.result.now (omega arith) lt (unvisited-yet _ _) c.index_mut.ensures.value in
-    let h = c.register-one.ensures in
-    let books = length-registers (node_meaning g.B.Recorder.meaning c.index_mut.result.now) (node_meaning g.B.Recorder.meaning c.register-one.new.self) c.args.kind c.args.key.now (result_map_both (λ v. v.items) (λ e. e) c.register-one.result) h.registers in
-    one-sound loop c.args.key.now.labels c.register-one.new.self at c.if-first-end.true h.sound h.keeps books _ c.deref.ensures.value _ c.books_before-before.ensures _ h.registers
+    let at = visit-next loop _ _ c.index_mut.result.now (omega arith) (below-one loop c.if-first-eq0.true c.if-end-eq1.true) (unvisited-yet _ _) c.index_mut.ensures.value in
+    let h = c.register-then-end-eq1.ensures in
+    let books = length-registers (node_meaning g.B.Recorder.meaning c.index_mut.result.now) (node_meaning g.B.Recorder.meaning c.register-then-end-eq1.new.self) c.args.kind c.args.key.now (result_map_both (λ v. v.items) (λ e. e) c.register-then-end-eq1.result) h.registers in
+    one-keeps loop c.args.key.now.labels c.register-then-end-eq1.new.self at c.if-first-eq0.true c.if-end-eq1.true h.sound h.keeps books _ h.registers
 
-pub returns-then-first-end-clause-keeps : goal.returns-then-first-end-clause-keeps
-returns-then-first-end-clause-keeps g t c =
+pub returns-then-end-eq1-clause-registers : goal.returns-then-end-eq1-clause-registers
+returns-then-end-eq1-clause-registers g t c =
     let tree : IsTree g.B.Recorder.meaning c.args.self.now = search rules in
     let group = group-of g.B.Recorder.meaning c.in-Group.is tree c.in-Group.children-is c.in-Group.ends-is c.in-Group.reach-is in
     let loop = loop-of group _ c.len.ensures c.args.kind c.args.key.now.name _ c.name-in-Group.ensures _ c.range-first.ensures in
-    let lt = below-one loop c.if-first-end.true in
-    let at = visit-next loop _ _ c.index_mut.result.now (omega arith) lt (unvisited-yet _ _) c.index_mut.ensures.value in
-    let h = c.register-one.ensures in
-    let books = length-registers (node_meaning g.B.Recorder.meaning c.index_mut.result.now) (node_meaning g.B.Recorder.meaning c.register-one.new.self) c.args.kind c.args.key.now (result_map_both (λ v. v.items) (λ e. e) c.register-one.result) h.registers in
-    one-keeps loop c.args.key.now.labels c.register-one.new.self at c.if-first-end.true h.sound h.keeps books _ c.deref.ensures.value _ c.books_before-before.ensures _ h.registers
-
-pub returns-then-first-end-clause-registers : goal.returns-then-first-end-clause-registers
-returns-then-first-end-clause-registers g t c =
-    let tree : IsTree g.B.Recorder.meaning c.args.self.now = search rules in
-    let group = group-of g.B.Recorder.meaning c.in-Group.is tree c.in-Group.children-is c.in-Group.ends-is c.in-Group.reach-is in
-    let loop = loop-of group _ c.len.ensures c.args.kind c.args.key.now.name _ c.name-in-Group.ensures _ c.range-first.ensures in
-    let lt = below-one loop c.if-first-end.true in
-    let at = visit-next loop _ _ c.index_mut.result.now (omega arith) lt (unvisited-yet _ _) c.index_mut.ensures.value in
-    let h = c.register-one.ensures in
-    let books = length-registers (node_meaning g.B.Recorder.meaning c.index_mut.result.now) (node_meaning g.B.Recorder.meaning c.register-one.new.self) c.args.kind c.args.key.now (result_map_both (λ v. v.items) (λ e. e) c.register-one.result) h.registers in
-    one-registers loop c.args.key.now.labels c.register-one.new.self at c.if-first-end.true h.sound h.keeps books _ c.deref.ensures.value _ c.books_before-before.ensures _ h.registers _ c.raise_answer.ensures
+    let at = visit-next loop _ _ c.index_mut.result.now (omega arith) (below-one loop c.if-first-eq0.true c.if-end-eq1.true) (unvisited-yet _ _) c.index_mut.ensures.value in
+    let h = c.register-then-end-eq1.ensures in
+    let books = length-registers (node_meaning g.B.Recorder.meaning c.index_mut.result.now) (node_meaning g.B.Recorder.meaning c.register-then-end-eq1.new.self) c.args.kind c.args.key.now (result_map_both (λ v. v.items) (λ e. e) c.register-then-end-eq1.result) h.registers in
+    one-registers loop c.args.key.now.labels c.register-then-end-eq1.new.self at c.if-first-eq0.true c.if-end-eq1.true h.sound h.keeps books _ h.registers
 
 pub returns-in_ok-set_below-in-Prefixed-clause-registers : goal.returns-in_ok-set_below-in-Prefixed-clause-registers
 returns-in_ok-set_below-in-Prefixed-clause-registers g t c =
