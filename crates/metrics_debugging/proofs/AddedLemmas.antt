@@ -108,9 +108,7 @@ module _ (old : Numbers) (stored after : List Stored) (agree : Agrees old (map s
   within-more p within = let n = ap length (numbers-grown p.0) ∙ length-append (of_kind p.0 old) (more p.0) in omega (arith, within, n)
 
   within-new : IsWithin grown (spot x)
-  within-new =
-      let n = ap length grown-own ∙ length-append (of_kind kind old) ((key, number) ∷ []) in
-      subst (IsWithin grown) (sym spot-new) (omega (arith, n))
+  within-new = let n = ap length grown-own ∙ length-append (of_kind kind old) ((key, number) ∷ []) in subst (IsWithin grown) (sym spot-new) (omega (arith, n))
 
   within-added : (s : ℕ) (p : MetricKind × ℕ) → slice_get (map spot after) s ≡ Some p → IsWithin grown p
   within-added s p h =
