@@ -1,5 +1,5 @@
 //! A shard that keeps a journal.
-ghost use Rattle.std.specs.Prelude.{◌≡◌, ◌<◌, ◌%◌, ◌++◌, ◌∷◌, [], true, if◌then◌else◌, IfOk, IfErr};
+ghost use Rattle.std.specs.Prelude.{◌≡◌, ◌<◌, ◌%◌, ◌++◌, ◌∷◌, [], true, false, IfOk, IfErr};
 ghost use Rattle.metrics.specs.declared.error.Error.TheVariants.{Memory as OutOfMemory, BadShards as NotShards};
 ghost use Rattle.metrics_names.specs.declared.kind.MetricKind.{MetricKind as AnyKind};
 ghost use Rattle.metrics_registry.specs.Held.{is_shard_count as is_count};
@@ -145,7 +145,7 @@ where
         ensures ok { IfOk result (λ s. (is_count shards ≡ true) × (s.storage ≡ storage) × (s.shard ≡ shard)
             × (s.shards ≡ shards) × (s.journal ≡ [])
             × (s.cells.counters ≡ []) × (s.cells.gauges ≡ []) × (s.cells.histograms ≡ [])) }
-        ensures err { IfErr result (λ e. e ≡ (if is_count shards then OutOfMemory else NotShards)) }
+        ensures err { IfErr result (λ e. (is_count shards ≡ false) × (e ≡ NotShards)) }
     {
         if !is_shard_count(shards) {
             return Err(Error::BadShards);
