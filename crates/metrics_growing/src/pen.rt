@@ -70,14 +70,16 @@ impl GrowPen {
         })
     }
 
-    /// Takes in another pen of the same bucket, with its account. Want of memory leaves both as they were.
+    /// Takes in another pen of the same bucket, with its account. Want of memory leaves both as they were, and comes only where
+    /// the other knows more segments.
     pub fn join(&mut self, other: GrowPen) -> Result<(), (Error, GrowPen)>
         requires own { AreOfOne self.old other }
         ensures ok { OnOk result (self.new ≡ joined_parts self.old other) }
         ensures sums { OnOk result ((h : ℕ → ℕ) → (pushed_by h self.new ≡ pushed_by h self.old + pushed_by h other)
             × (taken_by h self.new ≡ taken_by h self.old + taken_by h other)) }
         ensures own { (links : List ℕ) → IsOf links self.old → IsOf links other → IsOf links self.new }
-        ensures err { IfErr result (λ e. (self.new ≡ self.old) × (e.0 ≡ Error.Memory) × (e.1 ≡ other)) }
+        ensures err { IfErr result (λ e. (self.new ≡ self.old) × (e.0 ≡ Error.Memory) × (e.1 ≡ other)
+            × (length self.old < length other)) }
     {
         let more = other.known.len().saturating_sub(self.known.len());
         if self.known.reserve(more).is_err() {
