@@ -200,7 +200,7 @@ impl<T: Sample> GrowingBucket<T> {
         ensures own { IsOf self.now known.new.items }
         ensures ok { OnOk result ((at < length known.new.items) × Keeps known.old.items known.new.items) }
         ensures err { IfErr result (λ e. (at ≡ length known.old.items) × (known.new.items ≡ known.old.items)
-            × ((e ≡ Error.Memory) ⊎ (e ≡ Error.NoPen))) }
+            × ((e ≡ Error.Memory) ⊎ ((e ≡ Error.NoPen) × (length known.old.items < length self.now)))) }
     {
         if at < known.len() {
             return Ok(());
@@ -214,7 +214,8 @@ impl<T: Sample> GrowingBucket<T> {
         ensures own { IsOf self.now known.new.items }
         ensures ok { OnOk result (Pushed word known.old.items known.new.items) }
         ensures err { IfErr result (λ e. Keeps known.old.items known.new.items
-            × ((((e ≡ Error.Memory) ⊎ (e ≡ Error.NoPen)) × All IsPassed known.new.items)
+            × ((((e ≡ Error.Memory) ⊎ ((e ≡ Error.NoPen) × (length known.new.items < length self.now)))
+            × All IsPassed known.new.items)
             ⊎ ((e ≡ Error.Raced) × MayRace known.new.items))) }
     {
         // The loop's facts are of the links.
@@ -233,15 +234,15 @@ impl<T: Sample> GrowingBucket<T> {
 
     /// Pushes a value into the first segment that has a free place, or gives it back.
     ///
-    /// `Raced`: another thread drew the ticket; another try may succeed. `NoPen`: a segment has no spare pen left. `Memory`: a
-    /// segment or a pen of one found no memory, or there are 64 full segments.
+    /// `Raced`: another thread drew the ticket; another try may succeed. `NoPen`: a segment that the pen doesn't know has no
+    /// spare pen left. `Memory`: a segment or a pen of one found no memory, or there are 64 full segments.
     pub fn try_push(&self, pen: &mut GrowPen, value: T) -> Result<(), (Error, T)>
         requires own { IsOf self.now pen.old }
         ensures own { IsOf self.now pen.new }
         ensures ok { OnOk result (Pushed (T.word value) pen.old pen.new) }
         ensures err { IfErr result (λ e. Keeps pen.old pen.new
-            × ((((e.0 ≡ Error.Memory) ⊎ (e.0 ≡ Error.NoPen)) × All IsPassed pen.new)
-            ⊎ ((e.0 ≡ Error.Raced) × MayRace pen.new)) × (e.1 ≡ value)) }
+            × ((((e.0 ≡ Error.Memory) ⊎ ((e.0 ≡ Error.NoPen) × (length pen.new < length self.now)))
+            × All IsPassed pen.new) ⊎ ((e.0 ≡ Error.Raced) × MayRace pen.new)) × (e.1 ≡ value)) }
     {
         match self.try_word(&mut pen.known, value.to_word()) {
             Ok(()) => Ok(()),
@@ -254,7 +255,8 @@ impl<T: Sample> GrowingBucket<T> {
         requires own { IsOf self.now pen.old }
         ensures own { IsOf self.now pen.new }
         ensures ok { OnOk result (Pushed (T.word value) pen.old pen.new) }
-        ensures err { IfErr result (λ e. Keeps pen.old pen.new × ((e.0 ≡ Error.Memory) ⊎ (e.0 ≡ Error.NoPen))
+        ensures err { IfErr result (λ e. Keeps pen.old pen.new
+            × ((e.0 ≡ Error.Memory) ⊎ ((e.0 ≡ Error.NoPen) × (length pen.new < length self.now)))
             × All IsPassed pen.new × (e.1 ≡ value)) }
     {
         let pause = Backoff::new();

@@ -183,8 +183,8 @@ impl<T: Sample> GrowingBucket<T> {
     /// chunks of 64, each segment's newest chunk first. It waits for pushes that drew a ticket before it took their segment's
     /// side. It answers how many values it took.
     ///
-    /// `Busy`: another walk is under way in the first segment; a later segment's is waited for. `NoPen`: a segment has no spare
-    /// pen left.
+    /// `Busy`: another walk is under way in the first segment; a later segment's is waited for. `NoPen`: a segment that the pen
+    /// doesn't know has no spare pen left.
     pub fn clear_to<R: Wait, V: Visitor<T>>(
         &self,
         rt: &R,
@@ -199,7 +199,8 @@ impl<T: Sample> GrowingBucket<T> {
             × FoldsTo V.saw visitor.old (valued T.value (all_chunks walks)) visitor.new) }
         ensures count { IfOk result (λ n. n ≤ sum_of places_in pen.new) }
         ensures err { IfErr result (λ e. Keeps pen.old pen.new × (visitor.new ≡ visitor.old)
-            × (((e ≡ Error.Busy) × (first_weight pen.new ≢ 1024)) ⊎ (e ≡ Error.NoPen) ⊎ (e ≡ Error.Memory))) }
+            × (((e ≡ Error.Busy) × (first_weight pen.new ≢ 1024))
+            ⊎ ((e ≡ Error.NoPen) × (length pen.new < length self.now)) ⊎ (e ≡ Error.Memory))) }
     {
         let known = &mut pen.known;
         self.meet_all(known)?;
@@ -222,7 +223,8 @@ impl<T: Sample> GrowingBucket<T> {
             × ((last : F) × FoldsTo (λ p x q. CalledAt F.FnMut p x tt q) f (valued T.value (all_chunks walks)) last)) }
         ensures count { IfOk result (λ n. n ≤ sum_of places_in pen.new) }
         ensures err { IfErr result (λ e. Keeps pen.old pen.new
-            × (((e ≡ Error.Busy) × (first_weight pen.new ≢ 1024)) ⊎ (e ≡ Error.NoPen) ⊎ (e ≡ Error.Memory))) }
+            × (((e ≡ Error.Busy) × (first_weight pen.new ≢ 1024))
+            ⊎ ((e ≡ Error.NoPen) × (length pen.new < length self.now)) ⊎ (e ≡ Error.Memory))) }
     {
         let mut shown = Shown { f };
         self.clear_to(rt, pen, &mut shown)
