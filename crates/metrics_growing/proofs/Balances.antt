@@ -6,8 +6,9 @@ use Rattle.metrics_bucket.specs.Account.{Account}
 use Rattle.metrics_bucket.specs.Facts.{weigh_pushes, weigh_walks}
 use Rattle.metrics_bucket.proofs.Shares.{weigh_walks-both}
 use Rattle.metrics_bucket.proofs.Sums.{weigh_pushes-append}
-use Rattle.metrics_growing.specs.Parts.{Part, Keeps, IsPassed, OneOf, PushedIn, Pushed, TookAll, left_parts, right_parts, joined_parts}
+use Rattle.metrics_growing.specs.Parts.{Part, Keeps, IsPassed, OneOf, PushedIn, PushedByTries, TookAll, left_parts, right_parts, joined_parts}
 use Rattle.metrics_growing.specs.Bags.{pushed_in, pushed_by, taken_in, taken_by}
+use Rattle.metrics_growing.proofs.Chains.{tries_in_one}
 use Rattle.metrics_growing.proofs.Settling.{keeps_sum, took_sums}
 
 pub keeps_sums : (h : ℕ → ℕ) (ps qs : List Part) → Keeps ps qs → (pushed_by h qs ≡ pushed_by h ps) × (taken_by h qs ≡ taken_by h ps)
@@ -37,10 +38,11 @@ one_sums h x (p ∷ ps) (q ∷ qs) o = ⊎_elim
     o
 
 -- a push adds its value
-pub pushed_sums : (h : ℕ → ℕ) (x : ℕ) (ps rs : List Part) → Pushed x ps rs → (pushed_by h rs ≡ pushed_by h ps + h x) × (taken_by h rs ≡ taken_by h ps)
-pushed_sums h x ps rs (qs, k, o) =
-    let a = keeps_sums h ps qs k in
-    let b = one_sums h x qs rs o in
+pub pushed_sums : (h : ℕ → ℕ) (x : ℕ) (ps rs : List Part) → PushedByTries x ps rs → (pushed_by h rs ≡ pushed_by h ps + h x) × (taken_by h rs ≡ taken_by h ps)
+pushed_sums h x ps rs push =
+    let one = tries_in_one x ps rs push in
+    let a = keeps_sums h ps one.0 one.1 in
+    let b = one_sums h x one.0 rs one.2 in
     let c = a.0 in let d = a.1 in let e = b.0 in let f = b.1 in
     (omega arith, omega arith)
 

@@ -1,15 +1,15 @@
 -- The parts of a pen against the names of the links, and what calls do to them.
 use Rattle.std.proofs.Common.{◌≡◌, ◌⊎◌, ℕ, zero, suc, ◌+◌, ◌<◌, ◌≤◌, List, [], ◌∷◌, ◌++◌, length, take, map, get_or, set, refl, sym, ap, subst, ◌∙◌, inl, inr, ⊎_elim, arith, append-nil, append_assoc}
-use Rattle.std.proofs.lemmas.List.{length-set, get_or_append_left}
+use Rattle.std.proofs.lemmas.List.{length-set, get_or_append_left, length_push}
 use mathlib.Core.Logic.{dite}
 use native.Mathlib.Decide.{ℕ_discrete}
-use Rattle.std.proofs.lemmas.List.Elements.{All-append, All-nil, All-push}
-use Rattle.std.specs.List.{FoldsTo}
+use Rattle.std.proofs.lemmas.List.Elements.{All-append, All-nil, All-push, All-head, All-tail}
+use Rattle.std.specs.List.{All, FoldsTo}
 use Rattle.metrics_bucket.specs.declared.view.Walk.{Walk}
 use Rattle.metrics_bucket.specs.Account.{Home}
 use Rattle.metrics_bucket.specs.Blocks.{newest_first}
 use Rattle.metrics_bucket.specs.Steps.{count_all}
-use Rattle.metrics_growing.specs.Parts.{Part, link_of, home_of, IsOf, IsNew, IsWhole, IsPassed, MayRace, Keeps, OneOf, ChangedAt, Pushed, TakenIn, Took, all_chunks, joined_part, joined_parts}
+use Rattle.metrics_growing.specs.Parts.{Part, link_of, home_of, IsOf, IsNew, IsWhole, IsPassed, Keeps, OneOf, LastMet, FirstOf, ChangedAt, PushedIn, LostIn, Pushed, LosesRace, PushedByTries, MetOne, Reached, TakenIn, Took, all_chunks, joined_part, joined_parts}
 use Rattle.metrics_growing.specs.Bags.{sum_of, places_in}
 
 abbrev head_of : List ℕ → ℕ
@@ -70,9 +70,6 @@ keeps_met ps qs p e new = (p ∷ [], e, All-push IsNew [] p (All-nil IsNew) new)
 pub keeps_trans : (ps qs rs : List Part) → Keeps ps qs → Keeps qs rs → Keeps ps rs
 keeps_trans ps qs rs (xs, e, a) (ys, f, b) = (xs ++ ys, f ∙ (ap (λ (zs : List Part). zs ++ ys) e ∙ append_assoc ps xs ys), All-append IsNew xs ys a b)
 
-pub keeps_pushed : (x : ℕ) (ps qs rs : List Part) → Keeps ps qs → Pushed x qs rs → Pushed x ps rs
-keeps_pushed x ps qs rs k (us, m, o) = (us, keeps_trans ps qs us k m, o)
-
 -- the parts before this place are passed
 abbrev pub ArePassed : List Part → ℕ → Type 0
 ArePassed ps at = (j : ℕ) (d : Part) → j < at → IsPassed (get_or ps j d)
@@ -96,10 +93,114 @@ one_set R (x ∷ ps) (suc at) p q l a e r = inr (refl, a 0 x (omega arith), one_
 pub one_changed : (R : Part → Part → Type 0) (at : ℕ) (ps qs : List Part) → at < length ps → ArePassed ps at → ChangedAt R at ps qs → OneOf R ps qs
 one_changed R at ps qs l a (p, q, e, r, is) = subst (OneOf R ps) (sym is) (one_set R ps at p q l a e r)
 
-pub may_race : (ps : List Part) (at : ℕ) (d : Part) → at < length ps → ArePassed ps at → (IsWhole (get_or ps at d) → ⊥) → MayRace ps
-may_race [] at d l a n = absurd (omega arith)
-may_race (x ∷ ps) zero d l a n = inl n
-may_race (x ∷ ps) (suc at) d l a n = inr (a 0 x (omega arith), may_race ps at d (omega arith) (passed_tail x ps at a) n)
+-- what a push reaches, and what it does there
+pub reached_keeps : (at : ℕ) (ps qs : List Part) → Reached at ps qs → Keeps ps qs
+reached_keeps at ps qs r = ⊎_elim
+    (λ (known : (at < length ps) × (qs ≡ ps)). subst (Keeps ps) (sym known.1) (keeps_same ps))
+    (λ (next : (at ≡ length ps) × MetOne ps qs). keeps_met ps qs next.1.0 next.1.1 next.1.2)
+    r
+
+pub reached_in : (at : ℕ) (ps qs : List Part) → Reached at ps qs → at < length qs
+reached_in at ps qs r = ⊎_elim
+    (λ (known : (at < length ps) × (qs ≡ ps)). let n = ap (λ (zs : List Part). length zs) known.1 in omega arith)
+    (λ (next : (at ≡ length ps) × MetOne ps qs). let n = ap (λ (zs : List Part). length zs) next.1.1 in let m = length_push ps next.1.0 in omega arith)
+    r
+
+-- as far as a push has come, no segment is met, or it has passed all that it knows
+abbrev pub CameTo : ℕ → List Part → List Part → Type 0
+CameTo at ps qs = (qs ≡ ps) ⊎ (at ≡ length qs)
+
+pub came_next : (at : ℕ) (ps qs rs : List Part) → CameTo at ps qs → Reached at qs rs → CameTo (at + 1) ps rs
+came_next at ps qs rs i r = ⊎_elim
+    (λ (known : (at < length qs) × (rs ≡ qs)). ⊎_elim (λ (same : qs ≡ ps). inl (known.1 ∙ same)) (λ (last : at ≡ length qs). absurd (omega arith)) i)
+    (λ (next : (at ≡ length qs) × MetOne qs rs). let n = ap (λ (zs : List Part). length zs) next.1.1 in let m = length_push qs next.1.0 in inr (omega arith))
+    r
+
+get_last : (ps : List Part) (p d : Part) → get_or (ps ++ p ∷ []) (length ps) d ≡ p
+get_last [] p d = refl
+get_last (x ∷ ps) p d = get_last ps p d
+
+set_last : (ps : List Part) (p q : Part) → set (ps ++ p ∷ []) (length ps) q ≡ ps ++ q ∷ []
+set_last [] p q = refl
+set_last (x ∷ ps) p q = ap (λ (zs : List Part). x ∷ zs) (set_last ps p q)
+
+last_changed : (R : Part → Part → Type 0) (at : ℕ) (ps qs us rs : List Part) → Keeps ps qs → ArePassed qs at → at ≡ length qs → MetOne qs us → ChangedAt R at us rs → LastMet R ps rs
+last_changed R at ps qs us rs k a n (y, m, new) (p, q, e, r, is) =
+    let same : p ≡ y = e ∙ (ap (λ (zs : List Part). get_or zs at p) m ∙ (ap (λ (i : ℕ). get_or (qs ++ y ∷ []) i p) n ∙ get_last qs y p)) in
+    (qs, p, q, k, (λ j d l. a j d (omega arith)), subst IsNew (sym same) new, r, is ∙ (ap (λ (zs : List Part). set zs at q) m ∙ (ap (λ (i : ℕ). set (qs ++ y ∷ []) i q) n ∙ set_last qs y q)))
+
+pub first_changed : (R : Part → Part → Type 0) (at : ℕ) (ps qs us rs : List Part) → Keeps ps qs → ArePassed qs at → CameTo at ps qs → Reached at qs us → ChangedAt R at us rs → FirstOf R ps rs
+first_changed R at ps qs us rs k a i r c = ⊎_elim
+    (λ (known : (at < length qs) × (us ≡ qs)). ⊎_elim
+    (λ (same : qs ≡ ps). inl (subst (λ (zs : List Part). OneOf R zs rs) same (one_changed R at qs rs known.0 a (subst (λ (zs : List Part). ChangedAt R at zs rs) known.1 c))))
+    (λ (last : at ≡ length qs). absurd (omega arith))
+    i)
+    (λ (next : (at ≡ length qs) × MetOne qs us). inr (last_changed R at ps qs us rs k a next.0 next.1 c))
+    r
+
+pub lost_at : (ps : List Part) (at : ℕ) (d : Part) → at < length ps → (IsWhole (get_or ps at d) → ⊥) → ChangedAt LostIn at ps ps
+lost_at [] at d l n = absurd (omega arith)
+lost_at (x ∷ ps) zero d l n = (x, x, refl, (n, refl), refl)
+lost_at (x ∷ ps) (suc at) d l n = let r = lost_at ps at d (omega arith) n in (r.0, r.1, r.2, r.3, ap (λ (zs : List Part). x ∷ zs) r.4)
+
+-- tries that lost a ticket, one after another
+one_lost : (ps rs : List Part) → OneOf LostIn ps rs → rs ≡ ps
+one_lost [] rs o = absurd o
+one_lost (p ∷ ps) [] o = absurd o
+one_lost (p ∷ ps) (r ∷ rs) o = ⊎_elim
+    (λ (here : LostIn p r × (ps ≡ rs)). λ i. here.0.1 i ∷ sym here.1 i)
+    (λ (there : (p ≡ r) × IsPassed p × OneOf LostIn ps rs). let t = one_lost ps rs there.2 in λ i. sym there.0 i ∷ t i)
+    o
+
+last_lost_keeps : (ps rs : List Part) → LastMet LostIn ps rs → Keeps ps rs
+last_lost_keeps ps rs (qs, p, q, k, a, new, lost, is) = keeps_trans ps qs rs k (keeps_met qs rs q is (subst IsNew (sym lost.1) new))
+
+pub race_keeps : (ps rs : List Part) → LosesRace ps rs → Keeps ps rs
+race_keeps ps rs o = ⊎_elim
+    (λ (known : OneOf LostIn ps rs). subst (Keeps ps) (sym (one_lost ps rs known)) (keeps_same ps))
+    (last_lost_keeps ps rs)
+    o
+
+pub race_again : (ps qs rs : List Part) → LosesRace ps qs → LosesRace qs rs → LosesRace ps rs
+race_again ps qs rs a b = ⊎_elim
+    (λ (known : OneOf LostIn qs rs). subst (LosesRace ps) (sym (one_lost qs rs known)) a)
+    (λ (last : LastMet LostIn qs rs). inr (last.0, last.1, last.2, keeps_trans ps qs last.0 (race_keeps ps qs a) last.3, last.4, last.5, last.6, last.7))
+    b
+
+-- no try was made, or some that lost a ticket
+abbrev pub Tried : List Part → List Part → Type 0
+Tried ps qs = (qs ≡ ps) ⊎ LosesRace ps qs
+
+pub tried_keeps : (ps qs : List Part) → Tried ps qs → Keeps ps qs
+tried_keeps ps qs t = ⊎_elim (λ (same : qs ≡ ps). subst (Keeps ps) (sym same) (keeps_same ps)) (race_keeps ps qs) t
+
+pub tried_again : (ps qs rs : List Part) → Tried ps qs → LosesRace qs rs → Tried ps rs
+tried_again ps qs rs t lost = inr (⊎_elim (λ (same : qs ≡ ps). subst (λ (zs : List Part). LosesRace zs rs) same lost) (λ (before : LosesRace ps qs). race_again ps qs rs before lost) t)
+
+pub tried_pushed : (x : ℕ) (ps qs rs : List Part) → Tried ps qs → Pushed x qs rs → PushedByTries x ps rs
+tried_pushed x ps qs rs t push = ⊎_elim (λ (same : qs ≡ ps). inl (subst (λ (zs : List Part). Pushed x zs rs) same push)) (λ (lost : LosesRace ps qs). inr (qs, lost, push)) t
+
+-- what is pushed is pushed in one part of those that are known then
+one_last : (R : Part → Part → Type 0) (ps : List Part) (p q : Part) → All IsPassed ps → R p q → OneOf R (ps ++ p ∷ []) (ps ++ q ∷ [])
+one_last R [] p q a r = inl (r, refl)
+one_last R (x ∷ ps) p q a r = inr (refl, All-head IsPassed x ps a, one_last R ps p q (All-tail IsPassed x ps a) r)
+
+pub pushed_in_one : (x : ℕ) (ps rs : List Part) → Pushed x ps rs → (qs : List Part) × Keeps ps qs × OneOf (PushedIn x) qs rs
+pushed_in_one x ps rs o = ⊎_elim
+    (λ (known : OneOf (PushedIn x) ps rs). (ps, keeps_same ps, known))
+    (λ (last : LastMet (PushedIn x) ps rs).
+    let qs = last.0 in
+    let p = last.1 in
+    (qs ++ p ∷ [], keeps_trans ps qs (qs ++ p ∷ []) last.3 (keeps_met qs (qs ++ p ∷ []) p refl last.5), subst (OneOf (PushedIn x) (qs ++ p ∷ [])) (sym last.7) (one_last (PushedIn x) qs p last.2 last.4 last.6)))
+    o
+
+pub tries_in_one : (x : ℕ) (ps rs : List Part) → PushedByTries x ps rs → (qs : List Part) × Keeps ps qs × OneOf (PushedIn x) qs rs
+tries_in_one x ps rs o = ⊎_elim
+    (pushed_in_one x ps rs)
+    (λ (late : (qs : List Part) × LosesRace ps qs × Pushed x qs rs).
+    let r = pushed_in_one x late.0 rs late.2 in
+    (r.0, keeps_trans ps late.0 r.0 (race_keeps ps late.0 late.1) r.1, r.2))
+    o
 
 -- one more walk is taken
 took_set : (ps : List Part) (walks : List Walk) (rs : List Part) (at : ℕ) (walk : Walk) (p q : Part) → Took ps walks rs → at ≡ length walks → at < length ps → p ≡ get_or rs at p → TakenIn walk p q → Took ps (walks ++ walk ∷ []) (set rs at q)

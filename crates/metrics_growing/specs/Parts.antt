@@ -1,5 +1,5 @@
 -- What callers see of a growing bucket's pen: a part for each segment that it knows, in the order of the links.
-use Rattle.std.specs.Prelude.{◌≡◌, ◌⊎◌, ℕ, List, [], ◌∷◌, ◌++◌, length, take, map, slice_set, slice_index_or, All, refl}
+use Rattle.std.specs.Prelude.{◌≡◌, ◌⊎◌, ◌<◌, ℕ, List, [], ◌∷◌, ◌++◌, length, take, map, slice_set, slice_index_or, All, refl}
 use Rattle.std.specs.Coded.{Coded, code_by, coded×, coded_ℕ}
 use Rattle.metrics.specs.Book.{blocks}
 use Rattle.metrics_bucket.specs.declared.view.Walk.{Walk}
@@ -60,10 +60,13 @@ OneOf R [] qs = ⊥
 OneOf R (p ∷ ps) [] = ⊥
 OneOf R (p ∷ ps) (q ∷ qs) = (R p q × (ps ≡ qs)) ⊎ ((p ≡ q) × IsPassed p × OneOf R ps qs)
 
--- a ticket may be lost to another pen: in a part that isn't whole, behind parts that are passed
-abbrev pub MayRace : List Part → Type 0
-MayRace [] = ⊥
-MayRace (p ∷ ps) = (IsWhole p → ⊥) ⊎ (IsPassed p × MayRace ps)
+-- all parts are passed, and the last of those that the pen came to know changed so
+abbrev pub LastMet : (Part → Part → Type 0) → List Part → List Part → Type 0
+LastMet R ps rs = (qs : List Part) × (p q : Part) × Keeps ps qs × All IsPassed qs × IsNew p × R p q × (rs ≡ qs ++ q ∷ [])
+
+-- a part that was known changed so, and no segment is met, or the last one that is met did
+abbrev pub FirstOf : (Part → Part → Type 0) → List Part → List Part → Type 0
+FirstOf R ps rs = OneOf R ps rs ⊎ LastMet R ps rs
 
 -- each part changed so
 abbrev pub EachOf : (Part → Part → Type 0) → List Part → List Part → Type 0
@@ -83,9 +86,21 @@ TakenIn walk p q = (q.link ≡ p.link) × IsTaken p.account walk q.account
 abbrev pub SpareIn : Part → Part → Type 0
 SpareIn p q = (q.link ≡ p.link) × WithSpares p.account q.account
 
+-- a ticket was lost to another pen there, and nothing changed
+abbrev pub LostIn : Part → Part → Type 0
+LostIn p q = (IsWhole p → ⊥) × (q ≡ p)
+
 -- the value is pushed in the first segment that isn't passed, and nothing else is done
 abbrev pub Pushed : ℕ → List Part → List Part → Type 0
-Pushed x ps rs = (qs : List Part) × Keeps ps qs × OneOf (PushedIn x) qs rs
+Pushed x ps rs = FirstOf (PushedIn x) ps rs
+
+-- a ticket was lost in the first segment that isn't passed, and nothing else is done
+abbrev pub LosesRace : List Part → List Part → Type 0
+LosesRace ps rs = FirstOf LostIn ps rs
+
+-- the value is pushed at once, or after tries that lost a ticket
+abbrev pub PushedByTries : ℕ → List Part → List Part → Type 0
+PushedByTries x ps rs = Pushed x ps rs ⊎ ((qs : List Part) × LosesRace ps qs × Pushed x qs rs)
 
 -- one of these walks was taken in each part, from the first on, as far as there are walks; the parts behind stayed
 abbrev pub Took : List Part → List Walk → List Part → Type 0
@@ -138,3 +153,11 @@ joined_parts (p ∷ ps) (q ∷ qs) = joined_part p q ∷ joined_parts ps qs
 -- what part number `at` became; p and q are that part before and after
 abbrev pub ChangedAt : (Part → Part → Type 0) → ℕ → List Part → List Part → Type 0
 ChangedAt R at ps qs = (p q : Part) × (p ≡ slice_index_or ps at p) × R p q × (qs ≡ slice_set ps at q)
+
+-- one more segment is known
+abbrev pub MetOne : List Part → List Part → Type 0
+MetOne ps qs = (p : Part) × (qs ≡ ps ++ p ∷ []) × IsNew p
+
+-- part number `at` was known, and no segment is met, or it is the one that is met
+abbrev pub Reached : ℕ → List Part → List Part → Type 0
+Reached at ps qs = ((at < length ps) × (qs ≡ ps)) ⊎ ((at ≡ length ps) × MetOne ps qs)

@@ -4,8 +4,8 @@ ghost use Rattle.std.specs.Prelude.{Some, All, slice_index_or, length, [], ◌�
 ghost use Rattle.once_cell.specs.Once.{cell_name};
 ghost use Rattle.metrics_bucket.specs.Account.{first_account};
 ghost use Rattle.metrics_bucket.specs.Spares.{spare_account};
-ghost use Rattle.metrics_growing.specs.Parts.{Part, IsOf, IsNew, IsWhole, IsFilled, IsPassed, MayRace, Keeps, ChangedAt};
-ghost use Rattle.metrics_growing.specs.Parts.{PushedIn, Pushed};
+ghost use Rattle.metrics_growing.specs.Parts.{Part, IsOf, IsNew, IsWhole, IsFilled, IsPassed, Keeps, ChangedAt, MetOne, Reached};
+ghost use Rattle.metrics_growing.specs.Parts.{PushedIn, Pushed, PushedByTries, LosesRace};
 
 use crate::known::Known;
 use crate::pen::GrowPen;
@@ -154,7 +154,7 @@ impl<T: Sample> GrowingBucket<T> {
     pub(crate) fn meet(&self, known: &mut Vec<Known>) -> Result<(), Error>
         requires own { IsOf self.now known.old.items }
         ensures own { IsOf self.now known.new.items }
-        ensures ok { OnOk result ((p : Part) × (known.new.items ≡ known.old.items ++ p ∷ []) × IsNew p) }
+        ensures ok { OnOk result (MetOne known.old.items known.new.items) }
         ensures err { IfErr result (λ e. (known.new.items ≡ known.old.items)
             × ((e ≡ Error.Memory) ⊎ ((e ≡ Error.NoPen) × (length known.old.items < length self.now)))) }
     {
@@ -198,7 +198,7 @@ impl<T: Sample> GrowingBucket<T> {
         requires own { IsOf self.now known.old.items }
         requires at { at ≤ length known.old.items }
         ensures own { IsOf self.now known.new.items }
-        ensures ok { OnOk result ((at < length known.new.items) × Keeps known.old.items known.new.items) }
+        ensures ok { OnOk result (Reached at known.old.items known.new.items) }
         ensures err { IfErr result (λ e. (at ≡ length known.old.items) × (known.new.items ≡ known.old.items)
             × ((e ≡ Error.Memory) ⊎ ((e ≡ Error.NoPen) × (length known.old.items < length self.now)))) }
     {
@@ -216,7 +216,7 @@ impl<T: Sample> GrowingBucket<T> {
         ensures err { IfErr result (λ e. Keeps known.old.items known.new.items
             × ((((e ≡ Error.Memory) ⊎ ((e ≡ Error.NoPen) × (length known.new.items < length self.now)))
             × All IsPassed known.new.items)
-            ⊎ ((e ≡ Error.Raced) × MayRace known.new.items))) }
+            ⊎ ((e ≡ Error.Raced) × LosesRace known.old.items known.new.items))) }
     {
         // The loop's facts are of the links.
         let _ = &self.links;
@@ -242,7 +242,7 @@ impl<T: Sample> GrowingBucket<T> {
         ensures ok { OnOk result (Pushed (T.word value) pen.old pen.new) }
         ensures err { IfErr result (λ e. Keeps pen.old pen.new
             × ((((e.0 ≡ Error.Memory) ⊎ ((e.0 ≡ Error.NoPen) × (length pen.new < length self.now)))
-            × All IsPassed pen.new) ⊎ ((e.0 ≡ Error.Raced) × MayRace pen.new)) × (e.1 ≡ value)) }
+            × All IsPassed pen.new) ⊎ ((e.0 ≡ Error.Raced) × LosesRace pen.old pen.new)) × (e.1 ≡ value)) }
     {
         match self.try_word(&mut pen.known, value.to_word()) {
             Ok(()) => Ok(()),
@@ -254,7 +254,7 @@ impl<T: Sample> GrowingBucket<T> {
     pub fn push<R: Wait>(&self, rt: &R, pen: &mut GrowPen, value: T) -> Result<(), (Error, T)>
         requires own { IsOf self.now pen.old }
         ensures own { IsOf self.now pen.new }
-        ensures ok { OnOk result (Pushed (T.word value) pen.old pen.new) }
+        ensures ok { OnOk result (PushedByTries (T.word value) pen.old pen.new) }
         ensures err { IfErr result (λ e. Keeps pen.old pen.new
             × ((e.0 ≡ Error.Memory) ⊎ ((e.0 ≡ Error.NoPen) × (length pen.new < length self.now)))
             × All IsPassed pen.new × (e.1 ≡ value)) }

@@ -6,7 +6,7 @@ use Rattle.metrics_bucket.specs.Account.{first_account}
 use Rattle.metrics_bucket.specs.Facts.{weigh, weigh_walks}
 use Rattle.metrics_bucket.specs.Blocks.{valued}
 use Rattle.metrics_bucket.proofs.Sums.{weigh-append}
-use Rattle.metrics_growing.specs.Parts.{Part, IsOf, Keeps, Pushed, TookAll, left_parts, right_parts, joined_parts, all_chunks, all_blocks}
+use Rattle.metrics_growing.specs.Parts.{Part, IsOf, Keeps, PushedByTries, TookAll, left_parts, right_parts, joined_parts, all_chunks, all_blocks}
 use Rattle.metrics_growing.specs.Bags.{pushed_by, taken_by, Settled}
 use Rattle.metrics_growing.proofs.Settling.{weigh_all, joined_all}
 use Rattle.metrics_growing.proofs.Balances.{keeps_sums, pushed_sums, took_all_sums, left_sums, right_sums, joined_sums}
@@ -67,7 +67,7 @@ right_fresh links old new own is = (
 pub grown_none : (p : List Part) → HasGrown p [] p
 grown_none p h = (omega arith, refl)
 
-pub grown_next : (p q r : List Part) (v : ℕ) → HasGrown p (below v) q → Pushed v q r → HasGrown p (below (v + 1)) r
+pub grown_next : (p q r : List Part) (v : ℕ) → HasGrown p (below v) q → PushedByTries v q r → HasGrown p (below (v + 1)) r
 grown_next p q r v before push h =
     let a = (before h).0 in
     let b = (before h).1 in
