@@ -1,19 +1,18 @@
 -- Updates of a key one after another, and rows one after another.
-use Rattle.std.proofs.Common.{◌≡◌, ℕ, suc, ◌<◌, ◌≤◌, ◌+◌, List, [], ◌∷◌, ◌++◌, map, take, drop, get_or, length, None, Result, Ok, Err, IfErr, refl, ap, sym, ◌∙◌, subst, arith, append_assoc, append-nil, take-append-drop, drop-cons}
-use Rattle.std.specs.Prelude.{◌↔◌, ◌⊎◌, ℤ, Some}
-use Rattle.std.proofs.lemmas.List.{length-map, length-take-le, map-append, take_more, take_all}
+use Rattle.std.proofs.Common.{◌≡◌, ℕ, suc, ◌<◌, ◌+◌, List, [], ◌∷◌, ◌++◌, map, take, drop, get_or, length, None, Result, Ok, Err, refl, ap, sym, ◌∙◌, subst, arith, append_assoc, take-append-drop, drop-cons}
+use Rattle.std.specs.Prelude.{◌↔◌, ◌⊎◌, ℤ}
+use Rattle.std.proofs.lemmas.List.{length-map, length-take-le, map-append, take_more}
 use Rattle.metrics_names.specs.Names.{KeyParts}
 use Rattle.metrics.specs.declared.error.Error.{Error}
 use Rattle.metrics.specs.declared.error.Error.TheVariants.{Memory, CountFull}
 use Rattle.metrics.specs.declared.handles.Update.{Update}
 use Rattle.metrics.specs.declared.handles.Update.TheVariants.{Record}
-use Rattle.metrics.specs.declared.debugging.DebugValue.{DebugValue}
 use Rattle.metrics.specs.Book.{RowParts}
 use Rattle.metrics_exporter.specs.declared.absorb.PartlyAbsorbed.{PartlyAbsorbed}
 use Rattle.metrics_exporter.specs.declared.exporter.Exporter.{Exporter}
 use Rattle.metrics_exporter.specs.Exporting.{Setup, Log, updates, steps, series_of, cells_after, IsFull}
 use Rattle.metrics_exporter.specs.Kept.{IsAfter}
-use Rattle.metrics_exporter.specs.Absorbing.{updates_of, made, asked_by, with_row, with_rows, Refuses, StopsIn, MakesUpdates, StopsAt, Absorbs}
+use Rattle.metrics_exporter.specs.Absorbing.{updates_of, made, asked_by, with_row, with_rows, Refuses, StopsIn, MakesUpdates, StopsAt}
 use Rattle.metrics_exporter.proofs.KeptLemmas.{Done, err_inside}
 
 -- ---- one more update

@@ -1,5 +1,5 @@
 -- The checks of one expiry, one after another.
-use Rattle.std.proofs.Common.{◌≡◌, ℕ, ◌+◌, ◌<◌, ◌≤◌, Bool, true, false, cond, not, List, [], ◌∷◌, ◌++◌, map, take, drop, get_or, length, Option, None, IsSome, Result, Ok, Err, refl, ap, sym, ◌∙◌, subst, reverse, arith, append_assoc, append-nil, inl, inr, take-append-drop}
+use Rattle.std.proofs.Common.{◌≡◌, ℕ, zero, suc, ◌+◌, ◌<◌, ◌≤◌, Bool, true, false, cond, not, List, [], ◌∷◌, ◌++◌, map, take, drop, get_or, length, Option, None, IsSome, Result, Ok, Err, refl, ap, sym, ◌∙◌, subst, reverse, arith, append_assoc, append-nil, take-append-drop}
 use Rattle.std.specs.Result.{IsErrAnd}
 use Rattle.std.specs.Prelude.{◌&&◌}
 use Rattle.std.specs.List.{IsDistinct}
@@ -16,7 +16,7 @@ use Rattle.metrics_registry.specs.Recency.{Rules, Check}
 use Rattle.metrics_registry.specs.RecencyEntries.{rules_of, table_of}
 use Rattle.metrics_registry.specs.Idleness.{Answered, run_answer, run_answers}
 use Rattle.metrics_exporter.specs.declared.exporter.Exporter.{Exporter}
-use Rattle.metrics_exporter.specs.Exporting.{Setup, expires, Log, Step, checked, steps, check_in, checks_in, Cell, Cells, cells_after, AreSeries, generation_in, check_of_held, checks_of, answers_of, removed_by, IsExpiry}
+use Rattle.metrics_exporter.specs.Exporting.{Setup, expires, Log, Step, checked, steps, check_in, checks_in, Cell, Cells, cells_after, AreSeries, HaveFirst, generation_in, check_of_held, checks_of, answers_of, removed_by, IsExpiry}
 use Rattle.metrics_exporter.specs.ExporterText.{series_line, series_text, IsText}
 use Rattle.metrics_exporter.specs.Stepping.{ChecksCells}
 use Rattle.metrics_exporter.specs.Kept.{KeepsSetting, cells_of, Keeps, IsAfter}
@@ -168,11 +168,19 @@ expired-all now keys a e index removed series end front setup log after =
       subst P (sym (steps-push log (expires now made.done (Ok removed)))) made.kept,
     )
 
--- a check found no memory
-pub expired-front : (now : ℕ) (keys : List SeriesKey) (a e f : Exporter) (index removed : ℕ) (x : Error) → AreSeries (cells_of a.registry) keys → Front now keys a e index removed
-    → f.registry ≡ e.registry → rules_of f.recency ≡ rules_of e.recency → ((kind : MetricKind) (key : KeyParts) → table_of key_eq f.recency kind key ≡ table_of key_eq e.recency kind key)
+-- the key at a place, and those behind it
+from-place : (keys : List SeriesKey) (index : ℕ) (s : SeriesKey) → index < length keys → s ≡ get_or keys index s → drop index keys ≡ s ∷ drop (index + 1) keys
+from-place [] index s small at = absurd (omega (arith, small))
+from-place (k ∷ keys) zero s small at = ap (λ x. x ∷ keys) (sym at)
+from-place (k ∷ keys) (suc index) s small at =
+    let more : suc (index + 1) ≡ suc index + 1 = omega arith in
+    from-place keys index s (omega (arith, small)) at ∙ ap (λ n. s ∷ drop n (k ∷ keys)) more
+
+-- a check of a key found no memory
+pub expired-front : (now : ℕ) (keys : List SeriesKey) (a e f : Exporter) (index removed : ℕ) (s : SeriesKey) (x : Error) → AreSeries (cells_of a.registry) keys → Front now keys a e index removed
+    → index < length keys → s ≡ get_or keys index s → f.registry ≡ e.registry → rules_of f.recency ≡ rules_of e.recency → ((kind : MetricKind) (key : KeyParts) → table_of key_eq f.recency kind key ≡ table_of key_eq e.recency kind key)
     → x ≡ Memory → Expired a f now (Err x)
-expired-front now keys a e f index removed x series front registry rules notes memory setup log after =
+expired-front now keys a e f index removed s x series front small at registry rules notes memory setup log after =
     let made = front.made setup (steps log) after in
     let F : SeriesKey → Check KeyParts = check_of_held (cells_after setup (steps log)) now in
     let P : List Step → Type 0 = λ ys. Keeps setup ys f in (
@@ -180,11 +188,13 @@ expired-front now keys a e f index removed x series front registry rules notes m
       record {
         answers = made.answers;
         ended = (
-          inr (
+          (
             keys,
-            map F (drop index keys),
+            F s,
+            map F (drop (index + 1) keys),
             same-series setup (steps log) a keys after series,
-            ap (λ l. l ++ map F (drop index keys)) made.checks ∙ sym (map-append F (take index keys) (drop index keys)) ∙ ap (map F) (take-append-drop index keys),
+            ap (λ l. checks_of made.done ++ map F l) (sym (from-place keys index s small at))
+                ∙ ap (λ l. l ++ map F (drop index keys)) made.checks ∙ sym (map-append F (take index keys) (drop index keys)) ∙ ap (map F) (take-append-drop index keys),
           ),
           memory,
         );
@@ -193,11 +203,12 @@ expired-front now keys a e f index removed x series front registry rules notes m
     )
 
 -- the keys found no memory
-pub expired-none : (now : ℕ) (a : Exporter) (x : Error) → x ≡ Memory → Expired a a now (Err x)
-expired-none now a x memory setup log after =
-    let P : List Step → Type 0 = λ ys. Keeps setup ys a in (
+pub expired-none : (now : ℕ) (a : Exporter) (x : Error) → (x ≡ Memory) × HaveFirst (cells_of a.registry) → Expired a a now (Err x)
+expired-none now a x (memory, (first, rest, series)) setup log after =
+    let P : List Step → Type 0 = λ ys. Keeps setup ys a in
+    let F : SeriesKey → Check KeyParts = check_of_held (cells_after setup (steps log)) now in (
       [],
-      record { answers = refl; ended = (inl refl, memory) },
+      record { answers = refl; ended = ((first ∷ rest, F first, map F rest, same-series setup (steps log) a (first ∷ rest) after series, refl), memory) },
       subst P (sym (steps-push log (expires now [] (Err x)) ∙ append-nil (steps log))) after,
     )
 

@@ -10,7 +10,7 @@ use Rattle.metrics_names.specs.Names.{KeyParts, SeriesKey, series_key_cmp}
 use Rattle.metrics_registry.specs.Held.{entries_of}
 use Rattle.metrics_registry.proofs.ShardLemmas.{map-length, map-get, entries-here}
 use Rattle.std.proofs.lemmas.List.Elements.{Contains-get_or}
-use Rattle.metrics_exporter.specs.Exporting.{Cells, AreSeries}
+use Rattle.metrics_exporter.specs.Exporting.{Cells, AreSeries, HaveFirst}
 use Rattle.metrics_exporter.specs.Gathering.{series_at, series_shown, all_shown, series_in}
 
 -- one more entry of a kind's cells
@@ -43,6 +43,11 @@ pub shown-held : (cells : Cells) (rows : List (MetricKind × Bor KeyParts)) (i :
 shown-held cells rows i row series small at =
     let P : SeriesKey → Type 0 = λ s. IsSome (cells s) in
     subst P (sym (shown-get rows i row at)) ((series.held (get_or (all_shown rows) i (series_shown row))).0 (Contains-get_or (all_shown rows) i (series_shown row) (shown-within rows i small)))
+
+-- of references there is a first one
+pub shown-first : (cells : Cells) (rows : List (MetricKind × Bor KeyParts)) → AreSeries cells (all_shown rows) → 0 < length rows → HaveFirst cells
+shown-first cells [] series some = absurd (omega (arith, some))
+shown-first cells (row ∷ rows) series some = (series_shown row, all_shown rows, series)
 
 -- one more reference
 pub shown-more : (rows : List (MetricKind × Bor KeyParts)) (i : ℕ) (row : MetricKind × Bor KeyParts) → i < length rows → row ≡ get_or rows i row → take (i + 1) (all_shown rows) ≡ take i (all_shown rows) ++ series_shown row ∷ []

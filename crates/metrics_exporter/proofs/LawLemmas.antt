@@ -1,18 +1,20 @@
--- There is one list of the held series in composite key order.
+-- There is a list of the held series in composite key order, and one alone.
 use Rattle.std.proofs.Common.{◌≡◌, ℕ, zero, suc, ◌<◌, List, [], ◌∷◌, length, get_or, Contains, refl, ap, sym, ◌∙◌, subst, arith, inl, inr}
-use Rattle.std.specs.Prelude.{◌⊎◌}
+use Rattle.std.specs.Prelude.{◌⊎◌, ◌↔◌}
 use Rattle.std.specs.List.{AllByRecursion}
 use Rattle.std.specs.List.Sorted.{IsStrictlySortedBy}
 use Rattle.std.specs.Cmp.{IsTotalOrder}
-use Rattle.std.specs.Ordering.{ordering_reverse}
+use Rattle.std.specs.Ordering.{ordering_reverse, is_eq, eq_by_cmp}
 use Rattle.std.specs.declared.cmp.Ordering.{Ordering}
-use Rattle.std.specs.declared.cmp.Ordering.TheVariants.{Less, Greater}
+use Rattle.std.specs.declared.cmp.Ordering.TheVariants.{Less, Equal, Greater}
 use Rattle.std.proofs.lemmas.Map.Keys.{sorted_head, sorted_tail}
-use Rattle.metrics_names.specs.Names.{series_key_cmp}
-use Rattle.metrics_exporter.specs.Exporting.{Cells, Setup, Step, IsExpiry, checks_of, answers_of, removed_by, cells_after, check_of_held, checks_in}
+use Rattle.metrics_names.specs.Names.{SeriesKey, series_key_eq, series_key_cmp}
+use Rattle.metrics_names.specs.Equality.{key_exact}
+use Rattle.metrics_exporter.specs.Exporting.{Cells, AreSeries, HaveFirst, HoldsSome, IsHeld, IsHeldNumber, Setup, Step, IsExpiry, checks_of, answers_of, removed_by, cells_after, check_of_held, checks_in}
 use Rattle.metrics_registry.specs.Idleness.{Answered, run_answers}
 use Rattle.metrics_names.specs.Names.{KeyParts, key_eq}
-use Rattle.std.proofs.Common.{Ok, map, reverse}
+use Rattle.std.proofs.Common.{Result, Ok, Err, map, reverse}
+use Rattle.std.specs.Prelude.{MatchResult}
 use Rattle.metrics_exporter.specs.ExporterText.{series_text, IsText}
 
 module _ {K : Type 0} (R : K → K → Ordering) (total : IsTotalOrder R) where
@@ -68,6 +70,113 @@ module _ {K : Type 0} (R : K → K → Ordering) (total : IsTotalOrder R) where
       ∙ ap (λ l. y ∷ l) (one-sorted xs ys (sorted_tail R x xs up) (sorted_tail R y ys vp)
       (λ s h. tails x xs ys up s h (subst (λ z. Q z ys s) (sym same) (to s (later x xs s h))))
       (λ s h. tails x ys xs wp s h (from s (later y ys s h))))
+
+module _ {K : Type 0} (R : K → K → Ordering) (total : IsTotalOrder R) (exact : (a b : K) → R a b ≡ Equal → a ≡ b) where
+  -- keys in order, and one more put among them
+  record Put (k : K) (xs : List K) : Type 0 where
+    pub keys : List K
+    pub ascending : IsStrictlySortedBy R keys
+    pub same : (s : K) → Contains keys s ↔ Contains (k ∷ xs) s
+    pub below : (x : K) → R x k ≡ Less → AllByRecursion (λ y. R x y ≡ Less) xs → AllByRecursion (λ y. R x y ≡ Less) keys
+
+  less : (k x : K) (xs : List K) → R k x ≡ Less → AllByRecursion (λ y. R x y ≡ Less) xs → AllByRecursion (λ y. R k y ≡ Less) xs
+  less k x [] e h = tt
+  less k x (y ∷ ys) e h = (total.trans k x y e h.0, less k x ys e h.1)
+
+  here : (x : K) (xs : List K) (s : K) → x ≡ s → Contains (x ∷ xs) s
+  here x xs s e = (zero, omega arith, e)
+
+  after : (x : K) (xs ys : List K) (s : K) → (Contains xs s → Contains ys s) → Contains (x ∷ xs) s → Contains (x ∷ ys) s
+  after x xs ys s f c = elim (cases R total x xs s c) [ inl e ↦ here x ys s e | inr d ↦ later R total x ys s (f d) ]
+
+  swapped : (x y : K) (xs : List K) (s : K) → Contains (x ∷ y ∷ xs) s → Contains (y ∷ x ∷ xs) s
+  swapped x y xs s c = elim (cases R total x (y ∷ xs) s c) [
+    | inl e ↦ later R total y (x ∷ xs) s (here x xs s e)
+    | inr d ↦ after y xs (x ∷ xs) s (later R total x xs s) d
+  ]
+
+  put : (k : K) (xs : List K) → IsStrictlySortedBy R xs → Put k xs
+  unfolding IsStrictlySortedBy
+  put k [] up = record { keys = k ∷ []; ascending = (tt, tt); same = λ s. (λ c. c, λ c. c); below = λ x l h. (l, tt) }
+  put k (x ∷ xs) up = by (put k xs up.1) (R k x) refl
+    where
+      by : Put k xs → (r : Ordering) → R k x ≡ r → Put k (x ∷ xs)
+      by more Less e = record {
+        keys = k ∷ x ∷ xs;
+        ascending = ((e, less k x xs e up.0), up);
+        same = λ s. (λ c. c, λ c. c);
+        below = λ y l h. (l, h);
+      }
+      by more Equal e = record {
+        keys = x ∷ xs;
+        ascending = up;
+        same = λ s. (later R total k (x ∷ xs) s, λ c. elim (cases R total k (x ∷ xs) s c) [ inl is ↦ here x xs s (sym (exact k x e) ∙ is) | inr d ↦ d ]);
+        below = λ y l h. h;
+      }
+      by more Greater e = record {
+        keys = x ∷ more.keys;
+        ascending = (more.below x (total.antisymm x k ∙ ap ordering_reverse e) up.0, more.ascending);
+        same = λ s. (
+          λ c. swapped x k xs s (after x more.keys (k ∷ xs) s (more.same s).0 c),
+          λ c. after x (k ∷ xs) more.keys s (more.same s).1 (swapped k x xs s c),
+        );
+        below = λ y l h. (h.0, more.below y l h.1);
+      }
+
+  -- the same keys in order
+  record InOrder (xs : List K) : Type 0 where
+    pub keys : List K
+    pub ascending : IsStrictlySortedBy R keys
+    pub same : (s : K) → Contains keys s ↔ Contains xs s
+
+  in-order : (xs : List K) → InOrder xs
+  unfolding IsStrictlySortedBy
+  in-order [] = record { keys = []; ascending = tt; same = λ s. (λ c. c, λ c. c) }
+  in-order (x ∷ xs) =
+      let rest = in-order xs in
+      let more = put x rest.keys rest.ascending in record {
+        keys = more.keys;
+        ascending = more.ascending;
+        same = λ s. (
+          λ c. after x rest.keys xs s (rest.same s).0 ((more.same s).0 c),
+          λ c. (more.same s).1 (after x xs rest.keys s (rest.same s).1 c),
+        );
+      }
+
+-- of series that are held there is a first one in order
+pub have-first : IsTotalOrder series_key_cmp → ((a b : SeriesKey) → series_key_eq a b ≡ eq_by_cmp series_key_cmp a b) → (cells : Cells) (n : ℕ) → IsHeldNumber cells n → 0 < n → HaveFirst cells
+have-first total ties cells n held some =
+    let order = in-order series_key_cmp total exact held.keys in
+    from order.keys order.ascending order.same
+  where
+    exact : (a b : SeriesKey) → series_key_cmp a b ≡ Equal → a ≡ b
+    exact a b e = key_exact a b (ties a b ∙ ap is_eq e)
+
+    none : (ks : List SeriesKey) → 0 < length ks → ((s : SeriesKey) → Contains ks s → Contains [] s) → ⊥
+    none [] small to = absurd (omega (arith, small))
+    none (k ∷ ks) small to = absurd (let c = to k (zero, omega arith, refl) in omega (arith, c.1))
+
+    from : (ks : List SeriesKey) → IsStrictlySortedBy series_key_cmp ks → ((s : SeriesKey) → Contains ks s ↔ Contains held.keys s) → HaveFirst cells
+    from [] up same = absurd (none held.keys (omega (arith, some, held.number)) (λ s. (same s).1))
+    from (k ∷ ks) up same = (k, ks, record { ascending = up; held = λ s. (λ c. (held.held s).0 ((same s).0 c), λ h. (same s).1 ((held.held s).1 h)) })
+
+-- no series is held
+pub none-held : (cells : Cells) (n : ℕ) → IsHeldNumber cells n → n ≡ 0 → AreSeries cells []
+unfolding IsStrictlySortedBy
+none-held cells n held none = from held.keys (sym held.number ∙ none) held.held
+  where
+    from : (ks : List SeriesKey) → length ks ≡ 0 → ((s : SeriesKey) → Contains ks s ↔ IsHeld cells s) → AreSeries cells []
+    from [] e h = record { ascending = tt; held = h }
+    from (k ∷ ks) e h = absurd (omega (arith, e))
+
+-- a refusal, and one more fact about it
+pub refused-with : {A E : Type 0} (r : Result A E) (P : A → Type 0) (Q : E → Type 0) (F : Type 0) → F → MatchResult r P Q → MatchResult r P (λ e. Q e × F)
+refused-with (Ok a) P Q F f h = h
+refused-with (Err e) P Q F f h = (h, f)
+
+-- some series is held
+pub holds-some : (cells : Cells) → HaveFirst cells → HoldsSome cells
+holds-some cells (first, rest, series) = (first, (series.held first).0 (zero, omega arith, refl))
 
 pub one-text : IsTotalOrder series_key_cmp → (cells : Cells) (a b : List ℕ) → IsText cells a → IsText cells b → a ≡ b
 one-text total cells a b h g =

@@ -1,7 +1,7 @@
 -- A sample that finds no room leaves all cells as they are.
-use Rattle.std.proofs.Common.{◌≡◌, ℕ, zero, ◌+◌, ◌-◌, ◌^◌, ◌<◌, ◌≤◌, Bool, true, false, cond, ◌%◌, List, [], ◌∷◌, None, Option, Some, IsSome, Result, Ok, Err, IfErr, refl, ap, sym, ◌∙◌, subst, arith, nat_lt}
+use Rattle.std.proofs.Common.{◌≡◌, ◌+◌, ◌-◌, ◌^◌, ◌<◌, ◌≤◌, Bool, true, false, cond, ◌%◌, List, [], ◌∷◌, None, Option, Some, IsSome, Result, Ok, Err, IfErr, refl, ap, sym, ◌∙◌, subst, arith, nat_lt}
 use Rattle.std.specs.Prelude.{ℤ, MatchResult, OnOk, OnErr, IsErr, ◌↔◌}
-use Rattle.std.specs.Map.{keys_of, update}
+use Rattle.std.specs.Map.{keys_of}
 use Rattle.std.specs.List.{IsDistinct}
 use Rattle.std.proofs.lemmas.Bool.{false≢true, ltb-false, le-ltb}
 use Rattle.metrics_names.specs.Names.{KeyParts, key_eq}
@@ -11,7 +11,7 @@ use Rattle.metrics.specs.declared.error.Error.TheVariants.{Memory, CountFull}
 use Rattle.metrics_storage.specs.Histogram.{Distribution, with_samples}
 use Rattle.metrics_registry.specs.declared.generation.Counted.{Counted}
 use Rattle.metrics_registry.specs.Held.{held, IsCellOf, Sets}
-use Rattle.metrics_exporter.specs.Stepping.{counted_with, new_counted, has_room, TakesSample}
+use Rattle.metrics_exporter.specs.Stepping.{new_counted, has_room, TakesSample}
 use Rattle.metrics_exporter.proofs.EntryLemmas.{same-entries}
 
 -- ---- one cell

@@ -122,7 +122,7 @@ some-from_map : {A B : Type 0} (f : A → B) (o : Option A) → IsSome (option_m
 some-from_map f None h = absurd (false≢true h)
 some-from_map f (Some a) h = refl
 
-none-distinct : IsDistinct series_key_eq []
+pub none-distinct : IsDistinct series_key_eq []
 unfolding IsDistinct
 none-distinct = tt
 

@@ -1,5 +1,5 @@
 -- What a list of an exporter's calls means: filters over the whole list.
-use Rattle.std.specs.Prelude.{if◌then◌else◌, ◌≡◌, ◌↔◌, ℕ, ◌+◌, ◌≤◌, ◌%◌, ◌^◌, ℤ, Bool, true, false, not, ◌&&◌, List, [], ◌∷◌, ◌++◌, map, length, reverse, Option, None, Some, IsSome, ◌⊎◌, Result, Ok, Err, Contains}
+use Rattle.std.specs.Prelude.{if◌then◌else◌, ◌≡◌, ◌↔◌, ℕ, ◌+◌, ◌≤◌, ◌%◌, ◌^◌, ℤ, Bool, true, false, not, ◌&&◌, List, [], ◌∷◌, ◌++◌, map, length, reverse, Option, None, Some, IsSome, Result, Ok, Err, Contains}
 use Rattle.std.specs.List.{flat_map, filter_map, list_any, count_by, IsDistinct}
 use Rattle.std.specs.List.Sorted.{IsStrictlySortedBy}
 use Rattle.metrics_names.specs.Names.{KeyParts, SeriesKey, key_eq, series_key_eq, series_key_cmp}
@@ -117,10 +117,18 @@ pub record IsHeldNumber (cells : Cells) (n : ℕ) : Type 0 where
   pub held : (s : SeriesKey) → Contains keys s ↔ IsHeld cells s
   pub number : n ≡ length keys
 
+-- some series is held
+abbrev pub HoldsSome : Cells → Type 0
+HoldsSome cells = (s : SeriesKey) × IsHeld cells s
+
 -- the held series in composite key order, each of them once
 pub record AreSeries (cells : Cells) (keys : List SeriesKey) : Type 0 where
   pub ascending : IsStrictlySortedBy series_key_cmp keys
   pub held : (s : SeriesKey) → Contains keys s ↔ IsHeld cells s
+
+-- the first of the held series, and those behind it
+abbrev pub HaveFirst : Cells → Type 0
+HaveFirst cells = (first : SeriesKey) × (rest : List SeriesKey) × AreSeries cells (first ∷ rest)
 
 -- ---- an expiry
 
@@ -154,10 +162,10 @@ removed_by answered = count_by (λ a. not a.answer) answered
 abbrev pub ChecksAll : Cells → ℕ → List (Answered KeyParts) → Type 0
 ChecksAll cells now answered = (keys : List SeriesKey) × AreSeries cells keys × (checks_of answered ≡ map (check_of_held cells now) keys)
 
--- a front of these checks was made, or none
+-- a front of these checks was made, or none, and at least the next one was not
 abbrev pub ChecksFront : Cells → ℕ → List (Answered KeyParts) → Type 0
 ChecksFront cells now answered =
-    (answered ≡ []) ⊎ ((keys : List SeriesKey) × (rest : List (Check KeyParts)) × AreSeries cells keys × (checks_of answered ++ rest ≡ map (check_of_held cells now) keys))
+    (keys : List SeriesKey) × (next : Check KeyParts) × (rest : List (Check KeyParts)) × AreSeries cells keys × (checks_of answered ++ next ∷ rest ≡ map (check_of_held cells now) keys)
 
 -- all checks were made, and n of them removed their series; or a front of them was made where memory was wanted
 abbrev pub IsExpiryAnswer : Cells → ℕ → List (Answered KeyParts) → Result ℕ Error → Type 0

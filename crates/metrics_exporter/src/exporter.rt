@@ -1,7 +1,7 @@
 //! An exporter of series as text.
 ghost use Rattle.std.specs.Prelude.{◌≡◌, ◌↔◌, ◌+◌, ◌*◌, ◌<◌, ◌≤◌, ◌++◌, ◌∷◌, ℕ, List};
 ghost use Rattle.std.specs.Prelude.{[], true, length, if◌then◌else◌, string_bytes, Ok, Err, None, IfOk, IfErr, OnOk};
-ghost use Rattle.std.specs.Prelude.{MatchResult, IsSome, ◌⊎◌, nat_lt, min};
+ghost use Rattle.std.specs.Prelude.{MatchResult, OnErr, IsSome, ◌⊎◌, nat_lt, min};
 ghost use Rattle.metrics.specs.declared.error.Error.TheVariants.{Memory as OutOfMemory, BadShards as NotShards};
 ghost use Rattle.metrics.specs.declared.error.Error.TheVariants.{NoBounds as WithoutBounds, CountFull as Full};
 ghost use Rattle.metrics.specs.Layers.{mask_has};
@@ -9,7 +9,7 @@ ghost use Rattle.metrics_names.specs.Names.{SeriesKey, KeyParts, key_eq};
 ghost use Rattle.metrics_registry.specs.Held.{is_shard_count as is_count};
 ghost use Rattle.metrics_registry.specs.Idleness.{Answered};
 ghost use Rattle.metrics_exporter.specs.Exporting.{Setup, Log, updates, expires, steps, IsFull, IsExpiry, IsHeldNumber};
-ghost use Rattle.metrics_exporter.specs.Exporting.{cells_after, series_of};
+ghost use Rattle.metrics_exporter.specs.Exporting.{cells_after, series_of, HoldsSome};
 ghost use Rattle.metrics_exporter.specs.ExporterText.{IsText};
 ghost use Rattle.metrics_exporter.specs.Absorbing.{is_level};
 ghost use Rattle.metrics_exporter.specs.Gathering.{series_at};
@@ -93,7 +93,8 @@ impl Exporter {
 
     /// Checks every series that is held, in composite key order, and removes those that are idle. Answers how many.
     ///
-    /// Where it is refused, a front of these checks was made, and what they removed is gone.
+    /// Where it is refused, a front of these checks was made, and what they removed is gone. It is never refused after the
+    /// last check, nor where no series is held.
     pub fn expire(&mut self, now: u64) -> Result<usize, Error>
         ensures expired { (setup : Setup) (log : Log) → IsAfter setup log self.old →
             (checks : List (Answered KeyParts)) × IsExpiry setup (steps log) now checks result
@@ -110,10 +111,12 @@ impl Exporter {
         Ok(removed)
     }
 
-    /// A line for each series that is held, in composite key order.
+    /// A line for each series that is held, in composite key order. It is never refused where none is held.
     pub fn text(&self) -> Result<String, Error>
-        ensures { (setup : Setup) (log : Log) → IsAfter setup log self.now →
+        ensures text { (setup : Setup) (log : Log) → IsAfter setup log self.now →
             MatchResult result (λ text. IsText (cells_after setup (steps log)) (string_bytes text)) (λ e. e ≡ OutOfMemory) }
+        ensures refused { (setup : Setup) (log : Log) → IsAfter setup log self.now →
+            OnErr result (HoldsSome (cells_after setup (steps log))) }
     {
         let series = sorted_series(self.alloc, &self.registry)?;
         let mut text = String::new(self.alloc);

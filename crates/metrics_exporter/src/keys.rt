@@ -6,7 +6,7 @@ ghost use Rattle.metrics_names.specs.declared.kind.MetricKind.TheVariants.{Count
 ghost use Rattle.metrics_names.specs.declared.kind.MetricKind.TheVariants.{Histogram as HistogramKind};
 ghost use Rattle.metrics.specs.declared.error.Error.TheVariants.{Memory as OutOfMemory};
 ghost use Rattle.metrics_exporter.specs.Gathering.{all_shown, series_shown, series_in};
-ghost use Rattle.metrics_exporter.specs.Exporting.{AreSeries, IsHeldNumber};
+ghost use Rattle.metrics_exporter.specs.Exporting.{AreSeries, HaveFirst, IsHeldNumber};
 ghost use Rattle.metrics_exporter.specs.Kept.{cells_of};
 
 use crate::cells::CountedCells;
@@ -93,36 +93,49 @@ pub(crate) fn key_order()
     ensures order { (a b : SeriesKey) → ⟦<CompositeKey as Ord>⟧.cmp a b ≡ series_key_cmp a b }
 {}
 
-/// The series that are held, in composite key order.
+/// The series that are held, in composite key order. Where none is held it takes no memory.
 pub(crate) fn sorted_series<'a>(
     alloc: Global,
     registry: &'a OwnedRegistry<Key, CountedCells>,
 ) -> Result<Vec<SeriesRef<'a>>, Error>
     ensures { MatchResult result (λ all. AreSeries (cells_of registry.now) (all_shown all.items)
-        × IsDistinct series_key_eq (all_shown all.items)) (λ e. e ≡ OutOfMemory) }
+        × IsDistinct series_key_eq (all_shown all.items)) (λ e. (e ≡ OutOfMemory) × HaveFirst (cells_of registry.now)) }
 {
+    key_order();
+    if held_number(registry) == 0 {
+        return Ok(Vec::new(alloc));
+    }
     let mut series = gathered_series(alloc, registry)?;
     let _shards = registry.shards();
-    key_order();
     series.sort_unstable();
     Ok(series)
 }
 
-/// Copies of the keys of the series that are held, in composite key order.
+/// Copies of the keys of series.
+fn copied_keys(alloc: Global, series: &[SeriesRef<'_>]) -> Result<Vec<CompositeKey>, AllocError>
+    ensures { IfOk result (λ keys. keys.items ≡ all_shown series.now) }
+{
+    let mut keys = Vec::with_capacity(alloc, series.len())?;
+    for row in series {
+        let (kind, key) = *row;
+        keys.push(CompositeKey::new(kind, key.clone()?))?;
+    }
+    Ok(keys)
+}
+
+/// Copies of the keys of the series that are held, in composite key order. Where none is held it takes no memory.
 pub(crate) fn sorted_keys(
     alloc: Global,
     registry: &OwnedRegistry<Key, CountedCells>,
 ) -> Result<Vec<CompositeKey>, Error>
     ensures { MatchResult result (λ keys. AreSeries (cells_of registry.now) keys.items
-        × IsDistinct series_key_eq keys.items) (λ e. e ≡ OutOfMemory) }
+        × IsDistinct series_key_eq keys.items) (λ e. (e ≡ OutOfMemory) × HaveFirst (cells_of registry.now)) }
 {
     let series = sorted_series(alloc, registry)?;
-    let mut keys = Vec::with_capacity(alloc, series.len())?;
-    for row in &series {
-        let (kind, key) = *row;
-        keys.push(CompositeKey::new(kind, key.clone()?))?;
+    if series.is_empty() {
+        return Ok(Vec::new(alloc));
     }
-    Ok(keys)
+    Ok(copied_keys(alloc, &series)?)
 }
 
 /// The number of the series that are held, or the greatest `usize`.

@@ -1,9 +1,9 @@
 //! What is held, one by one, for texts of other forms.
-ghost use Rattle.std.specs.Prelude.{◌≡◌, MatchResult, option_map};
+ghost use Rattle.std.specs.Prelude.{◌≡◌, MatchResult, OnErr, option_map};
 ghost use Rattle.metrics.specs.declared.error.Error.TheVariants.{Memory as OutOfMemory};
 ghost use Rattle.metrics_names.specs.declared.kind.MetricKind.TheVariants.{Counter as CounterKind, Gauge as GaugeKind};
 ghost use Rattle.metrics_names.specs.declared.kind.MetricKind.TheVariants.{Histogram as HistogramKind};
-ghost use Rattle.metrics_exporter.specs.Exporting.{AreSeries, count, level, samples};
+ghost use Rattle.metrics_exporter.specs.Exporting.{AreSeries, HoldsSome, count, level, samples};
 ghost use Rattle.metrics_exporter.specs.Gathering.{all_shown, series_at};
 
 use crate::exporter::Exporter;
@@ -14,9 +14,11 @@ use metrics_storage::Histogram;
 impl Exporter {
     ghost use Rattle.metrics_exporter.specs.Kept.{held_cells};
 
-    /// The series that are held, by reference, in composite key order.
+    /// The series that are held, by reference, in composite key order. It is never refused where none is held.
     pub fn series(&self) -> Result<Vec<SeriesRef<'_>>, Error>
-        ensures { MatchResult result (λ all. AreSeries (held_cells self.now) (all_shown all.items)) (λ e. e ≡ OutOfMemory) }
+        ensures series { MatchResult result (λ all. AreSeries (held_cells self.now) (all_shown all.items))
+            (λ e. e ≡ OutOfMemory) }
+        ensures refused { OnErr result (HoldsSome (held_cells self.now)) }
     {
         sorted_series(self.alloc, &self.registry)
     }

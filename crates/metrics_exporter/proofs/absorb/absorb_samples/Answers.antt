@@ -1,4 +1,4 @@
-use Rattle.std.proofs.Common.{rules, w64, to_z, of_z, ◌≡◌, ℕ, List, [], ◌∷◌, ◌++◌, map, take, drop, suc, get_or, Ok, refl, ap, sym, ◌∙◌, subst, append-nil}
+use Rattle.std.proofs.Common.{rules, w64, to_z, of_z, ◌≡◌, List, [], ◌∷◌, ◌++◌, map, take, drop, suc, get_or, refl, sym, ◌∙◌, subst, append-nil}
 use Rattle.std.specs.Prelude.{ℤ, pos}
 use Rattle.std.proofs.Math.Facts.{to_z-of_z}
 use Rattle.std.proofs.lemmas.List.{take_all, get_or_default}

@@ -1,8 +1,7 @@
-use Rattle.std.proofs.Common.{rules, w64, ◌≡◌, Bool, cond, List, [], ◌∷◌, ◌∙◌, sym, subst}
+use Rattle.std.proofs.Common.{rules, w64, ◌≡◌, Bool, cond, [], ◌∷◌, ◌∙◌, sym, subst}
 use Rattle.std.specs.Prelude.{ℤ}
 use Rattle.std.proofs.Math.Facts.{to_z-of_z}
 use Rattle.metrics.specs.declared.debugging.DebugValue.{DebugValue}
-use Rattle.metrics.specs.declared.handles.Update.{Update}
 use Rattle.metrics.specs.declared.handles.Update.TheVariants.{Set}
 use Rattle.metrics_names.specs.declared.kind.MetricKind.TheVariants.{Gauge}
 use Rattle.metrics_exporter.specs.Gathering.{series_at}

@@ -1,7 +1,4 @@
-use Rattle.std.proofs.Common.{rules, of_calls, ◌≡◌, sym, subst}
-use Rattle.std.specs.List.{IsDistinct}
-use Rattle.std.specs.Map.{keys_of}
-use Rattle.metrics_names.specs.Names.{key_eq}
+use Rattle.std.proofs.Common.{rules, of_calls}
 use Rattle.metrics_exporter.specs.Stepping.{TakesSample}
 use Rattle.metrics_exporter.proofs.RegistryLemmas.{histograms-alone}
 use Rattle.metrics_exporter.proofs.RoomLemmas.{sample-refused, registry-refused}

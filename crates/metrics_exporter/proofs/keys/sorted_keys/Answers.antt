@@ -1,10 +1,14 @@
-use Rattle.std.proofs.Common.{rules, ◌≡◌, ◌∙◌, ◌++◌, ◌∷◌, [], take, sym}
-use Rattle.metrics_exporter.specs.Gathering.{all_shown, series_shown}
-use Rattle.metrics_exporter.proofs.GatheringLemmas.{shown-more}
+use Rattle.std.proofs.Common.{rules, ◌≡◌, ◌<◌, length, arith}
+use Rattle.metrics.specs.declared.error.Error.TheVariants.{Memory}
+use Rattle.metrics_exporter.specs.Exporting.{HaveFirst}
+use Rattle.metrics_exporter.specs.Kept.{cells_of}
+use Rattle.metrics_exporter.proofs.GatheringLemmas.{shown-first}
+use Rattle.metrics_exporter.proofs.LawLemmas.{refused-with}
 use Rattle.metrics_exporter.proofs.keys.sorted_keys.Goals as goal
 
-pub loop-row-preserved : goal.loop-row-preserved
-loop-row-preserved c =
-    let rows = c.deref-row-items.result.now in
-    let e : c.push.new.self.items ≡ take c.loop-row.row-index (all_shown rows) ++ series_shown c.row-item.result ∷ [] = search rules in
-    e ∙ sym (shown-more rows c.loop-row.row-index c.row-item.result c.loop-row-test.true c.row-item.is)
+pub returns-in_err-copied_keys : goal.returns-in_err-copied_keys
+returns-in_err-copied_keys c =
+    let rows = c.in_ok-series.series.items in
+    let cells = cells_of c.args.registry.now in
+    let some : 0 < length rows = search (rules, arith) in
+    refused-with c.from_residual-in_err-copied_keys.result _ (λ e. e ≡ Memory) (HaveFirst cells) (shown-first cells rows c.in_ok-series.ensures.0 some) (search rules)

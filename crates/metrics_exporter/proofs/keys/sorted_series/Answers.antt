@@ -1,13 +1,34 @@
-use Rattle.std.proofs.Common.{◌∙◌, refl, ap, sym, subst}
+use Rattle.std.proofs.Common.{rules, ◌≡◌, ◌<◌, ◌∙◌, List, refl, ap, sym, subst, arith}
 use Rattle.std.specs.Cmp.{IsTotalOrder}
+use Rattle.std.specs.List.{IsDistinct}
 use Rattle.std.specs.Ordering.{is_eq}
 use Rattle.std.proofs.lemmas.List.Sorted.{IsPermutation-map}
-use Rattle.metrics_names.specs.Names.{series_key_cmp}
+use Rattle.metrics.specs.declared.error.Error.TheVariants.{Memory}
+use Rattle.metrics_names.specs.Names.{SeriesKey, series_key_eq, series_key_cmp}
 use Rattle.metrics_names.specs.contracts.key.CompositeKeyOrd.TheImpl.Laws.{total-law, matches_eq-law}
+use Rattle.metrics_exporter.specs.Exporting.{AreSeries, HaveFirst}
 use Rattle.metrics_exporter.specs.Gathering.{all_shown, series_shown}
-use Rattle.metrics_exporter.proofs.SortedLemmas.{sorted-series}
+use Rattle.metrics_exporter.specs.Kept.{cells_of}
+use Rattle.metrics_exporter.proofs.LawLemmas.{have-first, none-held, refused-with}
+use Rattle.metrics_exporter.proofs.SortedLemmas.{sorted-series, none-distinct}
 use Rattle.metrics_exporter.proofs.GatheringLemmas.{shown-sorted}
 use Rattle.metrics_exporter.proofs.keys.sorted_series.Goals as goal
+
+pub returns-then-held_number-eq0 : goal.returns-then-held_number-eq0
+returns-then-held_number-eq0 c =
+    let counted = c.held_number.ensures in
+    let none : c.held_number.result ≡ 0 = search rules in
+    let P : List SeriesKey → Type 0 = λ keys. AreSeries (cells_of c.args.registry.now) keys × IsDistinct series_key_eq keys in
+    subst P (ap all_shown (sym c.new.ensures.items)) (none-held (cells_of c.args.registry.now) counted.0 counted.1 (omega (arith, none, counted.2)), none-distinct)
+
+pub returns-in_err-series : goal.returns-in_err-series
+returns-in_err-series c =
+    let order = c.key_order.ensures.order in
+    let counted = c.held_number.ensures in
+    let some : 0 < c.held_number.result = search (rules, arith) in
+    let total : IsTotalOrder series_key_cmp = subst IsTotalOrder (λ i a b. order a b i) total-law in
+    let first = have-first total (λ a b. sym (c.key_order.ensures.equality a b) ∙ matches_eq-law a b ∙ ap is_eq (order a b)) (cells_of c.args.registry.now) counted.0 counted.1 (omega (arith, some, counted.2)) in
+    refused-with c.from_residual.result _ (λ e. e ≡ Memory) (HaveFirst (cells_of c.args.registry.now)) first (search rules)
 
 pub returns : goal.returns
 returns c =

@@ -19,7 +19,7 @@ returns-clause-rows c =
     let same = c.in_ok-rows.ensures.rows ∙ ap (λ l. map row_of (all_shown l)) c.deref.ensures.value in
     record {
       keys = all_shown c.in_ok-series.series.items;
-      series = c.in_ok-series.ensures;
+      series = c.in_ok-series.ensures.series;
       same = subst P same (IsPermutation-map row_shown _ _ c.sort_unstable.ensures.permutation);
       ordered = sorted-map row_shown _ row_cmp (λ a b. c.row_order.ensures a b) c.sort_unstable.new.self.items c.sort_unstable.ensures.sorted;
     }
@@ -27,4 +27,4 @@ returns-clause-rows c =
 pub returns-clause-texts : goal.returns-clause-texts
 returns-clause-texts c =
     let P : List (MetricKind × Bor KeyParts) → Type 0 = λ series. All (λ s. All (λ (l : LabelParts). IsUtf8 l.1) s.1.now.labels) series in
-    holds-texts (held_cells c.args.exporter.now) c.in_ok-series.series.items c.in_ok-series.ensures (subst P c.deref.ensures.value c.in_ok-rows.ensures.texts)
+    holds-texts (held_cells c.args.exporter.now) c.in_ok-series.series.items c.in_ok-series.ensures.series (subst P c.deref.ensures.value c.in_ok-rows.ensures.texts)

@@ -1,4 +1,4 @@
-use Rattle.std.proofs.Common.{◌≡◌, List, length, ◌≤◌, take, ap, sym, ◌∙◌, subst}
+use Rattle.std.proofs.Common.{List, length, ◌≤◌, take, ◌∙◌, subst}
 use Rattle.std.proofs.lemmas.List.{take_all}
 use Rattle.metrics.specs.Book.{RowParts}
 use Rattle.metrics_exporter.specs.Kept.{IsAfter}

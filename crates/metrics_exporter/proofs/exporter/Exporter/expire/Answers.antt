@@ -5,9 +5,14 @@ use Rattle.metrics.specs.declared.error.Error.{Error}
 use Rattle.metrics_exporter.specs.declared.exporter.Exporter.{Exporter}
 use Rattle.metrics_exporter.specs.Exporting.{AreSeries}
 use Rattle.metrics_exporter.specs.Kept.{cells_of}
-use Rattle.metrics_exporter.proofs.ExpiryLemmas.{Front, Expired, next, front-more, expired-all, expired-front, err-result}
+use Rattle.metrics_exporter.proofs.ExpiryLemmas.{Front, Expired, next, front-more, expired-all, expired-front, expired-none, err-result}
 use Rattle.metrics_exporter.proofs.exporter.Exporter.expire.Goals as goal
 use Rattle.metrics_exporter.proofs.exporter.Exporter.expire.Goals.{then-not-branch, else-not-branch}
+
+pub returns-in_err-keys-clause-expired : goal.returns-in_err-keys-clause-expired
+returns-in_err-keys-clause-expired c =
+    let P : Result ℕ Error → Type 0 = λ r. Expired c.args.self.now c.args.self.now c.args.now r in
+    subst P (sym (err-result c.from_residual.result c.in_err-keys.field-0.0 c.from_residual.ensures.1)) (expired-none c.args.now c.args.self.now c.in_err-keys.field-0.0 c.in_err-keys.ensures)
 
 pub returns-in_err-check_series : goal.returns-in_err-check_series
 returns-in_err-check_series c =
@@ -18,8 +23,8 @@ returns-in_err-check_series c =
     let refused = c.in_err-check_series.ensures in
     record {
       expired = subst P (sym (err-result c.from_residual-in_err-check_series.result c.in_err-check_series.field-0.0 c.from_residual-in_err-check_series.ensures.1))
-          (expired-front c.args.now keys c.args.self.now c.loop-series.self f c.loop-series.series-index c.loop-series.removed c.in_err-check_series.field-0.0
-          (subst S (sym c.deref-series-items.ensures.value) c.in_ok-keys.ensures.0) c.loop-series.invariant refused.err.2 refused.rules refused.err.1 refused.err.0);
+          (expired-front c.args.now keys c.args.self.now c.loop-series.self f c.loop-series.series-index c.loop-series.removed c.series-item.result c.in_err-check_series.field-0.0
+          (subst S (sym c.deref-series-items.ensures.value) c.in_ok-keys.ensures.0) c.loop-series.invariant c.loop-series-test.true c.series-item.is refused.err.2 refused.rules refused.err.1 refused.err.0);
       shards = refused.storage.1 ∙ c.loop-series.invariant.shards;
     }
 
