@@ -99,3 +99,9 @@ pub empty_same : {A : Type 0} (cs : List (List A)) → AreChunks cs → (length 
 empty_same [] h = refl
 empty_same (c ∷ []) h = both_some 1 (length (c ++ [])) (omega arith) (omega (arith, length-append c [], h.0))
 empty_same (c ∷ d ∷ cs) h = let rest = joined_lists (d ∷ cs) in both_some (length (c ∷ d ∷ cs)) (length (c ++ rest)) (omega arith) (omega (arith, length-append c rest, h.0))
+
+-- where there is a block there is a value
+pub some_same : {A : Type 0} (cs : List (List A)) → AreChunks cs → 0 < length cs → 0 < length (joined_lists cs)
+some_same [] h some = absurd (omega (arith, some))
+some_same (c ∷ []) h some = omega (arith, length-append c [], h.0)
+some_same (c ∷ d ∷ cs) h some = let rest = joined_lists (d ∷ cs) in omega (arith, length-append c rest, h.0)

@@ -1,12 +1,12 @@
 -- Walks over the blocks of a bucket, from the newest on.
-use Rattle.std.proofs.Common.{◌≡◌, ◌+◌, length, arith, ℕ, zero, suc, List, [], ◌∷◌, ◌++◌, reverse, get_or, set, Result, Ok, Err, ap, refl, sym, ◌∙◌, subst, append_assoc}
-use Rattle.std.proofs.lemmas.List.{reverse-append}
+use Rattle.std.proofs.Common.{◌≡◌, ◌+◌, ◌<◌, length, arith, ℕ, zero, suc, List, [], ◌∷◌, ◌++◌, reverse, get_or, set, Result, Ok, Err, ap, refl, sym, ◌∙◌, subst, append_assoc}
+use Rattle.std.proofs.lemmas.List.{reverse-append, length-append}
 use Rattle.std.specs.Prelude.{IsOk, OnOk, IfErr}
 use Rattle.std.specs.List.{AllZip}
 use Rattle.std.specs.Fn.{Mut, CalledAt, TakesAt}
 use denote.Ref.{Bor}
 use Rattle.metrics.specs.Book.{joined_lists}
-use Rattle.metrics_storage.specs.Bucket.{IsCalledAtEach, TakesEach, TakesInTurn}
+use Rattle.metrics_storage.specs.Bucket.{IsCalledAtEach, TakesInTurn}
 use Rattle.std.specs.List.{FoldsTo}
 
 -- the last item, and what a write there leaves
@@ -43,6 +43,10 @@ module _ {T : Type 0} where
   pub none_left : (R : T → T → Type 0) (bs : List (List T)) → length bs ≡ 0 → AllZip R (joined_lists (reverse bs)) []
   none_left R [] e = tt
   none_left R (b ∷ bs) e = absurd (omega arith)
+
+  -- the blocks before the last one are fewer
+  pub shorter : (bs front : List (List T)) (b : List T) → bs ≡ front ++ b ∷ [] → length front < length bs
+  shorter bs front b e = omega (arith, ap length e, length-append front (b ∷ []))
 
   -- clones of the last block, and then of each other
   pub cloned_more : (R : T → T → Type 0) (bs front : List (List T)) (b told more rest : List T) (P : List T → Type 0)

@@ -1,6 +1,6 @@
 //! A bucket of one owner: a list of blocks, of which only the last has room.
-ghost use Rattle.std.specs.Prelude.{◌≡◌, ◌==◌, ◌%◌, [], ◌∷◌, ◌++◌, length, reverse, IfOk, IfErr, OnOk};
-ghost use Rattle.std.specs.Prelude.{OnErr, MatchResult};
+ghost use Rattle.std.specs.Prelude.{◌≡◌, ◌==◌, ◌%◌, ◌<◌, [], ◌∷◌, ◌++◌, length, reverse, IfOk};
+ghost use Rattle.std.specs.Prelude.{IfErr, OnOk, OnErr, MatchResult};
 ghost use Rattle.std.specs.List.{AllZip};
 ghost use Rattle.metrics.specs.Book.{chunks, blocks as bucket_order, joined_lists};
 ghost use Rattle.metrics_storage.specs.Bucket.{AddsToLast, HasNoRoom, IsCalledAtEach, TakesEach, TakesInTurn};
@@ -94,7 +94,8 @@ fn take_out_once<T: Drop, F: FnMut(&[T])>(blocks: &mut Vec<Block<T>>, mut f: F)
 
 /// A clone of each value: what each block holds, the newest block first.
 fn copied<T: Clone + Drop>(blocks: &[Block<T>], alloc: Global) -> Result<Vec<T>, AllocError>
-    ensures { IfOk result (λ v. AllZip T.is_clone (joined_lists (reverse blocks.now)) v.items) }
+    ensures clones { IfOk result (λ v. AllZip T.is_clone (joined_lists (reverse blocks.now)) v.items) }
+    ensures refused { OnErr result (0 < length blocks.now) }
 {
     let mut told = Vec::new(alloc);
     let mut rest = blocks;
@@ -155,12 +156,14 @@ impl<T: Drop> OwnedBucket<T> {
         }
     }
 
-    /// A clone of each value, in bucket order. It is refused with `Error::Memory` where there is no room for them.
+    /// A clone of each value, in bucket order. It is refused with `Error::Memory` where there is no room for them, and never
+    /// where there are none.
     pub fn data(&self) -> Result<Vec<T>, Error>
     where
         T: Clone,
         ensures clones { MatchResult result (λ v. AllZip T.is_clone (bucket_order self.now) v.items) (λ e. e ≡ OutOfMemory) }
         ensures same { IfOk result (λ v. ((x y : T) → T.is_clone x y → y ≡ x) → v.items ≡ bucket_order self.now) }
+        ensures refused { OnErr result (0 < length self.now) }
     {
         Ok(copied(&self.blocks, *self.blocks.allocator())?)
     }

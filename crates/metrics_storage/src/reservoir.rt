@@ -1,7 +1,7 @@
 //! A sampling reservoir: a fixed number of values out of all that were pushed, each kept with the same chance where the
 //! draws are even.
 ghost use Rattle.std.specs.Prelude.{◌≡◌, ◌+◌, ◌*◌, ◌^◌, ◌<◌, ◌≤◌, ◌==◌, ◌↔◌, min, length};
-ghost use Rattle.std.specs.Prelude.{vec_capacity, pos, neg_ℤ, ◌≤ℤ◌, IsErr, IfSome, MatchResult, Some};
+ghost use Rattle.std.specs.Prelude.{[], vec_capacity, pos, neg_ℤ, ◌≤ℤ◌, IsErr, OnErr, IfOk, IfSome, MatchResult, Some};
 ghost use Rattle.std.specs.Iterator.{at_most, UpTo};
 ghost use Rattle.metrics_storage.specs.Reservoir.{place_step};
 ghost use Rattle.metrics_storage.specs.Drains.{Drained, drain_of, drain_step, rate_of};
@@ -9,7 +9,7 @@ ghost use Rattle.metrics_storage.specs.Sample.{Sampled, new_sample, after_push};
 ghost use Rattle.metrics.specs.declared.error.Error.TheVariants.{Memory as OutOfMemory, CountFull};
 
 use metrics::Error;
-use std::alloc::Global;
+use std::alloc::{AllocError, Global};
 use std::marker::Model;
 
 /// A fixed number of places for values, and the number and the sum of all that were pushed.
@@ -33,14 +33,26 @@ impl Model for Reservoir {
         × (r.sum ≤ℤ pos (r.pushed * 2 ^ 63)) };
 }
 
+/// Room for so many values. Room for none takes no memory.
+fn room(alloc: Global, size: usize) -> Result<Vec<i64>, AllocError>
+    ensures empty { IfOk result (λ v. v.items ≡ []) }
+    ensures fits { IfOk result (λ v. size ≤ vec_capacity v) }
+    ensures refused { OnErr result (0 < size) }
+{
+    if size == 0 {
+        return Ok(Vec::new(alloc));
+    }
+    Vec::with_capacity(alloc, size)
+}
+
 impl Reservoir {
     /// An empty reservoir of `size` places, whose room is taken now. One of size 0 counts and keeps nothing.
-    /// It is refused with `Error::Memory` where that room isn't found.
+    /// It is refused with `Error::Memory` where that room isn't found, and never at size 0.
     pub fn new(alloc: Global, size: usize) -> Result<Reservoir, Error>
-        ensures { MatchResult result (λ r. r ≡ new_sample size) (λ e. e ≡ OutOfMemory) }
+        ensures { MatchResult result (λ r. r ≡ new_sample size) (λ e. (e ≡ OutOfMemory) × (0 < size)) }
     {
         Ok(Reservoir {
-            values: Vec::with_capacity(alloc, size)?,
+            values: room(alloc, size)?,
             size,
             pushed: 0,
             sum: 0,
