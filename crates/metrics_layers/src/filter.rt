@@ -1,6 +1,6 @@
 //! A filter of names by the patterns that stand in them.
 ghost use Rattle.std.specs.Prelude.{◌≡◌, ◌↔◌, ◌<◌, ◌≤◌, true, false, [], ◌∷◌, ◌++◌, map, length};
-ghost use Rattle.std.specs.Prelude.{IsTrue, IfOk, IfErr, MatchResult};
+ghost use Rattle.std.specs.Prelude.{IsTrue, IfOk, IfErr, OnErr, MatchResult};
 ghost use Rattle.std.specs.List.{sum_by};
 ghost use Rattle.metrics.specs.Layers.{matches, filtered};
 ghost use Rattle.metrics_layers.specs.Filters.{with_pattern, with_folding, with_table, fault_of};
@@ -53,7 +53,7 @@ impl FilterLayer {
         }
     }
 
-    /// A layer with copies of the patterns, and else as `default`.
+    /// A layer with copies of the patterns, and else as `default`. It is never refused where there are none.
     pub fn from_patterns(alloc: Global, patterns: &[&str]) -> Result<FilterLayer, Error>
         ensures { MatchResult result
             (λ l. l ≡ record {
@@ -61,7 +61,7 @@ impl FilterLayer {
               fold_case = false;
               table = true;
             })
-            (λ e. e ≡ Memory) }
+            (λ e. (e ≡ Memory) × (0 < length patterns.now)) }
     {
         let mut layer = FilterLayer::default(alloc);
         layer.patterns = copied(alloc, patterns)?;
@@ -148,7 +148,8 @@ pub fn is_refused(patterns: &SubstringSet, name: &str) -> bool
 }
 
 fn copied(alloc: Global, patterns: &[&str]) -> Result<Vec<Text>, AllocError>
-    ensures { IfOk result (λ v. v.items ≡ map (λ p. p.now) patterns.now) }
+    ensures texts { IfOk result (λ v. v.items ≡ map (λ p. p.now) patterns.now) }
+    ensures refused { OnErr result (0 < length patterns.now) }
 {
     let mut kept = Vec::new(alloc);
     for pattern in patterns {
