@@ -19,7 +19,7 @@ use Rattle.metrics_trees.specs.BookEnds.{total, ends_from, IsPlace}
 use Rattle.metrics_trees.specs.Reaches.{group_meaning, IsWithin}
 use Rattle.metrics_trees.specs.Nodes.{node_meaning, row_meanings, books_of, most_books, AreEnds, IsSound, IsRowSound, IsTree}
 use Rattle.metrics_trees.specs.declared.reach.Reach.{Reach}
-use Rattle.metrics_trees.specs.declared.node.Node.{Node, Prefixed, Group, Group', Row_of-Node, end_of-Node, more_of-Node, items-the_row-Node, items_hidden-the_row-Node-0}
+use Rattle.metrics_trees.specs.declared.node.Node.{Node, Leaf, Prefixed, Group, Group', Row_of-Node, end_of-Node, more_of-Node, items-the_row-Node, items_hidden-the_row-Node-0}
 use Rattle.metrics_trees.proofs.JoinedLemmas.{contents-group}
 use Rattle.metrics_trees.proofs.OneChildLemmas.{child-most, same-books, keeps-one, place-within, length-ends-of, holds-place, updates-place, snapshots-place, holds-none, updates-none, snapshots-none}
 
@@ -218,3 +218,16 @@ registers-below m old x y read front prefix there inner kind key below r is same
     ap (λ f. prefixed f (node_meaning m x)) same ∙ ap (λ c. prefixed prefix (node_meaning m c)) child ∙ ap (node_meaning m) (sym is) in
     subst (λ a. Registers a (prefixed front (node_meaning m y)) kind key r) node_is
     (below_front (node_meaning m x) (node_meaning m y) front kind key r (subst (λ k. Registers (node_meaning m x) (node_meaning m y) kind k r) key_is h))
+
+-- ---- a call of one child of a group
+
+pub with-child : {B : Type 0} {s y : Node B} (v : Vec (Node B) Global) (i : ℕ) {ends : Vec ℕ Global} {reach : Reach} (z : Node B) → s ≡ Group (with_item v i y) ends reach → y ≡ z → s ≡ Group (with_item v i z) ends reach
+with-child v i {ends = ends} {reach = reach} z same is = same ∙ ap (λ x. Group (with_item v i x) ends reach) is
+
+module _ {B : Type 0} (m : B → Meaning) {x : Node B} {b was : B} (now : B) (is : x ≡ Leaf b) (same : was ≡ b) where
+  pub leaf-keeps : KeepsTargets (m was) (m now) → KeepsTargets (node_meaning m x) (node_meaning m (Leaf now))
+  leaf-keeps h = subst (λ y. KeepsTargets (node_meaning m y) (m now)) (sym is) (subst (λ c. KeepsTargets (m c) (m now)) same h)
+
+  pub leaf-registers : (kind : MetricKind) (key : KeyParts) (r : Result (List Address) Refused) → Registers (m was) (m now) kind key r → Registers (node_meaning m x) (node_meaning m (Leaf now)) kind key r
+  leaf-registers kind key r h =
+      subst (λ y. Registers (node_meaning m y) (m now) kind key r) (sym is) (subst (λ c. Registers (m c) (m now) kind key r) same h)

@@ -112,8 +112,11 @@ impl<B: Recorder> Node<B> {
             Node::Group(children, ends, reach) => {
                 let (first, end) = reach.range(kind, key.name(), children.len());
                 if first == 0 && end == 1 {
-                    // its books have their numbers already
-                    return children[first].register(alloc, kind, key);
+                    // Its books have their numbers already.
+                    return match &mut children[first] {
+                        Node::Leaf(recorder) => recorder.register(alloc, kind, key),
+                        child => child.register(alloc, kind, key),
+                    };
                 }
                 let mut found = Vec::new(alloc);
                 for i in first..end {

@@ -1,12 +1,15 @@
-use Rattle.std.proofs.Common.{rules, arith, ap, ◌∙◌}
+use Rattle.std.proofs.Common.{rules, arith, ap, sym, subst, ◌∙◌}
 use Rattle.std.specs.Result.{result_map_both}
 use Rattle.metrics.proofs.MeaningLemmas.{length-registers}
-use Rattle.metrics_trees.specs.Nodes.{node_meaning, IsTree}
+use Rattle.metrics.specs.Meaning.{KeepsTargets, Registers}
+use Rattle.metrics_trees.specs.Nodes.{node_meaning, IsSound, IsTree}
+use Rattle.metrics_trees.specs.declared.node.Node.{Leaf}
 use Rattle.metrics_trees.specs.declared.node.Node.{the_lemmas}
-use Rattle.metrics_trees.proofs.NodesLemmas.{group-of, row-is, ends-within, registers-below}
+use Rattle.metrics_trees.proofs.NodesLemmas.{group-of, row-is, ends-within, registers-below, with-child, leaf-keeps, leaf-registers}
 use Rattle.metrics_trees.proofs.ChildrenLemmas.{through-none, found-none}
 use Rattle.metrics_trees.proofs.LoopLemmas.{reach-within, loop-of, visit-next, next-within, loop-end, end-sound, end-keeps, all-acted, next-sound, node-sound, next-keeps, below-one, one-within, unvisited-yet, one-sound, one-keeps, one-registers, found-whole, can-append-next, appended-next, refused-append}
 use Rattle.metrics_trees.proofs.node.Node.+register.Goals as goal
+use Rattle.metrics_trees.proofs.node.Node.+register.Goals.{in-Leaf-index_mut, in_default}
 
 pub range-first-requires : goal.range-first-requires
 range-first-requires g t c =
@@ -127,8 +130,8 @@ index_mut-requires g t c =
     let loop = loop-of group _ c.len.ensures c.args.kind c.args.key.now.name _ c.name-in-Group.ensures _ c.range-first.ensures in
     one-within loop c.if-first-eq0.true c.if-end-eq1.true
 
-pub register-requires-then-end-eq1 : goal.register-requires-then-end-eq1
-register-requires-then-end-eq1 g t c κs within =
+pub register-requires-in_default : goal.register-requires-in_default
+register-requires-in_default g t c κs within =
     let tree : IsTree g.B.Recorder.meaning c.args.self.now = search rules in
     let group = group-of g.B.Recorder.meaning c.in-Group.is tree c.in-Group.children-is c.in-Group.ends-is c.in-Group.reach-is in
     let loop = loop-of group _ c.len.ensures c.args.kind c.args.key.now.name _ c.name-in-Group.ensures _ c.range-first.ensures in
@@ -141,9 +144,22 @@ returns-then-end-eq1-clause-sound g t c =
     let group = group-of g.B.Recorder.meaning c.in-Group.is tree c.in-Group.children-is c.in-Group.ends-is c.in-Group.reach-is in
     let loop = loop-of group _ c.len.ensures c.args.kind c.args.key.now.name _ c.name-in-Group.ensures _ c.range-first.ensures in
     let at = visit-next loop _ _ c.index_mut.result.now (omega arith) (below-one loop c.if-first-eq0.true c.if-end-eq1.true) (unvisited-yet _ _) c.index_mut.ensures.value in
-    let h = c.register-then-end-eq1.ensures in
-    let books = length-registers (node_meaning g.B.Recorder.meaning c.index_mut.result.now) (node_meaning g.B.Recorder.meaning c.register-then-end-eq1.new.self) c.args.kind c.args.key.now (result_map_both (λ v. v.items) (λ e. e) c.register-then-end-eq1.result) h.registers in
-    one-sound loop c.args.key.now.labels c.register-then-end-eq1.new.self at c.if-first-eq0.true c.if-end-eq1.true h.sound h.keeps books _ h.registers
+    elim c.match-index_mut.branch [
+      | in-Leaf-index_mut w ↦
+          let now = w.register-in-Leaf-index_mut.new.self in
+          let told = result_map_both (λ v. v.items) (λ e. e) w.register-in-Leaf-index_mut.result in
+          let same = with-child _ _ (Leaf now) w.self-is (search (rules, w.in-Leaf-index_mut.is)) in
+          let keeps = leaf-keeps g.B.Recorder.meaning now w.in-Leaf-index_mut.is w.in-Leaf-index_mut.recorder-is w.register-in-Leaf-index_mut.ensures.keeps in
+          let h = leaf-registers g.B.Recorder.meaning now w.in-Leaf-index_mut.is w.in-Leaf-index_mut.recorder-is c.args.kind c.args.key.now told w.register-in-Leaf-index_mut.ensures.registers in
+          let books = length-registers (node_meaning g.B.Recorder.meaning c.index_mut.result.now) (node_meaning g.B.Recorder.meaning (Leaf now)) c.args.kind c.args.key.now told h in
+          subst (λ s. IsSound g.B.Recorder.meaning s) (sym same) (one-sound loop c.args.key.now.labels (Leaf now) at c.if-first-eq0.true c.if-end-eq1.true tt keeps books told h)
+      | in_default w ↦
+          let now = w.register-in_default.new.self in
+          let told = result_map_both (λ v. v.items) (λ e. e) w.register-in_default.result in
+          let h = w.register-in_default.ensures in
+          let books = length-registers (node_meaning g.B.Recorder.meaning c.index_mut.result.now) (node_meaning g.B.Recorder.meaning now) c.args.kind c.args.key.now told h.registers in
+          subst (λ s. IsSound g.B.Recorder.meaning s) (sym w.self-is) (one-sound loop c.args.key.now.labels now at c.if-first-eq0.true c.if-end-eq1.true h.sound h.keeps books told h.registers)
+    ]
 
 pub returns-then-end-eq1-clause-keeps : goal.returns-then-end-eq1-clause-keeps
 returns-then-end-eq1-clause-keeps g t c =
@@ -151,9 +167,22 @@ returns-then-end-eq1-clause-keeps g t c =
     let group = group-of g.B.Recorder.meaning c.in-Group.is tree c.in-Group.children-is c.in-Group.ends-is c.in-Group.reach-is in
     let loop = loop-of group _ c.len.ensures c.args.kind c.args.key.now.name _ c.name-in-Group.ensures _ c.range-first.ensures in
     let at = visit-next loop _ _ c.index_mut.result.now (omega arith) (below-one loop c.if-first-eq0.true c.if-end-eq1.true) (unvisited-yet _ _) c.index_mut.ensures.value in
-    let h = c.register-then-end-eq1.ensures in
-    let books = length-registers (node_meaning g.B.Recorder.meaning c.index_mut.result.now) (node_meaning g.B.Recorder.meaning c.register-then-end-eq1.new.self) c.args.kind c.args.key.now (result_map_both (λ v. v.items) (λ e. e) c.register-then-end-eq1.result) h.registers in
-    one-keeps loop c.args.key.now.labels c.register-then-end-eq1.new.self at c.if-first-eq0.true c.if-end-eq1.true h.sound h.keeps books _ h.registers
+    elim c.match-index_mut.branch [
+      | in-Leaf-index_mut w ↦
+          let now = w.register-in-Leaf-index_mut.new.self in
+          let told = result_map_both (λ v. v.items) (λ e. e) w.register-in-Leaf-index_mut.result in
+          let same = with-child _ _ (Leaf now) w.self-is (search (rules, w.in-Leaf-index_mut.is)) in
+          let keeps = leaf-keeps g.B.Recorder.meaning now w.in-Leaf-index_mut.is w.in-Leaf-index_mut.recorder-is w.register-in-Leaf-index_mut.ensures.keeps in
+          let h = leaf-registers g.B.Recorder.meaning now w.in-Leaf-index_mut.is w.in-Leaf-index_mut.recorder-is c.args.kind c.args.key.now told w.register-in-Leaf-index_mut.ensures.registers in
+          let books = length-registers (node_meaning g.B.Recorder.meaning c.index_mut.result.now) (node_meaning g.B.Recorder.meaning (Leaf now)) c.args.kind c.args.key.now told h in
+          subst (λ s. KeepsTargets (node_meaning g.B.Recorder.meaning c.args.self.now) (node_meaning g.B.Recorder.meaning s)) (sym same) (one-keeps loop c.args.key.now.labels (Leaf now) at c.if-first-eq0.true c.if-end-eq1.true tt keeps books told h)
+      | in_default w ↦
+          let now = w.register-in_default.new.self in
+          let told = result_map_both (λ v. v.items) (λ e. e) w.register-in_default.result in
+          let h = w.register-in_default.ensures in
+          let books = length-registers (node_meaning g.B.Recorder.meaning c.index_mut.result.now) (node_meaning g.B.Recorder.meaning now) c.args.kind c.args.key.now told h.registers in
+          subst (λ s. KeepsTargets (node_meaning g.B.Recorder.meaning c.args.self.now) (node_meaning g.B.Recorder.meaning s)) (sym w.self-is) (one-keeps loop c.args.key.now.labels now at c.if-first-eq0.true c.if-end-eq1.true h.sound h.keeps books told h.registers)
+    ]
 
 pub returns-then-end-eq1-clause-registers : goal.returns-then-end-eq1-clause-registers
 returns-then-end-eq1-clause-registers g t c =
@@ -161,9 +190,24 @@ returns-then-end-eq1-clause-registers g t c =
     let group = group-of g.B.Recorder.meaning c.in-Group.is tree c.in-Group.children-is c.in-Group.ends-is c.in-Group.reach-is in
     let loop = loop-of group _ c.len.ensures c.args.kind c.args.key.now.name _ c.name-in-Group.ensures _ c.range-first.ensures in
     let at = visit-next loop _ _ c.index_mut.result.now (omega arith) (below-one loop c.if-first-eq0.true c.if-end-eq1.true) (unvisited-yet _ _) c.index_mut.ensures.value in
-    let h = c.register-then-end-eq1.ensures in
-    let books = length-registers (node_meaning g.B.Recorder.meaning c.index_mut.result.now) (node_meaning g.B.Recorder.meaning c.register-then-end-eq1.new.self) c.args.kind c.args.key.now (result_map_both (λ v. v.items) (λ e. e) c.register-then-end-eq1.result) h.registers in
-    one-registers loop c.args.key.now.labels c.register-then-end-eq1.new.self at c.if-first-eq0.true c.if-end-eq1.true h.sound h.keeps books _ h.registers
+    elim c.match-index_mut.branch [
+      | in-Leaf-index_mut w ↦
+          let now = w.register-in-Leaf-index_mut.new.self in
+          let told = result_map_both (λ v. v.items) (λ e. e) w.register-in-Leaf-index_mut.result in
+          let same = with-child _ _ (Leaf now) w.self-is (search (rules, w.in-Leaf-index_mut.is)) in
+          let keeps = leaf-keeps g.B.Recorder.meaning now w.in-Leaf-index_mut.is w.in-Leaf-index_mut.recorder-is w.register-in-Leaf-index_mut.ensures.keeps in
+          let h = leaf-registers g.B.Recorder.meaning now w.in-Leaf-index_mut.is w.in-Leaf-index_mut.recorder-is c.args.kind c.args.key.now told w.register-in-Leaf-index_mut.ensures.registers in
+          let books = length-registers (node_meaning g.B.Recorder.meaning c.index_mut.result.now) (node_meaning g.B.Recorder.meaning (Leaf now)) c.args.kind c.args.key.now told h in
+          subst (λ q. Registers (node_meaning g.B.Recorder.meaning c.args.self.now) (node_meaning g.B.Recorder.meaning c.match-index_mut.self) c.args.kind c.args.key.now (result_map_both (λ v. v.items) (λ e. e) q)) (sym w.result-is)
+          (subst (λ s. Registers (node_meaning g.B.Recorder.meaning c.args.self.now) (node_meaning g.B.Recorder.meaning s) c.args.kind c.args.key.now told) (sym same) (one-registers loop c.args.key.now.labels (Leaf now) at c.if-first-eq0.true c.if-end-eq1.true tt keeps books told h))
+      | in_default w ↦
+          let now = w.register-in_default.new.self in
+          let told = result_map_both (λ v. v.items) (λ e. e) w.register-in_default.result in
+          let h = w.register-in_default.ensures in
+          let books = length-registers (node_meaning g.B.Recorder.meaning c.index_mut.result.now) (node_meaning g.B.Recorder.meaning now) c.args.kind c.args.key.now told h.registers in
+          subst (λ q. Registers (node_meaning g.B.Recorder.meaning c.args.self.now) (node_meaning g.B.Recorder.meaning c.match-index_mut.self) c.args.kind c.args.key.now (result_map_both (λ v. v.items) (λ e. e) q)) (sym w.result-is)
+          (subst (λ s. Registers (node_meaning g.B.Recorder.meaning c.args.self.now) (node_meaning g.B.Recorder.meaning s) c.args.kind c.args.key.now told) (sym w.self-is) (one-registers loop c.args.key.now.labels now at c.if-first-eq0.true c.if-end-eq1.true h.sound h.keeps books told h.registers))
+    ]
 
 pub returns-in_ok-set_below-in-Prefixed-clause-registers : goal.returns-in_ok-set_below-in-Prefixed-clause-registers
 returns-in_ok-set_below-in-Prefixed-clause-registers g t c =
