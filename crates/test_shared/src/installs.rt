@@ -1,7 +1,7 @@
 //! Cells that are filled with a recorder.
 
 use crate::books::{AT, count_of, key};
-use metrics::{Key, KeyName, MetricKind, Recorder, Snapshot, Unit, Update};
+use metrics::{Key, KeyName, MetricKind, Recorder, Refused, Snapshot, Unit, Update};
 use metrics_debugging::DebuggingRecorder;
 use metrics_shared::{Install, RecoverableRecorder, SetRecorderError, Shared, SlotRecorder};
 use std::alloc::Global;
@@ -18,18 +18,35 @@ fn counted<R: Wait, B: Recorder>(rt: &R, alloc: Global, cell: &OnceLock<Shared<B
     }
 }
 
+/// Registers the counter `c` in a book and counts 3.
+fn count_three<B: Recorder>(alloc: Global, book: &mut B) -> Result<bool, Refused> {
+    let key = key(alloc, "c")?;
+    let registered = book.register(alloc, MetricKind::Counter, &key).is_ok();
+    Ok(registered && book.update(AT, Update::Increment(3)).is_ok())
+}
+
 /// That a recorder is found in the cell that it was put into.
-fn expect_found<R: Abort + Wait, B: Recorder>(rt: &R, alloc: Global, book: B, key: &Key) {
-    let mut book = book;
-    assert!(rt; book.register(alloc, MetricKind::Counter, key).is_ok());
-    assert_eq!(rt; book.update(AT, Update::Increment(3)), Ok(()));
+fn expect_found<R: Abort + Wait, B: Recorder>(
+    rt: &R,
+    alloc: Global,
+    book: Result<B, Refused>,
+) -> Result<(), Fail> {
+    let mut book = book?;
+    assert_eq!(rt; count_three(alloc, &mut book), Ok(true));
     let cell = OnceLock::new();
     assert!(rt; book.install(rt, &cell).is_ok());
     assert_eq!(rt; counted(rt, alloc, &cell), Some(3));
+    Ok(())
 }
 
 #[test]
 fn an_installed_recorder_is_found(rt: HostRuntime) -> Result<(), Fail> {
+    let alloc = rt.alloc();
+    expect_found(&rt, alloc, DebuggingRecorder::new(alloc))
+}
+
+#[test]
+fn a_taken_cell_is_told(rt: HostRuntime) -> Result<(), Fail> {
     let alloc = rt.alloc();
     let taken = SetRecorderError::Taken(alloc);
     let printed = format!(in alloc; "{taken}: {taken:?}")?;
@@ -37,8 +54,6 @@ fn an_installed_recorder_is_found(rt: HostRuntime) -> Result<(), Fail> {
         printed.as_str(),
         "a recorder is installed already: Taken(..)"
     );
-    let book = DebuggingRecorder::new(alloc)?;
-    expect_found(&rt, alloc, book, &key(alloc, "c")?);
     Ok(())
 }
 
@@ -93,21 +108,37 @@ fn is_described(rows: &Snapshot) -> bool {
     }
 }
 
-/// Describes and registers a counter through a slot, and looks for text and unit in the book that is taken back.
+/// Describes and registers a counter through a slot.
+fn describe_and_register<R: Abort + Wait, B: Recorder>(
+    rt: &R,
+    alloc: Global,
+    slot: &SlotRecorder<B>,
+) -> Result<(), Fail> {
+    let name = KeyName::new(alloc, "c")?;
+    let told = slot.describe(
+        rt,
+        alloc,
+        MetricKind::Counter,
+        &name,
+        Some(Unit::Count),
+        "t",
+    );
+    assert_eq!(rt; told, Ok(1));
+    let key = Key::from(name);
+    assert!(rt; slot.register(rt, alloc, MetricKind::Counter, &key).is_ok());
+    Ok(())
+}
+
+/// Looks for text and unit in the book that is taken back.
 fn expect_described<R: Abort + Wait, B: Recorder>(
     rt: &R,
     alloc: Global,
-    book: B,
-    name: &KeyName,
-    key: &Key,
+    book: Result<B, Refused>,
 ) -> Result<(), Fail> {
     let cell = OnceLock::new();
-    let installed = RecoverableRecorder::new(book).install(rt, alloc, &cell);
+    let installed = RecoverableRecorder::new(book?).install(rt, alloc, &cell);
     let handle = installed.ok().ok_or("memory")?;
-    let slot = cell.get().ok_or("no slot")?;
-    let told = slot.describe(rt, alloc, MetricKind::Counter, name, Some(Unit::Count), "t");
-    assert_eq!(rt; told, Ok(1));
-    assert!(rt; slot.register(rt, alloc, MetricKind::Counter, key).is_ok());
+    describe_and_register(rt, alloc, cell.get().ok_or("no slot")?)?;
     assert!(rt; is_described(&handle.into_inner(rt)?.snapshot(alloc, 0)?));
     Ok(())
 }
@@ -115,7 +146,5 @@ fn expect_described<R: Abort + Wait, B: Recorder>(
 #[test]
 fn a_series_is_described_through_a_slot(rt: HostRuntime) -> Result<(), Fail> {
     let alloc = rt.alloc();
-    let name = KeyName::new(alloc, "c")?;
-    let book = DebuggingRecorder::new(alloc)?;
-    expect_described(&rt, alloc, book, &name, &key(alloc, "c")?)
+    expect_described(&rt, alloc, DebuggingRecorder::new(alloc))
 }

@@ -93,9 +93,10 @@ fn expect_refusals(
 fn expect_shared<R: Abort + Wait, B: Recorder>(
     rt: &R,
     alloc: Global,
-    shared: &Shared<B>,
+    book: Result<B, Refused>,
     key: &Key,
 ) -> Result<(), Fail> {
+    let shared = Shared::new(book?);
     let found = shared.register(rt, alloc, MetricKind::Histogram, key);
     let first = shared.update(rt, AT, Update::Record(5));
     expect_refusals(rt, found, first, shared.update(rt, AT, Update::Record(6)));
@@ -106,10 +107,10 @@ fn expect_shared<R: Abort + Wait, B: Recorder>(
 fn expect_slot<R: Abort + Wait, B: Recorder>(
     rt: &R,
     alloc: Global,
-    book: B,
+    book: Result<B, Refused>,
     key: &Key,
 ) -> Result<(), Fail> {
-    let built = RecoverableRecorder::new(book).build(rt, alloc);
+    let built = RecoverableRecorder::new(book?).build(rt, alloc);
     let (slot, handle) = built.ok().ok_or("memory")?;
     let found = slot.register(rt, alloc, MetricKind::Histogram, key);
     let first = slot.update(rt, AT, Update::Record(5));
@@ -128,6 +129,6 @@ fn new_book(alloc: Global) -> Result<Scarce, Refused> {
 fn a_book_stands_after_a_refusal(rt: HostRuntime) -> Result<(), Fail> {
     let alloc = rt.alloc();
     let key = key(alloc, "h")?;
-    expect_shared(&rt, alloc, &Shared::new(new_book(alloc)?), &key)?;
-    expect_slot(&rt, alloc, new_book(alloc)?, &key)
+    expect_shared(&rt, alloc, new_book(alloc), &key)?;
+    expect_slot(&rt, alloc, new_book(alloc), &key)
 }

@@ -32,14 +32,16 @@ fn set_gauge<R: Abort + Wait, B: Recorder>(
     rt: &R,
     alloc: Global,
     shared: &Shared<B>,
-    name: &KeyName,
-    key: &Key,
-) {
+) -> Result<(), Refused> {
+    let name = KeyName::new(alloc, "g")?;
     let unit = Some(Unit::Count);
-    let told = shared.describe(rt, alloc, MetricKind::Gauge, name, unit, "t");
+    let told = shared.describe(rt, alloc, MetricKind::Gauge, &name, unit, "t");
     assert_eq!(rt; told, Ok(1));
-    assert!(rt; shared.register(rt, alloc, MetricKind::Gauge, key).is_ok());
+    let labels = vec![in alloc; Label::new(alloc, "host", "a")?]?;
+    let key = Key::from_parts(alloc, "g", labels)?;
+    assert!(rt; shared.register(rt, alloc, MetricKind::Gauge, &key).is_ok());
     assert_eq!(rt; shared.update(rt, AT, Update::Set(5)), Ok(()));
+    Ok(())
 }
 
 /// How a snapshot resets, and the value of the gauge before.
@@ -52,8 +54,10 @@ const RESETS: [(Reset, i64); 3] = [
 fn expect_gauges<R: Abort + Wait, B: Recorder>(
     rt: &R,
     alloc: Global,
-    shared: &Shared<B>,
+    book: Result<B, Refused>,
 ) -> Result<(), Refused> {
+    let shared = Shared::new(book?);
+    set_gauge(rt, alloc, &shared)?;
     for (reset, value) in RESETS {
         let rows = shared.snapshot_with(rt, alloc, 0, reset)?;
         assert!(rt; is_gauge(rows.as_slice(), value));
@@ -66,11 +70,7 @@ fn expect_gauges<R: Abort + Wait, B: Recorder>(
 #[test]
 fn calls_of_a_shared_book(rt: HostRuntime) -> Result<(), Fail> {
     let alloc = rt.alloc();
-    let shared = Shared::new(DebuggingRecorder::new(alloc)?);
-    let labels = vec![in alloc; Label::new(alloc, "host", "a")?]?;
-    let key = Key::from_parts(alloc, "g", labels)?;
-    set_gauge(&rt, alloc, &shared, &KeyName::new(alloc, "g")?, &key);
-    expect_gauges(&rt, alloc, &shared)?;
+    expect_gauges(&rt, alloc, DebuggingRecorder::new(alloc))?;
     Ok(())
 }
 
