@@ -214,19 +214,6 @@ impl Key {
         self.labels.as_slice()
     }
 
-    /// The key of another name with the same labels, which both keys share.
-    pub fn renamed(&self, name: KeyName) -> Result<Key, Refused>
-        ensures { MatchResult result (λ k. k ≡ record { name = name; labels = self.now.labels }) (λ e. e ≡ Memory 0) }
-    {
-        let labels = self.labels.clone()?;
-        let number = number_of(&name, &labels);
-        Ok(Key {
-            name,
-            labels,
-            number,
-        })
-    }
-
     /// Becomes the key of prefix, dot and the name of `key`, with its labels, which both keys share.
     ///
     /// It takes memory only where the name's doesn't serve. Where memory is refused it's some other key.
