@@ -2,7 +2,7 @@
 #![tactic(auto)]
 
 use anyhow::Result;
-use metrics::{Error, Key, MetricKindMask, Recorder, Reset};
+use metrics::{Error, Key, MetricKindMask, Recorder, Reset, Snapshot};
 use metrics_util::debugging::DebuggingRecorder;
 use metrics_util::exporter::{Exporter, exposition};
 use metrics_util::layers::{Child, FilterLayer, PrefixLayer};
@@ -15,15 +15,19 @@ fn tree(alloc: Global) -> Result<Child<DebuggingRecorder>, Error> {
     Ok(book.prefix(alloc, &prefix)?.filter(alloc, &filter)?)
 }
 
-fn main(rt: HostRuntime) -> Result<()> {
-    let alloc = rt.alloc();
-    let mut on = tree(alloc)?;
+/// Counts two names, and answers what the book has.
+fn count<R: Recorder>(alloc: Global, mut on: R) -> Result<Snapshot, Error> {
     for (name, by) in [("hits", 2), ("debug.hits", 5)] {
         let counter = on.register_counter(alloc, &Key::from_name(alloc, name)?)?;
         counter.increment(&mut on, by)?;
     }
+    Ok(on.snapshot_with(alloc, 0, Reset::KeepGauges)?)
+}
+
+fn main(rt: HostRuntime) -> Result<()> {
+    let alloc = rt.alloc();
     let mut exporter = Exporter::new(alloc, 1, MetricKindMask::ALL, Some(60), &[10])?;
-    exporter.absorb(&on.snapshot_with(alloc, 0, Reset::KeepGauges)?)?;
+    exporter.absorb(&count(alloc, tree(alloc)?)?)?;
     print!(rt; "{}", exposition(&exporter, alloc)?)?;
     Ok(())
 }

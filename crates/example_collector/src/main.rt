@@ -15,12 +15,21 @@ type Cells = Registry<Key, GenerationalAtomicStorage>;
 
 /// What each thread does: a request that came, one that is still being answered, and how long it took.
 fn serve<W: Wait>(rt: &W, alloc: Global, cells: &Cells, took: i64) -> Result<(), Error> {
-    let hits = Key::from_name(alloc, "hits")?;
-    let open = Key::from_name(alloc, "open")?;
-    let time = Key::from_name(alloc, "time")?;
-    cells.get_or_create_counter(rt, &hits, |cell| CounterFn::increment(cell, 1))?;
-    cells.get_or_create_gauge(rt, &open, |cell| GaugeFn::increment(cell, rt, -1))?;
-    cells.get_or_create_histogram(rt, &time, |cell| cell.record(rt, took))?
+    cells.get_or_create_counter(
+        rt,
+        &Key::from_name(alloc, "hits")?,
+        |cell| CounterFn::increment(cell, 1),
+    )?;
+    cells.get_or_create_gauge(
+        rt,
+        &Key::from_name(alloc, "open")?,
+        |cell| GaugeFn::increment(cell, rt, -1),
+    )?;
+    cells.get_or_create_histogram(
+        rt,
+        &Key::from_name(alloc, "time")?,
+        |cell| cell.record(rt, took),
+    )?
 }
 
 /// Reads every cell. A histogram's samples are taken away.

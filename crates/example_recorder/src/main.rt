@@ -79,13 +79,16 @@ fn series_of_hits<R: Recorder>(alloc: Global, on: &mut R) -> Result<usize, Error
     Ok(on.snapshot(alloc, 0)?.as_slice().len())
 }
 
+/// How many calls a recorder met while the hits were counted, and how many series it has then.
+fn count_hits<R: Recorder>(alloc: Global, on: R) -> Result<(u64, usize), Error> {
+    let mut on = Counting { on, calls: 0 };
+    let series = series_of_hits(alloc, &mut on)?;
+    Ok((on.calls, series))
+}
+
 fn main(rt: HostRuntime) -> Result<()> {
     let alloc = rt.alloc();
-    let mut on = Counting {
-        on: DebuggingRecorder::new(alloc)?,
-        calls: 0,
-    };
-    let series = series_of_hits(alloc, &mut on)?;
-    println!(rt; "{} calls, {series} series", on.calls)?;
+    let (calls, series) = count_hits(alloc, DebuggingRecorder::new(alloc)?)?;
+    println!(rt; "{calls} calls, {series} series")?;
     Ok(())
 }
