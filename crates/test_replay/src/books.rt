@@ -68,15 +68,25 @@ fn histogram_calls<R: Recorder>(
     Ok(())
 }
 
-fn expect_all<R: Recorder>(rt: &impl Abort, alloc: Global, on: &mut R) -> Result<(), Refused> {
-    let name = KeyName::new(alloc, "hits")?;
-    let key = Key::from_name(alloc, "hits")?;
-    counter_calls(rt, alloc, on, &name, &key)?;
-    gauge_calls(rt, alloc, on, &name, &key)?;
-    histogram_calls(rt, alloc, on, &name, &key)?;
+/// Calls of each kind, and what a snapshot has then.
+fn expect_calls<R: Recorder>(
+    rt: &impl Abort,
+    alloc: Global,
+    on: &mut R,
+    name: &KeyName,
+    key: &Key,
+) -> Result<(), Refused> {
+    counter_calls(rt, alloc, on, name, key)?;
+    gauge_calls(rt, alloc, on, name, key)?;
+    histogram_calls(rt, alloc, on, name, key)?;
     let snapshot = Snapshotter::of(0).snapshot_with(alloc, on, Reset::All)?;
     assert!(rt; are_all(snapshot.as_slice()));
     Ok(())
+}
+
+fn expect_all<R: Recorder>(rt: &impl Abort, alloc: Global, on: &mut R) -> Result<(), Refused> {
+    let name = KeyName::new(alloc, "hits")?;
+    expect_calls(rt, alloc, on, &name, &Key::from_name(alloc, "hits")?)
 }
 
 fn expect_typed<R: Recorder>(

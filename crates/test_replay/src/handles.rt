@@ -64,13 +64,12 @@ fn expect_no_other<R: Recorder>(
 }
 
 /// That typed handles change nothing where an address of theirs names no series of their kind.
-fn expect_refused<R: Recorder>(
+fn expect_nothing<R: Recorder>(
     rt: &impl Abort,
     alloc: Global,
-    book: Result<R, Refused>,
+    book: &mut R,
+    key: &Key,
 ) -> Result<(), Refused> {
-    let book = &mut book?;
-    let key = &Key::from_name(alloc, "a")?;
     assert!(rt; book.register(alloc, MetricKind::Counter, key).is_ok());
     assert!(rt; book.register(alloc, MetricKind::Gauge, key).is_ok());
     expect_no_counter(rt, alloc, book)?;
@@ -78,6 +77,14 @@ fn expect_refused<R: Recorder>(
     let snapshot = book.snapshot_with(alloc, 0, Reset::KeepGauges)?;
     assert!(rt; are_nothing(snapshot.as_slice()));
     Ok(())
+}
+
+fn expect_refused<R: Recorder>(
+    rt: &impl Abort,
+    alloc: Global,
+    book: Result<R, Refused>,
+) -> Result<(), Refused> {
+    expect_nothing(rt, alloc, &mut book?, &Key::from_name(alloc, "a")?)
 }
 
 #[test]
