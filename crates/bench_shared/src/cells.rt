@@ -25,17 +25,18 @@ const SHARDS: usize = 4;
 /// 24 hours in nanoseconds.
 const DAY: u64 = 86_400_000_000_000;
 
-fn key(alloc: Global, i: u32) -> Result<Key> {
+/// The key of a name, with one label.
+pub fn key(alloc: Global, name: &str, i: u32) -> Result<Key> {
     let route = format!(in alloc; "/api/v1/item/{i:03}")?;
     let mut labels = Vec::new(alloc);
     labels.push(Label::new(alloc, "route", route.as_str())?)?;
-    Ok(Key::from_parts(alloc, "requests_total", labels)?)
+    Ok(Key::from_parts(alloc, name, labels)?)
 }
 
 fn keys_1000(alloc: Global) -> Result<Vec<Key>> {
     let mut keys = Vec::new(alloc);
     for i in 0..1000u32 {
-        keys.push(key(alloc, i)?)?;
+        keys.push(key(alloc, "requests_total", i)?)?;
     }
     Ok(keys)
 }

@@ -1,4 +1,5 @@
-//! Benchmarks of what threads share: see `bench_harness` for its words.
+//! Benchmarks of what threads share: see `bench_harness` for its words. With the words `hold COUNT [BLOCKS]` it holds
+//! histograms.
 //!
 //! Where four threads work, an operation's time is the time of the walk, divided by the operations of all four.
 #![tactic(auto)]
@@ -6,6 +7,7 @@
 mod cells;
 mod clears;
 mod growing;
+mod held;
 mod pushes;
 mod reservoirs;
 mod shared_pushes;
@@ -16,6 +18,7 @@ use bench_harness::{Size, Words, report};
 use cells::{Checks, Creates, CreatesByFour};
 use clears::Clears;
 use growing::{GrowingClears, GrowingPushes, GrowingPushesOfFour};
+use held::hold_asked;
 use pushes::{Pushes, PushesOfFour};
 use reservoirs::{Filling, Sampling, SamplingByFour};
 use shared_pushes::{SharedPushes, SharedPushesOfFour};
@@ -98,6 +101,10 @@ fn cell_rows<R: Clock + Print + Eprint + Wait>(rt: &R, words: &Words, alloc: Glo
 
 fn main(rt: HostRuntime) -> Result<()> {
     let alloc = rt.alloc();
+    if let Some(held) = hold_asked(&rt, alloc)? {
+        println!(rt; "held {held}")?;
+        return Ok(());
+    }
     let words = Words::new(&rt)?;
     reservoir_rows(&rt, &words, alloc)?;
     bucket_rows(&rt, &words, alloc)?;
