@@ -11,7 +11,7 @@ use std::process::Abort;
 use std::sync::Wait;
 use std::test::Fail;
 
-/// A book that has no memory for addresses, nor for the sample 6.
+/// A book that has no memory to tell what it described, for addresses, nor for the sample 6.
 #[derive(Drop)]
 struct Scarce {
     book: DebuggingRecorder,
@@ -32,7 +32,10 @@ impl Recorder for Scarce {
         unit: Option<Unit>,
         text: &str,
     ) -> Result<usize, Refused> {
-        self.book.describe(alloc, kind, name, unit, text)
+        match self.book.describe(alloc, kind, name, unit, text) {
+            Ok(_) => Err(Refused::Memory { acted: 1 }),
+            Err(refused) => Err(refused),
+        }
     }
 
     fn register(
@@ -78,13 +81,16 @@ fn is_five(rows: &Snapshot) -> bool {
     }
 }
 
-/// That a register call tells on how many targets it had acted, that the first sample is taken and the second refused.
+/// That a describe and a register tell on how many targets they had acted, that the first sample is taken and the second
+/// refused.
 fn expect_refusals(
     rt: &impl Abort,
+    described: Result<usize, Refused>,
     found: Result<Vec<Address>, Refused>,
     first: Result<(), Refused>,
     second: Result<(), Refused>,
 ) {
+    assert_eq!(rt; described, Err(Refused::Memory { acted: 1 }));
     assert!(rt; found.err() == Some(Refused::Memory { acted: 1 }));
     assert_eq!(rt; first, Ok(()));
     assert_eq!(rt; second, Err(Refused::Memory { acted: 0 }));
@@ -94,12 +100,15 @@ fn expect_shared<R: Abort + Wait, B: Recorder>(
     rt: &R,
     alloc: Global,
     book: Result<B, Refused>,
+    name: &KeyName,
     key: &Key,
 ) -> Result<(), Fail> {
     let shared = Shared::new(book?);
+    let told = shared.describe(rt, alloc, MetricKind::Histogram, name, None, "t");
     let found = shared.register(rt, alloc, MetricKind::Histogram, key);
     let first = shared.update(rt, AT, Update::Record(5));
-    expect_refusals(rt, found, first, shared.update(rt, AT, Update::Record(6)));
+    let second = shared.update(rt, AT, Update::Record(6));
+    expect_refusals(rt, told, found, first, second);
     assert!(rt; is_five(&shared.snapshot(rt, alloc, 0)?));
     Ok(())
 }
@@ -108,13 +117,16 @@ fn expect_slot<R: Abort + Wait, B: Recorder>(
     rt: &R,
     alloc: Global,
     book: Result<B, Refused>,
+    name: &KeyName,
     key: &Key,
 ) -> Result<(), Fail> {
     let built = RecoverableRecorder::new(book?).build(rt, alloc);
     let (slot, handle) = built.ok().ok_or("memory")?;
+    let told = slot.describe(rt, alloc, MetricKind::Histogram, name, None, "t");
     let found = slot.register(rt, alloc, MetricKind::Histogram, key);
     let first = slot.update(rt, AT, Update::Record(5));
-    expect_refusals(rt, found, first, slot.update(rt, AT, Update::Record(6)));
+    let second = slot.update(rt, AT, Update::Record(6));
+    expect_refusals(rt, told, found, first, second);
     assert!(rt; is_five(&handle.into_inner(rt)?.snapshot(alloc, 0)?));
     Ok(())
 }
@@ -128,7 +140,8 @@ fn new_book(alloc: Global) -> Result<Scarce, Refused> {
 #[test]
 fn a_book_stands_after_a_refusal(rt: HostRuntime) -> Result<(), Fail> {
     let alloc = rt.alloc();
+    let name = KeyName::new(alloc, "h")?;
     let key = key(alloc, "h")?;
-    expect_shared(&rt, alloc, new_book(alloc), &key)?;
-    expect_slot(&rt, alloc, new_book(alloc), &key)
+    expect_shared(&rt, alloc, new_book(alloc), &name, &key)?;
+    expect_slot(&rt, alloc, new_book(alloc), &name, &key)
 }
