@@ -11,7 +11,7 @@ use std::process::Abort;
 use std::sync::Wait;
 use std::test::Fail;
 
-/// A book that has no memory to tell what it described, for addresses, nor for the sample 6.
+/// A book that describes and registers, and then tells that memory lacked; so it does at the sample 6.
 #[derive(Drop)]
 struct Scarce {
     book: DebuggingRecorder,
