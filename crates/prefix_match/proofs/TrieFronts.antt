@@ -1,8 +1,8 @@
 -- A list that another begins with.
-use Rattle.std.proofs.Common.{◌≡◌, ℕ, ◌+◌, ◌-◌, ◌<◌, ◌≤◌, List, ◌++◌, length, take, drop, get_or, Bool, true, sym, ap, ◌∙◌, arith, length-drop, nat_eq}
+use Rattle.std.proofs.Common.{◌≡◌, ℕ, suc, ◌+◌, ◌-◌, ◌<◌, ◌≤◌, List, [], ◌∷◌, ◌++◌, length, take, drop, get_or, Bool, true, sym, ap, ◌∙◌, arith, length-append, length-drop, nat_eq}
 use Rattle.std.proofs.lemmas.List.{length-take, length-take-le, take-take, get_or-take, take_all, take-append-drop, drop-take}
 use Rattle.std.proofs.lemmas.Slice.Eq.{bytes_eq-Decides}
-use Rattle.std.proofs.Math.Seq.{take-add}
+use Rattle.std.proofs.Math.Seq.{take-add, take-suc}
 use Rattle.std.specs.List.{starts_with}
 use Rattle.prefix_match.specs.TrieTree.{Begins, GoesOn}
 use Rattle.prefix_match.specs.TriePatterns.{IsFront}
@@ -35,6 +35,12 @@ goes_on p q s bp bq l = record {
   longer = l;
   next_byte = begins_at q s (length p) bq l;
 }
+
+-- a front, and the byte behind it
+pub begins_more : (p q : List ℕ) (byte : ℕ) → Begins p q → length p < length q → get_or q (length p) 0 ≡ byte → Begins (p ++ byte ∷ []) q
+begins_more p q byte b l e =
+    let one : length (p ++ byte ∷ []) ≡ suc (length p) = omega (arith, length-append p (byte ∷ [])) in
+    ap (λ n. take n q) one ∙ take-suc q (length p) 0 l ∙ ap (λ x. x ++ get_or q (length p) 0 ∷ []) b ∙ ap (λ x. p ++ x ∷ []) e
 
 -- past a common front, one begins with the other exactly where the rest does
 pub rest_begins : (p q s : List ℕ) (r : Bool) → Begins p q → Begins p s → length q ≤ length s → r ≡ starts_with nat_eq (drop (length p) s) (drop (length p) q) → r ≡ true → Begins q s

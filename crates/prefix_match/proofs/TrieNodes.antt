@@ -1,12 +1,12 @@
 -- What the tree's functions read of its nodes.
-use Rattle.std.proofs.Common.{◌≡◌, ℕ, ◌<◌, ◌≤◌, List, [], length, get_or, drop, Option, Some, None, Bool, true, false, sym, ap, ◌∙◌, subst, arith, inl, inr, nat_eq, length-drop, IfSome, IsSome}
+use Rattle.std.proofs.Common.{◌≡◌, ℕ, ◌+◌, ◌<◌, ◌≤◌, List, [], ◌∷◌, ◌++◌, length, length-append, refl, get_or, drop, Option, Some, None, Bool, true, false, sym, ap, ◌∙◌, subst, arith, inl, inr, nat_eq, length-drop, IfSome, IsSome}
 use Rattle.std.proofs.lemmas.Bool.{cases_lt}
 use Rattle.std.proofs.lemmas.List.{get_or-map}
 use Rattle.std.specs.List.{starts_with}
 use Rattle.std.specs.Option.{option_or}
 use Rattle.prefix_match.specs.declared.trie.tree.Node.{Node}
 use Rattle.prefix_match.specs.TrieTree.{Begins, GoesOn, AreTree, IsDeepest, IsNext, Best, path_at, child_at, child_in, value_at}
-use Rattle.prefix_match.proofs.TrieFronts.{begins_trans, begins_fits, goes_on, begins_rest, rest_begins, begins_one}
+use Rattle.prefix_match.proofs.TrieFronts.{begins_more, begins_trans, begins_fits, goes_on, begins_rest, rest_begins, begins_one}
 use Rattle.prefix_match.proofs.TrieWays.{way_none, way_some}
 
 -- the node has no child for the text's next byte
@@ -36,14 +36,26 @@ child_goes_on nodes n byte c t l e = t.onward n byte c l (sym e)
 pub child_within : (nodes : List Node) (n byte c : ℕ) → AreTree nodes → n < length nodes → Some c ≡ child_at nodes n byte → c < length nodes
 child_within nodes n byte c t l e = t.below n byte c l (sym e)
 
--- the rest of the child's path is no front of the rest of the text
-pub deepest_at_other : (nodes : List Node) (text : List ℕ) (n c : ℕ) (p q : List ℕ) (r : Bool) → AreTree nodes → n < length nodes → Begins (path_at nodes n) text →
-    p ≡ path_at nodes n → q ≡ path_at nodes c → Some c ≡ child_at nodes n (get_or text (length p) 0) →
-    r ≡ starts_with nat_eq (drop (length p) text) (drop (length p) q) → r ≡ false → IsDeepest nodes text n
-deepest_at_other nodes text n c p q r t l b ep eq es ers f =
+-- the way to the child and the text go on past the node by one byte
+goes_past : (nodes : List Node) (text : List ℕ) (n c : ℕ) (p : List ℕ) → AreTree nodes → n < length nodes → Begins (path_at nodes n) text →
+    p ≡ path_at nodes n → length p < length text → Some c ≡ child_at nodes n (get_or text (length p) 0) →
+    (front : List ℕ) × (length front ≡ length p + 1) × Begins front (path_at nodes c) × Begins front text
+goes_past nodes text n c p t l b ep room es =
     let e = subst (λ (x : List ℕ). Some c ≡ child_at nodes n (get_or text (length x) 0)) ep es in
-    let rs = subst (λ (x : List ℕ). r ≡ starts_with nat_eq (drop (length x) text) (drop (length x) (path_at nodes c))) ep (subst (λ (x : List ℕ). r ≡ starts_with nat_eq (drop (length p) text) (drop (length p) x)) eq ers) in
     let on = child_goes_on nodes n _ c t l e in
+    let byte = get_or text (length (path_at nodes n)) 0 in
+    (path_at nodes n ++ byte ∷ [], length-append (path_at nodes n) (byte ∷ []) ∙ ap (λ (x : List ℕ). length x + 1) (sym ep),
+    begins_more (path_at nodes n) (path_at nodes c) byte on.begins on.longer on.next_byte,
+    begins_more (path_at nodes n) text byte b (subst (λ (x : List ℕ). length x < length text) ep room) refl)
+
+-- the rest of the child's path is no front of the rest of the text
+pub deepest_at_other : (nodes : List Node) (text : List ℕ) (n c : ℕ) (p q : List ℕ) (past : ℕ) (r : Bool) → AreTree nodes → n < length nodes → Begins (path_at nodes n) text →
+    p ≡ path_at nodes n → q ≡ path_at nodes c → Some c ≡ child_at nodes n (get_or text (length p) 0) → past ≡ length p + 1 → length p < length text →
+    r ≡ starts_with nat_eq (drop past text) (drop past q) → r ≡ false → IsDeepest nodes text n
+deepest_at_other nodes text n c p q past r t l b ep eq es ex room ers f =
+    let e = subst (λ (x : List ℕ). Some c ≡ child_at nodes n (get_or text (length x) 0)) ep es in
+    let (front, same, in_c, in_text) = goes_past nodes text n c p t l b ep room es in
+    let rs = subst (λ k. r ≡ starts_with nat_eq (drop k text) (drop k (path_at nodes c))) (ex ∙ sym same) (subst (λ (x : List ℕ). r ≡ starts_with nat_eq (drop past text) (drop past x)) eq ers) in
     record {
       within = l;
       begins = b;
@@ -51,25 +63,26 @@ deepest_at_other nodes text n c p q r t l b ep eq es ers f =
           elim (cases_lt (length (path_at nodes n)) (length (path_at nodes m))) [
             | inl h ↦
                 let bc : Begins (path_at nodes c) text = begins_trans (path_at nodes c) (path_at nodes m) text (past_child nodes text n c m t l b e lm bm h) bm in
-                let yes : r ≡ true = begins_rest (path_at nodes n) (path_at nodes c) text r on.begins b bc rs in
+                let yes : r ≡ true = begins_rest front (path_at nodes c) text r in_c in_text bc rs in
                 absurd (cc)
             | inr h ↦ h
           ];
     }
 
 -- and where it is one
-pub next_at_child : (nodes : List Node) (text : List ℕ) (n c : ℕ) (p q : List ℕ) (r : Bool) → AreTree nodes → n < length nodes → Begins (path_at nodes n) text →
-    p ≡ path_at nodes n → q ≡ path_at nodes c → Some c ≡ child_at nodes n (get_or text (length p) 0) →
-    r ≡ starts_with nat_eq (drop (length p) text) (drop (length p) q) → (r ≡ true → length (drop (length p) q) ≤ length (drop (length p) text)) → length p < length text → r ≡ true → IsNext nodes text n c
-next_at_child nodes text n c p q r t l b ep eq es ers bound room y =
+pub next_at_child : (nodes : List Node) (text : List ℕ) (n c : ℕ) (p q : List ℕ) (past : ℕ) (r : Bool) → AreTree nodes → n < length nodes → Begins (path_at nodes n) text →
+    p ≡ path_at nodes n → q ≡ path_at nodes c → Some c ≡ child_at nodes n (get_or text (length p) 0) → past ≡ length p + 1 → length p < length text →
+    r ≡ starts_with nat_eq (drop past text) (drop past q) → (r ≡ true → length (drop past q) ≤ length (drop past text)) → r ≡ true → IsNext nodes text n c
+next_at_child nodes text n c p q past r t l b ep eq es ex room ers bound y =
     let e = subst (λ (x : List ℕ). Some c ≡ child_at nodes n (get_or text (length x) 0)) ep es in
-    let rs = subst (λ (x : List ℕ). r ≡ starts_with nat_eq (drop (length x) text) (drop (length x) (path_at nodes c))) ep (subst (λ (x : List ℕ). r ≡ starts_with nat_eq (drop (length p) text) (drop (length p) x)) eq ers) in
+    let (front, same, in_c, in_text) = goes_past nodes text n c p t l b ep room es in
+    let rs = subst (λ k. r ≡ starts_with nat_eq (drop k text) (drop k (path_at nodes c))) (ex ∙ sym same) (subst (λ (x : List ℕ). r ≡ starts_with nat_eq (drop past text) (drop past x)) eq ers) in
     let short = bound y in
-    let fits : length (path_at nodes c) ≤ length text = omega (arith, length-drop (length p) q, length-drop (length p) text, ap length eq) in
+    let fits : length (path_at nodes c) ≤ length text = omega (arith, length-drop past q, length-drop past text, ap length eq) in
     let on = child_goes_on nodes n _ c t l e in
     record {
       within = child_within nodes n _ c t l e;
-      begins = rest_begins (path_at nodes n) (path_at nodes c) text r on.begins b fits rs y;
+      begins = rest_begins front (path_at nodes c) text r in_c in_text fits rs y;
       further = on.longer;
       next = λ m lm bm h. begins_fits (path_at nodes c) (path_at nodes m) (past_child nodes text n c m t l b e lm bm h);
     }

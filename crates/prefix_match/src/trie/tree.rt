@@ -119,7 +119,8 @@ impl Tree {
             return None;
         }
         let child = self.child(node, text[depth])?;
-        if text[depth..].starts_with(&self.path(child)[depth..]) {
+        let past = depth + 1;
+        if text[past..].starts_with(&self.path(child)[past..]) {
             Some(child)
         } else {
             None
