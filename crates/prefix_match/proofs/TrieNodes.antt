@@ -43,10 +43,12 @@ goes_past : (nodes : List Node) (text : List ℕ) (n c : ℕ) (p : List ℕ) →
 goes_past nodes text n c p t l b ep room es =
     let e = subst (λ (x : List ℕ). Some c ≡ child_at nodes n (get_or text (length x) 0)) ep es in
     let on = child_goes_on nodes n _ c t l e in
-    let byte = get_or text (length (path_at nodes n)) 0 in
-    (path_at nodes n ++ byte ∷ [], length-append (path_at nodes n) (byte ∷ []) ∙ ap (λ (x : List ℕ). length x + 1) (sym ep),
-    begins_more (path_at nodes n) (path_at nodes c) byte on.begins on.longer on.next_byte,
-    begins_more (path_at nodes n) text byte b (subst (λ (x : List ℕ). length x < length text) ep room) refl)
+    let byte = get_or text (length (path_at nodes n)) 0 in (
+      path_at nodes n ++ byte ∷ [],
+      length-append (path_at nodes n) (byte ∷ []) ∙ ap (λ (x : List ℕ). length x + 1) (sym ep),
+      begins_more (path_at nodes n) (path_at nodes c) byte on.begins on.longer on.next_byte,
+      begins_more (path_at nodes n) text byte b (subst (λ (x : List ℕ). length x < length text) ep room) refl,
+    )
 
 -- the rest of the child's path is no front of the rest of the text
 pub deepest_at_other : (nodes : List Node) (text : List ℕ) (n c : ℕ) (p q : List ℕ) (past : ℕ) (r : Bool) → AreTree nodes → n < length nodes → Begins (path_at nodes n) text →

@@ -31,7 +31,7 @@ loop-pattern-preserved c =
     let ps = c.args.patterns.now in
     let i = c.loop-pattern.pattern-index in
     let more : map f (take (i + 1) ps) ≡ map f (take i ps) ++ lowered c.args.fold_case c.deref.result.now ∷ [] =
-        map_more f ps i c.pattern-item.result c.loop-pattern-test.true ∙ sym (ap (λ p. map f (take i ps) ++ f p ∷ []) c.pattern-item.is) ∙ sym (ap (λ q. map f (take i ps) ++ lowered c.args.fold_case q ∷ []) c.deref.ensures.value) in
+    map_more f ps i c.pattern-item.result c.loop-pattern-test.true ∙ sym (ap (λ p. map f (take i ps) ++ f p ∷ []) c.pattern-item.is) ∙ sym (ap (λ q. map f (take i ps) ++ lowered c.args.fold_case q ∷ []) c.deref.ensures.value) in
     record {
       trie = subst (λ qs. IsTrie qs new) (sym more) ((c.in_ok-insert.ensures {u = tt}).trie (map f (take i ps)) c.loop-pattern.invariant.trie);
       room = omega (arith, sum_by_more (λ (p : Vec ℕ Global). vec_len p) ps i c.pattern-item.result c.loop-pattern-test.true, ap (λ (p : Vec ℕ Global). vec_len p) c.pattern-item.is, c.deref.ensures.len, (c.in_ok-insert.ensures {u = tt}).room, c.loop-pattern.invariant.room);
