@@ -23,11 +23,7 @@ pub fn patterns(alloc: Global) -> Result<Vec<String>, AllocError> {
 }
 
 fn letter(number: u64) -> char {
-    const LETTERS: [char; 26] = [
-        'a', 'b', 'c', 'd', 'e', 'f', 'g', 'h', 'i', 'j', 'k', 'l', 'm', 'n', 'o', 'p', 'q', 'r',
-        's', 't', 'u', 'v', 'w', 'x', 'y', 'z',
-    ];
-    LETTERS[(number % 26) as usize]
+    char::from(b'a' + (number % 26) as u8)
 }
 
 /// A hundred names, each with a pattern in its middle, or without one.

@@ -4,7 +4,7 @@ use Rattle.std.specs.Prelude.{ℤ, pos, ◌<ℤ◌, ◌≤ℤ◌, int_lt, int_le
 use Rattle.std.proofs.lemmas.Int.{ints}
 use Rattle.std.proofs.lemmas.Bool.{cases_lt, lt-ltb, le-ltb}
 use Rattle.std.proofs.lemmas.List.{length-set, length-map}
-use Rattle.std.proofs.lemmas.List.Sums.{sum_by-cons, count_by-le-length}
+use Rattle.std.proofs.lemmas.List.Sums.{sum_by-cons, sum_by_more, count_by-le-length}
 use Rattle.metrics_storage.specs.Histogram.{Distribution, at_most, no_samples, bucket_with, rank, sum_up_to, total, buckets_of, ranked, all_ranked, own_ranks}
 
 abbrev one : Bool → ℕ
@@ -99,6 +99,10 @@ rank-tells bounds k d x lt = by (int_le x b) refl
 
 pub rank-le : (bounds : List ℤ) (x : ℤ) → rank bounds x ≤ length bounds
 rank-le bounds x = count_by-le-length (λ bound. int_lt bound x) bounds
+
+-- one bound more of those so far
+pub rank-next : (bounds : List ℤ) (x : ℤ) (i : ℕ) → i < length bounds → rank (take (i + 1) bounds) x ≡ rank (take i bounds) x + adds (get_or bounds i (pos 0)) x
+rank-next bounds x i lt = sum_by_more (λ bound. adds bound x) bounds i (pos 0) lt
 
 -- ---- one sample
 

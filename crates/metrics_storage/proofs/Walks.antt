@@ -40,6 +40,15 @@ module _ {T : Type 0} where
   called_more g f f' last bs front b c e call same rest =
       subst (λ cs. IsCalledAtEach g f cs last) (sym (newest bs front b e)) (f', subst (λ x. CalledAt g f x tt f') same call, rest)
 
+  -- what is callable at each in turn is so at the last block, and then at each other
+  pub takes_last : {F : Type 0} (g : Mut F (Bor (List T) × Unit {0}) (Unit {0})) (f : F) (bs front : List (List T)) (b c : List T)
+      → bs ≡ front ++ b ∷ [] → c ≡ b → TakesInTurn g f (reverse bs) → TakesAt g f c
+  takes_last g f bs front b c e same takes = subst (λ x. TakesAt g f x) (sym same) (subst (λ cs. TakesInTurn g f cs) (newest bs front b e) takes).0
+
+  pub takes_more : {F : Type 0} (g : Mut F (Bor (List T) × Unit {0}) (Unit {0})) (f f' : F) (bs front : List (List T)) (b c : List T)
+      → bs ≡ front ++ b ∷ [] → CalledAt g f c tt f' → c ≡ b → TakesInTurn g f (reverse bs) → TakesInTurn g f' (reverse front)
+  takes_more g f f' bs front b c e call same takes = (subst (λ cs. TakesInTurn g f cs) (newest bs front b e) takes).1 f' (subst (λ x. CalledAt g f x tt f') same call)
+
   pub none_left : (R : T → T → Type 0) (bs : List (List T)) → length bs ≡ 0 → AllZip R (joined_lists (reverse bs)) []
   none_left R [] e = tt
   none_left R (b ∷ bs) e = absurd (omega arith)

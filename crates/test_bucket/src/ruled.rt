@@ -306,9 +306,7 @@ fn cleared<R: Wait>(
 {
     let mut shown = Vec::new(alloc);
     let answer = bucket.clear_with_as(rt, &mut pen, |part| {
-        for value in part {
-            let _ = shown.push(*value);
-        }
+        let _ = shown.extend_from_slice(part);
     });
     let number = answer == Ok(shown.len());
     (pen, shown, number)
@@ -413,9 +411,7 @@ fn clear_to_the_end<R: Wait>(
     for _ in rt.forever() {
         let last = ended.load(Ordering::SeqCst) == 1;
         let _ = bucket.clear_with_as(rt, &mut pen, |part| {
-            for value in part {
-                let _ = shown.push(*value);
-            }
+            let _ = shown.extend_from_slice(part);
         });
         if last {
             break;

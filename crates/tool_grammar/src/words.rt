@@ -1,6 +1,6 @@
 //! The words of a line: names, numbers, kinds, units and updates.
-ghost use Rattle.std.specs.Prelude.{◌≡◌, ℕ, List, ◌∷◌, ◌<◌, ◌+◌, ◌^◌, ℤ};
-ghost use Rattle.std.specs.Prelude.{FitsSigned, IfSome, MatchOption, Option, Some, decimal};
+ghost use Rattle.std.specs.Prelude.{◌≡◌, ◌≢◌, ℕ, List, ◌∷◌, ◌<◌, ◌+◌, ◌^◌, ℤ};
+ghost use Rattle.std.specs.Prelude.{FitsSigned, IfSome, MatchOption, Option, Some, codes, decimal};
 ghost use Rattle.std.specs.Int.{w64};
 ghost use Rattle.std.specs.Fmt.{signed_decimal};
 ghost use Rattle.metrics_names.specs.declared.kind.MetricKind.{MetricKind};
@@ -48,21 +48,53 @@ pub fn unit_of(word: &[u8]) -> Option<Option<Unit>>
     ensures { MatchOption result ((unit : Option Measure) → word.now ≡ unit_word unit → ⊥)
         (λ unit. word.now ≡ unit_word unit) }
 {
+    if word == b"-".as_slice() {
+        return Some(None);
+    }
+    match time_of(word) {
+        Some(unit) => Some(Some(unit)),
+        None => Some(Some(amount_unit_of(word)?)),
+    }
+}
+
+/// The unit of time that a word names.
+fn time_of(word: &[u8]) -> Option<Unit>
+    ensures { MatchOption result
+        ((word.now ≢ codes "seconds") × (word.now ≢ codes "milliseconds")
+        × (word.now ≢ codes "microseconds") × (word.now ≢ codes "nanoseconds"))
+        (λ unit. word.now ≡ unit_word (Some unit)) }
+{
     if word == b"milliseconds".as_slice() {
-        return Some(Some(Unit::Milliseconds));
+        return Some(Unit::Milliseconds);
     }
     if word == b"microseconds".as_slice() {
-        return Some(Some(Unit::Microseconds));
+        return Some(Unit::Microseconds);
     }
-    match word {
-        b"-" => Some(None),
-        b"count" => Some(Some(Unit::Count)),
-        b"percent" => Some(Some(Unit::Percent)),
-        b"seconds" => Some(Some(Unit::Seconds)),
-        b"nanoseconds" => Some(Some(Unit::Nanoseconds)),
-        b"bytes" => Some(Some(Unit::Bytes)),
-        _ => None,
+    if word == b"seconds".as_slice() {
+        return Some(Unit::Seconds);
     }
+    if word == b"nanoseconds".as_slice() {
+        return Some(Unit::Nanoseconds);
+    }
+    None
+}
+
+/// The unit other than of time that a word names.
+fn amount_unit_of(word: &[u8]) -> Option<Unit>
+    ensures { MatchOption result
+        ((word.now ≢ codes "count") × (word.now ≢ codes "percent") × (word.now ≢ codes "bytes"))
+        (λ unit. word.now ≡ unit_word (Some unit)) }
+{
+    if word == b"count".as_slice() {
+        return Some(Unit::Count);
+    }
+    if word == b"percent".as_slice() {
+        return Some(Unit::Percent);
+    }
+    if word == b"bytes".as_slice() {
+        return Some(Unit::Bytes);
+    }
+    None
 }
 
 /// The number that a digit stands for.

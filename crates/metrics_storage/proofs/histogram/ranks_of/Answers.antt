@@ -6,6 +6,9 @@ use Rattle.metrics_storage.specs.Histogram.{rank, own_ranks}
 use Rattle.metrics_storage.proofs.Counting.{get-map}
 use Rattle.metrics_storage.proofs.histogram.ranks_of.Goals as goal
 
+pub loop-bound-smaller : goal.loop-bound-smaller
+loop-bound-smaller c = omega (arith, c.loop-bound-test.true)
+
 pub loop-bound-preserved : goal.loop-bound-preserved
 loop-bound-preserved c =
     let bounds = c.args.bounds.now in let i = c.loop-bound.bound-index in let lt = c.loop-bound-test.true in

@@ -4,8 +4,17 @@ use Rattle.std.proofs.Math.Seq.{take-suc}
 use Rattle.std.proofs.lemmas.Fn.{FoldsTo-push}
 use Rattle.std.specs.Fn.{Called, Takes}
 use Rattle.metrics_storage.specs.Histogram.{buckets_of, ShowsBuckets}
-use Rattle.metrics_storage.proofs.Counting.{own-within, bucket-at, buckets-length, split-at}
+use Rattle.metrics_storage.proofs.Counting.{own-length, own-within, bucket-at, buckets-length, split-at}
 use Rattle.metrics_storage.proofs.histogram.show.Goals as goal
+
+pub bounds-own-i : goal.bounds-own-i
+bounds-own-i g c = omega (arith, own-length c.args.bounds.now c.args.own.now c.requires.own, c.loop-i-test.true)
+
+pub bounds-bounds-i : goal.bounds-bounds-i
+bounds-bounds-i g c = c.loop-i-test.true
+
+pub loop-i-smaller : goal.loop-i-smaller
+loop-i-smaller g c = omega (arith, c.loop-i-test.true)
 
 pub overflow_add-next : goal.overflow_add-next
 overflow_add-next g c =

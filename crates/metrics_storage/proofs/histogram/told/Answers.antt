@@ -2,8 +2,17 @@ use Rattle.std.proofs.Common.{List, ◌≡◌, ℤ, ℕ, suc, ◌+◌, ◌≤◌
 use Rattle.std.proofs.Math.Facts.{to_z-of_z}
 use Rattle.std.proofs.Math.Seq.{take-suc}
 use Rattle.metrics_storage.specs.Histogram.{buckets_of}
-use Rattle.metrics_storage.proofs.Counting.{own-within, bucket-at, buckets-length}
+use Rattle.metrics_storage.proofs.Counting.{own-length, own-within, bucket-at, buckets-length}
 use Rattle.metrics_storage.proofs.histogram.told.Goals as goal
+
+pub bounds-own-i : goal.bounds-own-i
+bounds-own-i c = omega (arith, own-length c.args.bounds.now c.args.own.now c.requires.own, c.loop-i-test.true)
+
+pub bounds-bounds-i : goal.bounds-bounds-i
+bounds-bounds-i c = c.loop-i-test.true
+
+pub loop-i-smaller : goal.loop-i-smaller
+loop-i-smaller c = omega (arith, c.loop-i-test.true)
 
 pub overflow_add-next : goal.overflow_add-next
 overflow_add-next c =
