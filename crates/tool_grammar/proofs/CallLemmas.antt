@@ -14,7 +14,7 @@ use Rattle.metrics.specs.declared.handles.Update.TheVariants.{Increment, Absolut
 use Rattle.metrics.specs.declared.debugging.Reset.{Reset}
 use Rattle.metrics.specs.declared.calls.Call.{Call}
 use Rattle.metrics.specs.declared.calls.Call.TheVariants as call
-use Rattle.tool_grammar.specs.Cuts.{Lacks, StartsAt}
+use Rattle.tool_grammar.specs.Cuts.{Lacks}
 use Rattle.tool_grammar.specs.Grammar.{kind_word, unit_word, name_word, label_words, update_word, amount_word, IsName, IsLabel, AreLabels, IsInRange, spelling, CanBeSpelled, Spells}
 use Rattle.tool_grammar.proofs.WordsLemmas.{before_same, first_same, not_cut, lacks_literal, lacks_kind, lacks_unit, lacks_update, lacks_name, lacks_decimal, lacks_label, starts_labels}
 

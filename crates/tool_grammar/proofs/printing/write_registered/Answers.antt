@@ -1,4 +1,4 @@
-use Rattle.std.proofs.Common.{rules, ◌≡◌, ◌++◌, ◌∷◌, [], OnOk, codes, decimal, string_bytes, subst, ap, ◌∙◌, append_assoc}
+use Rattle.std.proofs.Common.{◌≡◌, ◌++◌, ◌∷◌, [], OnOk, codes, decimal, string_bytes, subst, ap, ◌∙◌, append_assoc}
 use Rattle.tool_grammar.proofs.printing.write_registered.Goals as goal
 
 pub returns : goal.returns
