@@ -1,4 +1,4 @@
-use Rattle.std.proofs.Common.{rules, ◌≡◌, ◌<◌, ◌+◌, ◌++◌, ◌∷◌, [], suc, length, slice_index_or, List, ℕ, map, take, ap, subst, sym, ◌∙◌, arith}
+use Rattle.std.proofs.Common.{rules, ◌≡◌, ◌<◌, ◌+◌, ◌++◌, ◌∷◌, [], suc, length, slice_index_or, List, ℕ, map, take, refl, ap, subst, sym, ◌∙◌, arith}
 use Rattle.std.proofs.lemmas.List.{map-append, length_push}
 use Rattle.std.specs.List.{FoldsTo}
 use Rattle.metrics_bucket.specs.Blocks.{valued, newest_first}
@@ -46,3 +46,13 @@ loop-at-preserved g c =
       search rules,
       (walks ++ walk ∷ [], omega arith, omega arith, taken, subst (λ xs. FoldsTo g.V.Visitor.saw c.args.visitor.now xs c.clear_one.new.visitor) (sym chunks) folds),
     )
+
+pub loop-at-init : goal.loop-at-init
+loop-at-init g c = (c.requires.own, refl, refl, (omega arith, omega arith), c.requires.call, ([], refl, refl, search rules, search rules))
+
+pub returns-clause-ok : goal.returns-clause-ok
+returns-clause-ok g c =
+    let i = c.loop-at.invariant in
+    let n = i.5.1 in
+    let all = c.count_known-at-end.ensures in
+    (i.5.0, omega arith, i.5.2, i.5.3, i.5.4)
