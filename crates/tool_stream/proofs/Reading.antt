@@ -1,6 +1,7 @@
 -- A line that is read in parts.
 use Rattle.std.proofs.Common.{◌≡◌, ◌≢◌, ℕ, ◌<◌, List, [], ◌∷◌, ◌++◌, length, Option, Some, None, OnSome, Result, Ok, Err, Bool, true, false, refl, sym, ap, subst, ◌∙◌, append_assoc, append-nil}
 use Rattle.std.specs.Io.KnownBytes.{Consumes, IsAtEnd}
+use Rattle.std.specs.Result.{IsErr}
 use Rattle.std.proofs.KnownBytes.{Consumes-trans}
 use Rattle.std.proofs.lemmas.List.Elements.{All-append, All-nil}
 use Rattle.tool_stream.specs.declared.stream.Fault.{Fault}
@@ -63,6 +64,10 @@ module _ (a b c : Option (List ℕ)) (old now after : List ℕ) (so : Reading a 
 
   pub rest_err : (f g : Fault) → TakesPart b c now after (Err f) → Ends a c old after (Err g)
   rest_err f g (e, took) = let (rest, is, line, taken) = same_rest e took in (rest, is, (line, taken))
+
+  pub rest_refused : (f : Fault) (r : Result Found Fault) → TakesPart b c now after (Err f) → IsErr r → Ends a c old after r
+  rest_refused f (Ok found) took is_err = absurd (cc)
+  rest_refused f (Err g) took is_err = rest_err f g took
 
 pub rest_stop : (a b : Option (List ℕ)) (old now : List ℕ) (g : Fault) → Reading a b old now → Ends a b old now (Err g)
 rest_stop a b old now g (rest, is, line, taken) = (rest, is, (line, taken))
