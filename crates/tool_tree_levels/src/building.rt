@@ -8,7 +8,7 @@ ghost use Rattle.tool_tree_lines.specs.Trees.{books_in};
 ghost use Rattle.tool_tree_levels.specs.declared.level.LineError.TheVariants.{Memory as NoMemory, Bad as IsBadLine};
 ghost use Rattle.tool_tree_levels.specs.Levels.{backwards, level_meanings, most_of};
 
-use crate::level::{Level, LineError};
+use crate::level::{Level, LineError, refusing};
 use metrics::{Recorder, Text};
 use metrics_debugging::DebuggingRecorder;
 use metrics_layers::{FilterLayer, PrefixLayer};
@@ -24,6 +24,23 @@ pub fn book(alloc: Global) -> Result<Child<DebuggingRecorder>, LineError>
     Ok(Child::leaf(book))
 }
 
+/// A recorder below the prefix of a layer.
+fn prefixed_by(
+    alloc: Global,
+    child: Child<DebuggingRecorder>,
+    layer: &PrefixLayer,
+) -> Result<Child<DebuggingRecorder>, LineError>
+    ensures { MatchResult result
+        (λ c. ⟦<Child<DebuggingRecorder> as Recorder>⟧.meaning c
+        ≡ prefixed layer.now (⟦<Child<DebuggingRecorder> as Recorder>⟧.meaning child))
+        (λ e. e ≡ NoMemory) }
+{
+    match child.prefix(alloc, layer) {
+        Ok(made) => Ok(made),
+        Err(refused) => Err(LineError::from(refused)),
+    }
+}
+
 /// A recorder below a prefix.
 pub fn below_prefix(
     alloc: Global,
@@ -35,12 +52,9 @@ pub fn below_prefix(
         ≡ prefixed prefix.now (⟦<Child<DebuggingRecorder> as Recorder>⟧.meaning child))
         (λ e. e ≡ NoMemory) }
 {
-    let Ok(layer) = PrefixLayer::new(alloc, prefix.as_str()) else {
-        return Err(LineError::Memory);
-    };
-    match child.prefix(alloc, &layer) {
-        Ok(made) => Ok(made),
-        Err(_) => Err(LineError::Memory),
+    match PrefixLayer::new(alloc, prefix.as_str()) {
+        Ok(layer) => prefixed_by(alloc, child, &layer),
+        Err(_) => Err(refusing(LineError::Memory, child)),
     }
 }
 
@@ -64,6 +78,24 @@ fn filter_layer(
     Ok(layer)
 }
 
+/// A recorder below the filter of a layer.
+fn filtered_by(
+    alloc: Global,
+    child: Child<DebuggingRecorder>,
+    layer: &FilterLayer,
+) -> Result<Child<DebuggingRecorder>, LineError>
+    ensures { MatchResult result
+        (λ c. (sum_by length layer.now.listed ≤ 1048576)
+        × (⟦<Child<DebuggingRecorder> as Recorder>⟧.meaning c
+        ≡ filtered layer.now.fold_case layer.now.listed (⟦<Child<DebuggingRecorder> as Recorder>⟧.meaning child)))
+        (λ e. e ≡ IsBadLine → 1048576 < sum_by length layer.now.listed) }
+{
+    match child.filter(alloc, layer) {
+        Ok(made) => Ok(made),
+        Err(refused) => Err(LineError::from(refused)),
+    }
+}
+
 /// A recorder below a filter.
 pub fn below_filter(
     alloc: Global,
@@ -78,12 +110,9 @@ pub fn below_filter(
         ≡ filtered fold patterns.now (⟦<Child<DebuggingRecorder> as Recorder>⟧.meaning child)))
         (λ e. e ≡ IsBadLine → 1048576 < sum_by length patterns.now) }
 {
-    let Ok(layer) = filter_layer(alloc, fold, table, patterns) else {
-        return Err(LineError::Memory);
-    };
-    match child.filter(alloc, &layer) {
-        Ok(made) => Ok(made),
-        Err(refused) => Err(LineError::from(refused)),
+    match filter_layer(alloc, fold, table, patterns) {
+        Ok(layer) => filtered_by(alloc, child, &layer),
+        Err(_) => Err(refusing(LineError::Memory, child)),
     }
 }
 

@@ -6,7 +6,7 @@ ghost use Rattle.tool_tree_lines.specs.Words.{CanBeSpelled};
 ghost use Rattle.tool_tree_levels.specs.Doing.{Does, Puts};
 
 use crate::building::{below_filter, below_prefix, book, fanout_over, take_top};
-use crate::level::{Level, LineError};
+use crate::level::{Level, LineError, refusing};
 use crate::routing::router_over;
 use metrics::{Items, Recorder, Text};
 use metrics_debugging::DebuggingRecorder;
@@ -26,7 +26,7 @@ fn put(
     ensures { Puts (⟦<Child<DebuggingRecorder> as Recorder>⟧.meaning child) levels stack.old.items stack.new.items result }
 {
     if levels > MOST_LEVELS {
-        return Err(LineError::Bad);
+        return Err(refusing(LineError::Bad, child));
     }
     stack.push(Level { child, levels })?;
     Ok(())

@@ -10,7 +10,7 @@ ghost use Rattle.tool_tree_lines.specs.Trees.{pattern_of, mask_of, route_of, boo
 ghost use Rattle.tool_tree_levels.specs.declared.level.LineError.TheVariants.{Bad as IsBadLine};
 ghost use Rattle.tool_tree_levels.specs.Levels.{backwards, level_meanings, most_of, Adds, CantAdd, AreRouted};
 
-use crate::level::{Level, LineError};
+use crate::level::{Level, LineError, refusing};
 use metrics::{MetricKindMask, Recorder, Text};
 use metrics_debugging::DebuggingRecorder;
 use metrics_trees::{Child, RouterBuilder};
@@ -137,7 +137,7 @@ pub fn router_over(
     let mut builder = RouterBuilder::from_recorder(alloc, child);
     let most = match add_routes(&mut builder, &mut taken, routes, levels) {
         Ok(most) => most,
-        Err(error) => return Err(error),
+        Err(error) => return Err(refusing(error, builder)),
     };
     match Child::router(builder.build()) {
         Ok(router) => Ok((router, most + 1)),

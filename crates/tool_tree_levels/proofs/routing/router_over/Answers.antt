@@ -1,4 +1,4 @@
-use Rattle.std.proofs.Common.{map, ◌∙◌}
+use Rattle.std.proofs.Common.{map, sym, ◌∙◌}
 use Rattle.metrics_debugging.specs.DebuggingMeaning as book
 use Rattle.metrics_trees.specs.Nodes.{node_meaning}
 use Rattle.metrics_trees.specs.Builders.{router_recorders}
@@ -9,7 +9,7 @@ use Rattle.tool_tree_levels.proofs.routing.router_over.Goals as goal
 pub returns-in-Err : goal.returns-in-Err
 returns-in-Err c = λ bad.
     router_bad c.args.taken.items c.pop.new.self.items c.in-Some.field-0 (router_recorders c.from_recorder-builder.result) c.args.routes.now c.in-Some.ensures.items c.from_recorder-builder.ensures.recorders
-    (c.in-Err.ensures.all bad)
+    (c.in-Err.ensures.all (sym c.refusing.ensures ∙ bad))
 
 pub returns-in-Ok-router : goal.returns-in-Ok-router
 returns-in-Ok-router c =
