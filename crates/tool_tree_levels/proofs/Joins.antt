@@ -1,5 +1,5 @@
 -- Recorders side by side, and routes.
-use Rattle.std.proofs.Common.{◌≡◌, ◌≢◌, ℕ, zero, suc, ◌<◌, ◌≤◌, ◌+◌, max, Bool, true, false, ◌&&◌, ◌||◌, if◌then◌else◌, nat_eq, nat_lt, List, [], ◌∷◌, ◌++◌, length, Some, None, refl, sym, ap, ◌∙◌, arith, append_assoc, length-append}
+use Rattle.std.proofs.Common.{◌≡◌, ◌≢◌, ℕ, zero, suc, ◌<◌, ◌≤◌, ◌+◌, max, Bool, true, false, ◌&&◌, ◌||◌, if◌then◌else◌, nat_eq, nat_lt, List, [], ◌∷◌, ◌++◌, length, Some, None, refl, sym, ap, subst, ◌∙◌, arith, append-nil, append_assoc, length-append}
 use Rattle.std.specs.Option.{option_or}
 use Rattle.std.specs.Str.{bytes_eq}
 use Rattle.std.proofs.lemmas.Bool.Decides.{nat_tests}
@@ -42,6 +42,15 @@ pub greatest_more : (most now whole : ℕ) (taken rest : List Level) (l : Level)
 greatest_more most now whole taken rest l e f h =
     let left : most_of (backwards taken) ≡ max l.levels (most_of (backwards rest)) = ap most_of (left_over taken rest l e) in
     omega (arith, left, f, h)
+
+-- all were taken
+pub joined_whole : (now : List Meaning) (left whole : List Level) (m : Meaning) (most : ℕ) → length left ≡ 0 → now ++ level_meanings (backwards left) ≡ level_meanings (backwards whole) → books_in now ≤ 65536
+    → max most (most_of (backwards left)) ≡ most_of (backwards whole) → m ≡ joined_all now
+    → (books_in (level_meanings (backwards whole)) ≤ 65536) × (m ≡ joined_all (level_meanings (backwards whole))) × (most + 1 ≡ suc (most_of (backwards whole)))
+joined_whole now (l ∷ left) whole m most none added fits greatest is = absurd (omega arith)
+joined_whole now [] whole m most none added fits greatest is =
+    let all : now ≡ level_meanings (backwards whole) = sym (append-nil now) ∙ added in
+    (subst (λ ms. books_in ms ≤ 65536) all fits, is ∙ ap joined_all all, omega (arith, greatest))
 
 test_is : (b : Bool) (P Q : Error) (e : Error) → e ≡ (if b then P else Q) → (e ≢ Q) → b ≡ true
 test_is true P Q e h ne = refl
