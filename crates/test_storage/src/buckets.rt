@@ -1,10 +1,7 @@
 //! Blocks and buckets with one owner.
 use metrics::HistogramCell;
 use metrics_storage::{Block, OwnedBucket};
-use std::alloc::{AllocError, Global};
 use std::cell::Cell;
-use std::process::Abort;
-use std::string::String;
 use std::test::*;
 
 /// Has a number, and counts its end.
@@ -20,39 +17,6 @@ impl<'a> Drop for Counted<'a> {
     }
 }
 
-fn text(alloc: Global, value: i64) -> Result<String, AllocError> {
-    format!(in alloc; "{value}")
-}
-
-/// 128, 129, then 64 to 127, then 0 to 63.
-fn bucket_order(alloc: Global) -> Result<Vec<i64>, AllocError> {
-    let mut told = Vec::new(alloc);
-    for value in 128..130i64 {
-        told.push(value)?;
-    }
-    for value in 64..128i64 {
-        told.push(value)?;
-    }
-    for value in 0..64i64 {
-        told.push(value)?;
-    }
-    Ok(told)
-}
-
-#[test]
-fn a_block_takes_texts(rt: HostRuntime) -> Result<(), Fail> {
-    let mut block = Block::<String>::new(rt.alloc())?;
-    for value in 0..64i64 {
-        assert!(rt; block.push(text(rt.alloc(), value)?).is_ok());
-    }
-    let text_42 = text(rt.alloc(), 42)?;
-    assert_eq!(rt; block.push(text_42.clone()?), Err(text_42));
-    for (told, value) in block.data().iter().zip(0..64i64) {
-        assert!(rt; *told == text(rt.alloc(), value)?);
-    }
-    Ok(())
-}
-
 /// The first number of a chunk, behind those of the chunks before it; or -1 where its numbers don't rise one by one.
 fn firsts(told: i64, chunk: &[Counted]) -> i64 {
     let first = chunk.first().map_or(-1, |first| first.number);
@@ -64,28 +28,6 @@ fn firsts(told: i64, chunk: &[Counted]) -> i64 {
         next = next.wrapping_add(1);
     }
     told.wrapping_mul(1000).wrapping_add(first)
-}
-
-fn fill_block(rt: &impl Abort, alloc: Global, ends: &Cell<u64>) -> Result<(), Fail> {
-    let mut block = Block::<Counted>::new(alloc)?;
-    for number in 1..65i64 {
-        assert!(rt; block.push(Counted { number, ends }).is_ok());
-    }
-    let back = block.push(Counted { number: 42, ends }).err();
-    assert_eq!(rt; back.map(|back| back.number), Some(42));
-    assert_eq!(rt;
-        (block.len(), firsts(7, block.data()), ends.get()),
-        (64, 7001, 1)
-    );
-    Ok(())
-}
-
-#[test]
-fn a_block_takes_values_that_end(rt: HostRuntime) -> Result<(), Fail> {
-    let ends = Cell::new(0u64);
-    fill_block(&rt, rt.alloc(), &ends)?;
-    assert_eq!(rt; ends.get(), 65);
-    Ok(())
 }
 
 #[test]
@@ -104,23 +46,6 @@ fn samples_are_recorded(rt: HostRuntime) -> Result<(), Fail> {
     let mut bucket = OwnedBucket::<i64>::new(rt.alloc());
     assert!(rt; bucket.record(7).is_ok());
     assert_eq!(rt; bucket.data()?.as_slice(), [7].as_slice());
-    Ok(())
-}
-
-#[test]
-fn texts_come_newest_block_first(rt: HostRuntime) -> Result<(), Fail> {
-    let mut bucket = OwnedBucket::<String>::new(rt.alloc());
-    for value in 0..130i64 {
-        assert!(rt; bucket.push(text(rt.alloc(), value)?).is_ok());
-    }
-    let told = bucket.data()?;
-    let wanted = bucket_order(rt.alloc())?;
-    assert_eq!(rt; told.len(), 130);
-    for (told, wanted) in told.iter().zip(wanted.iter()) {
-        assert!(rt; *told == text(rt.alloc(), *wanted)?);
-    }
-    bucket.clear();
-    assert!(rt; bucket.is_empty());
     Ok(())
 }
 
