@@ -53,7 +53,7 @@ fn clear_to_the_end<R: Wait>(
 }
 
 /// Whether these are the numbers from 0 on, each once, in some order.
-fn are_all_once(mut values: Vec<u64>, count: usize) -> bool {
+pub fn are_all_once(mut values: Vec<u64>, count: usize) -> bool {
     values.sort_unstable();
     let mut want = 0u64;
     for value in values.as_slice() {
