@@ -12,9 +12,12 @@ pub fn key(alloc: Global, name: &str) -> Result<Key, Refused> {
 }
 
 /// What the first series counts, if it is a counter.
-pub fn count_of(rows: &Snapshot) -> Option<u64> {
-    match rows.as_slice().first() {
-        Some((_, _, _, DebugValue::Counter(n))) => Some(*n),
-        _ => None,
+pub fn count_of(rows: Result<Snapshot, Refused>) -> Option<u64> {
+    match rows {
+        Ok(rows) => match rows.as_slice().first() {
+            Some((_, _, _, DebugValue::Counter(n))) => Some(*n),
+            _ => None,
+        },
+        Err(_) => None,
     }
 }

@@ -6,7 +6,6 @@ use metrics_shared::reservoir::AtomicSamplingReservoir;
 use rand_core::{Rng, SeedableRng};
 use rand_xoshiro::Xoshiro256StarStar;
 use std::alloc::Global;
-use std::mem;
 use std::process::Abort;
 use std::sync::Wait;
 use std::sync::atomic::{AtomicU64, Ordering};
@@ -90,15 +89,6 @@ fn values_pushed_meanwhile_stay(rt: HostRuntime) -> Result<(), Fail> {
     reservoir.consume(&rt, |_drain| is_pushed = reservoir.push(&rt, 9).is_ok());
     assert!(&rt; is_pushed);
     assert!(&rt; consumed(&rt, &reservoir) == (1, 9, (1, 1), Some(9)));
-    Ok(())
-}
-
-#[test]
-fn a_forgotten_drain_empties(rt: HostRuntime) -> Result<(), Fail> {
-    let reservoir = sampling(rt.alloc(), 4, 1)?;
-    push_all(&rt, &reservoir, 3)?;
-    reservoir.consume(&rt, |drain| mem::forget(drain));
-    assert!(&rt; consumed(&rt, &reservoir) == (0, 0, (1, 1), None));
     Ok(())
 }
 

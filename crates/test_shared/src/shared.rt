@@ -1,9 +1,7 @@
 //! A book that threads share.
 
 use crate::books::{AT, count_of, key};
-use metrics::{
-    DebugValue, Key, KeyName, Label, MetricKind, Recorder, Refused, Reset, Row, Unit, Update,
-};
+use metrics::{DebugValue, Key, MetricKind, Recorder, Refused, Reset, Snapshot, Update};
 use metrics_debugging::DebuggingRecorder;
 use metrics_shared::Shared;
 use std::alloc::Global;
@@ -12,36 +10,15 @@ use std::sync::Wait;
 use std::test::Fail;
 use std::thread::{self, Threads};
 
-/// Whether the first row is of a gauge of this value, which has the label `host` `a` and is described by `t`.
-fn is_gauge(rows: &[Row], value: i64) -> bool {
-    let Some(row) = rows.first() else {
-        return false;
-    };
-    let Some(label) = row.0.key().labels().first() else {
-        return false;
-    };
-    let (Some(text), DebugValue::Gauge(found)) = (&row.2, &row.3) else {
-        return false;
-    };
-    let is_described = row.1 == Some(Unit::Count) && text.as_str() == "t";
-    is_described && (label.key(), label.value()) == ("host", "a") && *found == value
-}
-
-/// A gauge of a label, described by `t`, is set to 5.
-fn set_gauge<R: Abort + Wait, B: Recorder>(
-    rt: &R,
-    alloc: Global,
-    shared: &Shared<B>,
-) -> Result<(), Refused> {
-    let name = KeyName::new(alloc, "g")?;
-    let unit = Some(Unit::Count);
-    let told = shared.describe(rt, alloc, MetricKind::Gauge, &name, unit, "t");
-    assert_eq!(rt; told, Ok(1));
-    let labels = vec![in alloc; Label::new(alloc, "host", "a")?]?;
-    let key = Key::from_parts(alloc, "g", labels)?;
-    assert!(rt; shared.register(rt, alloc, MetricKind::Gauge, &key).is_ok());
-    assert_eq!(rt; shared.update(rt, AT, Update::Set(5)), Ok(()));
-    Ok(())
+/// Whether the first row is of a gauge of this value.
+fn is_gauge(rows: Result<Snapshot, Refused>, value: i64) -> bool {
+    match rows {
+        Ok(rows) => match rows.as_slice().first() {
+            Some((_, _, _, DebugValue::Gauge(found))) => *found == value,
+            _ => false,
+        },
+        Err(_) => false,
+    }
 }
 
 /// How a snapshot resets, and the value of the gauge before.
@@ -51,27 +28,41 @@ const RESETS: [(Reset, i64); 3] = [
     (Reset::KeepGauges, 0),
 ];
 
+/// A gauge is set to 5, and snapshots reset it.
 fn expect_gauges<R: Abort + Wait, B: Recorder>(
     rt: &R,
     alloc: Global,
-    book: Result<B, Refused>,
-) -> Result<(), Refused> {
-    let shared = Shared::new(book?);
-    set_gauge(rt, alloc, &shared)?;
+    shared: &Shared<B>,
+    key: &Key,
+) {
+    assert!(rt; shared.register(rt, alloc, MetricKind::Gauge, key).is_ok());
+    assert_eq!(rt; shared.update(rt, AT, Update::Set(5)), Ok(()));
     for (reset, value) in RESETS {
-        let rows = shared.snapshot_with(rt, alloc, 0, reset)?;
-        assert!(rt; is_gauge(rows.as_slice(), value));
+        assert!(rt; is_gauge(shared.snapshot_with(rt, alloc, 0, reset), value));
     }
     let refused = shared.snapshot_with(rt, alloc, 1, Reset::All);
     assert!(rt; refused.err() == Some(Refused::NoSuchBook));
-    Ok(())
+}
+
+fn expect_resets<R: Abort + Wait, B: Recorder>(
+    rt: &R,
+    alloc: Global,
+    book: Result<B, Refused>,
+) -> Result<(), Fail> {
+    let key = key(alloc, "g")?;
+    match book {
+        Ok(book) => {
+            expect_gauges(rt, alloc, &Shared::new(book), &key);
+            Ok(())
+        }
+        Err(_) => Err("memory".into()),
+    }
 }
 
 #[test]
-fn calls_of_a_shared_book(rt: HostRuntime) -> Result<(), Fail> {
+fn snapshots_of_a_shared_book(rt: HostRuntime) -> Result<(), Fail> {
     let alloc = rt.alloc();
-    expect_gauges(&rt, alloc, DebuggingRecorder::new(alloc))?;
-    Ok(())
+    expect_resets(&rt, alloc, DebuggingRecorder::new(alloc))
 }
 
 /// Adds 1 to the counter a thousand times, and tells whether each was done.
@@ -92,13 +83,24 @@ fn expect_all<R: Abort + Threads + Wait + Sync, B: Recorder + Send>(
     assert!(rt; shared.register(rt, alloc, MetricKind::Counter, key).is_ok());
     let done = thread::map_indices(rt, alloc, 4, &|_| add_many(rt, shared))?;
     assert!(rt; done.iter().all(|is_done| *is_done));
-    assert_eq!(rt; count_of(&shared.snapshot(rt, alloc, 0)?), Some(4000));
+    assert_eq!(rt; count_of(shared.snapshot(rt, alloc, 0)), Some(4000));
     Ok(())
+}
+
+fn expect_sum<R: Abort + Threads + Wait + Sync, B: Recorder + Send>(
+    rt: &R,
+    alloc: Global,
+    book: Result<B, Refused>,
+) -> Result<(), Fail> {
+    let key = key(alloc, "c")?;
+    match book {
+        Ok(book) => expect_all(rt, alloc, &Shared::new(book), &key),
+        Err(_) => Err("memory".into()),
+    }
 }
 
 #[test]
 fn four_threads_add(rt: HostRuntime) -> Result<(), Fail> {
     let alloc = rt.alloc();
-    let shared = Shared::new(DebuggingRecorder::new(alloc)?);
-    expect_all(&rt, alloc, &shared, &key(alloc, "c")?)
+    expect_sum(&rt, alloc, DebuggingRecorder::new(alloc))
 }
