@@ -2,64 +2,73 @@
 
 use metrics::{
     Address, Counter, DebugValue, Gauge, Histogram, Key, MetricKind, Recorder, Refused, Reset, Row,
+    Snapshot,
 };
 use metrics_debugging::DebuggingRecorder;
-use std::alloc::{AllocError, Global};
+use std::alloc::Global;
 use std::process::Abort;
 use std::test::Fail;
 
-/// Addresses of these places, book and series.
-fn addresses(alloc: Global, places: &[(usize, usize)]) -> Result<Vec<Address>, AllocError> {
-    let mut found = Vec::new(alloc);
-    for (book, series) in places {
-        found.push(Address {
-            book: *book,
-            series: *series,
-        })?;
-    }
-    Ok(found)
-}
-
 /// Whether these are two rows, and their values 0.
-fn are_nothing(rows: &[Row]) -> bool {
-    let mut are_nothing = rows.len() == 2;
+fn are_zero(rows: &[Row]) -> bool {
+    let mut are_zero = rows.len() == 2;
     for row in rows {
-        are_nothing = are_nothing
+        are_zero = are_zero
             && match &row.3 {
                 DebugValue::Counter(n) => *n == 0,
                 DebugValue::Gauge(n) => *n == 0,
                 DebugValue::Histogram(_) => false,
             };
     }
-    are_nothing
+    are_zero
 }
 
-/// A handle of a counter that names the gauge, and one that goes past the only book.
-const BAD: [&[(usize, usize)]; 2] = [&[(0, 1)], &[(0, 0), (1, 0)]];
-
-fn expect_no_counter<R: Recorder>(
-    rt: &impl Abort,
-    alloc: Global,
-    book: &mut R,
-) -> Result<(), AllocError> {
-    for places in BAD {
-        let counter = Counter::from(addresses(alloc, places)?);
-        assert_eq!(rt; counter.increment(book, 1), Err(Refused::NoSuchAddress));
-        assert_eq!(rt; counter.absolute(book, 1), Err(Refused::NoSuchAddress));
+fn are_nothing(rows: Result<Snapshot, Refused>) -> bool {
+    match rows {
+        Ok(rows) => are_zero(rows.as_slice()),
+        Err(_) => false,
     }
-    Ok(())
 }
 
-/// Handles of a gauge and of a histogram that name the counter.
-fn expect_no_other<R: Recorder>(
+const COUNTER: Address = Address { book: 0, series: 0 };
+
+const GAUGE: Address = Address { book: 0, series: 1 };
+
+/// The counter's place in a second book.
+const BEYOND: Address = Address { book: 1, series: 0 };
+
+fn expect_no_counter<R: Recorder>(rt: &impl Abort, book: &mut R, counter: &Counter) {
+    assert_eq!(rt; counter.increment(book, 1), Err(Refused::NoSuchAddress));
+    assert_eq!(rt; counter.absolute(book, 1), Err(Refused::NoSuchAddress));
+}
+
+fn expect_no_gauge<R: Recorder>(rt: &impl Abort, book: &mut R, gauge: &Gauge) {
+    assert_eq!(rt; gauge.set(book, 1), Err(Refused::NoSuchAddress));
+}
+
+fn expect_no_histogram<R: Recorder>(rt: &impl Abort, book: &mut R, histogram: &Histogram) {
+    assert_eq!(rt; histogram.record(book, 1), Err(Refused::NoSuchAddress));
+}
+
+/// Handles of a counter, one of which names the gauge and one goes past the only book, and handles of a gauge and of a
+/// histogram that name the counter.
+fn expect_no_such<R: Recorder>(
     rt: &impl Abort,
     alloc: Global,
     book: &mut R,
-) -> Result<(), AllocError> {
-    let gauge = Gauge::from(addresses(alloc, &[(0, 0)])?);
-    assert_eq!(rt; gauge.set(book, 1), Err(Refused::NoSuchAddress));
-    let histogram = Histogram::from(addresses(alloc, &[(0, 0)])?);
-    assert_eq!(rt; histogram.record(book, 1), Err(Refused::NoSuchAddress));
+) -> Result<(), Refused> {
+    expect_no_counter(rt, book, &Counter::from(Vec::from_array(alloc, [GAUGE])?));
+    expect_no_counter(
+        rt,
+        book,
+        &Counter::from(Vec::from_array(alloc, [COUNTER, BEYOND])?),
+    );
+    expect_no_gauge(rt, book, &Gauge::from(Vec::from_array(alloc, [COUNTER])?));
+    expect_no_histogram(
+        rt,
+        book,
+        &Histogram::from(Vec::from_array(alloc, [COUNTER])?),
+    );
     Ok(())
 }
 
@@ -72,10 +81,8 @@ fn expect_nothing<R: Recorder>(
 ) -> Result<(), Refused> {
     assert!(rt; book.register(alloc, MetricKind::Counter, key).is_ok());
     assert!(rt; book.register(alloc, MetricKind::Gauge, key).is_ok());
-    expect_no_counter(rt, alloc, book)?;
-    expect_no_other(rt, alloc, book)?;
-    let snapshot = book.snapshot_with(alloc, 0, Reset::KeepGauges)?;
-    assert!(rt; are_nothing(snapshot.as_slice()));
+    expect_no_such(rt, alloc, book)?;
+    assert!(rt; are_nothing(book.snapshot_with(alloc, 0, Reset::KeepGauges)));
     Ok(())
 }
 
@@ -83,24 +90,34 @@ fn expect_refused<R: Recorder>(
     rt: &impl Abort,
     alloc: Global,
     book: Result<R, Refused>,
+    key: &Key,
 ) -> Result<(), Refused> {
-    expect_nothing(rt, alloc, &mut book?, &Key::from_name(alloc, "a")?)
+    match book {
+        Ok(mut book) => expect_nothing(rt, alloc, &mut book, key),
+        Err(refused) => Err(refused),
+    }
 }
 
 #[test]
 fn a_handle_of_another_kind_changes_nothing(rt: HostRuntime) -> Result<(), Fail> {
     let alloc = rt.alloc();
-    expect_refused(&rt, alloc, DebuggingRecorder::new(alloc))?;
+    let key = Key::from_name(alloc, "a")?;
+    assert_eq!(rt;
+        expect_refused(&rt, alloc, DebuggingRecorder::new(alloc), &key),
+        Ok(())
+    );
     Ok(())
 }
 
 /// What the only counter counts.
-fn count<R: Recorder>(alloc: Global, book: &mut R) -> Result<Option<u64>, Refused> {
-    let snapshot = book.snapshot(alloc, 0)?;
-    Ok(match snapshot.as_slice().first() {
-        Some((_, _, _, DebugValue::Counter(n))) => Some(*n),
-        _ => None,
-    })
+fn count(rows: Result<Snapshot, Refused>) -> Option<u64> {
+    match rows {
+        Ok(rows) => match rows.as_slice().first() {
+            Some((_, _, _, DebugValue::Counter(n))) => Some(*n),
+            _ => None,
+        },
+        Err(_) => None,
+    }
 }
 
 /// That the first book takes the handle of the second, which stays as it was: a handle is its addresses.
@@ -114,25 +131,42 @@ fn expect_taken<R: Recorder>(
     assert!(rt; first.register_counter(alloc, key).is_ok());
     let foreign = second.register_counter(alloc, key)?;
     assert_eq!(rt; foreign.increment(first, 3), Ok(1));
-    assert_eq!(rt; count(alloc, first), Ok(Some(3)));
-    assert_eq!(rt; count(alloc, second), Ok(Some(0)));
+    assert_eq!(rt; count(first.snapshot(alloc, 0)), Some(3));
+    assert_eq!(rt; count(second.snapshot(alloc, 0)), Some(0));
     Ok(())
 }
 
 fn expect_given<R: Recorder>(
     rt: &impl Abort,
     alloc: Global,
+    first: &mut R,
+    second: Result<R, Refused>,
+    key: &Key,
+) -> Result<(), Refused> {
+    match second {
+        Ok(mut second) => expect_taken(rt, alloc, first, &mut second, key),
+        Err(refused) => Err(refused),
+    }
+}
+
+fn expect_both<R: Recorder>(
+    rt: &impl Abort,
+    alloc: Global,
     first: Result<R, Refused>,
     second: Result<R, Refused>,
+    key: &Key,
 ) -> Result<(), Refused> {
-    let key = Key::from_name(alloc, "a")?;
-    expect_taken(rt, alloc, &mut first?, &mut second?, &key)
+    match first {
+        Ok(mut first) => expect_given(rt, alloc, &mut first, second, key),
+        Err(refused) => Err(refused),
+    }
 }
 
 #[test]
 fn a_handle_of_another_tree_is_taken(rt: HostRuntime) -> Result<(), Fail> {
     let alloc = rt.alloc();
-    let first = DebuggingRecorder::new(alloc);
-    expect_given(&rt, alloc, first, DebuggingRecorder::new(alloc))?;
+    let key = Key::from_name(alloc, "a")?;
+    let (first, second) = (DebuggingRecorder::new(alloc), DebuggingRecorder::new(alloc));
+    assert_eq!(rt; expect_both(&rt, alloc, first, second, &key), Ok(()));
     Ok(())
 }
