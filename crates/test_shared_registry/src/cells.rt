@@ -1,13 +1,13 @@
 //! Cells, used as what they hold.
 
-use metrics::Key;
+use metrics::{Error, Key};
 use metrics_bucket::AtomicBucket;
 use metrics_cells::{CounterFn, GaugeFn, HistogramFn};
 use metrics_registry::{Generation, Storage};
 use metrics_shared_registry::{Generational, Registry};
 use std::process::Abort;
-use std::sync::Wait;
 use std::sync::atomic::{AtomicU64, Ordering};
+use std::sync::{Arc, Wait};
 use std::test::Fail;
 
 /// A histogram that refuses every sample.
@@ -63,12 +63,15 @@ fn expect_refused<R: Abort + Wait>(rt: &R, cell: &Generational<Full>) {
     expect_changes(rt, cell, 1);
 }
 
+fn expect_raised<R: Abort + Wait>(rt: &R, cell: &Generational<AtomicU64>) {
+    expect_counter(rt, cell);
+    expect_gauge(rt, cell);
+    expect_before(rt, cell);
+}
+
 #[test]
 fn each_call_raises_the_generation_by_one_once_it_ran(rt: HostRuntime) -> Result<(), Fail> {
-    let cell = Generational::new(rt.alloc(), AtomicU64::new(0))?;
-    expect_counter(&rt, &cell);
-    expect_gauge(&rt, &cell);
-    expect_before(&rt, &cell);
+    expect_raised(&rt, &Generational::new(rt.alloc(), AtomicU64::new(0))?);
     expect_refused(&rt, &Generational::new(rt.alloc(), Full)?);
     Ok(())
 }
@@ -82,15 +85,28 @@ fn refused<W: Wait>(rt: &W, cell: &AtomicBucket<i64>, samples: i64) -> u64 {
     refused
 }
 
+fn expect_room<R: Abort + Wait>(rt: &R, cell: &AtomicBucket<i64>) {
+    assert_eq!(rt; refused(rt, cell, 1025), 1);
+    assert_eq!(rt; cell.clear(rt), Ok(1024));
+    assert_eq!(rt; refused(rt, cell, 1), 0);
+}
+
+fn expect_room_of<R: Abort + Wait>(rt: &R, cell: Result<Arc<AtomicBucket<i64>>, Error>) {
+    match cell {
+        Ok(cell) => expect_room(rt, &cell),
+        Err(_) => assert!(rt; false, "memory"),
+    }
+}
+
 /// A histogram that a registry's storage makes has room for 1,024 samples.
 #[test]
 fn a_histogram_has_room(rt: HostRuntime) -> Result<(), Fail> {
-    let registry = Registry::atomic(rt.alloc(), 1)?;
-    let cell = registry
-        .storage()
-        .histogram(&Key::from_name(rt.alloc(), "a")?)?;
-    assert_eq!(rt; refused(&rt, &cell, 1025), 1);
-    assert_eq!(rt; cell.clear(&rt), Ok(1024));
-    assert_eq!(rt; refused(&rt, &cell, 1), 0);
-    Ok(())
+    let key = Key::from_name(rt.alloc(), "a")?;
+    match Registry::atomic(rt.alloc(), 1) {
+        Ok(registry) => {
+            expect_room_of(&rt, registry.storage().histogram(&key));
+            Ok(())
+        }
+        Err(_) => Err("memory".into()),
+    }
 }

@@ -34,6 +34,18 @@ fn expect_shared<R: Abort + Wait>(rt: &R, alloc: Global, registry: &Plain, key: 
     }
 }
 
+fn expect_shared_of<R: Abort + Wait>(
+    rt: &R,
+    alloc: Global,
+    registry: Result<Plain, Error>,
+    key: &Key,
+) {
+    match registry {
+        Ok(registry) => expect_shared(rt, alloc, &registry, key),
+        Err(_) => assert!(rt; false, "memory"),
+    }
+}
+
 /// A registry with one owner, of words that are shared.
 type Owned = OwnedRegistry<Key, Words>;
 
@@ -66,14 +78,21 @@ fn expect_owned(rt: &impl Abort, alloc: Global, registry: &mut Owned, key: &Key)
     }
 }
 
+fn expect_owned_of(rt: &impl Abort, alloc: Global, registry: Result<Owned, Error>, key: &Key) {
+    match registry {
+        Ok(mut registry) => expect_owned(rt, alloc, &mut registry, key),
+        Err(_) => assert!(rt; false, "memory"),
+    }
+}
+
 #[test]
 fn a_handle_has_the_very_cell(rt: HostRuntime) -> Result<(), Fail> {
     let alloc = rt.alloc();
     let key = Key::from_name(alloc, "a")?;
     for shards in [1, 8] {
-        expect_shared(&rt, alloc, &plain(alloc, shards)?, &key);
-        let mut owned = OwnedRegistry::new(alloc, Words { alloc }, shards)?;
-        expect_owned(&rt, alloc, &mut owned, &key);
+        expect_shared_of(&rt, alloc, plain(alloc, shards), &key);
+        let owned = OwnedRegistry::new(alloc, Words { alloc }, shards);
+        expect_owned_of(&rt, alloc, owned, &key);
     }
     Ok(())
 }

@@ -45,11 +45,31 @@ fn expect_used<R: Abort + Wait>(
     Ok(())
 }
 
+/// Makes the cell of a key. Whether it was made.
+fn is_made<R: Wait>(rt: &R, registry: &Dated, key: &Key) -> bool {
+    registry
+        .get_or_create_histogram(rt, key, |_: &Generational<Word>| {})
+        .is_ok()
+}
+
+fn expect_stays<R: Abort + Wait>(
+    rt: &R,
+    recency: &Recency<Key>,
+    registry: Result<Dated, Error>,
+    key: &Key,
+) -> Result<(), Fail> {
+    match registry {
+        Ok(registry) => {
+            assert!(rt; is_made(rt, &registry, key));
+            expect_used(rt, recency, &registry, key)
+        }
+        Err(_) => Err("memory".into()),
+    }
+}
+
 #[test]
 fn a_changed_cell_stays(rt: HostRuntime) -> Result<(), Fail> {
-    let recency = Recency::new(rt.alloc(), MetricKindMask::ALL, Some(5));
     let key = Key::from_name(rt.alloc(), "a")?;
-    let registry = dated(rt.alloc())?;
-    registry.get_or_create_histogram(&rt, &key, |_: &Generational<Word>| {})?;
-    expect_used(&rt, &recency, &registry, &key)
+    let recency = Recency::new(rt.alloc(), MetricKindMask::ALL, Some(5));
+    expect_stays(&rt, &recency, dated(rt.alloc()), &key)
 }
