@@ -26,7 +26,7 @@ const KEYS: usize = 16;
 const PUSHES: usize = 256;
 
 /// How many samples, and their sum modulo 2^64.
-#[derive(Clone, Copy, Debug, PartialEq, Eq)]
+#[derive(Clone, Copy, PartialEq)]
 struct Samples {
     count: u64,
     sum: u64,
@@ -53,7 +53,7 @@ impl Samples {
 }
 
 /// What went in and what came out.
-#[derive(Clone, Copy, Debug)]
+#[derive(Clone, Copy)]
 struct Told {
     pushed: Samples,
     taken: Samples,
@@ -70,21 +70,25 @@ struct Shared {
     bucket: AtomicBucket<i64>,
 }
 
+fn keys(alloc: Global) -> Result<Vec<Key>> {
+    let mut keys = Vec::new(alloc);
+    for number in 0..KEYS {
+        keys.push(Key::from_name(alloc, format!(in alloc; "key {number}")?.as_str())?)?;
+    }
+    Ok(keys)
+}
+
 impl Shared {
     fn new<R: Clock + AllocGlobal>(rt: &R, seconds: u64) -> Result<Shared> {
         let alloc = rt.alloc();
-        let mut keys = Vec::new(alloc);
-        for number in 0..KEYS {
-            keys.push(Key::from_name(alloc, format!(in alloc; "key {number}")?.as_str())?)?;
-        }
         Ok(Shared {
             alloc,
             start: Instant::now(rt)?,
             seconds,
-            keys,
+            keys: keys(alloc)?,
             cells: Registry::atomic(alloc, 4)?,
-            recency: Recency::new(alloc, MetricKindMask::HISTOGRAM, Some(2)),
             bucket: AtomicBucket::new(alloc, 16)?,
+            recency: Recency::new(alloc, MetricKindMask::HISTOGRAM, Some(2)),
         })
     }
 
@@ -201,8 +205,15 @@ fn seconds(rt: &(impl Env + AllocGlobal)) -> Result<u64> {
 
 fn main(rt: HostRuntime) -> Result<()> {
     let told = soak(&rt, seconds(&rt)?)?;
-    if told.pushed != told.taken || told.pushed.count == 0 {
-        return Err(anyhow!("{:?} went in, {:?} came out", told.pushed, told.taken));
+    let (pushed, taken) = (told.pushed, told.taken);
+    if pushed != taken || pushed.count == 0 {
+        return Err(anyhow!(
+            "{} of sum {} went in, {} of sum {} came out",
+            pushed.count,
+            pushed.sum,
+            taken.count,
+            taken.sum
+        ));
     }
     println!(rt; "each sample came out once")?;
     Ok(())
