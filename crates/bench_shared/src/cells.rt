@@ -2,7 +2,7 @@
 use crate::threads::ThreadBench;
 use anyhow::Result;
 use bench_harness::{Bench, taken};
-use metrics::{Error, Key, Label, MetricKindMask};
+use metrics::{Error, Key, Label, MetricKindMask, Refused};
 use metrics_cells::CounterFn;
 use metrics_registry::Generation;
 use metrics_shared_registry::{
@@ -28,9 +28,13 @@ const DAY: u64 = 86_400_000_000_000;
 /// The key of a name, with one label.
 pub fn key(alloc: Global, name: &str, i: u32) -> Result<Key> {
     let route = format!(in alloc; "/api/v1/item/{i:03}")?;
+    Ok(labelled(alloc, name, route.as_str())?)
+}
+
+fn labelled(alloc: Global, name: &str, route: &str) -> Result<Key, Refused> {
     let mut labels = Vec::new(alloc);
-    labels.push(Label::new(alloc, "route", route.as_str())?)?;
-    Ok(Key::from_parts(alloc, name, labels)?)
+    labels.push(Label::new(alloc, "route", route)?)?;
+    Key::from_parts(alloc, name, labels)
 }
 
 fn keys_1000(alloc: Global) -> Result<Vec<Key>> {
@@ -77,9 +81,10 @@ fn count<W: Wait>(rt: &W, registry: &Atomic, keys: &[Key]) -> Result<u64> {
     Ok(cell.map_or(0, |word| word.load(Ordering::SeqCst)))
 }
 
-/// Gets 1,000 times a counter of the first keys, in turn, among 1,000 that are held.
+/// Gets counters of the first keys among 1,000 that are held: in one thread 1,000 times, in turn.
 #[derive(Drop)]
 pub struct Creates {
+    alloc: Global,
     registry: Atomic,
     keys: Vec<Key>,
     first: usize,
@@ -90,6 +95,7 @@ impl Creates {
         let keys = keys_1000(alloc)?;
         let registry = holding(rt, alloc, &keys)?;
         Ok(Creates {
+            alloc,
             registry,
             keys,
             first,
@@ -138,32 +144,7 @@ fn increment_beside<W: Wait>(
 }
 
 /// Gets 500,000 times a counter of the first keys, in turn, in each of four threads. Each begins a quarter of the keys further.
-#[derive(Drop)]
-pub struct CreatesByFour {
-    alloc: Global,
-    registry: Atomic,
-    keys: Vec<Key>,
-    first: usize,
-}
-
-impl CreatesByFour {
-    pub fn new<W: Wait>(rt: &W, alloc: Global, first: usize) -> Result<CreatesByFour> {
-        let keys = keys_1000(alloc)?;
-        let registry = holding(rt, alloc, &keys)?;
-        Ok(CreatesByFour {
-            alloc,
-            registry,
-            keys,
-            first,
-        })
-    }
-}
-
-impl ThreadBench for CreatesByFour {
-    fn prepare<R: Wait>(&mut self, _rt: &R) -> Result<()> {
-        Ok(())
-    }
-
+impl ThreadBench for Creates {
     fn walk<R: Threads + Wait + Sync>(&mut self, rt: &R) -> Result<u64> {
         let registry = &self.registry;
         let keys = self.keys.as_slice();

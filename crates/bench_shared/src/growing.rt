@@ -52,7 +52,7 @@ impl Alone {
     }
 
     /// The sum of what the clear shows comes beside it.
-    fn clear<R: Wait>(self, rt: &R) -> Result<(Alone, i64)> {
+    fn clear<R: Wait>(self, rt: &R) -> Result<(Alone, u64)> {
         let Alone { bucket, mut pen } = self;
         let mut sum: i64 = 0;
         taken(bucket.clear_with(rt, &mut pen, |values| {
@@ -60,37 +60,47 @@ impl Alone {
                 sum = sum.wrapping_add(*value);
             }
         }))?;
-        Ok((Alone { bucket, pen }, sum))
+        Ok((Alone { bucket, pen }, u64::try_from(sum).unwrap_or(0)))
     }
 }
 
-/// Pushes by one thread. The clear between two walks isn't timed.
+/// Pushes by one thread, or clears of a bucket of 65,536 values, with their sum. What stands between two walks, the clear or the
+/// pushes, isn't timed.
 #[derive(Drop)]
-pub struct GrowingPushes {
+pub struct GrowingTurns {
     held: Option<Alone>,
+    are_pushes: bool,
 }
 
-impl GrowingPushes {
-    pub fn new(alloc: Global) -> Result<GrowingPushes> {
-        Ok(GrowingPushes {
+impl GrowingTurns {
+    pub fn new(alloc: Global, are_pushes: bool) -> Result<GrowingTurns> {
+        Ok(GrowingTurns {
             held: Some(Alone::new(alloc)?),
+            are_pushes,
         })
     }
+
+    /// Pushes or clears. How many pushes were refused, or the sum.
+    fn turn<R: Wait>(&mut self, rt: &R, are_pushes: bool) -> Result<u64> {
+        let held = self.held.take().ok_or(anyhow!("empty"))?;
+        let (held, told) = if are_pushes {
+            held.push(rt)
+        } else {
+            held.clear(rt)?
+        };
+        self.held = Some(held);
+        Ok(told)
+    }
 }
 
-impl<R: Wait> Bench<R> for GrowingPushes {
+impl<R: Wait> Bench<R> for GrowingTurns {
     fn prepare(&mut self, rt: &R) -> Result<()> {
-        let held = self.held.take().ok_or(anyhow!("empty"))?;
-        let (held, _) = held.clear(rt)?;
-        self.held = Some(held);
+        self.turn(rt, !self.are_pushes)?;
         Ok(())
     }
 
     fn walk(&mut self, rt: &R) -> Result<u64> {
-        let held = self.held.take().ok_or(anyhow!("empty"))?;
-        let (held, refused) = held.push(rt);
-        self.held = Some(held);
-        Ok(refused)
+        self.turn(rt, self.are_pushes)
     }
 }
 
@@ -242,35 +252,5 @@ impl ThreadBench for GrowingPushesOfFour {
         let (held, refused) = held.push(rt);
         self.held = Some(held);
         Ok(refused)
-    }
-}
-
-/// Clears a bucket of 65,536 values, with their sum. That it is filled isn't timed.
-#[derive(Drop)]
-pub struct GrowingClears {
-    held: Option<Alone>,
-}
-
-impl GrowingClears {
-    pub fn new(alloc: Global) -> Result<GrowingClears> {
-        Ok(GrowingClears {
-            held: Some(Alone::new(alloc)?),
-        })
-    }
-}
-
-impl<R: Wait> Bench<R> for GrowingClears {
-    fn prepare(&mut self, rt: &R) -> Result<()> {
-        let held = self.held.take().ok_or(anyhow!("empty"))?;
-        let (held, _) = held.push(rt);
-        self.held = Some(held);
-        Ok(())
-    }
-
-    fn walk(&mut self, rt: &R) -> Result<u64> {
-        let held = self.held.take().ok_or(anyhow!("empty"))?;
-        let (held, sum) = held.clear(rt)?;
-        self.held = Some(held);
-        Ok(u64::try_from(sum).unwrap_or(0))
     }
 }

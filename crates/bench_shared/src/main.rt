@@ -15,17 +15,18 @@ mod threads;
 
 use anyhow::Result;
 use bench_harness::{Size, Words, report};
-use cells::{Checks, Creates, CreatesByFour};
+use cells::{Checks, Creates};
 use clears::Clears;
-use growing::{GrowingClears, GrowingPushes, GrowingPushesOfFour};
+use growing::{GrowingPushesOfFour, GrowingTurns};
 use held::hold_asked;
 use pushes::{Pushes, PushesOfFour};
-use reservoirs::{Filling, Sampling, SamplingByFour};
-use shared_pushes::{SharedPushes, SharedPushesOfFour};
+use reservoirs::{Filling, Sampling};
+use shared_pushes::SharedPushes;
 use std::alloc::Global;
 use std::io::Eprint;
 use std::rt::Clock;
 use std::sync::Wait;
+use std::thread::Threads;
 use threads::report_threads;
 
 /// About how many operations a round makes.
@@ -36,6 +37,12 @@ const CLEARS: [(&str, u16, usize, u32); 3] = [
     ("bucket_clear_with_64_per_value", 1, 512, 32_768),
     ("bucket_clear_with_1024_per_value", 16, 256, 262_144),
     ("bucket_clear_with_65536_per_value", 1024, 4, 262_144),
+];
+
+/// Those of a bucket that grows: pushes, or else clears.
+const GROWING: [(&str, bool); 2] = [
+    ("growing_push_1t", true),
+    ("growing_clear_with_65536_per_value", false),
 ];
 
 /// The benchmarks that get counters in one thread, and how many keys they get.
@@ -83,10 +90,10 @@ fn bucket_rows<R: Clock + Print + Eprint + Wait>(
         let bench = Clears::new(alloc, blocks, buckets);
         report(rt, words, name, bench, Size::apart(all, OPERATIONS))?;
     }
-    let bench = GrowingPushes::new(alloc);
-    report(rt, words, "growing_push_1t", bench, size)?;
-    let bench = GrowingClears::new(alloc);
-    report(rt, words, "growing_clear_with_65536_per_value", bench, size)
+    for (name, are_pushes) in GROWING {
+        report(rt, words, name, GrowingTurns::new(alloc, are_pushes), size)?;
+    }
+    Ok(())
 }
 
 /// Calls on cells of the registry by one thread.
@@ -99,6 +106,39 @@ fn cell_rows<R: Clock + Print + Eprint + Wait>(rt: &R, words: &Words, alloc: Glo
     report(rt, words, name, Checks::new(rt, alloc), size)
 }
 
+/// What four threads do together.
+fn thread_rows<R: Clock + Print + Eprint + Threads + Wait + Sync>(
+    rt: &R,
+    words: &Words,
+    alloc: Global,
+) -> Result<()> {
+    let size = Size::apart(65_536, OPERATIONS);
+    report_threads(rt, words, "bucket_push_4t", PushesOfFour::new(alloc), size)?;
+    let bench = SharedPushes::new(alloc);
+    report_threads(rt, words, "atomic_bucket_push_4t", bench, size)?;
+    let bench = GrowingPushesOfFour::new(alloc);
+    report_threads(rt, words, "growing_push_4t", bench, size)?;
+    let size = Size::apart(OPERATIONS, OPERATIONS);
+    let bench = Sampling::new(rt, alloc);
+    report_threads(rt, words, "reservoir_push_1024_sampling_4t", bench, size)?;
+    for (name, first) in CREATES_BY_FOUR {
+        report_threads(rt, words, name, Creates::new(rt, alloc, first), size)?;
+    }
+    Ok(())
+}
+
+/// All rows.
+fn rows<R: Clock + Print + Eprint + Threads + Wait + Sync>(
+    rt: &R,
+    words: &Words,
+    alloc: Global,
+) -> Result<()> {
+    reservoir_rows(rt, words, alloc)?;
+    bucket_rows(rt, words, alloc)?;
+    cell_rows(rt, words, alloc)?;
+    thread_rows(rt, words, alloc)
+}
+
 fn main(rt: HostRuntime) -> Result<()> {
     let alloc = rt.alloc();
     if let Some(held) = hold_asked(&rt, alloc)? {
@@ -106,27 +146,5 @@ fn main(rt: HostRuntime) -> Result<()> {
         return Ok(());
     }
     let words = Words::new(&rt)?;
-    reservoir_rows(&rt, &words, alloc)?;
-    bucket_rows(&rt, &words, alloc)?;
-    cell_rows(&rt, &words, alloc)?;
-    let size = Size::apart(65_536, OPERATIONS);
-    report_threads(
-        &rt,
-        &words,
-        "bucket_push_4t",
-        PushesOfFour::new(alloc),
-        size,
-    )?;
-    let bench = SharedPushesOfFour::new(alloc);
-    report_threads(&rt, &words, "atomic_bucket_push_4t", bench, size)?;
-    let bench = GrowingPushesOfFour::new(alloc);
-    report_threads(&rt, &words, "growing_push_4t", bench, size)?;
-    let size = Size::apart(OPERATIONS, OPERATIONS);
-    let bench = SamplingByFour::new(&rt, alloc);
-    report_threads(&rt, &words, "reservoir_push_1024_sampling_4t", bench, size)?;
-    for (name, first) in CREATES_BY_FOUR {
-        let bench = CreatesByFour::new(&rt, alloc, first);
-        report_threads(&rt, &words, name, bench, size)?;
-    }
-    Ok(())
+    rows(&rt, &words, alloc)
 }

@@ -57,15 +57,17 @@ impl<R: Wait> Bench<R> for Filling {
     }
 }
 
-/// Pushes 1000 values after a million others.
+/// Pushes after a million others: 1000 values in one thread.
 #[derive(Drop)]
 pub struct Sampling {
+    alloc: Global,
     reservoir: Reservoir,
 }
 
 impl Sampling {
     pub fn new<R: Wait>(rt: &R, alloc: Global) -> Result<Sampling> {
         Ok(Sampling {
+            alloc,
             reservoir: filled(rt, alloc)?,
         })
     }
@@ -91,27 +93,8 @@ fn push_beside<R: Wait>(rt: &R, come: &AtomicU64, reservoir: &Reservoir, values:
     push_all(rt, reservoir, values).is_ok()
 }
 
-/// Pushes 500,000 values in each of four threads, after a million others.
-#[derive(Drop)]
-pub struct SamplingByFour {
-    alloc: Global,
-    reservoir: Reservoir,
-}
-
-impl SamplingByFour {
-    pub fn new<R: Wait>(rt: &R, alloc: Global) -> Result<SamplingByFour> {
-        Ok(SamplingByFour {
-            alloc,
-            reservoir: filled(rt, alloc)?,
-        })
-    }
-}
-
-impl ThreadBench for SamplingByFour {
-    fn prepare<R: Wait>(&mut self, _rt: &R) -> Result<()> {
-        Ok(())
-    }
-
+/// Pushes 500,000 values in each of four threads.
+impl ThreadBench for Sampling {
     fn walk<R: Threads + Wait + Sync>(&mut self, rt: &R) -> Result<u64> {
         let reservoir = &self.reservoir;
         let come = &AtomicU64::new(0);

@@ -35,7 +35,7 @@ fn push_in_four<R: Threads + Wait + Sync>(rt: &R, bucket: &AtomicBucket<i64>) ->
     a.wrapping_add(b)
 }
 
-/// A bucket of 65,536 places.
+/// A bucket of 65,536 places, for one thread or for four.
 #[derive(Drop)]
 pub struct SharedPushes {
     bucket: AtomicBucket<i64>,
@@ -59,20 +59,7 @@ impl<R: Wait> Bench<R> for SharedPushes {
     }
 }
 
-/// A bucket of 65,536 places, for four threads.
-#[derive(Drop)]
-pub struct SharedPushesOfFour {
-    bucket: AtomicBucket<i64>,
-}
-
-impl SharedPushesOfFour {
-    pub fn new(alloc: Global) -> Result<SharedPushesOfFour> {
-        let bucket = taken(AtomicBucket::new(alloc, 1024))?;
-        Ok(SharedPushesOfFour { bucket })
-    }
-}
-
-impl ThreadBench for SharedPushesOfFour {
+impl ThreadBench for SharedPushes {
     fn prepare<R: Wait>(&mut self, rt: &R) -> Result<()> {
         taken(self.bucket.clear(rt))?;
         Ok(())
