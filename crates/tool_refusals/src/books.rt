@@ -1,15 +1,14 @@
 //! Worked examples on books under layers: each a tree by its lines, and calls with the books that they reach.
 
-use crate::steps::{Does, Step, play_on};
+use crate::steps::{Does, Step};
 use metrics::MetricKind::{Counter, Gauge, Histogram};
 use metrics::{Reset, Unit, Update};
-use tool_refusals_trial::{Trial, Wrong};
 
 /// A tree of books by its lines, and calls on it.
 pub struct Example {
     pub name: &'static str,
-    lines: &'static str,
-    steps: &'static [Step],
+    pub lines: &'static str,
+    pub steps: &'static [Step],
 }
 
 /// Each kind on one book.
@@ -321,39 +320,3 @@ pub const EXAMPLES: &[Example] = &[
         steps: GAUGES_STAND,
     },
 ];
-
-/// The names of the examples of this file.
-pub const NAMES: &[&str] = &[
-    "a_book_of_each_kind",
-    "a_prefix_joins_a_name",
-    "an_empty_prefix_puts_a_dot",
-    "prefixes_over_one_another",
-    "a_filter_without_patterns",
-    "a_filter_of_the_empty_pattern",
-    "a_filter_by_table",
-    "a_filter_by_links",
-    "a_filter_above_a_prefix",
-    "a_filter_below_a_prefix",
-    "a_filter_folds_ascii_alone",
-    "the_longest_route_wins",
-    "the_last_of_equal_routes_wins",
-    "routes_are_by_kind",
-    "routes_that_override",
-    "a_fanout_registers_in_the_front_alone",
-    "a_fanout_joins_addresses",
-    "a_fanout_of_three_records",
-    "the_last_description_stays",
-    "values_at_the_ends_of_their_ranges",
-    "routes_to_one_target",
-    "gauges_stand",
-];
-
-/// Runs the example of this name, if it is one of these.
-pub fn run(trial: &mut Trial, name: &str) -> Option<Result<(), Wrong>> {
-    for example in EXAMPLES {
-        if example.name == name {
-            return Some(play_on(trial, example.lines, example.steps));
-        }
-    }
-    None
-}

@@ -38,7 +38,7 @@ fn expect_layered<L: Layer<Book>>(trial: &mut Trial, layer: L) -> Result<(), Wro
     expect_made(trial, Layering { layer }, book)
 }
 
-fn a_layer_gives_its_recorder_back(trial: &mut Trial) -> Result<(), Wrong> {
+pub fn a_layer_gives_its_recorder_back(trial: &mut Trial) -> Result<(), Wrong> {
     let layer = prefix(trial, "a")?;
     expect_layered(trial, layer)?;
     let layer = filter(trial)?;
@@ -70,7 +70,7 @@ fn expect_pushed<L: Layer<Book>>(trial: &mut Trial, first: L, second: L) -> Resu
     expect_made(trial, Pushing { first, second }, book)
 }
 
-fn a_push_gives_the_recorder_back(trial: &mut Trial) -> Result<(), Wrong> {
+pub fn a_push_gives_the_recorder_back(trial: &mut Trial) -> Result<(), Wrong> {
     let (first, second) = (prefix(trial, "a")?, prefix(trial, "a")?);
     expect_pushed(trial, first, second)?;
     let (first, second) = (filter(trial)?, filter(trial)?);
@@ -88,7 +88,7 @@ fn pushed<R: Recorder>(
 }
 
 /// Plays on a stack of two prefixes.
-fn prefixes_in_a_stack(trial: &mut Trial) -> Result<(), Wrong> {
+pub fn prefixes_in_a_stack(trial: &mut Trial) -> Result<(), Wrong> {
     let stack = Stack::new(new_book(trial)?);
     let stack = pushed(trial, stack, "a")?;
     let stack = pushed(trial, stack, "b")?;
@@ -120,50 +120,39 @@ fn add_pattern(trial: &mut Trial, layer: &mut FilterLayer) -> Result<(), Wrong> 
     }
 }
 
-fn a_refused_pattern_filters_nothing(trial: &mut Trial) -> Result<(), Wrong> {
+pub fn a_refused_pattern_filters_nothing(trial: &mut Trial) -> Result<(), Wrong> {
     let mut layer = FilterLayer::default(trial.alloc);
     layer.case_insensitive(true);
     add_pattern(trial, &mut layer)?;
     play_filtered(trial, &layer, A_FILTER_THAT_FOLDS)
 }
 
-/// Puts a prefix over a child.
+/// Puts a layer over a child.
 #[derive(Drop)]
-struct Prefixing {
-    layer: PrefixLayer,
+enum Covering {
+    Prefix(PrefixLayer),
+    Filter(FilterLayer),
 }
 
-impl<B: Recorder> Takes<Child<B>, Child<B>> for Prefixing {
+impl<B: Recorder> Takes<Child<B>, Child<B>> for Covering {
     fn take(&mut self, alloc: Global, on: Child<B>) -> Result<Child<B>, (Error, Child<B>)> {
-        on.prefix(alloc, &self.layer)
+        match self {
+            Covering::Prefix(layer) => on.prefix(alloc, layer),
+            Covering::Filter(layer) => on.filter(alloc, layer),
+        }
     }
 }
 
-/// Puts a filter over a child.
-#[derive(Drop)]
-struct Filtering {
-    layer: FilterLayer,
-}
-
-impl<B: Recorder> Takes<Child<B>, Child<B>> for Filtering {
-    fn take(&mut self, alloc: Global, on: Child<B>) -> Result<Child<B>, (Error, Child<B>)> {
-        on.filter(alloc, &self.layer)
-    }
-}
-
-fn expect_over_child<T: Takes<Child<Book>, Child<Book>>>(
-    trial: &mut Trial,
-    call: T,
-) -> Result<(), Wrong> {
+fn expect_covered(trial: &mut Trial, layer: Covering) -> Result<(), Wrong> {
     let book = book_of_gauge(trial)?;
-    expect_made(trial, call, Child::leaf(book))
+    expect_made(trial, layer, Child::leaf(book))
 }
 
-fn a_child_comes_back_from_a_layer(trial: &mut Trial) -> Result<(), Wrong> {
+pub fn a_child_comes_back_from_a_layer(trial: &mut Trial) -> Result<(), Wrong> {
     let layer = prefix(trial, "a")?;
-    expect_over_child(trial, Prefixing { layer })?;
+    expect_covered(trial, Covering::Prefix(layer))?;
     let layer = filter(trial)?;
-    expect_over_child(trial, Filtering { layer })
+    expect_covered(trial, Covering::Filter(layer))
 }
 
 /// The children of a fanout have no numbers: each is told as 0.
@@ -176,7 +165,7 @@ impl<B: Recorder> Takes<Child<B>, usize> for FanoutBuilder<B> {
     }
 }
 
-fn a_fanout_gives_its_recorder_back(trial: &mut Trial) -> Result<(), Wrong> {
+pub fn a_fanout_gives_its_recorder_back(trial: &mut Trial) -> Result<(), Wrong> {
     let book = book_of_gauge(trial)?;
     let builder = FanoutBuilder::default(trial.alloc);
     let builder = taken(trial, builder, Child::leaf(book), true)?;
@@ -252,7 +241,7 @@ fn build_router<B: Recorder>(trial: &mut Trial, default: B, target: B) -> Result
     added.and(built)
 }
 
-fn a_router_gives_its_recorder_back(trial: &mut Trial) -> Result<(), Wrong> {
+pub fn a_router_gives_its_recorder_back(trial: &mut Trial) -> Result<(), Wrong> {
     let (default, target) = two_books_of_gauge(trial)?;
     build_router(trial, default, target)
 }
@@ -263,37 +252,10 @@ const TWO_KINDS_ARE_ROUTED: &[Step] = &[
     (Does::Register(2, Histogram, "q"), &[(0, "q")]),
 ];
 
-fn a_route_of_two_kinds(trial: &mut Trial) -> Result<(), Wrong> {
+pub fn a_route_of_two_kinds(trial: &mut Trial) -> Result<(), Wrong> {
     let (default, target) = two_books(trial)?;
     let builder = RouterBuilder::from_recorder(trial.alloc, Child::leaf(default));
     let mask = MetricKindMask::COUNTER | MetricKindMask::GAUGE;
     let builder = routed(trial, builder, mask, Child::leaf(target), false)?;
     play(trial, builder.build(), TWO_KINDS_ARE_ROUTED)
-}
-
-/// The names of the examples of this file.
-pub const NAMES: &[&str] = &[
-    "a_layer_gives_its_recorder_back",
-    "a_push_gives_the_recorder_back",
-    "prefixes_in_a_stack",
-    "a_refused_pattern_filters_nothing",
-    "a_child_comes_back_from_a_layer",
-    "a_fanout_gives_its_recorder_back",
-    "a_router_gives_its_recorder_back",
-    "a_route_of_two_kinds",
-];
-
-/// Runs the example of this name, if it is one of these.
-pub fn run(trial: &mut Trial, name: &str) -> Option<Result<(), Wrong>> {
-    Some(match name {
-        "a_layer_gives_its_recorder_back" => a_layer_gives_its_recorder_back(trial),
-        "a_push_gives_the_recorder_back" => a_push_gives_the_recorder_back(trial),
-        "prefixes_in_a_stack" => prefixes_in_a_stack(trial),
-        "a_refused_pattern_filters_nothing" => a_refused_pattern_filters_nothing(trial),
-        "a_child_comes_back_from_a_layer" => a_child_comes_back_from_a_layer(trial),
-        "a_fanout_gives_its_recorder_back" => a_fanout_gives_its_recorder_back(trial),
-        "a_router_gives_its_recorder_back" => a_router_gives_its_recorder_back(trial),
-        "a_route_of_two_kinds" => a_route_of_two_kinds(trial),
-        _ => return None,
-    })
 }

@@ -76,7 +76,7 @@ fn replay_on<R: Recorder>(trial: &mut Trial, mut on: R, steps: &[Step]) -> Resul
     replay_all(trial, &mut on, steps, calls.as_slice())
 }
 
-fn a_replay_makes_each_call(trial: &mut Trial) -> Result<(), Wrong> {
+pub fn a_replay_makes_each_call(trial: &mut Trial) -> Result<(), Wrong> {
     let book = new_book(trial)?;
     replay_on(trial, book, A_BOOK_OF_EACH_KIND)
 }
@@ -131,7 +131,7 @@ fn journal_on<R: Recorder>(trial: &mut Trial, on: R, steps: &[Step]) -> Result<(
     journal_all(trial, &mut journaled, &mut known, steps)
 }
 
-fn a_journal_has_each_call(trial: &mut Trial) -> Result<(), Wrong> {
+pub fn a_journal_has_each_call(trial: &mut Trial) -> Result<(), Wrong> {
     let Ok(book) = DebuggingRecorder::new(trial.alloc) else {
         return Err("refused with memory at hand");
     };
@@ -175,7 +175,7 @@ fn expect_map(trial: &Trial, map: &HashMap<CompositeKey, RowValue>) -> Result<()
     expect_counter(map.get(&counter))
 }
 
-fn a_snapshot_becomes_a_map(trial: &mut Trial) -> Result<(), Wrong> {
+pub fn a_snapshot_becomes_a_map(trial: &mut Trial) -> Result<(), Wrong> {
     let book = new_book(trial)?;
     let rows = rows_of_two(trial, book)?;
     match map_of(trial, rows) {
@@ -244,26 +244,7 @@ fn record_65<R: Recorder>(trial: &mut Trial, mut on: R) -> Result<(), Wrong> {
     expect_samples(&rows, None, 0)
 }
 
-fn samples_come_newest_block_first(trial: &mut Trial) -> Result<(), Wrong> {
+pub fn samples_come_newest_block_first(trial: &mut Trial) -> Result<(), Wrong> {
     let book = new_book(trial)?;
     record_65(trial, book)
-}
-
-/// The names of the examples of this file.
-pub const NAMES: &[&str] = &[
-    "a_replay_makes_each_call",
-    "a_journal_has_each_call",
-    "a_snapshot_becomes_a_map",
-    "samples_come_newest_block_first",
-];
-
-/// Runs the example of this name, if it is one of these.
-pub fn run(trial: &mut Trial, name: &str) -> Option<Result<(), Wrong>> {
-    Some(match name {
-        "a_replay_makes_each_call" => a_replay_makes_each_call(trial),
-        "a_journal_has_each_call" => a_journal_has_each_call(trial),
-        "a_snapshot_becomes_a_map" => a_snapshot_becomes_a_map(trial),
-        "samples_come_newest_block_first" => samples_come_newest_block_first(trial),
-        _ => return None,
-    })
 }

@@ -118,7 +118,7 @@ const A_COUNTER_IS_RAISED: &[Step] = &[
     (Does::Snapshot(0, Reset::All), &[]),
 ];
 
-fn calls_of_a_shared_book<W: Wait>(rt: &W, trial: &mut Trial) -> Result<(), Wrong> {
+pub fn calls_of_a_shared_book<W: Wait>(rt: &W, trial: &mut Trial) -> Result<(), Wrong> {
     let book = new_book(trial)?;
     play_shared(rt, trial, book, A_COUNTER_IS_RAISED)?;
     let book = new_book(trial)?;
@@ -233,7 +233,7 @@ fn recover<W: Wait, R: Recorder>(rt: &W, trial: &mut Trial, on: R) -> Result<(),
     recover_from(rt, trial, &slot, handle)
 }
 
-fn a_recovered_book_has_what_its_slot_took<W: Wait>(
+pub fn a_recovered_book_has_what_its_slot_took<W: Wait>(
     rt: &W,
     trial: &mut Trial,
 ) -> Result<(), Wrong> {
@@ -265,7 +265,7 @@ fn build_slot<W: Wait, R: Recorder>(rt: &W, trial: &mut Trial, on: R) -> Result<
     expect_gauge(trial, on)
 }
 
-fn a_slot_gives_its_recorder_back<W: Wait>(rt: &W, trial: &mut Trial) -> Result<(), Wrong> {
+pub fn a_slot_gives_its_recorder_back<W: Wait>(rt: &W, trial: &mut Trial) -> Result<(), Wrong> {
     let book = book_of_gauge(trial)?;
     build_slot(rt, trial, book)
 }
@@ -333,7 +333,7 @@ fn install_slot<W: Wait, R: Recorder>(
     expect_gauge(trial, on)
 }
 
-fn an_installed_slot_gives_its_recorder_back<W: Wait>(
+pub fn an_installed_slot_gives_its_recorder_back<W: Wait>(
     rt: &W,
     trial: &mut Trial,
 ) -> Result<(), Wrong> {
@@ -369,34 +369,9 @@ fn install_twice<W: Wait, R: Recorder>(
     installed.and(expect_back(trial, again))
 }
 
-fn a_recorder_is_installed_once<W: Wait>(rt: &W, trial: &mut Trial) -> Result<(), Wrong> {
+pub fn a_recorder_is_installed_once<W: Wait>(rt: &W, trial: &mut Trial) -> Result<(), Wrong> {
     let (first, second) = two_books_of_gauge(trial)?;
     install_twice(rt, trial, first, second)?;
     let (first, second) = two_books_of_gauge(trial)?;
     install_twice(rt, trial, Stack::new(first), Stack::new(second))
-}
-
-/// The names of the examples of this file.
-pub const NAMES: &[&str] = &[
-    "calls_of_a_shared_book",
-    "a_recovered_book_has_what_its_slot_took",
-    "a_slot_gives_its_recorder_back",
-    "an_installed_slot_gives_its_recorder_back",
-    "a_recorder_is_installed_once",
-];
-
-/// Runs the example of this name, if it is one of these.
-pub fn run<W: Wait>(rt: &W, trial: &mut Trial, name: &str) -> Option<Result<(), Wrong>> {
-    Some(match name {
-        "calls_of_a_shared_book" => calls_of_a_shared_book(rt, trial),
-        "a_recovered_book_has_what_its_slot_took" => {
-            a_recovered_book_has_what_its_slot_took(rt, trial)
-        }
-        "a_slot_gives_its_recorder_back" => a_slot_gives_its_recorder_back(rt, trial),
-        "an_installed_slot_gives_its_recorder_back" => {
-            an_installed_slot_gives_its_recorder_back(rt, trial)
-        }
-        "a_recorder_is_installed_once" => a_recorder_is_installed_once(rt, trial),
-        _ => return None,
-    })
 }

@@ -5,9 +5,7 @@ use metrics::{
     Address, Answer, Call, Key, KeyName, Label, MetricKind, Recorder, Refused, Reset, Row, Text,
     Unit, Update,
 };
-use metrics_debugging::DebuggingRecorder;
 use metrics_replay::answer_of;
-use metrics_trees::Child;
 use std::alloc::Global;
 use tool_lines::{RunError, tree};
 use tool_refusals_trial::{Trial, Wrong, done, expect};
@@ -234,9 +232,8 @@ pub fn call_of(alloc: Global, does: Does) -> Result<Call, Refused> {
 
 /// A key with one label.
 pub fn key(alloc: Global, name: &str) -> Result<Key, Refused> {
-    let label = Label::new(alloc, "counter.key", "counter.value")?;
     let mut labels = Vec::new(alloc);
-    labels.push(label)?;
+    labels.push(Label::new(alloc, "counter.key", "counter.value")?)?;
     Key::from_parts(alloc, name, labels)
 }
 
@@ -316,33 +313,30 @@ pub fn play<R: Recorder>(trial: &mut Trial, on: R, steps: &[Step]) -> Result<(),
     play_all(trial, &mut direct, &mut known, steps)
 }
 
-/// Makes a tree again whose first try was refused for memory.
-fn grown_again(
+/// Plays on a tree whose first try was refused for memory, and is made again.
+fn play_again(
     trial: &mut Trial,
     lines: &str,
+    steps: &[Step],
     error: RunError,
-) -> Result<Child<DebuggingRecorder>, Wrong> {
+) -> Result<(), Wrong> {
     let RunError::Memory(_) = error else {
         return Err("the tree is refused");
     };
     trial.refusals = trial.refusals.saturating_add(1);
-    let (on, _) = done(tree(trial.alloc, &mut lines.as_bytes()))?;
-    Ok(on)
+    match tree(trial.alloc, &mut lines.as_bytes()) {
+        Ok((on, _)) => play(trial, on, steps),
+        Err(_) => Err("refused with memory at hand"),
+    }
 }
 
-/// Makes a tree of its lines. The first try may be refused.
-fn grown(trial: &mut Trial, lines: &str) -> Result<Child<DebuggingRecorder>, Wrong> {
+/// Plays calls on a tree of its lines, where the first try to make it may be refused.
+pub fn play_on(trial: &mut Trial, lines: &str, steps: &[Step]) -> Result<(), Wrong> {
     trial.begin();
     let first = tree(trial.alloc, &mut lines.as_bytes());
     trial.calm();
     match first {
-        Ok((on, _)) => Ok(on),
-        Err(error) => grown_again(trial, lines, error),
+        Ok((on, _)) => play(trial, on, steps),
+        Err(error) => play_again(trial, lines, steps, error),
     }
-}
-
-/// Plays calls on a tree of its lines.
-pub fn play_on(trial: &mut Trial, lines: &str, steps: &[Step]) -> Result<(), Wrong> {
-    let on = grown(trial, lines)?;
-    play(trial, on, steps)
 }
