@@ -157,28 +157,11 @@ fn expect_answers(trial: &mut Trial, text: &str, is_whole: bool) -> Result<(), W
     expect(lines.next().is_none(), "a line too many")
 }
 
-fn an_exporter_goes_on_after_a_refusal<R: Threads + Wait + Sync>(
+pub fn an_exporter_goes_on_after_a_refusal<R: Threads + Wait + Sync>(
     rt: &R,
     trial: &mut Trial,
 ) -> Result<(), Wrong> {
     let ended = ran(rt, trial, &["export", "4", "c", "5", "10,25"], LINES)?;
     let is_whole = is_whole(&ended)?;
     expect_answers(trial, ended.output.text()?, is_whole)
-}
-
-/// The names of the examples of this file.
-pub const NAMES: &[&str] = &["an_exporter_goes_on_after_a_refusal"];
-
-/// Runs the example of this name, if it is one of these.
-pub fn run<R: Threads + Wait + Sync>(
-    rt: &R,
-    trial: &mut Trial,
-    name: &str,
-) -> Option<Result<(), Wrong>> {
-    match name {
-        "an_exporter_goes_on_after_a_refusal" => Some(an_exporter_goes_on_after_a_refusal(
-            rt, trial,
-        )),
-        _ => None,
-    }
 }

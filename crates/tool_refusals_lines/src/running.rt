@@ -122,7 +122,7 @@ fn expect_answers(trial: &mut Trial, text: &str, is_whole: bool) -> Result<(), W
     expect(lines.next().is_none(), "a line too many")
 }
 
-fn run_goes_on_after_a_refusal<R: Threads + Wait + Sync>(
+pub fn run_goes_on_after_a_refusal<R: Threads + Wait + Sync>(
     rt: &R,
     trial: &mut Trial,
 ) -> Result<(), Wrong> {
@@ -131,7 +131,7 @@ fn run_goes_on_after_a_refusal<R: Threads + Wait + Sync>(
     expect_answers(trial, ended.output.text()?, is_whole)
 }
 
-fn a_bad_line_ends_the_run<R: Threads + Wait + Sync>(
+pub fn a_bad_line_ends_the_run<R: Threads + Wait + Sync>(
     rt: &R,
     trial: &mut Trial,
 ) -> Result<(), Wrong> {
@@ -147,20 +147,4 @@ fn a_bad_line_ends_the_run<R: Threads + Wait + Sync>(
     expect(!is_whole(&ended)?, "a bad line, and status 0")?;
     trial.note(Error::Memory)?;
     expect(whole.starts_with(ended.output.text()?), "another text")
-}
-
-/// The names of the examples of this file.
-pub const NAMES: &[&str] = &["run_goes_on_after_a_refusal", "a_bad_line_ends_the_run"];
-
-/// Runs the example of this name, if it is one of these.
-pub fn run<R: Threads + Wait + Sync>(
-    rt: &R,
-    trial: &mut Trial,
-    name: &str,
-) -> Option<Result<(), Wrong>> {
-    Some(match name {
-        "run_goes_on_after_a_refusal" => run_goes_on_after_a_refusal(rt, trial),
-        "a_bad_line_ends_the_run" => a_bad_line_ends_the_run(rt, trial),
-        _ => return None,
-    })
 }

@@ -7,7 +7,7 @@ use std::thread::Threads;
 use tool_refusals_trial::{Trial, Wrong, expect};
 
 /// A storm writes its three lines, or nothing and ends for want of memory.
-fn expect_storm<R: Threads + Wait + Sync>(
+pub fn expect_storm<R: Threads + Wait + Sync>(
     rt: &R,
     trial: &mut Trial,
     words: &[&str],
@@ -22,31 +22,7 @@ fn expect_storm<R: Threads + Wait + Sync>(
     expect(ended.output.text()?.is_empty(), "a text, and a fault")
 }
 
-const TWO_PUSHERS: &str = "pushed 200 sum 9900\nfound 200 sum 9900\nsampled 16 of 200 sum 9900\n";
+pub const TWO_PUSHERS: &str =
+    "pushed 200 sum 9900\nfound 200 sum 9900\nsampled 16 of 200 sum 9900\n";
 
-const NOTHING: &str = "pushed 0 sum 0\nfound 0 sum 0\nsampled 0 of 0 sum 0\n";
-
-/// The names of the examples of this file.
-pub const NAMES: &[&str] = &[
-    "a_storm_refused_ends_for_memory",
-    "a_growing_storm_refused_ends_for_memory",
-    "an_empty_storm",
-];
-
-/// Runs the example of this name, if it is one of these.
-pub fn run<R: Threads + Wait + Sync>(
-    rt: &R,
-    trial: &mut Trial,
-    name: &str,
-) -> Option<Result<(), Wrong>> {
-    Some(match name {
-        "a_storm_refused_ends_for_memory" => {
-            expect_storm(rt, trial, &["storm", "2", "100", "1"], TWO_PUSHERS)
-        }
-        "a_growing_storm_refused_ends_for_memory" => {
-            expect_storm(rt, trial, &["storm", "2", "100", "1", "grow"], TWO_PUSHERS)
-        }
-        "an_empty_storm" => expect_storm(rt, trial, &["storm", "1", "0", "1"], NOTHING),
-        _ => return None,
-    })
-}
+pub const NOTHING: &str = "pushed 0 sum 0\nfound 0 sum 0\nsampled 0 of 0 sum 0\n";
