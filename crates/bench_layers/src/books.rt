@@ -1,25 +1,18 @@
 //! Calls of a recorder.
 
 use anyhow::Result;
-use bench_harness::{Bench, Size, Words, report};
+use bench_harness::Bench;
 use metrics::{Address, Key, Label, MetricKind, Recorder, Refused, Update};
 use std::alloc::Global;
-use std::io::Eprint;
-use std::rt::Clock;
-
-/// A key with one label.
-fn labelled(alloc: Global, route: &str) -> Result<Key, Refused> {
-    let mut labels = Vec::new(alloc);
-    labels.push(Label::new(alloc, "route", route)?)?;
-    Key::from_parts(alloc, "requests_total", labels)
-}
 
 /// A thousand keys of one name, each with a label of its own.
 pub fn thousand_keys(alloc: Global) -> Result<Vec<Key>> {
     let mut all = Vec::new(alloc);
     for i in 0..1000u32 {
+        let mut labels = Vec::new(alloc);
         let route = format!(in alloc; "/api/v1/item/{i:03}")?;
-        all.push(labelled(alloc, route.as_str())?)?;
+        labels.push(Label::new(alloc, "route", route.as_str())?)?;
+        all.push(Key::from_parts(alloc, "requests_total", labels)?)?;
     }
     Ok(all)
 }
@@ -53,15 +46,19 @@ fn registered<R: Recorder>(
     Ok((on, keys))
 }
 
-/// A row: its name, and how much a round does.
-type Row<'a> = (&'a str, Size);
-
 /// Registers keys that the recorder has.
 #[derive(Drop)]
-struct Registers<R> {
+pub struct Registers<R> {
     alloc: Global,
     on: R,
     keys: Vec<Key>,
+}
+
+impl<R: Recorder> Registers<R> {
+    pub fn new(alloc: Global, on: Result<R>, keys: Result<Vec<Key>>) -> Result<Registers<R>> {
+        let (on, keys) = registered(alloc, on, keys)?;
+        Ok(Registers { alloc, on, keys })
+    }
 }
 
 impl<H, R: Recorder> Bench<H> for Registers<R> {
@@ -70,25 +67,25 @@ impl<H, R: Recorder> Bench<H> for Registers<R> {
     }
 }
 
-/// Register calls of keys that a recorder has.
-pub fn report_registers<H: Clock + Print + Eprint, R: Recorder>(
-    rt: &H,
-    words: &Words,
-    alloc: Global,
-    (name, size): Row<'_>,
-    on: Result<R>,
-    keys: Result<Vec<Key>>,
-) -> Result<()> {
-    let (on, keys) = registered(alloc, on, keys)?;
-    report(rt, words, name, Ok(Registers { alloc, on, keys }), size)
-}
-
 /// Increments the first counters of a book by their addresses.
 #[derive(Drop)]
-struct Increments<R> {
+pub struct Increments<R> {
     on: R,
     book: usize,
     series: usize,
+}
+
+impl<R: Recorder> Increments<R> {
+    pub fn new(
+        alloc: Global,
+        on: Result<R>,
+        keys: Result<Vec<Key>>,
+        book: usize,
+    ) -> Result<Increments<R>> {
+        let (on, keys) = registered(alloc, on, keys)?;
+        let series = keys.len();
+        Ok(Increments { on, book, series })
+    }
 }
 
 impl<H, R: Recorder> Bench<H> for Increments<R> {
@@ -103,59 +100,46 @@ impl<H, R: Recorder> Bench<H> for Increments<R> {
     }
 }
 
-/// Increments of a recorder that has these keys, in one of its books.
-pub fn report_increments<H: Clock + Print + Eprint, R: Recorder>(
-    rt: &H,
-    words: &Words,
-    alloc: Global,
-    (name, size): Row<'_>,
-    on: Result<R>,
-    keys: Result<Vec<Key>>,
-    book: usize,
-) -> Result<()> {
-    let (on, keys) = registered(alloc, on, keys)?;
-    let series = keys.len();
-    drop(keys);
-    report(rt, words, name, Ok(Increments { on, book, series }), size)
-}
-
-/// Registers a key, and increments its counter.
-#[inline(always)]
-fn count_one<R: Recorder>(alloc: Global, on: &mut R, key: &Key) -> Result<usize, Refused> {
-    match on.register_counter(alloc, key) {
-        Ok(counter) => counter.increment(on, 1),
-        Err(refused) => Err(refused),
-    }
-}
-
-/// Registers each of some keys of a book, increments its counter, and takes a snapshot at the end of the walk.
+/// Takes snapshots of a whole book.
 #[derive(Drop)]
 pub struct Snapshots<R> {
     alloc: Global,
     on: R,
-    keys: Vec<Key>,
 }
 
 impl<R: Recorder> Snapshots<R> {
-    /// Snapshots of a book with these keys: each walk calls with all of them, or with none.
-    pub fn new(
-        alloc: Global,
-        on: Result<R>,
-        keys: Result<Vec<Key>>,
-        with_calls: bool,
-    ) -> Result<Snapshots<R>> {
-        let (on, mut keys) = registered(alloc, on, keys)?;
-        if !with_calls {
-            keys = Vec::new(alloc);
-        }
-        Ok(Snapshots { alloc, on, keys })
+    pub fn new(alloc: Global, on: Result<R>, keys: Result<Vec<Key>>) -> Result<Snapshots<R>> {
+        let (on, _) = registered(alloc, on, keys)?;
+        Ok(Snapshots { alloc, on })
     }
 }
 
 impl<H, R: Recorder> Bench<H> for Snapshots<R> {
     fn walk(&mut self, _rt: &H) -> Result<u64> {
+        Ok(self.on.snapshot(self.alloc, 0)?.as_slice().len() as u64)
+    }
+}
+
+/// Registers each key of a book, increments its counter, and takes a snapshot at the end of the walk.
+#[derive(Drop)]
+pub struct Rounds<R> {
+    alloc: Global,
+    on: R,
+    keys: Vec<Key>,
+}
+
+impl<R: Recorder> Rounds<R> {
+    pub fn new(alloc: Global, on: Result<R>, keys: Result<Vec<Key>>) -> Result<Rounds<R>> {
+        let (on, keys) = registered(alloc, on, keys)?;
+        Ok(Rounds { alloc, on, keys })
+    }
+}
+
+impl<H, R: Recorder> Bench<H> for Rounds<R> {
+    fn walk(&mut self, _rt: &H) -> Result<u64> {
         for key in &self.keys {
-            count_one(self.alloc, &mut self.on, key)?;
+            let counter = self.on.register_counter(self.alloc, key)?;
+            counter.increment(&mut self.on, 1)?;
         }
         Ok(self.on.snapshot(self.alloc, 0)?.as_slice().len() as u64)
     }

@@ -1,10 +1,10 @@
 //! Recorders below layers, handed to the benchmarks as some recorder.
 
-use crate::matching::{Around, PATTERNS, ROUTES, around_routes, names, numbered};
+use crate::matching::{borrowed, names, names_of_routes, patterns, routes};
 use crate::sink::Sink;
 use anyhow::Result;
 use bench_harness::taken;
-use metrics::{Key, MetricKindMask, Recorder, Refused};
+use metrics::{Key, MetricKindMask, Refused};
 use metrics_debugging::DebuggingRecorder;
 use metrics_layers::{Filter, FilterLayer, Layer, Prefix, PrefixLayer};
 use metrics_trees::{Child, Fanout, FanoutBuilder, Router, RouterBuilder};
@@ -19,15 +19,14 @@ fn keys(alloc: Global, names: &[String]) -> Result<Vec<Key>, Refused> {
     Ok(all)
 }
 
-/// A key without labels for each of a hundred numbered names.
-fn numbered_keys(alloc: Global, around: Around) -> Result<Vec<Key>> {
-    let names = numbered(alloc, around)?;
-    Ok(keys(alloc, names.as_slice())?)
-}
-
 /// A hundred keys without labels.
 pub fn plain_keys(alloc: Global) -> Result<Vec<Key>> {
-    numbered_keys(alloc, ("http.server.", ".requests.total"))
+    let mut all = Vec::new(alloc);
+    for i in 0..100u32 {
+        let name = format!(in alloc; "http.server.{i:02}.requests.total")?;
+        all.push(Key::from_name(alloc, name.as_str())?)?;
+    }
+    Ok(all)
 }
 
 /// A new book.
@@ -35,10 +34,11 @@ pub fn book(alloc: Global) -> Result<DebuggingRecorder> {
     Ok(DebuggingRecorder::new(alloc)?)
 }
 
-/// A recorder below a prefix.
-pub fn prefixed<R: Recorder>(alloc: Global, on: Result<R>) -> Result<Child<R>> {
+/// A new book below a prefix.
+pub fn prefixed_book(alloc: Global) -> Result<Child<DebuggingRecorder>> {
     let layer = PrefixLayer::new(alloc, "app")?;
-    taken(Child::leaf(on?).prefix(alloc, &layer))
+    let book = Child::leaf(DebuggingRecorder::new(alloc)?);
+    taken(book.prefix(alloc, &layer))
 }
 
 /// A prefix over a recorder that keeps nothing.
@@ -49,41 +49,41 @@ pub fn prefix(alloc: Global) -> Result<Prefix<Sink>> {
 
 /// A filter of a hundred patterns over a recorder that keeps nothing.
 pub fn filter(alloc: Global, table: bool) -> Result<Filter<Sink>> {
-    let mut layer = FilterLayer::from_patterns(alloc, &PATTERNS)?;
+    let patterns = patterns(alloc)?;
+    let listed = borrowed(alloc, patterns.as_slice())?;
+    let mut layer = FilterLayer::from_patterns(alloc, listed.as_slice())?;
     layer.use_dfa(table);
     taken(layer.layer(alloc, Sink::new()))
 }
 
 /// A hundred keys, each with one of the patterns in its name, or none.
 pub fn keys_of_patterns(alloc: Global, refused: bool) -> Result<Vec<Key>> {
-    let names = names(alloc, refused)?;
+    let patterns = patterns(alloc)?;
+    let names = names(alloc, patterns.as_slice(), refused)?;
     Ok(keys(alloc, names.as_slice())?)
 }
 
 fn add_routes(alloc: Global, builder: &mut RouterBuilder<Sink>) -> Result<()> {
-    for pattern in &numbered(alloc, ROUTES)? {
+    for pattern in &routes(alloc)? {
         let target = Child::leaf(Sink::new());
         taken(builder.add_route(MetricKindMask::COUNTER, pattern, target))?;
     }
     Ok(())
 }
 
-/// What was made, if all went well before.
-fn after<T: Drop>(done: Result<()>, made: T) -> Result<T> {
-    done?;
-    Ok(made)
-}
-
 /// A router of a hundred routes to recorders that keep nothing.
 pub fn router(alloc: Global) -> Result<Router<Sink>> {
     let mut builder = RouterBuilder::from_recorder(alloc, Child::leaf(Sink::new()));
-    let added = add_routes(alloc, &mut builder);
-    after(added, builder.build())
+    match add_routes(alloc, &mut builder) {
+        Ok(()) => Ok(builder.build()),
+        Err(error) => Err(error),
+    }
 }
 
 /// A hundred keys, each with the pattern of a route before its name, or none with one.
 pub fn keys_of_routes(alloc: Global, matching: bool) -> Result<Vec<Key>> {
-    numbered_keys(alloc, around_routes(matching))
+    let names = names_of_routes(alloc, matching)?;
+    Ok(keys(alloc, names.as_slice())?)
 }
 
 /// A fanout of four recorders that keep nothing.

@@ -8,10 +8,10 @@ mod sink;
 
 use anyhow::Result;
 use bench_harness::{Size, Words, report};
-use books::{Snapshots, one_key, report_increments, report_registers, thousand_keys};
+use books::{Increments, Registers, Rounds, Snapshots, one_key, thousand_keys};
 use layers::{
     book, fanout_of_books, fanout_of_sinks, filter, keys_of_patterns, keys_of_routes, plain_keys,
-    prefix, prefixed, router,
+    prefix, prefixed_book, router,
 };
 use matching::{Filter, Trie};
 use std::alloc::Global;
@@ -67,36 +67,27 @@ fn prefixes_and_fanouts<R: Clock + Print + Eprint>(
     words: &Words,
     alloc: Global,
 ) -> Result<()> {
-    let (size, keys) = (Size::together(100, OPERATIONS), plain_keys(alloc));
-    report_registers(
+    let size = Size::together(1000, OPERATIONS);
+    let plain = Registers::new(alloc, prefix(alloc), plain_keys(alloc));
+    report(
         rt,
         words,
-        alloc,
-        ("prefix_register_no_labels", size),
-        prefix(alloc),
-        keys,
+        "prefix_register_no_labels",
+        plain,
+        Size::together(100, OPERATIONS),
     )?;
-    let (size, keys) = (Size::together(1000, OPERATIONS), thousand_keys(alloc));
-    report_registers(
+    let labelled = Registers::new(alloc, prefix(alloc), thousand_keys(alloc));
+    report(rt, words, "prefix_register_1_label", labelled, size)?;
+    let sinks = Registers::new(alloc, fanout_of_sinks(alloc), thousand_keys(alloc));
+    report(rt, words, "fanout4_register_sinks", sinks, size)?;
+    let books = Registers::new(alloc, fanout_of_books(alloc, 4), thousand_keys(alloc));
+    report(
         rt,
         words,
-        alloc,
-        ("prefix_register_1_label", size),
-        prefix(alloc),
-        keys,
-    )?;
-    let (sinks, keys) = (fanout_of_sinks(alloc), thousand_keys(alloc));
-    report_registers(
-        rt,
-        words,
-        alloc,
-        ("fanout4_register_sinks", size),
-        sinks,
-        keys,
-    )?;
-    let (books, keys) = (fanout_of_books(alloc, 4), thousand_keys(alloc));
-    let name = "fanout4_register_debugging_existing";
-    report_registers(rt, words, alloc, (name, size), books, keys)
+        "fanout4_register_debugging_existing",
+        books,
+        size,
+    )
 }
 
 /// Register calls through a filter or a router.
@@ -107,62 +98,66 @@ fn filters_and_routers<R: Clock + Print + Eprint>(
 ) -> Result<()> {
     let size = Size::together(100, OPERATIONS);
     for (name, table, refused) in FILTERED {
-        let (filter, keys) = (filter(alloc, table), keys_of_patterns(alloc, refused));
-        report_registers(rt, words, alloc, (name, size), filter, keys)?;
+        let bench = Registers::new(
+            alloc,
+            filter(alloc, table),
+            keys_of_patterns(alloc, refused),
+        );
+        report(rt, words, name, bench, size)?;
     }
     for (name, matching) in ROUTED {
-        let (router, keys) = (router(alloc), keys_of_routes(alloc, matching));
-        report_registers(rt, words, alloc, (name, size), router, keys)?;
+        let bench = Registers::new(alloc, router(alloc), keys_of_routes(alloc, matching));
+        report(rt, words, name, bench, size)?;
     }
     Ok(())
 }
 
 /// Register calls and updates of a book of a thousand series.
 fn calls_of_books<R: Clock + Print + Eprint>(rt: &R, words: &Words, alloc: Global) -> Result<()> {
-    let (size, keys) = (Size::together(1000, OPERATIONS), thousand_keys(alloc));
-    let name = "debugging_register_existing_1000";
-    report_registers(rt, words, alloc, (name, size), book(alloc), keys)?;
-    let (prefixed, keys) = (prefixed(alloc, book(alloc)), thousand_keys(alloc));
-    let name = "debugging_register_existing_1000_prefixed";
-    report_registers(rt, words, alloc, (name, size), prefixed, keys)?;
-    let (row, keys) = (("debugging_increment_1000", size), thousand_keys(alloc));
-    report_increments(rt, words, alloc, row, book(alloc), keys, 0)?;
-    let row = ("fanout1000_increment_last", Size::together(1, OPERATIONS));
-    let (books, keys) = (fanout_of_books(alloc, 1000), one_key(alloc));
-    report_increments(rt, words, alloc, row, books, keys, 999)
+    let size = Size::together(1000, OPERATIONS);
+    let plain = Registers::new(alloc, book(alloc), thousand_keys(alloc));
+    report(rt, words, "debugging_register_existing_1000", plain, size)?;
+    let prefixed = Registers::new(alloc, prefixed_book(alloc), thousand_keys(alloc));
+    report(
+        rt,
+        words,
+        "debugging_register_existing_1000_prefixed",
+        prefixed,
+        size,
+    )?;
+    let all = Increments::new(alloc, book(alloc), thousand_keys(alloc), 0);
+    report(rt, words, "debugging_increment_1000", all, size)?;
+    let last = Increments::new(alloc, fanout_of_books(alloc, 1000), one_key(alloc), 999);
+    report(
+        rt,
+        words,
+        "fanout1000_increment_last",
+        last,
+        Size::together(1, OPERATIONS),
+    )
 }
 
-/// Snapshots of a book of a thousand series: how many operations a walk makes, about how many a round makes, and whether each
-/// series is registered and incremented before.
-const SNAPSHOTS: [(&str, u32, u32, bool); 2] = [
-    ("debugging_snapshot_1000_per_call", 1, 500, false),
-    (
-        "debugging_register_increment_snapshot_1000_per_series",
-        1000,
-        OPERATIONS,
-        true,
-    ),
-];
-
-/// Snapshots, alone and after calls.
+/// Snapshots of a book of a thousand series.
 fn snapshots<R: Clock + Print + Eprint>(rt: &R, words: &Words, alloc: Global) -> Result<()> {
-    for (name, operations, all, with_calls) in SNAPSHOTS {
-        let bench = Snapshots::new(alloc, book(alloc), thousand_keys(alloc), with_calls);
-        report(rt, words, name, bench, Size::together(operations, all))?;
-    }
-    Ok(())
-}
-
-/// All rows.
-fn rows<R: Clock + Print + Eprint>(rt: &R, words: &Words, alloc: Global) -> Result<()> {
-    questions(rt, words, alloc)?;
-    prefixes_and_fanouts(rt, words, alloc)?;
-    filters_and_routers(rt, words, alloc)?;
-    calls_of_books(rt, words, alloc)?;
-    snapshots(rt, words, alloc)
+    let bench = Snapshots::new(alloc, book(alloc), thousand_keys(alloc));
+    report(
+        rt,
+        words,
+        "debugging_snapshot_1000_per_call",
+        bench,
+        Size::together(1, 500),
+    )?;
+    let bench = Rounds::new(alloc, book(alloc), thousand_keys(alloc));
+    let name = "debugging_register_increment_snapshot_1000_per_series";
+    report(rt, words, name, bench, Size::together(1000, OPERATIONS))
 }
 
 fn main(rt: HostRuntime) -> Result<()> {
+    let alloc = rt.alloc();
     let words = Words::new(&rt)?;
-    rows(&rt, &words, rt.alloc())
+    questions(&rt, &words, alloc)?;
+    prefixes_and_fanouts(&rt, &words, alloc)?;
+    filters_and_routers(&rt, &words, alloc)?;
+    calls_of_books(&rt, &words, alloc)?;
+    snapshots(&rt, &words, alloc)
 }

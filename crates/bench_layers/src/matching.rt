@@ -5,52 +5,68 @@ use bench_harness::Bench;
 use prefix_match::{PrefixTrie, SubstringSet};
 use std::alloc::{AllocError, Global};
 
-/// A hundred patterns of eight lower-case letters.
-pub const PATTERNS: [&str; 100] = [
-    "lgrciveu", "pcedqoit", "cftqhchs", "dpuaypfo", "zwcutgta", "wgytgqsw", "mrtsmbin", "dfdhedut",
-    "jembhefy", "rbeoylnx", "lworzcpy", "ftdwoogs", "iwwlwgeu", "lpmqolxl", "iasyuilj", "hvlqshsl",
-    "adoxgqpd", "cvuenfjm", "rnjkrybe", "xlcvwgzl", "trsjtylr", "fppmwfhq", "vbgwnlyg", "zsurbpgf",
-    "aachpose", "wttonars", "xrrtsgur", "wsnpqmei", "jrccsruf", "ohrblklm", "kpoogdsq", "iezdipax",
-    "hylfnupl", "vmnirumw", "cqzcwulv", "mnmgmwyf", "tifqvuyv", "kyxdznns", "flrtonmb", "gsyorlsh",
-    "kemqavpn", "riglhjye", "elujwduk", "jnyziduo", "lszaxesy", "qstlcdel", "egasdodr", "stxpmsbt",
-    "ycinxuvv", "wjrbjqfx", "emplpbvf", "eafwlepp", "gpyfsiio", "jkbrnrbv", "rcgtocpg", "mczkpemo",
-    "ippkyssi", "pyiydyyv", "rvhbviqn", "vfadvshu", "pqnrkjdc", "nyvxclnl", "woiuojyz", "slvlxlaw",
-    "hkotgfsp", "ouqkiyvo", "qvrurkne", "eeuhxupr", "jzvsgype", "ecftqezw", "pqthlggz", "ytngtgyf",
-    "ldaprpvz", "dfxajqcf", "ezcgtlbt", "xufxddka", "fjzsalpu", "vchtaxhl", "vtjrljtb", "enpqvyss",
-    "hxegxwfb", "pafinwun", "yajpimsn", "haqebtcx", "ckjdppxk", "mkpvelgg", "jieymmbq", "fiqhacbe",
-    "tqiooauj", "ixxvkdfs", "noodbosl", "qrmjsanm", "uijtjrbm", "sxcbknzu", "inechhve", "hfsnztot",
-    "ocadjzmj", "bmflxcba", "vnqqwimf", "ywtonhjp",
-];
-
-/// A hundred names, each with a pattern in its middle, or without one.
-pub fn names(alloc: Global, with_pattern: bool) -> Result<Vec<String>, AllocError> {
-    if !with_pattern {
-        return numbered(alloc, ("http.server.000000", ".requests.total"));
-    }
+/// A hundred patterns of eight lower-case letters, the same each time.
+pub fn patterns(alloc: Global) -> Result<Vec<String>, AllocError> {
     let mut all = Vec::new(alloc);
-    for pattern in &PATTERNS {
-        all.push(format!(in alloc; "http.server.{pattern}.requests.total")?)?;
+    let mut state: u64 = 1;
+    for _ in 0..100 {
+        let mut pattern = String::new(alloc);
+        for _ in 0..8 {
+            state ^= state >> 12;
+            state ^= state << 25;
+            state ^= state >> 27;
+            pattern.push(letter((state.wrapping_mul(0x2545_f491_4f6c_dd1d) >> 33) & 0xff))?;
+        }
+        all.push(pattern)?;
     }
     Ok(all)
 }
 
-/// What stands before and behind the numbers of a hundred names.
-pub type Around = (&'static str, &'static str);
-
-/// The patterns of routes.
-pub const ROUTES: Around = ("service_", "");
-
-/// Names with the pattern of a route as their front, or with none.
-pub fn around_routes(with_pattern: bool) -> Around {
-    let service = if with_pattern { "service_" } else { "process_" };
-    (service, ".http.requests.total")
+fn letter(number: u64) -> char {
+    char::from(b'a' + (number % 26) as u8)
 }
 
-/// A hundred names, each with its number.
-pub fn numbered(alloc: Global, (front, back): Around) -> Result<Vec<String>, AllocError> {
+/// A hundred names, each with a pattern in its middle, or without one.
+pub fn names(
+    alloc: Global,
+    patterns: &[String],
+    with_pattern: bool,
+) -> Result<Vec<String>, AllocError> {
+    let mut all = Vec::new(alloc);
+    for (i, pattern) in patterns.iter().enumerate() {
+        let name = if with_pattern {
+            format!(in alloc; "http.server.{pattern}.requests.total")?
+        } else {
+            format!(in alloc; "http.server.{i:08}.requests.total")?
+        };
+        all.push(name)?;
+    }
+    Ok(all)
+}
+
+/// The patterns of a hundred routes.
+pub fn routes(alloc: Global) -> Result<Vec<String>, AllocError> {
     let mut all = Vec::new(alloc);
     for i in 0..100u32 {
-        all.push(format!(in alloc; "{front}{i:02}{back}")?)?;
+        all.push(format!(in alloc; "service_{i:02}")?)?;
+    }
+    Ok(all)
+}
+
+/// A hundred names, each with the pattern of a route as its front, or none with one.
+pub fn names_of_routes(alloc: Global, with_pattern: bool) -> Result<Vec<String>, AllocError> {
+    let mut all = Vec::new(alloc);
+    for i in 0..100u32 {
+        let service = if with_pattern { "service" } else { "process" };
+        all.push(format!(in alloc; "{service}_{i:02}.http.requests.total")?)?;
+    }
+    Ok(all)
+}
+
+pub fn borrowed(alloc: Global, texts: &[String]) -> Result<Vec<&str>, AllocError> {
+    let mut all = Vec::new(alloc);
+    for text in texts {
+        all.push(text.as_str())?;
     }
     Ok(all)
 }
@@ -64,8 +80,10 @@ pub struct Filter {
 
 impl Filter {
     pub fn new(alloc: Global, table: bool, refused: bool) -> Result<Filter> {
-        let set = SubstringSet::new(alloc, &PATTERNS, false, table)?;
-        let names = names(alloc, refused)?;
+        let patterns = patterns(alloc)?;
+        let listed = borrowed(alloc, patterns.as_slice())?;
+        let set = SubstringSet::new(alloc, listed.as_slice(), false, table)?;
+        let names = names(alloc, patterns.as_slice(), refused)?;
         Ok(Filter { set, names })
     }
 }
@@ -90,10 +108,10 @@ pub struct Trie {
 impl Trie {
     pub fn new(alloc: Global, matches: bool) -> Result<Trie> {
         let mut trie = PrefixTrie::new(alloc);
-        for (i, pattern) in numbered(alloc, ROUTES)?.iter().enumerate() {
+        for (i, pattern) in routes(alloc)?.iter().enumerate() {
             trie.insert(pattern.as_bytes(), i)?;
         }
-        let names = numbered(alloc, around_routes(matches))?;
+        let names = names_of_routes(alloc, matches)?;
         Ok(Trie { trie, names })
     }
 }
@@ -102,11 +120,7 @@ impl<H> Bench<H> for Trie {
     fn walk(&mut self, _rt: &H) -> Result<u64> {
         let mut found: u64 = 0;
         for name in &self.names {
-            let longest = match self.trie.longest(name.as_bytes()) {
-                Some(value) => value as u64,
-                None => 0,
-            };
-            found = found.wrapping_add(longest);
+            found = found.wrapping_add(self.trie.longest(name.as_bytes()).map_or(0, |v| v as u64));
         }
         Ok(found)
     }

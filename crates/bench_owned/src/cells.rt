@@ -2,7 +2,7 @@
 
 use anyhow::Result;
 use bench_harness::Bench;
-use metrics::{Error, Key, Label, MetricKindMask, Refused};
+use metrics::{Error, Key, Label, MetricKindMask};
 use metrics_registry::{Counted, OwnedRecency, OwnedRegistry, PlainStorage};
 use std::alloc::Global;
 
@@ -11,18 +11,18 @@ type Plain = OwnedRegistry<Key, PlainStorage>;
 /// 24 hours in nanoseconds.
 const DAY: u64 = 86_400_000_000_000;
 
-fn key(alloc: Global, route: &str) -> Result<Key, Refused> {
+fn key(alloc: Global, i: u32) -> Result<Key> {
+    let route = format!(in alloc; "/api/v1/item/{i:03}")?;
     let mut labels = Vec::new(alloc);
-    labels.push(Label::new(alloc, "route", route)?)?;
-    Key::from_parts(alloc, "requests_total", labels)
+    labels.push(Label::new(alloc, "route", route.as_str())?)?;
+    Ok(Key::from_parts(alloc, "requests_total", labels)?)
 }
 
 /// The keys of 1,000 routes.
 pub fn keys_1000(alloc: Global) -> Result<Vec<Key>> {
     let mut keys = Vec::new(alloc);
     for i in 0..1000u32 {
-        let route = format!(in alloc; "/api/v1/item/{i:03}")?;
-        keys.push(key(alloc, route.as_str())?)?;
+        keys.push(key(alloc, i)?)?;
     }
     Ok(keys)
 }

@@ -8,63 +8,113 @@ use metrics_exporter::Exporter;
 use metrics_prometheus::exposition;
 use std::alloc::Global;
 
-/// What a walk does with all counters.
-#[derive(Clone, Copy)]
-pub enum Does {
-    Update,
-    /// Writes the text.
-    Text,
-    /// Writes them in Prometheus's format.
-    Exposition,
-    /// Checks each; none is idle.
-    Expire,
-}
-
 /// An exporter without a timeout in sight, and the keys of its counters.
 #[derive(Drop)]
-pub struct Held {
-    alloc: Global,
+struct Held {
     exporter: Exporter,
     keys: Vec<Key>,
-    does: Does,
-    now: u64,
 }
 
 impl Held {
-    pub fn new(alloc: Global, does: Does) -> Result<Held> {
+    fn new(alloc: Global) -> Result<Held> {
         let keys = keys_1000(alloc)?;
         let exporter = Exporter::new(alloc, 1, MetricKindMask::ALL, Some(u64::MAX), &[10])?;
-        let mut held = Held {
-            alloc,
-            exporter,
-            keys,
-            does,
-            now: 0,
-        };
+        let mut held = Held { exporter, keys };
         held.update_all()?;
         Ok(held)
     }
 
-    /// Updates each counter. How many there are.
-    fn update_all(&mut self) -> Result<usize> {
+    fn update_all(&mut self) -> Result<()> {
         for key in &self.keys {
             self.exporter.update(key, Update::Increment(1))?;
         }
-        Ok(self.exporter.len())
+        Ok(())
     }
 }
 
-impl<R> Bench<R> for Held {
+/// Updates each counter.
+#[derive(Drop)]
+pub struct Updates {
+    held: Held,
+}
+
+impl Updates {
+    pub fn new(alloc: Global) -> Result<Updates> {
+        Ok(Updates {
+            held: Held::new(alloc)?,
+        })
+    }
+}
+
+impl<R> Bench<R> for Updates {
     fn walk(&mut self, _rt: &R) -> Result<u64> {
-        let count = match self.does {
-            Does::Update => self.update_all()?,
-            Does::Text => self.exporter.text()?.len(),
-            Does::Exposition => exposition(&self.exporter, self.alloc)?.len(),
-            Does::Expire => {
-                self.now = self.now.saturating_add(1);
-                self.exporter.expire(self.now)?
-            }
-        };
-        Ok(u64::try_from(count).unwrap_or(0))
+        self.held.update_all()?;
+        Ok(u64::try_from(self.held.exporter.len()).unwrap_or(0))
+    }
+}
+
+/// Writes the text of all counters.
+#[derive(Drop)]
+pub struct Texts {
+    held: Held,
+}
+
+impl Texts {
+    pub fn new(alloc: Global) -> Result<Texts> {
+        Ok(Texts {
+            held: Held::new(alloc)?,
+        })
+    }
+}
+
+impl<R> Bench<R> for Texts {
+    fn walk(&mut self, _rt: &R) -> Result<u64> {
+        let text = self.held.exporter.text()?;
+        Ok(u64::try_from(text.len()).unwrap_or(0))
+    }
+}
+
+/// Writes all counters in Prometheus's format.
+#[derive(Drop)]
+pub struct Expositions {
+    held: Held,
+    alloc: Global,
+}
+
+impl Expositions {
+    pub fn new(alloc: Global) -> Result<Expositions> {
+        let held = Held::new(alloc)?;
+        Ok(Expositions { held, alloc })
+    }
+}
+
+impl<R> Bench<R> for Expositions {
+    fn walk(&mut self, _rt: &R) -> Result<u64> {
+        let text = exposition(&self.held.exporter, self.alloc)?;
+        Ok(u64::try_from(text.len()).unwrap_or(0))
+    }
+}
+
+/// Checks each counter; none is idle.
+#[derive(Drop)]
+pub struct Expires {
+    held: Held,
+    now: u64,
+}
+
+impl Expires {
+    pub fn new(alloc: Global) -> Result<Expires> {
+        Ok(Expires {
+            held: Held::new(alloc)?,
+            now: 0,
+        })
+    }
+}
+
+impl<R> Bench<R> for Expires {
+    fn walk(&mut self, _rt: &R) -> Result<u64> {
+        self.now = self.now.saturating_add(1);
+        let removed = self.held.exporter.expire(self.now)?;
+        Ok(u64::try_from(removed).unwrap_or(0))
     }
 }

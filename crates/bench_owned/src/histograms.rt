@@ -27,33 +27,50 @@ fn histogram(alloc: Global) -> Result<Histogram> {
     }
 }
 
-/// Records all samples, in one call or one after another.
+/// Records one sample after another.
 #[derive(Drop)]
 pub struct Records {
     histogram: Histogram,
     samples: Vec<i64>,
-    in_one: bool,
 }
 
 impl Records {
-    pub fn new(alloc: Global, in_one: bool) -> Result<Records> {
+    pub fn new(alloc: Global) -> Result<Records> {
         Ok(Records {
             histogram: histogram(alloc)?,
             samples: samples(alloc)?,
-            in_one,
         })
     }
 }
 
 impl<R> Bench<R> for Records {
     fn walk(&mut self, _rt: &R) -> Result<u64> {
-        if self.in_one {
-            taken(self.histogram.record_many(&self.samples))?;
-        } else {
-            for sample in &self.samples {
-                taken(self.histogram.record(*sample))?;
-            }
+        for sample in &self.samples {
+            taken(self.histogram.record(*sample))?;
         }
+        Ok(self.histogram.count())
+    }
+}
+
+/// Records all samples in one call.
+#[derive(Drop)]
+pub struct RecordsMany {
+    histogram: Histogram,
+    samples: Vec<i64>,
+}
+
+impl RecordsMany {
+    pub fn new(alloc: Global) -> Result<RecordsMany> {
+        Ok(RecordsMany {
+            histogram: histogram(alloc)?,
+            samples: samples(alloc)?,
+        })
+    }
+}
+
+impl<R> Bench<R> for RecordsMany {
+    fn walk(&mut self, _rt: &R) -> Result<u64> {
+        taken(self.histogram.record_many(&self.samples))?;
         Ok(self.histogram.count())
     }
 }

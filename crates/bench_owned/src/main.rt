@@ -11,8 +11,9 @@ use anyhow::Result;
 use bench_harness::{Size, Words, report};
 use buckets::{Clears, Pushes};
 use cells::{Checks, Creates};
-use exporters::{Does, Held};
-use histograms::Records;
+use exporters::{Expires, Expositions, Texts, Updates};
+use histograms::{Records, RecordsMany};
+use reservoirs::{Filling, Sampling};
 use std::alloc::Global;
 use std::io::Eprint;
 use std::rt::Clock;
@@ -56,42 +57,23 @@ const CREATES: [(&str, usize, usize); 4] = [
     ),
 ];
 
-/// Records into a histogram, and whether all are made in one call.
-const RECORDS: [(&str, bool); 2] = [
-    ("histogram_record_10_bounds", false),
-    ("histogram_record_many_10_bounds_1000_per_value", true),
-];
-
-/// Pushes into a reservoir, and whether they fill it.
-const PUSHES: [(&str, bool); 2] = [
-    ("owned_reservoir_push_1024_filling_1t", true),
-    ("owned_reservoir_push_1024_sampling_1t", false),
-];
-
-/// Calls on an exporter.
-const EXPORTS: [(&str, Does); 4] = [
-    ("exporter_update_counter_held_1000", Does::Update),
-    ("exporter_text_1000_per_series", Does::Text),
-    ("exposition_1000_per_series", Does::Exposition),
-    ("exporter_expire_1000_per_series", Does::Expire),
-];
-
 /// Samples into histograms and reservoirs.
 fn sample_rows<R: Clock + Print + Eprint>(rt: &R, words: &Words, alloc: Global) -> Result<()> {
     let size = Size::together(1000, OPERATIONS);
-    for (name, in_one) in RECORDS {
-        report(rt, words, name, Records::new(alloc, in_one), size)?;
-    }
-    for (name, is_filling) in PUSHES {
-        let bench = reservoirs::Pushes::new(alloc, is_filling);
-        let size = if is_filling {
-            Size::apart(1024, OPERATIONS)
-        } else {
-            size
-        };
-        report(rt, words, name, bench, size)?;
-    }
-    Ok(())
+    let name = "histogram_record_10_bounds";
+    report(rt, words, name, Records::new(alloc), size)?;
+    let name = "histogram_record_many_10_bounds_1000_per_value";
+    report(rt, words, name, RecordsMany::new(alloc), size)?;
+    let name = "owned_reservoir_push_1024_filling_1t";
+    report(
+        rt,
+        words,
+        name,
+        Filling::new(alloc),
+        Size::apart(1024, OPERATIONS),
+    )?;
+    let name = "owned_reservoir_push_1024_sampling_1t";
+    report(rt, words, name, Sampling::new(alloc), size)
 }
 
 /// Pushes and clears of buckets.
@@ -129,21 +111,21 @@ fn cell_rows<R: Clock + Print + Eprint>(rt: &R, words: &Words, alloc: Global) ->
 /// Calls on an exporter that holds 1,000 counters.
 fn exporter_rows<R: Clock + Print + Eprint>(rt: &R, words: &Words, alloc: Global) -> Result<()> {
     let size = Size::together(1000, OPERATIONS);
-    for (name, does) in EXPORTS {
-        report(rt, words, name, Held::new(alloc, does), size)?;
-    }
-    Ok(())
-}
-
-/// All rows.
-fn rows<R: Clock + Print + Eprint>(rt: &R, words: &Words, alloc: Global) -> Result<()> {
-    sample_rows(rt, words, alloc)?;
-    bucket_rows(rt, words, alloc)?;
-    cell_rows(rt, words, alloc)?;
-    exporter_rows(rt, words, alloc)
+    let name = "exporter_update_counter_held_1000";
+    report(rt, words, name, Updates::new(alloc), size)?;
+    let name = "exporter_text_1000_per_series";
+    report(rt, words, name, Texts::new(alloc), size)?;
+    let name = "exposition_1000_per_series";
+    report(rt, words, name, Expositions::new(alloc), size)?;
+    let name = "exporter_expire_1000_per_series";
+    report(rt, words, name, Expires::new(alloc), size)
 }
 
 fn main(rt: HostRuntime) -> Result<()> {
+    let alloc = rt.alloc();
     let words = Words::new(&rt)?;
-    rows(&rt, &words, rt.alloc())
+    sample_rows(&rt, &words, alloc)?;
+    bucket_rows(&rt, &words, alloc)?;
+    cell_rows(&rt, &words, alloc)?;
+    exporter_rows(&rt, &words, alloc)
 }

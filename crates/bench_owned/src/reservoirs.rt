@@ -10,53 +10,82 @@ use std::alloc::Global;
 
 const PLACES: u64 = 1024;
 
-/// Pushes 1024 values into an empty reservoir, or 1000 after a million others, so that nearly each is dropped.
+/// A reservoir with a generator beside it.
 #[derive(Drop)]
-pub struct Pushes {
+struct Drawing {
     reservoir: Reservoir,
     generator: Xoshiro256StarStar,
-    is_filling: bool,
 }
 
-impl Pushes {
-    pub fn new(alloc: Global, is_filling: bool) -> Result<Pushes> {
-        let mut pushes = Pushes {
+impl Drawing {
+    fn new(alloc: Global) -> Result<Drawing> {
+        Ok(Drawing {
             reservoir: taken(Reservoir::new(alloc, PLACES as usize))?,
             generator: Xoshiro256StarStar::seed_from_u64(1),
-            is_filling,
-        };
-        if !is_filling {
-            pushes.push_all(1_000_000)?;
-        }
-        Ok(pushes)
+        })
     }
 
-    /// Pushes the numbers below `values`, each with a draw once the places are filled.
-    fn push_all(&mut self, values: i64) -> Result<()> {
-        for value in 0..values {
-            let pushed = self.reservoir.pushed();
-            let draw = if pushed < PLACES {
-                0
-            } else {
-                self.generator.random_range(0..=pushed)
-            };
-            taken(self.reservoir.push(value, draw))?;
-        }
-        Ok(())
+    /// Draws once the places are filled, and pushes.
+    fn push(&mut self, value: i64) -> Result<()> {
+        let pushed = self.reservoir.pushed();
+        let draw = if pushed < PLACES {
+            0
+        } else {
+            self.generator.random_range(0..=pushed)
+        };
+        taken(self.reservoir.push(value, draw))
     }
 }
 
-impl<R> Bench<R> for Pushes {
+/// Pushes 1024 values into a new reservoir.
+#[derive(Drop)]
+pub struct Filling {
+    drawing: Drawing,
+}
+
+impl Filling {
+    pub fn new(alloc: Global) -> Result<Filling> {
+        Ok(Filling {
+            drawing: Drawing::new(alloc)?,
+        })
+    }
+}
+
+impl<R> Bench<R> for Filling {
     fn prepare(&mut self, _rt: &R) -> Result<()> {
-        if self.is_filling {
-            self.reservoir.consume(|_drain| {});
-        }
+        self.drawing.reservoir.consume(|_drain| {});
         Ok(())
     }
 
     fn walk(&mut self, _rt: &R) -> Result<u64> {
-        let values = if self.is_filling { 1024 } else { 1000 };
-        self.push_all(values)?;
-        Ok(self.reservoir.pushed())
+        for value in 0..1024i64 {
+            self.drawing.push(value)?;
+        }
+        Ok(self.drawing.reservoir.pushed())
+    }
+}
+
+/// Pushes 1000 values after a million others, so that nearly each is dropped.
+#[derive(Drop)]
+pub struct Sampling {
+    drawing: Drawing,
+}
+
+impl Sampling {
+    pub fn new(alloc: Global) -> Result<Sampling> {
+        let mut drawing = Drawing::new(alloc)?;
+        for value in 0..1_000_000i64 {
+            drawing.push(value)?;
+        }
+        Ok(Sampling { drawing })
+    }
+}
+
+impl<R> Bench<R> for Sampling {
+    fn walk(&mut self, _rt: &R) -> Result<u64> {
+        for value in 0..1000i64 {
+            self.drawing.push(value)?;
+        }
+        Ok(self.drawing.reservoir.pushed())
     }
 }
