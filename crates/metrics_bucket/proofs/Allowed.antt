@@ -1,26 +1,28 @@
 -- What the rule allows each step on the table.
-use Rattle.std.proofs.Common.{◌≡◌, ℕ, zero, suc, ◌+◌, ◌*◌, ◌/◌, ◌%◌, ◌<◌, ◌≤◌, eqb, List, [], ◌∷◌, ◌++◌, length, get_or, set, drop, replicate, refl, sym, ap, ◌∙◌, subst, arith, eq-eqb, ne_eqb, length-append, length-take, length-drop}
+use Rattle.std.proofs.Common.{Bool, true, false, ◌≡◌, ℕ, zero, suc, ◌+◌, ◌*◌, ◌/◌, ◌%◌, ◌<◌, ◌≤◌, eqb, List, [], ◌∷◌, ◌++◌, length, get_or, set, drop, replicate, refl, sym, ap, ◌∙◌, subst, arith, eq-eqb, ne_eqb, length-append, length-take, length-drop}
 use mathlib.Core.Logic.{dite}
-use mathlib.Core.Option.{none, some}
+use Rattle.std.proofs.lemmas.Bool.{false≢true}
+use mathlib.Core.Option.{none, some, some-ne-none}
 use native.Mathlib.Decide.{ℕ_discrete}
 use lib.ListN.{get_elem?}
 use lib.Seq.{set-get_or}
 use prog.Atomic.{either}
-use Rattle.atomic_table.specs.Table.{State, Act as SlotAct, step, keeps, homes_after, stepped, opening, Allows, Splits, Joins}
+use Rattle.atomic_table.specs.Table.{State, Act as SlotAct, step, keeps, homes_after, stepped, opening, Allows, Enters, Splits, Joins}
 use Rattle.atomic_table.proofs.Lists.{set_again, set_else}
 use Rattle.metrics_bucket.specs.declared.view.View.{View}
 use Rattle.metrics_bucket.specs.declared.view.Push.{Push}
 use Rattle.metrics_bucket.specs.declared.view.Turn.{Turn}
 use Rattle.metrics_bucket.specs.declared.view.Hold.{Hold}
 use Rattle.metrics_bucket.specs.declared.view.Hold.TheVariants.{Nothing, Ticket, Written, Settling}
-use Rattle.metrics_bucket.specs.BucketState.{BucketState, base, place_index, words_of, live_values, new_view, whole_view, holding, holding_at, seeing, pushing, total, walks_of, walks_made, Act, look, ticket, write, finish, look_to_settle, split, join, state_after, left_part, right_part, both_parts}
-use Rattle.metrics_bucket.specs.Facts.{weigh, weigh_pushes, weight_of, HoldFits, Facts}
+use Rattle.metrics_bucket.specs.BucketState.{BucketState, base, place_index, words_of, live_values, new_view, first_view, holding, holding_at, seeing, pushing, total, walks_of, walks_made, Act, look, ticket, write, finish, look_to_settle, split, join, state_after, left_part, right_part, both_parts}
+use Rattle.metrics_bucket.specs.Facts.{weigh, weigh_pushes, HoldFits, Facts}
 use Rattle.metrics_bucket.specs.Steps.{Seated, IsControl, control_looked, weight_looked, ticket_drawn, value_written, push_finished, live_side_looked, settled_value_looked}
-use Rattle.metrics_bucket.specs.History.{May, opened, turn_at, at_home, homes_of, FollowsHistory}
+use Rattle.metrics_bucket.specs.History.{May, Runs, start, begins, IsPlain, turn_at, at_home, homes_of, FollowsHistory}
 use Rattle.metrics_bucket.proofs.PlacedAlways.{placed}
 use Rattle.metrics_bucket.proofs.Covering.{covers}
-use Rattle.metrics_bucket.proofs.Histories.{runs_on, facts}
-use Rattle.metrics_bucket.proofs.Sums.{total_one, total_set, total_snoc, index_below}
+use Rattle.metrics_bucket.proofs.Histories.{facts}
+use Rattle.metrics_bucket.proofs.Opening.{Ran, more, runs_more, start_more, light_more, get_last, set_last, ran_on, whole_all, whole_closed, most_weight}
+use Rattle.metrics_bucket.proofs.Sums.{total_set, total_snoc, index_below}
 use Rattle.metrics_bucket.proofs.Leaving.{whole_live, learns, learns_reads}
 use Rattle.metrics_bucket.proofs.Shares.{zeros}
 use Rattle.metrics_bucket.proofs.ListParts.{set_left, set_right, get_left, get_take_drop}
@@ -52,87 +54,92 @@ base_le : (places s : ℕ) → base places s ≤ places
 base_le places zero = omega arith
 base_le places (suc s) = omega arith
 
-live_length : (places : ℕ) (w : BucketState) → Facts places 1024 w → length (live_values places w) ≡ w.given
-live_length places w f = let a = f.values_long in let b = f.room in let c = base_le places w.live in let d = length-drop (base places w.live) w.values in let e = length-take w.given (drop (base places w.live) w.values) in omega arith
+live_length : (places all : ℕ) (w : BucketState) → Facts places all w → length (live_values places w) ≡ w.given
+live_length places all w f = let a = f.values_long in let b = f.room in let c = base_le places w.live in let d = length-drop (base places w.live) w.values in let e = length-take w.given (drop (base places w.live) w.values) in omega arith
 
-module _ (places : ℕ) where
+module _ (places : ℕ) (many : Bool) where
   -- the state after a step that takes or gives what goes with the turn, by the state after it
-  pub moved_by : (s : TableState) (k : FollowsHistory places s) (i n id : ℕ) (cs : List (ℕ × Turn)) (v u : View) (act : Act) (slot : SlotAct Turn) → get_elem? k.1.views id ≡ some v → 0 < v.weight → May places 1024 k.1 id v act
+  pub moved_by : (s : TableState) (k : FollowsHistory places many s) (i n id : ℕ) (cs : List (ℕ × Turn)) (v u : View) (act : Act) (slot : SlotAct Turn) → get_elem? k.1.views id ≡ some v → 0 < v.weight → May places k.2.0 k.1 id v act
       → words_of (state_after places k.1 id v act) ≡ set (words_of k.1) i n → (state_after places k.1 id v act).views ≡ set k.1.views id u
-      → homes_of (state_after places k.1 id v act) ≡ homes_after s.homes cs slot
-      → FollowsHistory places (stepped s i n id cs u slot)
-  moved_by s k i n id cs v u act slot there has may words views homes = (
+      → homes_of (state_after places k.1 id v act) ≡ homes_after s.homes cs slot → (many ≡ true → IsPlain act)
+      → FollowsHistory places many (stepped s i n id cs u slot)
+  moved_by s k i n id cs v u act slot there has may words views homes plain = (
     k.0 ++ record { by = id; act = act } ∷ [],
     state_after places k.1 id v act,
-    runs_on places 1024 (opened places) k.0 k.1 id v act k.2 there has may,
+    ran_on places many k.0 k.1 id v act k.2 there has may plain,
     words ∙ ap (λ (l : List ℕ). set l i n) k.3,
     views ∙ ap (λ (l : List View). set l id u) k.4,
     homes,
   )
 
   -- the state after another step
-  pub moved : (s : TableState) (k : FollowsHistory places s) (i n id : ℕ) (cs : List (ℕ × Turn)) (v u : View) (act : Act) → get_elem? k.1.views id ≡ some v → 0 < v.weight → May places 1024 k.1 id v act
+  pub moved : (s : TableState) (k : FollowsHistory places many s) (i n id : ℕ) (cs : List (ℕ × Turn)) (v u : View) (act : Act) → get_elem? k.1.views id ≡ some v → 0 < v.weight → May places k.2.0 k.1 id v act
       → words_of (state_after places k.1 id v act) ≡ set (words_of k.1) i n → (state_after places k.1 id v act).views ≡ set k.1.views id u
-      → walks_of u ≡ walks_of v → (state_after places k.1 id v act).turn ≡ k.1.turn
-      → FollowsHistory places (stepped s i n id cs u keeps)
-  moved s k i n id cs v u act there has may words views walks turn =
+      → walks_of u ≡ walks_of v → (state_after places k.1 id v act).turn ≡ k.1.turn → (many ≡ true → IsPlain act)
+      → FollowsHistory places many (stepped s i n id cs u keeps)
+  moved s k i n id cs v u act there has may words views walks turn plain =
       let w' : BucketState = state_after places k.1 id v act in
       let made : walks_made w' ≡ walks_made k.1 = (let t = total_set walks_of k.1.views id v u there in let h : walks_made w' ≡ total walks_of (set k.1.views id u) = ap (total walks_of) views in omega arith) in
-      moved_by s k i n id cs v u act keeps there has may words views ((λ j. at_home (turn j) (made j) ∷ []) ∙ k.5)
+      moved_by s k i n id cs v u act keeps there has may words views ((λ j. at_home (turn j) (made j) ∷ []) ∙ k.5) plain
 
-  pub still : (s : TableState) (k : FollowsHistory places s) (i id : ℕ) (cs : List (ℕ × Turn)) (u : View) → get_elem? s.views id ≡ some u → FollowsHistory places (stepped s i (get_or s.words i 0) id cs u keeps)
+  pub still : (s : TableState) (k : FollowsHistory places many s) (i id : ℕ) (cs : List (ℕ × Turn)) (u : View) → get_elem? s.views id ≡ some u → FollowsHistory places many (stepped s i (get_or s.words i 0) id cs u keeps)
   still s k i id cs u at = (k.0, k.1, k.2, k.3 ∙ sym (set-get_or s.words i 0), k.4 ∙ sym (set_again s.views id u at), k.5)
 
-  pub control : (s : TableState) (k : FollowsHistory places s) → get_or s.words 0 0 ≡ 2 * k.1.given + k.1.live
+  pub control : (s : TableState) (k : FollowsHistory places many s) → get_or s.words 0 0 ≡ 2 * k.1.given + k.1.live
   control s k = sym (ap (λ (l : List ℕ). get_or l 0 0) k.3)
 
-  pub seated : (s : TableState) (k : FollowsHistory places s) (id : ℕ) (v : View) → get_elem? s.views id ≡ some v → get_elem? k.1.views id ≡ some v
+  pub seated : (s : TableState) (k : FollowsHistory places many s) (id : ℕ) (v : View) → get_elem? s.views id ≡ some v → get_elem? k.1.views id ≡ some v
   seated s k id v at = ap (λ (l : List View). get_elem? l id) k.4 ∙ at
 
-  whole_control : (s : TableState) (k : FollowsHistory places s) (id : ℕ) (v : View) → get_elem? s.views id ≡ some v → v.hold ≡ Nothing → IsControl v (get_or s.words 0 0)
+  -- a thread with the weight 1024 has the whole
+  pub known_all : (s : TableState) (k : FollowsHistory places many s) (id : ℕ) (v : View) → get_elem? s.views id ≡ some v → v.weight ≡ 1024 → v.weight ≡ k.2.0
+  known_all s k id v at whole = whole_all many k.2.0 k.0 k.1 id v k.2.2 (seated s k id v at) whole
+
+  whole_control : (s : TableState) (k : FollowsHistory places many s) (id : ℕ) (v : View) → get_elem? s.views id ≡ some v → v.hold ≡ Nothing → IsControl v (get_or s.words 0 0)
   whole_control s k id v at free whole =
       let w : BucketState = k.1 in
       let there = seated s k id v at in
       let some_weight : 0 < v.weight = omega arith in
       let c = control s k in
-      let side = (facts places s k).side in
-      let l = whole_live places 1024 w id v (facts places s k) there some_weight whole free in
-      let b = learns places 1024 w id v (facts places s k) there some_weight whole free (λ _. 1) in
+      let side = (facts places many s k).side in
+      let sole = known_all s k id v at whole in
+      let l = whole_live places k.2.0 w id v (facts places many s k) there some_weight sole free in
+      let b = learns places k.2.0 w id v (facts places many s k) there some_weight sole free (λ _. 1) in
       let p = count_pushes v.pushed in
       let q = weigh_one (live_values places w) in
-      let r = live_length places w (facts places s k) in
+      let r = live_length places k.2.0 w (facts places many s k) in
       (omega arith, omega arith)
 
-  most : (s : TableState) (k : FollowsHistory places s) (id : ℕ) (v : View) → get_elem? s.views id ≡ some v → v.weight ≤ 1024
-  most s k id v at = let a = total_one weight_of k.1.views id v (seated s k id v at) in let b = (facts places s k).shares in omega arith
+  most : (s : TableState) (k : FollowsHistory places many s) (id : ℕ) (v : View) → get_elem? s.views id ≡ some v → v.weight ≤ 1024
+  most s k id v at = most_weight places many k.2.0 k.0 k.1 id v k.2.2 (facts places many s k) (seated s k id v at)
 
-  pub looks : (slots id : ℕ) (me : Seated) → 0 < me.0.weight → Allows (FollowsHistory places) slots id me 0 (λ n. n) (control_looked (step slots 0 0 0 none) me)
+  pub looks : (slots id : ℕ) (me : Seated) → 0 < me.0.weight → Allows (FollowsHistory places many) slots id me 0 (λ n. n) (control_looked (step slots 0 0 0 none) me)
   looks slots id me has s k _ at _ =
       let w : BucketState = k.1 in
       let x : ℕ = get_or s.words 0 0 in
       let c = control s k in
-      let side = (facts places s k).side in
+      let side = (facts places many s k).side in
       let there = seated s k id me.0 at in
-      let size = ((facts places s k).each id me.0 there).size has in
-      let room = (facts places s k).room in (
+      let size = ((facts places many s k).each id me.0 there).size has in
+      let room = (facts places many s k).room in (
         seeing me.0 x,
         keeps,
         tt,
-        subst (λ (n : ℕ). FollowsHistory places (stepped s 0 x id me.1 (seeing me.0 n) keeps)) (sym c)
-            (moved s k 0 x id me.1 me.0 (seeing me.0 (2 * w.given + w.live)) look there has tt (k.3 ∙ sym (set-get_or s.words 0 0) ∙ sym (ap (λ (l : List ℕ). set l 0 x) k.3)) refl refl refl),
+        subst (λ (n : ℕ). FollowsHistory places many (stepped s 0 x id me.1 (seeing me.0 n) keeps)) (sym c)
+            (moved s k 0 x id me.1 me.0 (seeing me.0 (2 * w.given + w.live)) look there has tt (k.3 ∙ sym (set-get_or s.words 0 0) ∙ sym (ap (λ (l : List ℕ). set l 0 x) k.3)) refl refl refl (λ _. tt)),
         (refl, most s k id me.0 at, (λ _. omega arith), λ free. whole_control s k id me.0 at free),
       )
 
-  pub weighs : (slots id : ℕ) (me : Seated) → Allows (FollowsHistory places) slots id me 0 (λ n. n) (weight_looked (step slots 0 0 0 none) me)
+  pub weighs : (slots id : ℕ) (me : Seated) → Allows (FollowsHistory places many) slots id me 0 (λ n. n) (weight_looked (step slots 0 0 0 none) me)
   weighs slots id me s k _ at _ = (me.0, keeps, tt, still s k 0 id me.1 me.0 at, (refl, most s k id me.0 at))
 
   pub draws : (slots id : ℕ) (me : Seated) (old : ℕ) → 0 < me.0.weight → me.0.hold ≡ Nothing → old / 2 < places
-      → Allows (FollowsHistory places) slots id me 0 (λ n. either (eqb n old) (old + 2) n) (ticket_drawn (step slots 0 old (old + 2) none) me)
+      → Allows (FollowsHistory places many) slots id me 0 (λ n. either (eqb n old) (old + 2) n) (ticket_drawn (step slots 0 old (old + 2) none) me)
   draws slots id me old has free room s k _ at _ =
       let x : ℕ = get_or s.words 0 0 in
       let w : BucketState = k.1 in
       let c = control s k in
-      let side = (facts places s k).side in
+      let side = (facts places many s k).side in
       let there = seated s k id me.0 at in
       dite (ℕ_discrete x old)
       (λ hit.
@@ -143,82 +150,83 @@ module _ (places : ℕ) where
         u',
         keeps,
         tt,
-        subst (λ b. FollowsHistory places (stepped s 0 (either b (old + 2) x) id me.1 u' keeps)) (sym (eq-eqb x old hit))
-            (subst (λ (z : View). FollowsHistory places (stepped s 0 (old + 2) id me.1 z keeps)) is
-            (moved s k 0 (old + 2) id me.1 me.0 u ticket there has (free, below_all) (let n : 2 * (w.given + 1) + w.live ≡ old + 2 = omega arith in (λ i. n i ∷ w.turn ∷ (w.values ++ w.marks))) refl refl refl)),
+        subst (λ b. FollowsHistory places many (stepped s 0 (either b (old + 2) x) id me.1 u' keeps)) (sym (eq-eqb x old hit))
+            (subst (λ (z : View). FollowsHistory places many (stepped s 0 (old + 2) id me.1 z keeps)) is
+            (moved s k 0 (old + 2) id me.1 me.0 u ticket there has (free, below_all) (let n : 2 * (w.given + 1) + w.live ≡ old + 2 = omega arith in (λ i. n i ∷ w.turn ∷ (w.values ++ w.marks))) refl refl refl (λ _. tt))),
         ((λ _. (w.epoch, refl)), (λ not. absurd (not hit)), whole_control s k id me.0 at free),
       ))
       (λ miss. (
         me.0,
         keeps,
         tt,
-        subst (λ b. FollowsHistory places (stepped s 0 (either b (old + 2) x) id me.1 me.0 keeps)) (sym (ne_eqb x old miss)) (still s k 0 id me.1 me.0 at),
+        subst (λ b. FollowsHistory places many (stepped s 0 (either b (old + 2) x) id me.1 me.0 keeps)) (sym (ne_eqb x old miss)) (still s k 0 id me.1 me.0 at),
         ((λ hit. absurd (miss hit)), (λ _. refl), whole_control s k id me.0 at free),
       ))
 
   pub puts : (slots id : ℕ) (me : Seated) (word x s i : ℕ) → 0 < me.0.weight → me.0.hold ≡ Ticket s i → word ≡ 2 + place_index places s i
-      → Allows (FollowsHistory places) slots id me word (λ _. x) (λ _. value_written (step slots word x 0 none) me x)
+      → Allows (FollowsHistory places many) slots id me word (λ _. x) (λ _. value_written (step slots word x 0 none) me x)
   puts slots id me word x s i has e is st k _ at _ =
       let w : BucketState = k.1 in
       let there = seated st k id me.0 at in
       let u : View = holding me.0 (Written s i x) in
-      let fits : HoldFits places 1024 w me.0.weight (Ticket s i) = subst (HoldFits places 1024 w me.0.weight) e ((facts places st k).each id me.0 there).hold in
-      let long = (facts places st k).values_long in
+      let fits : HoldFits places k.2.0 w me.0.weight (Ticket s i) = subst (HoldFits places k.2.0 w me.0.weight) e ((facts places many st k).each id me.0 there).hold in
+      let long = (facts places many st k).values_long in
       let in_range = index_below places s i fits.1 in
       let same_word : word ≡ suc (suc (place_index places s i)) = omega arith in (
         u,
         keeps,
         tt,
         moved st k word x id me.1 me.0 u (write s i x) there has e
-            (sym (ap (λ (z : ℕ). set (words_of w) z x) same_word ∙ ap (λ (l : List ℕ). (2 * w.given + w.live) ∷ w.turn ∷ l) (set_left w.values w.marks (place_index places s i) x (omega arith)))) refl refl refl,
+            (sym (ap (λ (z : ℕ). set (words_of w) z x) same_word ∙ ap (λ (l : List ℕ). (2 * w.given + w.live) ∷ w.turn ∷ l) (set_left w.values w.marks (place_index places s i) x (omega arith)))) refl refl refl (λ _. tt),
         λ s' i' e'. ap (λ (z : Hold). (holding me.0 (written z x), me.1)) (sym e ∙ e'),
       )
 
   pub marks : (slots id : ℕ) (me : Seated) (word s i x : ℕ) → 0 < me.0.weight → me.0.hold ≡ Written s i x → word ≡ 2 + (places + places) + place_index places s i
-      → Allows (FollowsHistory places) slots id me word (λ _. 1) (λ _. push_finished (step slots word 1 0 none) me 1)
+      → Allows (FollowsHistory places many) slots id me word (λ _. 1) (λ _. push_finished (step slots word 1 0 none) me 1)
   marks slots id me word s i x has e is st k _ at _ =
       let w : BucketState = k.1 in
       let there = seated st k id me.0 at in
       let u : View = pushing me.0 i x in
-      let long = (facts places st k).values_long in
+      let long = (facts places many st k).values_long in
       let same_word : word ≡ suc (suc ((places + places) + place_index places s i)) = omega arith in (
         u,
         keeps,
         tt,
         moved st k word 1 id me.1 me.0 u (finish s i x) there has e
-            (sym (ap (λ (z : ℕ). set (words_of w) z 1) same_word ∙ ap (λ (l : List ℕ). (2 * w.given + w.live) ∷ w.turn ∷ l) (set_right w.values w.marks ((places + places) + place_index places s i) (place_index places s i) 1 (omega arith)))) refl refl refl,
+            (sym (ap (λ (z : ℕ). set (words_of w) z 1) same_word ∙ ap (λ (l : List ℕ). (2 * w.given + w.live) ∷ w.turn ∷ l) (set_right w.values w.marks ((places + places) + place_index places s i) (place_index places s i) 1 (omega arith)))) refl refl refl (λ _. tt),
         λ s' i' x' e'. ap (λ (z : Hold). (pushing me.0 (place_of z) (value_of z), me.1)) (sym e ∙ e'),
       )
 
-  pub gathers_all : (slots id : ℕ) (me : Seated) → me.0.weight ≡ 1024 → me.0.hold ≡ Nothing → Allows (FollowsHistory places) slots id me 0 (λ n. n) (live_side_looked (step slots 0 0 0 none) me)
+  pub gathers_all : (slots id : ℕ) (me : Seated) → me.0.weight ≡ 1024 → me.0.hold ≡ Nothing → Allows (FollowsHistory places many) slots id me 0 (λ n. n) (live_side_looked (step slots 0 0 0 none) me)
   gathers_all slots id me whole free s k _ at _ =
       let w : BucketState = k.1 in
       let there = seated s k id me.0 at in
+      let sole = known_all s k id me.0 at whole in
       let has : 0 < me.0.weight = omega arith in
       let x : ℕ = get_or s.words 0 0 in
       let c = control s k in
-      let side = (facts places s k).side in
+      let side = (facts places many s k).side in
       let vs : List ℕ = live_values places w in
       let u : View = holding me.0 (Settling w.live vs) in
       let u' : View = holding me.0 (Settling (x % 2) vs) in
       let is : u ≡ u' = (let a : w.live ≡ x % 2 = omega arith in λ i. holding me.0 (Settling (a i) vs)) in
-      let l = live_length places w (facts places s k) in
-      let size = ((facts places s k).each id me.0 there).size has in
-      let shown = covers places w id me.0 (facts places s k) (placed places s k) there has whole free l (λ i b. get_take_drop w.values (base places w.live) w.given i b) in
-      let room = (facts places s k).room in (
+      let l = live_length places k.2.0 w (facts places many s k) in
+      let size = ((facts places many s k).each id me.0 there).size has in
+      let shown = covers places k.2.0 w id me.0 (facts places many s k) (placed places many s k) there has sole free l (λ i b. get_take_drop w.values (base places w.live) w.given i b) in
+      let room = (facts places many s k).room in (
         u',
         keeps,
         tt,
-        subst (λ (z : View). FollowsHistory places (stepped s 0 x id me.1 z keeps)) is
-            (moved s k 0 x id me.1 me.0 u look_to_settle there has (free, whole) (k.3 ∙ sym (set-get_or s.words 0 0) ∙ sym (ap (λ (l : List ℕ). set l 0 x) k.3)) refl refl refl),
-        (vs, refl, omega arith, omega arith, learns places 1024 w id me.0 (facts places s k) there has whole free, learns_reads places 1024 w id me.0 (facts places s k) there has whole free, shown),
+        subst (λ (z : View). FollowsHistory places many (stepped s 0 x id me.1 z keeps)) is
+            (moved s k 0 x id me.1 me.0 u look_to_settle there has (free, sole) (k.3 ∙ sym (set-get_or s.words 0 0) ∙ sym (ap (λ (l : List ℕ). set l 0 x) k.3)) refl refl refl (λ e. absurd (whole_closed many k.2.0 k.0 w id me.0 k.2.2 there whole e))),
+        (vs, refl, omega arith, omega arith, learns places k.2.0 w id me.0 (facts places many s k) there has sole free, learns_reads places k.2.0 w id me.0 (facts places many s k) there has sole free, shown),
       )
 
-  pub recalls : (slots id : ℕ) (me : Seated) (word : ℕ) → 0 < me.0.weight → Allows (FollowsHistory places) slots id me word (λ n. n) (settled_value_looked (step slots word 0 0 none) me)
+  pub recalls : (slots id : ℕ) (me : Seated) (word : ℕ) → 0 < me.0.weight → Allows (FollowsHistory places many) slots id me word (λ n. n) (settled_value_looked (step slots word 0 0 none) me)
   recalls slots id me word has s k _ at _ =
       let w : BucketState = k.1 in
       let there = seated s k id me.0 at in
-      let size = ((facts places s k).each id me.0 there).size has in (
+      let size = ((facts places many s k).each id me.0 there).size has in (
         me.0,
         keeps,
         tt,
@@ -226,11 +234,11 @@ module _ (places : ℕ) where
         (
           refl,
           λ side i vs e is l.
-              let fits : HoldFits places 1024 w me.0.weight (Settling side vs) = subst (HoldFits places 1024 w me.0.weight) e ((facts places s k).each id me.0 there).hold in
-              let n = live_length places w (facts places s k) in
+              let fits : HoldFits places k.2.0 w me.0.weight (Settling side vs) = subst (HoldFits places k.2.0 w me.0.weight) e ((facts places many s k).each id me.0 there).hold in
+              let n = live_length places k.2.0 w (facts places many s k) in
               let n' : length vs ≡ length (live_values places w) = ap length fits.2 in
-              let room = (facts places s k).room in
-              let long = (facts places s k).values_long in
+              let room = (facts places many s k).room in
+              let long = (facts places many s k).values_long in
               let in_range = index_below places w.live i (omega arith) in
               let same_word : word ≡ suc (suc (place_index places w.live i)) = (let a : place_index me.0.places side i ≡ place_index places w.live i = (λ z. place_index (size z) (fits.1 z) i) in omega arith) in
               ap (λ (l : List ℕ). get_or l word 0) (sym k.3)
@@ -240,22 +248,22 @@ module _ (places : ℕ) where
         ),
       )
 
-  pub cuts : (id : ℕ) (v : View) → 1 < v.weight → v.hold ≡ Nothing → Splits (FollowsHistory places) id v (left_part v) (right_part v)
-  cuts id v heavy free s k at =
+  pub cuts : many ≡ false → (id : ℕ) (v : View) → 1 < v.weight → v.hold ≡ Nothing → Splits (FollowsHistory places many) id v (left_part v) (right_part v)
+  cuts closed id v heavy free s k at =
       let has : 0 < v.weight = omega arith in
       let walks : walks_made (state_after places k.1 id v split) ≡ walks_made k.1 =
       (let t = total_set walks_of k.1.views id v (left_part v) (seated s k id v at) in let n = total_snoc walks_of (set k.1.views id (left_part v)) (right_part v) in omega arith)
       in (
         k.0 ++ record { by = id; act = split } ∷ [],
         state_after places k.1 id v split,
-        runs_on places 1024 (opened places) k.0 k.1 id v split k.2 (seated s k id v at) has (free, heavy),
+        ran_on places many k.0 k.1 id v split k.2 (seated s k id v at) has (free, heavy) (λ e. absurd (false≢true (sym closed ∙ e))),
         k.3,
         ap (λ (l : List View). set l id (left_part v) ++ right_part v ∷ []) k.4,
         (λ j. at_home k.1.turn (walks j) ∷ []) ∙ k.5,
       )
 
-  pub glues : (id : ℕ) (v : View) (other_id : ℕ) (x : View) → 0 < v.weight → v.hold ≡ Nothing → x.hold ≡ Nothing → Joins (FollowsHistory places) id v other_id x (both_parts v x) (new_view 0 0)
-  glues id v other_id x has free free_too s k at apart there =
+  pub glues : many ≡ false → (id : ℕ) (v : View) (other_id : ℕ) (x : View) → 0 < v.weight → v.hold ≡ Nothing → x.hold ≡ Nothing → Joins (FollowsHistory places many) id v other_id x (both_parts v x) (new_view 0 0)
+  glues closed id v other_id x has free free_too s k at apart there =
       let there' : get_elem? k.1.views other_id ≡ some x = sym (set_else k.1.views id other_id (both_parts v x) apart) ∙ (ap (λ (l : List View). get_elem? (set l id (both_parts v x)) other_id) k.4 ∙ there) in
       let walks : walks_made (state_after places k.1 id v (join other_id x)) ≡ walks_made k.1 =
       (let t = total_set walks_of k.1.views id v (both_parts v x) (seated s k id v at) in
@@ -266,7 +274,7 @@ module _ (places : ℕ) where
       in (
         k.0 ++ record { by = id; act = join other_id x } ∷ [],
         state_after places k.1 id v (join other_id x),
-        runs_on places 1024 (opened places) k.0 k.1 id v (join other_id x) k.2 (seated s k id v at) has (free, free_too, apart, there'),
+        ran_on places many k.0 k.1 id v (join other_id x) k.2 (seated s k id v at) has (free, free_too, apart, there') (λ e. absurd (false≢true (sym closed ∙ e))),
         k.3,
         ap (λ (l : List View). set (set l id (both_parts v x)) other_id (new_view 0 0)) k.4,
         (λ j. at_home k.1.turn (walks j) ∷ []) ∙ k.5,
@@ -276,12 +284,38 @@ module _ (places : ℕ) where
   zeros-append zero m = let e : m ≡ 0 + m = omega arith in ap zeros e
   zeros-append (suc n) m = ap (λ (l : List ℕ). 0 ∷ l) (zeros-append n m) ∙ (let e : suc (n + m) ≡ suc n + m = omega arith in ap zeros e)
 
-  pub starts : (n : ℕ) → n ≡ 2 + 4 * places → FollowsHistory places (opening (replicate n 0) (turn_at 0 ∷ []) (whole_view places))
-  starts n e = (
-    [],
-    opened places,
-    refl,
-    ap (λ (l : List ℕ). 0 ∷ 0 ∷ l) (zeros-append (places + places) (places + places)) ∙ (let q : suc (suc ((places + places) + (places + places))) ≡ n = omega arith in ap zeros q),
-    refl,
-    refl,
-  )
+  starts_words : (n : ℕ) → n ≡ 2 + 4 * places → 0 ∷ 0 ∷ (zeros (places + places) ++ zeros (places + places)) ≡ zeros n
+  starts_words n e = ap (λ (l : List ℕ). 0 ∷ 0 ∷ l) (zeros-append (places + places) (places + places)) ∙ (let q : suc (suc ((places + places) + (places + places))) ≡ n = omega arith in ap zeros q)
+
+pub starts : (many : Bool) (places n : ℕ) → n ≡ 2 + 4 * places → FollowsHistory places many (opening (replicate n 0) (turn_at 0 ∷ []) (first_view many places))
+starts false places n e = ([], begins false places 1024, (1024, refl, refl), starts_words places false n e, refl, refl)
+starts true places n e =
+    ([], begins true places 1, (1, refl, (tt, λ j v there. light_more places [] (λ i u none. absurd (some-ne-none u (sym none))) j v there)), starts_words places true n e, refl, refl)
+
+-- a thread of weight 1 may come to an open bucket at any time, and looks at the control word
+pub enters : (places slots : ℕ) → Enters (FollowsHistory places true) slots 0 (λ n v. control_looked (step slots 0 0 0 none) (first_view true places, []) n (v, []))
+enters places slots s k _ _ =
+    let w : BucketState = k.1 in
+    let x : ℕ = get_or s.words 0 0 in
+    let c = control places true s k in
+    let side = (facts places true s k).side in
+    let room = (facts places true s k).room in
+    let new : View = new_view places 1 in
+    let id : ℕ = length w.views in
+    let all : ℕ = k.2.0 in
+    let joined : Ran places true k.0 (more places w) =
+    (suc all, subst (λ (z : BucketState). Runs places (suc all) z k.0 (more places w)) (start_more places all) (runs_more places all (start places all) k.0 w k.2.2.0 k.2.1), (k.2.2.0, light_more places w.views k.2.2.1))
+    in
+    let y : View = seeing new (2 * w.given + w.live) in
+    let made : walks_made (state_after places (more places w) id new look) ≡ walks_made w = ap (total walks_of) (set_last w.views new y) ∙ (let t = total_snoc walks_of w.views y in omega arith) in (
+      seeing new x,
+      (
+        k.0 ++ record { by = id; act = look } ∷ [],
+        state_after places (more places w) id new look,
+        ran_on places true k.0 (more places w) id new look joined (get_last w.views new) (omega arith) tt (λ _. tt),
+        k.3,
+        set_last w.views new y ∙ (λ i. k.4 i ++ seeing new (sym c i) ∷ []),
+        (λ i. at_home w.turn (made i) ∷ []) ∙ k.5,
+      ),
+      (refl, omega arith, (λ _. omega arith), λ _ whole. absurd (omega arith)),
+    )

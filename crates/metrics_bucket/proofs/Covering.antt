@@ -19,7 +19,7 @@ use Rattle.metrics_bucket.proofs.Leaving.{whole_marks}
 use Rattle.metrics_bucket.proofs.Placing.{own_push, own_reach}
 use Rattle.metrics_bucket.proofs.WipedVisits.{value_there}
 
-module _ (places : ℕ) (w : BucketState) (id : ℕ) (v : View) (f : Facts places 1024 w) (p : Placed places w) (at : get_elem? w.views id ≡ some v) (has : 0 < v.weight) where
+module _ (places all : ℕ) (w : BucketState) (id : ℕ) (v : View) (f : Facts places all w) (p : Placed places w) (at : get_elem? w.views id ≡ some v) (has : 0 < v.weight) where
   pub reaches : Reaches v.pushed w.epoch w.given
   reaches n q there = let r = own_reach places w p id v n q at there in let low = r.0 in dite (ℕ_discrete q.epoch w.epoch) (λ e. inr (e, r.1 e)) (λ e. inl (omega arith))
 
@@ -46,7 +46,7 @@ module _ (places : ℕ) (w : BucketState) (id : ℕ) (v : View) (f : Facts place
   finds (Settling s xs) e can n q there is l = absurd can
 
   -- what a thread with the whole weight knows
-  module _ (whole : v.weight ≡ 1024) where
+  module _ (whole : v.weight ≡ all) where
     idle_else : (j : ℕ) (u : View) → j ≢ id → get_elem? w.views j ≡ some u → IsIdle u
     idle_else j u n there = let t = total_two weight_of w.views id j v u (λ z. n (sym z)) at there in let s = f.shares in (f.each j u there).idle (omega arith)
 
@@ -76,7 +76,7 @@ module _ (places : ℕ) (w : BucketState) (id : ℕ) (v : View) (f : Facts place
         let room = f.room in
         let under = r.1 in
         let inside : q.place < places = omega arith in
-        let mark : get_or w.marks (place_index places w.live q.place) 0 ≡ 1 = whole_marks places 1024 w id v f at has whole free w.live q.place f.side inside ∙ (given_here w.live w.given w.live q.place refl ∙ below_under q.place w.given r.1) in
+        let mark : get_or w.marks (place_index places w.live q.place) 0 ≡ 1 = whole_marks places all w id v f at has whole free w.live q.place f.side inside ∙ (given_here w.live w.given w.live q.place refl ∙ below_under q.place w.given r.1) in
         let t = p.marked w.live q.place f.side inside mark in
         let same_epoch : t.0 ≡ w.epoch = ⊎_elim (λ (z : (w.live ≡ w.live) × (t.0 ≡ w.epoch)). z.1) (λ (z : (w.live ≡ other w.live) × (suc t.0 ≡ w.epoch)). absurd (o.1 z.0)) t.1 in
         inr (r.0 ∙ epoch, subst (λ (z : ℕ). q.place < z) (sym long) r.1, found q.place r.1 ∙ same_push n q t.0 (get_or w.values (place_index places w.live q.place) 0) there (r.0 ∙ sym same_epoch) t.2))

@@ -1,5 +1,5 @@
 -- Each step keeps the facts, so each history does.
-use Rattle.std.proofs.Common.{◌≡◌, ℕ, zero, suc, ◌+◌, ◌*◌, ◌<◌, List, [], ◌∷◌, ◌++◌, get_or, replicate, refl, sym, ap, ◌∙◌, subst, arith}
+use Rattle.std.proofs.Common.{Bool, true, false, ◌≡◌, ℕ, zero, suc, ◌+◌, ◌*◌, ◌<◌, List, [], ◌∷◌, ◌++◌, get_or, replicate, refl, sym, ap, ◌∙◌, subst, arith}
 use mathlib.Core.Option.{some, some-injective, some-ne-none}
 use lib.ListN.{get_elem?}
 use Rattle.atomic_table.specs.Table.{State}
@@ -9,9 +9,9 @@ use Rattle.metrics_bucket.specs.declared.view.Turn.{Turn}
 use Rattle.metrics_bucket.specs.declared.view.Hold.{Hold}
 use Rattle.metrics_bucket.specs.declared.view.Hold.TheVariants.{Nothing, Ticket, Written, Claimed, SideKnown, Reading, Clearing, Settling}
 use Rattle.metrics_bucket.specs.declared.view.Visit.TheVariants.{Unseen, Marked, Read, Wiped}
-use Rattle.metrics_bucket.specs.BucketState.{total, BucketState, Act, look, look_to_settle, ticket, write, finish, claim, look_to_read, look_to_clear, takes, see, read, wipe, leave, quit, split, join, both_parts, place_index, side_of, put_visit, new_view, whole_view, holding, seeing, left_from, state_after}
+use Rattle.metrics_bucket.specs.BucketState.{total, BucketState, Act, look, look_to_settle, ticket, write, finish, claim, look_at_turn, look_to_read, look_to_clear, takes, see, read, wipe, leave, quit, split, join, both_parts, place_index, side_of, put_visit, new_view, holding, seeing, finding, left_from, state_after}
 use Rattle.metrics_bucket.specs.Facts.{ticket_in, owed_in, turn_in, took_in, wiped, weight_of, is_open, HoldFits, Facts}
-use Rattle.metrics_bucket.specs.History.{HasVisit, CanLeave, CanQuit, May, Event, Runs, opened, FollowsHistory}
+use Rattle.metrics_bucket.specs.History.{HasVisit, CanLeave, CanQuit, May, Event, Runs, begins, FollowsHistory}
 use Rattle.metrics_bucket.proofs.Pushes.{tickets, writes, finishes}
 use Rattle.metrics_bucket.proofs.Keep.{facts_beside}
 use Rattle.metrics_bucket.proofs.Walks.{claims, surveys, aims, gathers, takes_side, visit_reading, visit_clearing}
@@ -87,6 +87,10 @@ module _ (places all : ℕ) (w : BucketState) (id : ℕ) (v : View) (f : Facts p
   step_facts (write s i x) m = writes places all w id v f at has s i x m
   step_facts (finish s i x) m = finishes places all w id v f at has s i x m
   step_facts claim m = claims places all w id v f at has m.0 m.1
+  step_facts look_at_turn m =
+      let w' : BucketState = state_after places w id v look_at_turn in
+      facts_beside places all w w' id v (finding v w.turn) f at has refl refl refl refl refl refl refl refl (λ s i. refl) refl f.one_turn (λ h. refl) (λ h. omega arith)
+      (same_hold w'.views v.hold (f.each id v at).hold) (f.each id v at).reads
   step_facts look_to_read m = surveys places all w id v f at has m
   step_facts look_to_clear m = aims places all w id v f at has m
   step_facts takes m = takes_side places all w id v f at has m.0 m.1
@@ -118,14 +122,24 @@ pub runs_on : (places all : ℕ) (w : BucketState) (history : List Event) (w' : 
 runs_on places all w [] w' id v act r at has may = subst (λ (z : BucketState). Runs places all z (record { by = id; act = act } ∷ []) (state_after places w' id v act)) (sym r) (v, at, has, may, refl)
 runs_on places all w (e ∷ es) w' id v act r at has may = (r.0, r.1, r.2, r.3, runs_on places all (state_after places w e.by r.0 e.act) es w' id v act r.4 at has may)
 
--- one whole thread that has nothing
-pub opened_new : (places j : ℕ) (v : View) → get_elem? (whole_view places ∷ []) j ≡ some v → IsNew places v
-opened_new places zero v e = subst (IsNew places) (some-injective _ _ e) (refl, (refl, refl, refl, refl))
-opened_new places (suc j) v e = absurd (some-ne-none v (sym e))
+-- one thread that has nothing
+pub one_new : (places weight j : ℕ) (v : View) → get_elem? (new_view places weight ∷ []) j ≡ some v → IsNew places v
+one_new places weight zero v e = subst (IsNew places) (some-injective _ _ e) (refl, (refl, refl, refl, refl))
+one_new places weight (suc j) v e = absurd (some-ne-none v (sym e))
 
-pub opened_facts : (places : ℕ) → Facts places 1024 (opened places)
-opened_facts places = opens places 1024 (whole_view places ∷ []) (omega arith) (opened_new places)
+-- the threads at the start of a table's history
+abbrev pub first_threads : Bool → ℕ → ℕ → List View
+first_threads false places all = new_view places all ∷ []
+first_threads true places all = replicate all (new_view places 1)
+
+pub threads_new : (many : Bool) (places all j : ℕ) (v : View) → get_elem? (first_threads many places all) j ≡ some v → IsNew places v
+threads_new false places all j v e = one_new places all j v e
+threads_new true places all j v e = new_there places all j v e
+
+pub begun_facts : (many : Bool) (places all : ℕ) → Facts places all (begins many places all)
+begun_facts false places all = opens places all (first_threads false places all) (omega arith) (threads_new false places all)
+begun_facts true places all = opens places all (first_threads true places all) (total_new places all) (threads_new true places all)
 
 -- the facts of a running table
-pub facts : (places : ℕ) (s : State Turn View) (k : FollowsHistory places s) → Facts places 1024 k.1
-facts places s k = runs_facts places 1024 (opened places) k.0 k.1 (opened_facts places) k.2
+pub facts : (places : ℕ) (many : Bool) (s : State Turn View) (k : FollowsHistory places many s) → Facts places k.2.0 k.1
+facts places many s k = runs_facts places k.2.0 (begins many places k.2.0) k.0 k.1 (begun_facts many places k.2.0) k.2.1

@@ -23,5 +23,6 @@ account_pushed p p' x table ticket (e, i, below, is) = (
     read = (is k).0.read;
     ticket = ticket k;
     seen = p'.seat.me.0.seen;
+    turn_seen = (is k).0.turn_seen;
   },
 )

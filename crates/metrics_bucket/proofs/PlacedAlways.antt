@@ -1,5 +1,5 @@
 -- In each history the pushes and the walks are in their places.
-use Rattle.std.proofs.Common.{◌≡◌, ◌≢◌, ◌⊎◌, ℕ, zero, suc, ◌+◌, ◌*◌, ◌<◌, cond, eqb, List, [], ◌∷◌, ◌++◌, length, get_or, set, replicate, refl, sym, ap, ◌∙◌, subst, inl, inr, ⊎_elim, arith, length-append, length-set}
+use Rattle.std.proofs.Common.{Bool, true, false, ◌≡◌, ◌≢◌, ◌⊎◌, ℕ, zero, suc, ◌+◌, ◌*◌, ◌<◌, cond, eqb, List, [], ◌∷◌, ◌++◌, length, get_or, set, replicate, refl, sym, ap, ◌∙◌, subst, inl, inr, ⊎_elim, arith, length-append, length-set}
 use mathlib.Core.Option.{some, some-ne-none}
 use lib.ListN.{get_elem?}
 use Rattle.atomic_table.proofs.Lists.{at_set, at_snoc, set_else}
@@ -11,18 +11,18 @@ use Rattle.metrics_bucket.specs.declared.view.Hold.{Hold}
 use Rattle.metrics_bucket.specs.declared.view.Hold.TheVariants.{Nothing, Ticket, Written, Claimed, SideKnown, Reading, Clearing, Settling}
 use Rattle.metrics_bucket.specs.declared.view.Visit.{Visit}
 use Rattle.metrics_bucket.specs.declared.view.Visit.TheVariants.{Unseen, Marked, Read, Wiped}
-use Rattle.metrics_bucket.specs.BucketState.{BucketState, total, walks_of, walks_made, place_index, side_of, put_visit, new_view, whole_view, holds_as, holding, left_from, left_part, right_part, both_parts, live_values, Act, look, look_to_settle, ticket, write, finish, claim, look_to_read, look_to_clear, takes, see, read, wipe, leave, quit, split, join, state_after}
+use Rattle.metrics_bucket.specs.BucketState.{BucketState, total, walks_of, walks_made, place_index, side_of, put_visit, new_view, holds_as, holding, left_from, left_part, right_part, both_parts, live_values, Act, look, look_to_settle, ticket, write, finish, claim, look_at_turn, look_to_read, look_to_clear, takes, see, read, wipe, leave, quit, split, join, state_after}
 use Rattle.metrics_bucket.specs.Facts.{below, turn_in, took_in, took_of, HoldFits, Facts}
 use Rattle.metrics_bucket.specs.Places.{pushes_at, pushed_at, value_at, held_in, tickets_at, lengths_of, clearing_of, told_of, walks_in, takes_in, given_of, walks_at, is_wiped, wiped_hold, wipes_at, mark_of, IsPush, VisitFinds, HoldPlaced, ViewPlaced, Placed}
-use Rattle.metrics_bucket.specs.History.{HasVisit, CanLeave, CanQuit, May, Event, Runs, opened, FollowsHistory}
+use Rattle.metrics_bucket.specs.History.{HasVisit, CanLeave, CanQuit, May, Event, Runs, begins, FollowsHistory}
 use Rattle.metrics_bucket.proofs.Sums.{total_set, total_snoc, total_zero}
 use Rattle.metrics_bucket.proofs.Visits.{new_visit}
 use Rattle.metrics_bucket.proofs.Keep.{at_below, other_side}
 use Rattle.metrics_bucket.proofs.Shares.{zeros, fresh, IsNew}
-use Rattle.metrics_bucket.proofs.Histories.{step_facts, opened_facts, opened_new}
+use Rattle.metrics_bucket.proofs.Histories.{step_facts, begun_facts, first_threads, threads_new}
 use Rattle.metrics_bucket.proofs.Placing.{visits_find, pushes_at-append, values_at-append, lengths_of-append, walks_in-append, walks_at-append, cond_same, hold_kept, view_kept}
 use Rattle.metrics_bucket.proofs.WipedVisits.{wiped_same}
-use Rattle.metrics_bucket.proofs.PlacedCounts.{keeps_places}
+use Rattle.metrics_bucket.proofs.PlacedCounts.{keeps_places, keeps_found}
 use Rattle.metrics_bucket.proofs.PlacedPushes.{tickets, writes, finishes}
 use Rattle.metrics_bucket.proofs.PlacedTakes.{takes_side}
 use Rattle.metrics_bucket.proofs.PlacedWalks.{wipes, leaves_clear, leaves_read, reads_push}
@@ -255,6 +255,7 @@ module _ (places all : ℕ) (w : BucketState) (id : ℕ) (v : View) (f : Facts p
   step_placed claim m =
       let e = m.0 in
       quiet 1 v.epoch (walks_made w) Claimed (λ k i. ap (held_in k i v.epoch) e) (λ k. ap (clearing_of k v.epoch) e) (λ k i. ap (wiped_hold k i v.epoch) e) (ap took_in e) (λ _ _. refl) (λ _. refl) (λ _ _. refl) refl tt (λ _. refl)
+  step_placed look_at_turn m = keeps_found places all w id v f p at has w.turn
   step_placed look_to_read e = quiet w.turn w.epoch v.turn (Reading w.live (replicate w.given Unseen)) (λ k i. ap (held_in k i v.epoch) e) (λ k. ap (clearing_of k v.epoch) e) (λ k i. ap (wiped_hold k i v.epoch) e) (ap took_in e) (λ _ _. refl) (λ _. refl) (λ _ _. refl) refl
       (refl, λ i c there. subst (VisitFinds w w.epoch i) (new_visit w.given i c there) tt) (λ _. (p.each id v at).turn (ap turn_in e))
   step_placed look_to_clear e = quiet w.turn v.epoch v.turn (SideKnown w.live) (λ k i. ap (held_in k i v.epoch) e) (λ k. ap (clearing_of k v.epoch) e) (λ k i. ap (wiped_hold k i v.epoch) e) (ap took_in e) (λ _ _. refl) (λ _. refl) (λ _ _. refl) refl tt (λ _. (p.each id v at).turn (ap turn_in e))
@@ -273,6 +274,10 @@ runs_placed places all w [] w' f p r = subst (Placed places) r p
 runs_placed places all w (e ∷ es) w' f p r =
     runs_placed places all (state_after places w e.by r.0 e.act) es w' (step_facts places all w e.by r.0 f r.1 r.2 e.act r.3) (step_placed places all w e.by r.0 f p r.1 r.2 e.act r.3) r.4
 
+begun_placed : (many : Bool) (places all : ℕ) → Placed places (begins many places all)
+begun_placed false places all = opens_placed places (first_threads false places all) (threads_new false places all)
+begun_placed true places all = opens_placed places (first_threads true places all) (threads_new true places all)
+
 -- the places in a running table
-pub placed : (places : ℕ) (s : State Turn View) (k : FollowsHistory places s) → Placed places k.1
-placed places s k = runs_placed places 1024 (opened places) k.0 k.1 (opened_facts places) (opens_placed places (whole_view places ∷ []) (opened_new places)) k.2
+pub placed : (places : ℕ) (many : Bool) (s : State Turn View) (k : FollowsHistory places many s) → Placed places k.1
+placed places many s k = runs_placed places k.2.0 (begins many places k.2.0) k.0 k.1 (begun_facts many places k.2.0) (begun_placed many places k.2.0) k.2.1

@@ -4,7 +4,7 @@ use mathlib.Core.Option.{some}
 use lib.ListN.{get_elem?}
 use Rattle.metrics_bucket.specs.declared.view.View.{View}
 use Rattle.metrics_bucket.specs.declared.view.Hold.{Hold}
-use Rattle.metrics_bucket.specs.BucketState.{BucketState, total, walks_of, walks_made, place_index, knows_as}
+use Rattle.metrics_bucket.specs.BucketState.{BucketState, total, walks_of, walks_made, place_index, knows_as, finding}
 use Rattle.metrics_bucket.specs.Facts.{below, turn_in, took_in, took_of, Facts}
 use Rattle.metrics_bucket.specs.Places.{pushed_at, held_in, tickets_at, clearing_of, told_of, takes_in, given_of, wiped_hold, wipes_at, mark_of, IsPush, IsEpochOf, HoldPlaced, ViewPlaced, Placed}
 use Rattle.metrics_bucket.proofs.Sums.{total_set}
@@ -57,4 +57,17 @@ module _ (places all : ℕ) (w : BucketState) (id : ℕ) (v : View) (f : Facts p
       keeps_counts places w w' id v u p at refl refl refl refl (λ e i. let h = held e i in omega arith) (λ e. let c = clearing e in omega arith) (λ e. let k = same_takes e in omega arith) (omega arith)
       (λ e i l. let d = wiped e i in omega arith) (λ s i a b m. let t = p.marked s i a b m in (t.0, t.1, pushes t.0 i (get_or w.values (place_index places s i) 0) t.2)) pushes
       (view_kept w w' pushes u (λ _. hold_kept w w' pushes refl refl e' hold placed) (λ _. walks) record { hold = placed; turn = knows; taken = mine.taken; read = mine.read })
+      (λ _ _ _ _ _. walks)
+
+  -- a look at the turn changes nothing that is counted
+  pub keeps_found : (n : ℕ) → Placed places record w { views = set w.views id (finding v n) }
+  keeps_found n =
+      let u : View = finding v n in
+      let w' : BucketState = record w { views = set w.views id u } in
+      let walks : walks_made w' ≡ walks_made w = (let t = total_set walks_of w.views id v u at in omega arith) in
+      let pushes : (e i x : ℕ) → IsPush w e i x → IsPush w' e i x = push_kept w w' id v u at refl refl in
+      let mine = p.each id v at in
+      keeps_counts places w w' id v u p at refl refl refl refl (λ _ _. refl) (λ _. refl) (λ _. refl) refl
+      (λ e i l. refl) (λ s i a b m. let t = p.marked s i a b m in (t.0, t.1, pushes t.0 i (get_or w.values (place_index places s i) 0) t.2)) pushes
+      (view_kept w w' pushes u (λ _. hold_kept w w' pushes refl refl v.epoch v.hold mine.hold) (λ _. walks) record { hold = mine.hold; turn = mine.turn; taken = mine.taken; read = mine.read })
       (λ _ _ _ _ _. walks)

@@ -10,15 +10,15 @@ use Rattle.metrics_bucket.specs.declared.view.View.{View}
 use Rattle.metrics_bucket.specs.declared.view.Hold.{Hold}
 use Rattle.metrics_bucket.specs.declared.view.Hold.TheVariants.{Nothing, Ticket, Written, Claimed, SideKnown, Reading, Clearing, Settling}
 use Rattle.metrics_bucket.specs.declared.view.Visit.TheVariants.{Marked, Read, Wiped}
-use Rattle.metrics_bucket.specs.BucketState.{BucketState, total, walks_of, walks_made, place_index, side_of, value_in, leaving, left_from, new_view, whole_view, Act, ticket, write, finish, claim, look_to_clear, takes, see, read, wipe, leave, view_after, state_after}
+use Rattle.metrics_bucket.specs.BucketState.{BucketState, total, walks_of, walks_made, place_index, side_of, value_in, leaving, left_from, new_view, whole_view, Act, ticket, write, finish, claim, look_at_turn, look_to_read, look_to_clear, takes, see, read, wipe, leave, view_after, state_after}
 use Rattle.metrics_bucket.specs.Facts.{below, turn_in, took_in, weight_of, HoldFits, Facts}
 use Rattle.metrics_bucket.specs.Places.{held_in, pushed_at, walks_in, takes_in, lengths_of, clearing_of, told_of, given_of, IsPush, VisitFinds, HoldPlaced, Placed}
 use Rattle.metrics_bucket.specs.History.{HasVisit, CanLeave, Event, Runs, start}
-use Rattle.metrics_bucket.specs.BucketLaw.{tickets_given, LeavesComplete, IsSound, ClearsFive, BucketLaw}
+use Rattle.metrics_bucket.specs.BucketLaw.{tickets_given, LeavesComplete, IsSound, ClearsFive, ReadsSeven, BucketLaw}
 use Rattle.metrics_bucket.proofs.Sums.{total_one, total_zero, below_under, below_over}
 use Rattle.metrics_bucket.proofs.Walks.{take_clean}
 use Rattle.metrics_bucket.proofs.Shares.{opens, fresh, IsNew}
-use Rattle.metrics_bucket.proofs.Histories.{runs_facts, new_there, total_new, opened_new}
+use Rattle.metrics_bucket.proofs.Histories.{runs_facts, new_there, total_new, one_new}
 use Rattle.metrics_bucket.proofs.Placing.{total_add, own_push, own_reach, cond_same, cond_here, cond_else}
 use Rattle.metrics_bucket.proofs.WipedVisits.{value_there, length_values}
 use Rattle.metrics_bucket.proofs.PlacedAlways.{opens_placed, runs_placed}
@@ -192,9 +192,51 @@ clears_five =
       refl,
     )
 
+-- the history of two threads, in which one reads what the other pushes
+abbrev then_by : ℕ → BucketState → View → Act → BucketState
+then_by by w v act = state_after 1 w by v act
+
+seven_leaves : CanLeave (Reading 0 (Read 7 ∷ []))
+seven_leaves zero c e = (7, sym (some-injective (Read 7) c e))
+seven_leaves (suc i) c e = absurd (some-ne-none c (sym e))
+
+reads_seven : ReadsSeven
+reads_seven =
+    let w0 : BucketState = start 1 2 in
+    let v0 : View = new_view 1 1 in
+    let u0 : View = new_view 1 1 in
+    let v1 : View = view_after 1 w0 v0 ticket in
+    let w1 : BucketState = then_by 0 w0 v0 ticket in
+    let u1 : View = view_after 1 w1 u0 claim in
+    let w2 : BucketState = then_by 1 w1 u0 claim in
+    let u2 : View = view_after 1 w2 u1 look_to_read in
+    let w3 : BucketState = then_by 1 w2 u1 look_to_read in
+    let v2 : View = view_after 1 w3 v1 (write 0 0 7) in
+    let w4 : BucketState = then_by 0 w3 v1 (write 0 0 7) in
+    let v3 : View = view_after 1 w4 v2 (finish 0 0 7) in
+    let w5 : BucketState = then_by 0 w4 v2 (finish 0 0 7) in
+    let u3 : View = view_after 1 w5 u2 (see 0) in
+    let w6 : BucketState = then_by 1 w5 u2 (see 0) in
+    let u4 : View = view_after 1 w6 u3 (read 0) in
+    let w7 : BucketState = then_by 1 w6 u3 (read 0) in
+    let v4 : View = view_after 1 w7 v3 look_at_turn in
+    let w8 : BucketState = then_by 0 w7 v3 look_at_turn in
+    let u5 : View = leaving u4 in
+    let w9 : BucketState = then_by 1 w8 u4 leave in (
+      w9,
+      (v0, refl, omega arith, (refl, omega arith), (u0, refl, omega arith, (refl, refl), (u1, refl, omega arith, refl, (v1, refl, omega arith, refl, (v2, refl, omega arith, refl, (u2, refl, omega arith, (refl, refl), (u3, refl, omega arith, refl, (v3, refl, omega arith, tt, (u4, refl, omega arith, seven_leaves, refl))))))))),
+      v4,
+      u5,
+      refl,
+      refl,
+      refl,
+      refl,
+    )
+
 pub law : BucketLaw
 law = (
   (λ places threads history w r. sound places threads (replicate threads (new_view places 1)) (total_new places threads) (new_there places threads) history w r),
-  (λ places history w r. sound places 1024 (whole_view places ∷ []) (omega arith) (opened_new places) history w r),
+  (λ places history w r. sound places 1024 (whole_view places ∷ []) (omega arith) (one_new places 1024) history w r),
   clears_five,
+  reads_seven,
 )

@@ -59,7 +59,7 @@ rests n id b (v ∷ vs) i t holds at =
 
 -- a pen with empty lists joined
 pub joined_empty : (b : Account) (home : Home) → joined_account b (spare_account home) ≡ record b { weight = b.weight + 8 }
-joined_empty b home i = record { home = b.home; weight = b.weight + 8; pushed = append-nil b.pushed i; taken = append-nil b.taken i; read = append-nil b.read i; ticket = b.ticket; seen = b.seen }
+joined_empty b home i = record { home = b.home; weight = b.weight + 8; pushed = append-nil b.pushed i; taken = append-nil b.taken i; read = append-nil b.read i; ticket = b.ticket; seen = b.seen; turn_seen = b.turn_seen }
 
 pub more_spares : (a b c : Account) (home : Home) → WithSpares a b → c ≡ joined_account b (spare_account home) → WithSpares a c
 more_spares a b c home (k, e) is =
@@ -67,8 +67,8 @@ more_spares a b c home (k, e) is =
     (k + 1, is ∙ (joined_empty b home ∙ (ap (λ (x : Account). record x { weight = x.weight + 8 }) e ∙ ap (λ (x : ℕ). record a { weight = x }) w)))
 
 -- the seat of a spare pen, on a perch
-pub is_spare : (home : Home) (id : TableId) (v : View) (p : Post View) → id ≡ home.table → 0 < id.words → v.places ≡ home.places → v.weight ≡ 8 → v.pushed ≡ [] → v.taken ≡ [] → v.read ≡ [] → v.hold ≡ Nothing → v.seen ≡ 0 → p.table_id ≡ id → p.view ≡ v → IsSpareOf home p
-is_spare home id v p of_home words places weight pushed taken read hold seen of_id is =
+pub is_spare : (home : Home) (id : TableId) (v : View) (p : Post View) → id ≡ home.table → 0 < id.words → v.places ≡ home.places → v.weight ≡ 8 → v.pushed ≡ [] → v.taken ≡ [] → v.read ≡ [] → v.hold ≡ Nothing → v.seen ≡ 0 → v.turn_seen ≡ 0 → p.table_id ≡ id → p.view ≡ v → IsSpareOf home p
+is_spare home id v p of_home words places weight pushed taken read hold seen turn_seen of_id is =
     record {
       seated = of_id ∙ of_home;
       some_word = subst (λ (z : TableId). 0 < z.words) of_home words;
@@ -82,5 +82,6 @@ is_spare home id v p of_home words places weight pushed taken read hold seen of_
         epoch = p.view.epoch;
         turn = p.view.turn;
         seen = (ap (λ (u : View). u.seen) is ∙ seen) i;
+        turn_seen = (ap (λ (u : View). u.turn_seen) is ∙ turn_seen) i;
       };
     }

@@ -10,7 +10,7 @@ use Rattle.metrics_bucket.specs.declared.view.Hold.{Hold}
 use Rattle.metrics_bucket.specs.declared.view.Hold.TheVariants.{Nothing, Ticket, Written, Claimed, SideKnown, Reading, Clearing, Settling}
 use Rattle.metrics_bucket.specs.declared.view.Visit.{Visit}
 use Rattle.metrics_bucket.specs.declared.view.Visit.TheVariants.{Marked, Read, Wiped}
-use Rattle.metrics_bucket.specs.BucketState.{BucketState, total, walks_of, walks_made, place_index, side_of, put_visit, values_in, walk, leaving, left_from, left_part, right_part, both_parts, new_view, push, holding, holding_at, Act, look, look_to_settle, ticket, write, finish, claim, look_to_read, look_to_clear, takes, see, read, wipe, leave, quit, split, join, view_after, state_after}
+use Rattle.metrics_bucket.specs.BucketState.{BucketState, total, walks_of, walks_made, place_index, side_of, put_visit, values_in, walk, leaving, left_from, left_part, right_part, both_parts, new_view, push, holding, holding_at, Act, look, look_to_settle, ticket, write, finish, claim, look_at_turn, look_to_read, look_to_clear, takes, see, read, wipe, leave, quit, split, join, view_after, state_after}
 use Rattle.metrics_bucket.specs.Facts.{same, turn_in, turn_of, Facts}
 use Rattle.metrics_bucket.specs.Places.{held_in, pushed_at, tickets_at, clearing_of, told_of, given_of, Placed}
 use Rattle.metrics_bucket.specs.History.{CanLeave, CanQuit, May, Event, Runs}
@@ -96,6 +96,7 @@ module _ (places all : ℕ) (w : BucketState) (id : ℕ) (v : View) (f : Facts p
   tickets_same (finish s j x) m other_act e i =
       by_view e i (view_after places w v (finish s j x)) (let a : held_in e i v.epoch v.hold ≡ same e i v.epoch j = ap (held_in e i v.epoch) m in let b = pushes_at-append e i v.pushed (push v.epoch j x ∷ []) in omega arith)
   tickets_same claim m other_act e i = by_view e i (view_after places w v claim) (let a : held_in e i v.epoch v.hold ≡ 0 = ap (held_in e i v.epoch) m.0 in omega arith)
+  tickets_same look_at_turn m other_act e i = by_view e i (view_after places w v look_at_turn) refl
   tickets_same look_to_read m other_act e i = by_view e i (view_after places w v look_to_read) (let a : held_in e i v.epoch v.hold ≡ 0 = ap (held_in e i v.epoch) m in omega arith)
   tickets_same look_to_clear m other_act e i = by_view e i (view_after places w v look_to_clear) (let a : held_in e i v.epoch v.hold ≡ 0 = ap (held_in e i v.epoch) m in omega arith)
   tickets_same takes m other_act e i = by_view e i (view_after places w v takes) (let a : held_in e i v.epoch v.hold ≡ 0 = ap (held_in e i v.epoch) m.1 in omega arith)
@@ -130,6 +131,7 @@ module _ (places all : ℕ) (w : BucketState) (id : ℕ) (v : View) (f : Facts p
   given_after (write s j x) m e = kept (write s j x) m (λ _. refl) e
   given_after (finish s j x) m e = kept (finish s j x) m (λ _. refl) e
   given_after claim m e = kept claim m (λ _. refl) e
+  given_after look_at_turn m e = kept look_at_turn m (λ _. refl) e
   given_after look_to_read m e = kept look_to_read m (λ _. refl) e
   given_after look_to_clear m e = kept look_to_clear m (λ _. refl) e
   given_after takes m e = kept takes m (λ _. refl) e
@@ -148,6 +150,7 @@ module _ (places all : ℕ) (w : BucketState) (id : ℕ) (v : View) (f : Facts p
   epoch_next (write s j x) = refl
   epoch_next (finish s j x) = refl
   epoch_next claim = refl
+  epoch_next look_at_turn = refl
   epoch_next look_to_read = refl
   epoch_next look_to_clear = refl
   epoch_next takes = refl
@@ -173,6 +176,7 @@ module _ (places all : ℕ) (w : BucketState) (id : ℕ) (v : View) (f : Facts p
   turns_after (write s j x) m = let a = same_walks (view_after places w v (write s j x)) refl in omega arith
   turns_after (finish s j x) m = let a = same_walks (view_after places w v (finish s j x)) refl in omega arith
   turns_after claim m = let a = same_walks (view_after places w v claim) refl in let b = m.1 in omega arith
+  turns_after look_at_turn m = let a = same_walks (view_after places w v look_at_turn) refl in omega arith
   turns_after look_to_read m = let a = same_walks (view_after places w v look_to_read) refl in omega arith
   turns_after look_to_clear m = let a = same_walks (view_after places w v look_to_clear) refl in omega arith
   turns_after takes m = let a = same_walks (view_after places w v takes) refl in omega arith

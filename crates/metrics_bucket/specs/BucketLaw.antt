@@ -8,7 +8,7 @@ use Rattle.metrics_bucket.specs.declared.view.View.{View}
 use Rattle.metrics_bucket.specs.declared.view.Hold.TheVariants.{SideKnown, Clearing}
 use Rattle.metrics_bucket.specs.declared.view.Visit.{Visit}
 use Rattle.metrics_bucket.specs.declared.view.Visit.TheVariants.{Marked}
-use Rattle.metrics_bucket.specs.BucketState.{BucketState, total, walks_made, other, place_index, side_of, values_in, walk, leaving, Act, ticket, write, finish, claim, look_to_clear, takes, see, read, wipe, leave, quit}
+use Rattle.metrics_bucket.specs.BucketState.{BucketState, total, walks_made, other, place_index, side_of, values_in, walk, leaving, Act, ticket, write, finish, claim, look_at_turn, look_to_read, look_to_clear, takes, see, read, wipe, leave, quit}
 use Rattle.metrics_bucket.specs.Facts.{below, ticket_at, Facts}
 use Rattle.metrics_bucket.specs.Places.{tickets_at, takes_in, wipes_at, mark_of, IsPush, WalkFinds, HoldPlaced}
 use Rattle.metrics_bucket.specs.History.{HasVisit, CanLeave, Event, Runs, start, opened}
@@ -96,8 +96,20 @@ by_first (act ∷ acts) = record { by = 0; act = act } ∷ by_first acts
 abbrev pub ClearsFive : Type 0
 ClearsFive = (w : BucketState) × Runs 1 1 (start 1 1) (by_first push_and_clear) w × (v : View) × (get_elem? w.views 0 ≡ some v) × (v.taken ≡ walk 0 (5 ∷ []) ∷ [])
 
+abbrev pub event : ℕ → Act → Event
+event by act = record { by = by; act = act }
+
+-- thread 1 claims the turn and looks while thread 0 pushes 7, and reads it; meanwhile a claim of thread 0 finds the turn held
+abbrev pub push_and_read : List Event
+push_and_read = event 0 ticket ∷ event 1 claim ∷ event 1 look_to_read ∷ event 0 (write 0 0 7) ∷ event 0 (finish 0 0 7) ∷ event 1 (see 0) ∷ event 1 (read 0) ∷ event 0 look_at_turn ∷ event 1 leave ∷ []
+
+-- a history of two threads with a reading that waits for a push
+abbrev pub ReadsSeven : Type 0
+ReadsSeven = (w : BucketState) × Runs 1 2 (start 1 2) push_and_read w × (v u : View) × (get_elem? w.views 0 ≡ some v) × (get_elem? w.views 1 ≡ some u) × (v.turn_seen ≡ 1) × (u.read ≡ walk 0 (7 ∷ []) ∷ [])
+
 -- Over every history from any number of threads, and over every history from one whole thread, as a running bucket has it
 abbrev pub BucketLaw : Type 0
 BucketLaw = ((places threads : ℕ) (history : List Event) (w : BucketState) → Runs places threads (start places threads) history w → IsSound places threads history w)
     × ((places : ℕ) (history : List Event) (w : BucketState) → Runs places 1024 (opened places) history w → IsSound places 1024 history w)
     × ClearsFive
+    × ReadsSeven

@@ -1,5 +1,5 @@
 -- Histories of the bucket's steps, and the rule of the running table.
-use Rattle.std.specs.Prelude.{◌≡◌, ◌≢◌, ℕ, zero, suc, ◌+◌, ◌%◌, ◌^◌, ◌<◌, List, [], ◌∷◌, slice_index, replicate}
+use Rattle.std.specs.Prelude.{Bool, true, false, ◌≡◌, ◌≢◌, ℕ, zero, suc, ◌+◌, ◌%◌, ◌^◌, ◌<◌, List, [], ◌∷◌, slice_index, replicate}
 use mathlib.Core.Option.{Option, none, some}
 use lib.ListN.{get_elem?}
 use Rattle.atomic_table.specs.Table.{State}
@@ -9,7 +9,7 @@ use Rattle.metrics_bucket.specs.declared.view.Hold.{Hold}
 use Rattle.metrics_bucket.specs.declared.view.Hold.TheVariants.{Nothing, Ticket, Written, Claimed, SideKnown, Reading, Clearing}
 use Rattle.metrics_bucket.specs.declared.view.Visit.{Visit}
 use Rattle.metrics_bucket.specs.declared.view.Visit.TheVariants.{Unseen, Marked, Read, Wiped}
-use Rattle.metrics_bucket.specs.BucketState.{BucketState, Act, look, look_to_settle, ticket, write, finish, claim, look_to_read, look_to_clear, takes, see, read, wipe, leave, quit, split, join, place_index, words_of, side_of, new_view, whole_view, walks_made, state_after}
+use Rattle.metrics_bucket.specs.BucketState.{BucketState, Act, look, look_to_settle, ticket, write, finish, claim, look_at_turn, look_to_read, look_to_clear, takes, see, read, wipe, leave, quit, split, join, place_index, words_of, side_of, new_view, whole_view, walks_made, state_after}
 
 -- the walk's visit at this place
 abbrev pub HasVisit : Hold → ℕ → Visit → Type 0
@@ -38,6 +38,7 @@ May places all w by v ticket = (v.hold ≡ Nothing) × (w.given < places)
 May places all w by v (write s i x) = v.hold ≡ Ticket s i
 May places all w by v (finish s i x) = v.hold ≡ Written s i x
 May places all w by v claim = (v.hold ≡ Nothing) × (w.turn ≡ 0)
+May places all w by v look_at_turn = Unit {0}
 May places all w by v look_to_read = v.hold ≡ Claimed
 May places all w by v look_to_clear = v.hold ≡ Claimed
 May places all w by v takes = (s : ℕ) × (v.hold ≡ SideKnown s)
@@ -82,6 +83,31 @@ at_home (suc n) walks = none
 abbrev pub homes_of : BucketState → List (Option Turn)
 homes_of w = at_home w.turn (walks_made w) ∷ []
 
--- The rule of the running table: a history from one whole thread leads to a state that has its words, what goes with the turn, and all accounts
-abbrev pub FollowsHistory : ℕ → State Turn View → Type 0
-FollowsHistory places s = (h : List Event) × (w : BucketState) × Runs places 1024 (opened places) h w × (words_of w ≡ s.words) × (w.views ≡ s.views) × (homes_of w ≡ s.homes)
+-- where the history of a running table begins: one thread with all of the weight, or, in an open bucket, so many threads of weight 1
+abbrev pub begins : Bool → ℕ → ℕ → BucketState
+begins false places all = record { epoch = 0; live = 0; given = 0; turn = 0; values = zeros (places + places); marks = zeros (places + places); views = new_view places all ∷ [] }
+begins true places all = start places all
+
+-- a step that asks for no whole weight, and changes no view but the thread's own
+abbrev pub IsPlain : Act → Type 0
+IsPlain look_to_settle = ⊥
+IsPlain split = ⊥
+IsPlain (join other_id x) = ⊥
+IsPlain _ = Unit {0}
+
+abbrev pub ArePlain : List Event → Type 0
+ArePlain [] = Unit {0}
+ArePlain (e ∷ es) = IsPlain e.act × ArePlain es
+
+abbrev pub AreLight : List View → Type 0
+AreLight views = (j : ℕ) (v : View) → get_elem? views j ≡ some v → v.weight ≡ 1
+
+-- a closed bucket has the weight 1024; in an open one each thread stays of weight 1
+abbrev pub FitsKey : Bool → ℕ → List Event → BucketState → Type 0
+FitsKey false all h w = all ≡ 1024
+FitsKey true all h w = ArePlain h × AreLight w.views
+
+-- The rule of the running table: a history from one whole thread, or, where many may come, from as many of weight 1 as came, leads to a state that has its words, what goes with the turn, and all accounts
+abbrev pub FollowsHistory : ℕ → Bool → State Turn View → Type 0
+FollowsHistory places many s =
+    (h : List Event) × (w : BucketState) × ((all : ℕ) × Runs places all (begins many places all) h w × FitsKey many all h w) × (words_of w ≡ s.words) × (w.views ≡ s.views) × (homes_of w ≡ s.homes)

@@ -1,5 +1,5 @@
 -- How a pen's fields make its account.
-use Rattle.std.specs.Prelude.{◌≡◌, ◌<◌, ◌≤◌, []}
+use Rattle.std.specs.Prelude.{false, ◌≡◌, ◌<◌, ◌≤◌, []}
 use Rattle.std.specs.Arc.{arc_value}
 use Rattle.metrics_bucket.specs.declared.pen.Pen.TheInside.{Inside}
 use Rattle.metrics_bucket.specs.Account.{Account, hold_of, has_ticket, TicketFits}
@@ -13,10 +13,12 @@ account_of p = record {
   read = p.seat.me.0.read;
   ticket = has_ticket p.ticket;
   seen = p.seat.me.0.seen;
+  turn_seen = p.seat.me.0.turn_seen;
 }
 
 pub record IsPen (p : Inside) : Type 0 where
   pub seated : p.seat.table_id ≡ (arc_value p.table).shared.table_id
+  pub closed : (arc_value p.table).shared.key.1 ≡ false
   pub some_word : 0 < p.seat.table_id.words
   pub bare : p.seat.me.1 ≡ []
   pub weighs : p.weight ≡ p.seat.me.0.weight

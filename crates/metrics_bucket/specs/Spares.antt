@@ -12,7 +12,7 @@ use Rattle.metrics_bucket.specs.BucketState.{holds_as, new_view}
 
 -- a pen of this weight that has done nothing
 abbrev pub fresh_account : Home → ℕ → Account
-fresh_account home weight = record { home = home; weight = weight; pushed = []; taken = []; read = []; ticket = false; seen = 0 }
+fresh_account home weight = record { home = home; weight = weight; pushed = []; taken = []; read = []; ticket = false; seen = 0; turn_seen = 0 }
 
 -- one of the 128 pens of equal weight
 abbrev pub spare_account : Home → Account
@@ -35,6 +35,7 @@ abbrev pub spares_home : Inside → Home
 spares_home s = record { table = (arc_value s.table).shared.table_id; places = s.places }
 
 pub record AreSpares (s : Inside) : Type 0 where
+  pub closed : (arc_value s.table).shared.key.1 ≡ false
   pub each : All (IsSpareOf (spares_home s)) s.posts.items
 
 -- some spare pens joined

@@ -9,7 +9,7 @@ use Rattle.metrics_bucket.specs.declared.view.Push.{Push}
 use Rattle.metrics_bucket.specs.declared.view.Walk.{Walk}
 use Rattle.metrics_bucket.specs.declared.view.Hold.{Hold}
 use Rattle.metrics_bucket.specs.declared.view.Hold.TheVariants.{Nothing, Ticket, Written, Settling}
-use Rattle.metrics_bucket.specs.BucketState.{place_index, holding, holding_at, seeing, walk, pushing}
+use Rattle.metrics_bucket.specs.BucketState.{place_index, holding, holding_at, seeing, finding, walk, pushing}
 use Rattle.metrics_bucket.specs.Facts.{weigh, weigh_pushes, weigh_walks}
 use Rattle.metrics_bucket.specs.Places.{Covers}
 
@@ -33,6 +33,10 @@ weight_looked st m r m' = (m' ≡ m) × (m.0.weight ≤ 1024)
 -- nothing changed but the control word that it saw last
 abbrev pub HasLooked : Seated → Seated → Type 0
 HasLooked m m' = m' ≡ (seeing m.0 m'.0.seen, m.1)
+
+-- a claim found the turn held, and nothing else changed
+abbrev pub WasBusy : Seated → Seated → Type 0
+WasBusy m m' = m' ≡ (finding m.0 1, m.1)
 
 -- what a refusal says to a thread with the whole weight: the side is full
 abbrev pub IsFullFor : ℕ → List Push → List Walk → Type 0

@@ -1,34 +1,38 @@
 //! A bucket that any thread may use.
-ghost use Rattle.std.specs.Prelude.{◌≡◌, ℕ, ◌*◌, ◌<◌, ◌≤◌, ◌⊎◌, List, length};
+ghost use Rattle.std.specs.Prelude.{true, [], ◌≡◌, ℕ, ◌*◌, ◌/◌, ◌<◌, ◌≤◌, ◌⊎◌, List, length};
 ghost use Rattle.std.specs.Prelude.{vec_len, IfOk, IfErr, IsOk};
 ghost use Rattle.std.specs.Fn.{CalledAt};
 ghost use Rattle.std.specs.List.{FoldsTo};
 ghost use Rattle.metrics_bucket.specs.Blocks.{valued, newest_first};
-ghost use Rattle.metrics_bucket.specs.Lending.{home_of};
+ghost use Rattle.std.specs.Arc.{arc_value};
 
-use crate::bucket::RuledBucket;
-use crate::rack::{Loan, Pens};
+use crate::bucket::{BLOCK_SIZE, RuledBucket};
+use crate::pen::Words;
 use crate::sample::Sample;
+use crate::steps::LookAtControl;
+use crate::view::{Turn, View};
 use crate::visitor::Shown;
+use atomic_table::Seat;
 use metrics::Error;
 use metrics_cells::HistogramFn;
 use std::alloc::Global;
-use std::sync::Wait;
+use std::sync::{Arc, Wait};
 
 /// A bucket that any thread may push into, read and clear. It has two sides, each with 64 places for each block.
 ///
-/// It keeps 64 pens. A call borrows one of them while it runs; where all are lent, it pauses until one is back. No lock is
-/// taken. Each block takes some 2 KB of memory.
+/// No lock is taken, and any number of calls may run at once. Each block takes some 2 KB of memory.
 #[derive(Drop)]
 pub struct AtomicBucket<T: Sample> {
     bucket: RuledBucket<T>,
-    pens: Pens,
-    ghost own: { bucket ≡ home_of pens.table.shared.key },
+    door: Arc<Words, Global>,
+    ghost own: { bucket.table ≡ (arc_value door).shared.table_id },
+    ghost key: { (arc_value door).shared.key ≡ (bucket.places, true) },
+    ghost some_word: { 0 < (arc_value door).shared.table_id.words },
 }
 
 impl<T: Sample> AtomicBucket<T> {
-    ghost use Rattle.metrics_bucket.specs.Loans.{IsLoanOf};
     ghost use Rattle.metrics_bucket.specs.Sides.{side_places};
+    ghost use Rattle.metrics_bucket.specs.BucketState.{new_view, seeing};
 
     /// An empty bucket of 1 to 1024 blocks on each side.
     pub fn new(alloc: Global, blocks: usize) -> Result<AtomicBucket<T>, Error>
@@ -36,16 +40,21 @@ impl<T: Sample> AtomicBucket<T> {
         ensures good { (0 < blocks) × (blocks ≤ 1024) → IfErr result (λ e. e ≡ Error.Memory) }
         ensures bad { (blocks ≡ 0) ⊎ (1024 < blocks) → result ≡ Err Error.BadBlocks }
     {
-        let (bucket, pen) = RuledBucket::<T>::new(alloc, blocks)?;
-        let pens = Pens::new(alloc, pen)?;
-        Ok(AtomicBucket { bucket, pens })
+        if blocks == 0 || blocks > 1024 {
+            return Err(Error::BadBlocks);
+        }
+        let (bucket, door) = RuledBucket::<T>::open_places(alloc, BLOCK_SIZE * blocks)?;
+        Ok(AtomicBucket { bucket, door })
     }
 
-    // A pen for a walk.
-    fn lend<R: Wait>(&self, rt: &R) -> Loan
-        ensures { IsLoanOf self.now.pens result }
+    // A thread that comes to the bucket, and has done nothing.
+    #[inline(always)]
+    fn enter(&self) -> (u64, Seat<Turn, View>)
+        ensures table { result.1.table_id ≡ self.now.bucket.table }
+        ensures me { result.1.me ≡ (seeing (new_view self.now.bucket.places 1) result.0, []) }
+        ensures room { result.0 / 2 ≤ self.now.bucket.places }
     {
-        self.pens.lend(rt, self.bucket.control())
+        self.door.shared.load_new_seat::<LookAtControl>(0)
     }
 
     /// Whether no value was pushed since the last clear. A push that is under way counts as a value. It is never refused.
@@ -59,11 +68,8 @@ impl<T: Sample> AtomicBucket<T> {
     pub fn push<R: Wait>(&self, rt: &R, value: T) -> Result<(), (Error, T)>
         ensures { IfErr result (λ e. (e.0 ≡ Error.Full) × (e.1 ≡ value)) }
     {
-        let mut loan = self.pens.lend(rt, value.to_word());
-        let pen = loan.place.slot_mut(&self.pens.table.shared, loan.at);
-        let pushed = self.bucket.push_by(rt, pen, value);
-        self.pens.give_back(loan);
-        pushed
+        let (found, mut seat) = self.enter();
+        self.bucket.push_after(rt, &mut seat, found, value)
     }
 
     /// All values since the last clear, in blocks of 64, the newest block first. It waits for pushes that were under way
@@ -74,11 +80,8 @@ impl<T: Sample> AtomicBucket<T> {
         ensures count { IfOk result (λ v. vec_len v ≤ side_places self.now) }
         ensures err { IfErr result (λ e. (e ≡ Error.Memory) ⊎ (e ≡ Error.Busy)) }
     {
-        let mut loan = self.lend(rt);
-        let pen = loan.place.slot_mut(&self.pens.table.shared, loan.at);
-        let values = self.bucket.gather_values(rt, alloc, pen);
-        self.pens.give_back(loan);
-        values
+        let (_, mut seat) = self.enter();
+        self.bucket.gather_values(rt, alloc, &mut seat)
     }
 
     /// Reads all values as `data` does, and shows them to `f` in chunks of 64, the newest chunk first. It answers how
@@ -93,11 +96,8 @@ impl<T: Sample> AtomicBucket<T> {
         ensures err { IfErr result (λ e. e ≡ Error.Busy) }
     {
         let mut shown = Shown { f };
-        let mut loan = self.lend(rt);
-        let pen = loan.place.slot_mut(&self.pens.table.shared, loan.at);
-        let count = self.bucket.show_to(rt, pen, &mut shown);
-        self.pens.give_back(loan);
-        count
+        let (_, mut seat) = self.enter();
+        self.bucket.show_to(rt, &mut seat, &mut shown)
     }
 
     /// Takes all values, and answers how many they were.
@@ -123,11 +123,8 @@ impl<T: Sample> AtomicBucket<T> {
         ensures err { IfErr result (λ e. e ≡ Error.Busy) }
     {
         let mut shown = Shown { f };
-        let mut loan = self.lend(rt);
-        let pen = loan.place.slot_mut(&self.pens.table.shared, loan.at);
-        let count = self.bucket.claim_and_clear(rt, pen, &mut shown);
-        self.pens.give_back(loan);
-        count
+        let (_, mut seat) = self.enter();
+        self.bucket.claim_and_clear(rt, &mut seat, &mut shown)
     }
 }
 

@@ -3,11 +3,12 @@ ghost use Rattle.std.specs.Prelude.{◌≡◌, ℕ, ◌+◌, ◌*◌, ◌^◌, �
 ghost use Rattle.std.specs.Prelude.{false, IsTrue, IfOk, OnOk, IfErr, OnErr, MatchResult, length, take, drop, map, [], ◌++◌};
 ghost use Rattle.std.specs.Prelude.{◌-◌, ◌/◌, vec_capacity};
 ghost use Rattle.metrics_bucket.specs.Account.{first_account, with_ticket, looked_at, IsLooked, IsPushed};
-ghost use Rattle.metrics_bucket.specs.BucketState.{place_index, holding_at, seeing, pushing};
+ghost use Rattle.std.specs.Arc.{arc_value};
+ghost use Rattle.metrics_bucket.specs.BucketState.{place_index, first_view, holding_at, seeing, pushing};
 ghost use Rattle.metrics_bucket.specs.Pushed.{HasPushed};
 ghost use Rattle.metrics_bucket.specs.Blocks.{Settled};
 ghost use Rattle.metrics_bucket.specs.declared.view.Hold.TheVariants.{Nothing, Ticket, Settling};
-ghost use Rattle.metrics_bucket.specs.Steps.{count_all, HasLooked, IsFullFor, values_known, ArePartsOf};
+ghost use Rattle.metrics_bucket.specs.Steps.{count_all, HasLooked, IsControl, IsFullFor, values_known, ArePartsOf};
 
 use crate::pen::{Pen, Words};
 use crate::sample::Sample;
@@ -48,7 +49,7 @@ impl<T: Sample> Model for RuledBucket<T> {
     ghost view = { λ b. record { table = (arc_value b.table).shared.table_id; places = b.places } };
 
     ghost invariant = { λ b. ((arc_value b.table).shared.table_id.words ≡ 2 + 4 * b.places)
-        × ((arc_value b.table).shared.key ≡ b.places) × (0 < b.places) × (b.places < 2 ^ 60) };
+        × ((arc_value b.table).shared.key.0 ≡ b.places) × (0 < b.places) × (b.places < 2 ^ 60) };
 }
 
 impl<T: Sample> RuledBucket<T> {
@@ -70,6 +71,30 @@ impl<T: Sample> RuledBucket<T> {
         ensures ok { IfOk result (λ r. (r.0.places ≡ places) × (r.1 ≡ first_account r.0)) }
         ensures err { IfErr result (λ e. e ≡ Error.Memory) }
     {
+        let (bucket, table, seat) = Self::of_key(alloc, places, false)?;
+        let pen = Pen {
+            table,
+            seat,
+            weight: 1024,
+            ticket: None,
+        };
+        Ok((bucket, pen))
+    }
+
+    // A bucket, its table, and its first seat. Threads may come to an open one at any time.
+    fn of_key(
+        alloc: Global,
+        places: usize,
+        many: bool,
+    ) -> Result<(RuledBucket<T>, Arc<Words, Global>, Seat<Turn, View>), Error>
+        requires { (0 < places) × (places < 2 ^ 60) }
+        ensures home { IfOk result (λ r. (r.0.places ≡ places) × (r.0.table ≡ (arc_value r.1).shared.table_id)) }
+        ensures key { IfOk result (λ r. ((arc_value r.1).shared.key ≡ (places, many))
+            × ((arc_value r.1).shared.table_id.words ≡ 2 + 4 * places)) }
+        ensures seat { IfOk result (λ r. (r.2.table_id ≡ (arc_value r.1).shared.table_id)
+            × (r.2.me ≡ (first_view many places, []))) }
+        ensures err { IfErr result (λ e. e ≡ Error.Memory) }
+    {
         let Ok(words) = vec![in alloc; 0u64; 2 + 4 * places] else {
             return Err(Error::Memory);
         };
@@ -77,7 +102,7 @@ impl<T: Sample> RuledBucket<T> {
         if slots.push(Turn { walks: 0 }).is_err() {
             return Err(Error::Memory);
         }
-        let Ok((table, seat)) = Table::new(alloc, words.as_slice(), slots, &places) else {
+        let Ok((table, seat)) = Table::new(alloc, words.as_slice(), slots, &(places, many)) else {
             return Err(Error::Memory);
         };
         let Ok(table) = Arc::new(alloc, table) else {
@@ -86,18 +111,27 @@ impl<T: Sample> RuledBucket<T> {
         let Ok(same) = Arc::try_clone(&table) else {
             return Err(Error::Memory);
         };
-        let pen = Pen {
-            table: same,
-            seat,
-            weight: 1024,
-            ticket: None,
-        };
         let bucket = RuledBucket {
             table,
             places,
             of: PhantomData,
         };
-        Ok((bucket, pen))
+        Ok((bucket, same, seat))
+    }
+
+    // A bucket that threads may come to at any time, and its table.
+    pub(crate) fn open_places(
+        alloc: Global,
+        places: usize,
+    ) -> Result<(RuledBucket<T>, Arc<Words, Global>), Error>
+        requires { (0 < places) × (places < 2 ^ 60) }
+        ensures home { IfOk result (λ r. (r.0.places ≡ places) × (r.0.table ≡ (arc_value r.1).shared.table_id)) }
+        ensures key { IfOk result (λ r. ((arc_value r.1).shared.key ≡ (places, true))
+            × ((arc_value r.1).shared.table_id.words ≡ 2 + 4 * places)) }
+        ensures err { IfErr result (λ e. e ≡ Error.Memory) }
+    {
+        let (bucket, table, _) = Self::of_key(alloc, places, true)?;
+        Ok((bucket, table))
     }
 
     /// The same bucket, for values of another type. A value that was pushed as another type comes out as the value of its word.
@@ -178,6 +212,24 @@ impl<T: Sample> RuledBucket<T> {
             (λ e. (e ≡ Error.Full) × IsFullFor self.now.places seat.old.me.0.pushed seat.old.me.0.taken) }
     {
         let found = self.table.shared.load::<LookAtControl>(seat, 0);
+        self.draw_at(seat, found)
+    }
+
+    // Draws the ticket that follows the control word that the seat saw last.
+    fn draw_at(&self, seat: &mut Seat<Turn, View>, found: u64) -> Result<(usize, usize), Error>
+        requires home { (seat.old.table_id ≡ self.now.table) × (seat.old.me.0.places ≡ self.now.places)
+            × (0 < seat.old.me.0.weight) }
+        requires hold { seat.old.me.0.hold ≡ Nothing }
+        requires looked { (found / 2 ≤ self.now.places) × IsControl seat.old.me.0 found }
+        ensures table { seat.new.table_id ≡ seat.old.table_id }
+        ensures ok { IfOk result (λ t. (e : ℕ) × (t.0 < 2) × (t.1 < self.now.places)
+            × (seat.new.me ≡ (holding_at seat.old.me.0 e (Ticket t.0 t.1), seat.old.me.1)) × (found / 2 < self.now.places)) }
+        ensures err { IfErr result (λ e. (seat.new.me ≡ seat.old.me)
+            × (((e ≡ Error.Full) × (self.now.places ≤ found / 2)) ⊎ ((e ≡ Error.Raced) × (found / 2 < self.now.places)))) }
+        ensures whole { seat.old.me.0.weight ≡ 1024
+            → MatchResult result (λ _. length seat.old.me.0.pushed < count_all seat.old.me.0.taken + self.now.places)
+            (λ e. (e ≡ Error.Full) × IsFullFor self.now.places seat.old.me.0.pushed seat.old.me.0.taken) }
+    {
         let given = (found / 2) as usize;
         if given >= self.places {
             return Err(Error::Full);
@@ -287,6 +339,34 @@ impl<T: Sample> RuledBucket<T> {
             }
         }
         unreachable!()
+    }
+
+    // Pushes a value by a seat that holds nothing and has just looked; a lost race is tried again.
+    pub(crate) fn push_after<R: Wait>(
+        &self,
+        rt: &R,
+        seat: &mut Seat<Turn, View>,
+        found: u64,
+        value: T,
+    ) -> Result<(), (Error, T)>
+        requires home { (seat.old.table_id ≡ self.now.table) × (seat.old.me.0.places ≡ self.now.places)
+            × (0 < seat.old.me.0.weight) }
+        requires hold { seat.old.me.0.hold ≡ Nothing }
+        requires looked { (seat.old.me.0.seen ≡ found) × (found / 2 ≤ self.now.places) × IsControl seat.old.me.0 found }
+        ensures table { seat.new.table_id ≡ seat.old.table_id }
+        ensures ok { OnOk result (HasPushed seat.old.me (T.word value) seat.new.me
+            × (seat.new.me.0.seen / 2 < self.now.places)) }
+        ensures err { IfErr result (λ e. HasLooked seat.old.me seat.new.me × (self.now.places ≤ seat.new.me.0.seen / 2)
+            × (e.0 ≡ Error.Full) × (e.1 ≡ value)) }
+    {
+        match self.draw_at(seat, found) {
+            Ok((side, at)) => {
+                self.fill(seat, side, at, value);
+                Ok(())
+            }
+            Err(Error::Full) => Err((Error::Full, value)),
+            Err(_) => self.push_by(rt, seat, value),
+        }
     }
 
     // Puts these values of the live side behind the others.

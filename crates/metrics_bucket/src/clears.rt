@@ -6,7 +6,8 @@ ghost use Rattle.metrics_bucket.specs.Places.{Covers};
 ghost use Rattle.std.specs.List.{FoldsTo};
 ghost use Rattle.std.specs.Fn.{CalledAt};
 ghost use Rattle.metrics_bucket.specs.Blocks.{valued, newest_first};
-ghost use Rattle.metrics_bucket.specs.Account.{IsTaken};
+ghost use Rattle.metrics_bucket.specs.Account.{IsTaken, IsBusy};
+ghost use Rattle.metrics_bucket.specs.Steps.{WasBusy};
 ghost use Rattle.metrics_bucket.specs.ClearedPlaces.{has_taken};
 ghost use Rattle.metrics_bucket.specs.declared.view.Hold.TheVariants.{Nothing};
 
@@ -41,7 +42,7 @@ impl<T: Sample> RuledBucket<T> {
         ensures ready { V.ready visitor.new }
         ensures whole { seat.old.me.0.weight ≡ 1024
             → OnOk result ((h : ℕ → ℕ) → weigh_pushes h seat.new.me.0.pushed ≡ weigh_walks h seat.new.me.0.taken) }
-        ensures err { IfErr result (λ e. (seat.new.me ≡ seat.old.me) × (visitor.new ≡ visitor.old) × (e ≡ Error.Busy)
+        ensures err { IfErr result (λ e. WasBusy seat.old.me seat.new.me × (visitor.new ≡ visitor.old) × (e ≡ Error.Busy)
             × (seat.old.me.0.weight ≢ 1024)) }
     {
         let shared = &self.table.shared;
@@ -73,7 +74,7 @@ impl<T: Sample> RuledBucket<T> {
             × FoldsTo V.saw visitor.old (valued T.value (newest_first walk.values)) visitor.new) }
         ensures count { IfOk result (λ n. n ≤ self.now.places) }
         ensures ready { V.ready visitor.new }
-        ensures err { IfErr result (λ e. (pen.new ≡ pen.old) × (visitor.new ≡ visitor.old) × (e ≡ Error.Busy)
+        ensures err { IfErr result (λ e. IsBusy pen.old pen.new × (visitor.new ≡ visitor.old) × (e ≡ Error.Busy)
             × (pen.old.weight ≢ 1024)) }
     {
         self.claim_and_clear(rt, &mut pen.seat, visitor)
@@ -92,7 +93,7 @@ impl<T: Sample> RuledBucket<T> {
         ensures ok { IfOk result (λ n. (walk : Walk) × (length walk.values ≡ n) × IsTaken pen.old walk pen.new
             × ((last : F) × FoldsTo (λ p x q. CalledAt F.FnMut p x tt q) f (valued T.value (newest_first walk.values)) last)) }
         ensures count { IfOk result (λ n. n ≤ self.now.places) }
-        ensures err { IfErr result (λ e. (pen.new ≡ pen.old) × (e ≡ Error.Busy) × (pen.old.weight ≢ 1024)) }
+        ensures err { IfErr result (λ e. IsBusy pen.old pen.new × (e ≡ Error.Busy) × (pen.old.weight ≢ 1024)) }
     {
         let mut shown = Shown { f };
         self.clear_to_as(rt, pen, &mut shown)
@@ -104,7 +105,7 @@ impl<T: Sample> RuledBucket<T> {
         requires free { pen.old.ticket ≡ false }
         ensures ok { IfOk result (λ n. (walk : Walk) × (length walk.values ≡ n) × IsTaken pen.old walk pen.new) }
         ensures count { IfOk result (λ n. n ≤ self.now.places) }
-        ensures err { IfErr result (λ e. (pen.new ≡ pen.old) × (e ≡ Error.Busy) × (pen.old.weight ≢ 1024)) }
+        ensures err { IfErr result (λ e. IsBusy pen.old pen.new × (e ≡ Error.Busy) × (pen.old.weight ≢ 1024)) }
     {
         self.clear_with_as(rt, pen, |_| {})
     }

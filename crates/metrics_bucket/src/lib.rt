@@ -7,7 +7,6 @@ mod clears;
 mod gathered;
 mod law;
 mod pen;
-mod rack;
 mod readings;
 mod rule;
 mod sample;

@@ -11,13 +11,13 @@ use std::alloc::Global;
 use std::marker::Model;
 use std::sync::Arc;
 
-pub(crate) type Words = Table<Turn, View, usize, BucketRule, Global>;
+pub(crate) type Words = Table<Turn, View, (usize, bool), BucketRule, Global>;
 
 /// A thread's part of one bucket, which each call on the bucket takes. It has a weight, a part of the right to know the
 /// whole: a bucket has 1024 parts, all of them with its first pen.
 ///
-/// Contracts see it as its account: what it pushed, took and read, its weight, whether it has a ticket, and the control
-/// word that it saw last.
+/// Contracts see it as its account: what it pushed, took and read, its weight, whether it has a ticket, the control word
+/// that it saw last, and the turn's word that its last refused claim found.
 #[derive(Drop)]
 pub struct Pen {
     pub(crate) table: Arc<Words, Global>,

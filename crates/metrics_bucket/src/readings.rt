@@ -10,7 +10,8 @@ ghost use Rattle.metrics_bucket.specs.Blocks.{valued, newest_first};
 ghost use Rattle.metrics.specs.Book.{blocks};
 ghost use Rattle.metrics_bucket.specs.BucketState.{holding};
 ghost use Rattle.metrics_bucket.specs.History.{CanQuit, turn_at};
-ghost use Rattle.metrics_bucket.specs.Account.{IsRead};
+ghost use Rattle.metrics_bucket.specs.Account.{IsRead, IsBusy};
+ghost use Rattle.metrics_bucket.specs.Steps.{WasBusy};
 ghost use Rattle.metrics_bucket.specs.ReadPlaces.{has_read, looked_to_read, IsFree};
 ghost use Rattle.metrics_bucket.specs.declared.view.Hold.TheVariants.{Nothing};
 
@@ -37,7 +38,7 @@ impl<T: Sample> RuledBucket<T> {
         ensures ok { IfOk result (λ r. (e : ℕ) × (n : ℕ)
             × (seat.new.me ≡ (looked_to_read seat.old.me.0 e n r, (0, turn_at n) ∷ [])) × (r / 2 ≤ self.now.places)
             × Reaches seat.old.me.0.pushed e (r / 2) × (seat.old.me.0.weight ≡ 1024 → e ≡ length seat.old.me.0.taken)) }
-        ensures err { IfErr result (λ e. (seat.new.me ≡ seat.old.me) × (e ≡ Error.Busy)
+        ensures err { IfErr result (λ e. WasBusy seat.old.me seat.new.me × (e ≡ Error.Busy)
             × (seat.old.me.0.weight ≢ 1024)) }
     {
         let shared = &self.table.shared;
@@ -76,7 +77,7 @@ impl<T: Sample> RuledBucket<T> {
             × FoldsTo V.saw visitor.old (valued T.value (newest_first w.values)) visitor.new) }
         ensures count { IfOk result (λ n. n ≤ self.now.places) }
         ensures ready { V.ready visitor.new }
-        ensures err { IfErr result (λ e. (seat.new.me ≡ seat.old.me) × (visitor.new ≡ visitor.old) × (e ≡ Error.Busy)
+        ensures err { IfErr result (λ e. WasBusy seat.old.me seat.new.me × (visitor.new ≡ visitor.old) × (e ≡ Error.Busy)
             × (seat.old.me.0.weight ≢ 1024)) }
     {
         let control = self.claim_and_look(seat)?;
@@ -102,8 +103,8 @@ impl<T: Sample> RuledBucket<T> {
             × (seat.old.me.0.weight ≡ 1024 → (h : ℕ → ℕ)
             → weigh_pushes h seat.old.me.0.pushed ≡ weigh h w.values + weigh_walks h seat.old.me.0.taken)) }
         ensures count { IfOk result (λ v. vec_len v ≤ self.now.places) }
-        ensures err { IfErr result (λ e. IsFree seat.old.me seat.new.me
-            × ((e ≡ Error.Memory) ⊎ ((e ≡ Error.Busy) × (seat.old.me.0.weight ≢ 1024)))) }
+        ensures err { IfErr result (λ e. ((e ≡ Error.Memory) × IsFree seat.old.me seat.new.me)
+            ⊎ ((e ≡ Error.Busy) × WasBusy seat.old.me seat.new.me × (seat.old.me.0.weight ≢ 1024))) }
     {
         let control = self.claim_and_look(seat)?;
         let given = (control / 2) as usize;
@@ -132,8 +133,8 @@ impl<T: Sample> RuledBucket<T> {
         ensures ok { IfOk result (λ v. (walk : Walk) × (v.items ≡ map T.value (blocks walk.values))
             × IsRead pen.old walk pen.new) }
         ensures count { IfOk result (λ v. vec_len v ≤ self.now.places) }
-        ensures err { IfErr result (λ e. (pen.new ≡ pen.old)
-            × ((e ≡ Error.Memory) ⊎ ((e ≡ Error.Busy) × (pen.old.weight ≢ 1024)))) }
+        ensures err { IfErr result (λ e. ((e ≡ Error.Memory) × (pen.new ≡ pen.old))
+            ⊎ ((e ≡ Error.Busy) × IsBusy pen.old pen.new × (pen.old.weight ≢ 1024))) }
     {
         self.gather_values(rt, alloc, &mut pen.seat)
     }
@@ -153,7 +154,7 @@ impl<T: Sample> RuledBucket<T> {
             × FoldsTo V.saw visitor.old (valued T.value (newest_first walk.values)) visitor.new) }
         ensures count { IfOk result (λ n. n ≤ self.now.places) }
         ensures ready { V.ready visitor.new }
-        ensures err { IfErr result (λ e. (pen.new ≡ pen.old) × (visitor.new ≡ visitor.old) × (e ≡ Error.Busy)
+        ensures err { IfErr result (λ e. IsBusy pen.old pen.new × (visitor.new ≡ visitor.old) × (e ≡ Error.Busy)
             × (pen.old.weight ≢ 1024)) }
     {
         self.show_to(rt, &mut pen.seat, visitor)
@@ -172,7 +173,7 @@ impl<T: Sample> RuledBucket<T> {
         ensures ok { IfOk result (λ n. (walk : Walk) × (length walk.values ≡ n) × IsRead pen.old walk pen.new
             × ((last : F) × FoldsTo (λ p x q. CalledAt F.FnMut p x tt q) f (valued T.value (newest_first walk.values)) last)) }
         ensures count { IfOk result (λ n. n ≤ self.now.places) }
-        ensures err { IfErr result (λ e. (pen.new ≡ pen.old) × (e ≡ Error.Busy) × (pen.old.weight ≢ 1024)) }
+        ensures err { IfErr result (λ e. IsBusy pen.old pen.new × (e ≡ Error.Busy) × (pen.old.weight ≢ 1024)) }
     {
         let mut shown = Shown { f };
         self.data_to_as(rt, pen, &mut shown)

@@ -4,11 +4,12 @@ use atomic_table::TableRule;
 
 pub struct BucketRule;
 
-impl TableRule<Turn, View, usize> for BucketRule {
+// Its key: how many places a side has, and whether threads may come at any time.
+impl TableRule<Turn, View, (usize, bool)> for BucketRule {
     ghost use Rattle.metrics_bucket.specs.History.{FollowsHistory};
-    ghost use Rattle.metrics_bucket.specs.BucketState.{whole_view};
+    ghost use Rattle.metrics_bucket.specs.BucketState.{first_view};
 
-    ghost holds = { FollowsHistory };
+    ghost holds = { λ key. FollowsHistory key.0 key.1 };
 
-    ghost first = { whole_view };
+    ghost first = { λ key. first_view key.1 key.0 };
 }

@@ -1,13 +1,15 @@
 -- What calls do to the bags of a pen, seen over all its segments.
-use Rattle.std.proofs.Common.{◌≡◌, ℕ, ◌+◌, List, [], ◌∷◌, ap, ⊎_elim, arith}
+use Rattle.std.proofs.Common.{◌≡◌, ℕ, ◌+◌, List, [], ◌∷◌, refl, ap, ⊎_elim, arith}
+use Rattle.std.specs.List.{All}
+use Rattle.std.proofs.lemmas.List.Elements.{All-head, All-tail}
 use Rattle.metrics_bucket.specs.declared.view.Walk.{Walk}
 use Rattle.metrics_bucket.specs.BucketState.{push}
-use Rattle.metrics_bucket.specs.Account.{Account}
+use Rattle.metrics_bucket.specs.Account.{Account, looked_at}
 use Rattle.metrics_bucket.specs.Facts.{weigh_pushes, weigh_walks}
 use Rattle.metrics_bucket.proofs.Shares.{weigh_walks-both}
 use Rattle.metrics_bucket.proofs.Sums.{weigh_pushes-append}
-use Rattle.metrics_growing.specs.Parts.{Part, Keeps, IsPassed, OneOf, PushedIn, PushedByTries, TookAll, left_parts, right_parts, joined_parts}
-use Rattle.metrics_growing.specs.Bags.{pushed_in, pushed_by, taken_in, taken_by}
+use Rattle.metrics_growing.specs.Parts.{Part, Keeps, HasOnlyLooked, OnlyLooks, PassedIn, OneOf, PushedIn, PushedByTries, TookAll, left_parts, right_parts, joined_parts}
+use Rattle.metrics_growing.specs.Bags.{sum_of, pushed_by, taken_by}
 use Rattle.metrics_growing.proofs.Chains.{tries_in_one}
 use Rattle.metrics_growing.proofs.Settling.{keeps_sum, took_sums}
 
@@ -15,6 +17,26 @@ pub keeps_sums : (h : ℕ → ℕ) (ps qs : List Part) → Keeps ps qs → (push
 keeps_sums h ps qs k = (
   keeps_sum (λ a. weigh_pushes h a.pushed) ps qs (λ p new. ap (λ (x : Account). weigh_pushes h x.pushed) new) k,
   keeps_sum (λ a. weigh_walks h a.taken) ps qs (λ p new. ap (λ (x : Account). weigh_walks h x.taken) new) k,
+)
+
+-- looks change no number of what was pushed and taken
+looked_empty : (f : Account → ℕ) (ps : List Part) → ((p : Part) → HasOnlyLooked p → f p.account ≡ 0) → All HasOnlyLooked ps → sum_of (λ p. f p.account) ps ≡ 0
+looked_empty f [] z a = refl
+looked_empty f (p ∷ ps) z a = let e = z p (All-head HasOnlyLooked p ps a) in let r = looked_empty f ps z (All-tail HasOnlyLooked p ps a) in omega arith
+
+looks_sum : (f : Account → ℕ) (ps qs : List Part) → ((a : Account) (n : ℕ) → f (looked_at a n) ≡ f a) → ((p : Part) → HasOnlyLooked p → f p.account ≡ 0) → OnlyLooks ps qs → sum_of (λ p. f p.account) qs ≡ sum_of (λ p. f p.account) ps
+looks_sum f [] qs same z k = looked_empty f qs z k
+looks_sum f (p ∷ ps) [] same z k = absurd k
+looks_sum f (p ∷ ps) (q ∷ qs) same z k =
+    let a = ap f k.0.1 in
+    let b = same p.account q.account.seen in
+    let r = looks_sum f ps qs same z k.1 in
+    omega arith
+
+looks_sums : (h : ℕ → ℕ) (ps qs : List Part) → OnlyLooks ps qs → (pushed_by h qs ≡ pushed_by h ps) × (taken_by h qs ≡ taken_by h ps)
+looks_sums h ps qs k = (
+  looks_sum (λ a. weigh_pushes h a.pushed) ps qs (λ a n. refl) (λ p new. ap (λ (x : Account). weigh_pushes h x.pushed) new) k,
+  looks_sum (λ a. weigh_walks h a.taken) ps qs (λ a n. refl) (λ p new. ap (λ (x : Account). weigh_walks h x.taken) new) k,
 )
 
 one_sums : (h : ℕ → ℕ) (x : ℕ) (ps qs : List Part) → OneOf (PushedIn x) ps qs → (pushed_by h qs ≡ pushed_by h ps + h x) × (taken_by h qs ≡ taken_by h ps)
@@ -28,10 +50,10 @@ one_sums h x (p ∷ ps) (q ∷ qs) o = ⊎_elim
     let d = ap (pushed_by h) here.1 in
     let e = ap (taken_by h) here.1 in
     (omega arith, omega arith))
-    (λ (there : (p ≡ q) × IsPassed p × OneOf (PushedIn x) ps qs).
-    let a = ap (pushed_in h) there.0 in
-    let b = ap (taken_in h) there.0 in
-    let r = one_sums h x ps qs there.2 in
+    (λ (there : PassedIn p q × OneOf (PushedIn x) ps qs).
+    let a = ap (λ (z : Account). weigh_pushes h z.pushed) there.0.0.1 in
+    let b = ap (λ (z : Account). weigh_walks h z.taken) there.0.0.1 in
+    let r = one_sums h x ps qs there.1 in
     let c = r.0 in
     let d = r.1 in
     (omega arith, omega arith))
@@ -41,7 +63,7 @@ one_sums h x (p ∷ ps) (q ∷ qs) o = ⊎_elim
 pub pushed_sums : (h : ℕ → ℕ) (x : ℕ) (ps rs : List Part) → PushedByTries x ps rs → (pushed_by h rs ≡ pushed_by h ps + h x) × (taken_by h rs ≡ taken_by h ps)
 pushed_sums h x ps rs push =
     let one = tries_in_one x ps rs push in
-    let a = keeps_sums h ps one.0 one.1 in
+    let a = looks_sums h ps one.0 one.1 in
     let b = one_sums h x one.0 rs one.2 in
     let c = a.0 in let d = a.1 in let e = b.0 in let f = b.1 in
     (omega arith, omega arith)

@@ -7,7 +7,7 @@ use lib.ListN.{get_elem?}
 use Rattle.metrics_bucket.specs.declared.view.View.{View}
 use Rattle.metrics_bucket.specs.declared.view.Hold.{Hold}
 use Rattle.metrics_bucket.specs.declared.view.Hold.TheVariants.{Nothing, Ticket, Written, Claimed, SideKnown, Reading, Clearing, Settling}
-use Rattle.metrics_bucket.specs.BucketState.{BucketState, total, new_view, push, left_part, right_part, both_parts, Act, look, look_to_settle, ticket, write, finish, claim, look_to_read, look_to_clear, takes, see, read, wipe, leave, quit, split, join, view_after, state_after, left_from}
+use Rattle.metrics_bucket.specs.BucketState.{BucketState, total, new_view, push, left_part, right_part, both_parts, Act, look, look_to_settle, ticket, write, finish, claim, look_at_turn, look_to_read, look_to_clear, takes, see, read, wipe, leave, quit, split, join, view_after, state_after, left_from}
 use Rattle.metrics_bucket.specs.Facts.{pushed_of}
 use Rattle.metrics_bucket.specs.History.{Event, May, Runs, start, opened}
 use Rattle.metrics_bucket.specs.BucketLaw.{IsSound, BucketLaw, push_and_clear, by_first}
@@ -49,6 +49,7 @@ module _ (h : ℕ → ℕ) (places : ℕ) (w : BucketState) (by : ℕ) (v : View
   step_pushed all (write s i x) may = one (write s i x) (view_after places w v (write s i x)) (omega arith)
   step_pushed all (finish s i x) may = one (finish s i x) (view_after places w v (finish s i x)) (let e = weigh_pushes-append h v.pushed (push v.epoch i x ∷ []) in omega arith)
   step_pushed all claim may = one claim (view_after places w v claim) (omega arith)
+  step_pushed all look_at_turn may = one look_at_turn (view_after places w v look_at_turn) (omega arith)
   step_pushed all look_to_read may = one look_to_read (view_after places w v look_to_read) (omega arith)
   step_pushed all look_to_clear may = one look_to_clear (view_after places w v look_to_clear) (omega arith)
   step_pushed all takes may = one takes (view_after places w v takes) (omega arith)

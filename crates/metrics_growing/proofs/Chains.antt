@@ -1,15 +1,19 @@
 -- The parts of a pen against the names of the links, and what calls do to them.
-use Rattle.std.proofs.Common.{◌≡◌, ◌⊎◌, ℕ, zero, suc, ◌+◌, ◌<◌, ◌≤◌, List, [], ◌∷◌, ◌++◌, length, take, map, get_or, set, refl, sym, ap, subst, ◌∙◌, inl, inr, ⊎_elim, arith, append-nil, append_assoc}
+use Rattle.std.proofs.Common.{◌≡◌, ◌⊎◌, ℕ, zero, suc, ◌+◌, ◌/◌, ◌<◌, ◌≤◌, List, [], ◌∷◌, ◌++◌, length, take, map, get_or, set, refl, sym, ap, subst, ◌∙◌, inl, inr, ⊎_elim, arith, append-nil, append_assoc}
 use Rattle.std.proofs.lemmas.List.{length-set, get_or_append_left, length_push}
 use mathlib.Core.Logic.{dite}
 use native.Mathlib.Decide.{ℕ_discrete}
-use Rattle.std.proofs.lemmas.List.Elements.{All-append, All-nil, All-push, All-head, All-tail}
+use Rattle.std.proofs.lemmas.List.Elements.{All-append, All-nil, All-cons, All-push, All-head, All-tail}
 use Rattle.std.specs.List.{All, FoldsTo}
+use Rattle.metrics.specs.declared.error.Error.{Error}
+use Rattle.metrics.specs.declared.error.Error.TheVariants.{Full, Raced, Memory, NoPen}
 use Rattle.metrics_bucket.specs.declared.view.Walk.{Walk}
-use Rattle.metrics_bucket.specs.Account.{Home}
+use Rattle.metrics_bucket.specs.Account.{Home, Account, looked_at}
+use Rattle.metrics_bucket.specs.Spares.{spare_account}
+use Rattle.metrics_bucket.specs.Steps.{IsFullFor}
 use Rattle.metrics_bucket.specs.Blocks.{newest_first}
 use Rattle.metrics_bucket.specs.Steps.{count_all}
-use Rattle.metrics_growing.specs.Parts.{Part, link_of, home_of, IsOf, IsNew, IsWhole, IsPassed, Keeps, OneOf, LastMet, FirstOf, ChangedAt, PushedIn, LostIn, Pushed, LosesRace, PushedByTries, MetOne, Reached, TakenIn, Took, all_chunks, joined_part, joined_parts}
+use Rattle.metrics_growing.specs.Parts.{Part, link_of, home_of, IsOf, IsNew, IsWhole, IsPassed, LookedIn, PassedIn, HasOnlyLooked, OnlyLooks, Keeps, OneOf, LastMet, FirstOf, ChangedAt, PushedIn, LostIn, Pushed, LosesRace, LosesRaces, PushedByTries, MetOne, Reached, TakenIn, Took, all_chunks, joined_part, joined_parts}
 use Rattle.metrics_growing.specs.Bags.{sum_of, places_in}
 
 abbrev head_of : List ℕ → ℕ
@@ -70,51 +74,123 @@ keeps_met ps qs p e new = (p ∷ [], e, All-push IsNew [] p (All-nil IsNew) new)
 pub keeps_trans : (ps qs rs : List Part) → Keeps ps qs → Keeps qs rs → Keeps ps rs
 keeps_trans ps qs rs (xs, e, a) (ys, f, b) = (xs ++ ys, f ∙ (ap (λ (zs : List Part). zs ++ ys) e ∙ append_assoc ps xs ys), All-append IsNew xs ys a b)
 
--- the parts before this place are passed
-abbrev pub ArePassed : List Part → ℕ → Type 0
-ArePassed ps at = (j : ℕ) (d : Part) → j < at → IsPassed (get_or ps j d)
+-- of parts in which a pen looked
+looked_same : (p : Part) → LookedIn p p
+looked_same p = (refl, refl)
 
-passed_tail : (p : Part) (ps : List Part) (at : ℕ) → ArePassed (p ∷ ps) (suc at) → ArePassed ps at
-passed_tail p ps at a j d l = a (suc j) d (omega arith)
+looked_trans : (p q r : Part) → LookedIn p q → LookedIn q r → LookedIn p r
+looked_trans p q r a b = (b.0 ∙ a.0, b.1 ∙ ap (λ (x : Account). looked_at x r.account.seen) a.1)
 
-pub passed_on : (ps qs : List Part) (at : ℕ) → Keeps ps qs → at ≤ length ps → ArePassed ps at → ArePassed qs at
-passed_on ps qs at k low a j d l = subst IsPassed (sym (ap (λ (rs : List Part). get_or rs j d) k.1 ∙ get_or_append_left ps k.0 d j (omega arith))) (a j d l)
+new_looks : (p : Part) → IsNew p → HasOnlyLooked p
+new_looks p new = new ∙ ap (λ (n : ℕ). looked_at (spare_account p.account.home) n) (sym (ap (λ (x : Account). x.seen) new))
 
-pub passed_next : (ps : List Part) (at : ℕ) → ArePassed ps at → ((d : Part) → IsPassed (get_or ps at d)) → ArePassed ps (at + 1)
-passed_next ps at a here j d l = dite (ℕ_discrete j at)
-    (λ same. subst (λ (i : ℕ). IsPassed (get_or ps i d)) (sym same) (here d))
-    (λ apart. a j d (omega arith))
+looks_on : (p q : Part) → HasOnlyLooked p → LookedIn p q → HasOnlyLooked q
+looks_on p q old look =
+    look.1 ∙ (ap (λ (x : Account). looked_at x q.account.seen) old ∙ ap (λ (h : Home). looked_at (spare_account h) q.account.seen) (sym (ap (λ (x : Account). x.home) look.1)))
 
-one_set : (R : Part → Part → Type 0) (ps : List Part) (at : ℕ) (p q : Part) → at < length ps → ArePassed ps at → p ≡ get_or ps at p → R p q → OneOf R ps (set ps at q)
-one_set R [] at p q l a e r = absurd (omega arith)
-one_set R (x ∷ ps) zero p q l a e r = inl (subst (λ (z : Part). R z q) e r, refl)
-one_set R (x ∷ ps) (suc at) p q l a e r = inr (refl, a 0 x (omega arith), one_set R ps at p q (omega arith) (passed_tail x ps at a) e r)
+looks_same : (ps : List Part) → OnlyLooks ps ps
+looks_same [] = All-nil HasOnlyLooked
+looks_same (p ∷ ps) = (looked_same p, looks_same ps)
 
-pub one_changed : (R : Part → Part → Type 0) (at : ℕ) (ps qs : List Part) → at < length ps → ArePassed ps at → ChangedAt R at ps qs → OneOf R ps qs
-one_changed R at ps qs l a (p, q, e, r, is) = subst (OneOf R ps) (sym is) (one_set R ps at p q l a e r)
+looks_all : (qs rs : List Part) → All HasOnlyLooked qs → OnlyLooks qs rs → All HasOnlyLooked rs
+looks_all [] rs a k = k
+looks_all (q ∷ qs) [] a k = absurd k
+looks_all (q ∷ qs) (r ∷ rs) a k = All-cons HasOnlyLooked r rs (looks_on q r (All-head HasOnlyLooked q qs a) k.0) (looks_all qs rs (All-tail HasOnlyLooked q qs a) k.1)
+
+pub looks_trans : (ps qs rs : List Part) → OnlyLooks ps qs → OnlyLooks qs rs → OnlyLooks ps rs
+looks_trans [] qs rs a b = looks_all qs rs a b
+looks_trans (p ∷ ps) [] rs a b = absurd a
+looks_trans (p ∷ ps) (q ∷ qs) [] a b = absurd b
+looks_trans (p ∷ ps) (q ∷ qs) (r ∷ rs) a b = (looked_trans p q r a.0 b.0, looks_trans ps qs rs a.1 b.1)
+
+looks_met : (ps qs : List Part) (q : Part) → OnlyLooks ps qs → HasOnlyLooked q → OnlyLooks ps (qs ++ q ∷ [])
+looks_met [] qs q k new = All-push HasOnlyLooked qs q k new
+looks_met (p ∷ ps) [] q k new = absurd k
+looks_met (p ∷ ps) (x ∷ qs) q k new = (k.0, looks_met ps qs q k.1 new)
+
+raced_full : Raced ≡ Full → ⊥
+raced_full e = cc
+
+-- what a refused try says of its part
+pub refusal : (p q : Part) (e : Error) → LookedIn p q → (((e ≡ Full) × (p.account.home.places ≤ q.account.seen / 2)) ⊎ ((e ≡ Raced) × (q.account.seen / 2 < p.account.home.places)))
+    → (IsWhole p → (e ≡ Full) × IsFullFor p.account.home.places p.account.pushed p.account.taken) → ((e ≡ Full) × PassedIn p q) ⊎ ((e ≡ Raced) × LostIn p q)
+refusal p q e look cause whole =
+    let home = ap (λ (x : Account). x.home.places) look.1 in
+    ⊎_elim
+    (λ (full : (e ≡ Full) × (p.account.home.places ≤ q.account.seen / 2)). inl (
+      full.0,
+      (
+        look,
+        (
+          omega arith,
+          λ heavy. subst (λ (x : Account). IsFullFor x.home.places x.pushed x.taken) (sym look.1) (whole (sym (ap (λ (x : Account). x.weight) look.1) ∙ heavy)).1,
+        ),
+      ),
+    ))
+    (λ (raced : (e ≡ Raced) × (q.account.seen / 2 < p.account.home.places)). inr (raced.0, ((λ heavy. absurd (raced_full (sym raced.0 ∙ (whole heavy).0))), look, omega arith)))
+    cause
+
+pub was_full : (e : Error) (A B : Type 0) → e ≡ Full → (((e ≡ Full) × A) ⊎ ((e ≡ Raced) × B)) → A
+was_full e A B is r = ⊎_elim (λ (full : (e ≡ Full) × A). full.1) (λ (raced : (e ≡ Raced) × B). absurd (raced_full (sym raced.0 ∙ is))) r
+
+pub was_raced : (e : Error) (A B : Type 0) → e ≡ Raced → (((e ≡ Full) × A) ⊎ ((e ≡ Raced) × B)) → B
+was_raced e A B is r = ⊎_elim (λ (full : (e ≡ Full) × A). absurd (raced_full (sym is ∙ full.0))) (λ (raced : (e ≡ Raced) × B). raced.1) r
+
+pub changed_either : (at : ℕ) (ps : List Part) (p q : Part) (A B : Type 0) → p ≡ get_or ps at p → ((A × PassedIn p q) ⊎ (B × LostIn p q)) → (A × ChangedAt PassedIn at ps (set ps at q)) ⊎ (B × ChangedAt LostIn at ps (set ps at q))
+changed_either at ps p q A B e r = ⊎_elim (λ (full : A × PassedIn p q). inl (full.0, (p, q, e, full.1, refl))) (λ (raced : B × LostIn p q). inr (raced.0, (p, q, e, raced.1, refl))) r
 
 -- what a push reaches, and what it does there
-pub reached_keeps : (at : ℕ) (ps qs : List Part) → Reached at ps qs → Keeps ps qs
-reached_keeps at ps qs r = ⊎_elim
-    (λ (known : (at < length ps) × (qs ≡ ps)). subst (Keeps ps) (sym known.1) (keeps_same ps))
-    (λ (next : (at ≡ length ps) × MetOne ps qs). keeps_met ps qs next.1.0 next.1.1 next.1.2)
-    r
-
 pub reached_in : (at : ℕ) (ps qs : List Part) → Reached at ps qs → at < length qs
 reached_in at ps qs r = ⊎_elim
     (λ (known : (at < length ps) × (qs ≡ ps)). let n = ap (λ (zs : List Part). length zs) known.1 in omega arith)
     (λ (next : (at ≡ length ps) × MetOne ps qs). let n = ap (λ (zs : List Part). length zs) next.1.1 in let m = length_push ps next.1.0 in omega arith)
     r
 
--- as far as a push has come, no segment is met, or it has passed all that it knows
-abbrev pub CameTo : ℕ → List Part → List Part → Type 0
-CameTo at ps qs = (qs ≡ ps) ⊎ (at ≡ length qs)
+-- how far a push has come: so many parts are passed, and behind them none changed and none was met
+abbrev pub Came : ℕ → List Part → List Part → Type 0
+Came zero ps qs = ps ≡ qs
+Came (suc at) [] [] = ⊥
+Came (suc at) [] (q ∷ qs) = HasOnlyLooked q × IsPassed q × Came at [] qs
+Came (suc at) (p ∷ ps) [] = ⊥
+Came (suc at) (p ∷ ps) (q ∷ qs) = PassedIn p q × Came at ps qs
 
-pub came_next : (at : ℕ) (ps qs rs : List Part) → CameTo at ps qs → Reached at qs rs → CameTo (at + 1) ps rs
-came_next at ps qs rs i r = ⊎_elim
-    (λ (known : (at < length qs) × (rs ≡ qs)). ⊎_elim (λ (same : qs ≡ ps). inl (known.1 ∙ same)) (λ (last : at ≡ length qs). absurd (omega arith)) i)
-    (λ (next : (at ≡ length qs) × MetOne qs rs). let n = ap (λ (zs : List Part). length zs) next.1.1 in let m = length_push qs next.1.0 in inr (omega arith))
-    r
+-- where all that was known is passed, there is no part behind
+came_less : (at : ℕ) (qs : List Part) → Came at [] qs → at < length qs → ⊥
+came_less zero qs c l = let n = ap (λ (zs : List Part). length zs) c in omega arith
+came_less (suc at) [] c l = c
+came_less (suc at) (q ∷ qs) c l = came_less at qs c.2 (omega arith)
+
+pub came_looks : (at : ℕ) (ps qs : List Part) → Came at ps qs → OnlyLooks ps qs
+came_looks zero ps qs c = subst (OnlyLooks ps) c (looks_same ps)
+came_looks (suc at) [] [] c = absurd c
+came_looks (suc at) [] (q ∷ qs) c = All-cons HasOnlyLooked q qs c.0 (came_looks at [] qs c.2)
+came_looks (suc at) (p ∷ ps) [] c = absurd c
+came_looks (suc at) (p ∷ ps) (q ∷ qs) c = (c.0.0, came_looks at ps qs c.1)
+
+pub came_passed : (at : ℕ) (ps qs : List Part) → Came at ps qs → length qs ≤ at → All IsPassed qs
+came_passed zero ps [] c l = All-nil IsPassed
+came_passed zero ps (q ∷ qs) c l = absurd (omega arith)
+came_passed (suc at) [] [] c l = absurd c
+came_passed (suc at) [] (q ∷ qs) c l = All-cons IsPassed q qs c.1 (came_passed at [] qs c.2 (omega arith))
+came_passed (suc at) (p ∷ ps) [] c l = absurd c
+came_passed (suc at) (p ∷ ps) (q ∷ qs) c l = All-cons IsPassed q qs c.0.1 (came_passed at ps qs c.1 (omega arith))
+
+-- one part more is passed: one that was known, or one that was met
+came_on : (at : ℕ) (ps qs : List Part) (p q : Part) → Came at ps qs → at < length qs → p ≡ get_or qs at p → PassedIn p q → Came (suc at) ps (set qs at q)
+came_on zero ps [] p q c l e pass = absurd (omega arith)
+came_on zero ps (x ∷ qs) p q c l e pass = subst (λ (zs : List Part). Came 1 zs (q ∷ qs)) (sym c) (subst (λ (z : Part). PassedIn z q) e pass, refl)
+came_on (suc at) [] [] p q c l e pass = absurd c
+came_on (suc at) [] (x ∷ qs) p q c l e pass = absurd (came_less at qs c.2 (omega arith))
+came_on (suc at) (y ∷ ps) [] p q c l e pass = absurd c
+came_on (suc at) (y ∷ ps) (x ∷ qs) p q c l e pass = (c.0, came_on at ps qs p q c.1 (omega arith) e pass)
+
+came_met : (at : ℕ) (ps qs : List Part) (q : Part) → Came at ps qs → at ≡ length qs → HasOnlyLooked q → IsPassed q → Came (suc at) ps (qs ++ q ∷ [])
+came_met zero ps [] q c n new pass = subst (λ (zs : List Part). Came 1 zs (q ∷ [])) (sym c) (new, pass, refl)
+came_met zero ps (x ∷ qs) q c n new pass = absurd (omega arith)
+came_met (suc at) [] [] q c n new pass = absurd c
+came_met (suc at) [] (x ∷ qs) q c n new pass = (c.0, c.1, came_met at [] qs q c.2 (omega arith) new pass)
+came_met (suc at) (y ∷ ps) [] q c n new pass = absurd c
+came_met (suc at) (y ∷ ps) (x ∷ qs) q c n new pass = (c.0, came_met at ps qs q c.1 (omega arith) new pass)
 
 get_last : (ps : List Part) (p d : Part) → get_or (ps ++ p ∷ []) (length ps) d ≡ p
 get_last [] p d = refl
@@ -124,83 +200,84 @@ set_last : (ps : List Part) (p q : Part) → set (ps ++ p ∷ []) (length ps) q 
 set_last [] p q = refl
 set_last (x ∷ ps) p q = ap (λ (zs : List Part). x ∷ zs) (set_last ps p q)
 
-last_changed : (R : Part → Part → Type 0) (at : ℕ) (ps qs us rs : List Part) → Keeps ps qs → ArePassed qs at → at ≡ length qs → MetOne qs us → ChangedAt R at us rs → LastMet R ps rs
-last_changed R at ps qs us rs k a n (y, m, new) (p, q, e, r, is) =
+-- the part that was met, before and after
+met_changed : (R : Part → Part → Type 0) (at : ℕ) (qs us rs : List Part) → at ≡ length qs → MetOne qs us → ChangedAt R at us rs → (p q : Part) × IsNew p × R p q × (rs ≡ qs ++ q ∷ [])
+met_changed R at qs us rs n (y, m, new) (p, q, e, r, is) =
     let same : p ≡ y = e ∙ (ap (λ (zs : List Part). get_or zs at p) m ∙ (ap (λ (i : ℕ). get_or (qs ++ y ∷ []) i p) n ∙ get_last qs y p)) in
-    (qs, p, q, k, (λ j d l. a j d (omega arith)), subst IsNew (sym same) new, r, is ∙ (ap (λ (zs : List Part). set zs at q) m ∙ (ap (λ (i : ℕ). set (qs ++ y ∷ []) i q) n ∙ set_last qs y q)))
+    (p, q, subst IsNew (sym same) new, r, is ∙ (ap (λ (zs : List Part). set zs at q) m ∙ (ap (λ (i : ℕ). set (qs ++ y ∷ []) i q) n ∙ set_last qs y q)))
 
-pub first_changed : (R : Part → Part → Type 0) (at : ℕ) (ps qs us rs : List Part) → Keeps ps qs → ArePassed qs at → CameTo at ps qs → Reached at qs us → ChangedAt R at us rs → FirstOf R ps rs
-first_changed R at ps qs us rs k a i r c = ⊎_elim
-    (λ (known : (at < length qs) × (us ≡ qs)). ⊎_elim
-    (λ (same : qs ≡ ps). inl (subst (λ (zs : List Part). OneOf R zs rs) same (one_changed R at qs rs known.0 a (subst (λ (zs : List Part). ChangedAt R at zs rs) known.1 c))))
-    (λ (last : at ≡ length qs). absurd (omega arith))
-    i)
-    (λ (next : (at ≡ length qs) × MetOne qs us). inr (last_changed R at ps qs us rs k a next.0 next.1 c))
+pub came_next : (at : ℕ) (ps qs us rs : List Part) → Came at ps qs → Reached at qs us → ChangedAt PassedIn at us rs → Came (at + 1) ps rs
+came_next at ps qs us rs c r (p, q, e, pass, is) =
+    let next : suc at ≡ at + 1 = omega arith in
+    subst (λ (n : ℕ). Came n ps rs) next (⊎_elim
+    (λ (known : (at < length qs) × (us ≡ qs)).
+    subst (Came (suc at) ps) (sym (is ∙ ap (λ (zs : List Part). set zs at q) known.1)) (came_on at ps qs p q c known.0 (e ∙ ap (λ (zs : List Part). get_or zs at p) known.1) pass))
+    (λ (next : (at ≡ length qs) × MetOne qs us).
+    let m = met_changed PassedIn at qs us rs next.0 next.1 (p, q, e, pass, is) in
+    subst (Came (suc at) ps) (sym m.4) (came_met at ps qs m.1 c next.0 (looks_on m.0 m.1 (new_looks m.0 m.2) m.3.0) m.3.1))
+    r)
+
+one_changed : (R : Part → Part → Type 0) (at : ℕ) (ps qs : List Part) (p q : Part) → Came at ps qs → at < length qs → p ≡ get_or qs at p → R p q → OneOf R ps (set qs at q)
+one_changed R zero ps [] p q c l e r = absurd (omega arith)
+one_changed R zero ps (x ∷ qs) p q c l e r = subst (λ (zs : List Part). OneOf R zs (q ∷ qs)) (sym c) (inl (subst (λ (z : Part). R z q) e r, refl))
+one_changed R (suc at) [] [] p q c l e r = absurd c
+one_changed R (suc at) [] (x ∷ qs) p q c l e r = absurd (came_less at qs c.2 (omega arith))
+one_changed R (suc at) (y ∷ ps) [] p q c l e r = absurd c
+one_changed R (suc at) (y ∷ ps) (x ∷ qs) p q c l e r = inr (c.0, one_changed R at ps qs p q c.1 (omega arith) e r)
+
+pub first_changed : (R : Part → Part → Type 0) (at : ℕ) (ps qs us rs : List Part) → Came at ps qs → Reached at qs us → ChangedAt R at us rs → FirstOf R ps rs
+first_changed R at ps qs us rs c r (p, q, e, done, is) = ⊎_elim
+    (λ (known : (at < length qs) × (us ≡ qs)).
+    inl (subst (OneOf R ps) (sym (is ∙ ap (λ (zs : List Part). set zs at q) known.1)) (one_changed R at ps qs p q c known.0 (e ∙ ap (λ (zs : List Part). get_or zs at p) known.1) done)))
+    (λ (next : (at ≡ length qs) × MetOne qs us).
+    let m = met_changed R at qs us rs next.0 next.1 (p, q, e, done, is) in
+    inr (qs, m.0, m.1, came_looks at ps qs c, came_passed at ps qs c (omega arith), m.2, m.3, m.4))
     r
 
-pub lost_at : (ps : List Part) (at : ℕ) (d : Part) → at < length ps → (IsWhole (get_or ps at d) → ⊥) → ChangedAt LostIn at ps ps
-lost_at [] at d l n = absurd (omega arith)
-lost_at (x ∷ ps) zero d l n = (x, x, refl, (n, refl), refl)
-lost_at (x ∷ ps) (suc at) d l n = let r = lost_at ps at d (omega arith) n in (r.0, r.1, r.2, r.3, ap (λ (zs : List Part). x ∷ zs) r.4)
-
 -- tries that lost a ticket, one after another
-one_lost : (ps rs : List Part) → OneOf LostIn ps rs → rs ≡ ps
-one_lost [] rs o = absurd o
-one_lost (p ∷ ps) [] o = absurd o
-one_lost (p ∷ ps) (r ∷ rs) o = ⊎_elim
-    (λ (here : LostIn p r × (ps ≡ rs)). λ i. here.0.1 i ∷ sym here.1 i)
-    (λ (there : (p ≡ r) × IsPassed p × OneOf LostIn ps rs). let t = one_lost ps rs there.2 in λ i. sym there.0 i ∷ t i)
+one_looks : (ps rs : List Part) → OneOf LostIn ps rs → OnlyLooks ps rs
+one_looks [] rs o = absurd o
+one_looks (p ∷ ps) [] o = absurd o
+one_looks (p ∷ ps) (r ∷ rs) o = ⊎_elim
+    (λ (here : LostIn p r × (ps ≡ rs)). (here.0.1, subst (OnlyLooks ps) here.1 (looks_same ps)))
+    (λ (there : PassedIn p r × OneOf LostIn ps rs). (there.0.0, one_looks ps rs there.1))
     o
 
-last_lost_keeps : (ps rs : List Part) → LastMet LostIn ps rs → Keeps ps rs
-last_lost_keeps ps rs (qs, p, q, k, a, new, lost, is) = keeps_trans ps qs rs k (keeps_met qs rs q is (subst IsNew (sym lost.1) new))
-
-pub race_keeps : (ps rs : List Part) → LosesRace ps rs → Keeps ps rs
-race_keeps ps rs o = ⊎_elim
-    (λ (known : OneOf LostIn ps rs). subst (Keeps ps) (sym (one_lost ps rs known)) (keeps_same ps))
-    (last_lost_keeps ps rs)
+pub race_looks : (ps rs : List Part) → LosesRace ps rs → OnlyLooks ps rs
+race_looks ps rs o = ⊎_elim
+    (one_looks ps rs)
+    (λ (last : LastMet LostIn ps rs). subst (OnlyLooks ps) (sym last.7) (looks_met ps last.0 last.2 last.3 (looks_on last.1 last.2 (new_looks last.1 last.5) last.6.1)))
     o
 
-pub race_again : (ps qs rs : List Part) → LosesRace ps qs → LosesRace qs rs → LosesRace ps rs
-race_again ps qs rs a b = ⊎_elim
-    (λ (known : OneOf LostIn qs rs). subst (LosesRace ps) (sym (one_lost qs rs known)) a)
-    (λ (last : LastMet LostIn qs rs). inr (last.0, last.1, last.2, keeps_trans ps qs last.0 (race_keeps ps qs a) last.3, last.4, last.5, last.6, last.7))
-    b
+pub races_look : (n : ℕ) (ps rs : List Part) → LosesRaces n ps rs → OnlyLooks ps rs
+races_look zero ps rs e = subst (OnlyLooks ps) (sym e) (looks_same ps)
+races_look (suc n) ps rs (qs, some, one) = looks_trans ps qs rs (races_look n ps qs some) (race_looks qs rs one)
 
--- no try was made, or some that lost a ticket
-abbrev pub Tried : List Part → List Part → Type 0
-Tried ps qs = (qs ≡ ps) ⊎ LosesRace ps qs
-
-pub tried_keeps : (ps qs : List Part) → Tried ps qs → Keeps ps qs
-tried_keeps ps qs t = ⊎_elim (λ (same : qs ≡ ps). subst (Keeps ps) (sym same) (keeps_same ps)) (race_keeps ps qs) t
-
-pub tried_again : (ps qs rs : List Part) → Tried ps qs → LosesRace qs rs → Tried ps rs
-tried_again ps qs rs t lost = inr (⊎_elim (λ (same : qs ≡ ps). subst (λ (zs : List Part). LosesRace zs rs) same lost) (λ (before : LosesRace ps qs). race_again ps qs rs before lost) t)
-
-pub tried_pushed : (x : ℕ) (ps qs rs : List Part) → Tried ps qs → Pushed x qs rs → PushedByTries x ps rs
-tried_pushed x ps qs rs t push = ⊎_elim (λ (same : qs ≡ ps). inl (subst (λ (zs : List Part). Pushed x zs rs) same push)) (λ (lost : LosesRace ps qs). inr (qs, lost, push)) t
+-- a push that finds no segment has passed all that it knows
+pub stopped : (links : List ℕ) (at : ℕ) (ps qs rs : List Part) (e : Error) → Came at ps qs → length qs ≤ at → rs ≡ qs → ((e ≡ Memory) ⊎ ((e ≡ NoPen) × (length qs < length links)))
+    → OnlyLooks ps rs × ((((e ≡ Memory) ⊎ ((e ≡ NoPen) × (length rs < length links))) × All IsPassed rs) ⊎ ((e ≡ Raced) × LosesRace ps rs))
+stopped links at ps qs rs e c low is why =
+    subst (λ (zs : List Part). OnlyLooks ps zs × ((((e ≡ Memory) ⊎ ((e ≡ NoPen) × (length zs < length links))) × All IsPassed zs) ⊎ ((e ≡ Raced) × LosesRace ps zs))) (sym is)
+    (came_looks at ps qs c, inl (why, came_passed at ps qs c low))
 
 -- what is pushed is pushed in one part of those that are known then
 one_last : (R : Part → Part → Type 0) (ps : List Part) (p q : Part) → All IsPassed ps → R p q → OneOf R (ps ++ p ∷ []) (ps ++ q ∷ [])
 one_last R [] p q a r = inl (r, refl)
-one_last R (x ∷ ps) p q a r = inr (refl, All-head IsPassed x ps a, one_last R ps p q (All-tail IsPassed x ps a) r)
+one_last R (x ∷ ps) p q a r = inr ((looked_same x, All-head IsPassed x ps a), one_last R ps p q (All-tail IsPassed x ps a) r)
 
-pub pushed_in_one : (x : ℕ) (ps rs : List Part) → Pushed x ps rs → (qs : List Part) × Keeps ps qs × OneOf (PushedIn x) qs rs
+pushed_in_one : (x : ℕ) (ps rs : List Part) → Pushed x ps rs → (qs : List Part) × OnlyLooks ps qs × OneOf (PushedIn x) qs rs
 pushed_in_one x ps rs o = ⊎_elim
-    (λ (known : OneOf (PushedIn x) ps rs). (ps, keeps_same ps, known))
+    (λ (known : OneOf (PushedIn x) ps rs). (ps, looks_same ps, known))
     (λ (last : LastMet (PushedIn x) ps rs).
     let qs = last.0 in
     let p = last.1 in
-    (qs ++ p ∷ [], keeps_trans ps qs (qs ++ p ∷ []) last.3 (keeps_met qs (qs ++ p ∷ []) p refl last.5), subst (OneOf (PushedIn x) (qs ++ p ∷ [])) (sym last.7) (one_last (PushedIn x) qs p last.2 last.4 last.6)))
+    (qs ++ p ∷ [], looks_met ps qs p last.3 (new_looks p last.5), subst (OneOf (PushedIn x) (qs ++ p ∷ [])) (sym last.7) (one_last (PushedIn x) qs p last.2 last.4 last.6)))
     o
 
-pub tries_in_one : (x : ℕ) (ps rs : List Part) → PushedByTries x ps rs → (qs : List Part) × Keeps ps qs × OneOf (PushedIn x) qs rs
-tries_in_one x ps rs o = ⊎_elim
-    (pushed_in_one x ps rs)
-    (λ (late : (qs : List Part) × LosesRace ps qs × Pushed x qs rs).
-    let r = pushed_in_one x late.0 rs late.2 in
-    (r.0, keeps_trans ps late.0 r.0 (race_keeps ps late.0 late.1) r.1, r.2))
-    o
+pub tries_in_one : (x : ℕ) (ps rs : List Part) → PushedByTries x ps rs → (qs : List Part) × OnlyLooks ps qs × OneOf (PushedIn x) qs rs
+tries_in_one x ps rs (n, qs, lost, push) =
+    let r = pushed_in_one x qs rs push in
+    (r.0, looks_trans ps qs r.0 (races_look n ps qs lost) r.1, r.2)
 
 -- one more walk is taken
 took_set : (ps : List Part) (walks : List Walk) (rs : List Part) (at : ℕ) (walk : Walk) (p q : Part) → Took ps walks rs → at ≡ length walks → at < length ps → p ≡ get_or rs at p → TakenIn walk p q → Took ps (walks ++ walk ∷ []) (set rs at q)

@@ -1,18 +1,18 @@
 -- What callers see of a growing bucket's pen: a part for each segment that it knows, in the order of the links.
-use Rattle.std.specs.Prelude.{◌≡◌, ◌⊎◌, ◌<◌, ℕ, List, [], ◌∷◌, ◌++◌, length, take, map, slice_set, slice_index_or, All, refl}
+use Rattle.std.specs.Prelude.{◌≡◌, ◌⊎◌, ◌<◌, ◌≤◌, ◌/◌, ℕ, zero, suc, List, [], ◌∷◌, ◌++◌, length, take, map, slice_set, slice_index_or, All, refl}
 use Rattle.std.specs.Coded.{Coded, code_by, coded×, coded_ℕ}
 use Rattle.metrics.specs.Book.{blocks}
 use Rattle.metrics_bucket.specs.declared.view.Walk.{Walk}
-use Rattle.metrics_bucket.specs.Account.{Home, Account, account_code, left_account, right_account, joined_account, looked_at, IsPushed, IsTaken}
+use Rattle.metrics_bucket.specs.Account.{Home, Account, account_code, left_account, right_account, joined_account, IsLooked, IsPushed, IsTaken}
 use Rattle.metrics_bucket.specs.Blocks.{newest_first}
 use Rattle.metrics_bucket.specs.Steps.{IsFullFor}
 use Rattle.metrics_bucket.specs.Spares.{spare_account, WithSpares}
 
--- an account but for the control word that was seen last
-abbrev pub unseen : Account → Account
-unseen a = looked_at a 0
+-- an account but for what its last refused claim found
+abbrev pub unclaimed : Account → Account
+unclaimed a = record a { turn_seen = 0 }
 
--- the link by which the segment is found, and the account of the pen that is used there, but for what it saw
+-- the link by which the segment is found, and the account of the pen that is used there, but for what its claims found
 pub record Part : Type 0 where
   pub link : ℕ
   pub account : Account
@@ -50,19 +50,37 @@ IsWhole p = p.account.weight ≡ 1024
 abbrev pub IsFilled : Part → Type 0
 IsFilled p = IsFullFor p.account.home.places p.account.pushed p.account.taken
 
--- a push may go on behind this part: where it is whole, its segment is full
+-- a push may go on behind this part: the word that its pen saw has all places given, and where it is whole, its segment is full
 abbrev pub IsPassed : Part → Type 0
-IsPassed p = IsWhole p → IsFilled p
+IsPassed p = (p.account.home.places ≤ p.account.seen / 2) × (IsWhole p → IsFilled p)
+
+-- the pen looked at the control word there, and nothing else changed
+abbrev pub LookedIn : Part → Part → Type 0
+LookedIn p q = (q.link ≡ p.link) × IsLooked p.account q.account
+
+-- the pen looked there, and may go on
+abbrev pub PassedIn : Part → Part → Type 0
+PassedIn p q = LookedIn p q × IsPassed q
+
+-- a part that has done nothing but look, and has the weight of a spare pen
+abbrev pub HasOnlyLooked : Part → Type 0
+HasOnlyLooked p = IsLooked (spare_account p.account.home) p.account
+
+-- nothing is done but looks, and more segments may be known
+abbrev pub OnlyLooks : List Part → List Part → Type 0
+OnlyLooks [] qs = All HasOnlyLooked qs
+OnlyLooks (p ∷ ps) [] = ⊥
+OnlyLooks (p ∷ ps) (q ∷ qs) = LookedIn p q × OnlyLooks ps qs
 
 -- one part changed so, those before it are passed, and the others stayed
 abbrev pub OneOf : (Part → Part → Type 0) → List Part → List Part → Type 0
 OneOf R [] qs = ⊥
 OneOf R (p ∷ ps) [] = ⊥
-OneOf R (p ∷ ps) (q ∷ qs) = (R p q × (ps ≡ qs)) ⊎ ((p ≡ q) × IsPassed p × OneOf R ps qs)
+OneOf R (p ∷ ps) (q ∷ qs) = (R p q × (ps ≡ qs)) ⊎ (PassedIn p q × OneOf R ps qs)
 
 -- all parts are passed, and the last of those that the pen came to know changed so
 abbrev pub LastMet : (Part → Part → Type 0) → List Part → List Part → Type 0
-LastMet R ps rs = (qs : List Part) × (p q : Part) × Keeps ps qs × All IsPassed qs × IsNew p × R p q × (rs ≡ qs ++ q ∷ [])
+LastMet R ps rs = (qs : List Part) × (p q : Part) × OnlyLooks ps qs × All IsPassed qs × IsNew p × R p q × (rs ≡ qs ++ q ∷ [])
 
 -- a part that was known changed so, and no segment is met, or the last one that is met did
 abbrev pub FirstOf : (Part → Part → Type 0) → List Part → List Part → Type 0
@@ -86,9 +104,9 @@ TakenIn walk p q = (q.link ≡ p.link) × IsTaken p.account walk q.account
 abbrev pub SpareIn : Part → Part → Type 0
 SpareIn p q = (q.link ≡ p.link) × WithSpares p.account q.account
 
--- a ticket was lost to another pen there, and nothing changed
+-- a ticket was lost to another pen there: the pen looked, and saw a free place, and nothing else changed
 abbrev pub LostIn : Part → Part → Type 0
-LostIn p q = (IsWhole p → ⊥) × (q ≡ p)
+LostIn p q = (IsWhole p → ⊥) × LookedIn p q × (q.account.seen / 2 < q.account.home.places)
 
 -- the value is pushed in the first segment that isn't passed, and nothing else is done
 abbrev pub Pushed : ℕ → List Part → List Part → Type 0
@@ -98,9 +116,14 @@ Pushed x ps rs = FirstOf (PushedIn x) ps rs
 abbrev pub LosesRace : List Part → List Part → Type 0
 LosesRace ps rs = FirstOf LostIn ps rs
 
--- the value is pushed at once, or after tries that lost a ticket
+-- so many tries, each of which lost a ticket
+abbrev pub LosesRaces : ℕ → List Part → List Part → Type 0
+LosesRaces zero ps rs = rs ≡ ps
+LosesRaces (suc n) ps rs = (qs : List Part) × LosesRaces n ps qs × LosesRace qs rs
+
+-- the value is pushed, after some tries that lost a ticket or none
 abbrev pub PushedByTries : ℕ → List Part → List Part → Type 0
-PushedByTries x ps rs = Pushed x ps rs ⊎ ((qs : List Part) × LosesRace ps qs × Pushed x qs rs)
+PushedByTries x ps rs = (n : ℕ) × (qs : List Part) × LosesRaces n ps qs × Pushed x qs rs
 
 -- one of these walks was taken in each part, from the first on, as far as there are walks; the parts behind stayed
 abbrev pub Took : List Part → List Walk → List Part → Type 0

@@ -1,11 +1,11 @@
 //! The growing bucket, and the calls that push.
 ghost use Rattle.std.specs.Prelude.{◌≡◌, ℕ, ◌+◌, ◌*◌, ◌<◌, ◌≤◌, ◌^◌, ◌⊎◌, IfOk, OnOk, IfErr};
-ghost use Rattle.std.specs.Prelude.{Some, All, slice_index_or, length, [], ◌∷◌, ◌++◌};
+ghost use Rattle.std.specs.Prelude.{Some, All, length, [], ◌∷◌, ◌++◌};
 ghost use Rattle.once_cell.specs.Once.{cell_name};
 ghost use Rattle.metrics_bucket.specs.Account.{first_account};
 ghost use Rattle.metrics_bucket.specs.Spares.{spare_account};
-ghost use Rattle.metrics_growing.specs.Parts.{Part, IsOf, IsNew, IsWhole, IsFilled, IsPassed, Keeps, ChangedAt, MetOne, Reached};
-ghost use Rattle.metrics_growing.specs.Parts.{PushedIn, Pushed, PushedByTries, LosesRace};
+ghost use Rattle.metrics_growing.specs.Parts.{Part, IsOf, IsNew, IsPassed, OnlyLooks, ChangedAt, MetOne, Reached};
+ghost use Rattle.metrics_growing.specs.Parts.{PushedIn, PassedIn, LostIn, Pushed, PushedByTries, LosesRace};
 
 use crate::known::Known;
 use crate::pen::GrowPen;
@@ -180,9 +180,8 @@ impl<T: Sample> GrowingBucket<T> {
         requires at { at < length known.old.items }
         ensures own { IsOf self.now known.new.items }
         ensures ok { OnOk result (ChangedAt (PushedIn word) at known.old.items known.new.items) }
-        ensures err { IfErr result (λ e. (known.new.items ≡ known.old.items) × ((e ≡ Error.Full) ⊎ (e ≡ Error.Raced))) }
-        ensures whole { IfErr result (λ e. (d : Part) → IsWhole (slice_index_or known.old.items at d)
-            → (e ≡ Error.Full) × IsFilled (slice_index_or known.old.items at d)) }
+        ensures err { IfErr result (λ e. ((e ≡ Error.Full) × ChangedAt PassedIn at known.old.items known.new.items)
+            ⊎ ((e ≡ Error.Raced) × ChangedAt LostIn at known.old.items known.new.items)) }
     {
         let Some(link) = self.links.get(at) else {
             unreachable!()
@@ -213,7 +212,7 @@ impl<T: Sample> GrowingBucket<T> {
         requires own { IsOf self.now known.old.items }
         ensures own { IsOf self.now known.new.items }
         ensures ok { OnOk result (Pushed word known.old.items known.new.items) }
-        ensures err { IfErr result (λ e. Keeps known.old.items known.new.items
+        ensures err { IfErr result (λ e. OnlyLooks known.old.items known.new.items
             × ((((e ≡ Error.Memory) ⊎ ((e ≡ Error.NoPen) × (length known.new.items < length self.now)))
             × All IsPassed known.new.items)
             ⊎ ((e ≡ Error.Raced) × LosesRace known.old.items known.new.items))) }
@@ -240,7 +239,7 @@ impl<T: Sample> GrowingBucket<T> {
         requires own { IsOf self.now pen.old }
         ensures own { IsOf self.now pen.new }
         ensures ok { OnOk result (Pushed (T.word value) pen.old pen.new) }
-        ensures err { IfErr result (λ e. Keeps pen.old pen.new
+        ensures err { IfErr result (λ e. OnlyLooks pen.old pen.new
             × ((((e.0 ≡ Error.Memory) ⊎ ((e.0 ≡ Error.NoPen) × (length pen.new < length self.now)))
             × All IsPassed pen.new) ⊎ ((e.0 ≡ Error.Raced) × LosesRace pen.old pen.new)) × (e.1 ≡ value)) }
     {
@@ -255,7 +254,7 @@ impl<T: Sample> GrowingBucket<T> {
         requires own { IsOf self.now pen.old }
         ensures own { IsOf self.now pen.new }
         ensures ok { OnOk result (PushedByTries (T.word value) pen.old pen.new) }
-        ensures err { IfErr result (λ e. Keeps pen.old pen.new
+        ensures err { IfErr result (λ e. OnlyLooks pen.old pen.new
             × ((e.0 ≡ Error.Memory) ⊎ ((e.0 ≡ Error.NoPen) × (length pen.new < length self.now)))
             × All IsPassed pen.new × (e.1 ≡ value)) }
     {

@@ -5,7 +5,7 @@ ghost use Rattle.once_cell.specs.Once.{cell_name};
 ghost use Rattle.std.specs.List.{FoldsTo};
 ghost use Rattle.metrics_bucket.specs.declared.view.Walk.{Walk};
 ghost use Rattle.metrics_bucket.specs.Blocks.{valued, newest_first};
-ghost use Rattle.metrics_growing.specs.Parts.{IsWhole, IsFilled, left_part, right_part, joined_part, PushedIn, TakenIn, SpareIn};
+ghost use Rattle.metrics_growing.specs.Parts.{IsWhole, left_part, right_part, joined_part, PushedIn, PassedIn, LostIn, TakenIn, SpareIn};
 
 use crate::segment::Segment;
 use metrics::Error;
@@ -41,8 +41,8 @@ impl Known {
     pub(crate) fn push(&mut self, link: &OnceBox<Segment>, word: u64) -> Result<(), Error>
         requires link { self.old.link ≡ cell_name link.now }
         ensures ok { OnOk result (PushedIn word self.old self.new) }
-        ensures err { IfErr result (λ e. (self.new ≡ self.old) × ((e ≡ Error.Full) ⊎ (e ≡ Error.Raced))) }
-        ensures whole { IsWhole self.old → IfErr result (λ e. (e ≡ Error.Full) × IsFilled self.old) }
+        ensures err { IfErr result (λ e. ((e ≡ Error.Full) × PassedIn self.old self.new)
+            ⊎ ((e ≡ Error.Raced) × LostIn self.old self.new)) }
     {
         let Some(segment) = link.get_as(&mut self.note) else {
             unreachable!()

@@ -18,9 +18,9 @@ abbrev pub weights : List Account → ℕ
 weights [] = 0
 weights (a ∷ more) = a.weight + weights more
 
--- a pen that took these lists, and is else as it was
-abbrev pub with_taken : Account → List Walk → Account
-with_taken a walks = record a { taken = walks }
+-- a pen that took these lists, found this word of the turn last, and is else as it was
+abbrev pub with_taken : Account → List Walk → ℕ → Account
+with_taken a walks turn_seen = record a { taken = walks; turn_seen = turn_seen }
 
 -- a pen without ticket that pushed these values, saw this control word last, and is else as it was
 abbrev pub with_pushed : Account → List Push → ℕ → Account

@@ -16,7 +16,7 @@ fn clear_once<R: Wait>(rt: &R, bucket: &RuledBucket<u64>, pen: &mut Pen, found: 
     requires own { pen.old.home ≡ bucket.now }
     requires free { pen.old.ticket ≡ false }
     requires found { Tells found.old (taken_count pen.old.taken) (taken_sum pen.old.taken) }
-    ensures pen { pen.new ≡ with_taken pen.old pen.new.taken }
+    ensures pen { pen.new ≡ with_taken pen.old pen.new.taken pen.new.turn_seen }
     ensures found { Tells found.new (taken_count pen.new.taken) (taken_sum pen.new.taken) }
 {
     let _ = bucket.clear_to_as(rt, pen, found);
@@ -32,7 +32,7 @@ pub(crate) fn clear_until<R: Wait>(
     requires own { pen.home ≡ shared.now.bucket }
     requires free { pen.ticket ≡ false }
     requires none { pen.taken ≡ [] }
-    ensures pen { result.0 ≡ with_taken pen result.0.taken }
+    ensures pen { result.0 ≡ with_taken pen result.0.taken result.0.turn_seen }
     ensures found { Tells result.1 (taken_count result.0.taken) (taken_sum result.0.taken) }
 {
     let mut found = Tally::new();

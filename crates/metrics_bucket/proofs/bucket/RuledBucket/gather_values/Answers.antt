@@ -60,4 +60,4 @@ pub returns-in_default-clause-err : goal.returns-in_default-clause-err
 returns-in_default-clause-err g c =
     let e = c.in_ok-control.ensures.ok in
     let q = c.give_turn_back.ensures.1 in
-    ((e.0, e.1, q ∙ ap (λ (m : Seated). (holding m.0 Nothing, [])) e.2), inl refl)
+    inl (refl, (e.0, e.1, q ∙ ap (λ (m : Seated). (holding m.0 Nothing, [])) e.2))

@@ -6,4 +6,4 @@ pub store-requires : goal.store-requires
 store-requires g c =
     let words : c.deref.result.now.shared.table_id.words ≡ 2 + 4 * c.self.inside.places = search rules in
     let some_places = c.self.invariant.2 in
-    (search rules, omega arith, quits_turn _ _ _ _ c.requires.home.1 c.requires.hold.0 c.requires.hold.1)
+    (search rules, omega arith, quits_turn _ _ _ _ _ c.requires.home.1 c.requires.hold.0 c.requires.hold.1)

@@ -13,7 +13,7 @@ load-bits-requires g c =
     let below = c.place_index-word.ensures.1 in
     let p : c.args.self.now.places ≡ c.self.inside.places = search rules in
     let words : c.deref.result.now.shared.table_id.words ≡ 2 + 4 * c.self.inside.places = search rules in
-    (search rules, omega arith, recalls _ _ _ _ _ (subst (λ (m : Seated). 0 < m.0.weight) (sym same) c.requires.knows.0))
+    (search rules, omega arith, recalls _ _ _ _ _ _ (subst (λ (m : Seated). 0 < m.0.weight) (sym same) c.requires.knows.0))
 
 pub loop-at-preserved : goal.loop-at-preserved
 loop-at-preserved g c =

@@ -9,7 +9,7 @@ use Rattle.metrics_bucket.proofs.Blocks.{chunk, first_chunks, chunks_joined, cou
 use Rattle.metrics_bucket.proofs.bucket.RuledBucket.settled_values.Goals as goal
 
 pub load-control-requires : goal.load-control-requires
-load-control-requires g c = (search rules, search rules, gathers_all _ _ _ _ c.requires.whole.0 c.requires.whole.1)
+load-control-requires g c = (search rules, search rules, gathers_all _ _ _ _ _ c.requires.whole.0 c.requires.whole.1)
 
 pub loop-chunks-init : goal.loop-chunks-init
 loop-chunks-init g c =

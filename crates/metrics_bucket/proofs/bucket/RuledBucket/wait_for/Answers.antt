@@ -18,6 +18,6 @@ load-requires g c =
     in (
       search rules,
       omega arith,
-      sees_mark _ _ _ (subst (λ (m : Seated). 0 < m.0.weight) (sym i.1) c.requires.home.2) c.args.at _ _ (subst (λ (m : Seated). IsMarkOf m.0 (2 + 2 * c.self.inside.places + c.place_index.result) c.args.at) (sym i.1) word)
+      sees_mark _ _ _ _ (subst (λ (m : Seated). 0 < m.0.weight) (sym i.1) c.requires.home.2) c.args.at _ _ (subst (λ (m : Seated). IsMarkOf m.0 (2 + 2 * c.self.inside.places + c.place_index.result) c.args.at) (sym i.1) word)
           (subst (λ (m : Seated). HasVisit m.0.hold c.args.at Unseen) (sym i.1) c.requires.visit.3),
     )

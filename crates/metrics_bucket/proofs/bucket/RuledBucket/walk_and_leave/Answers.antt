@@ -37,7 +37,7 @@ store-requires g c =
     let has = subst Weighs (sym counted) (subst Weighs (sym walks.me) c.requires.home.2) in
     let some_places = c.self.invariant.2 in
     let can = can_leave g.W.Walker.kind c.args.seat.now.me c.walk_side.new.seat.me c.args.side c.args.given walks c.requires.hold.2 in
-    (search rules, omega arith, leaves_turn _ _ _ _ has (subst (λ (m : Seated). CanLeave m.0.hold) (sym counted) can) (subst IsCounted (sym counted) refl))
+    (search rules, omega arith, leaves_turn _ _ _ _ _ has (subst (λ (m : Seated). CanLeave m.0.hold) (sym counted) can) (subst IsCounted (sym counted) refl))
 
 pub returns-clause-walked : goal.returns-clause-walked
 returns-clause-walked g c =

@@ -30,7 +30,7 @@ load-bits-requires g c =
     let words : c.deref.result.now.shared.table_id.words ≡ 2 + 4 * c.self.inside.places = search rules in
     let same : c.self.inside.places ≡ c.args.self.now.places = search rules in
     let below = c.place_index-place_index.ensures.1 in
-    (search rules, omega arith, reads_value _ _ _ (subst Weighs (sym e1) c.requires.home.2) c.args.at _ _ marked.0 marked.1)
+    (search rules, omega arith, reads_value _ _ _ _ (subst Weighs (sym e1) c.requires.home.2) c.args.at _ _ marked.0 marked.1)
 
 pub leave_place-requires-clause-home : goal.leave_place-requires-clause-home
 leave_place-requires-clause-home g c =

@@ -11,7 +11,8 @@ join_seat-requires c =
     let free : has_ticket c.self.inside.ticket ≡ false = search rules in
     let free_too : has_ticket c.other.inside.ticket ≡ false = search rules in
     let some_weight : 0 < c.self.inside.seat.me.0.weight = search rules in
-    (search rules, search rules, search rules, search rules, glues _ _ _ _ _ some_weight (i.holds ∙ free_hold _ free) (o.holds ∙ free_hold _ free_too))
+    let closed : c.deref.result.now.shared.key.1 ≡ false = search rules in
+    (search rules, search rules, search rules, search rules, glues _ _ closed _ _ _ _ some_weight (i.holds ∙ free_hold _ free) (o.holds ∙ free_hold _ free_too))
 
 pub load-requires : goal.load-requires
-load-requires c = (search rules, search rules, weighs _ _ _ _)
+load-requires c = (search rules, search rules, weighs _ _ _ _ _)

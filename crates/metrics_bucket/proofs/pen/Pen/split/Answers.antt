@@ -9,4 +9,5 @@ split_seat-seat-requires c =
     let i = c.self.invariant in
     let free : has_ticket c.self.inside.ticket ≡ false = search rules in
     let heavy : 1 < c.self.inside.seat.me.0.weight = search rules in
-    (search rules, search rules, cuts _ _ _ heavy (i.holds ∙ free_hold _ free))
+    let closed : c.deref.result.now.shared.key.1 ≡ false = search rules in
+    (search rules, search rules, cuts _ _ closed _ _ heavy (i.holds ∙ free_hold _ free))

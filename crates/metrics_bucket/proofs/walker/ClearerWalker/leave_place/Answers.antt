@@ -17,7 +17,7 @@ store-requires g c =
     let is : IsMarkOf c.args.seat.now.me.0 (2 + 2 * c.bucket.inside.places + c.place_index.result) c.args.at =
     mark_word c.args.seat.now.me.0 c.bucket.inside.places c.args.side c.args.at c.place_index.result (c.requires.home.1 ∙ sym same) (ap side_of h) (c.place_index.ensures.0 ∙ ap (λ (n : ℕ). place_index n c.args.side c.args.at) (sym same))
     in
-    (search rules, omega arith, wipes_mark _ _ _ c.requires.home.2 c.args.at _ _ c.args.side there.0 (visits_of c.args.seat.now.me.0.hold) is h there.1)
+    (search rules, omega arith, wipes_mark _ _ _ _ c.requires.home.2 c.args.at _ _ c.args.side there.0 (visits_of c.args.seat.now.me.0.hold) is h there.1)
 
 pub returns-clause-visit : goal.returns-clause-visit
 returns-clause-visit g c x there =

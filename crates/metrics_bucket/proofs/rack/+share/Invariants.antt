@@ -1,4 +1,0 @@
-use Rattle.metrics_bucket.proofs.rack.+share.Given as goal
-
-abbrev pub decreases-share : goal.decreases-share
-decreases-share l = l.count
