@@ -124,6 +124,13 @@ position-keys k xs =
     by_keys [] = refl
     by_keys (x ∷ xs) = ap (λ i. cond (not (series_key_eq k x.key)) (1 + i) 0) (by_keys xs)
 
+-- whether a series is held, by the place of its key
+pub held-some : (k : SeriesKey) (xs : List Series) (i : ℕ) → position (is_of k) xs ≡ Some i → list_any (is_of k) xs ≡ true
+held-some k xs i h = let at = some-place (is_of k) xs i h in some-there (is_of k) xs (omega (arith, at.0, at.1))
+
+pub held-none : (k : SeriesKey) (xs : List Series) → position (is_of k) xs ≡ None → list_any (is_of k) xs ≡ false
+held-none k xs h = none-absent (is_of k) xs (none-length (is_of k) xs h)
+
 -- ---- a register call
 
 abbrev the_book : List Series → (MetricKind → List ℕ → Description) → Content

@@ -1,7 +1,9 @@
 -- A book in memory.
-use Rattle.std.specs.Prelude.{◌≡◌, ℕ, List, [], ◌∷◌}
+use Rattle.std.specs.Prelude.{◌≡◌, if◌then◌else◌, ℕ, List, [], ◌∷◌}
+use Rattle.std.specs.List.{list_any}
 use Rattle.metrics_names.specs.declared.kind.MetricKind.{MetricKind}
-use Rattle.metrics.specs.Book.{Content, Series, new_book}
+use Rattle.metrics_names.specs.Names.{SeriesKey}
+use Rattle.metrics.specs.Book.{Content, Series, content_at, is_of, new_book}
 use Rattle.metrics.specs.Meaning.{Meaning}
 use Rattle.metrics_debugging.specs.declared.debugging.descriptions.Descriptions.{Descriptions}
 use Rattle.metrics_debugging.specs.DebuggingDescriptions.{described_by}
@@ -14,3 +16,7 @@ pub record IsNewBook (m : Meaning) : Type 0 where
 -- the content of a book, from its series and its descriptions
 abbrev pub content_of : List Series → Descriptions → Content
 content_of xs ds = record { series = xs; described = described_by ds }
+
+-- 1 if the first book holds the series, and else 0
+abbrev pub one_if_held : SeriesKey → Meaning → ℕ
+one_if_held k m = if list_any (is_of k) (content_at 0 m.contents).series then 1 else 0

@@ -1,8 +1,10 @@
 //! A recorder that keeps one book in memory.
-ghost use Rattle.std.specs.Prelude.{◌≡◌, MatchResult, IsOk};
+ghost use Rattle.std.specs.Prelude.{◌≡◌, MatchResult, IsOk, IfErr};
+ghost use Rattle.std.specs.Result.{result_map_both};
 ghost use Rattle.metrics_names.specs.declared.refused.Refused.TheVariants.{Memory};
-ghost use Rattle.metrics.specs.Meaning.{KeepsTargets, Snapshots};
-ghost use Rattle.metrics_debugging.specs.Debugging.{IsNewBook};
+ghost use Rattle.metrics.specs.Meaning.{KeepsTargets, Registers, Snapshots};
+ghost use Rattle.metrics_debugging.specs.Debugging.{IsNewBook, one_if_held};
+ghost use Rattle.metrics_debugging.specs.DebuggingSeries.{series_key};
 
 mod cells;
 mod descriptions;
@@ -66,12 +68,19 @@ impl Recorder for DebuggingRecorder {
         Ok(1)
     }
 
+    /// A refusal tells 1 where the book held the series already, and else 0.
     fn register(
         &mut self,
         alloc: Global,
         kind: MetricKind,
         key: &Key,
-    ) -> Result<Vec<Address>, Refused> {
+    ) -> Result<Vec<Address>, Refused>
+        ensures keeps { KeepsTargets (meaning_of self.old) (meaning_of self.new) }
+        ensures registers { Registers (meaning_of self.old) (meaning_of self.new) kind key.now
+            (result_map_both (λ v. v.items) (λ e. e) result) }
+        ensures acted { IfErr result (λ e. e ≡ Memory (one_if_held (series_key kind key.now)
+            (meaning_of self.old))) }
+    {
         let Some(series) = self.series.find(kind, key) else {
             let mut found = Vec::with_capacity(alloc, 1)?;
             let series = self.series.add(alloc, kind, key)?;

@@ -1,10 +1,13 @@
-use Rattle.std.proofs.Common.{ℕ, List, ap, sym, ◌∙◌, ◌++◌, ◌∷◌, [], lit≤}
+use Rattle.std.proofs.Common.{rules, ◌≡◌, ℕ, List, Bool, cond, ap, sym, ◌∙◌, ◌++◌, ◌∷◌, [], lit≤}
+use Rattle.std.specs.Result.{IfErr}
+use Rattle.std.proofs.lemmas.Result.{IfErr-weaker}
+use Rattle.metrics_names.specs.declared.refused.Refused.TheVariants.{Memory}
 use Rattle.metrics.specs.declared.handles.Address.{Address}
 use Rattle.metrics.specs.Book.{Content}
 use Rattle.metrics_debugging.specs.DebuggingDescriptions.{described_by}
 use Rattle.metrics_debugging.specs.DebuggingSeries.{series_key}
 use Rattle.metrics_debugging.specs.DebuggingOrder.{series_of}
-use Rattle.metrics_debugging.proofs.SeriesLemmas.{register_there, register_new}
+use Rattle.metrics_debugging.proofs.SeriesLemmas.{register_there, register_new, held-some, held-none}
 use Rattle.metrics_debugging.proofs.debugging.DebuggingRecorderRecorder.register.Goals as goal
 
 pub returns-in_default-with_capacity-clause-registers : goal.returns-in_default-with_capacity-clause-registers
@@ -30,3 +33,19 @@ returns-in_default-clause-registers c =
           ∙ ap address (c.in_ok-series.ensures.number ∙ r.0),
       ap (λ (x : Content). x ∷ []) r.1,
     )
+
+pub returns-in_default-with_capacity-clause-acted : goal.returns-in_default-with_capacity-clause-acted
+returns-in_default-with_capacity-clause-acted c =
+    ap (λ (held : Bool). Memory (cond held 1 0)) (sym (held-some (series_key c.args.kind c.args.key.now) (series_of c.args.self.now.series) c.in-Some.series (sym c.in-Some.ensures)))
+
+pub returns-in_err-found-clause-acted : goal.returns-in_err-found-clause-acted
+returns-in_err-found-clause-acted c =
+    let none = held-none (series_key c.args.kind c.args.key.now) (series_of c.args.self.now.series) (sym c.in_default.ensures) in
+    let told : IfErr c.from_residual.result (λ e. e ≡ Memory 0) = search rules in
+    IfErr-weaker c.from_residual.result _ _ (λ e is. is ∙ ap (λ (held : Bool). Memory (cond held 1 0)) (sym none)) told
+
+pub returns-in_err-series-clause-acted : goal.returns-in_err-series-clause-acted
+returns-in_err-series-clause-acted c =
+    let none = held-none (series_key c.args.kind c.args.key.now) (series_of c.args.self.now.series) (sym c.in_default.ensures) in
+    let told : IfErr c.from_residual-in_err-series.result (λ e. e ≡ Memory 0) = search rules in
+    IfErr-weaker c.from_residual-in_err-series.result _ _ (λ e is. is ∙ ap (λ (held : Bool). Memory (cond held 1 0)) (sym none)) told
