@@ -1,5 +1,5 @@
 -- Laws of the definitions: that what is computed is what was meant.
-use Rattle.std.specs.Prelude.{◌≡◌, ℕ, ℤ, Bool, List, MatchOption}
+use Rattle.std.specs.Prelude.{◌≡◌, ℕ, ◌<◌, ◌≤◌, ℤ, Bool, List, [], ◌∷◌, length, MatchOption}
 use Rattle.std.specs.Bool.{Decides}
 use Rattle.metrics_names.specs.declared.kind.MetricKind.{MetricKind}
 use Rattle.metrics_names.specs.Names.{SeriesKey, series_key_eq}
@@ -21,3 +21,13 @@ WinnerIsWinner = (routes : List Route) (kind : MetricKind) (name : List ℕ) →
 -- the chunks in their order are the whole list
 abbrev pub ChunksAreTheList : Type 0
 ChunksAreTheList = (xs : List ℤ) → joined_lists (chunks xs) ≡ xs
+
+-- the last one has 1 to 64, and each other one has 64
+abbrev pub AreFullButLast : List (List ℤ) → Type 0
+AreFullButLast [] = Unit {0}
+AreFullButLast (last ∷ []) = (0 < length last) × (length last ≤ 64)
+AreFullButLast (chunk ∷ next ∷ rest) = (length chunk ≡ 64) × AreFullButLast (next ∷ rest)
+
+-- the chunks have 64 each, and the last one what is left
+abbrev pub ChunksAreFull : Type 0
+ChunksAreFull = (xs : List ℤ) → AreFullButLast (chunks xs)

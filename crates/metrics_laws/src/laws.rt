@@ -3,7 +3,7 @@ ghost use Rattle.std.specs.Prelude.{◌≡◌, ℕ, List};
 ghost use Rattle.std.specs.Cmp.Lexicographic.{slice_cmp};
 ghost use Rattle.std.specs.Ordering.{nat_cmp};
 ghost use Rattle.metrics_names.specs.Names.{KeyParts, SeriesKey, series_key_eq, label_cmp, key_cmp, series_key_cmp};
-ghost use Rattle.metrics_laws.specs.Laws.{EqualityIsOfAllParts, FilterTestsSubstrings, WinnerIsWinner, ChunksAreTheList};
+ghost use Rattle.metrics_laws.specs.Laws.{EqualityIsOfAllParts, FilterTestsSubstrings, WinnerIsWinner, ChunksAreTheList, ChunksAreFull};
 
 use metrics::{CompositeKey, Key, KeyName, Label};
 
@@ -21,4 +21,5 @@ pub fn definition_laws()
     ensures filter { FilterTestsSubstrings }
     ensures router { WinnerIsWinner }
     ensures chunks { ChunksAreTheList }
+    ensures full_chunks { ChunksAreFull }
 {}
