@@ -10,3 +10,5 @@ pub mod KeptLemmas
 pub mod AbsorbLemmas
 pub mod ExpiryLemmas
 pub mod LawLemmas
+pub mod ReadingsLemmas
+pub mod DescriptionsLemmas

@@ -151,7 +151,7 @@ module _ (r : SeriesRegistry) where
   from-histograms : (s : SeriesKey) → Contains hs s → SomeAt s
   from-histograms s (k, small, is) = let h = contained Histogram r.histograms s k small is in at-kind s Histogram h.0 (some-map (cell_in samples) _ h.1)
 
-  from-all : (s : SeriesKey) → Contains (cs ++ gs ++ hs) s → SomeAt s
+  pub from-all : (s : SeriesKey) → Contains (cs ++ gs ++ hs) s → SomeAt s
   from-all s h = elim (Contains-append_cases (cs ++ gs) hs s h) [
     | inl g ↦ elim (Contains-append_cases cs gs s g) [
       | inl f ↦ from-counters s f
@@ -160,12 +160,12 @@ module _ (r : SeriesRegistry) where
     | inr g ↦ from-histograms s g
   ]
 
-  in-all : (kind : MetricKind) (key : KeyParts) → SomeAt (series kind key) → Contains (cs ++ gs ++ hs) (series kind key)
+  pub in-all : (kind : MetricKind) (key : KeyParts) → SomeAt (series kind key) → Contains (cs ++ gs ++ hs) (series kind key)
   in-all Counter key some = Contains-append_left (cs ++ gs) hs _ (Contains-append_left cs gs _ (contains Counter r.counters key (some-from_map (cell_in count) _ some)))
   in-all Gauge key some = Contains-append_left (cs ++ gs) hs _ (Contains-append_right cs gs _ (contains Gauge r.gauges key (some-from_map (cell_in level) _ some)))
   in-all Histogram key some = Contains-append_right (cs ++ gs) hs _ (contains Histogram r.histograms key (some-from_map (cell_in samples) _ some))
 
-  distinct-all : IsDistinct key_eq (keys_of r.counters) → IsDistinct key_eq (keys_of r.gauges) → IsDistinct key_eq (keys_of r.histograms) → IsDistinct series_key_eq (cs ++ gs ++ hs)
+  pub distinct-all : IsDistinct key_eq (keys_of r.counters) → IsDistinct key_eq (keys_of r.gauges) → IsDistinct key_eq (keys_of r.histograms) → IsDistinct series_key_eq (cs ++ gs ++ hs)
   distinct-all c g h =
       let P : List SeriesKey → Type 0 = IsDistinct series_key_eq in
       let third : P hs = subst P (append-nil hs) (distinct-more Histogram r.histograms [] h none-distinct (λ k. tt)) in

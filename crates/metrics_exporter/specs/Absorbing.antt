@@ -1,5 +1,5 @@
 -- Absorbing a snapshot: what its rows ask of an exporter.
-use Rattle.std.specs.Prelude.{if◌then◌else◌, ◌≡◌, ◌↔◌, ℕ, ℤ, Bool, false, List, [], ◌∷◌, ◌++◌, map, length, Option, None, Some, ◌⊎◌, Result, Ok, Err, nat_eq}
+use Rattle.std.specs.Prelude.{if◌then◌else◌, ◌≡◌, ◌↔◌, ℕ, ℤ, Bool, false, List, [], ◌∷◌, ◌++◌, map, length, Option, None, Some, IsSome, ◌⊎◌, Result, Ok, Err, nat_eq}
 use Rattle.std.specs.Ordering.{int_eq}
 use Rattle.metrics_names.specs.declared.kind.MetricKind.TheVariants.{Gauge}
 use Rattle.metrics_names.specs.Names.{KeyParts}
@@ -73,14 +73,30 @@ abbrev pub MakesUpdates : Setup → Log → KeyParts → List Update → Result 
 MakesUpdates setup log key us (Ok done) after = IsAfter setup (log ++ made key us) after
 MakesUpdates setup log key us (Err (e, n)) after = StopsIn setup log key us e n after
 
--- the first rows were absorbed, and of the next one the updates before one that was refused were made
+-- a row's description was refused for memory, before its updates
+pub record IsUndescribed (setup : Setup) (log : Log) (row : RowParts) (e : Error) (n : ℕ) (after : Exporter) : Type 0 where
+  pub text : IsSome row.2
+  pub memory : e ≡ Memory
+  pub none : n ≡ 0
+  pub stands : IsAfter setup log after
+
+-- the next one of a row's updates was refused, or its description
+abbrev pub StopsInRow : Setup → Log → RowParts → Error → ℕ → Exporter → Type 0
+StopsInRow setup log row e n after = StopsIn setup log row.0.key (asked_by setup log row) e n after ⊎ IsUndescribed setup log row e n after
+
+-- all updates of a row were made, or it stopped in it
+abbrev pub AbsorbsRow : Setup → Log → RowParts → Result (Unit {0}) (Error × ℕ) → Exporter → Type 0
+AbsorbsRow setup log row (Ok done) after = IsAfter setup (with_row setup log row) after
+AbsorbsRow setup log row (Err (e, n)) after = StopsInRow setup log row e n after
+
+-- the first rows were absorbed, and of the next one the updates before one that was refused were made, or none where its description was
 pub record StopsAt (setup : Setup) (log : Log) (rows : List RowParts) (stop : PartlyAbsorbed) (after : Exporter) : Type 0 where
   pub first : List RowParts
   pub next : RowParts
   pub rest : List RowParts
   pub all : rows ≡ first ++ next ∷ rest
   pub number : stop.rows ≡ length first
-  pub within : let log' = with_rows setup log first in StopsIn setup log' next.0.key (asked_by setup log' next) stop.error stop.samples after
+  pub within : StopsInRow setup (with_rows setup log first) next stop.error stop.samples after
 
 -- all rows were absorbed, or a front of them
 abbrev pub Absorbs : Setup → Log → List RowParts → Result (Unit {0}) PartlyAbsorbed → Exporter → Type 0

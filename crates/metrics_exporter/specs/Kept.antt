@@ -11,6 +11,7 @@ use Rattle.metrics_registry.specs.RecencyEntries.{rules_of, table_of}
 use Rattle.metrics_registry.specs.Idleness.{Answered, run_answers}
 use Rattle.metrics_exporter.specs.declared.cells.CountedCells.{CountedCells}
 use Rattle.metrics_exporter.specs.declared.exporter.Exporter.{Exporter}
+use Rattle.metrics_exporter.specs.Describing.{Legend, described_by}
 use Rattle.metrics_exporter.specs.Exporting.{Setup, Log, Step, steps, Reading, count, level, samples, Cell, Cells, cells_after, checks_in}
 
 -- the cells of the series
@@ -32,6 +33,10 @@ cells_of r s = cells_at r s.kind s.key
 -- what an exporter keeps of each series; after a list of calls it is what these give (the field `cells` of `Keeps`)
 abbrev pub held_cells : Exporter → Cells
 held_cells e = cells_of e.registry
+
+-- what was told an exporter of names
+abbrev pub described : Exporter → Legend
+described e = described_by e.descriptions
 
 -- the storage and the number of the shards stay
 abbrev pub KeepsSetting : SeriesRegistry → SeriesRegistry → Type 0

@@ -10,18 +10,21 @@ ghost use Rattle.metrics_registry.specs.Held.{is_shard_count as is_count};
 ghost use Rattle.metrics_registry.specs.Idleness.{Answered};
 ghost use Rattle.metrics_exporter.specs.Exporting.{Setup, Log, updates, expires, steps, IsFull, IsExpiry, IsHeldNumber};
 ghost use Rattle.metrics_exporter.specs.Exporting.{cells_after, series_of, HoldsSome};
+ghost use Rattle.metrics.specs.Book.{no_description};
+ghost use Rattle.metrics_exporter.specs.Describing.{DescribesName, described_by};
 ghost use Rattle.metrics_exporter.specs.ExporterText.{IsText};
 ghost use Rattle.metrics_exporter.specs.Absorbing.{is_level};
 ghost use Rattle.metrics_exporter.specs.Gathering.{series_at};
+ghost use Rattle.metrics_exporter.specs.Readings.{AreReadings, all_told};
 ghost use Rattle.metrics_names.specs.declared.kind.MetricKind.TheVariants.{Gauge as GaugeKind};
-
-mod held;
 
 use crate::cells::CountedCells;
 use crate::changes::{check_series, update_cells};
+use crate::descriptions::Descriptions;
 use crate::keys::{held_number, sorted_keys, sorted_series};
 use crate::lines::write_series;
-use metrics::{CompositeKey, Error, Key, MetricKindMask, Update};
+use crate::readings::{SeriesReading, readings_of};
+use metrics::{CompositeKey, Error, Key, MetricKind, MetricKindMask, Unit, Update};
 use metrics_registry::{OwnedRecency, OwnedRegistry, is_shard_count, recency_law};
 use metrics_storage::Histogram;
 use std::alloc::Global;
@@ -32,10 +35,11 @@ pub struct Exporter {
     alloc: Global,
     registry: OwnedRegistry<Key, CountedCells>,
     recency: OwnedRecency<Key>,
+    descriptions: Descriptions,
 }
 
 impl Exporter {
-    ghost use Rattle.metrics_exporter.specs.Kept.{IsAfter};
+    ghost use Rattle.metrics_exporter.specs.Kept.{IsAfter, held_cells, described};
 
     /// An exporter without series, whose registry has so many shards, a power of two from 1 to 1,024. Its histograms count at
     /// the bounds, of which there has to be one.
@@ -54,6 +58,7 @@ impl Exporter {
           rules = record { timeout = idle_timeout; mask = λ kind. mask_has kind mask };
         }) []) }
         ensures shards { IfOk result (λ e. e.registry.count ≡ shards) }
+        ensures undescribed { IfOk result (λ e. (kind : _) (name : _) → described e kind name ≡ no_description) }
         ensures asked { OnOk result ((is_count shards ≡ true) × (0 < length bounds.now)) }
         ensures err { IfErr result (λ e. e ≡
             (if is_count shards then (if nat_lt 0 (length bounds.now) then OutOfMemory else WithoutBounds) else NotShards)) }
@@ -71,6 +76,7 @@ impl Exporter {
             alloc,
             registry,
             recency,
+            descriptions: Descriptions::new(alloc),
         })
     }
 
@@ -86,6 +92,7 @@ impl Exporter {
         ensures absent { (setup : Setup) (log : Log) → IsAfter setup log self.old → result ≡ Err OutOfMemory
             → cells_after setup (steps log) (series_of key.now by) ≡ None }
         ensures shards { self.new.registry.count ≡ self.old.registry.count }
+        ensures descriptions { described self.new ≡ described self.old }
         ensures err { IfErr result (λ e. ((e ≡ OutOfMemory) ⊎ (e ≡ Full)) × (self.new ≡ self.old)) }
     {
         update_cells(&mut self.registry, key, by)
@@ -100,6 +107,7 @@ impl Exporter {
             (checks : List (Answered KeyParts)) × IsExpiry setup (steps log) now checks result
             × IsAfter setup (log ++ expires now checks result ∷ []) self.new }
         ensures shards { self.new.registry.count ≡ self.old.registry.count }
+        ensures descriptions { described self.new ≡ described self.old }
     {
         let keys = sorted_keys(self.alloc, &self.registry)?;
         let mut removed = 0;
@@ -109,6 +117,41 @@ impl Exporter {
             }
         }
         Ok(removed)
+    }
+
+    /// Replaces the text of a name of this kind, and the unit where one is given, whether or not a series of that name is held.
+    /// No expiry removes it. A refusal changes nothing; a name that is told the same again takes no memory.
+    pub fn describe(
+        &mut self,
+        kind: MetricKind,
+        name: &str,
+        unit: Option<Unit>,
+        text: &str,
+    ) -> Result<(), Error>
+        ensures ok { OnOk result (DescribesName kind name.now unit text.now (described self.old) (described self.new)) }
+        ensures err { OnErr result ((kind : _) (name : _) → described self.new kind name ≡ described self.old kind name) }
+        ensures memory { IfErr result (λ e. e ≡ OutOfMemory) }
+        ensures calls { (setup : Setup) (log : Log) → IsAfter setup log self.old → IsAfter setup log self.new }
+        ensures shards { self.new.registry.count ≡ self.old.registry.count }
+    {
+        self.descriptions
+            .describe(self.alloc, kind, name, unit, text)
+    }
+
+    /// What was told of names.
+    pub fn descriptions(&self) -> &Descriptions
+        ensures { (kind : _) (name : _) → described_by result.now kind name ≡ described self.now kind name }
+    {
+        &self.descriptions
+    }
+
+    /// Each held series once, by reference, with what it has, in no order of its own. It is never refused where none is held.
+    pub fn readings(&self) -> Result<Vec<SeriesReading<'_>>, Error>
+        ensures readings { MatchResult result (λ all. AreReadings (held_cells self.now) (all_told all.items))
+            (λ e. e ≡ OutOfMemory) }
+        ensures refused { OnErr result (HoldsSome (held_cells self.now)) }
+    {
+        readings_of(self.alloc, &self.registry)
     }
 
     /// A line for each series that is held, in composite key order. It is never refused where none is held.

@@ -15,7 +15,7 @@ use metrics_registry::{Cells, OwnedRegistry};
 use std::alloc::{AllocError, Global};
 
 /// A series by reference, which compares as its composite key does.
-pub type SeriesRef<'a> = (MetricKind, &'a Key);
+pub(crate) type SeriesRef<'a> = (MetricKind, &'a Key);
 
 /// Adds the series of one kind's cells at the end.
 fn gather<'a, C: Drop>(

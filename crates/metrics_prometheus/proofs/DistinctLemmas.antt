@@ -8,14 +8,14 @@ use Rattle.metrics_names.specs.declared.kind.MetricKind.TheVariants.{Histogram}
 use Rattle.metrics_names.specs.Names.{label_eq, kind_eq}
 use Rattle.metrics_exporter.specs.Exporting.{Cells}
 use Rattle.metrics_prometheus.specs.Samples.{Sample, series_text}
-use Rattle.metrics_prometheus.specs.Exposition.{Row, row_cmp, is_histogram_of, is_taken, samples_of, reading_at, IsExposition}
+use Rattle.metrics_prometheus.specs.Exposition.{Row, row_cmp, is_histogram_of, is_taken, samples_of, reading_at, Helps, IsDescribed}
 use Rattle.metrics_prometheus.specs.Written.{written, samples_written, is_same_series}
-use Rattle.metrics_prometheus.specs.Reading.{CanBeRead, is_same_text}
+use Rattle.metrics_prometheus.specs.Reading.{CanBeRead, is_same_text, ReadsAs}
 use Rattle.metrics_prometheus.proofs.BackLemmas.{read-back}
 use Rattle.metrics_prometheus.proofs.SampleLabelLemmas.{samples-read}
 use Rattle.metrics_prometheus.proofs.PairLemmas.{each-map, each-all, each-both, Pairs, pairs-with, pairs-flat}
 use Rattle.metrics_prometheus.proofs.SameLemmas.{both-true, bytes-same, same-bytes, same-labels}
-use Rattle.metrics_prometheus.proofs.SampleLemmas.{Differ, IsAmong, IsFree, ReadsAs, row-differs, rows-differ, or-first, or-second, both}
+use Rattle.metrics_prometheus.proofs.SampleLemmas.{Differ, IsAmong, IsFree, row-differs, rows-differ, or-first, or-second, both}
 use Rattle.metrics_prometheus.proofs.WrittenLemmas.{IsBefore, before-apart, written-ascend, written-each, written-free}
 
 among : (rows : List Row) → AllByRecursion (IsAmong rows) rows
@@ -69,7 +69,7 @@ unfolding IsDistinct
 texts-from [] p = tt
 texts-from (s ∷ ss) p = (p.0, texts-from ss p.1)
 
-pub texts-distinct : (cells : Cells) → ((r : Row) → ReadsAs r.kind (reading_at cells r)) → (text : List ℕ) (e : IsExposition cells text) → IsDistinct is_same_text (samples_written cells e.rows)
+pub texts-distinct : {helps : Helps} (cells : Cells) → ((r : Row) → ReadsAs r.kind (reading_at cells r)) → (text : List ℕ) (e : IsDescribed helps cells text) → IsDistinct is_same_text (samples_written cells e.rows)
 texts-distinct cells reads text e =
     let ss = samples_written cells e.rows in
     texts-from ss (pairs-with CanBeRead Differ OtherText text-test ss (samples-read cells reads text e) (samples-differ cells e.rows e.all.ordered reads))

@@ -7,7 +7,7 @@ use Rattle.std.proofs.lemmas.Bool.{cond_both, eq-eqb}
 use Rattle.std.proofs.lemmas.Str.{inside_one}
 use Rattle.std.proofs.lemmas.Grind.{get_or_default_zero}
 use Rattle.metrics_names.specs.Names.{LabelParts}
-use Rattle.metrics_prometheus.specs.Names.{goes_on, is_name, escape, escaped}
+use Rattle.metrics_prometheus.specs.Names.{goes_on, is_name, escape, escaped, help_escape, help_escaped}
 use Rattle.metrics_prometheus.specs.Samples.{label_text, joined, labels_text}
 use Rattle.metrics_prometheus.proofs.PairLemmas.{each-map, each-append, each-places}
 use Rattle.metrics_prometheus.proofs.NameLemmas.{named, AreKeyed}
@@ -60,6 +60,20 @@ escaped-plain v = all (chars v)
     all : (cs : List ℕ) → HasNoFeed (flat_map escape cs)
     all [] = tt
     all (c ∷ cs) = join (escape c) (flat_map escape cs) (escape-plain c) (all cs)
+
+-- ---- a description
+
+help-escape-plain : (c : ℕ) → HasNoFeed (help_escape c)
+help-escape-plain c =
+    cond_both (nat_eq c 92) (codes "\\\\") _ HasNoFeed (λ _. plain (codes "\\\\") refl)
+    (λ _. cond_both (nat_eq c 10) (codes "\\n") (encode_utf8 c) HasNoFeed (λ _. plain (codes "\\n") refl) (λ e. encoded-plain c (other c e)))
+
+pub help-plain : (v : List ℕ) → HasNoFeed (help_escaped v)
+help-plain v = all (chars v)
+  where
+    all : (cs : List ℕ) → HasNoFeed (flat_map help_escape cs)
+    all [] = tt
+    all (c ∷ cs) = join (help_escape c) (flat_map help_escape cs) (help-escape-plain c) (all cs)
 
 -- ---- labels
 

@@ -1,26 +1,61 @@
 -- Each row is that of a held series.
-use Rattle.std.proofs.Common.{List, map, get_or, subst}
+use Rattle.std.proofs.Common.{◌≡◌, ◌<◌, ◌+◌, List, [], ◌∷◌, map, length, get_or, Contains, Result, Ok, Err, refl, subst, arith}
+use Rattle.std.specs.Prelude.{OnErr}
 use Rattle.std.specs.List.{All, AllByRecursion}
-use Rattle.std.specs.Borrow.{Bor}
 use Rattle.std.specs.Str.{IsUtf8}
 use Rattle.std.proofs.lemmas.List.{get_or_default}
-use Rattle.std.proofs.lemmas.List.Elements.{All-map, recursion_from_All}
-use Rattle.std.proofs.lemmas.List.Sorted.{All-permutation}
-use Rattle.metrics_names.specs.declared.kind.MetricKind.{MetricKind}
-use Rattle.metrics_names.specs.Names.{KeyParts, LabelParts, SeriesKey}
-use Rattle.metrics_exporter.specs.Exporting.{Cells, IsHeld, AreSeries}
-use Rattle.metrics_exporter.specs.Gathering.{series_shown, all_shown}
-use Rattle.metrics_prometheus.specs.Exposition.{Row, row_of, AreRows, HoldsTexts}
+use Rattle.std.proofs.lemmas.List.Elements.{All-map, All-contains, recursion_from_All}
+use Rattle.std.proofs.lemmas.List.Sorted.{All-permutation, IsPermutation-refl}
+use Rattle.metrics_names.specs.Names.{LabelParts, SeriesKey}
+use Rattle.metrics_exporter.specs.Exporting.{Cells, IsHeld, HoldsSome}
+use Rattle.metrics_exporter.specs.Readings.{Told, told_of, all_told, AreReadings, AreOnce}
+use Rattle.metrics_exporter.specs.declared.readings.SeriesReading.{SeriesReading}
+use Rattle.metrics_prometheus.specs.Exposition.{Row, Helps, row_of, AreRows, HoldsTexts, IsDescribed}
+use Rattle.metrics_prometheus.proofs.OnceLemmas.{unmapped}
 
-pub each-row : (P : Row → Type 0) (cells : Cells) (rows : List Row) → AreRows cells rows → ((s : SeriesKey) → IsHeld cells s → P (row_of s)) → AllByRecursion P rows
-each-row P cells rows are f =
-    recursion_from_All P rows (All-permutation P (map row_of are.keys) rows are.same (All-map P row_of are.keys
-    (λ j d small. f (get_or are.keys j d) ((are.series.held (get_or are.keys j d)).0 (j, small, get_or_default are.keys j (get_or are.keys j d) d small)))))
+pub each-row : {helps : Helps} (P : Row → Type 0) (cells : Cells) (rows : List Row) → AreRows helps cells rows → ((s : SeriesKey) → IsHeld cells s → P (row_of helps s)) → AllByRecursion P rows
+each-row {helps} P cells rows are f =
+    recursion_from_All P rows (All-permutation P (map (row_of helps) are.keys) rows are.same (All-map P (row_of helps) are.keys
+    (λ j d small. f (get_or are.keys j d) ((are.held (get_or are.keys j d)).0 (j, small, get_or_default are.keys j (get_or are.keys j d) d small)))))
 
 -- where the labels of all series have texts as values, those of the held series have
-pub holds-texts : (cells : Cells) (series : List (MetricKind × Bor KeyParts)) → AreSeries cells (all_shown series) → All (λ s. All (λ (l : LabelParts). IsUtf8 l.1) s.1.now.labels) series → HoldsTexts cells
+pub holds-texts : (cells : Cells) (series : List SeriesReading) → AreReadings cells (all_told series) → All (λ s. All (λ (l : LabelParts). IsUtf8 l.1) s.key.now.labels) series → HoldsTexts cells
 holds-texts cells series are texts s held =
     let Q : LabelParts → Type 0 = λ l. IsUtf8 l.1 in
     let P : SeriesKey → Type 0 = λ k. All Q k.key.labels in
-    let place = (are.held s).1 held in
-    recursion_from_All Q s.key.labels (subst P place.2 (All-map P series_shown series texts place.0 s place.1))
+    let told = all_told series in
+    recursion_from_All Q s.key.labels (All-contains P (map (λ t. t.0) told) s (All-map P (λ t. t.0) told (All-map (λ t. P t.0) told_of series texts)) ((are.held s).1 held))
+
+-- the same of what is left of them
+pub kept-texts : (cells : Cells) (kept : List Told) (series : List SeriesReading) → AreReadings cells kept → AreOnce (all_told series) kept → All (λ s. All (λ (l : LabelParts). IsUtf8 l.1) s.key.now.labels) series → HoldsTexts cells
+kept-texts cells kept series are once texts s held =
+    let Q : LabelParts → Type 0 = λ l. IsUtf8 l.1 in
+    let P : Told → Type 0 = λ t. All Q t.0.key.labels in
+    let r = unmapped (λ (t : Told). t.0) kept s ((are.held s).1 held) in
+    recursion_from_All Q s.key.labels (subst (λ (k : SeriesKey). All Q k.key.labels) r.2 (All-contains P (all_told series) r.0 (All-map P told_of series texts) (once.among r.0 r.1)))
+
+-- of readings that were given one is of a series that is held
+pub some-read : {T E : Type 0} (cells : Cells) (series given : List SeriesReading) (r : Result T E) → given ≡ series → AreReadings cells (all_told series) → OnErr r (0 < length given) → OnErr r (HoldsSome cells)
+some-read cells series given (Ok t) same are h = tt
+some-read cells series given (Err e) same are h = first series are (subst (λ l. 0 < length l) same h)
+  where
+    first : (series : List SeriesReading) → AreReadings cells (all_told series) → 0 < length series → HoldsSome cells
+    first [] are small = absurd (omega (arith, small))
+    first (s ∷ series) are small = ((told_of s).0, (are.held (told_of s).0).0 (0, omega arith, refl))
+
+-- where nothing is given nothing is held, and that is its exposition
+pub none-given : {helps : Helps} (cells : Cells) → AreReadings cells [] → IsDescribed helps cells []
+none-given {helps} cells are = record {
+  rows = [];
+  all = record { keys = []; once = are.once; held = are.held; same = IsPermutation-refl []; ordered = λ k d first small. absurd (omega (arith, small)) };
+  texts = λ s held. absurd (no-place s ((are.held s).1 held));
+  is = refl;
+}
+  where
+    no-place : (s : SeriesKey) → Contains [] s → ⊥
+    no-place s (k, small, is) = omega (arith, small)
+
+-- a list without elements
+pub none-long : {A : Type 0} (xs : List A) → length xs ≡ 0 → xs ≡ []
+none-long [] e = refl
+none-long (x ∷ xs) e = absurd (omega (arith, e))

@@ -1,22 +1,23 @@
 -- The labels that are shown.
-use Rattle.std.proofs.Common.{◌≡◌, ◌∙◌, inl, inr, ℕ, Bool, true, false, not, ◌||◌, ◌&&◌, List, [], ◌∷◌, ◌++◌, codes, refl, ap, sym}
-use Rattle.std.specs.Prelude.{bytes_eq}
-use Rattle.std.specs.List.{AllByRecursion, IsDistinct, list_any}
-use Rattle.std.specs.List.Sorted.{IsStrictlySortedBy}
+use Rattle.std.proofs.Common.{◌≡◌, ◌∙◌, ◌+◌, ◌≤◌, inl, inr, ℕ, zero, suc, Bool, true, false, cond, not, ◌||◌, ◌&&◌, List, [], ◌∷◌, ◌++◌, codes, length, get_or, Some, None, refl, ap, sym, arith}
+use Rattle.std.specs.Prelude.{bytes_eq, insert}
+use Rattle.std.specs.List.{AllByRecursion, AllWithin, IsDistinct, list_any}
+use Rattle.std.specs.List.Sorted.{IsSorted, IsPartitionedBy, IsStrictlySortedBy}
 use Rattle.std.specs.Ordering.{is_lt, nat_cmp}
 use Rattle.std.specs.Cmp.Lexicographic.{slice_cmp}
 use Rattle.std.specs.declared.cmp.Ordering.{Ordering}
 use Rattle.std.specs.declared.cmp.Ordering.TheVariants.{Less, Equal, Greater}
 use Rattle.std.proofs.lemmas.Cmp.{nat_list_cmp_total}
-use Rattle.std.proofs.lemmas.Map.Lookups.{exact_bytes}
+use Rattle.std.proofs.lemmas.List.Sorted.{ranks_by, sorted_far}
+use Rattle.std.proofs.lemmas.Map.Lookups.{exact_bytes, exact_pairs}
 use Rattle.metrics_names.specs.declared.kind.MetricKind.{MetricKind}
 use Rattle.metrics_names.specs.declared.kind.MetricKind.TheVariants.{Histogram}
 use Rattle.std.proofs.lemmas.Bool.{cond_both}
 use Rattle.metrics_names.specs.Names.{LabelParts, label_cmp, kind_eq}
 use Rattle.metrics_prometheus.specs.Names.{label_name, is_name}
-use Rattle.metrics_prometheus.specs.Labels.{placed, added, with_labels, shown_labels, repeats, is_reserved, are_fit}
+use Rattle.metrics_prometheus.specs.Labels.{placed, added, with_labels, shown_labels, repeats, follows, is_reserved, are_fit}
 use Rattle.metrics_prometheus.specs.Reading.{Ascend}
-use Rattle.metrics_prometheus.proofs.PairLemmas.{each-all, each-map, Pairs, pairs-append}
+use Rattle.metrics_prometheus.proofs.PairLemmas.{each-all, each-map, Pairs, pairs-append, pairs-places, pairs-from-places}
 use Rattle.metrics_prometheus.proofs.SameLemmas.{both-true, bytes-same, same-bytes}
 use Rattle.metrics_prometheus.proofs.WrittenLemmas.{never, turn, first-part, label_total}
 use Rattle.metrics_prometheus.proofs.NameLemmas.{AreKeyed, label-name}
@@ -113,6 +114,91 @@ pub fit-ascend : (k : MetricKind) (ls : List LabelParts) → are_fit k (shown_la
 fit-ascend k ls fit =
     let shown = shown_labels ls in
     ascend shown (not-true (repeats shown) (both-true (not (repeats shown)) (not (list_any (λ l. is_reserved k l.0) shown)) fit).0) (with-up [] ls tt)
+
+-- ---- the same of sorted lists
+
+labels-up : (ls : List LabelParts) → IsSorted label_cmp ls → Pairs IsUp ls
+labels-up ls up = pairs-from-places IsUp ls (λ i j d below small. sorted_far (λ a b. is_lt (label_cmp a b)) (ranks_by label_total (λ r. r)) ls up i j d (omega (arith, below)) small)
+
+labels-sorted : (ls : List LabelParts) → Pairs IsUp ls → IsSorted label_cmp ls
+labels-sorted ls up k d first small = pairs-places IsUp ls up k (k + 1) d (omega arith) small
+
+pub added-sorted : (n v : List ℕ) (shown : List LabelParts) → IsSorted label_cmp shown → IsSorted label_cmp (added n v shown)
+added-sorted n v shown up = labels-sorted (added n v shown) (added-up n v shown (labels-up shown up))
+
+pub shown-sorted : (ls : List LabelParts) → IsSorted label_cmp (shown_labels ls)
+shown-sorted ls = labels-sorted (shown_labels ls) (with-up [] ls tt)
+
+labels-exact : (l m : LabelParts) → label_cmp l m ≡ Equal → l ≡ m
+labels-exact = exact_pairs names names exact_bytes exact_bytes
+
+-- a label that isn't before one isn't before an earlier one
+pub parts-at : (l : LabelParts) (ls : List LabelParts) → IsSorted label_cmp ls → IsPartitionedBy (λ m. not (is_lt (label_cmp l m))) ls
+parts-at l ls up i j d le small behind =
+    let a = get_or ls i d in
+    let b = get_or ls j d in
+    let here : IsUp a b = sorted_far (λ x y. is_lt (label_cmp x y)) (ranks_by label_total (λ r. r)) ls up i j d le small in
+    go a b here behind (label_cmp l a) refl
+  where
+    go : (a b : LabelParts) → IsUp a b → not (is_lt (label_cmp l b)) ≡ true → (o : Ordering) → label_cmp l a ≡ o → not (is_lt (label_cmp l a)) ≡ true
+    go a b h g Equal e = ap (λ o. not (is_lt o)) e
+    go a b h g Greater e = ap (λ o. not (is_lt o)) e
+    go a b h g Less e =
+        let less-b : label_cmp l b ≡ Less = elim (turn (label_cmp a b) (label_cmp b a) (label_total.antisymm a b) h) [
+          | inl less ↦ label_total.trans l a b e less
+          | inr equal ↦ ap (label_cmp l) (labels-exact b a equal) ∙ e
+        ] in
+        absurd (let f : false ≡ true = sym (ap (λ o. not (is_lt o)) less-b) ∙ g in cc)
+
+-- a label among others, behind those that it isn't before
+pub placed-at : (l : LabelParts) (ms : List LabelParts) (i : ℕ) → i ≤ length ms
+    → AllWithin (λ m. not (is_lt (label_cmp l m)) ≡ true) ms 0 i → AllWithin (λ m. not (is_lt (label_cmp l m)) ≡ false) ms i (length ms) → insert ms i l ≡ placed l ms
+placed-at l [] zero le before after = refl
+placed-at l [] (suc i) le before after = absurd (omega (arith, le))
+placed-at l (m ∷ ms) zero le before after =
+    sym (ap (λ b. cond b (l ∷ m ∷ ms) (m ∷ placed l ms)) (is-true (is_lt (label_cmp l m)) (after 0 m (omega arith) (omega arith))))
+  where
+    is-true : (b : Bool) → not b ≡ false → b ≡ true
+    is-true true e = refl
+    is-true false e = absurd (let g : true ≡ false = e in cc)
+placed-at l (m ∷ ms) (suc i) le before after =
+    ap (λ ls. m ∷ ls) (placed-at l ms i (omega (arith, le)) (λ k d low high. before (suc k) d (omega arith) (omega (arith, high))) (λ k d low high. after (suc k) d (omega (arith, low)) (omega (arith, high))))
+    ∙ sym (ap (λ b. cond b (l ∷ m ∷ ms) (m ∷ placed l ms)) (not-true (is_lt (label_cmp l m)) (before 0 m (omega arith) (omega arith))))
+
+-- ---- a name that comes twice comes twice in a row
+
+through : (l m n : LabelParts) → names l.0 m.0 ≡ Less → IsUp m n → bytes_eq n.0 l.0 ≡ false
+through l m n less up = go (bytes_eq n.0 l.0) refl
+  where
+    below : names l.0 n.0 ≡ Less
+    below = elim (turn (names m.0 n.0) (names n.0 m.0) (nat_list_cmp_total.antisymm m.0 n.0) (first-part (names n.0 m.0) _ up)) [
+      | inl e ↦ nat_list_cmp_total.trans l.0 m.0 n.0 less e
+      | inr e ↦ ap (names l.0) (exact_bytes n.0 m.0 e) ∙ less
+    ]
+
+    go : (b : Bool) → bytes_eq n.0 l.0 ≡ b → bytes_eq n.0 l.0 ≡ false
+    go false e = e
+    go true e = absurd (never names nat_list_cmp_total l.0 (ap (names l.0) (sym (same-bytes n.0 l.0 e)) ∙ below))
+
+none-later : (l m : LabelParts) (ms : List LabelParts) → names l.0 m.0 ≡ Less → AllByRecursion (IsUp m) ms → list_any (λ n. bytes_eq n.0 l.0) ms ≡ false
+none-later l m [] less up = refl
+none-later l m (n ∷ ms) less up = ap (λ b. b || list_any (λ k. bytes_eq k.0 l.0) ms) (through l m n less up.0) ∙ none-later l m ms less up.1
+
+behind-one : (l : LabelParts) (ms : List LabelParts) → AllByRecursion (IsUp l) ms → Pairs IsUp ms → follows (Some l.0) ms ≡ (list_any (λ m. bytes_eq m.0 l.0) ms || repeats ms)
+behind-one l [] up pairs = refl
+behind-one l (m ∷ ms) up pairs = go (bytes_eq m.0 l.0) refl (behind-one m ms pairs.0 pairs.1)
+  where
+    go : (b : Bool) → bytes_eq m.0 l.0 ≡ b → follows (Some m.0) ms ≡ (list_any (λ n. bytes_eq n.0 m.0) ms || repeats ms)
+        → (b || follows (Some m.0) ms) ≡ ((b || list_any (λ n. bytes_eq n.0 l.0) ms) || (list_any (λ n. bytes_eq n.0 m.0) ms || repeats ms))
+    go true e rest = refl
+    go false e rest = rest ∙ sym (ap (λ b. b || (list_any (λ n. bytes_eq n.0 m.0) ms || repeats ms)) (none-later l m ms (name-below l m e up.0) pairs.0))
+
+pub follows-repeats : (ls : List LabelParts) → IsSorted label_cmp ls → follows None ls ≡ repeats ls
+follows-repeats ls up = go ls (labels-up ls up)
+  where
+    go : (ls : List LabelParts) → Pairs IsUp ls → follows None ls ≡ repeats ls
+    go [] up = refl
+    go (l ∷ ls) up = behind-one l ls up.0 up.1
 
 -- ---- no name comes twice
 

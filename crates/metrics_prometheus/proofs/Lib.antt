@@ -20,3 +20,5 @@ pub mod BackLemmas
 pub mod SampleLabelLemmas
 pub mod BucketLemmas
 pub mod OneReadingLemmas
+pub mod OnceLemmas
+pub mod SearchLemmas

@@ -3,7 +3,7 @@ use Rattle.std.proofs.Common.{◌≡◌, ◌≢◌, ◌∙◌, ℕ, true, false,
 use Rattle.std.specs.List.{All, AllByRecursion, flat_map, filter_map, cons_option}
 use Rattle.std.proofs.lemmas.List.Elements.{recursion_from_All}
 use Rattle.metrics_prometheus.specs.Samples.{Sample}
-use Rattle.metrics_prometheus.specs.Written.{Line, has, tells_kind, leaves_out, line_text, sample_in, begins_comment, IsLine, IsReadable, HasSamples}
+use Rattle.metrics_prometheus.specs.Written.{Line, has, describes, tells_kind, leaves_out, line_text, sample_in, begins_comment, IsLine, IsReadable, HasSamples}
 use Rattle.metrics_prometheus.specs.Reading.{CanBeRead}
 use Rattle.metrics_prometheus.proofs.BackLemmas.{same-sample}
 
@@ -49,6 +49,13 @@ same-more (has s) (tells_kind r) xs ys hl hk e cl ck rest = absurd (never (same-
 same-more (has s) (leaves_out r) xs ys hl hk e cl ck rest = absurd (never (same-kind (has s) (leaves_out r) hl hk e))
 same-more (tells_kind q) (has t) xs ys hl hk e cl ck rest = absurd (never (sym (same-kind (tells_kind q) (has t) hl hk e)))
 same-more (leaves_out q) (has t) xs ys hl hk e cl ck rest = absurd (never (sym (same-kind (leaves_out q) (has t) hl hk e)))
+same-more (has s) (describes n t) xs ys hl hk e cl ck rest = absurd (never (same-kind (has s) (describes n t) hl hk e))
+same-more (describes n u) (has t) xs ys hl hk e cl ck rest = absurd (never (sym (same-kind (describes n u) (has t) hl hk e)))
+same-more (describes n u) (describes m t) xs ys hl hk e cl ck rest = rest
+same-more (describes n u) (tells_kind r) xs ys hl hk e cl ck rest = rest
+same-more (describes n u) (leaves_out r) xs ys hl hk e cl ck rest = rest
+same-more (tells_kind q) (describes n u) xs ys hl hk e cl ck rest = rest
+same-more (leaves_out q) (describes n u) xs ys hl hk e cl ck rest = rest
 same-more (tells_kind q) (tells_kind r) xs ys hl hk e cl ck rest = rest
 same-more (tells_kind q) (leaves_out r) xs ys hl hk e cl ck rest = rest
 same-more (leaves_out q) (tells_kind r) xs ys hl hk e cl ck rest = rest
@@ -56,6 +63,7 @@ same-more (leaves_out q) (leaves_out r) xs ys hl hk e cl ck rest = rest
 
 read-behind : (l : Line) (xs : List Sample) → AllRead (cons_option (sample_in l) xs) → AllRead xs
 read-behind (has s) xs h = h.1
+read-behind (describes n t) xs h = h
 read-behind (tells_kind r) xs h = h
 read-behind (leaves_out r) xs h = h
 

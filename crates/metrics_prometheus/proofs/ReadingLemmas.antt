@@ -13,14 +13,13 @@ use Rattle.metrics.specs.declared.debugging.DebugValue.{DebugValue}
 use Rattle.metrics.specs.declared.debugging.DebugValue.TheVariants as value
 use Rattle.metrics.specs.Book.{new_value, updated, value_from}
 use Rattle.metrics_storage.specs.Histogram.{Distribution, bucket_with, no_samples, with_samples}
-use Rattle.metrics_exporter.specs.Exporting.{Reading, count, level, samples, Setup, Step, since, reading, cell_of, cells_after}
+use Rattle.metrics_exporter.specs.Exporting.{Reading, count, level, samples, Cells, Setup, Step, since, reading, cell_of, cells_after}
 use Rattle.metrics_exporter.specs.Gathering.{series_at}
 use Rattle.metrics_prometheus.specs.Samples.{histogram_samples}
 use Rattle.metrics_prometheus.specs.Exposition.{Row, reading_at, samples_of}
-use Rattle.metrics_prometheus.specs.Reading.{AreBuckets}
+use Rattle.metrics_prometheus.specs.Reading.{AreBuckets, IsSmall, ReadsAs, AreOfKinds}
 use Rattle.metrics_prometheus.proofs.BucketLemmas.{buckets-are}
 use Rattle.metrics_prometheus.proofs.PairLemmas.{each-places}
-use Rattle.metrics_prometheus.proofs.SampleLemmas.{IsSmall, ReadsAs}
 use Rattle.metrics_prometheus.proofs.SampleLabelLemmas.{IsOfKind}
 
 abbrev value_kind : DebugValue → MetricKind
@@ -70,27 +69,27 @@ reads : (bounds : List ℤ) → AllByRecursion (λ b. mag b < 2 ^ 63) bounds →
 reads bounds small s [] = tt
 reads bounds small s (u ∷ us) = reads-value bounds small s.kind (value_from (new_value s.kind) (u ∷ us)) (kept-by (u ∷ us) (new_value s.kind) ∙ new-kind s.kind)
 
--- the same with any bounds
-kind-value : (bounds : List ℤ) (k : MetricKind) (v : DebugValue) → value_kind v ≡ k → IsOfKind k (Some (reading bounds v))
-kind-value bounds k (value.Counter n) e = tt
-kind-value bounds k (value.Gauge n) e = tt
-kind-value bounds k (value.Histogram xs) e = ap (λ j. kind_eq j Histogram) (sym e)
-
-of-kind : (bounds : List ℤ) (s : SeriesKey) (us : List Update) → IsOfKind s.kind (option_map (λ c. c.reading) (cell_of bounds s us))
-of-kind bounds s [] = tt
-of-kind bounds s (u ∷ us) = kind-value bounds s.kind (value_from (new_value s.kind) (u ∷ us)) (kept-by (u ∷ us) (new_value s.kind) ∙ new-kind s.kind)
-
 small : (z : ℤ) → FitsSigned w64 z → mag z < 2 ^ 63
 small z h = h.sfits
 
--- what is held of a row's series after some steps
-pub rows-read : (setup : Setup) (xs : List Step) → All (FitsSigned w64) setup.bounds → (r : Row) → ReadsAs r.kind (reading_at (cells_after setup xs) r)
-rows-read setup xs fits r =
+-- what an exporter holds after some steps
+pub kinds-after : (setup : Setup) (xs : List Step) → All (FitsSigned w64) setup.bounds → AreOfKinds (cells_after setup xs)
+kinds-after setup xs fits s =
     let bounds = setup.bounds in
-    reads bounds (each-places (λ b. mag b < 2 ^ 63) bounds (λ k d within. small _ (fits k d within))) (series_at r.kind r.key) (since xs (series_at r.kind r.key))
+    reads bounds (each-places (λ b. mag b < 2 ^ 63) bounds (λ k d within. small _ (fits k d within))) s (since xs s)
 
-pub rows-of-kind : (setup : Setup) (xs : List Step) (r : Row) → IsOfKind r.kind (reading_at (cells_after setup xs) r)
-rows-of-kind setup xs r = of-kind setup.bounds (series_at r.kind r.key) (since xs (series_at r.kind r.key))
+-- what is held of a row's series
+pub rows-read : (cells : Cells) → AreOfKinds cells → (r : Row) → ReadsAs r.kind (reading_at cells r)
+rows-read cells kinds r = kinds (series_at r.kind r.key)
+
+kind-of : (k : MetricKind) (o : Option Reading) → ReadsAs k o → IsOfKind k o
+kind-of k None h = tt
+kind-of k (Some (count n)) h = tt
+kind-of k (Some (level n)) h = tt
+kind-of k (Some (samples d)) h = h.0
+
+pub rows-of-kind : (cells : Cells) → AreOfKinds cells → (r : Row) → IsOfKind r.kind (reading_at cells r)
+rows-of-kind cells kinds r = kind-of r.kind (reading_at cells r) (rows-read cells kinds r)
 
 -- ---- samples at bounds are those of a list
 

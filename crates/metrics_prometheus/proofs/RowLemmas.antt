@@ -1,15 +1,18 @@
 -- Rows in order, by reference.
-use Rattle.std.proofs.Common.{◌≡◌, ◌∙◌, ◌+◌, ◌<◌, ℕ, zero, suc, List, [], ◌∷◌, ◌++◌, take, map, length, get_or, refl, ap, sym, arith}
+use Rattle.std.proofs.Common.{◌≡◌, ◌∙◌, ◌+◌, ◌<◌, ℕ, zero, suc, List, [], ◌∷◌, ◌++◌, take, map, length, get_or, Some, refl, ap, sym, subst, arith}
+use Rattle.std.specs.Prelude.{IsPermutation}
+use Rattle.std.specs.List.{AllByRecursion}
 use Rattle.std.specs.List.Sorted.{IsSorted}
 use Rattle.std.specs.Ordering.{is_lt}
 use Rattle.std.specs.declared.cmp.Ordering.{Ordering}
-use Rattle.std.specs.Borrow.{Bor}
 use Rattle.std.proofs.lemmas.List.{take_more, map-append}
-use Rattle.metrics_names.specs.declared.kind.MetricKind.{MetricKind}
-use Rattle.metrics_names.specs.Names.{KeyParts, SeriesKey}
-use Rattle.metrics_exporter.specs.Gathering.{series_shown, all_shown}
-use Rattle.metrics_prometheus.specs.Exposition.{row_of}
-use Rattle.metrics_prometheus.specs.Rows.{RowParts, row_shown, rows_shown}
+use Rattle.std.proofs.lemmas.List.Sorted.{IsPermutation-refl}
+use Rattle.metrics_exporter.specs.Exporting.{Reading, Cells}
+use Rattle.metrics_exporter.specs.Readings.{Told, told_of, all_told, reading_in, AreReadings}
+use Rattle.metrics_exporter.specs.declared.readings.SeriesReading.{SeriesReading}
+use Rattle.metrics_prometheus.specs.declared.rows.ShownRow.{ShownRow}
+use Rattle.metrics_prometheus.specs.Exposition.{Row, Helps, row_of, row_cmp, reading_at, AreRows}
+use Rattle.metrics_prometheus.specs.Rows.{row_shown, rows_shown, pair_shown, pair_of, told_shown, Shows}
 
 module _ {A B : Type 0} (f : A → B) where
   pub map-length : (xs : List A) → length (map f xs) ≡ length xs
@@ -31,10 +34,49 @@ module _ {A B : Type 0} (f : A → B) where
       ∙ up k x (omega arith) fits
 
 -- one row more
-pub rows-more : (xs ys : List RowParts) (ss : List (MetricKind × Bor KeyParts)) (i : ℕ) (x : RowParts) (s : MetricKind × Bor KeyParts)
-    → i < length ss → s ≡ get_or ss i s → ys ≡ xs ++ x ∷ [] → row_shown x ≡ row_of (series_shown s) → rows_shown xs ≡ map row_of (all_shown (take i ss)) → rows_shown ys ≡ map row_of (all_shown (take (i + 1) ss))
-rows-more xs ys ss i x s small at is shown so =
-    let done = all_shown (take i ss) in
-    let last : SeriesKey = series_shown (get_or ss i s) in
-    ap rows_shown is ∙ map-append row_shown xs (x ∷ []) ∙ ap (λ l. l ++ row_shown x ∷ []) so ∙ ap (λ r. map row_of done ++ r ∷ []) (shown ∙ ap (λ q. row_of (series_shown q)) at)
-    ∙ sym (ap (λ l. map row_of (all_shown l)) (take_more ss i s small) ∙ ap (map row_of) (map-append series_shown (take i ss) (get_or ss i s ∷ [])) ∙ map-append row_of done (last ∷ []))
+pub rows-more : (helps : Helps) (xs ys : List ShownRow) (ss : List SeriesReading) (i : ℕ) (x : ShownRow) (s : SeriesReading)
+    → i < length ss → s ≡ get_or ss i s → ys ≡ xs ++ x ∷ [] → pair_shown x ≡ pair_of helps (told_of s) → map pair_shown xs ≡ map (pair_of helps) (all_told (take i ss)) → map pair_shown ys ≡ map (pair_of helps) (all_told (take (i + 1) ss))
+rows-more helps xs ys ss i x s small at is shown so =
+    let f : Told → Row × Reading = pair_of helps in
+    let done = all_told (take i ss) in
+    let last : Told = told_of (get_or ss i s) in
+    ap (map pair_shown) is ∙ map-append pair_shown xs (x ∷ []) ∙ ap (λ l. l ++ pair_shown x ∷ []) so ∙ ap (λ r. map f done ++ r ∷ []) (shown ∙ ap (λ q. f (told_of q)) at)
+    ∙ sym (ap (λ l. map f (all_told l)) (take_more ss i s small) ∙ ap (map f) (map-append told_of (take i ss) (get_or ss i s ∷ [])) ∙ map-append f done (last ∷ []))
+
+-- rows by reference, as rows
+rows-first : (rows : List ShownRow) → map (λ (p : Row × Reading). p.0) (map pair_shown rows) ≡ rows_shown rows
+rows-first [] = refl
+rows-first (r ∷ rows) = ap (λ l. row_shown r ∷ l) (rows-first rows)
+
+told-first : (helps : Helps) (told : List Told) → map (λ (p : Row × Reading). p.0) (map (pair_of helps) told) ≡ map (row_of helps) (map (λ t. t.0) told)
+told-first helps [] = refl
+told-first helps (t ∷ told) = ap (λ l. row_of helps t.0 ∷ l) (told-first helps told)
+
+unmapped : (P : Row × Reading → Type 0) (rows : List ShownRow) → AllByRecursion P (map pair_shown rows) → AllByRecursion (λ r. P (pair_shown r)) rows
+unmapped P [] h = tt
+unmapped P (r ∷ rows) h = (h.0, unmapped P rows h.1)
+
+told-read : (helps : Helps) (cells : Cells) (told : List Told) → AllByRecursion (λ t. reading_in cells t.0 ≡ Some t.1) told → AllByRecursion (λ (p : Row × Reading). reading_at cells p.0 ≡ Some p.1) (map (pair_of helps) told)
+told-read helps cells [] h = tt
+told-read helps cells (t ∷ told) h = (h.0, told-read helps cells told h.1)
+
+-- rows of what is held
+pub are-rows : (helps : Helps) (cells : Cells) (rows : List ShownRow) → AreReadings cells (map told_shown rows) → map pair_shown rows ≡ map (pair_of helps) (map told_shown rows) → IsSorted row_cmp (rows_shown rows)
+    → AreRows helps cells (rows_shown rows)
+are-rows helps cells rows are own up =
+    let f : Row × Reading → Row = λ p. p.0 in
+    let told = map told_shown rows in
+    let same : map (row_of helps) (map (λ t. t.0) told) ≡ rows_shown rows = sym (told-first helps told) ∙ ap (map f) (sym own) ∙ rows-first rows in
+    record {
+      keys = map (λ t. t.0) told;
+      once = are.once;
+      held = are.held;
+      same = subst (IsPermutation (map (row_of helps) (map (λ t. t.0) told))) same (IsPermutation-refl (map (row_of helps) (map (λ t. t.0) told)));
+      ordered = up;
+    }
+
+-- and each shows what its series has
+pub rows-show : (helps : Helps) (cells : Cells) (rows : List ShownRow) → AreReadings cells (map told_shown rows) → map pair_shown rows ≡ map (pair_of helps) (map told_shown rows) → AllByRecursion (Shows cells) rows
+rows-show helps cells rows are own =
+    let P : Row × Reading → Type 0 = λ p. reading_at cells p.0 ≡ Some p.1 in
+    unmapped P rows (subst (AllByRecursion P) (sym own) (told-read helps cells (map told_shown rows) are.readings))

@@ -13,20 +13,20 @@ use Rattle.metrics_names.specs.Names.{LabelParts, kind_eq}
 use Rattle.metrics_exporter.specs.Exporting.{Cells, Reading, count, level, samples}
 use Rattle.metrics_prometheus.specs.Labels.{are_fit, shown_labels, AreTexts}
 use Rattle.metrics_prometheus.specs.Samples.{Sample, ascending, bucket_sample}
-use Rattle.metrics_prometheus.specs.Exposition.{Row, samples_of, reading_at, AreRows, IsExposition}
+use Rattle.metrics_prometheus.specs.Exposition.{Row, samples_of, reading_at, AreRows, Helps, IsDescribed}
 use Rattle.metrics_prometheus.specs.Written.{written, samples_written}
-use Rattle.metrics_prometheus.specs.Reading.{HasNames, CanBeRead, Ascend, NamesOnce}
+use Rattle.metrics_prometheus.specs.Reading.{HasNames, CanBeRead, Ascend, NamesOnce, IsSmall, ReadsAs}
 use Rattle.metrics_prometheus.proofs.PairLemmas.{each-map, each-both, each-append, each-flat}
 use Rattle.metrics_prometheus.proofs.WrittenLemmas.{written-each, written-fit}
 use Rattle.metrics_prometheus.proofs.NameLemmas.{metric-name}
 use Rattle.metrics_prometheus.proofs.LabelLemmas.{labels-keyed, shown-each, fit-ascend, once, once-bounded}
-use Rattle.metrics_prometheus.proofs.SampleLemmas.{IsSmall, ReadsAs, with-each}
+use Rattle.metrics_prometheus.proofs.SampleLemmas.{with-each}
 use Rattle.metrics_prometheus.proofs.HeldLemmas.{each-row}
 use Rattle.metrics_prometheus.proofs.TextLineLemmas.{IsPlain, IsNamedRow, samples-plain}
 
 -- ---- names
 
-pub samples-named : (cells : Cells) (text : List ℕ) (e : IsExposition cells text) → AllByRecursion HasNames (samples_written cells e.rows)
+pub samples-named : {helps : Helps} (cells : Cells) (text : List ℕ) (e : IsDescribed helps cells text) → AllByRecursion HasNames (samples_written cells e.rows)
 samples-named cells text e =
     let done = written e.rows None e.rows in
     let named = written-each IsNamedRow e.rows None e.rows (each-row IsNamedRow cells e.rows e.all (λ s held. (metric-name s.key.name, labels-keyed s.key.labels))) in
@@ -39,16 +39,16 @@ samples-named cells text e =
 abbrev IsFit : Row → Type 0
 IsFit r = are_fit r.kind r.labels ≡ true
 
-rows-ascend : (cells : Cells) (rows : List Row) → AreRows cells rows → AllByRecursion (λ r. IsFit r → Ascend r.labels) rows
+rows-ascend : {helps : Helps} (cells : Cells) (rows : List Row) → AreRows helps cells rows → AllByRecursion (λ r. IsFit r → Ascend r.labels) rows
 rows-ascend cells rows are = each-row (λ r. IsFit r → Ascend r.labels) cells rows are (λ s held fit. fit-ascend s.kind s.key.labels fit)
 
-rows-fit : (cells : Cells) (rows : List Row) → AreRows cells rows → AllByRecursion (λ r. IsFit r × Ascend r.labels) (written rows None rows)
+rows-fit : {helps : Helps} (cells : Cells) (rows : List Row) → AreRows helps cells rows → AllByRecursion (λ r. IsFit r × Ascend r.labels) (written rows None rows)
 rows-fit cells rows are =
     let done = written rows None rows in
     each-map (λ r. IsFit r × (IsFit r → Ascend r.labels)) (λ r. IsFit r × Ascend r.labels) (λ r h. (h.0, h.1 h.0)) done
     (each-both IsFit (λ r. IsFit r → Ascend r.labels) done (written-fit rows None rows) (written-each (λ r. IsFit r → Ascend r.labels) rows None rows (rows-ascend cells rows are)))
 
-pub labels-ascend : (cells : Cells) (text : List ℕ) (e : IsExposition cells text) → AllByRecursion (λ r. Ascend r.labels) (written e.rows None e.rows)
+pub labels-ascend : {helps : Helps} (cells : Cells) (text : List ℕ) (e : IsDescribed helps cells text) → AllByRecursion (λ r. Ascend r.labels) (written e.rows None e.rows)
 labels-ascend cells text e = each-map (λ r. IsFit r × Ascend r.labels) (λ r. Ascend r.labels) (λ r h. h.1) (written e.rows None e.rows) (rows-fit cells e.rows e.all)
 
 -- ---- no label twice
@@ -72,7 +72,7 @@ row-once r (Some (samples d)) k fit up =
     each-append NamesOnce (map (λ b. bucket_sample r.name r.labels (signed_decimal b.0) b.1) (ascending d.buckets)) _ (buckets-once r k fit up (ascending d.buckets))
     (once-bounded r.kind r.labels (codes "+Inf") k fit up, (once r.labels up, (once r.labels up, tt)))
 
-pub samples-once : (cells : Cells) → ((r : Row) → IsOfKind r.kind (reading_at cells r)) → (text : List ℕ) (e : IsExposition cells text) → AllByRecursion NamesOnce (samples_written cells e.rows)
+pub samples-once : {helps : Helps} (cells : Cells) → ((r : Row) → IsOfKind r.kind (reading_at cells r)) → (text : List ℕ) (e : IsDescribed helps cells text) → AllByRecursion NamesOnce (samples_written cells e.rows)
 samples-once cells kinds text e =
     let done = written e.rows None e.rows in
     each-flat (λ r. samples_of r (reading_at cells r)) NamesOnce done
@@ -109,14 +109,14 @@ row-texts r (Some (samples d)) k h =
     each-append HasTexts (map (λ b. bucket_sample r.name r.labels (signed_decimal b.0) b.1) (ascending d.buckets)) _ (buckets-texts r h (ascending d.buckets) (with-each IsSmall [] d.buckets tt k.1))
     (bounded-texts r.labels (codes "+Inf") h infinity-text, (h, (h, tt)))
 
-samples-texts : (cells : Cells) → ((r : Row) → ReadsAs r.kind (reading_at cells r)) → (text : List ℕ) (e : IsExposition cells text) → AllByRecursion HasTexts (samples_written cells e.rows)
+samples-texts : {helps : Helps} (cells : Cells) → ((r : Row) → ReadsAs r.kind (reading_at cells r)) → (text : List ℕ) (e : IsDescribed helps cells text) → AllByRecursion HasTexts (samples_written cells e.rows)
 samples-texts cells reads text e =
     let done = written e.rows None e.rows in
     let rows = each-row (λ r. AreTexts r.labels) cells e.rows e.all (λ s held. labels-texts s.key.labels (e.texts s held)) in
     each-flat (λ r. samples_of r (reading_at cells r)) HasTexts done
     (each-map (λ r. AreTexts r.labels) (λ r. AllByRecursion HasTexts (samples_of r (reading_at cells r))) (λ r h. row-texts r (reading_at cells r) (reads r) h) done (written-each (λ r. AreTexts r.labels) e.rows None e.rows rows))
 
-pub samples-read : (cells : Cells) → ((r : Row) → ReadsAs r.kind (reading_at cells r)) → (text : List ℕ) (e : IsExposition cells text) → AllByRecursion CanBeRead (samples_written cells e.rows)
+pub samples-read : {helps : Helps} (cells : Cells) → ((r : Row) → ReadsAs r.kind (reading_at cells r)) → (text : List ℕ) (e : IsDescribed helps cells text) → AllByRecursion CanBeRead (samples_written cells e.rows)
 samples-read cells reads text e =
     let ss = samples_written cells e.rows in
     each-map (λ s. HasNames s × HasTexts s) CanBeRead (λ s h. record { names = h.0; texts = h.1 }) ss (each-both HasNames HasTexts ss (samples-named cells text e) (samples-texts cells reads text e))

@@ -16,6 +16,7 @@ use Rattle.metrics_names.specs.Names.{LabelParts, kind_eq}
 use Rattle.metrics_storage.specs.Histogram.{Distribution}
 use Rattle.metrics_exporter.specs.Exporting.{Reading, count, level, samples}
 use Rattle.metrics_prometheus.specs.Samples.{Sample, bucket_placed, with_buckets, ascending, bucket_sample, histogram_samples}
+use Rattle.metrics_prometheus.specs.Reading.{IsSmall, ReadsAs}
 use Rattle.metrics_prometheus.specs.Exposition.{Row, is_histogram_of, is_part, is_taken, samples_of}
 use Rattle.metrics_prometheus.specs.Written.{AreApart}
 use Rattle.metrics_prometheus.proofs.PairLemmas.{each-map, each-append, Pairs, pairs-append}
@@ -133,9 +134,6 @@ lt-never a b e h = absurd (let g : int_lt b b ≡ true = ap (λ z. int_lt z b) (
 abbrev pub IsBelow : ℤ × ℕ → ℤ × ℕ → Type 0
 IsBelow b c = int_lt b.0 c.0 ≡ true
 
-abbrev pub IsSmall : ℤ × ℕ → Type 0
-IsSmall b = mag b.0 < 2 ^ 63
-
 placed-each : (P : ℤ × ℕ → Type 0) (b : ℤ × ℕ) (cs : List (ℤ × ℕ)) → P b → AllByRecursion P cs → AllByRecursion P (bucket_placed b cs)
 placed-each P b [] h hs = (h, tt)
 placed-each P b (c ∷ cs) h hs =
@@ -225,13 +223,6 @@ module _ (r : Row) (d : Distribution) where
       (part k bucket none refl refl, (part k sum none refl (sym (append-nil r.labels)), (part k number none refl (sym (append-nil r.labels)), tt)))
 
 -- ---- the samples of a row, where its reading is of its kind
-
--- a reading is of the kind, and its bounds are numbers of 64 bits
-abbrev pub ReadsAs : MetricKind → Option Reading → Type 0
-ReadsAs k None = Unit {0}
-ReadsAs k (Some (count n)) = kind_eq k Histogram ≡ false
-ReadsAs k (Some (level n)) = kind_eq k Histogram ≡ false
-ReadsAs k (Some (samples d)) = (kind_eq k Histogram ≡ true) × AllByRecursion IsSmall d.buckets
 
 pub row-differs : (r : Row) (o : Option Reading) → ReadsAs r.kind o → Pairs Differ (samples_of r o)
 row-differs r None h = tt

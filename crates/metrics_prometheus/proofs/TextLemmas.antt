@@ -1,9 +1,11 @@
 -- The text of rows, one row after another.
-use Rattle.std.proofs.Common.{◌≡◌, ◌∙◌, ◌+◌, ◌<◌, ◌++◌, ℕ, Bool, true, false, not, List, Option, Some, None, Result, Ok, Err, MatchResult, length, get_or, drop, refl, cond, ap, sym, append_assoc}
+use Rattle.std.proofs.Common.{◌≡◌, ◌∙◌, ◌+◌, ◌<◌, ◌++◌, ℕ, Bool, true, false, not, List, Option, Some, None, Result, Ok, Err, MatchResult, IfOk, length, get_or, drop, refl, cond, ap, sym, append_assoc}
+use Rattle.std.specs.Prelude.{IfErr}
 use Rattle.std.proofs.lemmas.List.{at_drop_more}
 use Rattle.metrics_exporter.specs.Exporting.{Cells}
-use Rattle.metrics_prometheus.specs.Exposition.{Row, is_left_out, row_text, last_after, rows_text, AreRows, HoldsTexts, IsExposition}
-use Rattle.metrics_prometheus.specs.Rows.{RowParts, row_shown, rows_shown}
+use Rattle.metrics_prometheus.specs.Exposition.{Row, is_left_out, row_text, last_after, rows_text, Helps, AreRows, HoldsTexts, IsDescribed}
+use Rattle.metrics_prometheus.specs.declared.rows.ShownRow.{ShownRow}
+use Rattle.metrics_prometheus.specs.Rows.{row_shown, rows_shown}
 
 if-true : {A : Type 0} (b written : Bool) (x y : A) → written ≡ not b → written ≡ true → y ≡ cond b x y
 if-true true written x y is was = absurd (let e : true ≡ false = sym was ∙ is in cc)
@@ -22,7 +24,7 @@ pub last-kept : (all : List Row) (last : Option Row) (r : Row) (written : Bool) 
 last-kept all last r written is was = if-false (is_left_out all last r) written last (Some r) is was
 
 -- the text with one more row
-pub text-more : (cells : Cells) (all : List Row) (last after : Option Row) (xs : List RowParts) (i : ℕ) (x : RowParts) (before now whole : List ℕ)
+pub text-more : (cells : Cells) (all : List Row) (last after : Option Row) (xs : List ShownRow) (i : ℕ) (x : ShownRow) (before now whole : List ℕ)
     → i < length xs → x ≡ get_or xs i x → now ≡ before ++ row_text cells all last (row_shown x) → after ≡ last_after all last (row_shown x)
     → before ++ rows_text cells all last (rows_shown (drop i xs)) ≡ whole → now ++ rows_text cells all after (rows_shown (drop (i + 1) xs)) ≡ whole
 text-more cells all last after xs i x before now whole small at is then was =
@@ -33,7 +35,17 @@ text-more cells all last after xs i x before now whole small at is then was =
     ∙ was
 
 -- the text of the rows of the held series
-pub text-of-rows : {T E : Type 0} (bytes : T → List ℕ) (P : E → Type 0) (cells : Cells) (rows : List Row) → AreRows cells rows → HoldsTexts cells → (r : Result T E) → MatchResult r (λ t. bytes t ≡ rows_text cells rows None rows) P
-    → MatchResult r (λ t. IsExposition cells (bytes t)) P
-text-of-rows bytes P cells rows all texts (Ok t) is = record { rows = rows; all = all; texts = texts; is = is }
-text-of-rows bytes P cells rows all texts (Err e) is = is
+pub text-of-rows : {T E : Type 0} (bytes : T → List ℕ) (helps : Helps) (cells : Cells) (rows : List Row) → AreRows helps cells rows → HoldsTexts cells → (r : Result T E) → IfOk r (λ t. bytes t ≡ rows_text cells rows None rows)
+    → IfOk r (λ t. IsDescribed helps cells (bytes t))
+text-of-rows bytes helps cells rows all texts (Ok t) is = record { rows = rows; all = all; texts = texts; is = is }
+text-of-rows bytes helps cells rows all texts (Err e) is = tt
+
+-- a result that is both
+pub either-way : {T E : Type 0} (P : T → Type 0) (Q : E → Type 0) (r : Result T E) → IfOk r P → IfErr r Q → MatchResult r P Q
+either-way P Q (Ok t) p q = p
+either-way P Q (Err e) p q = q
+
+-- what follows of an answer
+pub with-first : {T E : Type 0} (r : Result T E) (P Q : T → Type 0) → ((t : T) → P t → Q t) → IfOk r P → IfOk r Q
+with-first (Ok t) P Q f p = f t p
+with-first (Err e) P Q f p = tt

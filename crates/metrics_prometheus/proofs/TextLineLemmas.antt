@@ -9,13 +9,13 @@ use Rattle.metrics_names.specs.declared.kind.MetricKind.{MetricKind}
 use Rattle.metrics_names.specs.declared.kind.MetricKind.TheVariants.{Counter, Gauge, Histogram}
 use Rattle.metrics_exporter.specs.Exporting.{Cells, Reading, count, level, samples}
 use Rattle.metrics_exporter.specs.ExporterText.{kind_word}
-use Rattle.metrics_prometheus.specs.Names.{goes_on, is_name}
+use Rattle.metrics_prometheus.specs.Names.{goes_on, is_name, help_escaped}
 use Rattle.metrics_prometheus.specs.Samples.{Sample, labels_text, sample_line, lines, ascending, bucket_sample}
-use Rattle.metrics_prometheus.specs.Exposition.{Row, is_left_out, type_line, type_text, samples_of, reading_at, left_out_line, rows_text, IsExposition}
-use Rattle.metrics_prometheus.specs.Written.{written, samples_written, has, tells_kind, leaves_out, line_text, sample_in, IsLine, IsReadable, HasSamples}
+use Rattle.metrics_prometheus.specs.Exposition.{Row, is_left_out, help_line, type_line, name_lines, name_text, samples_of, reading_at, left_out_line, rows_text, Helps, IsDescribed}
+use Rattle.metrics_prometheus.specs.Written.{written, samples_written, has, describes, tells_kind, leaves_out, line_text, sample_in, IsLine, IsReadable, HasSamples}
 use Rattle.metrics_prometheus.proofs.PairLemmas.{each-append}
 use Rattle.metrics_prometheus.proofs.NameLemmas.{AreKeyed, metric-name, name-more, named-from}
-use Rattle.metrics_prometheus.proofs.FeedLemmas.{HasNoFeed, join, plain, name-plain, labels-plain, decimal-plain, signed-plain}
+use Rattle.metrics_prometheus.proofs.FeedLemmas.{HasNoFeed, join, plain, name-plain, labels-plain, decimal-plain, signed-plain, help-plain}
 use Rattle.metrics_prometheus.proofs.HeadLemmas.{no-comment}
 use Rattle.metrics_prometheus.proofs.LabelLemmas.{labels-keyed}
 use Rattle.metrics_prometheus.proofs.HeldLemmas.{each-row}
@@ -71,6 +71,20 @@ sample-line s h = record {
 of-type : (r : Row) → IsNamedRow r → HasSamples (type_line r) []
 of-type r h = record { all = tells_kind r ∷ []; text_is = sym (append-nil (type_line r)); readable = (record { ends = type-line r h; comment = refl }, tt); samples_are = refl }
 
+help-line : (name text : List ℕ) → is_name true name ≡ true → IsLine (help_line name (Some text))
+help-line name text h = record {
+  inside = codes "# HELP " ++ (name ++ (32 ∷ help_escaped text));
+  is = ap (λ t. codes "# HELP " ++ t) (sym (append_assoc name (32 ∷ help_escaped text) (10 ∷ [])));
+  none = join (codes "# HELP ") _ (plain (codes "# HELP ") refl) (join name (32 ∷ help_escaped text) (name-plain true name h) (join (32 ∷ []) (help_escaped text) (plain (32 ∷ []) refl) (help-plain text)));
+}
+
+of-help : (name : List ℕ) (help : Option (List ℕ)) → is_name true name ≡ true → HasSamples (help_line name help) []
+of-help name None h = nothing
+of-help name (Some text) h = record { all = describes name text ∷ []; text_is = sym (append-nil (help_line name (Some text))); readable = (record { ends = help-line name text h; comment = refl }, tt); samples_are = refl }
+
+of-lines : (r : Row) → IsNamedRow r → HasSamples (name_lines r) []
+of-lines r h = joined (help_line r.name r.help) (type_line r) [] [] (of-help r.name r.help h.0) (of-type r h)
+
 of-left : (r : Row) → IsNamedRow r → HasSamples (left_out_line r) []
 of-left r h = record { all = leaves_out r ∷ []; text_is = sym (append-nil (left_out_line r)); readable = (record { ends = left-line r h; comment = refl }, tt); samples_are = refl }
 
@@ -85,13 +99,13 @@ of-samples (s ∷ ss) h =
       samples_are = ap (λ l. s ∷ l) rest.samples_are;
     }
 
-of-kind : (last : Option Row) (r : Row) → IsNamedRow r → HasSamples (type_text last r) []
-of-kind None r h = of-type r h
+of-kind : (last : Option Row) (r : Row) → IsNamedRow r → HasSamples (name_text last r) []
+of-kind None r h = of-lines r h
 of-kind (Some w) r h = by-name (bytes_eq w.name r.name)
   where
-    by-name : (b : Bool) → HasSamples (cond b [] (type_line r)) []
+    by-name : (b : Bool) → HasSamples (cond b [] (name_lines r)) []
     by-name true = nothing
-    by-name false = of-type r h
+    by-name false = of-lines r h
 
 -- ---- a row's samples
 
@@ -123,17 +137,17 @@ module _ (cells : Cells) (all : List Row) where
 
   -- a row, and those behind it
   of-row : (last : Option Row) (x : Row) → IsNamedRow x → (xs : List Row) (b : Bool) → ((next : Option Row) → HasSamples (rows_text cells all next xs) (flat_map samples_at (written all next xs)))
-      → HasSamples (cond b (left_out_line x) (type_text last x ++ lines (samples_at x)) ++ rows_text cells all (cond b last (Some x)) xs) (flat_map samples_at (cond b (written all last xs) (x ∷ written all (Some x) xs)))
+      → HasSamples (cond b (left_out_line x) (name_text last x ++ lines (samples_at x)) ++ rows_text cells all (cond b last (Some x)) xs) (flat_map samples_at (cond b (written all last xs) (x ∷ written all (Some x) xs)))
   of-row last x h xs true rest = joined (left_out_line x) (rows_text cells all last xs) [] (flat_map samples_at (written all last xs)) (of-left x h) (rest last)
   of-row last x h xs false rest =
-      joined (type_text last x ++ lines (samples_at x)) (rows_text cells all (Some x) xs) (samples_at x) (flat_map samples_at (written all (Some x) xs))
-      (joined (type_text last x) (lines (samples_at x)) [] (samples_at x) (of-kind last x h) (of-samples (samples_at x) (samples-plain x h (reading_at cells x)))) (rest (Some x))
+      joined (name_text last x ++ lines (samples_at x)) (rows_text cells all (Some x) xs) (samples_at x) (flat_map samples_at (written all (Some x) xs))
+      (joined (name_text last x) (lines (samples_at x)) [] (samples_at x) (of-kind last x h) (of-samples (samples_at x) (samples-plain x h (reading_at cells x)))) (rest (Some x))
 
   of-rows : (xs : List Row) → AllByRecursion IsNamedRow xs → (last : Option Row) → HasSamples (rows_text cells all last xs) (flat_map samples_at (written all last xs))
   of-rows [] h last = nothing
   of-rows (x ∷ xs) h last = of-row last x h.0 xs (is_left_out all last x) (λ next. of-rows xs h.1 next)
 
-pub text-has : (cells : Cells) (text : List ℕ) (e : IsExposition cells text) → HasSamples text (samples_written cells e.rows)
+pub text-has : {helps : Helps} (cells : Cells) (text : List ℕ) (e : IsDescribed helps cells text) → HasSamples text (samples_written cells e.rows)
 text-has cells text e =
     let h = of-rows cells e.rows e.rows (each-row IsNamedRow cells e.rows e.all (λ s held. (metric-name s.key.name, labels-keyed s.key.labels))) None in
     record { all = h.all; text_is = e.is ∙ h.text_is; readable = h.readable; samples_are = h.samples_are }

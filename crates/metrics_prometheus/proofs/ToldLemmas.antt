@@ -2,25 +2,22 @@
 use Rattle.std.proofs.Common.{◌≡◌, ◌∙◌, ◌⊎◌, ◌↔◌, inl, inr, ℕ, zero, suc, Bool, true, false, not, ◌&&◌, ◌||◌, cond, List, [], ◌∷◌, ◌++◌, map, Contains, Option, Some, None, refl, ap, sym, subst, arith, append_assoc}
 use Rattle.std.specs.Prelude.{bytes_eq}
 use Rattle.std.specs.List.{AllByRecursion, IsDistinct}
-use Rattle.std.specs.List.Sorted.{IsSorted, IsStrictlySortedBy}
-use Rattle.std.specs.Cmp.{IsTotalOrder}
+use Rattle.std.specs.List.Sorted.{IsSorted}
 use Rattle.std.specs.Cmp.Lexicographic.{pointwise}
-use Rattle.std.specs.declared.cmp.Ordering.TheVariants.{Less}
 use Rattle.std.proofs.lemmas.Bool.Decides.{same_from_decides}
-use Rattle.std.proofs.lemmas.Cmp.{nat_list_cmp_total, lists_total, then_total, on_total, nat_cmp_total}
 use Rattle.std.proofs.lemmas.List.Sorted.{Contains-permutation}
 use Rattle.std.proofs.lemmas.Map.Keys.{IsDistinct-IsPermutation}
-use Rattle.metrics_names.specs.Names.{SeriesKey, kind_number, kind_eq, label_eq, series_key_eq, series_key_cmp}
+use Rattle.metrics_names.specs.Names.{SeriesKey, kind_eq, label_eq, series_key_eq}
 use Rattle.metrics_names.specs.Equality.{kind_eq-Decides, series_key_eq-Decides, key_exact}
 use Rattle.metrics_exporter.specs.Exporting.{Cells, IsHeld}
 use Rattle.metrics_exporter.specs.Gathering.{series_at}
 use Rattle.metrics_prometheus.specs.Samples.{lines}
 use Rattle.metrics_prometheus.specs.Labels.{are_fit}
-use Rattle.metrics_prometheus.specs.Exposition.{Row, row_of, row_cmp, is_taken, clashes, is_left_out, type_text, samples_of, reading_at, left_out_line, row_text, last_after, rows_text, AreRows, IsExposition}
+use Rattle.metrics_prometheus.specs.Exposition.{Row, row_of, row_cmp, is_taken, clashes, is_left_out, name_text, samples_of, reading_at, left_out_line, row_text, last_after, rows_text, Helps, AreRows, IsDescribed}
 use Rattle.metrics_prometheus.specs.Written.{written, AreApart, MayStand, IsTold, shown, left_out}
 use Rattle.metrics_prometheus.proofs.PairLemmas.{each-map, each-in, in-first, in-later, in-split, in-none, Pairs}
 use Rattle.metrics_prometheus.proofs.SameLemmas.{same-bytes, same-labels}
-use Rattle.metrics_prometheus.proofs.WrittenLemmas.{IsBefore, before-apart, never, label_total, written-ascend, written-fit, written-free}
+use Rattle.metrics_prometheus.proofs.WrittenLemmas.{IsBefore, before-apart, written-ascend, written-fit, written-free}
 use Rattle.metrics_prometheus.proofs.RowLemmas.{map-length, map-get}
 
 -- what keeps a row from the text: its own labels or name, or one of the rows that are written in all
@@ -79,7 +76,7 @@ module _ (cells : Cells) (all whole : List Row) where
   part-of (x ∷ xs) last r apart known among has = elim (in-split x xs r has) [
     | inl e ↦
         let P : Row → Type 0 = λ q. Part cells all whole q (rows_text cells all last (x ∷ xs)) (written all last (x ∷ xs)) in
-        subst P e (here x (type_text last x) (rows_text cells all (last_after all last x) xs) (is_left_out all last x) (written all last xs) (written all (Some x) xs) (blocked last x xs known))
+        subst P e (here x (name_text last x) (rows_text cells all (last_after all last x) xs) (is_left_out all last x) (written all last xs) (written all (Some x) xs) (blocked last x xs known))
     | inr its ↦
         behind x r (row_text cells all last x) (rows_text cells all (last_after all last x) xs) (is_left_out all last x) (written all last xs) (written all (Some x) xs)
         (rest-of last x xs r (is_left_out all last x) known apart.0 among (λ next known among. part-of xs next r apart.1 known among its))
@@ -145,27 +142,24 @@ blocked-stays rows r (inr (w, has, other, out)) may =
 abbrev series_of_row : Row → SeriesKey
 series_of_row r = series_at r.kind r.key
 
-key_total : IsTotalOrder series_key_cmp
-key_total = then_total (on_total (λ k. kind_number k.kind) nat_cmp_total) (on_total (λ k. k.key) (then_total (on_total (λ k. k.name) nat_list_cmp_total) (on_total (λ k. k.labels) (lists_total label_total))))
-
-keys-differ : (ks : List SeriesKey) → IsStrictlySortedBy series_key_cmp ks → Pairs (λ a b. a ≡ b → ⊥) ks
-unfolding IsStrictlySortedBy
-keys-differ [] up = tt
-keys-differ (k ∷ ks) up = (each-map (λ j. series_key_cmp k j ≡ Less) (λ j. k ≡ j → ⊥) (λ j less e. never series_key_cmp key_total j (ap (λ i. series_key_cmp i j) (sym e) ∙ less)) ks up.0, keys-differ ks up.1)
+keys-differ : (ks : List SeriesKey) → IsDistinct series_key_eq ks → Pairs (λ a b. a ≡ b → ⊥) ks
+unfolding IsDistinct
+keys-differ [] h = tt
+keys-differ (k ∷ ks) h = (each-map (λ j. series_key_eq k j ≡ false) (λ j. k ≡ j → ⊥) (λ j no e. let g : true ≡ false = sym ((series_key_eq-Decides k j).1 e) ∙ no in cc) ks h.0, keys-differ ks h.1)
 
 abbrev same_row : Row → Row → Bool
 same_row a b = series_key_eq (series_of_row a) (series_of_row b)
 
-tests-from : (ks : List SeriesKey) → Pairs (λ a b. a ≡ b → ⊥) ks → IsDistinct same_row (map row_of ks)
+tests-from : (helps : Helps) (ks : List SeriesKey) → Pairs (λ a b. a ≡ b → ⊥) ks → IsDistinct same_row (map (row_of helps) ks)
 unfolding IsDistinct
-tests-from [] p = tt
-tests-from (k ∷ ks) p = (each k ks p.0, tests-from ks p.1)
+tests-from helps [] p = tt
+tests-from helps (k ∷ ks) p = (each k ks p.0, tests-from helps ks p.1)
   where
     none-true : (b : Bool) → (b ≡ true → ⊥) → b ≡ false
     none-true true h = absurd (h refl)
     none-true false h = refl
 
-    each : (k : SeriesKey) (ks : List SeriesKey) → AllByRecursion (λ j. k ≡ j → ⊥) ks → AllByRecursion (λ r. same_row (row_of k) r ≡ false) (map row_of ks)
+    each : (k : SeriesKey) (ks : List SeriesKey) → AllByRecursion (λ j. k ≡ j → ⊥) ks → AllByRecursion (λ r. same_row (row_of helps k) r ≡ false) (map (row_of helps) ks)
     each k [] h = tt
     each k (j ∷ js) h = (none-true (series_key_eq k j) (λ e. h.0 (key_exact k j e)), each k js h.1)
 
@@ -183,14 +177,14 @@ differ-from [] h = tt
 differ-from (r ∷ rs) h =
     (each-map (λ q. same_row r q ≡ false) (λ q. r ≡ q → ⊥) (λ q no e. let g : true ≡ false = sym ((series_key_eq-Decides (series_of_row r) (series_of_row q)).1 (ap series_of_row e)) ∙ no in cc) rs h.0, differ-from rs h.1)
 
-rows-apart : (cells : Cells) (rows : List Row) → AreRows cells rows → Pairs (λ p q. p ≡ q → ⊥) rows
-rows-apart cells rows are = differ-from rows (IsDistinct-IsPermutation same_row flips (map row_of are.keys) rows are.same (tests-from are.keys (keys-differ are.keys are.series.ascending)))
+rows-apart : {helps : Helps} (cells : Cells) (rows : List Row) → AreRows helps cells rows → Pairs (λ p q. p ≡ q → ⊥) rows
+rows-apart {helps} cells rows are = differ-from rows (IsDistinct-IsPermutation same_row flips (map (row_of helps) are.keys) rows are.same (tests-from helps are.keys (keys-differ are.keys are.once)))
 
-row-held : (cells : Cells) (rows : List Row) → AreRows cells rows → (s : SeriesKey) → IsHeld cells s → Contains rows (row_of s)
-row-held cells rows are s held = Contains-permutation (map row_of are.keys) rows (row_of s) are.same (mapped ((are.series.held s).1 held))
+row-held : {helps : Helps} (cells : Cells) (rows : List Row) → AreRows helps cells rows → (s : SeriesKey) → IsHeld cells s → Contains rows (row_of helps s)
+row-held {helps} cells rows are s held = Contains-permutation (map (row_of helps) are.keys) rows (row_of helps s) are.same (mapped ((are.held s).1 held))
   where
-    mapped : Contains are.keys s → Contains (map row_of are.keys) (row_of s)
-    mapped (k, small, is) = (k, omega (arith, small, map-length row_of are.keys), map-get row_of are.keys k (row_of s) s small ∙ ap row_of is)
+    mapped : Contains are.keys s → Contains (map (row_of helps) are.keys) (row_of helps s)
+    mapped (k, small, is) = (k, omega (arith, small, map-length (row_of helps) are.keys), map-get (row_of helps) are.keys k (row_of helps s) s small ∙ ap (row_of helps) is)
 
 told-of : (cells : Cells) (rows : List Row) → IsSorted row_cmp rows → (text : List ℕ) (r : Row) → text ≡ rows_text cells rows None rows
     → Part cells rows (written rows None rows) r (rows_text cells rows None rows) (written rows None rows) → IsTold cells rows text r
@@ -201,12 +195,12 @@ stands-of : (cells : Cells) (rows : List Row) (r : Row) → Part cells rows (wri
 stands-of cells rows r (with-samples before after has is) may = has
 stands-of cells rows r (with-line out before after is) may = absurd (blocked-stays rows r out may)
 
-module _ (cells : Cells) (text : List ℕ) (e : IsExposition cells text) (s : SeriesKey) (held : IsHeld cells s) where
-  part : Part cells e.rows (written e.rows None e.rows) (row_of s) (rows_text cells e.rows None e.rows) (written e.rows None e.rows)
-  part = part-all cells e.rows (row_of s) (rows-apart cells e.rows e.all) (row-held cells e.rows e.all s held)
+module _ (helps : Helps) (cells : Cells) (text : List ℕ) (e : IsDescribed helps cells text) (s : SeriesKey) (held : IsHeld cells s) where
+  part : Part cells e.rows (written e.rows None e.rows) (row_of helps s) (rows_text cells e.rows None e.rows) (written e.rows None e.rows)
+  part = part-all cells e.rows (row_of helps s) (rows-apart cells e.rows e.all) (row-held cells e.rows e.all s held)
 
-  pub series-told : IsTold cells e.rows text (row_of s)
-  series-told = told-of cells e.rows e.all.ordered text (row_of s) e.is part
+  pub series-told : IsTold cells e.rows text (row_of helps s)
+  series-told = told-of cells e.rows e.all.ordered text (row_of helps s) e.is part
 
-  pub series-written : Contains (written e.rows None e.rows) (row_of s) ↔ MayStand e.rows (row_of s)
-  series-written = (written-stands e.rows e.all.ordered (row_of s), stands-of cells e.rows (row_of s) part)
+  pub series-written : Contains (written e.rows None e.rows) (row_of helps s) ↔ MayStand e.rows (row_of helps s)
+  series-written = (written-stands e.rows e.all.ordered (row_of helps s), stands-of cells e.rows (row_of helps s) part)

@@ -155,7 +155,7 @@ written-free all last (r ∷ rs) =
 pub rows-up : IsTotalOrder row_cmp → (rows : List Row) → IsSorted row_cmp rows → Pairs IsUp rows
 rows-up total rows up = pairs-from-places IsUp rows (λ i j d below small. sorted_far (λ a b. is_lt (row_cmp a b)) (ranks_by total (λ r. r)) rows up i j d (omega (arith, below)) small)
 
-row_total : IsTotalOrder row_cmp
+pub row_total : IsTotalOrder row_cmp
 row_total =
     then_total (on_total (λ r. r.name) nat_list_cmp_total) (then_total (on_total (λ r. kind_number r.kind) nat_cmp_total) (then_total (on_total (λ r. r.labels) label_lists_total) (on_total (λ r. r.key) (then_total (on_total (λ k. k.name) nat_list_cmp_total) (on_total (λ k. k.labels) label_lists_total)))))
 

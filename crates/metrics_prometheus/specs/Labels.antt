@@ -1,5 +1,5 @@
 -- The labels of a series as Prometheus is shown them.
-use Rattle.std.specs.Prelude.{if◌then◌else◌, ℕ, Bool, false, not, ◌&&◌, ◌||◌, List, [], ◌∷◌, codes, bytes_eq}
+use Rattle.std.specs.Prelude.{if◌then◌else◌, ℕ, Bool, false, not, ◌&&◌, ◌||◌, List, [], ◌∷◌, codes, bytes_eq, Option, None, Some}
 use Rattle.std.specs.List.{AllByRecursion, list_any}
 use Rattle.std.specs.Str.{IsUtf8}
 use Rattle.std.specs.Ordering.{is_lt}
@@ -42,3 +42,13 @@ are_fit kind labels = not (repeats labels) && not (list_any (λ l. is_reserved k
 -- the values of labels are UTF-8
 abbrev pub AreTexts : List LabelParts → Type 0
 AreTexts labels = AllByRecursion (λ l. IsUtf8 l.1) labels
+
+-- a name is the one before
+abbrev pub is_last : Option (List ℕ) → List ℕ → Bool
+is_last None name = false
+is_last (Some last) name = bytes_eq name last
+
+-- a label has the name of the one before
+abbrev pub follows : Option (List ℕ) → List LabelParts → Bool
+follows last [] = false
+follows last (l ∷ ls) = is_last last l.0 || follows (Some l.0) ls

@@ -41,3 +41,10 @@ escape c = if nat_eq c 92 then codes "\\\\" else (if nat_eq c 34 then codes "\\\
 
 abbrev pub escaped : List ℕ → List ℕ
 escaped value = flat_map escape (chars value)
+
+-- the same of a description, where a double quote stays
+abbrev pub help_escape : ℕ → List ℕ
+help_escape c = if nat_eq c 92 then codes "\\\\" else (if nat_eq c 10 then codes "\\n" else encode_utf8 c)
+
+abbrev pub help_escaped : List ℕ → List ℕ
+help_escaped text = flat_map help_escape (chars text)

@@ -1,11 +1,16 @@
 -- What a reader of a text needs of its samples.
-use Rattle.std.specs.Prelude.{◌≡◌, ◌↔◌, ◌≤◌, ◌<ℤ◌, ℕ, ℤ, Bool, true, false, List, ◌++◌, map, Contains, AllPairs, bytes_eq}
+use Rattle.std.specs.Prelude.{◌≡◌, ◌↔◌, ◌≤◌, ◌<◌, ◌^◌, ◌<ℤ◌, ℕ, ℤ, Bool, true, false, List, ◌++◌, map, Contains, AllPairs, bytes_eq, Option, None, Some}
+use Rattle.std.specs.Int.Signed.{mag}
 use Rattle.std.specs.Fmt.{signed_decimal}
 use Rattle.std.specs.List.{AllByRecursion, IsDistinct}
 use Rattle.std.specs.List.Sorted.{IsStrictlySortedBy}
 use Rattle.std.specs.Cmp.Lexicographic.{slice_cmp}
 use Rattle.std.specs.Ordering.{nat_cmp, on}
-use Rattle.metrics_names.specs.Names.{LabelParts}
+use Rattle.metrics_names.specs.declared.kind.MetricKind.{MetricKind}
+use Rattle.metrics_names.specs.declared.kind.MetricKind.TheVariants.{Histogram}
+use Rattle.metrics_names.specs.Names.{LabelParts, SeriesKey, kind_eq}
+use Rattle.metrics_exporter.specs.Exporting.{Cells, Reading, count, level, samples}
+use Rattle.metrics_exporter.specs.Readings.{reading_in}
 use Rattle.metrics_storage.specs.Histogram.{Distribution}
 use Rattle.metrics_prometheus.specs.Names.{is_name}
 use Rattle.metrics_prometheus.specs.Labels.{AreTexts}
@@ -32,6 +37,23 @@ Ascend labels = IsStrictlySortedBy (on (λ l. l.0) (slice_cmp nat_cmp)) labels
 -- no two labels of a sample have one name
 abbrev pub NamesOnce : Sample → Type 0
 NamesOnce s = IsDistinct (λ l m. bytes_eq l.0 m.0) s.labels
+
+-- ---- what is held
+
+-- the bound of a bucket is a number of 64 bits
+abbrev pub IsSmall : ℤ × ℕ → Type 0
+IsSmall b = mag b.0 < 2 ^ 63
+
+-- a reading is of the kind, and its bounds are numbers of 64 bits
+abbrev pub ReadsAs : MetricKind → Option Reading → Type 0
+ReadsAs k None = Unit {0}
+ReadsAs k (Some (count n)) = kind_eq k Histogram ≡ false
+ReadsAs k (Some (level n)) = kind_eq k Histogram ≡ false
+ReadsAs k (Some (samples d)) = (kind_eq k Histogram ≡ true) × AllByRecursion IsSmall d.buckets
+
+-- so it is of each series
+abbrev pub AreOfKinds : Cells → Type 0
+AreOfKinds cells = (s : SeriesKey) → ReadsAs s.kind (reading_in cells s)
 
 -- ---- the samples of a histogram
 

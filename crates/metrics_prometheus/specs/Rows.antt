@@ -1,16 +1,56 @@
--- Rows by reference.
-use Rattle.std.specs.Prelude.{ℕ, List, map}
-use Rattle.std.specs.Borrow.{Bor}
-use Rattle.metrics_names.specs.declared.kind.MetricKind.{MetricKind}
-use Rattle.metrics_names.specs.Names.{KeyParts}
-use Rattle.metrics_prometheus.specs.Exposition.{Row}
+-- Rows by reference, each with what it shows.
+use Rattle.std.specs.Prelude.{◌≡◌, ℕ, List, map, Option, Some, option_map}
+use Rattle.std.specs.List.{AllByRecursion}
+use Rattle.std.specs.List.Sorted.{IsSorted}
+use Rattle.std.specs.Cmp.Lexicographic.{slice_cmp}
+use Rattle.std.specs.Ordering.{nat_cmp, ordering_then}
+use Rattle.std.specs.declared.cmp.Ordering.{Ordering}
+use Rattle.metrics_names.specs.declared.kind.MetricKind.TheVariants.{Histogram}
+use Rattle.metrics_names.specs.Names.{kind_number, label_cmp}
+use Rattle.metrics_exporter.specs.Exporting.{Reading, Cells}
+use Rattle.metrics_exporter.specs.Describing.{Legend, described_by}
+use Rattle.metrics_exporter.specs.declared.descriptions.Descriptions.{Descriptions}
+use Rattle.metrics_exporter.specs.Gathering.{series_at}
+use Rattle.metrics_exporter.specs.Readings.{Told, reading_shown, AreOnce}
+use Rattle.metrics_prometheus.specs.declared.rows.ShownRow.{ShownRow}
+use Rattle.metrics_prometheus.specs.Exposition.{Row, Helps, row_of, row_cmp, reading_at}
 
-abbrev pub RowParts : Type 0
-RowParts = List ℕ × MetricKind × List (List ℕ × List ℕ) × Bor KeyParts
+-- the texts of what is told of names
+abbrev pub helps_in : Legend → Helps
+helps_in told kind name = (told kind name).text
 
--- the row that a name, a kind, labels and a reference to the key make
-abbrev pub row_shown : RowParts → Row
-row_shown r = record { name = r.0; kind = r.1; labels = r.2; key = r.3.now }
+abbrev pub helps_of : Descriptions → Helps
+helps_of d = helps_in (described_by d)
 
-abbrev pub rows_shown : List RowParts → List Row
+-- the row that a reference shows
+abbrev pub row_shown : ShownRow → Row
+row_shown r = record { name = r.name; kind = r.kind; labels = r.labels; key = r.key.now; help = option_map (λ t. t.now) r.help }
+
+abbrev pub rows_shown : List ShownRow → List Row
 rows_shown rows = map row_shown rows
+
+-- the row, and what it shows
+abbrev pub pair_shown : ShownRow → Row × Reading
+pair_shown r = (row_shown r, reading_shown r.reading)
+
+abbrev pub pair_of : Helps → Told → Row × Reading
+pair_of helps t = (row_of helps t.0, t.1)
+
+-- a row shows what its series has
+abbrev pub Shows : Cells → ShownRow → Type 0
+Shows cells r = reading_at cells (row_shown r) ≡ Some (reading_shown r.reading)
+
+-- the series of a row with what it shows
+abbrev pub told_shown : ShownRow → Told
+told_shown r = (series_at r.kind r.key.now, reading_shown r.reading)
+
+-- rows are those of their series, in order, of which each comes once
+pub record AreRowsOf (helps : Helps) (told : List Told) (rows : List ShownRow) : Type 0 where
+  pub own : map pair_shown rows ≡ map (pair_of helps) (map told_shown rows)
+  pub once : AreOnce told (map told_shown rows)
+  pub ordered : IsSorted row_cmp (rows_shown rows)
+  pub labels : AllByRecursion (λ r. IsSorted label_cmp r.labels) rows
+
+-- where a row stands to the histograms of a name
+abbrev pub histogram_place : List ℕ → Row → Ordering
+histogram_place name r = ordering_then (slice_cmp nat_cmp r.name name) (nat_cmp (kind_number r.kind) (kind_number Histogram))

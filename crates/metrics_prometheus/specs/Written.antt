@@ -6,7 +6,7 @@ use Rattle.metrics_names.specs.Names.{label_eq}
 use Rattle.metrics_exporter.specs.Exporting.{Cells}
 use Rattle.metrics_prometheus.specs.Samples.{Sample, sample_line, lines}
 use Rattle.metrics_prometheus.specs.Labels.{are_fit}
-use Rattle.metrics_prometheus.specs.Exposition.{Row, is_taken, is_left_out, samples_of, reading_at, type_line, left_out_line}
+use Rattle.metrics_prometheus.specs.Exposition.{Row, is_taken, is_left_out, samples_of, reading_at, help_line, type_line, left_out_line}
 
 -- the rows that are not left out
 abbrev pub written : List Row → Option Row → List Row → List Row
@@ -39,19 +39,22 @@ pub data IsTold (cells : Cells) (rows : List Row) (text : List ℕ) (r : Row) : 
 
 -- ---- the lines of a text
 
--- a line has a sample, or it tells the kind of a row's name or that a row is left out
+-- a line has a sample, or it describes a name, or tells the kind of a row's name or that a row is left out
 pub data Line : Type 0 where
   has : Sample → Line
+  describes : List ℕ → List ℕ → Line
   tells_kind : Row → Line
   leaves_out : Row → Line
 
 abbrev pub line_text : Line → List ℕ
 line_text (has s) = sample_line s
+line_text (describes name text) = help_line name (Some text)
 line_text (tells_kind r) = type_line r
 line_text (leaves_out r) = left_out_line r
 
 abbrev pub sample_in : Line → Option Sample
 sample_in (has s) = Some s
+sample_in (describes name text) = None
 sample_in (tells_kind r) = None
 sample_in (leaves_out r) = None
 

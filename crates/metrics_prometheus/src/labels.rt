@@ -1,10 +1,12 @@
 //! The labels of a series as Prometheus is shown them.
-ghost use Rattle.std.specs.Prelude.{◌≡◌, ◌≤◌, length, insert, bytes_eq, MatchResult, OnOk, All};
+ghost use Rattle.std.specs.Prelude.{◌≡◌, ◌≤◌, length, insert, MatchResult, IfOk, OnOk, All, option_map};
 ghost use Rattle.std.specs.List.{list_any};
+ghost use Rattle.std.specs.List.Sorted.{IsSorted};
+ghost use Rattle.std.specs.Ordering.{is_lt};
 ghost use Rattle.std.specs.Str.{IsUtf8};
 ghost use Rattle.metrics.specs.declared.error.Error.TheVariants.{Memory as OutOfMemory};
 ghost use Rattle.metrics_names.specs.Names.{LabelParts, label_cmp};
-ghost use Rattle.metrics_prometheus.specs.Labels.{placed, added, shown_labels, repeats, is_reserved, are_fit};
+ghost use Rattle.metrics_prometheus.specs.Labels.{placed, added, shown_labels, repeats, is_last, is_reserved, are_fit};
 
 use crate::names::label_name;
 use metrics::{Error, Label, MetricKind};
@@ -15,22 +17,26 @@ fn label_order()
     ensures { (a b : LabelParts) → ⟦<Label as Ord>⟧.cmp a b ≡ label_cmp a b }
 {}
 
+/// Whether a label stands before another.
+fn is_before(label: &Label, other: &Label) -> bool
+    ensures { result ≡ is_lt (label_cmp label.now other.now) }
+{
+    label_order();
+    label.cmp(other).is_lt()
+}
+
 /// The place of a label among others in order.
 fn place_of(labels: &[Label], label: &Label) -> usize
+    requires { IsSorted label_cmp labels.now }
     ensures within { result ≤ length labels.now }
     ensures placed { insert labels.now result label.now ≡ placed label.now labels.now }
 {
-    label_order();
-    for at in 0..labels.len() {
-        if label.cmp(&labels[at]).is_lt() {
-            return at;
-        }
-    }
-    labels.len()
+    labels.partition_point(|other| !is_before(label, other))
 }
 
 /// Adds a label by its name as Prometheus allows it, unless it has no value.
 fn add_label(alloc: Global, shown: &mut Vec<Label>, label: &Label) -> Result<(), Error>
+    requires { IsSorted label_cmp shown.old.items }
     ensures shown { MatchResult result (λ _. shown.new.items ≡ added label.now.0 label.now.1 shown.old.items)
         (λ e. e ≡ OutOfMemory) }
     ensures text { OnOk result (IsUtf8 label.now.1) }
@@ -49,6 +55,7 @@ fn add_label(alloc: Global, shown: &mut Vec<Label>, label: &Label) -> Result<(),
 /// The labels that Prometheus is shown, in order of their names.
 pub(crate) fn shown_labels(alloc: Global, labels: &[Label]) -> Result<Vec<Label>, Error>
     ensures shown { MatchResult result (λ shown. shown.items ≡ shown_labels labels.now) (λ e. e ≡ OutOfMemory) }
+    ensures sorted { IfOk result (λ shown. IsSorted label_cmp shown.items) }
     ensures texts { OnOk result (All (λ l. IsUtf8 l.1) labels.now) }
 {
     let mut shown = Vec::new(alloc);
@@ -58,26 +65,27 @@ pub(crate) fn shown_labels(alloc: Global, labels: &[Label]) -> Result<Vec<Label>
     Ok(shown)
 }
 
-/// Whether a label has this name.
-fn has_name(labels: &[Label], name: &str) -> bool
-    ensures { result ≡ list_any (λ m. bytes_eq m.0 name.now) labels.now }
+/// Whether a name is the one before.
+fn is_last(last: Option<&str>, name: &str) -> bool
+    ensures { result ≡ is_last (option_map (λ l. l.now) last.entry) name.now }
 {
-    for label in labels {
-        if label.key() == name {
-            return true;
-        }
+    match last {
+        Some(last) => name == last,
+        None => false,
     }
-    false
 }
 
-/// Whether two labels have one name.
+/// Whether two labels, of some in order, have one name.
 fn repeats(labels: &[Label]) -> bool
+    requires { IsSorted label_cmp labels.now }
     ensures { result ≡ repeats labels.now }
 {
-    for at in 0..labels.len() {
-        if has_name(&labels[at + 1..], labels[at].key()) {
+    let mut last = None;
+    for label in labels {
+        if is_last(last, label.key()) {
             return true;
         }
+        last = Some(label.key());
     }
     false
 }
@@ -102,6 +110,7 @@ fn has_reserved(kind: MetricKind, labels: &[Label]) -> bool
 
 /// Whether a series of the kind can be shown with these labels.
 pub(crate) fn are_fit(kind: MetricKind, labels: &[Label]) -> bool
+    requires { IsSorted label_cmp labels.now }
     ensures { result ≡ are_fit kind labels.now }
 {
     !repeats(labels) && !has_reserved(kind, labels)

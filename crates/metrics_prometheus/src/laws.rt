@@ -6,10 +6,10 @@ ghost use Rattle.std.specs.List.{IsDistinct};
 ghost use Rattle.metrics_names.specs.Names.{SeriesKey};
 ghost use Rattle.metrics_storage.specs.Histogram.{Distribution};
 ghost use Rattle.metrics_exporter.specs.Exporting.{samples, Cells, Setup, Step, IsHeld, cells_after};
-ghost use Rattle.metrics_prometheus.specs.Exposition.{IsExposition, Row, row_of, reading_at, samples_of};
+ghost use Rattle.metrics_prometheus.specs.Exposition.{Helps, IsDescribed, Row, row_of, reading_at, samples_of};
 ghost use Rattle.metrics_prometheus.specs.Written.{written, samples_written, is_same_series};
 ghost use Rattle.metrics_prometheus.specs.Samples.{Sample, series_text};
-ghost use Rattle.metrics_prometheus.specs.Reading.{AreBuckets, HasNames, CanBeRead, is_same_text, Ascend, NamesOnce};
+ghost use Rattle.metrics_prometheus.specs.Reading.{AreOfKinds, AreBuckets, HasNames, CanBeRead, is_same_text, Ascend, NamesOnce};
 ghost use Rattle.metrics_prometheus.specs.Written.{AreApart, HasSamples, MayStand, IsTold};
 
 use crate::rows::row_order;
@@ -17,25 +17,26 @@ use crate::rows::row_order;
 /// Takes nothing and does nothing: its contract has the laws of the text.
 pub fn exposition_law()
     // A text consists of lines, which end at its line feeds: these samples, in this order, and comments, which begin with `#`.
-    ensures samples { (cells : Cells) (text : List ℕ) (e : IsExposition cells text)
+    ensures samples { (helps : Helps) (cells : Cells) (text : List ℕ) (e : IsDescribed helps cells text)
         → HasSamples text (samples_written cells e.rows) }
     // No two of these samples have the same name and labels.
-    ensures distinct { (setup : Setup) (xs : List Step) (text : List ℕ) → All (FitsSigned w64) setup.bounds
-        → (e : IsExposition (cells_after setup xs) text)
-        → IsDistinct is_same_series (samples_written (cells_after setup xs) e.rows) }
+    ensures distinct { (helps : Helps) (cells : Cells) (text : List ℕ) → AreOfKinds cells → (e : IsDescribed helps cells text)
+        → IsDistinct is_same_series (samples_written cells e.rows) }
     // A name that is written has one kind.
-    ensures apart { (cells : Cells) (text : List ℕ) (e : IsExposition cells text)
+    ensures apart { (helps : Helps) (cells : Cells) (text : List ℕ) (e : IsDescribed helps cells text)
         → AllPairs AreApart (written e.rows None e.rows) }
     // The buckets of a histogram ascend, and +Inf's, the last one, has the count.
     ensures buckets { (setup : Setup) (xs : List Step) (r : Row) (d : Distribution)
         → reading_at (cells_after setup xs) r ≡ Some (samples d)
         → AreBuckets r.name r.labels d (samples_of r (reading_at (cells_after setup xs) r)) }
     // A held series' row is written exactly where nothing keeps it from the text.
-    ensures written { (cells : Cells) (text : List ℕ) (e : IsExposition cells text) (s : SeriesKey) → IsHeld cells s
-        → Contains (written e.rows None e.rows) (row_of s) ↔ MayStand e.rows (row_of s) }
+    ensures written { (helps : Helps) (cells : Cells) (text : List ℕ) (e : IsDescribed helps cells text) (s : SeriesKey)
+        → IsHeld cells s → Contains (written e.rows None e.rows) (row_of helps s) ↔ MayStand e.rows (row_of helps s) }
     // It has its samples in the text, or, where something keeps it from the text, a line that says that it is left out.
-    ensures told { (cells : Cells) (text : List ℕ) (e : IsExposition cells text) (s : SeriesKey) → IsHeld cells s
-        → IsTold cells e.rows text (row_of s) }
+    ensures told { (helps : Helps) (cells : Cells) (text : List ℕ) (e : IsDescribed helps cells text) (s : SeriesKey)
+        → IsHeld cells s → IsTold cells e.rows text (row_of helps s) }
+    // What an exporter holds is of the kinds of its series.
+    ensures kinds { (setup : Setup) (xs : List Step) → All (FitsSigned w64) setup.bounds → AreOfKinds (cells_after setup xs) }
 {
     row_order();
 }
@@ -43,12 +44,11 @@ pub fn exposition_law()
 /// Takes nothing and does nothing: its contract has the laws of what a reader finds in the text.
 pub fn exposition_text_law()
     // The names of samples and of their labels are such as Prometheus allows.
-    ensures names { (cells : Cells) (text : List ℕ) (e : IsExposition cells text)
+    ensures names { (helps : Helps) (cells : Cells) (text : List ℕ) (e : IsDescribed helps cells text)
         → All HasNames (samples_written cells e.rows) }
     // They and the values of the labels can be read.
-    ensures readable { (setup : Setup) (xs : List Step) (text : List ℕ) → All (FitsSigned w64) setup.bounds
-        → (e : IsExposition (cells_after setup xs) text)
-        → All CanBeRead (samples_written (cells_after setup xs) e.rows) }
+    ensures readable { (helps : Helps) (cells : Cells) (text : List ℕ) → AreOfKinds cells → (e : IsDescribed helps cells text)
+        → All CanBeRead (samples_written cells e.rows) }
     // Of a sample that can be read, what stands in front of its value tells its name and its labels.
     ensures read_back { (s t : Sample) → CanBeRead s → CanBeRead t
         → (x y : List ℕ) → series_text s ++ 32 ∷ x ≡ series_text t ++ 32 ∷ y
@@ -57,13 +57,12 @@ pub fn exposition_text_law()
     ensures one_reading { (text : List ℕ) (ss ts : List Sample) → HasSamples text ss → HasSamples text ts
         → All CanBeRead ss → All CanBeRead ts → ss ≡ ts }
     // No two samples have the same text in front of their values.
-    ensures distinct { (setup : Setup) (xs : List Step) (text : List ℕ) → All (FitsSigned w64) setup.bounds
-        → (e : IsExposition (cells_after setup xs) text)
-        → IsDistinct is_same_text (samples_written (cells_after setup xs) e.rows) }
+    ensures distinct { (helps : Helps) (cells : Cells) (text : List ℕ) → AreOfKinds cells → (e : IsDescribed helps cells text)
+        → IsDistinct is_same_text (samples_written cells e.rows) }
     // The labels of a written row ascend by their names.
-    ensures labels { (cells : Cells) (text : List ℕ) (e : IsExposition cells text)
+    ensures labels { (helps : Helps) (cells : Cells) (text : List ℕ) (e : IsDescribed helps cells text)
         → All (λ r. Ascend r.labels) (written e.rows None e.rows) }
     // No sample has two labels of one name, a bucket's bound included.
-    ensures once { (setup : Setup) (xs : List Step) (text : List ℕ) (e : IsExposition (cells_after setup xs) text)
-        → All NamesOnce (samples_written (cells_after setup xs) e.rows) }
+    ensures once { (helps : Helps) (cells : Cells) (text : List ℕ) → AreOfKinds cells → (e : IsDescribed helps cells text)
+        → All NamesOnce (samples_written cells e.rows) }
 {}

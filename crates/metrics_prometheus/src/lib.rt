@@ -10,5 +10,5 @@ mod text;
 
 pub use laws::{exposition_law, exposition_text_law};
 pub use metrics::Error;
-pub use metrics_exporter::Exporter;
-pub use text::exposition;
+pub use metrics_exporter::{Descriptions, Exporter, ReadingRef, SeriesReading};
+pub use text::{exposition, exposition_of};

@@ -2,7 +2,7 @@
 ghost use Rattle.std.specs.Prelude.{◌≡◌, ◌<◌, ◌++◌, true, false, if◌then◌else◌, IfOk, OnOk};
 ghost use Rattle.std.specs.Prelude.{string_bytes, chars};
 ghost use Rattle.metrics_prometheus.specs.Names.{begins, goes_on, or_underscore, spelled, or_one, metric_name, label_name};
-ghost use Rattle.metrics_prometheus.specs.Names.{escape, escaped};
+ghost use Rattle.metrics_prometheus.specs.Names.{escape, escaped, help_escape, help_escaped};
 
 use std::alloc::{AllocError, Global};
 
@@ -79,6 +79,27 @@ pub(crate) fn write_value(text: &mut String, value: &str) -> Result<(), AllocErr
 {
     for c in value.chars() {
         write_escaped(text, c)?;
+    }
+    Ok(())
+}
+
+/// Writes a character of a description.
+fn write_help_escaped(text: &mut String, c: char) -> Result<(), AllocError>
+    ensures { OnOk result (string_bytes text.new ≡ string_bytes text.old ++ help_escape c) }
+{
+    match c {
+        '\\' => text.push_str("\\\\"),
+        '\n' => text.push_str("\\n"),
+        _ => text.push(c),
+    }
+}
+
+/// Writes a description, escaped.
+pub(crate) fn write_help_text(text: &mut String, help: &str) -> Result<(), AllocError>
+    ensures { OnOk result (string_bytes text.new ≡ string_bytes text.old ++ help_escaped help.now) }
+{
+    for c in help.chars() {
+        write_help_escaped(text, c)?;
     }
     Ok(())
 }

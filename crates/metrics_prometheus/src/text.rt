@@ -1,37 +1,51 @@
 //! The text of the held series.
-ghost use Rattle.std.specs.Prelude.{◌≡◌, ◌++◌, not, None, option_map, string_bytes, OnOk, IfOk, IfErr, MatchResult};
-ghost use Rattle.std.specs.List.{list_any};
+ghost use Rattle.std.specs.Prelude.{◌≡◌, ◌<◌, ◌++◌, List, length, not, OnErr, None, Some, option_map, string_bytes, OnOk, IfOk, IfErr, MatchResult};
+ghost use Rattle.std.specs.List.{list_any, AllByRecursion};
+ghost use Rattle.std.specs.List.Sorted.{IsSorted};
 ghost use Rattle.metrics.specs.declared.error.Error.TheVariants.{Memory as OutOfMemory};
-ghost use Rattle.metrics_exporter.specs.Exporting.{Setup, Log, steps, cells_after};
+ghost use Rattle.metrics_exporter.specs.Exporting.{Cells, Setup, Log, steps, cells_after, HoldsSome};
+ghost use Rattle.metrics_names.specs.Names.{label_cmp};
 ghost use Rattle.metrics_exporter.specs.ExporterText.{kind_word};
-ghost use Rattle.metrics_exporter.specs.Kept.{IsAfter, held_cells};
-ghost use Rattle.metrics_prometheus.specs.Exposition.{is_histogram_of, is_part, is_taken, clashes, is_left_out};
-ghost use Rattle.metrics_prometheus.specs.Exposition.{type_line, type_text};
-ghost use Rattle.metrics_prometheus.specs.Exposition.{samples_of, reading_at, left_out_line, row_text, rows_text, last_after};
-ghost use Rattle.metrics_prometheus.specs.Exposition.{IsExposition};
-ghost use Rattle.metrics_prometheus.specs.Rows.{row_shown, rows_shown};
+ghost use Rattle.metrics_exporter.specs.Kept.{IsAfter, described};
+ghost use Rattle.metrics_exporter.specs.Describing.{SameLegend, no_legend};
+ghost use Rattle.metrics_exporter.specs.Readings.{AreReadings, AreOnce, Told, all_told, reading_shown, cells_told};
+ghost use Rattle.metrics_prometheus.specs.Exposition.{row_cmp, is_histogram_of, is_part, is_taken, clashes, is_left_out};
+ghost use Rattle.metrics_prometheus.specs.Exposition.{help_line, type_line, name_lines, name_text};
+ghost use Rattle.metrics_prometheus.specs.Exposition.{samples_of, left_out_line, row_told, rows_text, last_after};
+ghost use Rattle.metrics_prometheus.specs.Exposition.{IsExposition, IsDescribed};
+ghost use Rattle.metrics_prometheus.specs.Rows.{row_shown, rows_shown, Shows, helps_in, helps_of, histogram_place};
 ghost use Rattle.metrics_prometheus.specs.Samples.{lines};
 
 use crate::labels::are_fit;
-use crate::rows::{Row, sorted_rows};
+use crate::names::write_help_text;
+use crate::rows::{ShownRow, sorted_rows};
 use crate::samples::{write_histogram, write_labels, write_sample};
 use metrics::{Error, MetricKind};
-use metrics_exporter::Exporter;
+use metrics_exporter::{Descriptions, Exporter, ReadingRef, SeriesReading};
 use std::alloc::{AllocError, Global};
+use std::cmp::Ordering;
 
-fn has_histogram(rows: &[Row<'_>], name: &[u8]) -> bool
+/// Where a row stands to the histograms of a name.
+fn histogram_place(row: &ShownRow<'_>, name: &[u8]) -> Ordering
+    ensures { result ≡ histogram_place name.now (row_shown row.now) }
+{
+    match row.name.as_str().as_bytes().cmp(name) {
+        Ordering::Equal => row.kind.cmp(&MetricKind::Histogram),
+        other => other,
+    }
+}
+
+fn has_histogram(rows: &[ShownRow<'_>], name: &[u8]) -> bool
+    requires { IsSorted row_cmp (rows_shown rows.now) }
     ensures { result ≡ list_any (is_histogram_of name.now) (rows_shown rows.now) }
 {
-    for row in rows {
-        if row.1 == MetricKind::Histogram && row.0.as_str().as_bytes() == name {
-            return true;
-        }
-    }
-    false
+    rows.binary_search_by(|row| histogram_place(row, name))
+        .is_ok()
 }
 
 /// Whether a name ends so, behind the name of a histogram.
-fn is_part(rows: &[Row<'_>], name: &[u8], end: &[u8]) -> bool
+fn is_part(rows: &[ShownRow<'_>], name: &[u8], end: &[u8]) -> bool
+    requires { IsSorted row_cmp (rows_shown rows.now) }
     ensures { result ≡ is_part (rows_shown rows.now) name.now end.now }
 {
     if !name.ends_with(end) {
@@ -41,7 +55,8 @@ fn is_part(rows: &[Row<'_>], name: &[u8], end: &[u8]) -> bool
 }
 
 /// Whether a name is that of a histogram's samples.
-fn is_taken(rows: &[Row<'_>], name: &[u8]) -> bool
+fn is_taken(rows: &[ShownRow<'_>], name: &[u8]) -> bool
+    requires { IsSorted row_cmp (rows_shown rows.now) }
     ensures { result ≡ is_taken (rows_shown rows.now) name.now }
 {
     is_part(rows, name, b"_bucket")
@@ -50,21 +65,25 @@ fn is_taken(rows: &[Row<'_>], name: &[u8]) -> bool
 }
 
 /// Whether a row can't stand beside the one that was written last.
-fn clashes(last: Option<&Row<'_>>, row: &Row<'_>) -> bool
+fn clashes(last: Option<&ShownRow<'_>>, row: &ShownRow<'_>) -> bool
     ensures { result ≡ clashes (option_map (λ w. row_shown w.now) last.entry) (row_shown row.now) }
 {
     match last {
-        Some(written) => { written.0 == row.0 && (written.1 != row.1 || written.2 == row.2) }
+        Some(written) => {
+            written.name == row.name && (written.kind != row.kind || written.labels == row.labels)
+        }
         None => false,
     }
 }
 
-fn is_left_out(rows: &[Row<'_>], last: Option<&Row<'_>>, row: &Row<'_>) -> bool
+fn is_left_out(rows: &[ShownRow<'_>], last: Option<&ShownRow<'_>>, row: &ShownRow<'_>) -> bool
+    requires sorted { IsSorted row_cmp (rows_shown rows.now) }
+    requires labels { IsSorted label_cmp row.now.labels }
     ensures { result
         ≡ is_left_out (rows_shown rows.now) (option_map (λ w. row_shown w.now) last.entry) (row_shown row.now) }
 {
-    !are_fit(row.1, row.2.as_slice())
-        || is_taken(rows, row.0.as_str().as_bytes())
+    !are_fit(row.kind, row.labels.as_slice())
+        || is_taken(rows, row.name.as_str().as_bytes())
         || clashes(last, row)
 }
 
@@ -78,73 +97,88 @@ fn kind_text(kind: MetricKind) -> &'static str
     }
 }
 
-fn write_type_line(text: &mut String, row: &Row<'_>) -> Result<(), AllocError>
+fn write_type_line(text: &mut String, row: &ShownRow<'_>) -> Result<(), AllocError>
     ensures { OnOk result (string_bytes text.new ≡ string_bytes text.old ++ type_line (row_shown row.now)) }
 {
     text.push_str("# TYPE ")?;
-    text.push_str(row.0.as_str())?;
+    text.push_str(row.name.as_str())?;
     text.push_str(" ")?;
-    text.push_str(kind_text(row.1))?;
+    text.push_str(kind_text(row.kind))?;
     text.push_str("\n")
 }
 
-/// Writes the kind of a name that wasn't written last.
-fn write_type(text: &mut String, last: Option<&Row<'_>>, row: &Row<'_>) -> Result<(), AllocError>
+/// Writes the description of a name, if there is one.
+fn write_help(text: &mut String, name: &str, help: Option<&str>) -> Result<(), AllocError>
     ensures { OnOk result (string_bytes text.new
-        ≡ string_bytes text.old ++ type_text (option_map (λ w. row_shown w.now) last.entry) (row_shown row.now)) }
+        ≡ string_bytes text.old ++ help_line name.now (option_map (λ t. t.now) help.entry)) }
+{
+    let Some(help) = help else {
+        return Ok(());
+    };
+    text.push_str("# HELP ")?;
+    text.push_str(name)?;
+    text.push_str(" ")?;
+    write_help_text(text, help)?;
+    text.push_str("\n")
+}
+
+/// Writes what is told of a name before its first sample.
+fn write_name_lines(text: &mut String, row: &ShownRow<'_>) -> Result<(), AllocError>
+    ensures { OnOk result (string_bytes text.new ≡ string_bytes text.old ++ name_lines (row_shown row.now)) }
+{
+    write_help(text, row.name.as_str(), row.help)?;
+    write_type_line(text, row)
+}
+
+/// Writes what is told of a name that wasn't written last.
+fn write_name(
+    text: &mut String,
+    last: Option<&ShownRow<'_>>,
+    row: &ShownRow<'_>,
+) -> Result<(), AllocError>
+    ensures { OnOk result (string_bytes text.new
+        ≡ string_bytes text.old ++ name_text (option_map (λ w. row_shown w.now) last.entry) (row_shown row.now)) }
 {
     match last {
         Some(written) => {
-            if written.0 == row.0 {
+            if written.name == row.name {
                 Ok(())
             } else {
-                write_type_line(text, row)
+                write_name_lines(text, row)
             }
         }
-        None => write_type_line(text, row),
+        None => write_name_lines(text, row),
     }
 }
 
-fn write_left_out(text: &mut String, row: &Row<'_>) -> Result<(), AllocError>
+fn write_left_out(text: &mut String, row: &ShownRow<'_>) -> Result<(), AllocError>
     ensures { OnOk result (string_bytes text.new ≡ string_bytes text.old ++ left_out_line (row_shown row.now)) }
 {
     text.push_str("# left out: ")?;
-    text.push_str(row.0.as_str())?;
-    write_labels(text, row.2.as_slice())?;
+    text.push_str(row.name.as_str())?;
+    write_labels(text, row.labels.as_slice())?;
     text.push_str("\n")?;
     Ok(())
 }
 
 /// Writes the samples of a row's series.
-fn write_samples(
-    alloc: Global,
-    text: &mut String,
-    exporter: &Exporter,
-    row: &Row<'_>,
-) -> Result<(), Error>
+fn write_samples(alloc: Global, text: &mut String, row: &ShownRow<'_>) -> Result<(), Error>
     ensures ok { OnOk result (string_bytes text.new ≡ string_bytes text.old
-        ++ lines (samples_of (row_shown row.now) (reading_at (held_cells exporter.now) (row_shown row.now)))) }
+        ++ lines (samples_of (row_shown row.now) (Some (reading_shown row.now.reading)))) }
     ensures err { IfErr result (λ e. e ≡ OutOfMemory) }
 {
-    let name = row.0.as_str();
-    let labels = row.2.as_slice();
-    match row.1 {
-        MetricKind::Counter => {
-            if let Some(count) = exporter.counter(row.3) {
-                write_sample(text, name, "", labels, i128::from(count))?;
-            }
+    let name = row.name.as_str();
+    let labels = row.labels.as_slice();
+    match row.reading {
+        ReadingRef::Count(count) => {
+            write_sample(text, name, "", labels, i128::from(count))?;
             Ok(())
         }
-        MetricKind::Gauge => {
-            if let Some(level) = exporter.gauge(row.3) {
-                write_sample(text, name, "", labels, i128::from(level))?;
-            }
+        ReadingRef::Level(level) => {
+            write_sample(text, name, "", labels, i128::from(level))?;
             Ok(())
         }
-        MetricKind::Histogram => match exporter.histogram(row.3) {
-            Some(histogram) => write_histogram(alloc, text, name, labels, histogram),
-            None => Ok(()),
-        },
+        ReadingRef::Samples(histogram) => write_histogram(alloc, text, name, labels, histogram),
     }
 }
 
@@ -152,13 +186,15 @@ fn write_samples(
 fn write_row(
     alloc: Global,
     text: &mut String,
-    exporter: &Exporter,
-    rows: &[Row<'_>],
-    last: Option<&Row<'_>>,
-    row: &Row<'_>,
+    rows: &[ShownRow<'_>],
+    last: Option<&ShownRow<'_>>,
+    row: &ShownRow<'_>,
 ) -> Result<bool, Error>
-    ensures ok { OnOk result (string_bytes text.new ≡ string_bytes text.old ++ row_text (held_cells exporter.now)
-        (rows_shown rows.now) (option_map (λ w. row_shown w.now) last.entry) (row_shown row.now)) }
+    requires sorted { IsSorted row_cmp (rows_shown rows.now) }
+    requires labels { IsSorted label_cmp row.now.labels }
+    ensures ok { OnOk result (string_bytes text.new ≡ string_bytes text.old
+        ++ row_told (Some (reading_shown row.now.reading)) (rows_shown rows.now)
+        (option_map (λ w. row_shown w.now) last.entry) (row_shown row.now)) }
     ensures written { IfOk result (λ written. written
         ≡ not (is_left_out (rows_shown rows.now) (option_map (λ w. row_shown w.now) last.entry) (row_shown row.now))) }
     ensures err { IfErr result (λ e. e ≡ OutOfMemory) }
@@ -167,33 +203,69 @@ fn write_row(
         write_left_out(text, row)?;
         return Ok(false);
     }
-    write_type(text, last, row)?;
-    write_samples(alloc, text, exporter, row)?;
+    write_name(text, last, row)?;
+    write_samples(alloc, text, row)?;
     Ok(true)
 }
 
 /// The text of rows.
-fn rows_text(alloc: Global, exporter: &Exporter, rows: &[Row<'_>]) -> Result<String, Error>
-    ensures { MatchResult result (λ text. string_bytes text
-        ≡ rows_text (held_cells exporter.now) (rows_shown rows.now) None (rows_shown rows.now)) (λ e. e ≡ OutOfMemory) }
+fn rows_text(alloc: Global, rows: &[ShownRow<'_>]) -> Result<String, Error>
+    requires sorted { IsSorted row_cmp (rows_shown rows.now) }
+    requires labels { AllByRecursion (λ r. IsSorted label_cmp r.labels) rows.now }
+    ensures ok { (cells : Cells) → AllByRecursion (Shows cells) rows.now → IfOk result (λ text. string_bytes text
+        ≡ rows_text cells (rows_shown rows.now) None (rows_shown rows.now)) }
+    ensures err { IfErr result (λ e. e ≡ OutOfMemory) }
 {
     let mut text = String::new(alloc);
     let mut last = None;
     for row in rows {
-        if write_row(alloc, &mut text, exporter, rows, last, row)? {
+        if write_row(alloc, &mut text, rows, last, row)? {
             last = Some(row);
         }
     }
     Ok(text)
 }
 
-/// The held series in Prometheus's text exposition format, version 0.0.4.
+/// These series in Prometheus's text exposition format, version 0.0.4, each name behind its description: that of the first
+/// series that is written under it, by that series' kind and own name.
 ///
-/// The text is made whole in memory, beside a row for each series. It is refused with `Error::Memory` where there is no room.
-pub fn exposition(exporter: &Exporter, alloc: Global) -> Result<String, Error>
-    ensures { (setup : Setup) (log : Log) → IsAfter setup log exporter.now →
-        MatchResult result (λ text. IsExposition (cells_after setup (steps log)) (string_bytes text)) (λ e. e ≡ OutOfMemory) }
+/// The text is made whole in memory, beside a row for each series. It is refused with `Error::Memory` where there is no room,
+/// and never where no series is given. Of a series that is given twice one is written.
+pub fn exposition_of(
+    alloc: Global,
+    descriptions: &Descriptions,
+    series: &[SeriesReading<'_>],
+) -> Result<String, Error>
+    // For the cells that the series tell.
+    ensures ok { (cells : Cells) → AreReadings cells (all_told series.now)
+        → IfOk result (λ text. IsDescribed (helps_of descriptions.now) cells (string_bytes text)) }
+    // Whatever is given: each series once.
+    ensures each { IfOk result (λ text. (kept : List Told) × AreOnce (all_told series.now) kept
+        × IsDescribed (helps_of descriptions.now) (cells_told kept) (string_bytes text)) }
+    ensures err { IfErr result (λ e. e ≡ OutOfMemory) }
+    ensures refused { OnErr result (0 < length series.now) }
 {
-    let rows = sorted_rows(alloc, exporter)?;
-    rows_text(alloc, exporter, &rows)
+    if series.is_empty() {
+        return Ok(String::new(alloc));
+    }
+    let rows = sorted_rows(alloc, descriptions, series)?;
+    rows_text(alloc, &rows)
+}
+
+/// The held series in Prometheus's text exposition format, version 0.0.4, each name behind what the exporter was told of it.
+///
+/// The text is made whole in memory, beside a row for each series. It is refused with `Error::Memory` where there is no room,
+/// and never where no series is held.
+pub fn exposition(exporter: &Exporter, alloc: Global) -> Result<String, Error>
+    ensures text { (setup : Setup) (log : Log) → IsAfter setup log exporter.now →
+        MatchResult result (λ text. IsDescribed (helps_in (described exporter.now)) (cells_after setup (steps log)) (string_bytes text))
+        (λ e. e ≡ OutOfMemory) }
+    // Where nothing was told of names there are no descriptions.
+    ensures plain { SameLegend (described exporter.now) no_legend → (setup : Setup) (log : Log) → IsAfter setup log exporter.now →
+        IfOk result (λ text. IsExposition (cells_after setup (steps log)) (string_bytes text)) }
+    ensures refused { (setup : Setup) (log : Log) → IsAfter setup log exporter.now →
+        OnErr result (HoldsSome (cells_after setup (steps log))) }
+{
+    let series = exporter.readings()?;
+    exposition_of(alloc, exporter.descriptions(), &series)
 }

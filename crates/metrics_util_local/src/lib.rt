@@ -10,8 +10,10 @@ pub mod debugging {
 
 /// Series over a registry, as text.
 pub mod exporter {
-    pub use metrics_exporter::{Exporter, PartlyAbsorbed, exporter_law};
-    pub use metrics_prometheus::{exposition, exposition_law, exposition_text_law};
+    pub use metrics_exporter::{
+        Descriptions, Exporter, PartlyAbsorbed, ReadingRef, SeriesReading, exporter_law,
+    };
+    pub use metrics_prometheus::{exposition, exposition_law, exposition_of, exposition_text_law};
 }
 
 /// Layers over recorders.

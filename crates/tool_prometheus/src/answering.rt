@@ -7,11 +7,12 @@ ghost use Rattle.metrics_names.specs.Names.{KeyParts};
 ghost use Rattle.metrics_registry.specs.Idleness.{Answered};
 ghost use Rattle.metrics_exporter.specs.Exporting.{Setup, Log, expires, steps, cells_after, IsExpiry};
 ghost use Rattle.metrics_exporter.specs.Kept.{IsAfter};
+ghost use Rattle.metrics_prometheus.specs.Exposition.{IsExposition};
 ghost use Rattle.tool_prometheus.specs.Exposed.{Answers, IsShown, scrape_text, refusal_text as text_of_refusal};
 
 use metrics::Error;
 use metrics_exporter::Exporter;
-use metrics_prometheus::exposition;
+use metrics_prometheus::{Descriptions, exposition_of};
 use std::alloc::{AllocError, Global};
 use tool_export::Request;
 
@@ -26,6 +27,16 @@ fn refusal_text(answered: Result<(), Error>) -> &'static str
     }
 }
 
+/// An exposition of the series that are held, without descriptions: no line tells one.
+fn shown(alloc: Global, on: &Exporter) -> Result<String, Error>
+    ensures { (setup : Setup) (log : Log) → IsAfter setup log on.now →
+        MatchResult result (λ text. IsExposition (cells_after setup (steps log)) (string_bytes text)) (λ e. e ≡ Memory) }
+{
+    let series = on.readings()?;
+    let descriptions = Descriptions::new(alloc);
+    exposition_of(alloc, &descriptions, &series)
+}
+
 /// Removes what is idle at the moment, and gives an exposition of the series that are left.
 fn shown_at(alloc: Global, on: &mut Exporter, now: u64) -> Result<String, Error>
     ensures { (setup : Setup) (log : Log) → IsAfter setup log on.old → (checks : List (Answered KeyParts))
@@ -36,7 +47,7 @@ fn shown_at(alloc: Global, on: &mut Exporter, now: u64) -> Result<String, Error>
         (λ e. e ≡ Memory) }
 {
     match on.expire(now) {
-        Ok(_) => exposition(on, alloc),
+        Ok(_) => shown(alloc, on),
         Err(e) => Err(e),
     }
 }

@@ -13,6 +13,7 @@ use Rattle.metrics_exporter.proofs.absorb.absorb_samples.Goals as goal
 pub loop-i-init : goal.loop-i-init
 loop-i-init c = record {
   stands = λ setup log after. let P : Log → Type 0 = λ l. IsAfter setup l c.args.on.now in subst P (sym (append-nil log)) after;
+  descriptions = refl;
   shards = refl;
 }
 
@@ -28,6 +29,7 @@ loop-i-preserved c = record {
       let P : Log → Type 0 = λ l. IsAfter setup l c.update.new.self in
       let R : Done → Type 0 = λ r. IsAfter setup (behind ++ updates c.args.key.now (Record x) r ∷ []) c.update.new.self in
       subst P (samples-more log c.args.key.now xs i x c.loop-i-test.true at) (subst R c.in_default.is (c.update.ensures.calls setup behind (c.loop-i.invariant.stands setup log after)));
+  descriptions = c.update.ensures.descriptions ∙ c.loop-i.invariant.descriptions;
   shards = c.update.ensures.shards ∙ c.loop-i.invariant.shards;
 }
 
@@ -51,5 +53,6 @@ returns c = record {
       let xs = c.args.samples.now in
       let P : List ℤ → Type 0 = λ l. IsAfter setup (log ++ made c.args.key.now (map Record l)) c.loop-i.on in
       subst P (take_all c.loop-i.i xs c.loop-i-test.false) (c.loop-i.invariant.stands setup log after);
+  descriptions = c.loop-i.invariant.descriptions;
   shards = c.loop-i.invariant.shards;
 }

@@ -1,7 +1,8 @@
--- No name so far comes again.
-use Rattle.std.proofs.Common.{◌≡◌, drop}
-use Rattle.metrics_prometheus.specs.Labels.{repeats}
+-- No label so far has the name of the one before.
+use Rattle.std.proofs.Common.{◌≡◌, None, drop}
+use Rattle.std.specs.Prelude.{option_map}
+use Rattle.metrics_prometheus.specs.Labels.{follows}
 use Rattle.metrics_prometheus.proofs.labels.repeats.Given as goal
 
-abbrev pub invariant-loop-at : goal.invariant-loop-at
-invariant-loop-at l = repeats (drop l.at l.labels) ≡ repeats l.labels
+abbrev pub invariant-loop-label : goal.invariant-loop-label
+invariant-loop-label l = follows (option_map (λ n. n.now) l.last) (drop l.label-index l.labels) ≡ follows None l.labels

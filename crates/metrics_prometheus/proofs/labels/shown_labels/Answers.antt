@@ -3,8 +3,10 @@ use Rattle.std.specs.Prelude.{All}
 use Rattle.std.specs.Str.{IsUtf8}
 use Rattle.std.proofs.lemmas.List.{at_drop_more, take_all}
 use Rattle.std.proofs.lemmas.List.Elements.{All-more}
-use Rattle.metrics_names.specs.Names.{LabelParts}
+use Rattle.std.specs.List.Sorted.{IsSorted}
+use Rattle.metrics_names.specs.Names.{LabelParts, label_cmp}
 use Rattle.metrics_prometheus.specs.Labels.{added, with_labels}
+use Rattle.metrics_prometheus.proofs.LabelLemmas.{added-sorted}
 use Rattle.metrics_prometheus.proofs.labels.shown_labels.Goals as goal
 
 pub loop-label-preserved : goal.loop-label-preserved
@@ -17,6 +19,7 @@ loop-label-preserved c =
     let rest = drop (i + 1) labels in
     record {
       shown = ap (λ s. with_labels s rest) c.in_ok-add_label.ensures.shown ∙ ap (λ (m : LabelParts). with_labels (added m.0 m.1 old) rest) c.label-item.is ∙ sym (at_drop_more (with_labels old) labels i label c.loop-label-test.true) ∙ c.loop-label.invariant.shown;
+      sorted = subst (IsSorted label_cmp) (sym c.in_ok-add_label.ensures.shown) (added-sorted label.0 label.1 old c.loop-label.invariant.sorted);
       texts = All-more P labels i label c.loop-label-test.true c.loop-label.invariant.texts (subst P c.label-item.is c.in_ok-add_label.ensures.text);
     }
 

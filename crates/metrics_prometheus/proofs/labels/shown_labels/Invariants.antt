@@ -2,6 +2,8 @@
 use Rattle.std.proofs.Common.{◌≡◌, drop, take}
 use Rattle.std.specs.Prelude.{All}
 use Rattle.std.specs.Str.{IsUtf8}
+use Rattle.std.specs.List.Sorted.{IsSorted}
+use Rattle.metrics_names.specs.Names.{label_cmp}
 use Rattle.metrics_prometheus.specs.Labels.{with_labels, shown_labels}
 use Rattle.metrics_prometheus.proofs.labels.shown_labels.Given as goal
 
@@ -9,5 +11,6 @@ abbrev pub invariant-loop-label : goal.invariant-loop-label
 invariant-loop-label l =
     record {
       shown : with_labels l.shown.items (drop l.label-index l.labels) ≡ shown_labels l.labels;
+      sorted : IsSorted label_cmp l.shown.items;
       texts : All (λ m. IsUtf8 m.1) (take l.label-index l.labels);
     }

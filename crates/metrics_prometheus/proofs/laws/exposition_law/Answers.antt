@@ -1,19 +1,18 @@
 use Rattle.std.proofs.Common.{None}
-use Rattle.metrics_exporter.specs.Exporting.{cells_after}
 use Rattle.metrics_prometheus.specs.Written.{written, AreApart}
 use Rattle.metrics_prometheus.proofs.PairLemmas.{pairs-map, pairs-places}
 use Rattle.metrics_prometheus.proofs.WrittenLemmas.{IsBefore, before-apart, written-ascend}
-use Rattle.metrics_prometheus.proofs.ReadingLemmas.{rows-read, rows-buckets}
+use Rattle.metrics_prometheus.proofs.ReadingLemmas.{rows-read, rows-buckets, kinds-after}
 use Rattle.metrics_prometheus.proofs.DistinctLemmas.{samples-distinct}
 use Rattle.metrics_prometheus.proofs.ToldLemmas.{series-told, series-written}
 use Rattle.metrics_prometheus.proofs.TextLineLemmas.{text-has}
 use Rattle.metrics_prometheus.proofs.laws.exposition_law.Goals as goal
 
 pub returns-clause-distinct : goal.returns-clause-distinct
-returns-clause-distinct c = λ setup xs text fits e. samples-distinct (cells_after setup xs) e.rows e.all.ordered (rows-read setup xs fits)
+returns-clause-distinct c = λ helps cells text kinds e. samples-distinct cells e.rows e.all.ordered (rows-read cells kinds)
 
 pub returns-clause-apart : goal.returns-clause-apart
-returns-clause-apart c = λ cells text e.
+returns-clause-apart c = λ helps cells text e.
     let rows = written e.rows None e.rows in
     pairs-places AreApart rows (pairs-map IsBefore AreApart before-apart rows (written-ascend e.rows e.all.ordered))
 
@@ -21,10 +20,13 @@ pub returns-clause-told : goal.returns-clause-told
 returns-clause-told c = series-told
 
 pub returns-clause-samples : goal.returns-clause-samples
-returns-clause-samples c = text-has
+returns-clause-samples c = λ helps cells text e. text-has cells text e
 
 pub returns-clause-written : goal.returns-clause-written
 returns-clause-written c = series-written
 
 pub returns-clause-buckets : goal.returns-clause-buckets
 returns-clause-buckets c = rows-buckets
+
+pub returns-clause-kinds : goal.returns-clause-kinds
+returns-clause-kinds c = kinds-after

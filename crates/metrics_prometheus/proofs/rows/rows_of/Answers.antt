@@ -1,17 +1,17 @@
 use Rattle.std.proofs.Common.{subst}
 use Rattle.std.specs.Prelude.{All}
-use Rattle.std.specs.Borrow.{Bor}
 use Rattle.std.specs.Str.{IsUtf8}
 use Rattle.std.proofs.lemmas.List.{take_all}
 use Rattle.std.proofs.lemmas.List.Elements.{All-more}
-use Rattle.metrics_names.specs.declared.kind.MetricKind.{MetricKind}
-use Rattle.metrics_names.specs.Names.{KeyParts, LabelParts}
+use Rattle.metrics_exporter.specs.declared.readings.SeriesReading.{SeriesReading}
+use Rattle.metrics_names.specs.Names.{LabelParts}
+use Rattle.metrics_prometheus.specs.Rows.{helps_of}
 use Rattle.metrics_prometheus.proofs.RowLemmas.{rows-more}
 use Rattle.metrics_prometheus.proofs.rows.rows_of.Goals as goal
 
 -- the labels of a series have texts as values
-abbrev HasTexts : MetricKind × Bor KeyParts → Type 0
-HasTexts s = All (λ (l : LabelParts). IsUtf8 l.1) s.1.now.labels
+abbrev HasTexts : SeriesReading → Type 0
+HasTexts s = All (λ (l : LabelParts). IsUtf8 l.1) s.key.now.labels
 
 pub loop-entry-preserved : goal.loop-entry-preserved
 loop-entry-preserved c =
@@ -19,7 +19,7 @@ loop-entry-preserved c =
     let i = c.loop-entry.entry-index in
     let entry = c.entry-item.result in
     record {
-      rows = rows-more c.loop-entry.rows.items c.push.new.self.items series i c.in_ok-row_of.field-0 entry c.loop-entry-test.true c.entry-item.is c.in_ok-push.ensures.items c.in_ok-row_of.ensures.row c.loop-entry.invariant.rows;
+      rows = rows-more (helps_of c.args.descriptions.now) c.loop-entry.rows.items c.push.new.self.items series i c.in_ok-row_of.field-0 entry c.loop-entry-test.true c.entry-item.is c.in_ok-push.ensures.items c.in_ok-row_of.ensures.row c.loop-entry.invariant.rows;
       texts = All-more HasTexts series i entry c.loop-entry-test.true c.loop-entry.invariant.texts (subst HasTexts c.entry-item.is c.in_ok-row_of.ensures.texts);
     }
 

@@ -1,30 +1,31 @@
-use Rattle.std.proofs.Common.{List, map, subst, ap, ◌∙◌}
-use Rattle.std.specs.Prelude.{IsPermutation, All}
-use Rattle.std.specs.Borrow.{Bor}
+use Rattle.std.proofs.Common.{◌≡◌, ◌∙◌, List, subst, sym, ap}
+use Rattle.std.specs.Cmp.{IsTotalOrder}
+use Rattle.std.specs.List.{dedup, All}
+use Rattle.std.specs.List.Sorted.{IsSorted, IsStrictlySortedBy}
+use Rattle.std.specs.Ordering.{is_eq}
 use Rattle.std.specs.Str.{IsUtf8}
-use Rattle.std.proofs.lemmas.List.Sorted.{IsPermutation-map}
-use Rattle.metrics_names.specs.declared.kind.MetricKind.{MetricKind}
-use Rattle.metrics_names.specs.Names.{KeyParts, LabelParts}
-use Rattle.metrics_exporter.specs.Gathering.{all_shown}
-use Rattle.metrics_exporter.specs.Kept.{held_cells}
-use Rattle.metrics_prometheus.specs.Exposition.{Row, row_of, row_cmp}
-use Rattle.metrics_prometheus.specs.Rows.{row_shown, rows_shown}
-use Rattle.metrics_prometheus.proofs.HeldLemmas.{holds-texts}
+use Rattle.std.proofs.lemmas.List.Filters.{dedup_is}
+use Rattle.std.proofs.lemmas.List.Kept.{IsStrictlySortedBy-dedup}
+use Rattle.metrics_exporter.specs.Readings.{all_told}
+use Rattle.metrics_prometheus.specs.contracts.rows.ShownRowOrd.TheImpl.Laws.{total-law, matches_eq-law}
+use Rattle.metrics_prometheus.specs.declared.rows.ShownRow.{ShownRow}
+use Rattle.metrics_prometheus.specs.Exposition.{row_cmp}
+use Rattle.metrics_prometheus.specs.Rows.{row_shown, helps_of}
 use Rattle.metrics_prometheus.proofs.RowLemmas.{sorted-map}
+use Rattle.metrics_prometheus.proofs.OnceLemmas.{rows-once, sorted-strictly, own-labels}
 use Rattle.metrics_prometheus.proofs.rows.sorted_rows.Goals as goal
 
 pub returns-clause-rows : goal.returns-clause-rows
 returns-clause-rows c =
-    let P : List Row → Type 0 = λ rows. IsPermutation rows (rows_shown c.sort_unstable.new.self.items) in
-    let same = c.in_ok-rows.ensures.rows ∙ ap (λ l. map row_of (all_shown l)) c.deref.ensures.value in
+    let helps = helps_of c.args.descriptions.now in
+    let xs = c.sort_unstable.new.self.items in
+    let ys = c.dedup.new.self.items in
+    let left = dedup_is _ xs ys c.dedup.ensures.filtered in
+    let up = subst (IsStrictlySortedBy _) (sym left) (IsStrictlySortedBy-dedup total-law matches_eq-law xs c.sort_unstable.ensures.sorted) in
+    let r = rows-once helps _ (λ a b. c.row_order.ensures a b) total-law _ matches_eq-law (all_told c.args.series.now) c.in_ok-rows.rows.items xs ys c.in_ok-rows.ensures.rows c.sort_unstable.ensures.permutation up left in
     record {
-      keys = all_shown c.in_ok-series.series.items;
-      series = c.in_ok-series.ensures.series;
-      same = subst P same (IsPermutation-map row_shown _ _ c.sort_unstable.ensures.permutation);
-      ordered = sorted-map row_shown _ row_cmp (λ a b. c.row_order.ensures a b) c.sort_unstable.new.self.items c.sort_unstable.ensures.sorted;
+      own = r.0;
+      once = r.1;
+      labels = own-labels helps ys r.0;
+      ordered = sorted-map row_shown _ row_cmp (λ a b. c.row_order.ensures a b) ys (sorted-strictly _ total-law ys up);
     }
-
-pub returns-clause-texts : goal.returns-clause-texts
-returns-clause-texts c =
-    let P : List (MetricKind × Bor KeyParts) → Type 0 = λ series. All (λ s. All (λ (l : LabelParts). IsUtf8 l.1) s.1.now.labels) series in
-    holds-texts (held_cells c.args.exporter.now) c.in_ok-series.series.items c.in_ok-series.ensures.series (subst P c.deref.ensures.value c.in_ok-rows.ensures.texts)

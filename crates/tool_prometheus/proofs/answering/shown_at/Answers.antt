@@ -12,7 +12,7 @@ returns-in-Ok c = λ setup log after.
       made,
       stands,
       shown_or_not (cells_after setup (steps now)) (Ok c.in-Ok.field-0) c.in-Ok.field-0
-          string_bytes c.exposition.result refl (c.exposition.ensures setup now stands),
+          string_bytes c.shown.result refl (c.shown.ensures setup now stands),
     )
 
 pub returns-in-Err : goal.returns-in-Err

@@ -1,0 +1,10 @@
+-- The entries so far.
+use Rattle.std.proofs.Common.{◌≡◌, ◌++◌, map}
+use Rattle.std.specs.Map.Iter.{deref_pair}
+use Rattle.metrics_names.specs.declared.kind.MetricKind.TheVariants.{Gauge}
+use Rattle.metrics_exporter.specs.Exporting.{level}
+use Rattle.metrics_exporter.specs.Readings.{all_told, told_in}
+use Rattle.metrics_exporter.proofs.readings.gather_levels.Given as goal
+
+abbrev pub invariant-loop-key : goal.invariant-loop-key
+invariant-loop-key l = all_told l.told.items ≡ all_told l.initial.told.items ++ told_in Gauge level (map deref_pair l.yielded)

@@ -1,0 +1,51 @@
+-- What is told of names, and what rows of a snapshot tell of theirs.
+use Rattle.std.specs.Prelude.{if◌then◌else◌, ◌≡◌, ◌&&◌, ℕ, List, [], ◌∷◌, Option, None, Some, bytes_eq}
+use Rattle.metrics_names.specs.declared.common.Unit.{Unit as Measure}
+use Rattle.indexmap.specs.IndexMap.{get_by_text}
+use Rattle.metrics_names.specs.declared.kind.MetricKind.{MetricKind}
+use Rattle.metrics_names.specs.Names.{SeriesKey, kind_eq}
+use Rattle.metrics.specs.Book.{Description, no_description, described_again, RowParts}
+use Rattle.metrics.specs.Kinds.{of_kind}
+use Rattle.metrics_exporter.specs.declared.descriptions.Described.{Described}
+use Rattle.metrics_exporter.specs.declared.descriptions.Descriptions.{Descriptions}
+
+abbrev pub description_of : Option Described → Description
+description_of None = no_description
+description_of (Some d) = record { unit = d.unit; text = Some d.text }
+
+-- the description that is kept for a name
+abbrev pub described_by : Descriptions → MetricKind → List ℕ → Description
+described_by ds kind name = description_of (get_by_text (of_kind kind ds.names) name)
+
+-- the description of each kind and name
+abbrev pub Legend : Type 0
+Legend = MetricKind → List ℕ → Description
+
+-- nothing was told
+abbrev pub no_legend : Legend
+no_legend kind name = no_description
+
+-- a name is told again: a text replaces the old one, and a unit only where one is given
+abbrev pub told_again : MetricKind → List ℕ → Option Measure → List ℕ → Legend → Legend
+told_again kind name unit text told k n = if kind_eq kind k && bytes_eq name n then described_again unit text (told k n) else told k n
+
+abbrev pub DescribesName : MetricKind → List ℕ → Option Measure → List ℕ → Legend → Legend → Type 0
+DescribesName kind name unit text old new = (k : MetricKind) (n : List ℕ) → new k n ≡ told_again kind name unit text old k n
+
+-- ---- the rows of a snapshot
+
+-- a row that has a text tells it, with its unit, of its key's name
+abbrev pub told_with : SeriesKey → Option Measure → Option (List ℕ) → Legend → Legend
+told_with s unit None told = told
+told_with s unit (Some text) told = told_again s.kind s.key.name unit text told
+
+abbrev pub told_by : RowParts → Legend → Legend
+told_by row told = told_with row.0 row.1 row.2 told
+
+abbrev pub told_by_all : List RowParts → Legend → Legend
+told_by_all [] told = told
+told_by_all (row ∷ rows) told = told_by_all rows (told_by row told)
+
+-- the same of each kind and name
+abbrev pub SameLegend : Legend → Legend → Type 0
+SameLegend a b = (kind : MetricKind) (name : List ℕ) → a kind name ≡ b kind name

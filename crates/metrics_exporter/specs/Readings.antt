@@ -1,0 +1,58 @@
+-- Series with what they have, by reference.
+use Rattle.std.specs.Prelude.{◌≡◌, ◌↔◌, List, map, Option, Some, Contains, option_map}
+use Rattle.std.specs.List.{AllByRecursion, IsDistinct}
+use Rattle.std.specs.Map.{lookup}
+use Rattle.metrics_names.specs.declared.kind.MetricKind.{MetricKind}
+use Rattle.metrics_names.specs.declared.kind.MetricKind.TheVariants.{Counter, Gauge, Histogram}
+use Rattle.metrics_names.specs.Names.{KeyParts, SeriesKey, series_key_eq}
+use Rattle.metrics_registry.specs.declared.generation.Counted.{Counted}
+use Rattle.metrics_exporter.specs.declared.readings.ReadingRef.{ReadingRef}
+use Rattle.metrics_exporter.specs.declared.readings.ReadingRef.TheVariants as shown
+use Rattle.metrics_exporter.specs.declared.readings.SeriesReading.{SeriesReading}
+use Rattle.metrics_exporter.specs.Exporting.{Reading, count, level, samples, Cells, IsHeld}
+use Rattle.metrics_exporter.specs.Gathering.{series_at}
+
+-- a series and what it has
+abbrev pub Told : Type 0
+Told = SeriesKey × Reading
+
+abbrev pub reading_shown : ReadingRef → Reading
+reading_shown (shown.Count n) = count n
+reading_shown (shown.Level n) = level n
+reading_shown (shown.Samples h) = samples h.now
+
+-- the kind of the series that has it
+abbrev pub kind_shown : ReadingRef → MetricKind
+kind_shown (shown.Count n) = Counter
+kind_shown (shown.Level n) = Gauge
+kind_shown (shown.Samples h) = Histogram
+
+-- what a reference shows
+abbrev pub told_of : SeriesReading → Told
+told_of r = (series_at (kind_shown r.reading) r.key.now, reading_shown r.reading)
+
+abbrev pub all_told : List SeriesReading → List Told
+all_told rs = map told_of rs
+
+-- the series of one kind's entries, with what they have
+abbrev pub told_in : {C : Type 0} → MetricKind → (C → Reading) → List (KeyParts × Counted C) → List Told
+told_in kind read es = map (λ e. (series_at kind e.0, read e.1.inner)) es
+
+abbrev pub reading_in : Cells → SeriesKey → Option Reading
+reading_in cells s = option_map (λ c. c.reading) (cells s)
+
+-- each held series once, in some order, with what it has
+pub record AreReadings (cells : Cells) (told : List Told) : Type 0 where
+  pub once : IsDistinct series_key_eq (map (λ t. t.0) told)
+  pub held : (s : SeriesKey) → Contains (map (λ t. t.0) told) s ↔ IsHeld cells s
+  pub readings : AllByRecursion (λ t. reading_in cells t.0 ≡ Some t.1) told
+
+-- what a list of series tells, the first where one comes again
+abbrev pub cells_told : List Told → Cells
+cells_told told s = option_map (λ r. record { reading = r; generation = 0 }) (lookup (series_key_eq s) told)
+
+-- of series with what they have each series once
+pub record AreOnce (told kept : List Told) : Type 0 where
+  pub once : IsDistinct series_key_eq (map (λ t. t.0) kept)
+  pub among : (t : Told) → Contains kept t → Contains told t
+  pub all : (s : SeriesKey) → Contains (map (λ t. t.0) told) s → Contains (map (λ t. t.0) kept) s

@@ -1,0 +1,161 @@
+//! What is held, by reference, for texts of other forms.
+ghost use Rattle.std.specs.Prelude.{◌≡◌, ◌++◌, IfOk, OnErr, MatchResult};
+ghost use Rattle.metrics_names.specs.declared.kind.MetricKind.TheVariants.{Counter as CounterKind, Gauge as GaugeKind};
+ghost use Rattle.metrics_names.specs.declared.kind.MetricKind.TheVariants.{Histogram as HistogramKind};
+ghost use Rattle.metrics.specs.declared.error.Error.TheVariants.{Memory as OutOfMemory};
+ghost use Rattle.metrics_exporter.specs.Exporting.{count, level, samples, HoldsSome};
+ghost use Rattle.metrics_exporter.specs.Readings.{all_told, told_in, kind_shown, AreReadings};
+ghost use Rattle.metrics_exporter.specs.Kept.{cells_of};
+
+use crate::cells::CountedCells;
+use crate::keys::held_number;
+use metrics::{Error, Key, MetricKind};
+use metrics_registry::{Cells, Counted, OwnedRegistry};
+use metrics_storage::Histogram;
+use std::alloc::{AllocError, Global};
+
+/// What a series has: a count, a gauge's value, or samples.
+#[derive(Clone, Copy)]
+pub enum ReadingRef<'a> {
+    Count(u64),
+    Level(i64),
+    Samples(&'a Histogram),
+}
+
+impl<'a> ReadingRef<'a> {
+    /// The kind of the series that has it.
+    pub fn kind(&self) -> MetricKind
+        ensures { result ≡ kind_shown self.now }
+    {
+        match self {
+            ReadingRef::Count(_) => MetricKind::Counter,
+            ReadingRef::Level(_) => MetricKind::Gauge,
+            ReadingRef::Samples(_) => MetricKind::Histogram,
+        }
+    }
+}
+
+/// A series by reference, with what it has. Its kind is that of its reading.
+#[derive(Clone, Copy)]
+pub struct SeriesReading<'a> {
+    pub key: &'a Key,
+    pub reading: ReadingRef<'a>,
+}
+
+/// Adds counters at the end.
+fn gather_counts<'a>(
+    cells: &'a Cells<Key, Counted<u64>>,
+    told: Vec<SeriesReading<'a>>,
+) -> Result<Vec<SeriesReading<'a>>, AllocError>
+    ensures { IfOk result (λ all. all_told all.items ≡ all_told told.entry.items ++ told_in CounterKind count cells.now) }
+{
+    let mut told = told;
+    for (key, cell) in cells.iter() {
+        let reading = ReadingRef::Count(*cell.get_inner());
+        told.push(SeriesReading { key, reading })?;
+    }
+    Ok(told)
+}
+
+/// Adds gauges at the end.
+fn gather_levels<'a>(
+    cells: &'a Cells<Key, Counted<i64>>,
+    told: Vec<SeriesReading<'a>>,
+) -> Result<Vec<SeriesReading<'a>>, AllocError>
+    ensures { IfOk result (λ all. all_told all.items ≡ all_told told.entry.items ++ told_in GaugeKind level cells.now) }
+{
+    let mut told = told;
+    for (key, cell) in cells.iter() {
+        let reading = ReadingRef::Level(*cell.get_inner());
+        told.push(SeriesReading { key, reading })?;
+    }
+    Ok(told)
+}
+
+/// Adds histograms at the end.
+fn gather_samples<'a>(
+    cells: &'a Cells<Key, Counted<Histogram>>,
+    told: Vec<SeriesReading<'a>>,
+) -> Result<Vec<SeriesReading<'a>>, AllocError>
+    ensures { IfOk result
+        (λ all. all_told all.items ≡ all_told told.entry.items ++ told_in HistogramKind samples cells.now) }
+{
+    let mut told = told;
+    for (key, cell) in cells.iter() {
+        let reading = ReadingRef::Samples(cell.get_inner());
+        told.push(SeriesReading { key, reading })?;
+    }
+    Ok(told)
+}
+
+fn all_counts<'a>(
+    registry: &'a OwnedRegistry<Key, CountedCells>,
+    told: Vec<SeriesReading<'a>>,
+) -> Result<Vec<SeriesReading<'a>>, AllocError>
+    ensures { IfOk result (λ all. all_told all.items
+        ≡ all_told told.entry.items ++ told_in CounterKind count registry.now.counters) }
+{
+    let mut told = told;
+    for shard in registry.shards() {
+        told = gather_counts(&shard.counters, told)?;
+    }
+    Ok(told)
+}
+
+fn all_levels<'a>(
+    registry: &'a OwnedRegistry<Key, CountedCells>,
+    told: Vec<SeriesReading<'a>>,
+) -> Result<Vec<SeriesReading<'a>>, AllocError>
+    ensures { IfOk result (λ all. all_told all.items
+        ≡ all_told told.entry.items ++ told_in GaugeKind level registry.now.gauges) }
+{
+    let mut told = told;
+    for shard in registry.shards() {
+        told = gather_levels(&shard.gauges, told)?;
+    }
+    Ok(told)
+}
+
+fn all_samples<'a>(
+    registry: &'a OwnedRegistry<Key, CountedCells>,
+    told: Vec<SeriesReading<'a>>,
+) -> Result<Vec<SeriesReading<'a>>, AllocError>
+    ensures { IfOk result (λ all. all_told all.items
+        ≡ all_told told.entry.items ++ told_in HistogramKind samples registry.now.histograms) }
+{
+    let mut told = told;
+    for shard in registry.shards() {
+        told = gather_samples(&shard.histograms, told)?;
+    }
+    Ok(told)
+}
+
+/// The held series with what they have, kind by kind, in the order of a walk.
+fn gathered<'a>(
+    alloc: Global,
+    registry: &'a OwnedRegistry<Key, CountedCells>,
+) -> Result<Vec<SeriesReading<'a>>, AllocError>
+    ensures { IfOk result (λ all. all_told all.items ≡ told_in CounterKind count registry.now.counters
+        ++ told_in GaugeKind level registry.now.gauges ++ told_in HistogramKind samples registry.now.histograms) }
+{
+    let told = all_counts(registry, Vec::new(alloc))?;
+    let told = all_levels(registry, told)?;
+    all_samples(registry, told)
+}
+
+/// Each held series once, in no order of its own, with what it has. Where none is held it takes no memory.
+pub(crate) fn readings_of<'a>(
+    alloc: Global,
+    registry: &'a OwnedRegistry<Key, CountedCells>,
+) -> Result<Vec<SeriesReading<'a>>, Error>
+    ensures readings { MatchResult result (λ all. AreReadings (cells_of registry.now) (all_told all.items))
+        (λ e. e ≡ OutOfMemory) }
+    ensures refused { OnErr result (HoldsSome (cells_of registry.now)) }
+{
+    let _shards = registry.shards();
+    if held_number(registry) == 0 {
+        return Ok(Vec::new(alloc));
+    }
+    let told = gathered(alloc, registry)?;
+    Ok(told)
+}
