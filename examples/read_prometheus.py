@@ -11,8 +11,6 @@ import re
 import subprocess
 import sys
 
-from prometheus_client.parser import text_string_to_metric_families
-
 KINDS = ("counter", "gauge", "histogram")
 KIND_OF = {"increment": 0, "absolute": 0, "add": 1, "sub": 1, "set": 1, "record": 2}
 LEAST, GREATEST = -(2**63), 2**63 - 1
@@ -56,11 +54,14 @@ class Exporter:
         if self.timeout is None:
             return
         for series in [s for s in self.held if s[0] in self.watched]:
-            updates, moment = self.seen.get(series, (None, now))
-            if updates != self.held[series][1]:
-                self.seen[series] = (self.held[series][1], now)
-            elif now - moment > self.timeout:
-                del self.held[series], self.seen[series]
+            self.check(series, now)
+
+    def check(self, series, now):
+        updates, moment = self.seen.get(series, (None, now))
+        if updates != self.held[series][1]:
+            self.seen[series] = (self.held[series][1], now)
+        elif now - moment > self.timeout:
+            del self.held[series], self.seen[series]
 
 
 # ---- what Prometheus is to be shown
@@ -146,6 +147,8 @@ def as_client(family):
 
 def as_read(text):
     """The families that the client reads."""
+    from prometheus_client.parser import text_string_to_metric_families
+
     return [
         (metric.name, metric.type, [(s.name, list(s.labels.items()), s.value) for s in metric.samples])
         for metric in text_string_to_metric_families(text)
@@ -189,12 +192,19 @@ def expositions(output):
     return texts
 
 
+def is_number(word, amount):
+    """Whether the line takes this for a number."""
+    if word in ("increment", "absolute", "scrape"):
+        return re.fullmatch("0|[1-9][0-9]*", amount) is not None and int(amount) < 2**64
+    return re.fullmatch("0|-?[1-9][0-9]*", amount) is not None and -(2**63) <= int(amount) < 2**63
+
+
 def check(lines, output, exporter):
     """Judges what was written for the lines; answers how many samples were read."""
     texts = iter(expositions(output))
     count = 0
     for word, amount, *rest in lines:
-        if word not in (*KIND_OF, "scrape"):  # a bad line ends the run
+        if word not in (*KIND_OF, "scrape") or not is_number(word, amount):  # a bad line ends the run
             break
         if word == "scrape":
             exporter.expire(int(amount))

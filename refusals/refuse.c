@@ -4,7 +4,9 @@
  *   REFUSE_AT=N     refuses the Nth counted request. 0, or none: refuses nothing and counts
  *   REFUSE_HOW=on   refuses all counted requests from the Nth on. Else the Nth alone
  *   REFUSE_ALL=1    counts from the start of the process. Else between the program's two marks alone
- *   REFUSE_TOLD=F   at the end writes 'N refused of M' to the file F
+ *   REFUSE_TOLD=F   keeps three numbers in the file F, eight bytes each: requests refused, requests counted, and marks
+ *                   from which requests count.
+ *                   They are right at any time, so however the program ends
  *
  * A mark is a request of an odd size that nothing else asks for. It is answered by no memory, which the program expects.
  */
@@ -15,10 +17,9 @@
 #include <pthread.h>
 #include <stdatomic.h>
 #include <stddef.h>
-#include <stdio.h>
 #include <stdlib.h>
 #include <string.h>
-#include <sys/syscall.h>
+#include <sys/mman.h>
 #include <unistd.h>
 
 #define COUNTS_FROM_HERE ((size_t)1000000000007)
@@ -29,43 +30,43 @@ extern void *__libc_calloc(size_t, size_t);
 extern void *__libc_realloc(void *, size_t);
 extern void *__libc_memalign(size_t, size_t);
 
+struct told {
+    atomic_ulong refused;
+    atomic_ulong counted;
+    atomic_ulong marks;
+};
+
+static struct told unshared;
+static struct told *told = &unshared;
 static atomic_int is_counting;
-static atomic_ulong counted;
-static atomic_ulong refused;
 static unsigned long at;
 static int goes_on;
 static int (*create_thread)(pthread_t *, const pthread_attr_t *, void *(*)(void *), void *);
+
+/* Has the numbers stand in a file from here on. */
+static void tell_in(const char *name)
+{
+    int file = open(name, O_RDWR | O_CREAT | O_TRUNC | O_CLOEXEC, 0600);
+    void *shared = MAP_FAILED;
+    if (file >= 0 && ftruncate(file, sizeof *told) == 0)
+        shared = mmap(NULL, sizeof *told, PROT_READ | PROT_WRITE, MAP_SHARED, file, 0);
+    if (shared == MAP_FAILED)
+        _exit(99);
+    told = shared;
+    close(file);
+}
 
 __attribute__((constructor)) static void begin(void)
 {
     const char *number = getenv("REFUSE_AT");
     const char *how = getenv("REFUSE_HOW");
+    const char *file = getenv("REFUSE_TOLD");
     at = number ? strtoul(number, NULL, 10) : 0;
     goes_on = how && strcmp(how, "on") == 0;
     create_thread = dlsym(RTLD_NEXT, "pthread_create");
+    if (file)
+        tell_in(file);
     atomic_store(&is_counting, getenv("REFUSE_ALL") != NULL);
-}
-
-__attribute__((destructor)) static void tell(void)
-{
-    const char *file = getenv("REFUSE_TOLD");
-    char line[80];
-    int to, length;
-    atomic_store(&is_counting, 0);
-    if (!file || (to = open(file, O_WRONLY | O_CREAT | O_TRUNC, 0600)) < 0)
-        return;
-    length = snprintf(line, sizeof line, "%lu refused of %lu\n", atomic_load(&refused), atomic_load(&counted));
-    if (write(to, line, (size_t)length) != length)
-        syscall(SYS_exit_group, 99);
-    close(to);
-}
-
-/* A program that has threads ends by this call, and no destructor runs. */
-void _exit(int status)
-{
-    tell();
-    for (;;)
-        syscall(SYS_exit_group, status);
 }
 
 /* Whether the request is refused: a mark, or one that was to be refused. */
@@ -73,16 +74,17 @@ static int is_refused(size_t size)
 {
     unsigned long number;
     if (size == COUNTS_FROM_HERE || size == COUNTS_TO_HERE) {
+        atomic_fetch_add(&told->marks, size == COUNTS_FROM_HERE);
         atomic_store(&is_counting, size == COUNTS_FROM_HERE);
         errno = ENOMEM;
         return 1;
     }
     if (!atomic_load(&is_counting))
         return 0;
-    number = atomic_fetch_add(&counted, 1) + 1;
+    number = atomic_fetch_add(&told->counted, 1) + 1;
     if (at == 0 || number < at || (number > at && !goes_on))
         return 0;
-    atomic_fetch_add(&refused, 1);
+    atomic_fetch_add(&told->refused, 1);
     errno = ENOMEM;
     return 1;
 }

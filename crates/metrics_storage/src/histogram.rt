@@ -6,6 +6,9 @@ ghost use Rattle.metrics_storage.specs.Histogram.{ranked, all_ranked, total, IsS
 ghost use Rattle.metrics_storage.specs.Histogram.{TakesBuckets, ShowsBuckets};
 ghost use Rattle.metrics.specs.declared.error.Error.TheVariants.{Memory as OutOfMemory, CountFull};
 
+#[cfg(test)]
+mod tests;
+
 use metrics::Error;
 use std::alloc::{AllocError, Global};
 use std::marker::Model;

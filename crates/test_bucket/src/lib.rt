@@ -1,13 +1,13 @@
 //! Tests of `AtomicBucket` and `RuledBucket`, through what `metrics_bucket` hands out.
-//!
-//! They stand in a crate of their own: a crate with tests is proved twice.
 #![tactic(auto)]
 
 #[cfg(test)]
-mod alone;
+mod atomic;
 #[cfg(test)]
-mod histograms;
+mod beside;
 #[cfg(test)]
 mod ruled;
+#[cfg(test)]
+mod scarce;
 #[cfg(test)]
 mod threads;

@@ -1,40 +1,47 @@
-//! `RuledBucket`, by hand and with threads.
-ghost use Rattle.std.specs.Prelude.{◌≡◌, ◌<◌, ◌≤◌, true, false, IfOk};
+//! `RuledBucket`, used by one thread.
+ghost use Rattle.std.specs.Prelude.{◌≡◌, false};
 
-use crate::threads::are_all_once;
 use metrics::Error;
 use metrics_bucket::{Pen, RuledBucket, Sample, bucket_law};
 use std::alloc::Global;
+use std::process::Abort;
 use std::sync::Wait;
-use std::sync::atomic::{AtomicUsize, Ordering};
-use std::test::*;
-use std::thread::{Threads, join};
 
-/// What is left in the bucket at its end.
-fn settled(bucket: RuledBucket<u64>, alloc: Global, pen: Pen) -> Result<Vec<u64>, &'static str>
-    requires { (pen.home ≡ bucket) × (pen.ticket ≡ false) }
+/// A bucket of so many blocks, and its whole pen.
+pub fn bucket_of<R: Abort>(rt: &R, alloc: Global, blocks: usize) -> (RuledBucket<u64>, Pen)
+    ensures { (result.1.home ≡ result.0) × (result.1.ticket ≡ false) }
 {
-    if !pen.is_whole() {
-        return Err("the pen isn't whole");
-    }
-    match bucket.settle(alloc, pen) {
-        Ok(values) => Ok(values),
-        Err(_) => Err("memory"),
+    RuledBucket::<u64>::new(alloc, blocks).expect(rt, "out of memory")
+}
+
+/// A pen of half the weight.
+pub fn split_off<R: Abort>(rt: &R, pen: &mut Pen) -> Pen
+    requires { pen.old.ticket ≡ false }
+    ensures rest { (pen.new.home ≡ pen.old.home) × (pen.new.ticket ≡ false) }
+    ensures given { (result.home ≡ pen.old.home) × (result.ticket ≡ false) }
+{
+    pen.split().expect(rt, "out of memory")
+}
+
+/// Pushes the values below `end`, which takes no memory.
+pub fn push_below<R: Abort>(rt: &R, bucket: &RuledBucket<u64>, pen: &mut Pen, end: u64)
+    requires { (pen.old.home ≡ bucket.now) × (pen.old.ticket ≡ false) }
+    ensures { (pen.new.home ≡ bucket.now) × (pen.new.ticket ≡ false) }
+{
+    for value in 0..end {
+        assert!(rt; bucket.try_push_as(pen, value).is_ok());
     }
 }
 
-/// Pushes the values from `from` on, below `end`, and counts those that were refused.
-fn push_run(bucket: &RuledBucket<u64>, mut pen: Pen, from: u64, end: u64) -> (Pen, u64)
-    requires { (pen.home ≡ bucket.now) × (pen.ticket ≡ false) }
-    ensures { (result.0.home ≡ pen.home) × (result.0.weight ≡ pen.weight) × (result.0.ticket ≡ false) }
+/// What is left in the bucket at its end.
+pub fn settled<R: Abort>(rt: &R, alloc: Global, bucket: RuledBucket<u64>, pen: Pen) -> Vec<u64>
+    requires { (pen.home ≡ bucket) × (pen.ticket ≡ false) }
 {
-    let mut refused = 0u64;
-    for value in from..end {
-        if bucket.try_push_as(&mut pen, value).is_err() {
-            refused = refused.wrapping_add(1);
-        }
-    }
-    (pen, refused)
+    assert!(rt; pen.is_whole());
+    bucket
+        .settle(alloc, pen)
+        .map_err(|_| Error::Memory)
+        .expect(rt, "out of memory")
 }
 
 #[test]
@@ -45,238 +52,103 @@ fn words_of_samples(rt: HostRuntime) {
 }
 
 #[test]
-fn signed_values(rt: HostRuntime) -> Result<(), Fail> {
-    let (bucket, mut pen) = RuledBucket::<i64>::new(rt.alloc(), 2)?;
+fn signed_values(rt: HostRuntime) {
+    let (bucket, mut pen) = RuledBucket::<i64>::new(rt.alloc(), 2).expect(&rt, "out of memory");
     assert!(rt; !pen.has_ticket());
     assert!(rt; bucket.push_as(&rt, &mut pen, i64::MIN).is_ok());
     assert!(rt; bucket.push_as(&rt, &mut pen, -1).is_ok());
-    let values = bucket.data_as(&rt, rt.alloc(), &mut pen)?;
+    let values = bucket
+        .data_as(&rt, rt.alloc(), &mut pen)
+        .expect(&rt, "out of memory");
     assert!(rt; values.as_slice() == [i64::MIN, -1].as_slice());
     assert!(rt; bucket.clear_as(&rt, &mut pen) == Ok(2));
     assert!(rt; bucket.is_empty_as(&mut pen));
-    Ok(())
 }
 
 #[test]
-fn closures_are_shown_chunks(rt: HostRuntime) -> Result<(), Fail> {
-    let (bucket, pen) = RuledBucket::<u64>::new(rt.alloc(), 2)?;
-    let (mut pen, _) = push_run(&bucket, pen, 0, 65);
+fn closures_are_shown_chunks(rt: HostRuntime) {
+    let (bucket, mut pen) = bucket_of(&rt, rt.alloc(), 2);
+    push_below(&rt, &bucket, &mut pen, 65);
     let mut lengths = (0usize, 0usize);
     let read = bucket.data_with_as(&rt, &mut pen, |part| lengths = (lengths.1, part.len()));
     assert!(rt; read == Ok(65) && lengths == (1, 64));
     let taken = bucket.clear_with_as(&rt, &mut pen, |part| lengths = (part.len(), lengths.0));
     assert!(rt; taken == Ok(65) && lengths == (64, 1));
-    Ok(())
-}
-
-/// Pushes one value; where it waits, it tries again while the bucket is full.
-fn push_waiting<R: Wait>(rt: &R, bucket: &RuledBucket<u64>, pen: &mut Pen, value: u64, waits: bool)
-    requires { (pen.old.home ≡ bucket.now) × (pen.old.ticket ≡ false) }
-    ensures { (pen.new.home ≡ pen.old.home) × (pen.new.weight ≡ pen.old.weight) × (pen.new.ticket ≡ false) }
-{
-    for _ in rt.forever() {
-        if bucket.push_as(rt, pen, value).is_ok() || !waits {
-            return;
-        }
-    }
-    unreachable!()
-}
-
-/// Pushes the values from `from` on, below `end`: each until it is in, or each once.
-fn push_all<R: Wait>(
-    rt: &R,
-    bucket: &RuledBucket<u64>,
-    mut pen: Pen,
-    from: u64,
-    end: u64,
-    waits: bool,
-) -> Pen
-    requires { (pen.home ≡ bucket.now) × (pen.ticket ≡ false) }
-    ensures { (result.home ≡ pen.home) × (result.weight ≡ pen.weight) × (result.ticket ≡ false) }
-{
-    for value in from..end {
-        push_waiting(rt, bucket, &mut pen, value, waits);
-    }
-    pen
-}
-
-/// 2 to this power threads push the values from `from` on, below `end`.
-fn push_in<R: Threads + Wait + Sync>(
-    rt: &R,
-    bucket: &RuledBucket<u64>,
-    mut pen: Pen,
-    from: u64,
-    end: u64,
-    depth: u64,
-    waits: bool,
-) -> Result<Pen, Error>
-    requires pen { (pen.home ≡ bucket.now) × (pen.ticket ≡ false) }
-    ensures { IfOk result (λ p. (p.home ≡ pen.home) × (p.weight ≡ pen.weight) × (p.ticket ≡ false)) }
-{
-    if depth == 0 {
-        return Ok(push_all(rt, bucket, pen, from, end, waits));
-    }
-    let other = pen.split()?;
-    let middle = (from / 2).wrapping_add(end / 2);
-    let depth = depth - 1;
-    let (a, b) = join(
-        rt,
-        || -> Result<Pen, Error>
-            requires { (pen.home ≡ bucket.now) × (pen.ticket ≡ false) }
-            ensures { IfOk result (λ p. (p.home ≡ pen.home) × (p.weight ≡ pen.weight) × (p.ticket ≡ false)) }
-        { push_in(rt, bucket, pen, from, middle, depth, waits) },
-        || -> Result<Pen, Error>
-            requires { (other.home ≡ bucket.now) × (other.ticket ≡ false) }
-            ensures { IfOk result (λ p. (p.home ≡ other.home) × (p.weight ≡ other.weight) × (p.ticket ≡ false)) }
-        { push_in(rt, bucket, other, middle, end, depth, waits) },
-    );
-    let mut a = a?;
-    a.join(b?);
-    Ok(a)
 }
 
 #[test]
-fn a_lost_race_isnt_full(rt: HostRuntime) -> Result<(), Fail> {
-    let (bucket, pen) = RuledBucket::<u64>::new(rt.alloc(), 1024)?;
-    let pen = push_in(&rt, &bucket, pen, 0, 64_000, 3, false)?;
-    let values = settled(bucket, rt.alloc(), pen)?;
-    assert!(rt; are_all_once(values, 64_000));
-    Ok(())
+fn blocks_are_1_to_1024(rt: HostRuntime) {
+    for blocks in [0, 1025] {
+        let refused = RuledBucket::<u64>::new(rt.alloc(), blocks).err();
+        assert!(rt; refused == Some(Error::BadBlocks));
+    }
+    let (bucket, mut pen) = bucket_of(&rt, rt.alloc(), 1024);
+    push_below(&rt, &bucket, &mut pen, 65_536);
+    assert!(rt; bucket.try_push_as(&mut pen, 9) == Err((Error::Full, 9)));
 }
 
-/// Four threads push 0 to 3999, and then it is told that they ended.
-fn push_to_the_end<R: Threads + Wait + Sync>(
-    rt: &R,
-    bucket: &RuledBucket<u64>,
+#[test]
+fn a_full_bucket_gives_the_value_back(rt: HostRuntime) {
+    let (bucket, mut pen) = bucket_of(&rt, rt.alloc(), 1);
+    push_below(&rt, &bucket, &mut pen, 64);
+    assert!(rt; bucket.try_push_as(&mut pen, 9) == Err((Error::Full, 9)));
+    assert!(rt; bucket.push_as(&rt, &mut pen, 9) == Err((Error::Full, 9)));
+}
+
+/// A push that began first has its place before one that began later and ended earlier.
+#[test]
+fn tickets_keep_their_places(rt: HostRuntime) {
+    let (bucket, mut first) = bucket_of(&rt, rt.alloc(), 1);
+    let mut second = split_off(&rt, &mut first);
+    bucket.begin_as(&mut first).expect(&rt, "a ticket");
+    assert!(rt; bucket.try_push_as(&mut second, 7).is_ok());
+    bucket.finish_as(&mut first, 5);
+    first.join(second);
+    let values = settled(&rt, rt.alloc(), bucket, first);
+    assert!(rt; values.as_slice() == [5, 7].as_slice());
+}
+
+/// A pen beside its bucket, as a walk's closure may hold it.
+#[derive(Drop)]
+struct Held<'a> {
+    bucket: &'a RuledBucket<u64>,
     pen: Pen,
-    ended: &AtomicUsize,
-) -> Result<Pen, Error>
-    requires pen { (pen.home ≡ bucket.now) × (pen.ticket ≡ false) }
-    ensures { IfOk result (λ p. (p.home ≡ pen.home) × (p.ticket ≡ false)) }
-{
-    let answer = push_in(rt, bucket, pen, 0, 4000, 2, true);
-    ended.store(1, Ordering::SeqCst);
-    answer
+    ghost own: { pen.home ≡ bucket.now },
+    ghost free: { pen.ticket ≡ false },
 }
 
-/// What clears showed until the pushes ended.
-fn clear_to_the_end<R: Wait>(
-    rt: &R,
-    alloc: Global,
-    bucket: &RuledBucket<u64>,
-    mut pen: Pen,
-    ended: &AtomicUsize,
-) -> (Pen, Vec<u64>)
-    requires { (pen.home ≡ bucket.now) × (pen.ticket ≡ false) }
-    ensures { (result.0.home ≡ pen.home) × (result.0.ticket ≡ false) }
-{
-    let mut shown = Vec::new(alloc);
-    for _ in rt.forever() {
-        let last = ended.load(Ordering::SeqCst) == 1;
-        let _ = bucket.clear_with_as(rt, &mut pen, |part| {
-            let _ = shown.extend_from_slice(part);
-        });
-        if last {
-            break;
-        }
+impl Held<'_> {
+    fn push(&mut self, value: u64) -> bool {
+        self.bucket.try_push_as(&mut self.pen, value).is_ok()
     }
-    (pen, shown)
-}
 
-/// Whether readings until the pushes ended found only values below 4000.
-fn read_to_the_end<R: Wait>(
-    rt: &R,
-    alloc: Global,
-    bucket: &RuledBucket<u64>,
-    mut pen: Pen,
-    ended: &AtomicUsize,
-) -> (Pen, bool)
-    requires { (pen.home ≡ bucket.now) × (pen.ticket ≡ false) }
-    ensures { (result.0.home ≡ pen.home) × (result.0.ticket ≡ false) }
-{
-    let mut known = true;
-    for _ in rt.forever() {
-        let last = ended.load(Ordering::SeqCst) == 1;
-        if let Ok(values) = bucket.data_as(rt, alloc, &mut pen) {
-            known = known && values.iter().all(|value| *value < 4000);
-        }
-        if last {
-            break;
-        }
+    fn count<R: Wait>(&mut self, rt: &R) -> Result<usize, Error> {
+        self.bucket.data_with_as(rt, &mut self.pen, |_| {})
     }
-    (pen, known)
+
+    fn clear<R: Wait>(&mut self, rt: &R) -> Result<usize, Error> {
+        self.bucket.clear_as(rt, &mut self.pen)
+    }
 }
 
-/// A clearer and a reader at once, until the pushes ended.
-fn walk_to_the_end<R: Threads + Wait + Sync>(
-    rt: &R,
-    alloc: Global,
-    bucket: &RuledBucket<u64>,
-    clearer: Pen,
-    reader: Pen,
-    ended: &AtomicUsize,
-) -> (Pen, Vec<u64>, bool)
-    requires clearer { (clearer.home ≡ bucket.now) × (clearer.ticket ≡ false) }
-    requires reader { (reader.home ≡ bucket.now) × (reader.ticket ≡ false) }
-    ensures { (result.0.home ≡ bucket.now) × (result.0.ticket ≡ false) }
-{
-    let ((mut clearer, shown), (reader, known)) = join(
-        rt,
-        || -> (Pen, Vec<u64>)
-            requires { (clearer.home ≡ bucket.now) × (clearer.ticket ≡ false) }
-            ensures { (result.0.home ≡ clearer.home) × (result.0.ticket ≡ false) }
-        { clear_to_the_end(rt, alloc, bucket, clearer, ended) },
-        || -> (Pen, bool)
-            requires { (reader.home ≡ bucket.now) × (reader.ticket ≡ false) }
-            ensures { (result.0.home ≡ reader.home) × (result.0.ticket ≡ false) }
-        { read_to_the_end(rt, alloc, bucket, reader, ended) },
-    );
-    clearer.join(reader);
-    (clearer, shown, known)
-}
-
-/// Pushers, a clearer and a reader at once. One pen comes back, with what the clearer showed.
-fn push_and_walk<R: Threads + Wait + Sync>(
-    rt: &R,
-    alloc: Global,
-    bucket: &RuledBucket<u64>,
-    pusher: Pen,
-    clearer: Pen,
-    reader: Pen,
-) -> Result<(Pen, Vec<u64>, bool), Error>
-    requires pusher { (pusher.home ≡ bucket.now) × (pusher.ticket ≡ false) }
-    requires clearer { (clearer.home ≡ bucket.now) × (clearer.ticket ≡ false) }
-    requires reader { (reader.home ≡ bucket.now) × (reader.ticket ≡ false) }
-    ensures { IfOk result (λ r. (r.0.home ≡ bucket.now) × (r.0.ticket ≡ false)) }
-{
-    let counter = AtomicUsize::new(0);
-    let ended = &counter;
-    let (pushed, (mut pen, shown, known)) = join(
-        rt,
-        || -> Result<Pen, Error>
-            requires { (pusher.home ≡ bucket.now) × (pusher.ticket ≡ false) }
-            ensures { IfOk result (λ p. (p.home ≡ pusher.home) × (p.ticket ≡ false)) }
-        { push_to_the_end(rt, bucket, pusher, ended) },
-        || -> (Pen, Vec<u64>, bool)
-            requires { (clearer.home ≡ bucket.now) × (clearer.ticket ≡ false) × (reader.home ≡ bucket.now)
-                × (reader.ticket ≡ false) }
-            ensures { (result.0.home ≡ clearer.home) × (result.0.ticket ≡ false) }
-        { walk_to_the_end(rt, alloc, bucket, clearer, reader, ended) },
-    );
-    pen.join(pushed?);
-    Ok((pen, shown, known))
-}
-
+/// No pen is whole, and none is busy.
 #[test]
-fn each_value_comes_out_once(rt: HostRuntime) -> Result<(), Fail> {
-    let (bucket, mut pusher) = RuledBucket::<u64>::new(rt.alloc(), 4)?;
-    let clearer = pusher.split()?;
-    let reader = pusher.split()?;
-    let (pen, mut shown, known) = push_and_walk(&rt, rt.alloc(), &bucket, pusher, clearer, reader)?;
-    let rest = settled(bucket, rt.alloc(), pen)?;
-    for value in rest.as_slice() {
-        shown.push(*value)?;
-    }
-    assert!(rt; known && are_all_once(shown, 4000));
-    Ok(())
+fn a_clears_closure_may_push_with_another_pen(rt: HostRuntime) {
+    let (bucket, mut pen) = bucket_of(&rt, rt.alloc(), 1);
+    let other = split_off(&rt, &mut pen);
+    let mut other = Held {
+        bucket: &bucket,
+        pen: other,
+    };
+    assert!(rt; bucket.try_push_as(&mut pen, 1).is_ok());
+    let mut pushed = 0u64;
+    let cleared = bucket.clear_with_as(&rt, &mut pen, |_| {
+        pushed = pushed.wrapping_add(u64::from(other.push(2)));
+    });
+    assert!(rt; cleared == Ok(1) && pushed == 1);
+    let values = bucket
+        .data_as(&rt, rt.alloc(), &mut pen)
+        .expect(&rt, "out of memory");
+    assert!(rt; values.as_slice() == [2].as_slice());
+    assert!(rt; other.count(&rt) == Ok(1) && other.clear(&rt) == Ok(1));
 }

@@ -1,111 +1,380 @@
-//! A bucket that several threads use at once.
+//! `RuledBucket`, used by several threads at once.
+ghost use Rattle.std.specs.Prelude.{◌≡◌, ◌<◌, ◌≤◌, true, false};
 
+use crate::beside::are_all_once;
+use crate::ruled::{bucket_of, settled, split_off};
 use metrics::Error;
-use metrics_bucket::AtomicBucket;
+use metrics_bucket::{Pen, RuledBucket};
 use std::alloc::Global;
+use std::process::Abort;
+use std::snapshot::Snapshot;
 use std::sync::Wait;
 use std::sync::atomic::{AtomicUsize, Ordering};
-use std::test::Fail;
-use std::thread::{Threads, join, map_indices};
+use std::thread::{Promise, Threads, join, scope, scope_env};
 
-/// Pushes the values from `from` on, below `end`, each until it is in.
-fn push_all<R: Wait>(rt: &R, bucket: &AtomicBucket<u64>, from: u64, end: u64) {
-    for value in from..end {
-        for _ in rt.forever() {
-            match bucket.push(rt, value) {
-                Err((Error::Full, _)) => {}
-                _ => break,
-            }
+/// Pushes one value; where it waits, it tries again while the bucket is full.
+fn push_waiting<R: Wait>(rt: &R, bucket: &RuledBucket<u64>, pen: &mut Pen, value: u64, waits: bool)
+    requires { (pen.old.home ≡ bucket.now) × (pen.old.ticket ≡ false) }
+    ensures { (pen.new.home ≡ pen.old.home) × (pen.new.weight ≡ pen.old.weight) × (pen.new.ticket ≡ false) }
+{
+    for _ in rt.forever() {
+        if bucket.push_as(rt, pen, value).is_ok() || !waits {
+            return;
         }
     }
+    unreachable!()
 }
 
-/// Two threads push 0 to 1999, and then it is told that they ended.
-fn push_in_two<R: Threads + Wait + Sync>(rt: &R, bucket: &AtomicBucket<u64>, ended: &AtomicUsize) {
-    join(
+/// Pushes the values from `from` on, below `end`: each until it is in, or each once.
+fn push_all<R: Wait>(
+    rt: &R,
+    bucket: &RuledBucket<u64>,
+    mut pen: Pen,
+    from: u64,
+    end: u64,
+    waits: bool,
+) -> Pen
+    requires { (pen.home ≡ bucket.now) × (pen.ticket ≡ false) }
+    ensures { (result.home ≡ pen.home) × (result.weight ≡ pen.weight) × (result.ticket ≡ false) }
+{
+    for value in from..end {
+        push_waiting(rt, bucket, &mut pen, value, waits);
+    }
+    pen
+}
+
+/// 2 to this power threads push the values from `from` on, below `end`.
+fn push_in<R: Abort + Threads + Wait + Sync>(
+    rt: &R,
+    bucket: &RuledBucket<u64>,
+    mut pen: Pen,
+    from: u64,
+    end: u64,
+    depth: u64,
+    waits: bool,
+) -> Pen
+    requires { (pen.home ≡ bucket.now) × (pen.ticket ≡ false) }
+    ensures { (result.home ≡ bucket.now) × (result.ticket ≡ false) }
+{
+    if depth == 0 {
+        return push_all(rt, bucket, pen, from, end, waits);
+    }
+    let other = split_off(rt, &mut pen);
+    let middle = (from / 2).wrapping_add(end / 2);
+    let depth = depth - 1;
+    let (mut pen, other) = join(
         rt,
-        || push_all(rt, bucket, 0, 1000),
-        || push_all(rt, bucket, 1000, 2000),
+        || -> Pen
+            requires { (pen.home ≡ bucket.now) × (pen.ticket ≡ false) }
+            ensures { (result.home ≡ bucket.entry.now) × (result.ticket ≡ false) }
+        { push_in(rt, bucket, pen, from, middle, depth, waits) },
+        || -> Pen
+            requires { (other.home ≡ bucket.now) × (other.ticket ≡ false) }
+            ensures { (result.home ≡ bucket.entry.now) × (result.ticket ≡ false) }
+        { push_in(rt, bucket, other, middle, end, depth, waits) },
     );
-    ended.store(1, Ordering::SeqCst);
+    pen.join(other);
+    pen
 }
 
-/// What clears showed until the pushes ended.
-fn clear_to_the_end<R: Wait>(
+/// Eight threads push the values below `count`, each once, into a bucket of so many blocks, which they fill.
+fn fill_by_eight<R: Abort + Threads + Wait + Sync>(
     rt: &R,
     alloc: Global,
-    bucket: &AtomicBucket<u64>,
+    blocks: usize,
+    count: usize,
+) {
+    let (bucket, pen) = bucket_of(rt, alloc, blocks);
+    let pen = push_in(rt, &bucket, pen, 0, count as u64, 3, false);
+    let values = settled(rt, alloc, bucket, pen);
+    assert!(rt; are_all_once(values, count));
+}
+
+#[test]
+fn eight_threads_of_eight_pushes_fill_a_block(rt: HostRuntime) {
+    fill_by_eight(&rt, rt.alloc(), 1, 64);
+}
+
+#[test]
+fn a_lost_race_isnt_full(rt: HostRuntime) {
+    fill_by_eight(&rt, rt.alloc(), 1000, 64_000);
+}
+
+/// A clearer that ended: its pen, the values that it was shown, and how many its clears answered.
+#[derive(Drop)]
+struct Cleared {
+    pen: Pen,
+    shown: Vec<u64>,
+    count: usize,
+}
+
+/// That a clearer gives the pen back that it was given.
+#[derive(Drop)]
+struct Clears {
+    pen: Snapshot<Pen>,
+}
+
+impl Promise<Cleared> for Clears {
+    ghost use Rattle.std.specs.Prelude.{◌≡◌, false};
+
+    ghost kept_by = { λ p c. (c.pen.home ≡ p.pen.value.home) × (c.pen.ticket ≡ false) };
+}
+
+/// Clears once at least, and until it is told that the others ended.
+fn clear_to_the_end<R: Abort + Wait>(
+    rt: &R,
+    alloc: Global,
+    bucket: &RuledBucket<u64>,
+    mut pen: Pen,
     ended: &AtomicUsize,
-) -> Vec<u64> {
+) -> Cleared
+    requires { (pen.home ≡ bucket.now) × (pen.ticket ≡ false) }
+    ensures { (result.pen.home ≡ pen.home) × (result.pen.ticket ≡ false) }
+{
     let mut shown = Vec::new(alloc);
+    let mut count = 0usize;
     for _ in rt.forever() {
         let last = ended.load(Ordering::SeqCst) == 1;
-        let _ = bucket.clear_with(rt, |part| {
-            for value in part {
-                let _ = shown.push(*value);
-            }
+        let answer = bucket.clear_with_as(rt, &mut pen, |part| {
+            shown.extend_from_slice(part).expect(rt, "out of memory");
+        });
+        count = count.wrapping_add(answer.unwrap_or(0));
+        if last {
+            break;
+        }
+    }
+    Cleared { pen, shown, count }
+}
+
+/// Does this while a thread clears, and gives what both gave. It ends here where the thread can't be started.
+fn beside_a_clearer<R: Abort + Threads + Wait + Sync, T, F: FnOnce() -> T>(
+    rt: &R,
+    alloc: Global,
+    bucket: &RuledBucket<u64>,
+    clearer: Pen,
+    ended: &AtomicUsize,
+    f: F,
+) -> (Cleared, T)
+    requires clearer { (clearer.home ≡ bucket.now) × (clearer.ticket ≡ false) }
+    requires call { F.pre f }
+    ensures clearer { (result.0.pen.home ≡ bucket.now) × (result.0.pen.ticket ≡ false) }
+    ensures call { F.post f result.1 }
+{
+    scope(
+        scope_env(),
+        rt,
+        |scope| -> (Cleared, T)
+            requires { (clearer.home ≡ bucket.now) × (clearer.ticket ≡ false) × F.pre f }
+            ensures { (result.0.pen.home ≡ bucket.entry.now) × (result.0.pen.ticket ≡ false) × F.post f result.1 }
+        {
+            let promise = Clears {
+                pen: Snapshot::of(&clearer),
+            };
+            let thread = scope
+                .spawn_with(
+                    promise,
+                    move || -> Cleared
+                        requires { (clearer.home ≡ bucket.now) × (clearer.ticket ≡ false) }
+                        ensures { (result.pen.home ≡ clearer.home) × (result.pen.ticket ≡ false) }
+                    { clear_to_the_end(rt, alloc, bucket, clearer, ended) },
+                )
+                .map_err(|_| Error::Memory)
+                .expect(rt, "out of memory");
+            let given = f();
+            (thread.join(rt), given)
+        },
+    )
+}
+
+/// Four threads push 0 to 3999, and then it is told that they ended.
+fn push_to_the_end<R: Abort + Threads + Wait + Sync>(
+    rt: &R,
+    bucket: &RuledBucket<u64>,
+    pen: Pen,
+    ended: &AtomicUsize,
+) -> Pen
+    requires { (pen.home ≡ bucket.now) × (pen.ticket ≡ false) }
+    ensures { (result.home ≡ bucket.now) × (result.ticket ≡ false) }
+{
+    let pen = push_in(rt, bucket, pen, 0, 4000, 2, true);
+    ended.store(1, Ordering::SeqCst);
+    pen
+}
+
+/// Reads once at least, and until it is told that the others ended. Each value is below 4000.
+fn read_to_the_end<R: Abort + Wait>(
+    rt: &R,
+    bucket: &RuledBucket<u64>,
+    mut pen: Pen,
+    ended: &AtomicUsize,
+) -> Pen
+    requires { (pen.home ≡ bucket.now) × (pen.ticket ≡ false) }
+    ensures { (result.home ≡ pen.home) × (result.ticket ≡ false) }
+{
+    for _ in rt.forever() {
+        let last = ended.load(Ordering::SeqCst) == 1;
+        let _ = bucket.data_with_as(rt, &mut pen, |part| {
+            assert!(rt; part.iter().all(|value| *value < 4000));
         });
         if last {
             break;
         }
     }
-    shown
+    pen
 }
 
-/// Whether these are the numbers from 0 on, each once, in some order.
-pub fn are_all_once(mut values: Vec<u64>, count: usize) -> bool {
-    values.sort_unstable();
-    let mut want = 0u64;
-    for value in values.as_slice() {
-        if *value != want {
-            return false;
-        }
-        want = want.wrapping_add(1);
-    }
-    values.len() == count
+/// Pushers and a reader at once. The reader comes last where no thread can be started for it.
+fn push_and_read<R: Abort + Threads + Wait + Sync>(
+    rt: &R,
+    bucket: &RuledBucket<u64>,
+    pusher: Pen,
+    reader: Pen,
+    ended: &AtomicUsize,
+) -> Pen
+    requires pusher { (pusher.home ≡ bucket.now) × (pusher.ticket ≡ false) }
+    requires reader { (reader.home ≡ bucket.now) × (reader.ticket ≡ false) }
+    ensures { (result.home ≡ bucket.now) × (result.ticket ≡ false) }
+{
+    let (mut pen, pusher) = join(
+        rt,
+        || -> Pen
+            requires { (reader.home ≡ bucket.now) × (reader.ticket ≡ false) }
+            ensures { (result.home ≡ bucket.entry.now) × (result.ticket ≡ false) }
+        { read_to_the_end(rt, bucket, reader, ended) },
+        || -> Pen
+            requires { (pusher.home ≡ bucket.now) × (pusher.ticket ≡ false) }
+            ensures { (result.home ≡ bucket.entry.now) × (result.ticket ≡ false) }
+        { push_to_the_end(rt, bucket, pusher, ended) },
+    );
+    pen.join(pusher);
+    pen
 }
 
-/// What a thread's clears show while two others push.
-fn push_and_clear<R: Threads + Wait + Sync>(
+/// Pushers, a reader and a clearer at once. One pen comes back, with what the clearer was shown.
+fn push_read_and_clear<R: Abort + Threads + Wait + Sync>(
     rt: &R,
     alloc: Global,
-    bucket: &AtomicBucket<u64>,
-) -> Vec<u64> {
+    bucket: &RuledBucket<u64>,
+    pusher: Pen,
+    reader: Pen,
+    clearer: Pen,
+) -> (Pen, Vec<u64>)
+    requires pusher { (pusher.home ≡ bucket.now) × (pusher.ticket ≡ false) }
+    requires reader { (reader.home ≡ bucket.now) × (reader.ticket ≡ false) }
+    requires clearer { (clearer.home ≡ bucket.now) × (clearer.ticket ≡ false) }
+    ensures { (result.0.home ≡ bucket.now) × (result.0.ticket ≡ false) }
+{
     let counter = AtomicUsize::new(0);
     let ended = &counter;
-    let ((), shown) = join(
+    let (cleared, pen) = beside_a_clearer(
         rt,
-        || push_in_two(rt, bucket, ended),
-        || clear_to_the_end(rt, alloc, bucket, ended),
+        alloc,
+        bucket,
+        clearer,
+        ended,
+        || -> Pen
+            requires { (pusher.home ≡ bucket.now) × (pusher.ticket ≡ false) × (reader.home ≡ bucket.now)
+                × (reader.ticket ≡ false) }
+            ensures { (result.home ≡ bucket.entry.now) × (result.ticket ≡ false) }
+        { push_and_read(rt, bucket, pusher, reader, ended) },
     );
-    shown
+    let Cleared {
+        pen: mut clearer,
+        shown,
+        count,
+    } = cleared;
+    assert!(rt; count == shown.len());
+    clearer.join(pen);
+    (clearer, shown)
 }
 
 #[test]
-fn each_value_comes_out_once(rt: HostRuntime) -> Result<(), Fail> {
-    let bucket = AtomicBucket::<u64>::new(rt.alloc(), 1)?;
-    let shown = push_and_clear(&rt, rt.alloc(), &bucket);
-    assert!(rt; are_all_once(shown, 2000) && bucket.is_empty(&rt) == Ok(true));
-    Ok(())
+fn each_value_comes_out_once(rt: HostRuntime) {
+    let (bucket, mut pusher) = bucket_of(&rt, rt.alloc(), 4);
+    let clearer = split_off(&rt, &mut pusher);
+    let reader = split_off(&rt, &mut pusher);
+    let (pen, mut shown) = push_read_and_clear(&rt, rt.alloc(), &bucket, pusher, reader, clearer);
+    let rest = settled(&rt, rt.alloc(), bucket, pen);
+    shown
+        .extend_from_slice(rest.as_slice())
+        .expect(&rt, "out of memory");
+    assert!(rt; are_all_once(shown, 4000));
 }
 
-/// Pushes 8,000 values, each once, and counts those that were refused.
-fn refusals<R: Wait>(rt: &R, bucket: &AtomicBucket<u64>) -> usize {
-    let mut refused = 0usize;
-    for value in 0..8000u64 {
-        if bucket.push(rt, value).is_err() {
-            refused = refused.wrapping_add(1);
+/// Once the clear has taken the side, a push goes to the other one and a second clear is busy. Then the first push ends.
+fn push_beside<R: Abort + Wait>(
+    rt: &R,
+    bucket: &RuledBucket<u64>,
+    mut slow: Pen,
+    mut other: Pen,
+) -> (Pen, Pen)
+    requires slow { (slow.home ≡ bucket.now) × (slow.ticket ≡ true) }
+    requires other { (other.home ≡ bucket.now) × (other.ticket ≡ false) }
+    ensures slow { (result.0.home ≡ bucket.now) × (result.0.ticket ≡ false) }
+    ensures other { (result.1.home ≡ bucket.now) × (result.1.ticket ≡ false) }
+{
+    for _ in rt.forever() {
+        if bucket.is_empty_as(&mut other) {
+            break;
         }
     }
-    refused
+    assert!(rt; bucket.try_push_as(&mut other, 3).is_ok());
+    assert!(rt; bucket.clear_with_as(rt, &mut other, |_| {}) == Err(Error::Busy));
+    bucket.finish_as(&mut slow, 1);
+    (slow, other)
 }
 
+/// The slow pen's push began. The pens come back once a clear has waited for it.
+fn clear_beside<R: Abort + Threads + Wait + Sync>(
+    rt: &R,
+    alloc: Global,
+    bucket: &RuledBucket<u64>,
+    slow: Pen,
+    other: Pen,
+    clearer: Pen,
+) -> (Pen, Pen)
+    requires slow { (slow.home ≡ bucket.now) × (slow.ticket ≡ true) }
+    requires other { (other.home ≡ bucket.now) × (other.ticket ≡ false) }
+    requires clearer { (clearer.home ≡ bucket.now) × (clearer.ticket ≡ false) }
+    ensures joined { (result.0.home ≡ bucket.now) × (result.0.ticket ≡ false) }
+    ensures other { (result.1.home ≡ bucket.now) × (result.1.ticket ≡ false) }
+{
+    let once = AtomicUsize::new(1);
+    let (cleared, (mut pen, other)) = beside_a_clearer(
+        rt,
+        alloc,
+        bucket,
+        clearer,
+        &once,
+        || -> (Pen, Pen)
+            requires { (slow.home ≡ bucket.now) × (slow.ticket ≡ true) × (other.home ≡ bucket.now)
+                × (other.ticket ≡ false) }
+            ensures { (result.0.home ≡ bucket.entry.now) × (result.0.ticket ≡ false)
+                × (result.1.home ≡ bucket.entry.now) × (result.1.ticket ≡ false) }
+        { push_beside(rt, bucket, slow, other) },
+    );
+    assert!(rt; cleared.count == 2 && cleared.shown.as_slice() == [1, 2].as_slice());
+    pen.join(cleared.pen);
+    (pen, other)
+}
+
+/// A reading finds what was pushed then, while the pens are still apart.
 #[test]
-fn no_push_is_refused_beside_others(rt: HostRuntime) -> Result<(), Fail> {
-    let bucket = AtomicBucket::<u64>::new(rt.alloc(), 1024)?;
-    let shared = &bucket;
-    let refused = map_indices(&rt, rt.alloc(), 8, &|_| refusals(&rt, shared))?;
-    assert!(rt; refused.iter().all(|count| *count == 0));
-    assert!(rt; bucket.data_with(&rt, |_| {}) == Ok(64_000));
-    Ok(())
+fn a_clear_waits_for_a_push(rt: HostRuntime) {
+    let (bucket, mut pen) = bucket_of(&rt, rt.alloc(), 1);
+    let mut slow = split_off(&rt, &mut pen);
+    let mut other = split_off(&rt, &mut pen);
+    let clearer = split_off(&rt, &mut pen);
+    bucket.begin_as(&mut slow).expect(&rt, "a ticket");
+    assert!(rt; bucket.try_push_as(&mut pen, 2).is_ok());
+    assert!(rt; !bucket.is_empty_as(&mut other));
+    let (joined, mut other) = clear_beside(&rt, rt.alloc(), &bucket, slow, other, clearer);
+    let values = bucket
+        .data_as(&rt, rt.alloc(), &mut other)
+        .expect(&rt, "out of memory");
+    assert!(rt; values.as_slice() == [3].as_slice());
+    pen.join(joined);
+    pen.join(other);
+    let values = settled(&rt, rt.alloc(), bucket, pen);
+    assert!(rt; values.as_slice() == [3].as_slice());
 }

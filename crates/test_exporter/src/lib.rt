@@ -1,7 +1,11 @@
-//! Tests of `metrics_exporter`, through what it hands out.
-//!
-//! They stand in a crate of their own: a crate with tests is proved twice.
+//! Tests of `metrics_exporter` and `metrics_prometheus`, through what they hand out.
 #![tactic(auto)]
 
+#[cfg(test)]
+mod expositions;
+#[cfg(test)]
+mod given;
+#[cfg(test)]
+mod makers;
 #[cfg(test)]
 mod rows;

@@ -1,80 +1,125 @@
-//! A counter that goes once it was idle, and begins again.
+//! Lines of series that are updated, checked and removed.
 
-use metrics::{Error, Key, Label, MetricKindMask, Refused, Update};
+use crate::given::{Given, MEMORY, fill, key};
+use metrics::{MetricKindMask, Update};
 use metrics_exporter::Exporter;
-use std::alloc::Global;
 use std::process::Abort;
 use std::test::Fail;
+use test_trial::{Trial, Wrong, done, expect, made};
 
-const COUNTER: &str = "counter hits host=a value 2\n";
-
-const AGAIN: &str = "counter hits host=a value 1\n";
-
-/// Series that no check takes away, of which one has the empty name.
-const OTHERS: [(&str, Update); 3] = [
-    ("temp", Update::Set(-3)),
-    ("", Update::Set(7)),
-    ("lat", Update::Record(12)),
+/// A series of each kind.
+const SERIES: [Given; 3] = [
+    ("lat", &[], Update::Record(12)),
+    ("temp", &[], Update::Set(-3)),
+    ("hits", &[("host", "a")], Update::Increment(2)),
 ];
 
-const OTHER_LINES: &str =
-    "gauge - value 7\ngauge temp value -3\nhistogram lat count 1 sum 12 le 10 0 le 25 1\n";
+/// The text of the first 0, 1, 2 and 3 of them: their order is that of their kinds.
+const TEXTS: [&str; 4] = [
+    "",
+    "histogram lat count 1 sum 12 le 10 0 le 25 1\n",
+    "gauge temp value -3\nhistogram lat count 1 sum 12 le 10 0 le 25 1\n",
+    "counter hits host=a value 2\ngauge temp value -3\nhistogram lat count 1 sum 12 le 10 0 le 25 1\n",
+];
 
-fn hits(alloc: Global) -> Result<Key, Refused> {
-    let labels = Vec::from_array(alloc, [Label::new(alloc, "host", "a")?])?;
-    Key::from_parts(alloc, "hits", labels)
-}
+const AGAIN: &str =
+    "counter hits host=a value 1\ngauge temp value -3\nhistogram lat count 1 sum 12 le 10 0 le 25 1\n";
 
-/// A counter beside the other series.
-fn fill(alloc: Global, exporter: &mut Exporter, hits: &Key) -> Result<(), Error> {
-    exporter.update(hits, Update::Increment(2))?;
-    for (name, by) in OTHERS {
-        exporter.update(&Key::from_name(alloc, name)?, by)?;
-    }
-    Ok(())
-}
-
-/// Whether the text is this line and those of the other series.
-fn has_lines(exporter: &Exporter, first: &str) -> Result<bool, Error> {
-    let text = exporter.text()?;
-    let is_whole = text.len() == first.len() + OTHER_LINES.len();
-    Ok(is_whole && text.starts_with(first) && text.ends_with(OTHER_LINES))
-}
-
-/// Expires at a moment, and compares how many series went, how many stay, and their lines.
-fn expect_scrape(rt: &impl Abort, exporter: &mut Exporter, now: u64, removed: usize, first: &str) {
-    assert_eq!(rt; exporter.expire(now), Ok(removed), "at {now}");
-    assert_eq!(rt; has_lines(exporter, first), Ok(true), "at {now}");
+/// Expires at a moment, and compares how many series went, how many are left, and their lines.
+fn expect_scrape(rt: &impl Abort, exporter: &mut Exporter, now: u64, wanted: (usize, usize, &str)) {
+    let removed = exporter.expire(now).expect(rt, MEMORY);
+    let text = exporter.text().expect(rt, MEMORY);
     assert_eq!(rt;
-        exporter.len(),
-        OTHERS.len() + usize::from(!first.is_empty()),
+        (removed, exporter.len(), text.as_str()),
+        wanted,
         "at {now}"
     );
 }
 
-/// The moments of checks, how many series go, and the counter's line.
-const CHECKS: [(u64, usize, &str); 3] = [(10, 0, COUNTER), (15, 0, COUNTER), (16, 1, "")];
-
-fn expect_scrapes(rt: &impl Abort, exporter: &mut Exporter, hits: &Key) -> Result<(), Error> {
-    for (now, removed, first) in CHECKS {
-        expect_scrape(rt, exporter, now, removed, first);
-    }
-    exporter.update(hits, Update::Increment(1))?;
-    expect_scrape(rt, exporter, 17, 0, AGAIN);
-    Ok(())
-}
-
-fn expect_idle(rt: &impl Abort, alloc: Global, exporter: &mut Exporter) -> Result<(), Error> {
-    let hits = hits(alloc)?;
-    fill(alloc, exporter, &hits)?;
-    expect_scrapes(rt, exporter, &hits)
-}
-
-/// Its counters go once they were idle for more than 5.
 #[test]
-fn an_idle_counter_goes_and_begins_again(rt: HostRuntime) -> Result<(), Fail> {
+fn an_idle_counter_goes_and_begins_again(rt: HostRuntime) {
     let alloc = rt.alloc();
-    let mut exporter = Exporter::new(alloc, 4, MetricKindMask::COUNTER, Some(5), &[10, 25])?;
-    expect_idle(&rt, alloc, &mut exporter)?;
+    let mut exporter = Exporter::new(alloc, 4, MetricKindMask::COUNTER, Some(5), &[10, 25]).expect(
+        &rt, MEMORY,
+    );
+    fill(&rt, alloc, &mut exporter, &SERIES);
+    expect_scrape(&rt, &mut exporter, 10, (0, 3, TEXTS[3]));
+    expect_scrape(&rt, &mut exporter, 15, (0, 3, TEXTS[3]));
+    expect_scrape(&rt, &mut exporter, 16, (1, 2, TEXTS[2]));
+    let again = ("hits", [("host", "a")].as_slice(), Update::Increment(1));
+    fill(&rt, alloc, &mut exporter, &[again]);
+    expect_scrape(&rt, &mut exporter, 17, (0, 3, AGAIN));
+}
+
+/// Checks that the first `count` series are held. The text may be refused, and then comes at a second call.
+fn expect_held(trial: &mut Trial, exporter: &Exporter, count: usize) -> Result<(), Wrong> {
+    let text = made(trial, &|| exporter.text())?;
+    expect(exporter.len() == count, "another number of series")?;
+    expect(TEXTS.get(count) == Some(&text.as_str()), "another text")
+}
+
+/// Makes an update. Where it is refused nothing has changed, and it is made again.
+fn update(
+    rt: &impl Abort,
+    trial: &mut Trial,
+    exporter: &mut Exporter,
+    given: &Given,
+) -> Result<(), Wrong> {
+    let (name, labels, by) = given;
+    let key = key(rt, trial.alloc, name, labels);
+    let held = exporter.len();
+    trial.begin();
+    let first = exporter.update(&key, *by);
+    trial.calm();
+    if let Err(error) = first {
+        trial.note(error)?;
+        expect_held(trial, exporter, held)?;
+        done(exporter.update(&key, *by))?;
+    }
+    expect_held(trial, exporter, held.saturating_add(1))
+}
+
+/// Expires at a moment at which these are idle. Where it is refused some series may have gone, of the last first, and a second
+/// call removes the others.
+fn expire(trial: &mut Trial, exporter: &mut Exporter, now: u64, idle: usize) -> Result<(), Wrong> {
+    let held = exporter.len();
+    trial.begin();
+    let first = exporter.expire(now);
+    trial.calm();
+    let removed = match first {
+        Ok(removed) => removed,
+        Err(error) => {
+            trial.note(error)?;
+            let left = exporter.len();
+            expect_held(trial, exporter, left)?;
+            let gone = held.saturating_sub(left);
+            gone.saturating_add(done(exporter.expire(now))?)
+        }
+    };
+    expect(removed == idle, "another number of idle series")?;
+    expect_held(trial, exporter, held.saturating_sub(idle))
+}
+
+fn go_on_after_a_refusal(
+    rt: &impl Abort,
+    trial: &mut Trial,
+    exporter: &mut Exporter,
+) -> Result<(), Wrong> {
+    for given in &SERIES {
+        update(rt, trial, exporter, given)?;
+    }
+    expire(trial, exporter, 10, 0)?;
+    expire(trial, exporter, 16, 3)
+}
+
+#[test]
+fn an_exporter_goes_on_after_a_refusal(rt: HostRuntime) -> Result<(), Fail> {
+    let alloc = rt.alloc();
+    let mut trial = Trial::new(alloc);
+    let mut exporter = made(
+        &mut trial,
+        &|| { Exporter::new(alloc, 4, MetricKindMask::ALL, Some(5), &[10, 25]) },
+    )?;
+    go_on_after_a_refusal(&rt, &mut trial, &mut exporter)?;
     Ok(())
 }

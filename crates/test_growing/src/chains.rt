@@ -1,118 +1,193 @@
-//! Worked examples.
-ghost use Rattle.std.specs.Prelude.{◌<◌, ◌≤◌, IfOk};
+//! A bucket that grows, used by one thread.
+ghost use Rattle.std.specs.Prelude.{◌≡◌};
 ghost use Rattle.metrics_growing.specs.Parts.{IsOf};
 
 use metrics::Error;
 use metrics_bucket::Visitor;
 use metrics_growing::{GrowPen, GrowingBucket, chain_law};
 use std::alloc::Global;
+use std::process::Abort;
 use std::sync::Wait;
-use std::sync::atomic::{AtomicU64, Ordering};
-use std::test::Fail;
-use std::thread::{Threads, join};
 
-/// Pushes the values from 0 on, below `end`, and counts those that were refused.
-fn push_run(bucket: &GrowingBucket<u64>, pen: &mut GrowPen, end: u64) -> u64
-    requires { IsOf bucket.now pen.old }
-    ensures { IsOf bucket.now pen.new }
+/// A bucket whose first segment has one block, and its pen.
+pub fn bucket_of_one<R: Abort>(rt: &R, alloc: Global) -> (GrowingBucket<u64>, GrowPen)
+    ensures { IsOf result.0 result.1 }
 {
-    let mut refused = 0u64;
-    for value in 0..end {
-        if bucket.try_push(pen, value).is_err() {
-            refused = refused.wrapping_add(1);
-        }
-    }
-    refused
+    GrowingBucket::<u64>::new(alloc, 1).expect(rt, "out of memory")
 }
 
-/// Clears, and counts the values that were shown; none where the answer was another number.
-fn cleared<R: Wait>(rt: &R, bucket: &GrowingBucket<u64>, pen: &mut GrowPen) -> usize
+/// Another pen of the same bucket, with half of the weight.
+pub fn split_off<R: Abort>(rt: &R, bucket: &GrowingBucket<u64>, pen: &mut GrowPen) -> GrowPen
+    requires { IsOf bucket.now pen.old }
+    ensures rest { IsOf bucket.now pen.new }
+    ensures given { IsOf bucket.now result }
+{
+    pen.split().expect(rt, "out of memory")
+}
+
+/// Pushes the values below `end`.
+fn push_below<R: Abort>(rt: &R, bucket: &GrowingBucket<u64>, pen: &mut GrowPen, end: u64)
     requires { IsOf bucket.now pen.old }
     ensures { IsOf bucket.now pen.new }
 {
+    for value in 0..end {
+        bucket.try_push(pen, value).expect(rt, "out of memory");
+    }
+}
+
+/// Clears, and gives the first value of each chunk and how many it has. They are as many in all as the clear answers.
+fn cleared_chunks<R: Abort + Wait>(
+    rt: &R,
+    alloc: Global,
+    bucket: &GrowingBucket<u64>,
+    pen: &mut GrowPen,
+) -> Vec<(u64, usize)>
+    requires { IsOf bucket.now pen.old }
+    ensures { IsOf bucket.now pen.new }
+{
+    let mut chunks = Vec::new(alloc);
     let mut count = 0usize;
     let answer = bucket.clear_with(rt, pen, |part| {
+        if let Some(first) = part.first() {
+            chunks
+                .push((*first, part.len()))
+                .expect(rt, "out of memory");
+        }
         count = count.wrapping_add(part.len());
     });
-    if answer == Ok(count) { count } else { 0 }
+    assert!(rt; answer.expect(rt, "out of memory") == count);
+    chunks
 }
 
 #[test]
-fn each_segment_has_twice_the_places_of_the_one_before(rt: HostRuntime) -> Result<(), Fail> {
-    let (bucket, mut pen) = GrowingBucket::<u64>::new(rt.alloc(), 1)?;
-    assert!(rt; push_run(&bucket, &mut pen, 449) == 0);
-    let mut firsts = Vec::new(rt.alloc());
-    let taken = bucket.clear_with(&rt, &mut pen, |part| {
-        if let Some(value) = part.first() {
-            let _ = firsts.push(*value);
-        }
-    });
+fn each_segment_has_twice_the_places_of_the_one_before(rt: HostRuntime) {
+    let (bucket, mut pen) = bucket_of_one(&rt, rt.alloc());
+    push_below(&rt, &bucket, &mut pen, 449);
+    let chunks = cleared_chunks(&rt, rt.alloc(), &bucket, &mut pen);
     assert!(rt;
-        taken == Ok(449) && firsts.as_slice() == [0, 128, 64, 384, 320, 256, 192, 448].as_slice()
+        chunks.as_slice()
+            == [
+                (0, 64),
+                (128, 64),
+                (64, 64),
+                (384, 64),
+                (320, 64),
+                (256, 64),
+                (192, 64),
+                (448, 1)
+            ]
+            .as_slice()
     );
     chain_law();
-    Ok(())
 }
 
-/// One pen of both, where there is memory for it.
-fn merged(bucket: &GrowingBucket<u64>, mut pen: GrowPen, other: GrowPen) -> Result<GrowPen, Error>
+/// The pen isn't whole, and knows both segments when it pushes again.
+#[test]
+fn a_push_takes_the_first_segment_that_has_room(rt: HostRuntime) {
+    let (bucket, mut pen) = bucket_of_one(&rt, rt.alloc());
+    let _other = split_off(&rt, &bucket, &mut pen);
+    let wanted = [(0u64, 64usize), (64, 1)];
+    push_below(&rt, &bucket, &mut pen, 65);
+    let chunks = cleared_chunks(&rt, rt.alloc(), &bucket, &mut pen);
+    assert!(rt; chunks.as_slice() == wanted.as_slice());
+    push_below(&rt, &bucket, &mut pen, 65);
+    let chunks = cleared_chunks(&rt, rt.alloc(), &bucket, &mut pen);
+    assert!(rt; chunks.as_slice() == wanted.as_slice());
+}
+
+/// The error of a call, where that isn't want of memory.
+fn refusal<R: Abort, T: Drop>(rt: &R, answer: Result<T, Error>) -> Option<Error> {
+    match answer {
+        Ok(_) => None,
+        Err(Error::Memory) => Err(Error::Memory).expect(rt, "out of memory"),
+        Err(error) => Some(error),
+    }
+}
+
+/// One pen of both.
+pub fn merged<R: Abort>(
+    rt: &R,
+    bucket: &GrowingBucket<u64>,
+    mut pen: GrowPen,
+    other: GrowPen,
+) -> GrowPen
     requires pen { IsOf bucket.now pen }
     requires other { IsOf bucket.now other }
-    ensures { IfOk result (λ p. IsOf bucket.now p) }
+    ensures { IsOf bucket.now result }
 {
     match pen.join(other) {
-        Ok(()) => Ok(pen),
-        Err((e, _)) => Err(e),
+        Ok(()) => pen,
+        Err((error, _)) => Err(error).expect(rt, "out of memory"),
     }
 }
 
-/// Splits the pen into 2 to this power, pushes a value with each, and joins them. It counts what was refused.
-fn refused_in(bucket: &GrowingBucket<u64>, pen: &mut GrowPen, depth: u64) -> u64
-    requires { IsOf bucket.now pen.old }
-    ensures { IsOf bucket.now pen.new }
+/// Splits the pen into 2 to this power, pushes a value with each, and joins them.
+fn push_apart<R: Abort>(
+    rt: &R,
+    bucket: &GrowingBucket<u64>,
+    mut pen: GrowPen,
+    depth: u64,
+) -> GrowPen
+    requires { IsOf bucket.now pen }
+    ensures { IsOf bucket.now result }
 {
     if depth == 0 {
-        return u64::from(bucket.try_push(pen, 7).is_err());
+        bucket.try_push(&mut pen, 7).expect(rt, "out of memory");
+        return pen;
     }
-    let Ok(mut other) = pen.split() else {
-        return 1;
-    };
-    let mut refused = refused_in(bucket, pen, depth - 1);
-    refused = refused.wrapping_add(refused_in(bucket, &mut other, depth - 1));
-    if pen.join(other).is_err() {
-        refused = refused.wrapping_add(1);
-    }
-    refused
+    let other = split_off(rt, bucket, &mut pen);
+    let pen = push_apart(rt, bucket, pen, depth - 1);
+    let other = push_apart(rt, bucket, other, depth - 1);
+    merged(rt, bucket, pen, other)
 }
 
+/// Finds no pen of the second segment.
+fn expect_no_pen<R: Abort + Wait>(rt: &R, bucket: &GrowingBucket<u64>, late: &mut GrowPen)
+    requires { IsOf bucket.now late.old }
+    ensures { IsOf bucket.now late.new }
+{
+    let pushed = bucket.try_push(late, 7).map_err(|(error, _)| error);
+    assert!(rt; refusal(rt, pushed) == Some(Error::NoPen));
+    let pushed = bucket.push(rt, late, 7).map_err(|(error, _)| error);
+    assert!(rt; refusal(rt, pushed) == Some(Error::NoPen));
+    let cleared = bucket.clear_with(rt, late, |_| {});
+    assert!(rt; refusal(rt, cleared) == Some(Error::NoPen));
+}
+
+/// The first of 128 pens makes the second segment, and each other takes one of its 127 spare pens.
 #[test]
-fn spare_pens_are_used_up_and_gathered(rt: HostRuntime) -> Result<(), Fail> {
-    let (bucket, mut pen) = GrowingBucket::<u64>::new(rt.alloc(), 1)?;
-    let mut late = pen.split()?;
-    assert!(rt; push_run(&bucket, &mut pen, 64) == 0);
-    // The first of 128 pens makes the second segment, and each other takes one of its 127 spare pens.
-    assert!(rt; refused_in(&bucket, &mut pen, 7) == 0);
-    assert!(rt; bucket.try_push(&mut late, 7) == Err((Error::NoPen, 7)));
-    assert!(rt; bucket.push(&rt, &mut late, 7) == Err((Error::NoPen, 7)));
-    assert!(rt; bucket.clear_with(&rt, &mut late, |_| {}) == Err(Error::NoPen));
-    let mut pen = merged(&bucket, pen, late)?;
-    let values = bucket.settle(&rt, rt.alloc(), &mut pen)?;
+fn spare_pens_are_used_up_and_gathered(rt: HostRuntime) {
+    let (bucket, mut pen) = bucket_of_one(&rt, rt.alloc());
+    let mut late = split_off(&rt, &bucket, &mut pen);
+    push_below(&rt, &bucket, &mut pen, 64);
+    let pen = push_apart(&rt, &bucket, pen, 7);
+    expect_no_pen(&rt, &bucket, &mut late);
+    let mut pen = merged(&rt, &bucket, pen, late);
+    let values = bucket
+        .settle(&rt, rt.alloc(), &mut pen)
+        .expect(&rt, "out of memory");
     assert!(rt; values.len() == 192);
-    Ok(())
 }
 
-/// A visitor that pushes a value into the bucket for each chunk that it is shown.
+/// A pen beside its bucket, as a clear's closure may hold it.
 #[derive(Drop)]
-struct Refilling<'a> {
+struct Held<'a> {
     bucket: &'a GrowingBucket<u64>,
     pen: GrowPen,
+    ghost own: { IsOf bucket.now pen },
 }
 
-impl Visitor<u64> for Refilling<'_> {
-    ghost use Rattle.std.specs.Prelude.{⊤};
-    ghost use Rattle.metrics_growing.specs.Parts.{IsOf};
+impl Held<'_> {
+    fn clear<R: Wait>(&mut self, rt: &R) -> Result<usize, Error> {
+        self.bucket.clear_with(rt, &mut self.pen, |_| {})
+    }
+}
 
-    ghost ready = { λ p. IsOf p.bucket.now p.pen };
+/// It pushes a value into the bucket for each chunk that it is shown.
+impl Visitor<u64> for Held<'_> {
+    ghost use Rattle.std.specs.Prelude.{⊤};
+
+    ghost ready = { λ _. ⊤ };
 
     ghost saw = { λ _ _ _. ⊤ };
 
@@ -121,210 +196,40 @@ impl Visitor<u64> for Refilling<'_> {
     }
 }
 
+/// What it pushes goes to the first segment, which is just cleared, so that takes no memory.
 #[test]
-fn a_clears_visitor_may_push(rt: HostRuntime) -> Result<(), Fail> {
-    let (bucket, mut pen) = GrowingBucket::<u64>::new(rt.alloc(), 1)?;
-    let other = pen.split()?;
-    assert!(rt; push_run(&bucket, &mut pen, 65) == 0);
-    let mut visitor = Refilling {
+fn a_clears_visitor_may_push(rt: HostRuntime) {
+    let (bucket, mut pen) = bucket_of_one(&rt, rt.alloc());
+    let mut visitor = Held {
         bucket: &bucket,
-        pen: other,
+        pen: split_off(&rt, &bucket, &mut pen),
     };
-    assert!(rt; bucket.clear_to(&rt, &mut pen, &mut visitor) == Ok(65));
-    assert!(rt; cleared(&rt, &bucket, &mut pen) == 2);
-    Ok(())
+    push_below(&rt, &bucket, &mut pen, 65);
+    let taken = bucket
+        .clear_to(&rt, &mut pen, &mut visitor)
+        .expect(&rt, "out of memory");
+    assert!(rt; taken == 65);
+    let chunks = cleared_chunks(&rt, rt.alloc(), &bucket, &mut pen);
+    assert!(rt; chunks.as_slice() == [(7, 2)].as_slice());
 }
 
-/// Pushes the values from `from` on, below `end`, and counts those that were pushed.
-fn push_all<R: Wait>(
-    rt: &R,
-    bucket: &GrowingBucket<u64>,
-    mut pen: GrowPen,
-    from: u64,
-    end: u64,
-    pushed: &AtomicU64,
-) -> GrowPen
-    requires { IsOf bucket.now pen }
-    ensures { IsOf bucket.now result }
-{
-    for value in from..end {
-        if bucket.push(rt, &mut pen, value).is_ok() {
-            pushed.fetch_add(1, Ordering::SeqCst);
-        }
-    }
-    pen
-}
-
-/// Two threads push `each` values.
-fn push_in_two<R: Threads + Wait + Sync>(
-    rt: &R,
-    bucket: &GrowingBucket<u64>,
-    mut pen: GrowPen,
-    from: u64,
-    each: u64,
-    pushed: &AtomicU64,
-) -> Result<GrowPen, Error>
-    requires pen { IsOf bucket.now pen }
-    requires range { (from < 10000) × (each ≤ 1000) }
-    ensures { IfOk result (λ p. IsOf bucket.now p) }
-{
-    let other = pen.split()?;
-    let middle = from + each;
-    let end = middle + each;
-    let (a, b) = join(
-        rt,
-        || -> GrowPen
-            requires { IsOf bucket.now pen }
-            ensures { IsOf bucket.entry.now result }
-        { push_all(rt, bucket, pen, from, middle, pushed) },
-        || -> GrowPen
-            requires { IsOf bucket.now other }
-            ensures { IsOf bucket.entry.now result }
-        { push_all(rt, bucket, other, middle, end, pushed) },
-    );
-    merged(bucket, a, b)
-}
-
-/// Four threads push `each` values.
-fn push_in_four<R: Threads + Wait + Sync>(
-    rt: &R,
-    bucket: &GrowingBucket<u64>,
-    mut pen: GrowPen,
-    from: u64,
-    each: u64,
-    pushed: &AtomicU64,
-) -> Result<GrowPen, Error>
-    requires pen { IsOf bucket.now pen }
-    requires range { (from < 5000) × (each ≤ 1000) }
-    ensures { IfOk result (λ p. IsOf bucket.now p) }
-{
-    let other = pen.split()?;
-    let middle = from + 2 * each;
-    let (a, b) = join(
-        rt,
-        || -> Result<GrowPen, Error>
-            requires { IsOf bucket.now pen × (from < 10000) × (each ≤ 1000) }
-            ensures { IfOk result (λ p. IsOf bucket.entry.now p) }
-        { push_in_two(rt, bucket, pen, from, each, pushed) },
-        || -> Result<GrowPen, Error>
-            requires { IsOf bucket.now other × (middle < 10000) × (each ≤ 1000) }
-            ensures { IfOk result (λ p. IsOf bucket.entry.now p) }
-        { push_in_two(rt, bucket, other, middle, each, pushed) },
-    );
-    merged(bucket, a?, b?)
-}
-
-/// Eight threads push 0 to 1999, and then it is told that they ended.
-fn push_to_the_end<R: Threads + Wait + Sync>(
-    rt: &R,
-    bucket: &GrowingBucket<u64>,
-    mut pen: GrowPen,
-    pushed: &AtomicU64,
-    ended: &AtomicU64,
-) -> Result<GrowPen, Error>
-    requires { IsOf bucket.now pen }
-    ensures { IfOk result (λ p. IsOf bucket.now p) }
-{
-    let Ok(other) = pen.split() else {
-        ended.store(1, Ordering::SeqCst);
-        return Err(Error::NoPen);
-    };
-    let (a, b) = join(
-        rt,
-        || -> Result<GrowPen, Error>
-            requires { IsOf bucket.now pen }
-            ensures { IfOk result (λ p. IsOf bucket.entry.now p) }
-        { push_in_four(rt, bucket, pen, 0, 250, pushed) },
-        || -> Result<GrowPen, Error>
-            requires { IsOf bucket.now other }
-            ensures { IfOk result (λ p. IsOf bucket.entry.now p) }
-        { push_in_four(rt, bucket, other, 1000, 250, pushed) },
-    );
-    ended.store(1, Ordering::SeqCst);
-    merged(bucket, a?, b?)
-}
-
-/// Waits until 480 values were pushed, which fill the first three segments, and then clears until the pushes ended.
-fn clear_to_the_end<R: Wait>(
-    rt: &R,
-    alloc: Global,
-    bucket: &GrowingBucket<u64>,
-    mut pen: GrowPen,
-    pushed: &AtomicU64,
-    ended: &AtomicU64,
-) -> (GrowPen, Vec<u64>)
-    requires { IsOf bucket.now pen }
-    ensures { IsOf bucket.now result.0 }
-{
-    let mut shown = Vec::new(alloc);
-    for _ in rt.forever() {
-        let last = ended.load(Ordering::SeqCst) == 1;
-        if last || pushed.load(Ordering::SeqCst) >= 480 {
-            let _ = bucket.clear_with(rt, &mut pen, |part| {
-                for value in part {
-                    let _ = shown.push(*value);
-                }
-            });
-        }
-        if last {
-            break;
-        }
-    }
-    (pen, shown)
-}
-
-/// Eight pushers and a clearer at once. One pen comes back, with what the clearer showed.
-fn push_and_clear<R: Threads + Wait + Sync>(
-    rt: &R,
-    alloc: Global,
-    bucket: &GrowingBucket<u64>,
-    pusher: GrowPen,
-    clearer: GrowPen,
-) -> Result<(GrowPen, Vec<u64>), Error>
-    requires pusher { IsOf bucket.now pusher }
-    requires clearer { IsOf bucket.now clearer }
-    ensures { IfOk result (λ r. IsOf bucket.now r.0) }
-{
-    let counter = AtomicU64::new(0);
-    let flag = AtomicU64::new(0);
-    let pushed = &counter;
-    let ended = &flag;
-    let (all, (pen, shown)) = join(
-        rt,
-        || -> Result<GrowPen, Error>
-            requires { IsOf bucket.now pusher }
-            ensures { IfOk result (λ p. IsOf bucket.entry.now p) }
-        { push_to_the_end(rt, bucket, pusher, pushed, ended) },
-        || -> (GrowPen, Vec<u64>)
-            requires { IsOf bucket.now clearer }
-            ensures { IsOf bucket.entry.now result.0 }
-        { clear_to_the_end(rt, alloc, bucket, clearer, pushed, ended) },
-    );
-    Ok((merged(bucket, pen, all?)?, shown))
-}
-
-/// Whether these are the numbers from 0 on, each once, in some order.
-fn are_all_once(mut values: Vec<u64>, count: usize) -> bool {
-    values.sort_unstable();
-    let mut want = 0u64;
-    for value in values.as_slice() {
-        if *value != want {
-            return false;
-        }
-        want = want.wrapping_add(1);
-    }
-    values.len() == count
-}
-
+/// The first segment's turn is held, so the inner clear ends at once. It would wait for a later segment's.
 #[test]
-fn eight_threads_and_a_clearer_lose_nothing(rt: HostRuntime) -> Result<(), Fail> {
-    let (bucket, mut pusher) = GrowingBucket::<u64>::new(rt.alloc(), 1)?;
-    let clearer = pusher.split()?;
-    let (mut pen, mut shown) = push_and_clear(&rt, rt.alloc(), &bucket, pusher, clearer)?;
-    let rest = bucket.settle(&rt, rt.alloc(), &mut pen)?;
-    for value in rest.as_slice() {
-        shown.push(*value)?;
-    }
-    assert!(rt; are_all_once(shown, 2000));
-    Ok(())
+fn a_clear_inside_a_clear_is_busy(rt: HostRuntime) {
+    let (bucket, mut pen) = bucket_of_one(&rt, rt.alloc());
+    let mut other = Held {
+        bucket: &bucket,
+        pen: split_off(&rt, &bucket, &mut pen),
+    };
+    push_below(&rt, &bucket, &mut pen, 65);
+    let mut chunks = 0u64;
+    let taken = bucket.clear_with(&rt, &mut pen, |_| {
+        if chunks == 0 {
+            let inner = other.clear(&rt);
+            assert!(rt; refusal(&rt, inner) == Some(Error::Busy));
+        }
+        chunks = chunks.wrapping_add(1);
+    });
+    assert!(rt; taken.expect(&rt, "out of memory") == 65 && chunks == 2);
+    assert!(rt; other.clear(&rt).expect(&rt, "out of memory") == 0);
 }

@@ -1,7 +1,9 @@
 //! Tests of the bucket that grows, through what `metrics_growing` hands out.
-//!
-//! They stand in a crate of their own: a crate with tests is proved twice.
 #![tactic(auto)]
 
 #[cfg(test)]
 mod chains;
+#[cfg(test)]
+mod scarce;
+#[cfg(test)]
+mod threads;

@@ -2,7 +2,7 @@
 ghost use Rattle.std.specs.Prelude.{◌≡◌};
 
 use crate::given::{Act, Pair, Registry, call_of, is_call};
-use metrics::{Error, MetricKind};
+use metrics::MetricKind;
 use metrics_journal::Tally;
 use metrics_registry::{PlainStorage, shard_of};
 use std::alloc::Global;
@@ -10,7 +10,6 @@ use std::marker::Brand;
 use std::process::Abort;
 use std::sync::Wait;
 use std::sync::ledger::{Blank, Ledger};
-use std::test::Fail;
 
 /// A call, and what it replies.
 type Row = (Act, MetricKind, &'static str, bool);
@@ -63,12 +62,12 @@ fn call_all<T: Ledger, F: Ledger, R: Wait + Abort>(
     alloc: Global,
     registry: &Registry<T, F>,
     tally: &mut Tally<T, F>,
-) -> Result<(), Error> {
+) {
     for row in &ROWS {
-        let reply = registry.call(rt, tally, call_of(alloc, row.0, row.1, row.2)?)?;
-        assert_eq!(rt; reply, row.3);
+        let call = call_of(alloc, row.0, row.1, row.2).expect(rt, "out of memory");
+        let reply = registry.call(rt, tally, call);
+        assert_eq!(rt; reply.expect(rt, "out of memory"), row.3);
     }
-    Ok(())
 }
 
 fn expect_rows<T: Ledger, F: Ledger, R: Wait + Abort>(
@@ -76,30 +75,22 @@ fn expect_rows<T: Ledger, F: Ledger, R: Wait + Abort>(
     alloc: Global,
     trues: Blank,
     falses: Blank,
-) -> Result<(), Fail>
+)
     requires trues { (trues.name ≡ T.name) × (trues.parts ≡ T.parts) × (T.parts ≡ 1024) }
     requires falses { (falses.name ≡ F.name) × (falses.parts ≡ F.parts) × (F.parts ≡ 1024) }
 {
-    let (registry, mut tally) = Registry::<T, F>::new(
-        alloc,
-        PlainStorage::new(alloc),
-        2,
-        trues,
-        falses,
-    )?;
-    call_all(rt, alloc, &registry, &mut tally)?;
-    if !tally.is_whole() {
-        return Err("not whole".into());
-    }
+    let made = Registry::<T, F>::new(alloc, PlainStorage::new(alloc), 2, trues, falses);
+    let (registry, mut tally) = made.expect(rt, "out of memory");
+    call_all(rt, alloc, &registry, &mut tally);
+    assert!(rt; tally.is_whole());
     let journals = registry.finish(tally);
     assert_eq!(rt; journals.len(), 2);
     for (shard, journal) in journals.iter().enumerate() {
         assert!(rt; has_rows(shard, journal.as_slice()), "shard {shard}");
     }
-    Ok(())
 }
 
 #[test]
-fn each_kind_has_calls_of_its_own(rt: HostRuntime) -> Result<(), Fail> {
-    expect_rows::<Brand, Brand, _>(&rt, rt.alloc(), Blank::new(1024), Blank::new(1024))
+fn each_kind_has_calls_of_its_own(rt: HostRuntime) {
+    expect_rows::<Brand, Brand, _>(&rt, rt.alloc(), Blank::new(1024), Blank::new(1024));
 }

@@ -1,11 +1,11 @@
-//! Tests of `metrics_journal`, through what it hands out.
-//!
-//! They stand in a crate of their own: a crate with tests is proved twice.
+//! Tests of `metrics_journal`, through what it re-exports.
 #![tactic(auto)]
 
 #[cfg(test)]
 mod given;
 #[cfg(test)]
 mod kinds;
+#[cfg(test)]
+mod refused;
 #[cfg(test)]
 mod threads;

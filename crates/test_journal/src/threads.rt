@@ -10,7 +10,6 @@ use std::marker::Brand;
 use std::process::Abort;
 use std::sync::Wait;
 use std::sync::ledger::{Blank, Ledger};
-use std::test::Fail;
 use std::thread::{Threads, join};
 
 const NAMES: [&'static str; 10] = ["k0", "k1", "k2", "k3", "k4", "k5", "k6", "k7", "k8", "k9"];
@@ -96,26 +95,19 @@ fn expect_all<T: Ledger + Send + Sync, F: Ledger + Send + Sync, R: Threads + Wai
     alloc: Global,
     trues: Blank,
     falses: Blank,
-) -> Result<(), Fail>
+)
     requires trues { (trues.name ≡ T.name) × (trues.parts ≡ T.parts) × (T.parts ≡ 1024) }
     requires falses { (falses.name ≡ F.name) × (falses.parts ≡ F.parts) × (F.parts ≡ 1024) }
 {
-    let (registry, mut tally) = Registry::<T, F>::new(
-        alloc,
-        PlainStorage::new(alloc),
-        4,
-        trues,
-        falses,
-    )?;
-    assert_eq!(rt; create_in_four(rt, alloc, &registry, &mut tally), Ok(10));
-    if !tally.is_whole() {
-        return Err("not whole".into());
-    }
+    let made = Registry::<T, F>::new(alloc, PlainStorage::new(alloc), 4, trues, falses);
+    let (registry, mut tally) = made.expect(rt, "out of memory");
+    let created = create_in_four(rt, alloc, &registry, &mut tally);
+    assert_eq!(rt; created.expect(rt, "out of memory"), 10);
+    assert!(rt; tally.is_whole());
     expect_names(rt, registry.finish(tally).as_slice());
-    Ok(())
 }
 
 #[test]
-fn four_threads_create_ten_counters(rt: HostRuntime) -> Result<(), Fail> {
-    expect_all::<Brand, Brand, _>(&rt, rt.alloc(), Blank::new(1024), Blank::new(1024))
+fn four_threads_create_ten_counters(rt: HostRuntime) {
+    expect_all::<Brand, Brand, _>(&rt, rt.alloc(), Blank::new(1024), Blank::new(1024));
 }

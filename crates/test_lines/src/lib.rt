@@ -1,7 +1,9 @@
-//! Tests of `tool_lines`, through what it hands out.
-//!
-//! They stand in a crate of their own: a crate with tests is proved twice.
+//! Tests of `tool_lines`, `tool_prometheus` and `tool_storm`, through what they hand out.
 #![tactic(auto)]
 
 #[cfg(test)]
+mod devices;
+#[cfg(test)]
 mod lines;
+#[cfg(test)]
+mod storms;

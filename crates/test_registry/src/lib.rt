@@ -1,9 +1,17 @@
-//! Tests of `metrics_registry`, through what it hands out.
-//!
-//! They stand in a crate of their own: a crate with tests is proved twice.
+//! Tests of `metrics_registry` and `metrics_shared_registry`, through what they re-export.
 #![tactic(auto)]
 
 #[cfg(test)]
-mod quantiles;
+mod cells;
 #[cfg(test)]
-mod retains;
+mod copies;
+#[cfg(test)]
+mod entries;
+#[cfg(test)]
+mod idle;
+#[cfg(test)]
+mod kinds;
+#[cfg(test)]
+mod refused;
+#[cfg(test)]
+mod threads;

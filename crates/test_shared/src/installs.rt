@@ -1,107 +1,160 @@
 //! Cells that are filled with a recorder.
 
-use crate::books::{AT, count_of, key};
-use metrics::{Key, MetricKind, Recorder, Refused, Update};
-use metrics_debugging::DebuggingRecorder;
-use metrics_shared::{Install, RecoverableRecorder, SetRecorderError, Shared, SlotRecorder};
+use crate::books::{expect_gauge, is_gauge, key, new_book, with_gauge};
+use crate::slots::taken_out;
+use metrics::{Error, Key, MetricKind, Recorder};
+use metrics_layers::Stack;
+use metrics_shared::{
+    Install, RecoverableRecorder, RecoveryHandle, SetRecorderError, Shared, SlotRecorder,
+};
 use std::alloc::Global;
 use std::process::Abort;
+use std::sync::atomic::{AtomicU64, Ordering};
 use std::sync::{OnceLock, Wait};
-use std::test::Fail;
 use std::thread::{Threads, join};
+use test_trial::Trial;
 
-/// What the recorder in a cell counts.
-fn counted<R: Wait, B: Recorder>(rt: &R, alloc: Global, cell: &OnceLock<Shared<B>>) -> Option<u64> {
-    count_of(cell.get()?.snapshot(rt, alloc, 0))
-}
-
-/// Registers a counter in a book and counts 3.
-fn count_three<B: Recorder>(alloc: Global, book: &mut B, key: &Key) -> bool {
-    let registered = book.register(alloc, MetricKind::Counter, key).is_ok();
-    registered && book.update(AT, Update::Increment(3)).is_ok()
-}
-
-/// That a recorder is found in the cell that it was put into.
-fn expect_found<R: Abort + Wait, B: Recorder>(
-    rt: &R,
-    alloc: Global,
-    book: Result<B, Refused>,
-) -> Result<(), Fail> {
-    let key = key(alloc, "c")?;
-    let cell = OnceLock::new();
-    match book {
-        Ok(mut book) => {
-            assert!(rt; count_three(alloc, &mut book, &key));
-            assert!(rt; book.install(rt, &cell).is_ok());
-        }
-        Err(_) => return Err("memory".into()),
+#[test]
+fn a_refused_install_is_told(rt: HostRuntime) {
+    let alloc = rt.alloc();
+    for (error, text) in [
+        (
+            SetRecorderError::Taken(()),
+            "a recorder is installed already: Taken(..)",
+        ),
+        (SetRecorderError::Memory(()), "memory: Memory(..)"),
+    ] {
+        let printed = format!(in alloc; "{error}: {error:?}").expect(&rt, "out of memory");
+        assert_eq!(&rt; printed.as_str(), text);
     }
-    assert_eq!(rt; counted(rt, alloc, &cell), Some(3));
-    Ok(())
+}
+
+/// That a cell that is taken gives this recorder back, with this gauge.
+fn expect_taken<M: Drop, B: Recorder>(
+    rt: &impl Abort,
+    alloc: Global,
+    answer: Result<M, SetRecorderError<B>>,
+    value: i64,
+) {
+    match answer {
+        Err(SetRecorderError::Taken(mut back)) => expect_gauge(rt, alloc, &mut back, value),
+        _ => panic!(rt; "the cell isn't taken"),
+    }
+}
+
+/// Fills a cell with a recorder of the gauge 3, which is found there, and tries one of the gauge 4, which comes back.
+/// Neither takes memory.
+fn install_twice<R: Abort + Wait, B: Recorder>(rt: &R, alloc: Global, first: B, second: B) {
+    let cell = OnceLock::new();
+    let answer = first.install(rt, &cell);
+    let again = second.install(rt, &cell);
+    answer.expect(rt, "not installed");
+    expect_taken(rt, alloc, again, 4);
+    let rows = cell.get().expect(rt, "no recorder").snapshot(rt, alloc, 0);
+    assert!(rt; is_gauge(rows.expect(rt, "out of memory").as_slice(), 3));
 }
 
 #[test]
-fn an_installed_recorder_is_found(rt: HostRuntime) -> Result<(), Fail> {
+fn a_recorder_is_installed_once(rt: HostRuntime) {
     let alloc = rt.alloc();
-    expect_found(&rt, alloc, DebuggingRecorder::new(alloc))
+    let book = |value| with_gauge(&rt, alloc, new_book(&rt, alloc), value);
+    install_twice(&rt, alloc, book(3), book(4));
+    install_twice(&rt, alloc, Stack::new(book(3)), Stack::new(book(4)));
+}
+
+/// Fills a cell with the slot of a recorder of this gauge. Where the first try is refused for memory it comes back as it
+/// was.
+fn installed<R: Abort + Wait, B: Recorder>(
+    rt: &R,
+    trial: &mut Trial,
+    cell: &OnceLock<SlotRecorder<B>>,
+    on: B,
+    value: i64,
+) -> Result<RecoveryHandle<B>, SetRecorderError<B>> {
+    trial.begin();
+    let answer = RecoverableRecorder::new(on).install(rt, trial.alloc, cell);
+    trial.calm();
+    match answer {
+        Err(SetRecorderError::Memory(mut back)) => {
+            trial.note(Error::Memory).expect(rt, "refused");
+            expect_gauge(rt, trial.alloc, &mut back, value);
+            RecoverableRecorder::new(back).install(rt, trial.alloc, cell)
+        }
+        answer => answer,
+    }
+}
+
+/// Fills a cell with the slot of a recorder of the gauge 3, and tries one of the gauge 4, which comes back.
+fn install_slots<R: Abort + Wait, B: Recorder>(rt: &R, trial: &mut Trial, first: B, second: B) {
+    let cell = OnceLock::new();
+    let handle = installed(rt, trial, &cell, first, 3).expect(rt, "not installed");
+    let slot = cell.get().expect(rt, "no slot");
+    assert_eq!(rt; slot.with(rt, |on| on.books()), Some(1));
+    let again = installed(rt, trial, &cell, second, 4);
+    expect_taken(rt, trial.alloc, again, 4);
+    let mut on = taken_out(rt, trial, handle);
+    expect_gauge(rt, trial.alloc, &mut on, 3);
 }
 
 #[test]
-fn a_taken_cell_is_told(rt: HostRuntime) -> Result<(), Fail> {
+fn a_slot_is_installed_once(rt: HostRuntime) {
     let alloc = rt.alloc();
-    let taken = SetRecorderError::Taken(alloc);
-    let printed = format!(in alloc; "{taken}: {taken:?}")?;
-    assert_eq!(&rt;
-        printed.as_str(),
-        "a recorder is installed already: Taken(..)"
-    );
-    Ok(())
+    let book = |value| with_gauge(&rt, alloc, new_book(&rt, alloc), value);
+    install_slots(&rt, &mut Trial::new(alloc), book(3), book(4));
 }
 
-/// How many targets a register call meets that is made as soon as the cell is filled.
+/// How many targets a register call meets that is made as soon as the cell is filled. `None` where it never is.
 fn targets_when_filled<R: Wait, B: Recorder>(
     rt: &R,
     alloc: Global,
     cell: &OnceLock<SlotRecorder<B>>,
+    is_over: &AtomicU64,
     key: &Key,
-) -> usize {
+) -> Option<usize> {
     for _ in 0..u32::MAX {
+        let was_over = is_over.load(Ordering::SeqCst) == 1;
         if let Some(slot) = cell.get() {
             let found = slot.register(rt, alloc, MetricKind::Counter, key);
-            return found.map_or(0, |found| found.len());
+            return Some(found.ok()?.len());
+        }
+        if was_over {
+            return None;
         }
     }
-    0
+    None
 }
 
-/// How many targets a second thread meets, which registers as soon as the recorder can be found.
+/// How many targets a second thread meets, which registers as soon as the recorder can be found. `None` where memory
+/// lacked.
 fn targets_while_installed<R: Threads + Wait + Sync, B: Recorder + Send>(
     rt: &R,
     alloc: Global,
-    recorder: Result<B, Refused>,
+    on: B,
     key: &Key,
-) -> usize {
-    match recorder {
-        Ok(recorder) => {
-            let cell = OnceLock::new();
-            let (targets, _) = join(
-                rt,
-                || targets_when_filled(rt, alloc, &cell, key),
-                || RecoverableRecorder::new(recorder).install(rt, alloc, &cell),
-            );
-            targets
-        }
-        Err(_) => 0,
-    }
+) -> Option<usize> {
+    let cell = OnceLock::new();
+    let is_over = AtomicU64::new(0);
+    let (targets, _) = join(
+        rt,
+        || targets_when_filled(rt, alloc, &cell, &is_over, key),
+        || {
+            let answer = RecoverableRecorder::new(on).install(rt, alloc, &cell);
+            is_over.store(1, Ordering::SeqCst);
+            answer
+        },
+    );
+    targets
 }
 
+/// Memory may be refused at the first of them.
 #[test]
-fn a_recorder_is_there_once_it_can_be_found(rt: HostRuntime) -> Result<(), Fail> {
+fn a_recorder_is_there_once_it_can_be_found(rt: HostRuntime) {
     let alloc = rt.alloc();
-    let key = key(alloc, "c")?;
+    let trial = Trial::new(alloc);
+    let key = key(&rt, alloc, "c");
     for _ in 0..20_000 {
-        let book = DebuggingRecorder::new(alloc);
-        assert_eq!(&rt; targets_while_installed(&rt, alloc, book, &key), 1);
+        let targets = targets_while_installed(&rt, alloc, new_book(&rt, alloc), &key);
+        trial.calm();
+        assert_eq!(&rt; targets.expect(&rt, "out of memory"), 1);
     }
-    Ok(())
 }

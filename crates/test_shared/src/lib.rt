@@ -6,12 +6,18 @@
 #[cfg(test)]
 mod books;
 #[cfg(test)]
+mod course;
+#[cfg(test)]
 mod handles;
 #[cfg(test)]
 mod installs;
+#[cfg(test)]
+mod own;
 #[cfg(test)]
 mod reservoirs;
 #[cfg(test)]
 mod scarce;
 #[cfg(test)]
 mod shared;
+#[cfg(test)]
+mod slots;

@@ -1,24 +1,46 @@
 //! A book that threads share.
 
-use crate::books::{AT, count_of, key};
-use metrics::{DebugValue, Key, MetricKind, Recorder, Refused, Reset, Snapshot, Update};
-use metrics_debugging::DebuggingRecorder;
+use crate::books::{AT, count_of, is_gauge, key, new_book};
+use metrics::{KeyName, MetricKind, Recorder, Refused, Reset, Row, Update};
 use metrics_shared::Shared;
 use std::alloc::Global;
 use std::process::Abort;
 use std::sync::Wait;
-use std::test::Fail;
 use std::thread::{self, Threads};
 
-/// Whether the first row is of a gauge of this value.
-fn is_gauge(rows: Result<Snapshot, Refused>, value: i64) -> bool {
-    match rows {
-        Ok(rows) => match rows.as_slice().first() {
-            Some((_, _, _, DebugValue::Gauge(found))) => *found == value,
-            _ => false,
-        },
-        Err(_) => false,
+/// Whether the first series is described without a unit, by `t`.
+fn is_described(rows: &[Row]) -> bool {
+    match rows.first() {
+        Some((_, None, Some(text), _)) => text.as_str() == "t",
+        _ => false,
     }
+}
+
+fn expect_counter<R: Abort + Wait, B: Recorder>(rt: &R, alloc: Global, on: &Shared<B>) {
+    let kind = MetricKind::Counter;
+    let name = KeyName::new(alloc, "c").expect(rt, "out of memory");
+    let told = on.describe(rt, alloc, kind, &name, None, "t");
+    assert_eq!(rt; told.expect(rt, "out of memory"), 1);
+    let found = on.register(rt, alloc, kind, &key(rt, alloc, "c"));
+    assert_eq!(rt;
+        found.expect(rt, "out of memory").as_slice(),
+        [AT].as_slice()
+    );
+    for _ in 0..2 {
+        assert_eq!(rt; on.update(rt, AT, Update::Increment(1)), Ok(()));
+    }
+    let rows = on.snapshot(rt, alloc, 0).expect(rt, "out of memory");
+    assert!(rt; is_described(rows.as_slice()));
+    assert_eq!(rt;
+        (rows.as_slice().len(), count_of(rows.as_slice())),
+        (1, Some(2))
+    );
+}
+
+#[test]
+fn a_shared_counter_is_described_and_raised(rt: HostRuntime) {
+    let alloc = rt.alloc();
+    expect_counter(&rt, alloc, &Shared::new(new_book(&rt, alloc)));
 }
 
 /// How a snapshot resets, and the value of the gauge before.
@@ -29,78 +51,50 @@ const RESETS: [(Reset, i64); 3] = [
 ];
 
 /// A gauge is set to 5, and snapshots reset it.
-fn expect_gauges<R: Abort + Wait, B: Recorder>(
-    rt: &R,
-    alloc: Global,
-    shared: &Shared<B>,
-    key: &Key,
-) {
-    assert!(rt; shared.register(rt, alloc, MetricKind::Gauge, key).is_ok());
-    assert_eq!(rt; shared.update(rt, AT, Update::Set(5)), Ok(()));
+fn expect_gauges<R: Abort + Wait, B: Recorder>(rt: &R, alloc: Global, on: &Shared<B>) {
+    let found = on.register(rt, alloc, MetricKind::Gauge, &key(rt, alloc, "g"));
+    let _found = found.expect(rt, "out of memory");
+    assert_eq!(rt; on.update(rt, AT, Update::Set(5)), Ok(()));
     for (reset, value) in RESETS {
-        assert!(rt; is_gauge(shared.snapshot_with(rt, alloc, 0, reset), value));
+        let rows = on.snapshot_with(rt, alloc, 0, reset);
+        assert!(rt; is_gauge(rows.expect(rt, "out of memory").as_slice(), value));
     }
-    let refused = shared.snapshot_with(rt, alloc, 1, Reset::All);
+    let refused = on.snapshot_with(rt, alloc, 1, Reset::All);
     assert!(rt; refused.err() == Some(Refused::NoSuchBook));
 }
 
-fn expect_resets<R: Abort + Wait, B: Recorder>(
-    rt: &R,
-    alloc: Global,
-    book: Result<B, Refused>,
-) -> Result<(), Fail> {
-    let key = key(alloc, "g")?;
-    match book {
-        Ok(book) => {
-            expect_gauges(rt, alloc, &Shared::new(book), &key);
-            Ok(())
-        }
-        Err(_) => Err("memory".into()),
-    }
-}
-
 #[test]
-fn snapshots_of_a_shared_book(rt: HostRuntime) -> Result<(), Fail> {
+fn snapshots_of_a_shared_book(rt: HostRuntime) {
     let alloc = rt.alloc();
-    expect_resets(&rt, alloc, DebuggingRecorder::new(alloc))
+    expect_gauges(&rt, alloc, &Shared::new(new_book(&rt, alloc)));
 }
 
 /// Adds 1 to the counter a thousand times, and tells whether each was done.
-fn add_many<R: Wait, B: Recorder>(rt: &R, shared: &Shared<B>) -> bool {
+fn add_many<R: Wait, B: Recorder>(rt: &R, on: &Shared<B>) -> bool {
     let mut is_done = true;
     for _ in 0..1000 {
-        is_done &= shared.update(rt, AT, Update::Increment(1)).is_ok();
+        is_done &= on.update(rt, AT, Update::Increment(1)).is_ok();
     }
     is_done
-}
-
-fn expect_all<R: Abort + Threads + Wait + Sync, B: Recorder + Send>(
-    rt: &R,
-    alloc: Global,
-    shared: &Shared<B>,
-    key: &Key,
-) -> Result<(), Fail> {
-    assert!(rt; shared.register(rt, alloc, MetricKind::Counter, key).is_ok());
-    let done = thread::map_indices(rt, alloc, 4, &|_| add_many(rt, shared))?;
-    assert!(rt; done.iter().all(|is_done| *is_done));
-    assert_eq!(rt; count_of(shared.snapshot(rt, alloc, 0)), Some(4000));
-    Ok(())
 }
 
 fn expect_sum<R: Abort + Threads + Wait + Sync, B: Recorder + Send>(
     rt: &R,
     alloc: Global,
-    book: Result<B, Refused>,
-) -> Result<(), Fail> {
-    let key = key(alloc, "c")?;
-    match book {
-        Ok(book) => expect_all(rt, alloc, &Shared::new(book), &key),
-        Err(_) => Err("memory".into()),
+    on: &Shared<B>,
+) {
+    let found = on.register(rt, alloc, MetricKind::Counter, &key(rt, alloc, "c"));
+    let _found = found.expect(rt, "out of memory");
+    let done = thread::map_indices(rt, alloc, 4, &|_| add_many(rt, on));
+    for is_done in done.expect(rt, "out of memory") {
+        assert!(rt; is_done);
     }
+    let rows = on.snapshot(rt, alloc, 0).expect(rt, "out of memory");
+    assert_eq!(rt; count_of(rows.as_slice()), Some(4000));
 }
 
 #[test]
-fn four_threads_add(rt: HostRuntime) -> Result<(), Fail> {
+fn four_threads_add(rt: HostRuntime) {
     let alloc = rt.alloc();
-    expect_sum(&rt, alloc, DebuggingRecorder::new(alloc))
+    expect_sum(&rt, alloc, &Shared::new(new_book(&rt, alloc)));
 }

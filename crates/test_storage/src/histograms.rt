@@ -1,37 +1,89 @@
 //! Histograms over fixed bounds.
-use metrics_storage::Histogram;
-use std::alloc::AllocError;
-use std::process::Abort;
-use std::test::*;
 
-/// The count and the sum of a copy.
-fn told(copy: Result<Histogram, AllocError>) -> Option<(u64, i128)> {
-    match copy {
-        Ok(copy) => Some((copy.count(), copy.sum())),
-        Err(_) => None,
-    }
+use metrics_storage::Histogram;
+use std::alloc::Global;
+use std::process::Abort;
+
+/// The bounds of a histogram, the samples that it takes at once and the one that comes alone, how many there are and their
+/// sum, and the counts of its buckets.
+struct Samples {
+    bounds: &'static [i64],
+    many: &'static [i64],
+    one: i64,
+    count: u64,
+    sum: i128,
+    buckets: &'static [(i64, u64)],
 }
 
-fn expect_shown(rt: &impl Abort, histogram: &mut Histogram) {
-    assert!(rt; histogram.record_many(&[12]).is_ok());
-    assert!(rt; told(histogram.clone()) == Some((1, 12)));
-    let mut shown = 0i64;
-    histogram.visit_buckets(|bound, count| {
-        shown = shown
-            .wrapping_mul(1000)
-            .wrapping_add(bound.wrapping_mul(10))
-            .wrapping_add_unsigned(count);
-    });
-    assert_eq!(rt; shown, 251_100);
+const SAMPLES: [Samples; 2] = [
+    Samples {
+        bounds: &[10, 25, 100],
+        many: &[3, 2, 6, 12, 56, 82, 202, 100, 29],
+        one: 89,
+        count: 10,
+        sum: 581,
+        buckets: &[(10, 3), (25, 4), (100, 9)],
+    },
+    Samples {
+        bounds: &[25, 10],
+        many: &[],
+        one: 12,
+        count: 1,
+        sum: 12,
+        buckets: &[(25, 1), (10, 0)],
+    },
+];
+
+/// A bucket behind those that were shown before it, as one number.
+fn shown(before: i64, (bound, count): (i64, u64)) -> i64 {
+    before
+        .wrapping_mul(100)
+        .wrapping_add(bound)
+        .wrapping_mul(100)
+        .wrapping_add_unsigned(count)
+}
+
+/// That a histogram tells these samples, and shows them too.
+fn expect_told(rt: &impl Abort, histogram: &Histogram, samples: &Samples) {
+    assert_eq!(rt;
+        (histogram.count(), histogram.sum()),
+        (samples.count, samples.sum)
+    );
+    let buckets = histogram.buckets().expect(rt, "out of memory");
+    assert_eq!(rt; buckets.as_slice(), samples.buckets);
+    let mut found = 0;
+    histogram.visit_buckets(|bound, count| found = shown(found, (bound, count)));
+    let mut wanted = 0;
+    for bucket in samples.buckets {
+        wanted = shown(wanted, *bucket);
+    }
+    assert_eq!(rt; found, wanted);
+}
+
+/// Records, which takes no memory, and copies.
+fn expect_samples(rt: &impl Abort, alloc: Global, samples: &Samples) {
+    let made = Histogram::new(alloc, samples.bounds).expect(rt, "out of memory");
+    let mut histogram = made.expect(rt, "no histogram");
+    histogram
+        .record_many(samples.many)
+        .expect(rt, "many records are refused");
+    histogram
+        .record(samples.one)
+        .expect(rt, "a record is refused");
+    expect_told(rt, &histogram, samples);
+    let copy = histogram.clone().expect(rt, "out of memory");
+    expect_told(rt, &copy, samples);
 }
 
 #[test]
-fn a_histogram_is_copied_and_shown(rt: HostRuntime) -> Result<(), Fail> {
-    match Histogram::new(rt.alloc(), &[25, 10]) {
-        Ok(Some(mut histogram)) => {
-            expect_shown(&rt, &mut histogram);
-            Ok(())
-        }
-        _ => Err("no histogram".into()),
+fn samples_are_counted_up_to_each_bound(rt: HostRuntime) {
+    for samples in &SAMPLES {
+        expect_samples(&rt, rt.alloc(), samples);
     }
+}
+
+#[test]
+fn no_bounds_make_no_histogram(rt: HostRuntime) {
+    let made = Histogram::new(rt.alloc(), &[]).expect(&rt, "refused");
+    assert!(rt; made.is_none());
 }

@@ -1,0 +1,101 @@
+//! Whole texts of series whose names and values no line of the program can spell.
+
+use crate::given::{Given, MEMORY, fill, key};
+use metrics::{
+    CompositeKey, DebugValue, Error, MetricKind, MetricKindMask, Snapshot, Text, Unit, Update,
+};
+use metrics_exporter::Exporter;
+use metrics_prometheus::exposition;
+
+const SERIES: [Given; 4] = [
+    ("temp", &[], Update::Set(-3)),
+    (
+        "lat\nency",
+        &[("zone", "e u"), ("tier", "")],
+        Update::Record(12),
+    ),
+    (
+        "lat\nency",
+        &[("zone", "e u"), ("tier", "")],
+        Update::Record(30),
+    ),
+    (
+        "all hits",
+        &[("the\npath", "a\"b\\c\nd"), ("host", "é")],
+        Update::Increment(2),
+    ),
+];
+
+const EXPOSITION: &str = "# TYPE all_hits counter\n\
+    all_hits{host=\"é\",the_path=\"a\\\"b\\\\c\\nd\"} 2\n\
+    # TYPE lat_ency histogram\n\
+    lat_ency_bucket{zone=\"e u\",le=\"10\"} 0\n\
+    lat_ency_bucket{zone=\"e u\",le=\"25\"} 1\n\
+    lat_ency_bucket{zone=\"e u\",le=\"+Inf\"} 2\n\
+    lat_ency_sum{zone=\"e u\"} 42\n\
+    lat_ency_count{zone=\"e u\"} 2\n\
+    # TYPE temp gauge\n\
+    temp -3\n";
+
+const TEXT: &str = "counter all hits the\npath=a\"b\\c\nd host=é value 2\n\
+    gauge temp value -3\n\
+    histogram lat\nency zone=e u tier= count 2 sum 42 le 10 0 le 25 1\n";
+
+#[test]
+fn line_feeds_are_escaped_in_an_exposition_alone(rt: HostRuntime) {
+    let alloc = rt.alloc();
+    let mut exporter = Exporter::new(alloc, 2, MetricKindMask::NONE, None, &[10, 25]).expect(
+        &rt, MEMORY,
+    );
+    fill(&rt, alloc, &mut exporter, &SERIES);
+    let shown = exposition(&exporter, alloc).expect(&rt, MEMORY);
+    assert_eq!(rt; shown.as_str(), EXPOSITION);
+    let text = exporter.text().expect(&rt, MEMORY);
+    assert_eq!(rt; text.as_str(), TEXT);
+}
+
+const BESIDE: [Given; 2] = [
+    ("a.b", &[], Update::Increment(1)),
+    ("a_b", &[("k", "v")], Update::Increment(2)),
+];
+
+/// Of two names that are shown as one the first that is written gives the description.
+#[test]
+fn a_description_is_shown_before_its_kind(rt: HostRuntime) {
+    let alloc = rt.alloc();
+    let mut exporter = Exporter::new(alloc, 2, MetricKindMask::NONE, None, &[10]).expect(
+        &rt, MEMORY,
+    );
+    for (name, text) in [("a.b", "one\\two\nthree \"four\""), ("a_b", "hidden")] {
+        let told = exporter.describe(MetricKind::Counter, name, None, text);
+        told.expect(&rt, MEMORY);
+    }
+    fill(&rt, alloc, &mut exporter, &BESIDE);
+    let shown = exposition(&exporter, alloc).expect(&rt, MEMORY);
+    assert_eq!(rt;
+        shown.as_str(),
+        "# HELP a_b one\\\\two\\nthree \"four\"\n# TYPE a_b counter\na_b 1\na_b{k=\"v\"} 2\n"
+    );
+}
+
+#[test]
+fn an_absorbed_row_tells_its_description(rt: HostRuntime) {
+    let alloc = rt.alloc();
+    let mut exporter = Exporter::new(alloc, 2, MetricKindMask::NONE, None, &[10]).expect(
+        &rt, MEMORY,
+    );
+    let hits = CompositeKey::new(MetricKind::Counter, key(&rt, alloc, "hits", &[]));
+    let text = Text::new(alloc, "all hits").expect(&rt, MEMORY);
+    let row = (hits, Some(Unit::Count), Some(text), DebugValue::Counter(2));
+    let rows = Vec::from_array(alloc, [row]).expect(&rt, MEMORY);
+    if let Err(stop) = exporter.absorb(&Snapshot::from(rows)) {
+        Err::<(), Error>(stop.error).expect(&rt, MEMORY);
+    }
+    let unit = exporter.descriptions().unit(MetricKind::Counter, "hits");
+    assert_eq!(rt; unit, Some(Unit::Count));
+    let shown = exposition(&exporter, alloc).expect(&rt, MEMORY);
+    assert_eq!(rt;
+        shown.as_str(),
+        "# HELP hits all hits\n# TYPE hits counter\nhits 2\n"
+    );
+}

@@ -1,0 +1,30 @@
+//! What an exporter can be made with.
+
+use crate::given::MEMORY;
+use metrics::{Error, MetricKindMask};
+use metrics_exporter::Exporter;
+use std::process::Abort;
+
+/// Numbers of shards, bounds, and the refusal. The shards are looked at first.
+const ASKED: [(usize, &[i64], Option<Error>); 9] = [
+    (0, &[], Some(Error::BadShards)),
+    (3, &[], Some(Error::BadShards)),
+    (2048, &[], Some(Error::BadShards)),
+    (3, &[10], Some(Error::BadShards)),
+    (2048, &[10], Some(Error::BadShards)),
+    (1, &[], Some(Error::NoBounds)),
+    (1024, &[], Some(Error::NoBounds)),
+    (1, &[10], None),
+    (1024, &[10], None),
+];
+
+#[test]
+fn shards_are_tested_before_bounds(rt: HostRuntime) {
+    for (shards, bounds, refusal) in ASKED {
+        let made = Exporter::new(rt.alloc(), shards, MetricKindMask::NONE, None, bounds);
+        match refusal {
+            Some(refusal) => assert_eq!(rt; made.err(), Some(refusal), "{shards} shards"),
+            None => assert_eq!(rt; made.expect(&rt, MEMORY).len(), 0),
+        }
+    }
+}

@@ -1,0 +1,5 @@
+use Rattle.metrics_growing.specs.Parts.{IsOf}
+use Rattle.test_growing.proofs.chains.push_below.Given as goal
+
+abbrev pub invariant-loop-value : goal.invariant-loop-value
+invariant-loop-value g l = IsOf l.bucket l.pen

@@ -1,0 +1,170 @@
+//! Blocks and buckets with one owner, for values of three types.
+
+use crate::values::{Ending, Numbered, firsts, text};
+use metrics::{Error, HistogramCell};
+use metrics_storage::{Block, OwnedBucket};
+use std::alloc::Global;
+use std::cell::Cell;
+use std::process::Abort;
+use test_trial::{Trial, made};
+
+/// Pushes the numbers 0 to 63 into a new block, and 42, which comes back.
+fn fill_block<R: Abort, T: Numbered, F: Fn(i64) -> T>(rt: &R, alloc: Global, make: &F)
+    requires { F.IsAlwaysCallable make.now }
+{
+    let mut block = Block::<T>::new(alloc).expect(rt, "out of memory");
+    for number in 0..64i64 {
+        assert!(rt; block.push(make(number)).is_ok());
+    }
+    let back = block.push(make(42)).err().expect(rt, "not full");
+    assert_eq!(rt; back.number(), 42);
+    assert_eq!(rt; (block.len(), firsts(1, block.data())), (64, 1000));
+}
+
+#[test]
+fn a_block_of_64(rt: HostRuntime) {
+    let alloc = rt.alloc();
+    fill_block(&rt, alloc, &|number: i64| number);
+    fill_block(&rt, alloc, &|number: i64| text(&rt, alloc, number));
+    let ends = &Cell::new(0u64);
+    fill_block(&rt, alloc, &|number: i64| Ending { number, ends });
+    assert_eq!(rt; ends.get(), 65);
+}
+
+#[test]
+fn a_block_takes_values_without_size(rt: HostRuntime) {
+    let mut block = Block::<()>::new(rt.alloc()).expect(&rt, "out of memory");
+    for _value in 0..64 {
+        assert!(rt; block.push(()).is_ok());
+    }
+    assert!(rt; block.push(()).is_err());
+    assert_eq!(rt; block.data().len(), 64);
+}
+
+#[test]
+fn samples_are_recorded(rt: HostRuntime) {
+    let mut bucket = OwnedBucket::<i64>::new(rt.alloc());
+    bucket.record(7).expect(&rt, "out of memory");
+    let samples = bucket.data().expect(&rt, "out of memory");
+    assert_eq!(rt; samples.as_slice(), [7].as_slice());
+}
+
+/// Pushes a value, and again where memory was refused: then it came back, and the bucket needs a block.
+fn push<R: Abort, T: Numbered>(rt: &R, trial: &mut Trial, on: &mut OwnedBucket<T>, value: T) {
+    let number = value.number();
+    trial.begin();
+    let first = on.push(value);
+    trial.calm();
+    if let Err(back) = first {
+        trial.note(Error::Memory).expect(rt, "refused");
+        assert_eq!(rt; (back.number(), number % 64), (number, 0));
+        assert!(rt; on.push(back).is_ok(), "refused with memory at hand");
+    }
+}
+
+/// Pushes the numbers 0 to 129, and reads them chunk by chunk, the newest first.
+fn fill<R: Abort, T: Numbered, F: Fn(i64) -> T>(
+    rt: &R,
+    trial: &mut Trial,
+    on: &mut OwnedBucket<T>,
+    make: &F,
+)
+    requires { F.IsAlwaysCallable make.now }
+{
+    assert!(rt; on.is_empty());
+    for number in 0..130i64 {
+        push(rt, trial, on, make(number));
+    }
+    assert!(rt; !on.is_empty());
+    trial.begin();
+    let mut told = 0;
+    on.data_with(|chunk| told = firsts(told, chunk));
+    trial.calm();
+    assert_eq!(rt; told, 128_064_000);
+}
+
+/// Takes the numbers 0 to 129 out, which takes no memory.
+fn clear<R: Abort, T: Numbered>(rt: &R, trial: &Trial, on: &mut OwnedBucket<T>) {
+    trial.begin();
+    let mut told = 0;
+    on.clear_with(|chunk| told = firsts(told, chunk));
+    trial.calm();
+    assert_eq!(rt; told, 128_064_000);
+    assert!(rt; on.is_empty());
+}
+
+/// Reads the numbers 128 and 129, 64 to 127, and 0 to 63, where the first try may be refused.
+fn read<R: Abort, T: Numbered + Clone>(rt: &R, trial: &mut Trial, on: &OwnedBucket<T>) {
+    let values = made(trial, &|| on.data()).expect(rt, "refused");
+    let (newest, older) = values.as_slice().split_at(values.len().min(2));
+    let (middle, oldest) = older.split_at(older.len().min(64));
+    assert_eq!(rt; (newest.len(), middle.len(), oldest.len()), (2, 64, 64));
+    let told = firsts(firsts(firsts(0, newest), middle), oldest);
+    assert_eq!(rt; told, 128_064_000);
+}
+
+#[test]
+fn numbers_come_newest_block_first(rt: HostRuntime) {
+    let mut trial = Trial::new(rt.alloc());
+    let mut bucket = OwnedBucket::new(rt.alloc());
+    fill(&rt, &mut trial, &mut bucket, &|number: i64| number);
+    read(&rt, &mut trial, &bucket);
+    clear(&rt, &trial, &mut bucket);
+}
+
+#[test]
+fn texts_come_newest_block_first(rt: HostRuntime) {
+    let alloc = rt.alloc();
+    let mut trial = Trial::new(alloc);
+    let mut bucket = OwnedBucket::new(alloc);
+    fill(
+        &rt,
+        &mut trial,
+        &mut bucket,
+        &|number: i64| text(&rt, alloc, number),
+    );
+    read(&rt, &mut trial, &bucket);
+    clear(&rt, &trial, &mut bucket);
+}
+
+/// Also where a value came back first.
+#[test]
+fn each_value_ends_once(rt: HostRuntime) {
+    let mut trial = Trial::new(rt.alloc());
+    let ends = &Cell::new(0u64);
+    let mut bucket = OwnedBucket::new(rt.alloc());
+    fill(
+        &rt,
+        &mut trial,
+        &mut bucket,
+        &|number: i64| Ending { number, ends },
+    );
+    assert_eq!(rt; ends.get(), 0);
+    clear(&rt, &trial, &mut bucket);
+    assert_eq!(rt; ends.get(), 130);
+    fill(
+        &rt,
+        &mut trial,
+        &mut bucket,
+        &|number: i64| Ending { number, ends },
+    );
+    bucket.clear();
+    assert_eq!(rt; ends.get(), 260);
+    drop(bucket);
+    assert_eq!(rt; ends.get(), 260);
+}
+
+#[test]
+fn the_end_of_a_bucket_ends_its_values(rt: HostRuntime) {
+    let mut trial = Trial::new(rt.alloc());
+    let ends = &Cell::new(0u64);
+    let mut bucket = OwnedBucket::new(rt.alloc());
+    fill(
+        &rt,
+        &mut trial,
+        &mut bucket,
+        &|number: i64| Ending { number, ends },
+    );
+    drop(bucket);
+    assert_eq!(rt; ends.get(), 130);
+}

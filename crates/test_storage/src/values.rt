@@ -1,0 +1,59 @@
+//! Values of three types, each known by its number: whole numbers, texts, and values that count their ends.
+
+use std::alloc::Global;
+use std::cell::Cell;
+use std::process::Abort;
+
+/// A value that has a number.
+pub trait Numbered: Drop {
+    fn number(&self) -> i64;
+}
+
+impl Numbered for i64 {
+    fn number(&self) -> i64 {
+        *self
+    }
+}
+
+impl Numbered for String {
+    fn number(&self) -> i64 {
+        self.as_str().parse::<i64>().unwrap_or(-1)
+    }
+}
+
+/// Has a number, and counts its end.
+pub struct Ending<'a> {
+    pub number: i64,
+    pub ends: &'a Cell<u64>,
+}
+
+impl<'a> Drop for Ending<'a> {
+    fn drop(self) {
+        let Ending { number: _, ends } = self;
+        ends.set(ends.get().wrapping_add(1));
+    }
+}
+
+impl<'a> Numbered for Ending<'a> {
+    fn number(&self) -> i64 {
+        self.number
+    }
+}
+
+/// The text of a number.
+pub fn text(rt: &impl Abort, alloc: Global, number: i64) -> String {
+    format!(in alloc; "{number}").expect(rt, "out of memory")
+}
+
+/// The first number of a chunk, behind those of the chunks before it; or -1 where its numbers don't rise one by one.
+pub fn firsts<T: Numbered>(told: i64, chunk: &[T]) -> i64 {
+    let first = chunk.first().map_or(-1, |first| first.number());
+    let mut next = first;
+    for value in chunk {
+        if value.number() != next {
+            return -1;
+        }
+        next = next.wrapping_add(1);
+    }
+    told.wrapping_mul(1000).wrapping_add(first)
+}

@@ -1,0 +1,200 @@
+//! What the tests share: calls whose first try may be refused, and what a recorder has then.
+
+use metrics::{Address, DebugValue, Error, Key, MetricKind, Recorder, Reset, Row, Update};
+use metrics_debugging::DebuggingRecorder;
+use std::alloc::{AllocError, Global};
+use std::fmt::Debug;
+use std::process::Abort;
+use test_trial::Trial;
+
+pub type Book = DebuggingRecorder;
+
+/// A register call by kind and name, and the addresses that it answers: book and series.
+pub type Registered<'a> = (MetricKind, &'a str, &'a [(usize, usize)]);
+
+/// A test, which a refusal ends; or which goes on after the refusals between its marks.
+#[derive(Drop)]
+pub struct Test<'a, P: Abort> {
+    pub rt: &'a P,
+    pub alloc: Global,
+    trial: Trial,
+    goes_on: bool,
+}
+
+impl<'a, P: Abort> Test<'a, P> {
+    /// A test that a refusal ends.
+    pub fn whole(rt: &'a P, alloc: Global) -> Test<'a, P> {
+        let trial = Trial::new(alloc);
+        Test {
+            rt,
+            alloc,
+            trial,
+            goes_on: false,
+        }
+    }
+
+    /// A test that goes on after a refusal.
+    pub fn marked(rt: &'a P, alloc: Global) -> Test<'a, P> {
+        let trial = Trial::new(alloc);
+        Test {
+            rt,
+            alloc,
+            trial,
+            goes_on: true,
+        }
+    }
+
+    /// From here on memory may be refused.
+    pub fn begin(&self) {
+        if self.goes_on {
+            self.trial.begin();
+        }
+    }
+
+    /// From here on a refusal ends the test.
+    pub fn calm(&self) {
+        if self.goes_on {
+            self.trial.calm();
+        }
+    }
+
+    /// Returns what a call gives that isn't refused.
+    pub fn ok<T, E: Debug>(&self, answer: Result<T, E>) -> T {
+        if self.goes_on {
+            answer.expect(self.rt, "refused with memory at hand")
+        } else {
+            answer.expect(self.rt, "out of memory")
+        }
+    }
+
+    /// Returns what a call makes that isn't refused, and would give its argument back.
+    pub fn made<M, R: Drop>(&self, answer: Result<M, (Error, R)>) -> M {
+        match answer {
+            Ok(made) => made,
+            Err((error, _)) => self.ok(Err(error)),
+        }
+    }
+
+    /// Takes a refusal of a call between the marks, which acted on nothing.
+    pub fn note<E: Debug + Drop + PartialEq + From<AllocError>>(&self, error: E) {
+        if self.goes_on {
+            assert_eq!(self.rt; error, E::from(AllocError));
+        } else {
+            self.ok(Err(error))
+        }
+    }
+
+    /// Returns what a call gives. The first try may be refused.
+    pub fn tried<T, E, F: FnMut() -> Result<T, E>>(&self, mut call: F) -> T
+    where
+        E: Debug + Drop + PartialEq + From<AllocError>,
+        requires { F.IsAlwaysCallable call }
+    {
+        self.begin();
+        let first = call();
+        self.calm();
+        match first {
+            Ok(answer) => answer,
+            Err(error) => {
+                self.note(error);
+                self.ok(call())
+            }
+        }
+    }
+
+    /// Returns what a call makes of a recorder. The first try may be refused, and gives the recorder back as it was.
+    pub fn made_from<R: Recorder, M, F>(&self, on: R, mut call: F) -> M
+    where
+        F: FnMut(R) -> Result<M, (Error, R)>,
+        requires { F.IsAlwaysCallable call }
+    {
+        self.begin();
+        let first = call(on);
+        self.calm();
+        match first {
+            Ok(made) => made,
+            Err((error, mut back)) => {
+                self.note(error);
+                self.expect_gauge(&mut back);
+                self.made(call(back))
+            }
+        }
+    }
+
+    /// Returns the recorder of a call that can't be done, which comes back as it was.
+    pub fn given_back<R: Recorder, M, F>(&self, on: R, why: Error, mut call: F) -> R
+    where
+        F: FnMut(R) -> Result<M, (Error, R)>,
+        requires { F.IsAlwaysCallable call }
+    {
+        self.begin();
+        let answer = call(on);
+        self.calm();
+        match answer {
+            Ok(_) => panic!(self.rt; "what can't be done is done"),
+            Err((error, mut back)) => {
+                assert_eq!(self.rt; error, why);
+                self.expect_gauge(&mut back);
+                back
+            }
+        }
+    }
+
+    /// A new book.
+    pub fn book(&self) -> Book {
+        self.ok(DebuggingRecorder::new(self.alloc))
+    }
+
+    /// A book whose only series is the gauge `g` with the value 3, by which it is known again.
+    pub fn book_of_gauge(&self) -> Book {
+        let mut book = self.book();
+        self.expect_registered(&mut book, &[(MetricKind::Gauge, "g", &[(0, 0)])]);
+        let set = book.update(Address { book: 0, series: 0 }, Update::Set(3));
+        assert_eq!(self.rt; set, Ok(()));
+        book
+    }
+
+    /// Checks that the last book of a recorder has the gauge alone, which stands.
+    pub fn expect_gauge<R: Recorder>(&self, on: &mut R) {
+        let last = on.books().checked_sub(1).expect(self.rt, "no book");
+        let rows = self.ok(on.snapshot_with(self.alloc, last, Reset::KeepGauges));
+        assert!(self.rt; are_gauge(rows.as_slice()));
+    }
+
+    /// Checks that each register call of a table answers its addresses.
+    pub fn expect_registered<R: Recorder>(&self, on: &mut R, wanted: &[Registered]) {
+        for (kind, name, addresses) in wanted {
+            let key = self.ok(Key::from_name(self.alloc, name));
+            let found = self.ok(on.register(self.alloc, *kind, &key));
+            assert!(self.rt; are_addresses(found.as_slice(), addresses), "at {name}");
+        }
+    }
+
+    /// Checks that the rows of a book have these names.
+    pub fn expect_names<R: Recorder>(&self, on: &mut R, book: usize, names: &[&str]) {
+        let rows = self.ok(on.snapshot(self.alloc, book));
+        assert_eq!(self.rt; rows.as_slice().len(), names.len());
+        for (row, name) in rows.as_slice().iter().zip(names) {
+            assert_eq!(self.rt; row.0.key().name(), *name);
+        }
+    }
+}
+
+fn are_gauge(rows: &[Row]) -> bool {
+    match rows {
+        [row] => row.0.key().name() == "g" && matches!(row.3, DebugValue::Gauge(3)),
+        _ => false,
+    }
+}
+
+fn are_addresses(found: &[Address], wanted: &[(usize, usize)]) -> bool {
+    if found.len() != wanted.len() {
+        return false;
+    }
+    for (at, (book, series)) in found.iter().zip(wanted) {
+        if at.book != *book || at.series != *series {
+            return false;
+        }
+    }
+    true
+}

@@ -1,0 +1,81 @@
+//! Layers, and stacks of them: what is refused for memory gives the recorder back, as it was.
+
+use crate::given::{Book, Test};
+use metrics::MetricKind::Counter;
+use metrics::{Key, Recorder};
+use metrics_layers::{FilterLayer, Layer, PrefixLayer, Stack};
+use std::process::Abort;
+
+/// A layer. The first try may be refused.
+pub fn prefix<P: Abort>(test: &Test<P>, text: &str) -> PrefixLayer {
+    test.tried(|| PrefixLayer::new(test.alloc, text))
+}
+
+/// The same.
+pub fn filter<P: Abort>(test: &Test<P>) -> FilterLayer {
+    test.tried(|| FilterLayer::from_patterns(test.alloc, &["x.t", "he"]))
+}
+
+fn expect_layered<P: Abort, L: Layer<Book>>(test: &Test<P>, layer: L) {
+    let mut on = test.made_from(test.book_of_gauge(), |book| layer.layer(test.alloc, book));
+    test.expect_gauge(&mut on);
+}
+
+#[test]
+fn a_layer_gives_its_recorder_back(rt: HostRuntime) {
+    let test = Test::marked(&rt, rt.alloc());
+    expect_layered(&test, prefix(&test, "a"));
+    expect_layered(&test, filter(&test));
+}
+
+/// Pushes a layer, and where that is refused an equal one on what comes back.
+fn pushed<P: Abort, R: Recorder, L: Layer<R>>(
+    test: &Test<P>,
+    stack: Stack<R>,
+    layer: L,
+    equal: L,
+) -> Stack<L::Output> {
+    test.begin();
+    let first = stack.push(test.alloc, layer);
+    test.calm();
+    match first {
+        Ok(stack) => stack,
+        Err((error, mut inner)) => {
+            test.note(error);
+            test.expect_gauge(&mut inner);
+            test.made(Stack::new(inner).push(test.alloc, equal))
+        }
+    }
+}
+
+/// Registers a counter. The first try may be refused, and then the book has the gauge alone.
+fn register<P: Abort, R: Recorder>(test: &Test<P>, on: &mut R, name: &str) {
+    let key = test.ok(Key::from_name(test.alloc, name));
+    test.begin();
+    let first = on.register(test.alloc, Counter, &key);
+    test.calm();
+    if let Err(refused) = first {
+        test.note(refused);
+        test.expect_gauge(on);
+    }
+}
+
+/// Checks names below the layers: the one that was pushed last sees a name first.
+fn expect_stacked<P: Abort, R: Recorder>(test: &Test<P>, mut on: R) {
+    register(test, &mut on, "x.todo");
+    register(test, &mut on, "x");
+    test.expect_registered(
+        &mut on,
+        &[(Counter, "x.todo", &[]), (Counter, "x", &[(0, 1)])],
+    );
+    test.expect_names(&mut on, 0, &["g", "a.b.x"]);
+}
+
+#[test]
+fn each_push_gives_the_recorder_back(rt: HostRuntime) {
+    let test = Test::marked(&rt, rt.alloc());
+    let stack = Stack::new(test.book_of_gauge());
+    let stack = pushed(&test, stack, prefix(&test, "a"), prefix(&test, "a"));
+    let stack = pushed(&test, stack, prefix(&test, "b"), prefix(&test, "b"));
+    expect_stacked(&test, pushed(&test, stack, filter(&test), filter(&test)));
+}

@@ -1,5 +1,0 @@
-use Rattle.std.proofs.Common.{◌≡◌, false}
-use Rattle.tool_refusals_storage.proofs.waiting.push_beside.Given as goal
-
-abbrev pub invariant-loop : goal.invariant-loop
-invariant-loop g l = (l.other.home ≡ l.initial.other.home) × (l.other.ticket ≡ false)

@@ -1,0 +1,419 @@
+"""Judges what the programs wrote while requests for memory were refused, by the rules of docs/PROGRAM.md.
+
+Each answer is the expected one, or says that memory was refused; then the call stands in its first n targets, and in no
+other. A run ends as it does with memory at hand, or out of memory after whole answers."""
+
+import copy
+import functools
+import re
+import sys
+from pathlib import Path
+
+sys.path.insert(0, str(Path(__file__).resolve().parent.parent / "examples"))
+sys.dont_write_bytecode = True
+import read_prometheus as model
+
+# A tree is as deep as a thousand levels, and each is a call.
+sys.setrecursionlimit(10000)
+
+NAMES = {"c": "counter", "g": "gauge", "h": "histogram"}
+
+
+class Wrong(Exception):
+    """What was written can't be."""
+
+
+# ---- trees: nested tuples, of which a walk notes what happens on the way of a name
+
+
+def plain(word):
+    return b"" if word == b"-" else word
+
+
+def folded(text):
+    return re.sub(rb"[A-Z]", lambda letter: letter[0].lower(), text)
+
+
+def taken(stack, count):
+    """The last recorders of the stack, the deepest first."""
+    children = stack[len(stack) - count:]
+    del stack[len(stack) - count:]
+    return children
+
+
+def route_of(word):
+    mask, target, pattern = word.split(b"/", 2)
+    return [NAMES[kind] for kind in mask.decode()], int(target), plain(pattern)
+
+
+def tree_of(lines):
+    """The tree that the lines make. Its books are numbered in the order of their lines."""
+    stack, books = [], 0
+    for line in lines:
+        match line.split(b" "):
+            case [b"book"]:
+                stack.append(("book", books))
+                books += 1
+            case [b"noop"]:
+                stack.append(("fanout", []))
+            case [b"prefix", text]:
+                stack.append(("prefix", plain(text), stack.pop()))
+            case [b"filter", case, _, *patterns]:
+                seen = folded if case == b"ci" else bytes
+                stack.append(("filter", seen, [seen(plain(pattern)) for pattern in patterns], stack.pop()))
+            case [b"fanout", count]:
+                stack.append(("fanout", taken(stack, int(count))))
+            case [b"router", count, *routes]:
+                stack.append(("router", [route_of(route) for route in routes], taken(stack, int(count) + 1)))
+    return stack[0], books
+
+
+def winner(routes, kind, name):
+    """The child that a name goes to: 0 is the default."""
+    fit = [(len(front), at, to) for at, (mask, to, front) in enumerate(routes) if kind in mask and name.startswith(front)]
+    return max(fit)[2] + 1 if fit else 0
+
+
+def walk(tree, kind, name, way):
+    """Notes the way of a name: each name that a prefix makes, each target, and each list of addresses that is joined."""
+    match tree:
+        case ("book", number):
+            way.append(("target", number, name))
+        case ("prefix", text, below):
+            way.append(("name",))
+            walk(below, kind, text + b"." + name, way)
+        case ("filter", seen, patterns, below):
+            if not any(pattern in seen(name) for pattern in patterns):
+                walk(below, kind, name, way)
+        case ("fanout", children):
+            walk_all(children, 0, kind, name, way)
+        case ("router", routes, children):
+            at = winner(routes, kind, name)
+            walk_all(children[at:at + 1], at, kind, name, way)
+
+
+def walk_all(children, first, kind, name, way):
+    for child in children:
+        before = len(way)
+        walk(child, kind, name, way)
+        # The addresses of a first child that is the only one stay as they are.
+        if (first > 0 or len(children) > 1) and any(step[0] == "target" for step in way[before:]):
+            way.append(("joined",))
+
+
+# ---- calls on books
+
+
+class Book:
+    def __init__(self):
+        self.series, self.described = {}, {}
+
+    def rows(self):
+        for (kind, name, labels), value in self.series.items():
+            unit, text = self.described.get((kind, name), (b"-", None))
+            if kind == "histogram":
+                cuts = range(len(value) // 64 * 64, -1, -64)
+                value = "[%s]" % ",".join(str(sample) for cut in cuts for sample in value[cut:cut + 64])
+            row = [kind.encode(), name or b"-", *labels, b"unit", unit, b"value", str(value).encode()]
+            yield b" ".join(row) + (b"" if text is None else b" text " + text)
+
+    def describe(self, kind, name, unit, text):
+        old = self.described.get((kind, name), (b"-", None))[0]
+        self.described[kind, name] = (old if unit == b"-" else unit, text)
+
+    def reset(self, keep):
+        for series in self.series:
+            if not (keep and series[0] == "gauge"):
+                self.series[series] = new_value(series[0])
+
+
+def new_value(kind):
+    return [] if kind == "histogram" else 0
+
+
+def kind_of(word):
+    return model.KINDS[model.KIND_OF[word]]
+
+
+def acted_of(said):
+    found = re.fullmatch(rb"refused E1 memory, acted (0|[1-9]\d*)", said)
+    return int(found[1]) if found else None
+
+
+class Calls:
+    """The books of a tree, and what register calls gave. `after` answers what follows a call line, by what was said to it."""
+
+    def __init__(self, lines):
+        self.tree, books = tree_of(lines)
+        self.books, self.handles = [Book() for _ in range(books)], []
+
+    def after(self, line, said):
+        words = line.split(b" ")
+        acted = acted_of(said[0]) if said else None
+        call = {b"describe": self.describe, b"register": self.register, b"snapshot": self.snapshot}.get(words[0], self.update)
+        owed = call(line, words, acted)
+        if acted is not None and owed is None:
+            owed = said[:1]
+        if owed is None or said[:len(owed)] != owed:
+            return
+        yield self, len(owed), acted is not None
+
+    def seen_as(self):
+        return None
+
+    def way_of(self, words):
+        way = []
+        walk(self.tree, words[1].decode(), plain(words[2]), way)
+        return way, [step[1:] for step in way if step[0] == "target"]
+
+    def describe(self, line, words, acted):
+        way, targets = self.way_of(words)
+        stops = {sum(step[0] == "target" for step in way[:at]) for at, step in enumerate(way) if step[0] != "joined"}
+        for book, name in self.front(targets, acted, stops):
+            self.books[book].describe(words[1].decode(), name, words[3], line.split(b" ", 4)[4])
+        return None if acted is not None else [b"described %d" % len(targets)]
+
+    def register(self, line, words, acted):
+        kind, labels = words[1].decode(), tuple(words[3:])
+        way, targets = self.way_of(words)
+        front = self.front(targets, acted, set(self.stops(way, kind, labels)))
+        for book, name in front:
+            self.books[book].series.setdefault((kind, name, labels), new_value(kind))
+        self.handles.append((kind, [(book, (kind, name, labels)) for book, name in front]) if acted is None else None)
+        return None if acted is not None else [b"registered %d %d" % (len(self.handles) - 1, len(targets))]
+
+    def stops(self, way, kind, labels):
+        """On how many targets a refused register call may have acted. One that holds the series counts from the start."""
+        done = 0
+        for what, *target in way:
+            held = what == "target" and (kind, target[1], labels) in self.books[target[0]].series
+            yield done + held
+            done += what == "target"
+
+    def front(self, targets, acted, stops):
+        """The first targets, which were acted on."""
+        if acted is not None and acted not in stops:
+            raise Wrong("acted %d, where it may be one of %s" % (acted, sorted(stops)))
+        return targets[:acted]
+
+    def update(self, line, words, acted):
+        number, amount = int(words[1]), int(words[2])
+        handle = self.handles[number] if number < len(self.handles) else None
+        if handle is None or handle[0] != kind_of(words[0].decode()):
+            return [b"refused E18 bad handle"]
+        stops = range(len(handle[1])) if handle[0] == "histogram" else ()
+        for book, series in self.front(handle[1], acted, stops):
+            values = self.books[book].series
+            values[series] = model.updated(words[0].decode(), amount, values[series])
+        return None if acted is not None else [b"updated %d" % len(handle[1])]
+
+    def snapshot(self, line, words, acted):
+        number = int(words[1])
+        if number >= len(self.books):
+            return [b"refused E3 no such book"]
+        book = self.books[number]
+        if acted is not None:
+            self.front([], acted, {0} if book.series else ())
+            return None
+        rows = list(book.rows())
+        book.reset(keep=len(words) > 2)
+        return [b"snapshot %d %d" % (number, len(rows)), *rows]
+
+
+# ---- the lines of an exporter
+
+order_of = functools.lru_cache(maxsize=None)(model.in_bytes)
+
+
+class Export(model.Exporter):
+    """The held series. What a refused scrape has left may be one of several, so `after` answers several."""
+
+    refusal = b"refused E1 memory"
+
+    def __init__(self, words):
+        _, kinds, timeout, bounds = words
+        super().__init__(kinds, timeout, bounds)
+        self.listed = [int(bound) for bound in bounds.split(",")]
+
+    def copied(self):
+        other = copy.copy(self)
+        other.held, other.seen = self.held.copy(), self.seen.copy()
+        return other
+
+    def after(self, line, said):
+        word, amount, *rest = line.decode().split(" ")
+        is_refused = said[:1] == [self.refusal]
+        if word == "scrape":
+            if is_refused:
+                yield from ((other, 1, True) for other in self.begun(int(amount)))
+            else:
+                self.expire(int(amount))
+                text = self.text(int(amount))
+                if said[:len(text)] == text:
+                    yield self, len(text), False
+            return
+        name, labels = "" if rest[0] == "-" else rest[0], tuple(tuple(label.split("=", 1)) for label in rest[1:])
+        if is_refused and (model.KIND_OF[word], name, labels) not in self.held:
+            yield self.copied(), 1, True
+        self.update(word, int(amount), name, labels)
+        if said[:len(self.taken)] == self.taken:
+            yield self, len(self.taken), False
+
+    taken = [b"ok"]
+
+    def begun(self, now):
+        """What an expiry may leave that was refused, or the text after it: a refusal meets no series that was noted before."""
+        left = self.copied()
+        if self.held:
+            yield left.copied()
+        for series in self.in_order():
+            if self.timeout is not None and series[0] in self.watched:
+                if series not in left.seen:
+                    yield left.copied()
+                left.check(series, now)
+        if left.held:
+            yield left
+
+    def in_order(self):
+        return sorted(self.held, key=order_of)
+
+    def text(self, now):
+        rows = [self.row(series) for series in self.in_order()]
+        return [b"scrape %d %d" % (now, len(rows)), *rows]
+
+    def row(self, series):
+        kind, name, labels = series
+        value = self.held[series][0]
+        words = [model.KINDS[kind], name or "-", *("=".join(label) for label in labels)]
+        if kind == 2:
+            words += ["count", len(value), "sum", sum(value)]
+            for bound in self.listed:
+                words += ["le", bound, sum(sample <= bound for sample in value)]
+        else:
+            words += ["value", value]
+        return " ".join(map(str, words)).encode()
+
+    def seen_as(self):
+        return repr((self.held, self.seen))
+
+
+class Prometheus(Export):
+    """The same, told in Prometheus's text. An update that was made says nothing, so any of several may be the refused one."""
+
+    refusal = b"# refused E1 memory"
+    taken = []
+
+    def text(self, now):
+        rows = model.rows_of(self.held)
+        histograms = {row[0] for row in rows if row[1] == 2}
+        lines, last = [], None
+        for row in rows:
+            if model.is_left_out(row, last, histograms):
+                lines.append("# left out: " + row[0] + braces(row[2]))
+                continue
+            if last is None or last[0] != row[0]:
+                lines.append("# TYPE %s %s" % (row[0], model.KINDS[row[1]]))
+            last = row
+            for end, labels, number in model.samples_of(row, self.held[row[3]][0], self.bounds):
+                lines.append("%s%s%s %d" % (row[0], end, braces(labels), number))
+        return [line.encode() for line in lines] + [b""]
+
+
+def braces(labels):
+    def escaped(value):
+        return value.replace("\\", "\\\\").replace('"', '\\"').replace("\n", "\\n")
+
+    return "{%s}" % ",".join('%s="%s"' % (name, escaped(value)) for name, value in labels) if labels else ""
+
+
+# ---- runs
+
+
+def lines_of(text):
+    lines = text.split(b"\n")
+    return lines if lines[-1] else lines[:-1]
+
+
+def stop_of(status, errors, bad):
+    """Whether the run was out of memory, and at which line if it says so."""
+    if (status, errors) == (2 if bad else 0, bad):
+        return False, None
+    found = re.fullmatch(rb"(?:line ([1-9]\d*): )?memory\n", errors)
+    if status != 1 or not found:
+        raise Wrong("status %d with %r" % (status, errors))
+    return True, found[1] and int(found[1])
+
+
+def after_all(states, line, said, most):
+    """What may follow a line: the machine, how many lines were said, how many refusals among them. Each once."""
+    found = []
+    for machine, at, refusals in states:
+        for after, count, is_refused in machine.after(line, said[at:]):
+            if refusals + is_refused <= most:
+                found.append((after, at + count, refusals + is_refused))
+    if len(found) < 2:
+        return found
+    return list({(*state[1:], state[0].seen_as()): state for state in found}.values())
+
+
+def follow(machine, lines, said, most, is_short):
+    """Goes through lines, and what was said to each, with so many refusals at most. A short run answered some of the lines."""
+    states = [(machine, 0, 0)]
+    for line in lines:
+        if is_short and any(at == len(said) for _, at, _ in states):
+            return
+        states = after_all(states, line, said, most)
+        if not states:
+            raise Wrong("at %r" % line)
+    if is_short or not any(at == len(said) for _, at, _ in states):
+        raise Wrong("other lines than those that the calls answer")
+
+
+def judge_lines(first, machine_of, lines, bad, most, status, errors, said):
+    """Judges the answers to the lines from the one with the number `first` on."""
+    is_stopped, number = stop_of(status, errors, bad)
+    fault = re.match(rb"line (\d+): bad", bad)
+    last = int(fault[1]) - 1 if fault else len(lines)
+    if number is not None and number > min(last + 1, len(lines)):
+        raise Wrong("line %d was not reached" % number)
+    if said and said.pop():
+        raise Wrong("a part of a line")
+    most -= is_stopped
+    is_short = is_stopped and number is None
+    if last < first or (number is not None and number <= first) or (is_short and not said):
+        if said:
+            raise Wrong("a text before the first answer")
+        return
+    end = number - 1 if number is not None else last
+    follow(machine_of(), lines[first:end], said, most, is_short)
+
+
+def judge_storm(words, status, errors, said):
+    is_stopped, _ = stop_of(status, errors, b"")
+    pushers, values = int(words[1]), int(words[2])
+    count, total = pushers * values, pushers * (values * (values - 1) // 2)
+    lines = [f"pushed {count} sum {total}", f"found {count} sum {total}", f"sampled {min(count, 16)} of {count} sum {total}", ""]
+    if said != ([b""] if is_stopped else [line.encode() for line in lines]):
+        raise Wrong("%r" % said)
+
+
+MOST = {"none": 0, "once": 1, "on": sys.maxsize}
+
+
+def judge(program, words, given, bad, how, status, out, errors):
+    """Raises Wrong where the run can't have gone so. `bad` is what goes to standard error at a fault of the input, and `how`
+    says what was refused: `none`, one request (`once`), or all from one on (`on`)."""
+    lines, said, most = lines_of(given), out.split(b"\n"), MOST[how]
+    if bad.startswith(b"usage:"):
+        is_stopped, number = stop_of(status, errors, bad)
+        if out or number is not None or is_stopped > most:
+            raise Wrong("an answer to wrong words")
+    elif words[:1] == ["storm"]:
+        judge_storm(words, status, errors, said)
+    elif words == ["run"]:
+        end = (lines.index(b"end") if b"end" in lines else len(lines)) + 1
+        judge_lines(end, lambda: Calls(lines[:end - 1]), lines, bad, most, status, errors, said)
+    elif program == "metrics_tool":
+        judge_lines(0, lambda: Export(words[1:]), lines, bad, most, status, errors, said)
+    else:
+        judge_lines(0, lambda: Prometheus(words), lines, bad, most, status, errors, said)
