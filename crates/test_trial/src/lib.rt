@@ -1,0 +1,104 @@
+//! What tests share that look at the state after a refusal: the marks between which memory may be refused, and what is
+//! expected then.
+#![tactic(auto)]
+
+ghost use Rattle.std.specs.Prelude.{◌≡◌, ◌↔◌, ℕ, ◌+◌, ◌-◌, ◌^◌, min};
+ghost use Rattle.std.specs.Prelude.{IsTrue, IsOk, IsErr, IfOk, MatchResult};
+ghost use Rattle.metrics.specs.declared.error.Error.TheVariants.{Memory as OutOfMemory};
+ghost use Rattle.metrics_names.specs.declared.refused.Refused.TheVariants.{Memory as MemoryRefused};
+
+use metrics::{Error, Refused};
+use std::alloc::Global;
+
+/// What went wrong.
+pub type Wrong = &'static str;
+
+/// A request of this size tells the library that refuses memory that it counts requests from here on. It is never met.
+const COUNTS_FROM_HERE: usize = 1_000_000_000_007;
+
+/// The same, that it counts none from here on.
+const COUNTS_TO_HERE: usize = 1_000_000_000_039;
+
+/// A test that goes on after a refusal: how many of its calls were refused for memory.
+#[derive(Drop)]
+pub struct Trial {
+    pub alloc: Global,
+    pub refusals: u64,
+}
+
+fn mark(alloc: Global, size: usize) {
+    let asked: Result<Vec<u8>, _> = Vec::with_capacity(alloc, size);
+    drop(asked);
+}
+
+impl Trial {
+    pub fn new(alloc: Global) -> Trial
+        ensures { result ≡ record { alloc = alloc; refusals = 0 } }
+    {
+        Trial { alloc, refusals: 0 }
+    }
+
+    /// From here on memory may be refused.
+    pub fn begin(&self) {
+        mark(self.alloc, COUNTS_FROM_HERE);
+    }
+
+    /// From here on none is refused.
+    pub fn calm(&self) {
+        mark(self.alloc, COUNTS_TO_HERE);
+    }
+
+    /// Notes a refusal. Any other than one for memory is wrong.
+    pub fn note(&mut self, error: Error) -> Result<(), Wrong>
+        ensures counted { self.new ≡ record self.old { refusals = min (self.old.refusals + 1) (2 ^ 64 - 1) } }
+        ensures memory { IsOk result ↔ (error ≡ OutOfMemory) }
+    {
+        self.refusals = self.refusals.saturating_add(1);
+        expect(error == Error::Memory, "another refusal than memory")
+    }
+
+    /// Notes the refusal of a call that acted on nothing.
+    pub fn note_refused(&mut self, refused: Refused) -> Result<(), Wrong>
+        ensures counted { self.new ≡ record self.old { refusals = min (self.old.refusals + 1) (2 ^ 64 - 1) } }
+        ensures memory { IsOk result ↔ (refused ≡ MemoryRefused 0) }
+    {
+        self.refusals = self.refusals.saturating_add(1);
+        expect(
+            refused == Refused::Memory { acted: 0 },
+            "another refusal than memory, acted 0",
+        )
+    }
+}
+
+pub fn expect(holds: bool, otherwise: Wrong) -> Result<(), Wrong>
+    ensures { IsOk result ↔ IsTrue holds }
+{
+    if holds { Ok(()) } else { Err(otherwise) }
+}
+
+/// The answer of a call that has memory at hand.
+pub fn done<T: Drop, E: Drop>(answer: Result<T, E>) -> Result<T, Wrong>
+    ensures { MatchResult answer (λ v. result ≡ Ok v) (λ _. IsErr result) }
+{
+    match answer {
+        Ok(value) => Ok(value),
+        Err(_) => Err("refused with memory at hand"),
+    }
+}
+
+/// What a call gives that is made while memory may be refused, and again with memory at hand where it was.
+pub fn made<T: Drop, F: Fn() -> Result<T, Error>>(trial: &mut Trial, make: &F) -> Result<T, Wrong>
+    requires { F.IsAlwaysCallable make.now }
+    ensures { IfOk result (λ v. F.post make.now (Ok v)) }
+{
+    trial.begin();
+    let first = make();
+    trial.calm();
+    match first {
+        Ok(value) => Ok(value),
+        Err(error) => {
+            trial.note(error)?;
+            done(make())
+        }
+    }
+}
