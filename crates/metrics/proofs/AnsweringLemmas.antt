@@ -1,4 +1,4 @@
--- Each call keeps what the definitions over the list of calls say, and is answered plainly.
+-- Each call keeps what the definitions over the list of calls say, and has the expected answer.
 use Rattle.std.proofs.Common.{◌≡◌, ℕ, ◌<◌, ◌≤◌, Bool, true, false, cond, List, [], ◌∷◌, ◌++◌, length, map, take, Option, None, Some, refl, ap, sym, ◌∙◌, subst, arith, nat_eq, nat_lt, MatchBool}
 use Rattle.std.proofs.lemmas.Bool.{lt-ltb}
 use Rattle.std.proofs.lemmas.Bool.Decides.{nat_tests}

@@ -1,4 +1,4 @@
--- Acting on targets, seen in one book; and that each step leaves the series that are there at their places.
+-- Acting on targets, seen in one book; each step leaves its series at their places.
 use Rattle.std.proofs.Common.{◌≡◌, ℕ, zero, suc, ◌+◌, ◌<◌, Bool, true, false, cond, not, ◌||◌, List, [], ◌∷◌, ◌++◌, length, map, Option, refl, ap, sym, ◌∙◌, arith, nat_eq, true≢false}
 use Rattle.std.proofs.lemmas.Bool.{or_left}
 use Rattle.std.proofs.lemmas.Bool.Decides.{nat_tests}

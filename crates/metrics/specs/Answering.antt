@@ -1,4 +1,4 @@
--- What one call of a recorder does and answers, after a list of calls: the step beside the definitions over the whole list.
+-- What one call of a recorder does and answers after a list of calls.
 use Rattle.std.specs.Prelude.{◌≡◌, ℕ, ◌≤◌, List, [], ◌∷◌, map, length, take, true, Option, None, Some, Result, Ok, Err, MatchBool, option_and_then, Bool, false}
 use Rattle.std.specs.List.{list_all}
 use Rattle.metrics_names.specs.declared.kind.MetricKind.{MetricKind}

@@ -1,4 +1,4 @@
--- What a recorder's refusal is as an error of the library.
+-- A recorder's failure as an error of the library.
 use Rattle.metrics_names.specs.declared.refused.Refused.{Refused}
 use Rattle.metrics_names.specs.declared.refused.Refused.TheVariants.{Memory, NoSuchAddress, NoSuchBook, BadHandle}
 use Rattle.metrics.specs.declared.error.Error.{Error}

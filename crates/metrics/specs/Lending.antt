@@ -1,4 +1,4 @@
--- What lends the value of a kind.
+-- Borrowing the value of a kind.
 use Rattle.std.specs.Borrow.{Lends, MutBor, Fml, RattleType}
 use Rattle.metrics_names.specs.declared.kind.MetricKind.{MetricKind}
 use Rattle.metrics.specs.contracts.kind.PerKind.{the_row}

@@ -1,5 +1,5 @@
--- Lists of targets, and what a call does to a list of contents, target by target. A target is the number of a book, and what
--- is meant there: mostly the name that a metric has in that book.
+-- Lists of targets, and what a call does to a list of contents, target by target.
+-- A target is the number of a book, and what is meant there: mostly the name that a metric has in that book.
 use Rattle.std.specs.Prelude.{if◌then◌else◌, ℕ, zero, suc, ◌+◌, ◌<◌, List, [], ◌∷◌, ◌≡◌, nat_eq}
 
 -- the targets with their book numbers raised, for a recorder that stands behind others

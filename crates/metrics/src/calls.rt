@@ -1,4 +1,4 @@
-//! Calls of a recorder as values, and what they were answered.
+//! Calls of a recorder as values, and their answers.
 
 use crate::debugging::{Reset, Snapshot as Rows};
 use crate::handles::{Address, Update as Change};
@@ -10,8 +10,7 @@ pub enum Call {
     /// Kind, name, unit and text.
     Describe(MetricKind, KeyName, Option<Unit>, Text),
     Register(MetricKind, Key),
-    /// The number of a register call, from 0, refused ones counted too; and an update for each of its
-    /// addresses.
+    /// The number of a register call, from 0, counting failed ones too; and an update for each of its addresses.
     Update(usize, Change),
     /// The number of a book. Series of all kinds are reset.
     Snapshot(usize),
@@ -19,7 +18,7 @@ pub enum Call {
     SnapshotWith(usize, Reset),
 }
 
-/// What a call was answered.
+/// The answer of a call.
 #[derive(Debug, Drop)]
 pub enum Answer {
     /// The number of targets.

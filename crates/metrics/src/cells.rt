@@ -22,11 +22,11 @@ pub trait GaugeCell {
     /// The value that it holds.
     ghost gauge: { Self → ℤ };
 
-    /// Adds to the value, which stops at the ends of `i64`.
+    /// Adds to the value, and saturates at the ends of `i64`.
     fn increment(&mut self, value: i64)
         ensures { IsGaugeAfter (Add value) (gauge self.old) (gauge self.new) };
 
-    /// Subtracts from the value, which stops at the ends of `i64`.
+    /// Subtracts from the value, and saturates at the ends of `i64`.
     fn decrement(&mut self, value: i64)
         ensures { IsGaugeAfter (Subtract value) (gauge self.old) (gauge self.new) };
 
@@ -37,16 +37,16 @@ pub trait GaugeCell {
 
 /// The cell of a histogram.
 pub trait HistogramCell {
-    /// Why a sample wasn't kept.
+    /// Why a sample was rejected.
     type Error: Drop;
 
     /// The samples that it holds, in the order in which they were recorded.
     ghost samples: { Self → List ℤ };
 
-    /// Which cells may refuse a sample, and with which error.
+    /// Which cells may reject a sample, and with which error.
     ghost refuses: { Self → Self.Error → Type 0 };
 
-    /// Keeps a sample. A cell that refuses it is as it was.
+    /// Records a sample. A cell that rejects it stays unchanged.
     fn record(&mut self, value: i64) -> Result<(), Self::Error>
         ensures { MatchResult result
             (λ _. AreSamplesAfter (Record value) (samples self.old) (samples self.new))

@@ -15,15 +15,15 @@ use std::marker::Model;
 pub enum DebugValue {
     Counter(u64),
     Gauge(i64),
-    /// The samples, in a snapshot in bucket order: cut into blocks of 64 as they were recorded, the blocks
-    /// stand from the newest to the oldest, and each block's samples as they were recorded.
+    /// The samples. In a snapshot they are in bucket order: in blocks of 64, the newest block first, and each block's samples
+    /// in the order in which they were recorded.
     Histogram(Items<i64>),
 }
 
 /// A row of a snapshot: composite key, unit, description and value.
 pub type Row = (CompositeKey, Option<Unit>, Option<Text>, DebugValue);
 
-/// The rest of a row, behind its composite key.
+/// A row without its composite key.
 pub type RowValue = (Option<Unit>, Option<Text>, DebugValue);
 
 /// Which series a snapshot resets: counters and gauges to 0, histograms to no samples.
@@ -31,12 +31,12 @@ pub type RowValue = (Option<Unit>, Option<Text>, DebugValue);
 pub enum Reset {
     /// Those of all kinds.
     All,
-    /// Counters and histograms; gauges stand as they are.
+    /// Counters and histograms; gauges keep their values.
     KeepGauges,
 }
 
 impl Reset {
-    /// Whether the series of a kind are reset.
+    /// Returns whether the series of a kind are reset.
     pub fn resets(self, kind: MetricKind) -> bool
         ensures { result ≡ resets self kind }
     {
@@ -47,10 +47,13 @@ impl Reset {
     }
 }
 
-/// The rows of a book, in order of first registration.
+/// The rows of a book, in order of first registration, and which of their series were active.
+///
+/// A series is active if it was registered or updated, with any value, since the last snapshot of its book.
 #[derive(Debug, Drop)]
 pub struct Snapshot {
     rows: Vec<Row>,
+    active: Option<Vec<bool>>,
 }
 
 impl Model for Snapshot {
@@ -66,26 +69,49 @@ impl From<Vec<Row>> for Snapshot {
     ghost from_gives = { λ v s. s ≡ v.items };
 
     fn from(rows: Vec<Row>) -> Snapshot {
-        Snapshot { rows }
+        Snapshot { rows, active: None }
     }
 }
 
 impl Snapshot {
+    /// Makes a snapshot of these rows, with, for each in order, whether its series was active.
+    pub fn with_activity(rows: Vec<Row>, active: Vec<bool>) -> Snapshot
+        ensures { result ≡ rows.items }
+    {
+        Snapshot {
+            rows,
+            active: Some(active),
+        }
+    }
+
+    /// Returns for each row, in order, whether its series was active. Rows past the end are active, so all of them are if the
+    /// snapshot was made from rows alone.
+    pub fn activity(&self) -> &[bool] {
+        match &self.active {
+            Some(active) => active.as_slice(),
+            None => &[],
+        }
+    }
+
+    /// Returns the rows.
     pub fn as_slice(&self) -> &[Row]
         ensures { result.now ≡ self.now }
     {
         self.rows.as_slice()
     }
 
+    /// Returns the rows as a `Vec`, without allocating.
     pub fn into_vec(self) -> Vec<Row>
         ensures { result.items ≡ self }
     {
-        let Snapshot { rows } = self;
+        let Snapshot { rows, active: _ } = self;
         rows
     }
 
-    /// The rows by their composite keys. Of rows of one key, which no snapshot of a recorder has, the last one
-    /// stays. Where memory is refused the snapshot comes back.
+    /// Returns the rows in a map by their composite keys.
+    ///
+    /// If rows share a key, the last one stays; no snapshot of a recorder has such rows.
+    /// Returns the snapshot when out of memory.
     pub fn into_hashmap(self, alloc: Global) -> Result<HashMap<CompositeKey, RowValue>, Snapshot>
         ensures ok { IfOk result (λ m. (k : SeriesKey) → get series_key_eq m k ≡ last_row k self) }
         ensures err { IfErr result (λ s. s ≡ self) }
@@ -93,7 +119,7 @@ impl Snapshot {
         let Ok(mut map) = HashMap::with_capacity(alloc, self.rows.len()) else {
             return Err(self);
         };
-        let Snapshot { rows } = self;
+        let Snapshot { rows, active: _ } = self;
         for (key, unit, text, value) in rows {
             put(&mut map, key, (unit, text, value));
         }

@@ -1,4 +1,4 @@
-//! What the library refuses.
+//! Why a call of the library failed.
 ghost use Rattle.std.specs.Prelude.{◌≡◌};
 ghost use Rattle.metrics.specs.declared.error.Error.TheVariants.{Memory as MemoryRefused};
 
@@ -6,12 +6,12 @@ use metrics_names::Refused;
 use std::alloc::{AllocError, AllocFailed};
 use thiserror::Error as ThisError;
 
-/// Why a call of the library was refused. What was handed in comes back where the call says so.
+/// Why a call of the library failed. It returns its arguments if its signature says so.
 #[derive(Clone, Copy, Debug, PartialEq, Eq, ThisError)]
 pub enum Error {
-    /// A growth found no memory. Nothing changed but what the call itself tells: where it was made of a `Refused`, the
-    /// call acted on as many of its targets as that told; an expiry keeps its checks; a copy of cells into a map keeps the
-    /// first ones; a pen keeps the spare pens that it took in.
+    /// Out of memory. Nothing changed, with four exceptions. If the error was made from a `Refused`, the call has acted on the
+    /// targets that this reported. An expiry keeps the checks that it made. A copy of cells into a map keeps the first n. A pen
+    /// keeps the spare pens that it joined.
     #[error("memory")]
     Memory,
     /// The mask has no kind.
@@ -26,7 +26,7 @@ pub enum Error {
     /// The patterns have more than 1,048,576 bytes together.
     #[error("patterns too long")]
     PatternsTooLong,
-    /// The count would pass 2^64 - 1. Nothing changed but what the call itself tells.
+    /// The count would pass 2^64 - 1. Nothing changed but what the call's own docs say.
     #[error("count full")]
     CountFull,
     /// The live side of a bucket has no free place. Nothing changed.
@@ -54,7 +54,7 @@ pub enum Error {
     /// A histogram would have no bounds. Nothing was made.
     #[error("no bounds")]
     NoBounds,
-    /// No series of that kind stands at that address. Nothing changed.
+    /// No series of that kind is at that address. Nothing changed.
     #[error("no such address")]
     NoSuchAddress,
     /// The number is not below the number of books. Nothing changed.
@@ -81,7 +81,7 @@ impl<T: Drop> From<AllocFailed<T>> for Error {
     }
 }
 
-/// So that `?` hands a recorder's refusal on. On how many targets a call had acted isn't told any more.
+/// Converts a recorder's failure by `?`. The number of targets is lost.
 impl From<Refused> for Error {
     ghost use Rattle.metrics.specs.Errors.{error_of};
 
@@ -97,7 +97,7 @@ impl From<Refused> for Error {
     }
 }
 
-/// So that `?` hands an error on that brings back what was handed in. That is dropped.
+/// Converts an error that comes with the call's argument by `?`. The argument is dropped.
 impl<T: Drop> From<(Error, T)> for Error {
     ghost from_gives = { λ e r. r ≡ e.0 };
 

@@ -27,9 +27,9 @@ pub enum Update {
     Increment(u64),
     /// Keeps the greater of the value and this one.
     Absolute(u64),
-    /// Adds, and stops at the ends of `i64`.
+    /// Adds, and saturates at the ends of `i64`.
     Add(i64),
-    /// Subtracts, and stops at the ends of `i64`.
+    /// Subtracts, and saturates at the ends of `i64`.
     Subtract(i64),
     /// Replaces the value.
     Set(i64),
@@ -52,7 +52,7 @@ fn update_held<R: Recorder>(on: &mut R, found: &[Address], by: Update) -> Result
     Ok(found.len())
 }
 
-/// Whether a series of the kind stands at each address.
+/// Whether a series of the kind is at each address.
 fn are_held<R: Recorder>(on: &R, kind: MetricKind, found: &[Address]) -> bool
     ensures { result ≡ holds_all kind found.now (R.meaning on.now).contents }
 {
@@ -75,9 +75,11 @@ fn kind_of_update(by: Update) -> MetricKind
     }
 }
 
-/// Updates the series at each address, in order, if each address is held.
+/// Updates the series at each address, in order, if each address has one of the update's kind.
 ///
-/// Answers how many series it updated; `NoSuchAddress` where some address isn't held, with nothing changed.
+/// Returns how many series it updated.
+/// Fails with `NoSuchAddress` if some address has no series of the update's kind, and then changes nothing.
+/// Only `Record` can run out of memory. Then `acted` says how many series have the sample.
 pub fn update_all<R: Recorder>(on: &mut R, found: &[Address], by: Update) -> Result<usize, Refused>
     ensures keeps { KeepsTargets (R.meaning on.old) (R.meaning on.new) }
     ensures updates { UpdatesHandle (R.meaning on.old) (R.meaning on.new) found.now by result }
@@ -93,7 +95,7 @@ pub fn update_all<R: Recorder>(on: &mut R, found: &[Address], by: Update) -> Res
     }
 }
 
-/// A handle of a counter: the addresses that a register call gave.
+/// A handle of a counter: the addresses that a register call returned.
 #[derive(Clone, Debug, PartialEq, Eq, Drop)]
 pub struct Counter {
     addresses: Items<Address>,
@@ -121,7 +123,7 @@ impl From<Vec<Address>> for Counter {
 }
 
 impl Counter {
-    /// A handle of no series: each call updates none.
+    /// Makes a handle of no series: each call updates none.
     pub fn noop(alloc: Global) -> Counter
         ensures { result ≡ [] }
     {
@@ -130,6 +132,7 @@ impl Counter {
         }
     }
 
+    /// Returns the addresses of the series.
     pub fn addresses(&self) -> &[Address]
         ensures { result.now ≡ self.now }
     {
@@ -138,7 +141,8 @@ impl Counter {
 
     /// Adds, modulo 2^64.
     ///
-    /// Answers how many series it updated; `NoSuchAddress` where some address isn't held, with nothing changed.
+    /// Returns how many series it updated.
+    /// Fails with `NoSuchAddress` if some address has no counter, and then changes nothing.
     pub fn increment<R: Recorder>(&self, on: &mut R, n: u64) -> Result<usize, Refused>
         ensures keeps { KeepsTargets (R.meaning on.old) (R.meaning on.new) }
         ensures updates { UpdatesHandle (R.meaning on.old) (R.meaning on.new) self.now (Increment n) result }
@@ -146,9 +150,10 @@ impl Counter {
         update_all(on, self.addresses(), Update::Increment(n))
     }
 
-    /// Keeps the greater of the value and this one.
+    /// Raises the count to the value, if it is below that.
     ///
-    /// Answers how many series it updated; `NoSuchAddress` where some address isn't held, with nothing changed.
+    /// Returns how many series it updated.
+    /// Fails with `NoSuchAddress` if some address has no counter, and then changes nothing.
     pub fn absolute<R: Recorder>(&self, on: &mut R, n: u64) -> Result<usize, Refused>
         ensures keeps { KeepsTargets (R.meaning on.old) (R.meaning on.new) }
         ensures updates { UpdatesHandle (R.meaning on.old) (R.meaning on.new) self.now (Absolute n) result }
@@ -157,7 +162,7 @@ impl Counter {
     }
 }
 
-/// A handle of a gauge: the addresses that a register call gave.
+/// A handle of a gauge: the addresses that a register call returned.
 #[derive(Clone, Debug, PartialEq, Eq, Drop)]
 pub struct Gauge {
     addresses: Items<Address>,
@@ -185,7 +190,7 @@ impl From<Vec<Address>> for Gauge {
 }
 
 impl Gauge {
-    /// A handle of no series: each call updates none.
+    /// Makes a handle of no series: each call updates none.
     pub fn noop(alloc: Global) -> Gauge
         ensures { result ≡ [] }
     {
@@ -194,15 +199,17 @@ impl Gauge {
         }
     }
 
+    /// Returns the addresses of the series.
     pub fn addresses(&self) -> &[Address]
         ensures { result.now ≡ self.now }
     {
         self.addresses.as_slice()
     }
 
-    /// Adds, and stops at the ends of `i64`.
+    /// Adds, and saturates at the ends of `i64`.
     ///
-    /// Answers how many series it updated; `NoSuchAddress` where some address isn't held, with nothing changed.
+    /// Returns how many series it updated.
+    /// Fails with `NoSuchAddress` if some address has no gauge, and then changes nothing.
     pub fn increment<R: Recorder>(&self, on: &mut R, n: i64) -> Result<usize, Refused>
         ensures keeps { KeepsTargets (R.meaning on.old) (R.meaning on.new) }
         ensures updates { UpdatesHandle (R.meaning on.old) (R.meaning on.new) self.now (Add n) result }
@@ -210,9 +217,10 @@ impl Gauge {
         update_all(on, self.addresses(), Update::Add(n))
     }
 
-    /// Subtracts, and stops at the ends of `i64`.
+    /// Subtracts, and saturates at the ends of `i64`.
     ///
-    /// Answers how many series it updated; `NoSuchAddress` where some address isn't held, with nothing changed.
+    /// Returns how many series it updated.
+    /// Fails with `NoSuchAddress` if some address has no gauge, and then changes nothing.
     pub fn decrement<R: Recorder>(&self, on: &mut R, n: i64) -> Result<usize, Refused>
         ensures keeps { KeepsTargets (R.meaning on.old) (R.meaning on.new) }
         ensures updates { UpdatesHandle (R.meaning on.old) (R.meaning on.new) self.now (Subtract n) result }
@@ -222,7 +230,8 @@ impl Gauge {
 
     /// Replaces the value.
     ///
-    /// Answers how many series it updated; `NoSuchAddress` where some address isn't held, with nothing changed.
+    /// Returns how many series it updated.
+    /// Fails with `NoSuchAddress` if some address has no gauge, and then changes nothing.
     pub fn set<R: Recorder>(&self, on: &mut R, n: i64) -> Result<usize, Refused>
         ensures keeps { KeepsTargets (R.meaning on.old) (R.meaning on.new) }
         ensures updates { UpdatesHandle (R.meaning on.old) (R.meaning on.new) self.now (Set n) result }
@@ -231,7 +240,7 @@ impl Gauge {
     }
 }
 
-/// A handle of a histogram: the addresses that a register call gave.
+/// A handle of a histogram: the addresses that a register call returned.
 #[derive(Clone, Debug, PartialEq, Eq, Drop)]
 pub struct Histogram {
     addresses: Items<Address>,
@@ -259,7 +268,7 @@ impl From<Vec<Address>> for Histogram {
 }
 
 impl Histogram {
-    /// A handle of no series: each call updates none.
+    /// Makes a handle of no series: each call updates none.
     pub fn noop(alloc: Global) -> Histogram
         ensures { result ≡ [] }
     {
@@ -268,15 +277,18 @@ impl Histogram {
         }
     }
 
+    /// Returns the addresses of the series.
     pub fn addresses(&self) -> &[Address]
         ensures { result.now ≡ self.now }
     {
         self.addresses.as_slice()
     }
 
-    /// Adds a sample. Where memory is refused, `acted` tells how many series have it.
+    /// Adds a sample.
     ///
-    /// Answers how many series it updated; `NoSuchAddress` where some address isn't held, with nothing changed.
+    /// Returns how many series it updated.
+    /// When out of memory `acted` says how many series have the sample.
+    /// Fails with `NoSuchAddress` if some address has no histogram, and then changes nothing.
     pub fn record<R: Recorder>(&self, on: &mut R, sample: i64) -> Result<usize, Refused>
         ensures keeps { KeepsTargets (R.meaning on.old) (R.meaning on.new) }
         ensures updates { UpdatesHandle (R.meaning on.old) (R.meaning on.new) self.now (Record sample) result }

@@ -38,7 +38,7 @@ impl MetricKindMask {
     /// Every kind.
     pub const ALL: MetricKindMask = MetricKindMask(7);
 
-    /// Whether the set has the kind.
+    /// Returns whether the set has the kind.
     pub fn matches(&self, kind: MetricKind) -> bool
         ensures { result ≡ mask_has kind self.now }
     {
@@ -51,7 +51,7 @@ impl MetricKindMask {
         from_kind & 1 == 1
     }
 
-    /// Whether the set has no kind.
+    /// Returns whether the set has no kind.
     pub fn is_empty(&self) -> bool
         ensures { result ≡ nat_eq self.now 0 }
     {
@@ -88,7 +88,7 @@ impl<T> PerKind<T> {
     ghost use Rattle.metrics.specs.Kinds.{of_kind};
     ghost use Rattle.metrics.specs.Lending.{lends_kind};
 
-    /// The value of a kind.
+    /// Returns the value of a kind.
     pub fn of(&self, kind: MetricKind) -> &T
         ensures { result.now ≡ of_kind kind self.now }
     {
@@ -98,7 +98,7 @@ impl<T> PerKind<T> {
             MetricKind::Histogram => &self.histogram,
         }
     }
-    /// The value of a kind. The others stay.
+    /// Borrows the value of a kind. The others stay unchanged.
     pub fn of_mut(&mut self, kind: MetricKind) -> &mut T
         ensures* lends { sem 𝓛 (lends_kind T.row kind self.entry result) }
         ensures value { result.now ≡ of_kind kind self.old }

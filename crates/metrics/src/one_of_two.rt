@@ -7,7 +7,7 @@ use either::Either;
 use metrics_names::{Key, KeyName, MetricKind, Refused, Unit};
 use std::alloc::Global;
 
-/// The recorder that it holds. So recorders of several types stand in one tree over `Either<A, C>`.
+/// Calls the recorder that it holds. So one tree over `Either<A, C>` can have recorders of several types.
 impl<A: Recorder, C: Recorder> Recorder for Either<A, C> {
     ghost use Rattle.either.specs.Either.{either};
 

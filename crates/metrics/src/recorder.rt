@@ -8,7 +8,7 @@ use crate::handles::{Address, Counter, Gauge, Histogram, Update};
 use metrics_names::{Key, KeyName, MetricKind, Refused, Unit};
 use std::alloc::Global;
 
-/// What takes names and updates, and tells what it kept of them.
+/// Accepts names and updates, and reports what it kept of them.
 ///
 /// A recorder has books, numbered from 0, each a list of series. A name of some kind has targets: the books
 /// that a metric of that name goes to, each with its name there. No call changes the number of books or the
@@ -17,14 +17,15 @@ pub trait Recorder: Drop {
     /// The contents of the books, and the targets of each kind and name.
     ghost meaning: { Self → Meaning };
 
-    /// The number of books.
+    /// Returns the number of books.
     fn books(&self) -> usize
         ensures count { result ≡ length (meaning self.now).contents }
         ensures most { result ≤ 65536 };
 
-    /// Describes a name in each of its targets, for all labels, and answers the number of targets.
+    /// Describes a name in each of its targets, for all labels, and returns the number of targets.
     ///
-    /// The text replaces the one before it, the unit only where one is given. Refused for memory alone.
+    /// The text replaces the earlier one; the unit does only if there is one.
+    /// Fails only when out of memory.
     fn describe(
         &mut self,
         alloc: Global,
@@ -36,10 +37,11 @@ pub trait Recorder: Drop {
         ensures keeps { KeepsTargets (meaning self.old) (meaning self.new) }
         ensures describes { Describes (meaning self.old) (meaning self.new) kind name.now unit text.now result };
 
-    /// Registers a key in each of its name's targets, and answers the address in each of them, in order.
+    /// Registers a key in each of its name's targets, and returns the address in each of them, in order.
     ///
-    /// A key that a book has already keeps its place and its value. Refused for memory alone; `acted` then
-    /// also counts targets that had the key already, or whose address could not be kept afterwards.
+    /// A key that a book already has keeps its place and its value.
+    /// Fails only when out of memory. Then `acted` also counts targets that had the key already, or whose address could
+    /// not be kept afterwards.
     fn register(
         &mut self,
         alloc: Global,
@@ -50,22 +52,23 @@ pub trait Recorder: Drop {
         ensures registers { Registers (meaning self.old) (meaning self.new) kind key.now
             (result_map_both (λ v. v.items) (λ e. e) result) };
 
-    /// Whether a series of that kind stands at the address.
+    /// Returns whether a series of that kind is at the address.
     fn holds(&self, kind: MetricKind, at: Address) -> bool
         ensures { result ≡ holds_at kind at (meaning self.now).contents };
 
     /// Updates the series at the address.
     ///
-    /// `NoSuchAddress` where no series of the update's kind stands there. Only `Record` can be refused for
-    /// memory.
+    /// Fails with `NoSuchAddress` if no series of the update's kind is there.
+    /// Only `Record` can run out of memory.
     fn update(&mut self, at: Address, by: Update) -> Result<(), Refused>
         ensures keeps { KeepsTargets (meaning self.old) (meaning self.new) }
         ensures updates { Updates (meaning self.old) (meaning self.new) at by result };
 
-    /// The rows of a book, as they were before the series of some kinds are reset: counters and gauges to 0,
-    /// histograms to no samples.
+    /// Returns the rows of a book, and then resets the series of some kinds: counters and gauges to 0, histograms to no
+    /// samples.
     ///
-    /// `NoSuchBook` where the number is not below that of the books. Where memory is refused nothing changed.
+    /// Fails with `NoSuchBook` if the number is not below the number of books.
+    /// Changes nothing when out of memory.
     fn snapshot_with(
         &mut self,
         alloc: Global,
@@ -75,7 +78,9 @@ pub trait Recorder: Drop {
         ensures keeps { KeepsTargets (meaning self.old) (meaning self.new) }
         ensures snapshots { Snapshots (meaning self.old) (meaning self.new) book reset result };
 
-    /// `snapshot_with` that resets the series of all kinds.
+    /// Returns the rows of a book, and then resets the series of all kinds.
+    ///
+    /// Fails as `snapshot_with`.
     fn snapshot(&mut self, alloc: Global, book: usize) -> Result<Snapshot, Refused>
         ensures keeps { KeepsTargets (meaning self.old) (meaning self.new) }
         ensures snapshots { Snapshots (meaning self.old) (meaning self.new) book Reset.All result }
@@ -83,7 +88,7 @@ pub trait Recorder: Drop {
         self.snapshot_with(alloc, book, Reset::All)
     }
 
-    /// `describe` of a counter.
+    /// Describes a counter, as `describe`.
     fn describe_counter(
         &mut self,
         alloc: Global,
@@ -97,7 +102,7 @@ pub trait Recorder: Drop {
         self.describe(alloc, MetricKind::Counter, name, unit, text)
     }
 
-    /// `describe` of a gauge.
+    /// Describes a gauge, as `describe`.
     fn describe_gauge(
         &mut self,
         alloc: Global,
@@ -111,7 +116,7 @@ pub trait Recorder: Drop {
         self.describe(alloc, MetricKind::Gauge, name, unit, text)
     }
 
-    /// `describe` of a histogram.
+    /// Describes a histogram, as `describe`.
     fn describe_histogram(
         &mut self,
         alloc: Global,
@@ -125,7 +130,7 @@ pub trait Recorder: Drop {
         self.describe(alloc, MetricKind::Histogram, name, unit, text)
     }
 
-    /// `register` of a counter, which answers a handle.
+    /// Registers a counter, as `register`, and returns its handle.
     fn register_counter(&mut self, alloc: Global, key: &Key) -> Result<Counter, Refused>
         ensures keeps { KeepsTargets (meaning self.old) (meaning self.new) }
         ensures registers { Registers (meaning self.old) (meaning self.new) MetricKind.Counter key.now result }
@@ -136,7 +141,7 @@ pub trait Recorder: Drop {
         }
     }
 
-    /// `register` of a gauge, which answers a handle.
+    /// Registers a gauge, as `register`, and returns its handle.
     fn register_gauge(&mut self, alloc: Global, key: &Key) -> Result<Gauge, Refused>
         ensures keeps { KeepsTargets (meaning self.old) (meaning self.new) }
         ensures registers { Registers (meaning self.old) (meaning self.new) MetricKind.Gauge key.now result }
@@ -147,7 +152,7 @@ pub trait Recorder: Drop {
         }
     }
 
-    /// `register` of a histogram, which answers a handle.
+    /// Registers a histogram, as `register`, and returns its handle.
     fn register_histogram(&mut self, alloc: Global, key: &Key) -> Result<Histogram, Refused>
         ensures keeps { KeepsTargets (meaning self.old) (meaning self.new) }
         ensures registers { Registers (meaning self.old) (meaning self.new) MetricKind.Histogram key.now result }
@@ -159,7 +164,7 @@ pub trait Recorder: Drop {
     }
 }
 
-/// Any recorder, so that recorders of several types can stand in one tree.
+/// Any recorder behind a pointer, so that one tree can have recorders of several types.
 #[derive(Drop)]
 pub struct Boxed(pub Box<dyn Recorder + Send>);
 
@@ -208,7 +213,53 @@ impl Recorder for Boxed {
     }
 }
 
-/// Takes each call and keeps nothing: it has neither books nor targets.
+/// Passes each call to the recorder that it borrows, so that a tree can be built over a recorder that somebody else owns.
+impl<R: Recorder> Recorder for &mut R {
+    ghost meaning = { λ r. R.meaning r.now };
+
+    fn books(&self) -> usize {
+        (**self).books()
+    }
+
+    fn describe(
+        &mut self,
+        alloc: Global,
+        kind: MetricKind,
+        name: &KeyName,
+        unit: Option<Unit>,
+        text: &str,
+    ) -> Result<usize, Refused> {
+        (**self).describe(alloc, kind, name, unit, text)
+    }
+
+    fn register(
+        &mut self,
+        alloc: Global,
+        kind: MetricKind,
+        key: &Key,
+    ) -> Result<Vec<Address>, Refused> {
+        (**self).register(alloc, kind, key)
+    }
+
+    fn holds(&self, kind: MetricKind, at: Address) -> bool {
+        (**self).holds(kind, at)
+    }
+
+    fn update(&mut self, at: Address, by: Update) -> Result<(), Refused> {
+        (**self).update(at, by)
+    }
+
+    fn snapshot_with(
+        &mut self,
+        alloc: Global,
+        book: usize,
+        reset: Reset,
+    ) -> Result<Snapshot, Refused> {
+        (**self).snapshot_with(alloc, book, reset)
+    }
+}
+
+/// Accepts each call and keeps nothing: it has neither books nor targets.
 #[derive(Clone, Copy, Debug, Default)]
 pub struct NoopRecorder;
 

@@ -1,4 +1,4 @@
--- The number of a key by what std's fast hasher makes of its texts.
+-- The number of a key, by std's fast hasher over its texts.
 use Rattle.std.specs.Prelude.{◌≡◌, ℕ, true, false, List, fold, refl}
 use Rattle.std.proofs.Common.{ap}
 use Rattle.std.specs.Hash.FoldHasher as folding

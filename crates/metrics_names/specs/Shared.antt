@@ -1,4 +1,4 @@
--- Lists that their copies share.
+-- Lists that their clones share.
 use Rattle.std.specs.Prelude.{List, [], Option, None, Some, Vec}
 use Rattle.std.specs.Arc.{arc_value}
 use Rattle.std.specs.declared.sync.Arc.{Arc}

@@ -14,8 +14,8 @@ use std::marker::Model;
 
 /// A `Vec` that contracts see as its list, so that two of the same items are one value.
 ///
-/// It is made from a `Vec` and gives it back without taking memory. Two lists are compared item by item,
-/// and a list comes before each longer one that it begins.
+/// It converts from and into a `Vec` without allocating. Lists compare item by item, and a list comes before each
+/// longer one that begins with it.
 #[derive(Drop)]
 pub struct Items<T> {
     vec: Vec<T>,
@@ -30,12 +30,14 @@ impl<T> Model for Items<T> {
 }
 
 impl<T> Items<T> {
+    /// Returns the items.
     pub fn as_slice(&self) -> &[T]
         ensures { result.now ≡ self.now }
     {
         self.vec.as_slice()
     }
 
+    /// Returns the items as a `Vec`, without allocating.
     pub fn into_vec(self) -> Vec<T>
         ensures { result.items ≡ self }
     {

@@ -1,5 +1,5 @@
 //! Names and keys.
-ghost use Rattle.std.specs.Prelude.{◌≡◌, ◌++◌, ◌∷◌, MatchResult, OnOk, []};
+ghost use Rattle.std.specs.Prelude.{◌≡◌, ◌++◌, ◌∷◌, MatchResult, OnOk, [], map};
 ghost use Rattle.std.specs.Cmp.{decided, partial_equiv_from_equiv};
 ghost use Rattle.std.specs.Hash as fed;
 ghost use Rattle.std.specs.Hash.{same_Alike};
@@ -35,7 +35,9 @@ impl Model for KeyName {
 }
 
 impl KeyName {
-    /// A name with a copy of the text.
+    /// Copies a text into a name.
+    ///
+    /// Fails only when out of memory.
     pub fn new(alloc: Global, name: &str) -> Result<KeyName, Refused>
         ensures { MatchResult result (λ n. n ≡ name.now) (λ e. e ≡ Memory 0) }
     {
@@ -44,13 +46,14 @@ impl KeyName {
         })
     }
 
+    /// Returns the text of the name.
     pub fn as_str(&self) -> &str
         ensures { result.now ≡ self.now }
     {
         self.text.as_str()
     }
 
-    /// Becomes prefix, dot, name, in the memory that it has where that serves.
+    /// Becomes prefix, dot, name, in the memory that it has if that suffices.
     fn set_dotted(&mut self, prefix: &str, name: &str) -> Result<(), AllocError>
         ensures { OnOk result (self.new ≡ prefix.now ++ 46 ∷ name.now) }
     {
@@ -85,10 +88,10 @@ impl From<String> for KeyName {
 
 /// A name with labels. Keys are ordered by name, then by their labels one after another.
 ///
-/// A copy of a key shares its labels: it copies the name alone.
+/// A clone shares the labels and copies only the name.
 ///
-/// A key keeps its number, which is made of its name and labels once, when the key is made. Its `Hash` writes this number
-/// alone, so whoever picks names and labels can make keys collide in any map, whatever the map's hasher.
+/// A key keeps its number, which is made from its name and labels when the key is made. Its `Hash` writes only this number.
+/// So whoever picks names and labels can make keys collide in any map, whatever the map's hasher.
 #[derive(Clone, Drop)]
 #[derive_where(PartialOrd, Ord)]
 pub struct Key {
@@ -113,7 +116,7 @@ impl Model for Key {
 }
 
 /// The number of the key of this name and these labels, by std's fast hasher, whose seed is fixed. It mixes in how long each
-/// text is, so nothing stands between them.
+/// text is, so they need no separator.
 fn number_of(name: &KeyName, labels: &SharedItems<Label>) -> u64
     ensures { result ≡ key_number (record { name = name.now; labels = labels.now }) }
 {
@@ -126,12 +129,23 @@ fn number_of(name: &KeyName, labels: &SharedItems<Label>) -> u64
     state.finish()
 }
 
+/// The labels of these keys and values.
+fn labels_of(alloc: Global, labels: &[(&str, &str)]) -> Result<Vec<Label>, Refused>
+    ensures { MatchResult result (λ v. v.items ≡ map (λ l. (l.0.now, l.1.now)) labels.now) (λ e. e ≡ Memory 0) }
+{
+    let mut made = Vec::with_capacity(alloc, labels.len())?;
+    for (key, value) in labels {
+        made.push(Label::new(alloc, key, value)?)?;
+    }
+    Ok(made)
+}
+
 impl PartialEq for Key {
     ghost eq = { key_eq };
 
     ghost laws = { partial_equiv_from_equiv (decided key_eq key_eq-Decides) };
 
-    /// Keys of different numbers differ, so that most are told apart by these.
+    /// Compares the numbers first, since keys of different numbers differ.
     fn eq(&self, other: &Key) -> bool {
         if self.number != other.number {
             return false;
@@ -163,7 +177,7 @@ impl fmt::Debug for Key {
     }
 }
 
-/// The key of the name, with no labels.
+/// Makes the key of the name, without labels.
 impl From<KeyName> for Key {
     ghost use Rattle.std.specs.Prelude.{[]};
 
@@ -181,14 +195,18 @@ impl From<KeyName> for Key {
 }
 
 impl Key {
-    /// The key of a copy of the name, with no labels.
+    /// Makes the key of a copy of the name, without labels.
+    ///
+    /// Fails only when out of memory.
     pub fn from_name(alloc: Global, name: &str) -> Result<Key, Refused>
         ensures { MatchResult result (λ k. k ≡ record { name = name.now; labels = [] }) (λ e. e ≡ Memory 0) }
     {
         Key::from_parts(alloc, name, Vec::new(alloc))
     }
 
-    /// The key of a copy of the name, with these labels in their order. A refusal drops the labels.
+    /// Makes the key of a copy of the name, with these labels in their order.
+    ///
+    /// Fails only when out of memory, and then drops the labels.
     pub fn from_parts(alloc: Global, name: &str, labels: Vec<Label>) -> Result<Key, Refused>
         ensures { MatchResult result (λ k. k ≡ record { name = name.now; labels = labels.items }) (λ e. e ≡ Memory 0) }
     {
@@ -202,12 +220,25 @@ impl Key {
         })
     }
 
+    /// Makes a key of a copy of the name, with labels of copies of these keys and values, in their order.
+    ///
+    /// It fails with `Refused::Memory` when out of memory.
+    pub fn from_labels(alloc: Global, name: &str, labels: &[(&str, &str)]) -> Result<Key, Refused>
+        ensures { MatchResult result
+            (λ k. k ≡ record { name = name.now; labels = map (λ l. (l.0.now, l.1.now)) labels.now })
+            (λ e. e ≡ Memory 0) }
+    {
+        Key::from_parts(alloc, name, labels_of(alloc, labels)?)
+    }
+
+    /// Returns the name.
     pub fn name(&self) -> &str
         ensures { result.now ≡ self.now.name }
     {
         self.name.text.as_str()
     }
 
+    /// Returns the labels, in their order.
     pub fn labels(&self) -> &[Label]
         ensures { result.now ≡ self.now.labels }
     {
@@ -216,7 +247,8 @@ impl Key {
 
     /// Becomes the key of prefix, dot and the name of `key`, with its labels, which both keys share.
     ///
-    /// It takes memory only where the name's doesn't serve. Where memory is refused it's some other key.
+    /// It allocates only if the name doesn't fit into the memory that it has.
+    /// When out of memory the key is valid but unspecified.
     pub fn set_below(&mut self, prefix: &str, key: &Key) -> Result<(), Refused>
         ensures { MatchResult result
             (λ done. self.new ≡ record { name = prefix.now ++ 46 ∷ key.now.name; labels = key.now.labels })
@@ -229,7 +261,7 @@ impl Key {
         Ok(named?)
     }
 
-    /// The number of the key, which equal keys share. It was made when the key was.
+    /// Returns the number of the key, which equal keys share. It was made with the key.
     pub fn number(&self) -> u64
         ensures { result ≡ key_number self.now }
     {
@@ -255,24 +287,28 @@ impl Model for CompositeKey {
 }
 
 impl CompositeKey {
+    /// Joins a kind and a key.
     pub fn new(kind: MetricKind, key: Key) -> CompositeKey
         ensures { result ≡ record { kind = kind; key = key } }
     {
         CompositeKey { kind, key }
     }
 
+    /// Returns the kind.
     pub fn kind(&self) -> MetricKind
         ensures { result ≡ self.now.kind }
     {
         self.kind
     }
 
+    /// Returns the key.
     pub fn key(&self) -> &Key
         ensures { result.now ≡ self.now.key }
     {
         &self.key
     }
 
+    /// Returns the kind and the key by value.
     pub fn into_parts(self) -> (MetricKind, Key)
         ensures { result ≡ (self.kind, self.key) }
     {

@@ -25,7 +25,9 @@ impl Model for Label {
 }
 
 impl Label {
-    /// A label of copies of both texts.
+    /// Makes a label of copies of both texts.
+    ///
+    /// Fails only when out of memory.
     pub fn new(alloc: Global, key: &str, value: &str) -> Result<Label, Refused>
         ensures { MatchResult result (λ l. l ≡ (key.now, value.now)) (λ e. e ≡ Memory 0) }
     {
@@ -35,12 +37,14 @@ impl Label {
         })
     }
 
+    /// Returns the label's own key.
     pub fn key(&self) -> &str
         ensures { result.now ≡ self.now.0 }
     {
         self.key.as_str()
     }
 
+    /// Returns the label's value.
     pub fn value(&self) -> &str
         ensures { result.now ≡ self.now.1 }
     {

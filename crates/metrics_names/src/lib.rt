@@ -1,4 +1,4 @@
-//! Names, labels and keys of metrics, and why a call on them is refused.
+//! Names, labels and keys of metrics, and why a call on them failed.
 #![tactic(auto)]
 
 mod common;

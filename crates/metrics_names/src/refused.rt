@@ -1,18 +1,18 @@
-//! Why a call was refused.
+//! Why a call failed.
 ghost use Rattle.std.specs.Prelude.{◌≡◌, ◌^◌, ◌-◌};
 ghost use Rattle.metrics_names.specs.declared.refused.Refused.TheVariants.{Memory as MemoryRefused};
 
 use std::alloc::{AllocError, AllocFailed};
 use thiserror::Error;
 
-/// Why a call was refused.
+/// Why a call of a recorder or a handle failed.
 #[derive(Clone, Copy, Debug, PartialEq, Eq, Error)]
 pub enum Refused {
-    /// A growth found no memory. The call has acted on its first `acted` targets and on no other; where no
-    /// recorder or handle is called, `acted` is 0 and nothing changed.
+    /// Out of memory. The call has acted on its first `acted` targets and on no others. If no recorder or handle was called,
+    /// `acted` is 0 and nothing changed.
     #[error("memory, acted {acted}")]
     Memory { acted: usize },
-    /// No series of that kind stands at that address. Nothing changed.
+    /// No series of that kind is at that address. Nothing changed.
     #[error("no such address")]
     NoSuchAddress,
     /// The number is not below the number of books. Nothing changed.
@@ -26,8 +26,9 @@ pub enum Refused {
 impl Refused {
     ghost use Rattle.metrics_names.specs.Refusals.{after_front, CanFollow, IsPast};
 
-    /// The refusal of a call that had acted on `front` targets before. A count past `usize::MAX` stays there; no
-    /// recorder has so many targets.
+    /// Adds the `front` targets that a call had reached before it failed to what it reports.
+    ///
+    /// It saturates at `usize::MAX`, which no recorder can reach.
     pub fn after(self, front: usize) -> Refused
         ensures sum { CanFollow front self → result ≡ after_front front self }
         ensures most { IsPast front self → result ≡ MemoryRefused (2 ^ 64 - 1) }

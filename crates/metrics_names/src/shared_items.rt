@@ -12,9 +12,9 @@ use std::hash::{Hash, Hasher};
 use std::marker::Model;
 use std::sync::Arc;
 
-/// A list that its copies share, so that a copy takes no memory. An empty one takes none at all.
+/// A list that its clones share, so that a clone allocates nothing. An empty list allocates nothing at all.
 ///
-/// Two lists are compared item by item, and a list comes before each longer one that it begins.
+/// Lists compare item by item, and a list comes before each longer one that begins with it.
 #[derive(Drop)]
 pub struct SharedItems<T> {
     shared: Option<Arc<Vec<T>>>,

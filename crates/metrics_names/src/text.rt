@@ -15,7 +15,7 @@ use std::marker::Model;
 
 /// A `String` that contracts see as its bytes, so that two texts of the same bytes are one value.
 ///
-/// It is made from a `String` and gives it back without taking memory. Texts are ordered by their bytes.
+/// It converts from and into a `String` without allocating. Texts are ordered by their bytes.
 #[derive(Drop)]
 pub struct Text {
     pub(crate) string: String,
@@ -30,7 +30,9 @@ impl Model for Text {
 }
 
 impl Text {
-    /// A copy of `text`.
+    /// Copies a text.
+    ///
+    /// Fails only when out of memory.
     pub fn new(alloc: Global, text: &str) -> Result<Text, AllocError>
         ensures { IfOk result (λ t. t ≡ text.now) }
     {
@@ -39,12 +41,14 @@ impl Text {
         })
     }
 
+    /// Returns the text.
     pub fn as_str(&self) -> &str
         ensures { result.now ≡ self.now }
     {
         self.string.as_str()
     }
 
+    /// Returns the text as a `String`, without allocating.
     pub fn into_string(self) -> String
         ensures { string_bytes result ≡ self }
     {
