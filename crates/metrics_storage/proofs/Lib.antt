@@ -2,6 +2,8 @@ pub mod Counting
 pub mod Crossing
 pub mod Cuts
 pub mod Memory
+pub mod Merging
+pub mod Ordering
 pub mod ReservoirCounts
 pub mod ReservoirPlaces
 pub mod ReservoirSums

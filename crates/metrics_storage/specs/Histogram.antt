@@ -1,7 +1,7 @@
 -- A histogram over bounds, and what samples add to it.
 use Rattle.std.specs.Prelude.{ℕ, zero, suc, ◌+◌, ◌*◌, ◌^◌, ℤ, pos, neg_ℤ, ◌+ℤ◌, ◌≤ℤ◌, int_le, int_lt, List, [], ◌∷◌, map, length, fold, slice_set, slice_index}
-use Rattle.std.specs.Prelude.{◌≡◌, ◌++◌}
-use Rattle.std.specs.List.{count_by, FoldsTo}
+use Rattle.std.specs.Prelude.{◌≡◌, ◌++◌, if◌then◌else◌, slice_index_or}
+use Rattle.std.specs.List.{count_by, zip, FoldsTo}
 use Rattle.std.specs.Fn.{Mut, Called, Takes}
 
 -- each bound with the number of samples at most it, and the count and the sum of all samples
@@ -33,6 +33,39 @@ with_samples samples h = record {
   sum = h.sum +ℤ sum_of samples;
 }
 
+-- ---- two histograms
+
+-- the bounds of the buckets, in their order
+abbrev pub bounds_of : Distribution → List ℤ
+bounds_of h = map (λ b. b.0) h.buckets
+
+-- the samples of both, where their bounds are the same
+abbrev pub merged : Distribution → Distribution → Distribution
+merged h g = record {
+  buckets = map (λ p. (p.0.0, p.0.1 + p.1.1)) (zip h.buckets g.buckets);
+  count = h.count + g.count;
+  sum = h.sum +ℤ g.sum;
+}
+
+-- merging adds the samples of the other histogram
+abbrev pub MergingAddsSamples : Type 0
+MergingAddsSamples = (xs ys : List ℤ) (h : Distribution) → merged (with_samples xs h) (with_samples ys (no_samples (bounds_of h))) ≡ with_samples (xs ++ ys) h
+
+-- ---- in ascending order
+
+-- the buckets with one more in its place; a bound that stands there already does not come again
+abbrev pub bucket_placed : ℤ × ℕ → List (ℤ × ℕ) → List (ℤ × ℕ)
+bucket_placed b [] = b ∷ []
+bucket_placed b (c ∷ cs) = if int_lt b.0 c.0 then b ∷ c ∷ cs else (if int_lt c.0 b.0 then c ∷ bucket_placed b cs else c ∷ cs)
+
+abbrev pub with_buckets : List (ℤ × ℕ) → List (ℤ × ℕ) → List (ℤ × ℕ)
+with_buckets done [] = done
+with_buckets done (b ∷ bs) = with_buckets (bucket_placed b done) bs
+
+-- each bound once, in ascending order, with the number of samples at most it
+abbrev pub ascending : List (ℤ × ℕ) → List (ℤ × ℕ)
+ascending buckets = with_buckets [] buckets
+
 -- ---- the fields
 
 -- how many of the bounds are below x
@@ -42,6 +75,22 @@ rank bounds x = count_by (λ bound. int_lt bound x) bounds
 -- the rank of each bound
 abbrev pub own_ranks : List ℤ → List ℕ
 own_ranks bounds = map (rank bounds) bounds
+
+-- the places of bounds with one more in its own place; a bound that stands there already does not come again
+abbrev pub place_added : List ℤ → ℕ → List ℕ → List ℕ
+place_added bounds i [] = i ∷ []
+place_added bounds i (k ∷ ks) =
+    if int_lt (slice_index_or bounds i (pos 0)) (slice_index_or bounds k (pos 0)) then i ∷ k ∷ ks
+    else (if int_lt (slice_index_or bounds k (pos 0)) (slice_index_or bounds i (pos 0)) then k ∷ place_added bounds i ks else k ∷ ks)
+
+-- the places of the first n bounds in ascending order, equal bounds once
+abbrev pub order_up_to : List ℤ → ℕ → List ℕ
+order_up_to bounds zero = []
+order_up_to bounds (suc n) = place_added bounds n (order_up_to bounds n)
+
+-- and of all
+abbrev pub order_of : List ℤ → List ℕ
+order_of bounds = order_up_to bounds (length bounds)
 
 -- the sum of the first n numbers, and of all
 abbrev pub sum_up_to : ℕ → List ℕ → ℕ
@@ -63,6 +112,10 @@ ranked bounds x ranks = slice_set ranks (rank bounds x) (slice_index ranks (rank
 abbrev pub all_ranked : List ℤ → List ℤ → List ℕ → List ℕ
 all_ranked bounds [] ranks = ranks
 all_ranked bounds (x ∷ samples) ranks = all_ranked bounds samples (ranked bounds x ranks)
+
+-- the sums at each place, of numbers at as many places
+abbrev pub both_ranked : List ℕ → List ℕ → List ℕ
+both_ranked ks ls = map (λ p. p.0 + p.1) (zip ks ls)
 
 -- a sum of so many i64
 abbrev pub IsSumOf : ℕ → ℤ → Type 0

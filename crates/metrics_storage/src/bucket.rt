@@ -128,7 +128,7 @@ impl<T> Model for OwnedBucket<T> {
 }
 
 impl<T: Drop> OwnedBucket<T> {
-    /// An empty bucket, which takes no memory.
+    /// Makes an empty bucket, which allocates nothing.
     pub fn new(alloc: Global) -> Self
         ensures { result ≡ [] }
     {
@@ -137,7 +137,7 @@ impl<T: Drop> OwnedBucket<T> {
         }
     }
 
-    /// Whether nothing was pushed since the last clear.
+    /// Returns whether nothing was pushed since the last clear.
     pub fn is_empty(&self) -> bool
         ensures { result ≡ (length self.now == 0) }
     {
@@ -156,8 +156,8 @@ impl<T: Drop> OwnedBucket<T> {
         }
     }
 
-    /// A clone of each value, in bucket order. It is refused with `Error::Memory` where there is no room for them, and never
-    /// where there are none.
+    /// Returns a clone of each value, in bucket order. It is refused with `Error::Memory` where there is no room for them,
+    /// and never where there are none.
     pub fn data(&self) -> Result<Vec<T>, Error>
     where
         T: Clone,
@@ -176,7 +176,7 @@ impl<T: Drop> OwnedBucket<T> {
         show_once(&self.blocks, f);
     }
 
-    /// As `data_with`, for a closure that the caller keeps: what it gathered is then known.
+    /// Does what `data_with` does, for a closure that the caller keeps: what it gathered is then known.
     pub fn data_to<F: FnMut(&[T])>(&self, f: &mut F)
         requires { F.IsAlwaysCallable f.old }
         ensures calls { IsCalledAtEach F.FnMut f.old (reverse (chunks self.now)) f.new }
@@ -201,7 +201,7 @@ impl<T: Drop> OwnedBucket<T> {
         take_out_once(&mut self.blocks, f);
     }
 
-    /// As `clear_with`, for a closure that the caller keeps.
+    /// Does what `clear_with` does, for a closure that the caller keeps.
     pub fn clear_to<F: FnMut(&[T])>(&mut self, f: &mut F)
         requires { F.IsAlwaysCallable f.old }
         ensures empty { self.new ≡ [] }

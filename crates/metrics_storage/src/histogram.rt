@@ -1,9 +1,12 @@
 //! A histogram over fixed bounds.
 ghost use Rattle.std.specs.Prelude.{◌≡◌, ◌+◌, ◌^◌, ◌<◌, ◌≤◌, [], ◌∷◌, length, replicate, None};
-ghost use Rattle.std.specs.Prelude.{IfOk, IsErr, MatchResult, MatchOption, Ok, ◌↔◌};
+ghost use Rattle.std.specs.Prelude.{IfOk, IsErr, IsTrue, MatchResult, MatchOption, Ok, OnOk, ◌↔◌};
 ghost use Rattle.metrics_storage.specs.Histogram.{Distribution, sum_of, no_samples, with_samples, rank, sum_up_to, buckets_of};
+ghost use Rattle.std.specs.Prelude.{All, FitsSigned};
+ghost use Rattle.std.specs.Int.{w64};
+ghost use Rattle.metrics_storage.specs.Histogram.{ascending, place_added, order_of};
 ghost use Rattle.metrics_storage.specs.Histogram.{ranked, all_ranked, total, IsSumOf, own_ranks};
-ghost use Rattle.metrics_storage.specs.Histogram.{TakesBuckets, ShowsBuckets};
+ghost use Rattle.metrics_storage.specs.Histogram.{TakesBuckets, ShowsBuckets, bounds_of, merged, both_ranked};
 ghost use Rattle.metrics.specs.declared.error.Error.TheVariants.{Memory as OutOfMemory, CountFull};
 
 #[cfg(test)]
@@ -21,6 +24,8 @@ pub struct Histogram {
     bounds: Vec<i64>,
     /// The rank of each bound: how many of the bounds are below it.
     own: Vec<usize>,
+    /// The places of the bounds in ascending order, equal bounds once.
+    order: Vec<usize>,
     /// At each rank the number of samples above so many bounds. A bucket is the sum up to its bound's own rank, so that
     /// a sample changes one number, in whatever order the bounds stand.
     ranks: Vec<u64>,
@@ -34,47 +39,56 @@ impl Model for Histogram {
     ghost view = { λ h. record { buckets = buckets_of h.bounds.items h.ranks.items; count = h.count; sum = h.sum } };
 
     ghost invariant = { λ h. (length h.ranks.items ≡ length h.bounds.items + 1) × (total h.ranks.items ≡ h.count)
-        × (h.count < 2 ^ 64) × IsSumOf h.count h.sum × (h.own.items ≡ own_ranks h.bounds.items) };
+        × (h.count < 2 ^ 64) × IsSumOf h.count h.sum × (h.own.items ≡ own_ranks h.bounds.items)
+        × All (FitsSigned w64) h.bounds.items × (h.order.items ≡ order_of h.bounds.items) };
 }
 
 impl Histogram {
-    /// A histogram without samples, and `None` where there are no bounds.
+    /// Makes a histogram without samples, and returns `None` if there are no bounds.
     ///
     /// It is refused with `Error::Memory` where the buckets find no room. No bounds need none.
     pub fn new(alloc: Global, bounds: &[i64]) -> Result<Option<Histogram>, Error>
         ensures { MatchResult result
-            (λ found. MatchOption found (bounds.now ≡ []) (λ h. (0 < length bounds.now) × (h ≡ no_samples bounds.now)))
+            (λ found. MatchOption found (bounds.now ≡ [])
+            (λ h. (0 < length bounds.now) × (h ≡ no_samples bounds.now) × All (FitsSigned w64) bounds.now))
             (λ e. (e ≡ OutOfMemory) × (0 < length bounds.now)) }
     {
         if bounds.is_empty() {
             return Ok(None);
         }
-        let mut own = Vec::new(alloc);
-        own.extend_from_slice(bounds)?;
         Ok(Some(Histogram {
-            bounds: own,
+            bounds: copy_of(alloc, bounds)?,
             own: ranks_of(alloc, bounds)?,
+            order: order_of(alloc, bounds)?,
             ranks: zeros(alloc, bounds.len() + 1)?,
             count: 0,
             sum: 0,
         }))
     }
 
-    /// The sum of all samples.
+    /// Returns the bounds, in the order in which they were given.
+    pub fn bounds(&self) -> &[i64]
+        ensures value { result.now ≡ bounds_of self.now }
+        ensures fits { All (FitsSigned w64) (bounds_of self.now) }
+    {
+        &self.bounds
+    }
+
+    /// Returns the sum of all samples.
     pub fn sum(&self) -> i128
         ensures { result ≡ self.now.sum }
     {
         self.sum
     }
 
-    /// The number of all samples.
+    /// Returns the number of all samples.
     pub fn count(&self) -> u64
         ensures { result ≡ self.now.count }
     {
         self.count
     }
 
-    /// Each bound with the number of samples at most that bound, in the order in which the bounds were given.
+    /// Returns each bound with the number of samples at most that bound, in the order in which the bounds were given.
     /// It is refused with `Error::Memory` where there is no room for them.
     pub fn buckets(&self) -> Result<Vec<(i64, u64)>, Error>
         ensures { MatchResult result (λ v. v.items ≡ self.now.buckets) (λ e. e ≡ OutOfMemory) }
@@ -96,6 +110,15 @@ impl Histogram {
         ensures { ShowsBuckets F.FnMut f self.now.buckets result }
     {
         show(&self.bounds, &self.own, &self.ranks, f)
+    }
+
+    /// Calls `f` once for each bound, with the number of samples at most that bound, in ascending order, and returns it as
+    /// the calls left it. A bound that was given several times is shown once. It takes no memory.
+    pub fn visit_ascending<F: FnMut(i64, u64)>(&self, f: F) -> F
+        requires { TakesBuckets F.FnMut f (ascending self.now.buckets) }
+        ensures { ShowsBuckets F.FnMut f (ascending self.now.buckets) result }
+    {
+        show_in_order(&self.bounds, &self.own, &self.order, &self.ranks, f)
     }
 
     /// Adds a sample. It is refused with `Error::CountFull` where the count would pass 2^64 - 1.
@@ -128,6 +151,33 @@ impl Histogram {
         self.count += samples.len() as u64;
         Ok(())
     }
+
+    /// Returns whether the other histogram has the same bounds in the same order.
+    pub fn same_bounds(&self, other: &Histogram) -> bool
+        ensures { IsTrue result ↔ (bounds_of self.now ≡ bounds_of other.now) }
+    {
+        self.bounds == other.bounds
+    }
+
+    /// Adds the samples of a histogram with the same bounds in the same order. It takes no memory.
+    ///
+    /// # Errors
+    ///
+    /// `Error::CountFull` where the counts together would pass 2^64 - 1.
+    pub fn merge(&mut self, other: &Histogram) -> Result<(), Error>
+        requires { bounds_of self.old ≡ bounds_of other.now }
+        ensures step { MatchResult result (λ _. self.new ≡ merged self.old other.now)
+            (λ e. (e ≡ CountFull) × (self.new ≡ self.old)) }
+        ensures refused { IsErr result ↔ (u64.MAX < self.old.count + other.now.count) }
+    {
+        if u64::MAX - self.count < other.count {
+            return Err(Error::CountFull);
+        }
+        add_ranks(&mut self.ranks, &other.ranks);
+        self.sum += other.sum;
+        self.count += other.count;
+        Ok(())
+    }
 }
 
 impl Clone for Histogram {
@@ -137,6 +187,7 @@ impl Clone for Histogram {
         Ok(Histogram {
             bounds: self.bounds.clone()?,
             own: self.own.clone()?,
+            order: self.order.clone()?,
             ranks: self.ranks.clone()?,
             count: self.count,
             sum: self.sum,
@@ -149,6 +200,50 @@ fn zeros(alloc: Global, len: usize) -> Result<Vec<u64>, AllocError>
     ensures { IfOk result (λ v. v.items ≡ replicate len 0) }
 {
     Vec::from_elem(alloc, 0, len)
+}
+
+/// A copy of the bounds, each of which has been read.
+fn copy_of(alloc: Global, bounds: &[i64]) -> Result<Vec<i64>, AllocError>
+    ensures same { IfOk result (λ v. v.items ≡ bounds.now) }
+    ensures fits { IfOk result (λ _. All (FitsSigned w64) bounds.now) }
+{
+    let mut copy = Vec::with_capacity(alloc, bounds.len())?;
+    for bound in bounds {
+        copy.push(*bound)?;
+    }
+    Ok(copy)
+}
+
+/// Adds a bound's place before those of greater bounds, unless an equal bound is there.
+fn add_place(bounds: &[i64], at: usize, order: &mut Vec<usize>) -> Result<(), AllocError>
+    requires within { at < length bounds.now }
+    requires order { All (λ k. k < length bounds.now) order.old.items }
+    ensures { OnOk result (order.new.items ≡ place_added bounds.now at order.old.items) }
+{
+    let bound = bounds[at];
+    for i in 0..order.len() {
+        let other = bounds[order[i]];
+        if bound < other {
+            order.insert(i, at)?;
+            return Ok(());
+        }
+        if bound == other {
+            return Ok(());
+        }
+    }
+    order.push(at)?;
+    Ok(())
+}
+
+/// The places of the bounds in ascending order, equal bounds once.
+fn order_of(alloc: Global, bounds: &[i64]) -> Result<Vec<usize>, AllocError>
+    ensures { IfOk result (λ v. v.items ≡ order_of bounds.now) }
+{
+    let mut order = Vec::with_capacity(alloc, bounds.len())?;
+    for at in 0..bounds.len() {
+        add_place(bounds, at, &mut order)?;
+    }
+    Ok(order)
 }
 
 /// The rank of each bound.
@@ -198,6 +293,34 @@ fn show<F: FnMut(i64, u64)>(bounds: &[i64], own: &[usize], ranks: &[u64], f: F) 
     let mut first = 0usize;
     let mut sum = 0u64;
     for i in 0..bounds.len() {
+        let next = own[i] + 1;
+        sum = moved(ranks, first, sum, next);
+        first = next;
+        f(bounds[i], sum);
+    }
+    f
+}
+
+/// Shows each bound with its count to `f`, in ascending order.
+fn show_in_order<F: FnMut(i64, u64)>(
+    bounds: &[i64],
+    own: &[usize],
+    order: &[usize],
+    ranks: &[u64],
+    f: F,
+) -> F
+    requires same { length ranks.now ≡ length bounds.now + 1 }
+    requires fits { total ranks.now ≤ u64.MAX }
+    requires own { own.now ≡ own_ranks bounds.now }
+    requires order { order.now ≡ order_of bounds.now }
+    requires takes { TakesBuckets F.FnMut f (ascending (buckets_of bounds.now ranks.now)) }
+    ensures { ShowsBuckets F.FnMut f (ascending (buckets_of bounds.now ranks.now)) result }
+{
+    let mut f = f;
+    let mut first = 0usize;
+    let mut sum = 0u64;
+    for at in order {
+        let i = *at;
         let next = own[i] + 1;
         sum = moved(ranks, first, sum, next);
         first = next;
@@ -276,6 +399,17 @@ fn add_samples(bounds: &[i64], ranks: &mut [u64], samples: &[i64])
 {
     for sample in samples {
         add_sample(bounds, ranks, *sample);
+    }
+}
+
+/// Adds to each number the one at its place.
+fn add_ranks(ranks: &mut [u64], more: &[u64])
+    requires same { length ranks.old ≡ length more.now }
+    requires room { total ranks.old + total more.now ≤ u64.MAX }
+    ensures { ranks.new ≡ both_ranked ranks.old more.now }
+{
+    for i in 0..more.len() {
+        ranks[i] += more[i];
     }
 }
 

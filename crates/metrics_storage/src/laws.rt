@@ -1,5 +1,6 @@
 //! Laws of the definitions.
 ghost use Rattle.std.specs.Prelude.{◌≡◌};
+ghost use Rattle.metrics_storage.specs.Histogram.{MergingAddsSamples};
 ghost use Rattle.metrics_storage.specs.Reservoir.{ItemsCameLast, StepsHoldLast};
 ghost use Rattle.metrics_storage.specs.Sample.{PushesAddUp};
 ghost use Rattle.metrics_storage.specs.Fairness.{KeptHasPlace, IsFair, all, kept};
@@ -24,4 +25,10 @@ pub fn reservoir_law()
     ensures second { kept 2 1 3 ≡ 4 }
     ensures third { kept 2 2 3 ≡ 4 }
     ensures none { kept 0 1 3 ≡ 0 }
+{}
+
+/// Takes nothing and does nothing: its contract has the law of merged histograms.
+pub fn histogram_law()
+    // A histogram, merged with one that has other samples, is the one of the samples of both.
+    ensures { MergingAddsSamples }
 {}

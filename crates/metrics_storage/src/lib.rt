@@ -11,7 +11,7 @@ pub mod reservoir;
 pub use block::{BLOCK_SIZE, Block};
 pub use bucket::OwnedBucket;
 pub use histogram::Histogram;
-pub use laws::reservoir_law;
+pub use laws::{histogram_law, reservoir_law};
 pub use metrics::Error;
 // A contract that names a block can only be read where the types of its fields are exported.
 #[doc(hidden)]

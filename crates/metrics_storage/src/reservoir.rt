@@ -46,7 +46,7 @@ fn room(alloc: Global, size: usize) -> Result<Vec<i64>, AllocError>
 }
 
 impl Reservoir {
-    /// An empty reservoir of `size` places, whose room is taken now. One of size 0 counts and keeps nothing.
+    /// Makes an empty reservoir of `size` places, whose room is taken now. One of size 0 counts and keeps nothing.
     /// It is refused with `Error::Memory` where that room isn't found, and never at size 0.
     pub fn new(alloc: Global, size: usize) -> Result<Reservoir, Error>
         ensures { MatchResult result (λ r. r ≡ new_sample size) (λ e. (e ≡ OutOfMemory) × (0 < size)) }
@@ -59,14 +59,14 @@ impl Reservoir {
         })
     }
 
-    /// Whether no value was pushed.
+    /// Returns whether no value was pushed.
     pub fn is_empty(&self) -> bool
         ensures { result ≡ (self.now.pushed == 0) }
     {
         self.pushed == 0
     }
 
-    /// How many values were pushed.
+    /// Returns how many values were pushed.
     pub fn pushed(&self) -> u64
         ensures { result ≡ self.now.pushed }
     {
@@ -93,7 +93,7 @@ impl Reservoir {
         Ok(())
     }
 
-    /// What it holds now.
+    /// Returns what it holds now.
     pub fn drain(&self) -> Drain<'_>
         ensures { result ≡ drain_of self.now }
     {
@@ -160,14 +160,14 @@ impl<'a> Model for Drain<'a> {
 }
 
 impl<'a> Drain<'a> {
-    /// How many values were pushed.
+    /// Returns how many values were pushed.
     pub fn unsampled_len(&self) -> u64
         ensures { result ≡ self.now.pushed }
     {
         self.pushed
     }
 
-    /// How many values were held, of how many that were pushed, and (1, 1) where none was dropped.
+    /// Returns how many values were held, of how many that were pushed, and (1, 1) if none was dropped.
     pub fn sample_rate(&self) -> (u64, u64)
         ensures { result ≡ rate_of self.now }
     {
@@ -178,7 +178,7 @@ impl<'a> Drain<'a> {
         }
     }
 
-    /// The sum of all values that were pushed.
+    /// Returns the sum of all values that were pushed.
     pub fn unsampled_sum(&self) -> i128
         ensures { result ≡ self.now.total }
     {

@@ -21,6 +21,8 @@ invariant_of-self c =
       omega (arith, h.2, c.if-self.false),
       (omega (arith, ints, h.3, e, f), omega (arith, ints, h.3, e, f)),
       h.4,
+      h.5,
+      h.6,
     )
 
 pub returns-clause-step : goal.returns-clause-step

@@ -20,6 +20,8 @@ invariant_of-self c =
       omega (arith, h.2, room),
       (omega (arith, ints, h.3, e, room), omega (arith, ints, h.3, e, room)),
       h.4,
+      h.5,
+      h.6,
     )
 
 pub returns-clause-step : goal.returns-clause-step
