@@ -1,4 +1,4 @@
--- The table holds what the runs tell.
+-- The table of recency holds what the list of checks says.
 use Rattle.std.proofs.Common.{◌≡◌, ℕ, ◌-◌, List, [], ◌∷◌, nat_eq, cond, true, false, refl, ap, sym, ◌∙◌, subst, arith}
 use Rattle.std.specs.Prelude.{Bool, not, ◌&&◌, Option, None, Some, is_some}
 use Rattle.std.specs.List.{filter, take_while}

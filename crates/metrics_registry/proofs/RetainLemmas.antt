@@ -1,4 +1,4 @@
--- Entries that are kept move to the front, in their order.
+-- Entries that are kept move to the beginning, in their order.
 use Rattle.std.proofs.Common.{◌≡◌, ℕ, ◌+◌, ◌<◌, ◌≤◌, Bool, true, false, cond, List, [], ◌∷◌, ◌++◌, Some, refl, sym, ◌∙◌, ap, subst, length, get_or, set, take, swap, slice_get, arith}
 use Rattle.std.proofs.lemmas.List.{take_more, take-set-le, get_or-set_same, get_or-set_other, get_or_default, length-set}
 use Rattle.std.proofs.lemmas.Option.{get_or_from_slice_get, slice_get_cases}

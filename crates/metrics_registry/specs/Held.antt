@@ -1,4 +1,4 @@
--- A finite map from keys to cells, as the list of its entries, and how it lies in shards.
+-- A finite map from keys to cells, as the list of its entries, and its division into shards.
 use Rattle.std.specs.Prelude.{◌≡◌, ℕ, suc, ◌%◌, Bool, ◌&&◌, nat_le, true, false, if◌then◌else◌, List, [], ◌∷◌, ◌++◌, Option, None, Some, Result, MatchResult, MatchOption, IsSome, IsSomeAnd, is_some, position, slice_get}
 use Rattle.std.specs.List.{AllByRecursion, FoldsTo, IsDistinct}
 use Rattle.std.specs.Map.{lookup, keys_of, values_of, update}

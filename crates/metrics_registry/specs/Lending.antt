@@ -1,4 +1,4 @@
--- What lends a cell.
+-- Borrowing a cell.
 use Rattle.std.specs.Prelude.{◌≡◌, Bool, List, Option, Some, IsSome}
 use Rattle.std.specs.Borrow.{LendsSo, MutBor, Fml, RattleType}
 use Rattle.std.specs.HashMap.Lent.{HashMembers}

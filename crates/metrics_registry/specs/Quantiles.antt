@@ -1,5 +1,5 @@
 -- Quantiles in billionths, and their labels.
-use Rattle.std.specs.Prelude.{◌==◌, ℕ, ℤ, pos, negsuc, zero, suc, ◌+◌, ◌/◌, ◌%◌, ◌^◌, if◌then◌else◌, min, List, [], ◌∷◌, ◌++◌}
+use Rattle.std.specs.Prelude.{◌==◌, ℕ, ℤ, pos, negsuc, zero, suc, ◌+◌, ◌-◌, ◌*◌, ◌/◌, ◌%◌, ◌^◌, if◌then◌else◌, min, List, [], ◌∷◌, ◌++◌, length, slice_get, Option}
 use Rattle.std.specs.Fmt.{decimal}
 
 -- the nearest number from 0 to 1,000,000,000
@@ -28,3 +28,13 @@ abbrev pub label_of : ℕ → List ℕ
 label_of q = if q == 0 then 109 ∷ 105 ∷ 110 ∷ []
     else if q == 1000000000 then 109 ∷ 97 ∷ 120 ∷ []
     else 112 ∷ decimal (q / 10 ^ 7) ++ without_trailing_zeros (low_digits 7 (q % 10 ^ 7))
+
+-- ---- of a list
+
+-- the nearest rank of q billionths among n values: q * n / 1,000,000,000, rounded up
+abbrev pub nearest_rank : ℕ → ℕ → ℕ
+nearest_rank q n = (q * n + 999999999) / 1000000000
+
+-- the value of that rank, if there is one; the first has rank 1, and rank 0 is taken for it
+abbrev pub of_sorted : ℕ → List ℤ → Option ℤ
+of_sorted q xs = slice_get xs (nearest_rank q (length xs) - 1)

@@ -21,7 +21,7 @@ use std::collections::HashMap;
 use std::hash::Hash;
 use std::marker::Model;
 
-/// The cells of one kind by their keys. Contracts see the list of the entries, in which no key stands twice.
+/// The cells of one kind by their keys. Contracts see the list of the entries, in which each key occurs once.
 ///
 /// An entry's place is its number in the order in which the keys came. It stays until a key is removed: the last entry then
 /// moves to that key's place.
@@ -38,7 +38,7 @@ impl<K: Hash, C> Model for Cells<K, C> {
     ghost view = { λ c. c.map.entries };
 }
 
-/// Puts a copy of an entry among the handles.
+/// Adds a copy of an entry to the handles.
 fn copy_one<K: Hash + EqualClone, C: Clone>(
     handles: &mut HashMap<K, C>,
     key: &K,
@@ -55,7 +55,7 @@ fn copy_one<K: Hash + EqualClone, C: Clone>(
     }
 }
 
-/// Keeps the entries for which `f` answers true, in their order, and gives `f` back as the calls left it.
+/// Keeps the entries for which `f` answers true, in their order, and returns `f` as the calls left it.
 fn keep<K: Hash + Drop, C: Drop, F: FnMut(&K, &C) -> bool>(map: &mut IndexMap<K, C>, f: F) -> F
     requires { TakesEach F.FnMut f map.old.entries }
     ensures retains { RetainsEach F.FnMut f map.old.entries map.new.entries result }
@@ -81,7 +81,7 @@ impl<K: Hash + Drop, C: Drop> Cells<K, C> {
     ghost use Rattle.std.specs.Borrow.{sem};
     ghost use Rattle.metrics_registry.specs.Lending.{lends_cell};
 
-    /// No cells. It takes no memory.
+    /// Makes an empty map of cells, without allocating.
     pub fn new(alloc: Global) -> Cells<K, C>
         ensures { result ≡ [] }
     {
@@ -90,6 +90,7 @@ impl<K: Hash + Drop, C: Drop> Cells<K, C> {
         }
     }
 
+    /// Returns the number of entries.
     pub fn len(&self) -> usize
         ensures len { result ≡ length self.now }
         ensures once { IsDistinct K.eq (keys_of self.now) }
@@ -97,7 +98,7 @@ impl<K: Hash + Drop, C: Drop> Cells<K, C> {
         self.map.len()
     }
 
-    /// The entries by their places.
+    /// Returns an iterator over the entries, by their places.
     pub fn iter(&self) -> Iter<'_, K, C>
         ensures entries { result ≡ self.now }
         ensures runs { ShowsInOrder (deref_pair {K = K} {X = C}) }
@@ -107,12 +108,14 @@ impl<K: Hash + Drop, C: Drop> Cells<K, C> {
         self.map.iter()
     }
 
+    /// Returns the cell of a key, if the key is held.
     pub fn get(&self, key: &K) -> Option<&C>
         ensures { option_copied result ≡ held K.eq self.now key.now }
     {
         self.map.get(key)
     }
 
+    /// Borrows the cell of a key, if the key is held. The others stay unchanged.
     pub fn get_mut(&mut self, key: &K) -> Option<&mut C>
         ensures* lends { sem 𝓛 (lends_cell K.row C.row K.Hash self.entry key.now result) }
         ensures found { option_copied_mut result ≡ held K.eq self.old key.now }
@@ -120,7 +123,7 @@ impl<K: Hash + Drop, C: Drop> Cells<K, C> {
         self.map.get_mut(key)
     }
 
-    /// Calls `op` once on the cell of a key, and answers what it answers. Where the key isn't held `op` comes back.
+    /// Calls `op` once on the cell of a key, and returns its answer. Returns `op` if the key isn't held.
     pub fn change<V, F: FnOnce(&mut C) -> V>(&mut self, key: &K, op: F) -> Result<V, F>
         requires { (cell : C) → held K.eq self.old key.now ≡ Some cell → FnOnceTakesAtMut F.FnOnce op cell }
         ensures ok { IfOk result (λ v. Calls K.eq (FnOnceReturnsAtMut F.FnOnce op) key.now v self.old self.new) }
@@ -134,9 +137,9 @@ impl<K: Hash + Drop, C: Drop> Cells<K, C> {
         Ok(op(cell))
     }
 
-    /// Adds a cell at a key that isn't held, once `op` was called on it, and answers what `op` answers.
+    /// Calls `op` once on a cell, adds the cell at a key that isn't held, and returns the answer of `op`.
     ///
-    /// A refusal changes nothing, and drops the cell and `op`.
+    /// Fails only when out of memory. Then it changes nothing, and drops the cell and `op`.
     pub fn create<V, F: FnOnce(&mut C) -> V + Drop>(
         &mut self,
         key: &K,
@@ -163,7 +166,9 @@ impl<K: Hash + Drop, C: Drop> Cells<K, C> {
         Ok(answer)
     }
 
-    /// Adds a cell at a key that isn't held, and answers its place. A refusal changes nothing, and drops the cell.
+    /// Adds a cell at a key that isn't held, and returns its place.
+    ///
+    /// Fails only when out of memory. Then it changes nothing, and drops the cell.
     pub fn insert(&mut self, key: &K, cell: C) -> Result<usize, Error>
     where
         K: EqualClone,
@@ -182,7 +187,7 @@ impl<K: Hash + Drop, C: Drop> Cells<K, C> {
         Ok(place)
     }
 
-    /// Removes a key, and tells whether it was held.
+    /// Removes a key, and returns whether it was held.
     pub fn remove(&mut self, key: &K) -> bool
         ensures removed { Removes K.eq key.now result self.old self.new }
         ensures once { IsDistinct K.eq (keys_of self.new) }
@@ -190,7 +195,7 @@ impl<K: Hash + Drop, C: Drop> Cells<K, C> {
         self.map.swap_remove(key).is_some()
     }
 
-    /// Calls `f` once for each entry, in the order of their places, and gives it back as the calls left it.
+    /// Calls `f` once for each entry, in the order of their places, and returns it as the calls left it.
     pub fn visit<F: FnMut(&K, &C)>(&self, f: F) -> F
         requires { TakesEach F.FnMut f self.now }
         ensures calls { CallsEach F.FnMut f self.now result }
@@ -204,8 +209,9 @@ impl<K: Hash + Drop, C: Drop> Cells<K, C> {
         f
     }
 
-    /// Keeps the entries for which `f` answers true. It is called once for each entry, in the order of their places, and comes
-    /// back as the calls left it.
+    /// Keeps the entries for which `f` answers true.
+    ///
+    /// It calls `f` once for each entry, in the order of their places, and returns it as the calls left it.
     pub fn retain<F: FnMut(&K, &C) -> bool>(&mut self, f: F) -> F
         requires { TakesEach F.FnMut f self.old }
         ensures retains { RetainsEach F.FnMut f self.old self.new result }
@@ -215,7 +221,9 @@ impl<K: Hash + Drop, C: Drop> Cells<K, C> {
         keep(&mut self.map, f)
     }
 
-    /// The keys, each with a clone of its cell. Where there are no entries it is never refused.
+    /// Returns the keys, each with a clone of its cell.
+    ///
+    /// Fails only when out of memory, and never if there are no entries.
     pub fn handles(&self, alloc: Global) -> Result<HashMap<K, C>, Error>
     where
         K: EqualClone,
@@ -227,7 +235,9 @@ impl<K: Hash + Drop, C: Drop> Cells<K, C> {
         Ok(handles)
     }
 
-    /// Puts a clone of each cell among the handles, in the order of their places. After a refusal the first of them may be there.
+    /// Adds a clone of each cell to the handles, in the order of their places.
+    ///
+    /// Fails only when out of memory. Then the first n cells may have been added.
     pub fn copy_into(&self, handles: &mut HashMap<K, C>) -> Result<(), Error>
     where
         K: EqualClone,
@@ -249,21 +259,21 @@ impl<K: Hash + Drop, C: Drop> Cells<K, C> {
         self.map.clear();
     }
 
-    /// The place of a key, if it is held.
+    /// Returns the place of a key, if it is held.
     pub fn place(&self, key: &K) -> Option<usize>
         ensures { result ≡ place_of K.eq self.now key.now }
     {
         self.map.get_index_of(key)
     }
 
-    /// The entry at a place.
+    /// Returns the entry at a place.
     pub fn at(&self, place: usize) -> Option<(&K, &C)>
         ensures { option_map deref_pair result ≡ slice_get self.now place }
     {
         self.map.get_index(place)
     }
 
-    /// Calls `op` once on the cell at a place, and answers what it answers.
+    /// Calls `op` once on the cell at a place, and returns its answer.
     pub fn change_at<V, F: FnOnce(&mut C) -> V + Drop>(&mut self, place: usize, op: F) -> Option<V>
         requires { (entry : K × C) → slice_get self.old place ≡ Some entry → FnOnceTakesAtMut F.FnOnce op entry.1 }
         ensures some { IfSome result (λ v. ChangesAt (FnOnceReturnsAtMut F.FnOnce op) place v self.old self.new) }

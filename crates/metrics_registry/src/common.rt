@@ -7,12 +7,12 @@ use metrics_names::Key;
 use std::hash::{FoldHasher, Hash, Hasher};
 use std::marker::Model;
 
-/// A key that gives itself a number. A registry picks the key's shard by it.
+/// A key with a number of its own, by which a registry picks the key's shard.
 pub trait Hashable: Hash {
     /// The number of a value.
     ghost number: { Self → ℕ };
 
-    /// Any `u64`, and the same for equal values.
+    /// Returns the number of the key, any `u64`. Equal keys have equal numbers.
     fn hashable(&self) -> u64
         ensures { result ≡ number self.now };
 
@@ -20,7 +20,7 @@ pub trait Hashable: Hash {
     ghost same: { (x y : Self) → Self.eq x y ≡ true → number x ≡ number y };
 }
 
-/// A value whose clones are equal to it, as a registry asks of its keys.
+/// A value whose clones are equal to it, as a registry requires of its keys.
 pub trait EqualClone: Clone + Eq {
     /// A clone of a value equals the value.
     ghost clones: { (value clone : Self) → Self.is_clone value clone → Self.eq value clone ≡ true };
@@ -65,7 +65,7 @@ impl EqualClone for u64 {
     ghost clones = { Prim.search rules };
 }
 
-/// Hands on a number that was hashed before: `finish` answers what `write_u64` was given last.
+/// Passes through a number that was hashed before: `finish` returns what `write_u64` wrote last.
 #[derive(Clone, Copy, Debug)]
 pub struct KeyHasher {
     hash: Option<u64>,
@@ -93,14 +93,14 @@ impl Default for KeyHasher {
 }
 
 impl KeyHasher {
-    /// Takes a number in place of the one before.
+    /// Replaces the number.
     pub fn write_u64(&mut self, number: u64)
         ensures { self.new ≡ Some number }
     {
         self.hash = Some(number);
     }
 
-    /// The number that was written last. There has to be one.
+    /// Returns the number that was written last. There has to be one.
     pub fn finish(&self) -> u64
         requires { IsSome self.now }
         ensures { self.now ≡ Some result }
@@ -112,7 +112,7 @@ impl KeyHasher {
     }
 }
 
-/// Gives any value that can be hashed a number, by std's fast hasher.
+/// Makes any value that can be hashed a `Hashable` key, by std's fast hasher.
 #[derive(Clone, Debug, PartialEq, Eq, PartialOrd, Ord, Hash, Drop)]
 pub struct DefaultHashable<H: Hash>(pub H);
 

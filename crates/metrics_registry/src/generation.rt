@@ -4,7 +4,7 @@ ghost use Rattle.std.specs.Fn.{FnOnceReturnsAtMut, FnOnceTakesAtMut};
 
 use std::marker::Model;
 
-/// How often a value was changed, modulo 2^64.
+/// The number of changes of a value, modulo 2^64.
 #[derive(Clone, Copy, Debug, PartialEq, Eq, PartialOrd, Ord)]
 pub struct Generation(u64);
 
@@ -19,7 +19,7 @@ impl Model for Generation {
 }
 
 impl Generation {
-    /// A generation after so many changes.
+    /// Makes a generation after so many changes.
     pub fn new(changes: u64) -> Generation
         ensures { result ≡ changes }
     {
@@ -50,7 +50,7 @@ pub struct Counted<T> {
 }
 
 impl<T> Counted<T> {
-    /// A value at generation 0.
+    /// Makes a counted value at generation 0.
     pub fn new(inner: T) -> Counted<T>
         ensures { result ≡ record { inner = inner; generation = 0 } }
     {
@@ -60,12 +60,14 @@ impl<T> Counted<T> {
         }
     }
 
+    /// Returns the value.
     pub fn get_inner(&self) -> &T
         ensures { result.now ≡ self.now.inner }
     {
         &self.inner
     }
 
+    /// Returns the generation.
     pub fn get_generation(&self) -> Generation
         ensures { result ≡ self.now.generation }
     {
@@ -83,7 +85,7 @@ impl<T> Counted<T> {
         answer
     }
 
-    /// Calls `f` once on the value and raises the generation where `f` answers `Ok`.
+    /// Calls `f` once on the value, and raises the generation if `f` answers `Ok`.
     pub fn try_increment<V, E, F: FnOnce(&mut T) -> Result<V, E>>(&mut self, f: F) -> Result<V, E>
         requires { FnOnceTakesAtMut F.FnOnce f self.old.inner }
         ensures called { FnOnceReturnsAtMut F.FnOnce f self.old.inner result self.new.inner }

@@ -12,7 +12,7 @@ use metrics::Error;
 use std::alloc::Global;
 use std::hash::Hash;
 
-/// The cells of each kind. No fact ties them to one another.
+/// The cells of each kind, independent of one another.
 #[derive(Drop)]
 pub struct Kinds<K: Hash, S: Storage<K>> {
     pub counters: Cells<K, S::Counter>,
@@ -26,7 +26,7 @@ where
     S::Gauge: Drop,
     S::Histogram: Drop,
 {
-    /// No cells. It takes no memory.
+    /// Makes empty maps for all kinds, without allocating.
     pub fn new(alloc: Global) -> Kinds<K, S>
         ensures counters { result.counters ≡ [] }
         ensures gauges { result.gauges ≡ [] }
@@ -50,9 +50,9 @@ where
         self.histograms.clear();
     }
 
-    /// Calls `op` once on the cell of a counter, which the storage makes where the key isn't held, and answers what it answers.
+    /// Calls `op` once on the cell of a counter, and returns its answer. The storage makes the cell if the key isn't held.
     ///
-    /// A refusal changes nothing, and never meets a key that is held.
+    /// A call that fails changes nothing. A call for a held key never fails.
     pub fn get_or_create_counter<V, F: FnOnce(&mut S::Counter) -> V + Drop>(
         &mut self,
         storage: &S,
@@ -74,9 +74,9 @@ where
         }
     }
 
-    /// Calls `op` once on the cell of a gauge, which the storage makes where the key isn't held, and answers what it answers.
+    /// Calls `op` once on the cell of a gauge, and returns its answer. The storage makes the cell if the key isn't held.
     ///
-    /// A refusal changes nothing, and never meets a key that is held.
+    /// A call that fails changes nothing. A call for a held key never fails.
     pub fn get_or_create_gauge<V, F: FnOnce(&mut S::Gauge) -> V + Drop>(
         &mut self,
         storage: &S,
@@ -98,10 +98,9 @@ where
         }
     }
 
-    /// Calls `op` once on the cell of a histogram, which the storage makes where the key isn't held, and answers what it
-    /// answers.
+    /// Calls `op` once on the cell of a histogram, and returns its answer. The storage makes the cell if the key isn't held.
     ///
-    /// A refusal changes nothing, and never meets a key that is held.
+    /// A call that fails changes nothing. A call for a held key never fails.
     pub fn get_or_create_histogram<V, F: FnOnce(&mut S::Histogram) -> V + Drop>(
         &mut self,
         storage: &S,
@@ -124,7 +123,7 @@ where
     }
 }
 
-/// The shard of a key among so many.
+/// Returns the number of a key's shard among so many.
 pub fn shard_of<K: Hashable>(key: &K, count: usize) -> usize
     requires { 0 < count }
     ensures shard { result ≡ K.number key.now % count }
@@ -136,7 +135,7 @@ pub fn shard_of<K: Hashable>(key: &K, count: usize) -> usize
     remainder(key.hashable(), count as u64) as usize
 }
 
-/// What is left of a number by a count, without a division where the count is a power of two, as that of a registry is.
+/// The remainder of a number by a count, without a division if the count is a power of two, as that of a registry is.
 fn remainder(number: u64, count: u64) -> u64
     requires { 0 < count }
     ensures { result ≡ number % count }
@@ -148,7 +147,7 @@ fn remainder(number: u64, count: u64) -> u64
     number % count
 }
 
-/// Whether a registry may have so many shards: a power of two from 1 to 1,024.
+/// Returns whether a registry may have so many shards: a power of two from 1 to 1,024.
 pub fn is_shard_count(shards: usize) -> bool
     ensures answer { result ≡ is_count shards }
     ensures some { result ≡ true → 0 < shards }

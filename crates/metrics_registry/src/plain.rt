@@ -8,14 +8,14 @@ use std::alloc::Global;
 
 /// Makes a `u64` for a counter, an `i64` for a gauge and an `OwnedBucket<i64>` for a histogram.
 ///
-/// It takes no memory and is never refused.
+/// It allocates nothing and never fails.
 #[derive(Clone, Copy, Debug)]
 pub struct PlainStorage {
     alloc: Global,
 }
 
 impl PlainStorage {
-    /// A storage whose buckets take their memory from `alloc`.
+    /// Makes a storage whose buckets allocate from `alloc`.
     pub fn new(alloc: Global) -> PlainStorage {
         PlainStorage { alloc }
     }

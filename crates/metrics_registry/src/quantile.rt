@@ -1,9 +1,10 @@
 //! Quantiles and their labels.
 ghost use Rattle.std.specs.Prelude.{◌≡◌, ◌≤◌, ◌<◌, ◌+◌, ◌/◌, ◌%◌, ◌^◌, ◌++◌, ◌∷◌, []};
-ghost use Rattle.std.specs.Prelude.{length, map, pos, string_bytes, IfOk, OnOk, MatchResult};
+ghost use Rattle.std.specs.Prelude.{◌-◌, length, map, pos, string_bytes, IfOk, OnOk, MatchResult};
 ghost use Rattle.std.specs.Fmt.{decimal};
 ghost use Rattle.metrics.specs.declared.error.Error.TheVariants.{Memory as OutOfMemory};
 ghost use Rattle.metrics_registry.specs.Quantiles.{clamped, low_digits, without_trailing_zeros, label_of};
+ghost use Rattle.metrics_registry.specs.Quantiles.{nearest_rank, of_sorted};
 
 use metrics::Error;
 use metrics_names::Text;
@@ -50,6 +51,19 @@ fn label_of(alloc: Global, billionths: u64) -> Result<String, AllocError>
     }
 }
 
+/// The index of the nearest rank among `len` values.
+#[tactic(auto, using(crate::proofs::RankLemmas::parts_le, crate::proofs::RankLemmas::rank_le))]
+fn nearest_index(billionths: u64, len: usize) -> usize
+    requires whole { billionths ≤ 1000000000 }
+    requires some { 0 < len }
+    ensures value { result ≡ nearest_rank billionths len - 1 }
+    ensures within { result < len }
+{
+    let parts = u128::from(billionths) * len as u128;
+    let rank = (parts + u128::from(WHOLE - 1)) / u128::from(WHOLE);
+    (rank as usize).saturating_sub(1)
+}
+
 /// A quantile in whole billionths, from 0 to 1,000,000,000, with its label.
 ///
 /// Contracts see its value.
@@ -73,7 +87,9 @@ impl Model for Quantile {
 }
 
 impl Quantile {
-    /// The quantile of this many billionths: the least, 0, for a number below it, and the greatest, 1,000,000,000, above it.
+    /// Makes the quantile of this many billionths, clamped to the range from 0 to 1,000,000,000.
+    ///
+    /// Fails only when out of memory.
     pub fn new(alloc: Global, billionths: i64) -> Result<Quantile, Error>
         ensures { MatchResult result (λ q. q ≡ clamped billionths) (λ e. e ≡ OutOfMemory) }
     {
@@ -82,22 +98,37 @@ impl Quantile {
         Ok(Quantile { billionths, label })
     }
 
-    /// `min`, `max`, or `p` with the digits of the percentile: `p99`, and `p999` for 99.9.
+    /// Returns `min`, `max`, or `p` with the digits of the percentile: `p99`, and `p999` for 99.9.
     pub fn label(&self) -> &str
         ensures { result.now ≡ label_of self.now }
     {
         self.label.as_str()
     }
 
-    /// Billionths.
+    /// Returns the quantile in billionths, from 0 to 1,000,000,000.
     pub fn value(&self) -> i64
         ensures { result ≡ pos self.now }
     {
         self.billionths as i64
     }
+
+    /// Returns the quantile of values in ascending order, by nearest rank, and `None` if there are none.
+    ///
+    /// Of n values it is number `value() * n / 1,000,000,000`, rounded up, counted from 1, and at 0 the first one. In values
+    /// of another order it is the one at that place.
+    pub fn of_sorted(&self, sorted: &[i64]) -> Option<i64>
+        ensures { result ≡ of_sorted self.now sorted.now }
+    {
+        if sorted.is_empty() {
+            return None;
+        }
+        Some(sorted[nearest_index(self.billionths, sorted.len())])
+    }
 }
 
-/// The quantile of each number of billionths, in their order. No empty list is refused.
+/// Makes the quantile of each number of billionths, in their order.
+///
+/// Fails only when out of memory, and never for an empty list.
 pub fn parse_quantiles(alloc: Global, values: &[i64]) -> Result<Vec<Quantile>, Error>
     ensures { MatchResult result (λ qs. qs.items ≡ map clamped values.now)
         (λ e. (e ≡ OutOfMemory) × (0 < length values.now)) }

@@ -31,7 +31,7 @@ pub(crate) struct Noted {
     moment: u64,
 }
 
-/// Notes a check of a key, where notes are taken, and tells whether the key stays whatever holds it.
+/// Notes a check of a key of a watched kind, and returns whether the key stays, whether it is held or not.
 fn note<K: Hash + EqualClone + Drop>(
     noted: &mut HashMap<K, Noted>,
     timeout: u64,
@@ -56,7 +56,7 @@ fn note<K: Hash + EqualClone + Drop>(
     Ok(seen.moment.saturating_sub(note.moment) <= timeout)
 }
 
-/// One check of a key among the cells of its kind, where notes are taken.
+/// One check of a key among the cells of a watched kind.
 fn check<K: Hash + EqualClone + Drop, C: Drop>(
     noted: &mut HashMap<K, Noted>,
     timeout: u64,
@@ -78,7 +78,7 @@ fn check<K: Hash + EqualClone + Drop, C: Drop>(
     Ok(false)
 }
 
-/// Tells which cells of a registry have not changed for longer than a timeout, and removes them.
+/// Says which cells of a registry have not changed for longer than a timeout, and removes them.
 ///
 /// For each kind and key it notes a generation and a moment.
 #[derive(Drop)]
@@ -92,7 +92,9 @@ impl<K: Hashable + EqualClone + Drop> OwnedRecency<K> {
     ghost use Rattle.metrics_registry.specs.Recency.{new_table};
     ghost use Rattle.metrics_registry.specs.RecencyEntries.{rules_of, table_of, check_of, IsChecked};
 
-    /// Checks the kinds of the mask. Moments and the timeout are in one unit of the caller's choice, as nanoseconds.
+    /// Makes a recency without notes, for the kinds of the mask.
+    ///
+    /// Moments and the timeout are in one unit of the caller's choice, as nanoseconds. Without a timeout no series is idle.
     pub fn new(alloc: Global, mask: MetricKindMask, timeout: Option<u64>) -> OwnedRecency<K>
         ensures rules { rules_of result ≡ record { timeout = timeout; mask = λ kind. mask_has kind mask } }
         ensures empty { (kind : AnyKind) (key : K) → table_of K.eq result kind key ≡ new_table kind key }
@@ -108,7 +110,7 @@ impl<K: Hashable + EqualClone + Drop> OwnedRecency<K> {
         }
     }
 
-    /// The timeout where notes are taken of the kind.
+    /// The timeout, if the kind is watched.
     fn timeout_of(&self, kind: MetricKind) -> Option<u64>
         ensures { result ≡ (if mask_has kind self.now.mask then self.now.timeout else None) }
     {
@@ -119,11 +121,11 @@ impl<K: Hashable + EqualClone + Drop> OwnedRecency<K> {
         }
     }
 
-    /// Whether a series that has this generation at this moment is still in use, by what is noted of its kind and key. One that
-    /// isn't is removed from the cells of its kind.
+    /// Returns whether a series that has this generation at this moment is still in use, by the note of its kind and key.
     ///
-    /// A refusal changes nothing, and never meets a series that is noted, nor a kind without notes: there is no
-    /// timeout, or the mask lacks the kind.
+    /// It removes a series that isn't from the cells of its kind.
+    /// Fails only when out of memory, and then changes nothing. It never fails for a series that is noted, without a timeout,
+    /// or for a kind that the mask lacks.
     pub fn check<C: Drop>(
         &mut self,
         kind: MetricKind,
@@ -148,10 +150,10 @@ impl<K: Hashable + EqualClone + Drop> OwnedRecency<K> {
         check(self.noted.of_mut(kind), timeout, key, seen, cells)
     }
 
-    /// Whether a counter that has this generation at this moment is still in use. One that isn't is removed from the registry.
+    /// Returns whether a counter that has this generation at this moment is still in use, and removes it if it isn't.
     ///
-    /// A refusal changes nothing, and never meets a counter that is noted, nor a kind without notes: there is no
-    /// timeout, or the mask lacks the kind.
+    /// Fails only when out of memory, and then changes nothing. It never fails for a counter that is noted, without a timeout,
+    /// or if the mask lacks counters.
     pub fn should_store_counter<S: Storage<K> + Drop>(
         &mut self,
         key: &K,
@@ -174,10 +176,10 @@ impl<K: Hashable + EqualClone + Drop> OwnedRecency<K> {
         self.check(MetricKind::Counter, key, generation, now, cells)
     }
 
-    /// Whether a gauge that has this generation at this moment is still in use. One that isn't is removed from the registry.
+    /// Returns whether a gauge that has this generation at this moment is still in use, and removes it if it isn't.
     ///
-    /// A refusal changes nothing, and never meets a gauge that is noted, nor a kind without notes: there is no
-    /// timeout, or the mask lacks the kind.
+    /// Fails only when out of memory, and then changes nothing. It never fails for a gauge that is noted, without a timeout,
+    /// or if the mask lacks gauges.
     pub fn should_store_gauge<S: Storage<K> + Drop>(
         &mut self,
         key: &K,
@@ -200,10 +202,10 @@ impl<K: Hashable + EqualClone + Drop> OwnedRecency<K> {
         self.check(MetricKind::Gauge, key, generation, now, cells)
     }
 
-    /// Whether a histogram that has this generation at this moment is still in use. One that isn't is removed from the registry.
+    /// Returns whether a histogram that has this generation at this moment is still in use, and removes it if it isn't.
     ///
-    /// A refusal changes nothing, and never meets a histogram that is noted, nor a kind without notes: there is no
-    /// timeout, or the mask lacks the kind.
+    /// Fails only when out of memory, and then changes nothing. It never fails for a histogram that is noted, without a timeout,
+    /// or if the mask lacks histograms.
     pub fn should_store_histogram<S: Storage<K> + Drop>(
         &mut self,
         key: &K,
@@ -227,16 +229,16 @@ impl<K: Hashable + EqualClone + Drop> OwnedRecency<K> {
     }
 }
 
-/// The two parts of a check, for a caller that looks at the cells only where the notes ask for it.
+/// The two parts of a check, for a caller that looks at the cells only if the notes ask for it.
 impl<K: Hashable + EqualClone + Drop> OwnedRecency<K> {
     ghost use Rattle.metrics_registry.specs.Recency.{is_watched, table_answer, table_after};
     ghost use Rattle.metrics_registry.specs.RecencyEntries.{rules_of, table_of, check_of};
 
-    /// Whether a series that has this generation at this moment is still in use, as far as the notes tell. Where it isn't,
-    /// nothing is noted yet: once the series was removed it is to be forgotten.
+    /// Returns whether a series that has this generation at this moment is still in use, as far as the notes say.
     ///
-    /// A refusal changes nothing, and never meets a series that is noted, nor a kind without notes: there is no
-    /// timeout, or the mask lacks the kind.
+    /// If it isn't, nothing is noted yet: remove the series, then call `forget`.
+    /// Fails only when out of memory, and then changes nothing. It never fails for a series that is noted, without a timeout,
+    /// or for a kind that the mask lacks.
     pub fn note(
         &mut self,
         kind: MetricKind,
@@ -265,7 +267,7 @@ impl<K: Hashable + EqualClone + Drop> OwnedRecency<K> {
         note(self.noted.of_mut(kind), timeout, key, seen)
     }
 
-    /// Lets go what is noted of a series.
+    /// Removes the note of a series.
     pub fn forget(&mut self, kind: MetricKind, key: &K)
         ensures rules { rules_of self.new ≡ rules_of self.old }
         ensures gone { (k : AnyKind) (q : K) → table_of K.eq self.new k q

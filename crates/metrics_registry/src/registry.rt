@@ -20,7 +20,7 @@ use std::marker::Model;
 /// A registry that has one owner: for each kind of metric a map from keys to cells.
 ///
 /// Contracts see its storage, the number of its shards, and for each kind the list of the entries of all shards, one shard
-/// after another. No key stands twice among the entries of a kind. `Hashable::hashable` of a key picks its shard; within its
+/// after another. Each key occurs once among the entries of a kind. `Hashable::hashable` of a key picks its shard; within its
 /// shard a key is found by its own `Hash`.
 #[derive(Drop)]
 pub struct OwnedRegistry<K: Hashable, S: Storage<K>> {
@@ -54,7 +54,7 @@ where
     S::Gauge: Drop,
     S::Histogram: Drop,
 {
-    /// A registry with nothing in it, in this many shards, a power of two from 1 to 1,024.
+    /// Makes an empty registry of this many shards, a power of two from 1 to 1,024.
     pub fn new(alloc: Global, storage: S, shards: usize) -> Result<Self, Error>
         ensures ok { IfOk result (λ r. (is_count shards ≡ true)
             × (r ≡ record { storage = storage; count = shards; counters = []; gauges = []; histograms = [] })) }
@@ -87,7 +87,7 @@ where
         }
     }
 
-    /// The shards, for a walk over the cells by reference.
+    /// Returns the shards, for a walk over the cells by reference.
     pub fn shards(&self) -> &[Kinds<K, S>]
         ensures counters { entries_of (map (λ s. s.counters) result.now) ≡ self.now.counters }
         ensures gauges { entries_of (map (λ s. s.gauges) result.now) ≡ self.now.gauges }
@@ -98,14 +98,14 @@ where
         &self.shards
     }
 
-    /// What makes the cells.
+    /// Returns the storage, which makes the cells.
     pub fn storage(&self) -> &S
         ensures { result.now ≡ self.now.storage }
     {
         &self.storage
     }
 
-    /// The shard of a key. No other shard holds it, and no key stands twice in a kind.
+    /// Returns the shard of a key. No other shard holds the key, and each key occurs once in a kind.
     pub fn shard(&self, key: &K) -> &Kinds<K, S>
         ensures counters { IsShardOf K.eq key.now result.now.counters self.now.counters }
         ensures gauges { IsShardOf K.eq key.now result.now.gauges self.now.gauges }
@@ -115,16 +115,16 @@ where
         &self.shards[shard]
     }
 
-    /// The cell of a counter, if the key is held.
+    /// Returns the cell of a counter, if the key is held.
     pub fn get_counter(&self, key: &K) -> Option<&S::Counter>
         ensures { option_copied result ≡ held K.eq self.now.counters key.now }
     {
         self.shard(key).counters.get(key)
     }
 
-    /// Calls `op` once on the cell of a counter, which the storage makes where the key isn't held, and answers what it answers.
+    /// Calls `op` once on the cell of a counter, and returns its answer. The storage makes the cell if the key isn't held.
     ///
-    /// A refusal changes nothing, and never meets a key that is held.
+    /// A call that fails changes nothing. A call for a held key never fails.
     pub fn get_or_create_counter<V, F: FnOnce(&mut S::Counter) -> V + Drop>(
         &mut self,
         key: &K,
@@ -151,7 +151,9 @@ where
         }
     }
 
-    /// The keys of the counters, each with a clone of its cell. Where there are none it is never refused.
+    /// Returns the keys of the counters, each with a clone of its cell.
+    ///
+    /// Fails only when out of memory, and never if there are no counters.
     pub fn get_counter_handles(&self, alloc: Global) -> Result<HashMap<K, S::Counter>, Error>
     where
         S::Counter: Clone,
@@ -164,7 +166,7 @@ where
         Ok(handles)
     }
 
-    /// Keeps the counters for which `f` answers true. It is called once for each counter, in some order.
+    /// Keeps the counters for which `f` answers true. It calls `f` once for each counter, in some order.
     pub fn retain_counters<F: FnMut(&K, &S::Counter) -> bool + Drop>(&mut self, f: F)
         requires { TakesEach F.FnMut f self.old.counters }
         ensures retains { (last : F) × RetainsEach F.FnMut f self.old.counters self.new.counters last }
@@ -178,7 +180,7 @@ where
         }
     }
 
-    /// Removes a counter, and tells whether it was held.
+    /// Removes a counter, and returns whether it was held.
     pub fn delete_counter(&mut self, key: &K) -> bool
         ensures removed { Removes K.eq key.now result self.old.counters self.new.counters }
         ensures rest { CountersAlone self.old self.new }
@@ -187,16 +189,16 @@ where
         self.shards[shard].counters.remove(key)
     }
 
-    /// The cell of a gauge, if the key is held.
+    /// Returns the cell of a gauge, if the key is held.
     pub fn get_gauge(&self, key: &K) -> Option<&S::Gauge>
         ensures { option_copied result ≡ held K.eq self.now.gauges key.now }
     {
         self.shard(key).gauges.get(key)
     }
 
-    /// Calls `op` once on the cell of a gauge, which the storage makes where the key isn't held, and answers what it answers.
+    /// Calls `op` once on the cell of a gauge, and returns its answer. The storage makes the cell if the key isn't held.
     ///
-    /// A refusal changes nothing, and never meets a key that is held.
+    /// A call that fails changes nothing. A call for a held key never fails.
     pub fn get_or_create_gauge<V, F: FnOnce(&mut S::Gauge) -> V + Drop>(
         &mut self,
         key: &K,
@@ -223,7 +225,9 @@ where
         }
     }
 
-    /// The keys of the gauges, each with a clone of its cell. Where there are none it is never refused.
+    /// Returns the keys of the gauges, each with a clone of its cell.
+    ///
+    /// Fails only when out of memory, and never if there are no gauges.
     pub fn get_gauge_handles(&self, alloc: Global) -> Result<HashMap<K, S::Gauge>, Error>
     where
         S::Gauge: Clone,
@@ -236,7 +240,7 @@ where
         Ok(handles)
     }
 
-    /// Keeps the gauges for which `f` answers true. It is called once for each gauge, in some order.
+    /// Keeps the gauges for which `f` answers true. It calls `f` once for each gauge, in some order.
     pub fn retain_gauges<F: FnMut(&K, &S::Gauge) -> bool + Drop>(&mut self, f: F)
         requires { TakesEach F.FnMut f self.old.gauges }
         ensures retains { (last : F) × RetainsEach F.FnMut f self.old.gauges self.new.gauges last }
@@ -250,7 +254,7 @@ where
         }
     }
 
-    /// Removes a gauge, and tells whether it was held.
+    /// Removes a gauge, and returns whether it was held.
     pub fn delete_gauge(&mut self, key: &K) -> bool
         ensures removed { Removes K.eq key.now result self.old.gauges self.new.gauges }
         ensures rest { GaugesAlone self.old self.new }
@@ -259,16 +263,16 @@ where
         self.shards[shard].gauges.remove(key)
     }
 
-    /// The cell of a histogram, if the key is held.
+    /// Returns the cell of a histogram, if the key is held.
     pub fn get_histogram(&self, key: &K) -> Option<&S::Histogram>
         ensures { option_copied result ≡ held K.eq self.now.histograms key.now }
     {
         self.shard(key).histograms.get(key)
     }
 
-    /// Calls `op` once on the cell of a histogram, which the storage makes where the key isn't held, and answers what it answers.
+    /// Calls `op` once on the cell of a histogram, and returns its answer. The storage makes the cell if the key isn't held.
     ///
-    /// A refusal changes nothing, and never meets a key that is held.
+    /// A call that fails changes nothing. A call for a held key never fails.
     pub fn get_or_create_histogram<V, F: FnOnce(&mut S::Histogram) -> V + Drop>(
         &mut self,
         key: &K,
@@ -295,7 +299,9 @@ where
         }
     }
 
-    /// The keys of the histograms, each with a clone of its cell. Where there are none it is never refused.
+    /// Returns the keys of the histograms, each with a clone of its cell.
+    ///
+    /// Fails only when out of memory, and never if there are no histograms.
     pub fn get_histogram_handles(&self, alloc: Global) -> Result<HashMap<K, S::Histogram>, Error>
     where
         S::Histogram: Clone,
@@ -308,7 +314,7 @@ where
         Ok(handles)
     }
 
-    /// Keeps the histograms for which `f` answers true. It is called once for each histogram, in some order.
+    /// Keeps the histograms for which `f` answers true. It calls `f` once for each histogram, in some order.
     pub fn retain_histograms<F: FnMut(&K, &S::Histogram) -> bool + Drop>(&mut self, f: F)
         requires { TakesEach F.FnMut f self.old.histograms }
         ensures retains { (last : F) × RetainsEach F.FnMut f self.old.histograms self.new.histograms last }
@@ -322,7 +328,7 @@ where
         }
     }
 
-    /// Removes a histogram, and tells whether it was held.
+    /// Removes a histogram, and returns whether it was held.
     pub fn delete_histogram(&mut self, key: &K) -> bool
         ensures removed { Removes K.eq key.now result self.old.histograms self.new.histograms }
         ensures rest { HistogramsAlone self.old self.new }

@@ -8,7 +8,7 @@ use std::sync::Arc;
 
 /// Makes the cells of a registry over keys of type `K`.
 ///
-/// A cell is refused for memory alone, with `Error::Memory`.
+/// It fails only when out of memory, with `Error::Memory`.
 pub trait Storage<K> {
     /// The cell of a counter.
     type Counter;
@@ -26,15 +26,15 @@ pub trait Storage<K> {
 
     ghost makes_histogram: { Self → K → Self.Histogram → Type 0 };
 
-    /// A new counter.
+    /// Makes a new counter.
     fn counter(&self, key: &K) -> Result<Self::Counter, Error>
         ensures { MatchResult result (makes_counter self.now key.now) (λ e. e ≡ OutOfMemory) };
 
-    /// A new gauge.
+    /// Makes a new gauge.
     fn gauge(&self, key: &K) -> Result<Self::Gauge, Error>
         ensures { MatchResult result (makes_gauge self.now key.now) (λ e. e ≡ OutOfMemory) };
 
-    /// A new histogram.
+    /// Makes a new histogram.
     fn histogram(&self, key: &K) -> Result<Self::Histogram, Error>
         ensures { MatchResult result (makes_histogram self.now key.now) (λ e. e ≡ OutOfMemory) };
 }
