@@ -1,5 +1,6 @@
 -- A change of one cell keeps the agreement, and changes one series.
-use Rattle.std.proofs.Common.{◌≡◌, ℕ, zero, suc, ◌+◌, ◌≤◌, cond, List, [], ◌∷◌, length, map, set, Some, Result, Ok, Err, refl, ap, sym, ◌∙◌, subst, arith, add-one, slice_get, option_map}
+use Rattle.std.proofs.Common.{◌≡◌, ℕ, zero, suc, ◌+◌, ◌<◌, ◌≤◌, Bool, true, cond, List, [], ◌∷◌, ◌++◌, length, map, set, Some, Result, Ok, Err, refl, ap, sym, ◌∙◌, subst, arith, add-one, slice_get, option_map}
+use Rattle.std.specs.Prelude.{MatchResult}
 use Rattle.metrics_names.specs.declared.kind.MetricKind.{MetricKind}
 use Rattle.metrics_names.specs.declared.refused.Refused.{Refused}
 use Rattle.metrics_names.specs.declared.refused.Refused.TheVariants.{Memory, NoSuchAddress, NoSuchBook, BadHandle}
@@ -13,7 +14,8 @@ use Rattle.metrics.specs.Targets.{change_at}
 use Rattle.metrics_debugging.specs.declared.debugging.cells.Cell.{Cell}
 use Rattle.metrics_debugging.specs.declared.debugging.series.Stored.{Stored}
 use Rattle.metrics_debugging.specs.DebuggingCells.{value_of, kind_of_value, UpdatesValue}
-use Rattle.metrics_debugging.specs.DebuggingSeries.{Numbers, spot, key_at, series_at, all_series, Agrees}
+use Rattle.metrics_debugging.specs.DebuggingSeries.{Numbers, spot, key_at, series_at, all_series, is_active, Agrees}
+use Rattle.metrics_debugging.specs.DebuggingOrder.{active_at, registered_at}
 use Rattle.metrics_debugging.specs.DebuggingUpdates.{UpdatesAt, is_held}
 use Rattle.metrics_debugging.proofs.AgreesLemmas.{by_test, kind-new, kinds-order}
 
@@ -53,6 +55,35 @@ module _ {A B : Type 0} (g : A → B) (y x : A) where
   map-set f e (z ∷ xs) zero at = let same : z ≡ x = cc in ap (λ b. b ∷ map g xs) (e ∙ ap (λ a. f (g a)) (sym same))
   map-set f e (z ∷ xs) (suc s) at = ap (λ bs. g z ∷ bs) (map-set f e xs s at)
 
+-- ---- which series are active
+
+module _ (stored : List Stored) (s : ℕ) (x y : Stored) (at : slice_get stored s ≡ Some x) where
+  pub activity-changed : (f : Bool → Bool) → y.active ≡ f x.active → map is_active (set stored s y) ≡ change_at s f (map is_active stored)
+  activity-changed f e = map-set is_active y x f e stored s at
+
+  -- an update that isn't refused is activity
+  pub activity-step : {A : Type 0} (r : Result A Refused) → MatchResult r (λ _. y.active ≡ true) (λ _. y.active ≡ x.active)
+      → MatchResult r (λ _. map is_active (set stored s y) ≡ active_at s (map is_active stored)) (λ _. map is_active (set stored s y) ≡ map is_active stored)
+  activity-step (Ok done) e = activity-changed (λ _. true) e
+  activity-step (Err refused) e = activity-changed (λ b. b) e ∙ change-same s (map is_active stored)
+
+-- a series that is registered again, and a new one
+pub there-active : (xs : List Bool) (n : ℕ) → n < length xs → active_at n xs ≡ registered_at n xs
+there-active [] n small = absurd (omega (arith, small))
+there-active (x ∷ xs) zero small = refl
+there-active (x ∷ xs) (suc n) small = ap (λ ys. x ∷ ys) (there-active xs n (omega (arith, small)))
+
+pub past-active : (xs : List Bool) (n : ℕ) → length xs ≤ n → xs ≡ active_at n xs
+past-active [] n past = refl
+past-active (x ∷ xs) zero past = absurd (omega (arith, past))
+past-active (x ∷ xs) (suc n) past = ap (λ ys. x ∷ ys) (past-active xs n (omega (arith, past)))
+
+pub new-active : (xs : List Bool) (n : ℕ) → n ≡ length xs → xs ++ true ∷ [] ≡ registered_at n xs
+new-active [] zero e = refl
+new-active [] (suc n) e = absurd (omega (arith, e))
+new-active (x ∷ xs) zero e = absurd (omega (arith, e))
+new-active (x ∷ xs) (suc n) e = ap (λ ys. x ∷ ys) (new-active xs n (omega (arith, e)))
+
 -- ---- a change of one cell
 
 -- a reset cell is of its kind still
@@ -79,7 +110,7 @@ module _ (numbers : Numbers) (stored : List Stored) (s : ℕ) (x y : Stored) (at
   all-changed : (f : Series → Series) → parts (spot x) (value_of y.cell) ≡ f (parts (spot x) was) → all_series numbers (set stored s y) ≡ change_at s f (all_series numbers stored)
   all-changed f e = map-set (series_at numbers) y x f (ap (λ p. parts p (value_of y.cell)) same ∙ e) stored s at
 
-  kept-all : value_of y.cell ≡ was → all_series numbers (set stored s y) ≡ all_series numbers stored
+  pub kept-all : value_of y.cell ≡ was → all_series numbers (set stored s y) ≡ all_series numbers stored
   kept-all e = all-changed (λ z. z) (ap (parts (spot x)) e) ∙ change-same s (all_series numbers stored)
 
   -- an update of the cell is one of its series

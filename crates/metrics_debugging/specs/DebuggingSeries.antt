@@ -1,5 +1,5 @@
 -- The series of a book, and their numbers by kind and key.
-use Rattle.std.specs.Prelude.{◌≡◌, ◌<◌, ℕ, List, length, map, position, slice_get, get_or, Some, []}
+use Rattle.std.specs.Prelude.{◌≡◌, ◌<◌, ℕ, Bool, List, length, map, position, slice_get, get_or, Some, []}
 use Rattle.std.specs.Map.{lookup}
 use Rattle.metrics_names.specs.declared.kind.MetricKind.{MetricKind}
 use Rattle.metrics_names.specs.Names.{KeyParts, SeriesKey, key_eq, series_key_eq}
@@ -19,6 +19,10 @@ series_key kind key = record { kind = kind; key = key }
 -- where the key of a series stands: its kind, and its place there
 abbrev pub spot : Stored → MetricKind × ℕ
 spot s = (kind_of_value (value_of s.cell), s.place)
+
+-- whether a series was registered or updated since the last snapshot
+abbrev pub is_active : Stored → Bool
+is_active s = s.active
 
 -- a key that no series has
 abbrev pub no_key : KeyParts × ℕ

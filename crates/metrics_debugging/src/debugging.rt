@@ -1,8 +1,8 @@
 //! A recorder that keeps one book in memory.
-ghost use Rattle.std.specs.Prelude.{◌≡◌, MatchResult, IsOk, IfErr};
+ghost use Rattle.std.specs.Prelude.{◌≡◌, [], map, MatchResult, IsOk, IfOk, IfErr};
 ghost use Rattle.std.specs.Result.{result_map_both};
 ghost use Rattle.metrics_names.specs.declared.refused.Refused.TheVariants.{Memory};
-ghost use Rattle.metrics.specs.Meaning.{KeepsTargets, Registers, Snapshots};
+ghost use Rattle.metrics.specs.Meaning.{KeepsTargets, Describes, Registers, Updates, Snapshots};
 ghost use Rattle.metrics_debugging.specs.Debugging.{IsNewBook, one_if_held};
 ghost use Rattle.metrics_debugging.specs.DebuggingSeries.{series_key};
 
@@ -26,10 +26,13 @@ pub struct DebuggingRecorder {
 }
 
 impl DebuggingRecorder {
-    /// A new book. It takes no memory yet.
+    ghost use Rattle.metrics_debugging.specs.DebuggingMeaning.{activity};
+
+    /// Makes a new book. It allocates nothing yet.
     pub fn new(alloc: Global) -> Result<DebuggingRecorder, Refused>
         ensures new_book { MatchResult result (λ r. IsNewBook (⟦<DebuggingRecorder as Recorder>⟧.meaning r))
             (λ e. e ≡ Memory 0) }
+        ensures none { IfOk result (λ r. activity r ≡ []) }
         ensures succeeds { IsOk result }
     {
         Ok(DebuggingRecorder {
@@ -38,7 +41,7 @@ impl DebuggingRecorder {
         })
     }
 
-    /// What takes snapshots of this book, also where the recorder is the first below another one.
+    /// Returns what takes snapshots of this book, also where the recorder is the first below another one.
     pub fn snapshotter(&self) -> Snapshotter
         ensures { result ≡ 0 }
     {
@@ -47,7 +50,8 @@ impl DebuggingRecorder {
 }
 
 impl Recorder for DebuggingRecorder {
-    ghost use Rattle.metrics_debugging.specs.DebuggingMeaning.{meaning_of};
+    ghost use Rattle.metrics_debugging.specs.DebuggingMeaning.{meaning_of, activity, place_of};
+    ghost use Rattle.metrics_debugging.specs.DebuggingOrder.{active_at, registered_at, idle};
 
     ghost meaning = { meaning_of };
 
@@ -62,13 +66,18 @@ impl Recorder for DebuggingRecorder {
         name: &KeyName,
         unit: Option<Unit>,
         text: &str,
-    ) -> Result<usize, Refused> {
+    ) -> Result<usize, Refused>
+        ensures keeps { KeepsTargets (meaning_of self.old) (meaning_of self.new) }
+        ensures describes { Describes (meaning_of self.old) (meaning_of self.new) kind name.now unit text.now result }
+        ensures active { activity self.new ≡ activity self.old }
+    {
         self.descriptions
             .describe(alloc, kind, name.as_str(), unit, text)?;
         Ok(1)
     }
 
-    /// A refusal tells 1 where the book held the series already, and else 0.
+    /// A refusal tells 1 where the book held the series already, and else 0. Any other registration is activity, also of a
+    /// series that is held.
     fn register(
         &mut self,
         alloc: Global,
@@ -80,6 +89,9 @@ impl Recorder for DebuggingRecorder {
             (result_map_both (λ v. v.items) (λ e. e) result) }
         ensures acted { IfErr result (λ e. e ≡ Memory (one_if_held (series_key kind key.now)
             (meaning_of self.old))) }
+        ensures active { MatchResult result
+            (λ _. activity self.new ≡ registered_at (place_of kind key.now self.old) (activity self.old))
+            (λ _. activity self.new ≡ activity self.old) }
     {
         let Some(series) = self.series.find(kind, key) else {
             let mut found = Vec::with_capacity(alloc, 1)?;
@@ -91,6 +103,7 @@ impl Recorder for DebuggingRecorder {
             return Err(Refused::Memory { acted: 1 });
         };
         found.push_reserved(Address { book: 0, series });
+        self.series.touch(series);
         Ok(found)
     }
 
@@ -98,25 +111,38 @@ impl Recorder for DebuggingRecorder {
         at.book == 0 && self.series.kind_at(at.series) == Some(kind)
     }
 
-    fn update(&mut self, at: Address, by: Update) -> Result<(), Refused> {
+    /// An update that isn't refused is activity, whatever its value.
+    fn update(&mut self, at: Address, by: Update) -> Result<(), Refused>
+        ensures keeps { KeepsTargets (meaning_of self.old) (meaning_of self.new) }
+        ensures updates { Updates (meaning_of self.old) (meaning_of self.new) at by result }
+        ensures active { MatchResult result (λ _. activity self.new ≡ active_at at.series (activity self.old))
+            (λ _. activity self.new ≡ activity self.old) }
+    {
         if at.book != 0 {
             return Err(Refused::NoSuchAddress);
         }
         self.series.update(at.series, by)
     }
 
+    /// The snapshot tells which series were registered or updated since the last one. All of them are idle then.
     fn snapshot_with(
         &mut self,
         alloc: Global,
         book: usize,
         reset: Reset,
-    ) -> Result<Snapshot, Refused> {
+    ) -> Result<Snapshot, Refused>
+        ensures keeps { KeepsTargets (meaning_of self.old) (meaning_of self.new) }
+        ensures snapshots { Snapshots (meaning_of self.old) (meaning_of self.new) book reset result }
+        ensures active { MatchResult result (λ _. activity self.new ≡ map idle (activity self.old))
+            (λ _. activity self.new ≡ activity self.old) }
+    {
         if book != 0 {
             return Err(Refused::NoSuchBook);
         }
         let rows = self.series.rows(alloc, &self.descriptions)?;
+        let active = self.series.activity(alloc)?;
         self.series.reset(reset);
-        Ok(Snapshot::from(rows))
+        Ok(Snapshot::with_activity(rows, active))
     }
 }
 
@@ -143,7 +169,7 @@ impl Snapshotter {
         Snapshotter { book }
     }
 
-    /// The recorder's snapshot of the book, which resets the series of some kinds.
+    /// Takes the recorder's snapshot of the book, and resets the series of some kinds.
     pub fn snapshot_with<R: Recorder>(
         &self,
         alloc: Global,
@@ -156,7 +182,10 @@ impl Snapshotter {
         on.snapshot_with(alloc, self.book, reset)
     }
 
-    /// The recorder's snapshot of the book, which resets the series of all kinds.
+    /// Takes the recorder's snapshot of the book, and resets the series of all kinds.
+    ///
+    /// An exporter that absorbs the book needs `snapshot_with` and `Reset::KeepGauges`: it would see what a gauge changed by
+    /// since this call, and miss the activity before it.
     pub fn snapshot<R: Recorder>(&self, alloc: Global, on: &mut R) -> Result<Snapshot, Refused>
         ensures keeps { KeepsTargets (R.meaning on.old) (R.meaning on.new) }
         ensures snapshots { Snapshots (R.meaning on.old) (R.meaning on.new) self.now Reset.All result }

@@ -1,10 +1,12 @@
 -- Updates of a key one after another, and rows one after another.
-use Rattle.std.proofs.Common.{◌≡◌, ℕ, suc, ◌<◌, ◌+◌, ◌≤◌, Bool, cond, List, [], ◌∷◌, ◌++◌, map, take, drop, get_or, length, None, Some, inl, inr, Result, Ok, Err, refl, ap, sym, ◌∙◌, subst, arith, append_assoc, take-append-drop, drop-cons}
-use Rattle.std.specs.Prelude.{◌↔◌, ◌⊎◌, ◌&&◌, ℤ, OnOk, bytes_eq}
-use Rattle.std.proofs.lemmas.List.{length-map, length-take-le, map-append, take_more, take_all}
+use Rattle.std.proofs.Common.{◌≡◌, ℕ, zero, suc, ◌<◌, ◌+◌, ◌≤◌, Bool, true, cond, List, [], ◌∷◌, ◌++◌, map, take, drop, get_or, length, None, Some, inl, Result, Ok, Err, refl, ap, sym, ◌∙◌, subst, arith, append_assoc, take-append-drop, drop-cons, add-one}
+use Rattle.std.specs.Prelude.{◌↔◌, ◌⊎◌, ◌&&◌, ℤ, OnOk, IfErr, bytes_eq}
+use Rattle.std.proofs.lemmas.List.{length-map, length-take-le, map-append, take_more, take_all, drop_all, length-drop}
 use Rattle.metrics_names.specs.Names.{KeyParts, kind_eq}
 use Rattle.metrics.specs.declared.error.Error.{Error}
 use Rattle.metrics.specs.declared.error.Error.TheVariants.{Memory, CountFull}
+use Rattle.metrics.specs.declared.debugging.DebugValue.{DebugValue}
+use Rattle.metrics.specs.declared.debugging.DebugValue.TheVariants as value
 use Rattle.metrics.specs.declared.handles.Update.{Update}
 use Rattle.metrics.specs.declared.handles.Update.TheVariants.{Record}
 use Rattle.metrics.specs.Book.{RowParts, Description, described_again}
@@ -12,7 +14,8 @@ use Rattle.metrics_exporter.specs.declared.absorb.PartlyAbsorbed.{PartlyAbsorbed
 use Rattle.metrics_exporter.specs.declared.exporter.Exporter.{Exporter}
 use Rattle.metrics_exporter.specs.Exporting.{Setup, Log, updates, steps, series_of, cells_after, IsFull}
 use Rattle.metrics_exporter.specs.Kept.{IsAfter}
-use Rattle.metrics_exporter.specs.Absorbing.{updates_of, made, asked_by, with_row, with_rows, Refuses, StopsIn, MakesUpdates, StopsInRow, AbsorbsRow, StopsAt}
+use Rattle.metrics_exporter.specs.Absorbing.{MarkedRow, marked, updates_of, made, asked_by, with_row, with_rows, Refuses, StopsIn, MakesUpdates, StopsInRow, AbsorbsRow, StopsAt}
+use Rattle.metrics_exporter.specs.Absorbing.{samples_behind, row_behind, first_behind, behind, AbsorbsBehind}
 use Rattle.metrics_exporter.specs.Describing.{Legend, SameLegend, told_by, told_by_all}
 use Rattle.metrics_exporter.proofs.KeptLemmas.{Done, err_inside}
 
@@ -71,61 +74,168 @@ samples-more log key xs i x small at =
 
 -- ---- rows
 
-rows-push : (setup : Setup) (log : Log) (rows : List RowParts) (row : RowParts) → with_rows setup log (rows ++ row ∷ []) ≡ with_row setup (with_rows setup log rows) row
-rows-push setup log [] row = refl
-rows-push setup log (r ∷ rows) row = rows-push setup (with_row setup log r) rows row
+rows-push : (log : Log) (rows : List MarkedRow) (m : MarkedRow) → with_rows log (rows ++ m ∷ []) ≡ with_row (with_rows log rows) m
+rows-push log [] m = refl
+rows-push log (r ∷ rows) m = rows-push (with_row log r) rows m
 
-pub rows-more : (setup : Setup) (log : Log) (rows : List RowParts) (i : ℕ) (row : RowParts) → i < length rows → row ≡ get_or rows i row
-    → with_row setup (with_rows setup log (take i rows)) row ≡ with_rows setup log (take (i + 1) rows)
-rows-more setup log rows i row small at = sym (ap (with_rows setup log) (taken rows i row small at) ∙ rows-push setup log (take i rows) row)
+rows-more : (log : Log) (rows : List MarkedRow) (i : ℕ) (m : MarkedRow) → i < length rows → m ≡ get_or rows i m
+    → with_row (with_rows log (take i rows)) m ≡ with_rows log (take (i + 1) rows)
+rows-more log rows i m small at = sym (ap (with_rows log) (taken rows i m small at) ∙ rows-push log (take i rows) m)
 
-pub stops-at : (setup : Setup) (log : Log) (rows : List RowParts) (i : ℕ) (row : RowParts) (stop : PartlyAbsorbed) (after : Exporter) → i < length rows → row ≡ get_or rows i row → stop.rows ≡ i
-    → StopsInRow setup (with_rows setup log (take i rows)) row stop.error stop.samples after
+stops-at : (setup : Setup) (log : Log) (rows : List MarkedRow) (i : ℕ) (m : MarkedRow) (stop : PartlyAbsorbed) (after : Exporter) → i < length rows → m ≡ get_or rows i m → stop.rows ≡ i
+    → StopsInRow setup (with_rows log (take i rows)) m stop.error stop.samples after
     → StopsAt setup log rows stop after
-stops-at setup log rows i row stop after small at is within = record {
+stops-at setup log rows i m stop after small at is within = record {
   first = take i rows;
-  next = row;
+  next = m;
   rest = drop (suc i) rows;
-  all = split-at rows i row small at;
+  all = split-at rows i m small at;
   number = is ∙ sym (length-take-le i rows (omega (arith, small)));
   within = within;
 }
 
 -- the updates of a row's value, behind its description
-pub row-made : (setup : Setup) (log : Log) (row : RowParts) (key : KeyParts) (r : Result (Unit {0}) (Error × ℕ)) (after : Exporter) → key ≡ row.0.key
-    → MakesUpdates setup log key (updates_of (cells_after setup (steps log)) key row.3) r after → AbsorbsRow setup log row r after
-row-made setup log row key r after is makes = by-result r (subst K is makes)
+pub row-made : (setup : Setup) (log : Log) (m : MarkedRow) (key : KeyParts) (r : Result (Unit {0}) (Error × ℕ)) (after : Exporter) → key ≡ m.row.0.key
+    → MakesUpdates setup log key (updates_of m.active m.row.3) r after → AbsorbsRow setup log m r after
+row-made setup log m key r after is makes = by-result r (subst K is makes)
   where
     K : KeyParts → Type 0
-    K k = MakesUpdates setup log k (updates_of (cells_after setup (steps log)) k row.3) r after
+    K k = MakesUpdates setup log k (updates_of m.active m.row.3) r after
 
-    by-result : (r : Result (Unit {0}) (Error × ℕ)) → MakesUpdates setup log row.0.key (asked_by setup log row) r after → AbsorbsRow setup log row r after
+    by-result : (r : Result (Unit {0}) (Error × ℕ)) → MakesUpdates setup log m.row.0.key (asked_by m) r after → AbsorbsRow setup log m r after
     by-result (Ok done) h = h
     by-result (Err (e, n)) h = inl h
 
--- a row that was absorbed whole
-pub row-absorbed : (setup : Setup) (log : Log) (items rows : List RowParts) (i : ℕ) (row : RowParts) (r : Result (Unit {0}) (Error × ℕ)) (done : Unit {0}) (after : Exporter)
-    → items ≡ rows → i < length items → row ≡ get_or items i row → r ≡ Ok done
-    → AbsorbsRow setup (with_rows setup log (take i rows)) row r after → IsAfter setup (with_rows setup log (take (i + 1) rows)) after
-row-absorbed setup log items rows i row r done after same small at ok makes =
-    let before : Log = with_rows setup log (take i rows) in
-    let R : Result (Unit {0}) (Error × ℕ) → Type 0 = λ q. AbsorbsRow setup before row q after in
-    let S : List RowParts → Type 0 = λ l. i < length l in
-    let G : List RowParts → Type 0 = λ l. row ≡ get_or l i row in
-    let L : Log → Type 0 = λ l. IsAfter setup l after in
-    subst L (rows-more setup log rows i row (subst S same small) (subst G same at)) (subst R ok makes)
+-- ---- rows with their marks
 
--- a row in which an update was refused, or its description
-pub row-stopped : (setup : Setup) (log : Log) (items rows : List RowParts) (i : ℕ) (row : RowParts) (r : Result (Unit {0}) (Error × ℕ)) (error : Error) (n : ℕ) (after : Exporter)
-    → items ≡ rows → i < length items → row ≡ get_or items i row → r ≡ Err (error, n)
-    → AbsorbsRow setup (with_rows setup log (take i rows)) row r after
-    → StopsAt setup log rows (record { error = error; rows = i; samples = n }) after
-row-stopped setup log items rows i row r error n after same small at refused makes =
-    let before : Log = with_rows setup log (take i rows) in
-    let R : Result (Unit {0}) (Error × ℕ) → Type 0 = λ q. AbsorbsRow setup before row q after in
-    let S : List RowParts → Type 0 = λ l. i < length l in
-    let G : List RowParts → Type 0 = λ l. row ≡ get_or l i row in
-    stops-at setup log rows i row (record { error = error; rows = i; samples = n }) after (subst S same small) (subst G same at) refl (subst R refused makes)
+pub length-marked : (rows : List RowParts) (marks : List Bool) → length (marked rows marks) ≡ length rows
+length-marked [] marks = refl
+length-marked (row ∷ rows) [] = ap suc (length-marked rows [])
+length-marked (row ∷ rows) (active ∷ marks) = ap suc (length-marked rows marks)
+
+no-marks : (i : ℕ) → get_or [] i true ≡ true
+no-marks zero = refl
+no-marks (suc i) = refl
+
+marked-at : (rows : List RowParts) (marks : List Bool) (i : ℕ) (row : RowParts) (m : MarkedRow) → i < length rows
+    → get_or (marked rows marks) i m ≡ record { row = get_or rows i row; active = get_or marks i true }
+marked-at [] marks i row m small = absurd (omega (arith, small))
+marked-at (x ∷ rows) [] zero row m small = refl
+marked-at (x ∷ rows) [] (suc i) row m small =
+    marked-at rows [] i row m (omega (arith, small)) ∙ ap (λ b. record { row = get_or rows i row; active = b }) (no-marks i ∙ sym (no-marks (suc i)))
+marked-at (x ∷ rows) (active ∷ marks) zero row m small = refl
+marked-at (x ∷ rows) (active ∷ marks) (suc i) row m small = marked-at rows marks i row m (omega (arith, small))
+
+drop-none : {A : Type 0} (n : ℕ) → ◌≡◌ {A = List A} (drop n []) []
+drop-none zero = refl
+drop-none (suc n) = refl
+
+drop-marked : (n : ℕ) (rows : List RowParts) (marks : List Bool) → drop n (marked rows marks) ≡ marked (drop n rows) (drop n marks)
+drop-marked zero rows marks = refl
+drop-marked (suc n) [] marks = refl
+drop-marked (suc n) (row ∷ rows) [] = drop-marked n rows [] ∙ ap (marked (drop n rows)) (drop-none n)
+drop-marked (suc n) (row ∷ rows) (active ∷ marks) = drop-marked n rows marks
+
+samples-all : (v : DebugValue) → samples_behind 0 v ≡ v
+samples-all (value.Counter n) = refl
+samples-all (value.Gauge n) = refl
+samples-all (value.Histogram xs) = refl
+
+row-all : (m : MarkedRow) → row_behind 0 m ≡ m
+row-all m = ap (λ v. record { row = (m.row.0, m.row.1, m.row.2, v); active = m.active }) (samples-all m.row.3)
+
+module _ (rows : List RowParts) (marks : List Bool) (i : ℕ) (row : RowParts) (active : Bool) (small : i < length rows) (at : row ≡ get_or rows i row) (mark : active ≡ get_or marks i true) where
+  abbrev here : MarkedRow
+  here = record { row = row; active = active }
+
+  within : i < length (marked rows marks)
+  within = omega (arith, small, length-marked rows marks)
+
+  here-at : here ≡ get_or (marked rows marks) i here
+  here-at =
+      ap (λ r. record { row = r; active = active }) at ∙ ap (λ b. record { row = get_or rows i row; active = b }) mark
+      ∙ sym (marked-at rows marks i row here small)
+
+  -- a row that was absorbed whole
+  pub row-absorbed : (setup : Setup) (log : Log) (r : Result (Unit {0}) (Error × ℕ)) (done : Unit {0}) (after : Exporter) → r ≡ Ok done
+      → AbsorbsRow setup (with_rows log (take i (marked rows marks))) (row_behind 0 here) r after → IsAfter setup (with_rows log (take (i + 1) (marked rows marks))) after
+  row-absorbed setup log r done after ok makes =
+      let before : Log = with_rows log (take i (marked rows marks)) in
+      let R : Result (Unit {0}) (Error × ℕ) → Type 0 = λ q. AbsorbsRow setup before (row_behind 0 here) q after in
+      let M : MarkedRow → Type 0 = λ m. IsAfter setup (with_row before m) after in
+      let L : Log → Type 0 = λ l. IsAfter setup l after in
+      subst L (rows-more log (marked rows marks) i here within here-at) (subst M (row-all here) (subst R ok makes))
+
+  -- a row in which an update was refused, or its description
+  pub row-stopped : (setup : Setup) (log : Log) (r : Result (Unit {0}) (Error × ℕ)) (error : Error) (n : ℕ) (after : Exporter) → r ≡ Err (error, n)
+      → AbsorbsRow setup (with_rows log (take i (marked rows marks))) (row_behind 0 here) r after
+      → StopsAt setup log (marked rows marks) (record { error = error; rows = i; samples = n }) after
+  row-stopped setup log r error n after refused makes =
+      let before : Log = with_rows log (take i (marked rows marks)) in
+      let R : Result (Unit {0}) (Error × ℕ) → Type 0 = λ q. AbsorbsRow setup before (row_behind 0 here) q after in
+      let M : MarkedRow → Type 0 = λ m. StopsInRow setup before m error n after in
+      stops-at setup log (marked rows marks) i here (record { error = error; rows = i; samples = n }) after within here-at refl (subst M (row-all here) (subst R refused makes))
+
+-- ---- going on behind a part
+
+-- a stop at the first update, behind s samples
+pub within-first : (r : Result (Unit {0}) (Error × ℕ)) (s most : ℕ) → s ≤ most → IfErr r (λ e. e.1 ≡ 0) → IfErr r (λ e. s + e.1 ≤ most)
+within-first (Ok done) s most small h = tt
+within-first (Err (e, n)) s most small h = omega (arith, small, h)
+
+-- a stop at a sample, behind s samples
+pub within-samples : (r : Result (Unit {0}) (Error × ℕ)) (s most : ℕ) (xs : List ℤ) → length xs ≤ most → IfErr r (λ e. e.1 < length (drop s xs)) → IfErr r (λ e. s + e.1 ≤ most)
+within-samples (Ok done) s most xs long h = tt
+within-samples (Err (e, n)) s most xs long h = omega (arith, long, h, length-drop s xs)
+
+pub nothing-behind : (part : PartlyAbsorbed) (rows : List MarkedRow) → length rows ≤ part.rows → behind part rows ≡ []
+nothing-behind part rows past = ap (first_behind part.samples) (drop_all part.rows rows past)
+
+module _ (rows : List RowParts) (marks : List Bool) (part : PartlyAbsorbed) (row : RowParts) (active : Bool) (small : part.rows < length rows) (at : row ≡ get_or rows part.rows row)
+    (mark : active ≡ get_or marks part.rows true) where
+  abbrev next : MarkedRow
+  next = row_behind part.samples (record { row = row; active = active })
+
+  abbrev rest : List MarkedRow
+  rest = marked (drop (part.rows + 1) rows) (drop (part.rows + 1) marks)
+
+  all-behind : behind part (marked rows marks) ≡ next ∷ rest
+  all-behind =
+      let m : MarkedRow = record { row = row; active = active } in
+      let long : part.rows < length (marked rows marks) = omega (arith, small, length-marked rows marks) in
+      ap (first_behind part.samples)
+      (drop-cons (marked rows marks) part.rows m long
+      ∙ ap (λ x. x ∷ drop (suc part.rows) (marked rows marks)) (sym (here-at rows marks part.rows row active small at mark)))
+      ∙ ap (λ l. next ∷ l) (ap (λ n. drop n (marked rows marks)) (sym (add-one part.rows)) ∙ drop-marked (part.rows + 1) rows marks)
+
+  -- all rows behind the part
+  pub behind-absorbed : (setup : Setup) (log : Log) (after : Exporter) → IsAfter setup (with_rows (with_row log next) rest) after
+      → IsAfter setup (with_rows log (behind part (marked rows marks))) after
+  behind-absorbed setup log after h = let P : List MarkedRow → Type 0 = λ l. IsAfter setup (with_rows log l) after in subst P (sym all-behind) h
+
+  -- a stop in the first of them
+  pub stopped-first : (setup : Setup) (log : Log) (error : Error) (n : ℕ) (after : Exporter) → StopsInRow setup log next error n after
+      → AbsorbsBehind setup log part (marked rows marks) (Err (record { error = error; rows = part.rows; samples = part.samples + n })) after
+  stopped-first setup log error n after h =
+      let inner : PartlyAbsorbed = record { error = error; rows = 0; samples = n } in
+      let P : List MarkedRow → Type 0 = λ l. StopsAt setup log l inner after in
+      let stops : StopsAt setup log (next ∷ rest) inner after = record { first = []; next = next; rest = rest; all = refl; number = refl; within = h } in
+      (inner, subst P (sym all-behind) stops, ap (λ k. record { error = error; rows = k; samples = part.samples + n }) (omega arith))
+
+  -- a stop in another one
+  pub stopped-behind : (setup : Setup) (log : Log) (stop : PartlyAbsorbed) (after : Exporter) → StopsAt setup (with_row log next) rest stop after
+      → AbsorbsBehind setup log part (marked rows marks) (Err (record { error = stop.error; rows = part.rows + 1 + stop.rows; samples = stop.samples })) after
+  stopped-behind setup log stop after h =
+      let inner : PartlyAbsorbed = record { error = stop.error; rows = suc stop.rows; samples = stop.samples } in
+      let P : List MarkedRow → Type 0 = λ l. StopsAt setup log l inner after in
+      let stops : StopsAt setup log (next ∷ rest) inner after = record { first = next ∷ h.first; next = h.next; rest = h.rest; all = ap (λ l. next ∷ l) h.all; number = ap suc h.number; within = h.within } in
+      let lower : part.rows + 1 + stop.rows ≡ part.rows + suc stop.rows = omega arith in
+      let none : stop.samples ≡ 0 + stop.samples = omega arith in (
+        inner,
+        subst P (sym all-behind) stops,
+        ap (λ k. record { error = stop.error; rows = k; samples = stop.samples }) lower
+            ∙ ap (λ k. record { error = stop.error; rows = part.rows + suc stop.rows; samples = k }) none,
+      )
 
 -- ---- what rows tell of names
 
@@ -146,6 +256,19 @@ told-more items rows i row first before after same small at was now k n =
     let G : List RowParts → Type 0 = λ l. row ≡ get_or l i row in
     let more : told_by row (told_by_all (take i rows) first) ≡ told_by_all (take (i + 1) rows) first = sym (ap (λ l. told_by_all l first) (taken rows i row (subst S same small) (subst G same at)) ∙ told-push (take i rows) row first) in
     now k n ∙ told-same row before (told_by_all (take i rows) first) was k n ∙ ap (λ (t : Legend). t k n) more
+
+-- the same of several rows
+told-all-same : (rows : List RowParts) (a b : Legend) → SameLegend a b → SameLegend (told_by_all rows a) (told_by_all rows b)
+told-all-same [] a b same = same
+told-all-same (row ∷ rows) a b same = told-all-same rows (told_by row a) (told_by row b) (told-same row a b same)
+
+-- the rows behind the first ones, after the first of them
+pub told-behind : (rows : List RowParts) (i : ℕ) (row : RowParts) (first before after : Legend) → i < length rows → row ≡ get_or rows i row
+    → SameLegend before (told_by row first) → SameLegend after (told_by_all (drop (i + 1) rows) before) → SameLegend after (told_by_all (drop i rows) first)
+told-behind rows i row first before after small at was now k n =
+    let split : drop i rows ≡ row ∷ drop (i + 1) rows =
+    drop-cons rows i row small ∙ ap (λ x. x ∷ drop (suc i) rows) (sym at) ∙ ap (λ m. row ∷ drop m rows) (sym (add-one i)) in
+    now k n ∙ told-all-same (drop (i + 1) rows) before (told_by row first) was k n ∙ ap (λ l. told_by_all l first k n) (sym split)
 
 -- all rows
 pub told-end : (items rows : List RowParts) (i : ℕ) (first after : Legend) → items ≡ rows → length items ≤ i → SameLegend after (told_by_all (take i rows) first) → SameLegend after (told_by_all rows first)

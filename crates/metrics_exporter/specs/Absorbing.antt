@@ -1,7 +1,5 @@
 -- Absorbing a snapshot: what its rows ask of an exporter.
-use Rattle.std.specs.Prelude.{if◌then◌else◌, ◌≡◌, ◌↔◌, ℕ, ℤ, Bool, false, List, [], ◌∷◌, ◌++◌, map, length, Option, None, Some, IsSome, ◌⊎◌, Result, Ok, Err, nat_eq}
-use Rattle.std.specs.Ordering.{int_eq}
-use Rattle.metrics_names.specs.declared.kind.MetricKind.TheVariants.{Gauge}
+use Rattle.std.specs.Prelude.{if◌then◌else◌, ◌≡◌, ◌↔◌, ℕ, zero, suc, ◌+◌, Bool, true, not, ◌&&◌, List, [], ◌∷◌, ◌++◌, map, length, drop, None, IsSome, ◌⊎◌, Result, Ok, Err, nat_eq}
 use Rattle.metrics_names.specs.Names.{KeyParts}
 use Rattle.metrics.specs.declared.error.Error.{Error}
 use Rattle.metrics.specs.declared.error.Error.TheVariants.{Memory, CountFull}
@@ -12,43 +10,44 @@ use Rattle.metrics.specs.declared.debugging.DebugValue.TheVariants as value
 use Rattle.metrics.specs.Book.{RowParts}
 use Rattle.metrics_exporter.specs.declared.absorb.PartlyAbsorbed.{PartlyAbsorbed}
 use Rattle.metrics_exporter.specs.declared.exporter.Exporter.{Exporter}
-use Rattle.metrics_exporter.specs.Exporting.{Setup, Log, updates, steps, series_of, Reading, count, level, samples, Cell, Cells, cells_after, IsFull}
+use Rattle.metrics_exporter.specs.Exporting.{Setup, Log, updates, steps, series_of, cells_after, IsFull}
 use Rattle.metrics_exporter.specs.Kept.{IsAfter}
 
 -- ---- what a row asks for
 
-abbrev pub reads_level : ℤ → Reading → Bool
-reads_level n (count m) = false
-reads_level n (level m) = int_eq m n
-reads_level n (samples d) = false
+-- a row of a snapshot, and whether its series was active: registered or updated since the last snapshot of its book
+pub record MarkedRow : Type 0 where
+  pub row : RowParts
+  pub active : Bool
 
--- a gauge is held, and its value is this one
-abbrev pub is_level : ℤ → Option Cell → Bool
-is_level n None = false
-is_level n (Some c) = reads_level n c.reading
+-- rows with their marks; rows past the last mark are active
+abbrev pub marked : List RowParts → List Bool → List MarkedRow
+marked [] marks = []
+marked (row ∷ rows) [] = record { row = row; active = true } ∷ marked rows []
+marked (row ∷ rows) (active ∷ marks) = record { row = row; active = active } ∷ marked rows marks
 
--- a count asks for an increment, and 0 for none; a gauge's value for a set, and for none where the gauge has that value; each sample for a record
-abbrev pub updates_of : Cells → KeyParts → DebugValue → List Update
-updates_of cells key (value.Counter n) = if nat_eq n 0 then [] else Increment n ∷ []
-updates_of cells key (value.Gauge n) = if is_level n (cells (record { kind = Gauge; key = key })) then [] else Set n ∷ []
-updates_of cells key (value.Histogram xs) = map Record xs
+-- a count asks for an increment, and 0 of an idle series for none; an active gauge's value for a set, and an idle one's for none; each sample for a record
+abbrev pub updates_of : Bool → DebugValue → List Update
+updates_of active (value.Counter n) = if nat_eq n 0 && not active then [] else Increment n ∷ []
+updates_of active (value.Gauge n) = if active then Set n ∷ [] else []
+updates_of active (value.Histogram xs) = map Record xs
 
 -- these updates of a key, each answered Ok
 abbrev pub made : KeyParts → List Update → Log
 made key us = map (λ u. updates key u (Ok tt)) us
 
--- the updates that a row asks for after a list of calls
-abbrev pub asked_by : Setup → Log → RowParts → List Update
-asked_by setup log row = updates_of (cells_after setup (steps log)) row.0.key row.3
+-- the updates that a row asks for
+abbrev pub asked_by : MarkedRow → List Update
+asked_by m = updates_of m.active m.row.3
 
 -- a list of calls with a row absorbed after it
-abbrev pub with_row : Setup → Log → RowParts → Log
-with_row setup log row = log ++ made row.0.key (asked_by setup log row)
+abbrev pub with_row : Log → MarkedRow → Log
+with_row log m = log ++ made m.row.0.key (asked_by m)
 
 -- a list of calls with rows absorbed after it, one after another
-abbrev pub with_rows : Setup → Log → List RowParts → Log
-with_rows setup log [] = log
-with_rows setup log (row ∷ rows) = with_rows setup (with_row setup log row) rows
+abbrev pub with_rows : Log → List MarkedRow → Log
+with_rows log [] = log
+with_rows log (m ∷ rows) = with_rows (with_row log m) rows
 
 -- ---- where it stops
 
@@ -81,24 +80,58 @@ pub record IsUndescribed (setup : Setup) (log : Log) (row : RowParts) (e : Error
   pub stands : IsAfter setup log after
 
 -- the next one of a row's updates was refused, or its description
-abbrev pub StopsInRow : Setup → Log → RowParts → Error → ℕ → Exporter → Type 0
-StopsInRow setup log row e n after = StopsIn setup log row.0.key (asked_by setup log row) e n after ⊎ IsUndescribed setup log row e n after
+abbrev pub StopsInRow : Setup → Log → MarkedRow → Error → ℕ → Exporter → Type 0
+StopsInRow setup log m e n after = StopsIn setup log m.row.0.key (asked_by m) e n after ⊎ IsUndescribed setup log m.row e n after
 
 -- all updates of a row were made, or it stopped in it
-abbrev pub AbsorbsRow : Setup → Log → RowParts → Result (Unit {0}) (Error × ℕ) → Exporter → Type 0
-AbsorbsRow setup log row (Ok done) after = IsAfter setup (with_row setup log row) after
-AbsorbsRow setup log row (Err (e, n)) after = StopsInRow setup log row e n after
+abbrev pub AbsorbsRow : Setup → Log → MarkedRow → Result (Unit {0}) (Error × ℕ) → Exporter → Type 0
+AbsorbsRow setup log m (Ok done) after = IsAfter setup (with_row log m) after
+AbsorbsRow setup log m (Err (e, n)) after = StopsInRow setup log m e n after
 
 -- the first rows were absorbed, and of the next one the updates before one that was refused were made, or none where its description was
-pub record StopsAt (setup : Setup) (log : Log) (rows : List RowParts) (stop : PartlyAbsorbed) (after : Exporter) : Type 0 where
-  pub first : List RowParts
-  pub next : RowParts
-  pub rest : List RowParts
+pub record StopsAt (setup : Setup) (log : Log) (rows : List MarkedRow) (stop : PartlyAbsorbed) (after : Exporter) : Type 0 where
+  pub first : List MarkedRow
+  pub next : MarkedRow
+  pub rest : List MarkedRow
   pub all : rows ≡ first ++ next ∷ rest
   pub number : stop.rows ≡ length first
-  pub within : StopsInRow setup (with_rows setup log first) next stop.error stop.samples after
+  pub within : StopsInRow setup (with_rows log first) next stop.error stop.samples after
 
 -- all rows were absorbed, or a front of them
-abbrev pub Absorbs : Setup → Log → List RowParts → Result (Unit {0}) PartlyAbsorbed → Exporter → Type 0
-Absorbs setup log rows (Ok done) after = IsAfter setup (with_rows setup log rows) after
+abbrev pub Absorbs : Setup → Log → List MarkedRow → Result (Unit {0}) PartlyAbsorbed → Exporter → Type 0
+Absorbs setup log rows (Ok done) after = IsAfter setup (with_rows log rows) after
 Absorbs setup log rows (Err stop) after = StopsAt setup log rows stop after
+
+-- ---- going on
+
+-- a value without its first n samples
+abbrev pub samples_behind : ℕ → DebugValue → DebugValue
+samples_behind n (value.Counter c) = value.Counter c
+samples_behind n (value.Gauge g) = value.Gauge g
+samples_behind n (value.Histogram xs) = value.Histogram (drop n xs)
+
+-- a row without its first n samples
+abbrev pub row_behind : ℕ → MarkedRow → MarkedRow
+row_behind n m = record { row = (m.row.0, m.row.1, m.row.2, samples_behind n m.row.3); active = m.active }
+
+abbrev pub first_behind : ℕ → List MarkedRow → List MarkedRow
+first_behind n [] = []
+first_behind n (m ∷ rows) = row_behind n m ∷ rows
+
+-- what is left of the rows behind a part that was absorbed
+abbrev pub behind : PartlyAbsorbed → List MarkedRow → List MarkedRow
+behind part rows = first_behind part.samples (drop part.rows rows)
+
+-- the samples of the row in which it stops that were recorded before: n of the first row, and none of another one
+abbrev pub samples_before : ℕ → ℕ → ℕ
+samples_before zero n = n
+samples_before (suc row) n = 0
+
+-- a stop in what was left behind a part, told of all rows
+abbrev pub behind_part : PartlyAbsorbed → PartlyAbsorbed → PartlyAbsorbed
+behind_part part stop = record { error = stop.error; rows = part.rows + stop.rows; samples = samples_before stop.rows part.samples + stop.samples }
+
+-- all rows behind a part were absorbed, or a front of them
+abbrev pub AbsorbsBehind : Setup → Log → PartlyAbsorbed → List MarkedRow → Result (Unit {0}) PartlyAbsorbed → Exporter → Type 0
+AbsorbsBehind setup log part rows (Ok done) after = IsAfter setup (with_rows log (behind part rows)) after
+AbsorbsBehind setup log part rows (Err stop) after = (inner : PartlyAbsorbed) × StopsAt setup log (behind part rows) inner after × (stop ≡ behind_part part inner)

@@ -1,10 +1,12 @@
 //! Snapshots of a recorder's books as updates of series.
-ghost use Rattle.std.specs.Prelude.{◌≡◌, ◌∷◌, [], map, IsSome, OnOk, IfErr};
+ghost use Rattle.std.specs.Prelude.{◌≡◌, ◌+◌, ◌<◌, ◌≤◌, ◌∷◌, [], Bool, true, IsSome, OnOk, IfErr};
+ghost use Rattle.std.specs.Prelude.{List, map, length, drop, get_or};
 ghost use Rattle.metrics.specs.declared.error.Error.TheVariants.{Memory as OutOfMemory};
 ghost use Rattle.metrics.specs.declared.handles.Update.TheVariants.{Record as RecordUpdate};
-ghost use Rattle.metrics_exporter.specs.Exporting.{Setup, Log, steps, cells_after};
+ghost use Rattle.metrics_exporter.specs.Exporting.{Setup, Log};
 ghost use Rattle.metrics_exporter.specs.Kept.{IsAfter};
-ghost use Rattle.metrics_exporter.specs.Absorbing.{updates_of, MakesUpdates, AbsorbsRow, Absorbs};
+ghost use Rattle.metrics_exporter.specs.Absorbing.{marked, updates_of, MakesUpdates, AbsorbsRow, Absorbs};
+ghost use Rattle.metrics_exporter.specs.Absorbing.{samples_behind, row_behind, AbsorbsBehind};
 ghost use Rattle.metrics_exporter.specs.Describing.{SameLegend, told_with, told_by, told_by_all};
 
 use crate::exporter::Exporter;
@@ -37,28 +39,43 @@ impl Exporter {
     ghost use Rattle.metrics_exporter.specs.Kept.{described};
 
     /// Absorbs a snapshot of a recorder's book, row by row, in their order. A row with a description tells it, with its unit, of
-    /// its key's name, as `describe` does. Then the row is an update of the series of its key and of its value's kind: a count is
-    /// added, unless it is 0; a gauge is set, unless it has that value, so that an idle gauge stays idle; and each sample is
-    /// recorded.
+    /// its key's name, as `describe` does. Then the row is an update of the series of its key and of its value's kind. If its
+    /// series was active, a count is added, also 0, and a gauge is set, also to the value that it has. If it was idle, only a
+    /// count other than 0 is added. Each sample is recorded.
     ///
-    /// A snapshot tells counts and samples since the last one where it reset them: `snapshot_with` and `Reset::KeepGauges` before
-    /// each call. A refusal tells which part was absorbed.
+    /// So a series stays for as long as it is registered or updated between snapshots, with any value, and `expire` removes an
+    /// idle one once.
+    ///
+    /// Each book needs one reader: take its snapshots by `snapshot_with` and `Reset::KeepGauges`, and absorb each of them.
+    /// `snapshot` resets gauges too, so that `absorb` sees a change and no level: a gauge that counts 5, 6, 7 is set to 5, 1,
+    /// 1. Any snapshot that isn't absorbed takes away counts, samples and activity.
+    ///
+    /// An error says which part was absorbed; `absorb_from` goes on from there.
     pub fn absorb(&mut self, snapshot: &Snapshot) -> Result<(), PartlyAbsorbed>
-        ensures absorbs { (setup : Setup) (log : Log) → IsAfter setup log self.old
-            → Absorbs setup log snapshot.now result self.new }
+        ensures absorbs { (active : List Bool) × ((setup : Setup) (log : Log) → IsAfter setup log self.old
+            → Absorbs setup log (marked snapshot.now active) result self.new) }
         ensures tells { OnOk result (SameLegend (described self.new) (told_by_all snapshot.now (described self.old))) }
         ensures shards { self.new.registry.count ≡ self.old.registry.count }
     {
-        for (rows, row) in snapshot.as_slice().iter().enumerate() {
-            if let Err((error, samples)) = absorb_row(self, row) {
-                return Err(PartlyAbsorbed {
-                    error,
-                    rows,
-                    samples,
-                });
-            }
-        }
-        Ok(())
+        absorb_rows(self, snapshot.as_slice(), snapshot.activity())
+    }
+
+    /// Goes on with a snapshot of which a part was absorbed, and absorbs the rest of it as `absorb` does. The description of
+    /// the row in which it stopped is told again.
+    ///
+    /// An error says which part was absorbed by all these calls. A part behind the last row leaves nothing to do.
+    pub fn absorb_from(
+        &mut self,
+        snapshot: &Snapshot,
+        part: PartlyAbsorbed,
+    ) -> Result<(), PartlyAbsorbed>
+        ensures absorbs { (active : List Bool) × ((setup : Setup) (log : Log) → IsAfter setup log self.old
+            → AbsorbsBehind setup log part (marked snapshot.now active) result self.new) }
+        ensures tells { OnOk result (SameLegend (described self.new)
+            (told_by_all (drop part.rows snapshot.now) (described self.old))) }
+        ensures shards { self.new.registry.count ≡ self.old.registry.count }
+    {
+        absorb_behind(self, snapshot.as_slice(), snapshot.activity(), part)
     }
 }
 
@@ -82,16 +99,96 @@ fn describe_row(
     }
 }
 
-/// Tells a row's description, and then makes the updates of its value.
-fn absorb_row(on: &mut Exporter, row: &Row) -> Result<(), (Error, usize)>
-    ensures makes { (setup : Setup) (log : Log) → IsAfter setup log on.old → AbsorbsRow setup log row.now result on.new }
+/// The items behind the first ones.
+fn rest_of<T>(items: &[T], first: usize) -> &[T]
+    ensures { result.now ≡ drop first items.now }
+{
+    &items[first.min(items.len())..]
+}
+
+/// Whether a row's series was active.
+fn is_active(activity: &[bool], row: usize) -> bool
+    ensures { result ≡ get_or activity.now row true }
+{
+    match activity.get(row) {
+        Some(active) => *active,
+        None => true,
+    }
+}
+
+/// Tells a row's description, and then makes the updates of its value behind its first samples.
+fn absorb_row(
+    on: &mut Exporter,
+    row: &Row,
+    active: bool,
+    samples: usize,
+) -> Result<(), (Error, usize)>
+    ensures makes { (setup : Setup) (log : Log) → IsAfter setup log on.old
+        → AbsorbsRow setup log (row_behind samples (record { row = row.now; active = active })) result on.new }
     ensures tells { OnOk result (SameLegend (described on.new) (told_by row.now (described on.old))) }
     ensures shards { on.new.registry.count ≡ on.old.registry.count }
+    ensures within { IfErr result (λ e. samples + e.1 ≤ usize.MAX) }
 {
     let (series, unit, text, value) = row;
     match describe_row(on, series, *unit, text) {
-        Ok(()) => absorb_value(on, series.key(), value),
+        Ok(()) => absorb_value(on, series.key(), value, active, samples),
         Err(error) => Err((error, 0)),
+    }
+}
+
+/// Absorbs rows, in order.
+fn absorb_rows(on: &mut Exporter, rows: &[Row], activity: &[bool]) -> Result<(), PartlyAbsorbed>
+    ensures absorbs { (setup : Setup) (log : Log) → IsAfter setup log on.old
+        → Absorbs setup log (marked rows.now activity.now) result on.new }
+    ensures tells { OnOk result (SameLegend (described on.new) (told_by_all rows.now (described on.old))) }
+    ensures shards { on.new.registry.count ≡ on.old.registry.count }
+    ensures within { IfErr result (λ stop. stop.rows < length rows.now) }
+{
+    for (i, row) in rows.iter().enumerate() {
+        if let Err((error, samples)) = absorb_row(on, row, is_active(activity, i), 0) {
+            return Err(PartlyAbsorbed {
+                error,
+                rows: i,
+                samples,
+            });
+        }
+    }
+    Ok(())
+}
+
+/// Absorbs the rows behind a part, in order.
+fn absorb_behind(
+    on: &mut Exporter,
+    rows: &[Row],
+    activity: &[bool],
+    part: PartlyAbsorbed,
+) -> Result<(), PartlyAbsorbed>
+    ensures absorbs { (setup : Setup) (log : Log) → IsAfter setup log on.old
+        → AbsorbsBehind setup log part (marked rows.now activity.now) result on.new }
+    ensures tells { OnOk result (SameLegend (described on.new)
+        (told_by_all (drop part.rows rows.now) (described on.old))) }
+    ensures shards { on.new.registry.count ≡ on.old.registry.count }
+{
+    let first = part.rows;
+    if first >= rows.len() {
+        return Ok(());
+    }
+    let active = is_active(activity, first);
+    if let Err((error, samples)) = absorb_row(on, &rows[first], active, part.samples) {
+        return Err(PartlyAbsorbed {
+            error,
+            rows: first,
+            samples: part.samples + samples,
+        });
+    }
+    let rest = first + 1;
+    match absorb_rows(on, rest_of(rows, rest), rest_of(activity, rest)) {
+        Ok(()) => Ok(()),
+        Err(stop) => Err(PartlyAbsorbed {
+            error: stop.error,
+            rows: rest + stop.rows,
+            samples: stop.samples,
+        }),
     }
 }
 
@@ -99,6 +196,7 @@ fn absorb_row(on: &mut Exporter, row: &Row) -> Result<(), (Error, usize)>
 fn update_once(on: &mut Exporter, key: &Key, by: Update) -> Result<(), (Error, usize)>
     ensures makes { (setup : Setup) (log : Log) → IsAfter setup log on.old
         → MakesUpdates setup log key.now (by ∷ []) result on.new }
+    ensures first { IfErr result (λ e. e.1 ≡ 0) }
     ensures descriptions { described on.new ≡ described on.old }
     ensures shards { on.new.registry.count ≡ on.old.registry.count }
 {
@@ -112,6 +210,7 @@ fn update_once(on: &mut Exporter, key: &Key, by: Update) -> Result<(), (Error, u
 fn absorb_samples(on: &mut Exporter, key: &Key, samples: &[i64]) -> Result<(), (Error, usize)>
     ensures makes { (setup : Setup) (log : Log) → IsAfter setup log on.old
         → MakesUpdates setup log key.now (map RecordUpdate samples.now) result on.new }
+    ensures within { IfErr result (λ e. e.1 < length samples.now) }
     ensures descriptions { described on.new ≡ described on.old }
     ensures shards { on.new.registry.count ≡ on.old.registry.count }
 {
@@ -123,26 +222,33 @@ fn absorb_samples(on: &mut Exporter, key: &Key, samples: &[i64]) -> Result<(), (
     Ok(())
 }
 
-/// Makes the updates of a row's value.
-fn absorb_value(on: &mut Exporter, key: &Key, value: &DebugValue) -> Result<(), (Error, usize)>
+/// Makes the updates of a row's value behind its first samples.
+fn absorb_value(
+    on: &mut Exporter,
+    key: &Key,
+    value: &DebugValue,
+    active: bool,
+    samples: usize,
+) -> Result<(), (Error, usize)>
     ensures makes { (setup : Setup) (log : Log) → IsAfter setup log on.old
-        → MakesUpdates setup log key.now (updates_of (cells_after setup (steps log)) key.now value.now) result on.new }
+        → MakesUpdates setup log key.now (updates_of active (samples_behind samples value.now)) result on.new }
+    ensures within { IfErr result (λ e. samples + e.1 ≤ usize.MAX) }
     ensures descriptions { described on.new ≡ described on.old }
     ensures shards { on.new.registry.count ≡ on.old.registry.count }
 {
     match value {
         DebugValue::Counter(count) => {
-            if *count == 0 {
+            if *count == 0 && !active {
                 return Ok(());
             }
             update_once(on, key, Update::Increment(*count))
         }
         DebugValue::Gauge(level) => {
-            if on.has_level(key, *level) {
+            if !active {
                 return Ok(());
             }
             update_once(on, key, Update::Set(*level))
         }
-        DebugValue::Histogram(samples) => absorb_samples(on, key, samples.as_slice()),
+        DebugValue::Histogram(all) => { absorb_samples(on, key, rest_of(all.as_slice(), samples)) }
     }
 }

@@ -24,7 +24,7 @@ pub struct Descriptions {
 }
 
 impl Descriptions {
-    /// No descriptions. It takes no memory.
+    /// Makes a list without descriptions. It allocates nothing.
     pub fn new(alloc: Global) -> Descriptions
         ensures { (kind : _) (name : _) → described_by result kind name ≡ no_description }
     {
@@ -37,7 +37,7 @@ impl Descriptions {
         }
     }
 
-    /// The unit of a name.
+    /// Returns the unit of a name.
     pub fn unit(&self, kind: MetricKind, name: &str) -> Option<Unit>
         ensures { result ≡ (described_by self.now kind name.now).unit }
     {
@@ -47,7 +47,7 @@ impl Descriptions {
         }
     }
 
-    /// The text of a name.
+    /// Returns the text of a name.
     pub fn text(&self, kind: MetricKind, name: &str) -> Option<&str>
         ensures { option_map (λ t. t.now) result ≡ (described_by self.now kind name.now).text }
     {

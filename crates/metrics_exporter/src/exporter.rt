@@ -13,10 +13,7 @@ ghost use Rattle.metrics_exporter.specs.Exporting.{cells_after, series_of, Holds
 ghost use Rattle.metrics.specs.Book.{no_description};
 ghost use Rattle.metrics_exporter.specs.Describing.{DescribesName, described_by};
 ghost use Rattle.metrics_exporter.specs.ExporterText.{IsText};
-ghost use Rattle.metrics_exporter.specs.Absorbing.{is_level};
-ghost use Rattle.metrics_exporter.specs.Gathering.{series_at};
 ghost use Rattle.metrics_exporter.specs.Readings.{AreReadings, all_told};
-ghost use Rattle.metrics_names.specs.declared.kind.MetricKind.TheVariants.{Gauge as GaugeKind};
 
 use crate::cells::CountedCells;
 use crate::changes::{check_series, update_cells};
@@ -41,8 +38,8 @@ pub struct Exporter {
 impl Exporter {
     ghost use Rattle.metrics_exporter.specs.Kept.{IsAfter, held_cells, described};
 
-    /// An exporter without series, whose registry has so many shards, a power of two from 1 to 1,024. Its histograms count at
-    /// the bounds, of which there has to be one.
+    /// Makes an exporter without series, whose registry has so many shards, a power of two from 1 to 1,024. Its histograms
+    /// count at the bounds, of which there has to be one.
     ///
     /// `expire` removes a series of a kind of the mask that has kept its generation over checks which lie further apart than
     /// the timeout; without a timeout it removes none. The timeout and the moments are in one unit of the caller's choice.
@@ -138,14 +135,14 @@ impl Exporter {
             .describe(self.alloc, kind, name, unit, text)
     }
 
-    /// What was told of names.
+    /// Returns the descriptions of names.
     pub fn descriptions(&self) -> &Descriptions
         ensures { (kind : _) (name : _) → described_by result.now kind name ≡ described self.now kind name }
     {
         &self.descriptions
     }
 
-    /// Each held series once, by reference, with what it has, in no order of its own. It is never refused where none is held.
+    /// Returns each held series once, by reference, with what it has, in no order of its own. It never fails if none is held.
     pub fn readings(&self) -> Result<Vec<SeriesReading<'_>>, Error>
         ensures readings { MatchResult result (λ all. AreReadings (held_cells self.now) (all_told all.items))
             (λ e. e ≡ OutOfMemory) }
@@ -154,7 +151,7 @@ impl Exporter {
         readings_of(self.alloc, &self.registry)
     }
 
-    /// A line for each series that is held, in composite key order. It is never refused where none is held.
+    /// Writes a line for each series that is held, in composite key order. It never fails if none is held.
     pub fn text(&self) -> Result<String, Error>
         ensures text { (setup : Setup) (log : Log) → IsAfter setup log self.now →
             MatchResult result (λ text. IsText (cells_after setup (steps log)) (string_bytes text)) (λ e. e ≡ OutOfMemory) }
@@ -170,7 +167,7 @@ impl Exporter {
         Ok(text)
     }
 
-    /// The number of the series that are held, which is the number of the lines of `text`. It takes no memory.
+    /// Returns the number of series that are held, which is the number of lines of `text`. It allocates nothing.
     ///
     /// More than 2^64 - 1 series, which no memory holds, would be told as 2^64 - 1.
     pub fn len(&self) -> usize
@@ -178,16 +175,5 @@ impl Exporter {
             (held : ℕ) × IsHeldNumber (cells_after setup (steps log)) held × (result ≡ min held usize.MAX) }
     {
         held_number(&self.registry)
-    }
-
-    /// Whether a gauge is held, and its value is this one.
-    pub(crate) fn has_level(&self, key: &Key, level: i64) -> bool
-        ensures { (setup : Setup) (log : Log) → IsAfter setup log self.now →
-            result ≡ is_level level (cells_after setup (steps log) (series_at GaugeKind key.now)) }
-    {
-        match self.registry.get_gauge(key) {
-            Some(cell) => *cell.get_inner() == level,
-            None => false,
-        }
     }
 }

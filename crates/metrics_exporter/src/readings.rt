@@ -23,7 +23,7 @@ pub enum ReadingRef<'a> {
 }
 
 impl<'a> ReadingRef<'a> {
-    /// The kind of the series that has it.
+    /// Returns the kind of the series that has it.
     pub fn kind(&self) -> MetricKind
         ensures { result ≡ kind_shown self.now }
     {

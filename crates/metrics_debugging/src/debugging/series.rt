@@ -1,9 +1,11 @@
 //! Series in order of first registration.
 ghost use Rattle.std.specs.Prelude.{◌≡◌, ◌∷◌, [], ◌++◌, ◌<◌, OnOk, OnErr, IfOk, IfErr};
-ghost use Rattle.std.specs.Prelude.{None, length, map, option_map, slice_get, position};
+ghost use Rattle.std.specs.Prelude.{MatchResult, if◌then◌else◌};
+ghost use Rattle.std.specs.Prelude.{None, true, false, length, map, option_map, slice_get, position};
 ghost use Rattle.metrics_names.specs.declared.refused.Refused.TheVariants.{Memory};
-ghost use Rattle.metrics.specs.Book.{is_of, new_series, after_reset, row_of};
+ghost use Rattle.metrics.specs.Book.{is_of, new_series, new_value, resets, after_reset, row_of};
 ghost use Rattle.metrics_debugging.specs.Debugging.{content_of};
+ghost use Rattle.metrics_debugging.specs.DebuggingCells.{value_of, kind_of_value, UpdatesValue};
 ghost use Rattle.metrics_debugging.specs.DebuggingSeries.{Agrees, IsWithin, series_at, series_key, spot};
 ghost use Rattle.metrics_debugging.specs.DebuggingUpdates.{UpdatesAt};
 
@@ -13,11 +15,41 @@ use metrics::{CompositeKey, Key, MetricKind, PerKind, Refused, Reset, Row, Updat
 use metrics_registry::Cells;
 use std::alloc::Global;
 
-/// A series: its cell, which is of its kind, and the place of its key among those of the kind.
+/// A series: its cell, which is of its kind, the place of its key among those of the kind, and whether it was registered or
+/// updated since the last snapshot.
 #[derive(Drop)]
 pub(crate) struct Stored {
     cell: Cell,
     place: usize,
+    active: bool,
+}
+
+impl Stored {
+    /// Updates the cell. An update that isn't refused is activity.
+    fn update(&mut self, by: Update) -> Result<(), Refused>
+        ensures updates { UpdatesValue (value_of self.old.cell) (value_of self.new.cell) by result }
+        ensures stays { spot self.new ≡ spot self.old }
+        ensures active { MatchResult result (λ _. self.new.active ≡ true) (λ _. self.new.active ≡ self.old.active) }
+    {
+        match self.cell.update(by) {
+            Ok(()) => {
+                self.active = true;
+                Ok(())
+            }
+            Err(refused) => Err(refused),
+        }
+    }
+
+    /// Resets the cell if its kind is reset. The series is idle in each case.
+    fn reset(&mut self, reset: Reset)
+        ensures value { value_of self.new.cell ≡ (if resets reset (kind_of_value (value_of self.old.cell))
+            then new_value (kind_of_value (value_of self.old.cell)) else value_of self.old.cell) }
+        ensures stays { spot self.new ≡ spot self.old }
+        ensures idle { self.new.active ≡ false }
+    {
+        self.cell.reset(reset);
+        self.active = false;
+    }
 }
 
 /// The series of a book in order of first registration, and the number of each by kind and key.
@@ -29,11 +61,12 @@ pub(crate) struct SeriesList {
 }
 
 impl SeriesList {
-    ghost use Rattle.metrics_debugging.specs.DebuggingOrder.{series_of};
+    ghost use Rattle.metrics_debugging.specs.DebuggingOrder.{series_of, activity_of, active_at, idle};
 
     /// No series. It takes no memory yet.
     pub fn new(alloc: Global) -> SeriesList
-        ensures { series_of result ≡ [] }
+        ensures series { series_of result ≡ [] }
+        ensures active { activity_of result ≡ [] }
     {
         SeriesList {
             numbers: PerKind {
@@ -58,6 +91,8 @@ impl SeriesList {
         ensures number { IfOk result (λ s. s ≡ length (series_of self.old)) }
         ensures ok { OnOk result (series_of self.new ≡ series_of self.old ++ new_series (series_key kind key.now) ∷ []) }
         ensures err { OnErr result (series_of self.new ≡ series_of self.old) }
+        ensures active { MatchResult result (λ _. activity_of self.new ≡ activity_of self.old ++ true ∷ [])
+            (λ _. activity_of self.new ≡ activity_of self.old) }
         ensures memory { IfErr result (λ e. e ≡ Memory 0) }
     {
         let number = self.series.len();
@@ -66,10 +101,24 @@ impl SeriesList {
         let numbers = self.numbers.of_mut(kind);
         match numbers.insert(key, number) {
             Ok(place) => {
-                self.series.push_reserved(Stored { cell, place });
+                self.series.push_reserved(Stored {
+                    cell,
+                    place,
+                    active: true,
+                });
                 Ok(number)
             }
             Err(_) => Err(Refused::Memory { acted: 0 }),
+        }
+    }
+
+    /// Notes that a series was registered again.
+    pub fn touch(&mut self, series: usize)
+        ensures series { series_of self.new ≡ series_of self.old }
+        ensures active { activity_of self.new ≡ active_at series (activity_of self.old) }
+    {
+        if series < self.series.len() {
+            self.series[series].active = true;
         }
     }
 
@@ -85,12 +134,14 @@ impl SeriesList {
 
     /// Updates a series.
     pub fn update(&mut self, series: usize, by: Update) -> Result<(), Refused>
-        ensures { UpdatesAt (series_of self.old) (series_of self.new) series by result }
+        ensures updates { UpdatesAt (series_of self.old) (series_of self.new) series by result }
+        ensures active { MatchResult result (λ _. activity_of self.new ≡ active_at series (activity_of self.old))
+            (λ _. activity_of self.new ≡ activity_of self.old) }
     {
         if series >= self.series.len() {
             return Err(Refused::NoSuchAddress);
         }
-        self.series[series].cell.update(by)
+        self.series[series].update(by)
     }
 
     /// The row of a series of this book.
@@ -121,12 +172,25 @@ impl SeriesList {
         Ok(rows)
     }
 
-    /// Resets each series of the kinds that are reset.
+    /// For each series whether it was registered or updated since the last snapshot.
+    pub fn activity(&self, alloc: Global) -> Result<Vec<bool>, Refused>
+        ensures ok { IfOk result (λ v. v.items ≡ activity_of self.now) }
+        ensures memory { IfErr result (λ e. e ≡ Memory 0) }
+    {
+        let mut active = Vec::with_capacity(alloc, self.series.len())?;
+        for stored in &self.series {
+            active.push(stored.active)?;
+        }
+        Ok(active)
+    }
+
+    /// Resets each series of the kinds that are reset. All of them are idle then.
     pub fn reset(&mut self, reset: Reset)
-        ensures { series_of self.new ≡ map (after_reset reset) (series_of self.old) }
+        ensures series { series_of self.new ≡ map (after_reset reset) (series_of self.old) }
+        ensures idle { activity_of self.new ≡ map idle (activity_of self.old) }
     {
         for series in 0..self.series.len() {
-            self.series[series].cell.reset(reset);
+            self.series[series].reset(reset);
         }
     }
 }

@@ -1,12 +1,14 @@
 use Rattle.std.proofs.Common.{inr, refl, ap, ◌∙◌}
 use Rattle.metrics_exporter.specs.Describing.{Legend, SameLegend, told_by}
 use Rattle.metrics_exporter.specs.Kept.{described}
+use Rattle.metrics_exporter.specs.Absorbing.{row_behind}
 use Rattle.metrics_exporter.proofs.AbsorbLemmas.{row-made, on-ok}
 use Rattle.metrics_exporter.proofs.absorb.absorb_row.Goals as goal
 
 pub returns-in-Ok-clause-makes : goal.returns-in-Ok-clause-makes
 returns-in-Ok-clause-makes c = λ setup log after.
-    row-made setup log c.args.row.now c.key.result.now c.absorb_value.result c.absorb_value.new.on c.key.ensures (c.absorb_value.ensures.makes setup log (c.describe_row.ensures.calls setup log after))
+    row-made setup log (row_behind c.args.samples (record { row = c.args.row.now; active = c.args.active })) c.key.result.now c.absorb_value.result c.absorb_value.new.on c.key.ensures
+    (c.absorb_value.ensures.makes setup log (c.describe_row.ensures.calls setup log after))
 
 pub returns-in-Err-clause-makes : goal.returns-in-Err-clause-makes
 returns-in-Err-clause-makes c = λ setup log after.

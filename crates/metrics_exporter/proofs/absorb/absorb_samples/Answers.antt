@@ -53,6 +53,7 @@ returns c = record {
       let xs = c.args.samples.now in
       let P : List ℤ → Type 0 = λ l. IsAfter setup (log ++ made c.args.key.now (map Record l)) c.loop-i.on in
       subst P (take_all c.loop-i.i xs c.loop-i-test.false) (c.loop-i.invariant.stands setup log after);
+  within = tt;
   descriptions = c.loop-i.invariant.descriptions;
   shards = c.loop-i.invariant.shards;
 }

@@ -7,6 +7,6 @@ use Rattle.metrics_debugging.proofs.debugging.DebuggingRecorder.new.Goals as goa
 
 pub returns-clause-new_book : goal.returns-clause-new_book
 returns-clause-new_book c = record {
-  contents = ap (λ (x : Content). x ∷ []) (content_same (series_of c.new.result) [] (described_by c.new-2.result) (λ _ _. no_description) c.new.ensures c.new-2.ensures);
+  contents = ap (λ (x : Content). x ∷ []) (content_same (series_of c.new.result) [] (described_by c.new-2.result) (λ _ _. no_description) c.new.ensures.series c.new-2.ensures);
   targets = λ kind name. refl;
 }
