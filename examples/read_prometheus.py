@@ -94,14 +94,54 @@ def in_bytes(value):
     return tuple(map(in_bytes, value)) if isinstance(value, (list, tuple)) else value
 
 
-def is_left_out(row, last, histograms):
-    name, kind, labels, _ = row
+def is_reserved(kind, key):
+    return key.startswith("__") or (kind == 2 and key == "le")
+
+
+def labels_reason(kind, labels):
+    """Why labels can't be shown: a name comes twice, or Prometheus keeps it for itself."""
     keys = [key for key, _ in labels]
-    if len(set(keys)) < len(keys) or "__name__" in keys or (kind == 2 and "le" in keys):
-        return True
-    if any(name.endswith(end) and name[: -len(end)] in histograms for end in ("_bucket", "_sum", "_count")):
-        return True
-    return last is not None and last[0] == name and (last[1] != kind or last[2] == labels)
+    if len(set(keys)) < len(keys):
+        return "two labels of one name"
+    return next((f"label {key}" for key in keys if is_reserved(kind, key)), None)
+
+
+def histograms_of(rows):
+    """The names of the histograms that their labels don't keep from the text."""
+    return {name for name, kind, labels, _ in rows if kind == 2 and labels_reason(kind, labels) is None}
+
+
+def reason_of(row, last, histograms):
+    """Why a row is left out, or None."""
+    name, kind, labels, _ = row
+    reason = labels_reason(kind, labels)
+    if reason is not None:
+        return reason
+    for end in ("_bucket", "_sum", "_count"):
+        if name.endswith(end) and name[: -len(end)] in histograms:
+            return "name of a part of histogram " + name[: -len(end)]
+    if last is None or last[0] != name:
+        return None
+    if last[1] != kind:
+        return "name taken by a " + KINDS[last[1]]
+    return "labels equal those of " + one_line(last[3][1]) if last[2] == labels else None
+
+
+def one_line(text):
+    """A name as it stands in a line of its own."""
+    return text.replace("\\", "\\\\").replace("\n", "\\n")
+
+
+def left_out_line(row, reason):
+    """The line that says why a series is left out, by its own name and the labels as they are shown."""
+    return "# left out: %s %s%s: %s" % (KINDS[row[1]], one_line(row[3][1]), braces(row[2]), reason)
+
+
+def braces(labels):
+    def escaped(value):
+        return value.replace("\\", "\\\\").replace('"', '\\"').replace("\n", "\\n")
+
+    return "{%s}" % ",".join('%s="%s"' % (name, escaped(value)) for name, value in labels) if labels else ""
 
 
 def samples_of(row, value, bounds):
@@ -116,13 +156,14 @@ def samples_of(row, value, bounds):
 
 
 def expected(exporter):
-    """Each family that is to be read, and the series that are left out."""
+    """Each family that is to be read, and the lines of the series that are left out."""
     rows = rows_of(exporter.held)
-    histograms = {row[0] for row in rows if row[1] == 2}
+    histograms = histograms_of(rows)
     families, left_out, last = [], [], None
     for row in rows:
-        if is_left_out(row, last, histograms):
-            left_out.append(row)
+        reason = reason_of(row, last, histograms)
+        if reason is not None:
+            left_out.append(left_out_line(row, reason))
             continue
         if last is None or last[0] != row[0]:
             families.append((row[0], KINDS[row[1]], []))
@@ -175,9 +216,9 @@ def judge(text, families, left_out):
         raise Wrong(f"read {len(read)} families, wanted {len(families)}")
     if numbers_of(text) != [number for _, _, samples in families for _, _, number in samples]:
         raise Wrong("the numbers are others")
-    lines = sum(line.startswith("# left out: ") for line in text.split("\n"))
-    if lines != len(left_out):
-        raise Wrong(f"{lines} lines tell that a series is left out, wanted {len(left_out)}")
+    lines = [line for line in text.split("\n") if line.startswith("# left out: ")]
+    if lines != left_out:
+        raise Wrong(f"{lines} say what is left out, wanted {left_out}")
 
 
 def expositions(output):

@@ -305,25 +305,19 @@ class Prometheus(Export):
 
     def text(self, now):
         rows = model.rows_of(self.held)
-        histograms = {row[0] for row in rows if row[1] == 2}
+        histograms = model.histograms_of(rows)
         lines, last = [], None
         for row in rows:
-            if model.is_left_out(row, last, histograms):
-                lines.append("# left out: " + row[0] + braces(row[2]))
+            reason = model.reason_of(row, last, histograms)
+            if reason is not None:
+                lines.append(model.left_out_line(row, reason))
                 continue
             if last is None or last[0] != row[0]:
                 lines.append("# TYPE %s %s" % (row[0], model.KINDS[row[1]]))
             last = row
             for end, labels, number in model.samples_of(row, self.held[row[3]][0], self.bounds):
-                lines.append("%s%s%s %d" % (row[0], end, braces(labels), number))
+                lines.append("%s%s%s %d" % (row[0], end, model.braces(labels), number))
         return [line.encode() for line in lines] + [b""]
-
-
-def braces(labels):
-    def escaped(value):
-        return value.replace("\\", "\\\\").replace('"', '\\"').replace("\n", "\\n")
-
-    return "{%s}" % ",".join('%s="%s"' % (name, escaped(value)) for name, value in labels) if labels else ""
 
 
 # ---- runs

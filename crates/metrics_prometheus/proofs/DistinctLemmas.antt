@@ -1,5 +1,5 @@
 -- No two samples of a text are of one series.
-use Rattle.std.proofs.Common.{◌≡◌, Bool, true, false, List, [], ◌∷◌, ◌++◌, ℕ, None, refl, ap}
+use Rattle.std.proofs.Common.{◌≡◌, ◌∙◌, Bool, true, false, cond, List, [], ◌∷◌, ◌++◌, ℕ, None, refl, ap}
 use Rattle.std.specs.Prelude.{bytes_eq}
 use Rattle.std.specs.List.{AllByRecursion, IsDistinct, list_any}
 use Rattle.std.specs.List.Sorted.{IsSorted}
@@ -7,8 +7,9 @@ use Rattle.std.specs.Cmp.Lexicographic.{pointwise}
 use Rattle.metrics_names.specs.declared.kind.MetricKind.TheVariants.{Histogram}
 use Rattle.metrics_names.specs.Names.{label_eq, kind_eq}
 use Rattle.metrics_exporter.specs.Exporting.{Cells}
+use Rattle.metrics_prometheus.specs.Labels.{are_fit}
 use Rattle.metrics_prometheus.specs.Samples.{Sample, series_text}
-use Rattle.metrics_prometheus.specs.Exposition.{Row, row_cmp, is_histogram_of, is_taken, samples_of, reading_at, Helps, IsDescribed}
+use Rattle.metrics_prometheus.specs.Exposition.{Row, row_cmp, is_fit_histogram, histogram_names, is_taken, samples_of, reading_at, Helps, IsDescribed}
 use Rattle.metrics_prometheus.specs.Written.{written, samples_written, is_same_series}
 use Rattle.metrics_prometheus.specs.Reading.{CanBeRead, is_same_text, ReadsAs}
 use Rattle.metrics_prometheus.proofs.BackLemmas.{read-back}
@@ -16,14 +17,32 @@ use Rattle.metrics_prometheus.proofs.SampleLabelLemmas.{samples-read}
 use Rattle.metrics_prometheus.proofs.PairLemmas.{each-map, each-all, each-both, Pairs, pairs-with, pairs-flat}
 use Rattle.metrics_prometheus.proofs.SameLemmas.{both-true, bytes-same, same-bytes, same-labels}
 use Rattle.metrics_prometheus.proofs.SampleLemmas.{Differ, IsAmong, IsFree, row-differs, rows-differ, or-first, or-second, both}
-use Rattle.metrics_prometheus.proofs.WrittenLemmas.{IsBefore, before-apart, written-ascend, written-each, written-free}
+use Rattle.metrics_prometheus.proofs.WrittenLemmas.{IsBefore, before-apart, written-ascend, written-each, written-fit, written-free}
 
-among : (rows : List Row) → AllByRecursion (IsAmong rows) rows
+abbrev IsFit : Row → Type 0
+IsFit r = are_fit r.kind r.labels ≡ true
+
+-- what is among names is so also with one more of them
+one-more : (name n : List ℕ) (hs : List (List ℕ)) (b : Bool) → list_any (bytes_eq name) hs ≡ true → list_any (bytes_eq name) (cond b (n ∷ hs) hs) ≡ true
+one-more name n hs true h = or-second (bytes_eq name n) (list_any (bytes_eq name) hs) h
+one-more name n hs false h = h
+
+among : (rows : List Row) → AllByRecursion (λ r. IsFit r → IsAmong rows r) rows
 among [] = tt
 among (x ∷ xs) = (
-  (λ h. or-first (is_histogram_of x.name x) (list_any (is_histogram_of x.name) xs) (both (kind_eq x.kind Histogram) (bytes_eq x.name x.name) h (bytes-same x.name x.name refl))),
-  each-map (IsAmong xs) (IsAmong (x ∷ xs)) (λ q f h. or-second (is_histogram_of q.name x) (list_any (is_histogram_of q.name) xs) (f h)) xs (among xs),
+  (λ fit h.
+      let is : is_fit_histogram x ≡ true = both (kind_eq x.kind Histogram) (are_fit x.kind x.labels) h fit in
+      ap (λ b. list_any (bytes_eq x.name) (cond b (x.name ∷ histogram_names xs) (histogram_names xs))) is
+      ∙ or-first (bytes_eq x.name x.name) (list_any (bytes_eq x.name) (histogram_names xs)) (bytes-same x.name x.name refl)),
+  each-map (λ r. IsFit r → IsAmong xs r) (λ r. IsFit r → IsAmong (x ∷ xs) r) (λ q f fit h. one-more q.name x.name (histogram_names xs) (is_fit_histogram x) (f fit h)) xs (among xs),
 )
+
+-- rows that are written are among all
+written-among : (rows : List Row) → AllByRecursion (IsAmong rows) (written rows None rows)
+written-among rows =
+    let done = written rows None rows in
+    each-map (λ r. IsFit r × (IsFit r → IsAmong rows r)) (IsAmong rows) (λ r h. h.1 h.0) done
+    (each-both IsFit (λ r. IsFit r → IsAmong rows r) done (written-fit rows None rows) (written-each (λ r. IsFit r → IsAmong rows r) rows None rows (among rows)))
 
 none-true : (b : Bool) → (b ≡ true → ⊥) → b ≡ false
 none-true true h = absurd (h refl)
@@ -40,15 +59,21 @@ unfolding IsDistinct
 distinct-from [] p = tt
 distinct-from (s ∷ ss) p = (each-map (Differ s) (λ t. is_same_series s t ≡ false) (apart-test s) ss p.0, distinct-from ss p.1)
 
+-- the samples of two rows that are written differ
+abbrev pub AreAcross : Cells → Row → Row → Type 0
+AreAcross cells a b = AllByRecursion (λ s. AllByRecursion (Differ s) (samples_of b (reading_at cells b))) (samples_of a (reading_at cells a))
+
+pub rows-across : (cells : Cells) (rows : List Row) → IsSorted row_cmp rows → ((r : Row) → ReadsAs r.kind (reading_at cells r)) → Pairs (AreAcross cells) (written rows None rows)
+rows-across cells rows up reads =
+    let done = written rows None rows in
+    let free : AllByRecursion (IsFree rows) done = each-both (λ r. is_taken rows r.name ≡ false) (IsAmong rows) done (written-free rows None rows) (written-among rows) in
+    pairs-with (IsFree rows) IsBefore (AreAcross cells) (λ a b fa fb before. rows-differ rows a b (reading_at cells a) (reading_at cells b) (reads a) (reads b) fa fb (before-apart a b before)) done free (written-ascend rows up)
+
 pub samples-differ : (cells : Cells) (rows : List Row) → IsSorted row_cmp rows → ((r : Row) → ReadsAs r.kind (reading_at cells r)) → Pairs Differ (samples_written cells rows)
 samples-differ cells rows up reads =
     let done = written rows None rows in
     let f : Row → List Sample = λ r. samples_of r (reading_at cells r) in
-    let Across : Row → Row → Type 0 = λ a b. AllByRecursion (λ s. AllByRecursion (Differ s) (f b)) (f a) in
-    let free : AllByRecursion (IsFree rows) done = each-both (λ r. is_taken rows r.name ≡ false) (IsAmong rows) done (written-free rows None rows) (written-each (IsAmong rows) rows None rows (among rows)) in
-    let own = each-all (λ r. Pairs Differ (f r)) (λ r. row-differs r (reading_at cells r) (reads r)) done in
-    let across = pairs-with (IsFree rows) IsBefore Across (λ a b fa fb before. rows-differ rows a b (reading_at cells a) (reading_at cells b) (reads a) (reads b) fa fb (before-apart a b before)) done free (written-ascend rows up) in
-    pairs-flat f Differ done own across
+    pairs-flat f Differ done (each-all (λ r. Pairs Differ (f r)) (λ r. row-differs r (reading_at cells r) (reads r)) done) (rows-across cells rows up reads)
 
 pub samples-distinct : (cells : Cells) (rows : List Row) → IsSorted row_cmp rows → ((r : Row) → ReadsAs r.kind (reading_at cells r)) → IsDistinct is_same_series (samples_written cells rows)
 samples-distinct cells rows up reads = distinct-from (samples_written cells rows) (samples-differ cells rows up reads)

@@ -1,5 +1,5 @@
 -- Each row is that of a held series.
-use Rattle.std.proofs.Common.{◌≡◌, ◌<◌, ◌+◌, List, [], ◌∷◌, map, length, get_or, Contains, Result, Ok, Err, refl, subst, arith}
+use Rattle.std.proofs.Common.{◌≡◌, ◌<◌, List, [], ◌∷◌, map, length, get_or, Contains, Result, Ok, Err, refl, subst, arith}
 use Rattle.std.specs.Prelude.{OnErr}
 use Rattle.std.specs.List.{All, AllByRecursion}
 use Rattle.std.specs.Str.{IsUtf8}

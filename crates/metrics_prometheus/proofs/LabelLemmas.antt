@@ -1,7 +1,7 @@
 -- The labels that are shown.
-use Rattle.std.proofs.Common.{◌≡◌, ◌∙◌, ◌+◌, ◌≤◌, inl, inr, ℕ, zero, suc, Bool, true, false, cond, not, ◌||◌, ◌&&◌, List, [], ◌∷◌, ◌++◌, codes, length, get_or, Some, None, refl, ap, sym, arith}
+use Rattle.std.proofs.Common.{◌≡◌, ◌∙◌, ◌+◌, ◌≤◌, inl, inr, ℕ, zero, suc, Bool, true, false, cond, not, ◌||◌, ◌&&◌, List, [], ◌∷◌, ◌++◌, codes, nat_eq, length, get_or, Some, None, is_some, refl, ap, sym, arith}
 use Rattle.std.specs.Prelude.{bytes_eq, insert}
-use Rattle.std.specs.List.{AllByRecursion, AllWithin, IsDistinct, list_any}
+use Rattle.std.specs.List.{AllByRecursion, AllWithin, IsDistinct, list_any, starts_with}
 use Rattle.std.specs.List.Sorted.{IsSorted, IsPartitionedBy, IsStrictlySortedBy}
 use Rattle.std.specs.Ordering.{is_lt, nat_cmp}
 use Rattle.std.specs.Cmp.Lexicographic.{slice_cmp}
@@ -15,7 +15,7 @@ use Rattle.metrics_names.specs.declared.kind.MetricKind.TheVariants.{Histogram}
 use Rattle.std.proofs.lemmas.Bool.{cond_both}
 use Rattle.metrics_names.specs.Names.{LabelParts, label_cmp, kind_eq}
 use Rattle.metrics_prometheus.specs.Names.{label_name, is_name}
-use Rattle.metrics_prometheus.specs.Labels.{placed, added, with_labels, shown_labels, repeats, follows, is_reserved, are_fit}
+use Rattle.metrics_prometheus.specs.Labels.{placed, added, with_labels, shown_labels, repeats, follows, is_reserved, reserved_of, are_fit}
 use Rattle.metrics_prometheus.specs.Reading.{Ascend}
 use Rattle.metrics_prometheus.proofs.PairLemmas.{each-all, each-map, Pairs, pairs-append, pairs-places, pairs-from-places}
 use Rattle.metrics_prometheus.proofs.SameLemmas.{both-true, bytes-same, same-bytes}
@@ -113,7 +113,7 @@ ascend (l ∷ ls) once up =
 pub fit-ascend : (k : MetricKind) (ls : List LabelParts) → are_fit k (shown_labels ls) ≡ true → Ascend (shown_labels ls)
 fit-ascend k ls fit =
     let shown = shown_labels ls in
-    ascend shown (not-true (repeats shown) (both-true (not (repeats shown)) (not (list_any (λ l. is_reserved k l.0) shown)) fit).0) (with-up [] ls tt)
+    ascend shown (not-true (repeats shown) (both-true (not (repeats shown)) (not (is_some (reserved_of k shown))) fit).0) (with-up [] ls tt)
 
 -- ---- the same of sorted lists
 
@@ -225,15 +225,23 @@ once-from (l ∷ ls) p = (p.0, once-from ls p.1)
 pub once : (ls : List LabelParts) → Ascend ls → IsDistinct (λ l m. bytes_eq l.0 m.0) ls
 once ls up = once-from ls (others ls up)
 
+reserved-is : (k : MetricKind) (ls : List LabelParts) → is_some (reserved_of k ls) ≡ list_any (λ l. is_reserved k l.0) ls
+reserved-is k [] = refl
+reserved-is k (l ∷ ls) = go (is_reserved k l.0) (reserved-is k ls)
+  where
+    go : (b : Bool) → is_some (reserved_of k ls) ≡ list_any (λ l. is_reserved k l.0) ls → is_some (cond b (Some l.0) (reserved_of k ls)) ≡ (b || list_any (λ l. is_reserved k l.0) ls)
+    go true e = refl
+    go false e = e
+
 not-le : (k : MetricKind) (v : List ℕ) → kind_eq k Histogram ≡ true → (ls : List LabelParts) → list_any (λ l. is_reserved k l.0) ls ≡ false → AllByRecursion (λ l. AllByRecursion (Others l) ((codes "le", v) ∷ [])) ls
 not-le k v hist [] h = tt
 not-le k v hist (l ∷ ls) h =
     let parts = or-false (is_reserved k l.0) (list_any (λ l. is_reserved k l.0) ls) h in
-    let own = or-false (bytes_eq l.0 (codes "__name__")) (kind_eq k Histogram && bytes_eq l.0 (codes "le")) parts.0 in
+    let own = or-false (starts_with nat_eq l.0 (codes "__")) (kind_eq k Histogram && bytes_eq l.0 (codes "le")) parts.0 in
     ((sym (ap (λ b. b && bytes_eq l.0 (codes "le")) hist) ∙ own.1, tt), not-le k v hist ls parts.1)
 
 -- with the bound of a bucket behind them
 pub once-bounded : (k : MetricKind) (ls : List LabelParts) (v : List ℕ) → kind_eq k Histogram ≡ true → are_fit k ls ≡ true → Ascend ls → IsDistinct (λ l m. bytes_eq l.0 m.0) (ls ++ (codes "le", v) ∷ [])
 once-bounded k ls v hist fit up =
-    let none = not-true (list_any (λ l. is_reserved k l.0) ls) (both-true (not (repeats ls)) (not (list_any (λ l. is_reserved k l.0) ls)) fit).1 in
+    let none = sym (reserved-is k ls) ∙ not-true (is_some (reserved_of k ls)) (both-true (not (repeats ls)) (not (is_some (reserved_of k ls))) fit).1 in
     once-from (ls ++ (codes "le", v) ∷ []) (pairs-append Others ls ((codes "le", v) ∷ []) (others ls up) (tt, tt) (not-le k v hist ls none))

@@ -22,3 +22,5 @@ pub mod BucketLemmas
 pub mod OneReadingLemmas
 pub mod OnceLemmas
 pub mod SearchLemmas
+pub mod OneTextLemmas
+pub mod TypeLemmas

@@ -14,8 +14,11 @@ three-more start xs a b c first second third fourth e f g h =
     flat : (s l p q r : List ℕ) → (((s ++ l) ++ p) ++ q) ++ r ≡ s ++ (l ++ (p ++ (q ++ (r ++ []))))
     flat s l p q r = simp (append_assoc, append-nil)
 
--- four parts, one written after another
-pub four-parts : (start a b c d first second third fourth : List ℕ) → first ≡ start ++ a → second ≡ first ++ b → third ≡ second ++ c → fourth ≡ third ++ d
-    → fourth ≡ start ++ (a ++ (b ++ (c ++ d)))
-four-parts start a b c d first second third fourth e f g h =
-    h ∙ ap (λ l. l ++ d) (g ∙ ap (λ l. l ++ c) (f ∙ ap (λ l. l ++ b) e)) ∙ simp append_assoc
+-- five parts, one written after another
+pub five-parts : (start a b c d e first second third fourth fifth : List ℕ) → first ≡ start ++ a → second ≡ first ++ b → third ≡ second ++ c → fourth ≡ third ++ d → fifth ≡ fourth ++ e
+    → fifth ≡ start ++ (a ++ (b ++ (c ++ (d ++ e))))
+five-parts start a b c d e first second third fourth fifth p q r s t =
+    t ∙ ap (λ l. l ++ e) (s ∙ ap (λ l. l ++ d) (r ∙ ap (λ l. l ++ c) (q ∙ ap (λ l. l ++ b) p))) ∙ flat start a b c d e
+  where
+    flat : (start a b c d e : List ℕ) → ((((start ++ a) ++ b) ++ c) ++ d) ++ e ≡ start ++ (a ++ (b ++ (c ++ (d ++ e))))
+    flat start a b c d e = simp append_assoc

@@ -1,7 +1,7 @@
 -- Of series that are given, each has one row.
-use Rattle.std.proofs.Common.{◌≡◌, ◌∙◌, ◌+◌, ◌<◌, ℕ, zero, suc, Bool, true, false, cond, List, [], ◌∷◌, map, length, get_or, Contains, IsSome, Option, Some, None, refl, ap, sym, subst, arith}
+use Rattle.std.proofs.Common.{◌≡◌, ◌∙◌, ◌+◌, ℕ, zero, suc, Bool, true, false, cond, List, [], ◌∷◌, map, get_or, Contains, IsSome, Option, Some, None, refl, ap, sym, subst, arith}
 use Rattle.std.specs.Prelude.{IsPermutation, option_map}
-use Rattle.std.specs.List.{AllByRecursion, All, Any, IsDistinct, dedup}
+use Rattle.std.specs.List.{AllByRecursion, All, IsDistinct, dedup}
 use Rattle.std.specs.List.Sorted.{IsSorted, IsStrictlySortedBy}
 use Rattle.std.specs.Map.{lookup}
 use Rattle.std.specs.Cmp.{IsTotalOrder, IsEquivalence, eq_by_cmp_equiv}
@@ -12,9 +12,9 @@ use Rattle.std.specs.Cmp.Lexicographic.{slice_cmp}
 use Rattle.std.specs.FinMap.{slice_cmp-IsAntisymmetric}
 use Rattle.std.proofs.lemmas.Bool.{false≢true}
 use Rattle.std.proofs.lemmas.Cmp.{tied_itself}
-use Rattle.std.proofs.lemmas.List.Elements.{All-contains, All-from_recursion, recursion_from_All}
+use Rattle.std.proofs.lemmas.List.Elements.{All-from_recursion, recursion_from_All}
 use Rattle.std.proofs.lemmas.List.Filters.{All-dedup}
-use Rattle.std.proofs.lemmas.List.Kept.{Any-dedup, Contains-from_dedup, IsStrictlySortedBy-dedup}
+use Rattle.std.proofs.lemmas.List.Kept.{Any-dedup, Contains-from_dedup}
 use Rattle.std.proofs.lemmas.List.Sorted.{All-permutation, Contains-permutation, IsPermutation-sym}
 use Rattle.std.proofs.lemmas.Map.Keys.{IsDistinct-from_sorted, IsDistinct-head, IsDistinct-tail, IsDistinct-cons}
 use Rattle.std.proofs.lemmas.Map.Lookups.{exact_bytes, exact_pairs}
@@ -27,7 +27,7 @@ use Rattle.metrics_exporter.specs.Gathering.{series_at}
 use Rattle.metrics_exporter.specs.Readings.{Told, AreReadings, AreOnce, cells_told, reading_in}
 use Rattle.metrics_prometheus.specs.declared.rows.ShownRow.{ShownRow}
 use Rattle.metrics_prometheus.specs.Exposition.{Row, Helps, row_of, row_cmp}
-use Rattle.metrics_prometheus.specs.Rows.{row_shown, rows_shown, pair_shown, pair_of, told_shown}
+use Rattle.metrics_prometheus.specs.Rows.{row_shown, pair_shown, pair_of, told_shown}
 use Rattle.metrics_prometheus.proofs.PairLemmas.{each-in, in-first, in-later, Pairs, pairs-places}
 use Rattle.metrics_prometheus.proofs.RowLemmas.{map-length, map-get}
 use Rattle.metrics_prometheus.proofs.WrittenLemmas.{row_total, names}
@@ -69,7 +69,7 @@ key-from a b e =
     let P : List ℕ → List LabelParts → KeyParts = λ n l. record { name = n; labels = l } in
     ap (λ n. P n a.labels) (exact_bytes a.name b.name parts.0) ∙ ap (P b.name) (labels-from a.labels b.labels parts.1)
 
-series-from : (a b : Row) → row_cmp a b ≡ Equal → series_at a.kind a.key ≡ series_at b.kind b.key
+pub series-from : (a b : Row) → row_cmp a b ≡ Equal → series_at a.kind a.key ≡ series_at b.kind b.key
 series-from a b e =
     let first = then-equal (names a.name b.name) _ e in
     let second = then-equal (nat_cmp (kind_number a.kind) (kind_number b.kind)) _ first.1 in

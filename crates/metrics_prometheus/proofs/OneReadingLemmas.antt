@@ -46,26 +46,26 @@ same-more : (l k : Line) (xs ys : List Sample) → IsReadable l → IsReadable k
     → cons_option (sample_in l) xs ≡ cons_option (sample_in k) ys
 same-more (has s) (has t) xs ys hl hk e cl ck rest = ap (λ z. z ∷ xs) (same-sample s t cl.0 ck.0 e) ∙ ap (λ zs. t ∷ zs) rest
 same-more (has s) (tells_kind r) xs ys hl hk e cl ck rest = absurd (never (same-kind (has s) (tells_kind r) hl hk e))
-same-more (has s) (leaves_out r) xs ys hl hk e cl ck rest = absurd (never (same-kind (has s) (leaves_out r) hl hk e))
+same-more (has s) (leaves_out r why) xs ys hl hk e cl ck rest = absurd (never (same-kind (has s) (leaves_out r why) hl hk e))
 same-more (tells_kind q) (has t) xs ys hl hk e cl ck rest = absurd (never (sym (same-kind (tells_kind q) (has t) hl hk e)))
-same-more (leaves_out q) (has t) xs ys hl hk e cl ck rest = absurd (never (sym (same-kind (leaves_out q) (has t) hl hk e)))
+same-more (leaves_out q because) (has t) xs ys hl hk e cl ck rest = absurd (never (sym (same-kind (leaves_out q because) (has t) hl hk e)))
 same-more (has s) (describes n t) xs ys hl hk e cl ck rest = absurd (never (same-kind (has s) (describes n t) hl hk e))
 same-more (describes n u) (has t) xs ys hl hk e cl ck rest = absurd (never (sym (same-kind (describes n u) (has t) hl hk e)))
 same-more (describes n u) (describes m t) xs ys hl hk e cl ck rest = rest
 same-more (describes n u) (tells_kind r) xs ys hl hk e cl ck rest = rest
-same-more (describes n u) (leaves_out r) xs ys hl hk e cl ck rest = rest
+same-more (describes n u) (leaves_out r why) xs ys hl hk e cl ck rest = rest
 same-more (tells_kind q) (describes n u) xs ys hl hk e cl ck rest = rest
-same-more (leaves_out q) (describes n u) xs ys hl hk e cl ck rest = rest
+same-more (leaves_out q because) (describes n u) xs ys hl hk e cl ck rest = rest
 same-more (tells_kind q) (tells_kind r) xs ys hl hk e cl ck rest = rest
-same-more (tells_kind q) (leaves_out r) xs ys hl hk e cl ck rest = rest
-same-more (leaves_out q) (tells_kind r) xs ys hl hk e cl ck rest = rest
-same-more (leaves_out q) (leaves_out r) xs ys hl hk e cl ck rest = rest
+same-more (tells_kind q) (leaves_out r why) xs ys hl hk e cl ck rest = rest
+same-more (leaves_out q because) (tells_kind r) xs ys hl hk e cl ck rest = rest
+same-more (leaves_out q because) (leaves_out r why) xs ys hl hk e cl ck rest = rest
 
 read-behind : (l : Line) (xs : List Sample) → AllRead (cons_option (sample_in l) xs) → AllRead xs
 read-behind (has s) xs h = h.1
 read-behind (describes n t) xs h = h
 read-behind (tells_kind r) xs h = h
-read-behind (leaves_out r) xs h = h
+read-behind (leaves_out r why) xs h = h
 
 same-lines : (ls ks : List Line) → AllByRecursion IsReadable ls → AllByRecursion IsReadable ks → AllRead (filter_map sample_in ls) → AllRead (filter_map sample_in ks)
     → flat_map line_text ls ≡ flat_map line_text ks → filter_map sample_in ls ≡ filter_map sample_in ks

@@ -51,6 +51,10 @@ pairs-with P R S f [] h p = p
 pairs-with P R S f (x ∷ xs) h p =
     (each-map (λ y. P y × R x y) (S x) (λ y k. f x y h.0 k.0 k.1) xs (each-both P (R x) xs h.1 p.0), pairs-with P R S f xs h.1 p.1)
 
+pub pairs-both : {A : Type 0} (R S : A → A → Type 0) → (xs : List A) → Pairs R xs → Pairs S xs → Pairs (λ x y. R x y × S x y) xs
+pairs-both R S [] p q = tt
+pairs-both R S (x ∷ xs) p q = (each-both (R x) (S x) xs p.0 q.0, pairs-both R S xs p.1 q.1)
+
 pub pairs-append : {A : Type 0} (R : A → A → Type 0) (xs ys : List A) → Pairs R xs → Pairs R ys → AllByRecursion (λ x. AllByRecursion (R x) ys) xs → Pairs R (xs ++ ys)
 pairs-append R [] ys p q h = q
 pairs-append R (x ∷ xs) ys p q h = (each-append (R x) xs ys p.0 h.0, pairs-append R xs ys p.1 q h.1)
@@ -87,6 +91,16 @@ in-later x xs r (k, small, is) = (suc k, omega (arith, small), is)
 pub in-split : {A : Type 0} (x : A) (xs : List A) (r : A) → Contains (x ∷ xs) r → (x ≡ r) ⊎ Contains xs r
 in-split x xs r (zero, small, is) = inl is
 in-split x xs r (suc k, small, is) = inr (k, omega (arith, small), is)
+
+pub in-append : {A : Type 0} (xs ys : List A) (r : A) → Contains (xs ++ ys) r → Contains xs r ⊎ Contains ys r
+in-append [] ys r has = inr has
+in-append (x ∷ xs) ys r has = elim (in-split x (xs ++ ys) r has) [
+  | inl e ↦ inl (subst (Contains (x ∷ xs)) e (in-first x xs))
+  | inr its ↦ elim (in-append xs ys r its) [
+    | inl there ↦ inl (in-later x xs r there)
+    | inr there ↦ inr there
+  ]
+]
 
 pub in-none : {A : Type 0} (r : A) → Contains [] r → ⊥
 in-none r (k, small, is) = absurd (omega (arith, small))

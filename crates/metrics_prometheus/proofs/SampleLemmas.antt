@@ -1,23 +1,22 @@
 -- The samples of rows are of different series.
-use Rattle.std.proofs.Common.{◌≡◌, ◌∙◌, ◌-◌, ◌<◌, ◌^◌, ℕ, ℤ, Bool, true, false, ◌||◌, ◌&&◌, nat_eq, List, [], ◌∷◌, ◌++◌, map, codes, reverse, length, take, drop, get_or, Option, Some, None, refl, ap, sym, arith, append-nil}
-use Rattle.std.specs.Prelude.{int_lt}
+use Rattle.std.proofs.Common.{◌≡◌, ◌∙◌, ◌-◌, ℕ, ℤ, Bool, true, false, cond, is_some, ◌||◌, ◌&&◌, nat_eq, List, [], ◌∷◌, ◌++◌, map, codes, reverse, length, take, drop, get_or, Option, Some, None, refl, ap, sym, arith, append-nil}
+use Rattle.std.specs.Prelude.{int_lt, bytes_eq}
 use Rattle.std.specs.List.{AllByRecursion, list_any, ends_with}
 use Rattle.std.specs.Fmt.{signed_decimal, decimal}
+use Rattle.std.specs.Option.{option_or}
 use Rattle.std.proofs.lemmas.Int.{ints}
-use Rattle.std.specs.Int.Signed.{mag}
 use Rattle.std.proofs.lemmas.Bool.{cond_both}
 use Rattle.std.proofs.lemmas.Bool.Decides.{Decides-eqb}
 use Rattle.std.proofs.lemmas.Fmt.{signed_decimal_injective}
 use Rattle.std.proofs.lemmas.List.{append_cancel_left, append_cancel_right, reverse-append, take_at, length-append}
 use Rattle.std.proofs.lemmas.Slice.Eq.{ends_is}
-use Rattle.metrics_names.specs.declared.kind.MetricKind.{MetricKind}
 use Rattle.metrics_names.specs.declared.kind.MetricKind.TheVariants.{Histogram}
 use Rattle.metrics_names.specs.Names.{LabelParts, kind_eq}
 use Rattle.metrics_storage.specs.Histogram.{Distribution}
 use Rattle.metrics_exporter.specs.Exporting.{Reading, count, level, samples}
 use Rattle.metrics_prometheus.specs.Samples.{Sample, bucket_placed, with_buckets, ascending, bucket_sample, histogram_samples}
 use Rattle.metrics_prometheus.specs.Reading.{IsSmall, ReadsAs}
-use Rattle.metrics_prometheus.specs.Exposition.{Row, is_histogram_of, is_part, is_taken, samples_of}
+use Rattle.metrics_prometheus.specs.Exposition.{Row, histogram_names, found_in, part_of, whole_of, is_taken, samples_of}
 use Rattle.metrics_prometheus.specs.Written.{AreApart}
 use Rattle.metrics_prometheus.proofs.PairLemmas.{each-map, each-append, Pairs, pairs-append}
 use Rattle.metrics_prometheus.proofs.NumeralLemmas.{no-infinity}
@@ -80,9 +79,9 @@ pub data IsOf (r : Row) (s : Sample) : Type 0 where
   whole : kind_eq r.kind Histogram ≡ false → s.name ≡ r.name → s.labels ≡ r.labels → IsOf r s
   part : kind_eq r.kind Histogram ≡ true → (e : End) (l : LabelParts) → s.name ≡ r.name ++ end_text e → s.labels ≡ r.labels ++ more e l → IsOf r s
 
--- the row is among all
+-- a histogram's name is among those of histograms
 abbrev pub IsAmong : List Row → Row → Type 0
-IsAmong all r = kind_eq r.kind Histogram ≡ true → list_any (is_histogram_of r.name) all ≡ true
+IsAmong all r = kind_eq r.kind Histogram ≡ true → list_any (bytes_eq r.name) (histogram_names all) ≡ true
 
 -- a row that may stand in the text
 abbrev pub IsFree : List Row → Row → Type 0
@@ -100,20 +99,32 @@ pub both : (a b : Bool) → a ≡ true → b ≡ true → (a && b) ≡ true
 both true b e f = f
 both false b e f = absurd (let g : false ≡ true = e in cc)
 
-is-part : (all : List Row) (x end : List ℕ) → list_any (is_histogram_of x) all ≡ true → is_part all (x ++ end) end ≡ true
-is-part all x end h =
+-- the first of two that is there, or the second
+some-first : {A : Type 0} (a b : Option A) → is_some a ≡ true → is_some (option_or a b) ≡ true
+some-first None b e = absurd (let g : false ≡ true = e in cc)
+some-first (Some x) b e = refl
+
+some-second : {A : Type 0} (a b : Option A) → is_some b ≡ true → is_some (option_or a b) ≡ true
+some-second None b e = e
+some-second (Some x) b e = refl
+
+found : (hs : List (List ℕ)) (x : List ℕ) → list_any (bytes_eq x) hs ≡ true → is_some (found_in hs x) ≡ true
+found hs x h = ap (λ b. is_some (cond b (Some x) None)) h
+
+is-part : (hs : List (List ℕ)) (x end : List ℕ) → list_any (bytes_eq x) hs ≡ true → is_some (part_of hs (x ++ end) end) ≡ true
+is-part hs x end h =
     let is : ends_with nat_eq (x ++ end) end ≡ true = (ends_is Decides-eqb (x ++ end) end (ends_with nat_eq (x ++ end) end) refl).1 x refl in
     let front : take (length (x ++ end) - length end) (x ++ end) ≡ x = take_at x end (length (x ++ end) - length end) (omega (arith, length-append x end)) in
-    both (ends_with nat_eq (x ++ end) end) (list_any (is_histogram_of (take (length (x ++ end) - length end) (x ++ end))) all) is (ap (λ y. list_any (is_histogram_of y) all) front ∙ h)
+    ap (λ b. is_some (cond b (found_in hs (take (length (x ++ end) - length end) (x ++ end))) None)) is ∙ ap (λ y. is_some (found_in hs y)) front ∙ found hs x h
 
-taken : (all : List Row) (x : List ℕ) (e : End) → list_any (is_histogram_of x) all ≡ true → is_taken all (x ++ end_text e) ≡ true
-taken all x bucket h = or-first (is_part all (x ++ codes "_bucket") (codes "_bucket")) _ (is-part all x (codes "_bucket") h)
-taken all x sum h = or-second (is_part all (x ++ codes "_sum") (codes "_bucket")) _ (or-first (is_part all (x ++ codes "_sum") (codes "_sum")) _ (is-part all x (codes "_sum") h))
-taken all x number h = or-second (is_part all (x ++ codes "_count") (codes "_bucket")) _ (or-second (is_part all (x ++ codes "_count") (codes "_sum")) _ (is-part all x (codes "_count") h))
+taken : (hs : List (List ℕ)) (x : List ℕ) (e : End) → list_any (bytes_eq x) hs ≡ true → is_some (whole_of hs (x ++ end_text e)) ≡ true
+taken hs x bucket h = some-first (part_of hs (x ++ codes "_bucket") (codes "_bucket")) _ (is-part hs x (codes "_bucket") h)
+taken hs x sum h = some-second (part_of hs (x ++ codes "_sum") (codes "_bucket")) _ (some-first (part_of hs (x ++ codes "_sum") (codes "_sum")) _ (is-part hs x (codes "_sum") h))
+taken hs x number h = some-second (part_of hs (x ++ codes "_count") (codes "_bucket")) _ (some-second (part_of hs (x ++ codes "_count") (codes "_sum")) _ (is-part hs x (codes "_count") h))
 
 not-taken : (all : List Row) (a b : Row) (e : End) → IsFree all a → IsAmong all b → kind_eq b.kind Histogram ≡ true → a.name ≡ b.name ++ end_text e → ⊥
 not-taken all a b e free among hist is =
-    absurd (let g : false ≡ true = sym free.0 ∙ ap (is_taken all) is ∙ taken all b.name e (among hist) in cc)
+    absurd (let g : false ≡ true = sym free.0 ∙ ap (is_taken all) is ∙ taken (histogram_names all) b.name e (among hist) in cc)
 
 pub of-two : (all : List Row) (a b : Row) → IsFree all a → IsFree all b → AreApart a b → (s t : Sample) → IsOf a s → IsOf b t → Differ s t
 of-two all a b fa fb apart s t (whole k n l) (whole k' n' l') names labels = (apart (sym n ∙ names ∙ n')).1 (sym l ∙ labels ∙ l')

@@ -1,98 +1,88 @@
--- A histogram of a name, found among sorted rows.
-use Rattle.std.proofs.Common.{◌≡◌, ◌∙◌, ◌+◌, ◌<◌, ◌⊎◌, inl, inr, ℕ, zero, suc, Bool, true, false, ◌||◌, List, [], ◌∷◌, length, get_or, Result, Ok, Err, refl, ap, sym, subst, arith}
+-- The names of histograms: those of rows in order are in order, and a search finds what is among them.
+use Rattle.std.proofs.Common.{◌≡◌, ◌∙◌, ◌+◌, ◌<◌, inl, inr, ℕ, zero, suc, Bool, true, false, cond, ◌||◌, List, [], ◌∷◌, length, get_or, map, Err, Some, None, refl, ap, sym, subst, arith}
 use Rattle.std.specs.Prelude.{bytes_eq}
-use Rattle.std.specs.List.{list_any}
-use Rattle.std.specs.List.Sorted.{IsSorted, IsSortedBy, IsBinarySearchResult, IsSearchInRange}
-use Rattle.std.specs.Cmp.{IsTotalOrder}
-use Rattle.std.specs.Ordering.{nat_cmp, ordering_then, is_lt}
-use Rattle.std.specs.Result.{is_ok}
-use Rattle.std.specs.declared.cmp.Ordering.{Ordering}
+use Rattle.std.specs.List.{list_any, AllByRecursion}
+use Rattle.std.specs.List.Sorted.{IsSorted, IsSortedBy, IsBinarySearchResult}
+use Rattle.std.specs.Ordering.{is_lt}
 use Rattle.std.specs.declared.cmp.Ordering.TheVariants.{Less, Equal, Greater}
-use Rattle.std.proofs.lemmas.Bool.{cases_lt}
-use Rattle.std.proofs.lemmas.Cmp.{nat_list_cmp_total, then_total, on_total, nat_cmp_total, tied_itself}
+use Rattle.std.proofs.lemmas.Bool.{cases_lt, cond_both}
+use Rattle.std.proofs.lemmas.Cmp.{nat_list_cmp_total, tied_itself}
+use Rattle.std.proofs.lemmas.List.{get_or_default}
 use Rattle.std.proofs.lemmas.List.Sorted.{searchable_from_sorted}
 use Rattle.std.proofs.lemmas.Map.Lookups.{exact_bytes}
-use Rattle.metrics_names.specs.declared.kind.MetricKind.{MetricKind}
-use Rattle.metrics_names.specs.declared.kind.MetricKind.TheVariants.{Histogram}
-use Rattle.metrics_names.specs.Names.{kind_number, kind_eq}
-use Rattle.metrics_names.specs.Equality.{kind_eq-Decides}
-use Rattle.metrics_prometheus.specs.declared.rows.ShownRow.{ShownRow}
-use Rattle.metrics_prometheus.specs.Exposition.{Row, row_cmp, is_histogram_of}
-use Rattle.metrics_prometheus.specs.Rows.{row_shown, rows_shown, histogram_place}
+use Rattle.metrics_prometheus.specs.Exposition.{Row, row_cmp, is_fit_histogram, histogram_names, found_in}
+use Rattle.metrics_prometheus.proofs.PairLemmas.{Pairs, pairs-places}
 use Rattle.metrics_prometheus.proofs.RowLemmas.{map-length, map-get}
-use Rattle.metrics_prometheus.proofs.SameLemmas.{both-true, bytes-same, same-bytes}
-use Rattle.metrics_prometheus.proofs.SampleLemmas.{or-first, or-second, both}
-use Rattle.metrics_prometheus.proofs.OnceLemmas.{then-equal, kind-from}
-use Rattle.metrics_prometheus.proofs.WrittenLemmas.{names}
+use Rattle.metrics_prometheus.proofs.SameLemmas.{bytes-same, same-bytes}
+use Rattle.metrics_prometheus.proofs.SampleLemmas.{or-first, or-second}
+use Rattle.metrics_prometheus.proofs.WrittenLemmas.{names, first-part, IsUp, rows-up, row_total}
 
-abbrev Place : Type 0
-Place = List ℕ × MetricKind
+-- ---- the names are in order
 
-abbrev place_cmp : Place → Place → Ordering
-place_cmp a b = ordering_then (names a.0 b.0) (nat_cmp (kind_number a.1) (kind_number b.1))
+-- one name is not above another
+abbrev NotAbove : List ℕ → List ℕ → Type 0
+NotAbove a b = is_lt (names b a) ≡ false
 
-place_total : IsTotalOrder place_cmp
-place_total = then_total (on_total (λ p. p.0) nat_list_cmp_total) (on_total (λ p. kind_number p.1) nat_cmp_total)
+below-names : (x : Row) (rs : List Row) → AllByRecursion (IsUp x) rs → AllByRecursion (NotAbove x.name) (histogram_names rs)
+below-names x [] h = tt
+below-names x (r ∷ rs) h =
+    cond_both (is_fit_histogram r) (r.name ∷ histogram_names rs) (histogram_names rs) (AllByRecursion (NotAbove x.name))
+    (λ _. (first-part (names r.name x.name) _ h.0, below-names x rs h.1))
+    (λ _. below-names x rs h.1)
 
-abbrev place : ShownRow → Place
-place r = (r.name, r.kind)
+names-pairs : (rs : List Row) → Pairs IsUp rs → Pairs NotAbove (histogram_names rs)
+names-pairs [] h = tt
+names-pairs (r ∷ rs) h =
+    cond_both (is_fit_histogram r) (r.name ∷ histogram_names rs) (histogram_names rs) (Pairs NotAbove)
+    (λ _. (below-names r rs h.0, names-pairs rs h.1))
+    (λ _. names-pairs rs h.1)
 
-front-part : (n k rest : Ordering) → is_lt (ordering_then n (ordering_then k rest)) ≡ false → is_lt (ordering_then n k) ≡ false
-front-part Less k rest up = up
-front-part Equal Less rest up = up
-front-part Equal Equal rest up = refl
-front-part Equal Greater rest up = refl
-front-part Greater k rest up = refl
+pub names-up : (rows : List Row) → IsSorted row_cmp rows → IsSorted names (histogram_names rows)
+names-up rows up k d first small = pairs-places NotAbove (histogram_names rows) (names-pairs rows (rows-up row_total rows up)) k (k + 1) d (omega arith) small
 
-places-up : (xs : List ShownRow) → IsSorted row_cmp (rows_shown xs) → IsSortedBy (λ a b. is_lt (place_cmp (place a) (place b))) xs
-places-up xs up k d first small =
-    let e = row_shown d in
-    let fits : k + 1 < length (rows_shown xs) = omega (arith, small, map-length row_shown xs) in
-    let P : Row → Row → Type 0 = λ b a. is_lt (row_cmp b a) ≡ false in
-    let here : P (row_shown (get_or xs (k + 1) d)) (row_shown (get_or xs k d)) =
-    subst (λ a. P (row_shown (get_or xs (k + 1) d)) a) (map-get row_shown xs k e d (omega (arith, small)))
-    (subst (λ b. P b (get_or (rows_shown xs) k e)) (map-get row_shown xs (k + 1) e d small) (up k e (omega arith) fits)) in
-    front-part (names (get_or xs (k + 1) d).name (get_or xs k d).name) (nat_cmp (kind_number (get_or xs (k + 1) d).kind) (kind_number (get_or xs k d).kind)) _ here
+-- ---- a search among names in order
 
-any-at : (p : Row → Bool) (xs : List ShownRow) (i : ℕ) → i < length xs → ((d : ShownRow) → p (row_shown (get_or xs i d)) ≡ true) → list_any p (rows_shown xs) ≡ true
-any-at p [] i small f = absurd (omega (arith, small))
-any-at p (x ∷ xs) zero small f = or-first (p (row_shown x)) (list_any p (rows_shown xs)) (f x)
-any-at p (x ∷ xs) (suc i) small f = or-second (p (row_shown x)) (list_any p (rows_shown xs)) (any-at p xs i (omega (arith, small)) f)
+module _ {A : Type 0} (f : A → List ℕ) where
+  any-at : (p : List ℕ → Bool) (xs : List A) (i : ℕ) → i < length xs → ((d : A) → p (f (get_or xs i d)) ≡ true) → list_any p (map f xs) ≡ true
+  any-at p [] i small g = absurd (omega (arith, small))
+  any-at p (x ∷ xs) zero small g = or-first (p (f x)) (list_any p (map f xs)) (g x)
+  any-at p (x ∷ xs) (suc i) small g = or-second (p (f x)) (list_any p (map f xs)) (any-at p xs i (omega (arith, small)) g)
 
-neither : (a b : Bool) → a ≡ false → b ≡ false → (a || b) ≡ false
-neither false b e f = f
-neither true b e f = absurd (let g : true ≡ false = e in cc)
+  neither : (a b : Bool) → a ≡ false → b ≡ false → (a || b) ≡ false
+  neither false b e g = g
+  neither true b e g = absurd (let h : true ≡ false = e in cc)
 
-none-at : (p : Row → Bool) (xs : List ShownRow) → ((k : ℕ) (d : ShownRow) → k < length xs → p (row_shown (get_or xs k d)) ≡ false) → list_any p (rows_shown xs) ≡ false
-none-at p [] f = refl
-none-at p (x ∷ xs) f = neither (p (row_shown x)) (list_any p (rows_shown xs)) (f 0 x (omega arith)) (none-at p xs (λ k d small. f (suc k) d (omega (arith, small))))
+  none-at : (p : List ℕ → Bool) (xs : List A) → ((k : ℕ) (d : A) → k < length xs → p (f (get_or xs k d)) ≡ false) → list_any p (map f xs) ≡ false
+  none-at p [] g = refl
+  none-at p (x ∷ xs) g = neither (p (f x)) (list_any p (map f xs)) (g 0 x (omega arith)) (none-at p xs (λ k d small. g (suc k) d (omega (arith, small))))
 
-equal-is : (name : List ℕ) (r : Row) → histogram_place name r ≡ Equal → is_histogram_of name r ≡ true
-equal-is name r e =
-    let parts = then-equal (names r.name name) (nat_cmp (kind_number r.kind) (kind_number Histogram)) e in
-    both (kind_eq r.kind Histogram) (bytes_eq r.name name) ((kind_eq-Decides r.kind Histogram).1 (kind-from r.kind Histogram parts.1)) (bytes-same r.name name (exact_bytes r.name name parts.0))
+  sorted-by : (xs : List A) → IsSorted names (map f xs) → IsSortedBy (λ a b. is_lt (names (f a) (f b))) xs
+  sorted-by xs up k d first small =
+      let e = f d in
+      let fits : k + 1 < length (map f xs) = omega (arith, small, map-length f xs) in
+      let P : List ℕ → List ℕ → Type 0 = λ b a. is_lt (names b a) ≡ false in
+      subst (λ a. P (f (get_or xs (k + 1) d)) a) (map-get f xs k e d (omega (arith, small)))
+      (subst (λ b. P b (get_or (map f xs) k e)) (map-get f xs (k + 1) e d small) (up k e (omega arith) fits))
 
-is-equal : (name : List ℕ) (r : Row) → is_histogram_of name r ≡ true → histogram_place name r ≡ Equal
-is-equal name r e =
-    let parts = both-true (kind_eq r.kind Histogram) (bytes_eq r.name name) e in
-    let place : Place → Type 0 = λ p. place_cmp p (name, Histogram) ≡ Equal in
-    let kind = (kind_eq-Decides r.kind Histogram).0 parts.0 in
-    let same : (r.name, r.kind) ≡ (name, Histogram) = ap (λ n. (n, r.kind)) (same-bytes r.name name parts.1) ∙ ap (λ k. (name, k)) kind in
-    subst place (sym same) (tied_itself place_total (name, Histogram))
+  not-equal : (name n : List ℕ) → (names n name ≡ Equal → ⊥) → bytes_eq name n ≡ false
+  not-equal name n h = go (bytes_eq name n) refl
+    where
+      go : (b : Bool) → bytes_eq name n ≡ b → bytes_eq name n ≡ false
+      go false e = e
+      go true e = absurd (h (ap (names n) (same-bytes name n e) ∙ tied_itself nat_list_cmp_total n))
 
-not-equal : (name : List ℕ) (r : Row) → (histogram_place name r ≡ Equal → ⊥) → is_histogram_of name r ≡ false
-not-equal name r h = go (is_histogram_of name r) refl
-  where
-    go : (b : Bool) → is_histogram_of name r ≡ b → is_histogram_of name r ≡ false
-    go false e = e
-    go true e = absurd (h (is-equal name r e))
+  -- where a search came to
+  pub searched-there : (xs : List A) (name : List ℕ) (i : ℕ) (x : A) → i < length xs → x ≡ get_or xs i x → names (f x) name ≡ Equal → Some (f x) ≡ found_in (map f xs) name
+  searched-there xs name i x small at equal =
+      let same : f x ≡ name = exact_bytes (f x) name equal in
+      let any : list_any (bytes_eq name) (map f xs) ≡ true = any-at (bytes_eq name) xs i small (λ d. bytes-same name (f (get_or xs i d)) (sym same ∙ ap f (at ∙ get_or_default xs i x d small))) in
+      ap (λ n. Some n) same ∙ sym (ap (λ b. cond b (Some name) None) any)
 
-pub searched : (xs : List ShownRow) (name : List ℕ) → IsSorted row_cmp (rows_shown xs) → (r : Result ℕ ℕ) → IsSearchInRange r (length xs) → IsBinarySearchResult (λ y. histogram_place name (row_shown y)) xs r
-    → is_ok r ≡ list_any (is_histogram_of name) (rows_shown xs)
-searched xs name up (Ok i) small at = sym (any-at (is_histogram_of name) xs i small (λ d. equal-is name (row_shown (get_or xs i d)) (at d)))
-searched xs name up (Err i) small point =
-    let parts = point (searchable_from_sorted place_total place xs (name, Histogram) (places-up xs up)) in
-    sym (none-at (is_histogram_of name) xs (λ k d within. not-equal name (row_shown (get_or xs k d)) (λ e. elim (cases_lt k i) [
-      | inl below ↦ absurd (let g : Less ≡ Equal = sym (parts.0 k d (omega arith) below) ∙ e in cc)
-      | inr above ↦ absurd (let g : Greater ≡ Equal = sym (parts.1 k d above within) ∙ e in cc)
-    ])))
+  pub searched-none : (xs : List A) (name : List ℕ) (i : ℕ) → IsSorted names (map f xs) → IsBinarySearchResult (λ y. names (f y) name) xs (Err i) → None ≡ found_in (map f xs) name
+  searched-none xs name i up point =
+      let parts = point (searchable_from_sorted nat_list_cmp_total f xs name (sorted-by xs up)) in
+      let none : list_any (bytes_eq name) (map f xs) ≡ false = none-at (bytes_eq name) xs (λ k d within. not-equal name (f (get_or xs k d)) (λ e. elim (cases_lt k i) [
+        | inl below ↦ absurd (let g : Less ≡ Equal = sym (parts.0 k d (omega arith) below) ∙ e in cc)
+        | inr above ↦ absurd (let g : Greater ≡ Equal = sym (parts.1 k d above within) ∙ e in cc)
+      ])) in
+      sym (ap (λ b. cond b (Some name) None) none)

@@ -1,5 +1,5 @@
 -- The lines of a text, and the samples that they have.
-use Rattle.std.proofs.Common.{◌≡◌, ◌∙◌, ℕ, ℤ, Bool, true, false, cond, List, [], ◌∷◌, ◌++◌, map, codes, Option, Some, None, refl, ap, sym, append-nil, append_assoc}
+use Rattle.std.proofs.Common.{◌≡◌, ◌∙◌, ℕ, ℤ, Bool, true, false, cond, List, [], ◌∷◌, ◌++◌, map, codes, Option, Some, None, is_some, refl, ap, sym, append-nil, append_assoc}
 use Rattle.std.specs.Prelude.{bytes_eq}
 use Rattle.std.specs.Fmt.{signed_decimal}
 use Rattle.std.specs.List.{AllByRecursion, flat_map, filter_map, list_all}
@@ -11,8 +11,8 @@ use Rattle.metrics_exporter.specs.Exporting.{Cells, Reading, count, level, sampl
 use Rattle.metrics_exporter.specs.ExporterText.{kind_word}
 use Rattle.metrics_prometheus.specs.Names.{goes_on, is_name, help_escaped}
 use Rattle.metrics_prometheus.specs.Samples.{Sample, labels_text, sample_line, lines, ascending, bucket_sample}
-use Rattle.metrics_prometheus.specs.Exposition.{Row, is_left_out, help_line, type_line, name_lines, name_text, samples_of, reading_at, left_out_line, rows_text, Helps, IsDescribed}
-use Rattle.metrics_prometheus.specs.Written.{written, samples_written, has, describes, tells_kind, leaves_out, line_text, sample_in, IsLine, IsReadable, HasSamples}
+use Rattle.metrics_prometheus.specs.Exposition.{Row, Reason, label_twice, label_reserved, part, name_taken, labels_taken, reason_of, reason_text, series_named, told_as, help_line, type_line, name_lines, name_text, samples_of, reading_at, left_out_line, last_after, rows_text, Helps, IsDescribed}
+use Rattle.metrics_prometheus.specs.Written.{written, samples_written, Line, has, describes, tells_kind, leaves_out, line_text, sample_in, IsLine, IsReadable, HasSamples}
 use Rattle.metrics_prometheus.proofs.PairLemmas.{each-append}
 use Rattle.metrics_prometheus.proofs.NameLemmas.{AreKeyed, metric-name, name-more, named-from}
 use Rattle.metrics_prometheus.proofs.FeedLemmas.{HasNoFeed, join, plain, name-plain, labels-plain, decimal-plain, signed-plain, help-plain}
@@ -20,16 +20,21 @@ use Rattle.metrics_prometheus.proofs.HeadLemmas.{no-comment}
 use Rattle.metrics_prometheus.proofs.LabelLemmas.{labels-keyed}
 use Rattle.metrics_prometheus.proofs.HeldLemmas.{each-row}
 
-nothing : HasSamples [] []
-nothing = record { all = []; text_is = refl; readable = tt; samples_are = refl }
+-- a text is these lines, of which these are the samples
+pub record AreLines (all : List Line) (text : List ℕ) (samples : List Sample) : Type 0 where
+  pub text_is : text ≡ flat_map line_text all
+  pub readable : AllByRecursion IsReadable all
+  pub samples_are : filter_map sample_in all ≡ samples
+
+nothing : AreLines [] [] []
+nothing = record { text_is = refl; readable = tt; samples_are = refl }
 
 -- one text behind another
-joined : (t u : List ℕ) (ss zs : List Sample) → HasSamples t ss → HasSamples u zs → HasSamples (t ++ u) (ss ++ zs)
-joined t u ss zs h g = record {
-  all = h.all ++ g.all;
-  text_is = ap (λ x. x ++ u) h.text_is ∙ ap (λ x. flat_map line_text h.all ++ x) g.text_is ∙ sym (flat_map-append line_text h.all g.all);
-  readable = each-append IsReadable h.all g.all h.readable g.readable;
-  samples_are = filter_map-append sample_in h.all g.all ∙ ap (λ x. x ++ filter_map sample_in g.all) h.samples_are ∙ ap (λ x. ss ++ x) g.samples_are;
+joined : (a b : List Line) (t u : List ℕ) (ss zs : List Sample) → AreLines a t ss → AreLines b u zs → AreLines (a ++ b) (t ++ u) (ss ++ zs)
+joined a b t u ss zs h g = record {
+  text_is = ap (λ x. x ++ u) h.text_is ∙ ap (λ x. flat_map line_text a ++ x) g.text_is ∙ sym (flat_map-append line_text a b);
+  readable = each-append IsReadable a b h.readable g.readable;
+  samples_are = filter_map-append sample_in a b ∙ ap (λ x. x ++ filter_map sample_in b) h.samples_are ∙ ap (λ x. ss ++ x) g.samples_are;
 }
 
 -- rows with names that Prometheus allows
@@ -48,11 +53,21 @@ type-line r h = record {
   none = join (codes "# TYPE ") _ (plain (codes "# TYPE ") refl) (join r.name (32 ∷ kind_word r.kind) (name-plain true r.name h.0) (join (32 ∷ []) (kind_word r.kind) (plain (32 ∷ []) refl) (kind-plain r.kind)));
 }
 
-left-line : (r : Row) → IsNamedRow r → IsLine (left_out_line r)
-left-line r h = record {
-  inside = codes "# left out: " ++ (r.name ++ labels_text r.labels);
-  is = ap (λ t. codes "# left out: " ++ t) (sym (append_assoc r.name (labels_text r.labels) (10 ∷ [])));
-  none = join (codes "# left out: ") _ (plain (codes "# left out: ") refl) (join r.name (labels_text r.labels) (name-plain true r.name h.0) (labels-plain r.labels h.1));
+reason-plain : (why : Reason) → HasNoFeed (reason_text why)
+reason-plain label_twice = plain (codes "two labels of one name") refl
+reason-plain (label_reserved n) = join (codes "label ") (help_escaped n) (plain (codes "label ") refl) (help-plain n)
+reason-plain (part n) = join (codes "name of a part of histogram ") (help_escaped n) (plain (codes "name of a part of histogram ") refl) (help-plain n)
+reason-plain (name_taken k) = join (codes "name taken by a ") (kind_word k) (plain (codes "name taken by a ") refl) (kind-plain k)
+reason-plain (labels_taken n) = join (codes "labels equal those of ") (help_escaped n) (plain (codes "labels equal those of ") refl) (help-plain n)
+
+series-plain : (r : Row) → IsNamedRow r → HasNoFeed (series_named r)
+series-plain r h = join (kind_word r.kind) _ (kind-plain r.kind) (join (32 ∷ []) _ (plain (32 ∷ []) refl) (join (help_escaped r.key.name) (labels_text r.labels) (help-plain r.key.name) (labels-plain r.labels h.1)))
+
+left-line : (r : Row) (why : Reason) → IsNamedRow r → IsLine (left_out_line r why)
+left-line r why h = record {
+  inside = codes "# left out: " ++ (series_named r ++ (codes ": " ++ reason_text why));
+  is = ap (λ t. codes "# left out: " ++ t) (sym (append_assoc (series_named r) (codes ": " ++ reason_text why) (10 ∷ [])));
+  none = join (codes "# left out: ") _ (plain (codes "# left out: ") refl) (join (series_named r) _ (series-plain r h) (join (codes ": ") (reason_text why) (plain (codes ": ") refl) (reason-plain why)));
 }
 
 -- a sample with names that Prometheus allows, and a value without a line feed
@@ -68,8 +83,8 @@ sample-line s h = record {
   none = join s.name _ (name-plain true s.name h.name) (join (labels_text s.labels) (32 ∷ s.value) (labels-plain s.labels h.keys) (join (32 ∷ []) s.value (plain (32 ∷ []) refl) h.value));
 }
 
-of-type : (r : Row) → IsNamedRow r → HasSamples (type_line r) []
-of-type r h = record { all = tells_kind r ∷ []; text_is = sym (append-nil (type_line r)); readable = (record { ends = type-line r h; comment = refl }, tt); samples_are = refl }
+of-type : (r : Row) → IsNamedRow r → AreLines (tells_kind r ∷ []) (type_line r) []
+of-type r h = record { text_is = sym (append-nil (type_line r)); readable = (record { ends = type-line r h; comment = refl }, tt); samples_are = refl }
 
 help-line : (name text : List ℕ) → is_name true name ≡ true → IsLine (help_line name (Some text))
 help-line name text h = record {
@@ -78,34 +93,45 @@ help-line name text h = record {
   none = join (codes "# HELP ") _ (plain (codes "# HELP ") refl) (join name (32 ∷ help_escaped text) (name-plain true name h) (join (32 ∷ []) (help_escaped text) (plain (32 ∷ []) refl) (help-plain text)));
 }
 
-of-help : (name : List ℕ) (help : Option (List ℕ)) → is_name true name ≡ true → HasSamples (help_line name help) []
+abbrev pub help_at : List ℕ → Option (List ℕ) → List Line
+help_at name None = []
+help_at name (Some text) = describes name text ∷ []
+
+of-help : (name : List ℕ) (help : Option (List ℕ)) → is_name true name ≡ true → AreLines (help_at name help) (help_line name help) []
 of-help name None h = nothing
-of-help name (Some text) h = record { all = describes name text ∷ []; text_is = sym (append-nil (help_line name (Some text))); readable = (record { ends = help-line name text h; comment = refl }, tt); samples_are = refl }
+of-help name (Some text) h = record { text_is = sym (append-nil (help_line name (Some text))); readable = (record { ends = help-line name text h; comment = refl }, tt); samples_are = refl }
 
-of-lines : (r : Row) → IsNamedRow r → HasSamples (name_lines r) []
-of-lines r h = joined (help_line r.name r.help) (type_line r) [] [] (of-help r.name r.help h.0) (of-type r h)
+-- the lines that a name begins with
+abbrev pub begin_at : Row → List Line
+begin_at r = help_at r.name r.help ++ tells_kind r ∷ []
 
-of-left : (r : Row) → IsNamedRow r → HasSamples (left_out_line r) []
-of-left r h = record { all = leaves_out r ∷ []; text_is = sym (append-nil (left_out_line r)); readable = (record { ends = left-line r h; comment = refl }, tt); samples_are = refl }
+of-begin : (r : Row) → IsNamedRow r → AreLines (begin_at r) (name_lines r) []
+of-begin r h = joined (help_at r.name r.help) (tells_kind r ∷ []) (help_line r.name r.help) (type_line r) [] [] (of-help r.name r.help h.0) (of-type r h)
 
-of-samples : (ss : List Sample) → AllByRecursion IsPlain ss → HasSamples (lines ss) ss
+of-left : (r : Row) (why : Reason) → IsNamedRow r → AreLines (leaves_out r why ∷ []) (left_out_line r why) []
+of-left r why h = record { text_is = sym (append-nil (left_out_line r why)); readable = (record { ends = left-line r why h; comment = refl }, tt); samples_are = refl }
+
+of-samples : (ss : List Sample) → AllByRecursion IsPlain ss → AreLines (map has ss) (lines ss) ss
 of-samples [] h = nothing
 of-samples (s ∷ ss) h =
     let rest = of-samples ss h.1 in
     record {
-      all = has s ∷ rest.all;
       text_is = ap (λ t. sample_line s ++ t) rest.text_is;
       readable = (record { ends = sample-line s h.0; comment = no-comment s.name _ h.0.name }, rest.readable);
       samples_are = ap (λ l. s ∷ l) rest.samples_are;
     }
 
-of-kind : (last : Option Row) (r : Row) → IsNamedRow r → HasSamples (name_text last r) []
-of-kind None r h = of-lines r h
-of-kind (Some w) r h = by-name (bytes_eq w.name r.name)
+abbrev pub name_at : Option Row → Row → List Line
+name_at None r = begin_at r
+name_at (Some w) r = cond (bytes_eq w.name r.name) [] (begin_at r)
+
+of-name : (last : Option Row) (r : Row) → IsNamedRow r → AreLines (name_at last r) (name_text last r) []
+of-name None r h = of-begin r h
+of-name (Some w) r h = by-name (bytes_eq w.name r.name)
   where
-    by-name : (b : Bool) → HasSamples (cond b [] (name_lines r)) []
+    by-name : (b : Bool) → AreLines (cond b [] (begin_at r)) (cond b [] (name_lines r)) []
     by-name true = nothing
-    by-name false = of-lines r h
+    by-name false = of-begin r h
 
 -- ---- a row's samples
 
@@ -132,22 +158,35 @@ samples-plain r h (Some (samples d)) =
     (bucket-plain r h (codes "+Inf") d.count, (record { name = part-name r (codes "_sum") h refl; keys = h.1; value = signed-plain d.sum }, (record { name = part-name r (codes "_count") h refl; keys = h.1; value = decimal-plain d.count }, tt)))
 
 module _ (cells : Cells) (all : List Row) where
-  abbrev samples_at : Row → List Sample
+  abbrev pub samples_at : Row → List Sample
   samples_at r = samples_of r (reading_at cells r)
 
-  -- a row, and those behind it
-  of-row : (last : Option Row) (x : Row) → IsNamedRow x → (xs : List Row) (b : Bool) → ((next : Option Row) → HasSamples (rows_text cells all next xs) (flat_map samples_at (written all next xs)))
-      → HasSamples (cond b (left_out_line x) (name_text last x ++ lines (samples_at x)) ++ rows_text cells all (cond b last (Some x)) xs) (flat_map samples_at (cond b (written all last xs) (x ∷ written all (Some x) xs)))
-  of-row last x h xs true rest = joined (left_out_line x) (rows_text cells all last xs) [] (flat_map samples_at (written all last xs)) (of-left x h) (rest last)
-  of-row last x h xs false rest =
-      joined (name_text last x ++ lines (samples_at x)) (rows_text cells all (Some x) xs) (samples_at x) (flat_map samples_at (written all (Some x) xs))
-      (joined (name_text last x) (lines (samples_at x)) [] (samples_at x) (of-kind last x h) (of-samples (samples_at x) (samples-plain x h (reading_at cells x)))) (rest (Some x))
+  abbrev pub row_at : Option Reason → Option Row → Row → List Line
+  row_at None last x = name_at last x ++ map has (samples_at x)
+  row_at (Some why) last x = leaves_out x why ∷ []
 
-  of-rows : (xs : List Row) → AllByRecursion IsNamedRow xs → (last : Option Row) → HasSamples (rows_text cells all last xs) (flat_map samples_at (written all last xs))
+  abbrev pub lines_of : Option Row → List Row → List Line
+  lines_of last [] = []
+  lines_of last (x ∷ xs) = row_at (reason_of all last x) last x ++ lines_of (last_after all last x) xs
+
+  -- a row, and those behind it
+  of-row : (last : Option Row) (x : Row) → IsNamedRow x → (xs : List Row) (o : Option Reason) → ((next : Option Row) → AreLines (lines_of next xs) (rows_text cells all next xs) (flat_map samples_at (written all next xs)))
+      → AreLines (row_at o last x ++ lines_of (cond (is_some o) last (Some x)) xs) (told_as o (reading_at cells x) last x ++ rows_text cells all (cond (is_some o) last (Some x)) xs) (flat_map samples_at (cond (is_some o) (written all last xs) (x ∷ written all (Some x) xs)))
+  of-row last x h xs (Some why) rest = joined (leaves_out x why ∷ []) (lines_of last xs) (left_out_line x why) (rows_text cells all last xs) [] (flat_map samples_at (written all last xs)) (of-left x why h) (rest last)
+  of-row last x h xs None rest =
+      joined (name_at last x ++ map has (samples_at x)) (lines_of (Some x) xs) (name_text last x ++ lines (samples_at x)) (rows_text cells all (Some x) xs) (samples_at x) (flat_map samples_at (written all (Some x) xs))
+      (joined (name_at last x) (map has (samples_at x)) (name_text last x) (lines (samples_at x)) [] (samples_at x) (of-name last x h) (of-samples (samples_at x) (samples-plain x h (reading_at cells x)))) (rest (Some x))
+
+  of-rows : (xs : List Row) → AllByRecursion IsNamedRow xs → (last : Option Row) → AreLines (lines_of last xs) (rows_text cells all last xs) (flat_map samples_at (written all last xs))
   of-rows [] h last = nothing
-  of-rows (x ∷ xs) h last = of-row last x h.0 xs (is_left_out all last x) (λ next. of-rows xs h.1 next)
+  of-rows (x ∷ xs) h last = of-row last x h.0 xs (reason_of all last x) (λ next. of-rows xs h.1 next)
+
+pub text-lines : {helps : Helps} (cells : Cells) (text : List ℕ) (e : IsDescribed helps cells text) → AreLines (lines_of cells e.rows None e.rows) text (samples_written cells e.rows)
+text-lines cells text e =
+    let h = of-rows cells e.rows e.rows (each-row IsNamedRow cells e.rows e.all (λ s held. (metric-name s.key.name, labels-keyed s.key.labels))) None in
+    record { text_is = e.is ∙ h.text_is; readable = h.readable; samples_are = h.samples_are }
 
 pub text-has : {helps : Helps} (cells : Cells) (text : List ℕ) (e : IsDescribed helps cells text) → HasSamples text (samples_written cells e.rows)
 text-has cells text e =
-    let h = of-rows cells e.rows e.rows (each-row IsNamedRow cells e.rows e.all (λ s held. (metric-name s.key.name, labels-keyed s.key.labels))) None in
-    record { all = h.all; text_is = e.is ∙ h.text_is; readable = h.readable; samples_are = h.samples_are }
+    let h = text-lines cells text e in
+    record { all = lines_of cells e.rows None e.rows; text_is = h.text_is; readable = h.readable; samples_are = h.samples_are }

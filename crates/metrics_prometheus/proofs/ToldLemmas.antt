@@ -1,5 +1,5 @@
 -- Each row is told in the text: by its samples, or by a line that it is left out, and then something keeps it from the text.
-use Rattle.std.proofs.Common.{◌≡◌, ◌∙◌, ◌⊎◌, ◌↔◌, inl, inr, ℕ, zero, suc, Bool, true, false, not, ◌&&◌, ◌||◌, cond, List, [], ◌∷◌, ◌++◌, map, Contains, Option, Some, None, refl, ap, sym, subst, arith, append_assoc}
+use Rattle.std.proofs.Common.{◌≡◌, ◌∙◌, ◌⊎◌, ◌↔◌, inl, inr, ℕ, zero, suc, Bool, true, false, not, ◌&&◌, ◌||◌, cond, List, [], ◌∷◌, ◌++◌, map, Contains, Option, Some, None, is_some, refl, ap, sym, subst, arith, append_assoc}
 use Rattle.std.specs.Prelude.{bytes_eq}
 use Rattle.std.specs.List.{AllByRecursion, IsDistinct}
 use Rattle.std.specs.List.Sorted.{IsSorted}
@@ -13,21 +13,21 @@ use Rattle.metrics_exporter.specs.Exporting.{Cells, IsHeld}
 use Rattle.metrics_exporter.specs.Gathering.{series_at}
 use Rattle.metrics_prometheus.specs.Samples.{lines}
 use Rattle.metrics_prometheus.specs.Labels.{are_fit}
-use Rattle.metrics_prometheus.specs.Exposition.{Row, row_of, row_cmp, is_taken, clashes, is_left_out, name_text, samples_of, reading_at, left_out_line, row_text, last_after, rows_text, Helps, AreRows, IsDescribed}
-use Rattle.metrics_prometheus.specs.Written.{written, AreApart, MayStand, IsTold, shown, left_out}
-use Rattle.metrics_prometheus.proofs.PairLemmas.{each-map, each-in, in-first, in-later, in-split, in-none, Pairs}
+use Rattle.metrics_prometheus.specs.Exposition.{Row, row_of, row_cmp, is_taken, Reason, reason_of, is_left_out, told_as, name_text, samples_of, reading_at, left_out_line, row_text, last_after, rows_text, Helps, AreRows, IsDescribed}
+use Rattle.metrics_prometheus.specs.Written.{written, AreApart, MayStand, IsWhy, alone, beside, IsTold, shown, left_out}
+use Rattle.metrics_prometheus.proofs.PairLemmas.{each-map, each-in, in-first, in-later, in-split, in-none, Pairs, pairs-map}
 use Rattle.metrics_prometheus.proofs.SameLemmas.{same-bytes, same-labels}
-use Rattle.metrics_prometheus.proofs.WrittenLemmas.{IsBefore, before-apart, written-ascend, written-fit, written-free}
+use Rattle.metrics_prometheus.proofs.WrittenLemmas.{IsBefore, before-apart, written-ascend, written-fit, written-free, clashes, left-is}
 use Rattle.metrics_prometheus.proofs.RowLemmas.{map-length, map-get}
 
 -- what keeps a row from the text: its own labels or name, or one of the rows that are written in all
-abbrev Blocked : List Row → List Row → Row → Type 0
-Blocked all whole r = (is_left_out all None r ≡ true) ⊎ ((w : Row) × Contains whole w × (w ≡ r → ⊥) × (is_left_out all (Some w) r ≡ true))
+abbrev Blocked : List Row → List Row → Row → Reason → Type 0
+Blocked all whole r why = (reason_of all None r ≡ Some why) ⊎ ((w : Row) × Contains whole w × (w ≡ r → ⊥) × (reason_of all (Some w) r ≡ Some why))
 
 -- the same of a part of the text, and the rows that it shows
 data Part (cells : Cells) (all whole : List Row) (r : Row) (text : List ℕ) (done : List Row) : Type 0 where
   with-samples : (before after : List ℕ) → Contains done r → text ≡ before ++ (lines (samples_of r (reading_at cells r)) ++ after) → Part cells all whole r text done
-  with-line : Blocked all whole r → (before after : List ℕ) → text ≡ before ++ (left_out_line r ++ after) → Part cells all whole r text done
+  with-line : (why : Reason) → Blocked all whole r why → (before after : List ℕ) → text ≡ before ++ (left_out_line r why ++ after) → Part cells all whole r text done
 
 -- the row that was written last is one of all, and none of those to come
 abbrev Known : List Row → Option Row → List Row → Type 0
@@ -35,19 +35,19 @@ Known whole None xs = Unit {0}
 Known whole (Some w) xs = Contains whole w × AllByRecursion (λ q. w ≡ q → ⊥) xs
 
 module _ (cells : Cells) (all whole : List Row) where
-  blocked : (last : Option Row) (x : Row) (xs : List Row) → Known whole last (x ∷ xs) → is_left_out all last x ≡ true → Blocked all whole x
-  blocked None x xs known out = inl out
-  blocked (Some w) x xs known out = inr (w, known.0, known.1.0, out)
+  blocked : (last : Option Row) (x : Row) (xs : List Row) (why : Reason) → Known whole last (x ∷ xs) → reason_of all last x ≡ Some why → Blocked all whole x why
+  blocked None x xs why known out = inl out
+  blocked (Some w) x xs why known out = inr (w, known.0, known.1.0, out)
 
   -- the row that comes first
-  here : (x : Row) (kind rest : List ℕ) (b : Bool) (skipped done : List Row) → (b ≡ true → Blocked all whole x)
-      → Part cells all whole x (cond b (left_out_line x) (kind ++ lines (samples_of x (reading_at cells x))) ++ rest) (cond b skipped (x ∷ done))
-  here x kind rest true skipped done out = with-line (out refl) [] rest refl
-  here x kind rest false skipped done out = with-samples kind rest (in-first x done) (append_assoc kind (lines (samples_of x (reading_at cells x))) rest)
+  here : (last : Option Row) (x : Row) (rest : List ℕ) (o : Option Reason) (skipped done : List Row) → ((why : Reason) → o ≡ Some why → Blocked all whole x why)
+      → Part cells all whole x (told_as o (reading_at cells x) last x ++ rest) (cond (is_some o) skipped (x ∷ done))
+  here last x rest (Some why) skipped done out = with-line why (out why refl) [] rest refl
+  here last x rest None skipped done out = with-samples (name_text last x) rest (in-first x done) (append_assoc (name_text last x) (lines (samples_of x (reading_at cells x))) rest)
 
   -- a row behind it
   behind : (x r : Row) (line rest : List ℕ) (b : Bool) (skipped done : List Row) → Part cells all whole r rest (cond b skipped done) → Part cells all whole r (line ++ rest) (cond b skipped (x ∷ done))
-  behind x r line rest b skipped done (with-line out before after is) = with-line out (line ++ before) after (ap (λ t. line ++ t) is ∙ sym (append_assoc line before (left_out_line r ++ after)))
+  behind x r line rest b skipped done (with-line why out before after is) = with-line why out (line ++ before) after (ap (λ t. line ++ t) is ∙ sym (append_assoc line before (left_out_line r why ++ after)))
   behind x r line rest b skipped done (with-samples before after has is) =
       with-samples (line ++ before) after (kept b has) (ap (λ t. line ++ t) is ∙ sym (append_assoc line before (lines (samples_of r (reading_at cells r)) ++ after)))
     where
@@ -76,7 +76,7 @@ module _ (cells : Cells) (all whole : List Row) where
   part-of (x ∷ xs) last r apart known among has = elim (in-split x xs r has) [
     | inl e ↦
         let P : Row → Type 0 = λ q. Part cells all whole q (rows_text cells all last (x ∷ xs)) (written all last (x ∷ xs)) in
-        subst P e (here x (name_text last x) (rows_text cells all (last_after all last x) xs) (is_left_out all last x) (written all last xs) (written all (Some x) xs) (blocked last x xs known))
+        subst P e (here last x (rows_text cells all (last_after all last x) xs) (reason_of all last x) (written all last xs) (written all (Some x) xs) (λ why. blocked last x xs why known))
     | inr its ↦
         behind x r (row_text cells all last x) (rows_text cells all (last_after all last x) xs) (is_left_out all last x) (written all last xs) (written all (Some x) xs)
         (rest-of last x xs r (is_left_out all last x) known apart.0 among (λ next known among. part-of xs next r apart.1 known among its))
@@ -128,18 +128,26 @@ no-clash w r apart e =
     let h = apart (same-bytes w.name r.name parts.0) in
     h.1 (same-labels w.labels r.labels (parts.1 ((kind_eq-Decides w.kind r.kind).1 h.0)))
 
-blocked-stays : (rows : List Row) (r : Row) → Blocked rows (written rows None rows) r → MayStand rows r → ⊥
-blocked-stays rows r (inl out) may = absurd (let g : false ≡ true = clash-left (are_fit r.kind r.labels) (is_taken rows r.name) false may.fit may.free out in cc)
-blocked-stays rows r (inr (w, has, other, out)) may =
-    let clash = clash-left (are_fit r.kind r.labels) (is_taken rows r.name) (clashes (Some w) r) may.fit may.free out in
+-- a reason is one to leave the row out
+out-is : (rows : List Row) (last : Option Row) (r : Row) (why : Reason) → reason_of rows last r ≡ Some why → (not (are_fit r.kind r.labels) || (is_taken rows r.name || clashes last r)) ≡ true
+out-is rows last r why out = sym (left-is rows last r) ∙ ap is_some out
+
+blocked-stays : (rows : List Row) (r : Row) (why : Reason) → Blocked rows (written rows None rows) r why → MayStand rows r → ⊥
+blocked-stays rows r why (inl out) may = absurd (let g : false ≡ true = clash-left (are_fit r.kind r.labels) (is_taken rows r.name) false may.fit may.free (out-is rows None r why out) in cc)
+blocked-stays rows r why (inr (w, has, other, out)) may =
+    let clash = clash-left (are_fit r.kind r.labels) (is_taken rows r.name) (clashes (Some w) r) may.fit may.free (out-is rows (Some w) r why out) in
     elim (may.apart w has) [
       | inl e ↦ other e
       | inr apart ↦ no-clash w r apart clash
     ]
 
+blocked-why : (rows : List Row) (r : Row) (why : Reason) → Blocked rows (written rows None rows) r why → IsWhy rows r why
+blocked-why rows r why (inl out) = alone out
+blocked-why rows r why (inr (w, has, other, out)) = beside w has out
+
 -- ---- the rows are of different series
 
-abbrev series_of_row : Row → SeriesKey
+abbrev pub series_of_row : Row → SeriesKey
 series_of_row r = series_at r.kind r.key
 
 keys-differ : (ks : List SeriesKey) → IsDistinct series_key_eq ks → Pairs (λ a b. a ≡ b → ⊥) ks
@@ -171,16 +179,23 @@ flips a b =
     let back = series_key_eq-Decides y x in
     same_from_decides (series_key_eq x y) (series_key_eq y x) there ((λ e. sym (back.0 e)), (λ e. back.1 (sym e)))
 
-differ-from : (rs : List Row) → IsDistinct same_row rs → Pairs (λ p q. p ≡ q → ⊥) rs
+-- rows of different series
+abbrev pub AreOfOthers : Row → Row → Type 0
+AreOfOthers p q = series_of_row p ≡ series_of_row q → ⊥
+
+others-from : (rs : List Row) → IsDistinct same_row rs → Pairs AreOfOthers rs
 unfolding IsDistinct
-differ-from [] h = tt
-differ-from (r ∷ rs) h =
-    (each-map (λ q. same_row r q ≡ false) (λ q. r ≡ q → ⊥) (λ q no e. let g : true ≡ false = sym ((series_key_eq-Decides (series_of_row r) (series_of_row q)).1 (ap series_of_row e)) ∙ no in cc) rs h.0, differ-from rs h.1)
+others-from [] h = tt
+others-from (r ∷ rs) h =
+    (each-map (λ q. same_row r q ≡ false) (AreOfOthers r) (λ q no e. let g : true ≡ false = sym ((series_key_eq-Decides (series_of_row r) (series_of_row q)).1 e) ∙ no in cc) rs h.0, others-from rs h.1)
+
+pub rows-of-others : {helps : Helps} (cells : Cells) (rows : List Row) → AreRows helps cells rows → Pairs AreOfOthers rows
+rows-of-others {helps} cells rows are = others-from rows (IsDistinct-IsPermutation same_row flips (map (row_of helps) are.keys) rows are.same (tests-from helps are.keys (keys-differ are.keys are.once)))
 
 rows-apart : {helps : Helps} (cells : Cells) (rows : List Row) → AreRows helps cells rows → Pairs (λ p q. p ≡ q → ⊥) rows
-rows-apart {helps} cells rows are = differ-from rows (IsDistinct-IsPermutation same_row flips (map (row_of helps) are.keys) rows are.same (tests-from helps are.keys (keys-differ are.keys are.once)))
+rows-apart cells rows are = pairs-map AreOfOthers (λ p q. p ≡ q → ⊥) (λ p q no e. no (ap series_of_row e)) rows (rows-of-others cells rows are)
 
-row-held : {helps : Helps} (cells : Cells) (rows : List Row) → AreRows helps cells rows → (s : SeriesKey) → IsHeld cells s → Contains rows (row_of helps s)
+pub row-held : {helps : Helps} (cells : Cells) (rows : List Row) → AreRows helps cells rows → (s : SeriesKey) → IsHeld cells s → Contains rows (row_of helps s)
 row-held {helps} cells rows are s held = Contains-permutation (map (row_of helps) are.keys) rows (row_of helps s) are.same (mapped ((are.held s).1 held))
   where
     mapped : Contains are.keys s → Contains (map (row_of helps) are.keys) (row_of helps s)
@@ -189,11 +204,11 @@ row-held {helps} cells rows are s held = Contains-permutation (map (row_of helps
 told-of : (cells : Cells) (rows : List Row) → IsSorted row_cmp rows → (text : List ℕ) (r : Row) → text ≡ rows_text cells rows None rows
     → Part cells rows (written rows None rows) r (rows_text cells rows None rows) (written rows None rows) → IsTold cells rows text r
 told-of cells rows up text r e (with-samples before after has is) = shown (written-stands rows up r has) before after (e ∙ is)
-told-of cells rows up text r e (with-line out before after is) = left_out (blocked-stays rows r out) before after (e ∙ is)
+told-of cells rows up text r e (with-line why out before after is) = left_out (blocked-stays rows r why out) why (blocked-why rows r why out) before after (e ∙ is)
 
 stands-of : (cells : Cells) (rows : List Row) (r : Row) → Part cells rows (written rows None rows) r (rows_text cells rows None rows) (written rows None rows) → MayStand rows r → Contains (written rows None rows) r
 stands-of cells rows r (with-samples before after has is) may = has
-stands-of cells rows r (with-line out before after is) may = absurd (blocked-stays rows r out may)
+stands-of cells rows r (with-line why out before after is) may = absurd (blocked-stays rows r why out may)
 
 module _ (helps : Helps) (cells : Cells) (text : List ℕ) (e : IsDescribed helps cells text) (s : SeriesKey) (held : IsHeld cells s) where
   part : Part cells e.rows (written e.rows None e.rows) (row_of helps s) (rows_text cells e.rows None e.rows) (written e.rows None e.rows)

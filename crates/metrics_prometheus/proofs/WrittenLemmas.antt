@@ -1,5 +1,6 @@
 -- The rows that are written: they ascend, and rows of one name are of one kind.
-use Rattle.std.proofs.Common.{◌≡◌, ◌∙◌, ◌⊎◌, inl, inr, ℕ, Bool, true, false, not, ◌||◌, ◌&&◌, List, [], ◌∷◌, Option, Some, None, refl, ap, sym, arith}
+use Rattle.std.proofs.Common.{◌≡◌, ◌∙◌, ◌⊎◌, inl, inr, ℕ, Bool, true, false, not, ◌||◌, ◌&&◌, List, [], ◌∷◌, Option, Some, None, is_some, option_map, cond, refl, ap, sym, arith}
+use Rattle.std.specs.Option.{option_or}
 use Rattle.std.specs.List.{AllByRecursion}
 use Rattle.std.specs.Cmp.{IsTotalOrder}
 use Rattle.std.specs.Cmp.Lexicographic.{slice_cmp, pointwise}
@@ -15,8 +16,8 @@ use Rattle.std.specs.FinMap.{slice_cmp-IsAntisymmetric}
 use Rattle.std.proofs.lemmas.Map.Lookups.{exact_bytes, exact_pairs}
 use Rattle.metrics_names.specs.declared.kind.MetricKind.{MetricKind}
 use Rattle.metrics_names.specs.Names.{LabelParts, label_cmp, label_eq, kind_eq, kind_number}
-use Rattle.metrics_prometheus.specs.Exposition.{Row, row_cmp, clashes, is_taken, is_left_out}
-use Rattle.metrics_prometheus.specs.Labels.{are_fit}
+use Rattle.metrics_prometheus.specs.Exposition.{Row, row_cmp, histogram_names, whole_of, is_taken, label_twice, label_reserved, name_taken, labels_taken, labels_reason, name_reason, last_reason, is_left_out}
+use Rattle.metrics_prometheus.specs.Labels.{repeats, reserved_of, are_fit}
 use Rattle.metrics_prometheus.specs.Written.{written, AreApart}
 use Rattle.metrics_prometheus.proofs.PairLemmas.{each-map, Pairs, pairs-from-places}
 use Rattle.metrics_prometheus.proofs.SameLemmas.{same-kind, bytes-same, labels-same}
@@ -67,6 +68,48 @@ second-part Less p e up = absurd (let g : Less ≡ Equal = e in cc)
 second-part Equal p e up = up
 second-part Greater p e up = absurd (let g : Greater ≡ Equal = e in cc)
 
+-- ---- a reason to leave a row out, as tests
+
+-- a row has the name of the last one written, and is of another kind or has the same labels
+abbrev pub clashes : Option Row → Row → Bool
+clashes None r = false
+clashes (Some w) r = bytes_eq w.name r.name && (not (kind_eq w.kind r.kind) || pointwise label_eq w.labels r.labels)
+
+clash-is : (last : Option Row) (r : Row) → is_some (last_reason last r) ≡ clashes last r
+clash-is None r = refl
+clash-is (Some w) r = go (bytes_eq w.name r.name) (kind_eq w.kind r.kind) (pointwise label_eq w.labels r.labels)
+  where
+    go : (n k l : Bool) → is_some (cond n (cond k (cond l (Some (labels_taken w.key.name)) None) (Some (name_taken w.kind))) None) ≡ (n && (not k || l))
+    go true true true = refl
+    go true true false = refl
+    go true false l = refl
+    go false k l = refl
+
+some-map : {A B : Type 0} (f : A → B) (o : Option A) → is_some (option_map f o) ≡ is_some o
+some-map f None = refl
+some-map f (Some a) = refl
+
+some-or : {A : Type 0} (o p : Option A) → is_some (option_or o p) ≡ (is_some o || is_some p)
+some-or None p = refl
+some-or (Some a) p = refl
+
+fit-is : (k : MetricKind) (ls : List LabelParts) → is_some (labels_reason k ls) ≡ not (are_fit k ls)
+fit-is k ls = go (repeats ls) (is_some (reserved_of k ls)) (some-map _ (reserved_of k ls))
+  where
+    go : (b c : Bool) → is_some (option_map (λ n. label_reserved n) (reserved_of k ls)) ≡ c → is_some (cond b (Some label_twice) (option_map (λ n. label_reserved n) (reserved_of k ls))) ≡ not (not b && not c)
+    go true c e = refl
+    go false true e = e
+    go false false e = e
+
+pub left-is : (all : List Row) (last : Option Row) (r : Row) → is_left_out all last r ≡ (not (are_fit r.kind r.labels) || (is_taken all r.name || clashes last r))
+left-is all last r =
+    some-or (labels_reason r.kind r.labels) (option_or (name_reason (histogram_names all) r.name) (last_reason last r))
+    ∙ ap (λ b. b || is_some (option_or (name_reason (histogram_names all) r.name) (last_reason last r))) (fit-is r.kind r.labels)
+    ∙ ap (λ b. not (are_fit r.kind r.labels) || b)
+    (some-or (name_reason (histogram_names all) r.name) (last_reason last r)
+    ∙ ap (λ b. b || is_some (last_reason last r)) (some-map _ (whole_of (histogram_names all) r.name))
+    ∙ ap (λ b. is_taken all r.name || b) (clash-is last r))
+
 -- two rows in order are before one another, or clash
 in-order : (a b : Row) → is_lt (row_cmp b a) ≡ false → clashes (Some a) b ≡ false → IsBefore a b
 in-order a b up free =
@@ -112,7 +155,7 @@ written-behind all w (r ∷ rs) h up =
     cond_both (is_left_out all (Some w) r) (written all (Some w) rs) (r ∷ written all (Some r) rs) (λ l. AllByRecursion (IsBefore w) l × Pairs IsBefore l)
     (λ e. written-behind all w rs h.1 up.1)
     (λ e.
-    let first : IsBefore w r = in-order w r h.0 (left-case (are_fit r.kind r.labels) (is_taken all r.name) (clashes (Some w) r) e).1 in
+    let first : IsBefore w r = in-order w r h.0 (left-case (are_fit r.kind r.labels) (is_taken all r.name) (clashes (Some w) r) (sym (left-is all (Some w) r) ∙ e)).1 in
     let rest = written-behind all r rs up.0 up.1 in
     ((first, each-map (IsBefore r) (IsBefore w) (λ q. before-trans w r q first) (written all (Some r) rs) rest.0), rest))
 
@@ -137,7 +180,7 @@ written-fit all last [] = tt
 written-fit all last (r ∷ rs) =
     cond_both (is_left_out all last r) (written all last rs) (r ∷ written all (Some r) rs) (AllByRecursion (λ q. are_fit q.kind q.labels ≡ true))
     (λ e. written-fit all last rs)
-    (λ e. (fit-case (are_fit r.kind r.labels) (is_taken all r.name) (clashes last r) e, written-fit all (Some r) rs))
+    (λ e. (fit-case (are_fit r.kind r.labels) (is_taken all r.name) (clashes last r) (sym (left-is all last r) ∙ e), written-fit all (Some r) rs))
   where
     fit-case : (b x y : Bool) → (not b || (x || y)) ≡ false → b ≡ true
     fit-case true x y e = refl
@@ -149,7 +192,7 @@ written-free all last [] = tt
 written-free all last (r ∷ rs) =
     cond_both (is_left_out all last r) (written all last rs) (r ∷ written all (Some r) rs) (AllByRecursion (λ q. is_taken all q.name ≡ false))
     (λ e. written-free all last rs)
-    (λ e. ((left-case (are_fit r.kind r.labels) (is_taken all r.name) (clashes last r) e).0, written-free all (Some r) rs))
+    (λ e. ((left-case (are_fit r.kind r.labels) (is_taken all r.name) (clashes last r) (sym (left-is all last r) ∙ e)).0, written-free all (Some r) rs))
 
 -- sorted rows
 pub rows-up : IsTotalOrder row_cmp → (rows : List Row) → IsSorted row_cmp rows → Pairs IsUp rows

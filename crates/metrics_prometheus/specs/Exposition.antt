@@ -1,6 +1,7 @@
 -- Prometheus's text exposition format, version 0.0.4, of the series that are held.
-use Rattle.std.specs.Prelude.{if◌then◌else◌, ◌≡◌, ℕ, ◌-◌, Bool, false, not, ◌&&◌, ◌||◌, nat_eq, bytes_eq, List, [], ◌∷◌, ◌++◌, map, length, take, codes, decimal, IsPermutation, IsSorted, Option, None, Some, option_map, Contains, ◌↔◌}
+use Rattle.std.specs.Prelude.{if◌then◌else◌, ◌≡◌, ℕ, ◌-◌, Bool, ◌&&◌, nat_eq, bytes_eq, List, [], ◌∷◌, ◌++◌, map, length, take, codes, decimal, IsPermutation, IsSorted, Option, None, Some, is_some, option_map, Contains, ◌↔◌}
 use Rattle.std.specs.Fmt.{signed_decimal}
+use Rattle.std.specs.Option.{option_or}
 use Rattle.std.specs.List.{list_any, ends_with, IsDistinct}
 use Rattle.std.specs.Cmp.Lexicographic.{pointwise, slice_cmp}
 use Rattle.std.specs.declared.cmp.Ordering.{Ordering}
@@ -12,7 +13,7 @@ use Rattle.metrics_exporter.specs.Exporting.{Reading, count, level, samples, Cel
 use Rattle.metrics_exporter.specs.ExporterText.{kind_word}
 use Rattle.metrics_exporter.specs.Gathering.{series_at}
 use Rattle.metrics_prometheus.specs.Names.{metric_name, help_escaped}
-use Rattle.metrics_prometheus.specs.Labels.{shown_labels, are_fit, AreTexts}
+use Rattle.metrics_prometheus.specs.Labels.{shown_labels, repeats, reserved_of, are_fit, AreTexts}
 use Rattle.metrics_prometheus.specs.Samples.{Sample, lines, labels_text, histogram_samples}
 
 -- a series as Prometheus is shown it, beside its own key, and the description of its own name
@@ -39,25 +40,66 @@ row_cmp = then_cmp (on (λ r. r.name) (slice_cmp nat_cmp)) (then_cmp (on (λ r. 
 
 -- ---- what is left out
 
--- the histogram of that name
-abbrev pub is_histogram_of : List ℕ → Row → Bool
-is_histogram_of name r = kind_eq r.kind Histogram && bytes_eq r.name name
+-- a histogram whose labels are fit
+abbrev pub is_fit_histogram : Row → Bool
+is_fit_histogram r = kind_eq r.kind Histogram && are_fit r.kind r.labels
 
--- a name ends so, and what stands before that is a histogram's name
-abbrev pub is_part : List Row → List ℕ → List ℕ → Bool
-is_part rows name end = ends_with nat_eq name end && list_any (is_histogram_of (take (length name - length end) name)) rows
+-- the names of these: a histogram that its labels keep from the text takes no name
+abbrev pub histogram_names : List Row → List (List ℕ)
+histogram_names [] = []
+histogram_names (r ∷ rs) = if is_fit_histogram r then r.name ∷ histogram_names rs else histogram_names rs
+
+-- a name, where it is one of these
+abbrev pub found_in : List (List ℕ) → List ℕ → Option (List ℕ)
+found_in names name = if list_any (bytes_eq name) names then Some name else None
+
+-- what stands in front of the end of a name, where the name ends so and that is one of these
+abbrev pub part_of : List (List ℕ) → List ℕ → List ℕ → Option (List ℕ)
+part_of names name end = if ends_with nat_eq name end then found_in names (take (length name - length end) name) else None
+
+-- the one of these that is the name without the end of a histogram's samples
+abbrev pub whole_of : List (List ℕ) → List ℕ → Option (List ℕ)
+whole_of names name = option_or (part_of names name (codes "_bucket")) (option_or (part_of names name (codes "_sum")) (part_of names name (codes "_count")))
 
 -- a name is that of a histogram's samples
 abbrev pub is_taken : List Row → List ℕ → Bool
-is_taken rows name = is_part rows name (codes "_bucket") || (is_part rows name (codes "_sum") || is_part rows name (codes "_count"))
+is_taken rows name = is_some (whole_of (histogram_names rows) name)
 
--- a row has the name of the last one written, and is of another kind or has the same labels
-abbrev pub clashes : Option Row → Row → Bool
-clashes None r = false
-clashes (Some w) r = bytes_eq w.name r.name && (not (kind_eq w.kind r.kind) || pointwise label_eq w.labels r.labels)
+-- ---- why a series is left out
+
+pub data Reason : Type 0 where
+  -- two of its labels have one name
+  label_twice : Reason
+  -- Prometheus keeps this name of a label for itself
+  label_reserved : List ℕ → Reason
+  -- its name is that of a part of this histogram
+  part : List ℕ → Reason
+  -- a series of this kind was written under its name
+  name_taken : MetricKind → Reason
+  -- a series of this own name was written under its name, with its labels
+  labels_taken : List ℕ → Reason
+
+abbrev pub labels_reason : MetricKind → List LabelParts → Option Reason
+labels_reason kind labels = if repeats labels then Some label_twice else option_map (λ n. label_reserved n) (reserved_of kind labels)
+
+abbrev pub name_reason : List (List ℕ) → List ℕ → Option Reason
+name_reason names name = option_map (λ n. part n) (whole_of names name)
+
+-- beside a row of its name that was written
+abbrev pub same_name_reason : Row → Row → Option Reason
+same_name_reason w r = if kind_eq w.kind r.kind then (if pointwise label_eq w.labels r.labels then Some (labels_taken w.key.name) else None) else Some (name_taken w.kind)
+
+-- beside the row that was written last
+abbrev pub last_reason : Option Row → Row → Option Reason
+last_reason None r = None
+last_reason (Some w) r = if bytes_eq w.name r.name then same_name_reason w r else None
+
+-- the first that holds
+abbrev pub reason_of : List Row → Option Row → Row → Option Reason
+reason_of rows last r = option_or (labels_reason r.kind r.labels) (option_or (name_reason (histogram_names rows) r.name) (last_reason last r))
 
 abbrev pub is_left_out : List Row → Option Row → Row → Bool
-is_left_out rows last r = not (are_fit r.kind r.labels) || (is_taken rows r.name || clashes last r)
+is_left_out rows last r = is_some (reason_of rows last r)
 
 -- ---- the text
 
@@ -86,12 +128,29 @@ samples_of r (Some (samples d)) = histogram_samples r.name r.labels d
 abbrev pub reading_at : Cells → Row → Option Reading
 reading_at cells r = option_map (λ c. c.reading) (cells (series_at r.kind r.key))
 
-abbrev pub left_out_line : Row → List ℕ
-left_out_line r = codes "# left out: " ++ (r.name ++ (labels_text r.labels ++ 10 ∷ []))
+-- names stand in it as they are in a description
+abbrev pub reason_text : Reason → List ℕ
+reason_text label_twice = codes "two labels of one name"
+reason_text (label_reserved n) = codes "label " ++ help_escaped n
+reason_text (part n) = codes "name of a part of histogram " ++ help_escaped n
+reason_text (name_taken kind) = codes "name taken by a " ++ kind_word kind
+reason_text (labels_taken n) = codes "labels equal those of " ++ help_escaped n
+
+-- KIND NAME{LABELS}, with the series' own name
+abbrev pub series_named : Row → List ℕ
+series_named r = kind_word r.kind ++ (32 ∷ (help_escaped r.key.name ++ labels_text r.labels))
+
+-- # left out: KIND NAME{LABELS}: REASON
+abbrev pub left_out_line : Row → Reason → List ℕ
+left_out_line r why = codes "# left out: " ++ (series_named r ++ (codes ": " ++ (reason_text why ++ 10 ∷ [])))
 
 -- a row with what it shows
+abbrev pub told_as : Option Reason → Option Reading → Option Row → Row → List ℕ
+told_as None reading last r = name_text last r ++ lines (samples_of r reading)
+told_as (Some why) reading last r = left_out_line r why
+
 abbrev pub row_told : Option Reading → List Row → Option Row → Row → List ℕ
-row_told reading rows last r = if is_left_out rows last r then left_out_line r else (name_text last r ++ lines (samples_of r reading))
+row_told reading rows last r = told_as (reason_of rows last r) reading last r
 
 abbrev pub row_text : Cells → List Row → Option Row → Row → List ℕ
 row_text cells rows last r = row_told (reading_at cells r) rows last r

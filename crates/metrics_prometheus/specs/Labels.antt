@@ -1,6 +1,6 @@
 -- The labels of a series as Prometheus is shown them.
-use Rattle.std.specs.Prelude.{if◌then◌else◌, ℕ, Bool, false, not, ◌&&◌, ◌||◌, List, [], ◌∷◌, codes, bytes_eq, Option, None, Some}
-use Rattle.std.specs.List.{AllByRecursion, list_any}
+use Rattle.std.specs.Prelude.{if◌then◌else◌, ℕ, Bool, false, not, ◌&&◌, ◌||◌, List, [], ◌∷◌, codes, nat_eq, bytes_eq, Option, None, Some, is_some}
+use Rattle.std.specs.List.{AllByRecursion, list_any, starts_with}
 use Rattle.std.specs.Str.{IsUtf8}
 use Rattle.std.specs.Ordering.{is_lt}
 use Rattle.metrics_names.specs.declared.kind.MetricKind.{MetricKind}
@@ -31,13 +31,18 @@ abbrev pub repeats : List LabelParts → Bool
 repeats [] = false
 repeats (l ∷ ls) = list_any (λ m. bytes_eq m.0 l.0) ls || repeats ls
 
--- a name that Prometheus gives itself: the metric's, and the bound of a histogram's bucket
+-- a name that Prometheus keeps for itself: one that begins with two underscores, and the bound of a histogram's bucket
 abbrev pub is_reserved : MetricKind → List ℕ → Bool
-is_reserved kind name = bytes_eq name (codes "__name__") || (kind_eq kind Histogram && bytes_eq name (codes "le"))
+is_reserved kind name = starts_with nat_eq name (codes "__") || (kind_eq kind Histogram && bytes_eq name (codes "le"))
+
+-- the first of a list's labels that has such a name
+abbrev pub reserved_of : MetricKind → List LabelParts → Option (List ℕ)
+reserved_of kind [] = None
+reserved_of kind (l ∷ ls) = if is_reserved kind l.0 then Some l.0 else reserved_of kind ls
 
 -- labels that a series of the kind can be shown with: no name twice, and none that is reserved
 abbrev pub are_fit : MetricKind → List LabelParts → Bool
-are_fit kind labels = not (repeats labels) && not (list_any (λ l. is_reserved kind l.0) labels)
+are_fit kind labels = not (repeats labels) && not (is_some (reserved_of kind labels))
 
 -- the values of labels are UTF-8
 abbrev pub AreTexts : List LabelParts → Type 0

@@ -1,19 +1,18 @@
 -- Rows by reference, each with what it shows.
-use Rattle.std.specs.Prelude.{◌≡◌, ℕ, List, map, Option, Some, option_map}
+use Rattle.std.specs.Prelude.{◌≡◌, ℕ, List, map, Some, option_map}
 use Rattle.std.specs.List.{AllByRecursion}
 use Rattle.std.specs.List.Sorted.{IsSorted}
-use Rattle.std.specs.Cmp.Lexicographic.{slice_cmp}
-use Rattle.std.specs.Ordering.{nat_cmp, ordering_then}
-use Rattle.std.specs.declared.cmp.Ordering.{Ordering}
-use Rattle.metrics_names.specs.declared.kind.MetricKind.TheVariants.{Histogram}
-use Rattle.metrics_names.specs.Names.{kind_number, label_cmp}
+use Rattle.std.specs.Borrow.{Bor}
+use Rattle.metrics_names.specs.Names.{label_cmp}
 use Rattle.metrics_exporter.specs.Exporting.{Reading, Cells}
 use Rattle.metrics_exporter.specs.Describing.{Legend, described_by}
 use Rattle.metrics_exporter.specs.declared.descriptions.Descriptions.{Descriptions}
 use Rattle.metrics_exporter.specs.Gathering.{series_at}
 use Rattle.metrics_exporter.specs.Readings.{Told, reading_shown, AreOnce}
 use Rattle.metrics_prometheus.specs.declared.rows.ShownRow.{ShownRow}
-use Rattle.metrics_prometheus.specs.Exposition.{Row, Helps, row_of, row_cmp, reading_at}
+use Rattle.metrics_prometheus.specs.declared.reasons.Reason.{Reason as ReasonParts}
+use Rattle.metrics_prometheus.specs.declared.reasons.Reason.TheVariants.{LabelTwice, LabelReserved, PartOf, NameTaken, LabelsTaken}
+use Rattle.metrics_prometheus.specs.Exposition.{Row, Helps, row_of, row_cmp, reading_at, Reason, label_twice, label_reserved, part, name_taken, labels_taken}
 
 -- the texts of what is told of names
 abbrev pub helps_in : Legend → Helps
@@ -51,6 +50,14 @@ pub record AreRowsOf (helps : Helps) (told : List Told) (rows : List ShownRow) :
   pub ordered : IsSorted row_cmp (rows_shown rows)
   pub labels : AllByRecursion (λ r. IsSorted label_cmp r.labels) rows
 
--- where a row stands to the histograms of a name
-abbrev pub histogram_place : List ℕ → Row → Ordering
-histogram_place name r = ordering_then (slice_cmp nat_cmp r.name name) (nat_cmp (kind_number r.kind) (kind_number Histogram))
+-- why a row is left out, by reference
+abbrev pub reason_shown : ReasonParts → Reason
+reason_shown LabelTwice = label_twice
+reason_shown (LabelReserved n) = label_reserved n.now
+reason_shown (PartOf n) = part n.now
+reason_shown (NameTaken kind) = name_taken kind
+reason_shown (LabelsTaken n) = labels_taken n.now
+
+-- names by reference
+abbrev pub names_shown : List (Bor (List ℕ)) → List (List ℕ)
+names_shown names = map (λ n. n.now) names

@@ -6,7 +6,7 @@ use Rattle.metrics_names.specs.Names.{label_eq}
 use Rattle.metrics_exporter.specs.Exporting.{Cells}
 use Rattle.metrics_prometheus.specs.Samples.{Sample, sample_line, lines}
 use Rattle.metrics_prometheus.specs.Labels.{are_fit}
-use Rattle.metrics_prometheus.specs.Exposition.{Row, is_taken, is_left_out, samples_of, reading_at, help_line, type_line, left_out_line}
+use Rattle.metrics_prometheus.specs.Exposition.{Row, is_taken, Reason, reason_of, is_left_out, samples_of, reading_at, help_line, type_line, left_out_line}
 
 -- the rows that are not left out
 abbrev pub written : List Row → Option Row → List Row → List Row
@@ -32,31 +32,36 @@ pub record MayStand (rows : List Row) (r : Row) : Type 0 where
   pub free : is_taken rows r.name ≡ false
   pub apart : (w : Row) → Contains (written rows None rows) w → (w ≡ r) ⊎ AreApart w r
 
--- a row that may stand is written, and its samples stand in the text; of another the line stands there that it is left out
+-- the reason holds by the row itself and the histograms, or beside a row that is written
+pub data IsWhy (rows : List Row) (r : Row) (why : Reason) : Type 0 where
+  alone : reason_of rows None r ≡ Some why → IsWhy rows r why
+  beside : (w : Row) → Contains (written rows None rows) w → reason_of rows (Some w) r ≡ Some why → IsWhy rows r why
+
+-- a row that may stand is written, and its samples stand in the text; of another the line stands there that it is left out, and why
 pub data IsTold (cells : Cells) (rows : List Row) (text : List ℕ) (r : Row) : Type 0 where
   shown : MayStand rows r → (before after : List ℕ) → text ≡ before ++ (lines (samples_of r (reading_at cells r)) ++ after) → IsTold cells rows text r
-  left_out : (MayStand rows r → ⊥) → (before after : List ℕ) → text ≡ before ++ (left_out_line r ++ after) → IsTold cells rows text r
+  left_out : (MayStand rows r → ⊥) → (why : Reason) → IsWhy rows r why → (before after : List ℕ) → text ≡ before ++ (left_out_line r why ++ after) → IsTold cells rows text r
 
 -- ---- the lines of a text
 
--- a line has a sample, or it describes a name, or tells the kind of a row's name or that a row is left out
+-- a line has a sample, or it describes a name, or tells the kind of a row's name, or why a row is left out
 pub data Line : Type 0 where
   has : Sample → Line
   describes : List ℕ → List ℕ → Line
   tells_kind : Row → Line
-  leaves_out : Row → Line
+  leaves_out : Row → Reason → Line
 
 abbrev pub line_text : Line → List ℕ
 line_text (has s) = sample_line s
 line_text (describes name text) = help_line name (Some text)
 line_text (tells_kind r) = type_line r
-line_text (leaves_out r) = left_out_line r
+line_text (leaves_out r why) = left_out_line r why
 
 abbrev pub sample_in : Line → Option Sample
 sample_in (has s) = Some s
 sample_in (describes name text) = None
 sample_in (tells_kind r) = None
-sample_in (leaves_out r) = None
+sample_in (leaves_out r why) = None
 
 -- a line feed stands at its end, and nowhere else
 pub record IsLine (bytes : List ℕ) : Type 0 where
@@ -80,3 +85,29 @@ pub record HasSamples (text : List ℕ) (samples : List Sample) : Type 0 where
   pub text_is : text ≡ flat_map line_text all
   pub readable : AllByRecursion IsReadable all
   pub samples_are : filter_map sample_in all ≡ samples
+
+-- ---- the kinds of names
+
+-- a line tells the kind of that name
+abbrev pub is_type_of : List ℕ → Line → Bool
+is_type_of name (has s) = false
+is_type_of name (describes n text) = false
+is_type_of name (tells_kind r) = bytes_eq r.name name
+is_type_of name (leaves_out r why) = false
+
+-- of these lines one tells the kind of the row's name, as the row has it, and none of these samples comes before it
+pub record TellsKindOnce (all : List Line) (w : Row) (samples : List Sample) : Type 0 where
+  pub before : List Line
+  pub first : Row
+  pub after : List Line
+  pub all_are : all ≡ before ++ tells_kind first ∷ after
+  pub name : first.name ≡ w.name
+  pub kind : first.kind ≡ w.kind
+  pub none_before : AllByRecursion (λ l. is_type_of w.name l ≡ false) before
+  pub none_after : AllByRecursion (λ l. is_type_of w.name l ≡ false) after
+  pub behind : (s : Sample) → Contains samples s → Contains (filter_map sample_in before) s → ⊥
+
+-- a text of lines that can be told apart, which tell the kind of each row's name once, before the row's samples
+pub record TellsKinds (cells : Cells) (rows : List Row) (text : List ℕ) : Type 0 where
+  pub lines : HasSamples text (samples_written cells rows)
+  pub once : (w : Row) → Contains (written rows None rows) w → TellsKindOnce lines.all w (samples_of w (reading_at cells w))

@@ -1,12 +1,11 @@
 //! The labels of a series as Prometheus is shown them.
-ghost use Rattle.std.specs.Prelude.{◌≡◌, ◌≤◌, length, insert, MatchResult, IfOk, OnOk, All, option_map};
-ghost use Rattle.std.specs.List.{list_any};
+ghost use Rattle.std.specs.Prelude.{◌≡◌, ◌≤◌, length, insert, MatchResult, IfOk, OnOk, All, is_some, option_map};
 ghost use Rattle.std.specs.List.Sorted.{IsSorted};
 ghost use Rattle.std.specs.Ordering.{is_lt};
 ghost use Rattle.std.specs.Str.{IsUtf8};
 ghost use Rattle.metrics.specs.declared.error.Error.TheVariants.{Memory as OutOfMemory};
 ghost use Rattle.metrics_names.specs.Names.{LabelParts, label_cmp};
-ghost use Rattle.metrics_prometheus.specs.Labels.{placed, added, shown_labels, repeats, is_last, is_reserved, are_fit};
+ghost use Rattle.metrics_prometheus.specs.Labels.{placed, added, shown_labels, repeats, is_last, is_reserved, reserved_of, are_fit};
 
 use crate::names::label_name;
 use metrics::{Error, Label, MetricKind};
@@ -76,7 +75,7 @@ fn is_last(last: Option<&str>, name: &str) -> bool
 }
 
 /// Whether two labels, of some in order, have one name.
-fn repeats(labels: &[Label]) -> bool
+pub(crate) fn repeats(labels: &[Label]) -> bool
     requires { IsSorted label_cmp labels.now }
     ensures { result ≡ repeats labels.now }
 {
@@ -90,22 +89,32 @@ fn repeats(labels: &[Label]) -> bool
     false
 }
 
-/// Whether Prometheus gives a label of that name itself.
+/// Whether Prometheus keeps a label of that name for itself.
 fn is_reserved(kind: MetricKind, name: &str) -> bool
     ensures { result ≡ is_reserved kind name.now }
 {
-    name == "__name__" || (kind == MetricKind::Histogram && name == "le")
+    name.as_bytes().starts_with(b"__") || (kind == MetricKind::Histogram && name == "le")
 }
 
-fn has_reserved(kind: MetricKind, labels: &[Label]) -> bool
-    ensures { result ≡ list_any (λ l. is_reserved kind l.0) labels.now }
+/// The first label whose name Prometheus keeps for itself.
+pub(crate) fn reserved_of(kind: MetricKind, labels: &[Label]) -> Option<&str>
+    ensures { option_map (λ n. n.now) result ≡ reserved_of kind labels.now }
 {
     for label in labels {
         if is_reserved(kind, label.key()) {
-            return true;
+            return Some(label.key());
         }
     }
-    false
+    None
+}
+
+fn has_reserved(kind: MetricKind, labels: &[Label]) -> bool
+    ensures { result ≡ is_some (reserved_of kind labels.now) }
+{
+    match reserved_of(kind, labels) {
+        Some(_) => true,
+        None => false,
+    }
 }
 
 /// Whether a series of the kind can be shown with these labels.

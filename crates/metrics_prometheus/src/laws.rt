@@ -10,7 +10,7 @@ ghost use Rattle.metrics_prometheus.specs.Exposition.{Helps, IsDescribed, Row, r
 ghost use Rattle.metrics_prometheus.specs.Written.{written, samples_written, is_same_series};
 ghost use Rattle.metrics_prometheus.specs.Samples.{Sample, series_text};
 ghost use Rattle.metrics_prometheus.specs.Reading.{AreOfKinds, AreBuckets, HasNames, CanBeRead, is_same_text, Ascend, NamesOnce};
-ghost use Rattle.metrics_prometheus.specs.Written.{AreApart, HasSamples, MayStand, IsTold};
+ghost use Rattle.metrics_prometheus.specs.Written.{AreApart, HasSamples, TellsKinds, MayStand, IsTold};
 
 use crate::rows::row_order;
 
@@ -35,6 +35,11 @@ pub fn exposition_law()
     // It has its samples in the text, or, where something keeps it from the text, a line that says that it is left out.
     ensures told { (helps : Helps) (cells : Cells) (text : List ℕ) (e : IsDescribed helps cells text) (s : SeriesKey)
         → IsHeld cells s → IsTold cells e.rows text (row_of helps s) }
+    // The kind of each name that is written is told once, as its rows have it, before the samples of these.
+    ensures types { (helps : Helps) (cells : Cells) (text : List ℕ) → AreOfKinds cells → (e : IsDescribed helps cells text)
+        → TellsKinds cells e.rows text }
+    // What is held has one text: no two texts are expositions of the same cells, under the same descriptions.
+    ensures one { (helps : Helps) (cells : Cells) (a b : List ℕ) → IsDescribed helps cells a → IsDescribed helps cells b → a ≡ b }
     // What an exporter holds is of the kinds of its series.
     ensures kinds { (setup : Setup) (xs : List Step) → All (FitsSigned w64) setup.bounds → AreOfKinds (cells_after setup xs) }
 {

@@ -4,8 +4,10 @@
 mod labels;
 mod laws;
 mod names;
+mod reasons;
 mod rows;
 mod samples;
+mod taken;
 mod text;
 
 pub use laws::{exposition_law, exposition_text_law};

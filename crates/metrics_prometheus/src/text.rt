@@ -1,101 +1,30 @@
 //! The text of the held series.
 ghost use Rattle.std.specs.Prelude.{◌≡◌, ◌<◌, ◌++◌, List, length, not, OnErr, None, Some, option_map, string_bytes, OnOk, IfOk, IfErr, MatchResult};
-ghost use Rattle.std.specs.List.{list_any, AllByRecursion};
+ghost use Rattle.std.specs.List.{AllByRecursion};
 ghost use Rattle.std.specs.List.Sorted.{IsSorted};
+ghost use Rattle.std.specs.Cmp.Lexicographic.{slice_cmp};
+ghost use Rattle.std.specs.Ordering.{nat_cmp};
 ghost use Rattle.metrics.specs.declared.error.Error.TheVariants.{Memory as OutOfMemory};
 ghost use Rattle.metrics_exporter.specs.Exporting.{Cells, Setup, Log, steps, cells_after, HoldsSome};
 ghost use Rattle.metrics_names.specs.Names.{label_cmp};
-ghost use Rattle.metrics_exporter.specs.ExporterText.{kind_word};
 ghost use Rattle.metrics_exporter.specs.Kept.{IsAfter, described};
 ghost use Rattle.metrics_exporter.specs.Describing.{SameLegend, no_legend};
 ghost use Rattle.metrics_exporter.specs.Readings.{AreReadings, AreOnce, Told, all_told, reading_shown, cells_told};
-ghost use Rattle.metrics_prometheus.specs.Exposition.{row_cmp, is_histogram_of, is_part, is_taken, clashes, is_left_out};
+ghost use Rattle.metrics_prometheus.specs.Exposition.{Row, row_cmp, histogram_names, is_left_out};
 ghost use Rattle.metrics_prometheus.specs.Exposition.{help_line, type_line, name_lines, name_text};
-ghost use Rattle.metrics_prometheus.specs.Exposition.{samples_of, left_out_line, row_told, rows_text, last_after};
+ghost use Rattle.metrics_prometheus.specs.Exposition.{samples_of, row_told, rows_text, last_after};
 ghost use Rattle.metrics_prometheus.specs.Exposition.{IsExposition, IsDescribed};
-ghost use Rattle.metrics_prometheus.specs.Rows.{row_shown, rows_shown, Shows, helps_in, helps_of, histogram_place};
+ghost use Rattle.metrics_prometheus.specs.Rows.{row_shown, rows_shown, Shows, names_shown, helps_in, helps_of};
 ghost use Rattle.metrics_prometheus.specs.Samples.{lines};
 
-use crate::labels::are_fit;
 use crate::names::write_help_text;
+use crate::reasons::{kind_text, reason_of, write_left_out};
 use crate::rows::{ShownRow, sorted_rows};
-use crate::samples::{write_histogram, write_labels, write_sample};
-use metrics::{Error, MetricKind};
+use crate::samples::{write_histogram, write_sample};
+use crate::taken::histogram_names;
+use metrics::Error;
 use metrics_exporter::{Descriptions, Exporter, ReadingRef, SeriesReading};
 use std::alloc::{AllocError, Global};
-use std::cmp::Ordering;
-
-/// Where a row stands to the histograms of a name.
-fn histogram_place(row: &ShownRow<'_>, name: &[u8]) -> Ordering
-    ensures { result ≡ histogram_place name.now (row_shown row.now) }
-{
-    match row.name.as_str().as_bytes().cmp(name) {
-        Ordering::Equal => row.kind.cmp(&MetricKind::Histogram),
-        other => other,
-    }
-}
-
-fn has_histogram(rows: &[ShownRow<'_>], name: &[u8]) -> bool
-    requires { IsSorted row_cmp (rows_shown rows.now) }
-    ensures { result ≡ list_any (is_histogram_of name.now) (rows_shown rows.now) }
-{
-    rows.binary_search_by(|row| histogram_place(row, name))
-        .is_ok()
-}
-
-/// Whether a name ends so, behind the name of a histogram.
-fn is_part(rows: &[ShownRow<'_>], name: &[u8], end: &[u8]) -> bool
-    requires { IsSorted row_cmp (rows_shown rows.now) }
-    ensures { result ≡ is_part (rows_shown rows.now) name.now end.now }
-{
-    if !name.ends_with(end) {
-        return false;
-    }
-    has_histogram(rows, &name[..name.len() - end.len()])
-}
-
-/// Whether a name is that of a histogram's samples.
-fn is_taken(rows: &[ShownRow<'_>], name: &[u8]) -> bool
-    requires { IsSorted row_cmp (rows_shown rows.now) }
-    ensures { result ≡ is_taken (rows_shown rows.now) name.now }
-{
-    is_part(rows, name, b"_bucket")
-        || is_part(rows, name, b"_sum")
-        || is_part(rows, name, b"_count")
-}
-
-/// Whether a row can't stand beside the one that was written last.
-fn clashes(last: Option<&ShownRow<'_>>, row: &ShownRow<'_>) -> bool
-    ensures { result ≡ clashes (option_map (λ w. row_shown w.now) last.entry) (row_shown row.now) }
-{
-    match last {
-        Some(written) => {
-            written.name == row.name && (written.kind != row.kind || written.labels == row.labels)
-        }
-        None => false,
-    }
-}
-
-fn is_left_out(rows: &[ShownRow<'_>], last: Option<&ShownRow<'_>>, row: &ShownRow<'_>) -> bool
-    requires sorted { IsSorted row_cmp (rows_shown rows.now) }
-    requires labels { IsSorted label_cmp row.now.labels }
-    ensures { result
-        ≡ is_left_out (rows_shown rows.now) (option_map (λ w. row_shown w.now) last.entry) (row_shown row.now) }
-{
-    !are_fit(row.kind, row.labels.as_slice())
-        || is_taken(rows, row.name.as_str().as_bytes())
-        || clashes(last, row)
-}
-
-fn kind_text(kind: MetricKind) -> &'static str
-    ensures { result.now ≡ kind_word kind }
-{
-    match kind {
-        MetricKind::Counter => "counter",
-        MetricKind::Gauge => "gauge",
-        MetricKind::Histogram => "histogram",
-    }
-}
 
 fn write_type_line(text: &mut String, row: &ShownRow<'_>) -> Result<(), AllocError>
     ensures { OnOk result (string_bytes text.new ≡ string_bytes text.old ++ type_line (row_shown row.now)) }
@@ -151,16 +80,6 @@ fn write_name(
     }
 }
 
-fn write_left_out(text: &mut String, row: &ShownRow<'_>) -> Result<(), AllocError>
-    ensures { OnOk result (string_bytes text.new ≡ string_bytes text.old ++ left_out_line (row_shown row.now)) }
-{
-    text.push_str("# left out: ")?;
-    text.push_str(row.name.as_str())?;
-    write_labels(text, row.labels.as_slice())?;
-    text.push_str("\n")?;
-    Ok(())
-}
-
 /// Writes the samples of a row's series.
 fn write_samples(alloc: Global, text: &mut String, row: &ShownRow<'_>) -> Result<(), Error>
     ensures ok { OnOk result (string_bytes text.new ≡ string_bytes text.old
@@ -186,21 +105,21 @@ fn write_samples(alloc: Global, text: &mut String, row: &ShownRow<'_>) -> Result
 fn write_row(
     alloc: Global,
     text: &mut String,
-    rows: &[ShownRow<'_>],
+    histograms: &[&str],
     last: Option<&ShownRow<'_>>,
     row: &ShownRow<'_>,
 ) -> Result<bool, Error>
-    requires sorted { IsSorted row_cmp (rows_shown rows.now) }
+    requires sorted { IsSorted (slice_cmp nat_cmp) (names_shown histograms.now) }
     requires labels { IsSorted label_cmp row.now.labels }
-    ensures ok { OnOk result (string_bytes text.new ≡ string_bytes text.old
-        ++ row_told (Some (reading_shown row.now.reading)) (rows_shown rows.now)
+    ensures ok { OnOk result ((rows : List Row) → names_shown histograms.now ≡ histogram_names rows →
+        string_bytes text.new ≡ string_bytes text.old ++ row_told (Some (reading_shown row.now.reading)) rows
         (option_map (λ w. row_shown w.now) last.entry) (row_shown row.now)) }
-    ensures written { IfOk result (λ written. written
-        ≡ not (is_left_out (rows_shown rows.now) (option_map (λ w. row_shown w.now) last.entry) (row_shown row.now))) }
+    ensures written { IfOk result (λ written. (rows : List Row) → names_shown histograms.now ≡ histogram_names rows → written
+        ≡ not (is_left_out rows (option_map (λ w. row_shown w.now) last.entry) (row_shown row.now))) }
     ensures err { IfErr result (λ e. e ≡ OutOfMemory) }
 {
-    if is_left_out(rows, last, row) {
-        write_left_out(text, row)?;
+    if let Some(reason) = reason_of(histograms, last, row) {
+        write_left_out(text, row, reason)?;
         return Ok(false);
     }
     write_name(text, last, row)?;
@@ -216,17 +135,18 @@ fn rows_text(alloc: Global, rows: &[ShownRow<'_>]) -> Result<String, Error>
         ≡ rows_text cells (rows_shown rows.now) None (rows_shown rows.now)) }
     ensures err { IfErr result (λ e. e ≡ OutOfMemory) }
 {
+    let histograms = histogram_names(alloc, rows)?;
     let mut text = String::new(alloc);
     let mut last = None;
     for row in rows {
-        if write_row(alloc, &mut text, rows, last, row)? {
+        if write_row(alloc, &mut text, &histograms, last, row)? {
             last = Some(row);
         }
     }
     Ok(text)
 }
 
-/// These series in Prometheus's text exposition format, version 0.0.4, each name behind its description: that of the first
+/// Writes these series in Prometheus's text format, version 0.0.4, each name behind its description: that of the first
 /// series that is written under it, by that series' kind and own name.
 ///
 /// The text is made whole in memory, beside a row for each series. It is refused with `Error::Memory` where there is no room,
@@ -252,7 +172,7 @@ pub fn exposition_of(
     rows_text(alloc, &rows)
 }
 
-/// The held series in Prometheus's text exposition format, version 0.0.4, each name behind what the exporter was told of it.
+/// Writes the held series in Prometheus's text format, version 0.0.4, each name behind what the exporter was told of it.
 ///
 /// The text is made whole in memory, beside a row for each series. It is refused with `Error::Memory` where there is no room,
 /// and never where no series is held.

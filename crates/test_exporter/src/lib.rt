@@ -2,6 +2,8 @@
 #![tactic(auto)]
 
 #[cfg(test)]
+mod activity;
+#[cfg(test)]
 mod expositions;
 #[cfg(test)]
 mod given;

@@ -6,6 +6,8 @@ use Rattle.metrics_prometheus.proofs.ReadingLemmas.{rows-read, rows-buckets, kin
 use Rattle.metrics_prometheus.proofs.DistinctLemmas.{samples-distinct}
 use Rattle.metrics_prometheus.proofs.ToldLemmas.{series-told, series-written}
 use Rattle.metrics_prometheus.proofs.TextLineLemmas.{text-has}
+use Rattle.metrics_prometheus.proofs.OneTextLemmas.{one-text}
+use Rattle.metrics_prometheus.proofs.TypeLemmas.{text-tells}
 use Rattle.metrics_prometheus.proofs.laws.exposition_law.Goals as goal
 
 pub returns-clause-distinct : goal.returns-clause-distinct
@@ -30,3 +32,9 @@ returns-clause-buckets c = rows-buckets
 
 pub returns-clause-kinds : goal.returns-clause-kinds
 returns-clause-kinds c = kinds-after
+
+pub returns-clause-types : goal.returns-clause-types
+returns-clause-types c = λ helps cells text kinds e. text-tells cells text kinds e
+
+pub returns-clause-one : goal.returns-clause-one
+returns-clause-one c = λ helps cells a b e f. one-text cells a b e f

@@ -1,14 +1,9 @@
-use Rattle.std.proofs.Common.{◌≡◌, ◌∙◌, List, subst, sym, ap}
-use Rattle.std.specs.Cmp.{IsTotalOrder}
-use Rattle.std.specs.List.{dedup, All}
-use Rattle.std.specs.List.Sorted.{IsSorted, IsStrictlySortedBy}
-use Rattle.std.specs.Ordering.{is_eq}
-use Rattle.std.specs.Str.{IsUtf8}
+use Rattle.std.proofs.Common.{subst, sym}
+use Rattle.std.specs.List.Sorted.{IsStrictlySortedBy}
 use Rattle.std.proofs.lemmas.List.Filters.{dedup_is}
 use Rattle.std.proofs.lemmas.List.Kept.{IsStrictlySortedBy-dedup}
 use Rattle.metrics_exporter.specs.Readings.{all_told}
 use Rattle.metrics_prometheus.specs.contracts.rows.ShownRowOrd.TheImpl.Laws.{total-law, matches_eq-law}
-use Rattle.metrics_prometheus.specs.declared.rows.ShownRow.{ShownRow}
 use Rattle.metrics_prometheus.specs.Exposition.{row_cmp}
 use Rattle.metrics_prometheus.specs.Rows.{row_shown, helps_of}
 use Rattle.metrics_prometheus.proofs.RowLemmas.{sorted-map}

@@ -3,7 +3,7 @@ use Rattle.std.specs.List.{AllByRecursion}
 use Rattle.metrics_exporter.specs.Exporting.{Cells}
 use Rattle.metrics_exporter.specs.Readings.{all_told, cells_told, AreReadings, AreOnce}
 use Rattle.metrics_exporter.specs.declared.readings.SeriesReading.{SeriesReading}
-use Rattle.metrics_prometheus.specs.Exposition.{rows_text, HoldsTexts, IsDescribed}
+use Rattle.metrics_prometheus.specs.Exposition.{rows_text, IsDescribed}
 use Rattle.metrics_prometheus.specs.declared.rows.ShownRow.{ShownRow}
 use Rattle.metrics_prometheus.specs.Rows.{rows_shown, told_shown, helps_of, Shows}
 use Rattle.metrics_prometheus.proofs.HeldLemmas.{holds-texts, kept-texts, none-given, none-long}

@@ -1,0 +1,167 @@
+//! Why a series is left out, and the line that says so.
+ghost use Rattle.std.specs.Prelude.{◌≡◌, ◌++◌, List, OnOk, option_map, string_bytes};
+ghost use Rattle.std.specs.List.Sorted.{IsSorted};
+ghost use Rattle.std.specs.Cmp.Lexicographic.{slice_cmp};
+ghost use Rattle.std.specs.Ordering.{nat_cmp};
+ghost use Rattle.metrics_names.specs.Names.{label_cmp};
+ghost use Rattle.metrics_prometheus.specs.Exposition.{Row, histogram_names, labels_reason, name_reason, same_name_reason, last_reason, reason_of};
+ghost use Rattle.metrics_prometheus.specs.Exposition.{reason_text, series_named, left_out_line};
+ghost use Rattle.metrics_prometheus.specs.Names.{help_escaped};
+ghost use Rattle.metrics_exporter.specs.ExporterText.{kind_word};
+
+use crate::labels::{repeats, reserved_of};
+use crate::names::write_help_text;
+use crate::rows::ShownRow;
+use crate::samples::write_labels;
+use crate::taken::whole_of;
+use metrics::{Label, MetricKind};
+use std::alloc::AllocError;
+
+/// Why a series is left out.
+#[derive(Clone, Copy)]
+pub(crate) enum Reason<'r> {
+    /// Two of its labels have one name.
+    LabelTwice,
+    /// Prometheus keeps this name of a label for itself.
+    LabelReserved(&'r str),
+    /// Its name is that of a bucket, the sum or the count of this histogram.
+    PartOf(&'r str),
+    /// A series of this kind was written under its name.
+    NameTaken(MetricKind),
+    /// The series of this own name was written under its name, with the same labels.
+    LabelsTaken(&'r str),
+}
+
+ghost use Rattle.metrics_prometheus.specs.Rows.{reason_shown, row_shown, names_shown};
+
+fn labels_reason(kind: MetricKind, labels: &[Label]) -> Option<Reason<'_>>
+    requires { IsSorted label_cmp labels.now }
+    ensures { option_map reason_shown result ≡ labels_reason kind labels.now }
+{
+    if repeats(labels) {
+        return Some(Reason::LabelTwice);
+    }
+    match reserved_of(kind, labels) {
+        Some(name) => Some(Reason::LabelReserved(name)),
+        None => None,
+    }
+}
+
+fn name_reason<'r>(histograms: &[&'r str], name: &[u8]) -> Option<Reason<'r>>
+    requires { IsSorted (slice_cmp nat_cmp) (names_shown histograms.now) }
+    ensures { option_map reason_shown result ≡ name_reason (names_shown histograms.now) name.now }
+{
+    match whole_of(histograms, name) {
+        Some(whole) => Some(Reason::PartOf(whole)),
+        None => None,
+    }
+}
+
+/// Why a row can't stand beside one of its name that was written.
+fn same_name_reason<'r>(written: &ShownRow<'r>, row: &ShownRow<'_>) -> Option<Reason<'r>>
+    ensures { option_map reason_shown result ≡ same_name_reason (row_shown written.now) (row_shown row.now) }
+{
+    if written.kind != row.kind {
+        return Some(Reason::NameTaken(written.kind));
+    }
+    if written.labels == row.labels {
+        return Some(Reason::LabelsTaken(written.key.name()));
+    }
+    None
+}
+
+/// Why a row can't stand beside the one that was written last.
+fn last_reason<'r>(last: Option<&ShownRow<'r>>, row: &ShownRow<'_>) -> Option<Reason<'r>>
+    ensures { option_map reason_shown result ≡ last_reason (option_map (λ w. row_shown w.now) last.entry) (row_shown row.now) }
+{
+    match last {
+        Some(written) => {
+            if written.name == row.name {
+                same_name_reason(written, row)
+            } else {
+                None
+            }
+        }
+        None => None,
+    }
+}
+
+/// Why a row is left out beside rows with these histograms, if it is.
+pub(crate) fn reason_of<'r>(
+    histograms: &[&'r str],
+    last: Option<&ShownRow<'r>>,
+    row: &'r ShownRow<'_>,
+) -> Option<Reason<'r>>
+    requires sorted { IsSorted (slice_cmp nat_cmp) (names_shown histograms.now) }
+    requires labels { IsSorted label_cmp row.now.labels }
+    ensures { (rows : List Row) → names_shown histograms.now ≡ histogram_names rows → option_map reason_shown result
+        ≡ reason_of rows (option_map (λ w. row_shown w.now) last.entry) (row_shown row.now) }
+{
+    if let Some(reason) = labels_reason(row.kind, row.labels.as_slice()) {
+        return Some(reason);
+    }
+    if let Some(reason) = name_reason(histograms, row.name.as_str().as_bytes()) {
+        return Some(reason);
+    }
+    last_reason(last, row)
+}
+
+pub(crate) fn kind_text(kind: MetricKind) -> &'static str
+    ensures { result.now ≡ kind_word kind }
+{
+    match kind {
+        MetricKind::Counter => "counter",
+        MetricKind::Gauge => "gauge",
+        MetricKind::Histogram => "histogram",
+    }
+}
+
+/// Writes a text, and a name behind it as it stands in a description.
+fn write_named(text: &mut String, what: &str, name: &str) -> Result<(), AllocError>
+    ensures { OnOk result (string_bytes text.new ≡ string_bytes text.old ++ (what.now ++ help_escaped name.now)) }
+{
+    text.push_str(what)?;
+    write_help_text(text, name)
+}
+
+fn write_reason(text: &mut String, reason: Reason<'_>) -> Result<(), AllocError>
+    ensures { OnOk result (string_bytes text.new ≡ string_bytes text.old ++ reason_text (reason_shown reason.entry)) }
+{
+    match reason {
+        Reason::LabelTwice => text.push_str("two labels of one name"),
+        Reason::LabelReserved(name) => write_named(text, "label ", name),
+        Reason::PartOf(name) => write_named(text, "name of a part of histogram ", name),
+        Reason::NameTaken(kind) => {
+            text.push_str("name taken by a ")?;
+            text.push_str(kind_text(kind))
+        }
+        Reason::LabelsTaken(name) => write_named(text, "labels equal those of ", name),
+    }
+}
+
+/// Writes the kind, the own name and the labels of a series.
+fn write_series(text: &mut String, row: &ShownRow<'_>) -> Result<(), AllocError>
+    ensures { OnOk result (string_bytes text.new ≡ string_bytes text.old ++ series_named (row_shown row.now)) }
+{
+    text.push_str(kind_text(row.kind))?;
+    text.push_str(" ")?;
+    write_help_text(text, row.key.name())?;
+    write_labels(text, row.labels.as_slice())
+}
+
+/// Writes that a row is left out, and why.
+pub(crate) fn write_left_out(
+    text: &mut String,
+    row: &ShownRow<'_>,
+    reason: Reason<'_>,
+) -> Result<(), AllocError>
+    ensures { OnOk result (string_bytes text.new
+        ≡ string_bytes text.old ++ left_out_line (row_shown row.now) (reason_shown reason.entry)) }
+{
+    text.push_str("# left out: ")?;
+    write_series(text, row)?;
+    text.push_str(": ")?;
+    write_reason(text, reason)?;
+    text.push_str("\n")?;
+    Ok(())
+}

@@ -1,0 +1,84 @@
+//! The names that histograms take for their samples.
+ghost use Rattle.std.specs.Prelude.{◌≡◌, IfOk, option_map};
+ghost use Rattle.std.specs.List.{AllByRecursion};
+ghost use Rattle.std.specs.List.Sorted.{IsSorted};
+ghost use Rattle.std.specs.Cmp.Lexicographic.{slice_cmp};
+ghost use Rattle.std.specs.Ordering.{nat_cmp};
+ghost use Rattle.metrics_names.specs.Names.{label_cmp};
+ghost use Rattle.metrics_prometheus.specs.Exposition.{row_cmp, is_fit_histogram, histogram_names, found_in, part_of, whole_of};
+ghost use Rattle.metrics_prometheus.specs.Rows.{row_shown, rows_shown, names_shown};
+
+use crate::labels::are_fit;
+use crate::rows::ShownRow;
+use metrics::MetricKind;
+use std::alloc::{AllocError, Global};
+use std::cmp::Ordering;
+
+fn is_fit_histogram(row: &ShownRow<'_>) -> bool
+    requires { IsSorted label_cmp row.now.labels }
+    ensures { result ≡ is_fit_histogram (row_shown row.now) }
+{
+    row.kind == MetricKind::Histogram && are_fit(row.kind, row.labels.as_slice())
+}
+
+/// The names of the histograms whose labels are fit, in order.
+pub(crate) fn histogram_names<'r>(
+    alloc: Global,
+    rows: &'r [ShownRow<'_>],
+) -> Result<Vec<&'r str>, AllocError>
+    requires sorted { IsSorted row_cmp (rows_shown rows.now) }
+    requires labels { AllByRecursion (λ r. IsSorted label_cmp r.labels) rows.now }
+    ensures names { IfOk result (λ names. names_shown names.items ≡ histogram_names (rows_shown rows.now)) }
+    ensures sorted { IfOk result (λ names. IsSorted (slice_cmp nat_cmp) (names_shown names.items)) }
+{
+    let mut names = Vec::new(alloc);
+    for row in rows {
+        if is_fit_histogram(row) {
+            names.push(row.name.as_str())?;
+        }
+    }
+    Ok(names)
+}
+
+/// Where a name stands to another.
+fn name_place(name: &str, other: &[u8]) -> Ordering
+    ensures { result ≡ slice_cmp nat_cmp name.now other.now }
+{
+    name.as_bytes().cmp(other)
+}
+
+/// The name, where it is one of these.
+fn found_in<'r>(names: &[&'r str], name: &[u8]) -> Option<&'r str>
+    requires { IsSorted (slice_cmp nat_cmp) (names_shown names.now) }
+    ensures { option_map (λ n. n.now) result ≡ found_in (names_shown names.now) name.now }
+{
+    match names.binary_search_by(|other| name_place(other, name)) {
+        Ok(place) => Some(names[place]),
+        Err(_) => None,
+    }
+}
+
+/// The histogram whose name stands in front of the end of a name.
+fn part_of<'r>(histograms: &[&'r str], name: &[u8], end: &[u8]) -> Option<&'r str>
+    requires { IsSorted (slice_cmp nat_cmp) (names_shown histograms.now) }
+    ensures { option_map (λ n. n.now) result ≡ part_of (names_shown histograms.now) name.now end.now }
+{
+    if !name.ends_with(end) {
+        return None;
+    }
+    found_in(histograms, &name[..name.len() - end.len()])
+}
+
+/// The histogram whose samples have that name.
+pub(crate) fn whole_of<'r>(histograms: &[&'r str], name: &[u8]) -> Option<&'r str>
+    requires { IsSorted (slice_cmp nat_cmp) (names_shown histograms.now) }
+    ensures { option_map (λ n. n.now) result ≡ whole_of (names_shown histograms.now) name.now }
+{
+    if let Some(whole) = part_of(histograms, name, b"_bucket") {
+        return Some(whole);
+    }
+    if let Some(whole) = part_of(histograms, name, b"_sum") {
+        return Some(whole);
+    }
+    part_of(histograms, name, b"_count")
+}

@@ -1,0 +1,123 @@
+//! Series of a book that stay as long as they are active, whatever their values.
+
+use crate::given::{MEMORY, key};
+use metrics::{Counter, Error, Gauge, MetricKindMask, Recorder, Reset};
+use metrics_debugging::DebuggingRecorder;
+use metrics_exporter::Exporter;
+use std::alloc::Global;
+use std::process::Abort;
+
+/// An exporter that removes series of any kind that are idle for more than 5.
+fn exporter_of(rt: &impl Abort, alloc: Global) -> Exporter {
+    Exporter::new(alloc, 2, MetricKindMask::ALL, Some(5), &[10]).expect(rt, MEMORY)
+}
+
+/// Absorbs the book's snapshot, and expires. Answers how many series went.
+fn scrape<R: Recorder>(
+    alloc: Global,
+    book: &mut R,
+    exporter: &mut Exporter,
+    now: u64,
+) -> Result<usize, Error> {
+    let snapshot = book.snapshot_with(alloc, 0, Reset::KeepGauges)?;
+    exporter.absorb(&snapshot)?;
+    exporter.expire(now)
+}
+
+/// Compares the lines of the series that are left.
+fn expect_lines(rt: &impl Abort, exporter: &Exporter, wanted: &str) {
+    let text = exporter.text().expect(rt, MEMORY);
+    assert!(rt; text.as_str() == wanted);
+}
+
+/// Scrapes at a moment, and compares how many series went, and the lines of the others.
+fn expect_scrape<R: Recorder>(
+    rt: &impl Abort,
+    alloc: Global,
+    book: &mut R,
+    exporter: &mut Exporter,
+    (now, removed, wanted): (u64, usize, &str),
+) {
+    let went = scrape(alloc, book, exporter, now).expect(rt, MEMORY);
+    assert!(rt; went == removed);
+    expect_lines(rt, exporter, wanted);
+}
+
+const TEMP: &str = "gauge temp value 7\n";
+
+const HITS: &str = "counter hits value 0\n";
+
+fn temp_of<R: Recorder>(rt: &impl Abort, alloc: Global, book: &mut R) -> Gauge {
+    book.register_gauge(alloc, &key(rt, alloc, "temp", &[]))
+        .expect(rt, MEMORY)
+}
+
+fn hits_of<R: Recorder>(rt: &impl Abort, alloc: Global, book: &mut R) -> Counter {
+    book.register_counter(alloc, &key(rt, alloc, "hits", &[]))
+        .expect(rt, MEMORY)
+}
+
+fn scrape_set<R: Recorder>(rt: &impl Abort, alloc: Global, book: &mut R, exporter: &mut Exporter) {
+    let temp = temp_of(rt, alloc, book);
+    for now in [10, 16, 22, 28, 34] {
+        temp.set(book, 7).expect(rt, MEMORY);
+        expect_scrape(rt, alloc, book, exporter, (now, 0, TEMP));
+    }
+}
+
+fn scrape_idle<R: Recorder>(rt: &impl Abort, alloc: Global, book: &mut R, exporter: &mut Exporter) {
+    let temp = temp_of(rt, alloc, book);
+    temp.set(book, 7).expect(rt, MEMORY);
+    for scraped in [
+        (10, 0, TEMP),
+        (15, 0, TEMP),
+        (16, 1, ""),
+        (17, 0, ""),
+        (40, 0, ""),
+    ] {
+        expect_scrape(rt, alloc, book, exporter, scraped);
+    }
+    temp.increment(book, 0).expect(rt, MEMORY);
+    expect_scrape(rt, alloc, book, exporter, (50, 0, TEMP));
+    expect_scrape(rt, alloc, book, exporter, (56, 1, ""));
+}
+
+fn scrape_registered<R: Recorder>(
+    rt: &impl Abort,
+    alloc: Global,
+    book: &mut R,
+    exporter: &mut Exporter,
+) {
+    let _hits = hits_of(rt, alloc, book);
+    for scraped in [(10, 0, HITS), (16, 1, ""), (17, 0, "")] {
+        expect_scrape(rt, alloc, book, exporter, scraped);
+    }
+    let _again = hits_of(rt, alloc, book);
+    expect_scrape(rt, alloc, book, exporter, (18, 0, HITS));
+}
+
+/// Makes a book and an exporter of it.
+fn with_both(rt: &impl Abort, alloc: Global, which: u8) {
+    let mut book = DebuggingRecorder::new(alloc).expect(rt, MEMORY);
+    let mut exporter = exporter_of(rt, alloc);
+    match which {
+        0 => scrape_set(rt, alloc, &mut book, &mut exporter),
+        1 => scrape_idle(rt, alloc, &mut book, &mut exporter),
+        _ => scrape_registered(rt, alloc, &mut book, &mut exporter),
+    }
+}
+
+#[test]
+fn a_gauge_that_is_set_at_each_scrape_stays(rt: HostRuntime) {
+    with_both(&rt, rt.alloc(), 0);
+}
+
+#[test]
+fn an_idle_gauge_goes_once_and_comes_back_when_it_is_updated(rt: HostRuntime) {
+    with_both(&rt, rt.alloc(), 1);
+}
+
+#[test]
+fn a_counter_that_is_registered_shows_0(rt: HostRuntime) {
+    with_both(&rt, rt.alloc(), 2);
+}
