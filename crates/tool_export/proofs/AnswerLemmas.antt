@@ -1,6 +1,6 @@
 -- Calls of an exporter as answers to requests.
 use Rattle.std.proofs.Common.{◌≡◌, ℕ, List, [], ◌∷◌, ◌++◌, ◌⊎◌, ◌↔◌, inl, inr, refl, sym, ap}
-use Rattle.std.proofs.Common.{subst, Result, Ok, Err, None, MatchResult}
+use Rattle.std.proofs.Common.{subst, Result, Ok, Err, None, MatchResult, OnErr}
 use Rattle.metrics.specs.declared.error.Error.{Error}
 use Rattle.metrics.specs.declared.error.Error.TheVariants.{Memory, CountFull}
 use Rattle.metrics.specs.declared.handles.Update.{Update}
@@ -8,10 +8,12 @@ use Rattle.metrics_registry.specs.Idleness.{Answered}
 use Rattle.metrics_names.specs.Names.{KeyParts}
 use Rattle.metrics_exporter.specs.declared.exporter.Exporter.{Exporter}
 use Rattle.metrics_exporter.specs.Exporting.{Setup, Log, Cells, updates, expires, steps, cells_after, series_of, IsExpiry, IsFull}
+use Rattle.metrics_exporter.specs.Exporting.{HoldsSome, ChecksFront, checks_of}
 use Rattle.metrics_exporter.specs.ExporterText.{IsText}
 use Rattle.metrics_exporter.specs.Kept.{IsAfter}
+use Rattle.metrics_exporter.proofs.LawLemmas.{holds-some}
 use Rattle.tool_export.specs.declared.requests.Request.TheVariants.{Change, Scrape}
-use Rattle.tool_export.specs.Exported.{scrape_text, want_text, update_text, IsShown, Answers}
+use Rattle.tool_export.specs.Exported.{scrape_text, want_text, update_text, IsShown, HoldsAtRefusal, Answers}
 
 -- ---- an update
 
@@ -75,15 +77,26 @@ scrape_shown old new now series scraped setup log after =
       inl (checks, n, series, ap (expires now checks) is, subst (IsExpiry setup (steps log) now checks) is made, shown, refl),
     )
 
-pub scrape_wants : (old new : Exporter) (now : ℕ)
-    (Shown : Setup → Log → List (Answered KeyParts) → Result ℕ Error → Type 0) → Scrapes old new now Shown
+pub scrape_wants : (old new : Exporter) (now : ℕ) (e : Error) → Scrapes old new now
+    (λ setup log checks answer. (e ≡ Memory) × HoldsAtRefusal setup log (expires now checks answer) answer)
     → Answers old new (Scrape now) want_text
-scrape_wants old new now Shown scraped setup log after =
-    let (checks, answer, made, stands, shown) = scraped setup log after in
-    (expires now checks answer, stands, inr (checks, answer, refl, made, refl))
+scrape_wants old new now e scraped setup log after =
+    let (checks, answer, made, stands, (is, held)) = scraped setup log after in
+    (expires now checks answer, stands, inr (checks, answer, refl, made, refl, held))
 
 pub shown_or_not : (cells : Cells) (answer : Result ℕ Error) (n : ℕ) {T : Type 0} (bytes : T → List ℕ)
-    (text : Result T Error) → answer ≡ Ok n → MatchResult text (λ t. IsText cells (bytes t)) (λ e. e ≡ Memory)
-    → MatchResult text (λ t. IsShown cells answer (bytes t)) (λ e. e ≡ Memory)
-shown_or_not cells answer n bytes (Ok t) is h = (n, is, h)
-shown_or_not cells answer n bytes (Err e) is h = h
+    (text : Result T Error) (Held : Type 0) → answer ≡ Ok n
+    → MatchResult text (λ t. IsText cells (bytes t)) (λ e. e ≡ Memory) → OnErr text Held
+    → MatchResult text (λ t. IsShown cells answer (bytes t)) (λ e. (e ≡ Memory) × Held)
+shown_or_not cells answer n bytes (Ok t) Held is h held = (n, is, h)
+shown_or_not cells answer n bytes (Err e) Held is h held = (h, held)
+
+no_end : {T : Type 0} (xs : List T) (y : T) (ys : List T) → xs ++ y ∷ ys ≡ [] → ⊥
+no_end [] y ys e = absurd (cc)
+no_end (x ∷ xs) y ys e = absurd (cc)
+
+-- an expiry that left a check undone found some series
+pub front_holds : (cells : Cells) (now : ℕ) (answered : List (Answered KeyParts)) → ChecksFront cells now answered
+    → HoldsSome cells
+front_holds cells now answered ([], next, rest, series, are) = absurd (no_end (checks_of answered) next rest are)
+front_holds cells now answered (k ∷ ks, next, rest, series, are) = holds-some cells (k, ks, series)

@@ -41,7 +41,7 @@ digits_lack (d ∷ ds) h =
 lacks_decimal : (n : ℕ) → n < 2 ^ 64 → Lacks 44 (decimal n)
 lacks_decimal n h = All-from_recursion _ (decimal n) (digits_lack (decimal n) (decimal_is_IsNumeral n h).0.1)
 
-lacks_comma : (n : ℤ) → FitsSigned w64 n → Lacks 44 (signed_decimal n)
+pub lacks_comma : (n : ℤ) → FitsSigned w64 n → Lacks 44 (signed_decimal n)
 lacks_comma (pos n) h = lacks_decimal n (omega (arith, ints, h))
 lacks_comma (negsuc n) h = All-cons (λ x. x ≢ 44) 45 (decimal (suc n)) (λ e. absurd (omega (arith, e)))
     (lacks_decimal (suc n) (omega (arith, ints, h)))

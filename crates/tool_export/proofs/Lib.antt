@@ -1,6 +1,7 @@
 mod RequestLemmas
 mod SpellingLemmas
 mod PlainLemmas
-mod AnswerLemmas
+pub mod AnswerLemmas
 mod SessionLemmas
 mod BoundsLemmas
+mod PlanLemmas

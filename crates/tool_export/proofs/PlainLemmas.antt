@@ -42,7 +42,7 @@ same_plain one expiry setup log (Scrape now) e f s t (checks, n, series, is, mad
 
 wants : (setup : Setup) (log : Log) (r : Request) (e : Event) (t : List ℕ) → IsWant setup log r e t → t ≡ want_text
 wants setup log (Change key by) e t h = h.1
-wants setup log (Scrape now) e t (checks, answer, is, made, told) = told
+wants setup log (Scrape now) e t (checks, answer, is, made, told, held) = told
 
 -- ---- several
 

@@ -31,7 +31,7 @@ key_in other (call.Snapshot b) = other
 key_in other (call.SnapshotWith b reset) = other
 
 -- by the lines of calls with the same words
-same_update : (u v : Update) → IsInRange u → IsInRange v → update_word u ≡ update_word v
+pub same_update : (u v : Update) → IsInRange u → IsInRange v → update_word u ≡ update_word v
     → amount_word u ≡ amount_word v → u ≡ v
 same_update u v h g w a =
     ap update_in (call_same (call_spelling (call.Update 0 u)) (call.Update 0 u) (call.Update 0 v) ((omega arith, h), refl)

@@ -8,7 +8,7 @@ use Rattle.metrics_registry.specs.Idleness.{Answered}
 use Rattle.metrics_names.specs.Names.{KeyParts}
 use Rattle.metrics_exporter.specs.declared.exporter.Exporter.{Exporter}
 use Rattle.metrics_exporter.specs.Exporting.{Setup, Event, updates, expires, Log, steps, Cells, cells_after, series_of}
-use Rattle.metrics_exporter.specs.Exporting.{IsExpiry, IsFull}
+use Rattle.metrics_exporter.specs.Exporting.{IsExpiry, IsFull, HoldsSome}
 use Rattle.metrics_exporter.specs.ExporterText.{IsText}
 use Rattle.metrics_exporter.specs.Kept.{IsAfter}
 use Rattle.tool_export.specs.declared.requests.Request.{Request}
@@ -57,13 +57,19 @@ IsPlain setup log (Scrape now) event text = (checks : List (Answered KeyParts)) 
     × (event ≡ expires now checks (Ok n)) × IsExpiry setup (steps log) now checks (Ok n)
     × IsText (cells_after setup (steps (log ++ event ∷ []))) series × (text ≡ scrape_text now series)
 
--- Want of memory: an update that would make its series and changes nothing, or a scrape whose expiry made all its checks or a
--- front of them.
+-- Some series is held where a scrape is refused: before its expiry, if that is refused, and else after it.
+abbrev pub HoldsAtRefusal : Setup → Log → Event → Result ℕ Error → Type 0
+HoldsAtRefusal setup log event (Ok n) = HoldsSome (cells_after setup (steps (log ++ event ∷ [])))
+HoldsAtRefusal setup log event (Err e) = HoldsSome (cells_after setup (steps log))
+
+-- Want of memory: an update that would make its series and changes nothing, or a scrape that found some series. Its expiry made
+-- all its checks or a front of them.
 abbrev pub IsWant : Setup → Log → Request → Event → List ℕ → Type 0
 IsWant setup log (Change key by) event text =
     (event ≡ updates key by (Err Memory)) × (text ≡ want_text) × (cells_after setup (steps log) (series_of key by) ≡ None)
 IsWant setup log (Scrape now) event text = (checks : List (Answered KeyParts)) × (r : Result ℕ Error)
     × (event ≡ expires now checks r) × IsExpiry setup (steps log) now checks r × (text ≡ want_text)
+    × HoldsAtRefusal setup log event r
 
 abbrev pub IsAnswer : Setup → Log → Request → Event → List ℕ → Type 0
 IsAnswer setup log request event text = IsPlain setup log request event text ⊎ IsWant setup log request event text

@@ -4,6 +4,8 @@ ghost use Rattle.metrics_exporter.specs.Exporting.{Setup};
 ghost use Rattle.tool_export.specs.declared.requests.Request.{Request};
 ghost use Rattle.tool_export.specs.Requests.{Spells};
 ghost use Rattle.tool_export.specs.Exported.{IsExported};
+ghost use Rattle.tool_export.specs.declared.plans.ExportPlan.{ExportPlan as Plan};
+ghost use Rattle.tool_export.specs.Plans.{IsAllowed, plan_words};
 
 use metrics_exporter::exporter_law;
 
@@ -11,6 +13,8 @@ use metrics_exporter::exporter_law;
 pub fn export_law()
     // A line spells one request at most.
     ensures request { (line : List ℕ) (r s : Request) → Spells line r → Spells line s → r ≡ s }
+    // Words are those of one plan at most.
+    ensures plan { (a b : Plan) → IsAllowed a → IsAllowed b → plan_words a ≡ plan_words b → a ≡ b }
     // Lines print one text at most.
     ensures one { (setup : Setup) (ls : List (List ℕ)) (a b : List ℕ) → IsExported setup ls a → IsExported setup ls b
         → a ≡ b }

@@ -6,7 +6,7 @@ ghost use Rattle.metrics_names.specs.Names.{KeyParts};
 ghost use Rattle.metrics_registry.specs.Idleness.{Answered};
 ghost use Rattle.metrics_exporter.specs.Exporting.{Setup, Log, expires, steps, cells_after, IsExpiry};
 ghost use Rattle.metrics_exporter.specs.Kept.{IsAfter};
-ghost use Rattle.tool_export.specs.Exported.{number_of_lines, scrape_text, IsShown};
+ghost use Rattle.tool_export.specs.Exported.{number_of_lines, scrape_text, IsShown, HoldsAtRefusal};
 
 use metrics::Error;
 use metrics_exporter::Exporter;
@@ -34,14 +34,14 @@ pub fn write_scrape(now: u64, series: &str, text: &mut String) -> Result<(), All
     text.push_str(series)
 }
 
-/// Removes what is idle at the moment, and gives the text of the series that are left.
+/// Removes what is idle at the moment, and gives the text of the series that are left. It is never refused where none is held.
 pub fn series_at(on: &mut Exporter, now: u64) -> Result<String, Error>
     ensures { (setup : Setup) (log : Log) → IsAfter setup log on.old → (checks : List (Answered KeyParts))
         × (answer : Result ℕ Refusal) × IsExpiry setup (steps log) now checks answer
         × IsAfter setup (log ++ expires now checks answer ∷ []) on.new
         × MatchResult result
         (λ text. IsShown (cells_after setup (steps (log ++ expires now checks answer ∷ []))) answer (string_bytes text))
-        (λ e. e ≡ Memory) }
+        (λ e. (e ≡ Memory) × HoldsAtRefusal setup log (expires now checks answer) answer) }
 {
     match on.expire(now) {
         Ok(_) => on.text(),

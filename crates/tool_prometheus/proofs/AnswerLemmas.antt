@@ -1,6 +1,6 @@
 -- Calls of an exporter as answers to requests.
 use Rattle.std.proofs.Common.{◌≡◌, ℕ, List, [], ◌∷◌, ◌++◌, ◌⊎◌, ◌↔◌, inl, inr, refl, sym, ap}
-use Rattle.std.proofs.Common.{subst, Result, Ok, Err, None, MatchResult}
+use Rattle.std.proofs.Common.{subst, Result, Ok, Err, None, MatchResult, OnErr}
 use Rattle.tool_grammar.specs.declared.error.RunError.{RunError}
 use Rattle.tool_grammar.specs.declared.error.RunError.TheVariants.{Memory as OutOfMemory}
 use Rattle.tool_stream.specs.Answering.{IsFlushed}
@@ -14,6 +14,7 @@ use Rattle.metrics_exporter.specs.Exporting.{Setup, Log, Cells, updates, expires
 use Rattle.metrics_exporter.specs.Kept.{IsAfter}
 use Rattle.metrics_prometheus.specs.Exposition.{IsExposition}
 use Rattle.tool_export.specs.declared.requests.Request.TheVariants.{Change, Scrape}
+use Rattle.tool_export.specs.Exported.{HoldsAtRefusal}
 use Rattle.tool_prometheus.specs.Exposed.{scrape_text, refusal_text, IsShown, Answers}
 
 -- ---- an update
@@ -78,18 +79,19 @@ scrape_shown old new now shown scraped setup log after =
       inl (checks, n, shown, ap (expires now checks) is, subst (IsExpiry setup (steps log) now checks) is made, exposed, refl),
     )
 
-pub scrape_wants : (old new : Exporter) (now : ℕ) (e : Error)
-    → Scrapes old new now (λ setup log checks answer. e ≡ Memory)
+pub scrape_wants : (old new : Exporter) (now : ℕ) (e : Error) → Scrapes old new now
+    (λ setup log checks answer. (e ≡ Memory) × HoldsAtRefusal setup log (expires now checks answer) answer)
     → Answers old new (Scrape now) (refusal_text (Err e))
 scrape_wants old new now e scraped setup log after =
-    let (checks, answer, made, stands, is) = scraped setup log after in
-    (expires now checks answer, stands, inr (checks, answer, refl, made, ap (λ x. refusal_text (Err x)) is))
+    let (checks, answer, made, stands, (is, held)) = scraped setup log after in
+    (expires now checks answer, stands, inr (checks, answer, refl, made, ap (λ x. refusal_text (Err x)) is, held))
 
 pub shown_or_not : (cells : Cells) (answer : Result ℕ Error) (n : ℕ) {T : Type 0} (bytes : T → List ℕ)
-    (text : Result T Error) → answer ≡ Ok n → MatchResult text (λ t. IsExposition cells (bytes t)) (λ e. e ≡ Memory)
-    → MatchResult text (λ t. IsShown cells answer (bytes t)) (λ e. e ≡ Memory)
-shown_or_not cells answer n bytes (Ok t) is h = (n, is, h)
-shown_or_not cells answer n bytes (Err e) is h = h
+    (text : Result T Error) (Held : Type 0) → answer ≡ Ok n
+    → MatchResult text (λ t. IsExposition cells (bytes t)) (λ e. e ≡ Memory) → OnErr text Held
+    → MatchResult text (λ t. IsShown cells answer (bytes t)) (λ e. (e ≡ Memory) × Held)
+shown_or_not cells answer n bytes (Ok t) Held is h held = (n, is, h)
+shown_or_not cells answer n bytes (Err e) Held is h held = (h, held)
 
 -- ---- the end
 

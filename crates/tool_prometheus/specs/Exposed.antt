@@ -12,6 +12,7 @@ use Rattle.metrics_prometheus.specs.Exposition.{IsExposition}
 use Rattle.tool_export.specs.declared.requests.Request.{Request}
 use Rattle.tool_export.specs.declared.requests.Request.TheVariants.{Change, Scrape}
 use Rattle.tool_export.specs.Requests.{Spells}
+use Rattle.tool_export.specs.Exported.{HoldsAtRefusal}
 
 -- ---- texts
 
@@ -49,13 +50,14 @@ IsPlain setup log (Scrape now) event text = (checks : List (Answered KeyParts)) 
     × (event ≡ expires now checks (Ok n)) × IsExpiry setup (steps log) now checks (Ok n)
     × IsExposition (cells_after setup (steps (log ++ event ∷ []))) shown × (text ≡ scrape_text shown)
 
--- Want of memory: an update that would make its series and changes nothing, or a scrape whose expiry made all its checks or a
--- front of them.
+-- Want of memory: an update that would make its series and changes nothing, or a scrape that found some series. Its expiry made
+-- all its checks or a front of them.
 abbrev pub IsWant : Setup → Log → Request → Event → List ℕ → Type 0
 IsWant setup log (Change key by) event text =
     (event ≡ updates key by (Err Memory)) × (text ≡ want_text) × (cells_after setup (steps log) (series_of key by) ≡ None)
 IsWant setup log (Scrape now) event text = (checks : List (Answered KeyParts)) × (r : Result ℕ Error)
     × (event ≡ expires now checks r) × IsExpiry setup (steps log) now checks r × (text ≡ want_text)
+    × HoldsAtRefusal setup log event r
 
 abbrev pub IsAnswer : Setup → Log → Request → Event → List ℕ → Type 0
 IsAnswer setup log request event text = IsPlain setup log request event text ⊎ IsWant setup log request event text

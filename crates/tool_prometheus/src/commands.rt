@@ -7,7 +7,7 @@ ghost use Rattle.tool_prometheus.specs.Serving.{AsksFor, Ends, end_status};
 use crate::serving::prometheus_new;
 use std::alloc::{AllocError, Global};
 use std::io::{BufRead, Write};
-use tool_export::{ExportPlan, plan_of};
+use tool_export::{ExportPlan, export_law, plan_of};
 use tool_grammar::RunError;
 
 const USAGE: &str = "usage: metrics_prometheus_tool S M T B";
@@ -74,16 +74,16 @@ pub fn command<I: BufRead, O: Write, E: Write>(
     output: &mut O,
     errors: &mut E,
 ) -> u8
-    // Where the words ask for an exporter: what was read and written, and how that ended.
-    ensures served { (any : Plan) → AsksFor (map (λ w. w.now) words.now) any
-        → (plan : Plan) × AsksFor (map (λ w. w.now) words.now) plan
-        × Ends plan (OnSome (I.remaining input.old) (IsAtEnd (I.remaining input.new)))
+    // Where the words ask for an exporter, they do for one alone: what was read and written, and how that ended.
+    ensures served { (plan : Plan) → AsksFor (map (λ w. w.now) words.now) plan
+        → Ends plan (OnSome (I.remaining input.old) (IsAtEnd (I.remaining input.new)))
         (Consumes (I.remaining input.old) (I.remaining input.new))
         (Appends (O.contents output.old) (O.contents output.new)) result }
     // Words that ask for nothing have status 2, and nothing is read or written.
     ensures wrong { ((plan : Plan) → AsksFor (map (λ w. w.now) words.now) plan → ⊥)
         → (result ≡ 2) × (input.new ≡ input.old) × (output.new ≡ output.old) }
 {
+    export_law();
     match asked_plan(alloc, words) {
         Ok(Some(plan)) => serve(alloc, &plan, input, output, errors),
         Ok(None) => {

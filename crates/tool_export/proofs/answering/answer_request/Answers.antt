@@ -17,5 +17,5 @@ returns-in-Ok c =
 
 pub returns-in-Err : goal.returns-in-Err
 returns-in-Err c =
-    let done = scrape_wants c.args.on.now c.series_at.new.on c.in-Scrape.now _ c.series_at.ensures in
+    let done = scrape_wants c.args.on.now c.series_at.new.on c.in-Scrape.now c.in-Err.field-0 c.in-Err.ensures in
     (want_text, rw c.in-Scrape.is done, search rules)

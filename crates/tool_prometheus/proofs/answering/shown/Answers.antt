@@ -1,16 +1,17 @@
-use Rattle.std.proofs.Common.{◌≡◌, List, MatchResult, string_bytes, sym, subst}
+use Rattle.std.proofs.Common.{rules, ◌≡◌, List, MatchResult, string_bytes, sym, subst}
 use Rattle.metrics.specs.declared.error.Error.TheVariants.{Memory}
-use Rattle.metrics_exporter.specs.Exporting.{Cells, steps, cells_after}
+use Rattle.metrics_exporter.specs.Exporting.{Cells, HoldsSome, steps, cells_after}
 use Rattle.metrics_exporter.specs.Kept.{held_cells}
 use Rattle.metrics_exporter.specs.Readings.{all_told, AreReadings}
 use Rattle.metrics_exporter.specs.declared.readings.SeriesReading.{SeriesReading}
 use Rattle.metrics_prometheus.specs.Exposition.{Helps, no_helps, IsDescribed}
 use Rattle.metrics_prometheus.specs.Rows.{helps_of}
 use Rattle.metrics_prometheus.proofs.TextLemmas.{either-way}
+use Rattle.metrics_prometheus.proofs.HeldLemmas.{some-read}
 use Rattle.tool_prometheus.proofs.answering.shown.Goals as goal
 
-pub returns : goal.returns
-returns c = λ setup log keeps.
+pub returns-clause-text : goal.returns-clause-text
+returns-clause-text c = λ setup log keeps.
     let cells = held_cells c.args.on.now in
     let r = c.exposition_of.result in
     let Q : List SeriesReading → Type 0 = λ series. AreReadings cells (all_told series) in
@@ -19,3 +20,15 @@ returns c = λ setup log keeps.
     let none : helps_of c.new-descriptions.result ≡ no_helps = λ i k n. (c.new-descriptions.ensures k n i).text in
     let is : P cells (helps_of c.new-descriptions.result) = either-way _ _ r (c.exposition_of.ensures.ok cells (subst Q (sym c.deref.ensures.value) c.in_ok-series.ensures.readings)) c.exposition_of.ensures.err in
     subst (λ after. P after no_helps) same (subst (P cells) none is)
+
+pub returns-clause-refused : goal.returns-clause-refused
+returns-clause-refused c = λ setup log keeps.
+    let cells = held_cells c.args.on.now in
+    let same : cells ≡ cells_after setup (steps log) = λ i s. keeps.cells s i in
+    some-read (cells_after setup (steps log)) c.in_ok-series.series.items c.deref.result.now c.exposition_of.result c.deref.ensures.value (subst (λ after. AreReadings after (all_told c.in_ok-series.series.items)) same c.in_ok-series.ensures.readings) c.exposition_of.ensures.refused
+
+pub returns-in_err-series-clause-refused : goal.returns-in_err-series-clause-refused
+returns-in_err-series-clause-refused c = λ setup log keeps.
+    let same : held_cells c.args.on.now ≡ cells_after setup (steps log) = λ i s. keeps.cells s i in
+    let held : HoldsSome (cells_after setup (steps log)) = subst HoldsSome same c.in_err-series.ensures.refused in
+    search rules
