@@ -1,4 +1,4 @@
-//! A recorder of one's own: it counts the calls that change something, and hands them on.
+//! A recorder of one's own: it counts the calls that change something, and passes them through.
 #![tactic(auto)]
 
 ghost use Rattle.std.specs.Prelude.{◌≡◌};

@@ -17,7 +17,9 @@ pub struct Generational<T> {
 }
 
 impl<T: Drop> Generational<T> {
-    /// A cell at generation 0.
+    /// Makes a cell at generation 0.
+    ///
+    /// Fails only when out of memory.
     pub fn new(alloc: Global, inner: T) -> Result<Generational<T>, Error>
         ensures ok { IfOk result (λ g. g.inner ≡ inner) }
         ensures err { IfErr result (λ e. e ≡ OutOfMemory) }
@@ -28,15 +30,24 @@ impl<T: Drop> Generational<T> {
 }
 
 impl<T> Generational<T> {
+    /// Returns the cell.
     pub fn get_inner(&self) -> &T
         ensures { result.now ≡ self.now.inner }
     {
         &self.inner
     }
 
-    /// How often the cell was changed, modulo 2^64.
+    /// Returns how often the cell was changed, modulo 2^64.
     pub fn get_generation(&self) -> Generation {
         Generation::new(self.generation.load())
+    }
+
+    /// Whether a clone of this cell exists at the moment.
+    ///
+    /// If there is none, and no other thread can reach this cell, then no thread changes it, and every change that was made
+    /// through a clone is visible.
+    pub fn has_clones(&self) -> bool {
+        Arc::strong_count(&self.generation) > 1
     }
 
     /// Calls `f` once on the cell and then raises the generation, whatever `f` answers.
@@ -74,7 +85,7 @@ impl<T: GaugeFn> GaugeFn for Generational<T> {
     }
 }
 
-/// A sample that is refused raises the generation too.
+/// A sample that is rejected raises the generation too.
 impl<T: HistogramFn> HistogramFn for Generational<T> {
     type Error = T::Error;
 

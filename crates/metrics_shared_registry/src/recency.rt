@@ -12,7 +12,8 @@ use std::sync::{Mutex, Wait};
 
 /// An `OwnedRecency` under a lock, over a `Registry`.
 ///
-/// A check of a kind that is watched holds this lock until it returns. Where it removes it takes the one of the key's shard too.
+/// A check of a kind that is watched holds this lock until it returns. To remove a cell it also takes the lock of the key's
+/// shard.
 #[derive(Drop)]
 pub struct Recency<K: Hashable> {
     mask: MetricKindMask,
@@ -23,7 +24,9 @@ pub struct Recency<K: Hashable> {
 impl<K: Hashable + EqualClone + Drop> Recency<K> {
     ghost use Rattle.metrics_shared_registry.specs.Watching.{rules_of};
 
-    /// Checks the kinds of the mask. Moments and the timeout are in one unit of the caller's choice, as nanoseconds.
+    /// Makes a recency without notes, for the kinds of the mask.
+    ///
+    /// Moments and the timeout are in one unit of the caller's choice, as nanoseconds. Without a timeout no series is idle.
     pub fn new(alloc: Global, mask: MetricKindMask, timeout: Option<u64>) -> Recency<K>
         ensures { rules_of result ≡ record { timeout = timeout; mask = λ kind. mask_has kind mask } }
     {
@@ -41,7 +44,7 @@ impl<K: Hashable + EqualClone + Drop> Recency<K> {
         self.timeout.is_some() && self.mask.matches(kind)
     }
 
-    /// One check, where `remove` removes the series from the registry and tells whether it was held.
+    /// One check: `remove` removes the series from the registry and returns whether it was held.
     fn check<W: Wait, F: FnOnce() -> bool + Drop>(
         &self,
         rt: &W,
@@ -66,9 +69,10 @@ impl<K: Hashable + EqualClone + Drop> Recency<K> {
         Ok(false)
     }
 
-    /// Whether a counter that has this generation at this moment is still in use. One that isn't is removed from the registry.
+    /// Returns whether a counter that has this generation at this moment is still in use, and removes it if it isn't.
     ///
-    /// Without a timeout, or where the mask lacks the kind, the answer is true and no lock is taken. A refusal changes nothing.
+    /// Without a timeout, or if the mask lacks counters, it returns true and takes no lock.
+    /// Fails only when out of memory, and then changes nothing.
     pub fn should_store_counter<W: Wait, S: Storage<K> + Drop>(
         &self,
         rt: &W,
@@ -88,9 +92,10 @@ impl<K: Hashable + EqualClone + Drop> Recency<K> {
         self.check(rt, MetricKind::Counter, key, generation, now, remove)
     }
 
-    /// Whether a gauge that has this generation at this moment is still in use. One that isn't is removed from the registry.
+    /// Returns whether a gauge that has this generation at this moment is still in use, and removes it if it isn't.
     ///
-    /// Without a timeout, or where the mask lacks the kind, the answer is true and no lock is taken. A refusal changes nothing.
+    /// Without a timeout, or if the mask lacks gauges, it returns true and takes no lock.
+    /// Fails only when out of memory, and then changes nothing.
     pub fn should_store_gauge<W: Wait, S: Storage<K> + Drop>(
         &self,
         rt: &W,
@@ -110,9 +115,10 @@ impl<K: Hashable + EqualClone + Drop> Recency<K> {
         self.check(rt, MetricKind::Gauge, key, generation, now, remove)
     }
 
-    /// Whether a histogram that has this generation at this moment is still in use. One that isn't is removed from the registry.
+    /// Returns whether a histogram that has this generation at this moment is still in use, and removes it if it isn't.
     ///
-    /// Without a timeout, or where the mask lacks the kind, the answer is true and no lock is taken. A refusal changes nothing.
+    /// Without a timeout, or if the mask lacks histograms, it returns true and takes no lock.
+    /// Fails only when out of memory, and then changes nothing.
     pub fn should_store_histogram<W: Wait, S: Storage<K> + Drop>(
         &self,
         rt: &W,

@@ -14,9 +14,9 @@ use std::sync::{RwLock, Wait};
 /// A registry that any thread may call: for each kind of metric a map from keys to cells, in shards.
 ///
 /// A key's shard is `Hashable::hashable` of it modulo the number of shards; there it is found by its own `Hash`. A call of one
-/// key holds the lock of its shard until it returns, its closure included; calls that change no shard hold it side by side.
-/// Calls of all keys go from shard to shard, and hold one lock at a time: a change made meanwhile may be seen or not. A closure
-/// that calls this registry again may wait for ever.
+/// key holds the lock of its shard until it returns, its closure included; calls that change no shard share the lock.
+/// Calls of all keys go from shard to shard, and hold one lock at a time: they may or may not see a change made meanwhile.
+/// A closure that calls this registry again may wait for ever.
 ///
 /// No contract says what a shard holds, since other threads may change it at any time.
 #[derive(Drop)]
@@ -32,7 +32,7 @@ where
     S::Gauge: Drop,
     S::Histogram: Drop,
 {
-    /// A registry with nothing in it, in this many shards, a power of two from 1 to 1,024.
+    /// Makes an empty registry of this many shards, a power of two from 1 to 1,024.
     pub fn new(alloc: Global, storage: S, shards: usize) -> Result<Registry<K, S>, Error>
         ensures ok { IfOk result (λ r. (is_count shards ≡ true) × (r.storage ≡ storage) × (vec_len r.shards ≡ shards)) }
         ensures err { IfErr result (λ e. e ≡ (if is_count shards then OutOfMemory else NotShards)) }
@@ -44,7 +44,7 @@ where
         Ok(Registry { storage, shards })
     }
 
-    /// What makes the cells.
+    /// Returns the storage, which makes the cells.
     pub fn storage(&self) -> &S
         ensures { result.now ≡ self.now.storage }
     {
@@ -63,7 +63,9 @@ where
         }
     }
 
-    /// A clone of the cell of a counter, if the key is held.
+    /// Returns a clone of the cell of a counter, if the key is held.
+    ///
+    /// Fails only when out of memory.
     pub fn get_counter<W: Wait>(&self, rt: &W, key: &K) -> Result<Option<S::Counter>, Error>
     where
         S::Counter: Clone,
@@ -75,9 +77,9 @@ where
         }
     }
 
-    /// Calls `op` once on the cell of a counter, which the storage makes where the key isn't held, and answers what it answers.
+    /// Calls `op` once on the cell of a counter, and returns its answer. The storage makes the cell if the key isn't held.
     ///
-    /// A refusal changes nothing, and never meets a key that is held.
+    /// A call that fails changes nothing. A call for a held key never fails.
     pub fn get_or_create_counter<W: Wait, V, F: FnOnce(&S::Counter) -> V + Drop>(
         &self,
         rt: &W,
@@ -111,7 +113,9 @@ where
         }
     }
 
-    /// The keys of the counters, each with a clone of its cell.
+    /// Returns the keys of the counters, each with a clone of its cell.
+    ///
+    /// Fails only when out of memory.
     pub fn get_counter_handles<W: Wait>(
         &self,
         rt: &W,
@@ -128,7 +132,7 @@ where
         Ok(handles)
     }
 
-    /// Keeps the counters for which `f` answers true. It is called once for each counter, in some order.
+    /// Keeps the counters for which `f` answers true. It calls `f` once for each counter, in some order.
     pub fn retain_counters<W: Wait, F: FnMut(&K, &S::Counter) -> bool + Drop>(&self, rt: &W, f: F)
         requires { F.IsAlwaysCallable f }
     {
@@ -138,12 +142,14 @@ where
         }
     }
 
-    /// Removes a counter, and tells whether it was there.
+    /// Removes a counter, and returns whether it was held.
     pub fn delete_counter<W: Wait>(&self, rt: &W, key: &K) -> bool {
         self.shard(key).write(rt).counters.remove(key)
     }
 
-    /// A clone of the cell of a gauge, if the key is held.
+    /// Returns a clone of the cell of a gauge, if the key is held.
+    ///
+    /// Fails only when out of memory.
     pub fn get_gauge<W: Wait>(&self, rt: &W, key: &K) -> Result<Option<S::Gauge>, Error>
     where
         S::Gauge: Clone,
@@ -155,9 +161,9 @@ where
         }
     }
 
-    /// Calls `op` once on the cell of a gauge, which the storage makes where the key isn't held, and answers what it answers.
+    /// Calls `op` once on the cell of a gauge, and returns its answer. The storage makes the cell if the key isn't held.
     ///
-    /// A refusal changes nothing, and never meets a key that is held.
+    /// A call that fails changes nothing. A call for a held key never fails.
     pub fn get_or_create_gauge<W: Wait, V, F: FnOnce(&S::Gauge) -> V + Drop>(
         &self,
         rt: &W,
@@ -191,7 +197,9 @@ where
         }
     }
 
-    /// The keys of the gauges, each with a clone of its cell.
+    /// Returns the keys of the gauges, each with a clone of its cell.
+    ///
+    /// Fails only when out of memory.
     pub fn get_gauge_handles<W: Wait>(
         &self,
         rt: &W,
@@ -208,7 +216,7 @@ where
         Ok(handles)
     }
 
-    /// Keeps the gauges for which `f` answers true. It is called once for each gauge, in some order.
+    /// Keeps the gauges for which `f` answers true. It calls `f` once for each gauge, in some order.
     pub fn retain_gauges<W: Wait, F: FnMut(&K, &S::Gauge) -> bool + Drop>(&self, rt: &W, f: F)
         requires { F.IsAlwaysCallable f }
     {
@@ -218,12 +226,14 @@ where
         }
     }
 
-    /// Removes a gauge, and tells whether it was there.
+    /// Removes a gauge, and returns whether it was held.
     pub fn delete_gauge<W: Wait>(&self, rt: &W, key: &K) -> bool {
         self.shard(key).write(rt).gauges.remove(key)
     }
 
-    /// A clone of the cell of a histogram, if the key is held.
+    /// Returns a clone of the cell of a histogram, if the key is held.
+    ///
+    /// Fails only when out of memory.
     pub fn get_histogram<W: Wait>(&self, rt: &W, key: &K) -> Result<Option<S::Histogram>, Error>
     where
         S::Histogram: Clone,
@@ -235,9 +245,9 @@ where
         }
     }
 
-    /// Calls `op` once on the cell of a histogram, which the storage makes where the key isn't held, and answers what it answers.
+    /// Calls `op` once on the cell of a histogram, and returns its answer. The storage makes the cell if the key isn't held.
     ///
-    /// A refusal changes nothing, and never meets a key that is held.
+    /// A call that fails changes nothing. A call for a held key never fails.
     pub fn get_or_create_histogram<W: Wait, V, F: FnOnce(&S::Histogram) -> V + Drop>(
         &self,
         rt: &W,
@@ -271,7 +281,9 @@ where
         }
     }
 
-    /// The keys of the histograms, each with a clone of its cell.
+    /// Returns the keys of the histograms, each with a clone of its cell.
+    ///
+    /// Fails only when out of memory.
     pub fn get_histogram_handles<W: Wait>(
         &self,
         rt: &W,
@@ -288,7 +300,7 @@ where
         Ok(handles)
     }
 
-    /// Keeps the histograms for which `f` answers true. It is called once for each histogram, in some order.
+    /// Keeps the histograms for which `f` answers true. It calls `f` once for each histogram, in some order.
     pub fn retain_histograms<W: Wait, F: FnMut(&K, &S::Histogram) -> bool + Drop>(
         &self,
         rt: &W,
@@ -302,15 +314,16 @@ where
         }
     }
 
-    /// Removes a histogram, and tells whether it was there.
+    /// Removes a histogram, and returns whether it was held.
     pub fn delete_histogram<W: Wait>(&self, rt: &W, key: &K) -> bool {
         self.shard(key).write(rt).histograms.remove(key)
     }
 }
 
 impl Registry<Key, AtomicStorage> {
-    /// A registry of a metric's keys with nothing in it, whose cells any thread may change, in this many shards, a power of two
-    /// from 1 to 1,024. Its histograms have 16 blocks.
+    /// Makes an empty registry of a metric's keys, in this many shards, a power of two from 1 to 1,024.
+    ///
+    /// Any thread may change its cells. Its histograms have 16 blocks.
     pub fn atomic(alloc: Global, shards: usize) -> Result<Registry<Key, AtomicStorage>, Error>
         ensures ok { IfOk result (λ r. (is_count shards ≡ true) × (vec_len r.shards ≡ shards)) }
         ensures blocks { IfOk result (λ r. r.storage.blocks ≡ 16) }

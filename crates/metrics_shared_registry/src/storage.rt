@@ -11,11 +11,13 @@ use std::alloc::Global;
 use std::sync::Arc;
 use std::sync::atomic::AtomicU64;
 
-/// The blocks of each side of a histogram's bucket, where no other number was asked for.
+/// The default number of blocks of each side of a histogram's bucket.
 const BLOCKS: usize = 16;
 
-/// Makes cells that any thread may change: a word that begins at 0 for a counter and for a gauge, and for a histogram an empty
-/// bucket of 16 blocks, 1,024 samples, or of as many blocks as the storage was made with.
+/// Makes cells that any thread may change: a word that begins at 0 for a counter and for a gauge, and an empty bucket for a
+/// histogram.
+///
+/// A bucket has 16 blocks, 1,024 samples, or as many blocks as the storage was made with.
 #[derive(Clone, Copy, Debug)]
 pub struct AtomicStorage {
     alloc: Global,
@@ -24,7 +26,7 @@ pub struct AtomicStorage {
 }
 
 impl AtomicStorage {
-    /// A storage whose cells take their memory from `alloc`. A histogram takes some 33 KB.
+    /// Makes a storage whose cells allocate from `alloc`. A histogram takes some 34 KB.
     pub fn new(alloc: Global) -> AtomicStorage
         ensures { result.blocks ≡ 16 }
     {
@@ -34,8 +36,9 @@ impl AtomicStorage {
         }
     }
 
-    /// A storage whose histograms have this many blocks of 64 samples, 1 to 1,024. One takes some 1 KB, and 2 KB for each
-    /// block.
+    /// Makes a storage whose histograms have this many blocks of 64 samples, 1 to 1,024.
+    ///
+    /// A histogram takes some 1 KB, and 2 KB for each block.
     pub fn with_blocks(alloc: Global, blocks: usize) -> Result<AtomicStorage, Error>
         ensures { MatchResult result (λ s. (s.blocks ≡ blocks) × (0 < blocks) × (blocks ≤ 1024))
             (λ e. (e ≡ Error.BadBlocks) × ((blocks ≡ 0) ⊎ (1024 < blocks))) }
@@ -83,7 +86,7 @@ pub struct GenerationalStorage<S> {
 }
 
 impl<S> GenerationalStorage<S> {
-    /// A storage of `inner`'s cells, whose generations take their memory from `alloc`.
+    /// Makes a storage of `inner`'s cells, whose generations allocate from `alloc`.
     pub fn new(alloc: Global, inner: S) -> GenerationalStorage<S>
         ensures { result.inner ≡ inner }
     {
@@ -95,14 +98,14 @@ impl<S> GenerationalStorage<S> {
 pub type GenerationalAtomicStorage = GenerationalStorage<AtomicStorage>;
 
 impl GenerationalStorage<AtomicStorage> {
-    /// A storage whose cells and generations take their memory from `alloc`. Its histograms have 16 blocks.
+    /// Makes a storage whose cells and generations allocate from `alloc`. Its histograms have 16 blocks.
     pub fn atomic(alloc: Global) -> GenerationalAtomicStorage
         ensures { result.inner.blocks ≡ 16 }
     {
         GenerationalStorage::new(alloc, AtomicStorage::new(alloc))
     }
 
-    /// The same, whose histograms have this many blocks of 64 samples, 1 to 1,024.
+    /// Makes such a storage whose histograms have this many blocks of 64 samples, 1 to 1,024.
     pub fn with_blocks(alloc: Global, blocks: usize) -> Result<GenerationalAtomicStorage, Error>
         ensures { MatchResult result (λ s. (s.inner.blocks ≡ blocks) × (0 < blocks) × (blocks ≤ 1024))
             (λ e. (e ≡ Error.BadBlocks) × ((blocks ≡ 0) ⊎ (1024 < blocks))) }

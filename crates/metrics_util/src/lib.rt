@@ -1,6 +1,14 @@
 //! The toolbox by the Rust crate's modules. It has no function of its own.
 #![tactic(auto)]
 
+/// Metrics that the threads of a program share, and their text for Prometheus.
+pub mod collector {
+    pub use metrics_collector::{
+        Bounds, Collector, CounterHandle, Gathered, GatheredSeries, GaugeHandle, HistogramHandle,
+        Value,
+    };
+}
+
 /// A book in memory.
 pub mod debugging {
     pub use metrics::{DebugValue, Snapshot};

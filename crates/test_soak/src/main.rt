@@ -1,7 +1,9 @@
 //! Eight threads on the histograms of one registry and on one bucket, for as many seconds as the program's word says: six push
 //! into cells that are made where they aren't there, one clears, and one removes and expires cells. Each sample is counted in
-//! and out.
+//! and out. Beside them eight threads use a collector.
 #![tactic(auto)]
+
+mod collector;
 
 ghost use Rattle.std.specs.Thread.{IsSync};
 
@@ -14,7 +16,7 @@ use std::alloc::Global;
 use std::env;
 use std::rt::{Clock, Env};
 use std::sync::Wait;
-use std::thread::{self, Threads};
+use std::thread::{self, Threads, join};
 use std::time::Instant;
 
 const THREADS: usize = 8;
@@ -59,11 +61,33 @@ struct Told {
     taken: Samples,
 }
 
+/// When the time is up.
+#[derive(Clone, Copy)]
+pub(crate) struct Deadline {
+    start: Instant,
+    seconds: u64,
+}
+
+impl Deadline {
+    fn new<R: Clock>(rt: &R, seconds: u64) -> Result<Deadline> {
+        Ok(Deadline {
+            start: Instant::now(rt)?,
+            seconds,
+        })
+    }
+
+    pub fn is_over<R: Clock>(self, rt: &R) -> bool {
+        match self.start.elapsed(rt) {
+            Ok(passed) => passed.as_secs() >= self.seconds,
+            Err(_) => true,
+        }
+    }
+}
+
 #[derive(Drop)]
 struct Shared {
     alloc: Global,
-    start: Instant,
-    seconds: u64,
+    deadline: Deadline,
     keys: Vec<Key>,
     cells: Registry<Key, AtomicStorage>,
     recency: Recency<Key>,
@@ -79,25 +103,15 @@ fn keys(alloc: Global) -> Result<Vec<Key>> {
 }
 
 impl Shared {
-    fn new<R: Clock + AllocGlobal>(rt: &R, seconds: u64) -> Result<Shared> {
-        let alloc = rt.alloc();
+    fn new(alloc: Global, deadline: Deadline) -> Result<Shared> {
         Ok(Shared {
             alloc,
-            start: Instant::now(rt)?,
-            seconds,
+            deadline,
             keys: keys(alloc)?,
             cells: Registry::atomic(alloc, 4)?,
             bucket: AtomicBucket::new(alloc, 16)?,
             recency: Recency::new(alloc, MetricKindMask::HISTOGRAM, Some(2)),
         })
-    }
-
-    /// Whether the time is up.
-    fn is_over<R: Clock>(&self, rt: &R) -> bool {
-        match self.start.elapsed(rt) {
-            Ok(passed) => passed.as_secs() >= self.seconds,
-            Err(_) => true,
-        }
     }
 }
 
@@ -172,17 +186,17 @@ fn work<R: Clock + Wait>(rt: &R, on: &Shared, thread: usize) -> Result<Told, Err
             1 => clear(rt, on, &mut told),
             _ => push(rt, on, &mut told)?,
         }
-        if on.is_over(rt) {
+        if on.deadline.is_over(rt) {
             break;
         }
     }
     Ok(told)
 }
 
-fn soak<R: Clock + AllocGlobal + Threads + Wait + Sync>(rt: &R, seconds: u64) -> Result<Told>
+fn soak<R: Clock + Threads + Wait + Sync>(rt: &R, alloc: Global, deadline: Deadline) -> Result<Told>
     requires { IsSync R.row }
 {
-    let on = &Shared::new(rt, seconds)?;
+    let on = &Shared::new(alloc, deadline)?;
     let mut told = Told {
         pushed: Samples::none(),
         taken: Samples::none(),
@@ -203,8 +217,8 @@ fn seconds(rt: &(impl Env + AllocGlobal)) -> Result<u64> {
     }
 }
 
-fn main(rt: HostRuntime) -> Result<()> {
-    let told = soak(&rt, seconds(&rt)?)?;
+/// Each sample that went in came out once.
+fn expect_samples(told: Told) -> Result<()> {
     let (pushed, taken) = (told.pushed, told.taken);
     if pushed != taken || pushed.count == 0 {
         return Err(anyhow!(
@@ -215,6 +229,20 @@ fn main(rt: HostRuntime) -> Result<()> {
             taken.sum
         ));
     }
+    Ok(())
+}
+
+fn main(rt: HostRuntime) -> Result<()> {
+    let alloc = rt.alloc();
+    let deadline = Deadline::new(&rt, seconds(&rt)?)?;
+    let (told, collected) = join(
+        &rt,
+        || soak(&rt, alloc, deadline),
+        || collector::soak(&rt, alloc, deadline),
+    );
+    expect_samples(told?)?;
+    collected?;
     println!(rt; "each sample came out once")?;
+    println!(rt; "each change of a collector was shown once")?;
     Ok(())
 }

@@ -1,0 +1,75 @@
+//! The bounds of histograms by their names.
+ghost use Rattle.std.specs.Prelude.{◌≡◌, ◌<◌, [], length, if◌then◌else◌, nat_lt, IfOk, IfErr, OnOk, OnErr};
+ghost use Rattle.metrics.specs.declared.error.Error.TheVariants.{Memory as OutOfMemory, NoBounds as WithoutBounds};
+ghost use Rattle.metrics_storage.specs.Histogram.{no_samples};
+
+use metrics::Error;
+use metrics_storage::Histogram;
+use prefix_match::{MatchError, PrefixTrie};
+use std::alloc::Global;
+
+/// Which bounds a histogram counts at: those of the longest prefix that its name begins with, and else the default ones.
+#[derive(Drop)]
+pub struct Bounds {
+    default: Histogram,
+    prefixes: PrefixTrie,
+    chosen: Vec<Histogram>,
+}
+
+/// A histogram without samples at these bounds, of which there has to be one.
+fn empty_at(alloc: Global, bounds: &[i64]) -> Result<Histogram, Error>
+    ensures ok { IfOk result (λ h. h ≡ no_samples bounds.now) }
+    ensures some { OnOk result (0 < length bounds.now) }
+    ensures err { IfErr result (λ e. e ≡ (if nat_lt 0 (length bounds.now) then OutOfMemory else WithoutBounds)) }
+{
+    match Histogram::new(alloc, bounds)? {
+        Some(empty) => Ok(empty),
+        None => Err(Error::NoBounds),
+    }
+}
+
+impl Bounds {
+    ghost use Rattle.metrics_collector.specs.Choice.{IsChoice, chosen_at};
+
+    /// Uses these bounds for each name. There has to be one.
+    pub fn new(alloc: Global, default: &[i64]) -> Result<Bounds, Error>
+        ensures ok { IfOk result (λ b. (b.default ≡ no_samples default.now) × (b.prefixes.pairs ≡ [])) }
+        ensures err { IfErr result (λ e. e ≡ (if nat_lt 0 (length default.now) then OutOfMemory else WithoutBounds)) }
+    {
+        let default = empty_at(alloc, default)?;
+        Ok(Bounds {
+            default,
+            prefixes: PrefixTrie::new(alloc),
+            chosen: Vec::new(alloc),
+        })
+    }
+
+    /// Sets other bounds for the names that begin so, where no longer prefix is theirs. There has to be one. A refusal changes no
+    /// choice.
+    pub fn set(&mut self, alloc: Global, prefix: &str, bounds: &[i64]) -> Result<(), Error>
+        ensures default { self.new.default ≡ self.old.default }
+        ensures ok { OnOk result (chosen_at self.new prefix.now ≡ no_samples bounds.now) }
+    {
+        let empty = empty_at(alloc, bounds)?;
+        self.chosen.reserve(1)?;
+        let at = self.chosen.len();
+        if self.prefixes.insert(prefix.as_bytes(), at).is_err() {
+            return Err(Error::Memory);
+        }
+        self.chosen.push_reserved(empty);
+        Ok(())
+    }
+
+    /// Returns a histogram without samples at the bounds of a name.
+    pub fn of(&self, name: &str) -> &Histogram
+        ensures { IsChoice self.now name.now result.now }
+    {
+        let Some(at) = self.prefixes.longest(name.as_bytes()) else {
+            return &self.default;
+        };
+        match self.chosen.get(at) {
+            Some(chosen) => chosen,
+            None => &self.default,
+        }
+    }
+}

@@ -1,0 +1,228 @@
+//! A collector.
+ghost use Rattle.std.specs.Prelude.{◌≡◌, List, if◌then◌else◌, IfOk, IfErr, string_bytes};
+ghost use Rattle.metrics.specs.declared.error.Error.TheVariants.{Memory as OutOfMemory, BadShards as NotShards};
+ghost use Rattle.metrics_registry.specs.Held.{is_shard_count as is_count};
+ghost use Rattle.metrics_exporter.specs.Readings.{Told, AreOnce, cells_told};
+ghost use Rattle.metrics_prometheus.specs.Exposition.{Helps, IsDescribed};
+ghost use Rattle.metrics_collector.specs.Gathering.{all_gathered};
+ghost use Rattle.metrics_collector.specs.declared.gathered.Gathered.{Gathered as GatheredParts};
+
+use crate::bounds::Bounds;
+use crate::cells::{CollectorCells, CounterHandle, GaugeHandle, HistogramHandle};
+use crate::gathered::Gathered;
+use crate::keys::kept_key;
+use crate::walk::{Walk, forget_all};
+use metrics::{Error, Key, Label, MetricKind, MetricKindMask, Unit};
+use metrics_prometheus::Descriptions;
+use metrics_registry::OwnedRecency;
+use metrics_shared_registry::Registry;
+use std::alloc::Global;
+use std::collections::HashSet;
+use std::mem;
+use std::sync::{Mutex, RwLock, Wait};
+
+/// Metrics that threads share by reference, and their text for Prometheus.
+///
+/// A thread asks for a handle once, and then changes its cell with no look-up. While some thread has a handle of a series, the
+/// series stays: where it is idle it is hidden from the texts, and shown again once it changes. An idle series of which no
+/// thread has a handle leaves, and begins anew when it is asked for again.
+#[derive(Drop)]
+pub struct Collector {
+    alloc: Global,
+    labels: Vec<Label>,
+    mask: MetricKindMask,
+    idle_timeout: Option<u64>,
+    registry: Registry<Key, CollectorCells>,
+    recency: Mutex<OwnedRecency<Key>>,
+    descriptions: RwLock<Descriptions>,
+}
+
+impl Collector {
+    /// Makes a collector without series, in this many shards, a power of two from 1 to 1,024.
+    ///
+    /// A series of a kind of the mask is idle that has kept its generation over readings which lie further apart than the
+    /// timeout; without a timeout none is. The timeout and the moments are in one unit of the caller's choice.
+    pub fn new(
+        alloc: Global,
+        shards: usize,
+        mask: MetricKindMask,
+        idle_timeout: Option<u64>,
+        bounds: Bounds,
+    ) -> Result<Collector, Error>
+        ensures ok { IfOk result (λ c. c.registry.storage.bounds ≡ bounds) }
+        ensures err { IfErr result (λ e. e ≡ (if is_count shards then OutOfMemory else NotShards)) }
+    {
+        let registry = Registry::new(alloc, CollectorCells::new(alloc, bounds), shards)?;
+        Ok(Collector {
+            alloc,
+            labels: Vec::new(alloc),
+            mask,
+            idle_timeout,
+            registry,
+            recency: Mutex::new(OwnedRecency::new(alloc, mask, idle_timeout)),
+            descriptions: RwLock::new(Descriptions::new(alloc)),
+        })
+    }
+
+    /// Gives all series from then on these labels beside their own. A series' own label wins over one of the same name.
+    pub fn with_labels(self, labels: Vec<Label>) -> Collector
+        ensures { result.labels.items ≡ labels.items }
+    {
+        let mut collector = self;
+        collector.labels = labels;
+        collector
+    }
+
+    /// Keeps the description of a name, in place of the one before. A refusal changes nothing.
+    pub fn describe<W: Wait>(
+        &self,
+        rt: &W,
+        alloc: Global,
+        kind: MetricKind,
+        name: &str,
+        unit: Option<Unit>,
+        text: &str,
+    ) -> Result<(), Error>
+        ensures { IfErr result (λ e. e ≡ OutOfMemory) }
+    {
+        self.descriptions
+            .write(rt)
+            .describe(alloc, kind, name, unit, text)
+    }
+
+    fn own_counter<W: Wait>(&self, rt: &W, key: &Key) -> Result<CounterHandle, Error> {
+        let cell = self
+            .registry
+            .get_or_create_counter(rt, key, |cell: &CounterHandle| cell.clone())?;
+        Ok(cell?)
+    }
+
+    /// Returns a handle of a counter, which begins at 0 where there is none. Labels in another order name the same series.
+    ///
+    /// An update is one atomic instruction. An increment by 0 is no activity. A handle keeps its series, as long as it is kept:
+    /// some 200 bytes and the key's texts.
+    pub fn counter<W: Wait>(&self, rt: &W, key: &Key) -> Result<CounterHandle, Error> {
+        match kept_key(self.alloc, key, &self.labels)? {
+            Some(kept) => self.own_counter(rt, &kept),
+            None => self.own_counter(rt, key),
+        }
+    }
+
+    fn own_gauge<W: Wait>(&self, rt: &W, key: &Key) -> Result<GaugeHandle, Error> {
+        let cell = self
+            .registry
+            .get_or_create_gauge(rt, key, |cell: &GaugeHandle| cell.clone())?;
+        Ok(cell?)
+    }
+
+    /// Returns a handle of a gauge, which begins at 0 where there is none. Labels in another order name the same series.
+    ///
+    /// Each update is activity, also one that leaves the value as it is. A handle keeps its series, as long as it is kept: some
+    /// 250 bytes and the key's texts.
+    pub fn gauge<W: Wait>(&self, rt: &W, key: &Key) -> Result<GaugeHandle, Error> {
+        match kept_key(self.alloc, key, &self.labels)? {
+            Some(kept) => self.own_gauge(rt, &kept),
+            None => self.own_gauge(rt, key),
+        }
+    }
+
+    fn own_histogram<W: Wait>(&self, rt: &W, key: &Key) -> Result<HistogramHandle, Error> {
+        let cell = self
+            .registry
+            .get_or_create_histogram(rt, key, |cell: &HistogramHandle| cell.clone())?;
+        Ok(cell?)
+    }
+
+    /// Returns a handle of a histogram, which begins without samples where there is none. Labels in another order name the same
+    /// series.
+    ///
+    /// Each sample is activity. A handle keeps its series, as long as it is kept.
+    pub fn histogram<W: Wait>(&self, rt: &W, key: &Key) -> Result<HistogramHandle, Error> {
+        match kept_key(self.alloc, key, &self.labels)? {
+            Some(kept) => self.own_histogram(rt, &kept),
+            None => self.own_histogram(rt, key),
+        }
+    }
+
+    fn walk_counters<W: Wait>(&self, rt: &W, walk: &mut Walk) {
+        walk.gone = HashSet::new(self.alloc);
+        self.registry
+            .visit_counters(rt, |key, cell| walk.counter(key, cell));
+        if !walk.gone.is_empty() {
+            self.registry
+                .retain_counters(rt, |key, cell| walk.counter_stays(key, cell));
+        }
+    }
+
+    fn walk_gauges<W: Wait>(&self, rt: &W, walk: &mut Walk) {
+        walk.gone = HashSet::new(self.alloc);
+        self.registry
+            .visit_gauges(rt, |key, cell| walk.gauge(key, cell));
+        if !walk.gone.is_empty() {
+            self.registry
+                .retain_gauges(rt, |key, cell| walk.gauge_stays(key, cell));
+        }
+    }
+
+    fn walk_histograms<W: Wait>(&self, rt: &W, walk: &mut Walk) {
+        walk.gone = HashSet::new(self.alloc);
+        self.registry
+            .visit_histograms(rt, |key, cell| walk.histogram(rt, key, cell));
+        if !walk.gone.is_empty() {
+            self.registry
+                .retain_histograms(rt, |key, cell| walk.histogram_stays(rt, key, cell));
+        }
+    }
+
+    /// Reads each cell once. Series that are idle aren't among those gathered, and leave where no thread has a handle.
+    ///
+    /// Shards are read side by side with threads that ask for handles. Only where an idle series leaves, each shard is locked for
+    /// a moment. Threads with handles never wait for it, but for one that records into a histogram while this is copied.
+    pub fn gather<W: Wait>(&self, rt: &W, alloc: Global, now: u64) -> Result<Gathered, Error>
+        ensures { IfErr result (λ e. e ≡ OutOfMemory) }
+    {
+        let mut recency = self.recency.lock(rt);
+        let none = OwnedRecency::new(alloc, self.mask, self.idle_timeout);
+        let mut walk = Walk {
+            now,
+            recency: mem::replace(&mut *recency, none),
+            series: Vec::new(alloc),
+            refused: false,
+            gone: HashSet::new(alloc),
+        };
+        self.walk_counters(rt, &mut walk);
+        self.walk_gauges(rt, &mut walk);
+        self.walk_histograms(rt, &mut walk);
+        let Walk {
+            now: _,
+            recency: mut noted,
+            series,
+            refused,
+            gone: _,
+        } = walk;
+        if refused {
+            forget_all(&mut noted, &series);
+        }
+        *recency = noted;
+        if refused {
+            return Err(Error::Memory);
+        }
+        Ok(Gathered { series })
+    }
+
+    /// Reads each cell once, and returns the text of the series that are in use.
+    ///
+    /// It fails with `Error::Memory` alone. What it met is then shown by the next one, also if that comes after the timeout.
+    pub fn render<W: Wait>(&self, rt: &W, alloc: Global, now: u64) -> Result<String, Error>
+        ensures text { IfOk result (λ text. (helps : Helps) × (gathered : GatheredParts) × (kept : List Told)
+            × AreOnce (all_gathered gathered) kept × IsDescribed helps (cells_told kept) (string_bytes text)) }
+        ensures err { IfErr result (λ e. e ≡ OutOfMemory) }
+    {
+        let gathered = self.gather(rt, alloc, now)?;
+        let text = gathered.text(alloc, &self.descriptions.read(rt));
+        if text.is_err() {
+            forget_all(&mut *self.recency.lock(rt), &gathered.series);
+        }
+        text
+    }
+}

@@ -1,0 +1,77 @@
+//! What was read of a collector.
+ghost use Rattle.std.specs.Prelude.{◌≡◌, List, IfOk, IfErr, MatchResult, string_bytes};
+ghost use Rattle.metrics.specs.declared.error.Error.TheVariants.{Memory as OutOfMemory};
+ghost use Rattle.metrics_exporter.specs.Readings.{Told, all_told, told_of, AreReadings, AreOnce, cells_told};
+ghost use Rattle.metrics_exporter.specs.Exporting.{Cells};
+ghost use Rattle.metrics_prometheus.specs.Exposition.{IsDescribed};
+ghost use Rattle.metrics_prometheus.specs.Rows.{helps_of};
+
+use metrics::{Error, Key};
+use metrics_prometheus::{Descriptions, ReadingRef, SeriesReading, exposition_of};
+use metrics_storage::Histogram;
+use std::alloc::{AllocError, Global};
+
+/// What a series had when it was read: a count, a gauge's value, or samples.
+#[derive(Drop)]
+pub enum Value {
+    Count(u64),
+    Level(i64),
+    Samples(Histogram),
+}
+
+/// A series with what it had. Its kind is that of its value.
+#[derive(Drop)]
+pub struct GatheredSeries {
+    pub key: Key,
+    pub value: Value,
+}
+
+/// The series that were in use, each with what it had.
+#[derive(Drop)]
+pub struct Gathered {
+    pub series: Vec<GatheredSeries>,
+}
+
+ghost use Rattle.metrics_collector.specs.Gathering.{gathered_told, told_of_gathered, all_gathered};
+
+impl GatheredSeries {
+    /// Returns the series by reference.
+    pub fn reading(&self) -> SeriesReading<'_>
+        ensures { told_of result ≡ told_of_gathered self.now }
+    {
+        let reading = match &self.value {
+            Value::Count(count) => ReadingRef::Count(*count),
+            Value::Level(level) => ReadingRef::Level(*level),
+            Value::Samples(histogram) => ReadingRef::Samples(histogram),
+        };
+        SeriesReading {
+            key: &self.key,
+            reading,
+        }
+    }
+}
+
+/// All series by reference.
+fn readings(alloc: Global, series: &[GatheredSeries]) -> Result<Vec<SeriesReading<'_>>, AllocError>
+    ensures { IfOk result (λ all. all_told all.items ≡ gathered_told series.now) }
+{
+    let mut readings = Vec::with_capacity(alloc, series.len())?;
+    for one in series {
+        readings.push(one.reading())?;
+    }
+    Ok(readings)
+}
+
+impl Gathered {
+    /// Writes the series in Prometheus's text exposition format, each name behind its description.
+    pub fn text(&self, alloc: Global, descriptions: &Descriptions) -> Result<String, Error>
+        ensures ok { (cells : Cells) → AreReadings cells (all_gathered self.now)
+            → IfOk result (λ text. IsDescribed (helps_of descriptions.now) cells (string_bytes text)) }
+        ensures each { IfOk result (λ text. (kept : List Told) × AreOnce (all_gathered self.now) kept
+            × IsDescribed (helps_of descriptions.now) (cells_told kept) (string_bytes text)) }
+        ensures err { IfErr result (λ e. e ≡ OutOfMemory) }
+    {
+        let readings = readings(alloc, &self.series)?;
+        exposition_of(alloc, descriptions, &readings)
+    }
+}

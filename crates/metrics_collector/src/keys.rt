@@ -1,0 +1,112 @@
+//! The keys under which series are kept: with the labels that all series have, in order.
+ghost use Rattle.std.specs.Prelude.{◌≡◌, ◌++◌, ◌∷◌, [], bytes_eq, IfErr, IfOk, OnOk, IsTrue, MatchOption};
+ghost use Rattle.std.specs.List.{list_any};
+ghost use Rattle.std.specs.List.Sorted.{IsSorted};
+ghost use Rattle.std.specs.Ordering.{is_lt};
+ghost use Rattle.metrics.specs.declared.error.Error.TheVariants.{Memory as OutOfMemory};
+ghost use Rattle.metrics_names.specs.Names.{LabelParts, label_cmp};
+ghost use Rattle.metrics_collector.specs.Labelling.{new_among, AreOrdered, IsKept};
+
+use metrics::{Error, Key, Label};
+use std::alloc::Global;
+
+/// Whether a label has this name.
+fn has_name(labels: &[Label], name: &str) -> bool
+    ensures { result ≡ list_any (λ m. bytes_eq m.0 name.now) labels.now }
+{
+    for label in labels {
+        if label.key() == name {
+            return true;
+        }
+    }
+    false
+}
+
+/// Adds a copy of a label, unless an own label has its name.
+fn push_new(alloc: Global, all: &mut Vec<Label>, own: &[Label], label: &Label) -> Result<(), Error>
+    ensures ok { OnOk result (all.new.items ≡ all.old.items ++ new_among own.now (label.now ∷ [])) }
+    ensures err { IfErr result (λ e. e ≡ OutOfMemory) }
+{
+    if has_name(own, label.key()) {
+        return Ok(());
+    }
+    all.push(Label::new(alloc, label.key(), label.value())?)?;
+    Ok(())
+}
+
+/// Adds copies of the labels whose names no own label has.
+fn add_new(
+    alloc: Global,
+    labels: Vec<Label>,
+    own: &[Label],
+    more: &[Label],
+) -> Result<Vec<Label>, Error>
+    ensures ok { IfOk result (λ all. all.items ≡ labels.items ++ new_among own.now more.now) }
+    ensures err { IfErr result (λ e. e ≡ OutOfMemory) }
+{
+    let mut all = labels;
+    for label in more {
+        push_new(alloc, &mut all, own, label)?;
+    }
+    Ok(all)
+}
+
+/// Copies of labels.
+fn copies(alloc: Global, labels: &[Label]) -> Result<Vec<Label>, Error>
+    ensures ok { IfOk result (λ all. all.items ≡ labels.now) }
+    ensures err { IfErr result (λ e. e ≡ OutOfMemory) }
+{
+    let mut all = Vec::with_capacity(alloc, labels.len())?;
+    for label in labels {
+        all.push(Label::new(alloc, label.key(), label.value())?)?;
+    }
+    Ok(all)
+}
+
+/// Takes nothing and does nothing: its contract says what the order of labels is.
+fn label_order()
+    ensures { (a b : LabelParts) → ⟦<Label as Ord>⟧.cmp a b ≡ label_cmp a b }
+{}
+
+/// Whether a label comes before another.
+fn is_before(label: &Label, other: &Label) -> bool
+    ensures { result ≡ is_lt (label_cmp label.now other.now) }
+{
+    label_order();
+    label.cmp(other).is_lt()
+}
+
+/// Whether labels are in order.
+fn are_sorted(labels: &[Label]) -> bool
+    ensures { IsTrue result → IsSorted label_cmp labels.now }
+{
+    for i in 1..labels.len() {
+        if is_before(&labels[i], &labels[i - 1]) {
+            return false;
+        }
+    }
+    true
+}
+
+/// Puts labels in order.
+fn sort_labels(labels: &mut Vec<Label>)
+    ensures { AreOrdered labels.old.items labels.new.items }
+{
+    label_order();
+    labels.sort_unstable();
+}
+
+/// The key under which a collector with these labels keeps the series, and `None` where it is the key itself. That takes no
+/// memory.
+pub(crate) fn kept_key(alloc: Global, key: &Key, more: &[Label]) -> Result<Option<Key>, Error>
+    ensures ok { IfOk result (λ found. MatchOption found (IsKept more.now key.now key.now) (IsKept more.now key.now)) }
+    ensures err { IfErr result (λ e. e ≡ OutOfMemory) }
+{
+    if more.is_empty() && are_sorted(key.labels()) {
+        return Ok(None);
+    }
+    let labels = copies(alloc, key.labels())?;
+    let mut all = add_new(alloc, labels, key.labels(), more)?;
+    sort_labels(&mut all);
+    Ok(Some(Key::from_parts(alloc, key.name(), all)?))
+}

@@ -1,0 +1,15 @@
+//! Metrics that the threads of a program share, and their text for Prometheus.
+#![tactic(auto)]
+
+mod bounds;
+mod cells;
+mod collector;
+mod gathered;
+mod keys;
+mod walk;
+
+pub use bounds::Bounds;
+pub use cells::{CollectorCells, CounterHandle, GaugeHandle, HistogramHandle};
+pub use collector::Collector;
+pub use gathered::{Gathered, GatheredSeries, Value};
+pub use metrics::Error;

@@ -1,0 +1,197 @@
+//! A collector: seven threads change two series whose handles they keep and make counters that they change once, and one reads
+//! the text meanwhile. Each series is idle that hasn't changed between two readings.
+ghost use Rattle.std.specs.Thread.{IsSync};
+
+use crate::Deadline;
+use anyhow::{Result, anyhow};
+use metrics::{Error, Key, Label, MetricKindMask};
+use metrics_cells::{CounterFn, HistogramFn};
+use metrics_collector::{Bounds, Collector};
+use std::alloc::Global;
+use std::rt::Clock;
+use std::sync::Wait;
+use std::sync::atomic::{AtomicUsize, Ordering};
+use std::thread::{self, Threads};
+
+const WORKERS: usize = 7;
+
+/// How many changes are between two looks at the clock.
+const CHANGES: i64 = 1024;
+
+/// How often the kept series were changed, how many counters were made that are changed once, and how many of these were shown
+/// with their change.
+#[derive(Clone, Copy)]
+struct Told {
+    changed: u64,
+    made: u64,
+    shown: u64,
+}
+
+impl Told {
+    fn none() -> Told {
+        Told {
+            changed: 0,
+            made: 0,
+            shown: 0,
+        }
+    }
+
+    fn join(&mut self, other: Told) {
+        self.changed = self.changed.wrapping_add(other.changed);
+        self.made = self.made.wrapping_add(other.made);
+        self.shown = self.shown.wrapping_add(other.shown);
+    }
+}
+
+/// What the threads share.
+#[derive(Clone, Copy)]
+struct Shared<'a> {
+    alloc: Global,
+    deadline: Deadline,
+    collector: &'a Collector,
+    ended: &'a AtomicUsize,
+}
+
+fn collector(alloc: Global) -> Result<Collector, Error> {
+    let bounds = Bounds::new(alloc, &[10, 100])?;
+    Collector::new(alloc, 4, MetricKindMask::ALL, Some(0), bounds)
+}
+
+/// Changes each kept series so often.
+fn change<W: Wait>(rt: &W, on: Shared<'_>, times: i64) -> Result<(), Error> {
+    let counter = on
+        .collector
+        .counter(rt, &Key::from_name(on.alloc, "kept")?)?;
+    let histogram = on
+        .collector
+        .histogram(rt, &Key::from_name(on.alloc, "samples")?)?;
+    for sample in 0..times {
+        CounterFn::increment(&counter, 1);
+        histogram.record(rt, sample)?;
+    }
+    Ok(())
+}
+
+/// The key of a counter that is changed once.
+fn once(alloc: Global, thread: usize, round: u64) -> Result<Key, Error> {
+    let mut labels = Vec::new(alloc);
+    let at = format!(in alloc; "{thread}.{round}")?;
+    labels.push(Label::new(alloc, "at", at.as_str())?)?;
+    Ok(Key::from_parts(alloc, "once", labels)?)
+}
+
+fn change_once<W: Wait>(rt: &W, on: Shared<'_>, key: &Key) -> Result<(), Error> {
+    let counter = on.collector.counter(rt, key)?;
+    CounterFn::increment(&counter, 1);
+    Ok(())
+}
+
+fn work<R: Clock + Wait>(rt: &R, on: Shared<'_>, thread: usize) -> Result<Told, Error> {
+    let mut told = Told::none();
+    for round in 0..u64::MAX {
+        change(rt, on, CHANGES)?;
+        change_once(rt, on, &once(on.alloc, thread, round)?)?;
+        told.join(Told {
+            changed: CHANGES as u64,
+            made: 1,
+            shown: 0,
+        });
+        if on.deadline.is_over(rt) {
+            break;
+        }
+    }
+    Ok(told)
+}
+
+/// How many counters of one change a text shows.
+fn changed_once(text: &str) -> u64 {
+    let mut shown = 0u64;
+    for line in text.lines() {
+        if line.starts_with("once{") && line.ends_with(" 1") {
+            shown = shown.wrapping_add(1);
+        }
+    }
+    shown
+}
+
+/// Reads the text until all workers have ended, and then once more.
+fn read<W: Wait>(rt: &W, on: Shared<'_>) -> Result<Told, Error> {
+    let mut told = Told::none();
+    for now in 1..u64::MAX {
+        let is_last = on.ended.load(Ordering::SeqCst) >= WORKERS;
+        let text = on.collector.render(rt, on.alloc, now)?;
+        told.shown = told.shown.wrapping_add(changed_once(text.as_str()));
+        if is_last {
+            break;
+        }
+    }
+    Ok(told)
+}
+
+fn take_part<R: Clock + Wait>(rt: &R, on: Shared<'_>, thread: usize) -> Result<Told, Error> {
+    if thread == WORKERS {
+        return read(rt, on);
+    }
+    let told = work(rt, on, thread);
+    on.ended.fetch_add(1, Ordering::SeqCst);
+    told
+}
+
+fn run_all<R: Clock + Threads + Wait + Sync>(rt: &R, on: Shared<'_>) -> Result<Told>
+    requires { IsSync R.row }
+{
+    let mut told = Told::none();
+    let part = |thread: usize| take_part(rt, on, thread);
+    for one in thread::map_indices(rt, on.alloc, WORKERS + 1, &part)? {
+        told.join(one?);
+    }
+    Ok(told)
+}
+
+/// The kept series show each change, one more of each kind included.
+fn expect_kept(alloc: Global, text: &str, changed: u64) -> Result<()> {
+    let all = changed.wrapping_add(1);
+    for front in ["\nkept ", "\nsamples_count "] {
+        let line = format!(in alloc; "{front}{all}\n")?;
+        if !text.contains(line.as_str()) {
+            return Err(anyhow!("{} is not in {}", line, text));
+        }
+    }
+    Ok(())
+}
+
+fn soak_beside<R: Clock + Threads + Wait + Sync>(rt: &R, on: Shared<'_>) -> Result<()>
+    requires { IsSync R.row }
+{
+    let told = run_all(rt, on)?;
+    if told.made != told.shown || told.made == 0 {
+        return Err(anyhow!("{} counters were made, {} shown", told.made, told.shown));
+    }
+    change(rt, on, 1)?;
+    let text = on.collector.render(rt, on.alloc, u64::MAX)?;
+    expect_kept(on.alloc, text.as_str(), told.changed)
+}
+
+/// Handles are kept meanwhile, so that the kept series stay.
+pub fn soak<R: Clock + Threads + Wait + Sync>(
+    rt: &R,
+    alloc: Global,
+    deadline: Deadline,
+) -> Result<()>
+    requires { IsSync R.row }
+{
+    let collector = &collector(alloc)?;
+    let counter = collector.counter(rt, &Key::from_name(alloc, "kept")?);
+    let histogram = collector.histogram(rt, &Key::from_name(alloc, "samples")?);
+    let ended = &AtomicUsize::new(0);
+    let on = Shared {
+        alloc,
+        deadline,
+        collector,
+        ended,
+    };
+    soak_beside(rt, on)?;
+    counter?;
+    histogram?;
+    Ok(())
+}
