@@ -185,6 +185,23 @@ fn calls_that_are_refused_leave_the_bucket(rt: HostRuntime) {
     assert!(rt; cleared == Ok(64) && bucket.push(&rt, 7).is_ok());
 }
 
+/// A clear and a reading that are `Busy` have not called their closures.
+fn expect_unseen<R: Abort + Wait>(rt: &R, bucket: &AtomicBucket<u64>) {
+    let mut calls = 0u64;
+    let cleared = bucket.clear_with(rt, |_| calls = calls.wrapping_add(1));
+    assert!(rt; cleared == Err(Error::Busy) && calls == 0);
+    let read = bucket.data_with(rt, |_| calls = calls.wrapping_add(1));
+    assert!(rt; read == Err(Error::Busy) && calls == 0);
+}
+
+#[test]
+fn a_busy_call_shows_nothing(rt: HostRuntime) {
+    let bucket = bucket_of(&rt, rt.alloc(), 1);
+    push_below(&rt, &bucket, 64);
+    assert!(rt; bucket.data_with(&rt, |_| expect_unseen(&rt, &bucket)) == Ok(64));
+    assert!(rt; bucket.clear_with(&rt, |_| expect_unseen(&rt, &bucket)) == Ok(64));
+}
+
 /// Records 64 samples, and one more that finds no place.
 fn record_64<R: Abort + Wait, H: HistogramFn<Error = Error>>(rt: &R, cell: &H) {
     for value in -32..32 {

@@ -129,6 +129,19 @@ impl Held<'_> {
     fn clear<R: Wait>(&mut self, rt: &R) -> Result<usize, Error> {
         self.bucket.clear_as(rt, &mut self.pen)
     }
+
+    /// A clear and a reading that are `Busy` have not called their closures.
+    fn expect_unseen<R: Abort + Wait>(&mut self, rt: &R) {
+        let mut calls = 0u64;
+        let cleared = self
+            .bucket
+            .clear_with_as(rt, &mut self.pen, |_| calls = calls.wrapping_add(1));
+        assert!(rt; cleared == Err(Error::Busy) && calls == 0);
+        let read = self
+            .bucket
+            .data_with_as(rt, &mut self.pen, |_| calls = calls.wrapping_add(1));
+        assert!(rt; read == Err(Error::Busy) && calls == 0);
+    }
 }
 
 /// No pen is whole, and none is busy.
@@ -151,4 +164,19 @@ fn a_clears_closure_may_push_with_another_pen(rt: HostRuntime) {
         .expect(&rt, "out of memory");
     assert!(rt; values.as_slice() == [2].as_slice());
     assert!(rt; other.count(&rt) == Ok(1) && other.clear(&rt) == Ok(1));
+}
+
+#[test]
+fn a_busy_call_shows_nothing(rt: HostRuntime) {
+    let (bucket, mut pen) = bucket_of(&rt, rt.alloc(), 1);
+    let other = split_off(&rt, &mut pen);
+    let mut other = Held {
+        bucket: &bucket,
+        pen: other,
+    };
+    assert!(rt; bucket.try_push_as(&mut pen, 1).is_ok());
+    let read = bucket.data_with_as(&rt, &mut pen, |_| other.expect_unseen(&rt));
+    assert!(rt; read == Ok(1));
+    let cleared = bucket.clear_with_as(&rt, &mut pen, |_| other.expect_unseen(&rt));
+    assert!(rt; cleared == Ok(1));
 }

@@ -178,8 +178,14 @@ struct Held<'a> {
 }
 
 impl Held<'_> {
-    fn clear<R: Wait>(&mut self, rt: &R) -> Result<usize, Error> {
-        self.bucket.clear_with(rt, &mut self.pen, |_| {})
+    /// Clears. A clear that is refused has not called its closure.
+    fn clear<R: Abort + Wait>(&mut self, rt: &R) -> Result<usize, Error> {
+        let mut calls = 0u64;
+        let answer = self
+            .bucket
+            .clear_with(rt, &mut self.pen, |_| calls = calls.wrapping_add(1));
+        assert!(rt; answer.is_ok() || calls == 0);
+        answer
     }
 }
 
