@@ -1,4 +1,4 @@
--- What the rule allows the steps that give the turn back.
+-- What the rule allows the steps that return the turn.
 use Rattle.std.proofs.Common.{Bool, ◌≡◌, ℕ, zero, suc, ◌+◌, ◌<◌, ◌≤◌, List, [], ◌∷◌, get_or, set, take, drop, refl, sym, ap, ◌∙◌, subst, arith}
 use mathlib.Core.Option.{none, some}
 use lib.ListN.{get_elem?}

@@ -1,4 +1,4 @@
--- Reads and writes in two lists, one behind the other, and in a part of a list.
+-- Reads and writes in two lists, one after the other, and in a part of a list.
 use Rattle.std.proofs.Common.{◌≡◌, ℕ, zero, suc, ◌+◌, ◌<◌, List, [], ◌∷◌, ◌++◌, length, get_or, set, take, drop, refl, ap, ◌∙◌, arith}
 
 -- a write in the first or the second of two lists

@@ -1,4 +1,4 @@
--- A step of one thread that leaves its counts of tickets, of told places and of takes keeps the places.
+-- A step of one thread that leaves its counts of tickets, of reported places and of takes keeps the places.
 use Rattle.std.proofs.Common.{◌≡◌, ◌≢◌, ℕ, ◌+◌, ◌<◌, ◌≤◌, cond, eqb, List, get_or, set, refl, sym, ap, ◌∙◌, subst, arith}
 use mathlib.Core.Option.{some}
 use lib.ListN.{get_elem?}

@@ -1,4 +1,4 @@
--- The order in which a bucket gives its values.
+-- The order in which a bucket returns its values.
 use Rattle.std.specs.Prelude.{◌≡◌, ℕ, ◌+◌, List, length, map, reverse}
 use Rattle.metrics.specs.Book.{chunks, blocks}
 use Rattle.metrics_bucket.specs.declared.view.Push.{Push}

@@ -1,4 +1,4 @@
--- Where the pushes of each epoch stand, and what walks find.
+-- Where the pushes of each epoch are, and what walks find.
 use Rattle.std.specs.Prelude.{◌≡◌, ◌==◌, ℕ, zero, suc, ◌+◌, ◌<◌, ◌≤◌, ◌⊎◌, if◌then◌else◌, List, [], ◌∷◌, length, slice_index}
 use mathlib.Core.Option.{some}
 use lib.ListN.{get_elem?}

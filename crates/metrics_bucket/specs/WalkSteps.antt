@@ -1,4 +1,4 @@
--- What each step of a walk tells its thread.
+-- What each step of a walk shows its thread.
 use Rattle.std.specs.Prelude.{◌≡◌, ◌≢◌, ℕ, ◌+◌, ◌/◌, ◌%◌, ◌≤◌, List, [], ◌∷◌, length, replicate}
 use Rattle.atomic_table.specs.Table.{Step}
 use Rattle.metrics_bucket.specs.declared.view.View.{View}

@@ -20,7 +20,7 @@ use std::sync::{Arc, Wait};
 
 /// A bucket that any thread may push into, read and clear. It has two sides, each with 64 places for each block.
 ///
-/// No lock is taken, and any number of calls may run at once. Each block takes some 2 KB of memory.
+/// It uses no lock, and any number of calls may run at once. Each block takes some 2 KB of memory.
 #[derive(Drop)]
 pub struct AtomicBucket<T: Sample> {
     bucket: RuledBucket<T>,
@@ -34,7 +34,9 @@ impl<T: Sample> AtomicBucket<T> {
     ghost use Rattle.metrics_bucket.specs.Sides.{side_places};
     ghost use Rattle.metrics_bucket.specs.BucketState.{new_view, seeing};
 
-    /// An empty bucket of 1 to 1024 blocks on each side.
+    /// Makes an empty bucket of 1 to 1,024 blocks on each side.
+    ///
+    /// Fails with `BadBlocks` for another number of blocks, and else only when out of memory.
     pub fn new(alloc: Global, blocks: usize) -> Result<AtomicBucket<T>, Error>
         ensures places { IfOk result (λ b. side_places b ≡ 64 * blocks) }
         ensures good { (0 < blocks) × (blocks ≤ 1024) → IfErr result (λ e. e ≡ Error.Memory) }
@@ -57,14 +59,16 @@ impl<T: Sample> AtomicBucket<T> {
         self.door.shared.load_new_seat::<LookAtControl>(0)
     }
 
-    /// Whether no value was pushed since the last clear. A push that is under way counts as a value. It is never refused.
+    /// Returns whether no value was pushed since the last clear. A push that is under way counts as a value. It never fails.
     pub fn is_empty<R: Wait>(&self, _rt: &R) -> Result<bool, Error>
         ensures { IsOk result }
     {
         Ok(self.bucket.control() < 2)
     }
 
-    /// Pushes a value, or gives it back. `Full`: all places of the live side are given.
+    /// Pushes a value, or returns it.
+    ///
+    /// `Full`: all places of the live side are given.
     pub fn push<R: Wait>(&self, rt: &R, value: T) -> Result<(), (Error, T)>
         ensures { IfErr result (λ e. (e.0 ≡ Error.Full) × (e.1 ≡ value)) }
     {
@@ -72,10 +76,11 @@ impl<T: Sample> AtomicBucket<T> {
         self.bucket.push_after(rt, &mut seat, found, value)
     }
 
-    /// All values since the last clear, in blocks of 64, the newest block first. It waits for pushes that were under way
-    /// when it looked.
+    /// Returns all values since the last clear, in blocks of 64, the newest block first.
     ///
+    /// It waits for pushes that were under way when it looked.
     /// `Busy`: another walk is under way.
+    /// `Memory`: there is no room for the values. Nothing changed.
     pub fn data<R: Wait>(&self, rt: &R, alloc: Global) -> Result<Vec<T>, Error>
         ensures count { IfOk result (λ v. vec_len v ≤ side_places self.now) }
         ensures err { IfErr result (λ e. (e ≡ Error.Memory) ⊎ (e ≡ Error.Busy)) }
@@ -84,9 +89,9 @@ impl<T: Sample> AtomicBucket<T> {
         self.bucket.gather_values(rt, alloc, &mut seat)
     }
 
-    /// Reads all values as `data` does, and shows them to `f` in chunks of 64, the newest chunk first. It answers how
-    /// many values it read. `f` may push into this bucket.
+    /// Reads all values as `data` does, shows them to `f` in chunks of 64, the newest chunk first, and returns their number.
     ///
+    /// `f` may push into this bucket.
     /// `Busy`: another walk is under way.
     pub fn data_with<R: Wait, F: FnMut(&[T])>(&self, rt: &R, f: F) -> Result<usize, Error>
         requires { F.IsAlwaysCallable f }
@@ -100,7 +105,7 @@ impl<T: Sample> AtomicBucket<T> {
         self.bucket.show_to(rt, &mut seat, &mut shown)
     }
 
-    /// Takes all values, and answers how many they were.
+    /// Takes all values, and returns their number.
     ///
     /// `Busy`: another walk is under way.
     pub fn clear<R: Wait>(&self, rt: &R) -> Result<usize, Error>
@@ -110,10 +115,10 @@ impl<T: Sample> AtomicBucket<T> {
         self.clear_with(rt, |_| {})
     }
 
-    /// Takes all values, and shows them to `f` in chunks of 64, the newest chunk first. It waits for pushes that were
-    /// under way when it took them; later pushes are for the next walk. It answers how many values it took. `f` may push
-    /// into this bucket.
+    /// Takes all values, shows them to `f` in chunks of 64, the newest chunk first, and returns their number.
     ///
+    /// It waits for pushes that were under way when it took them; later pushes are for the next walk. `f` may push into this
+    /// bucket.
     /// `Busy`: another walk is under way.
     pub fn clear_with<R: Wait, F: FnMut(&[T])>(&self, rt: &R, f: F) -> Result<usize, Error>
         requires { F.IsAlwaysCallable f }

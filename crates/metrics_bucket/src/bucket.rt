@@ -53,7 +53,9 @@ impl<T: Sample> Model for RuledBucket<T> {
 }
 
 impl<T: Sample> RuledBucket<T> {
-    /// A bucket of 1 to 1024 blocks on each side, and its whole pen.
+    /// Makes a bucket of 1 to 1,024 blocks on each side, and its whole pen.
+    ///
+    /// Fails with `BadBlocks` for another number of blocks, and else only when out of memory.
     pub fn new(alloc: Global, blocks: usize) -> Result<(RuledBucket<T>, Pen), Error>
         ensures ok { IfOk result (λ r. (r.0.places ≡ 64 * blocks) × (r.1 ≡ first_account r.0)) }
         ensures good { (0 < blocks) × (blocks ≤ 1024) → IfErr result (λ e. e ≡ Error.Memory) }
@@ -65,7 +67,9 @@ impl<T: Sample> RuledBucket<T> {
         Self::of_places(alloc, BLOCK_SIZE * blocks)
     }
 
-    /// A bucket of any number of places on each side, and its whole pen.
+    /// Makes a bucket of any number of places on each side, and its whole pen.
+    ///
+    /// Fails only when out of memory.
     pub fn of_places(alloc: Global, places: usize) -> Result<(RuledBucket<T>, Pen), Error>
         requires { (0 < places) × (places < 2 ^ 60) }
         ensures ok { IfOk result (λ r. (r.0.places ≡ places) × (r.1 ≡ first_account r.0)) }
@@ -134,7 +138,10 @@ impl<T: Sample> RuledBucket<T> {
         Ok((bucket, table))
     }
 
-    /// The same bucket, for values of another type. A value that was pushed as another type comes out as the value of its word.
+    /// Returns the same bucket, for values of another type.
+    ///
+    /// A value that was pushed as another type comes out as the value of its word.
+    /// Fails only when out of memory.
     pub fn try_clone_as<U: Sample>(&self) -> Result<RuledBucket<U>, Error>
         ensures ok { IfOk result (λ b. b ≡ self.now) }
         ensures err { IfErr result (λ e. e ≡ Error.Memory) }
@@ -149,7 +156,7 @@ impl<T: Sample> RuledBucket<T> {
         })
     }
 
-    // Where a side's place stands among the values, and among the marks.
+    // Where a side's place is among the values, and among the marks.
     pub(crate) fn place_index(&self, side: usize, at: usize) -> usize
         requires { (side < 2) × (at < self.now.places) }
         ensures { (result ≡ place_index self.now.places side at) × (result < self.now.places + self.now.places) }
@@ -157,13 +164,14 @@ impl<T: Sample> RuledBucket<T> {
         if side == 0 { at } else { self.places + at }
     }
 
-    // The control word, as far as a look without a pen tells.
+    // The control word, by a look without a pen.
     pub(crate) fn control(&self) -> u64 {
         self.table.shared.peek(0)
     }
 
-    /// Whether no ticket of the live side was given, by the word that it sees. A push that is under way counts, and a
-    /// value that a clear is about to take does not.
+    /// Returns whether no ticket of the live side was given, by the word that it sees.
+    ///
+    /// A push that is under way counts, and a value that a clear is about to take does not.
     pub fn is_empty_as(&self, pen: &mut Pen) -> bool
         requires own { pen.old.home ≡ self.now }
         requires free { pen.old.ticket ≡ false }
@@ -174,11 +182,11 @@ impl<T: Sample> RuledBucket<T> {
         self.table.shared.load::<LookAtControl>(&mut pen.seat, 0) < 2
     }
 
-    /// Draws a ticket, which `finish_as` uses up. A walk that comes to its place waits until then, so a pen that never
-    /// finishes leaves walks waiting.
+    /// Draws a ticket, which `finish_as` uses up.
     ///
-    /// `Full`: the word that it sees has all places of the live side given. `Raced`: that word has not, and another
-    /// thread changed it in between; another try may succeed.
+    /// A walk that comes to its place waits until then, so a pen that never finishes leaves walks waiting.
+    /// `Full`: the word that it sees has all places of the live side given.
+    /// `Raced`: that word has not, and another thread changed it in between; another try may succeed.
     pub fn begin_as(&self, pen: &mut Pen) -> Result<(), Error>
         requires own { pen.old.home ≡ self.now }
         requires free { pen.old.ticket ≡ false }
@@ -271,7 +279,7 @@ impl<T: Sample> RuledBucket<T> {
         pen.ticket = None;
     }
 
-    /// Pushes a value in at most four steps on the words, or gives it back, with an error of `begin_as`.
+    /// Pushes a value in at most four steps on the words, or returns it, with an error of `begin_as`.
     pub fn try_push_as(&self, pen: &mut Pen, value: T) -> Result<(), (Error, T)>
         requires own { pen.old.home ≡ self.now }
         requires free { pen.old.ticket ≡ false }
@@ -292,8 +300,9 @@ impl<T: Sample> RuledBucket<T> {
         }
     }
 
-    /// Pushes a value; a lost race is tried again. `Full` gives the value back: the word that it saw last has all places
-    /// of the live side given.
+    /// Pushes a value; a lost race is tried again.
+    ///
+    /// `Full` returns the value: the word that it saw last has all places of the live side given.
     pub fn push_as<R: Wait>(&self, rt: &R, pen: &mut Pen, value: T) -> Result<(), (Error, T)>
         requires own { pen.old.home ≡ self.now }
         requires free { pen.old.ticket ≡ false }
@@ -369,7 +378,7 @@ impl<T: Sample> RuledBucket<T> {
         }
     }
 
-    // Puts these values of the live side behind the others.
+    // Appends these values of the live side to the others.
     fn settled_chunk(
         &self,
         seat: &mut Seat<Turn, View>,
@@ -415,8 +424,10 @@ impl<T: Sample> RuledBucket<T> {
         }
     }
 
-    /// Ends the bucket, and gives the values that were pushed and not taken: by their tickets in blocks of 64, the
-    /// newest block first. Where there is no memory for all places of a side, bucket and pen come back.
+    /// Ends the bucket, and returns the values that were pushed and not taken.
+    ///
+    /// They come by their tickets in blocks of 64, the newest block first. If there is no memory for all places of a side,
+    /// it returns bucket and pen.
     pub fn settle(self, alloc: Global, pen: Pen) -> Result<Vec<T>, (RuledBucket<T>, Pen)>
         requires own { pen.home ≡ self }
         requires whole { pen.weight ≡ 1024 }

@@ -56,10 +56,10 @@ impl<T: Sample> RuledBucket<T> {
         Ok(given)
     }
 
-    /// Takes all values that were pushed and not taken, and shows them to the visitor in chunks of 64 by their tickets,
-    /// the newest chunk first. It waits for pushes that drew a ticket before it took the side; later ones go to the
-    /// other side. It answers how many values it took.
+    /// Takes all values that were pushed and not taken, shows them to the visitor, and returns their number.
     ///
+    /// They come in chunks of 64 by their tickets, the newest chunk first. It waits for pushes that drew a ticket before it
+    /// took the side; later ones go to the other side.
     /// `Busy`: another walk is under way, or this pen's own closure or visitor is inside one.
     pub fn clear_to_as<R: Wait, V: Visitor<T>>(
         &self,
@@ -99,7 +99,7 @@ impl<T: Sample> RuledBucket<T> {
         self.clear_to_as(rt, pen, &mut shown)
     }
 
-    /// Takes all values as `clear_to_as` does.
+    /// Takes all values as `clear_to_as` does, and shows them to nobody.
     pub fn clear_as<R: Wait>(&self, rt: &R, pen: &mut Pen) -> Result<usize, Error>
         requires own { pen.old.home ≡ self.now }
         requires free { pen.old.ticket ≡ false }

@@ -3,7 +3,7 @@ ghost use Rattle.metrics_bucket.specs.Gathers.{Gathers};
 
 use crate::visitor::Visitor;
 
-// Puts these values behind the others, as far as there is room.
+// Appends these values to the others, as far as there is room.
 fn append<T: Copy>(values: &mut Vec<T>, part: &[T])
     ensures { Gathers values.old part.now values.new }
 {
@@ -13,7 +13,7 @@ fn append<T: Copy>(values: &mut Vec<T>, part: &[T])
     }
 }
 
-/// A visitor that puts the values it is shown behind one another, as far as there is room.
+/// A visitor that appends the values it is shown to one another, as far as there is room.
 #[derive(Drop)]
 pub struct Gathered<T> {
     pub values: Vec<T>,

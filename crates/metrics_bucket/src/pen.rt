@@ -13,11 +13,13 @@ use std::sync::Arc;
 
 pub(crate) type Words = Table<Turn, View, (usize, bool), BucketRule, Global>;
 
-/// A thread's part of one bucket, which each call on the bucket takes. It has a weight, a part of the right to know the
-/// whole: a bucket has 1024 parts, all of them with its first pen.
+/// A thread's part of one bucket, which each call on the bucket borrows.
+///
+/// It has a weight: a bucket has 1,024 parts, all of them with its first pen. A pen that holds all the weight knows the
+/// state of the whole bucket.
 ///
 /// Contracts see it as its account: what it pushed, took and read, its weight, whether it has a ticket, the control word
-/// that it saw last, and the turn's word that its last refused claim found.
+/// that it saw last, and the turn's word that its last failed claim found.
 #[derive(Drop)]
 pub struct Pen {
     pub(crate) table: Arc<Words, Global>,
@@ -41,21 +43,23 @@ impl Model for Pen {
 }
 
 impl Pen {
-    /// Whether it has all parts, so that there is no other pen.
+    /// Returns whether it has all parts, so that there is no other pen.
     pub fn is_whole(&self) -> bool
         ensures { IsTrue result ↔ (self.now.weight ≡ 1024) }
     {
         self.weight == 1024
     }
 
-    /// Whether a push that it began isn't finished.
+    /// Returns whether a push that it began isn't finished.
     pub fn has_ticket(&self) -> bool
         ensures { result ≡ self.now.ticket }
     {
         self.ticket.is_some()
     }
 
-    /// Gives away half of the weight, to a new pen with an empty account. `NoPen`: one part can't be split.
+    /// Gives half of the weight to a new pen with an empty account.
+    ///
+    /// `NoPen`: one part can't be split.
     pub fn split(&mut self) -> Result<Pen, Error>
         requires { self.old.ticket ≡ false }
         ensures ok { IfOk result (λ p. (self.new ≡ left_account self.old) × (p ≡ right_account self.old)) }
@@ -79,7 +83,7 @@ impl Pen {
         })
     }
 
-    /// Takes in another pen of the same bucket, with its account.
+    /// Adds another pen of the same bucket, with its account.
     pub fn join(&mut self, other: Pen)
         requires home { self.old.home ≡ other.home }
         requires free { (self.old.ticket ≡ false) × (other.ticket ≡ false) }

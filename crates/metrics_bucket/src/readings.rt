@@ -48,7 +48,7 @@ impl<T: Sample> RuledBucket<T> {
         Ok(shared.load::<LookToRead>(seat, 0))
     }
 
-    // Gives the turn back, and has read nothing.
+    // Returns the turn, and has read nothing.
     fn give_turn_back(&self, seat: &mut Seat<Turn, View>)
         requires home { (seat.old.table_id ≡ self.now.table) × (0 < seat.old.me.0.weight) }
         requires hold { CanQuit seat.old.me.0.hold × (seat.old.me.1 ≡ (0, turn_at seat.old.me.0.turn) ∷ []) }
@@ -123,10 +123,11 @@ impl<T: Sample> RuledBucket<T> {
         Ok(gathered.values)
     }
 
-    /// All values that were pushed and not taken, as they stand: by their tickets in blocks of 64, the newest block
-    /// first. It waits for pushes that drew a ticket before it looked.
+    /// Returns all values that were pushed and not taken: by their tickets in blocks of 64, the newest block first.
     ///
+    /// It waits for pushes that drew a ticket before it looked.
     /// `Busy`: another walk is under way.
+    /// `Memory`: there is no room for the values. Nothing changed.
     pub fn data_as<R: Wait>(&self, rt: &R, alloc: Global, pen: &mut Pen) -> Result<Vec<T>, Error>
         requires own { pen.old.home ≡ self.now }
         requires free { pen.old.ticket ≡ false }
@@ -139,8 +140,8 @@ impl<T: Sample> RuledBucket<T> {
         self.gather_values(rt, alloc, &mut pen.seat)
     }
 
-    /// Reads all values as `data_as` does, and shows them to the visitor in chunks of 64, the newest chunk first. It
-    /// answers how many values it read.
+    /// Reads all values as `data_as` does, shows them to the visitor in chunks of 64, the newest chunk first, and returns their
+    /// number.
     pub fn data_to_as<R: Wait, V: Visitor<T>>(
         &self,
         rt: &R,

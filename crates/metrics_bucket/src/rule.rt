@@ -2,6 +2,7 @@
 use crate::view::{Turn, View};
 use atomic_table::TableRule;
 
+/// The rule of the bucket's table: the words follow a history.
 pub struct BucketRule;
 
 // Its key: how many places a side has, and whether threads may come at any time.

@@ -9,11 +9,11 @@ pub trait Sample: Copy {
 
     ghost value: { ℕ → Self };
 
-    /// The value as a word.
+    /// Returns the value as a word.
     fn to_word(self) -> u64
         ensures { result ≡ word self };
 
-    /// The value of a word; of a word that no value has, some value.
+    /// Returns the value of a word, and some value for a word that no value has.
     fn of_word(bits: u64) -> Self
         ensures { result ≡ value bits };
 

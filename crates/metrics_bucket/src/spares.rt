@@ -70,6 +70,8 @@ impl Model for Spares {
 
 impl Spares {
     /// Divides a bucket's first pen into 128. The pen stays one of them, and the others wait.
+    ///
+    /// Fails only when out of memory.
     pub fn new(alloc: Global, places: usize, pen: &mut Pen) -> Result<Spares, Error>
         requires first { IsLooked (first_account pen.old.home) pen.old }
         requires places { pen.old.home.places ≡ places }
@@ -91,7 +93,9 @@ impl Spares {
         })
     }
 
-    /// For a bucket whose first pen stays whole: none wait.
+    /// Makes an empty list of waiting pens, for a bucket whose first pen stays whole.
+    ///
+    /// Fails only when out of memory.
     pub fn none(alloc: Global, places: usize, pen: &mut Pen) -> Result<Spares, Error>
         requires places { pen.old.home.places ≡ places }
         ensures ok { IfOk result (λ s. s ≡ pen.old.home) }
@@ -131,7 +135,9 @@ impl Spares {
         })
     }
 
-    /// A pen of this bucket that has done nothing. `NoPen`: none is left.
+    /// Takes a pen of this bucket that has done nothing.
+    ///
+    /// `NoPen`: none is left.
     pub fn take(&self) -> Result<Pen, Error>
         ensures ok { IfOk result (λ p. p ≡ spare_account self.now) }
         ensures err { IfErr result (λ e. (e ≡ Error.Memory) ⊎ (e ≡ Error.NoPen)) }
@@ -145,7 +151,9 @@ impl Spares {
         Err(Error::NoPen)
     }
 
-    /// The pen takes in all that still wait. Want of memory leaves it with those that it has taken in.
+    /// Joins all pens that still wait into this pen.
+    ///
+    /// When out of memory the pen keeps those that it has joined.
     pub fn gather(&self, pen: &mut Pen) -> Result<(), Error>
         requires own { pen.old.home ≡ self.now }
         requires free { pen.old.ticket ≡ false }

@@ -1,4 +1,4 @@
-//! What each step on the table tells.
+//! What each step on the table says.
 ghost use Rattle.metrics_bucket.specs.Steps.{control_looked, ticket_drawn, value_written, push_finished, live_side_looked};
 ghost use Rattle.metrics_bucket.specs.Steps.{weight_looked, settled_value_looked};
 ghost use Rattle.metrics_bucket.specs.WalkSteps.{turn_claimed, reading_looked, clear_looked, side_taken, mark_looked, value_read};

@@ -82,7 +82,7 @@ impl<T: Sample> RuledBucket<T> {
         T::of_word(bits)
     }
 
-    // Walks over these places, and puts their values into the front of the room.
+    // Walks over these places, and puts their values at the beginning of the room.
     fn walk_chunk<R: Wait, W: Walker>(
         &self,
         rt: &R,
@@ -138,7 +138,7 @@ impl<T: Sample> RuledBucket<T> {
         }
     }
 
-    // Walks over all places that were given, and gives the turn back.
+    // Walks over all places that were given, and returns the turn.
     pub(crate) fn walk_and_leave<R: Wait, W: Walker, V: Visitor<T>>(
         &self,
         rt: &R,

@@ -32,13 +32,14 @@ impl GaugeFn for AtomicU64 {
     }
 }
 
-/// The count in a word that is a counter (`CounterFn`), as it is now.
+/// Returns the count in a word that is a counter (`CounterFn`), as it is now.
 pub fn counter_value(word: &AtomicU64) -> u64 {
     word.load(Ordering::SeqCst)
 }
 
-/// The value in a word that is a gauge (`GaugeFn`), as it is now: the word holds its 64 bits, so that a value below 0 is
-/// a word from 2^63 on.
+/// Returns the value in a word that is a gauge (`GaugeFn`), as it is now.
+///
+/// The word has its 64 bits, so a value below 0 is a word from 2^63 on.
 pub fn gauge_value(word: &AtomicU64) -> i64 {
     word.load(Ordering::SeqCst).cast_signed()
 }
@@ -57,7 +58,7 @@ fn subtracted(bits: u64, value: i64) -> u64
     bits.cast_signed().saturating_sub(value).cast_unsigned()
 }
 
-/// Exchanges the word for what `next` answers to it, and tries again where another thread was first.
+/// Exchanges the word for what `next` answers to it, and tries again if another thread was first.
 fn change<W: Wait, F: Fn(u64) -> u64>(rt: &W, word: &AtomicU64, next: F)
     requires { F.IsAlwaysCallable next }
 {

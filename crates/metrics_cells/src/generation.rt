@@ -2,22 +2,22 @@
 
 use std::sync::atomic::{AtomicU64, Ordering};
 
-/// How often a value was changed, modulo 2^64. Any thread may raise it, so no contract says which it is.
+/// The number of changes of a value, modulo 2^64. Any thread may raise it, so no contract says what it is.
 #[derive(Debug, Drop)]
 pub struct AtomicGeneration(AtomicU64);
 
 impl AtomicGeneration {
-    /// No change.
+    /// Makes a generation of no changes.
     pub fn new() -> AtomicGeneration {
         AtomicGeneration(AtomicU64::new(0))
     }
 
-    /// The number of changes.
+    /// Returns the number of changes.
     pub fn load(&self) -> u64 {
         self.0.load(Ordering::SeqCst)
     }
 
-    /// Makes the number one more, modulo 2^64.
+    /// Adds one to the number, modulo 2^64.
     pub fn raise(&self) {
         self.0.fetch_add(1, Ordering::SeqCst);
     }

@@ -16,12 +16,11 @@ pub trait CounterFn {
 
 /// The cell of a gauge. `gauge_value` reads the value of a word of 64 bits.
 pub trait GaugeFn {
-    /// Adds to the value, which stops at the ends of `i64`. It may have to try again while other threads
-    /// change the cell.
+    /// Adds to the value, and saturates at the ends of `i64`. It may have to try again while other threads change the cell.
     fn increment<W: Wait>(&self, rt: &W, value: i64);
 
-    /// Subtracts from the value, which stops at the ends of `i64`. It may have to try again while other threads
-    /// change the cell.
+    /// Subtracts from the value, and saturates at the ends of `i64`. It may have to try again while other threads change the
+    /// cell.
     fn decrement<W: Wait>(&self, rt: &W, value: i64);
 
     /// Replaces the value.
@@ -30,10 +29,10 @@ pub trait GaugeFn {
 
 /// The cell of a histogram.
 pub trait HistogramFn {
-    /// Why a sample wasn't kept.
+    /// Why a sample was rejected.
     type Error: Drop;
 
-    /// Keeps a sample.
+    /// Records a sample.
     fn record<W: Wait>(&self, rt: &W, value: i64) -> Result<(), Self::Error>;
 }
 

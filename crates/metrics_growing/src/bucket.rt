@@ -24,9 +24,10 @@ const BLOCK_SIZE: usize = 64;
 /// How many segments there may be.
 pub(crate) const LINKS: usize = 64;
 
-/// A bucket that any number of threads push into, each with a `GrowPen` of its own, while one at a time clears it. It is a
-/// chain of segments, each with twice as many places as the one before it, and a push that finds all of them full makes the
-/// next.
+/// A bucket that any number of threads push into, each with a `GrowPen` of its own, while one at a time clears it.
+///
+/// It is a chain of segments, each with twice as many places as the one before it. A push that finds all of them full makes
+/// the next.
 ///
 /// Contracts see it as the names of its links.
 #[derive(Drop)]
@@ -51,7 +52,7 @@ impl<T: Sample> Model for GrowingBucket<T> {
     ghost invariant = { λ b. (0 < b.blocks) × (b.blocks ≤ 1024) × (length b.links.items ≡ 64) };
 }
 
-// Puts so many empty links behind the others.
+// Appends so many empty links to the others.
 fn fill(alloc: Global, count: usize, links: &mut Vec<OnceBox<Segment>>) -> Result<(), Error>
     ensures more { (more : _) × (links.new.items ≡ links.old.items ++ more) }
     ensures count { OnOk result (length links.new.items ≡ length links.old.items + count) }
@@ -65,7 +66,7 @@ fn fill(alloc: Global, count: usize, links: &mut Vec<OnceBox<Segment>>) -> Resul
     Ok(())
 }
 
-// How many places a side of this segment has, where the first one has so many blocks.
+// How many places a side of this segment has, if the first one has so many blocks.
 fn places_of(blocks: usize, at: usize) -> Result<usize, Error>
     requires blocks { (0 < blocks) × (blocks ≤ 1024) }
     requires at { at < 64 }
@@ -82,7 +83,9 @@ fn places_of(blocks: usize, at: usize) -> Result<usize, Error>
 }
 
 impl<T: Sample> GrowingBucket<T> {
-    /// A bucket whose first segment has 1 to 1024 blocks on each side, and its first pen, which is whole.
+    /// Makes a bucket whose first segment has 1 to 1,024 blocks on each side, and its first pen, which is whole.
+    ///
+    /// Fails with `BadBlocks` for another number of blocks, and else only when out of memory.
     pub fn new(alloc: Global, blocks: usize) -> Result<(GrowingBucket<T>, GrowPen), Error>
         ensures own { IfOk result (λ r. IsOf r.0 r.1) }
         ensures first { IfOk result (λ r. (p : Part) × (r.1 ≡ p ∷ []) × (p.account ≡ first_account p.account.home)
@@ -121,7 +124,7 @@ impl<T: Sample> GrowingBucket<T> {
         Ok((bucket, GrowPen { alloc, known }))
     }
 
-    // Makes a segment for an empty link. Where another came first, its own is dropped, and a spare pen of the other's is taken.
+    // Makes a segment for an empty link. If another thread was first, it drops its own and takes a spare pen of the other's.
     fn make(
         &self,
         link: &OnceBox<Segment>,
@@ -150,7 +153,7 @@ impl<T: Sample> GrowingBucket<T> {
         }
     }
 
-    // Meets the segment of the next link, which is made where there is none.
+    // Meets the segment of the next link, and makes it if there is none.
     pub(crate) fn meet(&self, known: &mut Vec<Known>) -> Result<(), Error>
         requires own { IsOf self.now known.old.items }
         ensures own { IsOf self.now known.new.items }
@@ -207,7 +210,7 @@ impl<T: Sample> GrowingBucket<T> {
         self.meet(known)
     }
 
-    // Pushes a word into the first segment that has a free place, and makes the next one where none has.
+    // Pushes a word into the first segment that has a free place, and makes the next one if none has.
     fn try_word(&self, known: &mut Vec<Known>, word: u64) -> Result<(), Error>
         requires own { IsOf self.now known.old.items }
         ensures own { IsOf self.now known.new.items }
@@ -231,10 +234,11 @@ impl<T: Sample> GrowingBucket<T> {
         Err(Error::Memory)
     }
 
-    /// Pushes a value into the first segment that has a free place, or gives it back.
+    /// Pushes a value into the first segment that has a free place, or returns it.
     ///
-    /// `Raced`: another thread drew the ticket; another try may succeed. `NoPen`: a segment that the pen doesn't know has no
-    /// spare pen left. `Memory`: a segment or a pen of one found no memory, or there are 64 full segments.
+    /// `Raced`: another thread drew the ticket; another try may succeed.
+    /// `NoPen`: a segment that the pen doesn't know has no spare pen left.
+    /// `Memory`: a segment or a pen of one found no memory, or there are 64 full segments.
     pub fn try_push(&self, pen: &mut GrowPen, value: T) -> Result<(), (Error, T)>
         requires own { IsOf self.now pen.old }
         ensures own { IsOf self.now pen.new }

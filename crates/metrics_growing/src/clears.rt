@@ -115,7 +115,7 @@ impl<T: Sample> GrowingBucket<T> {
         part.clear(rt, link, &buckets[at], visitor)
     }
 
-    // The first segment's turn may be refused, a later one's is waited for.
+    // The first segment may be busy, a later one's turn is waited for.
     fn clear_one<R: Wait, V: Visitor<T>>(
         &self,
         rt: &R,
@@ -179,12 +179,12 @@ impl<T: Sample> GrowingBucket<T> {
         Ok(count)
     }
 
-    /// Takes all values that were pushed and not taken, segment by segment from the first on, and shows them to the visitor in
-    /// chunks of 64, each segment's newest chunk first. It waits for pushes that drew a ticket before it took their segment's
-    /// side. It answers how many values it took.
+    /// Takes all values that were pushed and not taken, shows them to the visitor, and returns their number.
     ///
-    /// `Busy`: another walk is under way in the first segment; a later segment's is waited for. `NoPen`: a segment that the pen
-    /// doesn't know has no spare pen left.
+    /// It goes from segment to segment, and shows each segment's values in chunks of 64, the newest chunk first. It waits for
+    /// pushes that drew a ticket before it took their segment's side.
+    /// `Busy`: another walk is under way in the first segment; a later segment's is waited for.
+    /// `NoPen`: a segment that the pen doesn't know has no spare pen left.
     pub fn clear_to<R: Wait, V: Visitor<T>>(
         &self,
         rt: &R,
@@ -208,8 +208,9 @@ impl<T: Sample> GrowingBucket<T> {
         self.clear_all(rt, known, &buckets, visitor)
     }
 
-    /// Takes all values as `clear_to` does, and shows them to `f`, which may push into this bucket with another pen. A clear
-    /// made inside `f` may wait for ever.
+    /// Takes all values as `clear_to` does, and shows them to `f`, which may push into this bucket with another pen.
+    ///
+    /// A clear made inside `f` may wait for ever.
     pub fn clear_with<R: Wait, F: FnMut(&[T])>(
         &self,
         rt: &R,

@@ -81,7 +81,7 @@ impl Known {
         segment.places
     }
 
-    /// Takes what stands in the segment.
+    /// Takes what is in the segment.
     pub(crate) fn clear<T: Sample, R: Wait, V: Visitor<T>>(
         &mut self,
         rt: &R,
@@ -99,12 +99,12 @@ impl Known {
         ensures err { IfErr result (λ e. (self.new ≡ self.old) × (visitor.new ≡ visitor.old) × (e ≡ Error.Busy)
             × (self.old.account.weight ≢ 1024)) }
     {
-        // It tells that the segment has few places, so that counts of several add up.
+        // It says that the segment has few places, so that counts of several add up.
         self.places(link);
         bucket.clear_to_as(rt, &mut self.pen, visitor)
     }
 
-    /// Takes in the segment's spare pens that still wait.
+    /// Joins the segment's spare pens that still wait.
     pub(crate) fn gather(&mut self, link: &OnceBox<Segment>) -> Result<(), Error>
         requires link { self.old.link ≡ cell_name link.now }
         ensures spare { SpareIn self.old self.new }
@@ -122,7 +122,7 @@ impl Known {
         self.pen.is_whole()
     }
 
-    /// Gives away half of the weight.
+    /// Gives half of the weight to a new pen.
     pub(crate) fn split(&mut self) -> Result<Known, Error>
         ensures ok { IfOk result (λ k. (self.new ≡ left_part self.old) × (k ≡ right_part self.old)) }
         ensures err { IfErr result (λ e. (self.new ≡ self.old) × (1 < self.old.account.weight → e ≡ Error.Memory)) }
@@ -133,7 +133,7 @@ impl Known {
         Ok(Known { pen, note })
     }
 
-    /// Takes in another pen of the same segment.
+    /// Adds another pen of the same segment.
     pub(crate) fn join(&mut self, other: Known)
         requires link { other.link ≡ self.old.link }
         ensures { self.new ≡ joined_part self.old other }

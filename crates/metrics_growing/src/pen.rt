@@ -8,7 +8,7 @@ use metrics::Error;
 use std::alloc::Global;
 use std::marker::Model;
 
-/// A thread's part of one growing bucket, which each call on the bucket takes: a pen for each segment that it knows.
+/// A thread's part of one growing bucket, which each call on the bucket borrows: a pen for each segment that it knows.
 ///
 /// Contracts see it as a list of parts, each with its link's name and its pen's account.
 #[derive(Drop)]
@@ -31,7 +31,7 @@ impl Model for GrowPen {
     ghost invariant = { λ _. ⊤ };
 }
 
-// Joins what both know, and puts what only the others have behind it.
+// Joins what both know, and appends what only the others have.
 fn take_in(known: &mut Vec<Known>, others: Vec<Known>)
     requires own { AreOfOne known.old.items others.items }
     requires room { length others.items ≤ vec_capacity known.old }
@@ -48,7 +48,9 @@ fn take_in(known: &mut Vec<Known>, others: Vec<Known>)
 }
 
 impl GrowPen {
-    /// Gives away half of the weight in the first segment, and in no other. `NoPen`: one part of the weight can't be split.
+    /// Gives half of the weight in the first segment, and in no other, to a new pen.
+    ///
+    /// `NoPen`: one part of the weight can't be split.
     pub fn split(&mut self) -> Result<GrowPen, Error>
         ensures ok { IfOk result (λ p. (self.new ≡ left_parts self.old) × (p ≡ right_parts self.old)) }
         ensures own { (links : List ℕ) → IsOf links self.old → IsOf links self.new × IfOk result (λ p. IsOf links p) }
@@ -70,8 +72,9 @@ impl GrowPen {
         })
     }
 
-    /// Takes in another pen of the same bucket, with its account. Want of memory leaves both as they were, and comes only where
-    /// the other knows more segments.
+    /// Adds another pen of the same bucket, with its account.
+    ///
+    /// It can run out of memory only if the other pen knows more segments. Then both stay unchanged.
     pub fn join(&mut self, other: GrowPen) -> Result<(), (Error, GrowPen)>
         requires own { AreOfOne self.old other }
         ensures ok { OnOk result (self.new ≡ joined_parts self.old other) }

@@ -1,4 +1,4 @@
-//! The call that gives all values that are left.
+//! The call that returns all values that are left.
 ghost use Rattle.std.specs.Prelude.{◌≡◌, ◌<◌, ◌^◌, ◌⊎◌, ◌↔◌, IsTrue, All, length, slice_index_or, IfOk};
 ghost use Rattle.std.specs.Prelude.{IfErr};
 ghost use Rattle.metrics_growing.specs.Parts.{Part, IsOf, IsWhole, Gathered as GatheredIn, ChangedAt, EachOf, SpareIn};
@@ -25,7 +25,7 @@ fn are_whole(known: &[Known]) -> bool
 }
 
 impl<T: Sample> GrowingBucket<T> {
-    // Takes in the spare pens of a segment that is known.
+    // Joins the spare pens of a segment that is known.
     fn gather_at(&self, known: &mut Vec<Known>, at: usize) -> Result<(), Error>
         requires own { IsOf self.now known.old.items }
         requires at { at < length known.old.items }
@@ -43,7 +43,7 @@ impl<T: Sample> GrowingBucket<T> {
         part.gather(link)
     }
 
-    // Takes in the spare pens of all segments that are known.
+    // Joins the spare pens of all segments that are known.
     fn gather_all(&self, known: &mut Vec<Known>) -> Result<(), Error>
         requires own { IsOf self.now known.old.items }
         ensures own { IsOf self.now known.new.items }
@@ -86,11 +86,12 @@ impl<T: Sample> GrowingBucket<T> {
         places
     }
 
-    /// Takes all values that were pushed and not taken, where the pen is whole in each segment: those of the first segment
-    /// first, each segment's by their tickets in blocks of 64, the newest block first. They count as taken from then on.
+    /// Takes all values that were pushed and not taken, if the pen is whole in each segment.
     ///
-    /// `NoPen`: there is another pen of some segment. At a refusal no value has moved, and the pen keeps the spare pens that it
-    /// took in.
+    /// Those of the first segment come first, each segment's by their tickets in blocks of 64, the newest block first. They count
+    /// as taken from then on.
+    /// `NoPen`: there is another pen of some segment.
+    /// If it fails no value has moved, and the pen keeps the spare pens that it has joined.
     pub fn settle<R: Wait>(&self, rt: &R, alloc: Global, pen: &mut GrowPen) -> Result<Vec<T>, Error>
         requires own { IsOf self.now pen.old }
         ensures own { IsOf self.now pen.new }

@@ -1,4 +1,4 @@
--- The journals of all shards, where one of them grows.
+-- The journals of all shards, when one of them grows.
 use Rattle.std.proofs.Common.{◌≡◌, ℕ, zero, suc, ◌+◌, ◌<◌, Bool, List, [], ◌∷◌, ◌++◌, sym, ◌∙◌, ap, subst, length, get_or, set, map, arith}
 use Rattle.std.proofs.lemmas.List.{map-append, append_assoc, append-nil}
 use Rattle.metrics_journal.specs.declared.calls.ShardCall.{ShardCall}

@@ -5,7 +5,7 @@ use metrics::MetricKind;
 /// A call of a shard of a registry.
 #[derive(Clone, Debug, PartialEq, Eq, Drop)]
 pub enum ShardCall<K> {
-    /// Makes a cell where the key isn't held, and replies whether the key was new.
+    /// Makes a cell if the key isn't held, and replies whether the key was new.
     Create(MetricKind, K),
     /// Removes a cell, and replies whether the key was there.
     Delete(MetricKind, K),
@@ -17,7 +17,7 @@ impl<K> ShardCall<K> {
     ghost use Rattle.std.specs.Prelude.{◌≡◌};
     ghost use Rattle.metrics_journal.specs.Journal.{key_of};
 
-    /// The key that the call is about.
+    /// Returns the key that the call is about.
     pub fn key(&self) -> &K
         ensures { result.now ≡ key_of self.now }
     {

@@ -109,7 +109,7 @@ where
     Ok(shards)
 }
 
-/// Puts the journals of the shards, in order, where there is room for them.
+/// Appends the journals of the shards, in order, to a list that has room for them.
 fn journals_in<K: Hashable + EqualClone + Drop, S: Storage<K>>(
     shards: Vec<Part<K, S>>,
     room: Vec<Vec<(ShardCall<K>, bool)>>,
@@ -131,9 +131,9 @@ where
     journals
 }
 
-/// A registry whose shards keep journals, and whose calls any thread makes with a tally.
+/// A registry whose shards keep journals. Any thread calls it with a tally.
 ///
-/// All its shards stand under one lock. `T` names the ledger of the calls that were answered true, and `F` that of those that
+/// All its shards are under one lock. `T` names the ledger of the calls that were answered true, and `F` that of those that
 /// were answered false.
 #[derive(Drop)]
 pub struct JournaledRegistry<K: Hashable, S: Storage<K>, T: Ledger, F: Ledger> {
@@ -151,10 +151,10 @@ where
     S::Gauge: Drop,
     S::Histogram: Drop,
 {
-    /// A registry of this many shards, a power of two from 1 to 1,024, and the whole tally.
+    /// Makes a registry of this many shards, a power of two from 1 to 1,024, and the whole tally.
     ///
     /// The two blanks open the ledgers of the true and the false replies, each of 1,024 parts. The shards share the storage.
-    /// All the memory that `finish` needs is taken here.
+    /// It allocates all that `finish` needs.
     pub fn new(
         alloc: Global,
         storage: S,
@@ -190,7 +190,7 @@ where
         ))
     }
 
-    /// Makes a call in the shard of its key, and counts the reply in the tally. A refusal changes nothing.
+    /// Makes a call in the shard of its key, and counts the reply in the tally. A call that fails changes nothing.
     pub fn call<R: Wait>(
         &self,
         rt: &R,
@@ -203,7 +203,7 @@ where
         self.journals.lock(rt).call(tally, call)
     }
 
-    /// The journal of each shard, in the order of the shards. It asks for the whole tally, and takes no memory.
+    /// Returns the journal of each shard, in the order of the shards. It needs the whole tally, and allocates nothing.
     pub fn finish(self, tally: Tally<T, F>) -> Vec<Vec<(ShardCall<K>, bool)>>
         requires whole { tally.weight ≡ 1024 }
         ensures legal { AreJournals K.eq K.number (vec_len result) 0 (map (λ v. v.items) result.items) }

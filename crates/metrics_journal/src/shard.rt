@@ -47,7 +47,7 @@ where
     S::Gauge: Drop,
     S::Histogram: Drop,
 {
-    /// The shard of this number, from 0, among so many shards, with no calls and no keys. It takes no memory.
+    /// Makes the shard of this number, from 0, among so many shards, with no calls and no keys. It allocates nothing.
     pub fn new(alloc: Global, shard: usize, shards: usize) -> Part<K, S>
         ensures place { (result.shard ≡ shard) × (result.shards ≡ shards) }
         ensures empty { (result.journal ≡ []) × (result.cells.counters ≡ []) × (result.cells.gauges ≡ [])
@@ -61,7 +61,7 @@ where
         }
     }
 
-    /// Makes a call of a key of this shard, and notes it with its reply. A refusal changes nothing.
+    /// Makes a call of a key of this shard, and notes it with its reply. A call that fails changes nothing.
     pub fn call(&mut self, storage: &S, call: ShardCall<K>) -> Result<bool, Error>
         requires { K.number (key_of call) % self.old.shards ≡ self.old.shard }
         ensures ok { IfOk result (λ reply. self.new.journal ≡ self.old.journal ++ (call, reply) ∷ []) }
@@ -77,7 +77,7 @@ where
         Ok(reply)
     }
 
-    /// The calls with their replies, in their order.
+    /// Returns the calls with their replies, in their order.
     pub fn journal(&self) -> &[(ShardCall<K>, bool)]
         ensures journal { result.now ≡ self.now.journal }
         ensures legal { IsLegal K.eq result.now }
@@ -86,7 +86,7 @@ where
         self.journal.as_slice()
     }
 
-    /// The cells of each kind.
+    /// Returns the cells of each kind.
     pub fn cells(&self) -> &Kinds<K, S>
         ensures cells { result.now ≡ self.now.cells }
         ensures keys { (kind : AnyKind) (key : K) → has_key K.eq result.now kind key ≡ holds K.eq self.now.journal kind key }
@@ -94,7 +94,7 @@ where
         &self.cells
     }
 
-    /// The calls with their replies, and the cells are let go.
+    /// Returns the calls with their replies, and drops the cells.
     pub fn into_journal(self) -> Vec<(ShardCall<K>, bool)>
         ensures journal { result.items ≡ self.journal }
         ensures legal { IsLegal K.eq result.items }
@@ -137,7 +137,7 @@ where
     S::Gauge: Drop,
     S::Histogram: Drop,
 {
-    /// The shard of this number, from 0, among so many shards, with no calls and no keys.
+    /// Makes the shard of this number, from 0, among so many shards, with no calls and no keys.
     ///
     /// The number of shards is a power of two from 1 to 1,024.
     pub fn new(alloc: Global, storage: S, shard: usize, shards: usize) -> Result<Self, Error>
@@ -154,7 +154,7 @@ where
         Ok(JournaledShard { storage, part })
     }
 
-    /// Makes a call of a key of this shard, and notes it with its reply. A refusal changes nothing.
+    /// Makes a call of a key of this shard, and notes it with its reply. A call that fails changes nothing.
     pub fn call(&mut self, call: ShardCall<K>) -> Result<bool, Error>
         requires { K.number (key_of call) % self.old.shards ≡ self.old.shard }
         ensures ok { IfOk result (λ reply. self.new.journal ≡ self.old.journal ++ (call, reply) ∷ []) }
@@ -166,7 +166,7 @@ where
         self.part.call(&self.storage, call)
     }
 
-    /// The calls with their replies, in their order.
+    /// Returns the calls with their replies, in their order.
     pub fn journal(&self) -> &[(ShardCall<K>, bool)]
         ensures journal { result.now ≡ self.now.journal }
         ensures legal { IsLegal K.eq result.now }
@@ -175,7 +175,7 @@ where
         self.part.journal()
     }
 
-    /// The part of the registry that the calls were made on: the cells of each kind.
+    /// Returns the part of the registry that the calls were made on: the cells of each kind.
     pub fn registry(&self) -> &Kinds<K, S>
         ensures cells { result.now ≡ self.now.cells }
         ensures keys { (kind : AnyKind) (key : K) → has_key K.eq result.now kind key ≡ holds K.eq self.now.journal kind key }
@@ -184,7 +184,7 @@ where
         self.part.cells()
     }
 
-    /// What makes the cells.
+    /// Returns the storage, which makes the cells.
     pub fn storage(&self) -> &S
         ensures { result.now ≡ self.now.storage }
     {

@@ -1,4 +1,4 @@
-//! Calls of a shard that tell only which keys are held.
+//! Calls of a shard whose contracts say only which keys are held.
 ghost use Rattle.std.specs.Prelude.{◌≡◌, ◌&&◌, ◌||◌, not, true, OnOk, IfOk, IfErr};
 ghost use Rattle.metrics.specs.declared.error.Error.TheVariants.{Memory as OutOfMemory};
 ghost use Rattle.metrics_names.specs.declared.kind.MetricKind.{MetricKind as AnyKind};
@@ -28,7 +28,7 @@ where
     }
 }
 
-/// Makes a cell where the key isn't held.
+/// Makes a cell if the key isn't held.
 fn create<K: Hashable + EqualClone + Drop, S: Storage<K>>(
     storage: &S,
     cells: &mut Kinds<K, S>,
@@ -74,7 +74,7 @@ where
     }
 }
 
-/// Removes a cell, and tells whether the key was held.
+/// Removes a cell, and returns whether the key was held.
 fn delete<K: Hashable + EqualClone + Drop, S: Storage<K>>(
     cells: &mut Kinds<K, S>,
     kind: MetricKind,
@@ -98,7 +98,7 @@ where
     }
 }
 
-/// Makes a call, and gives its reply.
+/// Makes a call, and returns its reply.
 pub(crate) fn answer<K: Hashable + EqualClone + Drop, S: Storage<K>>(
     storage: &S,
     cells: &mut Kinds<K, S>,

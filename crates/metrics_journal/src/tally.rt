@@ -17,7 +17,7 @@ const STEP: u64 = 2048;
 
 /// How many calls were answered true and how many false, of those that were made with this tally.
 ///
-/// The tallies of a registry weigh 1,024 together, and stand for all its shards together: so the whole tally knows how many
+/// The tallies of a registry weigh 1,024 together, and count for all its shards together. So the whole tally knows how many
 /// journals there are.
 #[derive(Drop)]
 pub struct Tally<T: Ledger, F: Ledger> {
@@ -50,7 +50,7 @@ impl<T: Ledger, F: Ledger> Model for Tally<T, F> {
 }
 
 impl<T: Ledger, F: Ledger> Tally<T, F> {
-    /// The books of two ledgers, and a tally of their whole weight that stands for so many shards.
+    /// The books of two ledgers, and a tally of their whole weight that counts for so many shards.
     pub(crate) fn open(
         trues: Blank,
         falses: Blank,
@@ -74,14 +74,14 @@ impl<T: Ledger, F: Ledger> Tally<T, F> {
         (trues_book, falses_book, tally)
     }
 
-    /// Whether all the weight is in this tally, 1,024.
+    /// Returns whether this tally has all the weight, 1,024.
     pub fn is_whole(&self) -> bool
         ensures { IsTrue result ↔ (self.now.weight ≡ 1024) }
     {
         self.weight == WHOLE
     }
 
-    /// Gives away half of the weight, rounded down, to a tally that has counted nothing. A weight of 1 is refused.
+    /// Gives half of the weight, rounded down, to a new tally that has counted nothing. Fails if the weight is 1.
     pub fn split(&mut self) -> Result<Tally<T, F>, Error>
         ensures ok { IfOk result (λ t. (t.weight ≡ self.old.weight / 2) × (t.trues ≡ 0) × (t.falses ≡ 0)
             × (self.old ≡ joined self.new t)) }
@@ -108,7 +108,7 @@ impl<T: Ledger, F: Ledger> Tally<T, F> {
         })
     }
 
-    /// Adds the weight of another tally, and what it counted.
+    /// Adds the weight and the counts of another tally.
     pub fn join(&mut self, other: Tally<T, F>)
         ensures { self.new ≡ joined self.old other }
     {

@@ -1,4 +1,4 @@
--- A pattern stands in a name as the automaton and as a filter's meaning have it.
+-- The automaton's answer is the test in a filter's meaning.
 use Rattle.std.proofs.Common.{◌≡◌, ℕ, Bool, true, false, List, [], ◌∷◌, ◌++◌, refl, ap, sym, ◌∙◌, arith}
 use Rattle.std.specs.Prelude.{IsTrue, ◌↔◌}
 use Rattle.std.specs.Bool.{Decides}

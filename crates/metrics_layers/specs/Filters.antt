@@ -1,4 +1,4 @@
--- The patterns of a filter layer, and what a layer is refused for.
+-- The patterns of a filter layer, and when a layer fails.
 use Rattle.std.specs.Prelude.{if◌then◌else◌, ℕ, Bool, nat_lt, List, [], ◌∷◌, ◌++◌, length, Option, Some, None}
 use Rattle.std.specs.List.{sum_by}
 use Rattle.prefix_match.specs.Substring.{Patterns, pattern_limit}

@@ -1,4 +1,4 @@
--- What stands in a stack of layers.
+-- The recorder in a stack of layers.
 use Rattle.metrics_layers.specs.declared.stack.Stack.{Stack}
 
 -- the recorder with the layers that were pushed

@@ -1,4 +1,4 @@
-//! A filter of names by the patterns that stand in them.
+//! A filter of names by the patterns that occur in them.
 ghost use Rattle.std.specs.Prelude.{◌≡◌, ◌↔◌, ◌<◌, ◌≤◌, true, false, [], ◌∷◌, ◌++◌, map, length};
 ghost use Rattle.std.specs.Prelude.{IsTrue, IfOk, IfErr, OnErr, MatchResult};
 ghost use Rattle.std.specs.List.{sum_by};
@@ -19,9 +19,9 @@ use std::marker::Model;
 /// How many bytes the patterns may have together.
 const LIMIT: usize = 1_048_576;
 
-/// Refuses each name that a listed pattern stands in, by an automaton with fail links or with a full table.
+/// Rejects each name in which a listed pattern occurs, by an automaton with fail links or with a full table.
 ///
-/// Where case is folded, ASCII letters are compared as if lowered.
+/// If case is folded, ASCII letters are compared as if in lower case.
 #[derive(Debug, Drop)]
 pub struct FilterLayer {
     patterns: Vec<Text>,
@@ -42,7 +42,7 @@ impl Model for FilterLayer {
 }
 
 impl FilterLayer {
-    /// A layer without patterns, which refuses no name. It tells letters of either case apart, and takes the table.
+    /// Makes a layer without patterns, which rejects no name. It is case sensitive and uses the table.
     pub fn default(alloc: Global) -> FilterLayer
         ensures { result ≡ record { listed = []; fold_case = false; table = true } }
     {
@@ -53,7 +53,9 @@ impl FilterLayer {
         }
     }
 
-    /// A layer with copies of the patterns, and else as `default`. It is never refused where there are none.
+    /// Makes a layer with copies of the patterns, otherwise as `default`.
+    ///
+    /// Fails only when out of memory, and never without patterns.
     pub fn from_patterns(alloc: Global, patterns: &[&str]) -> Result<FilterLayer, Error>
         ensures { MatchResult result
             (λ l. l ≡ record {
@@ -68,7 +70,7 @@ impl FilterLayer {
         Ok(layer)
     }
 
-    /// Adds a pattern at the end. Where memory is refused the layer is as before.
+    /// Adds a pattern at the end. The layer stays unchanged when out of memory.
     pub fn add_pattern(&mut self, pattern: &str) -> Result<(), Error>
         ensures { MatchResult result
             (λ _. self.new ≡ with_pattern self.old pattern.now)
@@ -79,7 +81,7 @@ impl FilterLayer {
         Ok(())
     }
 
-    /// Whether ASCII letters of either case are one.
+    /// Sets whether ASCII letters of either case are one.
     pub fn case_insensitive(&mut self, case_insensitive: bool) -> &mut FilterLayer
         ensures same_reference { result.ghost_name ≡ self.entry.ghost_name }
         ensures value { result.now ≡ with_folding self.old case_insensitive }
@@ -88,7 +90,7 @@ impl FilterLayer {
         self
     }
 
-    /// Whether the automaton is a full table. What is refused is the same.
+    /// Sets whether the automaton is a full table. The rejected names are the same.
     pub fn use_dfa(&mut self, use_dfa: bool) -> &mut FilterLayer
         ensures same_reference { result.ghost_name ≡ self.entry.ghost_name }
         ensures value { result.now ≡ with_table self.old use_dfa }
@@ -97,9 +99,9 @@ impl FilterLayer {
         self
     }
 
-    /// The automaton of the listed patterns.
+    /// Makes the automaton of the listed patterns.
     ///
-    /// `PatternsTooLong` where they have more than 1,048,576 bytes together, and else refused for memory alone.
+    /// Fails with `PatternsTooLong` if they have more than 1,048,576 bytes together, and else only when out of memory.
     pub fn automaton(&self, alloc: Global) -> Result<SubstringSet, Error>
         ensures set { IfOk result (λ s. s ≡ self.now) }
         ensures too_long { (result ≡ Err PatternsTooLong)
@@ -140,7 +142,7 @@ fn are_within_limit(patterns: &[Text]) -> bool
     true
 }
 
-/// Whether some of the patterns stands in the name.
+/// Returns whether some of the patterns occurs in the name.
 pub fn is_refused(patterns: &SubstringSet, name: &str) -> bool
     ensures { result ≡ matches patterns.now.fold_case patterns.now.listed name.now }
 {

@@ -7,20 +7,20 @@ ghost use Rattle.metrics.specs.declared.error.Error.TheVariants.{Memory};
 use metrics::{Error, Recorder};
 use std::alloc::Global;
 
-/// Puts something over a recorder, and answers a recorder again.
+/// Wraps a recorder in a layer, which makes a recorder again.
 pub trait Layer<R: Recorder>: Drop {
-    /// The recorder with the layer over it.
+    /// The recorder inside the layer.
     type Output: Recorder;
 
     /// What the layer makes of a recorder.
     ghost over: { Self → Meaning → Meaning };
 
-    /// What the layer is refused for however much memory there is, if for anything.
+    /// Why the layer fails however much memory there is, if it does.
     ghost fault: { Self → Option Fault };
 
-    /// The layer over a recorder. Where that is refused the recorder comes back.
+    /// Puts the layer over a recorder. Returns the recorder if that fails.
     ///
-    /// Refused for the layer's own fault, and without one for memory alone.
+    /// Fails for the layer's own fault, and without one only when out of memory.
     fn layer(&self, alloc: Global, inner: R) -> Result<Self::Output, (Error, R)>
         ensures made { IfOk result (λ o. Self.Output.meaning o ≡ over self.now (R.meaning inner)) }
         ensures faultless { OnOk result (fault self.now ≡ None) }

@@ -12,7 +12,7 @@ use metrics::{
 use std::alloc::{AllocError, Global};
 use std::marker::Model;
 
-/// Puts a prefix and a dot before each name. The dot stands after an empty prefix too; labels stay.
+/// Puts a prefix and a dot before each name, also if the prefix is empty. Labels stay.
 #[derive(Debug, Drop)]
 pub struct PrefixLayer {
     prefix: Text,
@@ -27,7 +27,9 @@ impl Model for PrefixLayer {
 }
 
 impl PrefixLayer {
-    /// A layer with a copy of the prefix.
+    /// Makes a layer with a copy of the prefix.
+    ///
+    /// Fails only when out of memory.
     pub fn new(alloc: Global, prefix: &str) -> Result<PrefixLayer, Error>
         ensures { MatchResult result (λ l. l ≡ prefix.now) (λ e. e ≡ Memory) }
     {
@@ -36,7 +38,7 @@ impl PrefixLayer {
         })
     }
 
-    /// A copy of the prefix.
+    /// Returns a copy of the prefix.
     pub fn prefix(&self) -> Result<Text, AllocError>
         ensures { IfOk result (λ t. t ≡ self.now) }
     {
@@ -44,7 +46,9 @@ impl PrefixLayer {
     }
 }
 
-/// Prefix, dot, name.
+/// Joins prefix, dot and name.
+///
+/// Fails only when out of memory.
 pub fn dotted_name(alloc: Global, prefix: &str, name: &str) -> Result<KeyName, Refused>
     ensures { MatchResult result (λ n. n ≡ dotted prefix.now name.now) (λ e. e ≡ MemoryRefused 0) }
 {
@@ -76,8 +80,8 @@ impl<R: Recorder> Layer<R> for PrefixLayer {
 
 /// A prefix over a recorder: each name reaches it as prefix, dot, name.
 ///
-/// It keeps the last key that was registered, whose labels that key shares with the caller's. So a register takes memory only
-/// for a name that is longer than each before it.
+/// It keeps the last key that was registered, which shares its labels with the caller's key. So a register call allocates
+/// only for a name that is longer than all earlier ones.
 #[derive(Drop)]
 pub struct Prefix<R> {
     prefix: Text,

@@ -17,7 +17,7 @@ pub struct Stack<R> {
 impl<R: Recorder> Stack<R> {
     ghost use Rattle.metrics_layers.specs.Stacks.{stacked_recorder};
 
-    /// A recorder under no layer.
+    /// Makes a stack without layers over a recorder.
     pub fn new(inner: R) -> Stack<R>
         ensures meaning { ⟦<Stack<R> as Recorder>⟧.meaning result ≡ R.meaning inner }
         ensures inner { stacked_recorder result ≡ inner }
@@ -25,7 +25,7 @@ impl<R: Recorder> Stack<R> {
         Stack { inner }
     }
 
-    /// The layer over all that stands. Where that is refused, what stood comes back.
+    /// Puts a layer over the stack. Returns the stack's recorder if that fails.
     pub fn push<L: Layer<R>>(self, alloc: Global, layer: L) -> Result<Stack<L::Output>, (Error, R)>
         ensures made { IfOk result (λ s. ⟦<Stack<L::Output> as Recorder>⟧.meaning s
             ≡ L.over layer (⟦<Stack<R> as Recorder>⟧.meaning self)) }

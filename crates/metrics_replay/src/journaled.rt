@@ -11,8 +11,8 @@ use std::marker::Model;
 
 /// A recorder with the calls that were made of it, and their answers.
 ///
-/// The books were new at the first call. Each answer is the plain one after the calls before it, or a want of
-/// memory; and the books are what the journal gives.
+/// The books were new at the first call. Each answer is the expected one after the calls before it, or out of memory.
+/// The books hold what the journal says.
 #[derive(Drop)]
 pub struct Journaled<R: Recorder> {
     alloc: Global,
@@ -45,7 +45,7 @@ impl<R: Recorder> Journaled<R> {
     ghost use Rattle.metrics_replay.specs.Journaled.{IsJournal};
     ghost use Rattle.metrics_replay.specs.contracts.journaled.Journaled.{the_row};
 
-    /// A recorder of new books, with an empty journal. It takes no memory yet.
+    /// Makes a recorder of new books with an empty journal, without allocating.
     pub fn new(alloc: Global, on: R) -> Journaled<R>
         requires { AreNew (R.meaning on).contents }
         ensures { result ≡ (on, []) }
@@ -75,7 +75,7 @@ impl<R: Recorder> Journaled<R> {
 
     /// Makes a call of the recorder, notes it with its answer, and lends the answer.
     ///
-    /// Room is made first. `Err` comes only where it is refused, and then nothing was called or noted.
+    /// It makes room first. `Err` comes only if that fails, and then nothing was called or noted.
     pub fn call(&mut self, call: Call) -> Result<&Answer, Refused>
         ensures* noted { sem 𝓛 (follows_so (the_row R.row R.Recorder) (the_row R.row R.Recorder) self.entry.ghost_name none
             (λ _ _. ⊤)
@@ -96,7 +96,7 @@ impl<R: Recorder> Journaled<R> {
         &self.journal[self.journal.len() - 1].1
     }
 
-    /// The calls that were made, in order, each with its answer.
+    /// Returns the calls that were made, in order, each with its answer.
     pub fn journal(&self) -> &[(Call, Answer)]
         ensures journal { result.now ≡ self.now.1 }
         ensures legal { IsJournal (R.meaning self.now.0) result.now }
@@ -104,7 +104,7 @@ impl<R: Recorder> Journaled<R> {
         self.journal.as_slice()
     }
 
-    /// What the calls were made of.
+    /// Returns the recorder.
     pub fn recorder(&self) -> &R
         ensures recorder { result.now ≡ self.now.0 }
         ensures books { IsJournal (R.meaning result.now) self.now.1 }

@@ -15,7 +15,7 @@ ghost use Rattle.metrics_replay.specs.Replaying.{holds_handle, UpdatesUnheld, An
 use metrics::{Address, Answer, Call, Items, MetricKind, Recorder, Refused, Update, update_all};
 use std::alloc::Global;
 
-/// Whether a handle of the kind takes the update.
+/// Whether a handle of the kind accepts the update.
 fn takes(kind: MetricKind, by: Update) -> bool
     ensures { result ≡ kind_eq (kind_of by) kind }
 {
@@ -28,9 +28,9 @@ fn takes(kind: MetricKind, by: Update) -> bool
 
 /// Makes one call on a recorder.
 ///
-/// `handle` is what the register call of an update's number gave, if it was successful; other calls name none.
-/// Its addresses are to be held. Where they aren't, an update of its kind answers `NoSuchAddress` and one of another kind
-/// `BadHandle`, and nothing changes.
+/// `handle` is what the register call of an update's number returned, if it succeeded; other calls name none.
+/// If one of its addresses isn't held, an update of its kind answers `NoSuchAddress`, and one of another kind
+/// `BadHandle`. Both change nothing.
 pub fn answer_of<R: Recorder>(
     alloc: Global,
     on: &mut R,
@@ -97,7 +97,7 @@ fn update_of<R: Recorder>(
     }
 }
 
-/// What a register call gave, if it was successful.
+/// What a register call returned, if it succeeded.
 pub(crate) fn given(kind: MetricKind, answer: &Answer) -> Option<(MetricKind, &[Address])>
     ensures { option_map handle_seen result ≡ handle_given kind answer.now }
 {
@@ -175,10 +175,10 @@ pub(crate) fn note_register(registers: &mut Vec<usize>, call: &Call, place: usiz
     }
 }
 
-/// Makes the calls in order, and answers each of them.
+/// Makes the calls in order, and returns the answer to each of them.
 ///
-/// Room is made first: for an answer to each call, and for as many numbers, the places of the register calls. `Err`
-/// comes only where it is refused, which no empty list meets; then nothing was called, and the recorder is as it was.
+/// It makes room first: for an answer to each call, and for as many numbers, the places of the register calls. `Err`
+/// comes only if that fails, and never for an empty list. Then nothing was called, and the recorder is unchanged.
 pub fn replay<R: Recorder>(
     alloc: Global,
     on: &mut R,
@@ -186,7 +186,7 @@ pub fn replay<R: Recorder>(
 ) -> Result<Vec<Answer>, Refused>
     ensures number { IfOk result (λ answers. length answers.items ≡ length calls.now) }
 
-    // Where the books are new, each answer is the plain one, and the books hold what the calls and answers give.
+    // If the books are new, each answer is the expected one, and the books hold what the calls and answers say.
     ensures answers { AreNew (R.meaning on.old).contents → IfOk result (λ answers.
         ArePlain (R.meaning on.old).targets (length (R.meaning on.old).contents) (log_of calls.now answers.items)) }
     ensures contents { AreNew (R.meaning on.old).contents

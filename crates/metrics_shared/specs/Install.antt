@@ -1,4 +1,4 @@
--- What comes back where a recorder was not installed.
+-- What an install that fails returns.
 use Rattle.metrics_shared.specs.declared.install.SetRecorderError.{SetRecorderError}
 use Rattle.metrics_shared.specs.declared.install.SetRecorderError.TheVariants.{Taken, Memory}
 

@@ -8,7 +8,7 @@ use std::fmt;
 use std::sync::{OnceLock, Wait};
 use thiserror::Error;
 
-/// Why a recorder was not installed. It comes back.
+/// Why a recorder was not installed. It has the recorder.
 #[derive(Drop, Error)]
 pub enum SetRecorderError<R> {
     /// The cell is taken. It stays as it was.
@@ -31,7 +31,7 @@ impl<R> fmt::Debug for SetRecorderError<R> {
 
 /// A recorder that a cell can be filled with.
 pub trait Install: Recorder + Sized {
-    /// Puts the recorder under a lock, and that into the cell. Where the cell is taken the recorder comes back.
+    /// Puts the recorder under a lock and into the cell. Returns the recorder if the cell is taken.
     fn install<W: Wait>(
         self,
         rt: &W,

@@ -22,7 +22,7 @@ fn empty_slot<R: Recorder>(alloc: Global) -> Result<(SharedSlot<R>, SharedSlot<R
     Ok((slot, other))
 }
 
-/// A recorder that is to be called through a slot, so that it can be taken back.
+/// A recorder that is to be called through a slot, from which it can be taken back.
 #[derive(Drop)]
 pub struct RecoverableRecorder<R> {
     recorder: R,
@@ -37,16 +37,16 @@ impl<R> Model for RecoverableRecorder<R> {
 impl<R: Recorder> RecoverableRecorder<R> {
     ghost use Rattle.metrics_shared.specs.Install.{recorder_of};
 
-    /// It takes no memory yet.
+    /// Wraps the recorder, without allocating.
     pub fn new(recorder: R) -> RecoverableRecorder<R>
         ensures { result ≡ recorder }
     {
         RecoverableRecorder { recorder }
     }
 
-    /// Puts the recorder into a slot. The first of the two calls it there, the second takes it out.
+    /// Puts the recorder into a slot. The first result calls it there, the second takes it out.
     ///
-    /// The slot is made first, and the recorder put in last. Where memory is refused the recorder comes back.
+    /// It makes the slot first, and puts the recorder in last. Returns the recorder when out of memory.
     pub fn build<W: Wait>(
         self,
         rt: &W,
@@ -62,10 +62,10 @@ impl<R: Recorder> RecoverableRecorder<R> {
         Ok((SlotRecorder { slot }, RecoveryHandle { slot: other }))
     }
 
-    /// Puts the recorder into a slot, and what calls it there into the cell. The answer takes it out.
+    /// Puts the recorder into a slot, and what calls it there into the cell. The result takes it out.
     ///
-    /// The slot is made before the cell is looked at, and the recorder put in last. Who finds the slot in the cell
-    /// before that waits for the recorder. Where memory is refused, or the cell is taken, the recorder comes back.
+    /// It makes the slot before it looks at the cell, and puts the recorder in last. Whoever finds the slot in the cell
+    /// before that waits for the recorder. Returns the recorder when out of memory, or if the cell is taken.
     pub fn install<W: Wait>(
         self,
         rt: &W,
@@ -90,7 +90,7 @@ impl<R: Recorder> RecoverableRecorder<R> {
 
 /// Calls a recorder in its slot. Each call holds the slot's lock until it returns.
 ///
-/// Once the recorder was taken out a call does nothing.
+/// After the recorder was taken out a call does nothing.
 #[derive(Drop)]
 pub struct SlotRecorder<R> {
     slot: SharedSlot<R>,
@@ -99,8 +99,9 @@ pub struct SlotRecorder<R> {
 impl<R: Recorder> SlotRecorder<R> {
     ghost use Rattle.metrics_shared.specs.Slot.{CallsSlot};
 
-    /// Calls `f` on the recorder, under the lock. `None` once the recorder was taken out: `f` is not called then. It
-    /// waits for ever if it calls this slot again.
+    /// Calls `f` on the recorder under the lock, and returns its answer.
+    ///
+    /// Returns `None` after the recorder was taken out, and doesn't call `f`. An `f` that calls this slot again waits for ever.
     pub fn with<W: Wait, V, F: FnOnce(&mut R) -> V + Drop>(&self, rt: &W, f: F) -> Option<V>
         requires { F.IsAlwaysCallable f }
         ensures { (old : Option R) × (new : Option R) × CallsSlot old new (result ≡ None)
@@ -109,7 +110,7 @@ impl<R: Recorder> SlotRecorder<R> {
         self.slot.lock(rt).with(f)
     }
 
-    /// `Recorder::describe`, and 0 once the recorder was taken out.
+    /// Calls `Recorder::describe`. Returns 0 after the recorder was taken out.
     pub fn describe<W: Wait>(
         &self,
         rt: &W,
@@ -126,7 +127,7 @@ impl<R: Recorder> SlotRecorder<R> {
         self.slot.lock(rt).describe(alloc, kind, name, unit, text)
     }
 
-    /// `Recorder::register`, and the empty list once the recorder was taken out.
+    /// Calls `Recorder::register`. Returns the empty list after the recorder was taken out.
     pub fn register<W: Wait>(
         &self,
         rt: &W,
@@ -142,7 +143,7 @@ impl<R: Recorder> SlotRecorder<R> {
         self.slot.lock(rt).register(alloc, kind, key)
     }
 
-    /// `Recorder::update`, which does nothing once the recorder was taken out.
+    /// Calls `Recorder::update`. Does nothing after the recorder was taken out.
     pub fn update<W: Wait>(&self, rt: &W, at: Address, by: Update) -> Result<(), Refused>
         ensures { (old : Option R) × (new : Option R) × CallsSlot old new (result ≡ Ok tt)
             (λ old new. KeepsTargets (R.meaning old) (R.meaning new)
@@ -159,7 +160,7 @@ pub struct RecoveryHandle<R> {
 }
 
 impl<R: Recorder> RecoveryHandle<R> {
-    /// The recorder. `Gone` where the slot is empty.
+    /// Returns the recorder. Fails with `Gone` if the slot is empty.
     pub fn into_inner<W: Wait>(self, rt: &W) -> Result<R, Error>
         ensures { IfErr result (λ e. e ≡ Gone) }
     {

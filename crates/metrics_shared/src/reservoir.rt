@@ -14,7 +14,7 @@ use std::marker::Model;
 use std::mem;
 use std::sync::{Mutex, Wait};
 
-/// The half that takes values, with what draws the places of those that come when its places are filled.
+/// The half that accepts values, with the generator that draws their places once all places are filled.
 #[derive(Drop)]
 struct Filling<G> {
     reservoir: Reservoir,
@@ -23,7 +23,7 @@ struct Filling<G> {
 }
 
 impl<G: Rng> Filling<G> {
-    /// Takes a value, with a draw from 0 to the number of values before it, both included.
+    /// Accepts a value, with a draw from 0 to the number of values before it, both included.
     fn push(&mut self, value: i64) -> Result<(), Error>
         ensures step { (draw : ℕ) × (draw ≤ self.old.reservoir.pushed) × MatchResult result
             (λ _. self.new.reservoir ≡ after_push value draw self.old.reservoir)
@@ -67,7 +67,7 @@ impl Waiting {
         })
     }
 
-    /// Exchanges the halves, and hands out what the other one held.
+    /// Exchanges the halves, and shows what the other one held.
     fn consume<W: Wait, G: Rng, F: FnMut(Drain<'_>)>(
         &mut self,
         rt: &W,
@@ -82,10 +82,10 @@ impl Waiting {
     }
 }
 
-/// A fixed number of places for values, out of all that any thread pushed: each value is kept with the same chance
-/// where the generator's draws are even.
+/// A fixed number of places for values, out of all that any thread pushed. Each value is kept with the same chance if the
+/// generator's draws are even.
 ///
-/// It has two halves of that size. Values go to the one while the other is read.
+/// It has two halves of that size. Values go to one while the other is read.
 #[derive(Drop)]
 pub struct AtomicSamplingReservoir<G> {
     filling: Mutex<Filling<G>>,
@@ -93,7 +93,9 @@ pub struct AtomicSamplingReservoir<G> {
 }
 
 impl<G: Rng + Drop> AtomicSamplingReservoir<G> {
-    /// An empty reservoir, whose room is taken now. One of size 0 counts and keeps nothing.
+    /// Makes an empty reservoir, and allocates all its room. One of size 0 counts and keeps nothing.
+    ///
+    /// Fails only when out of memory.
     pub fn new(
         alloc: Global,
         size: usize,
@@ -113,23 +115,24 @@ impl<G: Rng + Drop> AtomicSamplingReservoir<G> {
         })
     }
 
-    /// Whether no value was pushed since the last `consume` began.
+    /// Returns whether no value was pushed since the last `consume` began.
     pub fn is_empty<W: Wait>(&self, rt: &W) -> bool {
         self.filling.lock(rt).reservoir.is_empty()
     }
 
-    /// Takes a value. It is refused with `Error::CountFull` where the count would pass 2^64 - 1.
+    /// Counts a value, and keeps it while there is room, then by a draw.
+    ///
+    /// Fails with `Error::CountFull` if the count would pass 2^64 - 1.
     pub fn push<W: Wait>(&self, rt: &W, value: i64) -> Result<(), Error>
         ensures { IfErr result (λ e. e ≡ CountFull) }
     {
         self.filling.lock(rt).push(value)
     }
 
-    /// Hands out what was kept of the values pushed so far. They are forgotten once `f` returned, however few were
-    /// taken.
+    /// Shows `f` what was kept of the values pushed so far. They are forgotten once `f` returned, however few it used.
     ///
-    /// What is pushed meanwhile goes to the other half. A second `consume` waits until `f` returned, so one that `f`
-    /// makes itself waits for ever.
+    /// What is pushed meanwhile goes to the other half. A second `consume` waits until `f` returned, so one inside `f` waits for
+    /// ever.
     pub fn consume<W: Wait, F: FnMut(Drain<'_>)>(&self, rt: &W, f: F)
         requires { (held : Drained) → F.pre f held }
         ensures { (held : Drained) × (after : F) × F.step f held tt after }

@@ -19,14 +19,14 @@ pub struct Shared<R> {
 }
 
 impl<R: Recorder> Shared<R> {
-    /// The recorder under a lock. It takes no memory.
+    /// Puts a recorder under a lock, without allocating.
     pub fn new(recorder: R) -> Shared<R> {
         Shared {
             recorder: Mutex::new(recorder),
         }
     }
 
-    /// Calls `f` on the recorder, under the lock. It waits for ever if it calls this recorder again.
+    /// Calls `f` on the recorder under the lock, and returns its answer. An `f` that calls this recorder again waits for ever.
     pub fn with<W: Wait, V, F: FnOnce(&mut R) -> V>(&self, rt: &W, f: F) -> V
         requires { F.IsAlwaysCallable f }
         ensures { (old : R) × (new : R) × FnOnceReturnsAtMut F.FnOnce f old result new }
@@ -35,7 +35,7 @@ impl<R: Recorder> Shared<R> {
         f(&mut *recorder)
     }
 
-    /// `Recorder::describe` under the lock.
+    /// Calls `Recorder::describe` under the lock.
     pub fn describe<W: Wait>(
         &self,
         rt: &W,
@@ -53,7 +53,7 @@ impl<R: Recorder> Shared<R> {
             .describe(alloc, kind, name, unit, text)
     }
 
-    /// `Recorder::register` under the lock.
+    /// Calls `Recorder::register` under the lock.
     pub fn register<W: Wait>(
         &self,
         rt: &W,
@@ -67,7 +67,7 @@ impl<R: Recorder> Shared<R> {
         self.recorder.lock(rt).register(alloc, kind, key)
     }
 
-    /// `Recorder::update` under the lock.
+    /// Calls `Recorder::update` under the lock.
     pub fn update<W: Wait>(&self, rt: &W, at: Address, by: Update) -> Result<(), Refused>
         ensures { (old : R) × (new : R) × KeepsTargets (R.meaning old) (R.meaning new)
             × Updates (R.meaning old) (R.meaning new) at by result }
@@ -75,7 +75,7 @@ impl<R: Recorder> Shared<R> {
         self.recorder.lock(rt).update(at, by)
     }
 
-    /// `Recorder::snapshot` under the lock.
+    /// Calls `Recorder::snapshot` under the lock.
     pub fn snapshot<W: Wait>(&self, rt: &W, alloc: Global, book: usize) -> Result<Snapshot, Refused>
         ensures { (old : R) × (new : R) × KeepsTargets (R.meaning old) (R.meaning new)
             × Snapshots (R.meaning old) (R.meaning new) book Reset.All result }
@@ -83,7 +83,7 @@ impl<R: Recorder> Shared<R> {
         self.recorder.lock(rt).snapshot(alloc, book)
     }
 
-    /// `Recorder::snapshot_with` under the lock.
+    /// Calls `Recorder::snapshot_with` under the lock.
     pub fn snapshot_with<W: Wait>(
         &self,
         rt: &W,
@@ -97,7 +97,7 @@ impl<R: Recorder> Shared<R> {
         self.recorder.lock(rt).snapshot_with(alloc, book, reset)
     }
 
-    /// The recorder, once no other thread has it.
+    /// Returns the recorder.
     pub fn into_inner(self) -> R {
         self.recorder.into_inner()
     }

@@ -9,7 +9,7 @@ use metrics::{Address, Key, KeyName, MetricKind, Recorder, Refused, Unit, Update
 use std::alloc::Global;
 use std::marker::Model;
 
-/// A recorder, until it is taken out. An empty slot takes each call and does nothing.
+/// A recorder, until it is taken out. An empty slot accepts each call and does nothing.
 #[derive(Drop)]
 pub struct Slot<R> {
     recorder: Option<R>,
@@ -24,7 +24,7 @@ impl<R> Model for Slot<R> {
 }
 
 impl<R: Recorder> Slot<R> {
-    /// A slot with a recorder in it.
+    /// Makes a slot with a recorder in it.
     pub fn new(recorder: R) -> Slot<R>
         ensures { result ≡ Some recorder }
     {
@@ -48,7 +48,7 @@ impl<R: Recorder> Slot<R> {
         self.recorder.take()
     }
 
-    /// Calls `f` on the recorder. An empty slot answers `None`, and does not call it.
+    /// Calls `f` on the recorder, and returns its answer. An empty slot returns `None`, and doesn't call `f`.
     pub fn with<V, F: FnOnce(&mut R) -> V + Drop>(&mut self, f: F) -> Option<V>
         requires { F.IsAlwaysCallable f }
         ensures { CallsSlot self.old self.new (result ≡ None)
@@ -60,7 +60,7 @@ impl<R: Recorder> Slot<R> {
         Some(f(recorder))
     }
 
-    /// `Recorder::describe`. An empty slot answers 0.
+    /// Calls `Recorder::describe`. An empty slot returns 0.
     pub fn describe(
         &mut self,
         alloc: Global,
@@ -78,7 +78,7 @@ impl<R: Recorder> Slot<R> {
         }
     }
 
-    /// `Recorder::register`. An empty slot answers the empty list.
+    /// Calls `Recorder::register`. An empty slot returns the empty list.
     pub fn register(
         &mut self,
         alloc: Global,
@@ -95,7 +95,7 @@ impl<R: Recorder> Slot<R> {
         }
     }
 
-    /// `Recorder::update`. An empty slot answers that it was done.
+    /// Calls `Recorder::update`. An empty slot returns `Ok` and does nothing.
     pub fn update(&mut self, at: Address, by: Update) -> Result<(), Refused>
         ensures { CallsSlot self.old self.new (result ≡ Ok tt) (λ old new. KeepsTargets (R.meaning old) (R.meaning new)
             × Updates (R.meaning old) (R.meaning new) at by result) }

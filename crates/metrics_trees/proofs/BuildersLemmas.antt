@@ -1,4 +1,4 @@
--- Recorders as they are put together.
+-- The builders, as recorders are added.
 use Rattle.std.proofs.Common.{◌≡◌, ℕ, zero, suc, ◌+◌, ◌-◌, ◌<◌, ◌≤◌, true, false, List, [], ◌∷◌, ◌++◌, length, map, Option, None, Some, Vec, Global, refl, ap, sym, ◌∙◌, subst, arith, append-nil, length-append}
 use Rattle.metrics_trees.specs.Nodes.{node_meaning, books_of, most_books, AreEnds, IsSound, IsTree}
 use Rattle.metrics_trees.specs.Reaches.{group_meaning, IsWithin}

@@ -1,4 +1,4 @@
--- A call that goes from child to child: the targets that it has reached, and what the children are then.
+-- A call that goes from child to child: the targets that it has reached, and the children then.
 use Rattle.std.proofs.Common.{◌≡◌, ℕ, zero, suc, ◌+◌, ◌-◌, ◌<◌, ◌≤◌, List, [], ◌∷◌, ◌++◌, length, take, map, get_or, set, refl, ap, sym, ◌∙◌, subst, arith, length-append, append-nil, append_assoc, Result, Ok, Err}
 use Rattle.std.specs.List.{All}
 use Rattle.std.proofs.Math.Seq.{take-append-add, take-length}

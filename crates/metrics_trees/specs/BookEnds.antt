@@ -1,4 +1,4 @@
--- Where the books of several recorders stand, each recorder's after those before it.
+-- Where the books of several recorders are, each recorder's after those before it.
 use Rattle.std.specs.Prelude.{◌≡◌, ℕ, ◌+◌, ◌<◌, ◌≤◌, List, [], ◌∷◌, ◌++◌, length, map, take, get_or, Result, Ok, Err}
 use Rattle.std.specs.List.{All}
 use Rattle.metrics.specs.declared.handles.Address.{Address}

@@ -1,4 +1,4 @@
--- What the builders have been given.
+-- What the builders have.
 use Rattle.std.specs.Prelude.{◌≡◌, ℕ, List, [], ◌∷◌, ◌++◌}
 use Rattle.std.specs.Option.{option_map}
 use Rattle.metrics.specs.declared.recorder.Recorder as recorder

@@ -1,4 +1,4 @@
--- Several recorders, by how a name is passed on among them.
+-- Several recorders, by which of them a name goes to.
 use Rattle.std.specs.Prelude.{ℕ, ◌+◌, ◌<◌, List}
 use Rattle.metrics_names.specs.declared.kind.MetricKind.{MetricKind}
 use Rattle.metrics.specs.Meaning.{Meaning}

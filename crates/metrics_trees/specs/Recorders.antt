@@ -1,4 +1,4 @@
--- Recorders side by side, as they are put together, and what is refused.
+-- Recorders side by side, and when adding one fails.
 use Rattle.std.specs.Prelude.{if◌then◌else◌, ℕ, ◌+◌, ◌≤◌, nat_eq, nat_lt, List, [], ◌∷◌, map, Option, None, Some, Vec, slice_index_or}
 use Rattle.std.specs.Global.{Global}
 use Rattle.std.specs.List.{All}

@@ -1,4 +1,4 @@
-//! Where the books of several recorders stand.
+//! Where the books of several recorders are.
 ghost use Rattle.std.specs.Prelude.{◌≡◌, ◌≤◌, ◌++◌, ℕ, List, length, take, IsTrue, MatchOption, OnOk};
 ghost use Rattle.std.specs.Result.{result_map_both};
 ghost use Rattle.metrics_trees.specs.BookEnds.{ends_from, total, IsPlace, raised, IsAppended, CanRaise, CanAppend};
@@ -25,7 +25,7 @@ pub(crate) fn books_before(ends: &[usize], recorder: usize) -> usize
     all_books(&ends[..recorder])
 }
 
-/// Whether the recorder of a number begins at the book of that number, as where each has one book.
+/// Whether the recorder of a number begins at the book of that number, as it does if each has one book.
 fn begins_at(ends: &[usize], number: usize) -> bool
     ensures { (sizes : List ℕ) → ends.now ≡ ends_from 0 sizes → IsTrue result → IsPlace sizes number (number, 0) }
 {
@@ -63,7 +63,7 @@ fn searched_place(ends: &[usize], book: usize) -> Option<(usize, usize)>
     Some((recorder, book - books_before(ends, recorder)))
 }
 
-/// Raises the addresses of a recorder that stands behind `front` books.
+/// Raises the addresses of a recorder that comes after `front` books.
 fn raise(found: &mut [Address], front: usize)
     requires { CanRaise front found.old }
     ensures { found.new ≡ raised front found.old }
@@ -73,7 +73,7 @@ fn raise(found: &mut [Address], front: usize)
     }
 }
 
-/// Adds the addresses of a recorder that stands behind `front` books. The first are taken over, not copied.
+/// Adds the addresses of a recorder that comes after `front` books. The first list is reused, not copied.
 #[inline(always)]
 fn append_raised(
     found: &mut Vec<Address>,
@@ -94,7 +94,7 @@ fn append_raised(
     found.extend_from_slice(&there)
 }
 
-/// Adds what a register call of a recorder behind `front` books answered to what those before it did.
+/// Adds the answer of a recorder that comes after `front` books to the answers of those before it.
 #[inline(always)]
 pub(crate) fn append_answer(
     found: &mut Vec<Address>,

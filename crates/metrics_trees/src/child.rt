@@ -15,15 +15,15 @@ use std::alloc::Global;
 
 /// A tree of layers over leaves of one type `B`.
 ///
-/// Recorders of several types stand in one tree in two ways. A leaf type can be one of several, as
+/// Recorders of several types fit into one tree in two ways. A leaf type can be one of several, as
 /// `Either<DebuggingRecorder, NoopRecorder>`, which is a recorder itself:
 ///
 /// ```text
 /// let book: Child<Either<DebuggingRecorder, NoopRecorder>> = Child::leaf(Either::Left(book));
 /// ```
 ///
-/// Or each stands behind a pointer, as a `Boxed`: the tree is made in a function that is generic over its leaf,
-/// and its caller boxes.
+/// Or each is behind a pointer, as a `Boxed`: a function that is generic over its leaf makes the tree, and its caller
+/// boxes.
 ///
 /// ```text
 /// fn both<B: Recorder>(alloc: Global, one: B, other: B) -> Result<Fanout<B>, Error>
@@ -31,40 +31,40 @@ use std::alloc::Global;
 /// both(alloc, Boxed(Box::new(alloc, book)?), Boxed(Box::new(alloc, NoopRecorder)?))
 /// ```
 ///
-/// A signature of a function cannot name a `Child<Boxed>`.
+/// The signature of a function can't name a `Child<Boxed>`.
 #[derive(Drop)]
 pub struct Child<B: Recorder> {
     pub(crate) node: Node<B>,
     ghost tree: { IsTree B.meaning node } by { IsTree-prop B.meaning node },
 }
 
-/// Several recorders, each of which gets each name. A `FanoutBuilder` makes it.
+/// Several recorders, each of which gets each name. Made by a `FanoutBuilder`.
 pub type Fanout<B> = Child<B>;
 
-/// A default and targets: each name goes to the target of the route that wins, or else to the default. A
-/// `RouterBuilder` makes it.
+/// A default and targets: each name goes to the target of the route that wins, or else to the default. Made by a
+/// `RouterBuilder`.
 pub type Router<B> = Child<B>;
 
 impl<B: Recorder> Child<B> {
-    /// A recorder as it is.
+    /// Makes a tree of one recorder.
     pub fn leaf(recorder: B) -> Child<B>
         ensures { ⟦<Child<B> as Recorder>⟧.meaning result ≡ B.meaning recorder }
     {
-        // The trait bounds the number of books where it is asked for.
+        // This call brings in the trait's bound on the number of books.
         let _books = recorder.books();
         Child {
             node: Node::Leaf(recorder),
         }
     }
 
-    /// A recorder without books, which refuses each name.
+    /// Makes a tree without books, which rejects each name.
     pub fn noop() -> Child<B>
         ensures { ⟦<Child<B> as Recorder>⟧.meaning result ≡ nothing }
     {
         Child { node: Node::Noop }
     }
 
-    /// A fanout as it is.
+    /// Returns the fanout as a tree.
     pub fn fanout(fanout: Fanout<B>) -> Child<B>
         ensures { ⟦<Child<B> as Recorder>⟧.meaning result
             ≡ ⟦<Fanout<B> as Recorder>⟧.meaning fanout }
@@ -72,7 +72,7 @@ impl<B: Recorder> Child<B> {
         fanout
     }
 
-    /// A router as it is. It takes no memory, and is never refused.
+    /// Returns the router as a tree. It allocates nothing, and never fails.
     pub fn router(router: Router<B>) -> Result<Child<B>, (Error, Router<B>)>
         ensures accepted { IsOk result }
         ensures meaning { MatchResult result
@@ -82,7 +82,7 @@ impl<B: Recorder> Child<B> {
         Ok(router)
     }
 
-    /// The tree below a prefix layer. Where memory is refused it comes back.
+    /// Puts a prefix layer over the tree. Returns the tree when out of memory.
     pub fn prefix(self, alloc: Global, layer: &PrefixLayer) -> Result<Child<B>, (Error, Child<B>)>
         ensures { MatchResult result
             (λ c. ⟦<Child<B> as Recorder>⟧.meaning c ≡
@@ -99,11 +99,11 @@ impl<B: Recorder> Child<B> {
         })
     }
 
-    /// The tree below a filter layer. Where that is refused it comes back.
+    /// Puts a filter layer over the tree. Returns the tree if that fails.
     ///
     /// # Errors
     ///
-    /// `PatternsTooLong` where the patterns have more than 1,048,576 bytes together, and else `Memory`.
+    /// `PatternsTooLong` if the patterns have more than 1,048,576 bytes together, and else `Memory`.
     pub fn filter(self, alloc: Global, layer: &FilterLayer) -> Result<Child<B>, (Error, Child<B>)>
         ensures { MatchResult result
             (λ c. (fault_of layer.now ≡ None)
@@ -122,7 +122,7 @@ impl<B: Recorder> Child<B> {
         })
     }
 
-    /// The tree's node in a box. Where memory is refused the tree comes back.
+    /// The tree's node in a box. Returns the tree when out of memory.
     fn boxed(self, alloc: Global) -> Result<Box<Node<B>>, (Error, Child<B>)>
         ensures { MatchResult result
             (λ inner. inner.value ≡ self.node)

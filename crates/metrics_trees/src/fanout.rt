@@ -10,14 +10,14 @@ use crate::recorders::{MOST_BOOKS, Recorders};
 use metrics::{Error, Recorder};
 use std::alloc::Global;
 
-/// Puts recorders together into a `Fanout`, in the order in which they are added.
+/// Combines recorders into a `Fanout`, in the order in which they are added.
 #[derive(Drop)]
 pub struct FanoutBuilder<B: Recorder> {
     recorders: Recorders<B>,
 }
 
 impl<B: Recorder> FanoutBuilder<B> {
-    /// A builder without recorders.
+    /// Makes a builder without recorders.
     pub fn default(alloc: Global) -> FanoutBuilder<B>
         ensures { fanout_recorders result ≡ [] }
     {
@@ -26,11 +26,11 @@ impl<B: Recorder> FanoutBuilder<B> {
         }
     }
 
-    /// Adds a recorder after those that are there. Where that is refused it comes back, and nothing changed.
+    /// Adds a recorder at the end. If that fails it returns the recorder, and changes nothing.
     ///
     /// # Errors
     ///
-    /// `TooManyBooks` where there would be more than 65,536 books, and else `Memory`.
+    /// `TooManyBooks` if there would be more than 65,536 books, and else `Memory`.
     pub fn add_recorder(&mut self, child: Child<B>) -> Result<(), (Error, Child<B>)>
         ensures { let one = ⟦<Child<B> as Recorder>⟧.meaning child in MatchResult result
             (λ done. BooksFit (fanout_recorders self.old) one
@@ -48,7 +48,7 @@ impl<B: Recorder> FanoutBuilder<B> {
         Ok(())
     }
 
-    /// All that were added, as one recorder.
+    /// Returns all that were added, as one recorder.
     pub fn build(self) -> Fanout<B>
         ensures { ⟦<Fanout<B> as Recorder>⟧.meaning result ≡ joined_all (fanout_recorders self) }
     {

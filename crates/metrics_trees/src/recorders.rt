@@ -58,7 +58,7 @@ impl<B: Recorder> Recorders<B> {
         self.ends.reserve(additional)
     }
 
-    /// Adds a recorder at the end, where there is room.
+    /// Adds a recorder at the end, which has room for it.
     pub(crate) fn push_reserved(&mut self, child: Child<B>)
         requires spare { HasSpare 1 self.old.children self.old.ends }
         requires few { BooksFit (meanings B.meaning self.old.children.items)

@@ -15,7 +15,7 @@ use crate::routes::Routes;
 use metrics::{Error, MetricKindMask, Recorder};
 use std::alloc::Global;
 
-/// Puts a default, targets and the routes to them together into a `Router`.
+/// Combines a default, targets and the routes to them into a `Router`.
 #[derive(Drop)]
 pub struct RouterBuilder<B: Recorder> {
     /// The default, while there is no target.
@@ -30,7 +30,7 @@ pub struct RouterBuilder<B: Recorder> {
 impl<B: Recorder> RouterBuilder<B> {
     ghost use Rattle.metrics_trees.specs.Builders.{router_recorders, HasRoutes, GainsRoute, IsUnchanged};
 
-    /// A builder with a default, to which each name goes that no route fits. It takes no memory.
+    /// Makes a builder with a default, which gets each name that no route fits. It allocates nothing.
     pub fn from_recorder(alloc: Global, default: Child<B>) -> RouterBuilder<B>
         ensures recorders { router_recorders result ≡ ⟦<Child<B> as Recorder>⟧.meaning default ∷ [] }
         ensures routes { HasRoutes result [] }
@@ -42,13 +42,13 @@ impl<B: Recorder> RouterBuilder<B> {
         }
     }
 
-    /// Adds a route to a target of its own, and answers the target's number: 0, 1, 2 in order.
+    /// Adds a route to a target of its own, and returns the target's number: 0, 1, 2 in order.
     ///
-    /// Where that is refused the target comes back, and nothing changed.
+    /// If that fails it returns the target, and changes nothing.
     ///
     /// # Errors
     ///
-    /// `EmptyMask` for a mask without kinds, else `TooManyBooks` where there would be more than 65,536 books, and else `Memory`.
+    /// `EmptyMask` for a mask without kinds, else `TooManyBooks` if there would be more than 65,536 books, and else `Memory`.
     pub fn add_route(
         &mut self,
         mask: MetricKindMask,
@@ -80,11 +80,11 @@ impl<B: Recorder> RouterBuilder<B> {
         Ok(number)
     }
 
-    /// Adds a route to the target of an earlier route, by its number. Where that is refused nothing changed.
+    /// Adds a route to the target of an earlier route, by its number. A call that fails changes nothing.
     ///
     /// # Errors
     ///
-    /// `EmptyMask` for a mask without kinds, else `NoSuchTarget` where no target has the number, and else `Memory`.
+    /// `EmptyMask` for a mask without kinds, else `NoSuchTarget` if no target has the number, and else `Memory`.
     pub fn add_route_to(
         &mut self,
         mask: MetricKindMask,
@@ -110,7 +110,7 @@ impl<B: Recorder> RouterBuilder<B> {
         Ok(())
     }
 
-    /// The default, the targets and the routes as one recorder.
+    /// Returns the default, the targets and the routes as one recorder.
     pub fn build(self) -> Router<B>
         ensures routed { (rs : List Route) → HasRoutes self rs →
             ⟦<Router<B> as Recorder>⟧.meaning result ≡ routed rs (router_recorders self) }

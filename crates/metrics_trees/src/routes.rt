@@ -42,7 +42,7 @@ impl Routes {
         }
     }
 
-    /// Stores a route. Room is made for each kind before the first change, so that a refusal changes nothing.
+    /// Stores a route. It makes room for each kind before the first change, so a call that fails changes nothing.
     ///
     /// # Errors
     ///
@@ -78,7 +78,7 @@ impl Routes {
     }
 }
 
-/// Makes room for the pattern where the trie is to have it.
+/// Makes room for the pattern, if the trie is to have it.
 fn reserve_if(wanted: bool, trie: &mut PrefixTrie, pattern: &[u8]) -> Result<(), MatchError>
     ensures pairs { trie.new.pairs ≡ trie.old.pairs }
     ensures room { OnOk result (wanted ≡ true → HasRoom trie.new pattern.now) }
@@ -90,7 +90,7 @@ fn reserve_if(wanted: bool, trie: &mut PrefixTrie, pattern: &[u8]) -> Result<(),
     Ok(())
 }
 
-/// Stores the target where the trie is to have it.
+/// Stores the target, if the trie is to have it.
 fn insert_if(wanted: bool, trie: &mut PrefixTrie, pattern: &[u8], target: usize)
     requires { wanted ≡ true → HasRoom trie.old pattern.now }
     ensures { (p : List ℕ) → stored trie.new.pairs p ≡

@@ -1,4 +1,4 @@
--- Steps along fail links, and what linking a state gives.
+-- Steps along fail links, and what linking a state changes.
 use Rattle.std.proofs.Common.{◌≡◌, ℕ, ◌+◌, ◌<◌, ◌≤◌, Bool, true, false, ◌||◌, Option, Some, None, ◌⊎◌, inl, inr, List, [], ◌∷◌, ◌++◌, length, drop, get_or, set, refl, sym, ◌∙◌, ap, arith}
 use Rattle.std.proofs.lemmas.Bool.{cases_lt}
 use Rattle.std.proofs.lemmas.List.{length_push, length-drop, get_or-set_same, get_or_push, get_or_append_left}

@@ -1,4 +1,4 @@
--- The words of a substring search: which letters are one, where a pattern stands, and the moves of a walk.
+-- The words of a substring search: which letters are one, where a pattern occurs, and the moves of a walk.
 use Rattle.std.specs.Prelude.{if◌then◌else◌, ◌≡◌, ℕ, ◌+◌, ◌-◌, ◌≤◌, Bool, ◌&&◌, not, List, [], ◌∷◌, ◌++◌, map, length, take, drop, bytes_eq, nat_le}
 use Rattle.std.specs.List.{Contains, list_any, count_by, position_or_len, range_with_len}
 

@@ -1,4 +1,4 @@
--- How the nodes of a radix tree hang together.
+-- How the nodes of a radix tree are connected.
 use Rattle.std.specs.Prelude.{◌≡◌, ◌≢◌, ℕ, ◌<◌, ◌≤◌, List, [], ◌∷◌, ◌++◌, Option, Some, None, IsSome, length, map, take, unwrap_or, slice_index, slice_index_or}
 use Rattle.std.specs.List.{Contains}
 use Rattle.std.specs.Map.{lookup}

@@ -1,5 +1,5 @@
-//! Which patterns a text has: some of them anywhere in it, by [`SubstringSet`], or the longest of them as its
-//! front, by [`PrefixTrie`]. Texts and patterns are bytes.
+//! Which patterns a text has: some of them anywhere in it, by [`SubstringSet`], or the longest of them at its beginning, by
+//! [`PrefixTrie`]. Texts and patterns are bytes.
 #![tactic(auto)]
 
 mod error;

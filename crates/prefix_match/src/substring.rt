@@ -1,4 +1,4 @@
-//! Sets of patterns, of which some stand in a text or none.
+//! Sets of patterns, which answer whether some of them occurs in a text.
 ghost use Rattle.std.specs.Prelude.{◌≡◌, ℕ, ◌+◌, ◌*◌, ◌<◌, ◌≤◌, ◌↔◌, List, map, length, IsTrue};
 ghost use Rattle.std.specs.Prelude.{IfOk};
 ghost use Rattle.std.specs.Bool.{OnTrue, OnFalse};
@@ -29,7 +29,7 @@ enum Form {
     Table(Table),
 }
 
-/// A set of patterns, made once, that tells whether some of them stands in a text.
+/// A set of patterns, made once, that answers whether some of them occurs in a text.
 ///
 /// A walk reads each byte of the text once, and ends at the first match.
 #[derive(Drop)]
@@ -52,9 +52,9 @@ impl Model for SubstringSet {
 }
 
 impl SubstringSet {
-    /// Makes a set of the patterns: with fail links where `table` is false, and as a full table where it is true.
+    /// Makes a set of the patterns: with fail links if `table` is false, and as a full table if it is true.
     ///
-    /// Every pattern counts to the limit, also one that is listed twice.
+    /// Every pattern counts towards the limit, also one that is listed twice.
     pub fn new(
         alloc: Global,
         patterns: &[&str],
@@ -75,7 +75,7 @@ impl SubstringSet {
         }
     }
 
-    /// Whether some pattern stands in the text.
+    /// Returns whether some pattern occurs in the text.
     #[inline(always)]
     pub fn is_match(&self, text: &[u8]) -> bool
         ensures { IsTrue result ↔ Occurs self.now text.now }
@@ -83,8 +83,9 @@ impl SubstringSet {
         self.is_match_counted(text).0
     }
 
-    /// The answer of `is_match`, and how many moves the walk made: in the table a change of state,
-    /// and along the links a step down a fail link or to a child.
+    /// Returns the answer of `is_match`, and how many moves the walk made.
+    ///
+    /// A move is a change of state in the table, and a step down a fail link or to a child along the links.
     #[inline(always)]
     pub fn is_match_counted(&self, text: &[u8]) -> (bool, u64)
         ensures found { IsTrue result.0 ↔ Occurs self.now text.now }

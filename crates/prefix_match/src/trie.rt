@@ -14,8 +14,8 @@ use tree::Tree;
 
 /// A set of patterns, each with a value, that finds the longest one that a text begins with.
 ///
-/// It is a radix trie over bytes, so a pattern may end inside a character. A search reads the text once,
-/// up to where no pattern goes on, however many patterns there are, and takes no memory.
+/// It is a radix trie over bytes, so a pattern may end inside a character. A search reads the text once, up to where no
+/// pattern goes on, however many patterns there are, and allocates nothing.
 #[derive(Drop)]
 pub struct PrefixTrie {
     tree: Tree,
@@ -32,7 +32,7 @@ impl Model for PrefixTrie {
 }
 
 impl PrefixTrie {
-    /// A trie with no pattern.
+    /// Makes a trie without patterns, without allocating.
     pub fn new(alloc: Global) -> PrefixTrie
         ensures pairs { result.pairs ≡ [] }
         ensures room { result.room ≡ [] }
@@ -42,18 +42,18 @@ impl PrefixTrie {
         }
     }
 
-    /// Stores the value under the pattern, and answers the value that was there.
+    /// Stores the value under the pattern, and returns the value that was there.
     ///
     /// # Errors
     ///
-    /// `Memory`, also where only the split of an edge lacks it.
+    /// `Memory`, also if only the split of an edge lacks it.
     pub fn insert(&mut self, pattern: &[u8], value: usize) -> Result<Option<usize>, MatchError>
         ensures old { IfOk result (λ old. old ≡ stored self.old.pairs pattern.now) }
         ensures value { OnOk result (stored self.new.pairs pattern.now ≡ Some value) }
         ensures others { OnOk result ((q : List ℕ) →
             q ≢ pattern.now → stored self.new.pairs q ≡ stored self.old.pairs q) }
 
-        // A refused insert leaves the pairs as they were. Where the pattern has room, none is refused.
+        // An insert that fails leaves the pairs as they were. None fails if the pattern has room.
         ensures err { OnErr result (self.new.pairs ≡ self.old.pairs) }
         ensures memory { IfErr result (λ e. e ≡ Memory) }
         ensures ready { HasRoom self.old pattern.now → IsOk result }
@@ -66,8 +66,9 @@ impl PrefixTrie {
         Ok(self.tree.store(node, value))
     }
 
-    /// Makes room for the pattern, so that from then on an `insert` of it needs no memory. The room is
-    /// kept as long as the trie is, whether the pattern comes or not.
+    /// Makes room for the pattern, so that an `insert` of it allocates nothing from then on.
+    ///
+    /// The room is kept as long as the trie is, whether the pattern comes or not.
     ///
     /// # Errors
     ///
@@ -83,7 +84,7 @@ impl PrefixTrie {
         Ok(())
     }
 
-    /// The value of the longest stored pattern that the text begins with.
+    /// Returns the value of the longest stored pattern that the text begins with.
     pub fn longest(&self, text: &[u8]) -> Option<usize>
         ensures longest { IfSome result (IsLongest self.now.pairs text.now) }
         ensures none { IfNone result (HasNoFront self.now.pairs text.now) }

@@ -60,7 +60,7 @@ pub fn walk(nodes: &[Node], roots: &[u32], fold_case: bool, text: &[u8]) -> (boo
     (false, moves)
 }
 
-/// Goes on by `byte`: along fail links to the first state that has such a child, or else to the root.
+/// Moves on by `byte`: along fail links to the first state that has such a child, or else to the root.
 #[inline(always)]
 fn follow(nodes: &[Node], roots: &[u32], from: usize, byte: u8) -> Step
     requires tree { IsTree nodes.now }
@@ -164,7 +164,7 @@ fn link_all(nodes: &mut [Node], roots: &[u32], order: &[Place])
     }
 }
 
-/// The linked states of the patterns.
+/// Links the states of the patterns.
 pub fn linked(alloc: Global, fold_case: bool, patterns: &[Vec<u8>]) -> Result<Automaton, AllocError>
     requires { sum_by (λ p. vec_len p) patterns.now ≤ pattern_limit }
     ensures { IfOk result (IsAutomatonOf (map (λ p. lowered fold_case p.items) patterns.now)) }

@@ -16,7 +16,7 @@ const MATCHED: u32 = u32::MAX;
 /// The automaton as a full table: a row for each state, and in it a column for each class of bytes.
 #[derive(Drop)]
 pub struct Table {
-    /// The column of each byte. Bytes that stand in no pattern share column 0.
+    /// The column of each byte. Bytes that occur in no pattern share column 0.
     classes: [u16; 256],
     /// Where the next state's row begins.
     next: Vec<u32>,
@@ -24,6 +24,7 @@ pub struct Table {
 }
 
 impl Table {
+    /// Walks over the text up to the first match, and counts the moves.
     #[inline(always)]
     pub fn walk(&self, text: &[u8]) -> (bool, u64)
         requires { IsSomeTable self.now.classes self.now.next.items self.now.matches_empty }
@@ -163,7 +164,7 @@ fn write_children(next: &mut [u32], nodes: &[Node], columns: &Columns, state: us
     }
 }
 
-/// The table of the linked states, which `order` has with those of fewer bytes first.
+/// Makes the table of the linked states, which `order` lists with those of fewer bytes first.
 pub fn tabled(
     alloc: Global,
     fold_case: bool,

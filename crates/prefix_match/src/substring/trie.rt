@@ -34,7 +34,7 @@ const ROOT: Node = Node {
     fail: 0,
 };
 
-/// The state that `byte` leads to from `state`. It reads the children one by one, of which there are at most 256.
+/// Returns the state that `byte` leads to from `state`. It reads the children one by one, at most 256 of them.
 #[inline(always)]
 pub fn child(nodes: &[Node], state: usize, byte: u8) -> Option<usize>
     requires tree { IsTree nodes.now }
@@ -95,7 +95,7 @@ fn insert(nodes: &mut Vec<Node>, fold_case: bool, pattern: &[u8]) -> Result<(), 
     Ok(())
 }
 
-/// The states of all fronts of the patterns.
+/// Makes the states of all prefixes of the patterns.
 pub fn grown(alloc: Global, fold_case: bool, patterns: &[Vec<u8>]) -> Result<Vec<Node>, AllocError>
     requires { sum_by (λ p. vec_len p) patterns.now < 2 ^ 31 }
     ensures trie { IfOk result (λ v. IsTrie (map (λ p. lowered fold_case p.items) patterns.now) v.items) }
@@ -116,7 +116,7 @@ pub struct Place {
     pub state: usize,
 }
 
-/// The states, those with fewer bytes first.
+/// Returns the states, those with fewer bytes first.
 pub fn by_depth(alloc: Global, nodes: &[Node]) -> Result<Vec<Place>, AllocError>
     requires { IsTree nodes.now }
     ensures { IfOk result (λ v. IsByDepth nodes.now v.items) }

@@ -32,6 +32,7 @@ pub struct Tree {
 const ROOT: usize = 0;
 
 impl Tree {
+    /// Makes a tree without nodes, without allocating.
     pub fn new(alloc: Global) -> Tree
         ensures { result.nodes.items ≡ [] }
     {
@@ -41,7 +42,7 @@ impl Tree {
         }
     }
 
-    /// The value of the deepest node with one on the way along the text.
+    /// Returns the value of the deepest node with a value on the way along the text.
     pub fn longest(&self, text: &[u8]) -> Option<usize>
         ensures { Best self.now.nodes.items text.now (length text.now) result }
     {
@@ -57,7 +58,7 @@ impl Tree {
         best
     }
 
-    /// The node of the pattern, which is added where there is none.
+    /// Returns the node of the pattern, and adds it if there is none.
     pub fn place(&mut self, pattern: &[u8]) -> Result<usize, MatchError>
         ensures ok { IfOk result (λ n. n < length self.new.nodes.items) }
         ensures path { IfOk result (λ n. path_at self.new.nodes.items n ≡ pattern.now) }
@@ -77,7 +78,7 @@ impl Tree {
         }
     }
 
-    /// Stores the value at the node, and answers the one that it replaced.
+    /// Stores the value at the node, and returns the one that it replaced.
     pub fn store(&mut self, node: usize, value: usize) -> Option<usize>
         requires { node < length self.old.nodes.items }
         ensures old { result ≡ value_at self.old.nodes.items node }
@@ -96,7 +97,7 @@ impl Tree {
         self.nodes[node].path.as_slice()
     }
 
-    /// The child of the node on the way that goes on with the byte.
+    /// The child of the node on the way that continues with the byte.
     fn child(&self, node: usize, byte: u8) -> Option<usize>
         requires { node < length self.now.nodes.items }
         ensures value { result ≡ child_at self.now.nodes.items node byte }
@@ -139,7 +140,7 @@ impl Tree {
         node
     }
 
-    /// Makes the root, where there is none.
+    /// Makes the root, if there is none.
     fn plant(&mut self) -> Result<(), MatchError>
         ensures ok { OnOk result (0 < length self.new.nodes.items) }
         ensures grows { Grows self.old.nodes.items self.new.nodes.items }
@@ -174,7 +175,7 @@ impl Tree {
         self.attach(parent, path, BTreeMap::new(self.alloc))
     }
 
-    /// Adds a node for the pattern where its way leaves the one from `parent` to `child`.
+    /// Adds a node for the pattern at the point where its way leaves the one from `parent` to `child`.
     fn fork(&mut self, parent: usize, child: usize, pattern: &[u8]) -> Result<usize, MatchError>
         requires deepest { IsDeepest self.old.nodes.items pattern.now parent }
         requires longer { length (path_at self.old.nodes.items parent) < length pattern.now }
@@ -255,7 +256,7 @@ fn copied(alloc: Global, bytes: &[u8]) -> Result<Vec<u8>, MatchError>
     Vec::from_slice(alloc, bytes).map_err(|_: AllocError| MatchError::Memory)
 }
 
-/// How many bytes the two have in common at their front.
+/// How many bytes the two have in common at the beginning.
 fn common_len(a: &[u8], b: &[u8]) -> usize
     ensures { IsCommonLen a.now b.now result }
 {
