@@ -3,7 +3,9 @@ ghost use Rattle.std.specs.Prelude.{◌≡◌, List, if◌then◌else◌, IfOk, 
 ghost use Rattle.metrics.specs.declared.error.Error.TheVariants.{Memory as OutOfMemory, BadShards as NotShards};
 ghost use Rattle.metrics_registry.specs.Held.{is_shard_count as is_count};
 ghost use Rattle.metrics_exporter.specs.Readings.{Told, AreOnce, cells_told};
-ghost use Rattle.metrics_prometheus.specs.Exposition.{Helps, IsDescribed};
+ghost use Rattle.metrics_exporter.specs.Describing.{Legend};
+ghost use Rattle.metrics_prometheus.specs.declared.naming.Naming.TheVariants.{AsGiven};
+ghost use Rattle.metrics_prometheus.specs.Exposition.{IsDescribed};
 ghost use Rattle.metrics_collector.specs.Gathering.{all_gathered};
 ghost use Rattle.metrics_collector.specs.declared.gathered.Gathered.{Gathered as GatheredParts};
 
@@ -214,8 +216,8 @@ impl Collector {
     ///
     /// It fails with `Error::Memory` alone. What it met is then shown by the next one, also if that comes after the timeout.
     pub fn render<W: Wait>(&self, rt: &W, alloc: Global, now: u64) -> Result<String, Error>
-        ensures text { IfOk result (λ text. (helps : Helps) × (gathered : GatheredParts) × (kept : List Told)
-            × AreOnce (all_gathered gathered) kept × IsDescribed helps (cells_told kept) (string_bytes text)) }
+        ensures text { IfOk result (λ text. (legend : Legend) × (gathered : GatheredParts) × (kept : List Told)
+            × AreOnce (all_gathered gathered) kept × IsDescribed AsGiven legend (cells_told kept) (string_bytes text)) }
         ensures err { IfErr result (λ e. e ≡ OutOfMemory) }
     {
         let gathered = self.gather(rt, alloc, now)?;

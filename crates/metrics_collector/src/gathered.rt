@@ -3,11 +3,12 @@ ghost use Rattle.std.specs.Prelude.{◌≡◌, List, IfOk, IfErr, MatchResult, s
 ghost use Rattle.metrics.specs.declared.error.Error.TheVariants.{Memory as OutOfMemory};
 ghost use Rattle.metrics_exporter.specs.Readings.{Told, all_told, told_of, AreReadings, AreOnce, cells_told};
 ghost use Rattle.metrics_exporter.specs.Exporting.{Cells};
+ghost use Rattle.metrics_exporter.specs.Describing.{described_by};
+ghost use Rattle.metrics_prometheus.specs.declared.naming.Naming.TheVariants.{AsGiven};
 ghost use Rattle.metrics_prometheus.specs.Exposition.{IsDescribed};
-ghost use Rattle.metrics_prometheus.specs.Rows.{helps_of};
 
 use metrics::{Error, Key};
-use metrics_prometheus::{Descriptions, ReadingRef, SeriesReading, exposition_of};
+use metrics_prometheus::{Descriptions, Naming, ReadingRef, SeriesReading, exposition_of};
 use metrics_storage::Histogram;
 use std::alloc::{AllocError, Global};
 
@@ -66,12 +67,12 @@ impl Gathered {
     /// Writes the series in Prometheus's text exposition format, each name behind its description.
     pub fn text(&self, alloc: Global, descriptions: &Descriptions) -> Result<String, Error>
         ensures ok { (cells : Cells) → AreReadings cells (all_gathered self.now)
-            → IfOk result (λ text. IsDescribed (helps_of descriptions.now) cells (string_bytes text)) }
+            → IfOk result (λ text. IsDescribed AsGiven (described_by descriptions.now) cells (string_bytes text)) }
         ensures each { IfOk result (λ text. (kept : List Told) × AreOnce (all_gathered self.now) kept
-            × IsDescribed (helps_of descriptions.now) (cells_told kept) (string_bytes text)) }
+            × IsDescribed AsGiven (described_by descriptions.now) (cells_told kept) (string_bytes text)) }
         ensures err { IfErr result (λ e. e ≡ OutOfMemory) }
     {
         let readings = readings(alloc, &self.series)?;
-        exposition_of(alloc, descriptions, &readings)
+        exposition_of(alloc, Naming::AsGiven, descriptions, &readings)
     }
 }

@@ -5,8 +5,8 @@ use Rattle.std.specs.List.{AllByRecursion}
 use Rattle.std.proofs.lemmas.Int.{ints}
 use Rattle.std.proofs.lemmas.List.Sums.{count_by-le-length, sum_by-cons}
 use Rattle.metrics_names.specs.Names.{LabelParts}
-use Rattle.metrics_storage.specs.Histogram.{at_most, bucket_with, no_samples, with_samples}
-use Rattle.metrics_prometheus.specs.Samples.{bucket_placed, with_buckets, ascending, histogram_samples}
+use Rattle.metrics_storage.specs.Histogram.{at_most, bucket_with, no_samples, with_samples, bucket_placed, with_buckets, ascending}
+use Rattle.metrics_prometheus.specs.Samples.{histogram_samples}
 use Rattle.metrics_prometheus.specs.Reading.{AreBuckets}
 use Rattle.metrics_prometheus.proofs.PairLemmas.{each-map, in-first, in-later, in-split, in-none, pairs-with, pairs-places}
 use Rattle.metrics_prometheus.proofs.SampleLemmas.{IsBelow, with-each, with-up}
@@ -113,8 +113,8 @@ module _ (samples : List ℤ) where
   counted-buckets [] = tt
   counted-buckets (b ∷ bs) = (omega arith, counted-buckets bs)
 
-  pub buckets-are : (bounds : List ℤ) (name : List ℕ) (labels : List LabelParts) → AreBuckets name labels (with_samples samples (no_samples bounds)) (histogram_samples name labels (with_samples samples (no_samples bounds)))
-  buckets-are bounds name labels =
+  pub buckets-are : (bounds : List ℤ) (places : ℕ) (name : List ℕ) (labels : List LabelParts) → AreBuckets places name labels (with_samples samples (no_samples bounds)) (histogram_samples places name labels (with_samples samples (no_samples bounds)))
+  buckets-are bounds places name labels =
       let d = with_samples samples (no_samples bounds) in
       let counted = counted-buckets bounds in
       let done = ascending d.buckets in

@@ -2,12 +2,13 @@
 use Rattle.std.proofs.Common.{◌≡◌, ◌≢◌, ◌∙◌, ◌<◌, ◌+◌, ◌/◌, ◌%◌, ℕ, ℤ, pos, negsuc, zero, suc, Bool, true, false, ◌||◌, List, [], ◌∷◌, ◌++◌, codes, chars, length, get_or, append-nil, nat_eq, nat_lt, refl, ap, sym, arith}
 use Rattle.std.specs.Prelude.{encode_utf8, flat_map, ◌==◌}
 use Rattle.std.specs.List.{AllByRecursion, list_any}
-use Rattle.std.specs.Fmt.{signed_decimal, decimal, digits, digits_onto, digit_glyph}
+use Rattle.std.specs.Fmt.{decimal, digits, digits_onto, digit_glyph}
 use Rattle.std.proofs.lemmas.Bool.{cond_both, eq-eqb}
 use Rattle.std.proofs.lemmas.Str.{inside_one}
 use Rattle.std.proofs.lemmas.Grind.{get_or_default_zero}
 use Rattle.metrics_names.specs.Names.{LabelParts}
 use Rattle.metrics_prometheus.specs.Names.{goes_on, is_name, escape, escaped, help_escape, help_escaped}
+use Rattle.metrics_prometheus.specs.Numbers.{pointed, unsigned, number}
 use Rattle.metrics_prometheus.specs.Samples.{label_text, joined, labels_text}
 use Rattle.metrics_prometheus.proofs.PairLemmas.{each-map, each-append, each-places}
 use Rattle.metrics_prometheus.proofs.NameLemmas.{named, AreKeyed}
@@ -105,6 +106,14 @@ pub decimal-plain : (n : ℕ) → HasNoFeed (decimal n)
 unfolding digits
 decimal-plain n = digits-plain 64 n [] tt
 
-pub signed-plain : (z : ℤ) → HasNoFeed (signed_decimal z)
-signed-plain (pos n) = decimal-plain n
-signed-plain (negsuc n) = (other 45 refl, decimal-plain (suc n))
+pointed-plain : (places n : ℕ) → HasNoFeed (pointed places n)
+pointed-plain zero n = join (decimal n) (46 ∷ []) (decimal-plain n) (plain (46 ∷ []) refl)
+pointed-plain (suc places) n = join (pointed places (n / 10)) ((48 + n % 10) ∷ []) (pointed-plain places (n / 10)) ((λ e. absurd (omega (arith, e))), tt)
+
+pub unsigned-plain : (places n : ℕ) → HasNoFeed (unsigned places n)
+unsigned-plain zero n = decimal-plain n
+unsigned-plain (suc places) n = pointed-plain (suc places) n
+
+pub number-plain : (places : ℕ) (z : ℤ) → HasNoFeed (number places z)
+number-plain places (pos n) = unsigned-plain places n
+number-plain places (negsuc n) = (other 45 refl, unsigned-plain places (suc n))

@@ -10,12 +10,15 @@ use Rattle.metrics_names.specs.Names.{LabelParts, SeriesKey}
 use Rattle.metrics_exporter.specs.Exporting.{Cells, IsHeld, HoldsSome}
 use Rattle.metrics_exporter.specs.Readings.{Told, told_of, all_told, AreReadings, AreOnce}
 use Rattle.metrics_exporter.specs.declared.readings.SeriesReading.{SeriesReading}
-use Rattle.metrics_prometheus.specs.Exposition.{Row, Helps, row_of, AreRows, HoldsTexts, IsDescribed}
+use Rattle.metrics_prometheus.specs.declared.naming.Naming.{Naming}
+use Rattle.metrics_exporter.specs.Describing.{Legend}
+use Rattle.metrics_prometheus.specs.Naming.{Display}
+use Rattle.metrics_prometheus.specs.Exposition.{Row, row_of, AreRows, HoldsTexts, IsDescribed}
 use Rattle.metrics_prometheus.proofs.OnceLemmas.{unmapped}
 
-pub each-row : {helps : Helps} (P : Row → Type 0) (cells : Cells) (rows : List Row) → AreRows helps cells rows → ((s : SeriesKey) → IsHeld cells s → P (row_of helps s)) → AllByRecursion P rows
-each-row {helps} P cells rows are f =
-    recursion_from_All P rows (All-permutation P (map (row_of helps) are.keys) rows are.same (All-map P (row_of helps) are.keys
+pub each-row : {display : Display} (P : Row → Type 0) (cells : Cells) (rows : List Row) → AreRows display cells rows → ((s : SeriesKey) → IsHeld cells s → P (row_of display s)) → AllByRecursion P rows
+each-row {display} P cells rows are f =
+    recursion_from_All P rows (All-permutation P (map (row_of display) are.keys) rows are.same (All-map P (row_of display) are.keys
     (λ j d small. f (get_or are.keys j d) ((are.held (get_or are.keys j d)).0 (j, small, get_or_default are.keys j (get_or are.keys j d) d small)))))
 
 -- where the labels of all series have texts as values, those of the held series have
@@ -44,8 +47,8 @@ some-read cells series given (Err e) same are h = first series are (subst (λ l.
     first (s ∷ series) are small = ((told_of s).0, (are.held (told_of s).0).0 (0, omega arith, refl))
 
 -- where nothing is given nothing is held, and that is its exposition
-pub none-given : {helps : Helps} (cells : Cells) → AreReadings cells [] → IsDescribed helps cells []
-none-given {helps} cells are = record {
+pub none-given : {naming : Naming} {legend : Legend} (cells : Cells) → AreReadings cells [] → IsDescribed naming legend cells []
+none-given cells are = record {
   rows = [];
   all = record { keys = []; once = are.once; held = are.held; same = IsPermutation-refl []; ordered = λ k d first small. absurd (omega (arith, small)) };
   texts = λ s held. absurd (no-place s ((are.held s).1 held));

@@ -12,6 +12,7 @@ pub mod DistinctLemmas
 pub mod ToldLemmas
 pub mod TextLineLemmas
 pub mod NameLemmas
+pub mod NamingLemmas
 pub mod FeedLemmas
 pub mod HeadLemmas
 pub mod LabelLemmas

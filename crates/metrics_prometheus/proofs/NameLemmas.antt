@@ -21,7 +21,7 @@ pub named-from : (colons : Bool) (n : List ℕ) → list_all (goes_on colons) n 
 named-from colons [] h = tt
 named-from colons (c ∷ cs) h = let p = both-true (goes_on colons c) (list_all (goes_on colons) cs) h in (p.0, named-from colons cs p.1)
 
-named-test : (colons : Bool) (n : List ℕ) → IsNamed colons n → list_all (goes_on colons) n ≡ true
+pub named-test : (colons : Bool) (n : List ℕ) → IsNamed colons n → list_all (goes_on colons) n ≡ true
 named-test colons [] h = refl
 named-test colons (c ∷ cs) h = both (goes_on colons c) (list_all (goes_on colons) cs) h.0 (named-test colons cs h.1)
 

@@ -26,7 +26,8 @@ use Rattle.metrics_exporter.specs.Exporting.{Reading, Cell, Cells}
 use Rattle.metrics_exporter.specs.Gathering.{series_at}
 use Rattle.metrics_exporter.specs.Readings.{Told, AreReadings, AreOnce, cells_told, reading_in}
 use Rattle.metrics_prometheus.specs.declared.rows.ShownRow.{ShownRow}
-use Rattle.metrics_prometheus.specs.Exposition.{Row, Helps, row_of, row_cmp}
+use Rattle.metrics_prometheus.specs.Naming.{Display}
+use Rattle.metrics_prometheus.specs.Exposition.{Row, row_of, row_cmp}
 use Rattle.metrics_prometheus.specs.Rows.{row_shown, pair_shown, pair_of, told_shown}
 use Rattle.metrics_prometheus.proofs.PairLemmas.{each-in, in-first, in-later, Pairs, pairs-places}
 use Rattle.metrics_prometheus.proofs.RowLemmas.{map-length, map-get}
@@ -106,18 +107,18 @@ told-pairs : (rows : List ShownRow) → map told_shown rows ≡ map told_of_pair
 told-pairs [] = refl
 told-pairs (r ∷ rows) = ap (λ l. told_shown r ∷ l) (told-pairs rows)
 
-pairs-told : (helps : Helps) (told : List Told) → map told_of_pair (map (pair_of helps) told) ≡ told
-pairs-told helps [] = refl
-pairs-told helps (t ∷ told) = ap (λ l. t ∷ l) (pairs-told helps told)
+pairs-told : (display : Display) (told : List Told) → map told_of_pair (map (pair_of display) told) ≡ told
+pairs-told display [] = refl
+pairs-told display (t ∷ told) = ap (λ l. t ∷ l) (pairs-told display told)
 
-module _ (helps : Helps) where
+module _ (display : Display) where
   abbrev IsOwn : ShownRow → Type 0
-  IsOwn r = pair_shown r ≡ pair_of helps (told_shown r)
+  IsOwn r = pair_shown r ≡ pair_of display (told_shown r)
 
   abbrev IsPair : Row × Reading → Type 0
-  IsPair p = p ≡ pair_of helps (told_of_pair p)
+  IsPair p = p ≡ pair_of display (told_of_pair p)
 
-  pairs-own : (told : List Told) → AllByRecursion IsPair (map (pair_of helps) told)
+  pairs-own : (told : List Told) → AllByRecursion IsPair (map (pair_of display) told)
   pairs-own [] = tt
   pairs-own (t ∷ told) = (refl, pairs-own told)
 
@@ -125,9 +126,9 @@ module _ (helps : Helps) where
   rows-own [] h = tt
   rows-own (r ∷ rows) h = (h.0, rows-own rows h.1)
 
-  own-map : (rows : List ShownRow) → AllByRecursion IsOwn rows → map pair_shown rows ≡ map (pair_of helps) (map told_shown rows)
+  own-map : (rows : List ShownRow) → AllByRecursion IsOwn rows → map pair_shown rows ≡ map (pair_of display) (map told_shown rows)
   own-map [] h = refl
-  own-map (r ∷ rows) h = ap (λ p. p ∷ map pair_shown rows) h.0 ∙ ap (λ l. pair_of helps (told_shown r) ∷ l) (own-map rows h.1)
+  own-map (r ∷ rows) h = ap (λ p. p ∷ map pair_shown rows) h.0 ∙ ap (λ l. pair_of display (told_shown r) ∷ l) (own-map rows h.1)
 
   module _ (R : ShownRow → ShownRow → Ordering) (order : (a b : ShownRow) → R a b ≡ row_cmp (row_shown a) (row_shown b)) where
     -- rows that aren't equal are of different series
@@ -137,7 +138,7 @@ module _ (helps : Helps) where
         go : (b : Bool) → series_key_eq (key_of x) (key_of y) ≡ b → series_key_eq (key_of x) (key_of y) ≡ false
         go false e = e
         go true e =
-            let rows : row_shown x ≡ row_shown y = ap (λ (p : Row × Reading). p.0) ox ∙ ap (row_of helps) (key_exact (key_of x) (key_of y) e) ∙ sym (ap (λ (p : Row × Reading). p.0) oy) in
+            let rows : row_shown x ≡ row_shown y = ap (λ (p : Row × Reading). p.0) ox ∙ ap (row_of display) (key_exact (key_of x) (key_of y) e) ∙ sym (ap (λ (p : Row × Reading). p.0) oy) in
             let same : R x y ≡ Equal = order x y ∙ ap (row_cmp (row_shown x)) (sym rows) ∙ tied_itself row_total (row_shown x) in
             absurd (false≢true (sym differ ∙ ap is_eq same))
 
@@ -152,10 +153,10 @@ module _ (helps : Helps) where
 
     -- what is left of sorted rows
     pub rows-once : (total : IsTotalOrder R) (E : ShownRow → ShownRow → Bool) → ((a b : ShownRow) → E a b ≡ eq_by_cmp R a b)
-        → (told : List Told) (us xs ys : List ShownRow) → map pair_shown us ≡ map (pair_of helps) told → IsPermutation us xs → IsStrictlySortedBy R ys → ys ≡ dedup E xs
-        → (map pair_shown ys ≡ map (pair_of helps) (map told_shown ys)) × AreOnce told (map told_shown ys)
+        → (told : List Told) (us xs ys : List ShownRow) → map pair_shown us ≡ map (pair_of display) told → IsPermutation us xs → IsStrictlySortedBy R ys → ys ≡ dedup E xs
+        → (map pair_shown ys ≡ map (pair_of display) (map told_shown ys)) × AreOnce told (map told_shown ys)
     rows-once total E ties told us xs ys made moved up left =
-        let same : map told_shown us ≡ told = told-pairs us ∙ ap (map told_of_pair) made ∙ pairs-told helps told in
+        let same : map told_shown us ≡ told = told-pairs us ∙ ap (map told_of_pair) made ∙ pairs-told display told in
         let own-us : AllByRecursion IsOwn us = rows-own us (subst (AllByRecursion IsPair) (sym made) (pairs-own told)) in
         let own-ys : AllByRecursion IsOwn ys = recursion_from_All IsOwn ys (subst (All IsOwn) (sym left) (All-dedup E IsOwn xs (All-permutation IsOwn us xs moved (All-from_recursion IsOwn us own-us)))) in
         let equiv : IsEquivalence E = subst IsEquivalence (λ i a b. sym (ties a b) i) (eq_by_cmp_equiv total) in (
@@ -259,12 +260,12 @@ readings-told told once =
     readings (e ∷ es) h = (ap (λ (o : Option Reading). option_map (λ (c : Cell). c.reading) (option_map cell o)) h.0, readings es h.1)
 
 -- the labels of rows are in order
-pub own-labels : (helps : Helps) (rows : List ShownRow) → map pair_shown rows ≡ map (pair_of helps) (map told_shown rows) → AllByRecursion (λ r. IsSorted label_cmp r.labels) rows
-own-labels helps rows own =
+pub own-labels : (display : Display) (rows : List ShownRow) → map pair_shown rows ≡ map (pair_of display) (map told_shown rows) → AllByRecursion (λ r. IsSorted label_cmp r.labels) rows
+own-labels display rows own =
     let P : Row × Reading → Type 0 = λ p. IsSorted label_cmp p.0.labels in
     from rows (subst (AllByRecursion P) (sym own) (each (map told_shown rows)))
   where
-    each : (told : List Told) → AllByRecursion (λ (p : Row × Reading). IsSorted label_cmp p.0.labels) (map (pair_of helps) told)
+    each : (told : List Told) → AllByRecursion (λ (p : Row × Reading). IsSorted label_cmp p.0.labels) (map (pair_of display) told)
     each [] = tt
     each (t ∷ told) = (shown-sorted t.0.key.labels, each told)
 

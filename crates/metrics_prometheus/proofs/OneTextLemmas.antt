@@ -4,7 +4,10 @@ use Rattle.std.specs.List.{AllByRecursion}
 use Rattle.std.specs.declared.cmp.Ordering.TheVariants.{Less}
 use Rattle.std.proofs.lemmas.List.Sorted.{IsPermutation-sym, Contains-permutation}
 use Rattle.metrics_exporter.specs.Exporting.{Cells}
-use Rattle.metrics_prometheus.specs.Exposition.{Row, row_of, row_cmp, rows_text, Helps, AreRows, IsDescribed}
+use Rattle.metrics_exporter.specs.Describing.{Legend}
+use Rattle.metrics_prometheus.specs.declared.naming.Naming.{Naming}
+use Rattle.metrics_prometheus.specs.Naming.{Display}
+use Rattle.metrics_prometheus.specs.Exposition.{Row, row_of, row_cmp, rows_text, AreRows, IsDescribed}
 use Rattle.metrics_prometheus.proofs.PairLemmas.{each-map, each-both, each-in, in-first, in-later, in-split, in-none, Pairs}
 use Rattle.metrics_prometheus.proofs.WrittenLemmas.{never, turn, row_total, rows-up, IsUp}
 use Rattle.metrics_prometheus.proofs.OnceLemmas.{series-from, unmapped}
@@ -54,17 +57,17 @@ all-below [] up others = tt
 all-below (r ∷ rs) up others =
     (each-map (λ q. IsUp r q × AreOfOthers r q) (IsBelow r) (λ q h. below r q h.0 h.1) rs (each-both (IsUp r) (AreOfOthers r) rs up.0 others.0), all-below rs up.1 others.1)
 
-module _ {helps : Helps} (cells : Cells) where
-  rows-below : (rows : List Row) → AreRows helps cells rows → Pairs IsBelow rows
+module _ {display : Display} (cells : Cells) where
+  rows-below : (rows : List Row) → AreRows display cells rows → Pairs IsBelow rows
   rows-below rows are = all-below rows (rows-up row_total rows are.ordered) (rows-of-others cells rows are)
 
-  rows-among : (xs ys : List Row) → AreRows helps cells xs → AreRows helps cells ys → AreAmong xs ys
+  rows-among : (xs ys : List Row) → AreRows display cells xs → AreRows display cells ys → AreAmong xs ys
   rows-among xs ys are others r has =
-      let of : List Row = map (row_of helps) are.keys in
-      let s = unmapped (row_of helps) are.keys r (Contains-permutation xs of r (IsPermutation-sym of xs are.same) has) in
+      let of : List Row = map (row_of display) are.keys in
+      let s = unmapped (row_of display) are.keys r (Contains-permutation xs of r (IsPermutation-sym of xs are.same) has) in
       subst (Contains ys) s.2 (row-held cells ys others s.0 ((are.held s.0).0 s.1))
 
-  pub one-text : (a b : List ℕ) → IsDescribed helps cells a → IsDescribed helps cells b → a ≡ b
-  one-text a b e f =
-      let same = same-rows e.rows f.rows (rows-below e.rows e.all) (rows-below f.rows f.all) (rows-among e.rows f.rows e.all f.all) (rows-among f.rows e.rows f.all e.all) in
-      e.is ∙ ap (λ rows. rows_text cells rows None rows) same ∙ sym f.is
+pub one-text : {naming : Naming} {legend : Legend} (cells : Cells) (a b : List ℕ) → IsDescribed naming legend cells a → IsDescribed naming legend cells b → a ≡ b
+one-text cells a b e f =
+    let same = same-rows e.rows f.rows (rows-below cells e.rows e.all) (rows-below cells f.rows f.all) (rows-among cells e.rows f.rows e.all f.all) (rows-among cells f.rows e.rows f.all e.all) in
+    e.is ∙ ap (λ rows. rows_text cells rows None rows) same ∙ sym f.is

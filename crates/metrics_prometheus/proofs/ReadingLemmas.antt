@@ -110,9 +110,9 @@ made bounds s (u ∷ us) = made-value bounds (value_from (new_value s.kind) (u �
 
 -- the samples of a row whose series is a histogram
 pub rows-buckets : (setup : Setup) (xs : List Step) (r : Row) (d : Distribution) → reading_at (cells_after setup xs) r ≡ Some (samples d)
-    → AreBuckets r.name r.labels d (samples_of r (reading_at (cells_after setup xs) r))
+    → AreBuckets r.places r.name r.labels d (samples_of r (reading_at (cells_after setup xs) r))
 rows-buckets setup xs r d e =
     let s = series_at r.kind r.key in
     let from = subst (IsMade setup.bounds) e (made setup.bounds s (since xs s)) in
-    let is = subst (λ k. AreBuckets r.name r.labels k (histogram_samples r.name r.labels k)) from.1 (buckets-are from.0 setup.bounds r.name r.labels) in
-    subst (λ o. AreBuckets r.name r.labels d (samples_of r o)) (sym e) is
+    let is = subst (λ k. AreBuckets r.places r.name r.labels k (histogram_samples r.places r.name r.labels k)) from.1 (buckets-are from.0 setup.bounds r.places r.name r.labels) in
+    subst (λ o. AreBuckets r.places r.name r.labels d (samples_of r o)) (sym e) is

@@ -11,7 +11,8 @@ use Rattle.metrics_exporter.specs.Exporting.{Reading, Cells}
 use Rattle.metrics_exporter.specs.Readings.{Told, told_of, all_told, reading_in, AreReadings}
 use Rattle.metrics_exporter.specs.declared.readings.SeriesReading.{SeriesReading}
 use Rattle.metrics_prometheus.specs.declared.rows.ShownRow.{ShownRow}
-use Rattle.metrics_prometheus.specs.Exposition.{Row, Helps, row_of, row_cmp, reading_at, AreRows}
+use Rattle.metrics_prometheus.specs.Naming.{Display}
+use Rattle.metrics_prometheus.specs.Exposition.{Row, row_of, row_cmp, reading_at, AreRows}
 use Rattle.metrics_prometheus.specs.Rows.{row_shown, rows_shown, pair_shown, pair_of, told_shown, Shows}
 
 module _ {A B : Type 0} (f : A → B) where
@@ -34,10 +35,10 @@ module _ {A B : Type 0} (f : A → B) where
       ∙ up k x (omega arith) fits
 
 -- one row more
-pub rows-more : (helps : Helps) (xs ys : List ShownRow) (ss : List SeriesReading) (i : ℕ) (x : ShownRow) (s : SeriesReading)
-    → i < length ss → s ≡ get_or ss i s → ys ≡ xs ++ x ∷ [] → pair_shown x ≡ pair_of helps (told_of s) → map pair_shown xs ≡ map (pair_of helps) (all_told (take i ss)) → map pair_shown ys ≡ map (pair_of helps) (all_told (take (i + 1) ss))
-rows-more helps xs ys ss i x s small at is shown so =
-    let f : Told → Row × Reading = pair_of helps in
+pub rows-more : (display : Display) (xs ys : List ShownRow) (ss : List SeriesReading) (i : ℕ) (x : ShownRow) (s : SeriesReading)
+    → i < length ss → s ≡ get_or ss i s → ys ≡ xs ++ x ∷ [] → pair_shown x ≡ pair_of display (told_of s) → map pair_shown xs ≡ map (pair_of display) (all_told (take i ss)) → map pair_shown ys ≡ map (pair_of display) (all_told (take (i + 1) ss))
+rows-more display xs ys ss i x s small at is shown so =
+    let f : Told → Row × Reading = pair_of display in
     let done = all_told (take i ss) in
     let last : Told = told_of (get_or ss i s) in
     ap (map pair_shown) is ∙ map-append pair_shown xs (x ∷ []) ∙ ap (λ l. l ++ pair_shown x ∷ []) so ∙ ap (λ r. map f done ++ r ∷ []) (shown ∙ ap (λ q. f (told_of q)) at)
@@ -48,35 +49,35 @@ rows-first : (rows : List ShownRow) → map (λ (p : Row × Reading). p.0) (map 
 rows-first [] = refl
 rows-first (r ∷ rows) = ap (λ l. row_shown r ∷ l) (rows-first rows)
 
-told-first : (helps : Helps) (told : List Told) → map (λ (p : Row × Reading). p.0) (map (pair_of helps) told) ≡ map (row_of helps) (map (λ t. t.0) told)
-told-first helps [] = refl
-told-first helps (t ∷ told) = ap (λ l. row_of helps t.0 ∷ l) (told-first helps told)
+told-first : (display : Display) (told : List Told) → map (λ (p : Row × Reading). p.0) (map (pair_of display) told) ≡ map (row_of display) (map (λ t. t.0) told)
+told-first display [] = refl
+told-first display (t ∷ told) = ap (λ l. row_of display t.0 ∷ l) (told-first display told)
 
 unmapped : (P : Row × Reading → Type 0) (rows : List ShownRow) → AllByRecursion P (map pair_shown rows) → AllByRecursion (λ r. P (pair_shown r)) rows
 unmapped P [] h = tt
 unmapped P (r ∷ rows) h = (h.0, unmapped P rows h.1)
 
-told-read : (helps : Helps) (cells : Cells) (told : List Told) → AllByRecursion (λ t. reading_in cells t.0 ≡ Some t.1) told → AllByRecursion (λ (p : Row × Reading). reading_at cells p.0 ≡ Some p.1) (map (pair_of helps) told)
-told-read helps cells [] h = tt
-told-read helps cells (t ∷ told) h = (h.0, told-read helps cells told h.1)
+told-read : (display : Display) (cells : Cells) (told : List Told) → AllByRecursion (λ t. reading_in cells t.0 ≡ Some t.1) told → AllByRecursion (λ (p : Row × Reading). reading_at cells p.0 ≡ Some p.1) (map (pair_of display) told)
+told-read display cells [] h = tt
+told-read display cells (t ∷ told) h = (h.0, told-read display cells told h.1)
 
 -- rows of what is held
-pub are-rows : (helps : Helps) (cells : Cells) (rows : List ShownRow) → AreReadings cells (map told_shown rows) → map pair_shown rows ≡ map (pair_of helps) (map told_shown rows) → IsSorted row_cmp (rows_shown rows)
-    → AreRows helps cells (rows_shown rows)
-are-rows helps cells rows are own up =
+pub are-rows : (display : Display) (cells : Cells) (rows : List ShownRow) → AreReadings cells (map told_shown rows) → map pair_shown rows ≡ map (pair_of display) (map told_shown rows) → IsSorted row_cmp (rows_shown rows)
+    → AreRows display cells (rows_shown rows)
+are-rows display cells rows are own up =
     let f : Row × Reading → Row = λ p. p.0 in
     let told = map told_shown rows in
-    let same : map (row_of helps) (map (λ t. t.0) told) ≡ rows_shown rows = sym (told-first helps told) ∙ ap (map f) (sym own) ∙ rows-first rows in
+    let same : map (row_of display) (map (λ t. t.0) told) ≡ rows_shown rows = sym (told-first display told) ∙ ap (map f) (sym own) ∙ rows-first rows in
     record {
       keys = map (λ t. t.0) told;
       once = are.once;
       held = are.held;
-      same = subst (IsPermutation (map (row_of helps) (map (λ t. t.0) told))) same (IsPermutation-refl (map (row_of helps) (map (λ t. t.0) told)));
+      same = subst (IsPermutation (map (row_of display) (map (λ t. t.0) told))) same (IsPermutation-refl (map (row_of display) (map (λ t. t.0) told)));
       ordered = up;
     }
 
 -- and each shows what its series has
-pub rows-show : (helps : Helps) (cells : Cells) (rows : List ShownRow) → AreReadings cells (map told_shown rows) → map pair_shown rows ≡ map (pair_of helps) (map told_shown rows) → AllByRecursion (Shows cells) rows
-rows-show helps cells rows are own =
+pub rows-show : (display : Display) (cells : Cells) (rows : List ShownRow) → AreReadings cells (map told_shown rows) → map pair_shown rows ≡ map (pair_of display) (map told_shown rows) → AllByRecursion (Shows cells) rows
+rows-show display cells rows are own =
     let P : Row × Reading → Type 0 = λ p. reading_at cells p.0 ≡ Some p.1 in
-    unmapped P rows (subst (AllByRecursion P) (sym own) (told-read helps cells (map told_shown rows) are.readings))
+    unmapped P rows (subst (AllByRecursion P) (sym own) (told-read display cells (map told_shown rows) are.readings))

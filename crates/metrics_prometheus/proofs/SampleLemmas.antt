@@ -2,24 +2,24 @@
 use Rattle.std.proofs.Common.{◌≡◌, ◌∙◌, ◌-◌, ℕ, ℤ, Bool, true, false, cond, is_some, ◌||◌, ◌&&◌, nat_eq, List, [], ◌∷◌, ◌++◌, map, codes, reverse, length, take, drop, get_or, Option, Some, None, refl, ap, sym, arith, append-nil}
 use Rattle.std.specs.Prelude.{int_lt, bytes_eq}
 use Rattle.std.specs.List.{AllByRecursion, list_any, ends_with}
-use Rattle.std.specs.Fmt.{signed_decimal, decimal}
+use Rattle.std.specs.Fmt.{decimal}
 use Rattle.std.specs.Option.{option_or}
 use Rattle.std.proofs.lemmas.Int.{ints}
 use Rattle.std.proofs.lemmas.Bool.{cond_both}
 use Rattle.std.proofs.lemmas.Bool.Decides.{Decides-eqb}
-use Rattle.std.proofs.lemmas.Fmt.{signed_decimal_injective}
 use Rattle.std.proofs.lemmas.List.{append_cancel_left, append_cancel_right, reverse-append, take_at, length-append}
 use Rattle.std.proofs.lemmas.Slice.Eq.{ends_is}
 use Rattle.metrics_names.specs.declared.kind.MetricKind.TheVariants.{Histogram}
 use Rattle.metrics_names.specs.Names.{LabelParts, kind_eq}
-use Rattle.metrics_storage.specs.Histogram.{Distribution}
+use Rattle.metrics_storage.specs.Histogram.{Distribution, bucket_placed, with_buckets, ascending}
 use Rattle.metrics_exporter.specs.Exporting.{Reading, count, level, samples}
-use Rattle.metrics_prometheus.specs.Samples.{Sample, bucket_placed, with_buckets, ascending, bucket_sample, histogram_samples}
+use Rattle.metrics_prometheus.specs.Numbers.{number as number_text}
+use Rattle.metrics_prometheus.specs.Samples.{Sample, bucket_sample, histogram_samples}
 use Rattle.metrics_prometheus.specs.Reading.{IsSmall, ReadsAs}
 use Rattle.metrics_prometheus.specs.Exposition.{Row, histogram_names, found_in, part_of, whole_of, is_taken, samples_of}
 use Rattle.metrics_prometheus.specs.Written.{AreApart}
 use Rattle.metrics_prometheus.proofs.PairLemmas.{each-map, each-append, Pairs, pairs-append}
-use Rattle.metrics_prometheus.proofs.NumeralLemmas.{no-infinity}
+use Rattle.metrics_prometheus.proofs.NumeralLemmas.{no-infinity, number-injective}
 
 -- samples are of different series
 abbrev pub Differ : Sample → Sample → Type 0
@@ -172,13 +172,13 @@ last-value labels v w h = ap (λ ls. (get_or {A = LabelParts} ls 0 (codes "le", 
 
 module _ (r : Row) (d : Distribution) where
   abbrev bucket_of : ℤ × ℕ → Sample
-  bucket_of b = bucket_sample r.name r.labels (signed_decimal b.0) b.1
+  bucket_of b = bucket_sample r.name r.labels (number_text r.places b.0) b.1
 
   abbrev all_of : Sample
   all_of = bucket_sample r.name r.labels (codes "+Inf") d.count
 
   abbrev sum_of : Sample
-  sum_of = record { name = r.name ++ codes "_sum"; labels = r.labels; value = signed_decimal d.sum }
+  sum_of = record { name = r.name ++ codes "_sum"; labels = r.labels; value = number_text r.places d.sum }
 
   abbrev number_of : Sample
   number_of = record { name = r.name ++ codes "_count"; labels = r.labels; value = decimal d.count }
@@ -198,7 +198,7 @@ module _ (r : Row) (d : Distribution) where
   later-buckets : (b : ℤ × ℕ) → IsSmall b → (cs : List (ℤ × ℕ)) → AllByRecursion IsSmall cs → AllByRecursion (IsBelow b) cs → AllByRecursion (Differ (bucket_of b)) (map bucket_of cs)
   later-buckets b small [] h up = tt
   later-buckets b small (c ∷ cs) h up =
-      ((λ _ same. lt-never b.0 c.0 (signed_decimal_injective b.0 c.0 small h.0 (last-value r.labels (signed_decimal b.0) (signed_decimal c.0) same)) up.0), later-buckets b small cs h.1 up.1)
+      ((λ _ same. lt-never b.0 c.0 (number-injective r.places b.0 c.0 small h.0 (last-value r.labels (number_text r.places b.0) (number_text r.places c.0) same)) up.0), later-buckets b small cs h.1 up.1)
 
   buckets-differ : (bs : List (ℤ × ℕ)) → AllByRecursion IsSmall bs → Pairs IsBelow bs → Pairs Differ (map bucket_of bs)
   buckets-differ [] h up = tt
@@ -208,14 +208,14 @@ module _ (r : Row) (d : Distribution) where
   rest-differs [] h = tt
   rest-differs (b ∷ bs) h = (
     (
-      (λ _ same. no-infinity b.0 h.0 (last-value r.labels (signed_decimal b.0) (codes "+Inf") same)),
+      (λ _ same. no-infinity r.places b.0 h.0 (last-value r.labels (number_text r.places b.0) (codes "+Inf") same)),
       ((λ same _. end-differs bucket sum bucket≢sum same), ((λ same _. end-differs bucket number bucket≢number same), tt)),
     ),
     rest-differs bs h.1,
   )
 
   -- the samples of one histogram
-  pub own-differ : AllByRecursion IsSmall d.buckets → Pairs Differ (histogram_samples r.name r.labels d)
+  pub own-differ : AllByRecursion IsSmall d.buckets → Pairs Differ (histogram_samples r.places r.name r.labels d)
   own-differ small =
       let bs = ascending d.buckets in
       let smalls = with-each IsSmall [] d.buckets tt small in
@@ -225,9 +225,9 @@ module _ (r : Row) (d : Distribution) where
 
   buckets-are : kind_eq r.kind Histogram ≡ true → (bs : List (ℤ × ℕ)) → AllByRecursion (IsOf r) (map bucket_of bs)
   buckets-are k [] = tt
-  buckets-are k (b ∷ bs) = (part k bucket (codes "le", signed_decimal b.0) refl refl, buckets-are k bs)
+  buckets-are k (b ∷ bs) = (part k bucket (codes "le", number_text r.places b.0) refl refl, buckets-are k bs)
 
-  pub own-are : kind_eq r.kind Histogram ≡ true → AllByRecursion (IsOf r) (histogram_samples r.name r.labels d)
+  pub own-are : kind_eq r.kind Histogram ≡ true → AllByRecursion (IsOf r) (histogram_samples r.places r.name r.labels d)
   own-are k =
       let none : LabelParts = (codes "le", codes "+Inf") in
       each-append (IsOf r) (map bucket_of (ascending d.buckets)) (all_of ∷ sum_of ∷ number_of ∷ []) (buckets-are k (ascending d.buckets))

@@ -3,7 +3,10 @@ use Rattle.std.proofs.Common.{◌≡◌, ◌∙◌, ◌+◌, ◌<◌, ◌++◌, 
 use Rattle.std.specs.Prelude.{IfErr}
 use Rattle.std.proofs.lemmas.List.{at_drop_more}
 use Rattle.metrics_exporter.specs.Exporting.{Cells}
-use Rattle.metrics_prometheus.specs.Exposition.{Row, is_left_out, row_text, last_after, rows_text, Helps, AreRows, HoldsTexts, IsDescribed}
+use Rattle.metrics_exporter.specs.Describing.{Legend}
+use Rattle.metrics_prometheus.specs.declared.naming.Naming.{Naming}
+use Rattle.metrics_prometheus.specs.Naming.{display_of}
+use Rattle.metrics_prometheus.specs.Exposition.{Row, is_left_out, row_text, last_after, rows_text, AreRows, HoldsTexts, IsDescribed}
 use Rattle.metrics_prometheus.specs.declared.rows.ShownRow.{ShownRow}
 use Rattle.metrics_prometheus.specs.Rows.{row_shown, rows_shown}
 
@@ -35,15 +38,19 @@ text-more cells all last after xs i x before now whole small at is then was =
     ∙ was
 
 -- the text of the rows of the held series
-pub text-of-rows : {T E : Type 0} (bytes : T → List ℕ) (helps : Helps) (cells : Cells) (rows : List Row) → AreRows helps cells rows → HoldsTexts cells → (r : Result T E) → IfOk r (λ t. bytes t ≡ rows_text cells rows None rows)
-    → IfOk r (λ t. IsDescribed helps cells (bytes t))
-text-of-rows bytes helps cells rows all texts (Ok t) is = record { rows = rows; all = all; texts = texts; is = is }
-text-of-rows bytes helps cells rows all texts (Err e) is = tt
+pub text-of-rows : {T E : Type 0} (bytes : T → List ℕ) (naming : Naming) (legend : Legend) (cells : Cells) (rows : List Row) → AreRows (display_of naming legend) cells rows → HoldsTexts cells → (r : Result T E) → IfOk r (λ t. bytes t ≡ rows_text cells rows None rows)
+    → IfOk r (λ t. IsDescribed naming legend cells (bytes t))
+text-of-rows bytes naming legend cells rows all texts (Ok t) is = record { rows = rows; all = all; texts = texts; is = is }
+text-of-rows bytes naming legend cells rows all texts (Err e) is = tt
 
 -- a result that is both
 pub either-way : {T E : Type 0} (P : T → Type 0) (Q : E → Type 0) (r : Result T E) → IfOk r P → IfErr r Q → MatchResult r P Q
 either-way P Q (Ok t) p q = p
 either-way P Q (Err e) p q = q
+
+pub of-ok : {T E : Type 0} (r : Result T E) (P : T → Type 0) (Q : E → Type 0) → MatchResult r P Q → IfOk r P
+of-ok (Ok t) P Q h = h
+of-ok (Err e) P Q h = tt
 
 -- what follows of an answer
 pub with-first : {T E : Type 0} (r : Result T E) (P Q : T → Type 0) → ((t : T) → P t → Q t) → IfOk r P → IfOk r Q

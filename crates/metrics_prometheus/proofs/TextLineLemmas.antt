@@ -1,7 +1,6 @@
 -- The lines of a text, and the samples that they have.
 use Rattle.std.proofs.Common.{◌≡◌, ◌∙◌, ℕ, ℤ, Bool, true, false, cond, List, [], ◌∷◌, ◌++◌, map, codes, Option, Some, None, is_some, refl, ap, sym, append-nil, append_assoc}
 use Rattle.std.specs.Prelude.{bytes_eq}
-use Rattle.std.specs.Fmt.{signed_decimal}
 use Rattle.std.specs.List.{AllByRecursion, flat_map, filter_map, list_all}
 use Rattle.std.proofs.lemmas.Grind.{flat_map-append}
 use Rattle.std.proofs.lemmas.List.Elements.{filter_map-append}
@@ -10,12 +9,17 @@ use Rattle.metrics_names.specs.declared.kind.MetricKind.TheVariants.{Counter, Ga
 use Rattle.metrics_exporter.specs.Exporting.{Cells, Reading, count, level, samples}
 use Rattle.metrics_exporter.specs.ExporterText.{kind_word}
 use Rattle.metrics_prometheus.specs.Names.{goes_on, is_name, help_escaped}
-use Rattle.metrics_prometheus.specs.Samples.{Sample, labels_text, sample_line, lines, ascending, bucket_sample}
-use Rattle.metrics_prometheus.specs.Exposition.{Row, Reason, label_twice, label_reserved, part, name_taken, labels_taken, reason_of, reason_text, series_named, told_as, help_line, type_line, name_lines, name_text, samples_of, reading_at, left_out_line, last_after, rows_text, Helps, IsDescribed}
+use Rattle.metrics_storage.specs.Histogram.{ascending}
+use Rattle.metrics_prometheus.specs.Numbers.{number}
+use Rattle.metrics_prometheus.specs.Samples.{Sample, labels_text, sample_line, lines, bucket_sample}
+use Rattle.metrics_prometheus.specs.declared.naming.Naming.{Naming}
+use Rattle.metrics_exporter.specs.Describing.{Legend}
+use Rattle.metrics_prometheus.specs.Exposition.{Row, Reason, label_twice, label_reserved, part, name_taken, labels_taken, reason_of, reason_text, series_named, told_as, help_line, type_line, name_lines, name_text, samples_of, reading_at, left_out_line, last_after, rows_text, IsDescribed}
 use Rattle.metrics_prometheus.specs.Written.{written, samples_written, Line, has, describes, tells_kind, leaves_out, line_text, sample_in, IsLine, IsReadable, HasSamples}
 use Rattle.metrics_prometheus.proofs.PairLemmas.{each-append}
-use Rattle.metrics_prometheus.proofs.NameLemmas.{AreKeyed, metric-name, name-more, named-from}
-use Rattle.metrics_prometheus.proofs.FeedLemmas.{HasNoFeed, join, plain, name-plain, labels-plain, decimal-plain, signed-plain, help-plain}
+use Rattle.metrics_prometheus.proofs.NameLemmas.{AreKeyed, name-more, named-from}
+use Rattle.metrics_prometheus.proofs.FeedLemmas.{HasNoFeed, join, plain, name-plain, labels-plain, decimal-plain, unsigned-plain, number-plain, help-plain}
+use Rattle.metrics_prometheus.proofs.NamingLemmas.{shown-name}
 use Rattle.metrics_prometheus.proofs.HeadLemmas.{no-comment}
 use Rattle.metrics_prometheus.proofs.LabelLemmas.{labels-keyed}
 use Rattle.metrics_prometheus.proofs.HeldLemmas.{each-row}
@@ -145,17 +149,17 @@ bucket-plain r h bound n = record {
   value = decimal-plain n;
 }
 
-buckets-plain : (r : Row) → IsNamedRow r → (bs : List (ℤ × ℕ)) → AllByRecursion IsPlain (map (λ b. bucket_sample r.name r.labels (signed_decimal b.0) b.1) bs)
+buckets-plain : (r : Row) → IsNamedRow r → (bs : List (ℤ × ℕ)) → AllByRecursion IsPlain (map (λ b. bucket_sample r.name r.labels (number r.places b.0) b.1) bs)
 buckets-plain r h [] = tt
-buckets-plain r h (b ∷ bs) = (bucket-plain r h (signed_decimal b.0) b.1, buckets-plain r h bs)
+buckets-plain r h (b ∷ bs) = (bucket-plain r h (number r.places b.0) b.1, buckets-plain r h bs)
 
 pub samples-plain : (r : Row) → IsNamedRow r → (o : Option Reading) → AllByRecursion IsPlain (samples_of r o)
 samples-plain r h None = tt
-samples-plain r h (Some (count n)) = (record { name = h.0; keys = h.1; value = decimal-plain n }, tt)
-samples-plain r h (Some (level n)) = (record { name = h.0; keys = h.1; value = signed-plain n }, tt)
+samples-plain r h (Some (count n)) = (record { name = h.0; keys = h.1; value = unsigned-plain r.places n }, tt)
+samples-plain r h (Some (level n)) = (record { name = h.0; keys = h.1; value = number-plain r.places n }, tt)
 samples-plain r h (Some (samples d)) =
-    each-append IsPlain (map (λ b. bucket_sample r.name r.labels (signed_decimal b.0) b.1) (ascending d.buckets)) _ (buckets-plain r h (ascending d.buckets))
-    (bucket-plain r h (codes "+Inf") d.count, (record { name = part-name r (codes "_sum") h refl; keys = h.1; value = signed-plain d.sum }, (record { name = part-name r (codes "_count") h refl; keys = h.1; value = decimal-plain d.count }, tt)))
+    each-append IsPlain (map (λ b. bucket_sample r.name r.labels (number r.places b.0) b.1) (ascending d.buckets)) _ (buckets-plain r h (ascending d.buckets))
+    (bucket-plain r h (codes "+Inf") d.count, (record { name = part-name r (codes "_sum") h refl; keys = h.1; value = number-plain r.places d.sum }, (record { name = part-name r (codes "_count") h refl; keys = h.1; value = decimal-plain d.count }, tt)))
 
 module _ (cells : Cells) (all : List Row) where
   abbrev pub samples_at : Row → List Sample
@@ -181,12 +185,12 @@ module _ (cells : Cells) (all : List Row) where
   of-rows [] h last = nothing
   of-rows (x ∷ xs) h last = of-row last x h.0 xs (reason_of all last x) (λ next. of-rows xs h.1 next)
 
-pub text-lines : {helps : Helps} (cells : Cells) (text : List ℕ) (e : IsDescribed helps cells text) → AreLines (lines_of cells e.rows None e.rows) text (samples_written cells e.rows)
-text-lines cells text e =
-    let h = of-rows cells e.rows e.rows (each-row IsNamedRow cells e.rows e.all (λ s held. (metric-name s.key.name, labels-keyed s.key.labels))) None in
+pub text-lines : {naming : Naming} {legend : Legend} (cells : Cells) (text : List ℕ) (e : IsDescribed naming legend cells text) → AreLines (lines_of cells e.rows None e.rows) text (samples_written cells e.rows)
+text-lines {naming} {legend} cells text e =
+    let h = of-rows cells e.rows e.rows (each-row IsNamedRow cells e.rows e.all (λ s held. (shown-name naming s.kind (legend s.kind s.key.name).unit s.key.name, labels-keyed s.key.labels))) None in
     record { text_is = e.is ∙ h.text_is; readable = h.readable; samples_are = h.samples_are }
 
-pub text-has : {helps : Helps} (cells : Cells) (text : List ℕ) (e : IsDescribed helps cells text) → HasSamples text (samples_written cells e.rows)
+pub text-has : {naming : Naming} {legend : Legend} (cells : Cells) (text : List ℕ) (e : IsDescribed naming legend cells text) → HasSamples text (samples_written cells e.rows)
 text-has cells text e =
     let h = text-lines cells text e in
     record { all = lines_of cells e.rows None e.rows; text_is = h.text_is; readable = h.readable; samples_are = h.samples_are }

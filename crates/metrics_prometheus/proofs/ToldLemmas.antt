@@ -13,7 +13,10 @@ use Rattle.metrics_exporter.specs.Exporting.{Cells, IsHeld}
 use Rattle.metrics_exporter.specs.Gathering.{series_at}
 use Rattle.metrics_prometheus.specs.Samples.{lines}
 use Rattle.metrics_prometheus.specs.Labels.{are_fit}
-use Rattle.metrics_prometheus.specs.Exposition.{Row, row_of, row_cmp, is_taken, Reason, reason_of, is_left_out, told_as, name_text, samples_of, reading_at, left_out_line, row_text, last_after, rows_text, Helps, AreRows, IsDescribed}
+use Rattle.metrics_exporter.specs.Describing.{Legend}
+use Rattle.metrics_prometheus.specs.declared.naming.Naming.{Naming}
+use Rattle.metrics_prometheus.specs.Naming.{Display, display_of}
+use Rattle.metrics_prometheus.specs.Exposition.{Row, row_of, row_cmp, is_taken, Reason, reason_of, is_left_out, told_as, name_text, samples_of, reading_at, left_out_line, row_text, last_after, rows_text, AreRows, IsDescribed}
 use Rattle.metrics_prometheus.specs.Written.{written, AreApart, MayStand, IsWhy, alone, beside, IsTold, shown, left_out}
 use Rattle.metrics_prometheus.proofs.PairLemmas.{each-map, each-in, in-first, in-later, in-split, in-none, Pairs, pairs-map}
 use Rattle.metrics_prometheus.proofs.SameLemmas.{same-bytes, same-labels}
@@ -158,16 +161,16 @@ keys-differ (k ∷ ks) h = (each-map (λ j. series_key_eq k j ≡ false) (λ j. 
 abbrev same_row : Row → Row → Bool
 same_row a b = series_key_eq (series_of_row a) (series_of_row b)
 
-tests-from : (helps : Helps) (ks : List SeriesKey) → Pairs (λ a b. a ≡ b → ⊥) ks → IsDistinct same_row (map (row_of helps) ks)
+tests-from : (display : Display) (ks : List SeriesKey) → Pairs (λ a b. a ≡ b → ⊥) ks → IsDistinct same_row (map (row_of display) ks)
 unfolding IsDistinct
-tests-from helps [] p = tt
-tests-from helps (k ∷ ks) p = (each k ks p.0, tests-from helps ks p.1)
+tests-from display [] p = tt
+tests-from display (k ∷ ks) p = (each k ks p.0, tests-from display ks p.1)
   where
     none-true : (b : Bool) → (b ≡ true → ⊥) → b ≡ false
     none-true true h = absurd (h refl)
     none-true false h = refl
 
-    each : (k : SeriesKey) (ks : List SeriesKey) → AllByRecursion (λ j. k ≡ j → ⊥) ks → AllByRecursion (λ r. same_row (row_of helps k) r ≡ false) (map (row_of helps) ks)
+    each : (k : SeriesKey) (ks : List SeriesKey) → AllByRecursion (λ j. k ≡ j → ⊥) ks → AllByRecursion (λ r. same_row (row_of display k) r ≡ false) (map (row_of display) ks)
     each k [] h = tt
     each k (j ∷ js) h = (none-true (series_key_eq k j) (λ e. h.0 (key_exact k j e)), each k js h.1)
 
@@ -189,17 +192,17 @@ others-from [] h = tt
 others-from (r ∷ rs) h =
     (each-map (λ q. same_row r q ≡ false) (AreOfOthers r) (λ q no e. let g : true ≡ false = sym ((series_key_eq-Decides (series_of_row r) (series_of_row q)).1 e) ∙ no in cc) rs h.0, others-from rs h.1)
 
-pub rows-of-others : {helps : Helps} (cells : Cells) (rows : List Row) → AreRows helps cells rows → Pairs AreOfOthers rows
-rows-of-others {helps} cells rows are = others-from rows (IsDistinct-IsPermutation same_row flips (map (row_of helps) are.keys) rows are.same (tests-from helps are.keys (keys-differ are.keys are.once)))
+pub rows-of-others : {display : Display} (cells : Cells) (rows : List Row) → AreRows display cells rows → Pairs AreOfOthers rows
+rows-of-others {display} cells rows are = others-from rows (IsDistinct-IsPermutation same_row flips (map (row_of display) are.keys) rows are.same (tests-from display are.keys (keys-differ are.keys are.once)))
 
-rows-apart : {helps : Helps} (cells : Cells) (rows : List Row) → AreRows helps cells rows → Pairs (λ p q. p ≡ q → ⊥) rows
+rows-apart : {display : Display} (cells : Cells) (rows : List Row) → AreRows display cells rows → Pairs (λ p q. p ≡ q → ⊥) rows
 rows-apart cells rows are = pairs-map AreOfOthers (λ p q. p ≡ q → ⊥) (λ p q no e. no (ap series_of_row e)) rows (rows-of-others cells rows are)
 
-pub row-held : {helps : Helps} (cells : Cells) (rows : List Row) → AreRows helps cells rows → (s : SeriesKey) → IsHeld cells s → Contains rows (row_of helps s)
-row-held {helps} cells rows are s held = Contains-permutation (map (row_of helps) are.keys) rows (row_of helps s) are.same (mapped ((are.held s).1 held))
+pub row-held : {display : Display} (cells : Cells) (rows : List Row) → AreRows display cells rows → (s : SeriesKey) → IsHeld cells s → Contains rows (row_of display s)
+row-held {display} cells rows are s held = Contains-permutation (map (row_of display) are.keys) rows (row_of display s) are.same (mapped ((are.held s).1 held))
   where
-    mapped : Contains are.keys s → Contains (map (row_of helps) are.keys) (row_of helps s)
-    mapped (k, small, is) = (k, omega (arith, small, map-length (row_of helps) are.keys), map-get (row_of helps) are.keys k (row_of helps s) s small ∙ ap (row_of helps) is)
+    mapped : Contains are.keys s → Contains (map (row_of display) are.keys) (row_of display s)
+    mapped (k, small, is) = (k, omega (arith, small, map-length (row_of display) are.keys), map-get (row_of display) are.keys k (row_of display s) s small ∙ ap (row_of display) is)
 
 told-of : (cells : Cells) (rows : List Row) → IsSorted row_cmp rows → (text : List ℕ) (r : Row) → text ≡ rows_text cells rows None rows
     → Part cells rows (written rows None rows) r (rows_text cells rows None rows) (written rows None rows) → IsTold cells rows text r
@@ -210,12 +213,12 @@ stands-of : (cells : Cells) (rows : List Row) (r : Row) → Part cells rows (wri
 stands-of cells rows r (with-samples before after has is) may = has
 stands-of cells rows r (with-line why out before after is) may = absurd (blocked-stays rows r why out may)
 
-module _ (helps : Helps) (cells : Cells) (text : List ℕ) (e : IsDescribed helps cells text) (s : SeriesKey) (held : IsHeld cells s) where
-  part : Part cells e.rows (written e.rows None e.rows) (row_of helps s) (rows_text cells e.rows None e.rows) (written e.rows None e.rows)
-  part = part-all cells e.rows (row_of helps s) (rows-apart cells e.rows e.all) (row-held cells e.rows e.all s held)
+module _ (naming : Naming) (legend : Legend) (cells : Cells) (text : List ℕ) (e : IsDescribed naming legend cells text) (s : SeriesKey) (held : IsHeld cells s) where
+  part : Part cells e.rows (written e.rows None e.rows) (row_of (display_of naming legend) s) (rows_text cells e.rows None e.rows) (written e.rows None e.rows)
+  part = part-all cells e.rows (row_of (display_of naming legend) s) (rows-apart cells e.rows e.all) (row-held cells e.rows e.all s held)
 
-  pub series-told : IsTold cells e.rows text (row_of helps s)
-  series-told = told-of cells e.rows e.all.ordered text (row_of helps s) e.is part
+  pub series-told : IsTold cells e.rows text (row_of (display_of naming legend) s)
+  series-told = told-of cells e.rows e.all.ordered text (row_of (display_of naming legend) s) e.is part
 
-  pub series-written : Contains (written e.rows None e.rows) (row_of helps s) ↔ MayStand e.rows (row_of helps s)
-  series-written = (written-stands e.rows e.all.ordered (row_of helps s), stands-of cells e.rows (row_of helps s) part)
+  pub series-written : Contains (written e.rows None e.rows) (row_of (display_of naming legend) s) ↔ MayStand e.rows (row_of (display_of naming legend) s)
+  series-written = (written-stands e.rows e.all.ordered (row_of (display_of naming legend) s), stands-of cells e.rows (row_of (display_of naming legend) s) part)

@@ -1,6 +1,5 @@
 -- Prometheus's text exposition format, version 0.0.4, of the series that are held.
-use Rattle.std.specs.Prelude.{if◌then◌else◌, ◌≡◌, ℕ, ◌-◌, Bool, ◌&&◌, nat_eq, bytes_eq, List, [], ◌∷◌, ◌++◌, map, length, take, codes, decimal, IsPermutation, IsSorted, Option, None, Some, is_some, option_map, Contains, ◌↔◌}
-use Rattle.std.specs.Fmt.{signed_decimal}
+use Rattle.std.specs.Prelude.{if◌then◌else◌, ◌≡◌, ℕ, ◌-◌, Bool, ◌&&◌, nat_eq, bytes_eq, List, [], ◌∷◌, ◌++◌, map, length, take, codes, IsPermutation, IsSorted, Option, None, Some, is_some, option_map, Contains, ◌↔◌}
 use Rattle.std.specs.Option.{option_or}
 use Rattle.std.specs.List.{list_any, ends_with, IsDistinct}
 use Rattle.std.specs.Cmp.Lexicographic.{pointwise, slice_cmp}
@@ -12,27 +11,34 @@ use Rattle.metrics_names.specs.Names.{KeyParts, LabelParts, SeriesKey, kind_numb
 use Rattle.metrics_exporter.specs.Exporting.{Reading, count, level, samples, Cells, IsHeld}
 use Rattle.metrics_exporter.specs.ExporterText.{kind_word}
 use Rattle.metrics_exporter.specs.Gathering.{series_at}
-use Rattle.metrics_prometheus.specs.Names.{metric_name, help_escaped}
+use Rattle.metrics_exporter.specs.Describing.{Legend, no_legend}
+use Rattle.metrics_prometheus.specs.declared.naming.Naming.{Naming}
+use Rattle.metrics_prometheus.specs.declared.naming.Naming.TheVariants.{AsGiven}
+use Rattle.metrics_prometheus.specs.Naming.{Display, display_of}
+use Rattle.metrics_prometheus.specs.Names.{help_escaped}
+use Rattle.metrics_prometheus.specs.Numbers.{unsigned, number}
 use Rattle.metrics_prometheus.specs.Labels.{shown_labels, repeats, reserved_of, are_fit, AreTexts}
 use Rattle.metrics_prometheus.specs.Samples.{Sample, lines, labels_text, histogram_samples}
 
--- a series as Prometheus is shown it, beside its own key, and the description of its own name
+-- a series as Prometheus is shown it, beside its own key: with the description of its own name, and so many digits behind the
+-- point of each number
 pub record Row : Type 0 where
   pub name : List ℕ
   pub kind : MetricKind
   pub labels : List LabelParts
   pub key : KeyParts
   pub help : Option (List ℕ)
+  pub places : ℕ
 
--- the description of each kind and name
-abbrev pub Helps : Type 0
-Helps = MetricKind → List ℕ → Option (List ℕ)
-
-abbrev pub no_helps : Helps
-no_helps kind name = None
-
-abbrev pub row_of : Helps → SeriesKey → Row
-row_of helps s = record { name = metric_name s.key.name; kind = s.kind; labels = shown_labels s.key.labels; key = s.key; help = helps s.kind s.key.name }
+abbrev pub row_of : Display → SeriesKey → Row
+row_of display s = record {
+  name = (display s.kind s.key.name).name;
+  kind = s.kind;
+  labels = shown_labels s.key.labels;
+  key = s.key;
+  help = (display s.kind s.key.name).help;
+  places = (display s.kind s.key.name).places;
+}
 
 -- rows go by name, then by kind, then by labels; the series' own keys decide between equal ones
 abbrev pub row_cmp : Row → Row → Ordering
@@ -121,9 +127,9 @@ name_text (Some w) r = if bytes_eq w.name r.name then [] else name_lines r
 
 abbrev pub samples_of : Row → Option Reading → List Sample
 samples_of r None = []
-samples_of r (Some (count n)) = record { name = r.name; labels = r.labels; value = decimal n } ∷ []
-samples_of r (Some (level n)) = record { name = r.name; labels = r.labels; value = signed_decimal n } ∷ []
-samples_of r (Some (samples d)) = histogram_samples r.name r.labels d
+samples_of r (Some (count n)) = record { name = r.name; labels = r.labels; value = unsigned r.places n } ∷ []
+samples_of r (Some (level n)) = record { name = r.name; labels = r.labels; value = number r.places n } ∷ []
+samples_of r (Some (samples d)) = histogram_samples r.places r.name r.labels d
 
 abbrev pub reading_at : Cells → Row → Option Reading
 reading_at cells r = option_map (λ c. c.reading) (cells (series_at r.kind r.key))
@@ -164,24 +170,25 @@ rows_text cells rows last [] = []
 rows_text cells rows last (r ∷ rs) = row_text cells rows last r ++ rows_text cells rows (last_after rows last r) rs
 
 -- the rows of the held series, in order
-pub record AreRows (helps : Helps) (cells : Cells) (rows : List Row) : Type 0 where
+pub record AreRows (display : Display) (cells : Cells) (rows : List Row) : Type 0 where
   pub keys : List SeriesKey
   pub once : IsDistinct series_key_eq keys
   pub held : (s : SeriesKey) → Contains keys s ↔ IsHeld cells s
-  pub same : IsPermutation (map (row_of helps) keys) rows
+  pub same : IsPermutation (map (row_of display) keys) rows
   pub ordered : IsSorted row_cmp rows
 
 -- the values of all held series' labels are UTF-8
 abbrev pub HoldsTexts : Cells → Type 0
 HoldsTexts cells = (s : SeriesKey) → IsHeld cells s → AreTexts s.key.labels
 
--- a text has for each held series its samples, behind its name's description and kind, or one line that says that it is left out; label values are UTF-8
-pub record IsDescribed (helps : Helps) (cells : Cells) (text : List ℕ) : Type 0 where
+-- a text has for each held series its samples, behind its name's description and kind, or one line that says that it is left out;
+-- names and units are shown by the naming, from what is told of them; label values are UTF-8
+pub record IsDescribed (naming : Naming) (legend : Legend) (cells : Cells) (text : List ℕ) : Type 0 where
   pub rows : List Row
-  pub all : AreRows helps cells rows
+  pub all : AreRows (display_of naming legend) cells rows
   pub texts : HoldsTexts cells
   pub is : text ≡ rows_text cells rows None rows
 
--- the same without descriptions
+-- the same with names and numbers as they are given, where nothing is told of them
 abbrev pub IsExposition : Cells → List ℕ → Type 0
-IsExposition cells text = IsDescribed no_helps cells text
+IsExposition cells text = IsDescribed AsGiven no_legend cells text

@@ -1,4 +1,6 @@
 pub mod Names
+pub mod Numbers
+pub mod Naming
 pub mod Labels
 pub mod Samples
 pub mod Exposition

@@ -1,7 +1,6 @@
 -- What a reader of a text needs of its samples.
 use Rattle.std.specs.Prelude.{◌≡◌, ◌↔◌, ◌≤◌, ◌<◌, ◌^◌, ◌<ℤ◌, ℕ, ℤ, Bool, true, false, List, ◌++◌, map, Contains, AllPairs, bytes_eq, Option, None, Some}
 use Rattle.std.specs.Int.Signed.{mag}
-use Rattle.std.specs.Fmt.{signed_decimal}
 use Rattle.std.specs.List.{AllByRecursion, IsDistinct}
 use Rattle.std.specs.List.Sorted.{IsStrictlySortedBy}
 use Rattle.std.specs.Cmp.Lexicographic.{slice_cmp}
@@ -14,6 +13,7 @@ use Rattle.metrics_exporter.specs.Readings.{reading_in}
 use Rattle.metrics_storage.specs.Histogram.{Distribution}
 use Rattle.metrics_prometheus.specs.Names.{is_name}
 use Rattle.metrics_prometheus.specs.Labels.{AreTexts}
+use Rattle.metrics_prometheus.specs.Numbers.{number}
 use Rattle.metrics_prometheus.specs.Samples.{Sample, series_text, bucket_sample, histogram_ends}
 
 -- its name and those of its labels are such as Prometheus allows
@@ -59,9 +59,9 @@ AreOfKinds cells = (s : SeriesKey) → ReadsAs s.kind (reading_in cells s)
 
 -- each bucket once, by ascending bounds, with numbers that don't fall and aren't above the count; behind them +Inf's bucket,
 -- which has the count, the sum and the count
-pub record AreBuckets (name : List ℕ) (labels : List LabelParts) (d : Distribution) (ss : List Sample) : Type 0 where
+pub record AreBuckets (places : ℕ) (name : List ℕ) (labels : List LabelParts) (d : Distribution) (ss : List Sample) : Type 0 where
   pub buckets : List (ℤ × ℕ)
   pub all : (b : ℤ × ℕ) → Contains buckets b ↔ Contains d.buckets b
   pub ascend : AllPairs (λ a b. (a.0 <ℤ b.0) × (a.1 ≤ b.1)) buckets
   pub within : AllByRecursion (λ b. b.1 ≤ d.count) buckets
-  pub are : ss ≡ map (λ b. bucket_sample name labels (signed_decimal b.0) b.1) buckets ++ histogram_ends name labels d
+  pub are : ss ≡ map (λ b. bucket_sample name labels (number places b.0) b.1) buckets ++ histogram_ends places name labels d

@@ -5,25 +5,17 @@ use Rattle.std.specs.List.Sorted.{IsSorted}
 use Rattle.std.specs.Borrow.{Bor}
 use Rattle.metrics_names.specs.Names.{label_cmp}
 use Rattle.metrics_exporter.specs.Exporting.{Reading, Cells}
-use Rattle.metrics_exporter.specs.Describing.{Legend, described_by}
-use Rattle.metrics_exporter.specs.declared.descriptions.Descriptions.{Descriptions}
 use Rattle.metrics_exporter.specs.Gathering.{series_at}
 use Rattle.metrics_exporter.specs.Readings.{Told, reading_shown, AreOnce}
 use Rattle.metrics_prometheus.specs.declared.rows.ShownRow.{ShownRow}
 use Rattle.metrics_prometheus.specs.declared.reasons.Reason.{Reason as ReasonParts}
 use Rattle.metrics_prometheus.specs.declared.reasons.Reason.TheVariants.{LabelTwice, LabelReserved, PartOf, NameTaken, LabelsTaken}
-use Rattle.metrics_prometheus.specs.Exposition.{Row, Helps, row_of, row_cmp, reading_at, Reason, label_twice, label_reserved, part, name_taken, labels_taken}
-
--- the texts of what is told of names
-abbrev pub helps_in : Legend → Helps
-helps_in told kind name = (told kind name).text
-
-abbrev pub helps_of : Descriptions → Helps
-helps_of d = helps_in (described_by d)
+use Rattle.metrics_prometheus.specs.Naming.{Display}
+use Rattle.metrics_prometheus.specs.Exposition.{Row, row_of, row_cmp, reading_at, Reason, label_twice, label_reserved, part, name_taken, labels_taken}
 
 -- the row that a reference shows
 abbrev pub row_shown : ShownRow → Row
-row_shown r = record { name = r.name; kind = r.kind; labels = r.labels; key = r.key.now; help = option_map (λ t. t.now) r.help }
+row_shown r = record { name = r.name; kind = r.kind; labels = r.labels; key = r.key.now; help = option_map (λ t. t.now) r.help; places = r.places }
 
 abbrev pub rows_shown : List ShownRow → List Row
 rows_shown rows = map row_shown rows
@@ -32,8 +24,8 @@ rows_shown rows = map row_shown rows
 abbrev pub pair_shown : ShownRow → Row × Reading
 pair_shown r = (row_shown r, reading_shown r.reading)
 
-abbrev pub pair_of : Helps → Told → Row × Reading
-pair_of helps t = (row_of helps t.0, t.1)
+abbrev pub pair_of : Display → Told → Row × Reading
+pair_of display t = (row_of display t.0, t.1)
 
 -- a row shows what its series has
 abbrev pub Shows : Cells → ShownRow → Type 0
@@ -44,8 +36,8 @@ abbrev pub told_shown : ShownRow → Told
 told_shown r = (series_at r.kind r.key.now, reading_shown r.reading)
 
 -- rows are those of their series, in order, of which each comes once
-pub record AreRowsOf (helps : Helps) (told : List Told) (rows : List ShownRow) : Type 0 where
-  pub own : map pair_shown rows ≡ map (pair_of helps) (map told_shown rows)
+pub record AreRowsOf (display : Display) (told : List Told) (rows : List ShownRow) : Type 0 where
+  pub own : map pair_shown rows ≡ map (pair_of display) (map told_shown rows)
   pub once : AreOnce told (map told_shown rows)
   pub ordered : IsSorted row_cmp (rows_shown rows)
   pub labels : AllByRecursion (λ r. IsSorted label_cmp r.labels) rows

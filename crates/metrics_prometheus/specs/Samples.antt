@@ -1,9 +1,9 @@
 -- Samples, and the line of each.
-use Rattle.std.specs.Prelude.{if◌then◌else◌, ℕ, ℤ, List, [], ◌∷◌, ◌++◌, map, codes, flat_map, decimal, int_lt}
-use Rattle.std.specs.Fmt.{signed_decimal}
+use Rattle.std.specs.Prelude.{ℕ, ℤ, List, [], ◌∷◌, ◌++◌, map, codes, flat_map, decimal}
 use Rattle.metrics_names.specs.Names.{LabelParts}
-use Rattle.metrics_storage.specs.Histogram.{Distribution}
+use Rattle.metrics_storage.specs.Histogram.{Distribution, ascending}
 use Rattle.metrics_prometheus.specs.Names.{escaped}
+use Rattle.metrics_prometheus.specs.Numbers.{number}
 
 -- a name, labels and a value
 pub record Sample : Type 0 where
@@ -40,31 +40,18 @@ lines samples = flat_map sample_line samples
 
 -- ---- the samples of a histogram
 
--- the buckets with one more in its place; a bound that stands there already does not come again
-abbrev pub bucket_placed : ℤ × ℕ → List (ℤ × ℕ) → List (ℤ × ℕ)
-bucket_placed b [] = b ∷ []
-bucket_placed b (c ∷ cs) = if int_lt b.0 c.0 then b ∷ c ∷ cs else (if int_lt c.0 b.0 then c ∷ bucket_placed b cs else c ∷ cs)
-
-abbrev pub with_buckets : List (ℤ × ℕ) → List (ℤ × ℕ) → List (ℤ × ℕ)
-with_buckets done [] = done
-with_buckets done (b ∷ bs) = with_buckets (bucket_placed b done) bs
-
--- each bound once, in ascending order, with the number of samples at most it
-abbrev pub ascending : List (ℤ × ℕ) → List (ℤ × ℕ)
-ascending buckets = with_buckets [] buckets
-
 -- the number of samples that are at most the bound
 abbrev pub bucket_sample : List ℕ → List LabelParts → List ℕ → ℕ → Sample
 bucket_sample name labels bound n = record { name = name ++ codes "_bucket"; labels = labels ++ (codes "le", bound) ∷ []; value = decimal n }
 
 -- behind the buckets one for all samples, their sum and their number
-abbrev pub histogram_ends : List ℕ → List LabelParts → Distribution → List Sample
-histogram_ends name labels d =
+abbrev pub histogram_ends : ℕ → List ℕ → List LabelParts → Distribution → List Sample
+histogram_ends places name labels d =
     bucket_sample name labels (codes "+Inf") d.count
-    ∷ record { name = name ++ codes "_sum"; labels = labels; value = signed_decimal d.sum }
+    ∷ record { name = name ++ codes "_sum"; labels = labels; value = number places d.sum }
     ∷ record { name = name ++ codes "_count"; labels = labels; value = decimal d.count }
     ∷ []
 
--- a bucket for each bound, and these
-abbrev pub histogram_samples : List ℕ → List LabelParts → Distribution → List Sample
-histogram_samples name labels d = map (λ b. bucket_sample name labels (signed_decimal b.0) b.1) (ascending d.buckets) ++ histogram_ends name labels d
+-- a bucket for each bound, in ascending order, and these; bounds and the sum have the places, and numbers of samples none
+abbrev pub histogram_samples : ℕ → List ℕ → List LabelParts → Distribution → List Sample
+histogram_samples places name labels d = map (λ b. bucket_sample name labels (number places b.0) b.1) (ascending d.buckets) ++ histogram_ends places name labels d

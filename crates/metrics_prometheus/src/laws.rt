@@ -1,13 +1,18 @@
 //! Laws of the exposition.
-ghost use Rattle.std.specs.Prelude.{◌≡◌, ◌↔◌, ◌∷◌, ◌++◌, ℕ, List, None, Some};
+ghost use Rattle.std.specs.Prelude.{◌≡◌, ◌↔◌, ◌∷◌, ◌++◌, ◌<◌, ◌^◌, ℕ, ℤ, List, None, Some};
+ghost use Rattle.std.specs.Int.Signed.{mag};
 ghost use Rattle.std.specs.Prelude.{All, AllPairs, Contains, FitsSigned};
 ghost use Rattle.std.specs.Int.{w64};
 ghost use Rattle.std.specs.List.{IsDistinct};
 ghost use Rattle.metrics_names.specs.Names.{SeriesKey};
 ghost use Rattle.metrics_storage.specs.Histogram.{Distribution};
 ghost use Rattle.metrics_exporter.specs.Exporting.{samples, Cells, Setup, Step, IsHeld, cells_after};
-ghost use Rattle.metrics_prometheus.specs.Exposition.{Helps, IsDescribed, Row, row_of, reading_at, samples_of};
+ghost use Rattle.metrics_exporter.specs.Describing.{Legend};
+ghost use Rattle.metrics_prometheus.specs.declared.naming.Naming.{Naming};
+ghost use Rattle.metrics_prometheus.specs.Naming.{display_of};
+ghost use Rattle.metrics_prometheus.specs.Exposition.{IsDescribed, Row, row_of, reading_at, samples_of};
 ghost use Rattle.metrics_prometheus.specs.Written.{written, samples_written, is_same_series};
+ghost use Rattle.metrics_prometheus.specs.Numbers.{number, IsShifted};
 ghost use Rattle.metrics_prometheus.specs.Samples.{Sample, series_text};
 ghost use Rattle.metrics_prometheus.specs.Reading.{AreOfKinds, AreBuckets, HasNames, CanBeRead, is_same_text, Ascend, NamesOnce};
 ghost use Rattle.metrics_prometheus.specs.Written.{AreApart, HasSamples, TellsKinds, MayStand, IsTold};
@@ -17,29 +22,33 @@ use crate::rows::row_order;
 /// Takes nothing and does nothing: its contract has the laws of the text.
 pub fn exposition_law()
     // A text consists of lines, which end at its line feeds: these samples, in this order, and comments, which begin with `#`.
-    ensures samples { (helps : Helps) (cells : Cells) (text : List ℕ) (e : IsDescribed helps cells text)
-        → HasSamples text (samples_written cells e.rows) }
+    ensures samples { (naming : Naming) (legend : Legend) (cells : Cells) (text : List ℕ)
+        (e : IsDescribed naming legend cells text) → HasSamples text (samples_written cells e.rows) }
     // No two of these samples have the same name and labels.
-    ensures distinct { (helps : Helps) (cells : Cells) (text : List ℕ) → AreOfKinds cells → (e : IsDescribed helps cells text)
-        → IsDistinct is_same_series (samples_written cells e.rows) }
+    ensures distinct { (naming : Naming) (legend : Legend) (cells : Cells) (text : List ℕ) → AreOfKinds cells
+        → (e : IsDescribed naming legend cells text) → IsDistinct is_same_series (samples_written cells e.rows) }
     // A name that is written has one kind.
-    ensures apart { (helps : Helps) (cells : Cells) (text : List ℕ) (e : IsDescribed helps cells text)
-        → AllPairs AreApart (written e.rows None e.rows) }
+    ensures apart { (naming : Naming) (legend : Legend) (cells : Cells) (text : List ℕ)
+        (e : IsDescribed naming legend cells text) → AllPairs AreApart (written e.rows None e.rows) }
     // The buckets of a histogram ascend, and +Inf's, the last one, has the count.
     ensures buckets { (setup : Setup) (xs : List Step) (r : Row) (d : Distribution)
         → reading_at (cells_after setup xs) r ≡ Some (samples d)
-        → AreBuckets r.name r.labels d (samples_of r (reading_at (cells_after setup xs) r)) }
+        → AreBuckets r.places r.name r.labels d (samples_of r (reading_at (cells_after setup xs) r)) }
     // A held series' row is written exactly where nothing keeps it from the text.
-    ensures written { (helps : Helps) (cells : Cells) (text : List ℕ) (e : IsDescribed helps cells text) (s : SeriesKey)
-        → IsHeld cells s → Contains (written e.rows None e.rows) (row_of helps s) ↔ MayStand e.rows (row_of helps s) }
+    ensures written { (naming : Naming) (legend : Legend) (cells : Cells) (text : List ℕ)
+        (e : IsDescribed naming legend cells text) (s : SeriesKey) → IsHeld cells s
+        → Contains (written e.rows None e.rows) (row_of (display_of naming legend) s)
+        ↔ MayStand e.rows (row_of (display_of naming legend) s) }
     // It has its samples in the text, or, where something keeps it from the text, a line that says that it is left out.
-    ensures told { (helps : Helps) (cells : Cells) (text : List ℕ) (e : IsDescribed helps cells text) (s : SeriesKey)
-        → IsHeld cells s → IsTold cells e.rows text (row_of helps s) }
+    ensures told { (naming : Naming) (legend : Legend) (cells : Cells) (text : List ℕ)
+        (e : IsDescribed naming legend cells text) (s : SeriesKey) → IsHeld cells s
+        → IsTold cells e.rows text (row_of (display_of naming legend) s) }
     // The kind of each name that is written is told once, as its rows have it, before the samples of these.
-    ensures types { (helps : Helps) (cells : Cells) (text : List ℕ) → AreOfKinds cells → (e : IsDescribed helps cells text)
-        → TellsKinds cells e.rows text }
-    // What is held has one text: no two texts are expositions of the same cells, under the same descriptions.
-    ensures one { (helps : Helps) (cells : Cells) (a b : List ℕ) → IsDescribed helps cells a → IsDescribed helps cells b → a ≡ b }
+    ensures types { (naming : Naming) (legend : Legend) (cells : Cells) (text : List ℕ) → AreOfKinds cells
+        → (e : IsDescribed naming legend cells text) → TellsKinds cells e.rows text }
+    // What is held has one text: no two texts are expositions of the same cells, under one naming and the same descriptions.
+    ensures one { (naming : Naming) (legend : Legend) (cells : Cells) (a b : List ℕ)
+        → IsDescribed naming legend cells a → IsDescribed naming legend cells b → a ≡ b }
     // What an exporter holds is of the kinds of its series.
     ensures kinds { (setup : Setup) (xs : List Step) → All (FitsSigned w64) setup.bounds → AreOfKinds (cells_after setup xs) }
 {
@@ -49,11 +58,11 @@ pub fn exposition_law()
 /// Takes nothing and does nothing: its contract has the laws of what a reader finds in the text.
 pub fn exposition_text_law()
     // The names of samples and of their labels are such as Prometheus allows.
-    ensures names { (helps : Helps) (cells : Cells) (text : List ℕ) (e : IsDescribed helps cells text)
-        → All HasNames (samples_written cells e.rows) }
+    ensures names { (naming : Naming) (legend : Legend) (cells : Cells) (text : List ℕ)
+        (e : IsDescribed naming legend cells text) → All HasNames (samples_written cells e.rows) }
     // They and the values of the labels can be read.
-    ensures readable { (helps : Helps) (cells : Cells) (text : List ℕ) → AreOfKinds cells → (e : IsDescribed helps cells text)
-        → All CanBeRead (samples_written cells e.rows) }
+    ensures readable { (naming : Naming) (legend : Legend) (cells : Cells) (text : List ℕ) → AreOfKinds cells
+        → (e : IsDescribed naming legend cells text) → All CanBeRead (samples_written cells e.rows) }
     // Of a sample that can be read, what stands in front of its value tells its name and its labels.
     ensures read_back { (s t : Sample) → CanBeRead s → CanBeRead t
         → (x y : List ℕ) → series_text s ++ 32 ∷ x ≡ series_text t ++ 32 ∷ y
@@ -61,13 +70,15 @@ pub fn exposition_text_law()
     // A text has one list of samples that can be read at most.
     ensures one_reading { (text : List ℕ) (ss ts : List Sample) → HasSamples text ss → HasSamples text ts
         → All CanBeRead ss → All CanBeRead ts → ss ≡ ts }
+    // A number's text is that number over a power of ten: its digits spell it, and so many of them stand behind the point.
+    ensures numbers { (places : ℕ) (z : ℤ) → mag z < 2 ^ 128 → IsShifted places z (number places z) }
     // No two samples have the same text in front of their values.
-    ensures distinct { (helps : Helps) (cells : Cells) (text : List ℕ) → AreOfKinds cells → (e : IsDescribed helps cells text)
-        → IsDistinct is_same_text (samples_written cells e.rows) }
+    ensures distinct { (naming : Naming) (legend : Legend) (cells : Cells) (text : List ℕ) → AreOfKinds cells
+        → (e : IsDescribed naming legend cells text) → IsDistinct is_same_text (samples_written cells e.rows) }
     // The labels of a written row ascend by their names.
-    ensures labels { (helps : Helps) (cells : Cells) (text : List ℕ) (e : IsDescribed helps cells text)
-        → All (λ r. Ascend r.labels) (written e.rows None e.rows) }
+    ensures labels { (naming : Naming) (legend : Legend) (cells : Cells) (text : List ℕ)
+        (e : IsDescribed naming legend cells text) → All (λ r. Ascend r.labels) (written e.rows None e.rows) }
     // No sample has two labels of one name, a bucket's bound included.
-    ensures once { (helps : Helps) (cells : Cells) (text : List ℕ) → AreOfKinds cells → (e : IsDescribed helps cells text)
-        → All NamesOnce (samples_written cells e.rows) }
+    ensures once { (naming : Naming) (legend : Legend) (cells : Cells) (text : List ℕ) → AreOfKinds cells
+        → (e : IsDescribed naming legend cells text) → All NamesOnce (samples_written cells e.rows) }
 {}

@@ -4,6 +4,8 @@
 mod labels;
 mod laws;
 mod names;
+mod naming;
+mod numbers;
 mod reasons;
 mod rows;
 mod samples;
@@ -13,4 +15,5 @@ mod text;
 pub use laws::{exposition_law, exposition_text_law};
 pub use metrics::Error;
 pub use metrics_exporter::{Descriptions, Exporter, ReadingRef, SeriesReading};
-pub use text::{exposition, exposition_of};
+pub use naming::Naming;
+pub use text::{exposition, exposition_named, exposition_of};

@@ -6,7 +6,7 @@ ghost use Rattle.metrics_exporter.specs.Readings.{told_of, all_told};
 ghost use Rattle.metrics_prometheus.specs.Exposition.{row_cmp};
 
 use crate::labels::shown_labels;
-use crate::names::metric_name;
+use crate::naming::{Naming, shown_name, shown_places};
 use metrics::{Error, Items, Key, KeyName, Label, MetricKind, Text};
 use metrics_exporter::{Descriptions, ReadingRef, SeriesReading};
 use std::alloc::Global;
@@ -22,32 +22,41 @@ pub(crate) struct ShownRow<'a> {
     pub key: &'a Key,
     #[derive_where(skip)]
     pub help: Option<&'a str>,
+    /// The decimal places of its numbers.
+    #[derive_where(skip)]
+    pub places: u8,
     #[derive_where(skip)]
     pub reading: ReadingRef<'a>,
 }
 
-ghost use Rattle.metrics_prometheus.specs.Rows.{row_shown, pair_shown, pair_of, helps_of, AreRowsOf};
+ghost use Rattle.metrics_exporter.specs.Describing.{described_by};
+ghost use Rattle.metrics_prometheus.specs.Naming.{display_of};
+ghost use Rattle.metrics_prometheus.specs.Rows.{row_shown, pair_shown, pair_of, AreRowsOf};
 ghost use Rattle.metrics_prometheus.specs.declared.rows.ShownRow.{ShownRow as RowParts};
 
 fn row_of<'a>(
     alloc: Global,
+    naming: Naming,
     descriptions: &'a Descriptions,
     series: SeriesReading<'a>,
 ) -> Result<ShownRow<'a>, Error>
-    ensures row { MatchResult result (λ row. pair_shown row ≡ pair_of (helps_of descriptions.now) (told_of series.entry))
+    ensures row { MatchResult result
+        (λ row. pair_shown row ≡ pair_of (display_of naming (described_by descriptions.now)) (told_of series.entry))
         (λ e. e ≡ OutOfMemory) }
     ensures texts { OnOk result (All (λ l. IsUtf8 l.1) series.entry.key.now.labels) }
 {
-    let name = metric_name(alloc, series.key.name())?;
-    let labels = shown_labels(alloc, series.key.labels())?;
     let kind = series.reading.kind();
     let help = descriptions.text(kind, series.key.name());
+    let unit = descriptions.unit(kind, series.key.name());
+    let name = shown_name(alloc, naming, kind, unit, series.key.name())?;
+    let labels = shown_labels(alloc, series.key.labels())?;
     Ok(ShownRow {
         name: KeyName::from(Text::from(name)),
         kind,
         labels: Items::from(labels),
         key: series.key,
         help,
+        places: shown_places(naming, unit),
         reading: series.reading,
     })
 }
@@ -55,17 +64,19 @@ fn row_of<'a>(
 /// A row for each series, in their order.
 fn rows_of<'a>(
     alloc: Global,
+    naming: Naming,
     descriptions: &'a Descriptions,
     series: &[SeriesReading<'a>],
 ) -> Result<Vec<ShownRow<'a>>, Error>
     ensures rows { MatchResult result
-        (λ rows. map pair_shown rows.items ≡ map (pair_of (helps_of descriptions.now)) (all_told series.now))
+        (λ rows. map pair_shown rows.items
+        ≡ map (pair_of (display_of naming (described_by descriptions.now))) (all_told series.now))
         (λ e. e ≡ OutOfMemory) }
     ensures texts { OnOk result (All (λ s. All (λ l. IsUtf8 l.1) s.key.now.labels) series.now) }
 {
     let mut rows = Vec::with_capacity(alloc, series.len())?;
     for entry in series {
-        rows.push(row_of(alloc, descriptions, *entry)?)?;
+        rows.push(row_of(alloc, naming, descriptions, *entry)?)?;
     }
     Ok(rows)
 }
@@ -78,14 +89,16 @@ pub(crate) fn row_order()
 /// The rows of series, in order. Of a series that is given twice one is left.
 pub(crate) fn sorted_rows<'a>(
     alloc: Global,
+    naming: Naming,
     descriptions: &'a Descriptions,
     series: &[SeriesReading<'a>],
 ) -> Result<Vec<ShownRow<'a>>, Error>
-    ensures rows { IfOk result (λ rows. AreRowsOf (helps_of descriptions.now) (all_told series.now) rows.items) }
+    ensures rows { IfOk result
+        (λ rows. AreRowsOf (display_of naming (described_by descriptions.now)) (all_told series.now) rows.items) }
     ensures texts { OnOk result (All (λ s. All (λ l. IsUtf8 l.1) s.key.now.labels) series.now) }
     ensures err { IfErr result (λ e. e ≡ OutOfMemory) }
 {
-    let mut rows = rows_of(alloc, descriptions, series)?;
+    let mut rows = rows_of(alloc, naming, descriptions, series)?;
     row_order();
     rows.sort_unstable();
     rows.dedup();

@@ -1,12 +1,14 @@
 //! The lines of samples.
 ghost use Rattle.std.specs.Prelude.{◌≡◌, ◌++◌, ◌∷◌, [], codes, string_bytes};
 ghost use Rattle.std.specs.Prelude.{IfOk, OnOk, IfErr, flat_map, map};
-ghost use Rattle.std.specs.Fmt.{signed_decimal};
 ghost use Rattle.metrics.specs.declared.error.Error.TheVariants.{Memory as OutOfMemory};
-ghost use Rattle.metrics_prometheus.specs.Samples.{label_text, joined, labels_text, sample_line, lines, bucket_placed, ascending};
+ghost use Rattle.metrics_storage.specs.Histogram.{bucket_placed, ascending};
+ghost use Rattle.metrics_prometheus.specs.Numbers.{number};
+ghost use Rattle.metrics_prometheus.specs.Samples.{label_text, joined, labels_text, sample_line, lines};
 ghost use Rattle.metrics_prometheus.specs.Samples.{bucket_sample, histogram_samples};
 
 use crate::names::write_value;
+use crate::numbers::write_number;
 use metrics::{Error, Label};
 use metrics_storage::Histogram;
 use std::alloc::{AllocError, Global};
@@ -83,16 +85,18 @@ pub(crate) fn write_sample(
     name: &str,
     end: &str,
     labels: &[Label],
+    places: u8,
     value: i128,
 ) -> Result<(), AllocError>
     ensures { OnOk result (string_bytes text.new ≡ string_bytes text.old
-        ++ sample_line (record { name = name.now ++ end.now; labels = labels.now; value = signed_decimal value })) }
+        ++ sample_line (record { name = name.now ++ end.now; labels = labels.now; value = number places value })) }
 {
     text.push_str(name)?;
     text.push_str(end)?;
     write_labels(text, labels)?;
-    write!(text, " {value}\n")?;
-    Ok(())
+    text.push_str(" ")?;
+    write_number(text, places, value)?;
+    text.push_str("\n")
 }
 
 /// Writes the line of a bucket.
@@ -118,13 +122,15 @@ fn write_buckets(
     text: &mut String,
     name: &str,
     labels: &[Label],
+    places: u8,
     buckets: &[(i64, u64)],
 ) -> Result<(), AllocError>
     ensures { OnOk result (string_bytes text.new ≡ string_bytes text.old
-        ++ lines (map (λ b. bucket_sample name.now labels.now (signed_decimal b.0) b.1) buckets.now)) }
+        ++ lines (map (λ b. bucket_sample name.now labels.now (number places b.0) b.1) buckets.now)) }
 {
     for (bound, count) in buckets {
-        let shown = format!(in *text.allocator(); "{bound}")?;
+        let mut shown = String::new(*text.allocator());
+        write_number(&mut shown, places, i128::from(*bound))?;
         write_bucket(text, name, labels, &shown, *count)?;
     }
     Ok(())
@@ -165,18 +171,19 @@ pub(crate) fn write_histogram(
     text: &mut String,
     name: &str,
     labels: &[Label],
+    places: u8,
     histogram: &Histogram,
 ) -> Result<(), Error>
     ensures ok { OnOk result (string_bytes text.new
-        ≡ string_bytes text.old ++ lines (histogram_samples name.now labels.now histogram.now)) }
+        ≡ string_bytes text.old ++ lines (histogram_samples places name.now labels.now histogram.now)) }
     ensures err { IfErr result (λ e. e ≡ OutOfMemory) }
 {
     let buckets = ascending(alloc, &histogram.buckets()?)?;
     let count = histogram.count();
     let sum = histogram.sum();
-    write_buckets(text, name, labels, &buckets)?;
+    write_buckets(text, name, labels, places, &buckets)?;
     write_bucket(text, name, labels, "+Inf", count)?;
-    write_sample(text, name, "_sum", labels, sum)?;
-    write_sample(text, name, "_count", labels, i128::from(count))?;
+    write_sample(text, name, "_sum", labels, places, sum)?;
+    write_sample(text, name, "_count", labels, 0, i128::from(count))?;
     Ok(())
 }

@@ -1,23 +1,26 @@
 //! The text of the held series.
-ghost use Rattle.std.specs.Prelude.{◌≡◌, ◌<◌, ◌++◌, List, length, not, OnErr, None, Some, option_map, string_bytes, OnOk, IfOk, IfErr, MatchResult};
+ghost use Rattle.std.specs.Prelude.{◌≡◌, ◌<◌, ◌++◌, List, length, not, None, Some, option_map, string_bytes};
+ghost use Rattle.std.specs.Prelude.{OnOk, OnErr, IfOk, IfErr, MatchResult};
 ghost use Rattle.std.specs.List.{AllByRecursion};
 ghost use Rattle.std.specs.List.Sorted.{IsSorted};
 ghost use Rattle.std.specs.Cmp.Lexicographic.{slice_cmp};
 ghost use Rattle.std.specs.Ordering.{nat_cmp};
 ghost use Rattle.metrics.specs.declared.error.Error.TheVariants.{Memory as OutOfMemory};
+ghost use Rattle.metrics_prometheus.specs.declared.naming.Naming.TheVariants.{AsGiven};
 ghost use Rattle.metrics_exporter.specs.Exporting.{Cells, Setup, Log, steps, cells_after, HoldsSome};
 ghost use Rattle.metrics_names.specs.Names.{label_cmp};
 ghost use Rattle.metrics_exporter.specs.Kept.{IsAfter, described};
-ghost use Rattle.metrics_exporter.specs.Describing.{SameLegend, no_legend};
+ghost use Rattle.metrics_exporter.specs.Describing.{SameLegend, no_legend, described_by};
 ghost use Rattle.metrics_exporter.specs.Readings.{AreReadings, AreOnce, Told, all_told, reading_shown, cells_told};
 ghost use Rattle.metrics_prometheus.specs.Exposition.{Row, row_cmp, histogram_names, is_left_out};
 ghost use Rattle.metrics_prometheus.specs.Exposition.{help_line, type_line, name_lines, name_text};
 ghost use Rattle.metrics_prometheus.specs.Exposition.{samples_of, row_told, rows_text, last_after};
 ghost use Rattle.metrics_prometheus.specs.Exposition.{IsExposition, IsDescribed};
-ghost use Rattle.metrics_prometheus.specs.Rows.{row_shown, rows_shown, Shows, names_shown, helps_in, helps_of};
+ghost use Rattle.metrics_prometheus.specs.Rows.{row_shown, rows_shown, Shows, names_shown};
 ghost use Rattle.metrics_prometheus.specs.Samples.{lines};
 
 use crate::names::write_help_text;
+use crate::naming::Naming;
 use crate::reasons::{kind_text, reason_of, write_left_out};
 use crate::rows::{ShownRow, sorted_rows};
 use crate::samples::{write_histogram, write_sample};
@@ -90,14 +93,16 @@ fn write_samples(alloc: Global, text: &mut String, row: &ShownRow<'_>) -> Result
     let labels = row.labels.as_slice();
     match row.reading {
         ReadingRef::Count(count) => {
-            write_sample(text, name, "", labels, i128::from(count))?;
+            write_sample(text, name, "", labels, row.places, i128::from(count))?;
             Ok(())
         }
         ReadingRef::Level(level) => {
-            write_sample(text, name, "", labels, i128::from(level))?;
+            write_sample(text, name, "", labels, row.places, i128::from(level))?;
             Ok(())
         }
-        ReadingRef::Samples(histogram) => write_histogram(alloc, text, name, labels, histogram),
+        ReadingRef::Samples(histogram) => write_histogram(
+            alloc, text, name, labels, row.places, histogram,
+        ),
     }
 }
 
@@ -114,8 +119,8 @@ fn write_row(
     ensures ok { OnOk result ((rows : List Row) → names_shown histograms.now ≡ histogram_names rows →
         string_bytes text.new ≡ string_bytes text.old ++ row_told (Some (reading_shown row.now.reading)) rows
         (option_map (λ w. row_shown w.now) last.entry) (row_shown row.now)) }
-    ensures written { IfOk result (λ written. (rows : List Row) → names_shown histograms.now ≡ histogram_names rows → written
-        ≡ not (is_left_out rows (option_map (λ w. row_shown w.now) last.entry) (row_shown row.now))) }
+    ensures written { IfOk result (λ written. (rows : List Row) → names_shown histograms.now ≡ histogram_names rows
+        → written ≡ not (is_left_out rows (option_map (λ w. row_shown w.now) last.entry) (row_shown row.now))) }
     ensures err { IfErr result (λ e. e ≡ OutOfMemory) }
 {
     if let Some(reason) = reason_of(histograms, last, row) {
@@ -147,45 +152,60 @@ fn rows_text(alloc: Global, rows: &[ShownRow<'_>]) -> Result<String, Error>
 }
 
 /// Writes these series in Prometheus's text format, version 0.0.4, each name behind its description: that of the first
-/// series that is written under it, by that series' kind and own name.
+/// series that is written under it, by that series' kind and own name. The naming decides names and units; units are those
+/// of the descriptions.
 ///
 /// The text is made whole in memory, beside a row for each series. It is refused with `Error::Memory` where there is no room,
 /// and never where no series is given. Of a series that is given twice one is written.
 pub fn exposition_of(
     alloc: Global,
+    naming: Naming,
     descriptions: &Descriptions,
     series: &[SeriesReading<'_>],
 ) -> Result<String, Error>
     // For the cells that the series tell.
     ensures ok { (cells : Cells) → AreReadings cells (all_told series.now)
-        → IfOk result (λ text. IsDescribed (helps_of descriptions.now) cells (string_bytes text)) }
+        → IfOk result (λ text. IsDescribed naming (described_by descriptions.now) cells (string_bytes text)) }
     // Whatever is given: each series once.
     ensures each { IfOk result (λ text. (kept : List Told) × AreOnce (all_told series.now) kept
-        × IsDescribed (helps_of descriptions.now) (cells_told kept) (string_bytes text)) }
+        × IsDescribed naming (described_by descriptions.now) (cells_told kept) (string_bytes text)) }
     ensures err { IfErr result (λ e. e ≡ OutOfMemory) }
     ensures refused { OnErr result (0 < length series.now) }
 {
     if series.is_empty() {
         return Ok(String::new(alloc));
     }
-    let rows = sorted_rows(alloc, descriptions, series)?;
+    let rows = sorted_rows(alloc, naming, descriptions, series)?;
     rows_text(alloc, &rows)
 }
 
-/// Writes the held series in Prometheus's text format, version 0.0.4, each name behind what the exporter was told of it.
+/// Writes the held series in Prometheus's text format, version 0.0.4, each name behind what the exporter was told of it. Names
+/// and units are those of the naming.
 ///
 /// The text is made whole in memory, beside a row for each series. It is refused with `Error::Memory` where there is no room,
 /// and never where no series is held.
-pub fn exposition(exporter: &Exporter, alloc: Global) -> Result<String, Error>
-    ensures text { (setup : Setup) (log : Log) → IsAfter setup log exporter.now →
-        MatchResult result (λ text. IsDescribed (helps_in (described exporter.now)) (cells_after setup (steps log)) (string_bytes text))
+pub fn exposition_named(exporter: &Exporter, alloc: Global, naming: Naming) -> Result<String, Error>
+    ensures text { (setup : Setup) (log : Log) → IsAfter setup log exporter.now → MatchResult result
+        (λ text. IsDescribed naming (described exporter.now) (cells_after setup (steps log)) (string_bytes text))
         (λ e. e ≡ OutOfMemory) }
-    // Where nothing was told of names there are no descriptions.
-    ensures plain { SameLegend (described exporter.now) no_legend → (setup : Setup) (log : Log) → IsAfter setup log exporter.now →
-        IfOk result (λ text. IsExposition (cells_after setup (steps log)) (string_bytes text)) }
     ensures refused { (setup : Setup) (log : Log) → IsAfter setup log exporter.now →
         OnErr result (HoldsSome (cells_after setup (steps log))) }
 {
     let series = exporter.readings()?;
-    exposition_of(alloc, exporter.descriptions(), &series)
+    exposition_of(alloc, naming, exporter.descriptions(), &series)
+}
+
+/// Writes the held series as `exposition_named` does, with names and numbers as they are given.
+pub fn exposition(exporter: &Exporter, alloc: Global) -> Result<String, Error>
+    ensures text { (setup : Setup) (log : Log) → IsAfter setup log exporter.now → MatchResult result
+        (λ text. IsDescribed AsGiven (described exporter.now) (cells_after setup (steps log)) (string_bytes text))
+        (λ e. e ≡ OutOfMemory) }
+    // Where nothing was told of names there are no descriptions.
+    ensures plain { SameLegend (described exporter.now) no_legend → (setup : Setup) (log : Log)
+        → IsAfter setup log exporter.now
+        → IfOk result (λ text. IsExposition (cells_after setup (steps log)) (string_bytes text)) }
+    ensures refused { (setup : Setup) (log : Log) → IsAfter setup log exporter.now →
+        OnErr result (HoldsSome (cells_after setup (steps log))) }
+{
+    exposition_named(exporter, alloc, Naming::AsGiven)
 }

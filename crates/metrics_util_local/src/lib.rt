@@ -13,7 +13,9 @@ pub mod exporter {
     pub use metrics_exporter::{
         Descriptions, Exporter, PartlyAbsorbed, ReadingRef, SeriesReading, exporter_law,
     };
-    pub use metrics_prometheus::{exposition, exposition_law, exposition_of, exposition_text_law};
+    pub use metrics_prometheus::{
+        Naming, exposition, exposition_law, exposition_named, exposition_of, exposition_text_law,
+    };
 }
 
 /// Layers over recorders.

@@ -13,7 +13,7 @@ ghost use Rattle.tool_prometheus.specs.Exposed.{Answers, IsShown, scrape_text, r
 
 use metrics::Error;
 use metrics_exporter::Exporter;
-use metrics_prometheus::{Descriptions, exposition_of};
+use metrics_prometheus::{Descriptions, Naming, exposition_of};
 use std::alloc::{AllocError, Global};
 use tool_export::Request;
 
@@ -37,7 +37,7 @@ fn shown(alloc: Global, on: &Exporter) -> Result<String, Error>
 {
     let series = on.readings()?;
     let descriptions = Descriptions::new(alloc);
-    exposition_of(alloc, &descriptions, &series)
+    exposition_of(alloc, Naming::AsGiven, &descriptions, &series)
 }
 
 /// Removes what is idle at the moment, and gives an exposition of the series that are left. It is never refused where none is

@@ -11,10 +11,10 @@ use Rattle.metrics_prometheus.proofs.TypeLemmas.{text-tells}
 use Rattle.metrics_prometheus.proofs.laws.exposition_law.Goals as goal
 
 pub returns-clause-distinct : goal.returns-clause-distinct
-returns-clause-distinct c = λ helps cells text kinds e. samples-distinct cells e.rows e.all.ordered (rows-read cells kinds)
+returns-clause-distinct c = λ naming legend cells text kinds e. samples-distinct cells e.rows e.all.ordered (rows-read cells kinds)
 
 pub returns-clause-apart : goal.returns-clause-apart
-returns-clause-apart c = λ helps cells text e.
+returns-clause-apart c = λ naming legend cells text e.
     let rows = written e.rows None e.rows in
     pairs-places AreApart rows (pairs-map IsBefore AreApart before-apart rows (written-ascend e.rows e.all.ordered))
 
@@ -22,7 +22,7 @@ pub returns-clause-told : goal.returns-clause-told
 returns-clause-told c = series-told
 
 pub returns-clause-samples : goal.returns-clause-samples
-returns-clause-samples c = λ helps cells text e. text-has cells text e
+returns-clause-samples c = λ naming legend cells text e. text-has cells text e
 
 pub returns-clause-written : goal.returns-clause-written
 returns-clause-written c = series-written
@@ -34,7 +34,7 @@ pub returns-clause-kinds : goal.returns-clause-kinds
 returns-clause-kinds c = kinds-after
 
 pub returns-clause-types : goal.returns-clause-types
-returns-clause-types c = λ helps cells text kinds e. text-tells cells text kinds e
+returns-clause-types c = λ naming legend cells text kinds e. text-tells cells text kinds e
 
 pub returns-clause-one : goal.returns-clause-one
-returns-clause-one c = λ helps cells a b e f. one-text cells a b e f
+returns-clause-one c = λ naming legend cells a b e f. one-text cells a b e f

@@ -5,7 +5,8 @@ use Rattle.std.proofs.lemmas.List.{take_all}
 use Rattle.std.proofs.lemmas.List.Elements.{All-more}
 use Rattle.metrics_exporter.specs.declared.readings.SeriesReading.{SeriesReading}
 use Rattle.metrics_names.specs.Names.{LabelParts}
-use Rattle.metrics_prometheus.specs.Rows.{helps_of}
+use Rattle.metrics_exporter.specs.Describing.{described_by}
+use Rattle.metrics_prometheus.specs.Naming.{display_of}
 use Rattle.metrics_prometheus.proofs.RowLemmas.{rows-more}
 use Rattle.metrics_prometheus.proofs.rows.rows_of.Goals as goal
 
@@ -19,7 +20,7 @@ loop-entry-preserved c =
     let i = c.loop-entry.entry-index in
     let entry = c.entry-item.result in
     record {
-      rows = rows-more (helps_of c.args.descriptions.now) c.loop-entry.rows.items c.push.new.self.items series i c.in_ok-row_of.field-0 entry c.loop-entry-test.true c.entry-item.is c.in_ok-push.ensures.items c.in_ok-row_of.ensures.row c.loop-entry.invariant.rows;
+      rows = rows-more (display_of c.args.naming (described_by c.args.descriptions.now)) c.loop-entry.rows.items c.push.new.self.items series i c.in_ok-row_of.field-0 entry c.loop-entry-test.true c.entry-item.is c.in_ok-push.ensures.items c.in_ok-row_of.ensures.row c.loop-entry.invariant.rows;
       texts = All-more HasTexts series i entry c.loop-entry-test.true c.loop-entry.invariant.texts (subst HasTexts c.entry-item.is c.in_ok-row_of.ensures.texts);
     }
 

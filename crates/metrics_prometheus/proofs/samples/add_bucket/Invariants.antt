@@ -1,6 +1,6 @@
 -- The buckets so far have lesser bounds.
 use Rattle.std.proofs.Common.{◌≡◌, ◌++◌, take, drop}
-use Rattle.metrics_prometheus.specs.Samples.{bucket_placed}
+use Rattle.metrics_storage.specs.Histogram.{bucket_placed}
 use Rattle.metrics_prometheus.proofs.samples.add_bucket.Given as goal
 
 abbrev pub invariant-loop-at : goal.invariant-loop-at

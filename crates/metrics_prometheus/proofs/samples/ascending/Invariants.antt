@@ -1,6 +1,6 @@
 -- The buckets so far, and those to come.
 use Rattle.std.proofs.Common.{◌≡◌, drop}
-use Rattle.metrics_prometheus.specs.Samples.{with_buckets, ascending}
+use Rattle.metrics_storage.specs.Histogram.{with_buckets, ascending}
 use Rattle.metrics_prometheus.proofs.samples.ascending.Given as goal
 
 abbrev pub invariant-loop-bound : goal.invariant-loop-bound

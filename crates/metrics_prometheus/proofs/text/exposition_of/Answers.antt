@@ -5,7 +5,9 @@ use Rattle.metrics_exporter.specs.Readings.{all_told, cells_told, AreReadings, A
 use Rattle.metrics_exporter.specs.declared.readings.SeriesReading.{SeriesReading}
 use Rattle.metrics_prometheus.specs.Exposition.{rows_text, IsDescribed}
 use Rattle.metrics_prometheus.specs.declared.rows.ShownRow.{ShownRow}
-use Rattle.metrics_prometheus.specs.Rows.{rows_shown, told_shown, helps_of, Shows}
+use Rattle.metrics_exporter.specs.Describing.{described_by}
+use Rattle.metrics_prometheus.specs.Naming.{display_of}
+use Rattle.metrics_prometheus.specs.Rows.{rows_shown, told_shown, Shows}
 use Rattle.metrics_prometheus.proofs.HeldLemmas.{holds-texts, kept-texts, none-given, none-long}
 use Rattle.metrics_exporter.proofs.SortedLemmas.{none-distinct}
 use Rattle.metrics_prometheus.proofs.OnceLemmas.{readings-once, readings-told}
@@ -15,18 +17,20 @@ use Rattle.metrics_prometheus.proofs.text.exposition_of.Goals as goal
 
 pub returns-clause-ok : goal.returns-clause-ok
 returns-clause-ok c = λ cells are.
-    let helps = helps_of c.args.descriptions.now in
+    let naming = c.args.naming in
+    let legend = described_by c.args.descriptions.now in
     let rows = c.in_ok-rows.rows.items in
     let is = c.in_ok-rows.ensures.rows in
     let kept = readings-once cells (all_told c.args.series.now) (map told_shown rows) are is.once in
     let r = c.rows_text.result in
     let Q : List ShownRow → Type 0 = λ rows. (cells : Cells) → AllByRecursion (Shows cells) rows → IfOk r (λ text. string_bytes text ≡ rows_text cells (rows_shown rows) None (rows_shown rows)) in
-    text-of-rows string_bytes helps cells (rows_shown rows) (are-rows helps cells rows kept is.own is.ordered) (holds-texts cells c.args.series.now are c.in_ok-rows.ensures.texts) r
-    (subst Q c.deref.ensures.value c.rows_text.ensures.ok cells (rows-show helps cells rows kept is.own))
+    text-of-rows string_bytes naming legend cells (rows_shown rows) (are-rows (display_of naming legend) cells rows kept is.own is.ordered) (holds-texts cells c.args.series.now are c.in_ok-rows.ensures.texts) r
+    (subst Q c.deref.ensures.value c.rows_text.ensures.ok cells (rows-show (display_of naming legend) cells rows kept is.own))
 
 pub returns-clause-each : goal.returns-clause-each
 returns-clause-each c =
-    let helps = helps_of c.args.descriptions.now in
+    let naming = c.args.naming in
+    let legend = described_by c.args.descriptions.now in
     let rows = c.in_ok-rows.rows.items in
     let is = c.in_ok-rows.ensures.rows in
     let told = map told_shown rows in
@@ -34,19 +38,19 @@ returns-clause-each c =
     let kept : AreReadings cells told = readings-told told is.once.once in
     let r = c.rows_text.result in
     let Q : List ShownRow → Type 0 = λ rows. (cells : Cells) → AllByRecursion (Shows cells) rows → IfOk r (λ text. string_bytes text ≡ rows_text cells (rows_shown rows) None (rows_shown rows)) in
-    with-first r (λ text. IsDescribed helps cells (string_bytes text)) _ (λ text h. (told, is.once, h))
-    (text-of-rows string_bytes helps cells (rows_shown rows) (are-rows helps cells rows kept is.own is.ordered) (kept-texts cells told c.args.series.now kept is.once c.in_ok-rows.ensures.texts) r
-    (subst Q c.deref.ensures.value c.rows_text.ensures.ok cells (rows-show helps cells rows kept is.own)))
+    with-first r (λ text. IsDescribed naming legend cells (string_bytes text)) _ (λ text h. (told, is.once, h))
+    (text-of-rows string_bytes naming legend cells (rows_shown rows) (are-rows (display_of naming legend) cells rows kept is.own is.ordered) (kept-texts cells told c.args.series.now kept is.once c.in_ok-rows.ensures.texts) r
+    (subst Q c.deref.ensures.value c.rows_text.ensures.ok cells (rows-show (display_of naming legend) cells rows kept is.own)))
 
 pub returns-then-is_empty-clause-ok : goal.returns-then-is_empty-clause-ok
 returns-then-is_empty-clause-ok c = λ cells are.
     let zero : length c.args.series.now ≡ 0 = search (rules, arith) in
     let none : c.args.series.now ≡ [] = none-long c.args.series.now zero in
-    subst (IsDescribed (helps_of c.args.descriptions.now) cells) (sym c.new.ensures.bytes) (none-given cells (subst (λ (l : List SeriesReading). AreReadings cells (all_told l)) none are))
+    subst (IsDescribed c.args.naming (described_by c.args.descriptions.now) cells) (sym c.new.ensures.bytes) (none-given cells (subst (λ (l : List SeriesReading). AreReadings cells (all_told l)) none are))
 
 pub returns-then-is_empty-clause-each : goal.returns-then-is_empty-clause-each
 returns-then-is_empty-clause-each c =
     let zero : length c.args.series.now ≡ 0 = search (rules, arith) in
     let none : c.args.series.now ≡ [] = none-long c.args.series.now zero in
     let once : AreOnce (all_told c.args.series.now) [] = subst (λ (l : List SeriesReading). AreOnce (all_told l) []) (sym none) (record { once = none-distinct; among = λ t h. h; all = λ s h. h }) in
-    ([], once, subst (IsDescribed (helps_of c.args.descriptions.now) (cells_told [])) (sym c.new.ensures.bytes) (none-given (cells_told []) (readings-told [] none-distinct)))
+    ([], once, subst (IsDescribed c.args.naming (described_by c.args.descriptions.now) (cells_told [])) (sym c.new.ensures.bytes) (none-given (cells_told []) (readings-told [] none-distinct)))

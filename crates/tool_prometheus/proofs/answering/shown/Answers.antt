@@ -4,8 +4,9 @@ use Rattle.metrics_exporter.specs.Exporting.{Cells, HoldsSome, steps, cells_afte
 use Rattle.metrics_exporter.specs.Kept.{held_cells}
 use Rattle.metrics_exporter.specs.Readings.{all_told, AreReadings}
 use Rattle.metrics_exporter.specs.declared.readings.SeriesReading.{SeriesReading}
-use Rattle.metrics_prometheus.specs.Exposition.{Helps, no_helps, IsDescribed}
-use Rattle.metrics_prometheus.specs.Rows.{helps_of}
+use Rattle.metrics_exporter.specs.Describing.{Legend, no_legend, described_by}
+use Rattle.metrics_prometheus.specs.declared.naming.Naming.TheVariants.{AsGiven}
+use Rattle.metrics_prometheus.specs.Exposition.{IsDescribed}
 use Rattle.metrics_prometheus.proofs.TextLemmas.{either-way}
 use Rattle.metrics_prometheus.proofs.HeldLemmas.{some-read}
 use Rattle.tool_prometheus.proofs.answering.shown.Goals as goal
@@ -15,11 +16,11 @@ returns-clause-text c = λ setup log keeps.
     let cells = held_cells c.args.on.now in
     let r = c.exposition_of.result in
     let Q : List SeriesReading → Type 0 = λ series. AreReadings cells (all_told series) in
-    let P : Cells → Helps → Type 0 = λ after helps. MatchResult r (λ text. IsDescribed helps after (string_bytes text)) (λ e. e ≡ Memory) in
+    let P : Cells → Legend → Type 0 = λ after legend. MatchResult r (λ text. IsDescribed AsGiven legend after (string_bytes text)) (λ e. e ≡ Memory) in
     let same : cells ≡ cells_after setup (steps log) = λ i s. keeps.cells s i in
-    let none : helps_of c.new-descriptions.result ≡ no_helps = λ i k n. (c.new-descriptions.ensures k n i).text in
-    let is : P cells (helps_of c.new-descriptions.result) = either-way _ _ r (c.exposition_of.ensures.ok cells (subst Q (sym c.deref.ensures.value) c.in_ok-series.ensures.readings)) c.exposition_of.ensures.err in
-    subst (λ after. P after no_helps) same (subst (P cells) none is)
+    let none : described_by c.new-descriptions.result ≡ no_legend = λ i k n. c.new-descriptions.ensures k n i in
+    let is : P cells (described_by c.new-descriptions.result) = either-way _ _ r (c.exposition_of.ensures.ok cells (subst Q (sym c.deref.ensures.value) c.in_ok-series.ensures.readings)) c.exposition_of.ensures.err in
+    subst (λ after. P after no_legend) same (subst (P cells) none is)
 
 pub returns-clause-refused : goal.returns-clause-refused
 returns-clause-refused c = λ setup log keeps.

@@ -1,0 +1,32 @@
+//! Numbers as they are written.
+ghost use Rattle.std.specs.Prelude.{◌≡◌, ◌++◌, OnOk, string_bytes};
+ghost use Rattle.metrics_prometheus.specs.Numbers.{pointed, number};
+
+use std::alloc::AllocError;
+
+/// Writes a number of units of the last of so many places behind its point.
+fn write_pointed(text: &mut String, places: u8, units: u128) -> Result<(), AllocError>
+    ensures { OnOk result (string_bytes text.new ≡ string_bytes text.old ++ pointed places units) }
+{
+    if places == 0 {
+        write!(text, "{units}.")?;
+        return Ok(());
+    }
+    write_pointed(text, places - 1, units / 10)?;
+    let digit = (units % 10) as u8;
+    text.push(char::from(b'0' + digit))
+}
+
+/// Writes a number of units of the last of so many decimal places, and a whole number where there are none.
+pub(crate) fn write_number(text: &mut String, places: u8, units: i128) -> Result<(), AllocError>
+    ensures { OnOk result (string_bytes text.new ≡ string_bytes text.old ++ number places units) }
+{
+    if places == 0 {
+        write!(text, "{units}")?;
+        return Ok(());
+    }
+    if units < 0 {
+        text.push_str("-")?;
+    }
+    write_pointed(text, places, units.unsigned_abs())
+}
