@@ -1,6 +1,6 @@
 -- The labels that are shown.
-use Rattle.std.proofs.Common.{◌≡◌, ◌∙◌, ◌+◌, ◌≤◌, inl, inr, ℕ, zero, suc, Bool, true, false, cond, not, ◌||◌, ◌&&◌, List, [], ◌∷◌, ◌++◌, codes, nat_eq, length, get_or, Some, None, is_some, refl, ap, sym, arith}
-use Rattle.std.specs.Prelude.{bytes_eq, insert}
+use Rattle.std.proofs.Common.{◌≡◌, ◌∙◌, ◌+◌, ◌≤◌, inl, inr, ℕ, zero, suc, Bool, true, false, cond, not, ◌||◌, ◌&&◌, List, [], ◌∷◌, ◌++◌, codes, nat_eq, length, get_or, Some, None, is_some, refl, ap, sym, subst, append_assoc, append-nil, arith}
+use Rattle.std.specs.Prelude.{bytes_eq, insert, All}
 use Rattle.std.specs.List.{AllByRecursion, AllWithin, IsDistinct, list_any, starts_with}
 use Rattle.std.specs.List.Sorted.{IsSorted, IsPartitionedBy, IsStrictlySortedBy}
 use Rattle.std.specs.Ordering.{is_lt, nat_cmp}
@@ -8,6 +8,7 @@ use Rattle.std.specs.Cmp.Lexicographic.{slice_cmp}
 use Rattle.std.specs.declared.cmp.Ordering.{Ordering}
 use Rattle.std.specs.declared.cmp.Ordering.TheVariants.{Less, Equal, Greater}
 use Rattle.std.proofs.lemmas.Cmp.{nat_list_cmp_total}
+use Rattle.std.proofs.lemmas.List.Elements.{recursion_from_All}
 use Rattle.std.proofs.lemmas.List.Sorted.{ranks_by, sorted_far}
 use Rattle.std.proofs.lemmas.Map.Lookups.{exact_bytes, exact_pairs}
 use Rattle.metrics_names.specs.declared.kind.MetricKind.{MetricKind}
@@ -15,12 +16,12 @@ use Rattle.metrics_names.specs.declared.kind.MetricKind.TheVariants.{Histogram}
 use Rattle.std.proofs.lemmas.Bool.{cond_both}
 use Rattle.metrics_names.specs.Names.{LabelParts, label_cmp, kind_eq}
 use Rattle.metrics_prometheus.specs.Names.{label_name, is_name}
-use Rattle.metrics_prometheus.specs.Labels.{placed, added, with_labels, shown_labels, repeats, follows, is_reserved, reserved_of, are_fit}
+use Rattle.metrics_prometheus.specs.Labels.{placed, added, with_labels, shown_labels, is_whole, repeats, follows, is_reserved, reserved_of, are_fit}
 use Rattle.metrics_prometheus.specs.Reading.{Ascend}
 use Rattle.metrics_prometheus.proofs.PairLemmas.{each-all, each-map, Pairs, pairs-append, pairs-places, pairs-from-places}
 use Rattle.metrics_prometheus.proofs.SameLemmas.{both-true, bytes-same, same-bytes}
 use Rattle.metrics_prometheus.proofs.WrittenLemmas.{never, turn, first-part, label_total}
-use Rattle.metrics_prometheus.proofs.NameLemmas.{AreKeyed, label-name}
+use Rattle.metrics_prometheus.proofs.NameLemmas.{AreKeyed, label-name, name-whole}
 
 placed-each : (P : LabelParts → Type 0) (l : LabelParts) (ms : List LabelParts) → P l → AllByRecursion P ms → AllByRecursion P (placed l ms)
 placed-each P l [] h hs = (h, tt)
@@ -164,6 +165,34 @@ placed-at l (m ∷ ms) zero le before after =
 placed-at l (m ∷ ms) (suc i) le before after =
     ap (λ ls. m ∷ ls) (placed-at l ms i (omega (arith, le)) (λ k d low high. before (suc k) d (omega arith) (omega (arith, high))) (λ k d low high. after (suc k) d (omega (arith, low)) (omega (arith, high))))
     ∙ sym (ap (λ b. cond b (l ∷ m ∷ ms) (m ∷ placed l ms)) (not-true (is_lt (label_cmp l m)) (before 0 m (omega arith) (omega arith))))
+
+-- ---- labels that stay as they are
+
+whole-added : (l : LabelParts) (shown : List LabelParts) → is_whole l ≡ true → added l.0 l.1 shown ≡ placed l shown
+whole-added (n, []) shown h = absurd (let e : false ≡ true = (both-true (is_name false n) false h).1 in cc)
+whole-added (n, c ∷ v) shown h = ap (λ m. placed (m, c ∷ v) shown) (name-whole false n (both-true (is_name false n) true h).0)
+
+placed-last : (l : LabelParts) (ms : List LabelParts) → AllByRecursion (λ m. IsUp m l) ms → placed l ms ≡ ms ++ l ∷ []
+placed-last l [] h = refl
+placed-last l (m ∷ ms) h = ap (λ b. cond b (l ∷ m ∷ ms) (m ∷ placed l ms)) h.0 ∙ ap (λ ls. m ∷ ls) (placed-last l ms h.1)
+
+one-of : (P : LabelParts → Type 0) (ms : List LabelParts) (l : LabelParts) (ls : List LabelParts) → AllByRecursion P (ms ++ l ∷ ls) → P l
+one-of P [] l ls h = h.0
+one-of P (m ∷ ms) l ls h = one-of P ms l ls h.1
+
+before : (ms : List LabelParts) (l : LabelParts) (ls : List LabelParts) → Pairs IsUp (ms ++ l ∷ ls) → AllByRecursion (λ m. IsUp m l) ms
+before [] l ls up = tt
+before (m ∷ ms) l ls up = (one-of (IsUp m) ms l ls up.0, before ms l ls up.1)
+
+with-whole : (shown ls : List LabelParts) → AllByRecursion (λ l. is_whole l ≡ true) ls → Pairs IsUp (shown ++ ls) → with_labels shown ls ≡ shown ++ ls
+with-whole shown [] h up = sym (append-nil shown)
+with-whole shown (l ∷ ls) h up =
+    let more = append_assoc shown (l ∷ []) ls in
+    ap (λ s. with_labels s ls) (whole-added l shown h.0 ∙ placed-last l shown (before shown l ls up))
+    ∙ with-whole (shown ++ l ∷ []) ls h.1 (subst (Pairs IsUp) (sym more) up) ∙ more
+
+pub shown-whole : (ls : List LabelParts) → IsSorted label_cmp ls → All (λ l. is_whole l ≡ true) ls → shown_labels ls ≡ ls
+shown-whole ls up whole = with-whole [] ls (recursion_from_All (λ l. is_whole l ≡ true) ls whole) (labels-up ls up)
 
 -- ---- a name that comes twice comes twice in a row
 

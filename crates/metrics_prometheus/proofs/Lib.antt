@@ -13,6 +13,7 @@ pub mod ToldLemmas
 pub mod TextLineLemmas
 pub mod NameLemmas
 pub mod NamingLemmas
+pub mod ValueLemmas
 pub mod FeedLemmas
 pub mod HeadLemmas
 pub mod LabelLemmas

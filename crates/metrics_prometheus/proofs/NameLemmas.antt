@@ -1,7 +1,12 @@
 -- Names are as Prometheus allows, and no byte of a name ends it.
-use Rattle.std.proofs.Common.{◌≡◌, ◌∙◌, ℕ, Bool, true, false, ◌&&◌, ◌||◌, List, [], ◌∷◌, ◌++◌, map, chars, refl, ap}
+use Rattle.std.proofs.Common.{◌≡◌, ◌∙◌, ◌<◌, ◌≤◌, ℕ, Bool, true, false, ◌&&◌, ◌||◌, List, [], ◌∷◌, ◌++◌, map, chars, nat_eq, nat_le, refl, ap, arith}
 use Rattle.std.specs.List.{AllByRecursion, list_all}
-use Rattle.std.specs.Char.{is_ascii_digit}
+use Rattle.std.specs.Char.{is_ascii_digit, is_ascii_alphabetic}
+use Rattle.std.specs.Int.{is_in_range}
+use Rattle.std.specs.Str.{IsAscii}
+use Rattle.std.proofs.lemmas.Bool.{leb-true, eqb-true}
+use Rattle.std.proofs.lemmas.Str.{chars-IsAscii}
+use Rattle.std.proofs.lemmas.Str.Ascii.{IsAscii-nil, IsAscii-cons}
 use Rattle.metrics_names.specs.Names.{LabelParts}
 use Rattle.metrics_prometheus.specs.Names.{begins, goes_on, or_underscore, spelled, or_one, metric_name, label_name, is_name}
 use Rattle.metrics_prometheus.proofs.SameLemmas.{both-true}
@@ -69,3 +74,39 @@ label-name n = spelled-name false (chars n)
 -- labels whose names are allowed
 abbrev pub AreKeyed : List LabelParts → Type 0
 AreKeyed ls = AllByRecursion (λ l. is_name false l.0 ≡ true) ls
+
+-- ---- names that stay as they are
+
+either : (P : Type 0) (a b : Bool) → (a ≡ true → P) → (b ≡ true → P) → (a || b) ≡ true → P
+either P true b f g h = f refl
+either P false b f g h = g h
+
+range : (low high c : ℕ) → is_in_range low high c ≡ true → c ≤ high
+range low high c h = leb-true c high (both-true (nat_le low c) (nat_le c high) h).1
+
+-- a name is ASCII
+begins-small : (colons : Bool) (c : ℕ) → begins colons c ≡ true → c < 128
+begins-small colons c =
+    either (c < 128) (is_ascii_alphabetic c) (nat_eq c 95 || (colons && nat_eq c 58))
+    (either (c < 128) (is_in_range 65 90 c) (is_in_range 97 122 c) (λ h. omega (arith, range 65 90 c h)) (λ h. omega (arith, range 97 122 c h)))
+    (either (c < 128) (nat_eq c 95) (colons && nat_eq c 58) (λ h. omega (arith, eqb-true c 95 h)) (λ h. omega (arith, eqb-true c 58 (both-true colons (nat_eq c 58) h).1)))
+
+small : (colons : Bool) (c : ℕ) → goes_on colons c ≡ true → c < 128
+small colons c = either (c < 128) (begins colons c) (is_ascii_digit c) (begins-small colons c) (λ h. omega (arith, range 48 57 c h))
+
+named-ascii : (colons : Bool) (n : List ℕ) → IsNamed colons n → IsAscii n
+named-ascii colons [] h = IsAscii-nil
+named-ascii colons (c ∷ cs) h = IsAscii-cons c cs (small colons c h.0) (named-ascii colons cs h.1)
+
+same-rest : (colons : Bool) (cs : List ℕ) → IsNamed colons cs → map (λ d. or_underscore (goes_on colons d) d) cs ≡ cs
+same-rest colons [] h = refl
+same-rest colons (c ∷ cs) h = ap (λ b. or_underscore b c ∷ map (λ d. or_underscore (goes_on colons d) d) cs) h.0 ∙ ap (λ ds. c ∷ ds) (same-rest colons cs h.1)
+
+same-name : (colons : Bool) (n : List ℕ) → is_name colons n ≡ true → or_one (spelled colons n) ≡ n
+same-name colons [] h = absurd (let e : false ≡ true = h in cc)
+same-name colons (c ∷ cs) h =
+    let p = both-true (begins colons c) (list_all (goes_on colons) cs) h in
+    ap (λ b. or_underscore b c ∷ map (λ d. or_underscore (goes_on colons d) d) cs) p.0 ∙ ap (λ ds. c ∷ ds) (same-rest colons cs (named-from colons cs p.1))
+
+pub name-whole : (colons : Bool) (n : List ℕ) → is_name colons n ≡ true → or_one (spelled colons (chars n)) ≡ n
+name-whole colons n h = ap (λ cs. or_one (spelled colons cs)) (chars-IsAscii n (named-ascii colons n (named colons n h))) ∙ same-name colons n h

@@ -6,7 +6,7 @@ use Rattle.std.specs.Ordering.{is_lt}
 use Rattle.metrics_names.specs.declared.kind.MetricKind.{MetricKind}
 use Rattle.metrics_names.specs.declared.kind.MetricKind.TheVariants.{Histogram}
 use Rattle.metrics_names.specs.Names.{LabelParts, kind_eq, label_cmp}
-use Rattle.metrics_prometheus.specs.Names.{label_name}
+use Rattle.metrics_prometheus.specs.Names.{label_name, is_name}
 
 -- the labels in order, with one more in its place
 abbrev pub placed : LabelParts → List LabelParts → List LabelParts
@@ -25,6 +25,10 @@ with_labels shown (l ∷ ls) = with_labels (added l.0 l.1 shown) ls
 -- the labels in order of their names
 abbrev pub shown_labels : List LabelParts → List LabelParts
 shown_labels labels = with_labels [] labels
+
+-- a label that stays as it is: its name is allowed, and it has a value
+abbrev pub is_whole : LabelParts → Bool
+is_whole l = is_name false l.0 && not (bytes_eq l.1 [])
 
 -- two labels have one name
 abbrev pub repeats : List LabelParts → Bool

@@ -2,6 +2,7 @@ pub mod Names
 pub mod Numbers
 pub mod Naming
 pub mod Labels
+pub mod Shown
 pub mod Samples
 pub mod Exposition
 pub mod Rows

@@ -1,5 +1,5 @@
 -- Names and label values as Prometheus allows and writes them.
-use Rattle.std.specs.Prelude.{if◌then◌else◌, ℕ, Bool, true, false, ◌&&◌, ◌||◌, nat_eq, List, [], ◌∷◌, map, codes, chars, flat_map, encode_utf8}
+use Rattle.std.specs.Prelude.{if◌then◌else◌, ℕ, Bool, true, false, not, ◌&&◌, ◌||◌, nat_eq, List, [], ◌∷◌, map, codes, chars, flat_map, encode_utf8}
 use Rattle.std.specs.List.{list_all}
 use Rattle.std.specs.Char.{is_ascii_alphabetic, is_ascii_digit}
 
@@ -41,6 +41,10 @@ escape c = if nat_eq c 92 then codes "\\\\" else (if nat_eq c 34 then codes "\\\
 
 abbrev pub escaped : List ℕ → List ℕ
 escaped value = flat_map escape (chars value)
+
+-- a character that has no escape
+abbrev pub is_plain : ℕ → Bool
+is_plain c = not (nat_eq c 92) && (not (nat_eq c 34) && not (nat_eq c 10))
 
 -- the same of a description, where a double quote stays
 abbrev pub help_escape : ℕ → List ℕ

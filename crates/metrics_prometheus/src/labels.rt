@@ -1,13 +1,15 @@
 //! The labels of a series as Prometheus is shown them.
-ghost use Rattle.std.specs.Prelude.{◌≡◌, ◌≤◌, length, insert, MatchResult, IfOk, OnOk, All, is_some, option_map};
+ghost use Rattle.std.specs.Prelude.{◌≡◌, ◌≤◌, length, insert, MatchResult, IfOk, OnOk, All, is_some, option_map, true, IsTrue};
 ghost use Rattle.std.specs.List.Sorted.{IsSorted};
 ghost use Rattle.std.specs.Ordering.{is_lt};
 ghost use Rattle.std.specs.Str.{IsUtf8};
 ghost use Rattle.metrics.specs.declared.error.Error.TheVariants.{Memory as OutOfMemory};
 ghost use Rattle.metrics_names.specs.Names.{LabelParts, label_cmp};
-ghost use Rattle.metrics_prometheus.specs.Labels.{placed, added, shown_labels, repeats, is_last, is_reserved, reserved_of, are_fit};
+ghost use Rattle.metrics_prometheus.specs.Labels.{placed, added, shown_labels, is_whole};
+ghost use Rattle.metrics_prometheus.specs.Labels.{repeats, is_last, is_reserved, reserved_of, are_fit};
 
-use crate::names::label_name;
+use crate::names::{is_name, label_name};
+use crate::shown::ShownItems;
 use metrics::{Error, Label, MetricKind};
 use std::alloc::Global;
 
@@ -51,8 +53,8 @@ fn add_label(alloc: Global, shown: &mut Vec<Label>, label: &Label) -> Result<(),
     Ok(())
 }
 
-/// The labels that Prometheus is shown, in order of their names.
-pub(crate) fn shown_labels(alloc: Global, labels: &[Label]) -> Result<Vec<Label>, Error>
+/// Copies of the labels that Prometheus is shown, in order of their names.
+fn made_labels(alloc: Global, labels: &[Label]) -> Result<Vec<Label>, Error>
     ensures shown { MatchResult result (λ shown. shown.items ≡ shown_labels labels.now) (λ e. e ≡ OutOfMemory) }
     ensures sorted { IfOk result (λ shown. IsSorted label_cmp shown.items) }
     ensures texts { OnOk result (All (λ l. IsUtf8 l.1) labels.now) }
@@ -62,6 +64,54 @@ pub(crate) fn shown_labels(alloc: Global, labels: &[Label]) -> Result<Vec<Label>
         add_label(alloc, &mut shown, label)?;
     }
     Ok(shown)
+}
+
+/// Whether labels are in order.
+fn are_sorted(labels: &[Label]) -> bool
+    ensures { IsTrue result → IsSorted label_cmp labels.now }
+{
+    for at in 1..labels.len() {
+        if is_before(&labels[at], &labels[at - 1]) {
+            return false;
+        }
+    }
+    true
+}
+
+/// Whether a label is shown as it is.
+fn is_whole(label: &Label) -> bool
+    ensures whole { result ≡ is_whole label.now }
+    ensures text { IsUtf8 label.now.1 }
+{
+    let value = label.value();
+    is_name(label.key(), false) && !value.is_empty()
+}
+
+/// Whether each label is shown as it is.
+fn are_whole(labels: &[Label]) -> bool
+    ensures whole { IsTrue result → All (λ l. is_whole l ≡ true) labels.now }
+    ensures texts { IsTrue result → All (λ l. IsUtf8 l.1) labels.now }
+{
+    for label in labels {
+        if !is_whole(label) {
+            return false;
+        }
+    }
+    true
+}
+
+/// The labels that Prometheus is shown, in order of their names. Those that are shown as they are take no memory.
+pub(crate) fn shown_labels<'a>(
+    alloc: Global,
+    labels: &'a [Label],
+) -> Result<ShownItems<'a, Label>, Error>
+    ensures shown { MatchResult result (λ shown. shown ≡ shown_labels labels.now) (λ e. e ≡ OutOfMemory) }
+    ensures texts { OnOk result (All (λ l. IsUtf8 l.1) labels.now) }
+{
+    if are_sorted(labels) && are_whole(labels) {
+        return Ok(ShownItems::given(labels));
+    }
+    Ok(ShownItems::made(made_labels(alloc, labels)?))
 }
 
 /// Whether a name is the one before.

@@ -9,6 +9,7 @@ mod numbers;
 mod reasons;
 mod rows;
 mod samples;
+mod shown;
 mod taken;
 mod text;
 

@@ -1,9 +1,11 @@
 //! Names and label values as Prometheus allows and writes them.
 ghost use Rattle.std.specs.Prelude.{◌≡◌, ◌<◌, ◌++◌, true, false, if◌then◌else◌, IfOk, OnOk};
 ghost use Rattle.std.specs.Prelude.{string_bytes, chars};
-ghost use Rattle.metrics_prometheus.specs.Names.{begins, goes_on, or_underscore, spelled, or_one, metric_name, label_name};
-ghost use Rattle.metrics_prometheus.specs.Names.{escape, escaped, help_escape, help_escaped};
+ghost use Rattle.std.specs.List.{list_all};
+ghost use Rattle.metrics_prometheus.specs.Names.{begins, goes_on, or_underscore, spelled, or_one, metric_name, label_name, is_name};
+ghost use Rattle.metrics_prometheus.specs.Names.{escape, escaped, is_plain, help_escape, help_escaped};
 
+use crate::shown::ShownName;
 use std::alloc::{AllocError, Global};
 
 /// Whether a name may begin with the character; only a metric's may have colons.
@@ -47,11 +49,43 @@ fn or_one(name: String) -> Result<String, AllocError>
     Ok(name)
 }
 
+/// Whether bytes may all stand behind the first one of a name.
+fn go_on(bytes: &[u8], colons: bool) -> bool
+    ensures { result ≡ list_all (goes_on colons) bytes.now }
+{
+    for c in bytes {
+        if !begins(*c as char, colons) && !c.is_ascii_digit() {
+            return false;
+        }
+    }
+    true
+}
+
+/// Whether Prometheus allows a name as it is.
+pub(crate) fn is_name(name: &str, colons: bool) -> bool
+    ensures { result ≡ is_name colons name.now }
+{
+    match name.as_bytes() {
+        [] => false,
+        [first, rest @ ..] => begins(*first as char, colons) && go_on(rest, colons),
+    }
+}
+
 /// The name of a metric as Prometheus allows it.
 pub(crate) fn metric_name(alloc: Global, name: &str) -> Result<String, AllocError>
     ensures { IfOk result (λ s. string_bytes s ≡ metric_name name.now) }
 {
     or_one(spell(alloc, name, true)?)
+}
+
+/// The same, where one that is allowed takes no memory.
+pub(crate) fn allowed_name<'a>(alloc: Global, name: &'a str) -> Result<ShownName<'a>, AllocError>
+    ensures { IfOk result (λ n. n ≡ metric_name name.now) }
+{
+    if is_name(name, true) {
+        return Ok(ShownName::given(name));
+    }
+    Ok(ShownName::made(metric_name(alloc, name)?))
 }
 
 /// The name of a label as Prometheus allows it.
@@ -73,14 +107,35 @@ fn write_escaped(text: &mut String, c: char) -> Result<(), AllocError>
     }
 }
 
-/// Writes a label's value, escaped.
-pub(crate) fn write_value(text: &mut String, value: &str) -> Result<(), AllocError>
+/// Whether each byte stands for itself where it is a label's value's.
+fn are_plain(bytes: &[u8]) -> bool
+    ensures { result ≡ list_all is_plain bytes.now }
+{
+    let mut plain = true;
+    for c in bytes {
+        plain &= *c != b'\\' && *c != b'"' && *c != b'\n';
+    }
+    plain
+}
+
+/// Writes a label's value, escaped character by character.
+fn write_escapes(text: &mut String, value: &str) -> Result<(), AllocError>
     ensures { OnOk result (string_bytes text.new ≡ string_bytes text.old ++ escaped value.now) }
 {
     for c in value.chars() {
         write_escaped(text, c)?;
     }
     Ok(())
+}
+
+/// Writes a label's value, escaped. One without a character to escape is written whole.
+pub(crate) fn write_value(text: &mut String, value: &str) -> Result<(), AllocError>
+    ensures { OnOk result (string_bytes text.new ≡ string_bytes text.old ++ escaped value.now) }
+{
+    if are_plain(value.as_bytes()) {
+        return text.push_str(value);
+    }
+    write_escapes(text, value)
 }
 
 /// Writes a character of a description.

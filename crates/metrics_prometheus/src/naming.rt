@@ -18,7 +18,8 @@ ghost use Rattle.std.specs.Prelude.{◌≡◌, ◌++◌, codes, IfOk, string_byt
 ghost use Rattle.metrics_prometheus.specs.Naming.{unit_end, unit_places, with_end, without_end};
 ghost use Rattle.metrics_prometheus.specs.Naming.{recommended_name, shown_name, shown_places};
 
-use crate::names::metric_name;
+use crate::names::{allowed_name, metric_name};
+use crate::shown::ShownName;
 use metrics::{MetricKind, Unit};
 use std::alloc::{AllocError, Global};
 
@@ -113,18 +114,21 @@ fn recommended_name(
 }
 
 /// The name that is shown.
-pub(crate) fn shown_name(
+pub(crate) fn shown_name<'a>(
     alloc: Global,
     naming: Naming,
     kind: MetricKind,
     unit: Option<Unit>,
-    name: &str,
-) -> Result<String, AllocError>
-    ensures { IfOk result (λ s. string_bytes s ≡ shown_name naming kind unit name.now) }
+    name: &'a str,
+) -> Result<ShownName<'a>, AllocError>
+    ensures { IfOk result (λ n. n ≡ shown_name naming kind unit name.now) }
 {
-    let allowed = metric_name(alloc, name)?;
     match naming {
-        Naming::AsGiven => Ok(allowed),
-        Naming::Recommended => recommended_name(alloc, kind, unit, allowed),
+        Naming::AsGiven => allowed_name(alloc, name),
+        Naming::Recommended => {
+            let allowed = metric_name(alloc, name)?;
+            let recommended = recommended_name(alloc, kind, unit, allowed)?;
+            Ok(ShownName::made(recommended))
+        }
     }
 }

@@ -7,7 +7,8 @@ ghost use Rattle.metrics_prometheus.specs.Exposition.{row_cmp};
 
 use crate::labels::shown_labels;
 use crate::naming::{Naming, shown_name, shown_places};
-use metrics::{Error, Items, Key, KeyName, Label, MetricKind, Text};
+use crate::shown::{ShownItems, ShownName};
+use metrics::{Error, Key, Label, MetricKind};
 use metrics_exporter::{Descriptions, ReadingRef, SeriesReading};
 use std::alloc::Global;
 
@@ -16,9 +17,9 @@ use std::alloc::Global;
 #[derive(Drop)]
 #[derive_where(PartialEq, Eq, PartialOrd, Ord)]
 pub(crate) struct ShownRow<'a> {
-    pub name: KeyName,
+    pub name: ShownName<'a>,
     pub kind: MetricKind,
-    pub labels: Items<Label>,
+    pub labels: ShownItems<'a, Label>,
     pub key: &'a Key,
     #[derive_where(skip)]
     pub help: Option<&'a str>,
@@ -51,9 +52,9 @@ fn row_of<'a>(
     let name = shown_name(alloc, naming, kind, unit, series.key.name())?;
     let labels = shown_labels(alloc, series.key.labels())?;
     Ok(ShownRow {
-        name: KeyName::from(Text::from(name)),
+        name,
         kind,
-        labels: Items::from(labels),
+        labels,
         key: series.key,
         help,
         places: shown_places(naming, unit),
@@ -100,7 +101,7 @@ pub(crate) fn sorted_rows<'a>(
 {
     let mut rows = rows_of(alloc, naming, descriptions, series)?;
     row_order();
-    rows.sort_unstable();
+    rows.sort()?;
     rows.dedup();
     Ok(rows)
 }

@@ -1,12 +1,12 @@
-use Rattle.std.proofs.Common.{◌∙◌, ◌++◌, ap, string_bytes}
-use Rattle.std.specs.Prelude.{flat_map}
-use Rattle.std.proofs.lemmas.Iterator.{YieldsList-from_chars}
-use Rattle.std.proofs.lemmas.Iterator.Consumers.{YieldsList-end}
-use Rattle.metrics_prometheus.specs.Names.{escape}
-use Rattle.metrics_prometheus.proofs.Yielded.{as_they_are}
+use Rattle.std.proofs.Common.{rules, ◌≡◌, ◌∙◌, ◌++◌, OnOk, string_bytes, sym, subst, ap}
+use Rattle.std.specs.List.{list_all}
+use Rattle.metrics_prometheus.specs.Names.{is_plain}
+use Rattle.metrics_prometheus.proofs.ValueLemmas.{value-whole}
 use Rattle.metrics_prometheus.proofs.names.write_value.Goals as goal
 
-pub returns : goal.returns
-returns c =
-    let t = YieldsList-end (YieldsList-from_chars c.args.value.now c.utf8.value cc) c.loop-c.yielded _ c.loop-c.yielded_by _ _ c.in-None.is c.next.ensures.steps in
-    c.loop-c.invariant ∙ ap (λ cs. string_bytes c.args.text.now ++ flat_map escape cs) (as_they_are c.loop-c.yielded ∙ t.0)
+pub returns-then-are_plain : goal.returns-then-are_plain
+returns-then-are_plain c =
+    let v = c.args.value.now in
+    let whole : OnOk c.push_str.result (string_bytes c.push_str.new.self ≡ string_bytes c.args.text.now ++ v) = search rules in
+    let same = value-whole v c.utf8.value (ap (list_all is_plain) (sym c.as_bytes.ensures.value) ∙ sym c.if-are_plain.ensures) in
+    subst (λ x. OnOk c.push_str.result (string_bytes c.push_str.new.self ≡ string_bytes c.args.text.now ++ x)) (sym same) whole

@@ -15,11 +15,11 @@ use Rattle.metrics_prometheus.proofs.rows.sorted_rows.Goals as goal
 pub returns-clause-rows : goal.returns-clause-rows
 returns-clause-rows c =
     let display = display_of c.args.naming (described_by c.args.descriptions.now) in
-    let xs = c.sort_unstable.new.self.items in
+    let xs = c.sort.new.self.items in
     let ys = c.dedup.new.self.items in
     let left = dedup_is _ xs ys c.dedup.ensures.filtered in
-    let up = subst (IsStrictlySortedBy _) (sym left) (IsStrictlySortedBy-dedup total-law matches_eq-law xs c.sort_unstable.ensures.sorted) in
-    let r = rows-once display _ (λ a b. c.row_order.ensures a b) total-law _ matches_eq-law (all_told c.args.series.now) c.in_ok-rows.rows.items xs ys c.in_ok-rows.ensures.rows c.sort_unstable.ensures.permutation up left in
+    let up = subst (IsStrictlySortedBy _) (sym left) (IsStrictlySortedBy-dedup total-law matches_eq-law xs c.in_ok-sort.ensures.sorted) in
+    let r = rows-once display _ (λ a b. c.row_order.ensures a b) total-law _ matches_eq-law (all_told c.args.series.now) c.in_ok-rows.rows.items xs ys c.in_ok-rows.ensures.rows c.sort.ensures.permutation up left in
     record {
       own = r.0;
       once = r.1;

@@ -5,7 +5,7 @@ use Rattle.std.specs.Str.{IsUtf8}
 use Rattle.std.specs.List.Sorted.{IsSorted}
 use Rattle.metrics_names.specs.Names.{label_cmp}
 use Rattle.metrics_prometheus.specs.Labels.{with_labels, shown_labels}
-use Rattle.metrics_prometheus.proofs.labels.shown_labels.Given as goal
+use Rattle.metrics_prometheus.proofs.labels.made_labels.Given as goal
 
 abbrev pub invariant-loop-label : goal.invariant-loop-label
 invariant-loop-label l =

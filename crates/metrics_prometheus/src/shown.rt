@@ -1,0 +1,189 @@
+//! What Prometheus is shown: the given names and lists, where they are allowed, and else others that were made of them.
+ghost use Rattle.std.specs.Prelude.{◌≡◌, ◌==◌, Some, refl, string_bytes};
+ghost use Rattle.std.specs.Ordering.{nat_cmp};
+ghost use Rattle.std.specs.Cmp.{partial_equiv_from_equiv};
+ghost use Rattle.std.specs.Cmp.Lexicographic.{pointwise, slice_cmp, slice_partial_cmp, nat_list_eq_equiv, nat_list_cmp_total};
+ghost use Rattle.std.specs.Cmp.Lexicographic.{texts_po, texts_ties, lists_equiv, lists_agrees, lists_total, lists_ties, lists_per, lists_po};
+
+use std::cmp::Ordering;
+use std::marker::Model;
+
+/// A text that is given, or one that was made.
+#[derive(Drop)]
+enum NameText<'a> {
+    Given(&'a str),
+    Made(String),
+}
+
+/// A name, which contracts see as its bytes. Names are ordered by these.
+#[derive(Drop)]
+pub(crate) struct ShownName<'a> {
+    name: NameText<'a>,
+}
+
+impl<'a> Model for ShownName<'a> {
+    ghost use Rattle.std.specs.Prelude.{ℕ, List};
+    ghost use Rattle.metrics_prometheus.specs.Shown.{bytes_in};
+
+    ghost Value = { List ℕ };
+
+    ghost view = { λ a. bytes_in a.name };
+}
+
+impl<'a> ShownName<'a> {
+    /// The given name.
+    pub(crate) fn given(name: &'a str) -> ShownName<'a>
+        ensures { result ≡ name.now }
+    {
+        ShownName {
+            name: NameText::Given(name),
+        }
+    }
+
+    /// A name that was made.
+    pub(crate) fn made(name: String) -> ShownName<'a>
+        ensures { result ≡ string_bytes name }
+    {
+        ShownName {
+            name: NameText::Made(name),
+        }
+    }
+
+    /// Returns the name's text.
+    pub(crate) fn as_str(&self) -> &str
+        ensures { result.now ≡ self.now }
+    {
+        match &self.name {
+            NameText::Given(name) => name,
+            NameText::Made(name) => name.as_str(),
+        }
+    }
+}
+
+impl PartialEq for ShownName<'_> {
+    ghost eq = { pointwise ◌==◌ };
+
+    ghost laws = { partial_equiv_from_equiv nat_list_eq_equiv };
+
+    fn eq(&self, other: &Self) -> bool {
+        self.as_str() == other.as_str()
+    }
+}
+
+impl Eq for ShownName<'_> {
+    ghost laws = { nat_list_eq_equiv };
+}
+
+impl PartialOrd for ShownName<'_> {
+    ghost partial_cmp = { λ s t. Some (slice_cmp nat_cmp s t) };
+
+    ghost laws = { texts_po };
+
+    fn partial_cmp(&self, other: &Self) -> Option<Ordering> {
+        Some(self.cmp(other))
+    }
+}
+
+impl Ord for ShownName<'_> {
+    ghost cmp = { slice_cmp nat_cmp };
+
+    ghost total = { nat_list_cmp_total };
+
+    ghost matches_partial_cmp = { λ s t. refl };
+
+    ghost matches_eq = { λ s t. texts_ties s t };
+
+    fn cmp(&self, other: &Self) -> Ordering {
+        self.as_str().cmp(other.as_str())
+    }
+}
+
+/// A list that is given, or one that was made.
+#[derive(Drop)]
+enum ItemList<'a, T> {
+    Given(&'a [T]),
+    Made(Vec<T>),
+}
+
+/// A list, which contracts see as that. Lists compare item by item.
+#[derive(Drop)]
+pub(crate) struct ShownItems<'a, T> {
+    list: ItemList<'a, T>,
+}
+
+impl<'a, T> Model for ShownItems<'a, T> {
+    ghost use Rattle.std.specs.Prelude.{List};
+    ghost use Rattle.metrics_prometheus.specs.Shown.{items_in};
+
+    ghost Value = { List T };
+
+    ghost view = { λ a. items_in a.list };
+}
+
+impl<'a, T> ShownItems<'a, T> {
+    /// The given list.
+    pub(crate) fn given(list: &'a [T]) -> ShownItems<'a, T>
+        ensures { result ≡ list.now }
+    {
+        ShownItems {
+            list: ItemList::Given(list),
+        }
+    }
+
+    /// A list that was made.
+    pub(crate) fn made(list: Vec<T>) -> ShownItems<'a, T>
+        ensures { result ≡ list.items }
+    {
+        ShownItems {
+            list: ItemList::Made(list),
+        }
+    }
+
+    /// Returns the items.
+    pub(crate) fn as_slice(&self) -> &[T]
+        ensures { result.now ≡ self.now }
+    {
+        match &self.list {
+            ItemList::Given(list) => list,
+            ItemList::Made(list) => list.as_slice(),
+        }
+    }
+}
+
+impl<T: PartialEq> PartialEq for ShownItems<'_, T> {
+    ghost eq = { pointwise T.eq };
+
+    ghost laws = { lists_per T.laws };
+
+    fn eq(&self, other: &Self) -> bool {
+        self.as_slice() == other.as_slice()
+    }
+}
+
+impl<T: Eq> Eq for ShownItems<'_, T> {
+    ghost laws = { lists_equiv T.Eq.laws };
+}
+
+impl<T: PartialOrd> PartialOrd for ShownItems<'_, T> {
+    ghost partial_cmp = { slice_partial_cmp T.partial_cmp };
+
+    ghost laws = { lists_po T.PartialOrd.laws };
+
+    fn partial_cmp(&self, other: &Self) -> Option<Ordering> {
+        self.as_slice().partial_cmp(&other.as_slice())
+    }
+}
+
+impl<T: Ord> Ord for ShownItems<'_, T> {
+    ghost cmp = { slice_cmp T.cmp };
+
+    ghost total = { lists_total T.total };
+
+    ghost matches_partial_cmp = { lists_agrees T.matches_partial_cmp };
+
+    ghost matches_eq = { lists_ties T.cmp T.matches_eq };
+
+    fn cmp(&self, other: &Self) -> Ordering {
+        self.as_slice().cmp(&other.as_slice())
+    }
+}
