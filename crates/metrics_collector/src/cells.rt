@@ -1,15 +1,20 @@
 //! The cells of a collector, and the handles by which threads change them.
-ghost use Rattle.std.specs.Prelude.{◌≡◌};
+ghost use Rattle.std.specs.Prelude.{◌≡◌, IfOk};
+ghost use Rattle.std.specs.Arc.{arc_value};
+ghost use Rattle.metrics_names.specs.declared.kind.MetricKind.TheVariants.{Counter as CounterKind, Gauge as GaugeKind};
+ghost use Rattle.metrics_names.specs.declared.kind.MetricKind.TheVariants.{Histogram as HistogramKind};
 
 use crate::bounds::Bounds;
-use metrics::{Error, Key};
-use metrics_cells::{CounterFn, HistogramFn, counter_value};
-use metrics_registry::Storage;
+use crate::gathered::Value;
+use crate::parts::Parts;
+use metrics::{Error, Key, MetricKind};
+use metrics_cells::{CounterFn, HistogramFn, counter_value, gauge_value};
+use metrics_registry::{Generation, Storage};
 use metrics_shared_registry::Generational;
 use metrics_storage::Histogram;
-use std::alloc::Global;
-use std::sync::atomic::AtomicU64;
-use std::sync::{Arc, Mutex, Wait};
+use std::alloc::{AllocError, Global};
+use std::sync::atomic::{AtomicU64, AtomicUsize, Ordering};
+use std::sync::{Arc, Wait};
 
 /// A counter's cell, which any thread may keep and change (`CounterFn`).
 ///
@@ -26,11 +31,6 @@ impl CounterHandle {
     /// Returns the count at the moment.
     pub fn value(&self) -> u64 {
         counter_value(&self.count)
-    }
-
-    /// Whether a clone exists at the moment. If none does, and no other thread can reach this handle, the count stays.
-    pub(crate) fn has_clones(&self) -> bool {
-        Arc::strong_count(&self.count) > 1
     }
 }
 
@@ -58,44 +58,138 @@ pub type GaugeHandle = Generational<Arc<AtomicU64>>;
 ///
 /// No sample is lost: the cell has no room to run out of, and nothing has to drain it. The number of samples shows activity.
 ///
-/// A handle keeps its series in the collector, so a handle that is kept for ever keeps some 350 bytes, 32 for each bound, and
-/// the key's texts.
-#[derive(Clone, Drop)]
+/// The samples are in parts, each under a lock of its own, and a handle records into one of them. The collector gives these
+/// out in turn, and so does `clone`. So give each thread a handle of its own: then they seldom wait for each other.
+///
+/// A handle keeps its series in the collector. A handle that is kept for ever keeps some 600 bytes, 32 for each bound, 8 for
+/// each further part that there may be, and the key's texts. Each further part in use is some 300 bytes and 32 for each bound.
+#[derive(Drop)]
 pub struct HistogramHandle {
-    samples: Arc<Mutex<Histogram>>,
+    parts: Arc<Parts>,
+    place: usize,
 }
 
 impl HistogramHandle {
-    /// Returns a copy of what the cell holds.
+    /// Returns what the cell holds. It fails with `Error::Memory`, or with `Error::CountFull` where there are more than 2^64 - 1
+    /// samples.
     pub fn read<W: Wait>(&self, rt: &W) -> Result<Histogram, Error> {
-        Ok(self.samples.lock(rt).clone()?)
-    }
-
-    /// The number of samples at the moment.
-    pub(crate) fn count<W: Wait>(&self, rt: &W) -> u64 {
-        self.samples.lock(rt).count()
-    }
-
-    /// Whether a clone exists at the moment. If none does, and no other thread can reach this handle, the samples stay.
-    pub(crate) fn has_clones(&self) -> bool {
-        Arc::strong_count(&self.samples) > 1
+        self.parts.read(rt)
     }
 }
 
-/// A sample is refused, with `Error::CountFull`, where the count would pass 2^64 - 1, and never else.
+/// A clone records into the next part.
+impl Clone for HistogramHandle {
+    ghost is_clone = { λ x y. arc_value y.parts ≡ arc_value x.parts };
+
+    fn clone(&self) -> Result<HistogramHandle, AllocError> {
+        let parts = self.parts.clone()?;
+        let place = parts.next_place();
+        Ok(HistogramHandle { parts, place })
+    }
+}
+
+/// A sample is refused, with `Error::CountFull`, where the count of its part would pass 2^64 - 1, and never else.
 impl HistogramFn for HistogramHandle {
     type Error = Error;
 
     fn record<W: Wait>(&self, rt: &W, value: i64) -> Result<(), Error> {
-        self.samples.lock(rt).record(value)
+        self.parts.record(rt, self.place, value)
     }
 }
+
+/// A cell that a reading looks at.
+pub(crate) trait Watched {
+    ghost use Rattle.metrics_collector.specs.Gathering.{kind_of};
+    ghost use Rattle.metrics_names.specs.declared.kind.MetricKind.{MetricKind as AnyKind};
+
+    /// The kind of its series.
+    ghost kind_held: { AnyKind };
+
+    fn kind() -> MetricKind
+        ensures { result ≡ kind_held };
+
+    /// Whether a clone exists at the moment. If none does, and no other thread can reach this cell, it stays as it is, and each
+    /// change that was made through a clone is seen.
+    fn is_shared(&self) -> bool;
+
+    /// A number that each activity changes.
+    fn generation<W: Wait>(&self, rt: &W) -> Generation;
+
+    /// What it holds at the moment.
+    fn held<W: Wait>(&self, rt: &W) -> Result<Value, Error>
+        ensures { IfOk result (λ value. kind_of value ≡ kind_held) };
+}
+
+impl Watched for CounterHandle {
+    ghost kind_held = { CounterKind };
+
+    fn kind() -> MetricKind {
+        MetricKind::Counter
+    }
+
+    fn is_shared(&self) -> bool {
+        Arc::strong_count(&self.count) > 1
+    }
+
+    fn generation<W: Wait>(&self, _rt: &W) -> Generation {
+        Generation::new(self.value())
+    }
+
+    fn held<W: Wait>(&self, _rt: &W) -> Result<Value, Error> {
+        Ok(Value::Count(self.value()))
+    }
+}
+
+impl Watched for GaugeHandle {
+    ghost kind_held = { GaugeKind };
+
+    fn kind() -> MetricKind {
+        MetricKind::Gauge
+    }
+
+    fn is_shared(&self) -> bool {
+        self.has_clones()
+    }
+
+    fn generation<W: Wait>(&self, _rt: &W) -> Generation {
+        self.get_generation()
+    }
+
+    fn held<W: Wait>(&self, _rt: &W) -> Result<Value, Error> {
+        Ok(Value::Level(gauge_value(self.get_inner())))
+    }
+}
+
+impl Watched for HistogramHandle {
+    ghost kind_held = { HistogramKind };
+
+    fn kind() -> MetricKind {
+        MetricKind::Histogram
+    }
+
+    fn is_shared(&self) -> bool {
+        Arc::strong_count(&self.parts) > 1
+    }
+
+    fn generation<W: Wait>(&self, rt: &W) -> Generation {
+        Generation::new(self.parts.count(rt))
+    }
+
+    fn held<W: Wait>(&self, rt: &W) -> Result<Value, Error> {
+        Ok(Value::Samples(self.read(rt)?))
+    }
+}
+
+/// How many parts a histogram may have, unless the caller says otherwise.
+const PARTS: usize = 8;
 
 /// Makes the cells of a collector.
 #[derive(Drop)]
 pub struct CollectorCells {
     alloc: Global,
     bounds: Bounds,
+    /// How many parts a histogram may have beside its first one.
+    others: AtomicUsize,
 }
 
 impl CollectorCells {
@@ -103,7 +197,17 @@ impl CollectorCells {
     pub fn new(alloc: Global, bounds: Bounds) -> CollectorCells
         ensures { result.bounds ≡ bounds }
     {
-        CollectorCells { alloc, bounds }
+        CollectorCells {
+            alloc,
+            bounds,
+            others: AtomicUsize::new(PARTS - 1),
+        }
+    }
+
+    /// Gives each histogram that is made from then on up to so many parts, and at least one.
+    pub(crate) fn set_stripes(&self, stripes: usize) {
+        self.others
+            .store(stripes.saturating_sub(1), Ordering::SeqCst);
     }
 }
 
@@ -132,7 +236,11 @@ impl Storage<Key> for CollectorCells {
 
     fn histogram(&self, key: &Key) -> Result<HistogramHandle, Error> {
         let empty = self.bounds.of(key.name()).clone()?;
-        let samples = Arc::new(self.alloc, Mutex::new(empty))?;
-        Ok(HistogramHandle { samples })
+        let others = self.others.load(Ordering::SeqCst);
+        let parts = Arc::new(self.alloc, Parts::new(self.alloc, empty, others)?)?;
+        Ok(HistogramHandle {
+            parts,
+            place: others,
+        })
     }
 }

@@ -6,7 +6,7 @@ ghost use Rattle.metrics_exporter.specs.Readings.{Told, AreOnce, cells_told};
 ghost use Rattle.metrics_exporter.specs.Describing.{Legend};
 ghost use Rattle.metrics_prometheus.specs.declared.naming.Naming.TheVariants.{AsGiven};
 ghost use Rattle.metrics_prometheus.specs.Exposition.{IsDescribed};
-ghost use Rattle.metrics_collector.specs.Gathering.{all_gathered};
+ghost use Rattle.metrics_collector.specs.Gathering.{all_gathered, IsUnread};
 ghost use Rattle.metrics_collector.specs.declared.gathered.Gathered.{Gathered as GatheredParts};
 
 use crate::bounds::Bounds;
@@ -14,7 +14,7 @@ use crate::cells::{CollectorCells, CounterHandle, GaugeHandle, HistogramHandle};
 use crate::gathered::Gathered;
 use crate::keys::kept_key;
 use crate::walk::{Walk, forget_all};
-use metrics::{Error, Key, Label, MetricKind, MetricKindMask, Unit};
+use metrics::{Error, Key, Label, MetricKind, MetricKindMask, PerKind, Unit};
 use metrics_prometheus::Descriptions;
 use metrics_registry::OwnedRecency;
 use metrics_shared_registry::Registry;
@@ -75,6 +75,18 @@ impl Collector {
         collector
     }
 
+    /// Counts the samples of each histogram that is made from then on in up to so many parts, each under a lock of its own. 0
+    /// counts as 1. Without this call there are up to 8.
+    ///
+    /// The threads' handles are given the parts in turn. So more parts let more threads record at one time. What is read is the
+    /// same. A part takes 8 bytes, and from its first sample on some 300 and 32 for each bound.
+    pub fn with_stripes(self, stripes: usize) -> Collector
+        ensures { result ≡ self }
+    {
+        self.registry.storage().set_stripes(stripes);
+        self
+    }
+
     /// Keeps the description of a name, in place of the one before. A refusal changes nothing.
     pub fn describe<W: Wait>(
         &self,
@@ -92,29 +104,15 @@ impl Collector {
             .describe(alloc, kind, name, unit, text)
     }
 
-    fn own_counter<W: Wait>(&self, rt: &W, key: &Key) -> Result<CounterHandle, Error> {
-        let cell = self
-            .registry
-            .get_or_create_counter(rt, key, |cell: &CounterHandle| cell.clone())?;
-        Ok(cell?)
-    }
-
     /// Returns a handle of a counter, which begins at 0 where there is none. Labels in another order name the same series.
     ///
     /// An update is one atomic instruction. An increment by 0 is no activity. A handle keeps its series, as long as it is kept:
     /// some 200 bytes and the key's texts.
     pub fn counter<W: Wait>(&self, rt: &W, key: &Key) -> Result<CounterHandle, Error> {
-        match kept_key(self.alloc, key, &self.labels)? {
-            Some(kept) => self.own_counter(rt, &kept),
-            None => self.own_counter(rt, key),
-        }
-    }
-
-    fn own_gauge<W: Wait>(&self, rt: &W, key: &Key) -> Result<GaugeHandle, Error> {
-        let cell = self
-            .registry
-            .get_or_create_gauge(rt, key, |cell: &GaugeHandle| cell.clone())?;
-        Ok(cell?)
+        let kept = kept_key(self.alloc, key, &self.labels)?;
+        let key = kept.as_ref().unwrap_or(key);
+        let registry = &self.registry;
+        Ok(registry.get_or_create_counter(rt, key, |cell: &CounterHandle| cell.clone())??)
     }
 
     /// Returns a handle of a gauge, which begins at 0 where there is none. Labels in another order name the same series.
@@ -122,66 +120,51 @@ impl Collector {
     /// Each update is activity, also one that leaves the value as it is. A handle keeps its series, as long as it is kept: some
     /// 250 bytes and the key's texts.
     pub fn gauge<W: Wait>(&self, rt: &W, key: &Key) -> Result<GaugeHandle, Error> {
-        match kept_key(self.alloc, key, &self.labels)? {
-            Some(kept) => self.own_gauge(rt, &kept),
-            None => self.own_gauge(rt, key),
-        }
-    }
-
-    fn own_histogram<W: Wait>(&self, rt: &W, key: &Key) -> Result<HistogramHandle, Error> {
-        let cell = self
-            .registry
-            .get_or_create_histogram(rt, key, |cell: &HistogramHandle| cell.clone())?;
-        Ok(cell?)
+        let kept = kept_key(self.alloc, key, &self.labels)?;
+        let key = kept.as_ref().unwrap_or(key);
+        let registry = &self.registry;
+        Ok(registry.get_or_create_gauge(rt, key, |cell: &GaugeHandle| cell.clone())??)
     }
 
     /// Returns a handle of a histogram, which begins without samples where there is none. Labels in another order name the same
     /// series.
     ///
-    /// Each sample is activity. A handle keeps its series, as long as it is kept.
+    /// Each sample is activity. Ask for a handle in each thread: those of one histogram seldom wait for each other. A handle keeps
+    /// its series, as long as it is kept: some 600 bytes, 32 for each bound, and the key's texts.
     pub fn histogram<W: Wait>(&self, rt: &W, key: &Key) -> Result<HistogramHandle, Error> {
-        match kept_key(self.alloc, key, &self.labels)? {
-            Some(kept) => self.own_histogram(rt, &kept),
-            None => self.own_histogram(rt, key),
-        }
+        let kept = kept_key(self.alloc, key, &self.labels)?;
+        let key = kept.as_ref().unwrap_or(key);
+        let registry = &self.registry;
+        Ok(registry.get_or_create_histogram(rt, key, |cell: &HistogramHandle| cell.clone())??)
     }
 
-    fn walk_counters<W: Wait>(&self, rt: &W, walk: &mut Walk) {
-        walk.gone = HashSet::new(self.alloc);
-        self.registry
-            .visit_counters(rt, |key, cell| walk.counter(key, cell));
-        if !walk.gone.is_empty() {
-            self.registry
-                .retain_counters(rt, |key, cell| walk.counter_stays(key, cell));
+    /// Walks over the cells of each kind.
+    fn walk<W: Wait>(&self, rt: &W, walk: &mut Walk) {
+        let registry = &self.registry;
+        registry.visit_counters(rt, |key, cell| walk.gather(rt, key, cell));
+        registry.visit_gauges(rt, |key, cell| walk.gather(rt, key, cell));
+        registry.visit_histograms(rt, |key, cell| walk.gather(rt, key, cell));
+        if !walk.gone.counter.is_empty() {
+            registry.retain_counters(rt, |key, cell| walk.stays(rt, key, cell));
         }
-    }
-
-    fn walk_gauges<W: Wait>(&self, rt: &W, walk: &mut Walk) {
-        walk.gone = HashSet::new(self.alloc);
-        self.registry
-            .visit_gauges(rt, |key, cell| walk.gauge(key, cell));
-        if !walk.gone.is_empty() {
-            self.registry
-                .retain_gauges(rt, |key, cell| walk.gauge_stays(key, cell));
+        if !walk.gone.gauge.is_empty() {
+            registry.retain_gauges(rt, |key, cell| walk.stays(rt, key, cell));
         }
-    }
-
-    fn walk_histograms<W: Wait>(&self, rt: &W, walk: &mut Walk) {
-        walk.gone = HashSet::new(self.alloc);
-        self.registry
-            .visit_histograms(rt, |key, cell| walk.histogram(rt, key, cell));
-        if !walk.gone.is_empty() {
-            self.registry
-                .retain_histograms(rt, |key, cell| walk.histogram_stays(rt, key, cell));
+        if !walk.gone.histogram.is_empty() {
+            registry.retain_histograms(rt, |key, cell| walk.stays(rt, key, cell));
         }
     }
 
     /// Reads each cell once. Series that are idle aren't among those gathered, and leave where no thread has a handle.
     ///
     /// Shards are read side by side with threads that ask for handles. Only where an idle series leaves, each shard is locked for
-    /// a moment. Threads with handles never wait for it, but for one that records into a histogram while this is copied.
+    /// a moment. Threads with handles never wait for it, but for one that records into the part of a histogram that is read.
+    ///
+    /// # Errors
+    ///
+    /// `Error::Memory`, and `Error::CountFull` where a histogram has more than 2^64 - 1 samples.
     pub fn gather<W: Wait>(&self, rt: &W, alloc: Global, now: u64) -> Result<Gathered, Error>
-        ensures { IfErr result (λ e. e ≡ OutOfMemory) }
+        ensures { IfErr result IsUnread }
     {
         let mut recency = self.recency.lock(rt);
         let none = OwnedRecency::new(alloc, self.mask, self.idle_timeout);
@@ -189,12 +172,14 @@ impl Collector {
             now,
             recency: mem::replace(&mut *recency, none),
             series: Vec::new(alloc),
-            refused: false,
-            gone: HashSet::new(alloc),
+            refused: None,
+            gone: PerKind {
+                counter: HashSet::new(alloc),
+                gauge: HashSet::new(alloc),
+                histogram: HashSet::new(alloc),
+            },
         };
-        self.walk_counters(rt, &mut walk);
-        self.walk_gauges(rt, &mut walk);
-        self.walk_histograms(rt, &mut walk);
+        self.walk(rt, &mut walk);
         let Walk {
             now: _,
             recency: mut noted,
@@ -202,23 +187,26 @@ impl Collector {
             refused,
             gone: _,
         } = walk;
-        if refused {
+        if refused.is_some() {
             forget_all(&mut noted, &series);
         }
         *recency = noted;
-        if refused {
-            return Err(Error::Memory);
+        match refused {
+            None => Ok(Gathered { series }),
+            Some(Error::CountFull) => Err(Error::CountFull),
+            Some(_) => Err(Error::Memory),
         }
-        Ok(Gathered { series })
     }
 
     /// Reads each cell once, and returns the text of the series that are in use.
     ///
-    /// It fails with `Error::Memory` alone. What it met is then shown by the next one, also if that comes after the timeout.
+    /// # Errors
+    ///
+    /// Those of `gather`. What it met is then shown by the next one, also if that comes after the timeout.
     pub fn render<W: Wait>(&self, rt: &W, alloc: Global, now: u64) -> Result<String, Error>
         ensures text { IfOk result (λ text. (legend : Legend) × (gathered : GatheredParts) × (kept : List Told)
             × AreOnce (all_gathered gathered) kept × IsDescribed AsGiven legend (cells_told kept) (string_bytes text)) }
-        ensures err { IfErr result (λ e. e ≡ OutOfMemory) }
+        ensures err { IfErr result IsUnread }
     {
         let gathered = self.gather(rt, alloc, now)?;
         let text = gathered.text(alloc, &self.descriptions.read(rt));

@@ -6,6 +6,7 @@ mod cells;
 mod collector;
 mod gathered;
 mod keys;
+mod parts;
 mod walk;
 
 pub use bounds::Bounds;

@@ -5,10 +5,9 @@ ghost use Rattle.metrics_names.specs.Names.{KeyParts, key_eq};
 ghost use Rattle.metrics_registry.specs.Recency.{table_answer};
 ghost use Rattle.metrics_registry.specs.RecencyEntries.{rules_of, table_of, check_of};
 
-use crate::cells::{CounterHandle, GaugeHandle, HistogramHandle};
-use crate::gathered::{GatheredSeries, Value};
-use metrics::{Error, Key, MetricKind};
-use metrics_cells::gauge_value;
+use crate::cells::Watched;
+use crate::gathered::GatheredSeries;
+use metrics::{Error, Key, MetricKind, PerKind};
 use metrics_registry::{Generation, OwnedRecency};
 use std::collections::HashSet;
 use std::sync::Wait;
@@ -87,33 +86,19 @@ pub(crate) fn forget_all(recency: &mut OwnedRecency<Key>, series: &[GatheredSeri
 /// met something that is to leave, a second one, which has each shard for itself, decides again and lets it go.
 ///
 /// Clones are looked for before the generation is read: where there are none, and the shard is locked, no thread can raise it.
+/// The value is read last, so that it has each change that the generation counts.
 #[derive(Drop)]
 pub(crate) struct Walk {
     pub now: u64,
     pub recency: OwnedRecency<Key>,
     pub series: Vec<GatheredSeries>,
-    /// An allocation failed, and the walk gathers no more.
-    pub refused: bool,
-    /// The series of the kind that are to leave.
-    pub gone: HashSet<Key>,
+    /// Why the walk gathers no more.
+    pub refused: Option<Error>,
+    /// The series that are to leave.
+    pub gone: PerKind<HashSet<Key>>,
 }
 
 impl Walk {
-    fn push(&mut self, key: &Key, value: Value) -> Result<(), Error> {
-        let key = key.clone()?;
-        self.series.push(GatheredSeries { key, value })?;
-        Ok(())
-    }
-
-    /// Gathers a series that is shown.
-    fn keep(&mut self, kind: MetricKind, key: &Key, value: Value) -> Result<(), Error> {
-        let kept = self.push(key, value);
-        if kept.is_err() {
-            self.recency.forget(kind, key);
-        }
-        kept
-    }
-
     /// Whether a series is shown.
     fn is_shown(
         &mut self,
@@ -131,97 +116,46 @@ impl Walk {
             self.now,
         )?;
         if fate == Fate::Gone {
-            self.gone.insert(key.clone()?)?;
+            self.gone.of_mut(kind).insert(key.clone()?)?;
         }
         Ok(fate == Fate::Shown)
     }
 
-    fn look_at_counter(&mut self, key: &Key, cell: &CounterHandle) -> Result<(), Error> {
-        let has_clones = cell.has_clones();
-        let count = cell.value();
-        let seen = Generation::new(count);
-        if self.is_shown(MetricKind::Counter, key, seen, has_clones)? {
-            self.keep(MetricKind::Counter, key, Value::Count(count))?;
-        }
+    fn push<W: Wait, C: Watched>(&mut self, rt: &W, key: &Key, cell: &C) -> Result<(), Error> {
+        let value = cell.held(rt)?;
+        let key = key.clone()?;
+        self.series.push(GatheredSeries { key, value })?;
         Ok(())
     }
 
-    fn look_at_gauge(&mut self, key: &Key, cell: &GaugeHandle) -> Result<(), Error> {
-        let has_clones = cell.has_clones();
-        let seen = cell.get_generation();
-        if self.is_shown(MetricKind::Gauge, key, seen, has_clones)? {
-            let level = gauge_value(cell.get_inner());
-            self.keep(MetricKind::Gauge, key, Value::Level(level))?;
+    fn look_at<W: Wait, C: Watched>(&mut self, rt: &W, key: &Key, cell: &C) -> Result<(), Error> {
+        let has_clones = cell.is_shared();
+        let seen = cell.generation(rt);
+        if !self.is_shown(C::kind(), key, seen, has_clones)? {
+            return Ok(());
         }
-        Ok(())
+        let pushed = self.push(rt, key, cell);
+        if pushed.is_err() {
+            self.recency.forget(C::kind(), key);
+        }
+        pushed
     }
 
-    fn look_at_histogram<W: Wait>(
-        &mut self,
-        rt: &W,
-        key: &Key,
-        cell: &HistogramHandle,
-    ) -> Result<(), Error> {
-        let has_clones = cell.has_clones();
-        let samples = cell.read(rt)?;
-        let seen = Generation::new(samples.count());
-        if self.is_shown(MetricKind::Histogram, key, seen, has_clones)? {
-            self.keep(MetricKind::Histogram, key, Value::Samples(samples))?;
-        }
-        Ok(())
-    }
-
-    /// Gathers a counter, if it is shown.
-    pub fn counter(&mut self, key: &Key, cell: &CounterHandle) {
-        if !self.refused {
-            self.refused = self.look_at_counter(key, cell).is_err();
+    /// Gathers a series, if it is shown.
+    pub fn gather<W: Wait, C: Watched>(&mut self, rt: &W, key: &Key, cell: &C) {
+        if self.refused.is_none() {
+            self.refused = self.look_at(rt, key, cell).err();
         }
     }
 
-    /// Gathers a gauge, if it is shown.
-    pub fn gauge(&mut self, key: &Key, cell: &GaugeHandle) {
-        if !self.refused {
-            self.refused = self.look_at_gauge(key, cell).is_err();
-        }
-    }
-
-    /// Gathers a histogram, if it is shown.
-    pub fn histogram<W: Wait>(&mut self, rt: &W, key: &Key, cell: &HistogramHandle) {
-        if !self.refused {
-            self.refused = self.look_at_histogram(rt, key, cell).is_err();
-        }
-    }
-
-    /// Whether a counter stays in the registry, whose shard no other thread has meanwhile.
-    pub fn counter_stays(&mut self, key: &Key, cell: &CounterHandle) -> bool {
-        if !self.gone.contains(key) {
+    /// Whether a series stays in the registry, whose shard no other thread has meanwhile.
+    pub fn stays<W: Wait, C: Watched>(&mut self, rt: &W, key: &Key, cell: &C) -> bool {
+        let kind = C::kind();
+        if !self.gone.of(kind).contains(key) {
             return true;
         }
-        let has_clones = cell.has_clones();
-        let seen = Generation::new(cell.value());
-        let kind = MetricKind::Counter;
-        stays(&mut self.recency, kind, key, seen, has_clones, self.now)
-    }
-
-    /// Whether a gauge stays in the registry, whose shard no other thread has meanwhile.
-    pub fn gauge_stays(&mut self, key: &Key, cell: &GaugeHandle) -> bool {
-        if !self.gone.contains(key) {
-            return true;
-        }
-        let has_clones = cell.has_clones();
-        let seen = cell.get_generation();
-        let kind = MetricKind::Gauge;
-        stays(&mut self.recency, kind, key, seen, has_clones, self.now)
-    }
-
-    /// Whether a histogram stays in the registry, whose shard no other thread has meanwhile.
-    pub fn histogram_stays<W: Wait>(&mut self, rt: &W, key: &Key, cell: &HistogramHandle) -> bool {
-        if !self.gone.contains(key) {
-            return true;
-        }
-        let has_clones = cell.has_clones();
-        let seen = Generation::new(cell.count(rt));
-        let kind = MetricKind::Histogram;
+        let has_clones = cell.is_shared();
+        let seen = cell.generation(rt);
         stays(&mut self.recency, kind, key, seen, has_clones, self.now)
     }
 }

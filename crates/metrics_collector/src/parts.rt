@@ -1,0 +1,121 @@
+//! The samples of a histogram in parts, so that threads that record at one time seldom wait for each other.
+ghost use Rattle.std.specs.Prelude.{◌≡◌, MatchResult};
+ghost use Rattle.metrics_storage.specs.Histogram.{bounds_of, merged};
+ghost use Rattle.metrics.specs.declared.error.Error.TheVariants.{CountFull};
+
+use crossbeam_utils::CachePadded;
+use metrics::Error;
+use metrics_storage::Histogram;
+use once_cell::race::OnceBox;
+use std::alloc::{AllocError, Global};
+use std::sync::atomic::{AtomicUsize, Ordering};
+use std::sync::{Mutex, Wait};
+
+/// The samples of some handles, in cache lines of their own.
+type Part = CachePadded<Mutex<Histogram>>;
+
+/// The samples of a histogram. All parts have the same bounds.
+#[derive(Drop)]
+pub(crate) struct Parts {
+    alloc: Global,
+    /// How many handles were given out, modulo 2^64.
+    given: AtomicUsize,
+    first: Part,
+    /// Each is made at its first sample.
+    others: Vec<OnceBox<Part>>,
+}
+
+/// Places for so many parts.
+fn places(alloc: Global, count: usize) -> Result<Vec<OnceBox<Part>>, AllocError> {
+    let mut places = Vec::with_capacity(alloc, count)?;
+    for _ in 0..count {
+        places.push(OnceBox::new(alloc))?;
+    }
+    Ok(places)
+}
+
+/// Adds the samples of a part.
+fn add(total: &mut Histogram, part: &Histogram) -> Result<(), Error>
+    ensures { bounds_of total.old ≡ bounds_of part.now → MatchResult result (λ _. total.new ≡ merged total.old part.now)
+        (λ e. (e ≡ CountFull) × (total.new ≡ total.old)) }
+{
+    if total.same_bounds(part) {
+        return total.merge(part);
+    }
+    Ok(())
+}
+
+impl Parts {
+    /// Makes a histogram of up to so many parts, of which the first one is there at once.
+    pub fn new(alloc: Global, empty: Histogram, others: usize) -> Result<Parts, AllocError> {
+        let others = places(alloc, others)?;
+        Ok(Parts {
+            alloc,
+            given: AtomicUsize::new(0),
+            first: CachePadded::new(Mutex::new(empty)),
+            others,
+        })
+    }
+
+    /// The place of a new handle's part: that of the first part for the first handle, and then each in turn.
+    pub fn next_place(&self) -> usize {
+        let given = self.given.fetch_add(1, Ordering::SeqCst);
+        self.others.len() - given % (self.others.len() + 1)
+    }
+
+    /// A part without samples.
+    fn new_part<W: Wait>(&self, rt: &W) -> Result<Box<Part>, Error> {
+        let empty = Histogram::new(self.alloc, self.first.lock(rt).bounds())?;
+        let Some(empty) = empty else {
+            return Err(Error::NoBounds);
+        };
+        Ok(Box::new(self.alloc, CachePadded::new(Mutex::new(empty)))?)
+    }
+
+    /// The part at a place, which is made here unless another thread is first. Without memory it is the first part.
+    #[cold]
+    fn make<'a, W: Wait>(&'a self, rt: &W, place: &'a OnceBox<Part>) -> &'a Part {
+        match place.get_or_try_init(|| self.new_part(rt)) {
+            Ok(part) => part,
+            Err(_) => &self.first,
+        }
+    }
+
+    /// The part at a place, and the first part behind the last place.
+    fn at<W: Wait>(&self, rt: &W, place: usize) -> &Part {
+        let Some(place) = self.others.get(place) else {
+            return &self.first;
+        };
+        match place.get() {
+            Some(part) => part,
+            None => self.make(rt, place),
+        }
+    }
+
+    /// Records a sample into the part at a place.
+    pub fn record<W: Wait>(&self, rt: &W, place: usize, sample: i64) -> Result<(), Error> {
+        self.at(rt, place).lock(rt).record(sample)
+    }
+
+    /// The number of samples in all parts, modulo 2^64.
+    pub fn count<W: Wait>(&self, rt: &W) -> u64 {
+        let mut count = self.first.lock(rt).count();
+        for place in &self.others {
+            if let Some(part) = place.get() {
+                count = count.wrapping_add(part.lock(rt).count());
+            }
+        }
+        count
+    }
+
+    /// The samples of all parts, of which one at a time is locked.
+    pub fn read<W: Wait>(&self, rt: &W) -> Result<Histogram, Error> {
+        let mut total = self.first.lock(rt).clone()?;
+        for place in &self.others {
+            if let Some(part) = place.get() {
+                add(&mut total, &part.lock(rt))?;
+            }
+        }
+        Ok(total)
+    }
+}
