@@ -61,8 +61,8 @@ pub type GaugeHandle = Generational<Arc<AtomicU64>>;
 /// The samples are in parts, each under a lock of its own, and a handle records into one of them. The collector gives these
 /// out in turn, and so does `clone`. So give each thread a handle of its own: then they seldom wait for each other.
 ///
-/// A handle keeps its series in the collector. A handle that is kept for ever keeps some 600 bytes, 32 for each bound, 8 for
-/// each further part that there may be, and the key's texts. Each further part in use is some 300 bytes and 32 for each bound.
+/// A handle keeps its series in the collector. A handle that is kept for ever keeps some 550 bytes, 32 for each bound, 8 for
+/// each further part that there may be, and the key's texts. Each further part in use is some 350 bytes and 32 for each bound.
 #[derive(Drop)]
 pub struct HistogramHandle {
     parts: Arc<Parts>,

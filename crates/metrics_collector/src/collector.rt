@@ -4,8 +4,9 @@ ghost use Rattle.metrics.specs.declared.error.Error.TheVariants.{Memory as OutOf
 ghost use Rattle.metrics_registry.specs.Held.{is_shard_count as is_count};
 ghost use Rattle.metrics_exporter.specs.Readings.{Told, AreOnce, cells_told};
 ghost use Rattle.metrics_exporter.specs.Describing.{Legend};
-ghost use Rattle.metrics_prometheus.specs.declared.naming.Naming.TheVariants.{AsGiven};
+ghost use Rattle.metrics_prometheus.specs.declared.naming.Naming.TheVariants.{AsGiven as NamesAsGiven};
 ghost use Rattle.metrics_prometheus.specs.Exposition.{IsDescribed};
+ghost use Rattle.metrics_prometheus.specs.Reading.{AreOfKinds};
 ghost use Rattle.metrics_collector.specs.Gathering.{all_gathered, IsUnread};
 ghost use Rattle.metrics_collector.specs.declared.gathered.Gathered.{Gathered as GatheredParts};
 
@@ -15,7 +16,7 @@ use crate::gathered::Gathered;
 use crate::keys::kept_key;
 use crate::walk::{Walk, forget_all};
 use metrics::{Error, Key, Label, MetricKind, MetricKindMask, PerKind, Unit};
-use metrics_prometheus::Descriptions;
+use metrics_prometheus::{Descriptions, Naming};
 use metrics_registry::OwnedRecency;
 use metrics_shared_registry::Registry;
 use std::alloc::Global;
@@ -32,6 +33,7 @@ use std::sync::{Mutex, RwLock, Wait};
 pub struct Collector {
     alloc: Global,
     labels: Vec<Label>,
+    naming: Naming,
     mask: MetricKindMask,
     idle_timeout: Option<u64>,
     registry: Registry<Key, CollectorCells>,
@@ -51,13 +53,14 @@ impl Collector {
         idle_timeout: Option<u64>,
         bounds: Bounds,
     ) -> Result<Collector, Error>
-        ensures ok { IfOk result (λ c. c.registry.storage.bounds ≡ bounds) }
+        ensures ok { IfOk result (λ c. (c.registry.storage.bounds ≡ bounds) × (c.naming ≡ NamesAsGiven)) }
         ensures err { IfErr result (λ e. e ≡ (if is_count shards then OutOfMemory else NotShards)) }
     {
         let registry = Registry::new(alloc, CollectorCells::new(alloc, bounds), shards)?;
         Ok(Collector {
             alloc,
             labels: Vec::new(alloc),
+            naming: Naming::AsGiven,
             mask,
             idle_timeout,
             registry,
@@ -75,11 +78,20 @@ impl Collector {
         collector
     }
 
+    /// Shows names and units as the naming has them. Without this call they are shown as they are given.
+    pub fn with_naming(self, naming: Naming) -> Collector
+        ensures { result ≡ record self { naming = naming } }
+    {
+        let mut collector = self;
+        collector.naming = naming;
+        collector
+    }
+
     /// Counts the samples of each histogram that is made from then on in up to so many parts, each under a lock of its own. 0
     /// counts as 1. Without this call there are up to 8.
     ///
     /// The threads' handles are given the parts in turn. So more parts let more threads record at one time. What is read is the
-    /// same. A part takes 8 bytes, and from its first sample on some 300 and 32 for each bound.
+    /// same. A part takes 8 bytes, and from its first sample on some 350 and 32 for each bound.
     pub fn with_stripes(self, stripes: usize) -> Collector
         ensures { result ≡ self }
     {
@@ -130,7 +142,7 @@ impl Collector {
     /// series.
     ///
     /// Each sample is activity. Ask for a handle in each thread: those of one histogram seldom wait for each other. A handle keeps
-    /// its series, as long as it is kept: some 600 bytes, 32 for each bound, and the key's texts.
+    /// its series, as long as it is kept: some 550 bytes, 32 for each bound, and the key's texts.
     pub fn histogram<W: Wait>(&self, rt: &W, key: &Key) -> Result<HistogramHandle, Error> {
         let kept = kept_key(self.alloc, key, &self.labels)?;
         let key = kept.as_ref().unwrap_or(key);
@@ -205,11 +217,12 @@ impl Collector {
     /// Those of `gather`. What it met is then shown by the next one, also if that comes after the timeout.
     pub fn render<W: Wait>(&self, rt: &W, alloc: Global, now: u64) -> Result<String, Error>
         ensures text { IfOk result (λ text. (legend : Legend) × (gathered : GatheredParts) × (kept : List Told)
-            × AreOnce (all_gathered gathered) kept × IsDescribed AsGiven legend (cells_told kept) (string_bytes text)) }
+            × AreOnce (all_gathered gathered) kept × AreOfKinds (cells_told kept)
+            × IsDescribed self.now.naming legend (cells_told kept) (string_bytes text)) }
         ensures err { IfErr result IsUnread }
     {
         let gathered = self.gather(rt, alloc, now)?;
-        let text = gathered.text(alloc, &self.descriptions.read(rt));
+        let text = gathered.text(alloc, self.naming, &self.descriptions.read(rt));
         if text.is_err() {
             forget_all(&mut *self.recency.lock(rt), &gathered.series);
         }

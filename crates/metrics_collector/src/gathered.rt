@@ -1,11 +1,12 @@
 //! What was read of a collector.
-ghost use Rattle.std.specs.Prelude.{◌≡◌, List, IfOk, IfErr, MatchResult, string_bytes};
+ghost use Rattle.std.specs.Prelude.{◌≡◌, List, IfOk, IfErr, MatchResult, OnOk, string_bytes};
+ghost use Rattle.std.specs.List.{AllByRecursion};
 ghost use Rattle.metrics.specs.declared.error.Error.TheVariants.{Memory as OutOfMemory};
 ghost use Rattle.metrics_exporter.specs.Readings.{Told, all_told, told_of, AreReadings, AreOnce, cells_told};
 ghost use Rattle.metrics_exporter.specs.Exporting.{Cells};
 ghost use Rattle.metrics_exporter.specs.Describing.{described_by};
-ghost use Rattle.metrics_prometheus.specs.declared.naming.Naming.TheVariants.{AsGiven};
 ghost use Rattle.metrics_prometheus.specs.Exposition.{IsDescribed};
+ghost use Rattle.metrics_prometheus.specs.Reading.{AreOfKinds, IsSmall};
 
 use metrics::{Error, Key};
 use metrics_prometheus::{Descriptions, Naming, ReadingRef, SeriesReading, exposition_of};
@@ -33,17 +34,28 @@ pub struct Gathered {
     pub series: Vec<GatheredSeries>,
 }
 
-ghost use Rattle.metrics_collector.specs.Gathering.{gathered_told, told_of_gathered, all_gathered};
+ghost use Rattle.metrics_collector.specs.Gathering.{gathered_told, told_of_gathered, all_gathered, IsOfKind};
+
+/// Does nothing: its contract says that the bounds are numbers of 64 bits.
+fn small_bounds(histogram: &Histogram)
+    ensures { AllByRecursion IsSmall histogram.now.buckets }
+{
+    histogram.bounds();
+}
 
 impl GatheredSeries {
     /// Returns the series by reference.
     pub fn reading(&self) -> SeriesReading<'_>
-        ensures { told_of result ≡ told_of_gathered self.now }
+        ensures told { told_of result ≡ told_of_gathered self.now }
+        ensures kind { IsOfKind (told_of result) }
     {
         let reading = match &self.value {
             Value::Count(count) => ReadingRef::Count(*count),
             Value::Level(level) => ReadingRef::Level(*level),
-            Value::Samples(histogram) => ReadingRef::Samples(histogram),
+            Value::Samples(histogram) => {
+                small_bounds(histogram);
+                ReadingRef::Samples(histogram)
+            }
         };
         SeriesReading {
             key: &self.key,
@@ -54,7 +66,8 @@ impl GatheredSeries {
 
 /// All series by reference.
 fn readings(alloc: Global, series: &[GatheredSeries]) -> Result<Vec<SeriesReading<'_>>, AllocError>
-    ensures { IfOk result (λ all. all_told all.items ≡ gathered_told series.now) }
+    ensures told { IfOk result (λ all. all_told all.items ≡ gathered_told series.now) }
+    ensures kinds { IfOk result (λ all. AllByRecursion IsOfKind (all_told all.items)) }
 {
     let mut readings = Vec::with_capacity(alloc, series.len())?;
     for one in series {
@@ -64,15 +77,21 @@ fn readings(alloc: Global, series: &[GatheredSeries]) -> Result<Vec<SeriesReadin
 }
 
 impl Gathered {
-    /// Writes the series in Prometheus's text exposition format, each name behind its description.
-    pub fn text(&self, alloc: Global, descriptions: &Descriptions) -> Result<String, Error>
+    /// Writes the series in Prometheus's text exposition format, each name behind its description. The naming decides names and
+    /// units.
+    pub fn text(
+        &self,
+        alloc: Global,
+        naming: Naming,
+        descriptions: &Descriptions,
+    ) -> Result<String, Error>
         ensures ok { (cells : Cells) → AreReadings cells (all_gathered self.now)
-            → IfOk result (λ text. IsDescribed AsGiven (described_by descriptions.now) cells (string_bytes text)) }
+            → IfOk result (λ text. IsDescribed naming (described_by descriptions.now) cells (string_bytes text)) }
         ensures each { IfOk result (λ text. (kept : List Told) × AreOnce (all_gathered self.now) kept
-            × IsDescribed AsGiven (described_by descriptions.now) (cells_told kept) (string_bytes text)) }
+            × AreOfKinds (cells_told kept) × IsDescribed naming (described_by descriptions.now) (cells_told kept) (string_bytes text)) }
         ensures err { IfErr result (λ e. e ≡ OutOfMemory) }
     {
         let readings = readings(alloc, &self.series)?;
-        exposition_of(alloc, Naming::AsGiven, descriptions, &readings)
+        exposition_of(alloc, naming, descriptions, &readings)
     }
 }

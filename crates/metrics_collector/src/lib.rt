@@ -14,3 +14,4 @@ pub use cells::{CollectorCells, CounterHandle, GaugeHandle, HistogramHandle};
 pub use collector::Collector;
 pub use gathered::{Gathered, GatheredSeries, Value};
 pub use metrics::Error;
+pub use metrics_prometheus::{Descriptions, Naming};
