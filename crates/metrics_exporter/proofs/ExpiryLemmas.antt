@@ -1,26 +1,33 @@
 -- The checks of one expiry, one after another.
-use Rattle.std.proofs.Common.{◌≡◌, ℕ, zero, suc, ◌+◌, ◌<◌, ◌≤◌, Bool, true, false, cond, not, List, [], ◌∷◌, ◌++◌, map, take, drop, get_or, length, Option, None, IsSome, Result, Ok, Err, refl, ap, sym, ◌∙◌, subst, reverse, arith, append_assoc, append-nil, take-append-drop}
+use Rattle.std.proofs.Common.{◌≡◌, ℕ, zero, suc, ◌+◌, ◌<◌, ◌≤◌, Bool, true, false, cond, not, List, [], ◌∷◌, ◌++◌, map, take, drop, get_or, length, Option, None, Some, Result, Ok, Err, refl, ap, sym, ◌∙◌, subst, reverse, arith, append_assoc, append-nil, take-append-drop}
 use Rattle.std.specs.Result.{IsErrAnd}
-use Rattle.std.specs.Prelude.{◌&&◌}
-use Rattle.std.specs.List.{IsDistinct}
-use Rattle.std.proofs.lemmas.List.{reverse-append, map-append, take_more, take_all, get_or_default}
-use Rattle.std.proofs.lemmas.List.Elements.{filter_map-append, Contains-get_or}
+use Rattle.std.specs.Prelude.{◌&&◌, ◌||◌, ◌==◌}
+use Rattle.std.proofs.lemmas.Bool.{false≢true}
+use Rattle.std.proofs.lemmas.List.{reverse-append, map-append, take_more, take_all, get_or_default, length-append}
+use Rattle.std.proofs.lemmas.List.Elements.{filter_map-append}
+use Rattle.std.proofs.lemmas.List.Folds.{list_any-append, list_any_more}
 use Rattle.std.proofs.lemmas.List.Sums.{sum_by-append}
 use Rattle.std.proofs.lemmas.Grind.{flat_map-append}
 use Rattle.std.proofs.lemmas.Map.Keys.{apart_from_distinct}
 use Rattle.metrics_names.specs.declared.kind.MetricKind.{MetricKind}
 use Rattle.metrics_names.specs.Names.{KeyParts, SeriesKey, key_eq, series_key_eq}
+use Rattle.metrics_names.specs.Equality.{key_exact}
 use Rattle.metrics.specs.declared.error.Error.{Error}
 use Rattle.metrics.specs.declared.error.Error.TheVariants.{Memory}
-use Rattle.metrics_registry.specs.Recency.{Rules, Check}
-use Rattle.metrics_registry.specs.RecencyEntries.{rules_of, table_of}
+use Rattle.metrics_registry.specs.declared.recency.Noted.{Noted}
+use Rattle.metrics_registry.specs.declared.recency.OwnedRecency.{OwnedRecency}
+use Rattle.metrics_registry.specs.Recency.{Rules, Check, Table, is_late, is_watched, noted_now, watch_step, check_step, table_answer, table_after}
+use Rattle.metrics_registry.specs.RecencyEntries.{rules_of, table_of, check_of}
 use Rattle.metrics_registry.specs.Idleness.{Answered, run_answer, run_answers}
 use Rattle.metrics_exporter.specs.declared.exporter.Exporter.{Exporter}
-use Rattle.metrics_exporter.specs.Exporting.{Setup, expires, Log, Step, checked, steps, check_in, checks_in, Cell, Cells, cells_after, AreSeries, HaveFirst, generation_in, check_of_held, checks_of, answers_of, removed_by, IsExpiry}
+use Rattle.metrics_exporter.specs.declared.keys.SeriesRef.{SeriesRef}
+use Rattle.metrics_exporter.specs.Exporting.{Setup, expires, Log, Step, checked, steps, check_in, checks_in, Cells, cells_after, AreSeries, HaveFirst, generation_in, check_of_held, checks_of, answers_of, removed_by, IsExpiry}
 use Rattle.metrics_exporter.specs.ExporterText.{series_line, series_text, IsText}
-use Rattle.metrics_exporter.specs.Stepping.{ChecksCells}
-use Rattle.metrics_exporter.specs.Kept.{KeepsSetting, cells_of, Keeps, IsAfter}
-use Rattle.metrics_exporter.proofs.KeptLemmas.{steps-push, keeps-same, keeps-checked, check-answer, made_check}
+use Rattle.metrics_exporter.specs.Gathering.{series_at, series_shown, cell_shown, all_shown, AreSeen}
+use Rattle.metrics_exporter.specs.Stepping.{ChecksCells, NotesOrAdds, is_among, cells_without, notes_without}
+use Rattle.metrics_exporter.specs.Kept.{SeriesRegistry, cells_of, Keeps, KeepsBut, IsAfter}
+use Rattle.metrics_exporter.proofs.GatheringLemmas.{shown-get, shown-within, shown-end}
+use Rattle.metrics_exporter.proofs.KeptLemmas.{steps-push, keeps-none, keeps-noted, keeps-checked, check-answer, made_check}
 
 -- ---- the answers of checks, one more at the end
 
@@ -54,118 +61,204 @@ checks-all xs done =
     ap reverse (filter_map-append check_in xs (map checked done) ∙ ap (λ l. checks_in xs ++ l) (checks-made done))
     ∙ reverse-append (checks_in xs) done
 
--- ---- so far
-
-pub record Made (setup : Setup) (xs : List Step) (now : ℕ) (keys : List SeriesKey) (e : Exporter) (index removed : ℕ) : Type 0 where
-  pub done : List (Answered KeyParts)
-  pub kept : Keeps setup (xs ++ map checked done) e
-  pub checks : checks_of done ≡ map (check_of_held (cells_after setup xs) now) (take index keys)
-  pub answers : answers_of done ≡ run_answers key_eq setup.rules (reverse (checks_in xs)) (checks_of done)
-  pub count : removed ≡ removed_by done
-
--- the first keys were checked; the cells of the others are as they were
-pub record Front (now : ℕ) (keys : List SeriesKey) (a e : Exporter) (index removed : ℕ) : Type 0 where
-  pub within : removed ≤ index
-  pub shards : e.registry.count ≡ a.registry.count
-  pub rest : (k : ℕ) (d : SeriesKey) → index ≤ k → k < length keys → cells_of e.registry (get_or keys k d) ≡ cells_of a.registry (get_or keys k d)
-  pub made : (setup : Setup) (xs : List Step) → Keeps setup xs a → Made setup xs now keys e index removed
-
-pub front-none : (now : ℕ) (keys : List SeriesKey) (a : Exporter) → Front now keys a a 0 0
-front-none now keys a = record {
-  within = omega arith;
-  shards = refl;
-  rest = λ k d more small. refl;
-  made = λ setup xs kept. record {
-    done = [];
-    kept = let P : List Step → Type 0 = λ ys. Keeps setup ys a in subst P (sym (append-nil xs)) kept;
-    checks = refl;
-    answers = refl;
-    count = refl;
-  };
-}
-
-abbrev pub next : ℕ → Bool → ℕ
-next removed stays = cond (not stays) (removed + 1) removed
+-- ---- one check
 
 same-check : (s : SeriesKey) (now : ℕ) (b c : Cells) → b s ≡ c s → check_of_held b now s ≡ check_of_held c now s
 same-check s now b c e = ap (λ o. record { kind = s.kind; key = s.key; generation = generation_in o; moment = now; held = true }) e
 
--- one more key was checked
-module _ (now : ℕ) (keys : List SeriesKey) (a e f : Exporter) (index removed : ℕ) (s : SeriesKey) (stays : Bool) where
-  one-more : (setup : Setup) (xs : List Step) → index < length keys → s ≡ get_or keys index s → cells_of e.registry s ≡ cells_of a.registry s
-      → f.registry.storage ≡ e.registry.storage → rules_of f.recency ≡ rules_of e.recency
-      → ChecksCells (rules_of e.recency) (check_of_held (cells_of e.registry) now s) s (table_of key_eq e.recency) (table_of key_eq f.recency) (cells_of e.registry) (cells_of f.registry) stays
-      → Keeps setup xs a → Made setup xs now keys e index removed → Made setup xs now keys f (index + 1) (next removed stays)
-  one-more setup xs small at still storage rules changed kept made =
+-- of a series that is idle nothing is noted any more
+none-noted : (rules : Rules) (c : Check KeyParts) (o : Option Noted) → (check_step rules c o).0 ≡ false → (check_step rules c o).1 ≡ None
+none-noted rules c o h = whether (is_watched rules c.kind) (watch_step rules.timeout (noted_now c) c.held o) (λ g. watched o g) h
+  where
+    whether : (w : Bool) (p : Bool × Option Noted) → (p.0 ≡ false → p.1 ≡ None) → (cond {A = Bool × Option Noted} w p (true, o)).0 ≡ false → (cond {A = Bool × Option Noted} w p (true, o)).1 ≡ None
+    whether true p k g = k g
+    whether false p k g = absurd (false≢true (sym g))
+
+    late : (n : Noted) (same late : Bool) → (cond {A = Bool × Option Noted} same (cond late (false, None) (true, Some n)) (true, Some (noted_now c))).0 ≡ false
+        → (cond {A = Bool × Option Noted} same (cond late (false, None) (true, Some n)) (true, Some (noted_now c))).1 ≡ None
+    late n true true g = refl
+    late n true false g = absurd (false≢true (sym g))
+    late n false b g = absurd (false≢true (sym g))
+
+    watched : (n : Option Noted) → (watch_step rules.timeout (noted_now c) c.held n).0 ≡ false → (watch_step rules.timeout (noted_now c) c.held n).1 ≡ None
+    watched None g = absurd (false≢true (sym g))
+    watched (Some n) g = late n (n.generation == c.generation) (is_late rules.timeout n.moment c.moment && c.held) g
+
+module _ (rules : Rules) (cells : Cells) (now : ℕ) (s : SeriesKey) (table later : Table KeyParts) (gone out : List SeriesKey) (apart : is_among gone s ≡ false) where
+  abbrev check : Check KeyParts
+  check = check_of_held (cells_without gone cells) now s
+
+  abbrev before : Table KeyParts
+  before = notes_without gone table
+
+  noted-here : before s.kind s.key ≡ table s.kind s.key
+  noted-here = ap (λ b. cond b None (table s.kind s.key)) apart
+
+  among-more : (t : SeriesKey) → is_among (gone ++ s ∷ []) t ≡ (is_among gone t || (series_key_eq s t || false))
+  among-more t = list_any-append (λ x. series_key_eq x t) gone (s ∷ [])
+
+  -- a check of a series that is not among those to be removed, as if they were removed
+  pub checks-without : NotesOrAdds rules check s table later gone out
+      → ChecksCells rules check s before (notes_without out later) (cells_without gone cells) (cells_without out cells) (table_answer rules check table)
+  checks-without h = go (table_answer rules check table) refl h.notes h.idle
+    where
+      stays : (t : SeriesKey) (x : Bool) → series_key_eq s t ≡ x
+          → cond (is_among gone t) None (cond x (check_step rules check (table s.kind s.key)).1 (table t.kind t.key)) ≡ cond x (check_step rules check (before s.kind s.key)).1 (cond (is_among gone t) None (table t.kind t.key))
+      stays t true e =
+          ap (λ b. cond b None (check_step rules check (table s.kind s.key)).1) (ap (is_among gone) (sym (key_exact s t e)) ∙ apart)
+          ∙ ap (λ o. (check_step rules check o).1) (sym noted-here)
+      stays t false e = refl
+
+      goes : (t : SeriesKey) (y x : Bool) (o : Option Noted) → o ≡ None → cond (y || (x || false)) None (table t.kind t.key) ≡ cond x o (cond y None (table t.kind t.key))
+      goes t true true o e = sym e
+      goes t false true o e = sym e
+      goes t true false o e = refl
+      goes t false false o e = refl
+
+      leaves : (t : SeriesKey) (y x : Bool) → cond (y || (x || false)) None (cells t) ≡ cond x None (cond y None (cells t))
+      leaves t true true = refl
+      leaves t false true = refl
+      leaves t true false = refl
+      leaves t false false = refl
+
+      go : (b : Bool) → table_answer rules check table ≡ b
+          → ((kind : MetricKind) (key : KeyParts) → later kind key ≡ cond b (table_after key_eq rules check table kind key) (table kind key)) → out ≡ cond b gone (gone ++ s ∷ [])
+          → ChecksCells rules check s before (notes_without out later) (cells_without gone cells) (cells_without out cells) b
+      go true e notes same = record {
+        answer = sym e ∙ ap (λ o. (check_step rules check o).0) (sym noted-here);
+        notes = λ kind key.
+            let t = series_at kind key in
+            ap (λ g. cond (is_among g t) None (later kind key)) same ∙ ap (cond (is_among gone t) None) (notes kind key) ∙ stays t (series_key_eq s t) refl;
+        cells = λ t. ap (λ g. cond (is_among g t) None (cells t)) same;
+      }
+      go false e notes more =
+          let answer : (check_step rules check (before s.kind s.key)).0 ≡ false = ap (λ o. (check_step rules check o).0) noted-here ∙ e in
+          record {
+            answer = sym answer;
+            notes = λ kind key.
+                let t = series_at kind key in
+                ap (λ g. cond (is_among g t) None (later kind key)) more ∙ ap (λ b. cond b None (later kind key)) (among-more t)
+                ∙ ap (cond (is_among gone t || (series_key_eq s t || false)) None) (notes kind key)
+                ∙ goes t (is_among gone t) (series_key_eq s t) (check_step rules check (before s.kind s.key)).1 (none-noted rules check (before s.kind s.key) answer);
+            cells = λ t.
+                ap (λ g. cond (is_among g t) None (cells t)) more ∙ ap (λ b. cond b None (cells t)) (among-more t) ∙ leaves t (is_among gone t) (series_key_eq s t);
+          }
+
+-- ---- so far
+
+pub record Made (setup : Setup) (xs : List Step) (now : ℕ) (keys : List SeriesKey) (r : SeriesRegistry) (e : OwnedRecency KeyParts) (gone : List SeriesKey) (index : ℕ) : Type 0 where
+  pub done : List (Answered KeyParts)
+  pub kept : KeepsBut gone setup (xs ++ map checked done) r e
+  pub checks : checks_of done ≡ map (check_of_held (cells_after setup xs) now) (take index keys)
+  pub answers : answers_of done ≡ run_answers key_eq setup.rules (reverse (checks_in xs)) (checks_of done)
+  pub count : length gone ≡ removed_by done
+
+-- the first rows were checked; none of the others is among those that are to be removed
+pub record Front (now : ℕ) (rows : List SeriesRef) (r : SeriesRegistry) (a e : OwnedRecency KeyParts) (gone : List SeriesKey) (index : ℕ) : Type 0 where
+  pub rest : (k : ℕ) (d : SeriesKey) → index ≤ k → k < length (all_shown rows) → is_among gone (get_or (all_shown rows) k d) ≡ false
+  pub made : (setup : Setup) (xs : List Step) → KeepsBut [] setup xs r a → Made setup xs now (all_shown rows) r e gone index
+
+pub front-none : (now : ℕ) (rows : List SeriesRef) (r : SeriesRegistry) (a : OwnedRecency KeyParts) (gone : List SeriesKey) → gone ≡ [] → Front now rows r a a gone 0
+front-none now rows r a gone none = subst (λ g. Front now rows r a a g 0) (sym none) (record {
+  rest = λ k d more small. refl;
+  made = λ setup xs kept. record {
+    done = [];
+    kept = let P : List Step → Type 0 = λ ys. KeepsBut [] setup ys r a in subst P (sym (append-nil xs)) kept;
+    checks = refl;
+    answers = refl;
+    count = refl;
+  };
+})
+
+-- one more row was checked
+module _ (now : ℕ) (rows : List SeriesRef) (r : SeriesRegistry) (a e f : OwnedRecency KeyParts) (gone out : List SeriesKey) (index : ℕ) (row : SeriesRef) where
+  abbrev keys : List SeriesKey
+  keys = all_shown rows
+
+  abbrev s : SeriesKey
+  s = series_shown row
+
+  abbrev table : Table KeyParts
+  table = table_of key_eq e
+
+  abbrev row_check : Check KeyParts
+  row_check = check_of_held (cells_without gone (cells_of r)) now s
+
+  one-more : (setup : Setup) (xs : List Step) (stays : Bool) → index < length keys → s ≡ get_or keys index s → cells_without gone (cells_of r) s ≡ cells_of r s
+      → rules_of f ≡ rules_of e → out ≡ cond stays gone (gone ++ s ∷ [])
+      → ChecksCells (rules_of e) row_check s (notes_without gone table) (notes_without out (table_of key_eq f)) (cells_without gone (cells_of r)) (cells_without out (cells_of r)) stays
+      → KeepsBut [] setup xs r a → Made setup xs now keys r e gone index → Made setup xs now keys r f out (index + 1)
+  one-more setup xs stays small at still rules added changed kept made =
       let ys : List Step = xs ++ map checked made.done in
-      let x : Answered KeyParts = made_check setup ys e e now s stays made.kept in
-      let plain : x.check ≡ check_of_held (cells_after setup xs) now s = same-check s now (cells_of e.registry) (cells_after setup xs) (still ∙ kept.cells s) in
-      let P : List Step → Type 0 = λ zs. Keeps setup zs f in
+      let x : Answered KeyParts = made_check setup ys r e gone now s stays made.kept in
+      let plain : x.check ≡ check_of_held (cells_after setup xs) now s = same-check s now (cells_without gone (cells_of r)) (cells_after setup xs) (still ∙ kept.cells s) in
+      let P : List Step → Type 0 = λ zs. KeepsBut out setup zs r f in
       let F : SeriesKey → Check KeyParts = check_of_held (cells_after setup xs) now in
       let checks : checks_of (made.done ++ x ∷ []) ≡ checks_of made.done ++ x.check ∷ [] = map-append (λ (b : Answered KeyParts). b.check) made.done (x ∷ []) in
       let answered : stays ≡ run_answer key_eq setup.rules (reverse made.done ++ reverse (checks_in xs)) x.check =
-      check-answer setup ys e e now s stays made.kept changed.answer ∙ ap (λ l. run_answer key_eq setup.rules l x.check) (checks-all xs made.done) in
+      check-answer setup ys r e gone now s stays made.kept changed.answer ∙ ap (λ l. run_answer key_eq setup.rules l x.check) (checks-all xs made.done) in
       record {
         done = made.done ++ x ∷ [];
         kept = subst P (append_assoc xs (map checked made.done) (checked x ∷ []) ∙ ap (λ l. xs ++ l) (sym (map-append checked made.done (x ∷ []))))
-            (keeps-checked setup ys e f now s stays made.kept storage rules changed);
+            (keeps-checked setup ys r e gone now s stays made.kept f out rules changed);
         checks = checks ∙ ap (λ l. l ++ x.check ∷ []) made.checks ∙ ap (λ b. map F (take index keys) ++ b ∷ []) (plain ∙ ap F at)
             ∙ sym (ap (map F) (take_more keys index s small) ∙ map-append F (take index keys) (get_or keys index s ∷ []));
         answers = map-append (λ (b : Answered KeyParts). b.answer) made.done (x ∷ []) ∙ ap (λ b. answers_of made.done ++ b ∷ []) answered
             ∙ sym (ap (run_answers key_eq setup.rules (reverse (checks_in xs))) checks ∙ runs-push setup.rules (reverse (checks_in xs)) made.done x.check made.answers);
-        count = count stays ∙ sym (sum_by-append (λ (b : Answered KeyParts). cond (not b.answer) 1 0) made.done (x ∷ []));
+        count = ap length added ∙ count stays ∙ sym (sum_by-append (λ (b : Answered KeyParts). cond (not b.answer) 1 0) made.done (x ∷ []));
       }
     where
-      count : (b : Bool) → next removed b ≡ removed_by made.done + removed_by (record { check = check_of_held (cells_of e.registry) now s; answer = b } ∷ [])
+      count : (b : Bool) → length (cond b gone (gone ++ s ∷ [])) ≡ removed_by made.done + removed_by (record { check = row_check; answer = b } ∷ [])
       count true = omega (arith, made.count)
-      count false = omega (arith, made.count)
+      count false = omega (arith, made.count, length-append gone (s ∷ []))
 
-  pub front-more : IsDistinct series_key_eq keys → Front now keys a e index removed → index < length keys → s ≡ get_or keys index s
-      → KeepsSetting e.registry f.registry → rules_of f.recency ≡ rules_of e.recency
-      → ChecksCells (rules_of e.recency) (check_of_held (cells_of e.registry) now s) s (table_of key_eq e.recency) (table_of key_eq f.recency) (cells_of e.registry) (cells_of f.registry) stays
-      → Front now keys a f (index + 1) (next removed stays)
-  front-more apart front small at (storage, shards) rules changed =
-      let still : cells_of e.registry s ≡ cells_of a.registry s = ap (cells_of e.registry) at ∙ front.rest index s (omega arith) small ∙ ap (cells_of a.registry) (sym at) in
+  pub front-more : AreSeen (cells_of r) rows → Front now rows r a e gone index → index < length rows → row ≡ get_or rows index row → rules_of f ≡ rules_of e
+      → NotesOrAdds (rules_of e) (check_of row.kind row.key.now (cell_shown row.cell).generation now true) s table (table_of key_eq f) gone out → Front now rows r a f out (index + 1)
+  front-more seen front small at rules done =
+      let within : index < length keys = shown-within rows index small in
+      let place : s ≡ get_or keys index s = shown-get rows index row at in
+      let apart : is_among gone s ≡ false = ap (is_among gone) place ∙ front.rest index s (omega arith) within in
+      let still : cells_without gone (cells_of r) s ≡ cells_of r s = ap (λ b. cond b None (cells_of r s)) apart in
+      let is : check_of row.kind row.key.now (cell_shown row.cell).generation now true ≡ row_check =
+      ap (λ n. check_of row.kind row.key.now n now true) (sym (ap generation_in (still ∙ seen.own row (index, small, sym at)))) in
+      let N : Check KeyParts → Type 0 = λ c. NotesOrAdds (rules_of e) c s table (table_of key_eq f) gone out in
+      let noted : N row_check = subst N is done in
+      let stays : Bool = table_answer (rules_of e) row_check table in
+      let changed = checks-without (rules_of e) (cells_of r) now s table (table_of key_eq f) gone out apart noted in
       record {
-        within = within stays;
-        shards = shards ∙ front.shards;
         rest = λ k d more within'.
-            let other : series_key_eq s (get_or keys k d) ≡ false =
-            ap (λ t. series_key_eq t (get_or keys k d)) (at ∙ get_or_default keys index s d small) ∙ apart_from_distinct series_key_eq keys index k d apart (omega (arith, more)) within' in
-            changed.cells (get_or keys k d)
-            ∙ ap (λ b. cond (not stays && b) None (cells_of e.registry (get_or keys k d))) other
-            ∙ kept stays (cells_of e.registry (get_or keys k d))
-            ∙ front.rest k d (omega (arith, more)) within';
-        made = λ setup xs kept'. one-more setup xs small at still storage rules changed kept' (front.made setup xs kept');
+            let t = get_or keys k d in
+            let other : series_key_eq s t ≡ false = ap (λ x. series_key_eq x t) (place ∙ get_or_default keys index s d within) ∙ apart_from_distinct series_key_eq keys index k d seen.once (omega (arith, more)) within' in
+            ap (λ g. is_among g t) noted.idle ∙ others t (front.rest k d (omega (arith, more)) within') other stays;
+        made = λ setup xs kept. one-more setup xs stays within place still rules noted.idle changed kept (front.made setup xs kept);
       }
     where
-      within : (b : Bool) → next removed b ≤ index + 1
-      within true = omega (arith, front.within)
-      within false = omega (arith, front.within)
-
-      kept : (b : Bool) (o : Option Cell) → cond (not b && false) None o ≡ o
-      kept true o = refl
-      kept false o = refl
+      others : (t : SeriesKey) → is_among gone t ≡ false → series_key_eq s t ≡ false → (b : Bool) → is_among (cond b gone (gone ++ s ∷ [])) t ≡ false
+      others t h g true = h
+      others t h g false = list_any-append (λ x. series_key_eq x t) gone (s ∷ []) ∙ (λ i. h i || (g i || false))
 
 -- ---- the end
 
-same-series : (setup : Setup) (xs : List Step) (a : Exporter) (keys : List SeriesKey) → Keeps setup xs a → AreSeries (cells_of a.registry) keys → AreSeries (cells_after setup xs) keys
-same-series setup xs a keys kept series = let P : Cells → Type 0 = λ c. AreSeries c keys in subst P (λ i s. kept.cells s i) series
+same-series : (setup : Setup) (xs : List Step) (r : SeriesRegistry) (a : OwnedRecency KeyParts) (keys : List SeriesKey) → KeepsBut [] setup xs r a → AreSeries (cells_of r) keys → AreSeries (cells_after setup xs) keys
+same-series setup xs r a keys kept series = let P : Cells → Type 0 = λ c. AreSeries c keys in subst P (λ i s. kept.cells s i) series
 
-abbrev pub Expired : Exporter → Exporter → ℕ → Result ℕ Error → Type 0
-Expired a e now r = (setup : Setup) (log : Log) → IsAfter setup log a → (checks : List (Answered KeyParts)) × IsExpiry setup (steps log) now checks r × IsAfter setup (log ++ expires now checks r ∷ []) e
+-- an expiry made these checks, and found the idle series
+abbrev pub Checked : SeriesRegistry → OwnedRecency KeyParts → OwnedRecency KeyParts → List SeriesKey → ℕ → Result ℕ Error → Type 0
+Checked r a e gone now answer =
+    (setup : Setup) (xs : List Step) → KeepsBut [] setup xs r a → (checks : List (Answered KeyParts)) × IsExpiry setup xs now checks answer × KeepsBut gone setup (xs ++ map checked checks) r e
 
--- all keys were checked
-pub expired-all : (now : ℕ) (keys : List SeriesKey) (a e : Exporter) (index removed : ℕ) → AreSeries (cells_of a.registry) keys → length keys ≤ index → Front now keys a e index removed → Expired a e now (Ok removed)
-expired-all now keys a e index removed series end front setup log after =
-    let made = front.made setup (steps log) after in
-    let P : List Step → Type 0 = λ ys. Keeps setup ys e in (
+-- all rows were checked
+pub checked-all : (now : ℕ) (rows : List SeriesRef) (r : SeriesRegistry) (a e : OwnedRecency KeyParts) (gone : List SeriesKey) (index : ℕ)
+    → AreSeen (cells_of r) rows → length rows ≤ index → Front now rows r a e gone index → Checked r a e gone now (Ok (length gone))
+checked-all now rows r a e gone index seen end front setup xs kept =
+    let made = front.made setup xs kept in
+    let keys = all_shown rows in (
       made.done,
       record {
         answers = made.answers;
-        ended = ((keys, same-series setup (steps log) a keys after series, made.checks ∙ ap (map (check_of_held (cells_after setup (steps log)) now)) (take_all index keys end)), made.count);
+        ended = ((keys, same-series setup xs r a keys kept seen.series, made.checks ∙ ap (map (check_of_held (cells_after setup xs) now)) (take_all index keys (shown-end rows index end))), made.count);
       },
-      subst P (sym (steps-push log (expires now made.done (Ok removed)))) made.kept,
+      made.kept,
     )
 
 -- the key at a place, and those behind it
@@ -176,40 +269,41 @@ from-place (k ∷ keys) (suc index) s small at =
     let more : suc (index + 1) ≡ suc index + 1 = omega arith in
     from-place keys index s (omega (arith, small)) at ∙ ap (λ n. s ∷ drop n (k ∷ keys)) more
 
--- a check of a key found no memory
-pub expired-front : (now : ℕ) (keys : List SeriesKey) (a e f : Exporter) (index removed : ℕ) (s : SeriesKey) (x : Error) → AreSeries (cells_of a.registry) keys → Front now keys a e index removed
-    → index < length keys → s ≡ get_or keys index s → f.registry ≡ e.registry → rules_of f.recency ≡ rules_of e.recency → ((kind : MetricKind) (key : KeyParts) → table_of key_eq f.recency kind key ≡ table_of key_eq e.recency kind key)
-    → x ≡ Memory → Expired a f now (Err x)
-expired-front now keys a e f index removed s x series front small at registry rules notes memory setup log after =
-    let made = front.made setup (steps log) after in
-    let F : SeriesKey → Check KeyParts = check_of_held (cells_after setup (steps log)) now in
-    let P : List Step → Type 0 = λ ys. Keeps setup ys f in (
+-- a check of a row found no memory
+pub checked-front : (now : ℕ) (rows : List SeriesRef) (r : SeriesRegistry) (a e f : OwnedRecency KeyParts) (gone out : List SeriesKey) (index : ℕ) (row : SeriesRef) (x : Error)
+    → AreSeen (cells_of r) rows → Front now rows r a e gone index → index < length rows → row ≡ get_or rows index row
+    → rules_of f ≡ rules_of e → ((kind : MetricKind) (key : KeyParts) → table_of key_eq f kind key ≡ table_of key_eq e kind key) → out ≡ gone → x ≡ Memory → Checked r a f out now (Err x)
+checked-front now rows r a e f gone out index row x seen front small at rules notes same memory setup xs kept =
+    let keys = all_shown rows in
+    let made = front.made setup xs kept in
+    let F : SeriesKey → Check KeyParts = check_of_held (cells_after setup xs) now in
+    let P : List SeriesKey → Type 0 = λ g. KeepsBut g setup (xs ++ map checked made.done) r f in (
       made.done,
       record {
         answers = made.answers;
         ended = (
           (
             keys,
-            F s,
+            F (series_shown row),
             map F (drop (index + 1) keys),
-            same-series setup (steps log) a keys after series,
-            ap (λ l. checks_of made.done ++ map F l) (sym (from-place keys index s small at))
+            same-series setup xs r a keys kept seen.series,
+            ap (λ l. checks_of made.done ++ map F l) (sym (from-place keys index (series_shown row) (shown-within rows index small) (shown-get rows index row at)))
                 ∙ ap (λ l. l ++ map F (drop index keys)) made.checks ∙ sym (map-append F (take index keys) (drop index keys)) ∙ ap (map F) (take-append-drop index keys),
           ),
           memory,
         );
       },
-      subst P (sym (steps-push log (expires now made.done (Err x)))) (keeps-same setup (steps log ++ map checked made.done) e f registry rules notes made.kept),
+      subst P (sym same) (keeps-noted setup (xs ++ map checked made.done) gone r e f rules notes made.kept),
     )
 
--- the keys found no memory
-pub expired-none : (now : ℕ) (a : Exporter) (x : Error) → (x ≡ Memory) × HaveFirst (cells_of a.registry) → Expired a a now (Err x)
-expired-none now a x (memory, (first, rest, series)) setup log after =
-    let P : List Step → Type 0 = λ ys. Keeps setup ys a in
-    let F : SeriesKey → Check KeyParts = check_of_held (cells_after setup (steps log)) now in (
+-- the rows found no memory
+pub checked-none : (now : ℕ) (r : SeriesRegistry) (a : OwnedRecency KeyParts) (gone : List SeriesKey) (x : Error) → gone ≡ [] → (x ≡ Memory) × HaveFirst (cells_of r) → Checked r a a gone now (Err x)
+checked-none now r a gone x none (memory, (first, rest, series)) setup xs kept =
+    let P : List SeriesKey → List Step → Type 0 = λ g ys. KeepsBut g setup ys r a in
+    let F : SeriesKey → Check KeyParts = check_of_held (cells_after setup xs) now in (
       [],
-      record { answers = refl; ended = ((first ∷ rest, F first, map F rest, same-series setup (steps log) a (first ∷ rest) after series, refl), memory) },
-      subst P (sym (steps-push log (expires now [] (Err x)) ∙ append-nil (steps log))) after,
+      record { answers = refl; ended = ((first ∷ rest, F first, map F rest, same-series setup xs r a (first ∷ rest) kept series, refl), memory) },
+      subst (λ g. P g (xs ++ [])) (sym none) (subst (P []) (sym (append-nil xs)) kept),
     )
 
 -- what `?` hands on
@@ -217,15 +311,32 @@ pub err-result : (r : Result ℕ Error) (x : Error) → IsErrAnd r (λ y. y ≡ 
 err-result (Ok n) x h = absurd h
 err-result (Err y) x h = ap Err h
 
--- ---- the key at hand
+-- the idle series were removed
+pub expired : (now : ℕ) (a f : Exporter) (e : OwnedRecency KeyParts) (gone : List SeriesKey) (answer : Result ℕ Error) → Checked a.registry a.recency e gone now answer
+    → ((setup : Setup) (xs : List Step) → KeepsBut gone setup xs a.registry e → Keeps setup xs f)
+    → (setup : Setup) (log : Log) → IsAfter setup log a → (checks : List (Answered KeyParts)) × IsExpiry setup (steps log) now checks answer × IsAfter setup (log ++ expires now checks answer ∷ []) f
+expired now a f e gone answer done removed setup log after =
+    let made = done setup (steps log) (keeps-none setup (steps log) a after) in
+    let P : List Step → Type 0 = λ ys. Keeps setup ys f in
+    (made.0, made.1, subst P (sym (steps-push log (expires now made.0 answer))) (removed setup _ made.2))
 
--- a key that wasn't checked yet is held
-pub still-held : (now : ℕ) (keys : List SeriesKey) (a e : Exporter) (index removed : ℕ) (s : SeriesKey) → AreSeries (cells_of a.registry) keys → Front now keys a e index removed
-    → index < length keys → s ≡ get_or keys index s → IsSome (cells_of e.registry s)
-still-held now keys a e index removed s series front small at =
-    let P : Option Cell → Type 0 = λ o. IsSome o in
-    let there = Contains-get_or keys index s small in
-    subst P (sym (ap (cells_of e.registry) at ∙ front.rest index s (omega arith) small)) ((series.held (get_or keys index s)).0 there)
+-- ---- series that are removed one after another
+
+-- one more was removed
+pub among-next : (gone : List SeriesKey) (i : ℕ) (s t : SeriesKey) → i < length gone → s ≡ get_or gone i s → is_among (take (i + 1) gone) t ≡ (is_among (take i gone) t || series_key_eq s t)
+among-next gone i s t small at = list_any_more (λ x. series_key_eq x t) gone i s small ∙ ap (λ x. is_among (take i gone) t || series_key_eq x t) (sym at)
+
+pub removed-next : {A : Type 0} (gone : List SeriesKey) (i : ℕ) (s t : SeriesKey) (was old new : Option A) → i < length gone → s ≡ get_or gone i s
+    → old ≡ cond (is_among (take i gone) t) None was → new ≡ cond (series_key_eq s t) None old → new ≡ cond (is_among (take (i + 1) gone) t) None was
+removed-next gone i s t was old new small at so now =
+    now ∙ ap (cond (series_key_eq s t) None) so ∙ either (is_among (take i gone) t) (series_key_eq s t)
+    ∙ ap (λ b. cond b None was) (sym (among-next gone i s t small at))
+  where
+    either : (x y : Bool) → cond y None (cond x None was) ≡ cond (x || y) None was
+    either true true = refl
+    either true false = refl
+    either false true = refl
+    either false false = refl
 
 -- ---- the text
 

@@ -1,5 +1,5 @@
-pub mod RegistryLemmas
 pub mod GatheringLemmas
+pub mod WalkLemmas
 pub mod SortedLemmas
 pub mod NumberLemmas
 pub mod StepLemmas
@@ -11,4 +11,5 @@ pub mod AbsorbLemmas
 pub mod ExpiryLemmas
 pub mod LawLemmas
 pub mod ReadingsLemmas
+pub mod SeenLemmas
 pub mod DescriptionsLemmas

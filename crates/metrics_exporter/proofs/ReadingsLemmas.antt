@@ -1,37 +1,24 @@
 -- Series with what they have, gathered shard by shard.
-use Rattle.std.proofs.Common.{Result, Ok, Err, IfOk, ◌≡◌, ◌∙◌, ℕ, ◌+◌, ◌<◌, Bool, true, false, cond, List, [], ◌∷◌, ◌++◌, map, take, length, get_or, Some, refl, ap, sym, subst, arith, append_assoc}
+use Rattle.std.proofs.Common.{◌≡◌, ◌∙◌, ℕ, zero, suc, ◌+◌, ◌<◌, Bool, true, false, cond, List, [], ◌∷◌, ◌++◌, map, length, get_or, Some, refl, ap, sym, subst, arith}
 use Rattle.std.specs.Prelude.{option_map, Contains}
 use Rattle.std.specs.List.{IsDistinct, AllByRecursion}
+use Rattle.std.specs.List.Sorted.{IsPermutation}
 use Rattle.std.specs.Map.{keys_of}
 use Rattle.std.proofs.lemmas.Bool.{false≢true}
 use Rattle.std.proofs.lemmas.List.{map-append}
-use Rattle.std.proofs.lemmas.Map.Keys.{IsDistinct-head, IsDistinct-tail}
+use Rattle.std.proofs.lemmas.List.Sorted.{Contains-permutation, IsPermutation-sym, IsPermutation-map}
+use Rattle.std.proofs.lemmas.Map.Keys.{IsDistinct-head, IsDistinct-tail, IsDistinct-IsPermutation}
 use Rattle.metrics_names.specs.declared.kind.MetricKind.{MetricKind}
 use Rattle.metrics_names.specs.declared.kind.MetricKind.TheVariants.{Counter, Gauge, Histogram}
 use Rattle.metrics_names.specs.Names.{KeyParts, SeriesKey, key_eq, series_key_eq}
 use Rattle.metrics_names.specs.Equality.{key_eq-Decides}
 use Rattle.metrics_registry.specs.declared.generation.Counted.{Counted}
-use Rattle.metrics_registry.specs.Held.{held, entries_of}
-use Rattle.metrics_registry.proofs.ShardLemmas.{entries-here}
+use Rattle.metrics_registry.specs.Held.{held}
 use Rattle.metrics_exporter.specs.Exporting.{Reading, count, level, samples, Cell, Cells, IsHeld, IsHeldNumber, HoldsSome}
-use Rattle.metrics_exporter.specs.Kept.{SeriesRegistry, cell_in, cells_of}
-use Rattle.metrics_exporter.specs.Gathering.{series_at}
+use Rattle.metrics_exporter.specs.Kept.{SeriesRegistry, cells_of}
+use Rattle.metrics_exporter.specs.Gathering.{series_at, cell_in}
 use Rattle.metrics_exporter.specs.Readings.{Told, told_in, reading_in, AreReadings}
-use Rattle.metrics_exporter.proofs.SortedLemmas.{distinct-all, from-all, in-all, none-distinct}
-
--- one more shard
-pub told-shard : {A C : Type 0} (kind : MetricKind) (read : C → Reading) (p : A → List (KeyParts × Counted C)) (shards : List A) (i : ℕ) (shard : A) (initial before after : List Told)
-    → i < length shards → shard ≡ get_or shards i shard
-    → before ≡ initial ++ told_in kind read (entries_of (take i (map p shards))) → after ≡ before ++ told_in kind read (p shard) → after ≡ initial ++ told_in kind read (entries_of (take (i + 1) (map p shards)))
-told-shard kind read p shards i shard initial before after small at was now =
-    let done = entries_of (take i (map p shards)) in
-    now ∙ ap (λ l. l ++ told_in kind read (p shard)) was ∙ append_assoc initial (told_in kind read done) (told_in kind read (p shard))
-    ∙ ap (λ l. initial ++ l) (sym (map-append (λ e. (series_at kind e.0, read e.1.inner)) done (p shard)) ∙ ap (told_in kind read) (sym (entries-here shards p i shard small at)))
-
--- the three kinds, one behind another
-pub told-ok : {A E : Type 0} (f : A → List Told) (none first second cs gs hs : List Told) (r : Result A E) → none ≡ [] → first ≡ none ++ cs → second ≡ first ++ gs → IfOk r (λ a. f a ≡ second ++ hs) → IfOk r (λ a. f a ≡ cs ++ gs ++ hs)
-told-ok f none first second cs gs hs (Err e) h g k l = tt
-told-ok f none first second cs gs hs (Ok a) e g h k = k ∙ ap (λ ks. ks ++ hs) (h ∙ ap (λ ks. ks ++ gs) (g ∙ ap (λ ks. ks ++ cs) e))
+use Rattle.metrics_exporter.proofs.SortedLemmas.{flips, distinct-all, from-all, in-all, none-distinct}
 
 abbrev firsts : List Told → List SeriesKey
 firsts told = map (λ t. t.0) told
@@ -43,6 +30,18 @@ firsts-in kind read (e ∷ es) = ap (λ l. series_at kind e.0 ∷ l) (firsts-in 
 each-append : (P : Told → Type 0) (xs ys : List Told) → AllByRecursion P xs → AllByRecursion P ys → AllByRecursion P (xs ++ ys)
 each-append P [] ys h g = g
 each-append P (x ∷ xs) ys h g = (h.0, each-append P xs ys h.1 g)
+
+each-at : (P : Told → Type 0) (xs : List Told) → AllByRecursion P xs → (t : Told) (k : ℕ) → k < length xs → get_or xs k t ≡ t → P t
+each-at P [] h t k small is = absurd (omega (arith, small))
+each-at P (x ∷ xs) h t zero small is = subst P is h.0
+each-at P (x ∷ xs) h t (suc k) small is = each-at P xs h.1 t k (omega (arith, small)) is
+
+each-from : (P : Told → Type 0) (xs : List Told) → ((t : Told) → Contains xs t → P t) → AllByRecursion P xs
+each-from P [] h = tt
+each-from P (x ∷ xs) h = (h x (0, omega arith, refl), each-from P xs (λ t there. h t (suc there.0, omega (arith, there.1), there.2)))
+
+each-moved : (P : Told → Type 0) (xs ys : List Told) → IsPermutation xs ys → AllByRecursion P xs → AllByRecursion P ys
+each-moved P xs ys moved h = each-from P ys (λ t there. let k = Contains-permutation ys xs t (IsPermutation-sym _ _ moved) there in each-at P xs h t k.0 k.1 k.2)
 
 turned : (a b : KeyParts) → key_eq a b ≡ false → key_eq b a ≡ false
 turned a b h = go (key_eq b a) refl
@@ -94,21 +93,27 @@ module _ (r : SeriesRegistry) where
       ∙ ap (λ l. (map (λ e. series_at Counter e.0) r.counters ++ l) ++ firsts hs) (firsts-in Gauge level r.gauges)
       ∙ ap (λ l. (map (λ e. series_at Counter e.0) r.counters ++ map (λ e. series_at Gauge e.0) r.gauges) ++ l) (firsts-in Histogram samples r.histograms)
 
+  each-read : IsDistinct key_eq (keys_of r.counters) → IsDistinct key_eq (keys_of r.gauges) → IsDistinct key_eq (keys_of r.histograms) → AllByRecursion IsRead (cs ++ gs ++ hs)
+  each-read c g h =
+      each-append IsRead (cs ++ gs) hs
+      (each-append IsRead cs gs (told-each Counter count r.counters (λ k. refl) r.counters (held-each r.counters c)) (told-each Gauge level r.gauges (λ k. refl) r.gauges (held-each r.gauges g)))
+      (told-each Histogram samples r.histograms (λ k. refl) r.histograms (held-each r.histograms h))
+
   -- what is gathered of all shards
-  pub told-all : (told : List Told) → told ≡ cs ++ gs ++ hs
+  pub told-all : (told : List Told) → IsPermutation told (cs ++ gs ++ hs)
       → IsDistinct key_eq (keys_of r.counters) → IsDistinct key_eq (keys_of r.gauges) → IsDistinct key_eq (keys_of r.histograms) → AreReadings (cells_of r) told
-  told-all told is c g h =
-      let same : firsts told ≡ series_here = ap firsts is ∙ firsts-all in
+  told-all told walked c g h =
+      let f : Told → SeriesKey = λ t. t.0 in
+      let P : List SeriesKey → Type 0 = IsPermutation (firsts told) in
+      let there : IsPermutation (firsts told) series_here = subst P firsts-all (IsPermutation-map f _ _ walked) in
+      let back : IsPermutation series_here (firsts told) = IsPermutation-sym _ _ there in
       record {
-        once = subst (IsDistinct series_key_eq) (sym same) (distinct-all r c g h);
+        once = IsDistinct-IsPermutation series_key_eq flips series_here (firsts told) back (distinct-all r c g h);
         held = λ s. (
-          (λ there. from-all r s (subst (λ ks. Contains ks s) same there)),
-          (λ some. subst (λ ks. Contains ks s) (sym same) (in-all r s.kind s.key some)),
+          (λ is. from-all r s (Contains-permutation (firsts told) series_here s there is)),
+          (λ some. Contains-permutation series_here (firsts told) s back (in-all r s.kind s.key some)),
         );
-        readings = subst (AllByRecursion IsRead) (sym is)
-            (each-append IsRead (cs ++ gs) hs
-            (each-append IsRead cs gs (told-each Counter count r.counters (λ k. refl) r.counters (held-each r.counters c)) (told-each Gauge level r.gauges (λ k. refl) r.gauges (held-each r.gauges g)))
-            (told-each Histogram samples r.histograms (λ k. refl) r.histograms (held-each r.histograms h)));
+        readings = each-moved IsRead _ told (IsPermutation-sym _ _ walked) (each-read c g h);
       }
 
 -- where no series is held there is none to read

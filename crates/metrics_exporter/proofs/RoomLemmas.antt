@@ -10,7 +10,7 @@ use Rattle.metrics.specs.declared.error.Error.{Error}
 use Rattle.metrics.specs.declared.error.Error.TheVariants.{Memory, CountFull}
 use Rattle.metrics_storage.specs.Histogram.{Distribution, with_samples}
 use Rattle.metrics_registry.specs.declared.generation.Counted.{Counted}
-use Rattle.metrics_registry.specs.Held.{held, IsCellOf, Sets}
+use Rattle.metrics_registry.specs.Held.{Registry, held, IsCellOf, Sets}
 use Rattle.metrics_exporter.specs.Stepping.{new_counted, has_room, TakesSample}
 use Rattle.metrics_exporter.proofs.EntryLemmas.{same-entries}
 
@@ -59,6 +59,10 @@ module _ (sample : ℤ) (key : KeyParts) (empty : Distribution) (none : empty.co
   sample-refused (Err x) cell takes =
       let full = refused-at (held key_eq old key) refl cell takes.0 takes.2 in
       (takes.1 ∙ sym (ap (λ b. cond b Memory CountFull) full.0), full.1)
+
+-- two registries that show the same are one
+pub same-registry : {S K C G H : Type 0} (r s : Registry S K C G H) → r.storage ≡ s.storage → r.count ≡ s.count → r.counters ≡ s.counters → r.gauges ≡ s.gauges → r.histograms ≡ s.histograms → r ≡ s
+same-registry r s e f g h k = λ i. record { storage = e i; count = f i; counters = g i; gauges = h i; histograms = k i }
 
 -- the same of whole registries
 pub registry-refused : (r : Result (Unit {0}) Error) (why : Error) (A B : Type 0) → (A → B) → IfErr r (λ e. (e ≡ why) × A) → IfErr r (λ e. (e ≡ why) × B)

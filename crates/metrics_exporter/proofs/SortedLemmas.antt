@@ -18,7 +18,8 @@ use Rattle.metrics_names.specs.Names.{KeyParts, SeriesKey, kind_eq, key_eq, seri
 use Rattle.metrics_names.specs.Equality.{key_exact, key_same, key_eq-Decides}
 use Rattle.metrics_registry.specs.Held.{held}
 use Rattle.metrics_exporter.specs.Exporting.{count, level, samples, AreSeries, IsHeldNumber}
-use Rattle.metrics_exporter.specs.Kept.{SeriesRegistry, cell_in, cells_of}
+use Rattle.metrics_exporter.specs.Kept.{SeriesRegistry, cells_of}
+use Rattle.metrics_exporter.specs.Gathering.{cell_in}
 
 abbrev series : MetricKind → KeyParts → SeriesKey
 series kind key = record { kind = kind; key = key }
@@ -40,7 +41,7 @@ module _ (total : IsTotalOrder series_key_cmp) (ties : (a b : SeriesKey) → ser
       let d : SeriesKey = series Counter (record { name = []; labels = [] }) in
       sorted_from_all_adjacent total ks d (λ k small. before (get_or ks k d) (get_or ks (k + 1) d) (up k d (omega arith) small) (apart_from_distinct series_key_eq ks k (k + 1) d apart (omega arith) small))
 
-flips : (a b : SeriesKey) → series_key_eq a b ≡ series_key_eq b a
+pub flips : (a b : SeriesKey) → series_key_eq a b ≡ series_key_eq b a
 flips a b = go (series_key_eq a b) (series_key_eq b a) refl refl
   where
     go : (p q : Bool) → series_key_eq a b ≡ p → series_key_eq b a ≡ q → p ≡ q
@@ -106,13 +107,6 @@ module _ {C : Type 0} (kind : MetricKind) where
       (distinct-more es rest (IsDistinct-tail key_eq e.0 (keys_of es) apart) h g)
 
 -- ---- the keys of all kinds
-
-pub gathered-all : (none first second third cs gs hs : List SeriesKey) → none ≡ [] → first ≡ none ++ cs → second ≡ first ++ gs → third ≡ second ++ hs → third ≡ cs ++ gs ++ hs
-gathered-all none first second third cs gs hs e f g h = h ∙ ap (λ ks. ks ++ hs) (g ∙ ap (λ ks. ks ++ gs) (f ∙ ap (λ ks. ks ++ cs) e))
-
-pub gathered-ok : {A E : Type 0} (f : A → List SeriesKey) (none first second cs gs hs : List SeriesKey) (r : Result A E) → none ≡ [] → first ≡ none ++ cs → second ≡ first ++ gs → IfOk r (λ a. f a ≡ second ++ hs) → IfOk r (λ a. f a ≡ cs ++ gs ++ hs)
-gathered-ok f none first second cs gs hs (Err e) h g k l = tt
-gathered-ok {A} {E} f none first second cs gs hs (Ok a) h g k l = gathered-all none first second (f a) cs gs hs h g k l
 
 some-map : {A B : Type 0} (f : A → B) (o : Option A) → IsSome o → IsSome (option_map f o)
 some-map f None h = absurd (false≢true h)

@@ -1,20 +1,53 @@
--- Series by reference.
-use Rattle.std.specs.Prelude.{List, map}
-use Rattle.std.specs.Borrow.{Bor}
+-- Series by reference, each with its cell.
+use Rattle.std.specs.Prelude.{◌≡◌, ℕ, List, map, Some, Contains}
+use Rattle.std.specs.List.{IsDistinct}
 use Rattle.metrics_names.specs.declared.kind.MetricKind.{MetricKind}
-use Rattle.metrics_names.specs.Names.{KeyParts, SeriesKey}
+use Rattle.metrics_names.specs.Names.{KeyParts, SeriesKey, series_key_eq}
+use Rattle.metrics_registry.specs.declared.generation.Counted.{Counted}
+use Rattle.metrics_exporter.specs.declared.keys.CellRef.{CellRef}
+use Rattle.metrics_exporter.specs.declared.keys.CellRef.TheVariants as shown
+use Rattle.metrics_exporter.specs.declared.keys.SeriesRef.{SeriesRef}
+use Rattle.metrics_exporter.specs.Exporting.{Reading, count, level, samples, Cell, Cells, AreSeries}
 
 abbrev pub series_at : MetricKind → KeyParts → SeriesKey
 series_at kind key = record { kind = kind; key = key }
 
+abbrev pub cell_in : {C : Type 0} → (C → Reading) → Counted C → Cell
+cell_in read c = record { reading = read c.inner; generation = c.generation }
+
 -- the series that a reference shows
-abbrev pub series_shown : MetricKind × Bor KeyParts → SeriesKey
-series_shown s = series_at s.0 s.1.now
+abbrev pub series_shown : SeriesRef → SeriesKey
+series_shown s = series_at s.kind s.key.now
+
+abbrev pub cell_shown : CellRef → Cell
+cell_shown (shown.Counter c) = cell_in count c.now
+cell_shown (shown.Gauge c) = cell_in level c.now
+cell_shown (shown.Histogram c) = cell_in samples c.now
 
 -- the series that references show
-abbrev pub all_shown : List (MetricKind × Bor KeyParts) → List SeriesKey
+abbrev pub all_shown : List SeriesRef → List SeriesKey
 all_shown rows = map series_shown rows
+
+-- a series and its cell
+abbrev pub Seen : Type 0
+Seen = SeriesKey × Cell
+
+abbrev pub seen_by : SeriesRef → Seen
+seen_by s = (series_shown s, cell_shown s.cell)
+
+abbrev pub all_seen : List SeriesRef → List Seen
+all_seen rows = map seen_by rows
 
 -- the series of one kind's entries
 abbrev pub series_in : {C : Type 0} → MetricKind → List (KeyParts × C) → List SeriesKey
 series_in kind es = map (λ e. series_at kind e.0) es
+
+-- the same with their cells
+abbrev pub seen_in : {C : Type 0} → MetricKind → (C → Reading) → List (KeyParts × Counted C) → List Seen
+seen_in kind read es = map (λ e. (series_at kind e.0, cell_in read e.1)) es
+
+-- each held series once, in composite key order, with its cell
+pub record AreSeen (cells : Cells) (rows : List SeriesRef) : Type 0 where
+  pub series : AreSeries cells (all_shown rows)
+  pub once : IsDistinct series_key_eq (all_shown rows)
+  pub own : (r : SeriesRef) → Contains rows r → cells (series_shown r) ≡ Some (cell_shown r.cell)

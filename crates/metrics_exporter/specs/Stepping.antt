@@ -1,5 +1,6 @@
 -- One update and one check of what an exporter keeps.
-use Rattle.std.specs.Prelude.{if◌then◌else◌, ◌≡◌, ℕ, ◌+◌, ◌-◌, nat_lt, true, false, ◌%◌, ◌^◌, ℤ, pos, Bool, not, ◌&&◌, List, [], ◌∷◌, Option, None, Some, Result, Ok, Err}
+use Rattle.std.specs.Prelude.{if◌then◌else◌, ◌≡◌, ℕ, ◌+◌, ◌-◌, nat_lt, true, false, ◌%◌, ◌^◌, ℤ, pos, Bool, not, ◌&&◌, List, [], ◌∷◌, ◌++◌, Option, None, Some, Result, Ok, Err}
+use Rattle.std.specs.List.{list_any}
 use Rattle.metrics_names.specs.declared.kind.MetricKind.{MetricKind}
 use Rattle.metrics_names.specs.declared.kind.MetricKind.TheVariants.{Counter, Gauge, Histogram}
 use Rattle.metrics_names.specs.Names.{KeyParts, SeriesKey, key_eq, series_key_eq}
@@ -15,6 +16,7 @@ use Rattle.metrics_registry.specs.declared.generation.Counted.{Counted}
 use Rattle.metrics_registry.specs.Held.{held, Sets}
 use Rattle.metrics_registry.specs.Recency.{Rules, Check, Table, table_answer, table_after}
 use Rattle.metrics_exporter.specs.Exporting.{Reading, count, level, samples, Cell, Cells}
+use Rattle.metrics_exporter.specs.Gathering.{series_at}
 
 -- ---- an update
 
@@ -114,3 +116,20 @@ pub record ChecksCells (rules : Rules) (check : Check KeyParts) (s : SeriesKey) 
   pub answer : stays ≡ table_answer rules check old_table
   pub notes : (kind : MetricKind) (key : KeyParts) → new_table kind key ≡ table_after key_eq rules check old_table kind key
   pub cells : (t : SeriesKey) → new t ≡ (if not stays && series_key_eq s t then None else old t)
+
+-- a check that answers true is noted; where it answers false its series is added to the idle ones
+pub record NotesOrAdds (rules : Rules) (check : Check KeyParts) (s : SeriesKey) (old_table new_table : Table KeyParts) (old_idle new_idle : List SeriesKey) : Type 0 where
+  pub notes : (kind : MetricKind) (key : KeyParts) → new_table kind key ≡ (if table_answer rules check old_table then table_after key_eq rules check old_table kind key else old_table kind key)
+  pub idle : new_idle ≡ (if table_answer rules check old_table then old_idle else old_idle ++ s ∷ [])
+
+-- ---- without some series
+
+-- whether a series is one of these
+abbrev pub is_among : List SeriesKey → SeriesKey → Bool
+is_among gone s = list_any (λ t. series_key_eq t s) gone
+
+abbrev pub cells_without : List SeriesKey → Cells → Cells
+cells_without gone cells s = if is_among gone s then None else cells s
+
+abbrev pub notes_without : List SeriesKey → Table KeyParts → Table KeyParts
+notes_without gone table kind key = if is_among gone (series_at kind key) then None else table kind key

@@ -8,7 +8,7 @@ ghost use Rattle.metrics.specs.Layers.{mask_has};
 ghost use Rattle.metrics_names.specs.Names.{SeriesKey, KeyParts, key_eq};
 ghost use Rattle.metrics_registry.specs.Held.{is_shard_count as is_count};
 ghost use Rattle.metrics_registry.specs.Idleness.{Answered};
-ghost use Rattle.metrics_exporter.specs.Exporting.{Setup, Log, updates, expires, steps, IsFull, IsExpiry, IsHeldNumber};
+ghost use Rattle.metrics_exporter.specs.Exporting.{Setup, Log, Step, updates, expires, steps, IsFull, IsExpiry, IsHeldNumber};
 ghost use Rattle.metrics_exporter.specs.Exporting.{cells_after, series_of, HoldsSome};
 ghost use Rattle.metrics.specs.Book.{no_description};
 ghost use Rattle.metrics_exporter.specs.Describing.{DescribesName, described_by};
@@ -16,9 +16,10 @@ ghost use Rattle.metrics_exporter.specs.ExporterText.{IsText};
 ghost use Rattle.metrics_exporter.specs.Readings.{AreReadings, all_told};
 
 use crate::cells::CountedCells;
-use crate::changes::{check_series, update_cells};
+use crate::changes::{remove_series, update_cells};
 use crate::descriptions::Descriptions;
-use crate::keys::{held_number, sorted_keys, sorted_series};
+use crate::expiring::check_all;
+use crate::keys::{held_number, sorted_series};
 use crate::lines::write_series;
 use crate::readings::{SeriesReading, readings_of};
 use metrics::{CompositeKey, Error, Key, MetricKind, MetricKindMask, Unit, Update};
@@ -36,7 +37,7 @@ pub struct Exporter {
 }
 
 impl Exporter {
-    ghost use Rattle.metrics_exporter.specs.Kept.{IsAfter, held_cells, described};
+    ghost use Rattle.metrics_exporter.specs.Kept.{IsAfter, Keeps, KeepsBut, held_cells, described};
 
     /// Makes an exporter without series, whose registry has so many shards, a power of two from 1 to 1,024. Its histograms
     /// count at the bounds, of which there has to be one.
@@ -106,14 +107,28 @@ impl Exporter {
         ensures shards { self.new.registry.count ≡ self.old.registry.count }
         ensures descriptions { described self.new ≡ described self.old }
     {
-        let keys = sorted_keys(self.alloc, &self.registry)?;
-        let mut removed = 0;
-        for series in &keys {
-            if !check_series(&mut self.registry, &mut self.recency, series, now)? {
-                removed += 1;
-            }
+        let mut idle = Vec::new(self.alloc);
+        let removed = check_all(
+            self.alloc,
+            &self.registry,
+            &mut self.recency,
+            now,
+            &mut idle,
+        );
+        self.remove_all(&idle);
+        removed
+    }
+
+    /// Removes series and their notes.
+    fn remove_all(&mut self, idle: &[CompositeKey])
+        ensures kept { (setup : Setup) (xs : List Step) → KeepsBut idle.now setup xs self.old.registry self.old.recency
+            → Keeps setup xs self.new }
+        ensures shards { self.new.registry.count ≡ self.old.registry.count }
+        ensures descriptions { self.new.descriptions ≡ self.old.descriptions }
+    {
+        for series in idle {
+            remove_series(&mut self.registry, &mut self.recency, series);
         }
-        Ok(removed)
     }
 
     /// Replaces the text of a name of this kind, and the unit where one is given, whether or not a series of that name is held.
@@ -161,8 +176,7 @@ impl Exporter {
         let series = sorted_series(self.alloc, &self.registry)?;
         let mut text = String::new(self.alloc);
         for row in &series {
-            let (kind, key) = *row;
-            write_series(&mut text, &self.registry, kind, key)?;
+            write_series(&mut text, row)?;
         }
         Ok(text)
     }

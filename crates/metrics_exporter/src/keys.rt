@@ -1,96 +1,121 @@
-//! The keys of the series that are held.
-ghost use Rattle.std.specs.Prelude.{◌≡◌, ◌++◌, ℕ, min, IfOk, MatchResult};
-ghost use Rattle.std.specs.List.{IsDistinct};
+//! The series that are held, by reference.
+ghost use Rattle.std.specs.Prelude.{◌≡◌, ◌++◌, ℕ, min, IfOk, MatchResult, IsPermutation};
 ghost use Rattle.metrics_names.specs.Names.{SeriesKey, series_key_eq, series_key_cmp};
 ghost use Rattle.metrics_names.specs.declared.kind.MetricKind.TheVariants.{Counter as CounterKind, Gauge as GaugeKind};
 ghost use Rattle.metrics_names.specs.declared.kind.MetricKind.TheVariants.{Histogram as HistogramKind};
 ghost use Rattle.metrics.specs.declared.error.Error.TheVariants.{Memory as OutOfMemory};
-ghost use Rattle.metrics_exporter.specs.Gathering.{all_shown, series_shown, series_in};
-ghost use Rattle.metrics_exporter.specs.Exporting.{AreSeries, HaveFirst, IsHeldNumber};
+ghost use Rattle.metrics_exporter.specs.declared.keys.SeriesRef.{SeriesRef as Shown};
+ghost use Rattle.metrics_exporter.specs.Gathering.{all_seen, seen_in, series_shown, cell_shown, AreSeen};
+ghost use Rattle.metrics_exporter.specs.Exporting.{count, level, samples, HaveFirst, IsHeldNumber};
 ghost use Rattle.metrics_exporter.specs.Kept.{cells_of};
 
 use crate::cells::CountedCells;
 use metrics::{CompositeKey, Error, Key, MetricKind};
-use metrics_registry::{Cells, OwnedRegistry};
+use metrics_registry::{Cells, Counted, Generation, OwnedRegistry};
+use metrics_storage::Histogram;
 use std::alloc::{AllocError, Global};
 
-/// A series by reference, which compares as its composite key does.
-pub(crate) type SeriesRef<'a> = (MetricKind, &'a Key);
-
-/// Adds the series of one kind's cells at the end.
-fn gather<'a, C: Drop>(
-    kind: MetricKind,
-    cells: &'a Cells<Key, C>,
-    series: Vec<SeriesRef<'a>>,
-) -> Result<Vec<SeriesRef<'a>>, AllocError>
-    ensures { IfOk result (λ all. all_shown all.items ≡ all_shown series.entry.items ++ series_in kind cells.now) }
-{
-    let mut series = series;
-    for (key, _cell) in cells.iter() {
-        series.push((kind, key))?;
-    }
-    Ok(series)
+/// The cell of a series, by reference.
+#[derive(Clone, Copy)]
+pub(crate) enum CellRef<'a> {
+    Counter(&'a Counted<u64>),
+    Gauge(&'a Counted<i64>),
+    Histogram(&'a Counted<Histogram>),
 }
 
+impl<'a> CellRef<'a> {
+    /// The generation of the cell.
+    pub fn generation(&self) -> Generation
+        ensures { result ≡ (cell_shown self.now).generation }
+    {
+        match self {
+            CellRef::Counter(cell) => cell.get_generation(),
+            CellRef::Gauge(cell) => cell.get_generation(),
+            CellRef::Histogram(cell) => cell.get_generation(),
+        }
+    }
+}
+
+/// A series by reference, with its cell. It compares as its composite key does.
+#[derive(Clone, Copy)]
+#[derive_where(PartialEq, Eq, PartialOrd, Ord)]
+pub(crate) struct SeriesRef<'a> {
+    pub kind: MetricKind,
+    pub key: &'a Key,
+    #[derive_where(skip)]
+    pub cell: CellRef<'a>,
+}
+
+/// Adds counters at the end.
 fn gather_counters<'a>(
-    registry: &'a OwnedRegistry<Key, CountedCells>,
+    cells: &'a Cells<Key, Counted<u64>>,
     series: Vec<SeriesRef<'a>>,
 ) -> Result<Vec<SeriesRef<'a>>, AllocError>
-    ensures { IfOk result (λ all. all_shown all.items
-        ≡ all_shown series.entry.items ++ series_in CounterKind registry.now.counters) }
+    ensures { IfOk result (λ all. all_seen all.items ≡ all_seen series.entry.items ++ seen_in CounterKind count cells.now) }
 {
+    let kind = MetricKind::Counter;
     let mut series = series;
-    for shard in registry.shards() {
-        series = gather(MetricKind::Counter, &shard.counters, series)?;
+    for (key, cell) in cells.iter() {
+        let cell = CellRef::Counter(cell);
+        series.push(SeriesRef { kind, key, cell })?;
     }
     Ok(series)
 }
 
+/// Adds gauges at the end.
 fn gather_gauges<'a>(
-    registry: &'a OwnedRegistry<Key, CountedCells>,
+    cells: &'a Cells<Key, Counted<i64>>,
     series: Vec<SeriesRef<'a>>,
 ) -> Result<Vec<SeriesRef<'a>>, AllocError>
-    ensures { IfOk result (λ all. all_shown all.items
-        ≡ all_shown series.entry.items ++ series_in GaugeKind registry.now.gauges) }
+    ensures { IfOk result (λ all. all_seen all.items ≡ all_seen series.entry.items ++ seen_in GaugeKind level cells.now) }
 {
+    let kind = MetricKind::Gauge;
     let mut series = series;
-    for shard in registry.shards() {
-        series = gather(MetricKind::Gauge, &shard.gauges, series)?;
+    for (key, cell) in cells.iter() {
+        let cell = CellRef::Gauge(cell);
+        series.push(SeriesRef { kind, key, cell })?;
     }
     Ok(series)
 }
 
+/// Adds histograms at the end.
 fn gather_histograms<'a>(
-    registry: &'a OwnedRegistry<Key, CountedCells>,
+    cells: &'a Cells<Key, Counted<Histogram>>,
     series: Vec<SeriesRef<'a>>,
 ) -> Result<Vec<SeriesRef<'a>>, AllocError>
-    ensures { IfOk result (λ all. all_shown all.items
-        ≡ all_shown series.entry.items ++ series_in HistogramKind registry.now.histograms) }
+    ensures { IfOk result (λ all. all_seen all.items ≡ all_seen series.entry.items ++ seen_in HistogramKind samples cells.now) }
 {
+    let kind = MetricKind::Histogram;
     let mut series = series;
-    for shard in registry.shards() {
-        series = gather(MetricKind::Histogram, &shard.histograms, series)?;
+    for (key, cell) in cells.iter() {
+        let cell = CellRef::Histogram(cell);
+        series.push(SeriesRef { kind, key, cell })?;
     }
     Ok(series)
 }
 
-/// The series that are held, kind by kind, in the order of a walk.
+/// The series that are held, in the order of a walk over the shards.
 pub(crate) fn gathered_series<'a>(
     alloc: Global,
     registry: &'a OwnedRegistry<Key, CountedCells>,
 ) -> Result<Vec<SeriesRef<'a>>, AllocError>
-    ensures { IfOk result (λ all. all_shown all.items ≡ series_in CounterKind registry.now.counters
-        ++ series_in GaugeKind registry.now.gauges ++ series_in HistogramKind registry.now.histograms) }
+    ensures { IfOk result (λ all. IsPermutation (all_seen all.items) (seen_in CounterKind count registry.now.counters
+        ++ seen_in GaugeKind level registry.now.gauges ++ seen_in HistogramKind samples registry.now.histograms)) }
 {
-    let series = gather_counters(registry, Vec::new(alloc))?;
-    let series = gather_gauges(registry, series)?;
-    gather_histograms(registry, series)
+    let mut series = Vec::new(alloc);
+    for shard in registry.shards() {
+        series = gather_counters(&shard.counters, series)?;
+        series = gather_gauges(&shard.gauges, series)?;
+        series = gather_histograms(&shard.histograms, series)?;
+    }
+    Ok(series)
 }
 
 /// Takes nothing and does nothing: its contract says what `==` and the order of composite keys and of series are.
 pub(crate) fn key_order()
     ensures equality { (a b : SeriesKey) → ⟦<CompositeKey as PartialEq>⟧.eq a b ≡ series_key_eq a b }
     ensures order { (a b : SeriesKey) → ⟦<CompositeKey as Ord>⟧.cmp a b ≡ series_key_cmp a b }
+    ensures rows { (a b : Shown) → ⟦<SeriesRef<'static> as Ord>⟧.cmp a b ≡ series_key_cmp (series_shown a) (series_shown b) }
 {}
 
 /// The series that are held, in composite key order. Where none is held it takes no memory.
@@ -98,8 +123,8 @@ pub(crate) fn sorted_series<'a>(
     alloc: Global,
     registry: &'a OwnedRegistry<Key, CountedCells>,
 ) -> Result<Vec<SeriesRef<'a>>, Error>
-    ensures { MatchResult result (λ all. AreSeries (cells_of registry.now) (all_shown all.items)
-        × IsDistinct series_key_eq (all_shown all.items)) (λ e. (e ≡ OutOfMemory) × HaveFirst (cells_of registry.now)) }
+    ensures { MatchResult result (λ all. AreSeen (cells_of registry.now) all.items)
+        (λ e. (e ≡ OutOfMemory) × HaveFirst (cells_of registry.now)) }
 {
     key_order();
     if held_number(registry) == 0 {
@@ -109,33 +134,6 @@ pub(crate) fn sorted_series<'a>(
     let _shards = registry.shards();
     series.sort_unstable();
     Ok(series)
-}
-
-/// Copies of the keys of series.
-fn copied_keys(alloc: Global, series: &[SeriesRef<'_>]) -> Result<Vec<CompositeKey>, AllocError>
-    ensures { IfOk result (λ keys. keys.items ≡ all_shown series.now) }
-{
-    let mut keys = Vec::with_capacity(alloc, series.len())?;
-    for row in series {
-        let (kind, key) = *row;
-        keys.push(CompositeKey::new(kind, key.clone()?))?;
-    }
-    Ok(keys)
-}
-
-/// Copies of the keys of the series that are held, in composite key order. Where none is held it takes no memory.
-pub(crate) fn sorted_keys(
-    alloc: Global,
-    registry: &OwnedRegistry<Key, CountedCells>,
-) -> Result<Vec<CompositeKey>, Error>
-    ensures { MatchResult result (λ keys. AreSeries (cells_of registry.now) keys.items
-        × IsDistinct series_key_eq keys.items) (λ e. (e ≡ OutOfMemory) × HaveFirst (cells_of registry.now)) }
-{
-    let series = sorted_series(alloc, registry)?;
-    if series.is_empty() {
-        return Ok(Vec::new(alloc));
-    }
-    Ok(copied_keys(alloc, &series)?)
 }
 
 /// The number of the series that are held, or the greatest `usize`.

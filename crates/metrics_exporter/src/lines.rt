@@ -1,15 +1,13 @@
 //! The lines of series.
-ghost use Rattle.std.specs.Prelude.{◌≡◌, ◌++◌, IsSome, OnOk, IfErr, string_bytes};
+ghost use Rattle.std.specs.Prelude.{◌≡◌, ◌++◌, Some, OnOk, IfErr, string_bytes};
 ghost use Rattle.metrics.specs.declared.error.Error.TheVariants.{Memory as OutOfMemory};
 ghost use Rattle.metrics_exporter.specs.Exporting.{samples};
-ghost use Rattle.metrics_exporter.specs.ExporterText.{kind_word, name_word, label_words, bucket_words, reading_words, cell_words};
-ghost use Rattle.metrics_exporter.specs.ExporterText.{series_line, series_text};
-ghost use Rattle.metrics_exporter.specs.Gathering.{series_at};
-ghost use Rattle.metrics_exporter.specs.Kept.{cells_of};
+ghost use Rattle.metrics_exporter.specs.ExporterText.{kind_word, name_word, label_words, bucket_words, reading_words};
+ghost use Rattle.metrics_exporter.specs.ExporterText.{series_line};
+ghost use Rattle.metrics_exporter.specs.Gathering.{series_shown, cell_shown};
 
-use crate::cells::CountedCells;
-use metrics::{Error, Key, Label, MetricKind};
-use metrics_registry::OwnedRegistry;
+use crate::keys::{CellRef, SeriesRef};
+use metrics::{Error, Label, MetricKind};
 use metrics_storage::Histogram;
 use std::alloc::AllocError;
 
@@ -62,61 +60,37 @@ fn write_samples(text: &mut String, histogram: &Histogram) -> Result<(), Error>
     Ok(())
 }
 
-/// Writes the value of a series that is held.
-fn write_reading(
-    text: &mut String,
-    registry: &OwnedRegistry<Key, CountedCells>,
-    kind: MetricKind,
-    key: &Key,
-) -> Result<(), Error>
-    requires { IsSome (cells_of registry.now (series_at kind key.now)) }
-    ensures ok { OnOk result (string_bytes text.new
-        ≡ string_bytes text.old ++ cell_words (cells_of registry.now (series_at kind key.now))) }
+/// Writes the value of a cell.
+fn write_cell(text: &mut String, cell: &CellRef<'_>) -> Result<(), Error>
+    ensures ok { OnOk result (string_bytes text.new ≡ string_bytes text.old ++ reading_words (cell_shown cell.now).reading) }
     ensures err { IfErr result (λ e. e ≡ OutOfMemory) }
 {
-    match kind {
-        MetricKind::Counter => {
-            let Some(cell) = registry.get_counter(key) else {
-                unreachable!()
-            };
+    match cell {
+        CellRef::Counter(cell) => {
             let count = *cell.get_inner();
             write!(text, " value {count}")?;
             Ok(())
         }
-        MetricKind::Gauge => {
-            let Some(cell) = registry.get_gauge(key) else {
-                unreachable!()
-            };
+        CellRef::Gauge(cell) => {
             let level = *cell.get_inner();
             write!(text, " value {level}")?;
             Ok(())
         }
-        MetricKind::Histogram => {
-            let Some(cell) = registry.get_histogram(key) else {
-                unreachable!()
-            };
-            write_samples(text, cell.get_inner())
-        }
+        CellRef::Histogram(cell) => write_samples(text, cell.get_inner()),
     }
 }
 
-/// Writes the line of a series that is held.
-pub(crate) fn write_series(
-    text: &mut String,
-    registry: &OwnedRegistry<Key, CountedCells>,
-    kind: MetricKind,
-    key: &Key,
-) -> Result<(), Error>
-    requires { IsSome (cells_of registry.now (series_at kind key.now)) }
+/// Writes the line of a series.
+pub(crate) fn write_series(text: &mut String, series: &SeriesRef<'_>) -> Result<(), Error>
     ensures ok { OnOk result (string_bytes text.new
-        ≡ string_bytes text.old ++ series_line (series_at kind key.now) (cells_of registry.now (series_at kind key.now))) }
+        ≡ string_bytes text.old ++ series_line (series_shown series.now) (Some (cell_shown series.now.cell))) }
     ensures err { IfErr result (λ e. e ≡ OutOfMemory) }
 {
-    let word = kind_text(kind);
-    let name = shown_name(key.name());
+    let word = kind_text(series.kind);
+    let name = shown_name(series.key.name());
     write!(text, "{word} {name}")?;
-    write_labels(text, key.labels())?;
-    write_reading(text, registry, kind, key)?;
+    write_labels(text, series.key.labels())?;
+    write_cell(text, &series.cell)?;
     text.push_str("\n")?;
     Ok(())
 }

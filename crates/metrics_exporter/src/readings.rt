@@ -1,5 +1,5 @@
 //! What is held, by reference, for texts of other forms.
-ghost use Rattle.std.specs.Prelude.{◌≡◌, ◌++◌, IfOk, OnErr, MatchResult};
+ghost use Rattle.std.specs.Prelude.{◌≡◌, ◌++◌, IfOk, OnErr, MatchResult, IsPermutation};
 ghost use Rattle.metrics_names.specs.declared.kind.MetricKind.TheVariants.{Counter as CounterKind, Gauge as GaugeKind};
 ghost use Rattle.metrics_names.specs.declared.kind.MetricKind.TheVariants.{Histogram as HistogramKind};
 ghost use Rattle.metrics.specs.declared.error.Error.TheVariants.{Memory as OutOfMemory};
@@ -88,59 +88,21 @@ fn gather_samples<'a>(
     Ok(told)
 }
 
-fn all_counts<'a>(
-    registry: &'a OwnedRegistry<Key, CountedCells>,
-    told: Vec<SeriesReading<'a>>,
-) -> Result<Vec<SeriesReading<'a>>, AllocError>
-    ensures { IfOk result (λ all. all_told all.items
-        ≡ all_told told.entry.items ++ told_in CounterKind count registry.now.counters) }
-{
-    let mut told = told;
-    for shard in registry.shards() {
-        told = gather_counts(&shard.counters, told)?;
-    }
-    Ok(told)
-}
-
-fn all_levels<'a>(
-    registry: &'a OwnedRegistry<Key, CountedCells>,
-    told: Vec<SeriesReading<'a>>,
-) -> Result<Vec<SeriesReading<'a>>, AllocError>
-    ensures { IfOk result (λ all. all_told all.items
-        ≡ all_told told.entry.items ++ told_in GaugeKind level registry.now.gauges) }
-{
-    let mut told = told;
-    for shard in registry.shards() {
-        told = gather_levels(&shard.gauges, told)?;
-    }
-    Ok(told)
-}
-
-fn all_samples<'a>(
-    registry: &'a OwnedRegistry<Key, CountedCells>,
-    told: Vec<SeriesReading<'a>>,
-) -> Result<Vec<SeriesReading<'a>>, AllocError>
-    ensures { IfOk result (λ all. all_told all.items
-        ≡ all_told told.entry.items ++ told_in HistogramKind samples registry.now.histograms) }
-{
-    let mut told = told;
-    for shard in registry.shards() {
-        told = gather_samples(&shard.histograms, told)?;
-    }
-    Ok(told)
-}
-
-/// The held series with what they have, kind by kind, in the order of a walk.
+/// The held series with what they have, in the order of a walk over the shards.
 fn gathered<'a>(
     alloc: Global,
     registry: &'a OwnedRegistry<Key, CountedCells>,
 ) -> Result<Vec<SeriesReading<'a>>, AllocError>
-    ensures { IfOk result (λ all. all_told all.items ≡ told_in CounterKind count registry.now.counters
-        ++ told_in GaugeKind level registry.now.gauges ++ told_in HistogramKind samples registry.now.histograms) }
+    ensures { IfOk result (λ all. IsPermutation (all_told all.items) (told_in CounterKind count registry.now.counters
+        ++ told_in GaugeKind level registry.now.gauges ++ told_in HistogramKind samples registry.now.histograms)) }
 {
-    let told = all_counts(registry, Vec::new(alloc))?;
-    let told = all_levels(registry, told)?;
-    all_samples(registry, told)
+    let mut told = Vec::new(alloc);
+    for shard in registry.shards() {
+        told = gather_counts(&shard.counters, told)?;
+        told = gather_levels(&shard.gauges, told)?;
+        told = gather_samples(&shard.histograms, told)?;
+    }
+    Ok(told)
 }
 
 /// Each held series once, in no order of its own, with what it has. Where none is held it takes no memory.

@@ -1,7 +1,6 @@
 use Rattle.std.proofs.Common.{rules, of_calls}
 use Rattle.metrics_exporter.specs.Stepping.{TakesSample}
-use Rattle.metrics_exporter.proofs.RegistryLemmas.{histograms-alone}
-use Rattle.metrics_exporter.proofs.RoomLemmas.{sample-refused, registry-refused}
+use Rattle.metrics_exporter.proofs.RoomLemmas.{sample-refused, registry-refused, same-registry}
 use Rattle.metrics_exporter.proofs.changes.record.Goals as goal
 
 pub returns-clause-err : goal.returns-clause-err
@@ -12,5 +11,5 @@ returns-clause-err c =
     let call = h.histograms.0 in
     let r = c.in_ok-get_or_create_histogram.field-0 in
     let takes : TakesSample c.args.sample call.0 r call.1 = search (rules, of_calls) in
-    registry-refused r _ _ _ (histograms-alone old new h.rest).same
+    registry-refused r _ _ _ (same-registry new old h.rest.0 h.rest.1 h.rest.2 h.rest.3)
     (sample-refused c.args.sample c.args.key.now old.storage.empty old.storage.none old.histograms new.histograms call.0 call.1 call.4 h.histograms.1.0 c.shards-shards.ensures.once.2 r call.2 takes)

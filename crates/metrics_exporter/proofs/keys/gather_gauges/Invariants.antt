@@ -1,9 +1,10 @@
--- The shards so far.
-use Rattle.std.proofs.Common.{◌≡◌, ◌++◌, map, take}
+-- The entries so far.
+use Rattle.std.proofs.Common.{◌≡◌, ◌++◌, map}
+use Rattle.std.specs.Map.Iter.{deref_pair}
 use Rattle.metrics_names.specs.declared.kind.MetricKind.TheVariants.{Gauge}
-use Rattle.metrics_registry.specs.Held.{entries_of}
-use Rattle.metrics_exporter.specs.Gathering.{all_shown, series_in}
+use Rattle.metrics_exporter.specs.Exporting.{level}
+use Rattle.metrics_exporter.specs.Gathering.{all_seen, seen_in}
 use Rattle.metrics_exporter.proofs.keys.gather_gauges.Given as goal
 
-abbrev pub invariant-loop-shard : goal.invariant-loop-shard
-invariant-loop-shard l = all_shown l.series.items ≡ all_shown l.initial.series.items ++ series_in Gauge (entries_of (take l.shard-index (map (λ s. s.gauges) l.shard-items)))
+abbrev pub invariant-loop-key : goal.invariant-loop-key
+invariant-loop-key l = all_seen l.series.items ≡ all_seen l.initial.series.items ++ seen_in Gauge level (map deref_pair l.yielded)

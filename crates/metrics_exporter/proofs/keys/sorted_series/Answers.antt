@@ -1,16 +1,16 @@
 use Rattle.std.proofs.Common.{rules, ◌≡◌, ◌<◌, ◌∙◌, List, refl, ap, sym, subst, arith}
 use Rattle.std.specs.Cmp.{IsTotalOrder}
-use Rattle.std.specs.List.{IsDistinct}
 use Rattle.std.specs.Ordering.{is_eq}
-use Rattle.std.proofs.lemmas.List.Sorted.{IsPermutation-map}
 use Rattle.metrics.specs.declared.error.Error.TheVariants.{Memory}
-use Rattle.metrics_names.specs.Names.{SeriesKey, series_key_eq, series_key_cmp}
+use Rattle.metrics_names.specs.Names.{series_key_cmp}
 use Rattle.metrics_names.specs.contracts.key.CompositeKeyOrd.TheImpl.Laws.{total-law, matches_eq-law}
-use Rattle.metrics_exporter.specs.Exporting.{AreSeries, HaveFirst}
-use Rattle.metrics_exporter.specs.Gathering.{all_shown, series_shown}
+use Rattle.metrics_exporter.specs.declared.keys.SeriesRef.{SeriesRef}
+use Rattle.metrics_exporter.specs.Exporting.{HaveFirst}
+use Rattle.metrics_exporter.specs.Gathering.{AreSeen}
 use Rattle.metrics_exporter.specs.Kept.{cells_of}
 use Rattle.metrics_exporter.proofs.LawLemmas.{have-first, none-held, refused-with}
-use Rattle.metrics_exporter.proofs.SortedLemmas.{sorted-series, none-distinct}
+use Rattle.metrics_exporter.proofs.SortedLemmas.{none-distinct}
+use Rattle.metrics_exporter.proofs.SeenLemmas.{seen-sorted}
 use Rattle.metrics_exporter.proofs.GatheringLemmas.{shown-sorted}
 use Rattle.metrics_exporter.proofs.keys.sorted_series.Goals as goal
 
@@ -18,8 +18,12 @@ pub returns-then-held_number-eq0 : goal.returns-then-held_number-eq0
 returns-then-held_number-eq0 c =
     let counted = c.held_number.ensures in
     let none : c.held_number.result ≡ 0 = search rules in
-    let P : List SeriesKey → Type 0 = λ keys. AreSeries (cells_of c.args.registry.now) keys × IsDistinct series_key_eq keys in
-    subst P (ap all_shown (sym c.new.ensures.items)) (none-held (cells_of c.args.registry.now) counted.0 counted.1 (omega (arith, none, counted.2)), none-distinct)
+    let P : List SeriesRef → Type 0 = AreSeen (cells_of c.args.registry.now) in
+    subst P (sym c.new.ensures.items) (record {
+      series = none-held (cells_of c.args.registry.now) counted.0 counted.1 (omega (arith, none, counted.2));
+      once = none-distinct;
+      own = λ r there. absurd (omega (arith, there.1));
+    })
 
 pub returns-in_err-series : goal.returns-in_err-series
 returns-in_err-series c =
@@ -34,9 +38,7 @@ pub returns : goal.returns
 returns c =
     let order = c.key_order.ensures.order in
     let once = c.shards-shards.ensures.once in
-    sorted-series c.args.registry.now series_key_cmp (λ a b. refl) (subst IsTotalOrder (λ i a b. order a b i) total-law)
-    (λ a b. sym (c.key_order.ensures.equality a b) ∙ matches_eq-law a b ∙ ap is_eq (order a b)) (all_shown c.in_ok-series.series.items) (all_shown c.sort_unstable.new.self.items)
-    c.in_ok-series.ensures
-    (IsPermutation-map series_shown _ _ c.sort_unstable.ensures.permutation)
-    (shown-sorted _ (λ a b. order (series_shown a) (series_shown b)) c.sort_unstable.new.self.items c.sort_unstable.ensures.sorted)
-    once.0 once.1 once.2
+    let rows = c.sort_unstable.new.self.items in
+    seen-sorted c.args.registry.now series_key_cmp (λ a b. refl) (subst IsTotalOrder (λ i a b. order a b i) total-law)
+    (λ a b. sym (c.key_order.ensures.equality a b) ∙ matches_eq-law a b ∙ ap is_eq (order a b)) c.in_ok-series.series.items rows c.in_ok-series.ensures c.sort_unstable.ensures.permutation
+    (shown-sorted _ (λ a b. c.key_order.ensures.rows a b) rows c.sort_unstable.ensures.sorted) once.0 once.1 once.2

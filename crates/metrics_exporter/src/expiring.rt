@@ -1,0 +1,35 @@
+//! The checks of one expiry.
+ghost use Rattle.std.specs.Prelude.{◌≡◌, ◌++◌, [], List, map};
+ghost use Rattle.metrics_names.specs.Names.{KeyParts};
+ghost use Rattle.metrics_registry.specs.Idleness.{Answered};
+ghost use Rattle.metrics_registry.specs.RecencyEntries.{rules_of};
+ghost use Rattle.metrics_exporter.specs.Exporting.{Setup, Step, checked, IsExpiry};
+ghost use Rattle.metrics_exporter.specs.Kept.{KeepsBut};
+
+use crate::cells::CountedCells;
+use crate::changes::check_series;
+use crate::keys::sorted_series;
+use metrics::{CompositeKey, Error, Key};
+use metrics_registry::{OwnedRecency, OwnedRegistry};
+use std::alloc::Global;
+
+/// Checks every series that is held, in composite key order, and finds those that are idle. Answers how many.
+pub(crate) fn check_all(
+    alloc: Global,
+    registry: &OwnedRegistry<Key, CountedCells>,
+    recency: &mut OwnedRecency<Key>,
+    now: u64,
+    idle: &mut Vec<CompositeKey>,
+) -> Result<usize, Error>
+    requires { idle.old.items ≡ [] }
+    ensures checked { (setup : Setup) (xs : List Step) → KeepsBut [] setup xs registry.now recency.old →
+        (checks : List (Answered KeyParts)) × IsExpiry setup xs now checks result
+        × KeepsBut idle.new.items setup (xs ++ map checked checks) registry.now recency.new }
+{
+    let held = sorted_series(alloc, registry)?;
+    for series in &held {
+        check_series(recency, series, now, idle)?;
+    }
+    let removed = idle.len();
+    Ok(removed)
+}
