@@ -2,7 +2,9 @@
 
 use crate::given::Test;
 use metrics::MetricKind::{Counter, Gauge, Histogram};
-use metrics::{DebugValue, Error, Key, KeyName, MetricKindMask, Recorder, Reset, Row, Unit};
+use metrics::{
+    DebugValue, Error, Key, KeyName, MetricKind, MetricKindMask, Recorder, Reset, Row, Unit,
+};
 use metrics_debugging::Snapshotter;
 use std::process::Abort;
 
@@ -24,40 +26,57 @@ fn are_all(rows: &[Row]) -> bool {
     }
 }
 
-/// Describes a name of each kind.
-fn describe_all<P: Abort, R: Recorder>(test: &Test<P>, on: &mut R) {
+/// Describes a name by the call of a kind. Answers how many books took it.
+fn described<P: Abort, R: Recorder>(test: &Test<P>, on: &mut R, kind: MetricKind) -> usize {
     let name = test.ok(KeyName::new(test.alloc, "hits"));
-    let told = on.describe_counter(test.alloc, &name, Some(Unit::Count), "all");
-    assert_eq!(test.rt; test.ok(told), 1);
-    let told = on.describe_gauge(test.alloc, &name, None, "all");
-    assert_eq!(test.rt; test.ok(told), 1);
-    let told = on.describe_histogram(test.alloc, &name, None, "all");
-    assert_eq!(test.rt; test.ok(told), 1);
+    let told = match kind {
+        Counter => on.describe_counter(test.alloc, &name, Some(Unit::Count), "all"),
+        Gauge => on.describe_gauge(test.alloc, &name, None, "all"),
+        Histogram => on.describe_histogram(test.alloc, &name, None, "all"),
+    };
+    test.ok(told)
+}
+
+fn update_counter<P: Abort, R: Recorder>(test: &Test<P>, on: &mut R, key: &Key) {
+    let counter = test.ok(on.register_counter(test.alloc, key));
+    assert!(test.rt; counter.absolute(on, 7) == Ok(1));
+    assert!(test.rt; counter.increment(on, 2) == Ok(1));
+}
+
+fn update_gauge<P: Abort, R: Recorder>(test: &Test<P>, on: &mut R, key: &Key) {
+    let gauge = test.ok(on.register_gauge(test.alloc, key));
+    assert!(test.rt; gauge.set(on, 5) == Ok(1));
+    assert!(test.rt; gauge.increment(on, 4) == Ok(1));
+    assert!(test.rt; gauge.decrement(on, 2) == Ok(1));
+}
+
+fn update_histogram<P: Abort, R: Recorder>(test: &Test<P>, on: &mut R, key: &Key) {
+    let histogram = test.ok(on.register_histogram(test.alloc, key));
+    assert!(test.rt; test.ok(histogram.record(on, 3)) == 1);
+    assert!(test.rt; histogram.addresses().len() == 1);
 }
 
 /// Registers a key of each kind, and updates it.
 fn update_all<P: Abort, R: Recorder>(test: &Test<P>, on: &mut R) {
     let key = test.ok(Key::from_name(test.alloc, "hits"));
-    let counter = test.ok(on.register_counter(test.alloc, &key));
-    assert_eq!(test.rt; counter.absolute(on, 7), Ok(1));
-    assert_eq!(test.rt; counter.increment(on, 2), Ok(1));
-    let gauge = test.ok(on.register_gauge(test.alloc, &key));
-    assert_eq!(test.rt; gauge.set(on, 5), Ok(1));
-    assert_eq!(test.rt; gauge.increment(on, 4), Ok(1));
-    assert_eq!(test.rt; gauge.decrement(on, 2), Ok(1));
-    let histogram = test.ok(on.register_histogram(test.alloc, &key));
-    assert_eq!(test.rt; test.ok(histogram.record(on, 3)), 1);
-    assert_eq!(test.rt; histogram.addresses().len(), 1);
+    update_counter(test, on, &key);
+    update_gauge(test, on, &key);
+    update_histogram(test, on, &key);
+}
+
+fn expect_all<P: Abort, R: Recorder>(test: &Test<P>, mut on: R) {
+    for kind in [Counter, Gauge, Histogram] {
+        assert!(test.rt; described(test, &mut on, kind) == 1);
+    }
+    update_all(test, &mut on);
+    let rows = Snapshotter::of(0).snapshot_with(test.alloc, &mut on, Reset::All);
+    assert!(test.rt; are_all(test.ok(rows).as_slice()));
 }
 
 #[test]
 fn typed_calls_of_each_kind(rt: HostRuntime) {
     let test = Test::whole(&rt, rt.alloc());
-    let mut book = test.book();
-    describe_all(&test, &mut book);
-    update_all(&test, &mut book);
-    let rows = Snapshotter::of(0).snapshot_with(rt.alloc(), &mut book, Reset::All);
-    assert!(rt; are_all(test.ok(rows).as_slice()));
+    expect_all(&test, test.book());
 }
 
 #[test]

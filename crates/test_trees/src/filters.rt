@@ -27,14 +27,22 @@ fn layer_of<P: Abort>(test: &Test<P>, patterns: &[&str], adds: bool) -> FilterLa
     layer
 }
 
+/// Whether a name reaches the book below.
+fn is_passed<P: Abort, R: Recorder>(test: &Test<P>, on: &mut R, name: &str) -> bool {
+    let key = test.ok(Key::from_name(test.alloc, name));
+    let found = test.ok(on.register(test.alloc, MetricKind::Counter, &key));
+    found.len() == 1
+}
+
+fn expect_passed<P: Abort, R: Recorder>(test: &Test<P>, mut on: R, names: [(&str, bool); 2]) {
+    for (name, passes) in names {
+        assert!(test.rt; is_passed(test, &mut on, name) == passes, "at {name}");
+    }
+}
+
 /// Checks which names pass a layer over a new book.
 fn expect_passing<P: Abort>(test: &Test<P>, layer: &FilterLayer, names: [(&str, bool); 2]) {
-    let mut on = test.made(layer.layer(test.alloc, test.book()));
-    for (name, passes) in names {
-        let key = test.ok(Key::from_name(test.alloc, name));
-        let found = test.ok(on.register(test.alloc, MetricKind::Counter, &key));
-        assert_eq!(test.rt; found.len() == 1, passes, "at {name}");
-    }
+    expect_passed(test, test.made(layer.layer(test.alloc, test.book())), names);
 }
 
 #[test]
@@ -76,14 +84,21 @@ fn longest_layer<P: Abort>(test: &Test<P>, use_dfa: bool) -> FilterLayer {
     layer
 }
 
+fn expect_accepted<P: Abort, R: Recorder>(test: &Test<P>, layer: &FilterLayer, on: R) {
+    let mut on = test.made_from(on, |on| layer.layer(test.alloc, on));
+    test.expect_gauge(&mut on);
+}
+
+fn expect_too_long<P: Abort, R: Recorder>(test: &Test<P>, layer: &FilterLayer, on: R) {
+    test.given_back(on, Error::PatternsTooLong, |on| layer.layer(test.alloc, on));
+}
+
 /// Checks that the longest layer is accepted, and refused with one byte more.
 fn expect_limit<P: Abort>(test: &Test<P>, use_dfa: bool) {
     let mut layer = longest_layer(test, use_dfa);
-    let mut on = test.made_from(test.book_of_gauge(), |book| layer.layer(test.alloc, book));
-    test.expect_gauge(&mut on);
+    expect_accepted(test, &layer, test.book_of_gauge());
     test.ok(layer.add_pattern("b"));
-    let too_long = |book| layer.layer(test.alloc, book);
-    test.given_back(test.book_of_gauge(), Error::PatternsTooLong, too_long);
+    expect_too_long(test, &layer, test.book_of_gauge());
 }
 
 #[test]

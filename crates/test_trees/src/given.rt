@@ -164,20 +164,34 @@ impl<'a, P: Abort> Test<'a, P> {
     /// Checks that each register call of a table answers its addresses.
     pub fn expect_registered<R: Recorder>(&self, on: &mut R, wanted: &[Registered]) {
         for (kind, name, addresses) in wanted {
-            let key = self.ok(Key::from_name(self.alloc, name));
-            let found = self.ok(on.register(self.alloc, *kind, &key));
-            assert!(self.rt; are_addresses(found.as_slice(), addresses), "at {name}");
+            let is_right = self.is_registered(on, (*kind, name, addresses));
+            assert!(self.rt; is_right, "at {name}");
         }
+    }
+
+    fn is_registered<R: Recorder>(&self, on: &mut R, (kind, name, wanted): Registered) -> bool {
+        let key = self.ok(Key::from_name(self.alloc, name));
+        let found = self.ok(on.register(self.alloc, kind, &key));
+        are_addresses(found.as_slice(), wanted)
     }
 
     /// Checks that the rows of a book have these names.
     pub fn expect_names<R: Recorder>(&self, on: &mut R, book: usize, names: &[&str]) {
         let rows = self.ok(on.snapshot(self.alloc, book));
-        assert_eq!(self.rt; rows.as_slice().len(), names.len());
-        for (row, name) in rows.as_slice().iter().zip(names) {
-            assert_eq!(self.rt; row.0.key().name(), *name);
+        assert!(self.rt; are_names(rows.as_slice(), names), "in book {book}");
+    }
+}
+
+fn are_names(rows: &[Row], names: &[&str]) -> bool {
+    if rows.len() != names.len() {
+        return false;
+    }
+    for (row, name) in rows.iter().zip(names) {
+        if row.0.key().name() != *name {
+            return false;
         }
     }
+    true
 }
 
 fn are_gauge(rows: &[Row]) -> bool {

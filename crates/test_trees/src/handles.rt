@@ -1,6 +1,6 @@
 //! Handles that a recorder didn't give.
 
-use crate::given::Test;
+use crate::given::{Registered, Test};
 use metrics::{
     Address, Counter, DebugValue, Gauge, Histogram, Key, MetricKind, Recorder, Refused, Reset, Row,
 };
@@ -31,8 +31,8 @@ fn vec_of<P: Abort, const N: usize>(test: &Test<P>, all: [Address; N]) -> Vec<Ad
 /// Checks that a counter's handle changes nothing.
 fn expect_no_counter<P: Abort, R: Recorder>(test: &Test<P>, on: &mut R, found: Vec<Address>) {
     let counter = Counter::from(found);
-    assert_eq!(test.rt; counter.increment(on, 1), Err(Refused::NoSuchAddress));
-    assert_eq!(test.rt; counter.absolute(on, 1), Err(Refused::NoSuchAddress));
+    assert!(test.rt; counter.increment(on, 1) == Err(Refused::NoSuchAddress));
+    assert!(test.rt; counter.absolute(on, 1) == Err(Refused::NoSuchAddress));
 }
 
 /// Handles of a counter, one of which names the gauge and one goes past the only book, and handles of a gauge and of a
@@ -41,20 +41,26 @@ fn expect_no_such<P: Abort, R: Recorder>(test: &Test<P>, on: &mut R) {
     expect_no_counter(test, on, vec_of(test, [GAUGE]));
     expect_no_counter(test, on, vec_of(test, [COUNTER, BEYOND]));
     let gauge = Gauge::from(vec_of(test, [COUNTER]));
-    assert_eq!(test.rt; gauge.set(on, 1), Err(Refused::NoSuchAddress));
+    assert!(test.rt; gauge.set(on, 1) == Err(Refused::NoSuchAddress));
     let histogram = Histogram::from(vec_of(test, [COUNTER]));
-    assert_eq!(test.rt; histogram.record(on, 1), Err(Refused::NoSuchAddress));
+    assert!(test.rt; histogram.record(on, 1) == Err(Refused::NoSuchAddress));
+}
+
+fn expect_unchanged<P: Abort, R: Recorder>(test: &Test<P>, mut on: R) {
+    let both: [Registered; 2] = [
+        (MetricKind::Counter, "a", &[(0, 0)]),
+        (MetricKind::Gauge, "a", &[(0, 1)]),
+    ];
+    test.expect_registered(&mut on, &both);
+    expect_no_such(test, &mut on);
+    let rows = test.ok(on.snapshot_with(test.alloc, 0, Reset::KeepGauges));
+    assert!(test.rt; are_zero(rows.as_slice()));
 }
 
 #[test]
 fn a_handle_of_another_kind_changes_nothing(rt: HostRuntime) {
     let test = Test::whole(&rt, rt.alloc());
-    let mut book = test.book();
-    test.expect_registered(&mut book, &[(MetricKind::Counter, "a", &[(0, 0)])]);
-    test.expect_registered(&mut book, &[(MetricKind::Gauge, "a", &[(0, 1)])]);
-    expect_no_such(&test, &mut book);
-    let rows = test.ok(book.snapshot_with(rt.alloc(), 0, Reset::KeepGauges));
-    assert!(rt; are_zero(rows.as_slice()));
+    expect_unchanged(&test, test.book());
 }
 
 /// What the only counter counts.
@@ -65,15 +71,23 @@ fn count<P: Abort, R: Recorder>(test: &Test<P>, on: &mut R) -> Option<u64> {
     }
 }
 
+/// A handle of the counter `a`.
+fn handle_of<P: Abort, R: Recorder>(test: &Test<P>, on: &mut R) -> Counter {
+    let key = test.ok(Key::from_name(test.alloc, "a"));
+    test.ok(on.register_counter(test.alloc, &key))
+}
+
+fn expect_taken<P: Abort, R: Recorder>(test: &Test<P>, mut first: R, mut second: R) {
+    let _own = handle_of(test, &mut first);
+    let foreign = handle_of(test, &mut second);
+    assert!(test.rt; foreign.increment(&mut first, 3) == Ok(1));
+    assert!(test.rt; count(test, &mut first) == Some(3));
+    assert!(test.rt; count(test, &mut second) == Some(0));
+}
+
 /// The first book takes the handle of the second, which stays as it was: a handle is its addresses.
 #[test]
 fn a_handle_of_another_tree_is_taken(rt: HostRuntime) {
     let test = Test::whole(&rt, rt.alloc());
-    let (mut first, mut second) = (test.book(), test.book());
-    let key = test.ok(Key::from_name(rt.alloc(), "a"));
-    test.ok(first.register_counter(rt.alloc(), &key));
-    let foreign = test.ok(second.register_counter(rt.alloc(), &key));
-    assert_eq!(rt; foreign.increment(&mut first, 3), Ok(1));
-    assert_eq!(rt; count(&test, &mut first), Some(3));
-    assert_eq!(rt; count(&test, &mut second), Some(0));
+    expect_taken(&test, test.book(), test.book());
 }

@@ -1,9 +1,9 @@
 //! Layers, and stacks of them: what is refused for memory gives the recorder back, as it was.
 
-use crate::given::{Book, Test};
+use crate::given::Test;
 use metrics::MetricKind::Counter;
 use metrics::{Key, Recorder};
-use metrics_layers::{FilterLayer, Layer, PrefixLayer, Stack};
+use metrics_layers::{FilterLayer, Layer, Prefix, PrefixLayer, Stack};
 use std::process::Abort;
 
 /// A layer. The first try may be refused.
@@ -16,16 +16,16 @@ pub fn filter<P: Abort>(test: &Test<P>) -> FilterLayer {
     test.tried(|| FilterLayer::from_patterns(test.alloc, &["x.t", "he"]))
 }
 
-fn expect_layered<P: Abort, L: Layer<Book>>(test: &Test<P>, layer: L) {
-    let mut on = test.made_from(test.book_of_gauge(), |book| layer.layer(test.alloc, book));
+fn expect_layered<P: Abort, R: Recorder, L: Layer<R>>(test: &Test<P>, layer: L, on: R) {
+    let mut on = test.made_from(on, |on| layer.layer(test.alloc, on));
     test.expect_gauge(&mut on);
 }
 
 #[test]
 fn a_layer_gives_its_recorder_back(rt: HostRuntime) {
     let test = Test::marked(&rt, rt.alloc());
-    expect_layered(&test, prefix(&test, "a"));
-    expect_layered(&test, filter(&test));
+    expect_layered(&test, prefix(&test, "a"), test.book_of_gauge());
+    expect_layered(&test, filter(&test), test.book_of_gauge());
 }
 
 /// Pushes a layer, and where that is refused an equal one on what comes back.
@@ -71,11 +71,29 @@ fn expect_stacked<P: Abort, R: Recorder>(test: &Test<P>, mut on: R) {
     test.expect_names(&mut on, 0, &["g", "a.b.x"]);
 }
 
+fn push_prefix<P: Abort, R: Recorder>(
+    test: &Test<P>,
+    stack: Stack<R>,
+    text: &str,
+) -> Stack<Prefix<R>> {
+    pushed(test, stack, prefix(test, text), prefix(test, text))
+}
+
+fn push_filter<P: Abort, R: Recorder>(test: &Test<P>, stack: Stack<R>) {
+    expect_stacked(test, pushed(test, stack, filter(test), filter(test)));
+}
+
+fn push_second<P: Abort, R: Recorder>(test: &Test<P>, stack: Stack<R>) {
+    push_filter(test, push_prefix(test, stack, "b"));
+}
+
+/// Pushes two prefixes, and then a filter.
+fn push_all<P: Abort, R: Recorder>(test: &Test<P>, on: R) {
+    push_second(test, push_prefix(test, Stack::new(on), "a"));
+}
+
 #[test]
 fn each_push_gives_the_recorder_back(rt: HostRuntime) {
     let test = Test::marked(&rt, rt.alloc());
-    let stack = Stack::new(test.book_of_gauge());
-    let stack = pushed(&test, stack, prefix(&test, "a"), prefix(&test, "a"));
-    let stack = pushed(&test, stack, prefix(&test, "b"), prefix(&test, "b"));
-    expect_stacked(&test, pushed(&test, stack, filter(&test), filter(&test)));
+    push_all(&test, test.book_of_gauge());
 }

@@ -54,28 +54,30 @@ fn expect_calls<P: Abort, R: Recorder>(
     first: &str,
 ) {
     test.expect_registered(&mut on, wanted);
-    assert_eq!(test.rt; on.books(), 2);
+    assert!(test.rt; on.books() == 2);
     test.expect_names(&mut on, 0, &[first]);
     test.expect_names(&mut on, 1, &["p.hits"]);
+}
+
+fn expect_all<P: Abort, B: Recorder>(test: &Test<P>, first: B, second: B, third: B) {
+    let wanted: [Registered; 1] = [(Counter, "hits", &[(0, 0), (1, 0)])];
+    let fanout = fanout_of(test, first, second, third);
+    expect_calls(test, fanout, &wanted, "hits");
+}
+
+fn book_leaf<P: Abort>(test: &Test<P>) -> Leaf {
+    Either::Left(test.book())
+}
+
+fn prefixed_leaf<P: Abort>(test: &Test<P>) -> Leaf {
+    Either::Right(Either::Left(prefixed(test)))
 }
 
 #[test]
 fn a_fanout_of_three_types(rt: HostRuntime) {
     let test = Test::whole(&rt, rt.alloc());
-    let book: Leaf = Either::Left(test.book());
-    let below = Either::Right(Either::Left(prefixed(&test)));
-    let fanout = fanout_of(
-        &test,
-        book,
-        below,
-        Either::Right(Either::Right(NoopRecorder)),
-    );
-    expect_calls(
-        &test,
-        fanout,
-        &[(Counter, "hits", &[(0, 0), (1, 0)])],
-        "hits",
-    );
+    let nothing = Either::Right(Either::Right(NoopRecorder));
+    expect_all(&test, book_leaf(&test), prefixed_leaf(&test), nothing);
 }
 
 fn expect_routed<P: Abort, B: Recorder>(test: &Test<P>, first: B, second: B, third: B) {

@@ -1,7 +1,7 @@
 //! Rounds of calls of each kind on a new book: by a list of calls, and by a journal.
 ghost use Rattle.metrics.specs.Meaning.{AreNew};
 
-use crate::given::{Book, Test};
+use crate::given::Test;
 use metrics::{
     Answer, Call, CompositeKey, DebugValue, Error, Key, Label, MetricKind, Recorder, Refused, Row,
     RowValue, Snapshot, Update,
@@ -89,31 +89,54 @@ fn is_key(key: &Key, name: &str, has_label: bool) -> bool {
     are_labels && key.name() == name
 }
 
-/// Checks the rows of a round. Of its registers and updates, which come by turns, these were done.
-fn expect_rows<P: Abort>(test: &Test<P>, rows: &[Row], done: &[bool]) {
+/// Whether this is the row of a series, after an update or before it.
+fn is_row(row: Option<&Row>, (kind, name, has_label, by): Series, is_updated: bool) -> bool {
+    match row {
+        Some((key, None, None, value)) => {
+            key.kind() == kind
+                && is_key(key.key(), name, has_label)
+                && is_value(value, by, is_updated)
+        }
+        _ => false,
+    }
+}
+
+/// Whether these are the rows of a round. Of its registers and updates, which come by turns, these were done.
+fn are_rows(rows: &[Row], done: &[bool]) -> bool {
     let mut rows = rows.iter();
     let mut done = done.iter();
-    for (kind, name, has_label, by) in ROUND {
+    for series in ROUND {
         let is_held = done.next() == Some(&true);
         let is_updated = done.next() == Some(&true);
-        if is_held {
-            let row = rows.next().expect(test.rt, "a row is missing");
-            assert!(test.rt; row.0.kind() == kind && is_key(row.0.key(), name, has_label));
-            assert!(test.rt; row.1.is_none() && row.2.is_none());
-            assert!(test.rt; is_value(&row.3, by, is_updated), "at {name}");
+        if is_held && !is_row(rows.next(), series, is_updated) {
+            return false;
         }
     }
-    assert!(test.rt; rows.next().is_none(), "a row too many");
+    rows.next().is_none()
+}
+
+fn expect_rows<P: Abort>(test: &Test<P>, rows: &[Row], done: &[bool]) {
+    assert!(test.rt; are_rows(rows, done));
+}
+
+/// Whether a map has the row of a series that was updated.
+fn is_in_map<P: Abort>(
+    test: &Test<P>,
+    map: &HashMap<CompositeKey, RowValue>,
+    series: Series,
+) -> bool {
+    let key = CompositeKey::new(series.0, key_of(test, series));
+    match map.get(&key) {
+        Some((None, None, value)) => is_value(value, series.3, true),
+        _ => false,
+    }
 }
 
 /// Checks the rows of a round as a map.
 fn expect_map<P: Abort>(test: &Test<P>, map: &HashMap<CompositeKey, RowValue>) {
-    assert_eq!(test.rt; map.len(), 4);
+    assert!(test.rt; map.len() == 4);
     for series in ROUND {
-        let key = CompositeKey::new(series.0, key_of(test, series));
-        let value = map.get(&key).expect(test.rt, "a row is missing");
-        assert!(test.rt; value.0.is_none() && value.1.is_none());
-        assert!(test.rt; is_value(&value.2, series.3, true));
+        assert!(test.rt; is_in_map(test, map, series), "at {}", series.1);
     }
 }
 
@@ -168,7 +191,7 @@ impl Round {
 }
 
 /// Replays the first calls. The first try may be refused as a whole, and then the book has no row.
-fn replayed<P: Abort>(test: &Test<P>, book: &mut Book, calls: &[Call]) -> Vec<Answer> {
+fn replayed<P: Abort, R: Recorder>(test: &Test<P>, book: &mut R, calls: &[Call]) -> Vec<Answer> {
     test.begin();
     let first = replay(test.alloc, book, calls);
     test.calm();
@@ -198,28 +221,38 @@ fn expect_answers<P: Abort>(test: &Test<P>, answers: Vec<Answer>, as_map: bool) 
     }
 }
 
+fn expect_replayed<P: Abort, R: Recorder>(test: &Test<P>, mut on: R, as_map: bool) {
+    let answers = replayed(test, &mut on, calls(test, 18).as_slice());
+    assert!(test.rt; answers.len() == 18);
+    expect_answers(test, answers, as_map);
+}
+
 #[test]
 fn two_rounds_are_replayed(rt: HostRuntime) {
     let test = Test::whole(&rt, rt.alloc());
     for as_map in [false, true] {
-        let mut book = test.book();
-        let calls = calls(&test, 18);
-        let answers = replayed(&test, &mut book, calls.as_slice());
-        assert_eq!(rt; answers.len(), 18);
-        expect_answers(&test, answers, as_map);
+        expect_replayed(&test, test.book(), as_map);
     }
+}
+
+/// Which calls of a round these answers are of.
+fn taken<P: Abort>(test: &Test<P>, answers: &[Answer]) -> Round {
+    let mut round = Round::new(test);
+    for answer in answers {
+        round.take(test, answer);
+    }
+    round
+}
+
+fn expect_held<P: Abort, R: Recorder>(test: &Test<P>, mut on: R) {
+    let answers = replayed(test, &mut on, calls(test, 9).as_slice());
+    taken(test, answers.as_slice()).expect_book(test, &mut on);
 }
 
 #[test]
 fn a_replay_goes_on_after_a_refusal(rt: HostRuntime) {
     let test = Test::marked(&rt, rt.alloc());
-    let mut round = Round::new(&test);
-    let mut book = test.book();
-    let answers = replayed(&test, &mut book, calls(&test, 9).as_slice());
-    for answer in &answers {
-        round.take(&test, answer);
-    }
-    round.expect_book(&test, &mut book);
+    expect_held(&test, test.book());
 }
 
 /// Makes a call of a journal. The first try may be refused: then it is not made, and the journal is as it was.
@@ -237,11 +270,11 @@ fn make<P: Abort, R: Recorder>(
         Ok(answer) => round.take(test, answer),
         Err(refused) => {
             test.note(refused);
-            assert_eq!(test.rt; on.journal().len(), usize::from(place));
+            assert!(test.rt; on.journal().len() == usize::from(place));
             round.take(test, test.ok(on.call(again)));
         }
     }
-    assert_eq!(test.rt; on.journal().len(), usize::from(place) + 1);
+    assert!(test.rt; on.journal().len() == usize::from(place) + 1);
 }
 
 fn expect_journal<P: Abort, R: Recorder>(test: &Test<P>, on: R, count: u8)
@@ -252,7 +285,7 @@ fn expect_journal<P: Abort, R: Recorder>(test: &Test<P>, on: R, count: u8)
     for place in 0..count {
         make(test, &mut journaled, &mut round, place);
     }
-    assert_eq!(test.rt; journaled.recorder().books(), 1);
+    assert!(test.rt; journaled.recorder().books() == 1);
 }
 
 #[test]

@@ -41,19 +41,22 @@ fn expect_bucket_order<P: Abort, R: Recorder>(test: &Test<P>, on: &mut R) {
     expect_samples(test, &rows, &[]);
 }
 
+fn expect_newest_first<P: Abort, R: Recorder>(test: &Test<P>, mut on: R) {
+    test.expect_registered(&mut on, &[(MetricKind::Histogram, "h", &[(0, 0)])]);
+    expect_bucket_order(test, &mut on);
+}
+
 #[test]
 fn samples_come_newest_block_first(rt: HostRuntime) {
     let test = Test::marked(&rt, rt.alloc());
-    let mut book = test.book();
-    test.expect_registered(&mut book, &[(MetricKind::Histogram, "h", &[(0, 0)])]);
-    expect_bucket_order(&test, &mut book);
+    expect_newest_first(&test, test.book());
 }
 
 /// The rows of a described counter, and of a histogram of the same key.
 fn rows_of_two<P: Abort, R: Recorder>(test: &Test<P>, mut on: R, key: &Key) -> Snapshot {
     let name = test.ok(KeyName::new(test.alloc, "a"));
     let told = on.describe_counter(test.alloc, &name, Some(Unit::Bytes), "text");
-    assert_eq!(test.rt; test.ok(told), 1);
+    assert!(test.rt; test.ok(told) == 1);
     for kind in [MetricKind::Histogram, MetricKind::Counter] {
         test.ok(on.register(test.alloc, kind, key));
     }
