@@ -1,6 +1,6 @@
 //! Series of a book that stay as long as they are active, whatever their values.
 
-use crate::given::{MEMORY, key};
+use crate::given::{Exports, MEMORY, expect_text, key};
 use metrics::{Counter, Error, Gauge, MetricKindMask, Recorder, Reset};
 use metrics_debugging::DebuggingRecorder;
 use metrics_exporter::Exporter;
@@ -8,15 +8,15 @@ use std::alloc::Global;
 use std::process::Abort;
 
 /// An exporter that removes series of any kind that are idle for more than 5.
-fn exporter_of(rt: &impl Abort, alloc: Global) -> Exporter {
+fn watching(rt: &impl Abort, alloc: Global) -> Exporter {
     Exporter::new(alloc, 2, MetricKindMask::ALL, Some(5), &[10]).expect(rt, MEMORY)
 }
 
 /// Absorbs the book's snapshot, and expires. Answers how many series went.
-fn scrape<R: Recorder>(
+fn scrape<R: Recorder, E: Exports>(
     alloc: Global,
     book: &mut R,
-    exporter: &mut Exporter,
+    exporter: &mut E,
     now: u64,
 ) -> Result<usize, Error> {
     let snapshot = book.snapshot_with(alloc, 0, Reset::KeepGauges)?;
@@ -24,23 +24,17 @@ fn scrape<R: Recorder>(
     exporter.expire(now)
 }
 
-/// Compares the lines of the series that are left.
-fn expect_lines(rt: &impl Abort, exporter: &Exporter, wanted: &str) {
-    let text = exporter.text().expect(rt, MEMORY);
-    assert!(rt; text.as_str() == wanted);
-}
-
 /// Scrapes at a moment, and compares how many series went, and the lines of the others.
-fn expect_scrape<R: Recorder>(
+fn expect_scrape<R: Recorder, E: Exports>(
     rt: &impl Abort,
     alloc: Global,
     book: &mut R,
-    exporter: &mut Exporter,
+    exporter: &mut E,
     (now, removed, wanted): (u64, usize, &str),
 ) {
     let went = scrape(alloc, book, exporter, now).expect(rt, MEMORY);
     assert!(rt; went == removed);
-    expect_lines(rt, exporter, wanted);
+    expect_text(rt, exporter, wanted);
 }
 
 const TEMP: &str = "gauge temp value 7\n";
@@ -57,7 +51,12 @@ fn hits_of<R: Recorder>(rt: &impl Abort, alloc: Global, book: &mut R) -> Counter
         .expect(rt, MEMORY)
 }
 
-fn scrape_set<R: Recorder>(rt: &impl Abort, alloc: Global, book: &mut R, exporter: &mut Exporter) {
+fn scrape_set<R: Recorder, E: Exports>(
+    rt: &impl Abort,
+    alloc: Global,
+    book: &mut R,
+    exporter: &mut E,
+) {
     let temp = temp_of(rt, alloc, book);
     for now in [10, 16, 22, 28, 34] {
         temp.set(book, 7).expect(rt, MEMORY);
@@ -65,7 +64,12 @@ fn scrape_set<R: Recorder>(rt: &impl Abort, alloc: Global, book: &mut R, exporte
     }
 }
 
-fn scrape_idle<R: Recorder>(rt: &impl Abort, alloc: Global, book: &mut R, exporter: &mut Exporter) {
+fn scrape_idle<R: Recorder, E: Exports>(
+    rt: &impl Abort,
+    alloc: Global,
+    book: &mut R,
+    exporter: &mut E,
+) {
     let temp = temp_of(rt, alloc, book);
     temp.set(book, 7).expect(rt, MEMORY);
     for scraped in [
@@ -82,11 +86,11 @@ fn scrape_idle<R: Recorder>(rt: &impl Abort, alloc: Global, book: &mut R, export
     expect_scrape(rt, alloc, book, exporter, (56, 1, ""));
 }
 
-fn scrape_registered<R: Recorder>(
+fn scrape_registered<R: Recorder, E: Exports>(
     rt: &impl Abort,
     alloc: Global,
     book: &mut R,
-    exporter: &mut Exporter,
+    exporter: &mut E,
 ) {
     let _hits = hits_of(rt, alloc, book);
     for scraped in [(10, 0, HITS), (16, 1, ""), (17, 0, "")] {
@@ -96,28 +100,49 @@ fn scrape_registered<R: Recorder>(
     expect_scrape(rt, alloc, book, exporter, (18, 0, HITS));
 }
 
-/// Makes a book and an exporter of it.
-fn with_both(rt: &impl Abort, alloc: Global, which: u8) {
-    let mut book = DebuggingRecorder::new(alloc).expect(rt, MEMORY);
-    let mut exporter = exporter_of(rt, alloc);
+/// Which scrapes to make.
+#[derive(Clone, Copy)]
+enum Scrapes {
+    Set,
+    Idle,
+    Registered,
+}
+
+fn make_scrapes<R: Recorder, E: Exports>(
+    rt: &impl Abort,
+    alloc: Global,
+    mut book: R,
+    mut exporter: E,
+    which: Scrapes,
+) {
     match which {
-        0 => scrape_set(rt, alloc, &mut book, &mut exporter),
-        1 => scrape_idle(rt, alloc, &mut book, &mut exporter),
-        _ => scrape_registered(rt, alloc, &mut book, &mut exporter),
+        Scrapes::Set => scrape_set(rt, alloc, &mut book, &mut exporter),
+        Scrapes::Idle => scrape_idle(rt, alloc, &mut book, &mut exporter),
+        Scrapes::Registered => scrape_registered(rt, alloc, &mut book, &mut exporter),
     }
+}
+
+fn with_book<R: Recorder>(rt: &impl Abort, alloc: Global, book: R, which: Scrapes) {
+    make_scrapes(rt, alloc, book, watching(rt, alloc), which);
+}
+
+/// Makes a book and an exporter of it.
+fn with_both(rt: &impl Abort, alloc: Global, which: Scrapes) {
+    let book = DebuggingRecorder::new(alloc).expect(rt, MEMORY);
+    with_book(rt, alloc, book, which);
 }
 
 #[test]
 fn a_gauge_that_is_set_at_each_scrape_stays(rt: HostRuntime) {
-    with_both(&rt, rt.alloc(), 0);
+    with_both(&rt, rt.alloc(), Scrapes::Set);
 }
 
 #[test]
 fn an_idle_gauge_goes_once_and_comes_back_when_it_is_updated(rt: HostRuntime) {
-    with_both(&rt, rt.alloc(), 1);
+    with_both(&rt, rt.alloc(), Scrapes::Idle);
 }
 
 #[test]
 fn a_counter_that_is_registered_shows_0(rt: HostRuntime) {
-    with_both(&rt, rt.alloc(), 2);
+    with_both(&rt, rt.alloc(), Scrapes::Registered);
 }

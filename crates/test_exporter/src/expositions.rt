@@ -1,11 +1,9 @@
 //! Whole texts of series whose names and values no line of the program can spell.
 
-use crate::given::{Given, MEMORY, fill, key};
-use metrics::{
-    CompositeKey, DebugValue, Error, MetricKind, MetricKindMask, Snapshot, Text, Unit, Update,
-};
-use metrics_exporter::Exporter;
-use metrics_prometheus::exposition;
+use crate::given::{Exports, Given, MEMORY, expect_shown, expect_text, exporter_of, fill, key};
+use metrics::{CompositeKey, DebugValue, MetricKind, Snapshot, Text, Unit, Update};
+use std::alloc::Global;
+use std::process::Abort;
 
 const SERIES: [Given; 4] = [
     ("temp", &[], Update::Set(-3)),
@@ -41,17 +39,15 @@ const TEXT: &str = "counter all hits the\npath=a\"b\\c\nd host=é value 2\n\
     gauge temp value -3\n\
     histogram lat\nency zone=e u tier= count 2 sum 42 le 10 0 le 25 1\n";
 
+fn expect_escaped<E: Exports>(rt: &impl Abort, alloc: Global, mut exporter: E) {
+    fill(rt, alloc, &mut exporter, &SERIES);
+    expect_shown(rt, alloc, &exporter, EXPOSITION);
+    expect_text(rt, &exporter, TEXT);
+}
+
 #[test]
 fn line_feeds_are_escaped_in_an_exposition_alone(rt: HostRuntime) {
-    let alloc = rt.alloc();
-    let mut exporter = Exporter::new(alloc, 2, MetricKindMask::NONE, None, &[10, 25]).expect(
-        &rt, MEMORY,
-    );
-    fill(&rt, alloc, &mut exporter, &SERIES);
-    let shown = exposition(&exporter, alloc).expect(&rt, MEMORY);
-    assert_eq!(rt; shown.as_str(), EXPOSITION);
-    let text = exporter.text().expect(&rt, MEMORY);
-    assert_eq!(rt; text.as_str(), TEXT);
+    expect_escaped(&rt, rt.alloc(), exporter_of(&rt, rt.alloc(), &[10, 25]));
 }
 
 const BESIDE: [Given; 2] = [
@@ -59,43 +55,47 @@ const BESIDE: [Given; 2] = [
     ("a_b", &[("k", "v")], Update::Increment(2)),
 ];
 
+const DESCRIBED: &str =
+    "# HELP a_b one\\\\two\\nthree \"four\"\n# TYPE a_b counter\na_b 1\na_b{k=\"v\"} 2\n";
+
+fn expect_described<E: Exports>(rt: &impl Abort, alloc: Global, mut exporter: E) {
+    for (name, text) in [("a.b", "one\\two\nthree \"four\""), ("a_b", "hidden")] {
+        let told = exporter.describe(MetricKind::Counter, name, text);
+        told.expect(rt, MEMORY);
+    }
+    fill(rt, alloc, &mut exporter, &BESIDE);
+    expect_shown(rt, alloc, &exporter, DESCRIBED);
+}
+
 /// Of two names that are shown as one the first that is written gives the description.
 #[test]
 fn a_description_is_shown_before_its_kind(rt: HostRuntime) {
-    let alloc = rt.alloc();
-    let mut exporter = Exporter::new(alloc, 2, MetricKindMask::NONE, None, &[10]).expect(
-        &rt, MEMORY,
-    );
-    for (name, text) in [("a.b", "one\\two\nthree \"four\""), ("a_b", "hidden")] {
-        let told = exporter.describe(MetricKind::Counter, name, None, text);
-        told.expect(&rt, MEMORY);
-    }
-    fill(&rt, alloc, &mut exporter, &BESIDE);
-    let shown = exposition(&exporter, alloc).expect(&rt, MEMORY);
-    assert_eq!(rt;
-        shown.as_str(),
-        "# HELP a_b one\\\\two\\nthree \"four\"\n# TYPE a_b counter\na_b 1\na_b{k=\"v\"} 2\n"
+    expect_described(&rt, rt.alloc(), exporter_of(&rt, rt.alloc(), &[10]));
+}
+
+/// A row of a counter of 2, with a unit and a text.
+fn described_row(rt: &impl Abort, alloc: Global) -> Snapshot {
+    let hits = CompositeKey::new(MetricKind::Counter, key(rt, alloc, "hits", &[]));
+    let text = Text::new(alloc, "all hits").expect(rt, MEMORY);
+    let row = (hits, Some(Unit::Count), Some(text), DebugValue::Counter(2));
+    Snapshot::from(Vec::from_array(alloc, [row]).expect(rt, MEMORY))
+}
+
+fn expect_absorbed<E: Exports>(rt: &impl Abort, alloc: Global, mut exporter: E) {
+    exporter
+        .absorb(&described_row(rt, alloc))
+        .expect(rt, MEMORY);
+    let unit = exporter.unit(MetricKind::Counter, "hits");
+    assert_eq!(rt; unit, Some(Unit::Count));
+    expect_shown(
+        rt,
+        alloc,
+        &exporter,
+        "# HELP hits all hits\n# TYPE hits counter\nhits 2\n",
     );
 }
 
 #[test]
 fn an_absorbed_row_tells_its_description(rt: HostRuntime) {
-    let alloc = rt.alloc();
-    let mut exporter = Exporter::new(alloc, 2, MetricKindMask::NONE, None, &[10]).expect(
-        &rt, MEMORY,
-    );
-    let hits = CompositeKey::new(MetricKind::Counter, key(&rt, alloc, "hits", &[]));
-    let text = Text::new(alloc, "all hits").expect(&rt, MEMORY);
-    let row = (hits, Some(Unit::Count), Some(text), DebugValue::Counter(2));
-    let rows = Vec::from_array(alloc, [row]).expect(&rt, MEMORY);
-    if let Err(stop) = exporter.absorb(&Snapshot::from(rows)) {
-        Err::<(), Error>(stop.error).expect(&rt, MEMORY);
-    }
-    let unit = exporter.descriptions().unit(MetricKind::Counter, "hits");
-    assert_eq!(rt; unit, Some(Unit::Count));
-    let shown = exposition(&exporter, alloc).expect(&rt, MEMORY);
-    assert_eq!(rt;
-        shown.as_str(),
-        "# HELP hits all hits\n# TYPE hits counter\nhits 2\n"
-    );
+    expect_absorbed(&rt, rt.alloc(), exporter_of(&rt, rt.alloc(), &[10]));
 }

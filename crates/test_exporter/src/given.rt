@@ -1,7 +1,8 @@
-//! Updates that tests make.
+//! Updates that tests make, and what they ask of an exporter.
 
-use metrics::{Key, Label, Update};
+use metrics::{Error, Key, Label, MetricKind, MetricKindMask, Snapshot, Unit, Update};
 use metrics_exporter::Exporter;
+use metrics_prometheus::exposition;
 use std::alloc::Global;
 use std::process::Abort;
 
@@ -15,6 +16,67 @@ pub type Given = (
 /// How an end for want of memory is told.
 pub const MEMORY: &str = "out of memory";
 
+/// What tests ask of an exporter. Helpers over any of these don't read an exporter's contracts, so they are proved fast.
+pub trait Exports: Drop {
+    fn update(&mut self, key: &Key, by: Update) -> Result<(), Error>;
+
+    fn describe(&mut self, kind: MetricKind, name: &str, text: &str) -> Result<(), Error>;
+
+    fn absorb(&mut self, rows: &Snapshot) -> Result<(), Error>;
+
+    fn expire(&mut self, now: u64) -> Result<usize, Error>;
+
+    fn len(&self) -> usize;
+
+    fn unit(&self, kind: MetricKind, name: &str) -> Option<Unit>;
+
+    fn text(&self) -> Result<String, Error>;
+
+    fn exposition(&self, alloc: Global) -> Result<String, Error>;
+}
+
+impl Exports for Exporter {
+    fn update(&mut self, key: &Key, by: Update) -> Result<(), Error> {
+        Exporter::update(self, key, by)
+    }
+
+    fn describe(&mut self, kind: MetricKind, name: &str, text: &str) -> Result<(), Error> {
+        Exporter::describe(self, kind, name, None, text)
+    }
+
+    fn absorb(&mut self, rows: &Snapshot) -> Result<(), Error> {
+        match Exporter::absorb(self, rows) {
+            Ok(()) => Ok(()),
+            Err(stop) => Err(stop.error),
+        }
+    }
+
+    fn expire(&mut self, now: u64) -> Result<usize, Error> {
+        Exporter::expire(self, now)
+    }
+
+    fn len(&self) -> usize {
+        Exporter::len(self)
+    }
+
+    fn unit(&self, kind: MetricKind, name: &str) -> Option<Unit> {
+        self.descriptions().unit(kind, name)
+    }
+
+    fn text(&self) -> Result<String, Error> {
+        Exporter::text(self)
+    }
+
+    fn exposition(&self, alloc: Global) -> Result<String, Error> {
+        exposition(self, alloc)
+    }
+}
+
+/// An exporter that removes nothing.
+pub fn exporter_of(rt: &impl Abort, alloc: Global, bounds: &[i64]) -> Exporter {
+    Exporter::new(alloc, 2, MetricKindMask::NONE, None, bounds).expect(rt, MEMORY)
+}
+
 pub fn key(rt: &impl Abort, alloc: Global, name: &str, labels: &[(&str, &str)]) -> Key {
     let mut all = Vec::new(alloc);
     for (label, value) in labels {
@@ -25,9 +87,21 @@ pub fn key(rt: &impl Abort, alloc: Global, name: &str, labels: &[(&str, &str)]) 
 }
 
 /// Makes the updates in order.
-pub fn fill(rt: &impl Abort, alloc: Global, exporter: &mut Exporter, updates: &[Given]) {
+pub fn fill<E: Exports>(rt: &impl Abort, alloc: Global, exporter: &mut E, updates: &[Given]) {
     for (name, labels, by) in updates {
         let key = key(rt, alloc, name, labels);
         exporter.update(&key, *by).expect(rt, MEMORY);
     }
+}
+
+/// Compares the lines of the series that are held.
+pub fn expect_text<E: Exports>(rt: &impl Abort, exporter: &E, wanted: &str) {
+    let text = exporter.text().expect(rt, MEMORY);
+    assert_eq!(rt; text.as_str(), wanted);
+}
+
+/// Compares the exposition.
+pub fn expect_shown<E: Exports>(rt: &impl Abort, alloc: Global, exporter: &E, wanted: &str) {
+    let shown = exporter.exposition(alloc).expect(rt, MEMORY);
+    assert_eq!(rt; shown.as_str(), wanted);
 }

@@ -1,10 +1,10 @@
 //! Lines of series that are updated, checked and removed.
 
-use crate::given::{Given, MEMORY, fill, key};
+use crate::given::{Exports, Given, MEMORY, fill, key};
 use metrics::{MetricKindMask, Update};
 use metrics_exporter::Exporter;
+use std::alloc::Global;
 use std::process::Abort;
-use std::test::Fail;
 use test_trial::{Trial, Wrong, done, expect, made};
 
 /// A series of each kind.
@@ -26,7 +26,12 @@ const AGAIN: &str =
     "counter hits host=a value 1\ngauge temp value -3\nhistogram lat count 1 sum 12 le 10 0 le 25 1\n";
 
 /// Expires at a moment, and compares how many series went, how many are left, and their lines.
-fn expect_scrape(rt: &impl Abort, exporter: &mut Exporter, now: u64, wanted: (usize, usize, &str)) {
+fn expect_scrape<E: Exports>(
+    rt: &impl Abort,
+    exporter: &mut E,
+    now: u64,
+    wanted: (usize, usize, &str),
+) {
     let removed = exporter.expire(now).expect(rt, MEMORY);
     let text = exporter.text().expect(rt, MEMORY);
     assert_eq!(rt;
@@ -36,33 +41,34 @@ fn expect_scrape(rt: &impl Abort, exporter: &mut Exporter, now: u64, wanted: (us
     );
 }
 
+fn expect_begun_again<E: Exports>(rt: &impl Abort, alloc: Global, mut exporter: E) {
+    fill(rt, alloc, &mut exporter, &SERIES);
+    expect_scrape(rt, &mut exporter, 10, (0, 3, TEXTS[3]));
+    expect_scrape(rt, &mut exporter, 15, (0, 3, TEXTS[3]));
+    expect_scrape(rt, &mut exporter, 16, (1, 2, TEXTS[2]));
+    let again = ("hits", [("host", "a")].as_slice(), Update::Increment(1));
+    fill(rt, alloc, &mut exporter, &[again]);
+    expect_scrape(rt, &mut exporter, 17, (0, 3, AGAIN));
+}
+
 #[test]
 fn an_idle_counter_goes_and_begins_again(rt: HostRuntime) {
-    let alloc = rt.alloc();
-    let mut exporter = Exporter::new(alloc, 4, MetricKindMask::COUNTER, Some(5), &[10, 25]).expect(
-        &rt, MEMORY,
-    );
-    fill(&rt, alloc, &mut exporter, &SERIES);
-    expect_scrape(&rt, &mut exporter, 10, (0, 3, TEXTS[3]));
-    expect_scrape(&rt, &mut exporter, 15, (0, 3, TEXTS[3]));
-    expect_scrape(&rt, &mut exporter, 16, (1, 2, TEXTS[2]));
-    let again = ("hits", [("host", "a")].as_slice(), Update::Increment(1));
-    fill(&rt, alloc, &mut exporter, &[again]);
-    expect_scrape(&rt, &mut exporter, 17, (0, 3, AGAIN));
+    let made = Exporter::new(rt.alloc(), 4, MetricKindMask::COUNTER, Some(5), &[10, 25]);
+    expect_begun_again(&rt, rt.alloc(), made.expect(&rt, MEMORY));
 }
 
 /// Checks that the first `count` series are held. The text may be refused, and then comes at a second call.
-fn expect_held(trial: &mut Trial, exporter: &Exporter, count: usize) -> Result<(), Wrong> {
+fn expect_held<E: Exports>(trial: &mut Trial, exporter: &E, count: usize) -> Result<(), Wrong> {
     let text = made(trial, &|| exporter.text())?;
     expect(exporter.len() == count, "another number of series")?;
     expect(TEXTS.get(count) == Some(&text.as_str()), "another text")
 }
 
 /// Makes an update. Where it is refused nothing has changed, and it is made again.
-fn update(
+fn update<E: Exports>(
     rt: &impl Abort,
     trial: &mut Trial,
-    exporter: &mut Exporter,
+    exporter: &mut E,
     given: &Given,
 ) -> Result<(), Wrong> {
     let (name, labels, by) = given;
@@ -81,7 +87,12 @@ fn update(
 
 /// Expires at a moment at which these are idle. Where it is refused some series may have gone, of the last first, and a second
 /// call removes the others.
-fn expire(trial: &mut Trial, exporter: &mut Exporter, now: u64, idle: usize) -> Result<(), Wrong> {
+fn expire<E: Exports>(
+    trial: &mut Trial,
+    exporter: &mut E,
+    now: u64,
+    idle: usize,
+) -> Result<(), Wrong> {
     let held = exporter.len();
     trial.begin();
     let first = exporter.expire(now);
@@ -100,26 +111,23 @@ fn expire(trial: &mut Trial, exporter: &mut Exporter, now: u64, idle: usize) -> 
     expect_held(trial, exporter, held.saturating_sub(idle))
 }
 
-fn go_on_after_a_refusal(
+fn go_on_after_a_refusal<E: Exports>(
     rt: &impl Abort,
     trial: &mut Trial,
-    exporter: &mut Exporter,
+    mut exporter: E,
 ) -> Result<(), Wrong> {
     for given in &SERIES {
-        update(rt, trial, exporter, given)?;
+        update(rt, trial, &mut exporter, given)?;
     }
-    expire(trial, exporter, 10, 0)?;
-    expire(trial, exporter, 16, 3)
+    expire(trial, &mut exporter, 10, 0)?;
+    expire(trial, &mut exporter, 16, 3)
 }
 
 #[test]
-fn an_exporter_goes_on_after_a_refusal(rt: HostRuntime) -> Result<(), Fail> {
+fn an_exporter_goes_on_after_a_refusal(rt: HostRuntime) {
     let alloc = rt.alloc();
     let mut trial = Trial::new(alloc);
-    let mut exporter = made(
-        &mut trial,
-        &|| { Exporter::new(alloc, 4, MetricKindMask::ALL, Some(5), &[10, 25]) },
-    )?;
-    go_on_after_a_refusal(&rt, &mut trial, &mut exporter)?;
-    Ok(())
+    let make = move || Exporter::new(alloc, 4, MetricKindMask::ALL, Some(5), &[10, 25]);
+    let exporter = made(&mut trial, &make).expect(&rt, "wrong");
+    go_on_after_a_refusal(&rt, &mut trial, exporter).expect(&rt, "wrong");
 }
