@@ -3,9 +3,12 @@
 
     docs/benchmarks.py OURS THEIRS
 
-OURS and THEIRS are what several runs of the benchmarks printed (lines `name ns_per_op`), ours and the Rust crate's. A row
-of a table with a ratio names ours and, behind 'beside', the other side's where it has another name. Its figure is the least
-of the runs, with the middle one in brackets. Without words it draws the chart of the figures that stand."""
+OURS and THEIRS are what several runs of the benchmarks printed, ours and the peers': lines `name ns_per_op`, each the least
+of its rounds, and lines `# name median ns_per_op`. A row of a table with a ratio names ours and, behind 'beside', the other
+side's where it has another name. Its figure is the least of the runs, with the middle one in brackets, and its ratio is of
+the least. A row of several threads beside `prometheus` goes by the medians of the rounds, and its ratio by the middle one:
+where threads write one word, the least is of the round in which they ran least at the same time. Without words it draws the
+chart of the figures that stand."""
 import html
 import math
 import os
@@ -17,6 +20,12 @@ HERE = os.path.dirname(os.path.abspath(__file__))
 TABLE = os.path.join(HERE, "BENCHMARKS.md")
 CHART = os.path.join(HERE, "benchmarks.svg")
 ROW = re.compile(r"^\| `(\w+)`(?:, beside `(\w+)`)? \| (.*?) \| ([^|]*) \| ([^|]*) \| ([\d.]+) \|$")
+ALONE = re.compile(r"^\| `(\w+)` \| [^|]* \|$")
+PEERS = ("The Rust crate, ns", "`prometheus`, ns")
+
+
+def goes_by_medians(name):
+    return name.startswith("prometheus_") and name.endswith("_4t")
 
 
 def figures(path):
@@ -24,8 +33,10 @@ def figures(path):
     found = {}
     for line in open(path):
         words = line.split()
-        if len(words) == 2 and not line.startswith("#"):
+        if len(words) == 2 and not goes_by_medians(words[0]):
             found.setdefault(words[0], []).append(float(words[1]))
+        if len(words) == 4 and words[0] == "#" and words[2] == "median" and goes_by_medians(words[1]):
+            found.setdefault(words[1], []).append(float(words[3]))
     return found
 
 
@@ -35,15 +46,20 @@ def shown(runs):
 
 
 def rewritten(line, ours, theirs):
-    row = ROW.match(line)
+    row, alone = ROW.match(line), ALONE.match(line)
+    if alone and alone.group(1) in ours:
+        return f"| `{alone.group(1)}` | {shown(ours[alone.group(1)])} |"
     if not row:
         return line
     name, beside, text = row.group(1), row.group(2), row.group(3)
     mine, other = ours.get(name), theirs.get(beside or name)
+    if name.startswith("growing_"):
+        other = ours.get(name.replace("growing_", "bucket_", 1))
     if not mine or not other:
         return line
     names = f"`{name}`" + (f", beside `{beside}`" if beside else "")
-    return f"| {names} | {text} | {shown(mine)} | {shown(other)} | {min(mine) / min(other):.2f} |"
+    of = statistics.median if goes_by_medians(name) else min
+    return f"| {names} | {text} | {shown(mine)} | {shown(other)} | {of(mine) / of(other):.2f} |"
 
 
 def chart(rows):
@@ -69,10 +85,10 @@ def chart(rows):
 
 
 def compared(lines):
-    """Names and ratios of the tables that have the Rust crate's figures."""
+    """Names and ratios of the tables that have a peer's figures in nanoseconds."""
     theirs = False
     for line in lines:
-        theirs = line.startswith("|") and (theirs or "The Rust crate, ns" in line)
+        theirs = line.startswith("|") and (theirs or any(peer in line for peer in PEERS))
         row = ROW.match(line)
         if theirs and row:
             yield row.group(1), float(row.group(6))
