@@ -1,5 +1,5 @@
 -- Series by reference, each with its cell.
-use Rattle.std.specs.Prelude.{◌≡◌, ℕ, List, map, Some, Contains}
+use Rattle.std.specs.Prelude.{◌≡◌, List, map, Some, Contains}
 use Rattle.std.specs.List.{IsDistinct}
 use Rattle.metrics_names.specs.declared.kind.MetricKind.{MetricKind}
 use Rattle.metrics_names.specs.Names.{KeyParts, SeriesKey, series_key_eq}

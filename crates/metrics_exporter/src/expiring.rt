@@ -2,7 +2,6 @@
 ghost use Rattle.std.specs.Prelude.{◌≡◌, ◌++◌, [], List, map};
 ghost use Rattle.metrics_names.specs.Names.{KeyParts};
 ghost use Rattle.metrics_registry.specs.Idleness.{Answered};
-ghost use Rattle.metrics_registry.specs.RecencyEntries.{rules_of};
 ghost use Rattle.metrics_exporter.specs.Exporting.{Setup, Step, checked, IsExpiry};
 ghost use Rattle.metrics_exporter.specs.Kept.{KeepsBut};
 

@@ -1,5 +1,4 @@
 -- The series checked so far.
-use Rattle.std.proofs.Common.{◌≡◌}
 use Rattle.metrics_exporter.proofs.ExpiryLemmas.{Front}
 use Rattle.metrics_exporter.proofs.expiring.check_all.Given as goal
 

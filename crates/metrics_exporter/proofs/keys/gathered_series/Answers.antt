@@ -1,4 +1,3 @@
-use Rattle.std.proofs.Common.{ap}
 use Rattle.metrics_names.specs.declared.kind.MetricKind.TheVariants.{Counter, Gauge, Histogram}
 use Rattle.metrics_exporter.specs.Exporting.{count, level, samples}
 use Rattle.metrics_exporter.specs.Gathering.{all_seen, series_at, cell_in}

@@ -1,5 +1,5 @@
 -- The series removed so far.
-use Rattle.std.proofs.Common.{◌≡◌, ℕ, take}
+use Rattle.std.proofs.Common.{◌≡◌, take}
 use Rattle.metrics_names.specs.declared.kind.MetricKind.{MetricKind}
 use Rattle.metrics_names.specs.Names.{KeyParts, SeriesKey, key_eq}
 use Rattle.metrics_registry.specs.RecencyEntries.{rules_of, table_of}
