@@ -151,7 +151,8 @@ pub(crate) fn check_series(
 ) -> Result<(), Error>
     ensures rules { rules_of recency.new ≡ rules_of recency.old }
     ensures ok { OnOk result (NotesOrAdds (rules_of recency.old)
-        (check_of series.now.kind series.now.key.now (cell_shown series.now.cell).generation now true) (series_shown series.now) (table_of key_eq recency.old) (table_of key_eq recency.new) idle.old.items idle.new.items) }
+        (check_of series.now.kind series.now.key.now (cell_shown series.now.cell).generation now true) (series_shown series.now)
+        (table_of key_eq recency.old) (table_of key_eq recency.new) idle.old.items idle.new.items) }
     ensures err { IfErr result (λ e. (e ≡ OutOfMemory) × (idle.new.items ≡ idle.old.items)
         × ((kind : AnyKind) (key : KeyParts) → table_of key_eq recency.new kind key ≡ table_of key_eq recency.old kind key)) }
 {
