@@ -30,7 +30,7 @@ fn expect_changes<R: Abort, T>(rt: &R, cell: &Generational<T>, changes: u64) {
 /// What the cell holds, after so many changes.
 fn expect_value<R: Abort>(rt: &R, cell: &Generational<AtomicU64>, changes: u64, value: u64) {
     expect_changes(rt, cell, changes);
-    assert_eq!(rt; cell.get_inner().load(Ordering::SeqCst), value);
+    assert!(rt; cell.get_inner().load(Ordering::SeqCst) == value);
 }
 
 /// The word is used as a counter, and then as a gauge. The generation is raised once a closure ran.
@@ -55,7 +55,7 @@ fn each_call_raises_the_generation_by_one_once_it_ran(rt: HostRuntime) {
     let word = Generational::new(rt.alloc(), AtomicU64::new(0));
     expect_raised(&rt, &word.expect(&rt, "out of memory"));
     let full = Generational::new(rt.alloc(), Full).expect(&rt, "out of memory");
-    assert_eq!(rt; full.record(&rt, 3), Err(3));
+    assert!(rt; full.record(&rt, 3) == Err(3));
     expect_changes(&rt, &full, 1);
 }
 
@@ -66,7 +66,7 @@ fn expect_room<R: Abort + Wait>(rt: &R, cell: &AtomicBucket<i64>) {
             assert!(rt; cell.record(rt, sample).is_ok());
         }
         assert!(rt; cell.record(rt, 0).is_err());
-        assert_eq!(rt; cell.clear(rt), Ok(1024));
+        assert!(rt; cell.clear(rt) == Ok(1024));
     }
 }
 
@@ -105,7 +105,7 @@ fn raise_to_one(count: &AtomicU64) {
 fn absolute_loses_no_increment(rt: HostRuntime) {
     let count = AtomicU64::new(1);
     let (is_rising, ()) = join(&rt, || is_rising(&count), || raise_to_one(&count));
-    assert_eq!(rt; counter_value(&count), 100_001);
+    assert!(rt; counter_value(&count) == 100_001);
     assert!(rt; is_rising);
 }
 

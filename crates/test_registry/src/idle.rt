@@ -167,17 +167,21 @@ impl<E: Entries, C: Checks<E>> Watched<'_, E, C> {
 }
 
 /// Checks a key of a kind, beside an entry of another kind.
-fn play<W: Wait, E: Entries, C: Checks<E>>(
+fn play<W: Wait + Abort, E: Entries, C: Checks<E>>(
     rt: &W,
     trial: &mut Trial,
-    on: &mut E,
+    mut on: E,
     checks: C,
     (kind, other): (MetricKind, MetricKind),
-) -> Result<(), Wrong> {
-    let mut stays = Known::new(trial, other, "a")?;
-    let mut known = Known::new(trial, kind, "a")?;
-    let mut watched = Watched { on, checks };
-    watched.check_all(rt, trial, &mut known, &mut stays)
+) {
+    let mut stays = Known::new(trial, other, "a").expect(rt, "wrong");
+    let mut known = Known::new(trial, kind, "a").expect(rt, "wrong");
+    let mut watched = Watched {
+        on: &mut on,
+        checks,
+    };
+    let checked = watched.check_all(rt, trial, &mut known, &mut stays);
+    checked.expect(rt, "wrong");
 }
 
 #[test]
@@ -187,9 +191,9 @@ fn idle_entries_of_one_owner_go(rt: HostRuntime) {
     for kind in KINDS {
         let (mask, other) = mask_of(kind);
         let make = move || OwnedRegistry::new(alloc, AtomicStorage::new(alloc), 2);
-        let mut on = made(&mut trial, &make).expect(&rt, "wrong");
+        let on = made(&mut trial, &make).expect(&rt, "wrong");
         let checks = OwnedRecency::new(alloc, mask, Some(TIMEOUT));
-        play(&rt, &mut trial, &mut on, checks, (kind, other)).expect(&rt, "wrong");
+        play(&rt, &mut trial, on, checks, (kind, other));
     }
 }
 
@@ -201,7 +205,7 @@ fn idle_entries_under_locks_go(rt: HostRuntime) {
         let (mask, other) = mask_of(kind);
         let on = made(&mut trial, &move || Registry::atomic(alloc, 2)).expect(&rt, "wrong");
         let checks = Recency::new(alloc, mask, Some(TIMEOUT));
-        play(&rt, &mut trial, &mut &on, checks, (kind, other)).expect(&rt, "wrong");
+        play(&rt, &mut trial, &on, checks, (kind, other));
     }
 }
 
@@ -244,9 +248,9 @@ fn expect_changed_stays<R: Abort + Wait>(
 ) {
     let (kind, key) = at;
     let mut entries = on;
-    assert_eq!(rt; add(rt, &mut entries, kind, key), 1);
+    assert!(rt; add(rt, &mut entries, kind, key) == 1);
     for (now, sum) in CHANGES {
-        assert_eq!(rt; ones(rt, &entries, kind, key), Some(sum), "at {now}");
+        assert!(rt; ones(rt, &entries, kind, key) == Some(sum), "at {now}");
         let seen = change(rt, on, at);
         let is_used = checks.is_used(rt, &mut entries, at, seen, now);
         assert!(rt; is_used.expect(rt, "out of memory"), "at {now}");
@@ -254,9 +258,15 @@ fn expect_changed_stays<R: Abort + Wait>(
     let last = change(rt, on, at);
     for (now, is_kept) in [(40, true), (45, true), (46, false)] {
         let is_used = checks.is_used(rt, &mut entries, at, last, now);
-        assert_eq!(rt; is_used.expect(rt, "out of memory"), is_kept, "at {now}");
+        assert!(rt; is_used.expect(rt, "out of memory") == is_kept, "at {now}");
     }
-    assert_eq!(rt; ones(rt, &entries, kind, key), None);
+    assert!(rt; ones(rt, &entries, kind, key) == None);
+}
+
+fn expect_each_stays<R: Abort + Wait>(rt: &R, on: &Dated, checks: &mut Recency<Key>, key: &Key) {
+    for kind in KINDS {
+        expect_changed_stays(rt, on, checks, (kind, key));
+    }
 }
 
 #[test]
@@ -266,7 +276,5 @@ fn a_changed_cell_stays(rt: HostRuntime) {
     let storage = Arc::new(alloc, GenerationalStorage::atomic(alloc)).expect(&rt, "out of memory");
     let on = Registry::new(alloc, storage, 8).expect(&rt, "out of memory");
     let mut checks = Recency::new(alloc, MetricKindMask::ALL, Some(TIMEOUT));
-    for kind in KINDS {
-        expect_changed_stays(&rt, &on, &mut checks, (kind, &key));
-    }
+    expect_each_stays(&rt, &on, &mut checks, &key);
 }

@@ -5,6 +5,7 @@ use crate::kinds::{Entries, Handles, KINDS};
 use metrics::{Key, MetricKind};
 use metrics_registry::OwnedRegistry;
 use metrics_shared_registry::{AtomicStorage, GenerationalStorage, Registry};
+use std::process::Abort;
 use std::sync::{Arc, Wait};
 use test_trial::{Trial, Wrong, done, expect, made};
 
@@ -215,16 +216,25 @@ fn come_and_go<W: Wait, E: Entries>(
     expect_handles(rt, trial, on, all)
 }
 
-/// Plays with two keys of each kind.
-fn play<W: Wait, E: Entries>(rt: &W, trial: &mut Trial, on: &mut E) -> Result<(), Wrong> {
+/// Plays with two keys of a kind.
+fn play_kind<W: Wait, E: Entries>(
+    rt: &W,
+    trial: &mut Trial,
+    on: &mut E,
+    kind: MetricKind,
+) -> Result<(), Wrong> {
+    let mut all = [
+        Known::new(trial, kind, "foobar")?,
+        Known::new(trial, kind, "baz")?,
+    ];
+    come_and_go(rt, trial, on, kind, &mut all)
+}
+
+/// Plays with keys of each kind.
+fn play<W: Wait + Abort, E: Entries>(rt: &W, trial: &mut Trial, mut on: E) {
     for kind in KINDS {
-        let mut all = [
-            Known::new(trial, kind, "foobar")?,
-            Known::new(trial, kind, "baz")?,
-        ];
-        come_and_go(rt, trial, on, kind, &mut all)?;
+        play_kind(rt, trial, &mut on, kind).expect(rt, "wrong");
     }
-    Ok(())
 }
 
 #[test]
@@ -233,8 +243,8 @@ fn entries_of_one_owner_come_and_go(rt: HostRuntime) {
     let mut trial = Trial::new(alloc);
     for shards in [1usize, 2, 8] {
         let make = move || OwnedRegistry::new(alloc, AtomicStorage::new(alloc), shards);
-        let mut on = made(&mut trial, &make).expect(&rt, "wrong");
-        play(&rt, &mut trial, &mut on).expect(&rt, "wrong");
+        let on = made(&mut trial, &make).expect(&rt, "wrong");
+        play(&rt, &mut trial, on);
     }
 }
 
@@ -244,7 +254,7 @@ fn entries_under_locks_come_and_go(rt: HostRuntime) {
     let mut trial = Trial::new(alloc);
     for shards in [1usize, 2, 8] {
         let on = made(&mut trial, &move || Registry::atomic(alloc, shards)).expect(&rt, "wrong");
-        play(&rt, &mut trial, &mut &on).expect(&rt, "wrong");
+        play(&rt, &mut trial, &on);
     }
 }
 
@@ -258,7 +268,7 @@ fn entries_with_generations_come_and_go(rt: HostRuntime) {
             Registry::new(alloc, storage, shards)
         };
         let on = made(&mut trial, &make).expect(&rt, "wrong");
-        play(&rt, &mut trial, &mut &on).expect(&rt, "wrong");
+        play(&rt, &mut trial, &on);
     }
 }
 
@@ -268,5 +278,5 @@ fn entries_whose_clones_take_memory_come_and_go(rt: HostRuntime) {
     let mut trial = Trial::new(alloc);
     let make = move || Registry::new(alloc, Copies { alloc }, 2);
     let on = made(&mut trial, &make).expect(&rt, "wrong");
-    play(&rt, &mut trial, &mut &on).expect(&rt, "wrong");
+    play(&rt, &mut trial, &on);
 }
