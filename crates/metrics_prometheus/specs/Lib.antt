@@ -6,5 +6,6 @@ pub mod Shown
 pub mod Samples
 pub mod Exposition
 pub mod Rows
+pub mod Heads
 pub mod Written
 pub mod Reading

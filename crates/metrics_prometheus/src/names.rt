@@ -113,7 +113,7 @@ fn are_plain(bytes: &[u8]) -> bool
 {
     let mut plain = true;
     for c in bytes {
-        plain &= *c != b'\\' && *c != b'"' && *c != b'\n';
+        plain &= (*c != b'\\') & (*c != b'"') & (*c != b'\n');
     }
     plain
 }

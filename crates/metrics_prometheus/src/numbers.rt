@@ -1,7 +1,8 @@
 //! Numbers as they are written.
-ghost use Rattle.std.specs.Prelude.{◌≡◌, ◌++◌, OnOk, string_bytes};
+ghost use Rattle.std.specs.Prelude.{◌≡◌, ◌++◌, OnOk, string_bytes, decimal};
 ghost use Rattle.metrics_prometheus.specs.Numbers.{pointed, number};
 
+use itoa::Buffer;
 use std::alloc::AllocError;
 
 /// Writes a number of units of the last of so many places behind its point.
@@ -17,13 +18,21 @@ fn write_pointed(text: &mut String, places: u8, units: u128) -> Result<(), Alloc
     text.push(char::from(b'0' + digit))
 }
 
+/// Writes a number of samples.
+pub(crate) fn write_count(text: &mut String, count: u64) -> Result<(), AllocError>
+    ensures { OnOk result (string_bytes text.new ≡ string_bytes text.old ++ decimal count) }
+{
+    let mut digits = Buffer::new();
+    text.push_str(digits.format(count))
+}
+
 /// Writes a number of units of the last of so many decimal places, and a whole number where there are none.
 pub(crate) fn write_number(text: &mut String, places: u8, units: i128) -> Result<(), AllocError>
     ensures { OnOk result (string_bytes text.new ≡ string_bytes text.old ++ number places units) }
 {
     if places == 0 {
-        write!(text, "{units}")?;
-        return Ok(());
+        let mut digits = Buffer::new();
+        return text.push_str(digits.format(units));
     }
     if units < 0 {
         text.push_str("-")?;

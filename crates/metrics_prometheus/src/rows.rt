@@ -30,34 +30,120 @@ pub(crate) struct ShownRow<'a> {
     pub reading: ReadingRef<'a>,
 }
 
+/// What a kind and name are shown with, where that name is shown as it is.
+#[derive(Clone, Copy)]
+struct Whole<'a> {
+    kind: MetricKind,
+    name: &'a str,
+    help: Option<&'a str>,
+    places: u8,
+}
+
+/// What a kind and name are shown with.
+#[derive(Drop)]
+struct Head<'a> {
+    name: ShownName<'a>,
+    help: Option<&'a str>,
+    places: u8,
+}
+
+ghost use Rattle.std.specs.Prelude.{IfSome};
+ghost use Rattle.metrics_exporter.specs.Gathering.{series_at};
 ghost use Rattle.metrics_exporter.specs.Describing.{described_by};
-ghost use Rattle.metrics_prometheus.specs.Naming.{display_of};
+ghost use Rattle.metrics_prometheus.specs.Exposition.{row_of as shown_row};
+ghost use Rattle.metrics_prometheus.specs.Naming.{Display, display_of};
 ghost use Rattle.metrics_prometheus.specs.Rows.{row_shown, pair_shown, pair_of, AreRowsOf};
+ghost use Rattle.metrics_prometheus.specs.Heads.{head_shown, IsWhole};
 ghost use Rattle.metrics_prometheus.specs.declared.rows.ShownRow.{ShownRow as RowParts};
+
+/// Looks up what a kind and name are shown with.
+fn found_head<'a>(
+    alloc: Global,
+    naming: Naming,
+    descriptions: &'a Descriptions,
+    kind: MetricKind,
+    name: &'a str,
+) -> Result<Head<'a>, Error>
+    ensures { MatchResult result
+        (λ head. head_shown head ≡ display_of naming (described_by descriptions.now) kind name.now) (λ e. e ≡ OutOfMemory) }
+{
+    let help = descriptions.text(kind, name);
+    let unit = descriptions.unit(kind, name);
+    let shown = shown_name(alloc, naming, kind, unit, name)?;
+    Ok(Head {
+        name: shown,
+        help,
+        places: shown_places(naming, unit),
+    })
+}
+
+/// What a kind and name are shown with, which is looked up unless the row before has them.
+fn head_of<'a>(
+    alloc: Global,
+    naming: Naming,
+    descriptions: &'a Descriptions,
+    last: Option<Whole<'a>>,
+    kind: MetricKind,
+    name: &'a str,
+) -> Result<Head<'a>, Error>
+    requires { IfSome last (IsWhole (display_of naming (described_by descriptions.now))) }
+    ensures { MatchResult result
+        (λ head. head_shown head ≡ display_of naming (described_by descriptions.now) kind name.now) (λ e. e ≡ OutOfMemory) }
+{
+    if let Some(whole) = last {
+        if whole.kind == kind && whole.name == name {
+            return Ok(Head {
+                name: ShownName::given(name),
+                help: whole.help,
+                places: whole.places,
+            });
+        }
+    }
+    found_head(alloc, naming, descriptions, kind, name)
+}
+
+/// What a row's kind and name are shown with, where the name is shown as it is.
+fn whole_of<'a>(row: &ShownRow<'a>) -> Option<Whole<'a>>
+    ensures { (display : Display) → row_shown row.now ≡ shown_row display (series_at row.now.kind row.now.key.now)
+        → IfSome result (IsWhole display) }
+{
+    let key = row.key;
+    let name = key.name();
+    if row.name.as_str() != name {
+        return None;
+    }
+    Some(Whole {
+        kind: row.kind,
+        name,
+        help: row.help,
+        places: row.places,
+    })
+}
 
 fn row_of<'a>(
     alloc: Global,
     naming: Naming,
     descriptions: &'a Descriptions,
+    last: Option<Whole<'a>>,
     series: SeriesReading<'a>,
 ) -> Result<ShownRow<'a>, Error>
+    requires { IfSome last (IsWhole (display_of naming (described_by descriptions.now))) }
     ensures row { MatchResult result
         (λ row. pair_shown row ≡ pair_of (display_of naming (described_by descriptions.now)) (told_of series.entry))
         (λ e. e ≡ OutOfMemory) }
     ensures texts { OnOk result (All (λ l. IsUtf8 l.1) series.entry.key.now.labels) }
 {
     let kind = series.reading.kind();
-    let help = descriptions.text(kind, series.key.name());
-    let unit = descriptions.unit(kind, series.key.name());
-    let name = shown_name(alloc, naming, kind, unit, series.key.name())?;
     let labels = shown_labels(alloc, series.key.labels())?;
+    let head = head_of(alloc, naming, descriptions, last, kind, series.key.name())?;
+    let Head { name, help, places } = head;
     Ok(ShownRow {
         name,
         kind,
         labels,
         key: series.key,
         help,
-        places: shown_places(naming, unit),
+        places,
         reading: series.reading,
     })
 }
@@ -76,8 +162,11 @@ fn rows_of<'a>(
     ensures texts { OnOk result (All (λ s. All (λ l. IsUtf8 l.1) s.key.now.labels) series.now) }
 {
     let mut rows = Vec::with_capacity(alloc, series.len())?;
+    let mut last = None;
     for entry in series {
-        rows.push(row_of(alloc, naming, descriptions, *entry)?)?;
+        let row = row_of(alloc, naming, descriptions, last, *entry)?;
+        last = whole_of(&row);
+        rows.push(row)?;
     }
     Ok(rows)
 }
@@ -86,6 +175,13 @@ fn rows_of<'a>(
 pub(crate) fn row_order()
     ensures { (a b : RowParts) → ⟦<ShownRow<'static> as Ord>⟧.cmp a b ≡ row_cmp (row_shown a) (row_shown b) }
 {}
+
+/// Whether two rows are of one series. The numbers of their keys mostly tell.
+fn are_same(row: &ShownRow<'_>, other: &ShownRow<'_>) -> bool
+    ensures { result ≡ ⟦<ShownRow<'static> as PartialEq>⟧.eq row.now other.now }
+{
+    row.key == other.key && row == other
+}
 
 /// The rows of series, in order. Of a series that is given twice one is left.
 pub(crate) fn sorted_rows<'a>(
@@ -102,6 +198,6 @@ pub(crate) fn sorted_rows<'a>(
     let mut rows = rows_of(alloc, naming, descriptions, series)?;
     row_order();
     rows.sort()?;
-    rows.dedup();
+    rows.dedup_by(|row, last| are_same(row, last));
     Ok(rows)
 }

@@ -8,7 +8,7 @@ ghost use Rattle.metrics_prometheus.specs.Samples.{label_text, joined, labels_te
 ghost use Rattle.metrics_prometheus.specs.Samples.{bucket_sample, histogram_samples};
 
 use crate::names::write_value;
-use crate::numbers::write_number;
+use crate::numbers::{write_count, write_number};
 use metrics::{Error, Label};
 use metrics_storage::Histogram;
 use std::alloc::{AllocError, Global};
@@ -113,8 +113,9 @@ fn write_bucket(
     text.push_str(name)?;
     text.push_str("_bucket")?;
     write_bounded(text, labels, bound)?;
-    write!(text, " {count}\n")?;
-    Ok(())
+    text.push_str(" ")?;
+    write_count(text, count)?;
+    text.push_str("\n")
 }
 
 /// Writes the line of each bucket.
@@ -128,8 +129,9 @@ fn write_buckets(
     ensures { OnOk result (string_bytes text.new ≡ string_bytes text.old
         ++ lines (map (λ b. bucket_sample name.now labels.now (number places b.0) b.1) buckets.now)) }
 {
+    let mut shown = String::new(*text.allocator());
     for (bound, count) in buckets {
-        let mut shown = String::new(*text.allocator());
+        shown.clear();
         write_number(&mut shown, places, i128::from(*bound))?;
         write_bucket(text, name, labels, &shown, *count)?;
     }

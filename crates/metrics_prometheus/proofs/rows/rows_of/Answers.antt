@@ -1,4 +1,4 @@
-use Rattle.std.proofs.Common.{subst}
+use Rattle.std.proofs.Common.{ap, subst}
 use Rattle.std.specs.Prelude.{All}
 use Rattle.std.specs.Str.{IsUtf8}
 use Rattle.std.proofs.lemmas.List.{take_all}
@@ -7,7 +7,11 @@ use Rattle.metrics_exporter.specs.declared.readings.SeriesReading.{SeriesReading
 use Rattle.metrics_names.specs.Names.{LabelParts}
 use Rattle.metrics_exporter.specs.Describing.{described_by}
 use Rattle.metrics_prometheus.specs.Naming.{display_of}
-use Rattle.metrics_prometheus.proofs.RowLemmas.{rows-more}
+use Rattle.metrics_exporter.specs.Exporting.{Reading}
+use Rattle.metrics_exporter.specs.Readings.{told_of}
+use Rattle.metrics_prometheus.specs.Exposition.{Row}
+use Rattle.metrics_prometheus.specs.Rows.{row_shown}
+use Rattle.metrics_prometheus.proofs.RowLemmas.{rows-more, own-row}
 use Rattle.metrics_prometheus.proofs.rows.rows_of.Goals as goal
 
 -- the labels of a series have texts as values
@@ -19,9 +23,12 @@ loop-entry-preserved c =
     let series = c.args.series.now in
     let i = c.loop-entry.entry-index in
     let entry = c.entry-item.result in
+    let display = display_of c.args.naming (described_by c.args.descriptions.now) in
+    let row = c.in_ok-row.row in
     record {
-      rows = rows-more (display_of c.args.naming (described_by c.args.descriptions.now)) c.loop-entry.rows.items c.push.new.self.items series i c.in_ok-row_of.field-0 entry c.loop-entry-test.true c.entry-item.is c.in_ok-push.ensures.items c.in_ok-row_of.ensures.row c.loop-entry.invariant.rows;
-      texts = All-more HasTexts series i entry c.loop-entry-test.true c.loop-entry.invariant.texts (subst HasTexts c.entry-item.is c.in_ok-row_of.ensures.texts);
+      last = c.whole_of-last.ensures display (own-row display (row_shown row) (told_of entry).0 (ap (λ (p : Row × Reading). p.0) c.in_ok-row.ensures.row));
+      rows = rows-more display c.loop-entry.rows.items c.push.new.self.items series i row entry c.loop-entry-test.true c.entry-item.is c.in_ok-push.ensures.items c.in_ok-row.ensures.row c.loop-entry.invariant.rows;
+      texts = All-more HasTexts series i entry c.loop-entry-test.true c.loop-entry.invariant.texts (subst HasTexts c.entry-item.is c.in_ok-row.ensures.texts);
     }
 
 pub returns-clause-texts : goal.returns-clause-texts
