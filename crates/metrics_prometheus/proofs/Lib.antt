@@ -21,6 +21,7 @@ pub mod HeldLemmas
 pub mod BackLemmas
 pub mod SampleLabelLemmas
 pub mod BucketLemmas
+pub mod GatherLemmas
 pub mod OneReadingLemmas
 pub mod OnceLemmas
 pub mod SearchLemmas

@@ -1,8 +1,8 @@
 //! The lines of samples.
 ghost use Rattle.std.specs.Prelude.{◌≡◌, ◌++◌, ◌∷◌, [], codes, string_bytes};
-ghost use Rattle.std.specs.Prelude.{IfOk, OnOk, IfErr, flat_map, map};
+ghost use Rattle.std.specs.Prelude.{IfOk, OnOk, IfErr, IsTrue, flat_map, map};
 ghost use Rattle.metrics.specs.declared.error.Error.TheVariants.{Memory as OutOfMemory};
-ghost use Rattle.metrics_storage.specs.Histogram.{bucket_placed, ascending};
+ghost use Rattle.metrics_storage.specs.Histogram.{ascending};
 ghost use Rattle.metrics_prometheus.specs.Numbers.{number};
 ghost use Rattle.metrics_prometheus.specs.Samples.{label_text, joined, labels_text, sample_line, lines};
 ghost use Rattle.metrics_prometheus.specs.Samples.{bucket_sample, histogram_samples};
@@ -138,33 +138,37 @@ fn write_buckets(
     Ok(())
 }
 
-/// Adds a bucket in its place, unless its bound stands there already.
-fn add_bucket(buckets: &mut Vec<(i64, u64)>, bound: i64, count: u64) -> Result<(), AllocError>
-    ensures { OnOk result (buckets.new.items ≡ bucket_placed (bound, count) buckets.old.items) }
+/// Adds a bucket at the end, if all before it found room.
+fn add_bucket(
+    buckets: &mut Vec<(i64, u64)>,
+    found_room: bool,
+    bound: i64,
+    count: u64,
+) -> Result<(), AllocError>
+    ensures added { OnOk result (buckets.new.items ≡ buckets.old.items ++ (bound, count) ∷ []) }
+    ensures before { OnOk result (IsTrue found_room) }
 {
-    for at in 0..buckets.len() {
-        let other = buckets[at].0;
-        if bound < other {
-            buckets.insert(at, (bound, count))?;
-            return Ok(());
-        }
-        if bound == other {
-            return Ok(());
-        }
+    if !found_room {
+        return Err(AllocError);
     }
     buckets.push((bound, count))?;
     Ok(())
 }
 
-/// Each bound once, in ascending order.
-fn ascending(alloc: Global, buckets: &[(i64, u64)]) -> Result<Vec<(i64, u64)>, AllocError>
-    ensures { IfOk result (λ v. v.items ≡ ascending buckets.now) }
+/// Each bound once, in ascending order, with the number of samples at most it.
+fn ascending(alloc: Global, histogram: &Histogram) -> Result<Vec<(i64, u64)>, AllocError>
+    ensures { IfOk result (λ v. v.items ≡ ascending histogram.now.buckets) }
 {
-    let mut ascending = Vec::new(alloc);
-    for (bound, count) in buckets {
-        add_bucket(&mut ascending, *bound, *count)?;
+    let mut buckets = Vec::with_capacity(alloc, histogram.bounds().len())?;
+    let mut done = Ok(());
+    {
+        let _shown = histogram.visit_ascending(|bound, count| {
+            let found_room = done.is_ok();
+            done = add_bucket(&mut buckets, found_room, bound, count);
+        });
     }
-    Ok(ascending)
+    done?;
+    Ok(buckets)
 }
 
 /// Writes the lines of a histogram.
@@ -180,7 +184,7 @@ pub(crate) fn write_histogram(
         ≡ string_bytes text.old ++ lines (histogram_samples places name.now labels.now histogram.now)) }
     ensures err { IfErr result (λ e. e ≡ OutOfMemory) }
 {
-    let buckets = ascending(alloc, &histogram.buckets()?)?;
+    let buckets = ascending(alloc, histogram)?;
     let count = histogram.count();
     let sum = histogram.sum();
     write_buckets(text, name, labels, places, &buckets)?;
