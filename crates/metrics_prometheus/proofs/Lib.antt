@@ -23,6 +23,7 @@ pub mod SampleLabelLemmas
 pub mod BucketLemmas
 pub mod GatherLemmas
 pub mod OneReadingLemmas
+pub mod LeftOutLemmas
 pub mod OnceLemmas
 pub mod SearchLemmas
 pub mod OneTextLemmas

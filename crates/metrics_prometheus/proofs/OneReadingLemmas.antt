@@ -16,7 +16,7 @@ first-feed (c ∷ n) (d ∷ m) x y hn hm e =
     let rest = first-feed n m x y hn.1 hm.1 (ap (drop 1) e) in
     (ap (λ z. z ∷ n) (ap (λ l. get_or l 0 c) e) ∙ ap (λ l. d ∷ l) rest.0, rest.1)
 
-same-first : (l k x y : List ℕ) → IsLine l → IsLine k → l ++ x ≡ k ++ y → (l ≡ k) × (x ≡ y)
+pub same-first : (l k x y : List ℕ) → IsLine l → IsLine k → l ++ x ≡ k ++ y → (l ≡ k) × (x ≡ y)
 same-first l k x y hl hk e =
     let there = ap (λ b. b ++ x) hl.is ∙ append_assoc hl.inside (10 ∷ []) x in
     let back = ap (λ b. b ++ y) hk.is ∙ append_assoc hk.inside (10 ∷ []) y in

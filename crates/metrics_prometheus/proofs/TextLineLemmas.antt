@@ -14,7 +14,7 @@ use Rattle.metrics_prometheus.specs.Numbers.{number}
 use Rattle.metrics_prometheus.specs.Samples.{Sample, labels_text, sample_line, lines, bucket_sample}
 use Rattle.metrics_prometheus.specs.declared.naming.Naming.{Naming}
 use Rattle.metrics_exporter.specs.Describing.{Legend}
-use Rattle.metrics_prometheus.specs.Exposition.{Row, Reason, label_twice, label_reserved, part, name_taken, labels_taken, reason_of, reason_text, series_named, told_as, help_line, type_line, name_lines, name_text, samples_of, reading_at, left_out_line, last_after, rows_text, IsDescribed}
+use Rattle.metrics_prometheus.specs.Exposition.{Row, Reason, label_twice, label_reserved, part, name_taken, labels_taken, reason_of, reason_text, series_named, told_as, left_out_words, help_line, type_line, name_lines, name_text, samples_of, reading_at, left_out_line, last_after, rows_text, IsDescribed}
 use Rattle.metrics_prometheus.specs.Written.{written, samples_written, Line, has, describes, tells_kind, leaves_out, line_text, sample_in, IsLine, IsReadable, HasSamples}
 use Rattle.metrics_prometheus.proofs.PairLemmas.{each-append}
 use Rattle.metrics_prometheus.proofs.NameLemmas.{AreKeyed, name-more, named-from}
@@ -69,8 +69,8 @@ series-plain r h = join (kind_word r.kind) _ (kind-plain r.kind) (join (32 ∷ [
 
 left-line : (r : Row) (why : Reason) → IsNamedRow r → IsLine (left_out_line r why)
 left-line r why h = record {
-  inside = codes "# left out: " ++ (series_named r ++ (codes ": " ++ reason_text why));
-  is = ap (λ t. codes "# left out: " ++ t) (sym (append_assoc (series_named r) (codes ": " ++ reason_text why) (10 ∷ [])));
+  inside = codes "# left out: " ++ left_out_words r why;
+  is = refl;
   none = join (codes "# left out: ") _ (plain (codes "# left out: ") refl) (join (series_named r) _ (series-plain r h) (join (codes ": ") (reason_text why) (plain (codes ": ") refl) (reason-plain why)));
 }
 

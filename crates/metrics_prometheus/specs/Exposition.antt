@@ -146,9 +146,13 @@ reason_text (labels_taken n) = codes "labels equal those of " ++ help_escaped n
 abbrev pub series_named : Row → List ℕ
 series_named r = kind_word r.kind ++ (32 ∷ (help_escaped r.key.name ++ labels_text r.labels))
 
--- # left out: KIND NAME{LABELS}: REASON
+-- KIND NAME{LABELS}: REASON
+abbrev pub left_out_words : Row → Reason → List ℕ
+left_out_words r why = series_named r ++ (codes ": " ++ reason_text why)
+
+-- the same behind what tells such a line from others
 abbrev pub left_out_line : Row → Reason → List ℕ
-left_out_line r why = codes "# left out: " ++ (series_named r ++ (codes ": " ++ (reason_text why ++ 10 ∷ [])))
+left_out_line r why = codes "# left out: " ++ (left_out_words r why ++ 10 ∷ [])
 
 -- a row with what it shows
 abbrev pub told_as : Option Reason → Option Reading → Option Row → Row → List ℕ

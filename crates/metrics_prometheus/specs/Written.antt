@@ -6,7 +6,7 @@ use Rattle.metrics_names.specs.Names.{label_eq}
 use Rattle.metrics_exporter.specs.Exporting.{Cells}
 use Rattle.metrics_prometheus.specs.Samples.{Sample, sample_line, lines}
 use Rattle.metrics_prometheus.specs.Labels.{are_fit}
-use Rattle.metrics_prometheus.specs.Exposition.{Row, is_taken, Reason, reason_of, is_left_out, samples_of, reading_at, help_line, type_line, left_out_line}
+use Rattle.metrics_prometheus.specs.Exposition.{Row, is_taken, Reason, reason_of, is_left_out, samples_of, reading_at, help_line, type_line, left_out_words, left_out_line}
 
 -- the rows that are not left out
 abbrev pub written : List Row → Option Row → List Row → List Row
@@ -62,6 +62,13 @@ sample_in (has s) = Some s
 sample_in (describes name text) = None
 sample_in (tells_kind r) = None
 sample_in (leaves_out r why) = None
+
+-- what a line says of a row that is left out
+abbrev pub left_out_in : Line → Option (List ℕ)
+left_out_in (has s) = None
+left_out_in (describes name text) = None
+left_out_in (tells_kind r) = None
+left_out_in (leaves_out r why) = Some (left_out_words r why)
 
 -- a line feed stands at its end, and nowhere else
 pub record IsLine (bytes : List ℕ) : Type 0 where

@@ -3,6 +3,7 @@
 
 mod labels;
 mod laws;
+mod listing;
 mod names;
 mod naming;
 mod numbers;
@@ -14,6 +15,7 @@ mod taken;
 mod text;
 
 pub use laws::{exposition_law, exposition_text_law};
+pub use listing::left_out;
 pub use metrics::Error;
 pub use metrics_exporter::{Descriptions, Exporter, ReadingRef, SeriesReading};
 pub use naming::Naming;

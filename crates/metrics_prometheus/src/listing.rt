@@ -1,0 +1,47 @@
+//! What a text says of the series that it leaves out.
+ghost use Rattle.std.specs.Prelude.{◌≡◌, ◌++◌, ◌∷◌, [], List, OnOk, IfOk, IfErr, flat_map, option_map};
+ghost use Rattle.std.specs.List.{AllByRecursion, filter_map};
+ghost use Rattle.std.specs.Option.{option_to_list};
+ghost use Rattle.metrics.specs.declared.error.Error.TheVariants.{Memory as OutOfMemory};
+ghost use Rattle.metrics_prometheus.specs.Rows.{names_shown};
+ghost use Rattle.metrics_prometheus.specs.Written.{Line, line_text, left_out_in, IsReadable};
+
+use metrics::Error;
+use std::alloc::{AllocError, Global};
+
+/// What a line, without its line feed, says of a series that is left out.
+fn told_in(line: &str) -> Option<&str>
+    ensures { (l : Line) → IsReadable l → line_text l ≡ line.now ++ 10 ∷ [] → option_map (λ t. t.now) result ≡ left_out_in l }
+{
+    line.strip_prefix("# left out: ")
+}
+
+/// Adds what a line says.
+fn add_told<'t>(told: &mut Vec<&'t str>, line: &'t str) -> Result<(), AllocError>
+    ensures { OnOk result ((l : Line) → IsReadable l → line_text l ≡ line.now ++ 10 ∷ []
+        → names_shown told.new.items ≡ names_shown told.old.items ++ option_to_list (left_out_in l)) }
+{
+    match told_in(line) {
+        Some(words) => {
+            told.push(words)?;
+            Ok(())
+        }
+        None => Ok(()),
+    }
+}
+
+/// Returns what a text of this crate says of each series that it leaves out, in order: `KIND NAME{LABELS}: REASON`, without
+/// `# left out: ` in front. It fails with `Error::Memory` alone, and a text that leaves out none takes no memory.
+pub fn left_out(alloc: Global, text: &str) -> Result<Vec<&str>, Error>
+    ensures told { (lines : List Line) → text.now ≡ flat_map line_text lines → AllByRecursion IsReadable lines
+        → IfOk result (λ told. names_shown told.items ≡ filter_map left_out_in lines) }
+    ensures err { IfErr result (λ e. e ≡ OutOfMemory) }
+{
+    let mut told = Vec::new(alloc);
+    let mut rest = text;
+    while let Some((line, behind)) = rest.split_once('\n') {
+        add_told(&mut told, line)?;
+        rest = behind;
+    }
+    Ok(told)
+}
