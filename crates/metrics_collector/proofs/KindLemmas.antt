@@ -10,7 +10,7 @@ use Rattle.std.specs.Map.{lookup}
 use Rattle.metrics_names.specs.Equality.{key_exact}
 use Rattle.metrics_names.specs.Names.{SeriesKey, series_key_eq}
 use Rattle.metrics_exporter.specs.Exporting.{Reading, Cell}
-use Rattle.metrics_exporter.specs.Readings.{Told, told_of, all_told, AreOnce, cells_told, reading_in}
+use Rattle.metrics_exporter.specs.Readings.{Told, told_of, all_told, AreOnce, cells_told}
 use Rattle.metrics_exporter.specs.declared.readings.SeriesReading.{SeriesReading}
 use Rattle.metrics_storage.specs.Histogram.{Distribution, bounds_of}
 use Rattle.metrics_prometheus.proofs.PairLemmas.{each-append, each-in}

@@ -21,7 +21,8 @@ use std::sync::{Arc, Wait};
 /// An update is one atomic instruction. The count itself shows activity, so an update that leaves it as it is shows none: an
 /// increment by 0, or `absolute` of a value that isn't above the count.
 ///
-/// A handle keeps its series in the collector, so a handle that is kept for ever keeps some 200 bytes, and the key's texts.
+/// A handle has 8 bytes. It keeps its series in the collector: one that is kept for ever keeps some 200 bytes, and the key's
+/// texts.
 #[derive(Clone, Drop)]
 pub struct CounterHandle {
     count: Arc<AtomicU64>,
@@ -51,7 +52,8 @@ impl CounterFn for CounterHandle {
 /// An update is two atomic instructions: one of the value, and one of a number of changes, since a gauge that is set to the
 /// value that it has is in use.
 ///
-/// A handle keeps its series in the collector, so a handle that is kept for ever keeps some 250 bytes, and the key's texts.
+/// A handle has 16 bytes. It keeps its series in the collector: one that is kept for ever keeps some 250 bytes, and the key's
+/// texts.
 pub type GaugeHandle = Generational<Arc<AtomicU64>>;
 
 /// A histogram's cell, which any thread may keep and record into (`HistogramFn`).
@@ -61,8 +63,9 @@ pub type GaugeHandle = Generational<Arc<AtomicU64>>;
 /// The samples are in parts, each under a lock of its own, and a handle records into one of them. The collector gives these
 /// out in turn, and so does `clone`. So give each thread a handle of its own: then they seldom wait for each other.
 ///
-/// A handle keeps its series in the collector. A handle that is kept for ever keeps some 550 bytes, 32 for each bound, 8 for
-/// each further part that there may be, and the key's texts. Each further part in use is some 350 bytes and 32 for each bound.
+/// A handle has 16 bytes. It keeps its series in the collector: one that is kept for ever keeps some 550 bytes, 32 for each
+/// bound, 8 for each further part that there may be, and the key's texts. Each further part has some 350 bytes and 32 for each
+/// bound from its first sample on.
 #[derive(Drop)]
 pub struct HistogramHandle {
     parts: Arc<Parts>,
@@ -193,7 +196,7 @@ pub struct CollectorCells {
 }
 
 impl CollectorCells {
-    /// Histograms count at the bounds of their names.
+    /// Histograms count at the bounds of their names, in up to 8 parts.
     pub fn new(alloc: Global, bounds: Bounds) -> CollectorCells
         ensures { result.bounds ≡ bounds }
     {

@@ -14,7 +14,7 @@ use std::sync::{Mutex, Wait};
 /// The samples of some handles, in cache lines of their own.
 type Part = CachePadded<Mutex<Histogram>>;
 
-/// The samples of a histogram. All parts have the same bounds.
+/// The samples of a histogram. All parts have the same bounds, and no call holds the locks of two.
 #[derive(Drop)]
 pub(crate) struct Parts {
     alloc: Global,
