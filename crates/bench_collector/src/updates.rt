@@ -146,9 +146,7 @@ impl LookUps {
     }
 
     fn increment<W: Wait>(&self, rt: &W, key: &Key) -> Result<(), Error> {
-        let counter = self.collector.counter(rt, key)?;
-        CounterFn::increment(&counter, 1);
-        Ok(())
+        self.collector.increment(rt, key, 1)
     }
 
     fn increment_all<W: Wait>(&self, rt: &W, keys: &[Key]) -> Result<(), Error> {

@@ -16,6 +16,7 @@ use crate::gathered::Gathered;
 use crate::keys::kept_key;
 use crate::walk::{Walk, forget_all};
 use metrics::{Error, Key, Label, MetricKind, MetricKindMask, PerKind, Unit};
+use metrics_cells::CounterFn;
 use metrics_prometheus::{Descriptions, Naming};
 use metrics_registry::OwnedRecency;
 use metrics_shared_registry::Registry;
@@ -127,6 +128,25 @@ impl Collector {
         Ok(registry.get_or_create_counter(rt, key, |cell: &CounterHandle| cell.clone())??)
     }
 
+    /// Adds to a counter of which no handle is kept, and which begins at 0 where there is none.
+    ///
+    /// It looks the key up, where a handle's update doesn't. It fails with `Error::Memory` where the series is new, or where the
+    /// key's labels aren't in order.
+    pub fn increment<W: Wait>(&self, rt: &W, key: &Key, value: u64) -> Result<(), Error> {
+        if self.labels.is_empty() && key.labels().len() < 2 {
+            return self.increment_kept(rt, key, value);
+        }
+        let kept = kept_key(self.alloc, key, &self.labels)?;
+        self.increment_kept(rt, kept.as_ref().unwrap_or(key), value)
+    }
+
+    fn increment_kept<W: Wait>(&self, rt: &W, key: &Key, value: u64) -> Result<(), Error> {
+        let registry = &self.registry;
+        registry.get_or_create_counter(rt, key, |cell: &CounterHandle| {
+            CounterFn::increment(cell, value)
+        })
+    }
+
     /// Returns a handle of a gauge, which begins at 0 where there is none. Labels in another order name the same series.
     ///
     /// Each update is activity, also one that leaves the value as it is. A handle keeps its series, as long as it is kept: some
@@ -141,8 +161,8 @@ impl Collector {
     /// Returns a handle of a histogram, which begins without samples where there is none. Labels in another order name the same
     /// series.
     ///
-    /// Each sample is activity. Ask for a handle in each thread: those of one histogram seldom wait for each other. A handle keeps
-    /// its series, as long as it is kept: some 550 bytes, 32 for each bound, and the key's texts.
+    /// Each sample is activity. Ask for a handle in each thread: those of one histogram seldom wait for each other. A handle
+    /// keeps its series, as long as it is kept: some 550 bytes, 32 for each bound, and the key's texts.
     pub fn histogram<W: Wait>(&self, rt: &W, key: &Key) -> Result<HistogramHandle, Error> {
         let kept = kept_key(self.alloc, key, &self.labels)?;
         let key = kept.as_ref().unwrap_or(key);

@@ -88,7 +88,8 @@ impl Gathered {
         ensures ok { (cells : Cells) → AreReadings cells (all_gathered self.now)
             → IfOk result (λ text. IsDescribed naming (described_by descriptions.now) cells (string_bytes text)) }
         ensures each { IfOk result (λ text. (kept : List Told) × AreOnce (all_gathered self.now) kept
-            × AreOfKinds (cells_told kept) × IsDescribed naming (described_by descriptions.now) (cells_told kept) (string_bytes text)) }
+            × AreOfKinds (cells_told kept)
+            × IsDescribed naming (described_by descriptions.now) (cells_told kept) (string_bytes text)) }
         ensures err { IfErr result (λ e. e ≡ OutOfMemory) }
     {
         let readings = readings(alloc, &self.series)?;

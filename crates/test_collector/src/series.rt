@@ -10,11 +10,12 @@ use std::fmt::Write;
 use std::process::Abort;
 use std::sync::Wait;
 
-/// Adds 1 to a counter with labels.
+/// Adds 1 to a counter with labels by a handle, and 2 without one.
 fn hit<R: AllocGlobal + Abort + Wait>(rt: &R, on: &Collector, labels: &[(&str, &str)]) {
     let key = Key::from_labels(rt.alloc(), "hits", labels).expect(rt, MEMORY);
     let hits = on.counter(rt, &key).expect(rt, MEMORY);
     CounterFn::increment(&hits, 1);
+    on.increment(rt, &key, 2).expect(rt, MEMORY);
 }
 
 #[test]
@@ -23,7 +24,7 @@ fn labels_in_another_order_name_the_same_series(rt: HostRuntime) {
     hit(&rt, &on, &[("a", "1"), ("b", "2")]);
     hit(&rt, &on, &[("b", "2"), ("a", "1")]);
     hit(&rt, &on, &[("a", "2"), ("b", "1")]);
-    let wanted = "# TYPE hits counter\nhits{a=\"1\",b=\"2\"} 2\nhits{a=\"2\",b=\"1\"} 1\n";
+    let wanted = "# TYPE hits counter\nhits{a=\"1\",b=\"2\"} 6\nhits{a=\"2\",b=\"1\"} 3\n";
     expect_text(&rt, &on, 10, wanted);
 }
 
@@ -37,7 +38,7 @@ fn a_series_own_label_wins_over_one_of_the_collector(rt: HostRuntime) {
         &rt,
         &on,
         10,
-        "# TYPE hits counter\nhits{b=\"1\",host=\"h\",zone=\"own\"} 2\nhits{host=\"h\",zone=\"e\"} 1\n",
+        "# TYPE hits counter\nhits{b=\"1\",host=\"h\",zone=\"own\"} 6\nhits{host=\"h\",zone=\"e\"} 3\n",
     );
 }
 
@@ -58,7 +59,7 @@ fn a_description_is_shown_before_its_kind(rt: HostRuntime) {
         &rt,
         &on,
         10,
-        "# HELP hits all hits\n# TYPE hits counter\nhits 1\n",
+        "# HELP hits all hits\n# TYPE hits counter\nhits 3\n",
     );
 }
 
@@ -264,17 +265,24 @@ fn record_and_read<R: AllocGlobal + Abort + Wait>(
     }
 }
 
-#[test]
-fn each_sample_through_many_handles_and_clones_is_counted_and_is_activity(rt: HostRuntime) {
-    let on = collector(&rt, MetricKindMask::ALL);
-    let handles = clones(&rt, &on);
-    record_each(&rt, &handles);
-    record_and_read(&rt, &on, &handles);
+fn expect_each_sample<R: AllocGlobal + Abort + Wait>(rt: &R, on: &Collector) {
+    let handles = clones(rt, on);
+    record_each(rt, &handles);
+    record_and_read(rt, on, &handles);
     drop(handles);
     expect_text(
-        &rt,
-        &on,
+        rt,
+        on,
         400,
         "# TYPE h histogram\nh_bucket{le=\"10\"} 11\nh_bucket{le=\"+Inf\"} 80\nh_sum 4780\nh_count 80\n",
     );
+}
+
+#[test]
+fn each_sample_through_many_handles_and_clones_is_counted_and_is_activity(rt: HostRuntime) {
+    expect_each_sample(&rt, &collector(&rt, MetricKindMask::ALL));
+    for stripes in [0, 1, 3] {
+        let on = collector(&rt, MetricKindMask::ALL).with_stripes(stripes);
+        expect_each_sample(&rt, &on);
+    }
 }
