@@ -5,7 +5,7 @@ use crate::given::{
 };
 use metrics::{Error, Key, MetricKind, MetricKindMask, Unit};
 use metrics_cells::{CounterFn, GaugeFn, HistogramFn};
-use metrics_collector::{Bounds, Collector, Gathered, HistogramHandle, Value};
+use metrics_collector::{Bounds, Collector, Gathered, HistogramHandle, Naming, Value};
 use std::fmt::Write;
 use std::process::Abort;
 use std::sync::Wait;
@@ -285,4 +285,18 @@ fn each_sample_through_many_handles_and_clones_is_counted_and_is_activity(rt: Ho
         let on = collector(&rt, MetricKindMask::ALL).with_stripes(stripes);
         expect_each_sample(&rt, &on);
     }
+}
+
+const RECOMMENDED: &str = "# TYPE hits_total counter\nhits_total 3\n\
+    # HELP temp_seconds t\n# TYPE temp_seconds gauge\ntemp_seconds 0.007\n";
+
+#[test]
+fn a_naming_decides_names_and_units(rt: HostRuntime) {
+    let on = collector(&rt, MetricKindMask::ALL).with_naming(Naming::Recommended);
+    let unit = Some(Unit::Milliseconds);
+    let described = on.describe(&rt, rt.alloc(), MetricKind::Gauge, "temp", unit, "t");
+    described.expect(&rt, MEMORY);
+    count(&rt, &on, "hits", 3);
+    set(&rt, &on, "temp", 7);
+    expect_text(&rt, &on, 10, RECOMMENDED);
 }
