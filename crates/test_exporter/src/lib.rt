@@ -10,4 +10,6 @@ mod given;
 #[cfg(test)]
 mod makers;
 #[cfg(test)]
+mod naming;
+#[cfg(test)]
 mod rows;
