@@ -111,11 +111,12 @@ fn write_escaped(text: &mut String, c: char) -> Result<(), AllocError>
 fn are_plain(bytes: &[u8]) -> bool
     ensures { result ≡ list_all is_plain bytes.now }
 {
-    let mut plain = true;
     for c in bytes {
-        plain &= (*c != b'\\') & (*c != b'"') & (*c != b'\n');
+        if *c == b'\\' || *c == b'"' || *c == b'\n' {
+            return false;
+        }
     }
-    plain
+    true
 }
 
 /// Writes a label's value, escaped character by character.
