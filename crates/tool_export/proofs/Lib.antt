@@ -1,5 +1,5 @@
-mod RequestLemmas
-mod SpellingLemmas
+pub mod RequestLemmas
+pub mod SpellingLemmas
 mod PlainLemmas
 pub mod AnswerLemmas
 mod SessionLemmas
