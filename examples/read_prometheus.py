@@ -1,12 +1,14 @@
 """Reads expositions by Prometheus's own parsers, and compares what was read with what was fed in.
 
-    read_prometheus.py make N                        writes lines that make N series, and two scrapes
-    read_prometheus.py check INPUT OUTPUT S M T B    judges what the program wrote for these words and lines
+    read_prometheus.py make N                     writes lines that make N series, and two scrapes
+    read_prometheus.py check INPUT OUTPUT WORD..  judges what the program wrote for these words and lines
+    read_prometheus.py access LOG OUTPUT          judges what came of an access log, by counts of its own
 
 Each exposition goes to `promtool check metrics`, and to the text parser of the package prometheus_client. What a scrape is to
 show is worked out here from the rules in crates/metrics_prometheus/README.md and docs/PROGRAM.md, without the program.
 """
 
+import argparse
 import re
 import subprocess
 import sys
@@ -44,6 +46,7 @@ class Exporter:
         self.bounds = sorted({int(bound) for bound in bounds.split(",")})
         self.held = {}
         self.seen = {}
+        self.helps = {}
 
     def update(self, word, amount, name, labels):
         series = (KIND_OF[word], name, labels)
@@ -155,11 +158,17 @@ def samples_of(row, value, bounds):
     return parts + [("_sum", labels, sum(value)), ("_count", labels, len(value))]
 
 
+def help_lines(exporter, row):
+    """The description of a family by that of its first row's own name."""
+    text = exporter.helps.get((row[1], row[3][1]))
+    return [] if text is None else [f"# HELP {row[0]} {one_line(text)}"]
+
+
 def expected(exporter):
-    """Each family that is to be read, and the lines of the series that are left out."""
+    """Each family that is to be read, the lines of the series that are left out, and those of descriptions."""
     rows = rows_of(exporter.held)
     histograms = histograms_of(rows)
-    families, left_out, last = [], [], None
+    families, left_out, helps, last = [], [], [], None
     for row in rows:
         reason = reason_of(row, last, histograms)
         if reason is not None:
@@ -167,11 +176,12 @@ def expected(exporter):
             continue
         if last is None or last[0] != row[0]:
             families.append((row[0], KINDS[row[1]], []))
+            helps += help_lines(exporter, row)
         last = row
         value = exporter.held[row[3]][0]
         for end, labels, number in samples_of(row, value, exporter.bounds):
             families[-1][2].append((row[0] + end, labels, number))
-    return families, left_out
+    return families, left_out, helps
 
 
 # ---- what was written
@@ -201,7 +211,7 @@ def numbers_of(text):
     return [int(line.rsplit(" ", 1)[1]) for line in text.split("\n")[:-1] if line[0] != "#"]
 
 
-def judge(text, families, left_out):
+def judge(text, families, left_out, helps):
     """Compares an exposition with what is to be read."""
     if text is None:
         raise Wrong("a scrape has no exposition")
@@ -219,6 +229,9 @@ def judge(text, families, left_out):
     lines = [line for line in text.split("\n") if line.startswith("# left out: ")]
     if lines != left_out:
         raise Wrong(f"{lines} say what is left out, wanted {left_out}")
+    lines = [line for line in text.split("\n") if line.startswith("# HELP ")]
+    if lines != helps:
+        raise Wrong(f"{lines} describe, wanted {helps}")
 
 
 def expositions(output):
@@ -240,24 +253,133 @@ def is_number(word, amount):
     return re.fullmatch("0|-?[1-9][0-9]*", amount) is not None and -(2**63) <= int(amount) < 2**63
 
 
-def check(lines, output, exporter):
+# ---- lines
+
+UNITS = ("-", "count", "percent", "seconds", "milliseconds", "microseconds", "nanoseconds", "bytes")
+LABEL = re.compile(r' ([^ =]*)=(?:"((?:[^"\\]|\\["\\n])*)"|((?!")[^ ]*))(?= |\Z)')
+CONTROL = re.compile(r"[\x00-\x1f\x7f]")
+
+
+def unescaped(value):
+    return re.sub(r"\\(.)", lambda found: "\n" if found[1] == "n" else found[1], value)
+
+
+def labels_of(rest):
+    """The labels behind a name in the order of their keys, or None where they can't be read."""
+    labels, at = {}, 0
+    while at < len(rest):
+        found = LABEL.match(rest, at)
+        if found is None or CONTROL.search(found[0]) or found[1] in labels:
+            return None
+        labels[found[1]] = found[3] if found[2] is None else unescaped(found[2])
+        at = found.end()
+    return tuple(sorted(labels.items(), key=lambda label: label[0].encode()))
+
+
+def update_of(word, rest):
+    found = re.fullmatch("([^ ]*) ([^ ]+)(.*)", rest, re.DOTALL)
+    if word not in KIND_OF or found is None or not is_number(word, found[1]) or CONTROL.search(found[2]):
+        return None
+    labels = labels_of(found[3])
+    return labels if labels is None else ("update", word, int(found[1]), "" if found[2] == "-" else found[2], labels)
+
+
+def describe_of(rest):
+    kind, name, unit, *text = [*rest.split(" ", 3), "", "", ""][: max(3, rest.count(" ") + 1)]
+    if kind not in KINDS or name == "" or CONTROL.search(name) or unit not in UNITS or not text:
+        return None
+    return "describe", KINDS.index(kind), "" if name == "-" else name, unit, text[0]
+
+
+def request_of(line):
+    """What a line asks for, or None where it is bad."""
+    line = line.removesuffix("\r")
+    word, space, rest = line.partition(" ")
+    if line == "" or line[0] == "#":
+        return ("nothing",)
+    if line == "scrape":
+        return "scrape", None
+    if word == "scrape":
+        return ("scrape", int(rest)) if is_number(word, rest) else None
+    return describe_of(rest) if word == "describe" else update_of(word, rest)
+
+
+def options_of(words):
+    """What the words of the command line ask for."""
+    parser = argparse.ArgumentParser()
+    parser.add_argument("--idle", default="-")
+    parser.add_argument("--idle-kinds", default=",".join(KINDS))
+    parser.add_argument("--bounds", default="5,10,25,50,100,250,500,1000,2500,5000,10000")
+    parser.add_argument("--shards")
+    parser.add_argument("--textfile")
+    parser.add_argument("--skip-bad", action="store_true")
+    return parser.parse_args(words)
+
+
+def exporter_of(options, made=Exporter):
+    kinds = "".join(kind[0] for kind in options.idle_kinds.split(","))
+    return made(kinds, options.idle, options.bounds)
+
+
+def check(lines, output, exporter, skips_bad):
     """Judges what was written for the lines; answers how many samples were read."""
     texts = iter(expositions(output))
-    count = 0
-    for word, amount, *rest in lines:
-        if word not in (*KIND_OF, "scrape") or not is_number(word, amount):  # a bad line ends the run
-            break
-        if word == "scrape":
-            exporter.expire(int(amount))
-            families, left_out = expected(exporter)
-            judge(next(texts, None), families, left_out)
-            count += sum(len(samples) for _, _, samples in families)
-        else:
-            name = "" if rest[0] == "-" else rest[0]
-            exporter.update(word, int(amount), name, tuple(tuple(l.split("=", 1)) for l in rest[1:]))
+    count, is_changed = 0, False
+
+    def shown():
+        wanted = expected(exporter)
+        judge(next(texts, None), *wanted)
+        return sum(len(samples) for _, _, samples in wanted[0])
+
+    for request in map(request_of, lines):
+        match request:
+            case None if not skips_bad:  # a bad line ends the run
+                is_changed = False
+                break
+            case ("update", *update):
+                exporter.update(*update)
+                is_changed = True
+            case ("describe", kind, name, _, text):
+                exporter.helps[kind, name] = text
+                is_changed = True
+            case ("scrape", moment):
+                exporter.expire(moment or 0)
+                count += shown()
+                is_changed = False
+    if is_changed:
+        count += shown()
     if next(texts, None) is not None:
         raise Wrong("more expositions than scrapes")
     return count
+
+
+# ---- an access log
+
+ACCESS = re.compile(r'\S+ - - \[[^]]*\] "(\S+) (.*) HTTP/1\.[01]" (\d+) (\d+) (\d+)')
+
+
+def access(log, text):
+    """Counts what an access log holds, and compares it with the samples that came of it; answers how many there are."""
+    requests, sizes, times = {}, {}, {}
+    for line in log.split("\n")[:-1]:
+        method, path, code, size, milliseconds = ACCESS.fullmatch(line).groups()
+        requests[code, method, path] = requests.get((code, method, path), 0) + 1
+        sizes[path] = sizes.get(path, 0) + int(size)
+        times.setdefault(method, []).append(int(milliseconds))
+    wanted = {("http_requests_total", c, m, p): n for (c, m, p), n in requests.items()}
+    wanted |= {("http_bytes_total", p): n for p, n in sizes.items()}
+    for method, values in times.items():
+        wanted |= {("http_duration_sum", method): sum(values), ("http_duration_count", method): len(values)}
+        for bound in (5, 10, 25, 50, 100, 250, 500, 1000, 2500, 5000, 10000, "+Inf"):
+            level = sum(value <= float(bound) for value in values)
+            wanted["http_duration_bucket", str(bound), method] = level
+    read = {}
+    for _, _, samples in as_read(text):
+        for name, labels, value in samples:
+            read[name, *(part for _, part in sorted(labels))] = value
+    if read != wanted:
+        raise Wrong(f"read and not in the log: {read.items() - wanted.items()}; the other way: {wanted.items() - read.items()}")
+    return len(read)
 
 
 def make(number):
@@ -272,14 +394,21 @@ def read(name):
         return file.read()
 
 
+def judged(arguments):
+    if arguments[0] == "access":
+        return access(read(arguments[1]), read(arguments[2]))
+    options = options_of(arguments[3:])
+    text = read(arguments[1])
+    lines = text.removesuffix("\n").split("\n") if text else []
+    return check(lines, read(arguments[2]), exporter_of(options), options.skip_bad)
+
+
 def main(arguments):
     if arguments[0] == "make":
         sys.stdout.write(make(int(arguments[1])))
         return 0
-    input_name, output_name, _, kinds, timeout, bounds = arguments[1:]
-    lines = [line.split(" ") for line in read(input_name).split("\n") if line]
     try:
-        print(check(lines, read(output_name), Exporter(kinds, timeout, bounds)), "samples were read")
+        print(judged(arguments), "samples were read")
         return 0
     except (Wrong, ValueError, LookupError) as error:
         print(repr(error))

@@ -158,6 +158,9 @@ class Calls:
             return
         yield self, len(owed), acted is not None
 
+    def after_end(self, said):
+        yield self, 0, False
+
     def seen_as(self):
         return None
 
@@ -261,6 +264,9 @@ class Export(model.Exporter):
 
     taken = [b"ok"]
 
+    def after_end(self, said):
+        yield self, 0, False
+
     def begun(self, now):
         """What an expiry may leave that was refused, or the text after it: a refusal meets no series that was noted before."""
         left = self.copied()
@@ -298,10 +304,63 @@ class Export(model.Exporter):
 
 
 class Prometheus(Export):
-    """The same, told in Prometheus's text. An update that was made says nothing, so any of several may be the refused one."""
+    """The same, told in Prometheus's text. An update that was made says nothing, so any of several may be the refused one. The
+    end of the input is a scrape without an expiry, unless nothing changed since the last one."""
 
     refusal = b"# refused E1 memory"
     taken = []
+
+    def __init__(self, words):
+        options = model.options_of(words)
+        kinds = "".join(kind[0] for kind in options.idle_kinds.split(","))
+        super().__init__(["", kinds, options.idle, options.bounds])
+        self.is_changed = False
+
+    def copied(self):
+        other = super().copied()
+        other.helps = self.helps.copy()
+        return other
+
+    def after(self, line, said):
+        is_refused = said[:1] == [self.refusal]
+        match model.request_of(line.decode()):
+            case ("scrape", moment):
+                yield from self.after_scrape(moment or 0, said, is_refused)
+            case ("update", word, amount, name, labels):
+                if is_refused and (model.KIND_OF[word], name, labels) not in self.held:
+                    yield self.copied(), 1, True
+                self.update(word, amount, name, labels)
+                self.is_changed = True
+                yield self, 0, False
+            case ("describe", kind, name, _, text):
+                if is_refused:
+                    yield self.copied(), 1, True
+                self.helps[kind, name] = text
+                self.is_changed = True
+                yield self, 0, False
+            case _:
+                yield self, 0, False
+
+    def after_scrape(self, now, said, is_refused):
+        if is_refused:
+            yield from ((other, 1, True) for other in self.begun(now))
+            return
+        self.expire(now)
+        self.is_changed = False
+        yield from self.after_text(said)
+
+    def after_text(self, said):
+        text = self.text(0)
+        if said[:len(text)] == text:
+            yield self, len(text), False
+
+    def after_end(self, said):
+        if not self.is_changed:
+            yield self, 0, False
+        elif said[:1] == [self.refusal] and self.held:
+            yield self, 1, True
+        else:
+            yield from self.after_text(said)
 
     def text(self, now):
         rows = model.rows_of(self.held)
@@ -313,11 +372,15 @@ class Prometheus(Export):
                 lines.append(model.left_out_line(row, reason))
                 continue
             if last is None or last[0] != row[0]:
+                lines += model.help_lines(self, row)
                 lines.append("# TYPE %s %s" % (row[0], model.KINDS[row[1]]))
             last = row
             for end, labels, number in model.samples_of(row, self.held[row[3]][0], self.bounds):
                 lines.append("%s%s%s %d" % (row[0], end, model.braces(labels), number))
         return [line.encode() for line in lines] + [b""]
+
+    def seen_as(self):
+        return repr((self.held, self.seen, self.helps, self.is_changed))
 
 
 # ---- runs
@@ -328,9 +391,9 @@ def lines_of(text):
     return lines if lines[-1] else lines[:-1]
 
 
-def stop_of(status, errors, bad):
+def stop_of(status, errors, bad, code):
     """Whether the run was out of memory, and at which line if it says so."""
-    if (status, errors) == (2 if bad else 0, bad):
+    if (status, errors) == (code, bad):
         return False, None
     found = re.fullmatch(rb"(?:line ([1-9]\d*): )?memory\n", errors)
     if status != 1 or not found:
@@ -338,11 +401,11 @@ def stop_of(status, errors, bad):
     return True, found[1] and int(found[1])
 
 
-def after_all(states, line, said, most):
-    """What may follow a line: the machine, how many lines were said, how many refusals among them. Each once."""
+def after_all(states, step, said, most):
+    """What may follow a step: the machine, how many lines were said, how many refusals among them. Each once."""
     found = []
     for machine, at, refusals in states:
-        for after, count, is_refused in machine.after(line, said[at:]):
+        for after, count, is_refused in step(machine, said[at:]):
             if refusals + is_refused <= most:
                 found.append((after, at + count, refusals + is_refused))
     if len(found) < 2:
@@ -350,23 +413,25 @@ def after_all(states, line, said, most):
     return list({(*state[1:], state[0].seen_as()): state for state in found}.values())
 
 
-def follow(machine, lines, said, most, is_short):
+def follow(machine, lines, said, most, is_short, is_ended):
     """Goes through lines, and what was said to each, with so many refusals at most. A short run answered some of the lines."""
     states = [(machine, 0, 0)]
     for line in lines:
         if is_short and any(at == len(said) for _, at, _ in states):
             return
-        states = after_all(states, line, said, most)
+        states = after_all(states, lambda machine, rest: machine.after(line, rest), said, most)
         if not states:
             raise Wrong("at %r" % line)
+    if is_ended:
+        states = after_all(states, lambda machine, rest: machine.after_end(rest), said, most)
     if is_short or not any(at == len(said) for _, at, _ in states):
         raise Wrong("other lines than those that the calls answer")
 
 
-def judge_lines(first, machine_of, lines, bad, most, status, errors, said):
+def judge_lines(first, machine_of, lines, bad, code, most, status, errors, said):
     """Judges the answers to the lines from the one with the number `first` on."""
-    is_stopped, number = stop_of(status, errors, bad)
-    fault = re.match(rb"line (\d+): bad", bad)
+    is_stopped, number = stop_of(status, errors, bad, code)
+    fault = re.match(rb"line (\d+): ", bad) if code == 2 else None
     last = int(fault[1]) - 1 if fault else len(lines)
     if number is not None and number > min(last + 1, len(lines)):
         raise Wrong("line %d was not reached" % number)
@@ -379,11 +444,12 @@ def judge_lines(first, machine_of, lines, bad, most, status, errors, said):
             raise Wrong("a text before the first answer")
         return
     end = number - 1 if number is not None else last
-    follow(machine_of(), lines[first:end], said, most, is_short)
+    is_ended = not fault and number is None and not (is_short and is_stopped)
+    follow(machine_of(), lines[first:end], said, most, is_short, is_ended)
 
 
 def judge_storm(words, status, errors, said):
-    is_stopped, _ = stop_of(status, errors, b"")
+    is_stopped, _ = stop_of(status, errors, b"", 0)
     pushers, values = int(words[1]), int(words[2])
     count, total = pushers * values, pushers * (values * (values - 1) // 2)
     lines = [f"pushed {count} sum {total}", f"found {count} sum {total}", f"sampled {min(count, 16)} of {count} sum {total}", ""]
@@ -394,20 +460,40 @@ def judge_storm(words, status, errors, said):
 MOST = {"none": 0, "once": 1, "on": sys.maxsize}
 
 
-def judge(program, words, given, bad, how, status, out, errors):
-    """Raises Wrong where the run can't have gone so. `bad` is what goes to standard error at a fault of the input, and `how`
-    says what was refused: `none`, one request (`once`), or all from one on (`on`)."""
+def judge_words(how, out, status, errors, bad, code):
+    """Judges what wrong words are told, or those that ask for help. Where memory is refused the text may be shorter."""
+    if how == "none" and (status, errors) != (code, bad) or status not in (code, 1) or (code and out):
+        raise Wrong("status %d with %r" % (status, errors))
+
+
+def judge(program, words, given, bad, code, how, status, out, errors):
+    """Raises Wrong where the run can't have gone so. `bad` is what goes to standard error and `code` the status with memory at
+    hand, and `how` says what was refused: `none`, one request (`once`), or all from one on (`on`)."""
     lines, said, most = lines_of(given), out.split(b"\n"), MOST[how]
     if bad.startswith(b"usage:"):
-        is_stopped, number = stop_of(status, errors, bad)
+        is_stopped, number = stop_of(status, errors, bad, code)
         if out or number is not None or is_stopped > most:
             raise Wrong("an answer to wrong words")
+    elif bad.startswith(b"error:") or words[:1] in (["--help"], ["--version"]):
+        judge_words(how, out, status, errors, bad, code)
     elif words[:1] == ["storm"]:
         judge_storm(words, status, errors, said)
     elif words == ["run"]:
         end = (lines.index(b"end") if b"end" in lines else len(lines)) + 1
-        judge_lines(end, lambda: Calls(lines[:end - 1]), lines, bad, most, status, errors, said)
+        judge_lines(end, lambda: Calls(lines[:end - 1]), lines, bad, code, most, status, errors, said)
     elif program == "metrics_tool":
-        judge_lines(0, lambda: Export(words[1:]), lines, bad, most, status, errors, said)
+        judge_lines(0, lambda: Export(words[1:]), lines, bad, code, most, status, errors, said)
     else:
-        judge_lines(0, lambda: Prometheus(words), lines, bad, most, status, errors, said)
+        told, bad = without_text(errors, bad), LEFT_OUT.sub(b"", bad)
+        judge_lines(0, lambda: Prometheus(words), lines, bad, code, most, status, told, said)
+
+
+# What is told of a series that a text leaves out: a refused scrape tells nothing.
+LEFT_OUT = re.compile(rb"^left out: .*\n", re.MULTILINE)
+
+
+def without_text(errors, bad):
+    """What was told of the end: of a bad line the whole text, where there was no memory for it and its number stood alone."""
+    errors, bad = LEFT_OUT.sub(b"", errors), LEFT_OUT.sub(b"", bad)
+    short = re.fullmatch(rb"(line \d+: )bad line\n", errors)
+    return bad if short and bad.startswith(short[1]) else errors

@@ -1,43 +1,65 @@
 //! Reads updates and scrapes from standard input, keeps the series, and prints an exposition for Prometheus at each scrape.
 #![tactic(auto)]
 
+mod host;
+mod options;
+
+use crate::host::Host;
+use crate::options::options_of;
+use clap::error::ErrorKind;
 use std::io::BufReader;
 use std::process::ExitCode;
 use std::{env, io};
-use tool_prometheus::command;
+use tool_prometheus::{Options, command};
+
+/// Answers what standard input asks for.
+fn serve(host: &HostRuntime, options: &Options, path: Option<&str>) -> io::Result<u8> {
+    let mut input = BufReader::new(host.alloc(), host.reader())?;
+    let mut output = io::writer(host);
+    let around = Host { rt: host, path };
+    Ok(command(host.alloc(), options, around, &mut input, &mut output))
+}
+
+/// Prints help, the version, or what is wrong with the words.
+fn tell(host: &HostRuntime, error: clap::Error) -> io::Result<u8> {
+    if error.kind() == ErrorKind::OutOfMemory {
+        return Err(io::Error::from(io::ErrorKind::OutOfMemory));
+    }
+    error.print(host)?;
+    Ok(if error.exit_code() == 0 { 0 } else { 2 })
+}
 
 /// The status of the whole program, or an error where there was no memory to begin with.
 fn status(host: &HostRuntime) -> io::Result<u8> {
     let mut arguments: Vec<String> = Vec::new(host.alloc());
-    match env::args(host) {
-        Ok(all) => {
-            for argument in all.skip(1) {
-                arguments.push(argument)?;
-            }
-        }
-        Err(e) => {
-            // A word that is no text is a wrong word, so none are passed on.
-            if e.kind() != io::ErrorKind::InvalidData {
-                return Err(e);
-            }
-        }
+    for argument in env::args(host)? {
+        arguments.push(argument)?;
     }
     let mut words: Vec<&str> = Vec::new(host.alloc());
     for argument in &arguments {
         words.push(argument.as_str())?;
     }
-    let mut input = BufReader::new(host.alloc(), host.reader())?;
-    let mut output = io::writer(host);
-    let mut errors = host.stderr();
-    Ok(command(host.alloc(), &words, &mut input, &mut output, &mut errors))
+    match options_of(host.alloc(), &words) {
+        Ok((options, path)) => serve(host, &options, path),
+        Err(error) => tell(host, error),
+    }
 }
 
 fn main(rt: HostRuntime) -> ExitCode {
     match status(&rt) {
         Ok(status) => ExitCode::from(status),
-        Err(_) => {
-            let _ = eprintln!(rt; "memory");
-            ExitCode::from(1)
+        Err(e) => {
+            let _ = match e.kind() {
+                io::ErrorKind::InvalidData => eprintln!(rt;
+                    "a word of the command line is not UTF-8"
+                ),
+                _ => eprintln!(rt; "memory"),
+            };
+            ExitCode::from(if e.kind() == io::ErrorKind::InvalidData {
+                2
+            } else {
+                1
+            })
         }
     }
 }

@@ -4,11 +4,14 @@ use crate::devices::{FaultyReader, MEMORY, end_if_refused, ran_slowly, told, wri
 use metrics_debugging::DebuggingRecorder;
 use std::alloc::Global;
 use std::cell::Cell;
+use std::fmt::Display;
 use std::io;
 use std::io::{BufRead, BufReader, Read, Write};
 use std::process::Abort;
 use test_trial::Trial;
+use tool_export::plan_of;
 use tool_lines::{RunError, command, run};
+use tool_prometheus::{Options, Surroundings};
 
 const GOOD: &[u8] = b"book\nprefix app\nend\ndescribe counter hits count all hits\n\
     register counter hits host=a\nincrement 0 2\nincrement 0 3\nsnapshot 0\nsnapshot 0\n";
@@ -107,21 +110,56 @@ const WRONG: [&[&str]; 12] = [
 
 const USAGE: &[u8] = b"usage: metrics_tool run | storm P V B [grow] | export S M T B\n";
 
-const USAGE_FOR_PROMETHEUS: &[u8] = b"usage: metrics_prometheus_tool S M T B\n";
-
-/// The words behind `export` are those of the program for Prometheus.
 #[test]
 fn wrong_words_ask_for_nothing(rt: HostRuntime) {
     let alloc = rt.alloc();
     for words in WRONG {
         let mut output = writer(&rt, alloc, 1000, 1000);
         let (status, errors) = told(&rt, alloc, words, GOOD, &mut output);
-        assert_eq!(rt; (status, errors.as_slice()), (2, USAGE));
-        let (mut input, mut errors) = (GOOD, writer(&rt, alloc, 1, 1000));
-        let words = words.get(1..).unwrap_or(words);
-        let status = tool_prometheus::command(alloc, words, &mut input, &mut output, &mut errors);
-        assert_eq!(rt; (status, errors.held.as_slice()), (2, USAGE_FOR_PROMETHEUS));
-        assert_eq!(rt; (input.len(), output.held.len()), (GOOD.len(), 0));
+        assert_eq!(rt;
+            (status, errors.as_slice(), output.held.len()),
+            (2, USAGE, 0)
+        );
+    }
+}
+
+/// No clock, no file, and nobody who reads messages.
+#[derive(Drop)]
+struct Alone;
+
+impl Surroundings for Alone {
+    fn seconds(&mut self) -> u64 {
+        0
+    }
+
+    fn tell<M: Display + Drop>(&mut self, _message: M) {}
+
+    fn publish(&mut self, _text: &str) -> bool {
+        false
+    }
+}
+
+/// The status of an exporter for Prometheus whose writer takes so many bytes, and how many it took.
+fn shown_to(rt: &impl Abort, alloc: Global, given: &[u8], writes: usize) -> (u8, usize) {
+    let plan = plan_of(alloc, "1", "-", "-", "5").expect(rt, MEMORY);
+    let options = Options {
+        plan: plan.expect(rt, "a plan"),
+        skips_bad: false,
+        has_file: false,
+    };
+    let (mut input, mut output) = (given, writer(rt, alloc, 1, writes));
+    let status = tool_prometheus::command(alloc, &options, Alone, &mut input, &mut output);
+    (status, output.held.len())
+}
+
+/// What is held at the end of the input is shown whole, or the device failed.
+#[test]
+fn the_end_of_an_exporter_fails(rt: HostRuntime) {
+    let given: &[u8] = b"increment 2 hits\n";
+    let whole = b"# TYPE hits counter\nhits 2\n\n".len();
+    for writes in 0..whole + 1 {
+        let wanted = (if writes < whole { 1 } else { 0 }, writes);
+        end_if_refused(&rt, shown_to(&rt, rt.alloc(), given, writes) != wanted);
     }
 }
 

@@ -1,24 +1,27 @@
--- What the lines of an exporter are answered for Prometheus.
-use Rattle.std.specs.Prelude.{◌≡◌, ℕ, List, [], ◌∷◌, ◌++◌, codes, ◌⊎◌, Result, Ok, Err, None}
+-- What requests are answered.
+use Rattle.std.specs.Prelude.{if◌then◌else◌, ◌≡◌, ℕ, ◌<◌, ◌^◌, Bool, true, false, List, [], ◌∷◌, ◌++◌, codes, ◌⊎◌, Result, Ok, Err, Option, None, Some}
 use Rattle.metrics.specs.declared.error.Error.{Error}
 use Rattle.metrics.specs.declared.error.Error.TheVariants.{Memory, CountFull}
 use Rattle.metrics_registry.specs.Idleness.{Answered}
 use Rattle.metrics_names.specs.Names.{KeyParts}
-use Rattle.metrics_exporter.specs.declared.exporter.Exporter.{Exporter}
 use Rattle.metrics_exporter.specs.Exporting.{Setup, Event, updates, expires, Log, steps, Cells, cells_after, series_of}
-use Rattle.metrics_exporter.specs.Exporting.{IsExpiry, IsFull}
-use Rattle.metrics_exporter.specs.Kept.{IsAfter}
-use Rattle.metrics_prometheus.specs.Exposition.{IsExposition}
-use Rattle.tool_export.specs.declared.requests.Request.{Request}
-use Rattle.tool_export.specs.declared.requests.Request.TheVariants.{Change, Scrape}
-use Rattle.tool_export.specs.Requests.{Spells}
+use Rattle.metrics_exporter.specs.Exporting.{IsExpiry, IsFull, HoldsSome}
+use Rattle.metrics_exporter.specs.declared.exporter.Exporter.{Exporter}
+use Rattle.metrics_exporter.specs.Describing.{Legend, SameLegend, DescribesName}
+use Rattle.metrics_exporter.specs.Kept.{IsAfter, described}
+use Rattle.metrics_prometheus.specs.Exposition.{IsDescribed}
+use Rattle.metrics_prometheus.specs.Rows.{helps_in}
 use Rattle.tool_export.specs.Exported.{HoldsAtRefusal}
+use Rattle.tool_prometheus.specs.declared.answering.Served.{Served}
+use Rattle.tool_prometheus.specs.declared.requests.Request.{Request}
+use Rattle.tool_prometheus.specs.declared.requests.Request.TheVariants.{Change, Describe, Scrape, Nothing}
+use Rattle.tool_prometheus.specs.Lines.{Spells, IsBad}
 
 -- ---- texts
 
--- an exposition and an empty line
-abbrev pub scrape_text : List ℕ → List ℕ
-scrape_text shown = shown ++ 10 ∷ []
+-- an exposition and an empty line, unless it goes to a file
+abbrev pub scrape_text : Bool → List ℕ → List ℕ
+scrape_text has_file shown = if has_file then [] else shown ++ 10 ∷ []
 
 -- want of memory, as a comment
 abbrev pub want_text : List ℕ
@@ -34,39 +37,94 @@ refusal_text (Ok done) = []
 refusal_text (Err CountFull) = full_text
 refusal_text (Err e) = want_text
 
+-- what a scrape prints that showed this, or was refused
+abbrev pub shown_text : {T : Type 0} → (T → List ℕ) → Bool → Result T Error → List ℕ
+shown_text bytes has_file (Ok shown) = scrape_text has_file (bytes shown)
+shown_text bytes has_file (Err e) = refusal_text (Err e)
+
 -- ---- one request
 
+-- an exposition of these cells, with what the exporter was told of names
+abbrev pub IsExposed : Exporter → Cells → List ℕ → Type 0
+IsExposed on cells text = IsDescribed (helps_in (described on)) cells text
+
 -- an expiry was answered, and this is an exposition of the series that it left
-abbrev pub IsShown : Cells → Result ℕ Error → List ℕ → Type 0
-IsShown cells answer shown = (n : ℕ) × (answer ≡ Ok n) × IsExposition cells shown
+abbrev pub IsShown : Cells → Exporter → Result ℕ Error → List ℕ → Type 0
+IsShown cells on answer shown = (n : ℕ) × (answer ≡ Ok n) × IsExposed on cells shown
 
--- The plain answer to a request after a list of calls: the call, as it goes into the list with its answer, and its text. An
--- update is made, or refused where the count of its samples is full; a scrape is an expiry, and then an exposition.
-abbrev pub IsPlain : Setup → Log → Request → Event → List ℕ → Type 0
-IsPlain setup log (Change key by) event text =
-    ((event ≡ updates key by (Ok tt)) × (text ≡ []) × (IsFull (steps log) key by → ⊥))
-    ⊎ ((event ≡ updates key by (Err CountFull)) × (text ≡ full_text) × IsFull (steps log) key by)
-IsPlain setup log (Scrape now) event text = (checks : List (Answered KeyParts)) × (n : ℕ) × (shown : List ℕ)
-    × (event ≡ expires now checks (Ok n)) × IsExpiry setup (steps log) now checks (Ok n)
-    × IsExposition (cells_after setup (steps (log ++ event ∷ []))) shown × (text ≡ scrape_text shown)
+-- only the exporter and what a scrape owes changed
+abbrev pub KeepsRest : Served → Served → Type 0
+KeepsRest old new = (new.has_file ≡ old.has_file) × (new.has_bad ≡ old.has_bad)
 
--- Want of memory: an update that would make its series and changes nothing, or a scrape that found some series. Its expiry made
--- all its checks or a front of them.
-abbrev pub IsWant : Setup → Log → Request → Event → List ℕ → Type 0
-IsWant setup log (Change key by) event text =
-    (event ≡ updates key by (Err Memory)) × (text ≡ want_text) × (cells_after setup (steps log) (series_of key by) ≡ None)
-IsWant setup log (Scrape now) event text = (checks : List (Answered KeyParts)) × (r : Result ℕ Error)
-    × (event ≡ expires now checks r) × IsExpiry setup (steps log) now checks r × (text ≡ want_text)
-    × HoldsAtRefusal setup log event r
+-- an exposition of what is held after the calls, with what was told of names
+abbrev pub Shows : Setup → Log → Served → List ℕ → Type 0
+Shows setup log on shown = IsExposed on.exporter (cells_after setup (steps log)) shown
 
-abbrev pub IsAnswer : Setup → Log → Request → Event → List ℕ → Type 0
-IsAnswer setup log request event text = IsPlain setup log request event text ⊎ IsWant setup log request event text
+-- the moment of a scrape; the clock's may be any
+abbrev pub IsMoment : Option ℕ → ℕ → Type 0
+IsMoment (Some now) moment = moment ≡ now
+IsMoment None moment = moment < 2 ^ 64
 
--- what a request did to an exporter, and its text: after each list of calls one more, with an answer
-abbrev pub Answers : Exporter → Exporter → Request → List ℕ → Type 0
-Answers old new request text = (setup : Setup) (log : Log) → IsAfter setup log old →
-    (event : Event) × IsAfter setup (log ++ event ∷ []) new × IsAnswer setup log request event text
+-- what is told of names stays
+abbrev pub KeepsTold : Served → Served → Type 0
+KeepsTold old new = SameLegend (described new.exporter) (described old.exporter)
 
--- a line's request was answered
-abbrev pub AnswersLine : Exporter → List ℕ → List ℕ → Exporter → Type 0
-AnswersLine old line text new = (request : Request) × Spells line request × Answers old new request text
+-- The plain answer to a request after a list of calls: the calls that it made, as they go into the list with their answers, and
+-- its text. An update is made, or refused where the count of its samples is full; a scrape is an expiry, and then an exposition.
+-- Afterwards something has changed since the last scrape, or nothing.
+abbrev pub IsPlain : Setup → Log → Served → Request → Log → Served → List ℕ → Type 0
+IsPlain setup log old (Change key by) made new text = KeepsTold old new ×
+    (((made ≡ updates key by (Ok tt) ∷ []) × (text ≡ []) × (IsFull (steps log) key by → ⊥) × (new.is_changed ≡ true))
+    ⊎ ((made ≡ updates key by (Err CountFull) ∷ []) × (text ≡ full_text) × IsFull (steps log) key by
+    × (new.is_changed ≡ old.is_changed)))
+IsPlain setup log old (Describe kind name unit note) made new text =
+    DescribesName kind name unit note (described old.exporter) (described new.exporter)
+    × (made ≡ []) × (text ≡ []) × (new.is_changed ≡ true)
+IsPlain setup log old (Scrape moment) made new text = KeepsTold old new ×
+    ((now : ℕ) × IsMoment moment now × (checks : List (Answered KeyParts)) × (n : ℕ) × (shown : List ℕ)
+    × (made ≡ expires now checks (Ok n) ∷ []) × IsExpiry setup (steps log) now checks (Ok n)
+    × Shows setup (log ++ made) new shown × (text ≡ scrape_text old.has_file shown) × (new.is_changed ≡ false))
+IsPlain setup log old Nothing made new text = (new ≡ old) × (made ≡ []) × (text ≡ [])
+
+-- Want of memory: an update that would make its series and changes nothing, a description that changes nothing, or a scrape that
+-- found some series. Its expiry made all its checks or a front of them.
+abbrev pub IsWant : Setup → Log → Served → Request → Log → Served → List ℕ → Type 0
+IsWant setup log old (Change key by) made new text = KeepsTold old new
+    × (made ≡ updates key by (Err Memory) ∷ []) × (text ≡ want_text) × (new.is_changed ≡ old.is_changed)
+    × (cells_after setup (steps log) (series_of key by) ≡ None)
+IsWant setup log old (Describe kind name unit note) made new text = KeepsTold old new
+    × (made ≡ []) × (text ≡ want_text) × (new.is_changed ≡ old.is_changed)
+IsWant setup log old (Scrape moment) made new text = KeepsTold old new
+    × (text ≡ want_text) × (new.is_changed ≡ old.is_changed)
+    × ((now : ℕ) × IsMoment moment now × (checks : List (Answered KeyParts)) × (r : Result ℕ Error)
+    × (made ≡ expires now checks r ∷ []) × IsExpiry setup (steps log) now checks r × HoldsAtRefusal setup log (expires now checks r) r)
+IsWant setup log old Nothing made new text = ⊥
+
+abbrev pub IsAnswer : Setup → Log → Served → Request → Log → Served → List ℕ → Type 0
+IsAnswer setup log old request made new text =
+    IsPlain setup log old request made new text ⊎ IsWant setup log old request made new text
+
+-- what a request did, and its text: after each list of calls some more, each with its answer
+abbrev pub Answers : Served → Served → Request → List ℕ → Type 0
+Answers old new request text = KeepsRest old new × ((setup : Setup) (log : Log) → IsAfter setup log old.exporter →
+    (made : Log) × IsAfter setup (log ++ made) new.exporter × IsAnswer setup log old request made new text)
+
+-- a bad line that is passed over is noted, and has no text
+abbrev pub PassesOver : Served → List ℕ → Served → Type 0
+PassesOver old text new = (new ≡ record old { has_bad = true }) × (text ≡ [])
+
+-- A line's request was answered; or a bad line was passed over, where lines are.
+abbrev pub AnswersLine : Bool → Served → List ℕ → List ℕ → Served → Type 0
+AnswersLine skips old line text new = ((request : Request) × Spells line request × Answers old new request text)
+    ⊎ ((skips ≡ true) × IsBad line × PassesOver old text new)
+
+-- ---- the end of the input
+
+-- What is held at the end is shown where something changed since the last scrape; or memory was wanted, and some series is held.
+abbrev pub ShowsEnd : Served → List ℕ → Type 0
+ShowsEnd on text = (setup : Setup) (log : Log) → IsAfter setup log on.exporter →
+    ((shown : List ℕ) × Shows setup log on shown × (text ≡ scrape_text on.has_file shown))
+    ⊎ ((text ≡ want_text) × HoldsSome (cells_after setup (steps log)))
+
+abbrev pub IsEnd : Served → List ℕ → Type 0
+IsEnd on text = ((on.is_changed ≡ true) × ShowsEnd on text) ⊎ ((on.is_changed ≡ false) × (text ≡ []))

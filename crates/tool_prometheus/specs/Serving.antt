@@ -1,44 +1,57 @@
--- What the program did with the lines that it read, and what its words ask for.
-use Rattle.std.specs.Prelude.{◌≡◌, ℕ, List, [], ◌⊎◌, Result, Ok, Err, None}
+-- What the program did with the lines that it read.
+use Rattle.std.specs.Prelude.{if◌then◌else◌, ◌≡◌, ℕ, Bool, true, false, not, List, [], ◌++◌, ◌⊎◌, Result, Ok, Err, None}
 use Rattle.tool_grammar.specs.declared.error.RunError.{RunError}
 use Rattle.tool_grammar.specs.declared.error.RunError.TheVariants.{Memory, BadLine, Device}
 use Rattle.tool_stream.specs.Answering.{Answering, IsRun}
-use Rattle.metrics_exporter.specs.declared.exporter.Exporter.{Exporter}
 use Rattle.metrics_exporter.specs.Exporting.{Setup}
 use Rattle.metrics_exporter.specs.Kept.{IsAfter}
-use Rattle.tool_export.specs.declared.plans.ExportPlan.{ExportPlan}
-use Rattle.tool_export.specs.Plans.{IsAllowed, plan_words, setup_of}
-use Rattle.tool_export.specs.Requests.{IsBad}
-use Rattle.tool_prometheus.specs.Exposed.{AnswersLine}
+use Rattle.tool_export.specs.Plans.{setup_of}
+use Rattle.tool_prometheus.specs.declared.answering.Served.{Served}
+use Rattle.tool_prometheus.specs.declared.commands.Options.{Options}
+use Rattle.tool_prometheus.specs.Lines.{IsBad}
+use Rattle.tool_prometheus.specs.Exposed.{AnswersLine, IsEnd}
 
--- what answers lines: an exporter, and no notes
-abbrev pub answers : Answering (Exporter × Unit {0})
-answers p line text q = AnswersLine p.0 line text q.0
+-- what answers lines, whatever is noted of the run
+abbrev pub answers : {Notes : Type 0} → Bool → Answering (Served × Notes)
+answers skips p line text q = AnswersLine skips p.0 line text q.0
 
--- what a run over lines did and wrote on an exporter
-abbrev pub IsPrometheusRun : Type 0 → ℕ → Exporter → Exporter → List ℕ → List ℕ → Result ℕ RunError → Type 0
-IsPrometheusRun at_end first old new read text r = IsRun answers IsBad at_end first (old, tt) new read text r
+-- a bad line ends a run that doesn't pass over it
+abbrev pub Stops : Bool → List ℕ → Type 0
+Stops skips line = (skips ≡ false) × IsBad line
 
--- The lines from the first on were answered by a new exporter; or none was made, and nothing was read or written.
-abbrev pub Serves : Setup → Type 0 → List ℕ → List ℕ → Result ℕ RunError → Type 0
-Serves setup at_end read text r =
-    ((start new : Exporter) × IsAfter setup [] start × IsPrometheusRun at_end 1 start new read text r)
+-- after the last line what is held may be shown; memory or the device may fail then, and what was shown may be cut short
+abbrev pub EndsLines : Served → List ℕ → Result ℕ RunError → Result ℕ RunError → Type 0
+EndsLines on text (Ok n) (Ok m) = IsEnd on text × (m ≡ n)
+EndsLines on text (Ok n) (Err (BadLine k)) = ⊥
+EndsLines on text (Ok n) (Err (Memory at)) = (at ≡ None) × (text ≡ [])
+EndsLines on text (Ok n) (Err Device) = (whole more : List ℕ) × IsEnd on whole × (whole ≡ text ++ more)
+EndsLines on text (Err e) r = (text ≡ []) × (r ≡ Err e)
+
+-- what a run over lines did and wrote, and what it wrote at the end
+abbrev pub IsPrometheusRun : Bool → Type 0 → Served → List ℕ → List ℕ → Result ℕ RunError → Type 0
+IsPrometheusRun skips at_end old read text r = (new : Served) × (lines last : List ℕ) × (q : Result ℕ RunError)
+    × IsRun (answers {Notes = Unit {0}} skips) (Stops skips) at_end 1 (old, tt) new read lines q
+    × EndsLines new last q r × (text ≡ lines ++ last)
+
+-- an exporter of the plan, before its first line
+abbrev pub IsFresh : Options → Served → Type 0
+IsFresh options on = IsAfter (setup_of options.plan) [] on.exporter × (on.has_file ≡ options.has_file)
+    × (on.is_changed ≡ false) × (on.has_bad ≡ false)
+
+-- The lines were answered by a new exporter; or none was made, and nothing was read or written.
+abbrev pub Serves : Options → Type 0 → List ℕ → List ℕ → Result ℕ RunError → Type 0
+Serves options at_end read text r =
+    ((start : Served) × IsFresh options start × IsPrometheusRun options.skips_bad at_end start read text r)
     ⊎ ((read ≡ []) × (text ≡ []) × (r ≡ Err (Memory None)))
 
--- ---- the words of the command line
+-- the status at the end: a bad line, a fault, or neither; a fault of the file is one, and a bad line that was passed over is told
+abbrev pub IsStatus : Result ℕ RunError → ℕ → Type 0
+IsStatus (Ok n) status = (status ≡ 0) ⊎ ((status ≡ 1) ⊎ (status ≡ 3))
+IsStatus (Err (BadLine k)) status = status ≡ 2
+IsStatus (Err (Memory at)) status = status ≡ 1
+IsStatus (Err Device) status = status ≡ 1
 
--- the words ask for an exporter of this plan
-abbrev pub AsksFor : List (List ℕ) → ExportPlan → Type 0
-AsksFor words plan = IsAllowed plan × (words ≡ plan_words plan)
-
--- the status at the end
-abbrev pub end_status : Result ℕ RunError → ℕ
-end_status (Ok n) = 0
-end_status (Err (BadLine k)) = 2
-end_status (Err (Memory at)) = 1
-end_status (Err Device) = 1
-
--- the lines of an exporter were answered, and the status tells how that ended
-abbrev pub Ends : ExportPlan → Type 0 → (List ℕ → Type 0) → (List ℕ → Type 0) → ℕ → Type 0
-Ends plan at_end Reads Writes status = (read text : List ℕ) × (r : Result ℕ RunError)
-    × Reads read × Writes text × Serves (setup_of plan) at_end read text r × (status ≡ end_status r)
+-- the lines were answered, and the status tells how that ended
+abbrev pub Ends : Options → Type 0 → (List ℕ → Type 0) → (List ℕ → Type 0) → ℕ → Type 0
+Ends options at_end Reads Writes status = (read text : List ℕ) × (r : Result ℕ RunError)
+    × Reads read × Writes text × Serves options at_end read text r × IsStatus r status

@@ -1,21 +1,35 @@
 //! Answers to requests.
-ghost use Rattle.std.specs.Prelude.{◌≡◌, ◌++◌, ◌∷◌, [], ℕ, List, Result as Outcome, OnOk};
-ghost use Rattle.std.specs.Prelude.{MatchResult, OnErr, string_bytes};
+ghost use Rattle.std.specs.Prelude.{◌≡◌, ◌++◌, ◌∷◌, [], ℕ, List, Result as Outcome, OnOk, MatchResult};
+ghost use Rattle.std.specs.Prelude.{string_bytes, is_ok, true, false, if◌then◌else◌};
 ghost use Rattle.metrics.specs.declared.error.Error.{Error as Refusal};
 ghost use Rattle.metrics.specs.declared.error.Error.TheVariants.{Memory};
 ghost use Rattle.metrics_names.specs.Names.{KeyParts};
 ghost use Rattle.metrics_registry.specs.Idleness.{Answered};
-ghost use Rattle.metrics_exporter.specs.Exporting.{Setup, Log, expires, steps, cells_after, IsExpiry, HoldsSome};
-ghost use Rattle.metrics_exporter.specs.Kept.{IsAfter};
-ghost use Rattle.metrics_prometheus.specs.Exposition.{IsExposition};
+ghost use Rattle.metrics_exporter.specs.Exporting.{Setup, Log, expires, steps, cells_after, IsExpiry};
+ghost use Rattle.metrics_exporter.specs.Kept.{IsAfter, described};
 ghost use Rattle.tool_export.specs.Exported.{HoldsAtRefusal};
-ghost use Rattle.tool_prometheus.specs.Exposed.{Answers, IsShown, scrape_text, refusal_text as text_of_refusal};
+ghost use Rattle.tool_prometheus.specs.Exposed.{Answers, IsShown, IsMoment, IsEnd, scrape_text, shown_text};
+ghost use Rattle.tool_prometheus.specs.Exposed.{refusal_text as text_of_refusal};
 
-use metrics::Error;
+use crate::requests::Request;
+use crate::surroundings::Surroundings;
+use crate::watching::Watch;
+use metrics::{Error, Key, MetricKind, Unit, Update};
 use metrics_exporter::Exporter;
-use metrics_prometheus::{Descriptions, Naming, exposition_of};
+use metrics_prometheus::exposition;
 use std::alloc::{AllocError, Global};
-use tool_export::Request;
+
+/// What the lines act on.
+#[derive(Drop)]
+pub struct Served {
+    pub exporter: Exporter,
+    /// Scrapes go to a file, and not to the output.
+    pub has_file: bool,
+    /// Something changed since the last scrape that was not refused.
+    pub is_changed: bool,
+    /// A bad line was passed over.
+    pub has_bad: bool,
+}
 
 /// The comment that tells a refusal, or nothing where there was none.
 fn refusal_text(answered: Result<(), Error>) -> &'static str
@@ -28,47 +42,135 @@ fn refusal_text(answered: Result<(), Error>) -> &'static str
     }
 }
 
-/// An exposition of the series that are held, without descriptions: no line tells one.
-fn shown(alloc: Global, on: &Exporter) -> Result<String, Error>
-    ensures text { (setup : Setup) (log : Log) → IsAfter setup log on.now →
-        MatchResult result (λ text. IsExposition (cells_after setup (steps log)) (string_bytes text)) (λ e. e ≡ Memory) }
-    ensures refused { (setup : Setup) (log : Log) → IsAfter setup log on.now →
-        OnErr result (HoldsSome (cells_after setup (steps log))) }
+/// Whether something changed since the last scrape, after a call that was answered so.
+fn owes(before: bool, answered: &Result<(), Error>) -> bool
+    ensures { result ≡ (if is_ok answered.now then true else before) }
 {
-    let series = on.readings()?;
-    let descriptions = Descriptions::new(alloc);
-    exposition_of(alloc, Naming::AsGiven, &descriptions, &series)
+    match answered {
+        Ok(()) => true,
+        Err(_) => before,
+    }
+}
+
+/// Updates a series, and appends what tells a refusal.
+fn answer_change(
+    on: &mut Served,
+    key: &Key,
+    by: Update,
+    text: &mut String,
+) -> Result<(), AllocError>
+    ensures { (whole : List ℕ) × Answers on.old on.new (Request.Change key.now by) whole
+        × OnOk result (string_bytes text.new ≡ string_bytes text.old ++ whole) }
+{
+    let answered = on.exporter.update(key, by);
+    on.is_changed = owes(on.is_changed, &answered);
+    text.push_str(refusal_text(answered))
+}
+
+/// Describes a name, and appends what tells a refusal.
+fn answer_describe(
+    on: &mut Served,
+    kind: MetricKind,
+    name: &str,
+    unit: Option<Unit>,
+    note: &str,
+    text: &mut String,
+) -> Result<(), AllocError>
+    ensures { (whole : List ℕ) × Answers on.old on.new (Request.Describe kind name.now unit note.now) whole
+        × OnOk result (string_bytes text.new ≡ string_bytes text.old ++ whole) }
+{
+    let answered = on.exporter.describe(kind, name, unit, note);
+    on.is_changed = owes(on.is_changed, &answered);
+    text.push_str(refusal_text(answered))
 }
 
 /// Removes what is idle at the moment, and gives an exposition of the series that are left. It is never refused where none is
 /// held.
 fn shown_at(alloc: Global, on: &mut Exporter, now: u64) -> Result<String, Error>
-    ensures { (setup : Setup) (log : Log) → IsAfter setup log on.old → (checks : List (Answered KeyParts))
+    ensures shown { (setup : Setup) (log : Log) → IsAfter setup log on.old → (checks : List (Answered KeyParts))
         × (answer : Outcome ℕ Refusal) × IsExpiry setup (steps log) now checks answer
         × IsAfter setup (log ++ expires now checks answer ∷ []) on.new
         × MatchResult result
-        (λ text. IsShown (cells_after setup (steps (log ++ expires now checks answer ∷ []))) answer (string_bytes text))
+        (λ text. IsShown (cells_after setup (steps (log ++ expires now checks answer ∷ []))) on.new answer (string_bytes text))
         (λ e. (e ≡ Memory) × HoldsAtRefusal setup log (expires now checks answer) answer) }
+    ensures told { described on.new ≡ described on.old }
 {
     match on.expire(now) {
-        Ok(_) => shown(alloc, on),
+        Ok(_) => exposition(on, alloc),
         Err(e) => Err(e),
     }
 }
 
-/// Appends an exposition and an empty line.
-fn write_scrape(shown: &str, text: &mut String) -> Result<(), AllocError>
-    ensures { OnOk result (string_bytes text.new ≡ string_bytes text.old ++ scrape_text shown.now) }
+/// Puts an exposition into the file, or appends it and an empty line.
+fn hand_out<S: Surroundings>(
+    watch: &mut Watch<S>,
+    has_file: bool,
+    shown: &str,
+    text: &mut String,
+) -> Result<(), AllocError>
+    ensures { OnOk result (string_bytes text.new ≡ string_bytes text.old ++ scrape_text has_file shown.now) }
 {
+    if has_file {
+        watch.publish(shown);
+        return Ok(());
+    }
     text.push_str(shown)?;
     text.push_str("\n")
 }
 
+/// Hands out what a scrape shows, or appends what tells a refusal.
+fn hand_out_shown<S: Surroundings>(
+    on: &mut Served,
+    watch: &mut Watch<S>,
+    shown: Result<String, Error>,
+    text: &mut String,
+) -> Result<(), AllocError>
+    ensures changed { on.new ≡ record on.old { is_changed = (if is_ok shown then false else on.old.is_changed) } }
+    ensures text { OnOk result (string_bytes text.new ≡ string_bytes text.old
+        ++ shown_text string_bytes on.old.has_file shown) }
+{
+    match shown {
+        Ok(shown) => {
+            on.is_changed = false;
+            watch.tell_left_out(shown.as_str());
+            hand_out(watch, on.has_file, shown.as_str(), text)
+        }
+        Err(e) => text.push_str(refusal_text(Err(e))),
+    }
+}
+
+/// Answers a scrape at the moment.
+fn answer_scrape<S: Surroundings>(
+    alloc: Global,
+    on: &mut Served,
+    watch: &mut Watch<S>,
+    moment: Option<u64>,
+    text: &mut String,
+) -> Result<(), AllocError>
+    ensures { (whole : List ℕ) × Answers on.old on.new (Request.Scrape moment) whole
+        × OnOk result (string_bytes text.new ≡ string_bytes text.old ++ whole) }
+{
+    let now = moment_of(watch, moment);
+    let shown = shown_at(alloc, &mut on.exporter, now);
+    hand_out_shown(on, watch, shown, text)
+}
+
+/// The moment of a scrape, which is the clock's where the line has none.
+fn moment_of<S: Surroundings>(watch: &mut Watch<S>, moment: Option<u64>) -> u64
+    ensures { IsMoment moment result }
+{
+    match moment {
+        Some(now) => now,
+        None => watch.seconds(),
+    }
+}
+
 /// Makes the call that is asked for, and appends its text. An error is want of memory for the text: the call is made then
 /// too, and what `text` holds is left open.
-pub fn answer_request(
+pub fn answer_request<S: Surroundings>(
     alloc: Global,
-    on: &mut Exporter,
+    on: &mut Served,
+    watch: &mut Watch<S>,
     request: &Request,
     text: &mut String,
 ) -> Result<(), AllocError>
@@ -76,10 +178,27 @@ pub fn answer_request(
         × OnOk result (string_bytes text.new ≡ string_bytes text.old ++ whole) }
 {
     match request {
-        Request::Change(key, by) => text.push_str(refusal_text(on.update(key, *by))),
-        Request::Scrape(now) => match shown_at(alloc, on, *now) {
-            Ok(shown) => write_scrape(shown.as_str(), text),
-            Err(e) => text.push_str(refusal_text(Err(e))),
-        },
+        Request::Change(key, by) => answer_change(on, key, *by, text),
+        Request::Describe(kind, name, unit, note) => {
+            answer_describe(on, *kind, name.as_str(), *unit, note.as_str(), text)
+        }
+        Request::Scrape(moment) => answer_scrape(alloc, on, watch, *moment, text),
+        Request::Nothing => Ok(()),
     }
+}
+
+/// Shows what is held, at the end of the input, where something changed since the last scrape. Nothing is idle then.
+pub fn answer_end<S: Surroundings>(
+    alloc: Global,
+    on: &mut Served,
+    watch: &mut Watch<S>,
+    text: &mut String,
+) -> Result<(), AllocError>
+    ensures { (whole : List ℕ) × IsEnd on.old whole × OnOk result (string_bytes text.new ≡ string_bytes text.old ++ whole) }
+{
+    if !on.is_changed {
+        return Ok(());
+    }
+    let shown = exposition(&on.exporter, alloc);
+    hand_out_shown(on, watch, shown, text)
 }

@@ -1,33 +1,34 @@
-//! The whole program, over the words of its command line.
-ghost use Rattle.std.specs.Prelude.{◌≡◌, Err as Failed, MatchResult, MatchOption, OnSome, map};
+//! The whole program, over what the words of its command line ask for.
+ghost use Rattle.std.specs.Prelude.{ℕ, List, [], Err as Failed, OnSome};
 ghost use Rattle.std.specs.Io.KnownBytes.{Consumes, Appends, IsAtEnd};
-ghost use Rattle.tool_export.specs.declared.plans.ExportPlan.{ExportPlan as Plan};
-ghost use Rattle.tool_prometheus.specs.Serving.{AsksFor, Ends, end_status};
+ghost use Rattle.metrics_exporter.specs.Kept.{IsAfter};
+ghost use Rattle.tool_export.specs.Plans.{setup_of};
+ghost use Rattle.tool_prometheus.specs.Serving.{Ends, IsStatus, IsPrometheusRun};
 
-use crate::serving::prometheus_new;
-use std::alloc::{AllocError, Global};
+use crate::answering::Served;
+use crate::serving::prometheus;
+use crate::surroundings::Surroundings;
+use crate::watching::Watch;
+use metrics_exporter::Exporter;
+use std::alloc::Global;
 use std::io::{BufRead, Write};
-use tool_export::{ExportPlan, export_law, plan_of};
+use tool_export::{ExportPlan, exporter_of};
 use tool_grammar::RunError;
+use tool_stream::flush;
 
-const USAGE: &str = "usage: metrics_prometheus_tool S M T B";
-
-/// What the words ask for. An error is want of memory for the bounds, where they do ask for an exporter.
-fn asked_plan(alloc: Global, words: &[&str]) -> Result<Option<ExportPlan>, AllocError>
-    ensures { MatchResult result
-        (λ found. MatchOption found ((plan : Plan) → AsksFor (map (λ w. w.now) words.now) plan → ⊥)
-        (λ plan. AsksFor (map (λ w. w.now) words.now) plan))
-        (λ _. (plan : Plan) × AsksFor (map (λ w. w.now) words.now) plan) }
-{
-    match words {
-        [shards, kinds, timeout, bounds] => plan_of(alloc, shards, kinds, timeout, bounds),
-        _ => Ok(None),
-    }
+/// What the words of the command line ask for.
+#[derive(Drop)]
+pub struct Options {
+    pub plan: ExportPlan,
+    /// Bad lines are told and passed over.
+    pub skips_bad: bool,
+    /// Scrapes go to a file, and not to the output.
+    pub has_file: bool,
 }
 
 /// The status of a program that stopped for this reason.
 fn status_of(e: RunError) -> u8
-    ensures { result ≡ end_status (Failed e) }
+    ensures { IsStatus (Failed e) result }
 {
     match e {
         RunError::BadLine(_) => 2,
@@ -36,60 +37,82 @@ fn status_of(e: RunError) -> u8
     }
 }
 
-/// The status at the end of a run. Why it stopped goes to `errors`, whose faults are ignored.
-fn told<E: Write>(errors: &mut E, answered: Result<u64, RunError>) -> u8
-    ensures { result ≡ end_status answered }
+/// The status at the end of a run. Why it stopped is told.
+fn told<S: Surroundings>(watch: &mut Watch<S>, answered: Result<u64, RunError>, has_bad: bool) -> u8
+    ensures { IsStatus answered result }
 {
+    watch.tell_end(answered);
     match answered {
-        Ok(_) => 0,
-        Err(e) => {
-            let _ = writeln!(errors, "{e}");
-            status_of(e)
-        }
+        Ok(_) if watch.has_failed() => 1,
+        Ok(_) => { if has_bad { 3 } else { 0 } }
+        Err(e) => status_of(e),
     }
 }
 
-/// Answers the lines of an exporter, and tells the status at its end.
-fn serve<I: BufRead, O: Write, E: Write>(
+/// Answers each line that the reader gives, on what was made for the options.
+fn serve<S: Surroundings, I: BufRead, O: Write>(
     alloc: Global,
-    plan: &ExportPlan,
+    options: &Options,
+    on: &mut Served,
+    watch: &mut Watch<S>,
     input: &mut I,
     output: &mut O,
-    errors: &mut E,
-) -> u8
-    ensures { Ends plan.now (OnSome (I.remaining input.old) (IsAtEnd (I.remaining input.new)))
-        (Consumes (I.remaining input.old) (I.remaining input.new))
-        (Appends (O.contents output.old) (O.contents output.new)) result }
+) -> Result<u64, RunError>
+    ensures { (read text : List ℕ) × Consumes (I.remaining input.old) (I.remaining input.new) read
+        × Appends (O.contents output.old) (O.contents output.new) text
+        × IsPrometheusRun options.now.skips_bad (OnSome (I.remaining input.old) (IsAtEnd (I.remaining input.new)))
+        on.old read text result }
 {
-    let answered = prometheus_new(alloc, plan, input, output);
-    told(errors, answered)
+    if options.skips_bad {
+        prometheus::<true, S, I, O>(alloc, on, watch, input, output)
+    } else {
+        prometheus::<false, S, I, O>(alloc, on, watch, input, output)
+    }
 }
 
-/// Runs the program over the words after its name, and answers its status. Why it stopped goes to
-/// `errors`, whose faults are ignored.
-pub fn command<I: BufRead, O: Write, E: Write>(
+/// Answers each line that the reader gives, on a new exporter of the plan.
+fn serve_new<S: Surroundings, I: BufRead, O: Write>(
     alloc: Global,
-    words: &[&str],
+    options: &Options,
+    exporter: Exporter,
+    watch: &mut Watch<S>,
     input: &mut I,
     output: &mut O,
-    errors: &mut E,
 ) -> u8
-    // Where the words ask for an exporter, they do for one alone: what was read and written, and how that ended.
-    ensures served { (plan : Plan) → AsksFor (map (λ w. w.now) words.now) plan
-        → Ends plan (OnSome (I.remaining input.old) (IsAtEnd (I.remaining input.new)))
+    requires { IsAfter (setup_of options.now.plan) [] exporter }
+    ensures { Ends options.now (OnSome (I.remaining input.old) (IsAtEnd (I.remaining input.new)))
         (Consumes (I.remaining input.old) (I.remaining input.new))
         (Appends (O.contents output.old) (O.contents output.new)) result }
-    // Words that ask for nothing have status 2, and nothing is read or written.
-    ensures wrong { ((plan : Plan) → AsksFor (map (λ w. w.now) words.now) plan → ⊥)
-        → (result ≡ 2) × (input.new ≡ input.old) × (output.new ≡ output.old) }
 {
-    export_law();
-    match asked_plan(alloc, words) {
-        Ok(Some(plan)) => serve(alloc, &plan, input, output, errors),
-        Ok(None) => {
-            let _ = writeln!(errors, "{USAGE}");
-            2
+    let mut on = Served {
+        exporter,
+        has_file: options.has_file,
+        is_changed: false,
+        has_bad: false,
+    };
+    let answered = serve(alloc, options, &mut on, watch, input, output);
+    told(watch, answered, on.has_bad)
+}
+
+/// Makes an exporter, and answers each line that the reader gives, from line 1 on. Answers the program's status; why it
+/// stopped is told.
+pub fn command<S: Surroundings, I: BufRead, O: Write>(
+    alloc: Global,
+    options: &Options,
+    around: S,
+    input: &mut I,
+    output: &mut O,
+) -> u8
+    ensures { Ends options.now (OnSome (I.remaining input.old) (IsAtEnd (I.remaining input.new)))
+        (Consumes (I.remaining input.old) (I.remaining input.new))
+        (Appends (O.contents output.old) (O.contents output.new)) result }
+{
+    let mut watch = Watch::new(alloc, around);
+    match exporter_of(alloc, &options.plan) {
+        Ok(exporter) => serve_new(alloc, options, exporter, &mut watch, input, output),
+        Err(_) => {
+            let answered = flush(output, Err(RunError::Memory(None)));
+            told(&mut watch, answered, false)
         }
-        Err(_) => told(errors, Err(RunError::Memory(None))),
     }
 }

@@ -3,9 +3,20 @@
 
 mod answering;
 mod commands;
+mod flaws;
+mod labels;
+mod laws;
+mod requests;
 mod serving;
+mod surroundings;
+mod watching;
 
-pub use answering::answer_request;
-pub use commands::command;
-pub use serving::{PrometheusLines, prometheus, prometheus_new};
+pub use answering::{Served, answer_end, answer_request};
+pub use commands::{Options, command};
+pub use flaws::{Cause, Message, Unread};
+pub use laws::line_law;
+pub use requests::{Request, request_of};
+pub use serving::{PrometheusLines, prometheus};
+pub use surroundings::Surroundings;
 pub use tool_grammar::RunError;
+pub use watching::Watch;

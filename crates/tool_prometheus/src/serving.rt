@@ -1,82 +1,96 @@
 //! The loop over the lines of an exporter.
-ghost use Rattle.std.specs.Prelude.{ℕ, List, OnSome};
+ghost use Rattle.std.specs.Prelude.{ℕ, List, OnSome, Ok as Answered};
 ghost use Rattle.std.specs.Io.KnownBytes.{Consumes, Appends, IsAtEnd};
-ghost use Rattle.tool_export.specs.Plans.{setup_of};
-ghost use Rattle.tool_export.specs.Requests.{IsBad};
-ghost use Rattle.tool_prometheus.specs.Serving.{answers as told, IsPrometheusRun, Serves};
+ghost use Rattle.tool_prometheus.specs.Serving.{answers as told, Stops, EndsLines, IsPrometheusRun};
 
-use crate::answering::answer_request;
-use metrics_exporter::Exporter;
+use crate::answering::{Served, answer_end, answer_request};
+use crate::flaws::Unread;
+use crate::requests::request_of;
+use crate::surroundings::Surroundings;
+use crate::watching::Watch;
 use std::alloc::Global;
 use std::io::{BufRead, Write};
-use tool_export::{ExportPlan, exporter_of, request_of};
+use std::marker::PhantomData;
 use tool_grammar::RunError;
-use tool_stream::{LineMachine, Unanswered, flush, run_lines};
+use tool_stream::{LineMachine, Unanswered, flush, run_lines, write_text};
 
-/// Answers the lines of an exporter.
-pub struct PrometheusLines;
+/// Answers the lines of an exporter. With `SKIPS` bad lines are passed over.
+pub struct PrometheusLines<const SKIPS: bool, S> {
+    of: PhantomData<S>,
+}
 
-impl LineMachine for PrometheusLines {
-    type On = Exporter;
+impl<const SKIPS: bool, S: Surroundings> LineMachine for PrometheusLines<SKIPS, S> {
+    type On = Served;
 
-    type Notes = ();
+    type Notes = Watch<S>;
 
-    ghost answers = { told };
+    ghost answers = { told SKIPS };
 
-    ghost is_bad = { IsBad };
+    ghost is_bad = { Stops SKIPS };
 
     fn answer(
         alloc: Global,
-        on: &mut Exporter,
-        _notes: &mut (),
+        on: &mut Served,
+        watch: &mut Watch<S>,
         line: &[u8],
         text: &mut String,
     ) -> Result<(), Unanswered> {
+        watch.count();
         match request_of(alloc, line) {
-            Ok(Some(request)) => match answer_request(alloc, on, &request, text) {
+            Ok(request) => match answer_request(alloc, on, watch, &request, text) {
                 Ok(()) => Ok(()),
                 Err(_) => Err(Unanswered::Lost),
             },
-            Ok(None) => Err(Unanswered::Bad),
-            Err(_) => Err(Unanswered::Memory),
+            Err(Unread::Memory) => Err(Unanswered::Memory),
+            Err(Unread::Bad(cause, word)) => {
+                if SKIPS {
+                    watch.pass_over(line, cause, word);
+                    on.has_bad = true;
+                    Ok(())
+                } else {
+                    watch.note(line, cause, word);
+                    Err(Unanswered::Bad)
+                }
+            }
         }
     }
 }
 
-/// Answers each line that the reader gives, on the exporter, up to the end or the first fault, and flushes the writer. The
-/// first line has the number `first`. Answers are out before the reader waits for more input.
-///
-/// The answer is how many lines were answered; it and the numbers of lines stop at `u64::MAX`.
-pub fn prometheus<I: BufRead, O: Write>(
+/// Writes what is held, where something changed since the last scrape.
+fn end<S: Surroundings, O: Write>(
     alloc: Global,
-    on: &mut Exporter,
-    input: &mut I,
+    on: &mut Served,
+    watch: &mut Watch<S>,
     output: &mut O,
-    first: u64,
+    count: u64,
 ) -> Result<u64, RunError>
-    ensures { (read text : List ℕ) × Consumes (I.remaining input.old) (I.remaining input.new) read
-        × Appends (O.contents output.old) (O.contents output.new) text
-        × IsPrometheusRun (OnSome (I.remaining input.old) (IsAtEnd (I.remaining input.new)))
-        first on.old on.new read text result }
+    ensures { (last : List ℕ) × Appends (O.contents output.old) (O.contents output.new) last
+        × EndsLines on.old last (Answered count) result }
 {
-    let mut notes = ();
-    run_lines::<PrometheusLines, I, O>(alloc, on, &mut notes, input, output, first)
+    let mut text = String::new(alloc);
+    if answer_end(alloc, on, watch, &mut text).is_err() {
+        return flush(output, Err(RunError::Memory(None)));
+    }
+    match write_text(output, text.as_bytes()) {
+        Ok(()) => flush(output, Ok(count)),
+        Err(_) => flush(output, Err(RunError::Device)),
+    }
 }
 
-/// Makes an exporter, and answers each line that the reader gives, from line 1 on. Where none can be made, nothing is read,
-/// and the error is want of memory; that comes of memory alone for the plans of `tool_export::plan_of`.
-pub fn prometheus_new<I: BufRead, O: Write>(
+/// Answers each line that the reader gives, up to the end or the first fault, and flushes the writer.
+pub fn prometheus<const SKIPS: bool, S: Surroundings, I: BufRead, O: Write>(
     alloc: Global,
-    plan: &ExportPlan,
+    on: &mut Served,
+    watch: &mut Watch<S>,
     input: &mut I,
     output: &mut O,
 ) -> Result<u64, RunError>
     ensures { (read text : List ℕ) × Consumes (I.remaining input.old) (I.remaining input.new) read
         × Appends (O.contents output.old) (O.contents output.new) text
-        × Serves (setup_of plan.now) (OnSome (I.remaining input.old) (IsAtEnd (I.remaining input.new))) read text result }
+        × IsPrometheusRun SKIPS (OnSome (I.remaining input.old) (IsAtEnd (I.remaining input.new))) on.old read text result }
 {
-    match exporter_of(alloc, plan) {
-        Ok(mut exporter) => prometheus(alloc, &mut exporter, input, output, 1),
-        Err(_) => flush(output, Err(RunError::Memory(None))),
+    match run_lines::<PrometheusLines<SKIPS, S>, I, O>(alloc, on, watch, input, output, 1) {
+        Ok(count) => end(alloc, on, watch, output, count),
+        Err(e) => Err(e),
     }
 }

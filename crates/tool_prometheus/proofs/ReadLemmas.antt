@@ -1,0 +1,229 @@
+-- What the parts of a line are read as.
+use Rattle.std.proofs.Common.{◌≡◌, ◌≢◌, ◌∙◌, ℕ, zero, suc, ◌<◌, ◌≤◌, ◌^◌, Bool, true, false, List, [], ◌∷◌, ◌++◌, codes, decimal, drop, take, get_or, length, append_assoc, refl, ap, sym, subst, arith}
+use Rattle.std.specs.Prelude.{Option, None, Some, Result, Ok, Err, MatchResult, IsUtf8}
+use Rattle.std.specs.List.{AllByRecursion}
+use Rattle.metrics_names.specs.Names.{LabelParts}
+use Rattle.metrics_names.specs.declared.kind.MetricKind.{MetricKind}
+use Rattle.metrics_names.specs.declared.common.Unit.{Unit as Measure}
+use Rattle.metrics.specs.declared.handles.Update.{Update}
+use Rattle.tool_grammar.specs.Cuts.{Lacks, StartsAt}
+use Rattle.tool_grammar.specs.Grammar.{kind_word, unit_word, name_word, update_word, amount_word, IsInRange}
+use Rattle.tool_grammar.proofs.WordsLemmas.{before_same, first_same, lacks_kind, lacks_unit}
+use Rattle.tool_export.proofs.RequestLemmas.{lacks_amount}
+use Rattle.tool_prometheus.specs.declared.flaws.Unread.{Unread}
+use Rattle.tool_prometheus.specs.declared.flaws.Unread.TheVariants.{Memory, Bad}
+use Rattle.tool_prometheus.specs.declared.requests.Request.{Request}
+use Rattle.tool_prometheus.specs.declared.requests.Request.TheVariants.{Change, Describe, Scrape}
+use Rattle.tool_prometheus.specs.Lines.{escape, escaped, IsQuotable, IsText, IsName, StartsElse, CanBeValue, value_word, Written, IsWritten}
+use Rattle.tool_prometheus.specs.Lines.{label_word, label_words, LacksKey, AreWritten, in_order, change, describe, scrape, Reads, Fails}
+use Rattle.tool_prometheus.proofs.EscapeLemmas.{escaped-same, starts-else}
+use Rattle.tool_prometheus.proofs.LabelLemmas.{QuotedSoFar, quoted-fails, LabelsSoFar, labels-fail, label-twice, starts-words}
+use Rattle.tool_prometheus.proofs.SentenceLemmas.{lacks_name}
+
+-- what holds is told of any error
+pub certain : {P : Type 0} (e : Unread) → P → Fails P e
+certain Memory p = tt
+certain (Bad cause at) p = p
+
+-- ---- values
+
+pub no-bare : (bytes word rest : List ℕ) (e : Unread) → bytes ≡ word ++ rest → Lacks 32 word → StartsAt 32 rest
+    → Fails (IsText word → ⊥) e
+    → Fails ((value r : List ℕ) → CanBeValue false value → StartsAt 32 r → bytes ≡ value ++ r → ⊥) e
+no-bare bytes word rest Memory is lacks starts none = tt
+no-bare bytes word rest (Bad cause at) is lacks starts none = λ value r can sr e.
+    none (subst IsText (sym (before_same 32 word value rest r lacks can.1 starts sr (sym is ∙ e)).0) can.0)
+
+-- a quoted value is read up to its quote in one way
+pub not-closed : (bytes value rest : List ℕ) → bytes ≡ escaped value ++ 34 ∷ rest → (StartsAt 32 rest → ⊥)
+    → (v r : List ℕ) → AllByRecursion IsQuotable v → StartsAt 32 r → bytes ≡ escaped v ++ 34 ∷ r → ⊥
+not-closed bytes value rest is none v r h starts e =
+    none (subst (StartsAt 32) (sym (escaped-same value v rest r (sym is ∙ e)).1) starts)
+
+pub no-quoted : (bytes value rest : List ℕ) (e : Unread) → bytes ≡ escaped value ++ 34 ∷ rest
+    → Fails (IsUtf8 value → ⊥) e
+    → Fails ((v r : List ℕ) → CanBeValue true v → StartsAt 32 r → 34 ∷ bytes ≡ value_word true v ++ r → ⊥) e
+no-quoted bytes value rest Memory is none = tt
+no-quoted bytes value rest (Bad cause at) is none = λ v r can starts e.
+    let tail = ap (drop 1) e ∙ append_assoc (escaped v) (34 ∷ []) r in
+    none (subst IsUtf8 (sym (escaped-same value v rest r (sym is ∙ tail)).0) can.1)
+
+pub quoted-err : (bytes rest value : List ℕ) (e : Unread) → QuotedSoFar bytes rest value
+    → ((r : List ℕ) → rest ≡ 34 ∷ r → ⊥)
+    → Fails ((c : ℕ) (more : List ℕ) → IsQuotable c → rest ≡ escape c ++ more → ⊥) e
+    → Fails ((v r : List ℕ) → AllByRecursion IsQuotable v → bytes ≡ escaped v ++ 34 ∷ r → ⊥) e
+quoted-err bytes rest value Memory so none fails = tt
+quoted-err bytes rest value (Bad cause at) so none fails = quoted-fails bytes rest value so (starts-else 34 rest none) fails
+
+-- ---- keys
+
+take-all : (n : ℕ) (xs : List ℕ) → length xs ≤ n → take n xs ≡ xs
+take-all zero [] le = refl
+take-all (suc n) [] le = refl
+take-all zero (x ∷ xs) le = absurd (omega arith)
+take-all (suc n) (x ∷ xs) le = ap (λ z. x ∷ z) (take-all n xs (omega (arith, le)))
+
+module _ (bytes key value : List ℕ) (is : bytes ≡ key ++ 61 ∷ value) (lacks : Lacks 61 key) where
+  pub has-space : (p : ℕ) → p < length key → get_or key p 0 ≡ 32
+      → (k r : List ℕ) → IsText k → Lacks 32 k → Lacks 61 k → bytes ≡ k ++ 61 ∷ r → ⊥
+  has-space p small at k r text spaces equals e =
+      subst (Lacks 32) (sym (first_same 61 bytes key value k r lacks equals is e).0) spaces p 0 small at
+
+  pub no-key : (e : Unread) → Fails (IsText key → ⊥) e
+      → Fails ((k r : List ℕ) → IsText k → Lacks 32 k → Lacks 61 k → bytes ≡ k ++ 61 ∷ r → ⊥) e
+  no-key Memory none = tt
+  no-key (Bad cause at) none = λ k r text spaces equals e.
+      none (subst IsText (sym (first_same 61 bytes key value k r lacks equals is e).0) text)
+
+  pub key-found : (p : ℕ) (text : List ℕ) → length key ≤ p → Lacks 32 (take p key) → IsText key → text ≡ key
+      → IsText text × Lacks 32 text × Lacks 61 text × (bytes ≡ text ++ 61 ∷ value)
+  key-found p text le spaces h same =
+      subst (λ k. IsText k × Lacks 32 k × Lacks 61 k × (bytes ≡ k ++ 61 ∷ value)) (sym same)
+      (h, subst (Lacks 32) (take-all p key le) spaces, lacks, is)
+
+-- ---- a label
+
+module _ (bytes others key value : List ℕ) (begins : bytes ≡ 32 ∷ others) (is : others ≡ key ++ 61 ∷ value)
+    (text : IsText key) (spaces : Lacks 32 key) (equals : Lacks 61 key) where
+  pub label-read : {B : Type 0} (now : B → List ℕ) (r : Result (LabelParts × B) Unread)
+      → MatchResult r (λ f. (f.0.0 ≡ key) × ((quotes : Bool) × CanBeValue quotes f.0.1 × (value ≡ value_word quotes f.0.1 ++ now f.1)
+      × StartsAt 32 (now f.1)))
+      (Fails ((quotes : Bool) (v rest : List ℕ) → CanBeValue quotes v → StartsAt 32 rest → value ≡ value_word quotes v ++ rest → ⊥))
+      → MatchResult r (λ f. (w : Written) × IsWritten w × (f.0 ≡ (w.key, w.value)) × (bytes ≡ label_word w ++ now f.1)
+      × StartsAt 32 (now f.1))
+      (Fails ((w : Written) (rest : List ℕ) → IsWritten w → StartsAt 32 rest → bytes ≡ label_word w ++ rest → ⊥))
+  label-read now (Ok f) (same, (quotes, can, at, starts)) = (
+    record { key = key; value = f.0.1; quoted = quotes },
+    (text, spaces, equals, can),
+    λ i. (same i, f.0.1),
+    begins ∙ ap (λ z. 32 ∷ z) (is ∙ ap (λ z. key ++ 61 ∷ z) at ∙ sym (append_assoc key (61 ∷ value_word quotes f.0.1) (now f.1))),
+    starts,
+  )
+  label-read now (Err Memory) h = tt
+  label-read now (Err (Bad cause at)) h = λ w rest written starts e.
+      let tail = ap (drop 1) (sym begins ∙ e) ∙ append_assoc w.key (61 ∷ value_word w.quoted w.value) rest in
+      let same = first_same 61 others key value w.key (value_word w.quoted w.value ++ rest) equals written.2 is tail in
+      h w.quoted w.value rest written.3 starts same.1
+
+pub labels-err : (bytes rest : List ℕ) (labels : List LabelParts) (e : Unread) → LabelsSoFar bytes rest labels → 0 < length rest
+    → Fails ((w : Written) (r : List ℕ) → IsWritten w → StartsAt 32 r → rest ≡ label_word w ++ r → LacksKey w.key labels → ⊥) e
+    → Fails ((ws : List Written) → AreWritten ws → bytes ≡ label_words ws → ⊥) e
+labels-err bytes rest labels Memory so some none = tt
+labels-err bytes rest labels (Bad cause at) so some none = labels-fail bytes rest labels so some none
+
+-- ---- words behind a space
+
+module _ (bytes word rest : List ℕ) (is : bytes ≡ 32 ∷ (word ++ rest)) (lacks : Lacks 32 word) (starts : StartsAt 32 rest) where
+  same-word : (other r : List ℕ) → Lacks 32 other → StartsAt 32 r → bytes ≡ 32 ∷ (other ++ r) → (word ≡ other) × (rest ≡ r)
+  same-word other r lo sr e = before_same 32 word other rest r lacks lo starts sr (ap (drop 1) (sym is ∙ e))
+
+  pub no-kind : ((kind : MetricKind) → word ≡ kind_word kind → ⊥)
+      → (kind : MetricKind) (r : List ℕ) → StartsAt 32 r → bytes ≡ 32 ∷ (kind_word kind ++ r) → ⊥
+  no-kind none kind r sr e = none kind (same-word (kind_word kind) r (lacks_kind kind) sr e).0
+
+  pub no-unit : ((unit : Option Measure) → word ≡ unit_word unit → ⊥)
+      → (unit : Option Measure) (r : List ℕ) → StartsAt 32 r → bytes ≡ 32 ∷ (unit_word unit ++ r) → ⊥
+  no-unit none unit r sr e = none unit (same-word (unit_word unit) r (lacks_unit unit) sr e).0
+
+  pub no-name : (e : Unread) → Fails ((name : List ℕ) → IsName name → word ≡ name_word name → ⊥) e
+      → Fails ((name r : List ℕ) → IsName name → StartsAt 32 r → bytes ≡ 32 ∷ (name_word name ++ r) → ⊥) e
+  no-name Memory none = tt
+  no-name (Bad cause at) none = λ name r h sr e. none name h (same-word (name_word name) r (lacks_name name h) sr e).0
+
+  pub no-amount : (first : List ℕ) → ((by : Update) → IsInRange by → first ≡ update_word by → word ≡ amount_word by → ⊥)
+      → (by : Update) (r : List ℕ) → IsInRange by → StartsAt 32 r → first ≡ update_word by → bytes ≡ 32 ∷ (amount_word by ++ r) → ⊥
+  no-amount first none by r range sr is_word e =
+      none by range is_word (same-word (amount_word by) r (lacks_amount by range) sr e).0
+
+-- ---- an update
+
+abbrev pub IsNoChange : List ℕ → List ℕ → Type 0
+IsNoChange word bytes = (by : Update) (name : List ℕ) (ws : List Written) → IsInRange by → IsName name → AreWritten ws
+    → word ≡ update_word by → bytes ≡ 32 ∷ (amount_word by ++ 32 ∷ (name_word name ++ label_words ws)) → ⊥
+
+-- the update was read
+module _ (word bytes : List ℕ) (by : Update) (rest : List ℕ) (range : IsInRange by) (is : bytes ≡ 32 ∷ (amount_word by ++ rest))
+    (starts : StartsAt 32 rest) where
+  behind-amount : (u : Update) (more : List ℕ) → IsInRange u → bytes ≡ 32 ∷ (amount_word u ++ 32 ∷ more) → rest ≡ 32 ∷ more
+  behind-amount u more h e =
+      (before_same 32 (amount_word by) (amount_word u) rest (32 ∷ more) (lacks_amount by range) (lacks_amount u h) starts refl
+      (ap (drop 1) (sym is ∙ e))).1
+
+  pub no-name-word : (e : Unread) → Fails ((r : List ℕ) → rest ≡ 32 ∷ r → ⊥) e → Fails (IsNoChange word bytes) e
+  no-name-word Memory none = tt
+  no-name-word (Bad cause at) none = λ u name ws h hn hw w e. none (name_word name ++ label_words ws) (behind-amount u _ h e)
+
+  module _ (named after : List ℕ) (cut : rest ≡ 32 ∷ (named ++ after)) (lacks : Lacks 32 named) (stops : StartsAt 32 after) where
+    behind-name : (u : Update) (name : List ℕ) (ws : List Written) → IsInRange u → IsName name
+        → bytes ≡ 32 ∷ (amount_word u ++ 32 ∷ (name_word name ++ label_words ws)) → (named ≡ name_word name) × (after ≡ label_words ws)
+    behind-name u name ws h hn e =
+        before_same 32 named (name_word name) after (label_words ws) lacks (lacks_name name hn) stops (starts-words ws)
+        (ap (drop 1) (sym cut ∙ behind-amount u _ h e))
+
+    pub no-change-name : (e : Unread) → Fails ((name : List ℕ) → IsName name → named ≡ name_word name → ⊥) e → Fails (IsNoChange word bytes) e
+    no-change-name Memory none = tt
+    no-change-name (Bad cause at) none = λ u name ws h hn hw w e. none name hn (behind-name u name ws h hn e).0
+
+    pub no-change-labels : (e : Unread) → Fails ((ws : List Written) → AreWritten ws → after ≡ label_words ws → ⊥) e
+        → Fails (IsNoChange word bytes) e
+    no-change-labels Memory none = tt
+    no-change-labels (Bad cause at) none = λ u name ws h hn hw w e. none ws hw (behind-name u name ws h hn e).1
+
+    pub change-read : (name : List ℕ) (labels : List LabelParts) → IsName name → named ≡ name_word name → word ≡ update_word by
+        → ((ws : List Written) × AreWritten ws × (labels ≡ in_order ws) × (after ≡ label_words ws))
+        → Reads (word ++ bytes) (Change (record { name = name; labels = labels }) by)
+    change-read name labels hn is_name is_word (ws, written, same, at) = (
+      change by name ws,
+      (range, hn, written),
+      ap (λ w. w ++ bytes) is_word ∙ ap (λ b. update_word by ++ b) (is ∙ ap (λ z. 32 ∷ (amount_word by ++ z)) (cut
+          ∙ ap (λ z. 32 ∷ z) (ap (λ z. z ++ after) is_name ∙ ap (λ z. name_word name ++ z) at))),
+      λ i. Change (record { name = name; labels = same i }) by,
+    )
+
+-- ---- a description
+
+abbrev pub IsNoDescription : List ℕ → Type 0
+IsNoDescription bytes = (kind : MetricKind) (name : List ℕ) (unit : Option Measure) (text : List ℕ) → IsName name → IsUtf8 text
+    → bytes ≡ 32 ∷ (kind_word kind ++ 32 ∷ (name_word name ++ 32 ∷ (unit_word unit ++ 32 ∷ text))) → ⊥
+
+module _ (bytes : List ℕ) (kind : MetricKind) (rest : List ℕ) (is : bytes ≡ 32 ∷ (kind_word kind ++ rest)) (starts : StartsAt 32 rest) where
+  behind-kind : (k : MetricKind) (more : List ℕ) → bytes ≡ 32 ∷ (kind_word k ++ 32 ∷ more) → rest ≡ 32 ∷ more
+  behind-kind k more e =
+      (before_same 32 (kind_word kind) (kind_word k) rest (32 ∷ more) (lacks_kind kind) (lacks_kind k) starts refl (ap (drop 1) (sym is ∙ e))).1
+
+  module _ (name after : List ℕ) (hn : IsName name) (cut : rest ≡ 32 ∷ (name_word name ++ after)) (stops : StartsAt 32 after) where
+    behind-named : (k : MetricKind) (n more : List ℕ) → IsName n → bytes ≡ 32 ∷ (kind_word k ++ 32 ∷ (name_word n ++ 32 ∷ more)) → after ≡ 32 ∷ more
+    behind-named k n more h e =
+        (before_same 32 (name_word name) (name_word n) after (32 ∷ more) (lacks_name name hn) (lacks_name n h) stops refl
+        (ap (drop 1) (sym cut ∙ behind-kind k _ e))).1
+
+    pub no-description-unit : (e : Unread)
+        → Fails ((unit : Option Measure) (r : List ℕ) → StartsAt 32 r → after ≡ 32 ∷ (unit_word unit ++ r) → ⊥) e
+        → Fails (IsNoDescription bytes) e
+    no-description-unit Memory none = tt
+    no-description-unit (Bad cause at) none = λ k n u text h utf8 e. none u (32 ∷ text) refl (behind-named k n _ h e)
+
+    module _ (unit : Option Measure) (last : List ℕ) (measured : after ≡ 32 ∷ (unit_word unit ++ last)) (ends : StartsAt 32 last) where
+      pub no-description-text : (e : Unread) → Fails ((text : List ℕ) → IsUtf8 text → last ≡ 32 ∷ text → ⊥) e
+          → Fails (IsNoDescription bytes) e
+      no-description-text Memory none = tt
+      no-description-text (Bad cause at) none = λ k n u text h utf8 e.
+          none text utf8 (before_same 32 (unit_word unit) (unit_word u) last (32 ∷ text) (lacks_unit unit) (lacks_unit u) ends refl
+          (ap (drop 1) (sym measured ∙ behind-named k n _ h e))).1
+
+      pub description-read : (text : List ℕ) → IsUtf8 text → last ≡ 32 ∷ text
+          → Reads (codes "describe" ++ bytes) (Describe kind name unit text)
+      description-read text utf8 at = (
+        describe kind name unit text,
+        (hn, utf8),
+        ap (λ b. codes "describe" ++ b) (is ∙ ap (λ z. 32 ∷ (kind_word kind ++ z)) (cut ∙ ap (λ z. 32 ∷ (name_word name ++ z))
+            (measured ∙ ap (λ z. 32 ∷ (unit_word unit ++ z)) at))),
+        refl,
+      )
+
+-- ---- a scrape
+
+pub scrape-read : (bytes digits : List ℕ) (now : ℕ) → bytes ≡ 32 ∷ digits → digits ≡ decimal now → now < 2 ^ 64
+    → Reads (codes "scrape" ++ bytes) (Scrape (Some now))
+scrape-read bytes digits now is at small =
+    (scrape now, small, ap (λ b. codes "scrape" ++ b) (is ∙ ap (λ z. 32 ∷ z) at), refl)

@@ -1,0 +1,147 @@
+-- A line is that of one sentence, or of none.
+use Rattle.std.proofs.Common.{◌≡◌, ◌≢◌, ◌∙◌, ℕ, ◌<◌, ◌^◌, Bool, true, false, cond, List, [], ◌∷◌, ◌++◌, codes, decimal, drop, get_or, length, append_assoc, refl, ap, sym, subst, arith}
+use Rattle.std.specs.Prelude.{Option, None, Some, Result, Ok, Err, MatchResult, IsUtf8}
+use Rattle.std.proofs.lemmas.Bool.{false≢true, ne_eqb}
+use Rattle.std.proofs.lemmas.Slice.Eq.{bytes_eq-Decides}
+use Rattle.metrics.specs.declared.handles.Update.{Update}
+use Rattle.metrics.specs.declared.handles.Update.TheVariants.{Increment, Absolute, Add, Subtract, Set, Record}
+use Rattle.metrics_names.specs.declared.kind.MetricKind.{MetricKind}
+use Rattle.metrics_names.specs.declared.common.Unit.{Unit as Measure}
+use Rattle.tool_grammar.specs.Cuts.{Lacks, StartsAt}
+use Rattle.tool_grammar.specs.Grammar.{kind_word, unit_word, name_word, update_word, amount_word, IsInRange}
+use Rattle.tool_grammar.proofs.WordsLemmas.{before_same, lacks_literal, lacks_update, lacks_kind, lacks_unit}
+use Rattle.tool_export.proofs.RequestLemmas.{lacks_amount, no_scrape}
+use Rattle.tool_prometheus.specs.declared.flaws.Unread.{Unread}
+use Rattle.tool_prometheus.specs.declared.requests.Request.{Request}
+use Rattle.tool_prometheus.specs.Lines.{IsName, Written, AreWritten, label_words, Sentence, change, describe, scrape, scrape_by_clock, comment, empty}
+use Rattle.tool_prometheus.specs.Lines.{spelling, CanBeSpelled, request_in, Reads, IsNone, IsBegun, Fails, body_of}
+use Rattle.tool_prometheus.specs.declared.flaws.Unread.TheVariants.{Memory, Bad}
+use Rattle.tool_prometheus.proofs.LabelLemmas.{starts-words}
+
+pub lacks_name : (n : List ℕ) → IsName n → Lacks 32 (name_word n)
+lacks_name [] h = lacks_literal 32 (codes "-") refl
+lacks_name (x ∷ xs) h = h.1
+
+-- ---- a line by its first word and what stands behind it
+
+abbrev pub first_word : Sentence → List ℕ
+first_word (change by name ws) = update_word by
+first_word (describe kind name unit text) = codes "describe"
+first_word (scrape now) = codes "scrape"
+first_word scrape_by_clock = codes "scrape"
+first_word (comment text) = []
+first_word empty = []
+
+abbrev pub behind_it : Sentence → List ℕ
+behind_it (change by name ws) = 32 ∷ (amount_word by ++ 32 ∷ (name_word name ++ label_words ws))
+behind_it (describe kind name unit text) = 32 ∷ (kind_word kind ++ 32 ∷ (name_word name ++ 32 ∷ (unit_word unit ++ 32 ∷ text)))
+behind_it (scrape now) = 32 ∷ decimal now
+behind_it scrape_by_clock = []
+behind_it (comment text) = []
+behind_it empty = []
+
+lacks_scrape : Lacks 32 (codes "scrape")
+lacks_scrape = lacks_literal 32 (codes "scrape") refl
+
+lacks_describe : Lacks 32 (codes "describe")
+lacks_describe = lacks_literal 32 (codes "describe") refl
+
+pub differs : codes "scrape" ≡ codes "describe" → ⊥
+differs e = false≢true ((bytes_eq-Decides (codes "scrape") (codes "describe")).1 e)
+
+pub no_describe : (u : Update) → codes "describe" ≡ update_word u → ⊥
+no_describe (Increment n) e = false≢true ((bytes_eq-Decides (codes "describe") (codes "increment")).1 e)
+no_describe (Absolute n) e = false≢true ((bytes_eq-Decides (codes "describe") (codes "absolute")).1 e)
+no_describe (Add n) e = false≢true ((bytes_eq-Decides (codes "describe") (codes "add")).1 e)
+no_describe (Subtract n) e = false≢true ((bytes_eq-Decides (codes "describe") (codes "sub")).1 e)
+no_describe (Set n) e = false≢true ((bytes_eq-Decides (codes "describe") (codes "set")).1 e)
+no_describe (Record n) e = false≢true ((bytes_eq-Decides (codes "describe") (codes "record")).1 e)
+
+-- nothing that begins is a comment or empty
+abbrev pub IsOther : Sentence → Type 0
+IsOther (change by name ws) = Unit {0}
+IsOther (describe kind name unit text) = Unit {0}
+IsOther (scrape now) = Unit {0}
+IsOther scrape_by_clock = Unit {0}
+IsOther (comment text) = ⊥
+IsOther empty = ⊥
+
+module _ (word rest : List ℕ) (lacks : Lacks 32 word) (starts : StartsAt 32 rest) (begun : IsBegun (word ++ rest)) where
+  pub cut : (s : Sentence) → word ++ rest ≡ spelling s → IsOther s × (word ≡ first_word s) × (rest ≡ behind_it s)
+  cut (change by name ws) e = let b = before_same 32 word (update_word by) rest _ lacks (lacks_update by) starts refl e in (tt, b.0, b.1)
+  cut (describe kind name unit text) e = let b = before_same 32 word (codes "describe") rest _ lacks lacks_describe starts refl e in (tt, b.0, b.1)
+  cut (scrape now) e = let b = before_same 32 word (codes "scrape") rest (32 ∷ decimal now) lacks lacks_scrape starts refl e in (tt, b.0, b.1)
+  cut scrape_by_clock e = let b = before_same 32 word (codes "scrape") rest [] lacks lacks_scrape starts tt e in (tt, b.0, b.1)
+  cut (comment text) e = absurd (subst IsBegun e begun refl)
+  cut empty e = absurd (subst IsBegun e begun)
+
+  -- ---- a line that begins with `scrape`
+
+  pub scrape_line : word ≡ codes "scrape" → (r : Result Request Unread) → MatchResult r (Reads (codes "scrape" ++ rest))
+      (Fails ((rest ≡ [] → ⊥) × ((now : ℕ) → now < 2 ^ 64 → rest ≡ 32 ∷ decimal now → ⊥)))
+      → MatchResult r (Reads (word ++ rest)) (Fails (IsNone (word ++ rest)))
+  scrape_line is (Ok q) h = subst (λ w. Reads (w ++ rest) q) (sym is) h
+  scrape_line is (Err Memory) h = tt
+  scrape_line is (Err (Bad cause at)) h = λ s can is_spelled. no s can (cut s is_spelled) h
+    where
+      no : (s : Sentence) → CanBeSpelled s → IsOther s × (word ≡ first_word s) × (rest ≡ behind_it s)
+          → (rest ≡ [] → ⊥) × ((now : ℕ) → now < 2 ^ 64 → rest ≡ 32 ∷ decimal now → ⊥) → ⊥
+      no (change by name ws) can at none = no_scrape by (sym is ∙ at.1)
+      no (describe kind name unit text) can at none = differs (sym is ∙ at.1)
+      no (scrape now) can at none = none.1 now can at.2
+      no scrape_by_clock can at none = none.0 at.2
+      no (comment text) can at none = at.0
+      no empty can at none = at.0
+
+  -- ---- a line that begins with `describe`
+
+  pub describe_line : word ≡ codes "describe" → (r : Result Request Unread) → MatchResult r (Reads (codes "describe" ++ rest))
+      (Fails ((kind : MetricKind) (name : List ℕ) (unit : Option Measure) (text : List ℕ) → IsName name → IsUtf8 text
+      → rest ≡ 32 ∷ (kind_word kind ++ 32 ∷ (name_word name ++ 32 ∷ (unit_word unit ++ 32 ∷ text))) → ⊥))
+      → MatchResult r (Reads (word ++ rest)) (Fails (IsNone (word ++ rest)))
+  describe_line is (Ok q) h = subst (λ w. Reads (w ++ rest) q) (sym is) h
+  describe_line is (Err Memory) h = tt
+  describe_line is (Err (Bad cause at)) h = λ s can is_spelled. no s can (cut s is_spelled) h
+    where
+      no : (s : Sentence) → CanBeSpelled s → IsOther s × (word ≡ first_word s) × (rest ≡ behind_it s)
+          → ((kind : MetricKind) (name : List ℕ) (unit : Option Measure) (text : List ℕ) → IsName name → IsUtf8 text
+          → rest ≡ 32 ∷ (kind_word kind ++ 32 ∷ (name_word name ++ 32 ∷ (unit_word unit ++ 32 ∷ text))) → ⊥) → ⊥
+      no (change by name ws) can at none = no_describe by (sym is ∙ at.1)
+      no (describe kind name unit text) can at none = none kind name unit text can.0 can.1 at.2
+      no (scrape now) can at none = differs (sym (sym is ∙ at.1))
+      no scrape_by_clock can at none = differs (sym (sym is ∙ at.1))
+      no (comment text) can at none = at.0
+      no empty can at none = at.0
+
+  -- ---- any other line
+
+  pub change_line : word ≢ codes "scrape" → word ≢ codes "describe" → (r : Result Request Unread)
+      → MatchResult r (Reads (word ++ rest))
+      (Fails ((by : Update) (name : List ℕ) (ws : List Written) → IsInRange by → IsName name → AreWritten ws
+      → word ≡ update_word by → rest ≡ 32 ∷ (amount_word by ++ 32 ∷ (name_word name ++ label_words ws)) → ⊥))
+      → MatchResult r (Reads (word ++ rest)) (Fails (IsNone (word ++ rest)))
+  change_line scrapes describes (Ok q) h = h
+  change_line scrapes describes (Err Memory) h = tt
+  change_line scrapes describes (Err (Bad cause at)) h = λ s can is_spelled. no s can (cut s is_spelled) h
+    where
+      no : (s : Sentence) → CanBeSpelled s → IsOther s × (word ≡ first_word s) × (rest ≡ behind_it s)
+          → ((by : Update) (name : List ℕ) (ws : List Written) → IsInRange by → IsName name → AreWritten ws
+          → word ≡ update_word by → rest ≡ 32 ∷ (amount_word by ++ 32 ∷ (name_word name ++ label_words ws)) → ⊥) → ⊥
+      no (change by name ws) can at none = none by name ws can.0 can.1 can.2 at.1 at.2
+      no (describe kind name unit text) can at none = describes at.1
+      no (scrape now) can at none = scrapes at.1
+      no scrape_by_clock can at none = scrapes at.1
+      no (comment text) can at none = at.0
+      no empty can at none = at.0
+
+-- ---- the end of a line
+
+pub body-return : (front : List ℕ) → body_of (front ++ 13 ∷ []) ≡ front
+body-return [] = refl
+body-return (x ∷ []) = refl
+body-return (x ∷ (y ∷ ys)) = ap (λ z. x ∷ z) (body-return (y ∷ ys))
+
+pub body-other : (front : List ℕ) (last : ℕ) → last ≢ 13 → body_of (front ++ last ∷ []) ≡ front ++ last ∷ []
+body-other [] last h = ap (λ b. cond b [] (last ∷ [])) (ne_eqb last 13 h)
+body-other (x ∷ []) last h = ap (λ z. x ∷ z) (body-other [] last h)
+body-other (x ∷ (y ∷ ys)) last h = ap (λ z. x ∷ z) (body-other (y ∷ ys) last h)

@@ -1,0 +1,14 @@
+use Rattle.std.proofs.Common.{false, inl, refl}
+use Rattle.tool_prometheus.specs.declared.answering.Served.{Served}
+use Rattle.tool_prometheus.proofs.commands.serve_new.Goals as goal
+
+pub returns : goal.returns
+returns g c =
+    let (read, text, took, wrote, ran) = c.serve-answered.ensures in
+    let start : Served = record {
+      exporter = c.args.exporter;
+      has_file = c.args.options.now.has_file;
+      is_changed = false;
+      has_bad = false;
+    } in
+    (read, text, c.serve-answered.result, took, wrote, inl (start, (c.requires, refl, refl, refl), ran), c.told.ensures)

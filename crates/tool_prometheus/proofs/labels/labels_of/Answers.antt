@@ -1,0 +1,27 @@
+use Rattle.std.proofs.Common.{◌≡◌, ℕ, Bool, true, false, eqb, ◌<◌, List, [], ◌∷◌, length, refl, sym, ◌∙◌, arith}
+use Rattle.std.proofs.lemmas.Bool.{eqb-true}
+use Rattle.std.proofs.lemmas.Result.{err_from_is_err_and}
+use Rattle.tool_prometheus.proofs.LabelLemmas.{labels-more, labels-end}
+use Rattle.tool_prometheus.proofs.ReadLemmas.{labels-err}
+use Rattle.tool_prometheus.proofs.labels.labels_of.Goals as goal
+
+positive : (n : ℕ) (b : Bool) → b ≡ eqb n 0 → b ≡ false → 0 < n
+positive n b e f = grind arith
+
+none-left : (xs : List ℕ) (b : Bool) → b ≡ eqb (length xs) 0 → b ≡ true → xs ≡ []
+none-left [] b e f = refl
+none-left (x ∷ xs) b e f = let none : length (x ∷ xs) ≡ 0 = eqb-true (length (x ∷ xs)) 0 (sym e ∙ f) in absurd (omega (arith, none))
+
+pub returns-in_err-rest : goal.returns-in_err-rest
+returns-in_err-rest c =
+    let p = err_from_is_err_and c.from_residual-in_err-rest.result c.from_residual-in_err-rest.ensures.1 in
+    rw (p.1, p.2) (labels-err _ _ _ c.in_err-rest.field-0.0 c.loop-rest.invariant (positive _ _ c.is_empty.ensures c.loop-rest-test.true)
+    c.in_err-rest.ensures)
+
+pub loop-rest-preserved : goal.loop-rest-preserved
+loop-rest-preserved c =
+    let (w, written, lacks, puts, at, starts) = c.in_ok-rest.ensures in
+    rw puts (labels-more _ _ _ _ w c.loop-rest.invariant written lacks at starts)
+
+pub returns : goal.returns
+returns c = labels-end _ _ _ c.loop-rest.invariant (none-left _ _ c.is_empty.ensures c.loop-rest-test.false)

@@ -1,0 +1,166 @@
+-- The lines of this tool: what each spells.
+use Rattle.std.specs.Prelude.{if◌then◌else◌, ◌≡◌, ◌≢◌, ℕ, ◌<◌, ◌≤◌, ◌^◌, Bool, true, false, List, [], ◌∷◌, ◌++◌, ◌⊎◌, All, IsUtf8, nat_eq}
+use Rattle.std.specs.Prelude.{codes, decimal, flat_map, Option, None, Some}
+use Rattle.std.specs.List.{AllByRecursion}
+use Rattle.metrics_names.specs.Names.{LabelParts, KeyParts}
+use Rattle.metrics_names.specs.declared.kind.MetricKind.{MetricKind}
+use Rattle.metrics_names.specs.declared.common.Unit.{Unit as Measure}
+use Rattle.metrics.specs.declared.handles.Update.{Update}
+use Rattle.metrics_prometheus.specs.Labels.{placed}
+use Rattle.tool_grammar.specs.Cuts.{Lacks}
+use Rattle.tool_grammar.specs.Grammar.{kind_word, unit_word, name_word, update_word, amount_word, IsInRange}
+use Rattle.tool_prometheus.specs.declared.flaws.Unread.{Unread}
+use Rattle.tool_prometheus.specs.declared.flaws.Unread.TheVariants as unread
+use Rattle.tool_prometheus.specs.declared.requests.Request.{Request}
+use Rattle.tool_prometheus.specs.declared.requests.Request.TheVariants.{Change, Describe, Scrape, Nothing}
+
+-- ---- words
+
+-- no control character
+abbrev pub IsPlain : ℕ → Type 0
+IsPlain c = (32 ≤ c) × (c ≢ 127)
+
+-- a text without control characters
+abbrev pub IsText : List ℕ → Type 0
+IsText text = All IsPlain text × IsUtf8 text
+
+-- a text in one word, save for the dash
+abbrev pub IsName : List ℕ → Type 0
+IsName name = IsText name × Lacks 32 name × (name ≢ codes "-")
+
+-- ---- labels
+
+-- the character in a quoted value
+abbrev pub escape : ℕ → List ℕ
+escape c = if nat_eq c 92 then codes "\\\\" else (if nat_eq c 34 then codes "\\\"" else (if nat_eq c 10 then codes "\\n" else c ∷ []))
+
+abbrev pub escaped : List ℕ → List ℕ
+escaped value = flat_map escape value
+
+-- a label as it is written: its key, its value, and whether that stands in quotes
+pub record Written : Type 0 where
+  pub key : List ℕ
+  pub value : List ℕ
+  pub quoted : Bool
+
+abbrev pub value_word : Bool → List ℕ → List ℕ
+value_word true value = 34 ∷ (escaped value ++ 34 ∷ [])
+value_word false value = value
+
+-- a space, the key, an equals sign and the value
+abbrev pub label_word : Written → List ℕ
+label_word w = 32 ∷ (w.key ++ 61 ∷ value_word w.quoted w.value)
+
+abbrev pub label_words : List Written → List ℕ
+label_words ws = flat_map label_word ws
+
+-- begins with another byte, or is empty
+abbrev pub StartsElse : ℕ → List ℕ → Type 0
+StartsElse c [] = Unit {0}
+StartsElse c (x ∷ xs) = x ≢ c
+
+-- in quotes a line feed may stand too
+abbrev pub IsQuotable : ℕ → Type 0
+IsQuotable c = (c ≡ 10) ⊎ IsPlain c
+
+abbrev pub CanBeValue : Bool → List ℕ → Type 0
+CanBeValue true value = AllByRecursion IsQuotable value × IsUtf8 value
+CanBeValue false value = IsText value × Lacks 32 value × StartsElse 34 value
+
+abbrev pub IsWritten : Written → Type 0
+IsWritten w = IsText w.key × Lacks 32 w.key × Lacks 61 w.key × CanBeValue w.quoted w.value
+
+abbrev pub label_of : Written → LabelParts
+label_of w = (w.key, w.value)
+
+-- none of the labels has this key
+abbrev pub LacksKey : List ℕ → List LabelParts → Type 0
+LacksKey key labels = All (λ l. l.0 ≢ key) labels
+
+-- labels that may follow these: each has a key that none before it has
+abbrev pub MayFollow : List LabelParts → List Written → Type 0
+MayFollow labels [] = Unit {0}
+MayFollow labels (w ∷ ws) = IsWritten w × LacksKey w.key labels × MayFollow (placed (label_of w) labels) ws
+
+abbrev pub AreWritten : List Written → Type 0
+AreWritten ws = MayFollow [] ws
+
+-- each put in its place among those before it
+abbrev pub put_in : List LabelParts → List Written → List LabelParts
+put_in labels [] = labels
+put_in labels (w ∷ ws) = put_in (placed (label_of w) labels) ws
+
+-- the labels in the order of their keys
+abbrev pub in_order : List Written → List LabelParts
+in_order ws = put_in [] ws
+
+-- ---- lines
+
+-- a line as it is written
+pub data Sentence : Type 0 where
+  change : Update → List ℕ → List Written → Sentence
+  describe : MetricKind → List ℕ → Option Measure → List ℕ → Sentence
+  scrape : ℕ → Sentence
+  scrape_by_clock : Sentence
+  comment : List ℕ → Sentence
+  empty : Sentence
+
+abbrev pub spelling : Sentence → List ℕ
+spelling (change by name ws) = update_word by ++ 32 ∷ (amount_word by ++ 32 ∷ (name_word name ++ label_words ws))
+spelling (describe kind name unit text) = codes "describe" ++ 32 ∷ (kind_word kind ++ 32 ∷ (name_word name ++ 32 ∷ (unit_word unit ++ 32 ∷ text)))
+spelling (scrape now) = codes "scrape" ++ 32 ∷ decimal now
+spelling scrape_by_clock = codes "scrape"
+spelling (comment text) = 35 ∷ text
+spelling empty = []
+
+-- the sentences that have a line
+abbrev pub CanBeSpelled : Sentence → Type 0
+CanBeSpelled (change by name ws) = IsInRange by × IsName name × AreWritten ws
+CanBeSpelled (describe kind name unit text) = IsName name × IsUtf8 text
+CanBeSpelled (scrape now) = now < 2 ^ 64
+CanBeSpelled scrape_by_clock = Unit {0}
+CanBeSpelled (comment text) = Unit {0}
+CanBeSpelled empty = Unit {0}
+
+-- what a sentence asks for
+abbrev pub request_in : Sentence → Request
+request_in (change by name ws) = Change (record { name = name; labels = in_order ws }) by
+request_in (describe kind name unit text) = Describe kind name unit text
+request_in (scrape now) = Scrape (Some now)
+request_in scrape_by_clock = Scrape None
+request_in (comment text) = Nothing
+request_in empty = Nothing
+
+-- neither empty nor a comment
+abbrev pub IsBegun : List ℕ → Type 0
+IsBegun [] = ⊥
+IsBegun (x ∷ xs) = x ≢ 35
+
+-- a line without a carriage return at its end
+abbrev pub body_of : List ℕ → List ℕ
+body_of [] = []
+body_of (x ∷ []) = if nat_eq x 13 then [] else x ∷ []
+body_of (x ∷ (y ∷ ys)) = x ∷ body_of (y ∷ ys)
+
+-- the bytes are those of a sentence that asks for this
+abbrev pub Reads : List ℕ → Request → Type 0
+Reads bytes request = (s : Sentence) × CanBeSpelled s × (bytes ≡ spelling s) × (request ≡ request_in s)
+
+-- the bytes are those of no sentence
+abbrev pub IsNone : List ℕ → Type 0
+IsNone bytes = (s : Sentence) → CanBeSpelled s → bytes ≡ spelling s → ⊥
+
+-- the line spells the request
+abbrev pub Spells : List ℕ → Request → Type 0
+Spells line request = Reads (body_of line) request
+
+-- the line spells no request
+abbrev pub IsBad : List ℕ → Type 0
+IsBad line = IsNone (body_of line)
+
+-- ---- errors
+
+-- where memory wasn't wanted, this holds
+abbrev pub Fails : Type 0 → Unread → Type 0
+Fails P unread.Memory = Unit {0}
+Fails P (unread.Bad cause word) = P

@@ -1,0 +1,153 @@
+//! Why a line is bad, and what is said of it.
+ghost use Rattle.std.specs.Prelude.{◌≡◌};
+
+use metrics::Refused;
+use std::alloc::AllocError;
+use std::fmt;
+use tool_grammar::split_before;
+
+/// What is wrong with a word of a line, or with a line.
+#[derive(Clone, Copy, Debug, PartialEq, Eq)]
+pub enum Cause {
+    /// No line begins with this word.
+    FirstWord,
+    /// The line ends before this word.
+    Missing(&'static str),
+    /// Two spaces stand side by side, or one at the end.
+    Empty,
+    /// A number from 0 to 2^64 - 1 was wanted.
+    Whole,
+    /// A number from -2^63 to 2^63 - 1 was wanted.
+    Signed,
+    /// A kind of series was wanted.
+    Kind,
+    /// A unit was wanted.
+    Unit,
+    /// `LABEL=VALUE` was wanted.
+    Label,
+    /// Another label of the line has this key.
+    Twice,
+    /// A quoted value has no quote at its end.
+    Unclosed,
+    /// A backslash stands before another character than a quote, a backslash or an n.
+    Escape,
+    /// Something else than a space stands behind a quoted value.
+    Behind,
+    /// A name or a label has a control character.
+    Control,
+    /// A word isn't UTF-8.
+    Bytes,
+}
+
+/// Why a line asks for nothing.
+#[derive(Clone, Copy, Debug)]
+pub enum Unread<'a> {
+    /// No memory was found for what it asks for.
+    Memory,
+    /// The line is bad: what is wrong, and with which word.
+    Bad(Cause, &'a [u8]),
+}
+
+impl<'a> From<Refused> for Unread<'a> {
+    ghost use Rattle.tool_prometheus.specs.declared.flaws.Unread.TheVariants.{Memory};
+
+    ghost from_gives = { λ _ e. e ≡ Memory };
+
+    fn from(_error: Refused) -> Unread<'a> {
+        Unread::Memory
+    }
+}
+
+impl<'a> From<AllocError> for Unread<'a> {
+    ghost use Rattle.tool_prometheus.specs.declared.flaws.Unread.TheVariants.{Memory};
+
+    ghost from_gives = { λ _ e. e ≡ Memory };
+
+    fn from(_error: AllocError) -> Unread<'a> {
+        Unread::Memory
+    }
+}
+
+/// What is said of a bad line.
+#[derive(Drop)]
+pub struct Message<'a> {
+    pub number: u64,
+    pub line: &'a [u8],
+    pub cause: Cause,
+    pub word: &'a [u8],
+}
+
+impl fmt::Display for Message<'_> {
+    fn fmt<W: fmt::Write>(&self, f: &mut fmt::Formatter<W>) -> fmt::Result {
+        let number = self.number;
+        let form = form_of(split_before(self.line, b' ').0);
+        let word = Shown(self.word);
+        let wanted = wanted(self.cause, self.word);
+        match self.cause {
+            Cause::Missing(what) => write!(f, "line {number}: {what} is missing{form}"),
+            Cause::Empty => write!(f, "line {number}: {wanted}{form}"),
+            Cause::Twice => write!(f, "line {number}: label {word} {wanted}{form}"),
+            _ => write!(f, "line {number}: {word} {wanted}{form}"),
+        }
+    }
+}
+
+/// A word in quotes.
+#[derive(Drop)]
+struct Shown<'a>(&'a [u8]);
+
+impl fmt::Display for Shown<'_> {
+    fn fmt<W: fmt::Write>(&self, f: &mut fmt::Formatter<W>) -> fmt::Result {
+        match str::from_utf8(self.0) {
+            Ok(text) => write!(f, "{text:?}"),
+            Err(_) => f.write_str("a word"),
+        }
+    }
+}
+
+/// What is said of a word with this flaw.
+fn wanted(cause: Cause, word: &[u8]) -> &'static str {
+    match cause {
+        Cause::FirstWord => "is not increment, absolute, add, sub, set, record, describe or scrape",
+        Cause::Whole if is_digits(word) =>
+            "is not from 0 to 18446744073709551615, without needless zeros",
+        Cause::Signed if is_digits(word) => {
+            "is not from -9223372036854775808 to 9223372036854775807, without needless zeros"
+        }
+        Cause::Whole | Cause::Signed => "is not a whole number",
+        Cause::Kind => "is not counter, gauge or histogram",
+        Cause::Unit => {
+            "is not -, count, percent, seconds, milliseconds, microseconds, nanoseconds or bytes"
+        }
+        Cause::Label => "is not LABEL=VALUE",
+        Cause::Unclosed => "has no quote at its end",
+        Cause::Escape => "is not \\\", \\\\ or \\n",
+        Cause::Behind => "stands behind a quote that ends a value",
+        Cause::Control => "has a control character",
+        Cause::Bytes => "is not UTF-8",
+        Cause::Twice => "comes twice",
+        Cause::Empty => "a word is empty: one space stands between two words",
+        Cause::Missing(_) => "is missing",
+    }
+}
+
+/// Whether a word is digits, behind a minus or not.
+fn is_digits(word: &[u8]) -> bool {
+    let digits = word.strip_prefix(b"-").unwrap_or(word);
+    !digits.is_empty() && digits.iter().all(|byte| byte.is_ascii_digit())
+}
+
+/// The form of the lines that begin with a word.
+fn form_of(word: &[u8]) -> &'static str {
+    match word {
+        b"increment" => " (increment N NAME LABEL=VALUE ..)",
+        b"absolute" => " (absolute N NAME LABEL=VALUE ..)",
+        b"add" => " (add N NAME LABEL=VALUE ..)",
+        b"sub" => " (sub N NAME LABEL=VALUE ..)",
+        b"set" => " (set N NAME LABEL=VALUE ..)",
+        b"record" => " (record N NAME LABEL=VALUE ..)",
+        b"describe" => " (describe KIND NAME UNIT TEXT)",
+        b"scrape" => " (scrape NOW, or scrape alone)",
+        _ => "",
+    }
+}

@@ -1,0 +1,340 @@
+//! The labels of a line.
+ghost use Rattle.std.specs.Prelude.{◌≡◌, ◌≤◌, ℕ, List, [], ◌∷◌, ◌++◌, All, IsUtf8, true, false, insert};
+ghost use Rattle.std.specs.Prelude.{MatchResult, MatchOption, OnOk, length};
+ghost use Rattle.std.specs.List.{AllByRecursion};
+ghost use Rattle.std.specs.Ordering.{is_lt};
+ghost use Rattle.metrics_names.specs.Names.{LabelParts, label_cmp};
+ghost use Rattle.metrics_prometheus.specs.Labels.{placed};
+ghost use Rattle.tool_grammar.specs.Cuts.{Lacks, StartsAt};
+ghost use Rattle.tool_prometheus.specs.Lines.{IsPlain, IsText, escape, escaped, Written, label_word, label_words, StartsElse};
+ghost use Rattle.tool_prometheus.specs.Lines.{CanBeValue, IsWritten, AreWritten, value_word, in_order, Fails};
+ghost use Rattle.tool_prometheus.specs.Lines.{IsQuotable, LacksKey};
+
+use crate::flaws::{Cause, Unread};
+use metrics::Label;
+use std::alloc::{AllocError, Global};
+use tool_grammar::{behind, place_of, split_at_first, split_before};
+
+/// Whether a byte is no control character.
+fn is_plain(byte: u8) -> bool
+    ensures yes { result ≡ true → IsPlain byte }
+    ensures no { result ≡ false → IsPlain byte → ⊥ }
+{
+    32 <= byte && byte != 127
+}
+
+/// Whether a text has no control character.
+pub(crate) fn are_plain(text: &[u8]) -> bool
+    ensures yes { result ≡ true → All IsPlain text.now }
+    ensures no { result ≡ false → All IsPlain text.now → ⊥ }
+{
+    for byte in text {
+        if !is_plain(*byte) {
+            return false;
+        }
+    }
+    true
+}
+
+/// A text without control characters.
+pub(crate) fn text_of(word: &[u8]) -> Result<&str, Unread<'_>>
+    ensures { MatchResult result (λ text. IsText word.now × (text.now ≡ word.now)) (Fails (IsText word.now → ⊥)) }
+{
+    if !are_plain(word) {
+        return Err(Unread::Bad(Cause::Control, word));
+    }
+    match str::from_utf8(word) {
+        Ok(text) => Ok(text),
+        Err(_) => Err(Unread::Bad(Cause::Bytes, word)),
+    }
+}
+
+/// The character that stands behind a backslash for this one.
+fn unescaped(byte: u8) -> Option<u8>
+    ensures { MatchOption result ((c : ℕ) → escape c ≡ 92 ∷ byte ∷ [] → ⊥)
+        (λ c. IsQuotable c × (escape c ≡ 92 ∷ byte ∷ [])) }
+{
+    match byte {
+        b'"' => Some(b'"'),
+        b'\\' => Some(b'\\'),
+        b'n' => Some(b'\n'),
+        _ => None,
+    }
+}
+
+/// So many of the first bytes, or all.
+fn front(bytes: &[u8], count: usize) -> &[u8] {
+    bytes.get(..count).unwrap_or(bytes)
+}
+
+/// The first byte of a quoted value that is not at its end, and what stands behind it.
+fn next_byte(bytes: &[u8]) -> Result<(u8, &[u8]), Unread<'_>>
+    requires { StartsElse 34 bytes.now }
+    ensures { MatchResult result (λ f. IsQuotable f.0 × (bytes.now ≡ escape f.0 ++ f.1.now))
+        (Fails ((c : ℕ) (rest : List ℕ) → IsQuotable c → bytes.now ≡ escape c ++ rest → ⊥)) }
+{
+    let Some((first, others)) = bytes.split_first() else {
+        return Err(Unread::Bad(Cause::Unclosed, bytes));
+    };
+    if *first != b'\\' {
+        return if is_plain(*first) {
+            Ok((*first, others))
+        } else {
+            Err(Unread::Bad(Cause::Control, front(bytes, 1)))
+        };
+    }
+    let Some((second, behind)) = others.split_first() else {
+        return Err(Unread::Bad(Cause::Unclosed, bytes));
+    };
+    match unescaped(*second) {
+        Some(byte) => Ok((byte, behind)),
+        None => Err(Unread::Bad(Cause::Escape, front(bytes, 2))),
+    }
+}
+
+/// Puts a byte behind the others.
+fn put(value: &mut Vec<u8>, byte: u8) -> Result<(), AllocError>
+    ensures { OnOk result (value.new.items ≡ value.old.items ++ byte ∷ []) }
+{
+    value.push(byte)?;
+    Ok(())
+}
+
+/// The value whose first quote was read, and what stands behind its last one.
+fn quoted(alloc: Global, bytes: &[u8]) -> Result<(Vec<u8>, &[u8]), Unread<'_>>
+    ensures { MatchResult result
+        (λ f. AllByRecursion IsQuotable f.0.items × (bytes.now ≡ escaped f.0.items ++ 34 ∷ f.1.now))
+        (Fails ((value rest : List ℕ) → AllByRecursion IsQuotable value
+        → bytes.now ≡ escaped value ++ 34 ∷ rest → ⊥)) }
+{
+    let mut value = Vec::new(alloc);
+    let mut rest = bytes;
+    while !rest.is_empty() {
+        if let Some(behind) = behind(rest, b"\"") {
+            return Ok((value, behind));
+        }
+        let (byte, others) = next_byte(rest)?;
+        put(&mut value, byte)?;
+        rest = others;
+    }
+    Err(Unread::Bad(Cause::Unclosed, bytes))
+}
+
+/// The value whose first quote was read, and what stands behind its last one: nothing, or a space.
+fn closed(alloc: Global, bytes: &[u8]) -> Result<(Vec<u8>, &[u8]), Unread<'_>>
+    ensures { MatchResult result (λ f. AllByRecursion IsQuotable f.0.items × (bytes.now ≡ escaped f.0.items ++ 34 ∷ f.1.now)
+        × StartsAt 32 f.1.now)
+        (Fails ((value rest : List ℕ) → AllByRecursion IsQuotable value → StartsAt 32 rest
+        → bytes.now ≡ escaped value ++ 34 ∷ rest → ⊥)) }
+{
+    let (value, rest) = quoted(alloc, bytes)?;
+    if !starts_at_space(rest) {
+        return Err(Unread::Bad(Cause::Behind, split_before(rest, b' ').0));
+    }
+    Ok((value, rest))
+}
+
+/// Whether nothing stands there, or a space first.
+fn starts_at_space(bytes: &[u8]) -> bool
+    ensures yes { result ≡ true → StartsAt 32 bytes.now }
+    ensures no { result ≡ false → StartsAt 32 bytes.now → ⊥ }
+{
+    match bytes.first() {
+        Some(first) => *first == b' ',
+        None => true,
+    }
+}
+
+/// A label of this key and this value.
+fn label_of<'a>(
+    alloc: Global,
+    key: &str,
+    value: &[u8],
+    bytes: &'a [u8],
+) -> Result<Label, Unread<'a>>
+    ensures { MatchResult result (λ l. (l ≡ (key.now, value.now)) × IsUtf8 value.now) (Fails (IsUtf8 value.now → ⊥)) }
+{
+    match str::from_utf8(value) {
+        Ok(value) => Ok(Label::new(alloc, key, value)?),
+        Err(_) => Err(Unread::Bad(Cause::Bytes, bytes)),
+    }
+}
+
+/// A label of this key whose value stands there in quotes, behind the first one, and what stands behind it.
+fn quoted_label<'a>(
+    alloc: Global,
+    key: &str,
+    bytes: &'a [u8],
+) -> Result<(Label, &'a [u8]), Unread<'a>>
+    ensures { MatchResult result
+        (λ f. (f.0.0 ≡ key.now) × CanBeValue true f.0.1 × (34 ∷ bytes.now ≡ value_word true f.0.1 ++ f.1.now)
+        × StartsAt 32 f.1.now)
+        (Fails ((value rest : List ℕ) → CanBeValue true value → StartsAt 32 rest
+        → 34 ∷ bytes.now ≡ value_word true value ++ rest → ⊥)) }
+{
+    let (value, rest) = closed(alloc, bytes)?;
+    let label = label_of(alloc, key, &value, bytes)?;
+    Ok((label, rest))
+}
+
+/// A label of this key whose value stands there without quotes, and what stands behind it.
+fn bare_label<'a>(
+    alloc: Global,
+    key: &str,
+    bytes: &'a [u8],
+) -> Result<(Label, &'a [u8]), Unread<'a>>
+    requires { StartsElse 34 bytes.now }
+    ensures { MatchResult result
+        (λ f. (f.0.0 ≡ key.now) × CanBeValue false f.0.1 × (bytes.now ≡ f.0.1 ++ f.1.now) × StartsAt 32 f.1.now)
+        (Fails ((value rest : List ℕ) → CanBeValue false value → StartsAt 32 rest
+        → bytes.now ≡ value ++ rest → ⊥)) }
+{
+    let (word, rest) = split_before(bytes, b' ');
+    let value = text_of(word)?;
+    let label = Label::new(alloc, key, value)?;
+    Ok((label, rest))
+}
+
+/// A label of this key whose value stands there, and what stands behind it.
+fn label_from<'a>(
+    alloc: Global,
+    key: &str,
+    bytes: &'a [u8],
+) -> Result<(Label, &'a [u8]), Unread<'a>>
+    ensures { MatchResult result
+        (λ f. (f.0.0 ≡ key.now) × ((quotes : _) × CanBeValue quotes f.0.1
+        × (bytes.now ≡ value_word quotes f.0.1 ++ f.1.now) × StartsAt 32 f.1.now))
+        (Fails ((quotes : _) (value rest : List ℕ) → CanBeValue quotes value → StartsAt 32 rest
+        → bytes.now ≡ value_word quotes value ++ rest → ⊥)) }
+{
+    match behind(bytes, b"\"") {
+        Some(bytes) => quoted_label(alloc, key, bytes),
+        None => bare_label(alloc, key, bytes),
+    }
+}
+
+/// The key of a label, and what stands behind its equals sign.
+fn key_and_value(bytes: &[u8]) -> Result<(&str, &[u8]), Unread<'_>>
+    ensures { MatchResult result
+        (λ f. IsText f.0.now × Lacks 32 f.0.now × Lacks 61 f.0.now × (bytes.now ≡ f.0.now ++ 61 ∷ f.1.now))
+        (Fails ((key rest : List ℕ) → IsText key → Lacks 32 key → Lacks 61 key
+        → bytes.now ≡ key ++ 61 ∷ rest → ⊥)) }
+{
+    let Some((key, value)) = split_at_first(bytes, b'=') else {
+        return Err(Unread::Bad(Cause::Label, split_before(bytes, b' ').0));
+    };
+    if place_of(key, b' ') < key.len() {
+        return Err(Unread::Bad(Cause::Label, split_before(bytes, b' ').0));
+    }
+    let key = text_of(key)?;
+    Ok((key, value))
+}
+
+/// The label that begins there with a space, and what stands behind it.
+fn next_label(alloc: Global, bytes: &[u8]) -> Result<(Label, &[u8]), Unread<'_>>
+    ensures { MatchResult result
+        (λ f. (w : Written) × IsWritten w × (f.0 ≡ (w.key, w.value)) × (bytes.now ≡ label_word w ++ f.1.now)
+        × StartsAt 32 f.1.now)
+        (Fails ((w : Written) (rest : List ℕ) → IsWritten w → StartsAt 32 rest
+        → bytes.now ≡ label_word w ++ rest → ⊥)) }
+{
+    let Some(bytes) = behind(bytes, b" ") else {
+        return Err(Unread::Bad(Cause::Behind, bytes));
+    };
+    let (key, value) = key_and_value(bytes)?;
+    label_from(alloc, key, value)
+}
+
+/// Whether a label has this key.
+fn has_key(labels: &[Label], key: &str) -> bool
+    ensures yes { result ≡ true → LacksKey key.now labels.now → ⊥ }
+    ensures no { result ≡ false → LacksKey key.now labels.now }
+{
+    for label in labels {
+        if label.key() == key {
+            return true;
+        }
+    }
+    false
+}
+
+/// Takes nothing and does nothing: its contract says what the order of labels is.
+fn label_order()
+    ensures { (a b : LabelParts) → ⟦<Label as Ord>⟧.cmp a b ≡ label_cmp a b }
+{}
+
+/// Whether a label stands before another.
+fn is_before(label: &Label, other: &Label) -> bool
+    ensures { result ≡ is_lt (label_cmp label.now other.now) }
+{
+    label_order();
+    label.cmp(other).is_lt()
+}
+
+/// The place of a label among others.
+fn place_among(labels: &[Label], label: &Label) -> usize
+    ensures within { result ≤ length labels.now }
+    ensures placed { insert labels.now result label.now ≡ placed label.now labels.now }
+{
+    for (place, other) in labels.iter().enumerate() {
+        if is_before(label, other) {
+            return place;
+        }
+    }
+    labels.len()
+}
+
+/// Puts a label in its place.
+fn put_label(labels: &mut Vec<Label>, label: Label) -> Result<(), AllocError>
+    ensures { OnOk result (labels.new.items ≡ placed label labels.old.items) }
+{
+    let place = place_among(labels, &label);
+    labels.insert(place, label)?;
+    Ok(())
+}
+
+/// Reads the label that begins there, and puts it in its place among the others; what stands behind it.
+fn read_label<'a>(
+    alloc: Global,
+    bytes: &'a [u8],
+    labels: &mut Vec<Label>,
+) -> Result<&'a [u8], Unread<'a>>
+    ensures { MatchResult result
+        (λ rest. (w : Written) × IsWritten w × LacksKey w.key labels.old.items
+        × (labels.new.items ≡ placed (w.key, w.value) labels.old.items) × (bytes.now ≡ label_word w ++ rest.now)
+        × StartsAt 32 rest.now)
+        (Fails ((w : Written) (rest : List ℕ) → IsWritten w → StartsAt 32 rest → bytes.now ≡ label_word w ++ rest
+        → LacksKey w.key labels.old.items → ⊥)) }
+{
+    let (label, rest) = next_label(alloc, bytes)?;
+    if has_key(labels, label.key()) {
+        return Err(Unread::Bad(Cause::Twice, key_in(bytes)));
+    }
+    put_label(labels, label)?;
+    Ok(rest)
+}
+
+/// The key of the label that stands there.
+fn key_in(bytes: &[u8]) -> &[u8] {
+    let word = split_before(bytes, b'=').0;
+    word.strip_prefix(b" ").unwrap_or(word)
+}
+
+/// How many labels stand there at most: each has a space before it.
+fn room_for(bytes: &[u8]) -> usize {
+    bytes.iter().filter(|byte| **byte == b' ').count()
+}
+
+/// The labels of a line, each with a space before it, in the order of their keys.
+pub(crate) fn labels_of(alloc: Global, bytes: &[u8]) -> Result<Vec<Label>, Unread<'_>>
+    ensures { MatchResult result
+        (λ labels. (ws : List Written) × AreWritten ws × (labels.items ≡ in_order ws) × (bytes.now ≡ label_words ws))
+        (Fails ((ws : List Written) → AreWritten ws → bytes.now ≡ label_words ws → ⊥)) }
+{
+    let mut labels = Vec::with_capacity(alloc, room_for(bytes))?;
+    let mut rest = bytes;
+    while !rest.is_empty() {
+        rest = read_label(alloc, rest, &mut labels)?;
+    }
+    Ok(labels)
+}

@@ -1,0 +1,228 @@
+//! The lines of this tool: updates, descriptions, scrapes, and lines that are passed over.
+ghost use Rattle.std.specs.Prelude.{◌≡◌, ℕ, List, [], ◌∷◌, ◌++◌, ◌<◌, ◌^◌, IsUtf8, codes, decimal};
+ghost use Rattle.std.specs.Prelude.{MatchResult, Option as Maybe};
+ghost use Rattle.metrics_names.specs.declared.kind.MetricKind.{MetricKind as Kind};
+ghost use Rattle.metrics_names.specs.declared.common.Unit.{Unit as Measure};
+ghost use Rattle.metrics.specs.declared.handles.Update.{Update as Change};
+ghost use Rattle.tool_grammar.specs.Cuts.{Lacks, StartsAt};
+ghost use Rattle.tool_grammar.specs.Grammar.{kind_word, unit_word, name_word, update_word, amount_word, IsInRange};
+ghost use Rattle.tool_prometheus.specs.Lines.{IsName, Written, AreWritten, label_words, Fails, Reads, IsNone, Spells};
+ghost use Rattle.tool_prometheus.specs.Lines.{IsBad, body_of as body, IsBegun};
+
+use crate::flaws::{Cause, Unread};
+use crate::labels::{labels_of, text_of};
+use metrics::{Key, KeyName, MetricKind, Text, Unit, Update};
+use std::alloc::Global;
+use tool_grammar::{behind, kind_of, number_of, split_before, unit_of, update_of};
+
+/// What a line asks for.
+#[derive(Debug, Drop)]
+pub enum Request {
+    /// An update of a series.
+    Change(Key, Update),
+    /// A description of a name.
+    Describe(MetricKind, KeyName, Option<Unit>, Text),
+    /// A scrape at this moment, or at the clock's.
+    Scrape(Option<u64>),
+    /// Nothing: an empty line, or a comment.
+    Nothing,
+}
+
+/// A line without a carriage return at its end.
+fn body_of(line: &[u8]) -> &[u8]
+    ensures { result.now ≡ body line.now }
+{
+    let Some((last, front)) = line.split_last() else {
+        return line;
+    };
+    if *last == b'\r' { front } else { line }
+}
+
+/// The next word, which has a space before it, and what stands behind it.
+fn next_word<'a>(bytes: &'a [u8], what: &'static str) -> Result<(&'a [u8], &'a [u8]), Unread<'a>>
+    ensures { MatchResult result
+        (λ f. (bytes.now ≡ 32 ∷ (f.0.now ++ f.1.now)) × Lacks 32 f.0.now × StartsAt 32 f.1.now)
+        (Fails ((rest : List ℕ) → bytes.now ≡ 32 ∷ rest → ⊥)) }
+{
+    match behind(bytes, b" ") {
+        Some(others) => Ok(split_before(others, b' ')),
+        None => Err(Unread::Bad(Cause::Missing(what), bytes)),
+    }
+}
+
+/// The name that a word spells: a dash is the empty one.
+fn name_of(word: &[u8]) -> Result<&str, Unread<'_>>
+    requires { Lacks 32 word.now }
+    ensures { MatchResult result (λ name. IsName name.now × (word.now ≡ name_word name.now))
+        (Fails ((name : List ℕ) → IsName name → word.now ≡ name_word name → ⊥)) }
+{
+    if word.is_empty() {
+        return Err(Unread::Bad(Cause::Empty, word));
+    }
+    if word == b"-".as_slice() {
+        return Ok("");
+    }
+    text_of(word)
+}
+
+/// The update of a word, and what stands behind its amount.
+fn update_and_rest<'a>(word: &'a [u8], bytes: &'a [u8]) -> Result<(Update, &'a [u8]), Unread<'a>>
+    ensures { MatchResult result
+        (λ f. IsInRange f.0 × (word.now ≡ update_word f.0) × (bytes.now ≡ 32 ∷ (amount_word f.0 ++ f.1.now))
+        × StartsAt 32 f.1.now)
+        (Fails ((by : Change) (rest : List ℕ) → IsInRange by → StartsAt 32 rest → word.now ≡ update_word by
+        → bytes.now ≡ 32 ∷ (amount_word by ++ rest) → ⊥)) }
+{
+    let Some(others) = behind(bytes, b" ") else {
+        return Err(amount_flaw(word, None));
+    };
+    let (amount, rest) = split_before(others, b' ');
+    match update_of(word, amount) {
+        Some(by) => Ok((by, rest)),
+        None => Err(amount_flaw(word, Some(amount))),
+    }
+}
+
+/// What is wrong with a line whose first word and amount are no update.
+fn amount_flaw<'a>(word: &'a [u8], amount: Option<&'a [u8]>) -> Unread<'a> {
+    let cause = match word {
+        b"increment" | b"absolute" => Cause::Whole,
+        b"add" | b"sub" | b"set" | b"record" => Cause::Signed,
+        b"" => return Unread::Bad(Cause::Empty, word),
+        _ => return Unread::Bad(Cause::FirstWord, word),
+    };
+    match amount {
+        Some(amount) => Unread::Bad(cause, amount),
+        None => Unread::Bad(Cause::Missing("N"), word),
+    }
+}
+
+/// The update of a line, from its first word and what stands behind it.
+fn change_of<'a>(alloc: Global, word: &'a [u8], bytes: &'a [u8]) -> Result<Request, Unread<'a>>
+    ensures { MatchResult result (Reads (word.now ++ bytes.now))
+        (Fails ((by : Change) (name : List ℕ) (ws : List Written) → IsInRange by → IsName name → AreWritten ws
+        → word.now ≡ update_word by
+        → bytes.now ≡ 32 ∷ (amount_word by ++ 32 ∷ (name_word name ++ label_words ws)) → ⊥)) }
+{
+    let (by, rest) = update_and_rest(word, bytes)?;
+    let (word, rest) = next_word(rest, "NAME")?;
+    let name = name_of(word)?;
+    let labels = labels_of(alloc, rest)?;
+    Ok(Request::Change(Key::from_parts(alloc, name, labels)?, by))
+}
+
+/// The kind of a describe line, and what stands behind it.
+fn kind_and_rest(bytes: &[u8]) -> Result<(MetricKind, &[u8]), Unread<'_>>
+    ensures { MatchResult result (λ f. (bytes.now ≡ 32 ∷ (kind_word f.0 ++ f.1.now)) × StartsAt 32 f.1.now)
+        (Fails ((kind : Kind) (rest : List ℕ) → StartsAt 32 rest → bytes.now ≡ 32 ∷ (kind_word kind ++ rest) → ⊥)) }
+{
+    let (word, rest) = next_word(bytes, "KIND")?;
+    match kind_of(word) {
+        Some(kind) => Ok((kind, rest)),
+        None => Err(Unread::Bad(Cause::Kind, word)),
+    }
+}
+
+/// The name of a describe line, and what stands behind it.
+fn name_and_rest(bytes: &[u8]) -> Result<(&str, &[u8]), Unread<'_>>
+    ensures { MatchResult result
+        (λ f. IsName f.0.now × (bytes.now ≡ 32 ∷ (name_word f.0.now ++ f.1.now)) × StartsAt 32 f.1.now)
+        (Fails ((name rest : List ℕ) → IsName name → StartsAt 32 rest
+        → bytes.now ≡ 32 ∷ (name_word name ++ rest) → ⊥)) }
+{
+    let (word, rest) = next_word(bytes, "NAME")?;
+    let name = name_of(word)?;
+    Ok((name, rest))
+}
+
+/// The unit of a describe line, and what stands behind it.
+fn unit_and_rest(bytes: &[u8]) -> Result<(Option<Unit>, &[u8]), Unread<'_>>
+    ensures { MatchResult result (λ f. (bytes.now ≡ 32 ∷ (unit_word f.0 ++ f.1.now)) × StartsAt 32 f.1.now)
+        (Fails ((unit : Maybe Measure) (rest : List ℕ) → StartsAt 32 rest
+        → bytes.now ≡ 32 ∷ (unit_word unit ++ rest) → ⊥)) }
+{
+    let (word, rest) = next_word(bytes, "UNIT")?;
+    match unit_of(word) {
+        Some(unit) => Ok((unit, rest)),
+        None => Err(Unread::Bad(Cause::Unit, word)),
+    }
+}
+
+/// The text of a describe line: all that follows one space.
+fn note_of(bytes: &[u8]) -> Result<&str, Unread<'_>>
+    ensures { MatchResult result (λ text. IsUtf8 text.now × (bytes.now ≡ 32 ∷ text.now))
+        (Fails ((text : List ℕ) → IsUtf8 text → bytes.now ≡ 32 ∷ text → ⊥)) }
+{
+    let Some(text) = behind(bytes, b" ") else {
+        return Err(Unread::Bad(Cause::Missing("TEXT"), bytes));
+    };
+    match str::from_utf8(text) {
+        Ok(text) => Ok(text),
+        Err(_) => Err(Unread::Bad(Cause::Bytes, text)),
+    }
+}
+
+/// The description of a line, from what stands behind its first word.
+fn describe_of(alloc: Global, bytes: &[u8]) -> Result<Request, Unread<'_>>
+    ensures { MatchResult result (Reads (codes "describe" ++ bytes.now))
+        (Fails ((kind : Kind) (name : List ℕ) (unit : Maybe Measure) (text : List ℕ) → IsName name → IsUtf8 text
+        → bytes.now ≡ 32 ∷ (kind_word kind ++ 32 ∷ (name_word name ++ 32 ∷ (unit_word unit ++ 32 ∷ text))) → ⊥)) }
+{
+    let (kind, rest) = kind_and_rest(bytes)?;
+    let (name, rest) = name_and_rest(rest)?;
+    let (unit, rest) = unit_and_rest(rest)?;
+    let text = note_of(rest)?;
+    let name = KeyName::new(alloc, name)?;
+    let text = Text::new(alloc, text)?;
+    Ok(Request::Describe(kind, name, unit, text))
+}
+
+/// The scrape of a line, from what stands behind its first word.
+fn scrape_of(bytes: &[u8]) -> Result<Request, Unread<'_>>
+    requires { StartsAt 32 bytes.now }
+    ensures { MatchResult result (Reads (codes "scrape" ++ bytes.now))
+        (Fails ((bytes.now ≡ [] → ⊥) × ((now : ℕ) → now < 2 ^ 64 → bytes.now ≡ 32 ∷ decimal now → ⊥))) }
+{
+    let Some(digits) = behind(bytes, b" ") else {
+        return Ok(Request::Scrape(None));
+    };
+    match number_of(digits) {
+        Some(now) => Ok(Request::Scrape(Some(now))),
+        None => Err(Unread::Bad(Cause::Whole, digits)),
+    }
+}
+
+/// What stands behind a word asks for.
+fn request_from<'a>(alloc: Global, word: &'a [u8], rest: &'a [u8]) -> Result<Request, Unread<'a>>
+    requires { Lacks 32 word.now × StartsAt 32 rest.now × IsBegun (word.now ++ rest.now) }
+    ensures { MatchResult result (Reads (word.now ++ rest.now)) (Fails (IsNone (word.now ++ rest.now))) }
+{
+    if word == b"scrape".as_slice() {
+        return scrape_of(rest);
+    }
+    if word == b"describe".as_slice() {
+        return describe_of(alloc, rest);
+    }
+    change_of(alloc, word, rest)
+}
+
+/// What a line without its end asks for.
+fn sentence_of(alloc: Global, body: &[u8]) -> Result<Request, Unread<'_>>
+    ensures { MatchResult result (Reads body.now) (Fails (IsNone body.now)) }
+{
+    let Some((first, _others)) = body.split_first() else {
+        return Ok(Request::Nothing);
+    };
+    if *first == b'#' {
+        return Ok(Request::Nothing);
+    }
+    let (word, rest) = split_before(body, b' ');
+    request_from(alloc, word, rest)
+}
+
+/// What a line asks for, if it spells a request.
+pub fn request_of(alloc: Global, line: &[u8]) -> Result<Request, Unread<'_>>
+    ensures { MatchResult result (Spells line.now) (Fails (IsBad line.now)) }
+{
+    sentence_of(alloc, body_of(line))
+}
