@@ -31,13 +31,9 @@ fn tell(host: &HostRuntime, error: clap::Error) -> io::Result<u8> {
 
 /// The status of the whole program, or an error where there was no memory to begin with.
 fn status(host: &HostRuntime) -> io::Result<u8> {
-    let mut arguments: Vec<String> = Vec::new(host.alloc());
-    for argument in env::args(host)? {
-        arguments.push(argument)?;
-    }
-    let mut words: Vec<&str> = Vec::new(host.alloc());
-    for argument in &arguments {
-        words.push(argument.as_str())?;
+    let mut words: Vec<String> = Vec::new(host.alloc());
+    for word in env::args(host)? {
+        words.push(word)?;
     }
     match options_of(host.alloc(), &words) {
         Ok((options, path)) => serve(host, &options, path),

@@ -84,7 +84,7 @@ fn with_plan<'a>(alloc: Global, command: Command<'a>) -> Result<Command<'a>, All
 }
 
 /// The command line.
-fn command_line(alloc: Global) -> Result<Command<'static>, AllocError> {
+fn command_line<'a>(alloc: Global) -> Result<Command<'a>, AllocError> {
     let command = Command::new(alloc, "metrics_prometheus_tool")
         .bin_name("metrics_prometheus_tool")?
         .version("0.5.0")
@@ -140,7 +140,7 @@ fn plan_of(alloc: Global, matches: &ArgMatches<'_>) -> Result<ExportPlan, AllocE
 /// What the words ask for, and the path of the file for scrapes. The first word is the program's name.
 pub fn options_of<'a>(
     alloc: Global,
-    words: &'a [&'a str],
+    words: &'a [String],
 ) -> Result<(Options, Option<&'a str>), Error> {
     let command = command_line(alloc)?;
     let matches = command.try_get_matches_from(words)?;
