@@ -158,6 +158,9 @@ class Calls:
             return
         yield self, len(owed), acted is not None
 
+    def owes_end(self):
+        return False
+
     def after_end(self, said):
         yield self, 0, False
 
@@ -264,6 +267,9 @@ class Export(model.Exporter):
 
     taken = [b"ok"]
 
+    def owes_end(self):
+        return False
+
     def after_end(self, said):
         yield self, 0, False
 
@@ -354,6 +360,9 @@ class Prometheus(Export):
         if said[:len(text)] == text:
             yield self, len(text), False
 
+    def owes_end(self):
+        return self.is_changed
+
     def after_end(self, said):
         if not self.is_changed:
             yield self, 0, False
@@ -422,6 +431,8 @@ def follow(machine, lines, said, most, is_short, is_ended):
         states = after_all(states, lambda machine, rest: machine.after(line, rest), said, most)
         if not states:
             raise Wrong("at %r" % line)
+    if is_short and any(at == len(said) and machine.owes_end() for machine, at, _ in states):
+        return
     if is_ended:
         states = after_all(states, lambda machine, rest: machine.after_end(rest), said, most)
     if is_short or not any(at == len(said) for _, at, _ in states):
@@ -485,11 +496,18 @@ def judge(program, words, given, bad, code, how, status, out, errors):
         judge_lines(0, lambda: Export(words[1:]), lines, bad, code, most, status, errors, said)
     else:
         told, bad = without_text(errors, bad), LEFT_OUT.sub(b"", bad)
+        if code == 3:
+            told, bad = without_passed_over(told, bad), b""
         judge_lines(0, lambda: Prometheus(words), lines, bad, code, most, status, told, said)
 
 
 # What is told of a series that a text leaves out: a refused scrape tells nothing.
 LEFT_OUT = re.compile(rb"^left out: .*\n", re.MULTILINE)
+
+
+def without_passed_over(errors, bad):
+    """What was told beside bad lines that were passed over, each of which is told at once."""
+    return b"".join(line for line in errors.splitlines(True) if line not in bad.splitlines(True))
 
 
 def without_text(errors, bad):
