@@ -257,7 +257,8 @@ def is_number(word, amount):
 
 UNITS = ("-", "count", "percent", "seconds", "milliseconds", "microseconds", "nanoseconds", "bytes")
 LABEL = re.compile(r' ([^ =]*)=(?:"((?:[^"\\]|\\["\\n])*)"|((?!")[^ ]*))(?= |\Z)')
-CONTROL = re.compile(r"[\x00-\x1f\x7f]")
+# A byte that isn't UTF-8 is read as one of the last range.
+CONTROL = re.compile("[\x00-\x1f\x7f\udc80-\udcff]")
 
 
 def unescaped(value):
@@ -287,6 +288,8 @@ def update_of(word, rest):
 def describe_of(rest):
     kind, name, unit, *text = [*rest.split(" ", 3), "", "", ""][: max(3, rest.count(" ") + 1)]
     if kind not in KINDS or name == "" or CONTROL.search(name) or unit not in UNITS or not text:
+        return None
+    if re.search("[\udc80-\udcff]", text[0]):
         return None
     return "describe", KINDS.index(kind), "" if name == "-" else name, unit, text[0]
 
@@ -390,7 +393,7 @@ def make(number):
 
 
 def read(name):
-    with open(name, encoding="utf-8", newline="") as file:
+    with open(name, encoding="utf-8", errors="surrogateescape", newline="") as file:
         return file.read()
 
 

@@ -329,7 +329,7 @@ class Prometheus(Export):
 
     def after(self, line, said):
         is_refused = said[:1] == [self.refusal]
-        match model.request_of(line.decode()):
+        match model.request_of(line.decode(errors="surrogateescape")):
             case ("scrape", moment):
                 yield from self.after_scrape(moment or 0, said, is_refused)
             case ("update", word, amount, name, labels):
