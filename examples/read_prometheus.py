@@ -47,6 +47,13 @@ class Exporter:
         self.held = {}
         self.seen = {}
         self.helps = {}
+        self.units = {}
+        self.is_recommended = False
+
+    def describe(self, kind, name, unit, text):
+        self.helps[kind, name] = text
+        if unit != "-":
+            self.units[kind, name] = unit
 
     def update(self, word, amount, name, labels):
         series = (KIND_OF[word], name, labels)
@@ -81,11 +88,36 @@ def shown_labels(labels):
     return sorted(shown, key=lambda l: (l[0].encode(), l[1].encode()))
 
 
-def rows_of(held):
+# The end of a recommended name by its unit, and how many digits of a number stand behind the point.
+BASE = {"percent": ("_ratio", 2), "seconds": ("_seconds", 0), "milliseconds": ("_seconds", 3), "bytes": ("_bytes", 0)}
+BASE |= {"microseconds": ("_seconds", 6), "nanoseconds": ("_seconds", 9)}
+
+
+def base_of(exporter, kind, name):
+    return BASE.get(exporter.units.get((kind, name)), ("", 0)) if exporter.is_recommended else ("", 0)
+
+
+def shown_name(exporter, kind, name):
+    end, _ = base_of(exporter, kind, name)
+    shown = spelled(name, "A-Za-z_:")
+    total = "_total" if exporter.is_recommended and kind == 0 else ""
+    if total:
+        shown = shown.removesuffix(total)
+    return shown.removesuffix(end) + end + total
+
+
+def pointed(number, places):
+    """A number with so many digits behind the point."""
+    digits = str(abs(number)).rjust(places + 1, "0")
+    at = len(digits) - places
+    return ("-" if number < 0 else "") + digits[:at] + ("." + digits[at:] if places else "")
+
+
+def rows_of(exporter):
     """Name, kind and labels of each series as they are shown, and its own key; in order."""
     rows = [
-        (spelled(name, "A-Za-z_:"), kind, shown_labels(labels), (kind, name, labels))
-        for kind, name, labels in held
+        (shown_name(exporter, kind, name), kind, shown_labels(labels), (kind, name, labels))
+        for kind, name, labels in exporter.held
     ]
     return sorted(rows, key=lambda row: in_bytes([row[0], row[1], row[2], row[3][1], row[3][2]]))
 
@@ -147,15 +179,16 @@ def braces(labels):
     return "{%s}" % ",".join('%s="%s"' % (name, escaped(value)) for name, value in labels) if labels else ""
 
 
-def samples_of(row, value, bounds):
-    """The samples of a row: the end of each name, the labels, and the value."""
-    _, kind, labels, _ = row
+def samples_of(exporter, row):
+    """The samples of a row: the end of each name, the labels, and the number as it is written."""
+    _, kind, labels, key = row
+    value, places = exporter.held[key][0], base_of(exporter, kind, key[1])[1]
     if kind != 2:
-        return [("", labels, value)]
-    buckets = [(str(bound), sum(1 for x in value if x <= bound)) for bound in bounds]
+        return [("", labels, pointed(value, places))]
+    buckets = [(pointed(bound, places), sum(1 for x in value if x <= bound)) for bound in exporter.bounds]
     buckets.append(("+Inf", len(value)))
-    parts = [("_bucket", labels + [("le", bound)], count) for bound, count in buckets]
-    return parts + [("_sum", labels, sum(value)), ("_count", labels, len(value))]
+    parts = [("_bucket", labels + [("le", bound)], str(count)) for bound, count in buckets]
+    return parts + [("_sum", labels, pointed(sum(value), places)), ("_count", labels, str(len(value)))]
 
 
 def help_lines(exporter, row):
@@ -166,7 +199,7 @@ def help_lines(exporter, row):
 
 def expected(exporter):
     """Each family that is to be read, the lines of the series that are left out, and those of descriptions."""
-    rows = rows_of(exporter.held)
+    rows = rows_of(exporter)
     histograms = histograms_of(rows)
     families, left_out, helps, last = [], [], [], None
     for row in rows:
@@ -178,8 +211,7 @@ def expected(exporter):
             families.append((row[0], KINDS[row[1]], []))
             helps += help_lines(exporter, row)
         last = row
-        value = exporter.held[row[3]][0]
-        for end, labels, number in samples_of(row, value, exporter.bounds):
+        for end, labels, number in samples_of(exporter, row):
             families[-1][2].append((row[0] + end, labels, number))
     return families, left_out, helps
 
@@ -208,7 +240,7 @@ def as_read(text):
 
 def numbers_of(text):
     """The numbers of the samples as they stand: a float doesn't tell all those of 64 bits apart."""
-    return [int(line.rsplit(" ", 1)[1]) for line in text.split("\n")[:-1] if line[0] != "#"]
+    return [line.rsplit(" ", 1)[1] for line in text.split("\n")[:-1] if line[0] != "#"]
 
 
 def judge(text, families, left_out, helps):
@@ -316,12 +348,15 @@ def options_of(words):
     parser.add_argument("--shards")
     parser.add_argument("--textfile")
     parser.add_argument("--skip-bad", action="store_true")
+    parser.add_argument("--recommended-names", action="store_true")
     return parser.parse_args(words)
 
 
 def exporter_of(options, made=Exporter):
     kinds = "".join(kind[0] for kind in options.idle_kinds.split(","))
-    return made(kinds, options.idle, options.bounds)
+    exporter = made(kinds, options.idle, options.bounds)
+    exporter.is_recommended = options.recommended_names
+    return exporter
 
 
 def check(lines, output, exporter, skips_bad):
@@ -342,8 +377,8 @@ def check(lines, output, exporter, skips_bad):
             case ("update", *update):
                 exporter.update(*update)
                 is_changed = True
-            case ("describe", kind, name, _, text):
-                exporter.helps[kind, name] = text
+            case ("describe", *description):
+                exporter.describe(*description)
                 is_changed = True
             case ("scrape", moment):
                 exporter.expire(moment or 0)

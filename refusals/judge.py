@@ -320,11 +320,11 @@ class Prometheus(Export):
         options = model.options_of(words)
         kinds = "".join(kind[0] for kind in options.idle_kinds.split(","))
         super().__init__(["", kinds, options.idle, options.bounds])
-        self.is_changed = False
+        self.is_changed, self.is_recommended = False, options.recommended_names
 
     def copied(self):
         other = super().copied()
-        other.helps = self.helps.copy()
+        other.helps, other.units = self.helps.copy(), self.units.copy()
         return other
 
     def after(self, line, said):
@@ -338,10 +338,10 @@ class Prometheus(Export):
                 self.update(word, amount, name, labels)
                 self.is_changed = True
                 yield self, 0, False
-            case ("describe", kind, name, _, text):
+            case ("describe", *description):
                 if is_refused:
                     yield self.copied(), 1, True
-                self.helps[kind, name] = text
+                self.describe(*description)
                 self.is_changed = True
                 yield self, 0, False
             case _:
@@ -372,7 +372,7 @@ class Prometheus(Export):
             yield from self.after_text(said)
 
     def text(self, now):
-        rows = model.rows_of(self.held)
+        rows = model.rows_of(self)
         histograms = model.histograms_of(rows)
         lines, last = [], None
         for row in rows:
@@ -384,12 +384,12 @@ class Prometheus(Export):
                 lines += model.help_lines(self, row)
                 lines.append("# TYPE %s %s" % (row[0], model.KINDS[row[1]]))
             last = row
-            for end, labels, number in model.samples_of(row, self.held[row[3]][0], self.bounds):
-                lines.append("%s%s%s %d" % (row[0], end, model.braces(labels), number))
+            for end, labels, number in model.samples_of(self, row):
+                lines.append("%s%s%s %s" % (row[0], end, model.braces(labels), number))
         return [line.encode() for line in lines] + [b""]
 
     def seen_as(self):
-        return repr((self.held, self.seen, self.helps, self.is_changed))
+        return repr((self.held, self.seen, self.helps, self.units, self.is_changed))
 
 
 # ---- runs

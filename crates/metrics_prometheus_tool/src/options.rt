@@ -4,7 +4,7 @@ use clap::{Arg, ArgAction, ArgMatches, Command, Error, value_parser};
 use metrics::Items;
 use std::alloc::{AllocError, Global};
 use tool_export::{ExportPlan, Watched};
-use tool_prometheus::Options;
+use tool_prometheus::{Naming, Options};
 
 const KINDS: &[&str] = &["counter", "gauge", "histogram"];
 
@@ -98,8 +98,16 @@ fn command_line<'a>(alloc: Global) -> Result<Command<'a>, AllocError> {
         "PATH",
         "Writes each scrape to PATH.tmp and renames it to PATH; standard output stays empty",
     );
+    let recommended = flag(
+        alloc,
+        "recommended-names",
+        "Shows names and units as Prometheus recommends: _seconds, _bytes, _ratio, _total",
+    );
     let skips = flag(alloc, "skip-bad", "Tells bad lines and passes over them");
-    with_plan(alloc, command)?.arg(file)?.arg(skips)
+    with_plan(alloc, command)?
+        .arg(file)?
+        .arg(recommended)?
+        .arg(skips)
 }
 
 /// Whether a kind is among those of the option.
@@ -137,6 +145,15 @@ fn plan_of(alloc: Global, matches: &ArgMatches<'_>) -> Result<ExportPlan, AllocE
     })
 }
 
+/// The names and units that are asked for.
+fn naming_of(matches: &ArgMatches<'_>) -> Naming {
+    if matches.get_flag("recommended-names") {
+        Naming::Recommended
+    } else {
+        Naming::AsGiven
+    }
+}
+
 /// What the words ask for, and the path of the file for scrapes. The first word is the program's name.
 pub fn options_of<'a>(
     alloc: Global,
@@ -147,6 +164,7 @@ pub fn options_of<'a>(
     let path = matches.get_str("textfile");
     let options = Options {
         plan: plan_of(alloc, &matches)?,
+        naming: naming_of(&matches),
         skips_bad: matches.get_flag("skip-bad"),
         has_file: path.is_some(),
     };

@@ -12,6 +12,7 @@ use Rattle.metrics_exporter.specs.declared.exporter.Exporter.{Exporter}
 use Rattle.metrics_exporter.specs.Exporting.{Setup, Log, Cells, updates, expires, steps, cells_after, series_of, IsExpiry, IsFull, HoldsSome}
 use Rattle.metrics_exporter.specs.Describing.{DescribesName, SameLegend}
 use Rattle.metrics_exporter.specs.Kept.{IsAfter, described}
+use Rattle.metrics_prometheus.specs.declared.naming.Naming.{Naming}
 use Rattle.tool_export.specs.Exported.{HoldsAtRefusal}
 use Rattle.tool_prometheus.specs.declared.answering.Served.{Served}
 use Rattle.tool_prometheus.specs.declared.requests.Request.TheVariants.{Change, Describe, Scrape, Nothing}
@@ -54,7 +55,7 @@ module _ (old : Served) (exporter : Exporter) where
 
     told_done : Told (Ok tt)
     told_done calls full absent = (
-      (refl, refl),
+      (refl, refl, refl),
       λ setup log after. (
         updates key by (Ok tt) ∷ [],
         calls setup log after,
@@ -64,14 +65,14 @@ module _ (old : Served) (exporter : Exporter) where
 
     told_full : Told (Err CountFull)
     told_full calls full absent = (
-      (refl, refl),
+      (refl, refl, refl),
       λ setup log after.
           (updates key by (Err CountFull) ∷ [], calls setup log after, inl (keeps old.is_changed, inr (refl, refl, (full setup log after).0 refl, refl))),
     )
 
     told_want : Told (Err Memory)
     told_want calls full absent = (
-      (refl, refl),
+      (refl, refl, refl),
       λ setup log after.
           (updates key by (Err Memory) ∷ [], calls setup log after, inr (keeps old.is_changed, refl, refl, refl, absent setup log after refl)),
     )
@@ -94,9 +95,9 @@ module _ (old : Served) (exporter : Exporter) where
         → OnErr r ((k : MetricKind) (n : List ℕ) → described exporter k n ≡ described old.exporter k n)
         → IfErr r (λ e. e ≡ Memory) → Answers old (with_exporter (owed r)) (Describe kind name unit note) (refusal_text r)
     described_told (Ok done) told same memory =
-        ((refl, refl), λ setup log after. ([], stands setup log after, inl (told, refl, refl, refl)))
+        ((refl, refl, refl), λ setup log after. ([], stands setup log after, inl (told, refl, refl, refl)))
     described_told (Err e) told same memory =
-        ((refl, refl), λ setup log after. ([], stands setup log after, inr (same, refl, ap (λ x. refusal_text (Err x)) memory, refl)))
+        ((refl, refl, refl), λ setup log after. ([], stands setup log after, inr (same, refl, ap (λ x. refusal_text (Err x)) memory, refl)))
 
   -- ---- a scrape
 
@@ -105,14 +106,14 @@ module _ (old : Served) (exporter : Exporter) where
   Scrapes bytes now r = (setup : Setup) (log : Log) → IsAfter setup log old.exporter → (checks : List (Answered KeyParts))
       × (answer : Result ℕ Error)
       × IsExpiry setup (steps log) now checks answer × IsAfter setup (log ++ expires now checks answer ∷ []) exporter
-      × MatchResult r (λ t. IsShown (cells_after setup (steps (log ++ expires now checks answer ∷ []))) exporter answer (bytes t))
+      × MatchResult r (λ t. IsShown old.naming (cells_after setup (steps (log ++ expires now checks answer ∷ []))) exporter answer (bytes t))
       (λ e. (e ≡ Memory) × HoldsAtRefusal setup log (expires now checks answer) answer)
 
   pub scraped : {T : Type 0} (bytes : T → List ℕ) (moment : Option ℕ) (now : ℕ) (r : Result T Error)
       → described exporter ≡ described old.exporter → IsMoment moment now → Scrapes bytes now r
       → Answers old (with_exporter (cond (is_ok r) false old.is_changed)) (Scrape moment) (shown_text bytes old.has_file r)
   scraped bytes moment now (Ok t) same at scrapes = (
-    (refl, refl),
+    (refl, refl, refl),
     λ setup log after.
         let (checks, answer, made, stands, (n, is, shown)) = scrapes setup log after in (
           expires now checks answer ∷ [],
@@ -124,7 +125,7 @@ module _ (old : Served) (exporter : Exporter) where
         ),
   )
   scraped bytes moment now (Err e) same at scrapes = (
-    (refl, refl),
+    (refl, refl, refl),
     λ setup log after.
         let (checks, answer, made, stands, (is, held)) = scrapes setup log after in (
           expires now checks answer ∷ [],
@@ -133,18 +134,18 @@ module _ (old : Served) (exporter : Exporter) where
         ),
   )
 
-pub shown_or_not : (cells : Cells) (on : Exporter) (answer : Result ℕ Error) (n : ℕ) {T : Type 0} (bytes : T → List ℕ)
+pub shown_or_not : (naming : Naming) (cells : Cells) (on : Exporter) (answer : Result ℕ Error) (n : ℕ) {T : Type 0} (bytes : T → List ℕ)
     (text : Result T Error) (Held : Type 0) → answer ≡ Ok n
-    → MatchResult text (λ t. IsExposed on cells (bytes t)) (λ e. e ≡ Memory) → OnErr text Held
-    → MatchResult text (λ t. IsShown cells on answer (bytes t)) (λ e. (e ≡ Memory) × Held)
-shown_or_not cells on answer n bytes (Ok t) Held is h held = (n, is, h)
-shown_or_not cells on answer n bytes (Err e) Held is h held = (h, held)
+    → MatchResult text (λ t. IsExposed naming on cells (bytes t)) (λ e. e ≡ Memory) → OnErr text Held
+    → MatchResult text (λ t. IsShown naming cells on answer (bytes t)) (λ e. (e ≡ Memory) × Held)
+shown_or_not naming cells on answer n bytes (Ok t) Held is h held = (n, is, h)
+shown_or_not naming cells on answer n bytes (Err e) Held is h held = (h, held)
 
 -- ---- lines that ask for nothing
 
 pub nothing_told : (on : Served) → Answers on on Nothing []
 nothing_told on = (
-  (refl, refl),
+  (refl, refl, refl),
   λ setup log after.
       ([], subst (λ l. IsAfter setup l on.exporter) (sym (append-nil log)) after, inl (refl, refl, refl)),
 )
@@ -153,7 +154,7 @@ nothing_told on = (
 
 pub end_shown : (on : Served) {T : Type 0} (bytes : T → List ℕ) (r : Result T Error)
     → ((setup : Setup) (log : Log) → IsAfter setup log on.exporter
-    → MatchResult r (λ t. IsExposed on.exporter (cells_after setup (steps log)) (bytes t)) (λ e. e ≡ Memory))
+    → MatchResult r (λ t. IsExposed on.naming on.exporter (cells_after setup (steps log)) (bytes t)) (λ e. e ≡ Memory))
     → ((setup : Setup) (log : Log) → IsAfter setup log on.exporter → OnErr r (HoldsSome (cells_after setup (steps log))))
     → ShowsEnd on (shown_text bytes on.has_file r)
 end_shown on bytes (Ok t) text refused setup log after = inl (bytes t, text setup log after, refl)

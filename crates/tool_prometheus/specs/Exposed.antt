@@ -10,7 +10,7 @@ use Rattle.metrics_exporter.specs.declared.exporter.Exporter.{Exporter}
 use Rattle.metrics_exporter.specs.Describing.{Legend, SameLegend, DescribesName}
 use Rattle.metrics_exporter.specs.Kept.{IsAfter, described}
 use Rattle.metrics_prometheus.specs.Exposition.{IsDescribed}
-use Rattle.metrics_prometheus.specs.Rows.{helps_in}
+use Rattle.metrics_prometheus.specs.declared.naming.Naming.{Naming}
 use Rattle.tool_export.specs.Exported.{HoldsAtRefusal}
 use Rattle.tool_prometheus.specs.declared.answering.Served.{Served}
 use Rattle.tool_prometheus.specs.declared.requests.Request.{Request}
@@ -45,20 +45,20 @@ shown_text bytes has_file (Err e) = refusal_text (Err e)
 -- ---- one request
 
 -- an exposition of these cells, with what the exporter was told of names
-abbrev pub IsExposed : Exporter → Cells → List ℕ → Type 0
-IsExposed on cells text = IsDescribed (helps_in (described on)) cells text
+abbrev pub IsExposed : Naming → Exporter → Cells → List ℕ → Type 0
+IsExposed naming on cells text = IsDescribed naming (described on) cells text
 
 -- an expiry was answered, and this is an exposition of the series that it left
-abbrev pub IsShown : Cells → Exporter → Result ℕ Error → List ℕ → Type 0
-IsShown cells on answer shown = (n : ℕ) × (answer ≡ Ok n) × IsExposed on cells shown
+abbrev pub IsShown : Naming → Cells → Exporter → Result ℕ Error → List ℕ → Type 0
+IsShown naming cells on answer shown = (n : ℕ) × (answer ≡ Ok n) × IsExposed naming on cells shown
 
 -- only the exporter and what a scrape owes changed
 abbrev pub KeepsRest : Served → Served → Type 0
-KeepsRest old new = (new.has_file ≡ old.has_file) × (new.has_bad ≡ old.has_bad)
+KeepsRest old new = (new.naming ≡ old.naming) × (new.has_file ≡ old.has_file) × (new.has_bad ≡ old.has_bad)
 
 -- an exposition of what is held after the calls, with what was told of names
 abbrev pub Shows : Setup → Log → Served → List ℕ → Type 0
-Shows setup log on shown = IsExposed on.exporter (cells_after setup (steps log)) shown
+Shows setup log on shown = IsExposed on.naming on.exporter (cells_after setup (steps log)) shown
 
 -- the moment of a scrape; the clock's may be any
 abbrev pub IsMoment : Option ℕ → ℕ → Type 0

@@ -35,7 +35,7 @@ IsPrometheusRun skips at_end old read text r = (new : Served) × (lines last : L
 
 -- an exporter of the plan, before its first line
 abbrev pub IsFresh : Options → Served → Type 0
-IsFresh options on = IsAfter (setup_of options.plan) [] on.exporter × (on.has_file ≡ options.has_file)
+IsFresh options on = IsAfter (setup_of options.plan) [] on.exporter × (on.naming ≡ options.naming) × (on.has_file ≡ options.has_file)
     × (on.is_changed ≡ false) × (on.has_bad ≡ false)
 
 -- The lines were answered by a new exporter; or none was made, and nothing was read or written.

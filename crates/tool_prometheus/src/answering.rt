@@ -16,13 +16,15 @@ use crate::surroundings::Surroundings;
 use crate::watching::Watch;
 use metrics::{Error, Key, MetricKind, Unit, Update};
 use metrics_exporter::Exporter;
-use metrics_prometheus::exposition;
+use metrics_prometheus::{Naming, exposition_named};
 use std::alloc::{AllocError, Global};
 
 /// What the lines act on.
 #[derive(Drop)]
 pub struct Served {
     pub exporter: Exporter,
+    /// Under which names and in which units series are shown.
+    pub naming: Naming,
     /// Scrapes go to a file, and not to the output.
     pub has_file: bool,
     /// Something changed since the last scrape that was not refused.
@@ -86,17 +88,18 @@ fn answer_describe(
 
 /// Removes what is idle at the moment, and gives an exposition of the series that are left. It is never refused where none is
 /// held.
-fn shown_at(alloc: Global, on: &mut Exporter, now: u64) -> Result<String, Error>
+fn shown_at(alloc: Global, naming: Naming, on: &mut Exporter, now: u64) -> Result<String, Error>
     ensures shown { (setup : Setup) (log : Log) → IsAfter setup log on.old → (checks : List (Answered KeyParts))
         × (answer : Outcome ℕ Refusal) × IsExpiry setup (steps log) now checks answer
         × IsAfter setup (log ++ expires now checks answer ∷ []) on.new
         × MatchResult result
-        (λ text. IsShown (cells_after setup (steps (log ++ expires now checks answer ∷ []))) on.new answer (string_bytes text))
+        (λ text. IsShown naming (cells_after setup (steps (log ++ expires now checks answer ∷ []))) on.new answer
+        (string_bytes text))
         (λ e. (e ≡ Memory) × HoldsAtRefusal setup log (expires now checks answer) answer) }
     ensures told { described on.new ≡ described on.old }
 {
     match on.expire(now) {
-        Ok(_) => exposition(on, alloc),
+        Ok(_) => exposition_named(on, alloc, naming),
         Err(e) => Err(e),
     }
 }
@@ -151,7 +154,7 @@ fn answer_scrape<S: Surroundings>(
         × OnOk result (string_bytes text.new ≡ string_bytes text.old ++ whole) }
 {
     let now = moment_of(watch, moment);
-    let shown = shown_at(alloc, &mut on.exporter, now);
+    let shown = shown_at(alloc, on.naming, &mut on.exporter, now);
     hand_out_shown(on, watch, shown, text)
 }
 
@@ -199,6 +202,6 @@ pub fn answer_end<S: Surroundings>(
     if !on.is_changed {
         return Ok(());
     }
-    let shown = exposition(&on.exporter, alloc);
+    let shown = exposition_named(&on.exporter, alloc, on.naming);
     hand_out_shown(on, watch, shown, text)
 }

@@ -10,6 +10,7 @@ use crate::serving::prometheus;
 use crate::surroundings::Surroundings;
 use crate::watching::Watch;
 use metrics_exporter::Exporter;
+use metrics_prometheus::Naming;
 use std::alloc::Global;
 use std::io::{BufRead, Write};
 use tool_export::{ExportPlan, exporter_of};
@@ -20,6 +21,8 @@ use tool_stream::flush;
 #[derive(Drop)]
 pub struct Options {
     pub plan: ExportPlan,
+    /// Under which names and in which units series are shown.
+    pub naming: Naming,
     /// Bad lines are told and passed over.
     pub skips_bad: bool,
     /// Scrapes go to a file, and not to the output.
@@ -86,6 +89,7 @@ fn serve_new<S: Surroundings, I: BufRead, O: Write>(
 {
     let mut on = Served {
         exporter,
+        naming: options.naming,
         has_file: options.has_file,
         is_changed: false,
         has_bad: false,

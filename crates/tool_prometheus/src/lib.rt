@@ -15,6 +15,7 @@ pub use answering::{Served, answer_end, answer_request};
 pub use commands::{Options, command};
 pub use flaws::{Cause, Message, Unread};
 pub use laws::line_law;
+pub use metrics_prometheus::Naming;
 pub use requests::{Request, request_of};
 pub use serving::{PrometheusLines, prometheus};
 pub use surroundings::Surroundings;

@@ -5,6 +5,6 @@ use Rattle.tool_prometheus.proofs.answering.answer_end.Goals as goal
 
 pub returns : goal.returns
 returns g c =
-    let r = c.exposition-shown.result in
-    let done = end_shown c.args.on.now string_bytes r c.exposition-shown.ensures.text c.exposition-shown.ensures.refused in
+    let r = c.exposition_named-shown.result in
+    let done = end_shown c.args.on.now string_bytes r c.exposition_named-shown.ensures.text c.exposition_named-shown.ensures.refused in
     (shown_text string_bytes c.args.on.now.has_file r, inl (search rules, done), c.hand_out_shown.ensures.text)

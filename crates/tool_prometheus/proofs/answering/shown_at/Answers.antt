@@ -13,8 +13,8 @@ returns-in-Ok-clause-shown c = λ setup log after.
       Ok c.in-Ok.field-0,
       made,
       stands,
-      shown_or_not cells c.expire.new.self (Ok c.in-Ok.field-0) c.in-Ok.field-0 string_bytes c.exposition.result (HoldsSome cells) refl
-          (c.exposition.ensures.text setup now stands) (c.exposition.ensures.refused setup now stands),
+      shown_or_not c.args.naming cells c.expire.new.self (Ok c.in-Ok.field-0) c.in-Ok.field-0 string_bytes c.exposition_named.result (HoldsSome cells) refl
+          (c.exposition_named.ensures.text setup now stands) (c.exposition_named.ensures.refused setup now stands),
     )
 
 pub returns-in-Err-clause-shown : goal.returns-in-Err-clause-shown

@@ -7,8 +7,9 @@ returns g c =
     let (read, text, took, wrote, ran) = c.serve-answered.ensures in
     let start : Served = record {
       exporter = c.args.exporter;
+      naming = c.args.options.now.naming;
       has_file = c.args.options.now.has_file;
       is_changed = false;
       has_bad = false;
     } in
-    (read, text, c.serve-answered.result, took, wrote, inl (start, (c.requires, refl, refl, refl), ran), c.told.ensures)
+    (read, text, c.serve-answered.result, took, wrote, inl (start, (c.requires, refl, refl, refl, refl), ran), c.told.ensures)
