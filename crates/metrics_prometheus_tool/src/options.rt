@@ -87,7 +87,7 @@ fn with_plan<'a>(alloc: Global, command: Command<'a>) -> Result<Command<'a>, All
 fn command_line<'a>(alloc: Global) -> Result<Command<'a>, AllocError> {
     let command = Command::new(alloc, "metrics_prometheus_tool")
         .bin_name("metrics_prometheus_tool")?
-        .version("0.5.0")
+        .version("0.6.0")
         .about(
             "Reads lines of updates from standard input, and writes Prometheus's text at each scrape.",
         )
