@@ -4,8 +4,8 @@
 /// Metrics that the threads of a program share, and their text for Prometheus.
 pub mod collector {
     pub use metrics_collector::{
-        Bounds, Collector, CounterHandle, Gathered, GatheredSeries, GaugeHandle, HistogramHandle,
-        Value,
+        Bounds, Collector, CounterHandle, Descriptions, Gathered, GatheredSeries, GaugeHandle,
+        HistogramHandle, Naming, Value,
     };
 }
 
