@@ -243,12 +243,12 @@ def numbers_of(text):
     return [line.rsplit(" ", 1)[1] for line in text.split("\n")[:-1] if line[0] != "#"]
 
 
-def judge(text, families, left_out, helps):
-    """Compares an exposition with what is to be read."""
+def judge(text, families, left_out, helps, is_recommended=False):
+    """Compares an exposition with what is to be read. promtool has no advice on recommended names."""
     if text is None:
         raise Wrong("a scrape has no exposition")
     told = subprocess.run(["promtool", "check", "metrics"], input=text.encode(), capture_output=True)
-    if told.returncode not in (0, 3):  # 3 is advice on names alone
+    if told.returncode not in ((0,) if is_recommended else (0, 3)):  # 3 is advice on names alone
         raise Wrong(f"promtool: status {told.returncode}: {(told.stdout + told.stderr).decode().strip()}")
     read = as_read(text)
     for wanted, family in zip(map(as_client, families), read):
@@ -366,7 +366,7 @@ def check(lines, output, exporter, skips_bad):
 
     def shown():
         wanted = expected(exporter)
-        judge(next(texts, None), *wanted)
+        judge(next(texts, None), *wanted, is_recommended=exporter.is_recommended)
         return sum(len(samples) for _, _, samples in wanted[0])
 
     for request in map(request_of, lines):
