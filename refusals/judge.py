@@ -274,15 +274,16 @@ class Export(model.Exporter):
         yield self, 0, False
 
     def begun(self, now):
-        """What an expiry may leave that was refused, or the text after it: a refusal meets no series that was noted before."""
+        """What an expiry may leave that was refused, or the text after it: a refusal meets only a new series, or an idle one."""
         left = self.copied()
         if self.held:
             yield left.copied()
         for series in self.in_order():
             if self.timeout is not None and series[0] in self.watched:
-                if series not in left.seen:
-                    yield left.copied()
+                before, is_new = left.copied(), series not in left.seen
                 left.check(series, now)
+                if is_new or series not in left.held:
+                    yield before
         if left.held:
             yield left
 
