@@ -81,7 +81,8 @@ impl<T: Ledger, F: Ledger> Tally<T, F> {
         self.weight == WHOLE
     }
 
-    /// Gives half of the weight, rounded down, to a new tally that has counted nothing. Fails if the weight is 1.
+    /// Gives half of the weight, rounded down, to a new tally that has counted nothing. Fails if the weight is 1, as a pen does:
+    /// with `Error::NoPen`, though a tally has no pens.
     pub fn split(&mut self) -> Result<Tally<T, F>, Error>
         ensures ok { IfOk result (λ t. (t.weight ≡ self.old.weight / 2) × (t.trues ≡ 0) × (t.falses ≡ 0)
             × (self.old ≡ joined self.new t)) }
