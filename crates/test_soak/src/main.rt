@@ -243,6 +243,6 @@ fn main(rt: HostRuntime) -> Result<()> {
     expect_samples(told?)?;
     collected?;
     println!(rt; "each sample came out once")?;
-    println!(rt; "each change of a collector was shown once")?;
+    println!(rt; "each change of a collector was shown")?;
     Ok(())
 }
