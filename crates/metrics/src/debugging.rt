@@ -127,7 +127,7 @@ impl Snapshot {
     }
 }
 
-/// Puts a row into a map that has room for it.
+/// Inserts a row into a map that has room for it.
 fn put(map: &mut HashMap<CompositeKey, RowValue>, key: CompositeKey, value: RowValue)
     requires { 0 < spare map.old }
     ensures rows { (k : SeriesKey) → get series_key_eq map.new k

@@ -38,8 +38,8 @@ pub enum Error {
     /// Another walk holds the turn. This call changed nothing.
     #[error("busy")]
     Busy,
-    /// No pen is free, a pen or tally of weight 1 was to be split, or another pen is out where all are wanted. No value
-    /// has moved.
+    /// No pen is free, a pen or tally of weight 1 was to be split, or another pen is out where all are wanted. No value has
+    /// moved.
     #[error("no pen")]
     NoPen,
     /// The number of shards is not a power of two from 1 to 1,024. Nothing was made.

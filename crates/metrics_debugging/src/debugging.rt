@@ -41,7 +41,7 @@ impl DebuggingRecorder {
         })
     }
 
-    /// Returns what takes snapshots of this book, also where the recorder is the first below another one.
+    /// Returns the snapshotter of this book, also if the recorder is the first below another one.
     pub fn snapshotter(&self) -> Snapshotter
         ensures { result ≡ 0 }
     {
@@ -76,8 +76,8 @@ impl Recorder for DebuggingRecorder {
         Ok(1)
     }
 
-    /// A refusal tells 1 where the book held the series already, and else 0. Any other registration is activity, also of a
-    /// series that is held.
+    /// A call that fails reports 1 if the book held the series already, and else 0. Any other registration is activity, also of
+    /// a series that is held.
     fn register(
         &mut self,
         alloc: Global,
@@ -111,7 +111,7 @@ impl Recorder for DebuggingRecorder {
         at.book == 0 && self.series.kind_at(at.series) == Some(kind)
     }
 
-    /// An update that isn't refused is activity, whatever its value.
+    /// An update that succeeds is activity, whatever its value.
     fn update(&mut self, at: Address, by: Update) -> Result<(), Refused>
         ensures keeps { KeepsTargets (meaning_of self.old) (meaning_of self.new) }
         ensures updates { Updates (meaning_of self.old) (meaning_of self.new) at by result }
@@ -124,7 +124,7 @@ impl Recorder for DebuggingRecorder {
         self.series.update(at.series, by)
     }
 
-    /// The snapshot tells which series were registered or updated since the last one. All of them are idle then.
+    /// The snapshot reports which series were registered or updated since the last one. All of them are idle then.
     fn snapshot_with(
         &mut self,
         alloc: Global,
@@ -146,7 +146,7 @@ impl Recorder for DebuggingRecorder {
     }
 }
 
-/// Takes snapshots of one book of a recorder, by the number that the book has there.
+/// Takes snapshots of one book of a recorder, by the book's number there.
 #[derive(Clone, Copy, Debug, PartialEq, Eq, PartialOrd, Ord, Hash)]
 pub struct Snapshotter {
     book: usize,
@@ -163,6 +163,7 @@ impl Model for Snapshotter {
 }
 
 impl Snapshotter {
+    /// Returns the snapshotter of the book of this number.
     pub fn of(book: usize) -> Snapshotter
         ensures { result ≡ book }
     {

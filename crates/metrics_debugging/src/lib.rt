@@ -1,4 +1,4 @@
-//! A recorder that keeps one book in memory, and what takes its snapshots.
+//! A recorder that keeps one book in memory, and its snapshotter.
 #![tactic(auto)]
 
 mod debugging;

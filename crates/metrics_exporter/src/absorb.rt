@@ -18,15 +18,15 @@ use thiserror::Error as ThisError;
 #[derive(Clone, Copy, Debug, PartialEq, Eq, ThisError)]
 #[error("{error} after {rows} rows and {samples} samples")]
 pub struct PartlyAbsorbed {
-    /// What the next row's description or update was refused with: `Error::Memory`, or `Error::CountFull` at a sample.
+    /// The error of the next row's description or update: `Error::Memory`, or `Error::CountFull` at a sample.
     pub error: Error,
     /// The number of rows that were absorbed whole, from the first on.
     pub rows: usize,
-    /// The number of samples of the next row that were recorded, from the first on; 0 where that row is no histogram's.
+    /// The number of samples of the next row that were recorded, from the first on; 0 if that row is no histogram's.
     pub samples: usize,
 }
 
-/// So that `?` hands the refusal on. Which part was absorbed isn't told any more.
+/// Lets `?` convert it to its error. That drops which part was absorbed.
 impl From<PartlyAbsorbed> for Error {
     ghost from_gives = { λ part e. e ≡ part.error };
 
@@ -38,19 +38,19 @@ impl From<PartlyAbsorbed> for Error {
 impl Exporter {
     ghost use Rattle.metrics_exporter.specs.Kept.{described};
 
-    /// Absorbs a snapshot of a recorder's book, row by row, in their order. A row with a description tells it, with its unit, of
-    /// its key's name, as `describe` does. Then the row is an update of the series of its key and of its value's kind. If its
-    /// series was active, a count is added, also 0, and a gauge is set, also to the value that it has. If it was idle, only a
-    /// count other than 0 is added. Each sample is recorded.
+    /// Absorbs a snapshot of a recorder's book, row by row, in their order. A row with a description describes its key's name,
+    /// with its unit, as `describe` does. Then the row updates the series of its key and of its value's kind. If its series was
+    /// active, a count is added, also 0, and a gauge is set, also to the value that it has. If it was idle, only a count other
+    /// than 0 is added. Each sample is recorded.
     ///
     /// So a series stays for as long as it is registered or updated between snapshots, with any value, and `expire` removes an
     /// idle one once.
     ///
     /// Each book needs one reader: take its snapshots by `snapshot_with` and `Reset::KeepGauges`, and absorb each of them.
-    /// `snapshot` resets gauges too, so that `absorb` sees a change and no level: a gauge that counts 5, 6, 7 is set to 5, 1,
-    /// 1. Any snapshot that isn't absorbed takes away counts, samples and activity.
+    /// `snapshot` resets gauges too, so `absorb` sees a change and no level: a gauge that counts 5, 6, 7 is set to 5, 1, 1. A
+    /// snapshot that isn't absorbed loses its counts, samples and activity.
     ///
-    /// An error says which part was absorbed; `absorb_from` goes on from there.
+    /// An error reports which part was absorbed; `absorb_from` continues from there.
     pub fn absorb(&mut self, snapshot: &Snapshot) -> Result<(), PartlyAbsorbed>
         ensures absorbs { (active : List Bool) × ((setup : Setup) (log : Log) → IsAfter setup log self.old
             → Absorbs setup log (marked snapshot.now active) result self.new) }
@@ -60,10 +60,10 @@ impl Exporter {
         absorb_rows(self, snapshot.as_slice(), snapshot.activity())
     }
 
-    /// Goes on with a snapshot of which a part was absorbed, and absorbs the rest of it as `absorb` does. The description of
-    /// the row in which it stopped is told again.
+    /// Continues with a snapshot of which a part was absorbed, and absorbs the rest of it as `absorb` does. It repeats the
+    /// description of the row in which it stopped.
     ///
-    /// An error says which part was absorbed by all these calls. A part behind the last row leaves nothing to do.
+    /// An error reports which part was absorbed by all these calls. For a part after the last row it does nothing.
     pub fn absorb_from(
         &mut self,
         snapshot: &Snapshot,
@@ -81,7 +81,7 @@ impl Exporter {
 
 ghost use Rattle.metrics_exporter.specs.Kept.{described};
 
-/// Tells the description of a row, if it has one.
+/// Describes the name of a row, if the row has a description.
 fn describe_row(
     on: &mut Exporter,
     series: &CompositeKey,
@@ -99,7 +99,7 @@ fn describe_row(
     }
 }
 
-/// The items behind the first ones.
+/// The items after the first ones.
 fn rest_of<T>(items: &[T], first: usize) -> &[T]
     ensures { result.now ≡ drop first items.now }
 {
@@ -116,7 +116,7 @@ fn is_active(activity: &[bool], row: usize) -> bool
     }
 }
 
-/// Tells a row's description, and then makes the updates of its value behind its first samples.
+/// Describes a row's name, and then makes the updates of its value after its first samples.
 fn absorb_row(
     on: &mut Exporter,
     row: &Row,
@@ -156,7 +156,7 @@ fn absorb_rows(on: &mut Exporter, rows: &[Row], activity: &[bool]) -> Result<(),
     Ok(())
 }
 
-/// Absorbs the rows behind a part, in order.
+/// Absorbs the rows after a part, in order.
 fn absorb_behind(
     on: &mut Exporter,
     rows: &[Row],
@@ -222,7 +222,7 @@ fn absorb_samples(on: &mut Exporter, key: &Key, samples: &[i64]) -> Result<(), (
     Ok(())
 }
 
-/// Makes the updates of a row's value behind its first samples.
+/// Makes the updates of a row's value after its first samples.
 fn absorb_value(
     on: &mut Exporter,
     key: &Key,

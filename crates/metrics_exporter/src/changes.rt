@@ -121,7 +121,7 @@ fn record(
     )?
 }
 
-/// Updates the cell of a key, which is made where there is none.
+/// Updates the cell of a key, and makes it if there is none.
 pub(crate) fn update_cells(
     registry: &mut OwnedRegistry<Key, CountedCells>,
     key: &Key,

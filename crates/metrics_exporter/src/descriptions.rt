@@ -10,14 +10,14 @@ use indexmap::IndexMap;
 use metrics::{Error, MetricKind, PerKind, Text, Unit};
 use std::alloc::Global;
 
-/// What is told of a name that was described.
+/// The description of a name.
 #[derive(Drop)]
 pub(crate) struct Described {
     unit: Option<Unit>,
     text: Text,
 }
 
-/// What is told of names, by kind and name: a unit, where one was given, and a text.
+/// The descriptions of names, by kind and name: a text, and a unit if there is one.
 #[derive(Drop)]
 pub struct Descriptions {
     names: PerKind<IndexMap<String, Described>>,
@@ -57,8 +57,8 @@ impl Descriptions {
         }
     }
 
-    /// Replaces the text of a name, and the unit where one is given. A refusal changes nothing; a name that is told the same
-    /// again takes no memory.
+    /// Replaces the text of a name, and the unit if there is a new one. A call that fails changes nothing. Repeating a
+    /// description allocates nothing.
     pub fn describe(
         &mut self,
         alloc: Global,
@@ -78,7 +78,7 @@ impl Descriptions {
     }
 }
 
-/// Whether a name has this text already, and this unit where one is given.
+/// Returns whether a name has this text already, and this unit if there is one.
 fn is_told(names: &IndexMap<String, Described>, name: &str, unit: Option<Unit>, text: &str) -> bool
     ensures { IsTrue result → described_again unit text.now (description_of (get_by_text names.now name.now))
         ≡ description_of (get_by_text names.now name.now) }

@@ -12,7 +12,7 @@ use metrics::{CompositeKey, Error, Key};
 use metrics_registry::{OwnedRecency, OwnedRegistry};
 use std::alloc::Global;
 
-/// Checks every series that is held, in composite key order, and finds those that are idle. Answers how many.
+/// Checks every series that is held, in composite key order, and finds those that are idle. Returns how many.
 pub(crate) fn check_all(
     alloc: Global,
     registry: &OwnedRegistry<Key, CountedCells>,

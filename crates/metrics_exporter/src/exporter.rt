@@ -27,7 +27,7 @@ use metrics_registry::{OwnedRecency, OwnedRegistry, is_shard_count, recency_law}
 use metrics_storage::Histogram;
 use std::alloc::Global;
 
-/// Series by kind and key, whose values come as text, and of which idle ones are removed.
+/// Series by kind and key. It writes their values as text, and removes idle ones.
 #[derive(Drop)]
 pub struct Exporter {
     alloc: Global,
@@ -39,11 +39,11 @@ pub struct Exporter {
 impl Exporter {
     ghost use Rattle.metrics_exporter.specs.Kept.{IsAfter, Keeps, KeepsBut, held_cells, described};
 
-    /// Makes an exporter without series, whose registry has so many shards, a power of two from 1 to 1,024. Its histograms
-    /// count at the bounds, of which there has to be one.
+    /// Makes an exporter without series. Its registry has so many shards, a power of two from 1 to 1,024. Its histograms count
+    /// at the bounds, of which there has to be one.
     ///
-    /// `expire` removes a series of a kind of the mask that has kept its generation over checks which lie further apart than
-    /// the timeout; without a timeout it removes none. The timeout and the moments are in one unit of the caller's choice.
+    /// `expire` removes a series of a kind of the mask that has kept its generation over checks further apart than the timeout.
+    /// Without a timeout it removes none. The timeout and the moments are in one unit of the caller's choice.
     pub fn new(
         alloc: Global,
         shards: usize,
@@ -78,10 +78,10 @@ impl Exporter {
         })
     }
 
-    /// Updates the series of the key and of the update's own kind, which is made where it isn't held.
+    /// Updates the series of the key and of the update's own kind, and makes it if it isn't held.
     ///
-    /// A refusal changes nothing. `Error::Memory` never meets a series that is held; `Error::CountFull` comes where the count
-    /// of a histogram's samples would pass 2^64 - 1.
+    /// A call that fails changes nothing. It fails with `Error::Memory` only if the series isn't held, and with
+    /// `Error::CountFull` if the count of a histogram's samples would pass 2^64 - 1.
     pub fn update(&mut self, key: &Key, by: Update) -> Result<(), Error>
         ensures calls { (setup : Setup) (log : Log) → IsAfter setup log self.old
             → IsAfter setup (log ++ updates key.now by result ∷ []) self.new }
@@ -96,10 +96,10 @@ impl Exporter {
         update_cells(&mut self.registry, key, by)
     }
 
-    /// Checks every series that is held, in composite key order, and removes those that are idle. Answers how many.
+    /// Checks every series that is held, in composite key order, and removes those that are idle. Returns how many.
     ///
-    /// Where it is refused, a front of these checks was made, and what they removed is gone. It is never refused after the
-    /// last check, nor where no series is held.
+    /// If it fails, the first n of these checks were made, and what they removed is gone. It never fails after the last check,
+    /// nor if no series is held.
     pub fn expire(&mut self, now: u64) -> Result<usize, Error>
         ensures expired { (setup : Setup) (log : Log) → IsAfter setup log self.old →
             (checks : List (Answered KeyParts)) × IsExpiry setup (steps log) now checks result
@@ -131,8 +131,8 @@ impl Exporter {
         }
     }
 
-    /// Replaces the text of a name of this kind, and the unit where one is given, whether or not a series of that name is held.
-    /// No expiry removes it. A refusal changes nothing; a name that is told the same again takes no memory.
+    /// Replaces the text of a name of this kind, and the unit if there is a new one, whether or not a series of that name is
+    /// held. No expiry removes it. A call that fails changes nothing. Repeating a description allocates nothing.
     pub fn describe(
         &mut self,
         kind: MetricKind,
@@ -183,7 +183,7 @@ impl Exporter {
 
     /// Returns the number of series that are held, which is the number of lines of `text`. It allocates nothing.
     ///
-    /// More than 2^64 - 1 series, which no memory holds, would be told as 2^64 - 1.
+    /// It saturates at 2^64 - 1, which no memory holds.
     pub fn len(&self) -> usize
         ensures { (setup : Setup) (log : Log) → IsAfter setup log self.now →
             (held : ℕ) × IsHeldNumber (cells_after setup (steps log)) held × (result ≡ min held usize.MAX) }

@@ -111,14 +111,14 @@ pub(crate) fn gathered_series<'a>(
     Ok(series)
 }
 
-/// Takes nothing and does nothing: its contract says what `==` and the order of composite keys and of series are.
+/// Does nothing. Its contract says what `==` and the order of composite keys and of series are.
 pub(crate) fn key_order()
     ensures equality { (a b : SeriesKey) → ⟦<CompositeKey as PartialEq>⟧.eq a b ≡ series_key_eq a b }
     ensures order { (a b : SeriesKey) → ⟦<CompositeKey as Ord>⟧.cmp a b ≡ series_key_cmp a b }
     ensures rows { (a b : Shown) → ⟦<SeriesRef<'static> as Ord>⟧.cmp a b ≡ series_key_cmp (series_shown a) (series_shown b) }
 {}
 
-/// The series that are held, in composite key order. Where none is held it takes no memory.
+/// Returns the series that are held, in composite key order. If none is held it allocates nothing.
 pub(crate) fn sorted_series<'a>(
     alloc: Global,
     registry: &'a OwnedRegistry<Key, CountedCells>,

@@ -8,14 +8,14 @@ ghost use Rattle.metrics_exporter.specs.ExporterExamples.{AnsweredSo, KeptAtFift
 
 use crate::keys::key_order;
 
-/// Takes nothing and does nothing: its contract has the laws of the exporter's definitions.
+/// Does nothing. Its contract has the laws of the exporter's definitions.
 pub fn exporter_law()
     // There is no more than one text of the series that are held.
     ensures one { (cells : Cells) (a b : List ℕ) → IsText cells a → IsText cells b → a ≡ b }
-    // There is no more than one list of checks that an expiry made of all held series, and one answer.
+    // There is at most one list of checks that an expiry made of all held series, and one result.
     ensures expiry { (setup : Setup) (before : List Step) (now : ℕ) (a b : List (Answered KeyParts)) (n m : ℕ)
         → IsExpiry setup before now a (Ok n) → IsExpiry setup before now b (Ok m) → (a ≡ b) × (n ≡ m) }
-    // Worked examples: a counter that is removed at 16 after an update at 10, and that begins again.
+    // Examples: a counter that is removed at 16 after an update at 10, and that begins again.
     ensures answered { AnsweredSo }
     ensures fifteen { KeptAtFifteen }
     ensures sixteen { GoneAtSixteen }

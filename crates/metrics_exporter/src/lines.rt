@@ -21,7 +21,7 @@ fn kind_text(kind: MetricKind) -> &'static str
     }
 }
 
-/// A name, where the empty one is a dash.
+/// A name. The empty one is written as a dash.
 fn shown_name(name: &str) -> &str
     ensures { result.now ≡ name_word name.now }
 {

@@ -105,7 +105,7 @@ fn gathered<'a>(
     Ok(told)
 }
 
-/// Each held series once, in no order of its own, with what it has. Where none is held it takes no memory.
+/// Returns each held series once, in some order, with what it has. If none is held it allocates nothing.
 pub(crate) fn readings_of<'a>(
     alloc: Global,
     registry: &'a OwnedRegistry<Key, CountedCells>,

@@ -1,11 +1,10 @@
-//! What the definitions give, worked out.
+//! Examples of the definitions.
 ghost use Rattle.metrics_laws.specs.Examples.{TwoRounds, DescriptionKeepsUnit, KeptGauges, CountersWrap, GaugesStop, BlocksOf65};
 ghost use Rattle.metrics_laws.specs.Examples.{BlocksOf130, PlainRefusals, PrefixInPrefix, EmptyPrefix, FilterWithoutPattern};
 ghost use Rattle.metrics_laws.specs.Examples.{FilterWithEmptyPattern, FilterFolded, LongestPatternWins, LaterRouteReplaces};
 ghost use Rattle.metrics_laws.specs.Examples.{FanoutStops};
 
-/// Takes nothing and does nothing: its contract has worked examples of what the definitions give, with the
-/// expected values written out.
+/// Does nothing. Its contract has examples of what the definitions say, with the expected values written out.
 pub fn worked_examples()
     ensures two_rounds { TwoRounds }
     ensures description_keeps_unit { DescriptionKeepsUnit }

@@ -7,7 +7,7 @@ ghost use Rattle.metrics_laws.specs.Laws.{EqualityIsOfAllParts, FilterTestsSubst
 
 use metrics::{CompositeKey, Key, KeyName, Label};
 
-/// Takes nothing and does nothing: its contract has the laws by which the definitions say what was meant.
+/// Does nothing. Its contract has the laws that say what the definitions mean.
 pub fn definition_laws()
     // `==` and the order of composite keys, and the order of their parts.
     ensures equality { (a b : SeriesKey) → ⟦<CompositeKey as PartialEq>⟧.eq a b ≡ series_key_eq a b }

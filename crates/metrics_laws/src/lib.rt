@@ -1,4 +1,4 @@
-//! Laws of the definitions, and worked examples of what they give.
+//! Laws of the definitions, and examples of them.
 #![tactic(auto)]
 
 mod examples;

@@ -1,4 +1,4 @@
-//! What can be put over a recorder.
+//! What can wrap a recorder.
 ghost use Rattle.std.specs.Prelude.{◌≡◌, Option, None, IfOk, IfErr, OnOk, unwrap_or};
 ghost use Rattle.metrics.specs.Meaning.{Meaning};
 ghost use Rattle.metrics.specs.declared.error.Error.{Error as Fault};
@@ -18,7 +18,7 @@ pub trait Layer<R: Recorder>: Drop {
     /// Why the layer fails however much memory there is, if it does.
     ghost fault: { Self → Option Fault };
 
-    /// Puts the layer over a recorder. Returns the recorder if that fails.
+    /// Wraps a recorder in the layer. Returns the recorder if that fails.
     ///
     /// Fails for the layer's own fault, and without one only when out of memory.
     fn layer(&self, alloc: Global, inner: R) -> Result<Self::Output, (Error, R)>

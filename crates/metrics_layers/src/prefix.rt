@@ -12,7 +12,7 @@ use metrics::{
 use std::alloc::{AllocError, Global};
 use std::marker::Model;
 
-/// Puts a prefix and a dot before each name, also if the prefix is empty. Labels stay.
+/// Adds a prefix and a dot before each name, also if the prefix is empty. Labels stay.
 #[derive(Debug, Drop)]
 pub struct PrefixLayer {
     prefix: Text,
@@ -85,7 +85,7 @@ impl<R: Recorder> Layer<R> for PrefixLayer {
 #[derive(Drop)]
 pub struct Prefix<R> {
     prefix: Text,
-    /// The last key as it reached the recorder. The next takes its place.
+    /// The last key as it reached the recorder. The next replaces it.
     there: Key,
     inner: R,
 }

@@ -1,4 +1,4 @@
-//! Layers put over a recorder one after another.
+//! Layers that wrap a recorder one after another.
 ghost use Rattle.std.specs.Prelude.{◌≡◌, None, IfOk, IfErr, OnOk, unwrap_or};
 ghost use Rattle.metrics.specs.declared.error.Error.TheVariants.{Memory};
 
@@ -25,7 +25,7 @@ impl<R: Recorder> Stack<R> {
         Stack { inner }
     }
 
-    /// Puts a layer over the stack. Returns the stack's recorder if that fails.
+    /// Wraps the stack in a layer. Returns the stack's recorder if that fails.
     pub fn push<L: Layer<R>>(self, alloc: Global, layer: L) -> Result<Stack<L::Output>, (Error, R)>
         ensures made { IfOk result (λ s. ⟦<Stack<L::Output> as Recorder>⟧.meaning s
             ≡ L.over layer (⟦<Stack<R> as Recorder>⟧.meaning self)) }

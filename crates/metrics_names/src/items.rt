@@ -12,10 +12,10 @@ use std::fmt;
 use std::hash::{Hash, Hasher};
 use std::marker::Model;
 
-/// A `Vec` that contracts see as its list, so that two of the same items are one value.
+/// A `Vec` that contracts see as its list: two of the same items are one value.
 ///
-/// It converts from and into a `Vec` without allocating. Lists compare item by item, and a list comes before each
-/// longer one that begins with it.
+/// It converts from and into a `Vec` without allocating. Lists compare item by item, and a list is less than each longer one
+/// that begins with it.
 #[derive(Drop)]
 pub struct Items<T> {
     vec: Vec<T>,

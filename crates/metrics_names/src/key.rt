@@ -53,7 +53,7 @@ impl KeyName {
         self.text.as_str()
     }
 
-    /// Becomes prefix, dot, name, in the memory that it has if that suffices.
+    /// Becomes prefix, dot, name. Reuses its memory if that suffices.
     fn set_dotted(&mut self, prefix: &str, name: &str) -> Result<(), AllocError>
         ensures { OnOk result (self.new ≡ prefix.now ++ 46 ∷ name.now) }
     {
@@ -115,8 +115,8 @@ impl Model for Key {
     ghost inverse = { λ k. record { name = k.name; labels = k.labels; number = key_number k } };
 }
 
-/// The number of the key of this name and these labels, by std's fast hasher, whose seed is fixed. It mixes in how long each
-/// text is, so they need no separator.
+/// Returns the number of the key of this name and these labels, by std's fast hasher, whose seed is fixed. It mixes in the
+/// length of each text, so they need no separator.
 fn number_of(name: &KeyName, labels: &SharedItems<Label>) -> u64
     ensures { result ≡ key_number (record { name = name.now; labels = labels.now }) }
 {
@@ -220,9 +220,9 @@ impl Key {
         })
     }
 
-    /// Makes a key of a copy of the name, with labels of copies of these keys and values, in their order.
+    /// Makes a key from copies of the name and of these label keys and values, in their order.
     ///
-    /// It fails with `Refused::Memory` when out of memory.
+    /// Fails with `Refused::Memory` when out of memory.
     pub fn from_labels(alloc: Global, name: &str, labels: &[(&str, &str)]) -> Result<Key, Refused>
         ensures { MatchResult result
             (λ k. k ≡ record { name = name.now; labels = map (λ l. (l.0.now, l.1.now)) labels.now })

@@ -26,7 +26,7 @@ pub enum Refused {
 impl Refused {
     ghost use Rattle.metrics_names.specs.Refusals.{after_front, CanFollow, IsPast};
 
-    /// Adds the `front` targets that a call had reached before it failed to what it reports.
+    /// Adds the first `front` targets, which a call had reached before it failed, to what it reports.
     ///
     /// It saturates at `usize::MAX`, which no recorder can reach.
     pub fn after(self, front: usize) -> Refused

@@ -14,7 +14,7 @@ use std::sync::Arc;
 
 /// A list that its clones share, so that a clone allocates nothing. An empty list allocates nothing at all.
 ///
-/// Lists compare item by item, and a list comes before each longer one that begins with it.
+/// Lists compare item by item, and a list is less than each longer one that begins with it.
 #[derive(Drop)]
 pub struct SharedItems<T> {
     shared: Option<Arc<Vec<T>>>,

@@ -13,7 +13,7 @@ use std::fmt;
 use std::hash::{Hash, Hasher};
 use std::marker::Model;
 
-/// A `String` that contracts see as its bytes, so that two texts of the same bytes are one value.
+/// A `String` that contracts see as its bytes: two texts of the same bytes are one value.
 ///
 /// It converts from and into a `String` without allocating. Texts are ordered by their bytes.
 #[derive(Drop)]

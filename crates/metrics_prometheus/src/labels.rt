@@ -13,12 +13,12 @@ use crate::shown::ShownItems;
 use metrics::{Error, Label, MetricKind};
 use std::alloc::Global;
 
-/// Takes nothing and does nothing: its contract says what the order of labels is.
+/// Does nothing. Its contract says what the order of labels is.
 fn label_order()
     ensures { (a b : LabelParts) → ⟦<Label as Ord>⟧.cmp a b ≡ label_cmp a b }
 {}
 
-/// Whether a label stands before another.
+/// Returns whether a label comes before another.
 fn is_before(label: &Label, other: &Label) -> bool
     ensures { result ≡ is_lt (label_cmp label.now other.now) }
 {
@@ -100,7 +100,7 @@ fn are_whole(labels: &[Label]) -> bool
     true
 }
 
-/// The labels that Prometheus is shown, in order of their names. Those that are shown as they are take no memory.
+/// The labels that Prometheus is shown, in order of their names. Labels that are shown unchanged allocate nothing.
 pub(crate) fn shown_labels<'a>(
     alloc: Global,
     labels: &'a [Label],
@@ -114,7 +114,7 @@ pub(crate) fn shown_labels<'a>(
     Ok(ShownItems::made(made_labels(alloc, labels)?))
 }
 
-/// Whether a name is the one before.
+/// Returns whether a name is the one before.
 fn is_last(last: Option<&str>, name: &str) -> bool
     ensures { result ≡ is_last (option_map (λ l. l.now) last.entry) name.now }
 {
@@ -146,7 +146,7 @@ fn is_reserved(kind: MetricKind, name: &str) -> bool
     name.as_bytes().starts_with(b"__") || (kind == MetricKind::Histogram && name == "le")
 }
 
-/// The first label whose name Prometheus keeps for itself.
+/// The first label whose name Prometheus reserves for itself.
 pub(crate) fn reserved_of(kind: MetricKind, labels: &[Label]) -> Option<&str>
     ensures { option_map (λ n. n.now) result ≡ reserved_of kind labels.now }
 {

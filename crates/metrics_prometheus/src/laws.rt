@@ -19,7 +19,7 @@ ghost use Rattle.metrics_prometheus.specs.Written.{AreApart, HasSamples, TellsKi
 
 use crate::rows::row_order;
 
-/// Takes nothing and does nothing: its contract has the laws of the text.
+/// Does nothing. Its contract has the laws of the text.
 pub fn exposition_law()
     // A text consists of lines, which end at its line feeds: these samples, in this order, and comments, which begin with `#`.
     ensures samples { (naming : Naming) (legend : Legend) (cells : Cells) (text : List ℕ)
@@ -34,16 +34,16 @@ pub fn exposition_law()
     ensures buckets { (setup : Setup) (xs : List Step) (r : Row) (d : Distribution)
         → reading_at (cells_after setup xs) r ≡ Some (samples d)
         → AreBuckets r.places r.name r.labels d (samples_of r (reading_at (cells_after setup xs) r)) }
-    // A held series' row is written exactly where nothing keeps it from the text.
+    // A held series' row is written exactly if nothing keeps it from the text.
     ensures written { (naming : Naming) (legend : Legend) (cells : Cells) (text : List ℕ)
         (e : IsDescribed naming legend cells text) (s : SeriesKey) → IsHeld cells s
         → Contains (written e.rows None e.rows) (row_of (display_of naming legend) s)
         ↔ MayStand e.rows (row_of (display_of naming legend) s) }
-    // It has its samples in the text, or, where something keeps it from the text, a line that says that it is left out.
+    // It has its samples in the text. If something keeps it from the text, it has a line that says that it is left out.
     ensures told { (naming : Naming) (legend : Legend) (cells : Cells) (text : List ℕ)
         (e : IsDescribed naming legend cells text) (s : SeriesKey) → IsHeld cells s
         → IsTold cells e.rows text (row_of (display_of naming legend) s) }
-    // The kind of each name that is written is told once, as its rows have it, before the samples of these.
+    // Each name that is written has one line for its kind, the kind of its rows, before its samples.
     ensures types { (naming : Naming) (legend : Legend) (cells : Cells) (text : List ℕ) → AreOfKinds cells
         → (e : IsDescribed naming legend cells text) → TellsKinds cells e.rows text }
     // What is held has one text: no two texts are expositions of the same cells, under one naming and the same descriptions.
@@ -55,7 +55,7 @@ pub fn exposition_law()
     row_order();
 }
 
-/// Takes nothing and does nothing: its contract has the laws of what a reader finds in the text.
+/// Does nothing. Its contract has the laws of what a reader finds in the text.
 pub fn exposition_text_law()
     // The names of samples and of their labels are such as Prometheus allows.
     ensures names { (naming : Naming) (legend : Legend) (cells : Cells) (text : List ℕ)
@@ -63,16 +63,16 @@ pub fn exposition_text_law()
     // They and the values of the labels can be read.
     ensures readable { (naming : Naming) (legend : Legend) (cells : Cells) (text : List ℕ) → AreOfKinds cells
         → (e : IsDescribed naming legend cells text) → All CanBeRead (samples_written cells e.rows) }
-    // Of a sample that can be read, what stands in front of its value tells its name and its labels.
+    // In a readable sample, the text before the value determines its name and its labels.
     ensures read_back { (s t : Sample) → CanBeRead s → CanBeRead t
         → (x y : List ℕ) → series_text s ++ 32 ∷ x ≡ series_text t ++ 32 ∷ y
         → (s.name ≡ t.name) × ((s.labels ≡ t.labels) × (x ≡ y)) }
     // A text has one list of samples that can be read at most.
     ensures one_reading { (text : List ℕ) (ss ts : List Sample) → HasSamples text ss → HasSamples text ts
         → All CanBeRead ss → All CanBeRead ts → ss ≡ ts }
-    // A number's text is that number over a power of ten: its digits spell it, and so many of them stand behind the point.
+    // A number's text is that number over a power of ten: its digits, with so many of them after the point.
     ensures numbers { (places : ℕ) (z : ℤ) → mag z < 2 ^ 128 → IsShifted places z (number places z) }
-    // No two samples have the same text in front of their values.
+    // No two samples have the same text before their values.
     ensures distinct { (naming : Naming) (legend : Legend) (cells : Cells) (text : List ℕ) → AreOfKinds cells
         → (e : IsDescribed naming legend cells text) → IsDistinct is_same_text (samples_written cells e.rows) }
     // The labels of a written row ascend by their names.

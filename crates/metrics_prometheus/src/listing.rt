@@ -30,8 +30,8 @@ fn add_told<'t>(told: &mut Vec<&'t str>, line: &'t str) -> Result<(), AllocError
     }
 }
 
-/// Returns what a text of this crate says of each series that it leaves out, in order: `KIND NAME{LABELS}: REASON`, without
-/// `# left out: ` in front. It fails with `Error::Memory` alone, and a text that leaves out none takes no memory.
+/// Returns what a text of this crate says of each series that it leaves out, in order: `KIND NAME{LABELS}: REASON`, without the
+/// `# left out: ` at the start. Fails only with `Error::Memory`. A text that leaves out none allocates nothing.
 pub fn left_out(alloc: Global, text: &str) -> Result<Vec<&str>, Error>
     ensures told { (lines : List Line) → text.now ≡ flat_map line_text lines → AllByRecursion IsReadable lines
         → IfOk result (λ told. names_shown told.items ≡ filter_map left_out_in lines) }

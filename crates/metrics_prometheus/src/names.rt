@@ -15,7 +15,7 @@ fn begins(c: char, colons: bool) -> bool
     c.is_ascii_alphabetic() || c == '_' || (colons && c == ':')
 }
 
-/// The character, or an underscore where it isn't allowed there.
+/// The character, or an underscore if it isn't allowed there.
 fn allowed(c: char, is_first: bool, colons: bool) -> char
     ensures value { result ≡ or_underscore (if is_first then begins colons c else goes_on colons c) c }
     ensures ascii { result < 128 }
@@ -49,7 +49,7 @@ fn or_one(name: String) -> Result<String, AllocError>
     Ok(name)
 }
 
-/// Whether bytes may all stand behind the first one of a name.
+/// Returns whether bytes are all allowed after the first one of a name.
 fn go_on(bytes: &[u8], colons: bool) -> bool
     ensures { result ≡ list_all (goes_on colons) bytes.now }
 {
@@ -78,7 +78,7 @@ pub(crate) fn metric_name(alloc: Global, name: &str) -> Result<String, AllocErro
     or_one(spell(alloc, name, true)?)
 }
 
-/// The same, where one that is allowed takes no memory.
+/// The same. A name that is allowed allocates nothing.
 pub(crate) fn allowed_name<'a>(alloc: Global, name: &'a str) -> Result<ShownName<'a>, AllocError>
     ensures { IfOk result (λ n. n ≡ metric_name name.now) }
 {
@@ -107,7 +107,7 @@ fn write_escaped(text: &mut String, c: char) -> Result<(), AllocError>
     }
 }
 
-/// Whether each byte stands for itself where it is a label's value's.
+/// Returns whether each byte is written unescaped in a label's value.
 fn are_plain(bytes: &[u8]) -> bool
     ensures { result ≡ list_all is_plain bytes.now }
 {

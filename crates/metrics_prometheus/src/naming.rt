@@ -1,6 +1,6 @@
 //! The names and units that series are shown with.
 
-/// Under which names, and in which units, series are shown. No number is rounded either way.
+/// The names and the units of shown series. No number is rounded either way.
 #[derive(Clone, Copy, Debug, Default, PartialEq, Eq)]
 pub enum Naming {
     /// Names and numbers are those of the series.
@@ -8,9 +8,9 @@ pub enum Naming {
     AsGiven,
     /// Names and units are those that Prometheus recommends.
     ///
-    /// A described unit gives the name the end `_seconds`, `_ratio` or `_bytes`, and the numbers a decimal point: milliseconds,
-    /// microseconds and nanoseconds are seconds with 3, 6 and 9 decimal places, and percent a ratio with 2. A counter's name
-    /// ends in `_total`. No end comes twice.
+    /// A described unit adds the suffix `_seconds`, `_ratio` or `_bytes` to the name, and a decimal point to the numbers.
+    /// Milliseconds, microseconds and nanoseconds are seconds with 3, 6 and 9 decimal places, and percent a ratio with 2. A
+    /// counter's name ends in `_total`. No suffix comes twice.
     Recommended,
 }
 
@@ -23,7 +23,7 @@ use crate::shown::ShownName;
 use metrics::{MetricKind, Unit};
 use std::alloc::{AllocError, Global};
 
-/// The end of a name whose numbers are of the base unit.
+/// The suffix of a name whose numbers are of the base unit.
 fn unit_end(unit: Option<Unit>) -> &'static str
     ensures { result.now ≡ unit_end unit }
 {

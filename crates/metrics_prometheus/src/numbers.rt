@@ -5,7 +5,7 @@ ghost use Rattle.metrics_prometheus.specs.Numbers.{pointed, number};
 use itoa::Buffer;
 use std::alloc::AllocError;
 
-/// Writes a number of units of the last of so many places behind its point.
+/// Writes a number of units of the last of so many decimal places.
 fn write_pointed(text: &mut String, places: u8, units: u128) -> Result<(), AllocError>
     ensures { OnOk result (string_bytes text.new ≡ string_bytes text.old ++ pointed places units) }
 {
@@ -26,7 +26,7 @@ pub(crate) fn write_count(text: &mut String, count: u64) -> Result<(), AllocErro
     text.push_str(digits.format(count))
 }
 
-/// Writes a number of units of the last of so many decimal places, and a whole number where there are none.
+/// Writes a number of units of the last of so many decimal places, or a whole number if there are none.
 pub(crate) fn write_number(text: &mut String, places: u8, units: i128) -> Result<(), AllocError>
     ensures { OnOk result (string_bytes text.new ≡ string_bytes text.old ++ number places units) }
 {

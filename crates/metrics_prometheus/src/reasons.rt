@@ -57,7 +57,7 @@ fn name_reason<'r>(histograms: &[&'r str], name: &[u8]) -> Option<Reason<'r>>
     }
 }
 
-/// Why a row can't stand beside one of its name that was written.
+/// Why a row can't be next to one of its name that was written.
 fn same_name_reason<'r>(written: &ShownRow<'r>, row: &ShownRow<'_>) -> Option<Reason<'r>>
     ensures { option_map reason_shown result ≡ same_name_reason (row_shown written.now) (row_shown row.now) }
 {
@@ -70,7 +70,7 @@ fn same_name_reason<'r>(written: &ShownRow<'r>, row: &ShownRow<'_>) -> Option<Re
     None
 }
 
-/// Why a row can't stand beside the one that was written last.
+/// Why a row can't be next to the one that was written last.
 fn last_reason<'r>(last: Option<&ShownRow<'r>>, row: &ShownRow<'_>) -> Option<Reason<'r>>
     ensures { option_map reason_shown result ≡ last_reason (option_map (λ w. row_shown w.now) last.entry) (row_shown row.now) }
 {
@@ -116,7 +116,7 @@ pub(crate) fn kind_text(kind: MetricKind) -> &'static str
     }
 }
 
-/// Writes a text, and a name behind it as it stands in a description.
+/// Writes a text, and after it a name as it is in a description.
 fn write_named(text: &mut String, what: &str, name: &str) -> Result<(), AllocError>
     ensures { OnOk result (string_bytes text.new ≡ string_bytes text.old ++ (what.now ++ help_escaped name.now)) }
 {

@@ -30,7 +30,7 @@ pub(crate) struct ShownRow<'a> {
     pub reading: ReadingRef<'a>,
 }
 
-/// What a kind and name are shown with, where that name is shown as it is.
+/// What a kind and name are shown with, if that name is shown unchanged.
 #[derive(Clone, Copy)]
 struct Whole<'a> {
     kind: MetricKind,
@@ -77,7 +77,7 @@ fn found_head<'a>(
     })
 }
 
-/// What a kind and name are shown with, which is looked up unless the row before has them.
+/// What a kind and name are shown with. It is looked up unless the row before has them.
 fn head_of<'a>(
     alloc: Global,
     naming: Naming,
@@ -102,7 +102,7 @@ fn head_of<'a>(
     found_head(alloc, naming, descriptions, kind, name)
 }
 
-/// What a row's kind and name are shown with, where the name is shown as it is.
+/// What a row's kind and name are shown with, if the name is shown unchanged.
 fn whole_of<'a>(row: &ShownRow<'a>) -> Option<Whole<'a>>
     ensures { (display : Display) → row_shown row.now ≡ shown_row display (series_at row.now.kind row.now.key.now)
         → IfSome result (IsWhole display) }
@@ -171,19 +171,19 @@ fn rows_of<'a>(
     Ok(rows)
 }
 
-/// Takes nothing and does nothing: its contract says what the order of rows is.
+/// Does nothing. Its contract says what the order of rows is.
 pub(crate) fn row_order()
     ensures { (a b : RowParts) → ⟦<ShownRow<'static> as Ord>⟧.cmp a b ≡ row_cmp (row_shown a) (row_shown b) }
 {}
 
-/// Whether two rows are of one series. The numbers of their keys mostly tell.
+/// Returns whether two rows are of one series. The numbers of their keys mostly decide.
 fn are_same(row: &ShownRow<'_>, other: &ShownRow<'_>) -> bool
     ensures { result ≡ ⟦<ShownRow<'static> as PartialEq>⟧.eq row.now other.now }
 {
     row.key == other.key && row == other
 }
 
-/// The rows of series, in order. Of a series that is given twice one is left.
+/// The rows of series, in order. A repeated series has one row.
 pub(crate) fn sorted_rows<'a>(
     alloc: Global,
     naming: Naming,

@@ -79,7 +79,7 @@ fn write_bounded(text: &mut String, labels: &[Label], bound: &str) -> Result<(),
     }
 }
 
-/// Writes the line of a sample that is no bucket; its name has an end behind the metric's name.
+/// Writes the line of a sample that is no bucket. Its name is the metric's name and a suffix.
 pub(crate) fn write_sample(
     text: &mut String,
     name: &str,

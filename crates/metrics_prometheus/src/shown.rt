@@ -1,4 +1,4 @@
-//! What Prometheus is shown: the given names and lists, where they are allowed, and else others that were made of them.
+//! What Prometheus is shown: the caller's names and lists if they are allowed, and else others made of them.
 ghost use Rattle.std.specs.Prelude.{◌≡◌, ◌==◌, Some, refl, string_bytes};
 ghost use Rattle.std.specs.Ordering.{nat_cmp};
 ghost use Rattle.std.specs.Cmp.{partial_equiv_from_equiv};
@@ -8,7 +8,7 @@ ghost use Rattle.std.specs.Cmp.Lexicographic.{texts_po, texts_ties, lists_equiv,
 use std::cmp::Ordering;
 use std::marker::Model;
 
-/// A text that is given, or one that was made.
+/// A text of the caller's, or one that was made.
 #[derive(Drop)]
 enum NameText<'a> {
     Given(&'a str),
@@ -31,7 +31,7 @@ impl<'a> Model for ShownName<'a> {
 }
 
 impl<'a> ShownName<'a> {
-    /// The given name.
+    /// The caller's name.
     pub(crate) fn given(name: &'a str) -> ShownName<'a>
         ensures { result ≡ name.now }
     {
@@ -98,7 +98,7 @@ impl Ord for ShownName<'_> {
     }
 }
 
-/// A list that is given, or one that was made.
+/// A list of the caller's, or one that was made.
 #[derive(Drop)]
 enum ItemList<'a, T> {
     Given(&'a [T]),
@@ -121,7 +121,7 @@ impl<'a, T> Model for ShownItems<'a, T> {
 }
 
 impl<'a, T> ShownItems<'a, T> {
-    /// The given list.
+    /// The caller's list.
     pub(crate) fn given(list: &'a [T]) -> ShownItems<'a, T>
         ensures { result ≡ list.now }
     {

@@ -1,4 +1,4 @@
-//! The names that histograms take for their samples.
+//! The names that histograms use for their samples.
 ghost use Rattle.std.specs.Prelude.{◌≡◌, IfOk, option_map};
 ghost use Rattle.std.specs.List.{AllByRecursion};
 ghost use Rattle.std.specs.List.Sorted.{IsSorted};
@@ -40,7 +40,7 @@ pub(crate) fn histogram_names<'r>(
     Ok(names)
 }
 
-/// Where a name stands to another.
+/// The order of two names.
 fn name_place(name: &str, other: &[u8]) -> Ordering
     ensures { result ≡ slice_cmp nat_cmp name.now other.now }
 {
@@ -58,7 +58,7 @@ fn found_in<'r>(names: &[&'r str], name: &[u8]) -> Option<&'r str>
     }
 }
 
-/// The histogram whose name stands in front of the end of a name.
+/// The histogram whose name comes before the suffix of a name.
 fn part_of<'r>(histograms: &[&'r str], name: &[u8], end: &[u8]) -> Option<&'r str>
     requires { IsSorted (slice_cmp nat_cmp) (names_shown histograms.now) }
     ensures { option_map (λ n. n.now) result ≡ part_of (names_shown histograms.now) name.now end.now }

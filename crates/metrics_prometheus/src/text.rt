@@ -54,7 +54,7 @@ fn write_help(text: &mut String, name: &str, help: Option<&str>) -> Result<(), A
     text.push_str("\n")
 }
 
-/// Writes what is told of a name before its first sample.
+/// Writes the description of a name before its first sample.
 fn write_name_lines(text: &mut String, row: &ShownRow<'_>) -> Result<(), AllocError>
     ensures { OnOk result (string_bytes text.new ≡ string_bytes text.old ++ name_lines (row_shown row.now)) }
 {
@@ -62,7 +62,7 @@ fn write_name_lines(text: &mut String, row: &ShownRow<'_>) -> Result<(), AllocEr
     write_type_line(text, row)
 }
 
-/// Writes what is told of a name that wasn't written last.
+/// Writes the description of a name that wasn't written last.
 fn write_name(
     text: &mut String,
     last: Option<&ShownRow<'_>>,
@@ -106,7 +106,7 @@ fn write_samples(alloc: Global, text: &mut String, row: &ShownRow<'_>) -> Result
     }
 }
 
-/// Writes a row, or that it is left out. Answers whether it was written.
+/// Writes a row, or that it is left out. Returns whether it was written.
 fn write_row(
     alloc: Global,
     text: &mut String,
@@ -151,22 +151,22 @@ fn rows_text(alloc: Global, rows: &[ShownRow<'_>]) -> Result<String, Error>
     Ok(text)
 }
 
-/// Writes these series in Prometheus's text format, version 0.0.4, each name behind its description: that of the first
-/// series that is written under it, by that series' kind and own name. The naming decides names and units; units are those
-/// of the descriptions.
+/// Writes these series in Prometheus's text format, version 0.0.4, each name after its description. That is the description of
+/// the first series that is written under it, by that series' kind and own name. The naming decides names and units; units are
+/// those of the descriptions.
 ///
-/// The text is made whole in memory, beside a row for each series. It is refused with `Error::Memory` where there is no room,
-/// and never where no series is given. Of a series that is given twice one is written.
+/// The whole text is in memory, with a row for each series. Fails with `Error::Memory` when out of memory, and never for an
+/// empty list. A repeated series is written once.
 pub fn exposition_of(
     alloc: Global,
     naming: Naming,
     descriptions: &Descriptions,
     series: &[SeriesReading<'_>],
 ) -> Result<String, Error>
-    // For the cells that the series tell.
+    // For the cells that the series report.
     ensures ok { (cells : Cells) → AreReadings cells (all_told series.now)
         → IfOk result (λ text. IsDescribed naming (described_by descriptions.now) cells (string_bytes text)) }
-    // Whatever is given: each series once.
+    // For any list: each series once.
     ensures each { IfOk result (λ text. (kept : List Told) × AreOnce (all_told series.now) kept
         × IsDescribed naming (described_by descriptions.now) (cells_told kept) (string_bytes text)) }
     ensures err { IfErr result (λ e. e ≡ OutOfMemory) }
@@ -179,11 +179,11 @@ pub fn exposition_of(
     rows_text(alloc, &rows)
 }
 
-/// Writes the held series in Prometheus's text format, version 0.0.4, each name behind what the exporter was told of it. Names
-/// and units are those of the naming.
+/// Writes the held series in Prometheus's text format, version 0.0.4, each name after its description in the exporter. The
+/// naming decides names and units.
 ///
-/// The text is made whole in memory, beside a row for each series. It is refused with `Error::Memory` where there is no room,
-/// and never where no series is held.
+/// The whole text is in memory, with a row for each series. Fails with `Error::Memory` when out of memory, and never if no
+/// series is held.
 pub fn exposition_named(exporter: &Exporter, alloc: Global, naming: Naming) -> Result<String, Error>
     ensures text { (setup : Setup) (log : Log) → IsAfter setup log exporter.now → MatchResult result
         (λ text. IsDescribed naming (described exporter.now) (cells_after setup (steps log)) (string_bytes text))
@@ -195,12 +195,12 @@ pub fn exposition_named(exporter: &Exporter, alloc: Global, naming: Naming) -> R
     exposition_of(alloc, naming, exporter.descriptions(), &series)
 }
 
-/// Writes the held series as `exposition_named` does, with names and numbers as they are given.
+/// Writes the held series as `exposition_named` does, with unchanged names and numbers.
 pub fn exposition(exporter: &Exporter, alloc: Global) -> Result<String, Error>
     ensures text { (setup : Setup) (log : Log) → IsAfter setup log exporter.now → MatchResult result
         (λ text. IsDescribed AsGiven (described exporter.now) (cells_after setup (steps log)) (string_bytes text))
         (λ e. e ≡ OutOfMemory) }
-    // Where nothing was told of names there are no descriptions.
+    // If no name was described there are no descriptions.
     ensures plain { SameLegend (described exporter.now) no_legend → (setup : Setup) (log : Log)
         → IsAfter setup log exporter.now
         → IfOk result (λ text. IsExposition (cells_after setup (steps log)) (string_bytes text)) }

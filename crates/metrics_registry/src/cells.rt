@@ -55,7 +55,7 @@ fn copy_one<K: Hash + EqualClone, C: Clone>(
     }
 }
 
-/// Keeps the entries for which `f` answers true, in their order, and returns `f` as the calls left it.
+/// Keeps the entries for which `f` returns true, in their order, and returns `f` as the calls left it.
 fn keep<K: Hash + Drop, C: Drop, F: FnMut(&K, &C) -> bool>(map: &mut IndexMap<K, C>, f: F) -> F
     requires { TakesEach F.FnMut f map.old.entries }
     ensures retains { RetainsEach F.FnMut f map.old.entries map.new.entries result }
@@ -123,7 +123,7 @@ impl<K: Hash + Drop, C: Drop> Cells<K, C> {
         self.map.get_mut(key)
     }
 
-    /// Calls `op` once on the cell of a key, and returns its answer. Returns `op` if the key isn't held.
+    /// Calls `op` once on the cell of a key, and returns its result. Returns `op` if the key isn't held.
     pub fn change<V, F: FnOnce(&mut C) -> V>(&mut self, key: &K, op: F) -> Result<V, F>
         requires { (cell : C) → held K.eq self.old key.now ≡ Some cell → FnOnceTakesAtMut F.FnOnce op cell }
         ensures ok { IfOk result (λ v. Calls K.eq (FnOnceReturnsAtMut F.FnOnce op) key.now v self.old self.new) }
@@ -137,7 +137,7 @@ impl<K: Hash + Drop, C: Drop> Cells<K, C> {
         Ok(op(cell))
     }
 
-    /// Calls `op` once on a cell, adds the cell at a key that isn't held, and returns the answer of `op`.
+    /// Calls `op` once on a cell, adds the cell at a key that isn't held, and returns the result of `op`.
     ///
     /// Fails only when out of memory. Then it changes nothing, and drops the cell and `op`.
     pub fn create<V, F: FnOnce(&mut C) -> V + Drop>(
@@ -209,7 +209,7 @@ impl<K: Hash + Drop, C: Drop> Cells<K, C> {
         f
     }
 
-    /// Keeps the entries for which `f` answers true.
+    /// Keeps the entries for which `f` returns true.
     ///
     /// It calls `f` once for each entry, in the order of their places, and returns it as the calls left it.
     pub fn retain<F: FnMut(&K, &C) -> bool>(&mut self, f: F) -> F
@@ -273,7 +273,7 @@ impl<K: Hash + Drop, C: Drop> Cells<K, C> {
         self.map.get_index(place)
     }
 
-    /// Calls `op` once on the cell at a place, and returns its answer.
+    /// Calls `op` once on the cell at a place, and returns its result.
     pub fn change_at<V, F: FnOnce(&mut C) -> V + Drop>(&mut self, place: usize, op: F) -> Option<V>
         requires { (entry : K × C) → slice_get self.old place ≡ Some entry → FnOnceTakesAtMut F.FnOnce op entry.1 }
         ensures some { IfSome result (λ v. ChangesAt (FnOnceReturnsAtMut F.FnOnce op) place v self.old self.new) }

@@ -26,7 +26,7 @@ pub trait EqualClone: Clone + Eq {
     ghost clones: { (value clone : Self) → Self.is_clone value clone → Self.eq value clone ≡ true };
 }
 
-/// The number of a value by std's fast hasher, whose seed is fixed: whoever picks the values can make them collide.
+/// Returns the number of a value by std's fast hasher, whose seed is fixed: whoever picks the values can make them collide.
 fn folded<H: Hash>(value: &H) -> u64
     ensures { result ≡ hash_number (H.hash_input value.now) }
 {
@@ -65,7 +65,7 @@ impl EqualClone for u64 {
     ghost clones = { Prim.search rules };
 }
 
-/// Passes through a number that was hashed before: `finish` returns what `write_u64` wrote last.
+/// Passes through a number that is a hash already: `finish` returns what `write_u64` wrote last.
 #[derive(Clone, Copy, Debug)]
 pub struct KeyHasher {
     hash: Option<u64>,

@@ -74,7 +74,7 @@ impl<T> Counted<T> {
         self.generation
     }
 
-    /// Calls `f` once on the value and then raises the generation, whatever `f` answers.
+    /// Calls `f` once on the value and then raises the generation, whatever `f` returns.
     pub fn with_increment<V, F: FnOnce(&mut T) -> V>(&mut self, f: F) -> V
         requires { FnOnceTakesAtMut F.FnOnce f self.old.inner }
         ensures called { FnOnceReturnsAtMut F.FnOnce f self.old.inner result self.new.inner }
@@ -85,7 +85,7 @@ impl<T> Counted<T> {
         answer
     }
 
-    /// Calls `f` once on the value, and raises the generation if `f` answers `Ok`.
+    /// Calls `f` once on the value, and raises the generation if `f` returns `Ok`.
     pub fn try_increment<V, E, F: FnOnce(&mut T) -> Result<V, E>>(&mut self, f: F) -> Result<V, E>
         requires { FnOnceTakesAtMut F.FnOnce f self.old.inner }
         ensures called { FnOnceReturnsAtMut F.FnOnce f self.old.inner result self.new.inner }

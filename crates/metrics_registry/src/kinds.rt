@@ -50,7 +50,7 @@ where
         self.histograms.clear();
     }
 
-    /// Calls `op` once on the cell of a counter, and returns its answer. The storage makes the cell if the key isn't held.
+    /// Calls `op` once on the cell of a counter, and returns its result. The storage makes the cell if the key isn't held.
     ///
     /// A call that fails changes nothing. A call for a held key never fails.
     pub fn get_or_create_counter<V, F: FnOnce(&mut S::Counter) -> V + Drop>(
@@ -74,7 +74,7 @@ where
         }
     }
 
-    /// Calls `op` once on the cell of a gauge, and returns its answer. The storage makes the cell if the key isn't held.
+    /// Calls `op` once on the cell of a gauge, and returns its result. The storage makes the cell if the key isn't held.
     ///
     /// A call that fails changes nothing. A call for a held key never fails.
     pub fn get_or_create_gauge<V, F: FnOnce(&mut S::Gauge) -> V + Drop>(
@@ -98,7 +98,7 @@ where
         }
     }
 
-    /// Calls `op` once on the cell of a histogram, and returns its answer. The storage makes the cell if the key isn't held.
+    /// Calls `op` once on the cell of a histogram, and returns its result. The storage makes the cell if the key isn't held.
     ///
     /// A call that fails changes nothing. A call for a held key never fails.
     pub fn get_or_create_histogram<V, F: FnOnce(&mut S::Histogram) -> V + Drop>(

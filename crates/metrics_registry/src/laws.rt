@@ -4,7 +4,7 @@ ghost use Rattle.metrics_registry.specs.IdlenessExamples.{SeenBack, SeenHeld};
 
 /// Does nothing: its contract states the laws of recency.
 pub fn recency_law<K: Eq>()
-    // Over every list of checks the table answers by their runs.
+    // Over every list of checks the table decides by the checks' runs.
     ensures runs { TableGivesRuns K.eq }
     // A moment that goes back doesn't move a run's first check.
     ensures back { SeenBack }

@@ -229,7 +229,7 @@ impl<K: Hashable + EqualClone + Drop> OwnedRecency<K> {
     }
 }
 
-/// The two parts of a check, for a caller that looks at the cells only if the notes ask for it.
+/// The two parts of a check, for a caller that reads the cells only if the notes require it.
 impl<K: Hashable + EqualClone + Drop> OwnedRecency<K> {
     ghost use Rattle.metrics_registry.specs.Recency.{is_watched, table_answer, table_after};
     ghost use Rattle.metrics_registry.specs.RecencyEntries.{rules_of, table_of, check_of};

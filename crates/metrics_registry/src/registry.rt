@@ -122,7 +122,7 @@ where
         self.shard(key).counters.get(key)
     }
 
-    /// Calls `op` once on the cell of a counter, and returns its answer. The storage makes the cell if the key isn't held.
+    /// Calls `op` once on the cell of a counter, and returns its result. The storage makes the cell if the key isn't held.
     ///
     /// A call that fails changes nothing. A call for a held key never fails.
     pub fn get_or_create_counter<V, F: FnOnce(&mut S::Counter) -> V + Drop>(
@@ -166,7 +166,7 @@ where
         Ok(handles)
     }
 
-    /// Keeps the counters for which `f` answers true. It calls `f` once for each counter, in some order.
+    /// Keeps the counters for which `f` returns true. It calls `f` once for each counter, in some order.
     pub fn retain_counters<F: FnMut(&K, &S::Counter) -> bool + Drop>(&mut self, f: F)
         requires { TakesEach F.FnMut f self.old.counters }
         ensures retains { (last : F) × RetainsEach F.FnMut f self.old.counters self.new.counters last }
@@ -196,7 +196,7 @@ where
         self.shard(key).gauges.get(key)
     }
 
-    /// Calls `op` once on the cell of a gauge, and returns its answer. The storage makes the cell if the key isn't held.
+    /// Calls `op` once on the cell of a gauge, and returns its result. The storage makes the cell if the key isn't held.
     ///
     /// A call that fails changes nothing. A call for a held key never fails.
     pub fn get_or_create_gauge<V, F: FnOnce(&mut S::Gauge) -> V + Drop>(
@@ -240,7 +240,7 @@ where
         Ok(handles)
     }
 
-    /// Keeps the gauges for which `f` answers true. It calls `f` once for each gauge, in some order.
+    /// Keeps the gauges for which `f` returns true. It calls `f` once for each gauge, in some order.
     pub fn retain_gauges<F: FnMut(&K, &S::Gauge) -> bool + Drop>(&mut self, f: F)
         requires { TakesEach F.FnMut f self.old.gauges }
         ensures retains { (last : F) × RetainsEach F.FnMut f self.old.gauges self.new.gauges last }
@@ -270,7 +270,7 @@ where
         self.shard(key).histograms.get(key)
     }
 
-    /// Calls `op` once on the cell of a histogram, and returns its answer. The storage makes the cell if the key isn't held.
+    /// Calls `op` once on the cell of a histogram, and returns its result. The storage makes the cell if the key isn't held.
     ///
     /// A call that fails changes nothing. A call for a held key never fails.
     pub fn get_or_create_histogram<V, F: FnOnce(&mut S::Histogram) -> V + Drop>(
@@ -314,7 +314,7 @@ where
         Ok(handles)
     }
 
-    /// Keeps the histograms for which `f` answers true. It calls `f` once for each histogram, in some order.
+    /// Keeps the histograms for which `f` returns true. It calls `f` once for each histogram, in some order.
     pub fn retain_histograms<F: FnMut(&K, &S::Histogram) -> bool + Drop>(&mut self, f: F)
         requires { TakesEach F.FnMut f self.old.histograms }
         ensures retains { (last : F) × RetainsEach F.FnMut f self.old.histograms self.new.histograms last }

@@ -9,10 +9,10 @@ use metrics::{Address, Answer, Call, MetricKind, Recorder, Refused};
 use std::alloc::Global;
 use std::marker::Model;
 
-/// A recorder with the calls that were made of it, and their answers.
+/// A recorder with the calls that were made of it, and their results.
 ///
-/// The books were new at the first call. Each answer is the expected one after the calls before it, or out of memory.
-/// The books hold what the journal says.
+/// The books were new at the first call. Each result is the expected one after the calls before it, or out of memory. The books
+/// hold what the journal says.
 #[derive(Drop)]
 pub struct Journaled<R: Recorder> {
     alloc: Global,
@@ -58,7 +58,7 @@ impl<R: Recorder> Journaled<R> {
         }
     }
 
-    /// Makes a call of the recorder, and notes it with its answer.
+    /// Makes a call of the recorder, and notes it with its result.
     fn make(&mut self, call: Call) -> Result<(), Refused>
         ensures noted { OnOk result ((answer : Answered) × (self.new.1 ≡ self.old.1 ++ (call, answer) ∷ [])) }
         ensures targets { KeepsTargets (R.meaning self.old.0) (R.meaning self.new.0) }
@@ -73,7 +73,7 @@ impl<R: Recorder> Journaled<R> {
         Ok(())
     }
 
-    /// Makes a call of the recorder, notes it with its answer, and lends the answer.
+    /// Makes a call of the recorder, notes it with its result, and borrows the result.
     ///
     /// It makes room first. `Err` comes only if that fails, and then nothing was called or noted.
     pub fn call(&mut self, call: Call) -> Result<&Answer, Refused>
@@ -87,7 +87,7 @@ impl<R: Recorder> Journaled<R> {
         Ok(self.latest())
     }
 
-    /// The answer of the latest call.
+    /// The result of the latest call.
     fn latest(&self) -> &Answer
         requires { (calls : Log) × (call : Called) × (answer : Answered) × (self.now.1 ≡ calls ++ (call, answer) ∷ []) }
         ensures { (calls : Log) (call : Called) (answer : Answered) → self.now.1 ≡ calls ++ (call, answer) ∷ []
@@ -96,7 +96,7 @@ impl<R: Recorder> Journaled<R> {
         &self.journal[self.journal.len() - 1].1
     }
 
-    /// Returns the calls that were made, in order, each with its answer.
+    /// Returns the calls that were made, in order, each with its result.
     pub fn journal(&self) -> &[(Call, Answer)]
         ensures journal { result.now ≡ self.now.1 }
         ensures legal { IsJournal (R.meaning self.now.0) result.now }

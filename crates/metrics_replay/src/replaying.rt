@@ -28,9 +28,9 @@ fn takes(kind: MetricKind, by: Update) -> bool
 
 /// Makes one call on a recorder.
 ///
-/// `handle` is what the register call of an update's number returned, if it succeeded; other calls name none.
-/// If one of its addresses isn't held, an update of its kind answers `NoSuchAddress`, and one of another kind
-/// `BadHandle`. Both change nothing.
+/// `handle` is what the register call of an update's number returned, if it succeeded; other calls name none. If one of its
+/// addresses isn't held, an update of its kind fails with `NoSuchAddress`, and one of another kind with `BadHandle`. Both
+/// change nothing.
 pub fn answer_of<R: Recorder>(
     alloc: Global,
     on: &mut R,
@@ -175,10 +175,10 @@ pub(crate) fn note_register(registers: &mut Vec<usize>, call: &Call, place: usiz
     }
 }
 
-/// Makes the calls in order, and returns the answer to each of them.
+/// Makes the calls in order, and returns the result of each of them.
 ///
-/// It makes room first: for an answer to each call, and for as many numbers, the places of the register calls. `Err`
-/// comes only if that fails, and never for an empty list. Then nothing was called, and the recorder is unchanged.
+/// It makes room first: for a result of each call, and for as many numbers, the places of the register calls. `Err` comes only
+/// if that fails, and never for an empty list. Then nothing was called, and the recorder is unchanged.
 pub fn replay<R: Recorder>(
     alloc: Global,
     on: &mut R,
@@ -186,7 +186,7 @@ pub fn replay<R: Recorder>(
 ) -> Result<Vec<Answer>, Refused>
     ensures number { IfOk result (λ answers. length answers.items ≡ length calls.now) }
 
-    // If the books are new, each answer is the expected one, and the books hold what the calls and answers say.
+    // If the books are new, each result is the expected one, and the books hold what the calls and results say.
     ensures answers { AreNew (R.meaning on.old).contents → IfOk result (λ answers.
         ArePlain (R.meaning on.old).targets (length (R.meaning on.old).contents) (log_of calls.now answers.items)) }
     ensures contents { AreNew (R.meaning on.old).contents

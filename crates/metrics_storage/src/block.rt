@@ -1,4 +1,4 @@
-//! A block: 64 places of raw memory, of which the first are filled.
+//! A block: 64 places of raw memory. The first of them are filled.
 ghost use Rattle.std.specs.Prelude.{◌≡◌, ◌<◌, ◌≤◌, ◌==◌, [], ◌∷◌, ◌++◌, length, MatchResult, IfErr};
 ghost use Rattle.std.specs.Prelude.{IsOk, OnOk, ◌↔◌};
 ghost use Rattle.metrics.specs.declared.error.Error.TheVariants.{Memory as OutOfMemory};
@@ -31,7 +31,7 @@ impl<T> Model for Block<T> {
 }
 
 impl<T> Block<T> {
-    /// An empty block. It is refused with `Error::Memory` where 64 values find no memory.
+    /// Makes an empty block. Fails with `Error::Memory` when out of memory.
     pub fn new(alloc: Global) -> Result<Self, Error>
         ensures { MatchResult result (λ block. block ≡ []) (λ e. e ≡ OutOfMemory) }
     {
@@ -56,7 +56,7 @@ impl<T> Block<T> {
         self.len
     }
 
-    /// The values, where they lie.
+    /// The values, in place.
     pub fn data(&self) -> &[T]
         ensures value { result.now ≡ self.now }
         ensures fits { length result.now ≤ 64 }
@@ -64,7 +64,7 @@ impl<T> Block<T> {
         self.places.lend(self.start, self.len)
     }
 
-    /// Adds a value at the end. A full block gives it back.
+    /// Adds a value at the end. Returns the value if the block is full.
     pub fn push(&mut self, value: T) -> Result<(), T>
         ensures variant { IsOk result ↔ (length self.old < 64) }
         ensures ok { OnOk result (self.new ≡ self.old ++ value ∷ []) }
@@ -90,7 +90,7 @@ impl<T> Block<T> {
         }
     }
 
-    /// Ends an empty block, where `T` need not be `Drop`.
+    /// Ends an empty block. `T` need not be `Drop`.
     fn free(self)
         requires { self ≡ [] }
     {

@@ -1,4 +1,4 @@
-//! A bucket of one owner: a list of blocks, of which only the last has room.
+//! A bucket of one owner: a list of blocks. Only the last has room.
 ghost use Rattle.std.specs.Prelude.{◌≡◌, ◌==◌, ◌%◌, ◌<◌, [], ◌∷◌, ◌++◌, length, reverse, IfOk};
 ghost use Rattle.std.specs.Prelude.{IfErr, OnOk, OnErr, MatchResult};
 ghost use Rattle.std.specs.List.{AllZip};
@@ -11,7 +11,7 @@ use metrics::{Error, HistogramCell};
 use std::alloc::{AllocError, Global};
 use std::marker::Model;
 
-/// Adds a value to the last block, or gives it back where that has no room.
+/// Adds a value to the last block, or returns it if that has no room.
 fn push_last<T>(blocks: &mut Vec<Block<T>>, value: T) -> Result<(), T>
     ensures ok { OnOk result (AddsToLast blocks.old.items value blocks.new.items) }
     ensures err { IfErr result (λ back. (back ≡ value) × HasNoRoom blocks.old.items
@@ -33,7 +33,7 @@ fn add_block<T: Drop>(blocks: &mut Vec<Block<T>>) -> Result<(), Error>
     Ok(())
 }
 
-/// Adds a block with one value, or gives the value back where there is no memory.
+/// Adds a block with one value, or returns the value when out of memory.
 fn push_new<T: Drop>(blocks: &mut Vec<Block<T>>, value: T) -> Result<(), T>
     ensures ok { OnOk result (blocks.new.items ≡ blocks.old.items ++ (value ∷ []) ∷ []) }
     ensures err { IfErr result (λ back. (back ≡ value) × (blocks.new.items ≡ blocks.old.items)) }
@@ -69,7 +69,7 @@ fn show_once<T, F: FnMut(&[T])>(blocks: &[Block<T>], mut f: F)
     }
 }
 
-/// Takes each block out, the newest first, and shows what it held before it is dropped.
+/// Takes each block out, the newest first, and shows what it held before dropping it.
 fn take_out<T: Drop, F: FnMut(&[T])>(blocks: &mut Vec<Block<T>>, f: &mut F)
     requires { F.IsAlwaysCallable f.old }
     ensures empty { blocks.new.items ≡ [] }
@@ -81,7 +81,7 @@ fn take_out<T: Drop, F: FnMut(&[T])>(blocks: &mut Vec<Block<T>>, f: &mut F)
     }
 }
 
-/// Takes each block out, the newest first, shows what it held before it is dropped, and nothing a further time.
+/// Takes each block out, the newest first, shows what it held before dropping it, and then shows nothing once more.
 fn take_out_once<T: Drop, F: FnMut(&[T])>(blocks: &mut Vec<Block<T>>, mut f: F)
     requires { TakesInTurn F.FnMut f (reverse blocks.old.items) }
     ensures empty { blocks.new.items ≡ [] }
@@ -144,7 +144,7 @@ impl<T: Drop> OwnedBucket<T> {
         self.blocks.is_empty()
     }
 
-    /// Adds a value, or gives it back where a block is needed and there is no memory for it.
+    /// Adds a value, or returns it if a new block is needed and there is no memory for it.
     pub fn push(&mut self, value: T) -> Result<(), T>
         ensures ok { OnOk result (self.new ≡ self.old ++ value ∷ []) }
         ensures err { IfErr result (λ back. (back ≡ value) × (self.new ≡ self.old)) }
@@ -156,8 +156,8 @@ impl<T: Drop> OwnedBucket<T> {
         }
     }
 
-    /// Returns a clone of each value, in bucket order. It is refused with `Error::Memory` where there is no room for them,
-    /// and never where there are none.
+    /// Returns a clone of each value, in bucket order. Fails with `Error::Memory` when out of memory, and never if there are no
+    /// values.
     pub fn data(&self) -> Result<Vec<T>, Error>
     where
         T: Clone,
@@ -185,14 +185,14 @@ impl<T: Drop> OwnedBucket<T> {
         show(&self.blocks, f);
     }
 
-    /// Takes all values out.
+    /// Removes all values.
     pub fn clear(&mut self)
         ensures { self.new ≡ [] }
     {
         self.blocks.clear();
     }
 
-    /// Takes all values out, and shows them to `f` first, as `data_with` does.
+    /// Removes all values, after showing them to `f` as `data_with` does.
     pub fn clear_with<F: FnMut(&[T])>(&mut self, f: F)
         requires { TakesEach F.FnMut f (reverse (chunks self.old)) }
         ensures empty { self.new ≡ [] }

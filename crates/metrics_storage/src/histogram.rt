@@ -18,7 +18,7 @@ use std::marker::Model;
 
 /// For each of its bounds the number of samples that are at most that bound, and the count and the sum of all.
 ///
-/// The bounds keep the order in which they were given. They may fall, and they may be repeated.
+/// The bounds keep the caller's order. They may fall, and they may be repeated.
 #[derive(Drop)]
 pub struct Histogram {
     bounds: Vec<i64>,
@@ -26,8 +26,8 @@ pub struct Histogram {
     own: Vec<usize>,
     /// The places of the bounds in ascending order, equal bounds once.
     order: Vec<usize>,
-    /// At each rank the number of samples above so many bounds. A bucket is the sum up to its bound's own rank, so that
-    /// a sample changes one number, in whatever order the bounds stand.
+    /// At each rank the number of samples above so many bounds. A bucket is the sum up to its bound's own rank. So a sample
+    /// changes one number, whatever the order of the bounds.
     ranks: Vec<u64>,
     count: u64,
     sum: i128,
@@ -46,7 +46,7 @@ impl Model for Histogram {
 impl Histogram {
     /// Makes a histogram without samples, and returns `None` if there are no bounds.
     ///
-    /// It is refused with `Error::Memory` where the buckets find no room. No bounds need none.
+    /// Fails with `Error::Memory` when out of memory. Without bounds it allocates nothing.
     pub fn new(alloc: Global, bounds: &[i64]) -> Result<Option<Histogram>, Error>
         ensures { MatchResult result
             (λ found. MatchOption found (bounds.now ≡ [])
@@ -66,7 +66,7 @@ impl Histogram {
         }))
     }
 
-    /// Returns the bounds, in the order in which they were given.
+    /// Returns the bounds, in the caller's order.
     pub fn bounds(&self) -> &[i64]
         ensures value { result.now ≡ bounds_of self.now }
         ensures fits { All (FitsSigned w64) (bounds_of self.now) }
@@ -88,8 +88,8 @@ impl Histogram {
         self.count
     }
 
-    /// Returns each bound with the number of samples at most that bound, in the order in which the bounds were given.
-    /// It is refused with `Error::Memory` where there is no room for them.
+    /// Returns each bound with the number of samples at most that bound, in the caller's order of the bounds. Fails with
+    /// `Error::Memory` when out of memory.
     pub fn buckets(&self) -> Result<Vec<(i64, u64)>, Error>
         ensures { MatchResult result (λ v. v.items ≡ self.now.buckets) (λ e. e ≡ OutOfMemory) }
     {
@@ -101,10 +101,10 @@ impl Histogram {
         )?)
     }
 
-    /// Calls `f` once for each bound, with the number of samples at most that bound, in the order in which the bounds were
-    /// given, and gives it back as the calls left it. It takes no memory.
+    /// Calls `f` once for each bound, with the number of samples at most that bound, in the caller's order of the bounds.
+    /// Returns `f` as the calls left it. It allocates nothing.
     ///
-    /// One pass over the counts serves bounds that rise or that fall; where they turn, it goes back over those between.
+    /// One pass over the counts serves bounds that rise or that fall. Where they turn, it goes back over those between.
     pub fn visit_buckets<F: FnMut(i64, u64)>(&self, f: F) -> F
         requires { TakesBuckets F.FnMut f self.now.buckets }
         ensures { ShowsBuckets F.FnMut f self.now.buckets result }
@@ -112,8 +112,8 @@ impl Histogram {
         show(&self.bounds, &self.own, &self.ranks, f)
     }
 
-    /// Calls `f` once for each bound, with the number of samples at most that bound, in ascending order, and returns it as
-    /// the calls left it. A bound that was given several times is shown once. It takes no memory.
+    /// Calls `f` once for each bound, with the number of samples at most that bound, in ascending order, and returns it as the
+    /// calls left it. A repeated bound is shown once. It allocates nothing.
     pub fn visit_ascending<F: FnMut(i64, u64)>(&self, f: F) -> F
         requires { TakesBuckets F.FnMut f (ascending self.now.buckets) }
         ensures { ShowsBuckets F.FnMut f (ascending self.now.buckets) result }
@@ -121,7 +121,7 @@ impl Histogram {
         show_in_order(&self.bounds, &self.own, &self.order, &self.ranks, f)
     }
 
-    /// Adds a sample. It is refused with `Error::CountFull` where the count would pass 2^64 - 1.
+    /// Adds a sample. Fails with `Error::CountFull` if the count would pass 2^64 - 1.
     pub fn record(&mut self, sample: i64) -> Result<(), Error>
         ensures step { MatchResult result (λ _. self.new ≡ with_samples (sample ∷ []) self.old)
             (λ e. (e ≡ CountFull) × (self.new ≡ self.old)) }
@@ -136,8 +136,7 @@ impl Histogram {
         Ok(())
     }
 
-    /// Adds samples, each as `record` does. They are refused together, with `Error::CountFull`, where the count would
-    /// pass 2^64 - 1.
+    /// Adds samples, each as `record` does. Fails with `Error::CountFull`, and adds none, if the count would pass 2^64 - 1.
     pub fn record_many(&mut self, samples: &[i64]) -> Result<(), Error>
         ensures step { MatchResult result (λ _. self.new ≡ with_samples samples.now self.old)
             (λ e. (e ≡ CountFull) × (self.new ≡ self.old)) }
@@ -159,11 +158,11 @@ impl Histogram {
         self.bounds == other.bounds
     }
 
-    /// Adds the samples of a histogram with the same bounds in the same order. It takes no memory.
+    /// Adds the samples of a histogram with the same bounds in the same order. It allocates nothing.
     ///
     /// # Errors
     ///
-    /// `Error::CountFull` where the counts together would pass 2^64 - 1.
+    /// `Error::CountFull` if the counts together would pass 2^64 - 1.
     pub fn merge(&mut self, other: &Histogram) -> Result<(), Error>
         requires { bounds_of self.old ≡ bounds_of other.now }
         ensures step { MatchResult result (λ _. self.new ≡ merged self.old other.now)

@@ -5,9 +5,9 @@ ghost use Rattle.metrics_storage.specs.Reservoir.{ItemsCameLast, StepsHoldLast};
 ghost use Rattle.metrics_storage.specs.Sample.{PushesAddUp};
 ghost use Rattle.metrics_storage.specs.Fairness.{KeptHasPlace, IsFair, all, kept};
 
-/// Takes nothing and does nothing: its contract has the laws of the reservoir.
+/// Does nothing. Its contract has the laws of the reservoir.
 ///
-/// They are laws of the step by which the contract of `Reservoir::push` is written.
+/// They are laws of the step that the contract of `Reservoir::push` uses.
 pub fn reservoir_law()
     // The item at a place is the one that came last to it.
     ensures items { ItemsCameLast }
@@ -27,7 +27,7 @@ pub fn reservoir_law()
     ensures none { kept 0 1 3 ≡ 0 }
 {}
 
-/// Takes nothing and does nothing: its contract has the law of merged histograms.
+/// Does nothing. Its contract has the law of merged histograms.
 pub fn histogram_law()
     // A histogram, merged with one that has other samples, is the one of the samples of both.
     ensures { MergingAddsSamples }

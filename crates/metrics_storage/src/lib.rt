@@ -13,6 +13,6 @@ pub use bucket::OwnedBucket;
 pub use histogram::Histogram;
 pub use laws::{histogram_law, reservoir_law};
 pub use metrics::Error;
-// A contract that names a block can only be read where the types of its fields are exported.
+// A contract that names a block needs the types of the block's fields to be exported.
 #[doc(hidden)]
 pub use places::{Allocation, BlockPtr, Places};

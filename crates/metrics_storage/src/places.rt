@@ -1,4 +1,4 @@
-//! 64 places of raw memory, of which the first hold values. All that touches a pointer stands here.
+//! 64 places of raw memory. The first of them hold values. All that touches a pointer is here.
 ghost use Rattle.std.specs.Prelude.{◌≡◌, ◌+◌, ◌<◌, ◌≤◌, List, [], ◌∷◌, ◌++◌, length, IfOk, ⊤};
 ghost use Rattle.std.specs.Vec.Ownership.{FitsInBlock};
 ghost use base.Fml.{ftrue};
@@ -34,7 +34,7 @@ unsafe impl<T> Send for BlockPtr<T> {}
 
 unsafe impl<T> Sync for BlockPtr<T> {}
 
-/// The owner of the 64 places from `at` on, which takes no space. The first of them hold `values`.
+/// The owner of the 64 places from `at` on, of size zero. The first of them hold `values`.
 pub struct Places<T> {
     mark: PhantomData<*const T>,
     ghost at: { Ptr },
@@ -51,7 +51,7 @@ unsafe impl<T: Send> Send for Places<T> {}
 
 unsafe impl<T: Sync> Sync for Places<T> {}
 
-/// The right to give the memory at `at` back to `alloc`. It takes no space.
+/// The right to return the memory at `at` to `alloc`. Its size is zero.
 pub struct Allocation<T, A: Allocator> {
     mark: PhantomData<*const (T, A)>,
     ghost at: { Ptr },
@@ -69,7 +69,7 @@ unsafe impl<T, A: Allocator + Send> Send for Allocation<T, A> {}
 // A `&` to it holds nothing.
 unsafe impl<T, A: Allocator> Sync for Allocation<T, A> {}
 
-/// Memory for 64 values, none of which is there.
+/// Memory for 64 values, without any value.
 pub(crate) fn allocate<T, A: Allocator>(
     alloc: &A,
 ) -> Result<(BlockPtr<T>, Places<T>, Allocation<T, A>), AllocError>
@@ -92,7 +92,7 @@ pub(crate) fn allocate<T, A: Allocator>(
     }
 }
 
-/// Gives the memory back, where no value is left in it.
+/// Returns the memory, if no value is left in it.
 pub(crate) fn deallocate<T, A: Allocator>(
     alloc: &A,
     start: BlockPtr<T>,
@@ -130,7 +130,7 @@ impl<T> Places<T> {
         unsafe { start.ptr.add(last).read() }
     }
 
-    /// Lends the values, of which there are `len`.
+    /// Borrows the values, of which there are `len`.
     pub(crate) fn lend(&self, start: BlockPtr<T>, len: usize) -> &[T]
         requires { (start.ptr ≡ self.now.at) × (len ≡ length self.now.values) × (len ≤ 64) }
         ensures { result.now ≡ self.now.values }

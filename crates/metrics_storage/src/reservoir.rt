@@ -1,5 +1,5 @@
-//! A sampling reservoir: a fixed number of values out of all that were pushed, each kept with the same chance where the
-//! draws are even.
+//! A sampling reservoir: a fixed number of values out of all that were pushed. With even draws each is kept with the same
+//! chance.
 ghost use Rattle.std.specs.Prelude.{◌≡◌, ◌+◌, ◌*◌, ◌^◌, ◌<◌, ◌≤◌, ◌==◌, ◌↔◌, min, length};
 ghost use Rattle.std.specs.Prelude.{[], vec_capacity, pos, neg_ℤ, ◌≤ℤ◌, IsErr, OnErr, IfOk, IfSome, MatchResult, Some};
 ghost use Rattle.std.specs.Iterator.{at_most, UpTo};
@@ -33,7 +33,7 @@ impl Model for Reservoir {
         × (r.sum ≤ℤ pos (r.pushed * 2 ^ 63)) };
 }
 
-/// Room for so many values. Room for none takes no memory.
+/// Room for so many values. Room for none allocates nothing.
 fn room(alloc: Global, size: usize) -> Result<Vec<i64>, AllocError>
     ensures empty { IfOk result (λ v. v.items ≡ []) }
     ensures fits { IfOk result (λ v. size ≤ vec_capacity v) }
@@ -46,8 +46,8 @@ fn room(alloc: Global, size: usize) -> Result<Vec<i64>, AllocError>
 }
 
 impl Reservoir {
-    /// Makes an empty reservoir of `size` places, whose room is taken now. One of size 0 counts and keeps nothing.
-    /// It is refused with `Error::Memory` where that room isn't found, and never at size 0.
+    /// Makes an empty reservoir of `size` places, and allocates them now. One of size 0 counts and keeps nothing. Fails with
+    /// `Error::Memory` when out of memory, and never at size 0.
     pub fn new(alloc: Global, size: usize) -> Result<Reservoir, Error>
         ensures { MatchResult result (λ r. r ≡ new_sample size) (λ e. (e ≡ OutOfMemory) × (0 < size)) }
     {
@@ -73,11 +73,10 @@ impl Reservoir {
         self.pushed
     }
 
-    /// Takes a value, with a draw from 0 to the number of values before it, both included.
+    /// Adds a value, with a draw from 0 to the number of values before it, both included.
     ///
-    /// While there is a free place the value takes the next one, and the draw is ignored. After that it replaces the value
-    /// in the place that was drawn, if there is such a place. It is refused with `Error::CountFull` where the count would
-    /// pass 2^64 - 1.
+    /// While there is a free place the value takes the next one, and the draw is ignored. After that it replaces the value in
+    /// the place that was drawn, if there is such a place. Fails with `Error::CountFull` if the count would pass 2^64 - 1.
     pub fn push(&mut self, value: i64, draw: u64) -> Result<(), Error>
         requires { draw ≤ self.old.pushed }
         ensures step { MatchResult result (λ _. self.new ≡ after_push value draw self.old)
@@ -114,7 +113,7 @@ impl Reservoir {
         self.sum = 0;
     }
 
-    /// Hands out what it holds. After that all values are forgotten, however few were taken.
+    /// Returns what it holds as an iterator. After that all values are forgotten, however few were read.
     pub fn consume<F: FnMut(Drain<'_>)>(&mut self, mut f: F)
         requires { F.pre f (drain_of self.old) }
         ensures called { (after : F) × F.step f (drain_of self.old) tt after }
@@ -125,7 +124,7 @@ impl Reservoir {
     }
 }
 
-/// Puts the value of an index at its place, if it gets one.
+/// Stores the value of an index at its place, if it gets one.
 fn place(values: &mut Vec<i64>, size: usize, index: u64, value: i64, draw: u64)
     requires filled { length values.old.items ≡ min size index }
     requires room { size ≤ vec_capacity values.old }

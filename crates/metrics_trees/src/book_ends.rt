@@ -94,7 +94,7 @@ fn append_raised(
     found.extend_from_slice(&there)
 }
 
-/// Adds the answer of a recorder that comes after `front` books to the answers of those before it.
+/// Adds the result of a recorder that comes after `front` books to the results of those before it.
 #[inline(always)]
 pub(crate) fn append_answer(
     found: &mut Vec<Address>,

@@ -82,7 +82,7 @@ impl<B: Recorder> Child<B> {
         Ok(router)
     }
 
-    /// Puts a prefix layer over the tree. Returns the tree when out of memory.
+    /// Wraps the tree in a prefix layer. Returns the tree when out of memory.
     pub fn prefix(self, alloc: Global, layer: &PrefixLayer) -> Result<Child<B>, (Error, Child<B>)>
         ensures { MatchResult result
             (λ c. ⟦<Child<B> as Recorder>⟧.meaning c ≡
@@ -99,7 +99,7 @@ impl<B: Recorder> Child<B> {
         })
     }
 
-    /// Puts a filter layer over the tree. Returns the tree if that fails.
+    /// Wraps the tree in a filter layer. Returns the tree if that fails.
     ///
     /// # Errors
     ///

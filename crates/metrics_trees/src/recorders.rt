@@ -1,4 +1,4 @@
-//! Recorders side by side, while they are put together.
+//! Recorders side by side, for builders.
 ghost use Rattle.std.specs.Prelude.{◌≡◌, ◌≤◌, ◌++◌, ◌∷◌, [], suc, ℕ, length, OnOk};
 ghost use Rattle.metrics_trees.specs.Nodes.{node_meaning, most_books, AreEnds};
 ghost use Rattle.metrics_trees.specs.Reaches.{group_meaning, IsWithin};

@@ -1,4 +1,4 @@
-//! Recorders of which each name goes to one.
+//! Recorders. Each name goes to one of them.
 ghost use Rattle.std.specs.Prelude.{◌≡◌, ◌≤◌, ◌<◌, ◌-◌, ◌++◌, ◌∷◌, [], List, suc, false, None};
 ghost use Rattle.std.specs.Prelude.{is_some, nat_eq, length, MatchResult};
 ghost use Rattle.std.specs.Option.{option_map};
@@ -151,7 +151,7 @@ impl<B: Recorder> RouterBuilder<B> {
     }
 }
 
-/// Adds a target at the end. The default that stood alone moves before it.
+/// Adds a target at the end. A default that was alone moves before it.
 fn push_target<B: Recorder>(
     default: &mut Option<Child<B>>,
     recorders: &mut Recorders<B>,

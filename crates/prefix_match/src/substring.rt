@@ -1,4 +1,4 @@
-//! Sets of patterns, which answer whether some of them occurs in a text.
+//! Sets of patterns, which report whether one of them occurs in a text.
 ghost use Rattle.std.specs.Prelude.{◌≡◌, ℕ, ◌+◌, ◌*◌, ◌<◌, ◌≤◌, ◌↔◌, List, map, length, IsTrue};
 ghost use Rattle.std.specs.Prelude.{IfOk};
 ghost use Rattle.std.specs.Bool.{OnTrue, OnFalse};
@@ -29,7 +29,7 @@ enum Form {
     Table(Table),
 }
 
-/// A set of patterns, made once, that answers whether some of them occurs in a text.
+/// A set of patterns, made once, that reports whether one of them occurs in a text.
 ///
 /// A walk reads each byte of the text once, and ends at the first match.
 #[derive(Drop)]
@@ -83,7 +83,7 @@ impl SubstringSet {
         self.is_match_counted(text).0
     }
 
-    /// Returns the answer of `is_match`, and how many moves the walk made.
+    /// Returns the result of `is_match`, and how many moves the walk made.
     ///
     /// A move is a change of state in the table, and a step down a fail link or to a child along the links.
     #[inline(always)]
@@ -135,7 +135,7 @@ fn make(
     })
 }
 
-/// The form that is asked for.
+/// The form to build.
 fn form_of(
     alloc: Global,
     fold_case: bool,

@@ -12,10 +12,10 @@ mod tree;
 
 use tree::Tree;
 
-/// A set of patterns, each with a value, that finds the longest one that a text begins with.
+/// A set of patterns, each with a value. It finds the longest one that a text begins with.
 ///
-/// It is a radix trie over bytes, so a pattern may end inside a character. A search reads the text once, up to where no
-/// pattern goes on, however many patterns there are, and allocates nothing.
+/// It is a radix trie over bytes, so a pattern may end inside a character. A search reads the text once, up to where no pattern
+/// goes on, however many patterns there are. It allocates nothing.
 #[derive(Drop)]
 pub struct PrefixTrie {
     tree: Tree,

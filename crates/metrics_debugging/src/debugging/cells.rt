@@ -10,7 +10,7 @@ use metrics::{
 use metrics_storage::OwnedBucket;
 use std::alloc::Global;
 
-/// The value of a series, in a form that takes updates.
+/// The value of a series, in a form that accepts updates.
 #[derive(Drop)]
 pub(crate) enum Cell {
     Counter(u64),
@@ -19,7 +19,7 @@ pub(crate) enum Cell {
 }
 
 impl Cell {
-    /// The cell of a new series. It takes no memory.
+    /// The cell of a new series. It allocates nothing.
     pub fn new(alloc: Global, kind: MetricKind) -> Cell
         ensures { value_of result ≡ new_value kind }
     {
@@ -41,7 +41,7 @@ impl Cell {
         }
     }
 
-    /// Takes an update of its kind.
+    /// Applies an update of its kind.
     pub fn update(&mut self, by: Update) -> Result<(), Refused>
         ensures updates { UpdatesValue (value_of self.old) (value_of self.new) by result }
         ensures kind { kind_of_value (value_of self.new) ≡ kind_of_value (value_of self.old) }
@@ -62,7 +62,7 @@ impl Cell {
         Ok(())
     }
 
-    /// Holds the value of a new series again, where its kind is reset. A histogram gives its blocks back.
+    /// Holds the value of a new series again, if its kind is reset. A histogram frees its blocks.
     pub fn reset(&mut self, reset: Reset)
         ensures { value_of self.new ≡ (if resets reset (kind_of_value (value_of self.old))
             then new_value (kind_of_value (value_of self.old)) else value_of self.old) }
@@ -77,7 +77,7 @@ impl Cell {
         }
     }
 
-    /// The value as a snapshot tells it: samples in bucket order.
+    /// The value as a snapshot reports it: samples in bucket order.
     pub fn value(&self) -> Result<DebugValue, Refused>
         ensures ok { IfOk result (λ v. v ≡ snapshot_value (value_of self.now)) }
         ensures memory { IfErr result (λ e. e ≡ Memory 0) }

@@ -10,7 +10,7 @@ use indexmap::IndexMap;
 use metrics::{MetricKind, PerKind, Refused, Text, Unit};
 use std::alloc::{AllocError, Global};
 
-/// What is told of a name that was described.
+/// The description of a name.
 #[derive(Drop)]
 pub(crate) struct Described {
     unit: Option<Unit>,
@@ -24,7 +24,7 @@ pub(crate) struct Descriptions {
 }
 
 impl Descriptions {
-    /// No descriptions. It takes no memory yet.
+    /// No descriptions. It allocates nothing yet.
     pub fn new(alloc: Global) -> Descriptions
         ensures { (kind : _) (name : _) → described_by result kind name ≡ no_description }
     {
@@ -51,7 +51,7 @@ impl Descriptions {
         }
     }
 
-    /// Replaces the text of a name, and the unit where one is given. The name is copied the first time alone.
+    /// Replaces the text of a name, and the unit if there is a new one. It copies only a name that is new.
     pub fn describe(
         &mut self,
         alloc: Global,

@@ -25,7 +25,7 @@ pub(crate) struct Stored {
 }
 
 impl Stored {
-    /// Updates the cell. An update that isn't refused is activity.
+    /// Updates the cell. An update that succeeds is activity.
     fn update(&mut self, by: Update) -> Result<(), Refused>
         ensures updates { UpdatesValue (value_of self.old.cell) (value_of self.new.cell) by result }
         ensures stays { spot self.new ≡ spot self.old }
@@ -63,7 +63,7 @@ pub(crate) struct SeriesList {
 impl SeriesList {
     ghost use Rattle.metrics_debugging.specs.DebuggingOrder.{series_of, activity_of, active_at, idle};
 
-    /// No series. It takes no memory yet.
+    /// No series. It allocates nothing yet.
     pub fn new(alloc: Global) -> SeriesList
         ensures series { series_of result ≡ [] }
         ensures active { activity_of result ≡ [] }
@@ -85,7 +85,7 @@ impl SeriesList {
         self.numbers.of(kind).get(key).copied()
     }
 
-    /// Adds a series of a key that has none, and answers its number.
+    /// Adds a series of a key that has none, and returns its number.
     pub fn add(&mut self, alloc: Global, kind: MetricKind, key: &Key) -> Result<usize, Refused>
         requires { position (is_of (series_key kind key.now)) (series_of self.old) ≡ None }
         ensures number { IfOk result (λ s. s ≡ length (series_of self.old)) }

@@ -30,7 +30,7 @@ pub struct Automaton {
     pub order: Vec<Place>,
 }
 
-/// Where a byte leads, and the moves on the way.
+/// The state that a byte leads to, and the moves on the way.
 #[derive(Clone, Copy)]
 struct Step {
     state: usize,
@@ -110,7 +110,7 @@ fn root_row(alloc: Global, nodes: &[Node]) -> Result<Vec<u32>, AllocError>
     Ok(roots)
 }
 
-/// The fail link of a state all of whose shorter states are linked.
+/// The fail link of a state, if all shorter states are linked.
 fn fail_of(nodes: &[Node], roots: &[u32], state: usize) -> usize
     requires tree { IsTree nodes.now }
     requires roots { IsRootRow nodes.now roots.now }
@@ -129,7 +129,7 @@ fn fail_of(nodes: &[Node], roots: &[u32], state: usize) -> usize
     follow(nodes, roots, above, nodes[state].byte).state
 }
 
-/// Sets the fail link of a state all of whose shorter states are linked.
+/// Sets the fail link of a state, if all shorter states are linked.
 fn link(nodes: &mut [Node], roots: &[u32], state: usize)
     requires tree { IsTree nodes.old }
     requires roots { IsRootRow nodes.old roots.now }

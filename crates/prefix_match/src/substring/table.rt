@@ -189,7 +189,7 @@ pub fn tabled(
     })
 }
 
-/// Fills the row of a state all of whose shorter states have theirs.
+/// Fills the row of a state, if all shorter states have theirs.
 fn fill_row(next: &mut [u32], nodes: &[Node], columns: &Columns, state: usize)
     requires tree { IsTree nodes.now }
     requires state { state < length nodes.now }

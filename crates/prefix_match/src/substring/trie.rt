@@ -9,7 +9,7 @@ ghost use Rattle.prefix_match.specs.SubstringStates.{IsTree, IsChild, HasNoChild
 use super::bytes::lowered;
 use std::alloc::{AllocError, Global};
 
-/// A state of the automaton. It stands for the bytes that lead to it from the root, which is state 0.
+/// A state of the automaton: the bytes that lead to it from the root, which is state 0.
 #[derive(Clone, Copy)]
 pub struct Node {
     /// The last byte of those that lead here.

@@ -20,8 +20,8 @@ pub struct Node {
     pub children: BTreeMap<u8, usize>,
 }
 
-/// The nodes of a radix tree, which name one another by index. The root comes first; before the first
-/// pattern there is none. A pattern adds at most two nodes, and twice its bytes.
+/// The nodes of a radix tree, which refer to one another by index. The root is first; until the first pattern there is none. A
+/// pattern adds at most two nodes, and twice its bytes.
 #[derive(Drop)]
 pub struct Tree {
     pub nodes: Vec<Node>,
@@ -193,7 +193,7 @@ impl Tree {
         self.add_leaf(middle, pattern)
     }
 
-    /// Puts a node between `parent` and its child, after the first `len` bytes of the child's path.
+    /// Inserts a node between `parent` and its child, after the first `len` bytes of the child's path.
     fn split(&mut self, parent: usize, child: usize, len: usize) -> Result<usize, MatchError>
         requires within { parent < length self.old.nodes.items }
         requires child { let path = path_at self.old.nodes.items child in
