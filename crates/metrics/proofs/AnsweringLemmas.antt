@@ -51,7 +51,7 @@ record TakesSnapshot (b : ℕ) (reset : Reset) (c : Call) : Type 0 where
 no_lead : (old : Meaning) (c : Call) → ((a : Answer) → registration_of (c, a) ≡ None) → (a : Answer) (cs : List Content) → AllLead old.targets cs (filter_map registration_of ((c, a) ∷ []))
 no_lead old c quiet a cs = subst (λ o. AllLead old.targets cs (cons_option o [])) (sym (quiet a)) tt
 
--- a refused snapshot reaches no book
+-- a snapshot that fails reaches no book
 unseen : {New : Type 0} (old : Meaning) (log : Log) (b : ℕ) (reset : Reset) (c : Call) → TakesSnapshot b reset c → (e : Refusal) →
     Kept New old.targets log old.contents → Kept New old.targets (log ++ (c, Answer.Refused e) ∷ []) old.contents
 unseen old log b reset c takes e h =

@@ -88,7 +88,7 @@ abbrev pub AllNew : List SeriesKey → List SeriesKey → Type 0
 AllNew seen [] = Unit {0}
 AllNew seen (k ∷ ks) = (list_any (series_key_eq k) seen ≡ false) × AllNew seen ks
 
--- no key stands twice
+-- no key is there twice
 abbrev pub AreUnique : List SeriesKey → Type 0
 AreUnique [] = Unit {0}
 AreUnique (k ∷ ks) = AllNew (k ∷ []) ks × AreUnique ks

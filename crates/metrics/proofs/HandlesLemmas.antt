@@ -84,7 +84,7 @@ update_err old x new found by i at NoSuchAddress r held h lt = absurd (true≢fa
 update_err old x new found by i at NoSuchBook r held h lt = absurd r
 update_err old x new found by i at BadHandle r held h lt = absurd r
 
--- a refused update has acted on nothing, so the count fits
+-- an update that fails has acted on nothing, so the count fits
 pub update_follows : (x new : Meaning) (by : Update) (i : ℕ) (at : Address) (e : Refused) → Updates {A = Prim.Unit {0}} x new at by (Err e) → i < 2 ^ 64 → CanFollow i e
 update_follows x new by i at (Memory a) r lt = omega (arith, r.2, lt)
 update_follows x new by i at NoSuchAddress r lt = tt

@@ -35,7 +35,8 @@ plain-push targets books before (x ∷ log) e h p =
 
 -- ---- what is kept
 
--- where the books were new (New), the contents are those of the definitions over the calls so far; and addresses lead to their series
+-- if the books were new (New), the contents are those of the definitions over the calls so far; and addresses lead to their
+-- series
 pub record Kept (New : Type 0) (targets : Targets) (log : Log) (cs : List Content) : Type 0 where
   pub each : New → (b : ℕ) → b < length cs → content_at b cs ≡ content_after (reached targets b log)
   pub sound : New → (b : ℕ) → b < length cs → IsSound (reached targets b log)

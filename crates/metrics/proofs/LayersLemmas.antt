@@ -77,7 +77,7 @@ slice_get-end : {A : Type 0} (xs : List A) (y : A) → slice_get (xs ++ y ∷ []
 slice_get-end [] y = refl
 slice_get-end (x ∷ xs) y = slice_get-end xs y
 
--- an element of a list with one more at the end stands in the list, or is that one
+-- an element of a list with one more at the end is in the list, or is that one
 slice_get-push : {A : Type 0} (xs : List A) (y z : A) (i : ℕ) → slice_get (xs ++ y ∷ []) i ≡ Some z → (slice_get xs i ≡ Some z) ⊎ ((i ≡ length xs) × (y ≡ z))
 slice_get-push [] y z zero e = let s : y ≡ z = cc in inr (refl, s)
 slice_get-push [] y z (suc i) e = absurd (cc)
@@ -93,7 +93,7 @@ within [] i x e = absurd (cc)
 within (y ∷ xs) zero x e = omega arith
 within (y ∷ xs) (suc i) x e = let l = within xs i x e in omega arith
 
--- the best so far: the winner, or none where none fits
+-- the best so far: the winner, or none if none fits
 abbrev pub IsBest : List Route → MetricKind → List ℕ → Option Route → Type 0
 IsBest routes kind name best = MatchOption best (NoneFits routes kind name) (IsWinner routes kind name)
 
@@ -170,7 +170,7 @@ best_all seen (r ∷ rest) kind name best h =
     subst (λ rs. IsBest rs kind name (winner_from kind name (better kind name best r) rest)) (append_assoc seen (r ∷ []) rest)
     (best_all (seen ++ r ∷ []) rest kind name (better kind name best r) (best_more seen kind name best r h))
 
--- the winner that is found is the winner; where none is found no route fits
+-- the winner that is found is the winner; if none is found no route fits
 pub winner-IsBest : (routes : List Route) (kind : MetricKind) (name : List ℕ) → IsBest routes kind name (winner routes kind name)
 winner-IsBest routes kind name = best_all [] routes kind name None (λ i r e. absurd (nothing_there i r e))
   where

@@ -57,7 +57,7 @@ front_updated old new ts u (Answer.Described n) r = absurd r
 front_updated old new ts u (Answer.Registered found) r = absurd r
 front_updated old new ts u (Answer.Snapshot found) r = absurd r
 
--- what is said of the plain answer, at what it is
+-- what is said of the expected answer, at its value
 meets-same : (p q : Answer) (P Q : ℕ → Type 0) (a : Answer) → p ≡ q → ((n : ℕ) → P n → Q n) → IsOrMeets p P a → IsOrMeets q Q a
 meets-same p q P Q (Answer.Refused (Memory n)) e f h = f n h
 meets-same p q P Q (Answer.Refused NoSuchAddress) e f h = h ∙ e

@@ -18,7 +18,7 @@ use Rattle.metrics.specs.Book.{Content, kind_of, update_in}
 use Rattle.metrics.specs.Meaning.{Meaning, Acts, Describes, Registers, Snapshots, TakesMemory, holds_at}
 use Rattle.metrics.specs.History.{Log, Registration, registration}
 
--- what a successful register call gives: its kind and the addresses
+-- what a successful register call returns: its kind and the addresses
 abbrev pub Handle : Type 0
 Handle = MetricKind × List Address
 
@@ -29,7 +29,7 @@ handle_given kind a = None
 abbrev pub handle_of : Registration → Option Handle
 handle_of r = handle_given r.kind r.answer
 
--- the handle of a number, where that register call was successful
+-- the handle of a number, if that register call was successful
 abbrev pub handle : ℕ → Log → Option Handle
 handle n log = option_and_then handle_of (registration n log)
 
@@ -38,7 +38,7 @@ abbrev pub handle_named : Call → Log → Option Handle
 handle_named (Call.Update n u) log = handle n log
 handle_named c log = None
 
--- whether a series of the kind stands at each address
+-- whether a series of the kind is at each address
 abbrev pub holds_all : MetricKind → List Address → List Content → Bool
 holds_all kind found cs = list_all (λ a. holds_at kind a cs) found
 
@@ -65,7 +65,7 @@ RegistersCall old new kind key (Answer.Registered found) = Registers old new kin
 RegistersCall old new kind key (Answer.Refused e) = Registers old new kind key (Err e)
 RegistersCall old new kind key a = ⊥
 
--- an update of each place in order; only samples meet a want of memory
+-- an update of each place in order; only samples may run out of memory
 abbrev pub UpdatesAll : Meaning → Meaning → List (ℕ × ℕ) → Update → Result ℕ Refused → Type 0
 UpdatesAll old new ts u (Ok n) = Acts (update_in u) ts old new (Ok n) (λ n. n ≡ length ts)
 UpdatesAll old new ts u (Err e) = IfMemory e (λ n. TakesMemory u × (n ≤ length ts) × (new.contents ≡ after_targets (update_in u) (take n ts) old.contents))

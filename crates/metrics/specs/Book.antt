@@ -49,7 +49,7 @@ value_from v (u ∷ us) = value_from (updated u v) us
 
 -- ---- samples in bucket order
 
--- the list cut into chunks of 64 from the front, at most n of them; the last may be shorter
+-- the list cut into chunks of 64 from the first item on, at most n of them; the last may be shorter
 abbrev pub chunks_within : {A : Type 0} → ℕ → List A → List (List A)
 chunks_within n [] = []
 chunks_within zero (x ∷ xs) = []
@@ -73,7 +73,7 @@ pub record Series : Type 0 where
   pub key : SeriesKey
   pub value : DebugValue
 
--- the description of a name: a unit and a text, where they were given
+-- the description of a name: a unit and a text, if there are any
 pub record Description : Type 0 where
   pub unit : Option Measure
   pub text : Option (List ℕ)
@@ -97,7 +97,7 @@ content_at b cs = get_or cs b new_book
 abbrev pub is_of : SeriesKey → Series → Bool
 is_of k s = series_key_eq k s.key
 
--- the place of a series in its book, or the number of series where it isn't there
+-- the place of a series in its book, or the number of series if it isn't there
 abbrev pub place : SeriesKey → Content → ℕ
 place k c = position_or_len (is_of k) c.series
 
@@ -111,7 +111,7 @@ kind_at s c = option_map (λ x. x.key.kind) (slice_get c.series s)
 abbrev pub RowParts : Type 0
 RowParts = SeriesKey × Option Measure × Option (List ℕ) × DebugValue
 
--- a value as a snapshot tells it: samples stand in bucket order
+-- a value as a snapshot reports it: samples are in bucket order
 abbrev pub snapshot_value : DebugValue → DebugValue
 snapshot_value (CounterValue n) = CounterValue n
 snapshot_value (GaugeValue n) = GaugeValue n
@@ -126,7 +126,7 @@ rows c = map (row_of c) c.series
 
 -- ---- one step of each call
 
--- a text replaces the old one always, and a unit only where one is given
+-- a text always replaces the old one, and a unit only if there is a new one
 abbrev pub described_again : Option Measure → List ℕ → Description → Description
 described_again unit text d = record { unit = option_or unit d.unit; text = Some text }
 

@@ -40,7 +40,7 @@ abbrev pub registration_of : Call × Answer → Option Registration
 registration_of (Call.Register kind key, a) = Some (record { kind = kind; key = key; answer = a })
 registration_of e = None
 
--- the register call of a number, the refused ones counted too
+-- the register call of a number; the failed ones count too
 abbrev pub registration : ℕ → Log → Option Registration
 registration n log = slice_get (filter_map registration_of log) n
 
@@ -62,7 +62,7 @@ abbrev pub updates_by : Targets → ℕ → Update → Answer → Option Registr
 updates_by targets b u a None = []
 updates_by targets b u a (Some r) = map (λ n. updates (key_in_book (kind_of u) r.key.labels n) u) (names_in_book b a (targets r.kind r.key.name))
 
--- a snapshot that was not refused
+-- a snapshot that succeeded
 abbrev pub snapshots_by : Reset → Answer → List Event
 snapshots_by reset (Answer.Snapshot found) = snapshots reset ∷ []
 snapshots_by reset a = []
@@ -89,7 +89,7 @@ abbrev pub key_of : Event → Option SeriesKey
 key_of (registers k) = Some k
 key_of e = None
 
--- the keys without those that stand earlier
+-- the keys without those that are there earlier
 abbrev pub firsts_from : List SeriesKey → List SeriesKey → List SeriesKey
 firsts_from seen [] = []
 firsts_from seen (k ∷ ks) = if list_any (series_key_eq k) seen then firsts_from seen ks else k ∷ firsts_from (seen ++ k ∷ []) ks
@@ -104,7 +104,7 @@ abbrev pub description_of : MetricKind → List ℕ → Event → Option (Option
 description_of kind name (describes k unit text n) = if kind_eq k kind && bytes_eq n name then Some (unit, text) else None
 description_of kind name e = None
 
--- the text of the last describe call of that kind and name, and the last unit among those of them that gave one
+-- the text of the last describe call of that kind and name, and the last unit among those of them that had one
 abbrev pub description : List Event → MetricKind → List ℕ → Description
 description events kind name =
     let ds = filter_map (description_of kind name) events in
@@ -127,11 +127,11 @@ abbrev pub update_of : SeriesKey → Event → Option Update
 update_of s (updates k u) = if series_key_eq k s then Some u else None
 update_of s e = None
 
--- the updates of a series that stand after the book's last successful snapshot that reset its kind
+-- the updates of a series after the book's last successful snapshot that reset its kind
 abbrev pub since : List Event → SeriesKey → List Update
 since events s = filter_map (update_of s) (after_snapshot s.kind events)
 
--- ---- contents and plain answers
+-- ---- contents and expected answers
 
 -- a series with the value of its updates since the last snapshot that reset its kind
 abbrev pub series_now : List Event → SeriesKey → Series
@@ -161,7 +161,7 @@ plain_update targets u (Some r) = if is_handle u r then Answer.Updated (length (
 abbrev pub plain_snapshot : Targets → ℕ → Log → ℕ → Answer
 plain_snapshot targets books before b = if nat_lt b books then Answer.Snapshot (rows (content_after (reached targets b before))) else Answer.Refused NoSuchBook
 
--- the plain answer of a call after these calls, of a recorder with this many books
+-- the expected answer of a call after these calls, of a recorder with this many books
 abbrev pub plain_answer : Targets → ℕ → Log → Call → Answer
 plain_answer targets books before (Call.Describe kind name unit text) = Answer.Described (length (targets kind name))
 plain_answer targets books before (Call.Register kind key) = Answer.Registered (map (plain_address targets before kind key) (targets kind key.name))
@@ -173,7 +173,8 @@ abbrev pub UpdateMayMeet : Targets → Update → ℕ → Option Registration �
 UpdateMayMeet targets u n None = ⊥
 UpdateMayMeet targets u n (Some r) = (is_handle u r ≡ true) × TakesMemory u × (n ≤ length (targets r.kind r.key.name))
 
--- a call may meet a want of memory after a front of its targets, where its plain answer is no refusal; updates of counters and gauges never do
+-- a call may run out of memory after the first n of its targets, if its expected answer is no error; updates of counters and
+-- gauges never do
 abbrev pub MayMeetMemory : Targets → ℕ → Log → Call → ℕ → Type 0
 MayMeetMemory targets books before (Call.Describe kind name unit text) n = n ≤ length (targets kind name)
 MayMeetMemory targets books before (Call.Register kind key) n = n ≤ length (targets kind key.name)
@@ -181,7 +182,7 @@ MayMeetMemory targets books before (Call.Update m u) n = UpdateMayMeet targets u
 MayMeetMemory targets books before (Call.Snapshot b) n = (b < books) × (n ≡ 0)
 MayMeetMemory targets books before (Call.SnapshotWith b reset) n = (b < books) × (n ≡ 0)
 
--- this answer, or want of memory where it may be met
+-- this answer, or out of memory where that may happen
 abbrev pub IsOrMeets : Answer → (ℕ → Type 0) → Answer → Type 0
 IsOrMeets plain MayMeet (Answer.Refused (Memory n)) = MayMeet n
 IsOrMeets plain MayMeet (Answer.Refused NoSuchAddress) = Answer.Refused NoSuchAddress ≡ plain
@@ -192,7 +193,7 @@ IsOrMeets plain MayMeet (Answer.Registered found) = Answer.Registered found ≡ 
 IsOrMeets plain MayMeet (Answer.Updated n) = Answer.Updated n ≡ plain
 IsOrMeets plain MayMeet (Answer.Snapshot found) = Answer.Snapshot found ≡ plain
 
--- the plain answer, or want of memory where it may be met
+-- the expected answer, or out of memory where that may happen
 abbrev pub IsPlain : Targets → ℕ → Log → Call → Answer → Type 0
 IsPlain targets books before c a = IsOrMeets (plain_answer targets books before c) (MayMeetMemory targets books before c) a
 
@@ -200,16 +201,16 @@ abbrev pub ArePlainFrom : Targets → ℕ → Log → Log → Type 0
 ArePlainFrom targets books before [] = Unit {0}
 ArePlainFrom targets books before (e ∷ log) = IsPlain targets books before e.0 e.1 × ArePlainFrom targets books (before ++ e ∷ []) log
 
--- each answer is the plain one after the calls before it
+-- each answer is the expected one after the calls before it
 abbrev pub ArePlain : Targets → ℕ → Log → Type 0
 ArePlain targets books log = ArePlainFrom targets books [] log
 
--- ---- all answers, where no memory is wanted
+-- ---- all answers, with ample memory
 
 abbrev pub plain_log_from : Targets → ℕ → Log → List Call → Log
 plain_log_from targets books before [] = before
 plain_log_from targets books before (c ∷ calls) = plain_log_from targets books (before ++ (c, plain_answer targets books before c) ∷ []) calls
 
--- the calls with their plain answers
+-- the calls with their expected answers
 abbrev pub plain_log : Targets → ℕ → List Call → Log
 plain_log targets books calls = plain_log_from targets books [] calls

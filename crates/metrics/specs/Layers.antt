@@ -25,11 +25,11 @@ prefixed front a = record {
 
 -- ---- filter
 
--- with ASCII letters lowered, where that is set; nothing else is folded
+-- with ASCII letters lowered, if that is set; nothing else is folded
 abbrev pub folded : Bool → List ℕ → List ℕ
 folded fold name = if fold then str_to_ascii_lowercase name else name
 
--- some a and b give text = a, pattern, b
+-- there are a and b such that text = a, pattern, b
 abbrev pub IsSubstring : List ℕ → List ℕ → Type 0
 IsSubstring pattern text = (a : List ℕ) × (b : List ℕ) × (text ≡ a ++ pattern ++ b)
 
@@ -37,7 +37,7 @@ IsSubstring pattern text = (a : List ℕ) × (b : List ℕ) × (text ≡ a ++ pa
 abbrev pub Matches : Bool → List (List ℕ) → List ℕ → Type 0
 Matches fold patterns name = (p : List ℕ) × Contains patterns p × IsSubstring (folded fold p) (folded fold name)
 
--- the test of it; that it decides `Matches` is a law
+-- the test of it; a law says that it decides `Matches`
 abbrev pub is_substring : List ℕ → List ℕ → Bool
 is_substring pattern [] = starts_with nat_eq [] pattern
 is_substring pattern (x ∷ text) = starts_with nat_eq (x ∷ text) pattern || is_substring pattern text
@@ -73,12 +73,12 @@ joined a b = record {
   distinct = λ kind name. distinct_joined (length a.contents) (a.targets kind name) (b.targets kind name) (a.below kind name) (a.distinct kind name) (b.distinct kind name);
 }
 
--- a fanout: all children, each beside those before it
+-- a fanout: all children, each next to those before it
 abbrev pub joined_all : List Meaning → Meaning
 joined_all [] = nothing
 joined_all (a ∷ rest) = joined a (joined_all rest)
 
--- the targets of one of several recorders, where its books stand among all
+-- the targets of one of several recorders, by the places of its books among all
 abbrev pub targets_of : ℕ → List Meaning → MetricKind → List ℕ → List (ℕ × List ℕ)
 targets_of w [] kind name = []
 targets_of zero (a ∷ rest) kind name = a.targets kind name
@@ -103,13 +103,13 @@ mask_has Counter mask = nat_eq (mask % 2) 1
 mask_has Gauge mask = nat_eq (mask / 2 % 2) 1
 mask_has Histogram mask = nat_eq (mask / 4 % 2) 1
 
--- a route: for which kinds, for names with which front, to which target
+-- a route: its kinds, the prefix of its names, its target
 pub record Route : Type 0 where
   pub mask : ℕ
   pub pattern : List ℕ
   pub target : ℕ
 
--- a route fits if its mask has the kind, and its pattern is a front of the name
+-- a route fits if its mask has the kind, and its pattern is a prefix of the name
 abbrev pub fits : MetricKind → List ℕ → Route → Bool
 fits kind name r = mask_has kind r.mask && starts_with nat_eq name r.pattern
 
@@ -134,7 +134,7 @@ abbrev pub winner_from : MetricKind → List ℕ → Option Route → List Route
 winner_from kind name best [] = best
 winner_from kind name best (r ∷ routes) = winner_from kind name (better kind name best r) routes
 
--- the winner as it is found; that it is one is a law
+-- the winner as it is found; a law says that it is one
 abbrev pub winner : List Route → MetricKind → List ℕ → Option Route
 winner routes kind name = winner_from kind name None routes
 
@@ -152,6 +152,6 @@ choosing number all = record {
   distinct = λ kind name. distinct_of (number kind name) all kind name;
 }
 
--- a router has the winner's target's list, or the default's where no route fits. Its books are the default's, then the targets'
+-- a router has the winner's target's list, or the default's if no route fits. Its books are the default's, then the targets'
 abbrev pub routed : List Route → List Meaning → Meaning
 routed routes all = choosing (λ kind name. chosen (winner routes kind name)) all

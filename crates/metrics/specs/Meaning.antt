@@ -43,12 +43,12 @@ AreNew cs = (b : ℕ) → b < length cs → content_at b cs ≡ new_book
 abbrev pub KeepsTargets : Meaning → Meaning → Type 0
 KeepsTargets old new = new.targets ≡ old.targets
 
--- a call that acts on a list of targets: on all of them, in order, or where memory was refused on the front that it tells
+-- a call that acts on a list of targets: on all of them, in order, or when out of memory on the first n, which it reports
 abbrev pub Acts : {X A : Type 0} → (X → Content → Content) → List (ℕ × X) → Meaning → Meaning → Result A Refused → (A → Type 0) → Type 0
 Acts f ts old new (Ok a) P = P a × (new.contents ≡ after_targets f ts old.contents)
 Acts f ts old new (Err e) P = IfMemory e (λ acted. (acted ≤ length ts) × (new.contents ≡ after_targets f (take acted ts) old.contents))
 
--- a describe call acts on the targets of its name, and answers their number
+-- a describe call acts on the targets of its name, and returns their number
 abbrev pub Describes : Meaning → Meaning → MetricKind → List ℕ → Option Measure → List ℕ → Result ℕ Refused → Type 0
 Describes old new kind name unit text result =
     Acts (describe_in kind unit text) (old.targets kind name) old new result (λ n. n ≡ length (old.targets kind name))
@@ -64,7 +64,7 @@ address_in kind labels cs t = record { book = t.0; series = place (key_in_book k
 abbrev pub addresses : MetricKind → List (List ℕ × List ℕ) → List (ℕ × List ℕ) → List Content → List Address
 addresses kind labels ts cs = map (address_in kind labels cs) ts
 
--- a register call acts on the targets of its name, and answers the address in each of them
+-- a register call acts on the targets of its name, and returns the address in each of them
 abbrev pub Registers : Meaning → Meaning → MetricKind → KeyParts → Result (List Address) Refused → Type 0
 Registers old new kind key result =
     Acts (λ name. register_in (key_in_book kind key.labels name)) (old.targets kind key.name) old new result
@@ -74,22 +74,22 @@ abbrev pub is_kind : MetricKind → Option MetricKind → Bool
 is_kind k None = false
 is_kind k (Some j) = kind_eq k j
 
--- whether a series of the kind stands at the address
+-- whether a series of the kind is at the address
 abbrev pub holds_at : MetricKind → Address → List Content → Bool
 holds_at kind at cs = is_kind kind (kind_at at.series (content_at at.book cs)) && nat_lt at.book (length cs)
 
--- an update of counters and gauges takes no memory
+-- an update of counters and gauges allocates nothing
 abbrev pub TakesMemory : Update → Type 0
 TakesMemory by = kind_of by ≡ Histogram
 
--- an update changes the series at its address, if one of its kind stands there
+-- an update changes the series at its address, if one of its kind is there
 abbrev pub Updates : {A : Type 0} → Meaning → Meaning → Address → Update → Result A Refused → Type 0
 Updates old new at by (Ok done) = (holds_at (kind_of by) at old.contents ≡ true) × (new.contents ≡ change_at at.book (update_in by at.series) old.contents)
 Updates old new at by (Err (Memory acted)) = (holds_at (kind_of by) at old.contents ≡ true) × TakesMemory by × (acted ≡ 0) × (new.contents ≡ old.contents)
 Updates old new at by (Err NoSuchAddress) = (holds_at (kind_of by) at old.contents ≡ false) × (new.contents ≡ old.contents)
 Updates old new at by (Err e) = ⊥
 
--- a snapshot answers the rows of the book, and resets its series of the kinds that it is to reset
+-- a snapshot returns the rows of the book, and resets its series of the kinds to reset
 abbrev pub Snapshots : Meaning → Meaning → ℕ → Reset → Result (List RowParts) Refused → Type 0
 Snapshots old new book reset (Ok found) = (book < length old.contents) × (found ≡ rows (content_at book old.contents)) × (new.contents ≡ change_at book (reset_in reset) old.contents)
 Snapshots old new book reset (Err (Memory acted)) = (book < length old.contents) × (acted ≡ 0) × (new.contents ≡ old.contents)

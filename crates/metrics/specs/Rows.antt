@@ -6,7 +6,7 @@ use Rattle.metrics.specs.declared.debugging.DebugValue.{DebugValue}
 use Rattle.metrics_names.specs.Names.{SeriesKey, series_key_eq}
 use Rattle.metrics.specs.Book.{RowParts}
 
--- what stands behind the key of a row
+-- what follows the key of a row
 abbrev pub RowRest : Type 0
 RowRest = Option Measure × Option (List ℕ) × DebugValue
 

@@ -2,7 +2,7 @@
 -- A target is the number of a book, and what is meant there: mostly the name that a metric has in that book.
 use Rattle.std.specs.Prelude.{if◌then◌else◌, ℕ, zero, suc, ◌+◌, ◌<◌, List, [], ◌∷◌, ◌≡◌, nat_eq}
 
--- the targets with their book numbers raised, for a recorder that stands behind others
+-- the targets with their book numbers raised, for a recorder that comes after others
 abbrev pub raise : {X : Type 0} → ℕ → List (ℕ × X) → List (ℕ × X)
 raise k [] = []
 raise k (t ∷ ts) = (k + t.0, t.1) ∷ raise k ts

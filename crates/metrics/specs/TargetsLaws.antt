@@ -71,14 +71,14 @@ change_at-past b f (c ∷ cs) ds =
     let e : length (c ∷ cs) + b ≡ suc (length cs + b) = omega arith in
     ap (λ k. change_at k f (c ∷ (cs ++ ds))) e ∙ ap (λ xs. c ∷ xs) (change_at-past b f cs ds)
 
--- targets below the front's number leave the rest
+-- targets with numbers below that of the first books leave the rest
 pub after_targets-front : {X C : Type 0} (f : X → C → C) (ts : List (ℕ × X)) (cs ds : List C) → AllBelow (length cs) ts → after_targets f ts (cs ++ ds) ≡ after_targets f ts cs ++ ds
 after_targets-front f [] cs ds h = refl
 after_targets-front f (t ∷ ts) cs ds h =
     ap (after_targets f ts) (change_at-front t.0 (f t.1) cs ds h.0)
     ∙ after_targets-front f ts (change_at t.0 (f t.1) cs) ds (subst (λ k. AllBelow k ts) (sym (length-change_at t.0 (f t.1) cs)) h.1)
 
--- raised targets leave the front
+-- raised targets leave the first books
 pub after_targets-past : {X C : Type 0} (f : X → C → C) (ts : List (ℕ × X)) (cs ds : List C) → after_targets f (raise (length cs) ts) (cs ++ ds) ≡ cs ++ after_targets f ts ds
 after_targets-past f [] cs ds = refl
 after_targets-past f (t ∷ ts) cs ds = ap (after_targets f (raise (length cs) ts)) (change_at-past t.0 (f t.1) cs ds) ∙ after_targets-past f ts cs (change_at t.0 (f t.1) ds)

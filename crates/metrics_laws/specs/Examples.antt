@@ -1,4 +1,4 @@
--- Worked examples: what the definitions give, with the expected values written out.
+-- Examples of the definitions, with the expected values written out.
 use Rattle.std.specs.Prelude.{◌≡◌, ℕ, zero, suc, ◌+◌, true, false, List, [], ◌∷◌, ◌++◌, map, length, None, Some, ℤ, pos, negsuc, codes}
 use Rattle.metrics_names.specs.declared.kind.MetricKind.{MetricKind}
 use Rattle.metrics_names.specs.declared.kind.MetricKind.TheVariants.{Counter, Gauge, Histogram}
@@ -19,7 +19,7 @@ use Rattle.metrics.specs.History.{Log, reached, content_after, plain_log}
 
 -- ---- words of the examples
 
--- the answers, where no memory is wanted
+-- the answers, with ample memory
 abbrev pub answers : Meaning → List Call → List Answer
 answers m calls = map (λ e. e.1) (plain_log m.targets (length m.contents) calls)
 
@@ -74,7 +74,7 @@ round_answers =
 abbrev pub TwoRounds : Type 0
 TwoRounds = answers book (round ++ round) ≡ round_answers ++ round_answers
 
--- ---- a description keeps its unit, and gives no row alone
+-- ---- a description keeps its unit, and makes no row alone
 
 abbrev pub DescriptionKeepsUnit : Type 0
 DescriptionKeepsUnit =
@@ -84,7 +84,7 @@ DescriptionKeepsUnit =
 
 -- ---- gauges that a snapshot keeps
 
--- a gauge, a counter and a histogram, of which a gauge is described
+-- a gauge, a counter and a histogram; a gauge is described
 abbrev pub three_kinds : List Call
 three_kinds =
     Call.Describe Gauge (codes "g") (Some Bytes) (codes "size")
@@ -128,7 +128,7 @@ BlocksOf65 = blocks (counting 65 0) ≡ pos 64 ∷ counting 64 0
 abbrev pub BlocksOf130 : Type 0
 BlocksOf130 = blocks (counting 130 0) ≡ pos 128 ∷ pos 129 ∷ (counting 64 64 ++ counting 64 0)
 
--- ---- refusals of handles and books
+-- ---- bad handles and book numbers fail
 
 abbrev pub PlainRefusals : Type 0
 PlainRefusals =
@@ -177,7 +177,7 @@ replaced = routed (record { mask = 1; pattern = codes "foo"; target = 0 } ∷ re
 abbrev pub LaterRouteReplaces : Type 0
 LaterRouteReplaces = (replaced.targets Counter (codes "foo.c") ≡ (2, codes "foo.c") ∷ []) × (length replaced.contents ≡ 3)
 
--- ---- a fanout of three books, the second of which found no memory for a sample
+-- ---- a fanout of three books; the second was out of memory for a sample
 
 abbrev pub three : Meaning
 three = joined_all (book ∷ book ∷ book ∷ [])

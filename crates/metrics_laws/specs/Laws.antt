@@ -10,11 +10,12 @@ use Rattle.metrics.specs.Layers.{Matches, matches, Route, NoneFits, IsWinner, wi
 abbrev pub EqualityIsOfAllParts : Type 0
 EqualityIsOfAllParts = (a b : SeriesKey) → Decides (series_key_eq a b) (a ≡ b)
 
--- a filter refuses a name exactly if some listed pattern is a substring of it
+-- a filter rejects a name exactly if some listed pattern is a substring of it
 abbrev pub FilterTestsSubstrings : Type 0
 FilterTestsSubstrings = (fold : Bool) (patterns : List (List ℕ)) (name : List ℕ) → Decides (matches fold patterns name) (Matches fold patterns name)
 
--- the winner is a fitting route such that no fitting route has a longer pattern and no later one has the same; where there is none, no route fits
+-- the winner is a fitting route such that no fitting route has a longer pattern and no later one has the same; if there is
+-- none, no route fits
 abbrev pub WinnerIsWinner : Type 0
 WinnerIsWinner = (routes : List Route) (kind : MetricKind) (name : List ℕ) → MatchOption (winner routes kind name) (NoneFits routes kind name) (IsWinner routes kind name)
 

@@ -40,7 +40,7 @@ abbrev pub series_key_eq : SeriesKey → SeriesKey → Bool
 series_key_eq a b = kind_eq a.kind b.kind && key_eq a.key b.key
 
 -- the order of composite keys: the kind, then the name's bytes, then the labels, one after another by key and value; a list
--- comes before each longer one that it begins
+-- is less than each longer one that begins with it
 abbrev pub label_cmp : List ℕ × List ℕ → List ℕ × List ℕ → Ordering
 label_cmp = then_cmp (on (λ l. l.0) (slice_cmp nat_cmp)) (on (λ l. l.1) (slice_cmp nat_cmp))
 

@@ -1,14 +1,14 @@
--- Refusals after the first n targets were acted on.
+-- Errors after the first n targets were acted on.
 use Rattle.std.specs.Prelude.{ℕ, ◌+◌, ◌<◌, ◌≤◌, ◌^◌}
 use Rattle.metrics_names.specs.declared.refused.Refused.{Refused}
 use Rattle.metrics_names.specs.declared.refused.Refused.TheVariants.{Memory, NoSuchAddress, NoSuchBook, BadHandle}
 
--- the refusal is for memory, and this holds of how many targets were acted on before
+-- the error is out of memory, and this holds of how many targets were acted on before
 abbrev pub IfMemory : Refused → (ℕ → Type 0) → Type 0
 IfMemory (Memory acted) P = P acted
 IfMemory e P = ⊥
 
--- the refusal of a call that had acted on this many targets before
+-- the error of a call that had acted on this many targets before
 abbrev pub after_front : ℕ → Refused → Refused
 after_front front (Memory acted) = Memory (front + acted)
 after_front front NoSuchAddress = NoSuchAddress

@@ -70,7 +70,7 @@ module _ {K C : Type 0} {eq : K → K → Bool} (laws : IsEquivalence eq) where
       (λ t. subst P (sym (cond-true (eq q e.0) (Some e.1) None t)) (subst Is (sym (puts q ∙ cond-true (eq key q) (Some cell) (old q) (sym flips ∙ t))) cloned))
       (λ f. subst P (sym (cond-false (eq q e.0) (Some e.1) None f)) (puts q ∙ cond-false (eq key q) (Some cell) (old q) (sym flips ∙ f)))
 
--- copies in a map that gives the same
+-- copies in a map that has the same
 pub copies-along : {K C : Type 0} (eq : K → K → Bool) (clone : C → C → Type 0) (es : List (K × C)) (old mid new : K → Option C) → Copies eq clone es old mid → ((q : K) → new q ≡ mid q) → Copies eq clone es old new
 copies-along {K} {C} eq clone es old mid new copies same q =
     let P : Option C → Type 0 = λ o. MatchOption (lookup (eq q) es) (o ≡ old q) (λ c. IsSomeAnd o (clone c)) in

@@ -39,7 +39,7 @@ module _ {K C : Type 0} {eq : K → K → Bool} (laws : IsEquivalence eq) (numbe
       (λ t. absurd (apart (ap (λ n. n % count) (same q e.0 t) ∙ of.0)))
       (λ f. cond-false (eq q e.0) (Some e.1) (lookup (eq q) es) f ∙ none-elsewhere shard es q apart of.1)
 
-  -- what is found tells where the keys belong
+  -- what is found shows where the keys belong
   pub are-of : (shard : ℕ) (es : List (K × C)) → ((q : K) → (lookup (eq q) es ≡ None → ⊥) → number q % count ≡ shard) → AreOf number count shard es
   are-of shard [] found = tt
   are-of shard (e ∷ es) found = (

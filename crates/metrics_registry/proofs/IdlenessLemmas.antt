@@ -55,7 +55,7 @@ noted_by (a ∷ earlier) = cond a.answer (Some (record { generation = a.check.ge
 abbrev start_of : {K : Type 0} → Check K → List (Answered K) → ℕ
 start_of c mine = first_moment c.moment (take_while (goes_on c.generation) mine)
 
--- the answer to a check whose run began at a moment, and what is noted after it
+-- the result of a check whose run began at a moment, and what is noted after it
 abbrev outcome : {K : Type 0} → Check K → Bool → ℕ → Bool × Option Noted
 outcome c late start = (not (late && c.held), cond (not (late && c.held)) (Some (record { generation = c.generation; moment = start })) None)
 
@@ -106,7 +106,7 @@ watch-outcome {K} timeout c (a ∷ earlier) =
 abbrev is_watched : Rules → MetricKind → Bool
 is_watched rules kind = is_some rules.timeout && rules.mask kind
 
--- where notes are taken, the table holds what the checks of the (kind, key) tell
+-- if notes are kept, the table holds what the checks of the (kind, key) say
 abbrev Agrees : {K : Type 0} → (K → K → Bool) → Rules → Table K → List (Answered K) → Type 0
 Agrees {K} same rules table earlier = (kind : MetricKind) (key : K) → is_watched rules kind ≡ true → table kind key ≡ noted_by (filter (λ a. is_of same a.check kind key) earlier)
 
@@ -123,7 +123,7 @@ unwatched-answer same rules earlier c w = go rules.timeout (rules.mask c.kind) (
     go (Some t) true start e = absurd (false≢true (sym e))
     go (Some t) false start e = refl
 
--- a check where notes are taken
+-- a check, if notes are kept
 watched-step : {K : Type 0} (same : K → K → Bool) → IsEquivalence same → (rules : Rules) (table : Table K) (earlier : List (Answered K)) (c : Check K) → Agrees same rules table earlier → is_watched rules c.kind ≡ true → check_step rules c (table c.kind c.key) ≡ outcome c (is_late rules.timeout (start_of c (earlier_of same c earlier)) c.moment) (start_of c (earlier_of same c earlier))
 watched-step same laws rules table earlier c agrees w =
     ap (λ b. cond b (watch_step rules.timeout (noted_now c) c.held (table c.kind c.key)) (true, table c.kind c.key)) w

@@ -32,7 +32,7 @@ some_before d [] e = by_answer (nat_eq d 48)
     (λ f. absurd (let e' : d ∷ [] ≡ [] = sym (cond-false (nat_eq d 48) [] (d ∷ []) f) ∙ e in cc))
 some_before d (x ∷ ds) e = absurd cc
 
--- where nothing is left, there were zeros alone
+-- if nothing is left, there were zeros alone
 all_zeros : (k n : ℕ) → without_trailing_zeros (low_digits k n) ≡ [] → n % 10 ^ k ≡ 0
 all_zeros zero n e = omega arith
 all_zeros (suc k) n e =
@@ -51,12 +51,12 @@ before d (x ∷ ds) some = refl
 digit_stays : (k n : ℕ) → (n % 10 ^ suc k ≡ 0 → ⊥) → without_trailing_zeros (low_digits (suc k) n) ≡ (48 + n / 10 ^ k % 10) ∷ without_trailing_zeros (low_digits k n)
 digit_stays k n some = before (48 + n / 10 ^ k % 10) (without_trailing_zeros (low_digits k n)) (λ e. some (all_zeros (suc k) n e))
 
--- a place is left where there is a digit
+-- a place is left if there is a digit
 pub some_place : (places n : ℕ) → (n % 10 ^ places ≡ 0 → ⊥) → suc (places - 1) ≡ places
 some_place zero n some = absurd (some (omega arith))
 some_place (suc k) n some = omega arith
 
--- a digit more was told
+-- one more digit was read
 pub pushed : (places n digit : ℕ) (old new all : List ℕ) → (n % 10 ^ places ≡ 0 → ⊥) → digit ≡ 48 + n / 10 ^ (places - 1) % 10 → new ≡ old ++ digit ∷ []
     → old ++ without_trailing_zeros (low_digits places n) ≡ all → new ++ without_trailing_zeros (low_digits (places - 1) n) ≡ all
 pushed places n digit old new all some is more told =

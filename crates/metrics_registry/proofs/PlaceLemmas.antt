@@ -2,7 +2,7 @@
 use Rattle.std.proofs.Common.{◌≡◌, ℕ, zero, suc, List, [], ◌∷◌, Some, refl, slice_get, is_some}
 use Rattle.std.specs.Map.{values_of}
 
--- the entry of a value that stands at a place
+-- the entry of a value that is at a place
 pub entry-of-value : {K C : Type 0} (es : List (K × C)) (i : ℕ) (c : C) → slice_get (values_of es) i ≡ Some c → (e : K × C) × (slice_get es i ≡ Some e) × (e.1 ≡ c)
 entry-of-value [] i c is = cc is
 entry-of-value (e ∷ es) zero c is = (e, refl, cc is)

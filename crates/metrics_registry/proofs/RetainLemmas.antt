@@ -35,7 +35,7 @@ swap-is (y ∷ ys) a b d small less =
     ap (λ v. set (set (y ∷ ys) a v) b (get_or (y ∷ ys) a y)) (get_or_default (y ∷ ys) b y d less)
     ∙ ap (λ v. set (set (y ∷ ys) a (get_or (y ∷ ys) b d)) b v) (get_or_default (y ∷ ys) a y d small)
 
--- an item that is kept moves behind those that are
+-- an item that is kept moves after those that are
 pub keeps : {F X : Type 0} (call : F → X → Bool → F → Type 0) (f g h : F) (xs ys zs : List X) (kept i : ℕ) (x : X)
     → kept ≤ i → length ys ≡ length xs → SameFrom i xs ys → Retains call f (take i xs) (take kept ys) g → slice_get ys i ≡ Some x → call g x true h → zs ≡ swap ys kept i
     → (length zs ≡ length xs) × Retains call f (take (i + 1) xs) (take (kept + 1) zs) h × SameFrom (i + 1) xs zs
@@ -63,7 +63,7 @@ keeps {F} {X} call f g h xs ys zs kept i x le long same was at calls is =
         subst P (sym e) (get_or-set_same (set ys i x) i (get_or ys i x) x (omega (arith, here.0, length-set ys i x)) ∙ here.1))
         (λ apart. get_or-set_other (set ys kept x) i kept (get_or ys kept x) x apart ∙ get_or-set_same ys kept x x small)
 
--- an item that isn't kept stays behind
+-- an item that isn't kept is left out
 pub drops : {F X : Type 0} (call : F → X → Bool → F → Type 0) (f g h : F) (xs ys : List X) (kept i : ℕ) (x : X)
     → length ys ≡ length xs → SameFrom i xs ys → Retains call f (take i xs) (take kept ys) g → slice_get ys i ≡ Some x → call g x false h
     → Retains call f (take (i + 1) xs) (take kept ys) h × SameFrom (i + 1) xs ys

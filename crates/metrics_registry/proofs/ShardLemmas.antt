@@ -103,7 +103,7 @@ module _ {A K C : Type 0} {eq : K → K → Bool} (laws : IsEquivalence eq) (num
         let all = sets-there None removes.0 distinct in
         (all.0, (all.1, removes.1 ∙ ap is_some (sym held-there), λ e. kept-entries eq number count i xs a b is p (removes.2 e) ∙ view))
 
-    -- where there is one shard
+    -- if there is one shard
     alone : count ≡ 1 → (R : List (K × C) → List (K × C) → Type 0) → R (p a) (p b) → R old (entries_of (map p (set xs i b)))
     alone one R r =
         let before : old ≡ p a = sym view ∙ entries-alone (map p xs) i (p a) (omega (arith, one, long, map-length p xs)) fits there in

@@ -24,7 +24,7 @@ module _ {F K C R : Type 0} (g : Mut F (Bor K × (Bor C × Unit {0})) R) where
   pub always-takes : (f : F) (es : List (K × C)) → always_mut g f → TakesEach g f es
   always-takes f es always = record { at = λ before after f' e split folds key cell k c. (((always-after f f' before folds always).at ((key, (cell, tt)) ∷ [])).0) }
 
-  -- entries that stand among others
+  -- entries that are among others
   pub takes-part : (f f' : F) (all done es rest : List (K × C)) → TakesEach g f all → all ≡ done ++ (es ++ rest) → FoldsTo (SomeCallAtEntry g) f done f' → TakesEach g f' es
   takes-part f f' all done es rest takes is folds = record {
     at = λ before after f'' e split more key cell k c.

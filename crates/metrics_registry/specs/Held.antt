@@ -18,7 +18,7 @@ pub record Registry (S K C G H : Type 0) : Type 0 where
   pub gauges : List (K × G)
   pub histograms : List (K × H)
 
--- what stays where one kind's entries may change
+-- what stays if one kind's entries may change
 abbrev pub CountersAlone : {S K C G H : Type 0} → Registry S K C G H → Registry S K C G H → Type 0
 CountersAlone old new = (new.storage ≡ old.storage) × (new.count ≡ old.count) × (new.gauges ≡ old.gauges) × (new.histograms ≡ old.histograms)
 
@@ -49,12 +49,12 @@ abbrev pub IsCellOf : {C : Type 0} → (C → Type 0) → Option C → C → Typ
 IsCellOf Makes None c = Makes c
 IsCellOf Makes (Some old) c = c ≡ old
 
--- one call changed the cell of a key, which was made where the key wasn't held, and gave v
+-- one call changed the cell of a key, which was made if the key wasn't held, and returned v
 abbrev pub CallsAt : {K C V : Type 0} → (K → K → Bool) → (K → C → Type 0) → (C → V → C → Type 0) → K → V → List (K × C) → List (K × C) → Type 0
 CallsAt {K} {C} {V} eq Makes call key v old new =
     (before : C) × (after : C) × IsCellOf (Makes key) (held eq old key) before × call before v after × Sets eq key (Some after) old new
 
--- a call may be made at the cell of a key, or where the key isn't held at each cell that is made
+-- a call may be made at the cell of a key, or if the key isn't held at each cell that is made
 abbrev pub MayCall : {K C : Type 0} → (K → K → Bool) → (K → C → Type 0) → (C → Type 0) → K → List (K × C) → Type 0
 MayCall {K} {C} eq Makes Takes key es = (cell : C) → IsCellOf (Makes key) (held eq es key) cell → Takes cell
 
@@ -76,13 +76,14 @@ ChangesAt {K} {C} call place v old new = (before : C) × (after : C) × (slice_g
 abbrev pub Appends : {K C V : Type 0} → (K → K → Type 0) → (C → V → C → Type 0) → K → C → V → List (K × C) → List (K × C) → Type 0
 Appends {K} {C} clone call key cell v old new = (k : K) × (after : C) × clone key k × call cell v after × (new ≡ old ++ (k, after) ∷ [])
 
--- of a key that was held all keys stay where they are; where entries are in one shard, a key that was not held comes to the end
+-- if a key was held all keys stay where they are; if entries are in one shard, a key that was not held comes to the end
 abbrev pub KeepsPlaces : {K C V : Type 0} → (K → K → Bool) → (K → K → Type 0) → (K → C → Type 0) → (C → V → C → Type 0) → Type 0 → K → V → List (K × C) → List (K × C) → Type 0
 KeepsPlaces {K} {C} eq clone Makes call InOneShard key v old new =
     (IsSome (held eq old key) → keys_of new ≡ keys_of old)
     × (held eq old key ≡ None → InOneShard → (cell : C) × Makes key cell × Appends clone call key cell v old new)
 
--- one call was made on the cell of a key, which was made where the key wasn't held; a refusal changes nothing, and never meets a key that is held
+-- one call was made on the cell of a key, which was made if the key wasn't held; a call that fails changes nothing, and no
+-- call for a held key fails
 abbrev pub GetsOrCreates : {K C V : Type 0} → (K → K → Bool) → (K → K → Type 0) → (K → C → Type 0) → (C → V → C → Type 0) → Type 0 → K → Result V Error → List (K × C) → List (K × C) → Type 0
 GetsOrCreates eq clone Makes call InOneShard key result old new = MatchResult result
     (λ v. CallsAt eq Makes call key v old new × KeepsPlaces eq clone Makes call InOneShard key v old new)
@@ -103,11 +104,11 @@ entries_of (es ∷ shards) = es ++ entries_of shards
 abbrev pub AreOf : {K C : Type 0} → (K → ℕ) → ℕ → ℕ → List (K × C) → Type 0
 AreOf number count shard es = AllByRecursion (λ e. number e.0 % count ≡ shard) es
 
--- the shard of a key among all entries: it holds the key as they do, and no key stands twice in them
+-- the shard of a key among all entries: it holds the key as they do, and no key is in them twice
 abbrev pub IsShardOf : {K C : Type 0} → (K → K → Bool) → K → List (K × C) → List (K × C) → Type 0
 IsShardOf eq key shard all = (held eq shard key ≡ held eq all key) × IsDistinct eq (keys_of all)
 
--- from a shard on, each key stands in its own shard, and no key twice
+-- from a shard on, each key is in its own shard, and no key twice
 abbrev pub ArePlaced : {K C : Type 0} → (K → K → Bool) → (K → ℕ) → ℕ → ℕ → List (List (K × C)) → Type 0
 ArePlaced eq number count shard [] = Unit {0}
 ArePlaced eq number count shard (es ∷ shards) =
@@ -115,7 +116,7 @@ ArePlaced eq number count shard (es ∷ shards) =
 
 -- ---- calls
 
--- a call of f at a `&` to a key and one to its cell may answer r, and leave f as f'
+-- a call of f at a `&` to a key and one to its cell may return r, and leave f as f'
 pub record CallsAtEntry {F K C R : Type 0} (g : Mut F (Bor K × (Bor C × Unit {0})) R) (f : F) (e : K × C) (r : R) (f' : F) : Type 0 where
   pub key : Bor K
   pub cell : Bor C
@@ -148,18 +149,18 @@ RetainsEach g f old new last = Retains (λ p e b q. CallsAtEntry g p e b q) f ol
 abbrev pub Copies : {K C : Type 0} → (K → K → Bool) → (C → C → Type 0) → List (K × C) → (K → Option C) → (K → Option C) → Type 0
 Copies {K} eq clone es old new = (q : K) → MatchOption (held eq es q) (new q ≡ old q) (λ c. IsSomeAnd (new q) (clone c))
 
--- so it is of a front of the entries, behind which another one stands
+-- so it is of the first n entries, after which there is another one
 abbrev pub CopiesFront : {K C : Type 0} → (K → K → Bool) → (C → C → Type 0) → List (K × C) → (K → Option C) → (K → Option C) → Type 0
 CopiesFront {K} {C} eq clone es old new =
     (front : List (K × C)) × (next : K × C) × (rest : List (K × C)) × (es ≡ front ++ next ∷ rest) × Copies eq clone front old new
 
--- a map has a clone of each cell, and nothing else; or memory was refused, where there are entries
+-- a map has a clone of each cell, and nothing else; or memory ran out, if there are entries
 abbrev pub AreCopied : {K C S : Type 0} → (K → K → Bool) → (C → C → Type 0) → List (K × C) → Result (HashMap K C S) Error → Type 0
 AreCopied {K} {C} eq clone es result = MatchResult result (λ m. Copies eq clone es (λ _. None) (get eq m)) (λ e. (e ≡ Memory) × ¬ (es ≡ []))
 
 -- ---- what stays
 
--- where a key stays nothing changed, and else it is gone
+-- if a key stays nothing changed, and else it is gone
 abbrev pub StaysOrGoes : {K C : Type 0} → (K → K → Bool) → K → Bool → List (K × C) → List (K × C) → Type 0
 StaysOrGoes eq key true old new = new ≡ old
 StaysOrGoes eq key false old new = Sets eq key None old new

@@ -14,6 +14,6 @@ module _ (K C : RattleType) (members : HashMembers K.Denot) where
   abbrev pub cells_row : RattleType
   cells_row = the_row K C (record { hash_input = members.hash_input }) (record { eq = members.eq })
 
-  -- the cell of the key ends as the last value behind r; at `None` all stays
+  -- the cell of the key ends as the last value of r; at `None` all stays
   abbrev pub lends_cell : MutBor (List (K.Denot × C.Denot)) → K.Denot → Option (MutBor C.Denot) → Fml
   lends_cell cells key r = LendsSo cells_row C cells r (λ new w. Writes members.eq key cells.now w new) (λ new. new ≡ cells.now)

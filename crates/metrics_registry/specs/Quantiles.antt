@@ -12,7 +12,7 @@ abbrev pub low_digits : ℕ → ℕ → List ℕ
 low_digits zero n = []
 low_digits (suc k) n = (48 + n / 10 ^ k % 10) ∷ low_digits k n
 
--- a digit before others, but for a zero before none
+-- a digit before others, except a zero before none
 abbrev pub digit_before : ℕ → List ℕ → List ℕ
 digit_before d [] = if d == 48 then [] else d ∷ []
 digit_before d (e ∷ ds) = d ∷ e ∷ ds
@@ -35,6 +35,6 @@ label_of q = if q == 0 then 109 ∷ 105 ∷ 110 ∷ []
 abbrev pub nearest_rank : ℕ → ℕ → ℕ
 nearest_rank q n = (q * n + 999999999) / 1000000000
 
--- the value of that rank, if there is one; the first has rank 1, and rank 0 is taken for it
+-- the value of that rank, if there is one; the first has rank 1, and rank 0 counts as 1
 abbrev pub of_sorted : ℕ → List ℤ → Option ℤ
 of_sorted q xs = slice_get xs (nearest_rank q (length xs) - 1)

@@ -6,7 +6,7 @@ use Rattle.metrics_registry.specs.declared.recency.Noted.{Noted}
 use Rattle.metrics_names.specs.declared.kind.MetricKind.{MetricKind}
 use Rattle.metrics_names.specs.Names.{kind_eq}
 
--- how long a series stays unseen, if that is bounded, and of which kinds
+-- how long a series may stay unseen, if that is bounded, and of which kinds
 pub record Rules : Type 0 where
   pub timeout : Option ℕ
   pub mask : MetricKind → Bool
@@ -39,7 +39,7 @@ is_late (Some timeout) from now = nat_lt timeout (now - from)
 abbrev pub noted_now : {K : Type 0} → Check K → Noted
 noted_now c = record { generation = c.generation; moment = c.moment }
 
--- one check where notes are taken: the answer, and what is noted after it
+-- one check, if notes are kept: the result, and what is noted after it
 abbrev pub watch_step : Option ℕ → Noted → Bool → Option Noted → Bool × Option Noted
 watch_step timeout seen held None = (true, Some seen)
 watch_step timeout seen held (Some noted) =
@@ -47,15 +47,15 @@ watch_step timeout seen held (Some noted) =
     then (if is_late timeout noted.moment seen.moment && held then (false, None) else (true, Some noted))
     else (true, Some seen)
 
--- notes are taken of a kind: there is a timeout, and the mask has the kind
+-- notes are kept of a kind: there is a timeout, and the mask has the kind
 abbrev pub is_watched : Rules → MetricKind → Bool
 is_watched rules kind = is_some rules.timeout && rules.mask kind
 
--- one check: of a kind that is not watched the answer is true and nothing is noted
+-- one check: for a kind that is not watched the result is true and nothing is noted
 abbrev pub check_step : {K : Type 0} → Rules → Check K → Option Noted → Bool × Option Noted
 check_step rules c noted = if is_watched rules c.kind then watch_step rules.timeout (noted_now c) c.held noted else (true, noted)
 
--- the answer to a check by the table
+-- the result of a check by the table
 abbrev pub table_answer : {K : Type 0} → Rules → Check K → Table K → Bool
 table_answer rules c table = (check_step rules c (table c.kind c.key)).0
 
@@ -63,12 +63,12 @@ table_answer rules c table = (check_step rules c (table c.kind c.key)).0
 abbrev pub table_after : {K : Type 0} → (K → K → Bool) → Rules → Check K → Table K → Table K
 table_after same rules c table = λ kind key. if is_of same c kind key then (check_step rules c (table c.kind c.key)).1 else table kind key
 
--- the answers to checks, one after another
+-- the results of checks, one after another
 abbrev pub table_answers : {K : Type 0} → (K → K → Bool) → Rules → Table K → List (Check K) → List Bool
 table_answers same rules table [] = []
 table_answers same rules table (c ∷ checks) = table_answer rules c table ∷ table_answers same rules (table_after same rules c table) checks
 
--- a step was answered, and noted of a key alone; after a want of memory the notes are as they were
+-- a step had its result, and noted one key alone; after running out of memory the notes are as they were
 abbrev pub IsNoted : {K : Type 0} → (K → K → Bool) → Bool × Option Noted → K → Result Bool Error → (K → Option Noted) → (K → Option Noted) → Type 0
 IsNoted {K} same step key result old new = MatchResult result
     (λ stays. (stays ≡ step.0) × ((q : K) → new q ≡ (if same key q then step.1 else old q)))

@@ -19,7 +19,8 @@ table_of same r kind key = get same (of_kind kind r.noted) key
 abbrev pub check_of : {K : Type 0} → MetricKind → K → ℕ → ℕ → Bool → Check K
 check_of kind key generation moment held = record { kind = kind; key = key; generation = generation; moment = moment; held = held }
 
--- a check was answered by the table, which is one check further, and the cells of the kind lack the key after false; a refusal changes nothing, and never meets a key that is noted, or a kind that is not watched
+-- the table decided a check, and is one check further; the cells of the kind lack the key after false; a check that fails
+-- changes nothing, and none fails for a key that is noted, or a kind that is not watched
 abbrev pub IsChecked : {K C : Type 0} → (K → K → Bool) → Rules → Check K → Result Bool Error → Table K → Table K → List (K × C) → List (K × C) → Type 0
 IsChecked {K} same rules c result old new cells cells' = MatchResult result
     (λ stays. (stays ≡ table_answer rules c old) × ((kind : MetricKind) (q : K) → new kind q ≡ table_after same rules c old kind q) × StaysOrGoes same c.key stays cells cells')

@@ -86,7 +86,7 @@ rank-above (c ∷ bounds) (suc k) d x lt above =
     let b = get_or bounds k d in let le : b ≤ℤ x = omega (arith, ints, above) in
     omega (arith, rank-cons c bounds b, rank-cons c bounds x, adds-more c b x le, rank-above bounds k d x (omega arith) above)
 
--- a sample is at most a bound where its rank is at most the bound's
+-- a sample is at most a bound if its rank is at most the bound's
 rank-tells : (bounds : List ℤ) (k : ℕ) (d x : ℤ) → k < length bounds → one (nat_lt (rank bounds x) (rank bounds (get_or bounds k d) + 1)) ≡ one (int_le x (get_or bounds k d))
 rank-tells bounds k d x lt = by (int_le x b) refl
   where
@@ -185,7 +185,7 @@ buckets-zeros bounds m = map-elements _ _ bounds (λ k d lt. let b = get_or boun
 
 -- ---- fields
 
--- what a lent vector holds once as many items are written back
+-- what a borrowed vector holds once as many items are written back
 pub refilled : {A : Type 0} (n : ℕ) (xs ys : List A) → n ≡ length xs → length ys ≡ length xs → take n (ys ++ drop (length ys) xs) ≡ ys
 refilled n xs ys e l = take_at ys (drop (length ys) xs) n (l ∙ sym e)
 

@@ -55,7 +55,7 @@ module _ {A : Type 0} where
   one_follows (e ∷ []) c d h full some fits = (h.0, one_follows [] c d h.1 full some fits)
   one_follows (e ∷ f ∷ front) c d h full some fits = (h.0, one_follows (f ∷ front) c d h.1 full some fits)
 
-  -- chunks of which the last is full hold a multiple of 64
+  -- chunks whose last one is full hold a multiple of 64
   all_full : (front : List (List A)) (c : List A) → AreChunks (front ++ c ∷ []) → length c ≡ 64 → length (joined_lists (front ++ c ∷ [])) % 64 ≡ 0
   all_full [] c h full = omega (arith, length-append c [])
   all_full (e ∷ []) c h full = let rest = joined_lists (c ∷ []) in omega (arith, length-append e rest, h.0, all_full [] c h.1 full)
@@ -82,7 +82,7 @@ module _ {A : Type 0} where
   pub new_values : (old : List (List A)) (x : A) → joined_lists (old ++ (x ∷ []) ∷ []) ≡ joined_lists old ++ x ∷ []
   new_values old x = joined-append old (x ∷ [])
 
-  -- where no block has room, the values are a multiple of 64
+  -- if no block has room, the values are a multiple of 64
   pub no_room : (old : List (List A)) → HasNoRoom old → AreChunks old → length (joined_lists old) % 64 ≡ 0
   no_room old (inl e) h = subst (λ l. length (joined_lists l) % 64 ≡ 0) (sym e) refl
   no_room old (inr f) h = subst (λ l. length (joined_lists l) % 64 ≡ 0) (sym f.3) (all_full f.0 f.1 (subst AreChunks f.3 h) f.2)
@@ -94,13 +94,13 @@ both_some zero n h g = absurd (omega arith)
 both_some (suc m) zero h g = absurd (omega arith)
 both_some (suc m) (suc n) h g = eqb-suc-zero m ∙ sym (eqb-suc-zero n)
 
--- there is a block exactly where there is a value
+-- there is a block exactly if there is a value
 pub empty_same : {A : Type 0} (cs : List (List A)) → AreChunks cs → (length cs == 0) ≡ (length (joined_lists cs) == 0)
 empty_same [] h = refl
 empty_same (c ∷ []) h = both_some 1 (length (c ++ [])) (omega arith) (omega (arith, length-append c [], h.0))
 empty_same (c ∷ d ∷ cs) h = let rest = joined_lists (d ∷ cs) in both_some (length (c ∷ d ∷ cs)) (length (c ++ rest)) (omega arith) (omega (arith, length-append c rest, h.0))
 
--- where there is a block there is a value
+-- if there is a block there is a value
 pub some_same : {A : Type 0} (cs : List (List A)) → AreChunks cs → 0 < length cs → 0 < length (joined_lists cs)
 some_same [] h some = absurd (omega (arith, some))
 some_same (c ∷ []) h some = omega (arith, length-append c [], h.0)

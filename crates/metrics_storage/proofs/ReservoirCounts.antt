@@ -204,7 +204,7 @@ count-full m k n j draws l full e =
     ∙ ap (λ x. x * lists (length draws) m) full
     ∙ ap (λ x. k * x) (sym (count-all m draws))
 
--- where item j is the next, and all places are filled
+-- if item j is the next, and all places are filled
 count-next : (m k n j : ℕ) (draws : List ℕ) → k ≤ j → length draws ≡ j → length draws + suc m ≡ n → n * count (suc m) (is_kept k j) draws ≡ k * count (suc m) (λ _. true) draws
 unfolding lists
 count-next m k n j draws le next e =

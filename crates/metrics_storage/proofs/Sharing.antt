@@ -1,4 +1,4 @@
--- A `&` to the places of a block is made where one to a value is. Assumes `Logic`.
+-- A `&` to the places of a block is made from one to a value. Assumes `Logic`.
 use Prim.Native.Nat.{ℕ, zero, suc, ◌+◌}
 use Rattle.std.specs.Prelude.{List, [], ◌∷◌}
 use Rattle.std.specs.Mem.{type_size}
@@ -22,7 +22,7 @@ lent-laws R L null_ptr xs = said_shr_laws ffalse tt
 lent-laws R L (block_ptr b o) xs = beside_shr_laws (said (fits R)) (elements_shared R xs b o) (said_shr_laws (fits R) tt) (elements_shr_laws R L xs b o)
 
 module _ {M : Type 1} {𝓤 : Ura M} (𝓛 : Logic 𝓤) (l : Lft) (R : RattleType) (L : Laws R) (inc : Incl l R.lives) where
-  -- the values are lent one by one, and the room after them stays behind
+  -- the values are borrowed one by one, and the room after them stays
   Lends-values : (n b o : ℕ) (xs : List R.Denot) → Lends 𝓛 (places R b o n xs) (elements_shared R xs b o) l
   Lends-values n b o [] = Lends-nothing 𝓛 (places R b o n []) l
   Lends-values zero b o (x ∷ xs) = Lends-false 𝓛 (elements_shared R (x ∷ xs) b o) l

@@ -18,7 +18,7 @@ last_of (b ∷ c ∷ bs) zero d y e = absurd (omega arith)
 last_of (b ∷ c ∷ bs) (suc i) d y e = let on = last_of (c ∷ bs) i d y (omega arith) in (b ∷ on.0, ap (λ l. b ∷ l) on.1, ap (λ l. b ∷ l) on.2)
 
 module _ {E : Type 0} where
-  -- a fact of the case Ok, where that case is known
+  -- a fact of the case Ok, if that case is known
   pub on_ok : {A P Q : Type 0} (r : Result A E) → (IsOk r → P → Q) → OnOk r P → OnOk r Q
   on_ok (Ok x) h p = h refl p
   on_ok (Err e) h p = p

@@ -1,4 +1,4 @@
--- What a drain of a reservoir tells.
+-- What a drain of a reservoir reports.
 use Rattle.std.specs.Prelude.{if◌then◌else◌, ◌≡◌, ℕ, ℤ, List, [], ◌∷◌, length, Option, None, Some, nat_eq}
 use Rattle.metrics_storage.specs.Sample.{Sampled}
 
@@ -12,7 +12,7 @@ pub record Drained : Type 0 where
 abbrev pub drain_of : Sampled → Drained
 drain_of s = record { left = s.held; held = length s.held; pushed = s.pushed; total = s.total }
 
--- how many of how many, and one of one where none was dropped
+-- how many of how many, and one of one if none was dropped
 abbrev pub rate_of : Drained → ℕ × ℕ
 rate_of d = if nat_eq d.held d.pushed then (1, 1) else (d.held, d.pushed)
 

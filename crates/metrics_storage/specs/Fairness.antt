@@ -18,7 +18,7 @@ is_kept k j draws = some_below (min k (length draws)) (λ p. option_eq nat_eq (i
 abbrev pub KeptHasPlace : Type 0
 KeptHasPlace = (k j : ℕ) (draws : List ℕ) → Decides (is_kept k j draws) ((p : ℕ) × (p < min k (length draws)) × (item_at k draws p ≡ Some j))
 
--- how many lists that lengthen a front of draws by m more pass a test: a front of i draws goes on by each of 0 to i
+-- how many lists that lengthen the first draws by m more pass a test: i draws go on by each of 0 to i
 abbrev pub count : ℕ → (List ℕ → Bool) → List ℕ → ℕ
 count zero test draws = if test draws then 1 else 0
 count (suc m) test draws = sum_through (λ d. count m test (draws ++ d ∷ [])) (length draws)

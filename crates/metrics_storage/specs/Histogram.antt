@@ -39,7 +39,7 @@ with_samples samples h = record {
 abbrev pub bounds_of : Distribution → List ℤ
 bounds_of h = map (λ b. b.0) h.buckets
 
--- the samples of both, where their bounds are the same
+-- the samples of both, if their bounds are the same
 abbrev pub merged : Distribution → Distribution → Distribution
 merged h g = record {
   buckets = map (λ p. (p.0.0, p.0.1 + p.1.1)) (zip h.buckets g.buckets);
@@ -53,7 +53,7 @@ MergingAddsSamples = (xs ys : List ℤ) (h : Distribution) → merged (with_samp
 
 -- ---- in ascending order
 
--- the buckets with one more in its place; a bound that stands there already does not come again
+-- the buckets with one more in its place; a bound that is there already does not come again
 abbrev pub bucket_placed : ℤ × ℕ → List (ℤ × ℕ) → List (ℤ × ℕ)
 bucket_placed b [] = b ∷ []
 bucket_placed b (c ∷ cs) = if int_lt b.0 c.0 then b ∷ c ∷ cs else (if int_lt c.0 b.0 then c ∷ bucket_placed b cs else c ∷ cs)
@@ -76,7 +76,7 @@ rank bounds x = count_by (λ bound. int_lt bound x) bounds
 abbrev pub own_ranks : List ℤ → List ℕ
 own_ranks bounds = map (rank bounds) bounds
 
--- the places of bounds with one more in its own place; a bound that stands there already does not come again
+-- the places of bounds with one more in its own place; a bound that is there already does not come again
 abbrev pub place_added : List ℤ → ℕ → List ℕ → List ℕ
 place_added bounds i [] = i ∷ []
 place_added bounds i (k ∷ ks) =
@@ -101,7 +101,7 @@ sum_up_to (suc n) (k ∷ ks) = k + sum_up_to n ks
 abbrev pub total : List ℕ → ℕ
 total ks = sum_up_to (length ks) ks
 
--- the buckets, where the numbers tell at each rank how many samples have it
+-- the buckets, from the numbers of samples at each rank
 abbrev pub buckets_of : List ℤ → List ℕ → List (ℤ × ℕ)
 buckets_of bounds ranks = map (λ bound. (bound, sum_up_to (rank bounds bound + 1) ranks)) bounds
 

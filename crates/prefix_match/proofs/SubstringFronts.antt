@@ -17,7 +17,7 @@ bytes_same xs ys h = (bytes_eq-Decides xs ys).1 h
 pub bytes_differ : (xs ys : List ℕ) → (xs ≡ ys → ⊥) → bytes_eq xs ys ≡ false
 bytes_differ xs ys h = false_from_ne_true _ (λ e. h (same_bytes xs ys e))
 
--- where a test passes, so does the other
+-- if one test passes, so does the other
 any_from_any : (p q : List ℕ → Bool) → ((x : List ℕ) → p x ≡ true → q x ≡ true) → (xs : List (List ℕ)) → list_any p xs ≡ true → list_any q xs ≡ true
 any_from_any p q h [] e = e
 any_from_any p q h (x ∷ xs) e =

@@ -29,7 +29,7 @@ linking_start old order = record {
   marked = λ ps t x l. inl (t.patterns x l);
 }
 
--- each state of less bytes stands before
+-- each state of less bytes comes before
 pub stands_before : (old : List Node) (order : List Place) (k x : ℕ) → IsByDepth old order → k < length order → x < length old → length (text_of old x) < length (text_of old (state_in order k)) → (j : ℕ) × ((j < k) × (state_in order j ≡ x))
 stands_before old order k x o l xl short =
     let c = o.all x xl in

@@ -17,7 +17,7 @@ pub record IsWalking (nodes : List Node) (t : List ℕ) (i state moves : ℕ) : 
   pub text : (ps : List (List ℕ)) → IsLinked ps nodes → text_of nodes state ≡ longest_front ps (take i t)
   pub none : (ps : List (List ℕ)) → IsLinked ps nodes → (k : ℕ) → k ≤ i → some_ends ps (take k t) ≡ false
 
--- a state's match tells of all that was read
+-- a state's match is that of all that was read
 pub told : (ps : List (List ℕ)) (nodes : List Node) (w : List ℕ) (s : ℕ) (b : Bool) → IsLinked ps nodes → s < length nodes → text_of nodes s ≡ longest_front ps w → (node_at nodes s).matching ≡ b → some_ends ps w ≡ b
 told ps nodes w s b k l e m = some_ends_front ps w ∙ ap (some_ends ps) (sym e) ∙ sym (k.links s l).matching ∙ m
 

@@ -50,7 +50,7 @@ text_of-child nodes (suc c) t l i =
     let down : parent (suc c) < suc c = t.parents (suc c) l i in
     ap (λ w. w ++ byte (suc c) ∷ []) (same_fuel (length nodes) parent byte t.parents c (parent (suc c)) (parent (suc c)) (omega arith) (omega arith) (omega arith))
 
--- texts stay where the parents and the bytes do
+-- texts stay if the parents and the bytes do
 pub same_texts : (old new : List Node) → IsTree old → ((x : ℕ) → x < length old → (node_at new x).parent ≡ (node_at old x).parent) → ((x : ℕ) → x < length old → (node_at new x).byte ≡ (node_at old x).byte) → (s : ℕ) → s < length old → text_of new s ≡ text_of old s
 unfolding text_of
 same_texts old new t p q s l =

@@ -9,7 +9,7 @@ use Rattle.prefix_match.proofs.SubstringFronts.{longest_front_nil, longest_front
 use Rattle.prefix_match.proofs.SubstringWalks.{walk_end_is, moves_to, moves_to_stay, moves_to_go, moves_is}
 use Rattle.prefix_match.proofs.SubstringFilling.{row_ends}
 
--- where a walk stands after i bytes, without a match
+-- the place of a walk after i bytes, without a match
 pub record StandsAt (ps : List (List ℕ)) (text : ℕ → List ℕ) (count width : ℕ) (t : List ℕ) (i row counted : ℕ) : Type 0 where
   pub state : ℕ
   pub within : state < count
@@ -148,7 +148,7 @@ table_over ps fold classes next raw i row counted t all h =
       count = a.count_is ∙ moves_is ps s i end;
     }
 
--- where the empty list is a pattern, no byte is read
+-- if the empty list is a pattern, no byte is read
 pub table_at_start : (ps : List (List ℕ)) (t : List ℕ) → some_ends ps [] ≡ true → IsTableWalk ps t true 0
 table_at_start ps t hit =
     let end : walk_end ps t ≡ 0 = walk_end_is ps t 0 (omega arith) (λ k up. absurd (omega arith)) (λ up. hit) in

@@ -51,7 +51,7 @@ ends_at_end ps t n h e =
       ]
     ]
 
--- what stands in the text ends at some place of it
+-- what occurs in the text ends at some place of it
 pub ends_from_occurs : (s : Patterns) (text : List ℕ) → Occurs s text → some_ends (compared s) (take (walk_end (compared s) (lowered s.fold_case text)) (lowered s.fold_case text)) ≡ true
 ends_from_occurs s text o =
     let ps : List (List ℕ) = compared s in

@@ -6,7 +6,7 @@ use Rattle.std.specs.Str.{bytes_eq}
 use Rattle.prefix_match.specs.TriePatterns.{stored, IsFront, HasNoFront, IsLongest}
 use Rattle.prefix_match.proofs.TrieFronts.{front_begins, begins_one}
 
--- two fronts of a text of one length are one
+-- two prefixes of a text of one length are one
 pub front_one : (p q text : List ℕ) → IsFront p text → IsFront q text → length p ≡ length q → p ≡ q
 front_one p q text f g e = begins_one p q text (front_begins p text f) (front_begins q text g) e
 

@@ -1,4 +1,4 @@
--- Where a pattern's way leaves that to a child.
+-- The place where a pattern's way leaves that to a child.
 use Rattle.std.proofs.Common.{◌≡◌, ℕ, ◌<◌, List, [], length, take, get_or, Some, None, sym, ap, ◌∙◌, subst, arith, slice_index, inl, inr}
 use Rattle.std.proofs.lemmas.Bool.{cases_lt, cases_eq}
 use Rattle.std.proofs.lemmas.List.{length-map, get_or_push, take_all, length-take-le, get_or_default}

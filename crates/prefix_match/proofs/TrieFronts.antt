@@ -36,13 +36,13 @@ goes_on p q s bp bq l = record {
   next_byte = begins_at q s (length p) bq l;
 }
 
--- a front, and the byte behind it
+-- a prefix, and the byte after it
 pub begins_more : (p q : List ℕ) (byte : ℕ) → Begins p q → length p < length q → get_or q (length p) 0 ≡ byte → Begins (p ++ byte ∷ []) q
 begins_more p q byte b l e =
     let one : length (p ++ byte ∷ []) ≡ suc (length p) = omega (arith, length-append p (byte ∷ [])) in
     ap (λ n. take n q) one ∙ take-suc q (length p) 0 l ∙ ap (λ x. x ++ get_or q (length p) 0 ∷ []) b ∙ ap (λ x. p ++ x ∷ []) e
 
--- past a common front, one begins with the other exactly where the rest does
+-- past a common prefix, one begins with the other exactly if the rest does
 pub rest_begins : (p q s : List ℕ) (r : Bool) → Begins p q → Begins p s → length q ≤ length s → r ≡ starts_with nat_eq (drop (length p) s) (drop (length p) q) → r ≡ true → Begins q s
 rest_begins p q s r bq bs l e t =
     let same : drop (length p) q ≡ take (length (drop (length p) q)) (drop (length p) s) = (bytes_eq-Decides _ _).0 (sym e ∙ t) in

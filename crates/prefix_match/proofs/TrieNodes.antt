@@ -50,7 +50,7 @@ goes_past nodes text n c p t l b ep room es =
       begins_more (path_at nodes n) text byte b (subst (λ (x : List ℕ). length x < length text) ep room) refl,
     )
 
--- the rest of the child's path is no front of the rest of the text
+-- the rest of the child's path is no prefix of the rest of the text
 pub deepest_at_other : (nodes : List Node) (text : List ℕ) (n c : ℕ) (p q : List ℕ) (past : ℕ) (r : Bool) → AreTree nodes → n < length nodes → Begins (path_at nodes n) text →
     p ≡ path_at nodes n → q ≡ path_at nodes c → Some c ≡ child_at nodes n (get_or text (length p) 0) → past ≡ length p + 1 → length p < length text →
     r ≡ starts_with nat_eq (drop past text) (drop past q) → r ≡ false → IsDeepest nodes text n
@@ -71,7 +71,7 @@ deepest_at_other nodes text n c p q past r t l b ep eq es ex room ers f =
           ];
     }
 
--- and where it is one
+-- and if it is one
 pub next_at_child : (nodes : List Node) (text : List ℕ) (n c : ℕ) (p q : List ℕ) (past : ℕ) (r : Bool) → AreTree nodes → n < length nodes → Begins (path_at nodes n) text →
     p ≡ path_at nodes n → q ≡ path_at nodes c → Some c ≡ child_at nodes n (get_or text (length p) 0) → past ≡ length p + 1 → length p < length text →
     r ≡ starts_with nat_eq (drop past text) (drop past q) → (r ≡ true → length (drop past q) ≤ length (drop past text)) → r ≡ true → IsNext nodes text n c
@@ -89,7 +89,7 @@ next_at_child nodes text n c p q past r t l b ep eq es ex room ers bound y =
       next = λ m lm bm h. begins_fits (path_at nodes c) (path_at nodes m) (past_child nodes text n c m t l b e lm bm h);
     }
 
--- the child of a node, where there is one
+-- the child of a node, if there is one
 pub some_child_within : (nodes : List Node) (n byte : ℕ) (o : Option ℕ) → AreTree nodes → n < length nodes → o ≡ child_at nodes n byte → IfSome o (λ c. c < length nodes)
 some_child_within nodes n byte None t l e = tt
 some_child_within nodes n byte (Some c) t l e = child_within nodes n byte c t l e

@@ -4,7 +4,7 @@ use Rattle.std.proofs.lemmas.Bool.{cases_lt, cases_eq, cases_order}
 use Rattle.prefix_match.specs.TrieTree.{Begins, GoesOn, IsTree}
 use Rattle.prefix_match.proofs.TrieFronts.{begins_trans, begins_fits, goes_on, begins_one, begins_self}
 
--- where a path goes on past a node, the node has a child that lies on the way
+-- if a path goes on past a node, the node has a child on the way
 pub way_none : (count : ℕ) (path : ℕ → List ℕ) (child : ℕ → ℕ → Option ℕ) → IsTree count path child → (n m byte : ℕ) → n < count → m < count →
     GoesOn (path n) (path m) byte → child n byte ≡ None → ⊥
 way_none count path child t n m byte ln lm g e =

@@ -52,7 +52,7 @@ with_child nodes s byte =
     let added : Node = record { byte = byte; matching = false; parent = s; first_child = 0; next_sibling = (node_at nodes s).first_child; fail = 0 } in
     slice_set (nodes ++ added ∷ []) s (record (get_or (nodes ++ added ∷ []) s no_node) { first_child = length nodes })
 
--- the states' texts are the empty list and the fronts of the patterns
+-- the states' texts are the empty list and the prefixes of the patterns
 pub record HasFronts (ps : List (List ℕ)) (nodes : List Node) : Type 0 where
   pub fronts : (w : List ℕ) → is_front ps w ≡ true → (x : ℕ) × ((x < length nodes) × (text_of nodes x ≡ w))
   pub only : (x : ℕ) → 0 < x → x < length nodes → is_front ps (text_of nodes x) ≡ true
@@ -90,7 +90,7 @@ Falls nodes x = 0 < x → ((node_at nodes x).fail < length nodes) × (length (te
 abbrev pub FallsBelow : List Node → ℕ → Type 0
 FallsBelow nodes d = (x : ℕ) → x < length nodes → length (text_of nodes x) < d → Falls nodes x
 
--- a state's fail link leads to the longest front that ends its text but for the first byte
+-- a state's fail link leads to the longest prefix that ends its text without the first byte
 pub record IsLink (ps : List (List ℕ)) (nodes : List Node) (x : ℕ) : Type 0 where
   pub within : (node_at nodes x).fail < length nodes
   pub fail : 0 < x → text_of nodes (node_at nodes x).fail ≡ longest_front ps (drop 1 (text_of nodes x))
@@ -100,7 +100,7 @@ pub record IsLink (ps : List (List ℕ)) (nodes : List Node) (x : ℕ) : Type 0 
 abbrev pub IsLinkedBelow : List (List ℕ) → List Node → ℕ → Type 0
 IsLinkedBelow ps nodes d = (x : ℕ) → x < length nodes → length (text_of nodes x) < d → IsLink ps nodes x
 
--- a state's match is told by the patterns themselves, or by those that end it
+-- a state's match is decided by the patterns themselves, or by those that end it
 abbrev pub IsMarked : List (List ℕ) → List Node → ℕ → Type 0
 IsMarked ps nodes x = ((node_at nodes x).matching ≡ is_pattern ps (text_of nodes x)) ⊎ ((node_at nodes x).matching ≡ some_ends ps (text_of nodes x))
 
@@ -109,17 +109,17 @@ pub record IsLinked (ps : List (List ℕ)) (nodes : List Node) : Type 0 where
   pub has : HasFronts ps nodes
   pub links : (x : ℕ) → x < length nodes → IsLink ps nodes x
 
--- a byte leads from a state to the longest front of what was read, where the states that are no longer are linked
+-- a byte leads from a state to the longest prefix at the end of what was read, if the states that are no longer are linked
 abbrev pub StepsTo : List Node → ℕ → ℕ → ℕ → Type 0
 StepsTo nodes s byte next =
     (ps : List (List ℕ)) → HasFronts ps nodes → IsLinkedBelow ps nodes (length (text_of nodes s) + 1) → text_of nodes next ≡ longest_front ps (text_of nodes s ++ byte ∷ [])
 
--- where a state's fail link is to lead, where the shorter states are linked
+-- the target of a state's fail link, if the shorter states are linked
 abbrev pub FailsTo : List Node → ℕ → ℕ → Type 0
 FailsTo nodes s f =
     (ps : List (List ℕ)) → HasFronts ps nodes → IsLinkedBelow ps nodes (length (text_of nodes s)) → 0 < s → text_of nodes f ≡ longest_front ps (drop 1 (text_of nodes s))
 
--- a state is linked, where the shorter states were
+-- a state is linked, if the shorter states were
 abbrev pub LinksState : List Node → List Node → ℕ → Type 0
 LinksState old new s =
     (ps : List (List ℕ)) → HasFronts ps old → IsLinkedBelow ps old (length (text_of old s)) → IsMarked ps old s → IsLink ps new s
@@ -127,7 +127,7 @@ LinksState old new s =
 abbrev pub LinksAll : List Node → List Node → Type 0
 LinksAll old new = (ps : List (List ℕ)) → IsTrie ps old → IsLinked ps new
 
--- what a walk along the links answers
+-- the result of a walk along the links
 pub record IsLinkWalk (ps : List (List ℕ)) (t : List ℕ) (yes : Bool) (moves : ℕ) : Type 0 where
   pub answer : some_ends ps (take (walk_end ps t) t) ≡ yes
   pub most : moves ≤ 2 * length t

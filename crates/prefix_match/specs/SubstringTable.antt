@@ -30,7 +30,7 @@ pub record HasColumns (nodes : List Node) (columns : List ℕ) (width : ℕ) : T
   pub below : (y : ℕ) → get_or columns y 0 < width
   pub own : (y c : ℕ) → 0 < c → c < length nodes → get_or columns y 0 ≡ column_of columns nodes c → y ≡ (node_at nodes c).byte
 
--- one row is written where the columns are those of the state's children
+-- one row is written, if the columns are those of the state's children
 pub record WritesChildren (nodes : List Node) (columns : List ℕ) (width s row : ℕ) (old new : List ℕ) : Type 0 where
   pub len : length new ≡ length old
   pub child : (c : ℕ) → 0 < c → c < length nodes → (node_at nodes c).parent ≡ s → get_or new (row + column_of columns nodes c) 0 ≡ entry_of nodes width c
@@ -81,7 +81,7 @@ pub record IsTable (ps : List (List ℕ)) (fold : Bool) (classes next : List ℕ
   pub at_start : empty ≡ some_ends ps []
   pub entries : (s b : ℕ) → s < count → b < 256 → IsEntry ps text count width (get_or next (s * width + get_or classes b 0) 0) (longest_front ps (text s ++ lowered_byte fold b ∷ []))
 
--- what a walk over the table answers
+-- the result of a walk over the table
 pub record IsTableWalk (ps : List (List ℕ)) (t : List ℕ) (yes : Bool) (counted : ℕ) : Type 0 where
   pub answer : some_ends ps (take (walk_end ps t) t) ≡ yes
   pub count : counted ≡ moves ps t

@@ -17,17 +17,17 @@ stored pairs pattern = lookup (bytes_eq pattern) pairs
 abbrev pub IsFront : List ℕ → List ℕ → Type 0
 IsFront pattern text = IsTrue (starts_with nat_eq text pattern)
 
--- no stored pattern is a front of the text
+-- no stored pattern is a prefix of the text
 abbrev pub HasNoFront : List (List ℕ × ℕ) → List ℕ → Type 0
 HasNoFront pairs text = (q : List ℕ) → IsSome (stored pairs q) → ¬ IsFront q text
 
--- the pattern is a front of the text with this value, and no stored front is longer
+-- the pattern is a prefix of the text with this value, and no stored prefix is longer
 pub record IsLongestFront (pairs : List (List ℕ × ℕ)) (text pattern : List ℕ) (value : ℕ) : Type 0 where
   pub has_value : stored pairs pattern ≡ Some value
   pub front : IsFront pattern text
   pub longest : (q : List ℕ) → IsSome (stored pairs q) → IsFront q text → length q ≤ length pattern
 
--- the value of the longest stored pattern that is a front of the text
+-- the value of the longest stored pattern that is a prefix of the text
 abbrev pub IsLongest : List (List ℕ × ℕ) → List ℕ → ℕ → Type 0
 IsLongest pairs text value = (pattern : List ℕ) × IsLongestFront pairs text pattern value
 

@@ -31,7 +31,7 @@ child_at nodes n byte = child_in (slice_index_or (map (λ node. node.children.en
 abbrev pub next_child : List Node → ℕ → List ℕ → Option ℕ
 next_child nodes n way = child_at nodes n (slice_index way (length (path_at nodes n)))
 
--- the way begins with the front
+-- the way begins with the prefix
 abbrev pub Begins : List ℕ → List ℕ → Type 0
 Begins front way = take (length front) way ≡ front
 
@@ -42,16 +42,15 @@ pub record IsCommonLen (a b : List ℕ) (len : ℕ) : Type 0 where
   pub same : take len a ≡ take len b
   pub differ : len < length a → len < length b → slice_index a len ≢ slice_index b len
 
--- the way goes on past the front, by this byte
+-- the way goes on past the prefix, by this byte
 pub record GoesOn (front way : List ℕ) (byte : ℕ) : Type 0 where
   pub begins : Begins front way
   pub longer : length front < length way
   pub next_byte : slice_index way (length front) ≡ byte
 
--- The nodes are those below count. Their paths differ. A node's child for a byte is a node whose path
--- goes on past its own by that byte. And where a path goes on past a node's, the node's child for the
--- next byte is there, and the path begins with the child's. (For no child stands the root, whose path is
--- longer than none.)
+-- The nodes are those below count. Their paths differ. A node's child for a byte is a node whose path goes on past its own by
+-- that byte. If a path goes on past a node's, the node's child for the next byte is there, and the path begins with the
+-- child's. (The root means no child; its path is longer than none.)
 pub record IsTree (count : ℕ) (path : ℕ → List ℕ) (child : ℕ → ℕ → Option ℕ) : Type 0 where
   pub root : path 0 ≡ []
   pub apart : (n m : ℕ) → n < count → m < count → path n ≡ path m → n ≡ m
@@ -105,7 +104,7 @@ pub record IsBest (nodes : List Node) (text : List ℕ) (limit value n : ℕ) : 
   pub best : (m : ℕ) → m < length nodes → IsSome (value_at nodes m) → Begins (path_at nodes m) text →
       length (path_at nodes m) ≤ limit → length (path_at nodes m) ≤ length (path_at nodes n)
 
--- the value of the longest such node, where there is one
+-- the value of the longest such node, if there is one
 abbrev pub Best : List Node → List ℕ → ℕ → Option ℕ → Type 0
 Best nodes text limit None = (m : ℕ) → m < length nodes → IsSome (value_at nodes m) →
     Begins (path_at nodes m) text → limit < length (path_at nodes m)
@@ -134,6 +133,6 @@ pub record Grows (old new : List Node) : Type 0 where
   pub same_pairs : pairs_of (paths new) (values new) ≡ pairs_of (paths old) (values old)
   pub keeps_room : (q : List ℕ) → Contains (paths old) q → Contains (paths new) q
 
--- what a tree's callers see: a pattern has room where it has a node
+-- what a tree's callers see: a pattern has room if it has a node
 abbrev pub patterns_of : List Node → Patterns
 patterns_of nodes = record { pairs = pairs_of (paths nodes) (values nodes); room = paths nodes }

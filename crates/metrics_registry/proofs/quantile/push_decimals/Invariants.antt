@@ -2,7 +2,7 @@ use Rattle.std.proofs.Common.{◌≡◌, ◌≤◌, ◌++◌, string_bytes}
 use Rattle.metrics_registry.specs.Quantiles.{low_digits, without_trailing_zeros}
 use Rattle.metrics_registry.proofs.quantile.push_decimals.Given as goal
 
--- what was told and what is left to tell are what is to be told
+-- what was written and what is left to write are what is to be written
 abbrev pub invariant-loop-places : goal.invariant-loop-places
 invariant-loop-places l = record {
   few : l.places ≤ 7;

@@ -3,7 +3,7 @@ use Rattle.std.specs.List.{AllZip}
 use Rattle.metrics.specs.Book.{joined_lists}
 use Rattle.metrics_storage.proofs.bucket.copied.Given as goal
 
--- what is told and clones of the rest are clones of all
+-- what was shown and clones of the rest are clones of all
 abbrev pub invariant-loop-newest : goal.invariant-loop-newest
 invariant-loop-newest g l =
     ((ys : List _) → AllZip g.T.Clone.is_clone (joined_lists (reverse l.rest)) ys → AllZip g.T.Clone.is_clone (joined_lists (reverse l.fn.blocks)) (l.told.items ++ ys))

@@ -6,7 +6,7 @@ use Rattle.metrics_storage.specs.Histogram.{total, buckets_of, own_ranks, order_
 use Rattle.metrics_storage.proofs.Counting.{total-zeros, buckets-zeros, same_distribution}
 use Rattle.metrics_storage.proofs.histogram.Histogram.new.Goals as goal
 
--- the bounds are those that were given
+-- the bounds are the caller's
 held : (c : goal.In_ok-zeros) → c.in_ok-copy_of.field-0.items ≡ c.args.bounds.now
 held c = (c.in_ok-copy_of.ensures {u = tt}).same
 

@@ -7,7 +7,7 @@ use Rattle.metrics_storage.specs.Histogram.{total, buckets_of, own_ranks, order_
 use Rattle.metrics_storage.proofs.Counting.{same_distribution}
 use Rattle.metrics_storage.proofs.histogram.HistogramClone.clone.Goals as goal
 
--- the fields hold what the given ones hold
+-- the fields hold what the cloned ones hold
 module _ (c : goal.After-result-2-1) where
   bounds : c.in_ok-clone.field-0.items ≡ c.self.inside.bounds.items
   bounds = same_from_all_zip _ _ _ (c.in_ok-clone.ensures {u = tt}).cases.0 (λ x y e. e)

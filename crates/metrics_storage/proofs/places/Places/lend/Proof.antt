@@ -1,4 +1,4 @@
--- `lend` shows the values that the places lend. Assumes `Logic`.
+-- `lend` shows the values of the places. Assumes `Logic`.
 use mathlib.Core.Path.{◌≡◌, refl, sym, ap, ◌∙◌, subst}
 use Prim.Native.Nat.{ℕ, ◌*◌, ◌<◌, ◌≤◌, ◌^◌}
 use native.Mathlib.Omega.{arith}
