@@ -26,7 +26,7 @@ module _ {A : Type 0} where
   last-at (x ∷ xs) y zero e = absurd (omega (arith, e))
   last-at (x ∷ xs) y (suc i) e = last-at xs y i (omega (arith, e))
 
-  -- what stands in a list stays where more comes behind it
+  -- what is in a list stays when more comes after it
   front-at : (xs ys : List A) (i : ℕ) (y : A) → slice_get xs i ≡ Some y → slice_get (xs ++ ys) i ≡ Some y
   front-at [] ys i y h = cc
   front-at (x ∷ xs) ys zero y h = h
@@ -43,7 +43,7 @@ with-own m Histogram = refl
 pub appended : (old : Numbers) (kind : MetricKind) (key k : KeyParts) (n : ℕ) (es fs : List (KeyParts × ℕ)) → es ≡ of_kind kind old → k ≡ key → fs ≡ es ++ (k, n) ∷ [] → fs ≡ of_kind kind old ++ (key, n) ∷ []
 appended old kind key k n es fs is same put = put ∙ (ap (λ xs. xs ++ (k, n) ∷ []) is ∙ ap (λ q. of_kind kind old ++ (q, n) ∷ []) same)
 
--- where nothing was added all stays
+-- if nothing was added all stays
 pub agree-kept : (old : Numbers) (stored after : List Stored) (kind : MetricKind) (fs : List (KeyParts × ℕ)) → Agrees old (map spot stored) → fs ≡ of_kind kind old → after ≡ stored → Agrees (with_kind kind old fs) (map spot after)
 agree-kept old stored after kind fs agree same stays =
     subst (λ (m : Numbers). Agrees m (map spot after)) (sym (ap (with_kind kind old) same ∙ with-own old kind)) (subst (λ (xs : List Stored). Agrees old (map spot xs)) (sym stays) agree)
@@ -72,7 +72,7 @@ module _ (old : Numbers) (stored after : List Stored) (agree : Agrees old (map s
       ∙ ap (λ b. of_kind k old ++ cond b ((key, number) ∷ []) []) (sym t))
       (λ t. of-other old fs kind k t ∙ (sym (append-nil (of_kind k old)) ∙ ap (λ b. of_kind k old ++ cond b ((key, number) ∷ []) []) (sym t)))
 
-  -- series that stood there stay
+  -- series that were there stay
   stays : (t : ℕ) (y : Stored) → slice_get stored t ≡ Some y → series_at grown y ≡ series_at old y
   stays t y same =
       let k = kind_of_value (value_of y.cell) in

@@ -49,7 +49,7 @@ module _ {A : Type 0} where
   change-same (suc i) (x ∷ xs) = ap (λ ys. x ∷ ys) (change-same i xs)
 
 module _ {A B : Type 0} (g : A → B) (y x : A) where
-  -- an element whose place is taken by one that g takes to f of it
+  -- replacing an element changes its image by g, if g of the new one is f of g of the old one
   map-set : (f : B → B) → g y ≡ f (g x) → (xs : List A) (s : ℕ) → slice_get xs s ≡ Some x → map g (set xs s y) ≡ change_at s f (map g xs)
   map-set f e [] s at = cc
   map-set f e (z ∷ xs) zero at = let same : z ≡ x = cc in ap (λ b. b ∷ map g xs) (e ∙ ap (λ a. f (g a)) (sym same))
@@ -61,7 +61,7 @@ module _ (stored : List Stored) (s : ℕ) (x y : Stored) (at : slice_get stored 
   pub activity-changed : (f : Bool → Bool) → y.active ≡ f x.active → map is_active (set stored s y) ≡ change_at s f (map is_active stored)
   activity-changed f e = map-set is_active y x f e stored s at
 
-  -- an update that isn't refused is activity
+  -- an update that succeeds is activity
   pub activity-step : {A : Type 0} (r : Result A Refused) → MatchResult r (λ _. y.active ≡ true) (λ _. y.active ≡ x.active)
       → MatchResult r (λ _. map is_active (set stored s y) ≡ active_at s (map is_active stored)) (λ _. map is_active (set stored s y) ≡ map is_active stored)
   activity-step (Ok done) e = activity-changed (λ _. true) e

@@ -1,4 +1,4 @@
--- What a map of descriptions tells of a name.
+-- What a map of descriptions says of a name.
 use Rattle.std.proofs.Common.{◌≡◌, ℕ, Bool, true, false, cond, List, Option, None, Some, refl, ap, ◌∙◌, subst, bytes_eq}
 use Rattle.std.specs.Option.{option_or}
 use Rattle.std.specs.Cmp.Lexicographic.{bytes_decides}
@@ -7,7 +7,7 @@ use Rattle.metrics.specs.Book.{described_again}
 use Rattle.metrics_debugging.specs.declared.debugging.descriptions.Described.{Described}
 use Rattle.metrics_debugging.specs.DebuggingDescriptions.{description_of}
 
--- a unit where none was told before
+-- a unit, if there was none before
 pub or-none : (unit : Option Measure) → unit ≡ option_or unit None
 or-none None = refl
 or-none (Some u) = refl

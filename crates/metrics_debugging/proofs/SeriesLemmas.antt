@@ -72,7 +72,7 @@ module _ {A : Type 0} (p : A → Bool) where
         | false ↦ λ e. some-there xs (omega (arith, e))
       ] h
 
-  -- a push puts a place after the others
+  -- a push adds a place after the others
   pub push-absent : (xs : List A) (x : A) → position p xs ≡ None → p x ≡ true → position p (xs ++ x ∷ []) ≡ Some (length xs)
   push-absent xs x h e =
       let all : position_or_len p xs ≡ length xs = none-length xs h in

@@ -24,7 +24,7 @@ kind_of_value (CounterValue n) = Counter
 kind_of_value (GaugeValue n) = Gauge
 kind_of_value (HistogramValue xs) = Histogram
 
--- a value takes an update of its kind, and no other
+-- a value accepts an update of its kind, and no other
 abbrev pub UpdatesValue : {A : Type 0} → DebugValue → DebugValue → Update → Result A Refused → Type 0
 UpdatesValue old new by (Ok done) = (kind_eq (kind_of by) (kind_of_value old) ≡ true) × (new ≡ updated by old)
 UpdatesValue old new by (Err (Memory acted)) = (kind_eq (kind_of by) (kind_of_value old) ≡ true) × TakesMemory by × (acted ≡ 0) × (new ≡ old)

@@ -1,4 +1,4 @@
--- What the maps of a book tell of a name.
+-- What the maps of a book say of a name.
 use Rattle.std.specs.Prelude.{ℕ, List, Option, None, Some}
 use Rattle.indexmap.specs.IndexMap.{get_by_text}
 use Rattle.metrics_names.specs.declared.kind.MetricKind.{MetricKind}

@@ -17,6 +17,6 @@ meaning_of r = one_book (content_of (series_of r.series) r.descriptions)
 abbrev pub activity : DebuggingRecorder → List Bool
 activity r = activity_of r.series
 
--- the place of a key's series, or the number of series where it has none
+-- the place of a key's series, or the number of series if it has none
 abbrev pub place_of : MetricKind → KeyParts → DebuggingRecorder → ℕ
 place_of kind key r = position_or_len (is_of (series_key kind key)) (series_of r.series)

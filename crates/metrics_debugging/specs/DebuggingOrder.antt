@@ -16,7 +16,7 @@ activity_of l = map is_active l.series.items
 abbrev pub active_at : ℕ → List Bool → List Bool
 active_at place xs = change_at place (λ _. true) xs
 
--- the same where a series is registered, which may be a new one at the end
+-- the same if a series is registered, which may be a new one at the end
 abbrev pub registered_at : ℕ → List Bool → List Bool
 registered_at place xs = take place xs ++ true ∷ drop (suc place) xs
 

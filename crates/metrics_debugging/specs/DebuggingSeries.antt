@@ -16,7 +16,7 @@ Numbers = PerKind (List (KeyParts × ℕ))
 abbrev pub series_key : MetricKind → KeyParts → SeriesKey
 series_key kind key = record { kind = kind; key = key }
 
--- where the key of a series stands: its kind, and its place there
+-- the place of a series' key: its kind, and its place there
 abbrev pub spot : Stored → MetricKind × ℕ
 spot s = (kind_of_value (value_of s.cell), s.place)
 
@@ -38,7 +38,7 @@ series_at numbers s = record { key = key_at numbers (spot s); value = value_of s
 abbrev pub all_series : Numbers → List Stored → List Series
 all_series numbers stored = map (series_at numbers) stored
 
--- a key stands there
+-- a key is there
 abbrev pub IsWithin : Numbers → MetricKind × ℕ → Type 0
 IsWithin numbers p = p.1 < length (of_kind p.0 numbers)
 

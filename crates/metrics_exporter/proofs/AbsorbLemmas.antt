@@ -24,7 +24,7 @@ use Rattle.metrics_exporter.proofs.KeptLemmas.{Done, err_inside}
 pub made-push : (key : KeyParts) (us : List Update) (u : Update) → made key (us ++ u ∷ []) ≡ made key us ++ updates key u (Ok tt) ∷ []
 made-push key us u = map-append (λ v. updates key v (Ok tt)) us (u ∷ [])
 
--- why an update was refused
+-- why an update failed
 pub refuses : (setup : Setup) (log : Log) (key : KeyParts) (u : Update) (r : Done) (e : Error) → r ≡ Err e
     → ((r ≡ Err CountFull) ↔ IsFull (steps log) key u) → (r ≡ Err Memory → cells_after setup (steps log) (series_of key u) ≡ None) → (e ≡ Memory) ⊎ (e ≡ CountFull)
     → Refuses setup log key u e
@@ -34,7 +34,7 @@ refuses setup log key u r e is full absent either = record {
   full = (λ h. full.0 (is ∙ ap Err h), λ h. err_inside (sym is ∙ full.1 h));
 }
 
--- an update that was refused behind others of its key
+-- an update that failed after others of its key
 pub stops-in : (setup : Setup) (log : Log) (key : KeyParts) (first rest all : List Update) (u : Update) (e : Error) (n : ℕ) (a b : Exporter)
     → all ≡ first ++ u ∷ rest → n ≡ length first → IsAfter setup (log ++ made key first) a → b ≡ a → Refuses setup (log ++ made key first) key u e
     → StopsIn setup log key all e n b
@@ -94,7 +94,7 @@ stops-at setup log rows i m stop after small at is within = record {
   within = within;
 }
 
--- the updates of a row's value, behind its description
+-- the updates of a row's value, after its description
 pub row-made : (setup : Setup) (log : Log) (m : MarkedRow) (key : KeyParts) (r : Result (Unit {0}) (Error × ℕ)) (after : Exporter) → key ≡ m.row.0.key
     → MakesUpdates setup log key (updates_of m.active m.row.3) r after → AbsorbsRow setup log m r after
 row-made setup log m key r after is makes = by-result r (subst K is makes)
@@ -166,7 +166,7 @@ module _ (rows : List RowParts) (marks : List Bool) (i : ℕ) (row : RowParts) (
       let L : Log → Type 0 = λ l. IsAfter setup l after in
       subst L (rows-more log (marked rows marks) i here within here-at) (subst M (row-all here) (subst R ok makes))
 
-  -- a row in which an update was refused, or its description
+  -- a row in which an update failed, or its description
   pub row-stopped : (setup : Setup) (log : Log) (r : Result (Unit {0}) (Error × ℕ)) (error : Error) (n : ℕ) (after : Exporter) → r ≡ Err (error, n)
       → AbsorbsRow setup (with_rows log (take i (marked rows marks))) (row_behind 0 here) r after
       → StopsAt setup log (marked rows marks) (record { error = error; rows = i; samples = n }) after
@@ -176,14 +176,14 @@ module _ (rows : List RowParts) (marks : List Bool) (i : ℕ) (row : RowParts) (
       let M : MarkedRow → Type 0 = λ m. StopsInRow setup before m error n after in
       stops-at setup log (marked rows marks) i here (record { error = error; rows = i; samples = n }) after within here-at refl (subst M (row-all here) (subst R refused makes))
 
--- ---- going on behind a part
+-- ---- going on after a part
 
--- a stop at the first update, behind s samples
+-- a stop at the first update, after s samples
 pub within-first : (r : Result (Unit {0}) (Error × ℕ)) (s most : ℕ) → s ≤ most → IfErr r (λ e. e.1 ≡ 0) → IfErr r (λ e. s + e.1 ≤ most)
 within-first (Ok done) s most small h = tt
 within-first (Err (e, n)) s most small h = omega (arith, small, h)
 
--- a stop at a sample, behind s samples
+-- a stop at a sample, after s samples
 pub within-samples : (r : Result (Unit {0}) (Error × ℕ)) (s most : ℕ) (xs : List ℤ) → length xs ≤ most → IfErr r (λ e. e.1 < length (drop s xs)) → IfErr r (λ e. s + e.1 ≤ most)
 within-samples (Ok done) s most xs long h = tt
 within-samples (Err (e, n)) s most xs long h = omega (arith, long, h, length-drop s xs)
@@ -208,7 +208,7 @@ module _ (rows : List RowParts) (marks : List Bool) (part : PartlyAbsorbed) (row
       ∙ ap (λ x. x ∷ drop (suc part.rows) (marked rows marks)) (sym (here-at rows marks part.rows row active small at mark)))
       ∙ ap (λ l. next ∷ l) (ap (λ n. drop n (marked rows marks)) (sym (add-one part.rows)) ∙ drop-marked (part.rows + 1) rows marks)
 
-  -- all rows behind the part
+  -- all rows after the part
   pub behind-absorbed : (setup : Setup) (log : Log) (after : Exporter) → IsAfter setup (with_rows (with_row log next) rest) after
       → IsAfter setup (with_rows log (behind part (marked rows marks))) after
   behind-absorbed setup log after h = let P : List MarkedRow → Type 0 = λ l. IsAfter setup (with_rows log l) after in subst P (sym all-behind) h
@@ -237,13 +237,13 @@ module _ (rows : List RowParts) (marks : List Bool) (part : PartlyAbsorbed) (row
             ∙ ap (λ k. record { error = stop.error; rows = part.rows + suc stop.rows; samples = k }) none,
       )
 
--- ---- what rows tell of names
+-- ---- how rows describe names
 
 told-push : (rows : List RowParts) (row : RowParts) (told : Legend) → told_by_all (rows ++ row ∷ []) told ≡ told_by row (told_by_all rows told)
 told-push [] row told = refl
 told-push (r ∷ rows) row told = told-push rows row (told_by r told)
 
--- what is told is the same where what was told before is
+-- the descriptions are the same if those before are
 told-same : (row : RowParts) (a b : Legend) → SameLegend a b → SameLegend (told_by row a) (told_by row b)
 told-same (s, unit, None, value) a b same = same
 told-same (s, unit, Some text, value) a b same = λ k n. ap (λ (d : Description). cond (kind_eq s.kind k && bytes_eq s.key.name n) (described_again unit text d) d) (same k n)
@@ -262,7 +262,7 @@ told-all-same : (rows : List RowParts) (a b : Legend) → SameLegend a b → Sam
 told-all-same [] a b same = same
 told-all-same (row ∷ rows) a b same = told-all-same rows (told_by row a) (told_by row b) (told-same row a b same)
 
--- the rows behind the first ones, after the first of them
+-- the rows after the first ones, after the first of them
 pub told-behind : (rows : List RowParts) (i : ℕ) (row : RowParts) (first before after : Legend) → i < length rows → row ≡ get_or rows i row
     → SameLegend before (told_by row first) → SameLegend after (told_by_all (drop (i + 1) rows) before) → SameLegend after (told_by_all (drop i rows) first)
 told-behind rows i row first before after small at was now k n =
@@ -276,7 +276,7 @@ told-end items rows i first after same end told k n =
     let S : List RowParts → Type 0 = λ l. length l ≤ i in
     told k n ∙ ap (λ l. told_by_all l first k n) (take_all i rows (subst S same end))
 
--- what holds anyway holds where the answer is Ok
+-- what holds anyway holds if the answer is Ok
 pub on-ok : {T E : Type 0} (r : Result T E) (P : Type 0) → P → OnOk r P
 on-ok (Ok t) P p = p
 on-ok (Err e) P p = tt

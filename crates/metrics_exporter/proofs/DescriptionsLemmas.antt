@@ -1,4 +1,4 @@
--- What a map of descriptions tells of a name.
+-- What a map of descriptions says of a name.
 use Rattle.std.proofs.Common.{◌≡◌, ℕ, Bool, true, false, cond, List, Option, None, Some, refl, ap, ◌∙◌, sym, subst, bytes_eq}
 use Rattle.std.specs.Option.{option_or}
 use Rattle.std.specs.Cmp.Lexicographic.{bytes_decides}
@@ -7,7 +7,7 @@ use Rattle.metrics.specs.Book.{Description, described_again}
 use Rattle.metrics_exporter.specs.declared.descriptions.Described.{Described}
 use Rattle.metrics_exporter.specs.Describing.{description_of}
 
--- a unit where none was told before
+-- a unit, if there was none before
 pub or-none : (unit : Option Measure) → unit ≡ option_or unit None
 or-none None = refl
 or-none (Some u) = refl
@@ -26,7 +26,7 @@ noted f g name bs unit text x n e b u t =
         let unit_is : x.unit ≡ option_or unit (description_of (f n)).unit = subst (λ m. x.unit ≡ option_or unit (description_of (f m)).unit) here u in
         ap (λ v. record { unit = v; text = Some x.text }) unit_is ∙ ap (λ v. record { unit = option_or unit (description_of (f n)).unit; text = Some v }) t
 
--- a description that tells a name the same again
+-- a description that repeats that of a name
 pub told-again : (f : List ℕ → Description) (name : List ℕ) (unit : Option Measure) (text n : List ℕ) →
     described_again unit text (f name) ≡ f name → f n ≡ cond (bytes_eq name n) (described_again unit text (f n)) (f n)
 told-again f name unit text n same = by_test (bytes_eq name n) refl

@@ -261,7 +261,7 @@ checked-all now rows r a e gone index seen end front setup xs kept =
       made.kept,
     )
 
--- the key at a place, and those behind it
+-- the key at a place, and those after it
 from-place : (keys : List SeriesKey) (index : ℕ) (s : SeriesKey) → index < length keys → s ≡ get_or keys index s → drop index keys ≡ s ∷ drop (index + 1) keys
 from-place [] index s small at = absurd (omega (arith, small))
 from-place (k ∷ keys) zero s small at = ap (λ x. x ∷ keys) (sym at)
@@ -306,7 +306,7 @@ checked-none now r a gone x none (memory, (first, rest, series)) setup xs kept =
       subst (λ g. P g (xs ++ [])) (sym none) (subst (P []) (sym (append-nil xs)) kept),
     )
 
--- what `?` hands on
+-- what `?` passes through
 pub err-result : (r : Result ℕ Error) (x : Error) → IsErrAnd r (λ y. y ≡ x) → r ≡ Err x
 err-result (Ok n) x h = absurd h
 err-result (Err y) x h = ap Err h

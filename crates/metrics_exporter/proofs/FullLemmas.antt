@@ -81,7 +81,7 @@ gauge-room bounds key (u ∷ us) = level-room bounds (u ∷ us) _
 never : (b : Bool) → b ≡ true → (b ≡ false) ↔ ⊥
 never b e = (λ f. false≢true (sym f ∙ e), λ h. absurd h)
 
--- an update finds no room exactly where it is full
+-- an update finds no room exactly if it is full
 pub full-cells : (setup : Setup) (xs : List Step) (key : KeyParts) (u : Update) → (cell_has_room (cells_after setup xs (series_of key u)) ≡ false) ↔ IsFull xs key u
 full-cells setup xs key (Increment n) = never _ (counter-room setup.bounds key (since xs (series_of key (Increment n))))
 full-cells setup xs key (Absolute n) = never _ (counter-room setup.bounds key (since xs (series_of key (Absolute n))))

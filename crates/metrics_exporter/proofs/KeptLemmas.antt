@@ -179,7 +179,7 @@ update-after setup log a b key u (Err e) changed refused storage recency after =
     subst P (sym (steps-push log (updates key u (Err e)) ∙ append-nil (steps log)))
     (keeps-same setup (steps log) a b refused.1 (ap rules_of recency) (λ kind q. ap (λ n. table_of key_eq n kind q) recency) after)
 
--- an update is refused as full exactly where a sample finds no room
+-- an update fails as full exactly if a sample finds no room
 pub update-full : (setup : Setup) (log : Log) (a : Exporter) (key : KeyParts) (u : Update) (r : Done) (P : Error → Type 0)
     → OnOk r (TakesUpdate (cells_of a.registry (series_of key u)))
     → IfErr r (λ e. RefusesUpdate (cells_of a.registry (series_of key u)) e × P e)
@@ -204,7 +204,7 @@ update-full setup log a key u r P taken refused after = go r taken refused (cell
       λ full. ap Err (f.0 ∙ ap (λ c. cond c Memory CountFull) e),
     )
 
--- what refuses an update
+-- why an update fails
 pub update-refused : (o : Option Cell) (r : Done) (P : Type 0) → IfErr r (λ e. RefusesUpdate o e × P) → IfErr r (λ e. ((e ≡ Memory) ⊎ (e ≡ CountFull)) × P)
 update-refused o (Ok done) P h = tt
 update-refused o (Err e) P h = (go (cell_has_room o) h.0, h.1)

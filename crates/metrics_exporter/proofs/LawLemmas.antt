@@ -72,7 +72,7 @@ module _ {K : Type 0} (R : K → K → Ordering) (total : IsTotalOrder R) where
       (λ s h. tails x ys xs wp s h (from s (later y ys s h))))
 
 module _ {K : Type 0} (R : K → K → Ordering) (total : IsTotalOrder R) (exact : (a b : K) → R a b ≡ Equal → a ≡ b) where
-  -- keys in order, and one more put among them
+  -- keys in order, and one more inserted among them
   record Put (k : K) (xs : List K) : Type 0 where
     pub keys : List K
     pub ascending : IsStrictlySortedBy R keys
@@ -169,7 +169,7 @@ none-held cells n held none = from held.keys (sym held.number ∙ none) held.hel
     from [] e h = record { ascending = tt; held = h }
     from (k ∷ ks) e h = absurd (omega (arith, e))
 
--- a refusal, and one more fact about it
+-- an error, and one more fact about it
 pub refused-with : {A E : Type 0} (r : Result A E) (P : A → Type 0) (Q : E → Type 0) (F : Type 0) → F → MatchResult r P Q → MatchResult r P (λ e. Q e × F)
 refused-with (Ok a) P Q F f h = h
 refused-with (Err e) P Q F f h = (h, f)

@@ -55,7 +55,7 @@ held-later : {C : Type 0} (x : KeyParts × C) (all es : List (KeyParts × C)) �
 held-later x all [] h g = tt
 held-later x all (e ∷ es) h g = (ap (λ b. cond b (Some x.1) (held key_eq all e.0)) (turned x.0 e.0 h.0) ∙ g.0, held-later x all es h.1 g.1)
 
--- where no key stands twice, the cell of each entry's key is the entry's
+-- if no key is there twice, the cell of each entry's key is the entry's
 pub held-each : {C : Type 0} (es : List (KeyParts × C)) → IsDistinct key_eq (keys_of es) → AllByRecursion (λ e. held key_eq es e.0 ≡ Some e.1) es
 held-each [] once = tt
 held-each (x ∷ es) once = (
@@ -116,7 +116,7 @@ module _ (r : SeriesRegistry) where
         readings = each-moved IsRead _ told (IsPermutation-sym _ _ walked) (each-read c g h);
       }
 
--- where no series is held there is none to read
+-- if no series is held there is none to read
 pub no-readings : (cells : Cells) (n : ℕ) → IsHeldNumber cells n → n ≡ 0 → AreReadings cells []
 no-readings cells n number none = record {
   once = none-distinct;
@@ -134,7 +134,7 @@ no-readings cells n number none = record {
     empty [] e = refl
     empty (k ∷ ks) e = absurd (omega (arith, e))
 
--- where there are some, one is held
+-- if there are some, one is held
 pub some-held : (cells : Cells) (n : ℕ) → IsHeldNumber cells n → 0 < n → HoldsSome cells
 some-held cells n number some = first number.keys (λ s. (number.held s).0) (omega (arith, some, number.number))
   where

@@ -157,7 +157,7 @@ cells-updated setup xs key u t =
         ap (λ r. cell_of setup.bounds r (since xs r ++ u ∷ [])) (sym (key_exact (series_of key u) t e))
         ∙ cell-push setup.bounds (series_of key u) (since xs (series_of key u)) u
 
--- a check that answers false empties the cell of its series, and no check changes another
+-- a check whose result is false empties the cell of its series, and no check changes another
 pub cells-checked : (setup : Setup) (xs : List Step) (a : Answered KeyParts) (t : SeriesKey) →
     cells_after setup (xs ++ checked a ∷ []) t ≡ cond (not a.answer && series_key_eq (series_checked a) t) None (cells_after setup xs t)
 cells-checked setup xs a t = ap (cell_of setup.bounds t) (since-checked xs a t) ∙ go (series_key_eq (series_checked a) t) a.answer

@@ -1,4 +1,4 @@
--- Absorbing a snapshot: what its rows ask of an exporter.
+-- Absorbing a snapshot: the updates that its rows mean for an exporter.
 use Rattle.std.specs.Prelude.{if◌then◌else◌, ◌≡◌, ◌↔◌, ℕ, zero, suc, ◌+◌, Bool, true, not, ◌&&◌, List, [], ◌∷◌, ◌++◌, map, length, drop, None, IsSome, ◌⊎◌, Result, Ok, Err, nat_eq}
 use Rattle.metrics_names.specs.Names.{KeyParts}
 use Rattle.metrics.specs.declared.error.Error.{Error}
@@ -13,7 +13,7 @@ use Rattle.metrics_exporter.specs.declared.exporter.Exporter.{Exporter}
 use Rattle.metrics_exporter.specs.Exporting.{Setup, Log, updates, steps, series_of, cells_after, IsFull}
 use Rattle.metrics_exporter.specs.Kept.{IsAfter}
 
--- ---- what a row asks for
+-- ---- the updates of a row
 
 -- a row of a snapshot, and whether its series was active: registered or updated since the last snapshot of its book
 pub record MarkedRow : Type 0 where
@@ -26,7 +26,8 @@ marked [] marks = []
 marked (row ∷ rows) [] = record { row = row; active = true } ∷ marked rows []
 marked (row ∷ rows) (active ∷ marks) = record { row = row; active = active } ∷ marked rows marks
 
--- a count asks for an increment, and 0 of an idle series for none; an active gauge's value for a set, and an idle one's for none; each sample for a record
+-- a count means an increment, and 0 of an idle series none; an active gauge's value means a set, and an idle one's none; each
+-- sample means a record
 abbrev pub updates_of : Bool → DebugValue → List Update
 updates_of active (value.Counter n) = if nat_eq n 0 && not active then [] else Increment n ∷ []
 updates_of active (value.Gauge n) = if active then Set n ∷ [] else []
@@ -36,7 +37,7 @@ updates_of active (value.Histogram xs) = map Record xs
 abbrev pub made : KeyParts → List Update → Log
 made key us = map (λ u. updates key u (Ok tt)) us
 
--- the updates that a row asks for
+-- the updates of a row
 abbrev pub asked_by : MarkedRow → List Update
 asked_by m = updates_of m.active m.row.3
 
@@ -51,13 +52,14 @@ with_rows log (m ∷ rows) = with_rows (with_row log m) rows
 
 -- ---- where it stops
 
--- why an update after these calls is refused: want of memory never meets a series that is held, and a count is told as full exactly where it is
+-- why an update after these calls fails: out of memory only if the series isn't held, and with a full count exactly if it is
+-- full
 pub record Refuses (setup : Setup) (log : Log) (key : KeyParts) (u : Update) (e : Error) : Type 0 where
   pub either : (e ≡ Memory) ⊎ (e ≡ CountFull)
   pub absent : e ≡ Memory → cells_after setup (steps log) (series_of key u) ≡ None
   pub full : (e ≡ CountFull) ↔ IsFull (steps log) key u
 
--- the first n of a key's updates were made, and the next one was refused
+-- the first n of a key's updates were made, and the next one failed
 pub record StopsIn (setup : Setup) (log : Log) (key : KeyParts) (us : List Update) (e : Error) (n : ℕ) (after : Exporter) : Type 0 where
   pub first : List Update
   pub next : Update
@@ -67,19 +69,19 @@ pub record StopsIn (setup : Setup) (log : Log) (key : KeyParts) (us : List Updat
   pub stands : IsAfter setup (log ++ made key first) after
   pub refused : Refuses setup (log ++ made key first) key next e
 
--- all updates of a key were made, or those before one that was refused
+-- all updates of a key were made, or those before one that failed
 abbrev pub MakesUpdates : Setup → Log → KeyParts → List Update → Result (Unit {0}) (Error × ℕ) → Exporter → Type 0
 MakesUpdates setup log key us (Ok done) after = IsAfter setup (log ++ made key us) after
 MakesUpdates setup log key us (Err (e, n)) after = StopsIn setup log key us e n after
 
--- a row's description was refused for memory, before its updates
+-- a row's description ran out of memory, before its updates
 pub record IsUndescribed (setup : Setup) (log : Log) (row : RowParts) (e : Error) (n : ℕ) (after : Exporter) : Type 0 where
   pub text : IsSome row.2
   pub memory : e ≡ Memory
   pub none : n ≡ 0
   pub stands : IsAfter setup log after
 
--- the next one of a row's updates was refused, or its description
+-- the next one of a row's updates failed, or its description
 abbrev pub StopsInRow : Setup → Log → MarkedRow → Error → ℕ → Exporter → Type 0
 StopsInRow setup log m e n after = StopsIn setup log m.row.0.key (asked_by m) e n after ⊎ IsUndescribed setup log m.row e n after
 
@@ -88,7 +90,7 @@ abbrev pub AbsorbsRow : Setup → Log → MarkedRow → Result (Unit {0}) (Error
 AbsorbsRow setup log m (Ok done) after = IsAfter setup (with_row log m) after
 AbsorbsRow setup log m (Err (e, n)) after = StopsInRow setup log m e n after
 
--- the first rows were absorbed, and of the next one the updates before one that was refused were made, or none where its description was
+-- the first rows were absorbed, and of the next one the updates before one that failed, or none if its description did
 pub record StopsAt (setup : Setup) (log : Log) (rows : List MarkedRow) (stop : PartlyAbsorbed) (after : Exporter) : Type 0 where
   pub first : List MarkedRow
   pub next : MarkedRow
@@ -97,7 +99,7 @@ pub record StopsAt (setup : Setup) (log : Log) (rows : List MarkedRow) (stop : P
   pub number : stop.rows ≡ length first
   pub within : StopsInRow setup (with_rows log first) next stop.error stop.samples after
 
--- all rows were absorbed, or a front of them
+-- all rows were absorbed, or the first n of them
 abbrev pub Absorbs : Setup → Log → List MarkedRow → Result (Unit {0}) PartlyAbsorbed → Exporter → Type 0
 Absorbs setup log rows (Ok done) after = IsAfter setup (with_rows log rows) after
 Absorbs setup log rows (Err stop) after = StopsAt setup log rows stop after
@@ -118,7 +120,7 @@ abbrev pub first_behind : ℕ → List MarkedRow → List MarkedRow
 first_behind n [] = []
 first_behind n (m ∷ rows) = row_behind n m ∷ rows
 
--- what is left of the rows behind a part that was absorbed
+-- what is left of the rows after a part that was absorbed
 abbrev pub behind : PartlyAbsorbed → List MarkedRow → List MarkedRow
 behind part rows = first_behind part.samples (drop part.rows rows)
 
@@ -127,11 +129,11 @@ abbrev pub samples_before : ℕ → ℕ → ℕ
 samples_before zero n = n
 samples_before (suc row) n = 0
 
--- a stop in what was left behind a part, told of all rows
+-- a stop in what was left after a part, counted over all rows
 abbrev pub behind_part : PartlyAbsorbed → PartlyAbsorbed → PartlyAbsorbed
 behind_part part stop = record { error = stop.error; rows = part.rows + stop.rows; samples = samples_before stop.rows part.samples + stop.samples }
 
--- all rows behind a part were absorbed, or a front of them
+-- all rows after a part were absorbed, or the first n of them
 abbrev pub AbsorbsBehind : Setup → Log → PartlyAbsorbed → List MarkedRow → Result (Unit {0}) PartlyAbsorbed → Exporter → Type 0
 AbsorbsBehind setup log part rows (Ok done) after = IsAfter setup (with_rows log (behind part rows)) after
 AbsorbsBehind setup log part rows (Err stop) after = (inner : PartlyAbsorbed) × StopsAt setup log (behind part rows) inner after × (stop ≡ behind_part part inner)

@@ -1,4 +1,4 @@
--- What is told of names, and what rows of a snapshot tell of theirs.
+-- The descriptions of names, and how rows of a snapshot describe theirs.
 use Rattle.std.specs.Prelude.{if◌then◌else◌, ◌≡◌, ◌&&◌, ℕ, List, [], ◌∷◌, Option, None, Some, bytes_eq}
 use Rattle.metrics_names.specs.declared.common.Unit.{Unit as Measure}
 use Rattle.indexmap.specs.IndexMap.{get_by_text}
@@ -21,11 +21,11 @@ described_by ds kind name = description_of (get_by_text (of_kind kind ds.names) 
 abbrev pub Legend : Type 0
 Legend = MetricKind → List ℕ → Description
 
--- nothing was told
+-- nothing was described
 abbrev pub no_legend : Legend
 no_legend kind name = no_description
 
--- a name is told again: a text replaces the old one, and a unit only where one is given
+-- a name is described again: a text replaces the old one, and a unit only if there is a new one
 abbrev pub told_again : MetricKind → List ℕ → Option Measure → List ℕ → Legend → Legend
 told_again kind name unit text told k n = if kind_eq kind k && bytes_eq name n then described_again unit text (told k n) else told k n
 
@@ -34,7 +34,7 @@ DescribesName kind name unit text old new = (k : MetricKind) (n : List ℕ) → 
 
 -- ---- the rows of a snapshot
 
--- a row that has a text tells it, with its unit, of its key's name
+-- a row that has a text describes its key's name by it, with its unit
 abbrev pub told_with : SeriesKey → Option Measure → Option (List ℕ) → Legend → Legend
 told_with s unit None told = told
 told_with s unit (Some text) told = told_again s.kind s.key.name unit text told

@@ -1,4 +1,4 @@
--- A counter, a gauge and a histogram, of which counters are removed once they have not changed for longer than 5.
+-- A counter, a gauge and a histogram. Counters are removed once they have not changed for longer than 5.
 use Rattle.std.specs.Prelude.{if◌then◌else◌, ◌≡◌, ℕ, pos, negsuc, Bool, true, false, List, [], ◌∷◌, ◌++◌, codes, map, Option, None, Some, Ok}
 use Rattle.metrics_names.specs.declared.kind.MetricKind.TheVariants.{Counter, Gauge, Histogram}
 use Rattle.metrics_names.specs.Names.{KeyParts, SeriesKey, kind_eq, key_eq}
@@ -25,11 +25,11 @@ counted = record { kind = Counter; key = hits }
 abbrev pub others : List SeriesKey
 others = record { kind = Gauge; key = temp } ∷ record { kind = Histogram; key = lat } ∷ []
 
--- the check of a series after these calls, and its answer
+-- the check of a series after these calls, and its result
 abbrev pub checked_at : Log → ℕ → Bool → SeriesKey → Answered KeyParts
 checked_at log now answer s = record { check = check_of_held (cells_after counters_for_five (steps log)) now s; answer = answer }
 
--- an expiry of all three series, which answers true but for the counter's answer
+-- an expiry of all three series, whose results are true except for the counter's
 abbrev pub expiry : Log → ℕ → Bool → Event
 expiry log now answer = expires now (checked_at log now answer counted ∷ checked_at log now true (record { kind = Gauge; key = temp }) ∷ checked_at log now true (record { kind = Histogram; key = lat }) ∷ []) (Ok (if answer then 0 else 1))
 

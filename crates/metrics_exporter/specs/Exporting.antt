@@ -21,7 +21,8 @@ pub record Setup : Type 0 where
 
 -- ---- the calls
 
--- a call that may change the exporter: an update with its answer, or an expiry with its moment, its checks in order, each with its answer, and what it answered
+-- a call that may change the exporter: an update with its answer, or an expiry with its moment, its checks in order, each
+-- with its result, and its answer
 pub data Event : Type 0 where
   updates : KeyParts → Update → Result (Unit {0}) Error → Event
   expires : ℕ → List (Answered KeyParts) → Result ℕ Error → Event
@@ -66,7 +67,7 @@ abbrev pub update_of : SeriesKey → Step → Option Update
 update_of s (updated key u) = if series_key_eq (series_of key u) s then Some u else None
 update_of s (checked a) = None
 
--- the updates of a series that were answered Ok after its last check that answered false
+-- the updates of a series that were answered Ok after its last check with result false
 abbrev pub since : List Step → SeriesKey → List Update
 since xs s = filter_map (update_of s) (after_removal s xs)
 
@@ -89,7 +90,7 @@ pub record Cell : Type 0 where
   pub reading : Reading
   pub generation : ℕ
 
--- a series is held where it has updates; they give its value, and their number modulo 2^64 is its generation
+-- a series is held if it has updates; they determine its value, and their number modulo 2^64 is its generation
 abbrev pub cell_of : List ℤ → SeriesKey → List Update → Option Cell
 cell_of bounds s [] = None
 cell_of bounds s (u ∷ us) = Some (record { reading = reading bounds (value_from (new_value s.kind) (u ∷ us)); generation = length (u ∷ us) % 2 ^ 64 })
@@ -126,7 +127,7 @@ pub record AreSeries (cells : Cells) (keys : List SeriesKey) : Type 0 where
   pub ascending : IsStrictlySortedBy series_key_cmp keys
   pub held : (s : SeriesKey) → Contains keys s ↔ IsHeld cells s
 
--- the first of the held series, and those behind it
+-- the first of the held series, and those after it
 abbrev pub HaveFirst : Cells → Type 0
 HaveFirst cells = (first : SeriesKey) × (rest : List SeriesKey) × AreSeries cells (first ∷ rest)
 
@@ -162,17 +163,18 @@ removed_by answered = count_by (λ a. not a.answer) answered
 abbrev pub ChecksAll : Cells → ℕ → List (Answered KeyParts) → Type 0
 ChecksAll cells now answered = (keys : List SeriesKey) × AreSeries cells keys × (checks_of answered ≡ map (check_of_held cells now) keys)
 
--- a front of these checks was made, or none, and at least the next one was not
+-- the first n of these checks were made, or none, and at least the next one was not
 abbrev pub ChecksFront : Cells → ℕ → List (Answered KeyParts) → Type 0
 ChecksFront cells now answered =
     (keys : List SeriesKey) × (next : Check KeyParts) × (rest : List (Check KeyParts)) × AreSeries cells keys × (checks_of answered ++ next ∷ rest ≡ map (check_of_held cells now) keys)
 
--- all checks were made, and n of them removed their series; or a front of them was made where memory was wanted
+-- all checks were made, and n of them removed their series; or the first ones were made before memory ran out
 abbrev pub IsExpiryAnswer : Cells → ℕ → List (Answered KeyParts) → Result ℕ Error → Type 0
 IsExpiryAnswer cells now answered (Ok n) = ChecksAll cells now answered × (n ≡ removed_by answered)
 IsExpiryAnswer cells now answered (Err e) = ChecksFront cells now answered × (e ≡ Memory)
 
--- an expiry checks the series that are held, and by all checks before them these are answered as idleness is defined
+-- an expiry checks the series that are held, and by all checks before them the results are those of the definition of
+-- idleness
 pub record IsExpiry (setup : Setup) (before : List Step) (now : ℕ) (answered : List (Answered KeyParts)) (result : Result ℕ Error) : Type 0 where
   pub answers : answers_of answered ≡ run_answers key_eq setup.rules (reverse (checks_in before)) (checks_of answered)
   pub ended : IsExpiryAnswer (cells_after setup before) now answered result

@@ -1,4 +1,4 @@
--- What an exporter keeps, and the list of calls for which that stands.
+-- What an exporter keeps, and the list of calls that this means.
 use Rattle.std.specs.Prelude.{◌≡◌, List, Option, option_map, reverse, ℕ, ℤ}
 use Rattle.metrics_names.specs.declared.kind.MetricKind.TheVariants.{Counter, Gauge, Histogram}
 use Rattle.metrics_names.specs.declared.kind.MetricKind.{MetricKind}
@@ -30,11 +30,11 @@ cells_at r Histogram key = option_map (cell_in samples) (held key_eq r.histogram
 abbrev pub cells_of : SeriesRegistry → Cells
 cells_of r s = cells_at r s.kind s.key
 
--- what an exporter keeps of each series; after a list of calls it is what these give (the field `cells` of `Keeps`)
+-- what an exporter keeps of each series; after a list of calls it is their result (the field `cells` of `Keeps`)
 abbrev pub held_cells : Exporter → Cells
 held_cells e = cells_of e.registry
 
--- what was told an exporter of names
+-- an exporter's descriptions of names
 abbrev pub described : Exporter → Legend
 described e = described_by e.descriptions
 
@@ -42,24 +42,24 @@ described e = described_by e.descriptions
 abbrev pub KeepsSetting : SeriesRegistry → SeriesRegistry → Type 0
 KeepsSetting old new = (new.storage ≡ old.storage) × (new.count ≡ old.count)
 
--- a table answers all checks to come as idleness is defined, after these checks
+-- a table decides all checks to come by the definition of idleness, after these checks
 abbrev pub AnswersAfter : Rules → Table KeyParts → List (Answered KeyParts) → Type 0
 AnswersAfter rules table answered = (checks : List (Check KeyParts)) → table_answers key_eq rules table checks ≡ run_answers key_eq rules (reverse answered) checks
 
--- an exporter of this setup keeps what these steps give
+-- an exporter of this setup keeps the result of these steps
 pub record Keeps (setup : Setup) (xs : List Step) (e : Exporter) : Type 0 where
   pub bounds : e.registry.storage.empty ≡ no_samples setup.bounds
   pub rules : rules_of e.recency ≡ setup.rules
   pub cells : (s : SeriesKey) → cells_of e.registry s ≡ cells_after setup xs s
   pub checks : AnswersAfter setup.rules (table_of key_eq e.recency) (checks_in xs)
 
--- a registry and notes are what these steps give once these series are removed from both
+-- a registry and notes are the result of these steps once these series are removed from both
 pub record KeepsBut (gone : List SeriesKey) (setup : Setup) (xs : List Step) (r : SeriesRegistry) (notes : OwnedRecency KeyParts) : Type 0 where
   pub bounds : r.storage.empty ≡ no_samples setup.bounds
   pub rules : rules_of notes ≡ setup.rules
   pub cells : (s : SeriesKey) → cells_without gone (cells_of r) s ≡ cells_after setup xs s
   pub checks : AnswersAfter setup.rules (notes_without gone (table_of key_eq notes)) (checks_in xs)
 
--- an exporter of this setup stands as after these calls
+-- an exporter of this setup is as after these calls
 abbrev pub IsAfter : Setup → Log → Exporter → Type 0
 IsAfter setup log e = Keeps setup (steps log) e

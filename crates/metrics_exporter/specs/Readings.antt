@@ -47,7 +47,7 @@ pub record AreReadings (cells : Cells) (told : List Told) : Type 0 where
   pub held : (s : SeriesKey) → Contains (map (λ t. t.0) told) s ↔ IsHeld cells s
   pub readings : AllByRecursion (λ t. reading_in cells t.0 ≡ Some t.1) told
 
--- what a list of series tells, the first where one comes again
+-- the cells that a list of series reports, the first if one comes again
 abbrev pub cells_told : List Told → Cells
 cells_told told s = option_map (λ r. record { reading = r; generation = 0 }) (lookup (series_key_eq s) told)
 

@@ -66,7 +66,7 @@ abbrev pub or_new : {A : Type 0} → A → Option A → A
 or_new fresh None = fresh
 or_new fresh (Some a) = a
 
--- an update makes the cell of its series where there is none, and changes that one cell
+-- an update makes the cell of its series if there is none, and changes that one cell
 abbrev pub UpdatesCells : Distribution → SeriesKey → Update → Cells → Cells → Type 0
 UpdatesCells empty s u old new = (t : SeriesKey) → new t ≡ (if series_key_eq s t then Some (cell_with u (or_new (new_cell empty s.kind) (old s))) else old t)
 
@@ -83,12 +83,12 @@ new_counted x = record { inner = x; generation = 0 }
 abbrev pub UpdatesEntry : {T : Type 0} → (T → T) → T → KeyParts → List (KeyParts × Counted T) → List (KeyParts × Counted T) → Type 0
 UpdatesEntry f fresh key old new = Sets key_eq key (Some (counted_with f (or_new (new_counted fresh) (held key_eq old key)))) old new
 
--- the count of samples can take one more
+-- the count of samples has room for one more
 abbrev pub has_room : Option (Counted Distribution) → Bool
 has_room None = true
 has_room (Some c) = nat_lt c.inner.count (2 ^ 64 - 1)
 
--- a cell takes a sample, and is refused as full where its count can't take one more
+-- a cell records a sample, or fails as full if its count has no room for one more
 abbrev pub TakesSample : ℤ → Counted Distribution → Result (Unit {0}) Error → Counted Distribution → Type 0
 TakesSample sample old (Ok done) new = (new ≡ counted_with (with_samples (sample ∷ [])) old) × (has_room (Some old) ≡ true)
 TakesSample sample old (Err e) new = (new ≡ old) × (e ≡ CountFull) × (has_room (Some old) ≡ false)
@@ -102,7 +102,7 @@ abbrev pub cell_has_room : Option Cell → Bool
 cell_has_room None = true
 cell_has_room (Some c) = reading_has_room c.reading
 
--- an update is refused as full exactly where a sample finds no room, and else for memory alone
+-- an update fails as full exactly if a sample finds no room, and else only when out of memory
 abbrev pub TakesUpdate : Option Cell → Type 0
 TakesUpdate cell = cell_has_room cell ≡ true
 
@@ -111,13 +111,14 @@ RefusesUpdate cell e = e ≡ (if cell_has_room cell then Memory else CountFull)
 
 -- ---- a check
 
--- a check answers by the table and notes what the table does; where it answers false the cell of its series is gone, and no other cell changed
+-- a check's result is the table's, and it notes what the table does; if the result is false the cell of its series is gone,
+-- and no other cell changed
 pub record ChecksCells (rules : Rules) (check : Check KeyParts) (s : SeriesKey) (old_table new_table : Table KeyParts) (old new : Cells) (stays : Bool) : Type 0 where
   pub answer : stays ≡ table_answer rules check old_table
   pub notes : (kind : MetricKind) (key : KeyParts) → new_table kind key ≡ table_after key_eq rules check old_table kind key
   pub cells : (t : SeriesKey) → new t ≡ (if not stays && series_key_eq s t then None else old t)
 
--- a check that answers true is noted; where it answers false its series is added to the idle ones
+-- a check whose result is true is noted; if it is false its series is added to the idle ones
 pub record NotesOrAdds (rules : Rules) (check : Check KeyParts) (s : SeriesKey) (old_table new_table : Table KeyParts) (old_idle new_idle : List SeriesKey) : Type 0 where
   pub notes : (kind : MetricKind) (key : KeyParts) → new_table kind key ≡ (if table_answer rules check old_table then table_after key_eq rules check old_table kind key else old_table kind key)
   pub idle : new_idle ≡ (if table_answer rules check old_table then old_idle else old_idle ++ s ∷ [])

@@ -1,4 +1,4 @@
--- The automaton's answer is the test in a filter's meaning.
+-- The automaton's result is the test in a filter's meaning.
 use Rattle.std.proofs.Common.{◌≡◌, ℕ, Bool, true, false, List, [], ◌∷◌, ◌++◌, refl, ap, sym, ◌∙◌, arith}
 use Rattle.std.specs.Prelude.{IsTrue, ◌↔◌}
 use Rattle.std.specs.Bool.{Decides}
@@ -39,7 +39,7 @@ same_answer false false A B h d f g = refl
 same_answer true false A B h d f g = sym (d.1 (f (h.0 refl)))
 same_answer false true A B h d f g = h.1 (g (d.0 refl))
 
--- a set's answer is the test of the filter
+-- a set's result is the test of the filter
 pub answer_is_matches : (answer : Bool) (s : Patterns) (name : List ℕ) → (IsTrue answer ↔ Occurs s name) → answer ≡ matches s.fold_case s.listed name
 answer_is_matches answer s name h =
     same_answer answer (matches s.fold_case s.listed name) (Occurs s name) (Matches s.fold_case s.listed name) h (matches-Decides s.fold_case s.listed name) (to_matches s name) (to_occurs s name)

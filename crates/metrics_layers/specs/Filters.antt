@@ -14,6 +14,6 @@ with_folding s fold = record s { fold_case = fold }
 abbrev pub with_table : Patterns → Bool → Patterns
 with_table s table = record s { table = table }
 
--- a filter is refused, however much memory there is, if its patterns have more bytes together than the limit
+-- making a filter fails, with any memory, if its patterns have more bytes together than the limit
 abbrev pub fault_of : Patterns → Option Error
 fault_of s = if nat_lt pattern_limit (sum_by length s.listed) then Some PatternsTooLong else None

@@ -1,4 +1,4 @@
--- What stands in front of a sample's value tells its name and its labels.
+-- The text before a sample's value determines its name and its labels.
 use Rattle.std.proofs.Common.{◌≡◌, ◌≢◌, ◌∙◌, ℕ, Bool, true, false, cond, List, [], ◌∷◌, ◌++◌, codes, chars, drop, get_or, nat_eq, append_assoc, refl, ap, sym, arith}
 use Rattle.std.specs.Prelude.{encode_utf8, flat_map, encode_utf8_all}
 use Rattle.std.specs.List.{AllByRecursion}
@@ -15,7 +15,7 @@ use Rattle.metrics_prometheus.proofs.NameLemmas.{named, AreKeyed}
 
 -- ---- names
 
--- what stands in front of the first byte that is none of a name
+-- what comes before the first byte that is none of a name
 upto : (p : ℕ → Bool) (n m : List ℕ) (a b : ℕ) (x y : List ℕ) → AllByRecursion (λ c. p c ≡ true) n → AllByRecursion (λ c. p c ≡ true) m → p a ≡ false → p b ≡ false
     → n ++ a ∷ x ≡ m ++ b ∷ y → (n ≡ m) × (a ∷ x ≡ b ∷ y)
 upto p [] [] a b x y hn hm ha hb e = (refl, e)
@@ -154,7 +154,7 @@ same-labels (l ∷ ls) (k ∷ ks) x y hl hk tl tk e =
 
 -- ---- the line of a sample
 
--- the byte behind a name: a brace or a space
+-- the byte after a name: a brace or a space
 abbrev head-of : List LabelParts → ℕ
 head-of [] = 32
 head-of (l ∷ ls) = 123
@@ -182,7 +182,7 @@ read-back s t hs ht x y e =
     same-line s.name t.name s.labels t.labels x y hs.names.name ht.names.name hs.names.keys ht.names.keys hs.texts ht.texts
     (sym (append_assoc s.name (labels_text s.labels) (32 ∷ x)) ∙ e ∙ append_assoc t.name (labels_text t.labels) (32 ∷ y))
 
--- and the line tells the sample
+-- and the line determines the sample
 pub same-sample : (s t : Sample) → CanBeRead s → CanBeRead t → sample_line s ≡ sample_line t → s ≡ t
 same-sample s t hs ht e =
     let h = same-line s.name t.name s.labels t.labels (s.value ++ 10 ∷ []) (t.value ++ 10 ∷ []) hs.names.name ht.names.name hs.names.keys ht.names.keys hs.texts ht.texts e in

@@ -11,9 +11,9 @@ use Rattle.metrics_prometheus.specs.Reading.{AreBuckets}
 use Rattle.metrics_prometheus.proofs.PairLemmas.{each-map, in-first, in-later, in-split, in-none, pairs-with, pairs-places}
 use Rattle.metrics_prometheus.proofs.SampleLemmas.{IsBelow, with-each, with-up}
 
--- ---- each bucket stands there
+-- ---- each bucket is there
 
--- what stands there is the new one, or was there
+-- what is there is the new one, or was there
 placed-only : (b : ℤ × ℕ) (cs : List (ℤ × ℕ)) (x : ℤ × ℕ) → Contains (bucket_placed b cs) x → (b ≡ x) ⊎ Contains cs x
 placed-only b [] x h = in-split b [] x h
 placed-only b (c ∷ cs) x h = by-tests (placed-only b cs x) (int_lt b.0 c.0) (int_lt c.0 b.0) h

@@ -1,4 +1,4 @@
--- No line feed stands in a name, a label's value or a number.
+-- No line feed is in a name, a label's value or a number.
 use Rattle.std.proofs.Common.{◌≡◌, ◌≢◌, ◌∙◌, ◌<◌, ◌+◌, ◌/◌, ◌%◌, ℕ, ℤ, pos, negsuc, zero, suc, Bool, true, false, ◌||◌, List, [], ◌∷◌, ◌++◌, codes, chars, length, get_or, append-nil, nat_eq, nat_lt, refl, ap, sym, arith}
 use Rattle.std.specs.Prelude.{encode_utf8, flat_map, ◌==◌}
 use Rattle.std.specs.List.{AllByRecursion, list_any}

@@ -21,7 +21,7 @@ each-row {display} P cells rows are f =
     recursion_from_All P rows (All-permutation P (map (row_of display) are.keys) rows are.same (All-map P (row_of display) are.keys
     (λ j d small. f (get_or are.keys j d) ((are.held (get_or are.keys j d)).0 (j, small, get_or_default are.keys j (get_or are.keys j d) d small)))))
 
--- where the labels of all series have texts as values, those of the held series have
+-- if the labels of all series have texts as values, those of the held series have
 pub holds-texts : (cells : Cells) (series : List SeriesReading) → AreReadings cells (all_told series) → All (λ s. All (λ (l : LabelParts). IsUtf8 l.1) s.key.now.labels) series → HoldsTexts cells
 holds-texts cells series are texts s held =
     let Q : LabelParts → Type 0 = λ l. IsUtf8 l.1 in
@@ -37,7 +37,7 @@ kept-texts cells kept series are once texts s held =
     let r = unmapped (λ (t : Told). t.0) kept s ((are.held s).1 held) in
     recursion_from_All Q s.key.labels (subst (λ (k : SeriesKey). All Q k.key.labels) r.2 (All-contains P (all_told series) r.0 (All-map P told_of series texts) (once.among r.0 r.1)))
 
--- of readings that were given one is of a series that is held
+-- one of these readings is of a series that is held
 pub some-read : {T E : Type 0} (cells : Cells) (series given : List SeriesReading) (r : Result T E) → given ≡ series → AreReadings cells (all_told series) → OnErr r (0 < length given) → OnErr r (HoldsSome cells)
 some-read cells series given (Ok t) same are h = tt
 some-read cells series given (Err e) same are h = first series are (subst (λ l. 0 < length l) same h)
@@ -46,7 +46,7 @@ some-read cells series given (Err e) same are h = first series are (subst (λ l.
     first [] are small = absurd (omega (arith, small))
     first (s ∷ series) are small = ((told_of s).0, (are.held (told_of s).0).0 (0, omega arith, refl))
 
--- where nothing is given nothing is held, and that is its exposition
+-- if there are no readings nothing is held, and that is its exposition
 pub none-given : {naming : Naming} {legend : Legend} (cells : Cells) → AreReadings cells [] → IsDescribed naming legend cells []
 none-given cells are = record {
   rows = [];

@@ -59,7 +59,7 @@ not-less Less h = absurd (h refl)
 not-less Equal h = refl
 not-less Greater h = refl
 
--- what comes before a label isn't behind it
+-- what comes before a label isn't after it
 up-from : (l m : LabelParts) → label_cmp l m ≡ Less → IsUp l m
 up-from l m e = not-less (label_cmp m l) (λ g. never label_cmp label_total l (label_total.trans l m l e g))
 
@@ -151,7 +151,7 @@ parts-at l ls up i j d le small behind =
         ] in
         absurd (let f : false ≡ true = sym (ap (λ o. not (is_lt o)) less-b) ∙ g in cc)
 
--- a label among others, behind those that it isn't before
+-- a label among others, after those that it isn't before
 pub placed-at : (l : LabelParts) (ms : List LabelParts) (i : ℕ) → i ≤ length ms
     → AllWithin (λ m. not (is_lt (label_cmp l m)) ≡ true) ms 0 i → AllWithin (λ m. not (is_lt (label_cmp l m)) ≡ false) ms i (length ms) → insert ms i l ≡ placed l ms
 placed-at l [] zero le before after = refl
@@ -269,7 +269,7 @@ not-le k v hist (l ∷ ls) h =
     let own = or-false (starts_with nat_eq l.0 (codes "__")) (kind_eq k Histogram && bytes_eq l.0 (codes "le")) parts.0 in
     ((sym (ap (λ b. b && bytes_eq l.0 (codes "le")) hist) ∙ own.1, tt), not-le k v hist ls parts.1)
 
--- with the bound of a bucket behind them
+-- with the bound of a bucket after them
 pub once-bounded : (k : MetricKind) (ls : List LabelParts) (v : List ℕ) → kind_eq k Histogram ≡ true → are_fit k ls ≡ true → Ascend ls → IsDistinct (λ l m. bytes_eq l.0 m.0) (ls ++ (codes "le", v) ∷ [])
 once-bounded k ls v hist fit up =
     let none = sym (reserved-is k ls) ∙ not-true (is_some (reserved_of k ls)) (both-true (not (repeats ls)) (not (is_some (reserved_of k ls))) fit).1 in

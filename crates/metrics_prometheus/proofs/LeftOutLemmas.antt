@@ -40,7 +40,7 @@ module _ (line : List ℕ) where
   told-line None absent l h e = told-none l h e absent
   told-line (Some x) is l h e = told-has l h e x.now is
 
--- the words of one line more, where there are some
+-- the words of one line more, if there are some
 pub told-more : (told next : List (Bor (List ℕ))) (o : Option (Bor (List ℕ))) (words : Option (List ℕ)) → next ≡ told ++ option_to_list o → option_map (λ t. t.now) o ≡ words
     → names_shown next ≡ names_shown told ++ option_to_list words
 told-more told next o words is e = ap names_shown is ∙ map-append (λ (t : Bor (List ℕ)). t.now) told (option_to_list o) ∙ ap (λ l. names_shown told ++ l) (mapped o ∙ ap option_to_list e)
@@ -51,7 +51,7 @@ told-more told next o words is e = ap names_shown is ∙ map-append (λ (t : Bor
 
 -- ---- the lines in order
 
--- what is left of the lines of a text, behind those of which this was told
+-- what is left of the lines of a text, after those that were listed
 pub record IsLeft (lines : List Line) (told : List (Bor (List ℕ))) (rest : List ℕ) : Type 0 where
   pub left : List Line
   pub readable : AllByRecursion IsReadable left
@@ -103,14 +103,14 @@ left-none lines told rest none t = go t.left t.readable t.is t.told_is
         let is : rest ≡ inside ++ 10 ∷ behind = whole ∙ ap (λ b. b ++ behind) readable.0.ends.is ∙ append_assoc inside (10 ∷ []) behind in
         absurd (none (length inside) (let g : length rest ≡ length (inside ++ 10 ∷ behind) = ap length is in omega (arith, g, length-append inside (10 ∷ behind))) (ap (λ b. get_or b (length inside) 0) is ∙ feed-there inside behind))
 
--- what `strip_prefix` answers
+-- what `strip_prefix` returns
 pub strips : (front line : List ℕ) (o : Option (Bor (List ℕ)))
     → MatchOption o (FindsTextPrefix front line None) (λ x. (k : ℕ) × FindsTextPrefix front line (Some k) × (x.now ≡ drop k line) × (length x.now + k ≡ length line))
     → MatchOption o ((rest : List ℕ) → line ≢ front ++ rest) (λ x. line ≡ front ++ x.now)
 strips front line None absent = absent
 strips front line (Some x) (k, finds, is, long) = finds.1 ∙ ap (λ l. front ++ l) (sym is)
 
--- what `split_once` answers at a line feed, and where there is none
+-- what `split_once` returns at a line feed, and if there is none
 pub cut-here : (rest line behind : List ℕ) → SplitsAroundMatch (FindsChar 10) rest line behind → (rest ≡ line ++ 10 ∷ behind) × ((i : ℕ) → i < length line → get_or line i 0 ≢ 10)
 cut-here rest line behind h =
     let text : List ℕ → Bor (List ℕ) = λ l. record { ref_ptr = (0, 0); now = l } in

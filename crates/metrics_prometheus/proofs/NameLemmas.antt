@@ -12,7 +12,7 @@ use Rattle.metrics_prometheus.specs.Names.{begins, goes_on, or_underscore, spell
 use Rattle.metrics_prometheus.proofs.SameLemmas.{both-true}
 use Rattle.metrics_prometheus.proofs.PairLemmas.{each-append}
 
--- bytes that may stand in a name
+-- bytes that may be in a name
 abbrev pub IsNamed : Bool → List ℕ → Type 0
 IsNamed colons n = AllByRecursion (λ c. goes_on colons c ≡ true) n
 
@@ -37,7 +37,7 @@ named colons (c ∷ cs) h =
     let p = both-true (begins colons c) (list_all (goes_on colons) cs) h in
     (or-first (begins colons c) (is_ascii_digit c) p.0, named-from colons cs p.1)
 
--- a name with more bytes behind it
+-- a name with more bytes after it
 pub name-more : (colons : Bool) (n m : List ℕ) → is_name colons n ≡ true → IsNamed colons m → is_name colons (n ++ m) ≡ true
 name-more colons [] m h g = absurd (let e : false ≡ true = h in cc)
 name-more colons (c ∷ cs) m h g =

@@ -24,7 +24,7 @@ name-front : (n : List ℕ) → is_name true n ≡ true → IsFront n
 name-front [] h = tt
 name-front (c ∷ cs) h = h
 
--- what stands in front of bytes of a name
+-- what comes before bytes of a name
 taken : (k : ℕ) (cs : List ℕ) → IsNamed true cs → IsNamed true (take k cs)
 taken zero cs h = tt
 taken (suc k) [] h = tt
@@ -40,7 +40,7 @@ front-taken (suc k) (c ∷ cs) h =
     both : (a b : Bool) → a ≡ true → b ≡ true → (a && b) ≡ true
     both a b e f = ap (λ x. x && b) e ∙ f
 
--- a front with a name behind it
+-- a prefix with a name after it
 front-more : (n m : List ℕ) → IsFront n → is_name true m ≡ true → is_name true (n ++ m) ≡ true
 front-more [] m h g = g
 front-more (c ∷ cs) m h g = name-more true (c ∷ cs) m h (named true m g)
@@ -86,7 +86,7 @@ without-front n end h = by (ends_with nat_eq n end)
     by true = front-taken (length n - length end) n h
     by false = name-front n h
 
--- the two answers of a search for an end
+-- the two results of a search for a suffix
 module _ (n end : List ℕ) where
   pub without-none : ((front : List ℕ) → n ≢ front ++ end) → n ≡ without_end n end
   without-none absent = by (ends_with nat_eq n end) refl

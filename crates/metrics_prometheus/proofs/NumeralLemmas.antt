@@ -25,7 +25,7 @@ begins-more : (ds es : List ℕ) → BeginsDigit ds → BeginsDigit (ds ++ es)
 begins-more [] es h = absurd h
 begins-more (c ∷ cs) es h = h
 
--- digits that spell the number
+-- the digits of the number
 record AreDigits (n : ℕ) (ds : List ℕ) : Type 0 where
   all : AllByRecursion IsDigit ds
   begin : BeginsDigit ds
@@ -45,7 +45,7 @@ spelled-one m c (d ∷ ds) = by (λ n. cond (nat_eq c 46) n (n * 10 + (c - 48)))
 spelled-digit : (m c : ℕ) (ds : List ℕ) → IsDigit c → spelled_behind m (ds ++ c ∷ []) ≡ spelled_behind m ds * 10 + (c - 48)
 spelled-digit m c ds h = spelled-one m c ds ∙ ap (λ b. cond b (spelled_behind m ds) (spelled_behind m ds * 10 + (c - 48))) (no-point c h)
 
--- a number's last digit behind the others
+-- a number's last digit after the others
 last : (n : ℕ) (ds : List ℕ) → spelled_behind 0 ds ≡ n / 10 → spelled_behind 0 (ds ++ (48 + n % 10) ∷ []) ≡ n
 last n ds e = spelled-digit 0 (48 + n % 10) ds (digit n) ∙ (let q : spelled_behind 0 ds ≡ n / 10 = e in omega (arith, q))
 
@@ -143,7 +143,7 @@ number-shifted places (negsuc n) small =
 wide : (z : ℤ) → mag z < 2 ^ 63 → mag z < 2 ^ 128
 wide z small = let bits : 2 ^ 63 < 2 ^ 128 = lit< tt in omega (arith, small, bits)
 
--- so it tells the number
+-- so it determines the number
 pub number-injective : (places : ℕ) (y z : ℤ) → mag y < 2 ^ 63 → mag z < 2 ^ 63 → number places y ≡ number places z → y ≡ z
 number-injective places y z hy hz e = sym (number-shifted places y (wide y hy)).digits ∙ ap whole_in e ∙ (number-shifted places z (wide z hz)).digits
 

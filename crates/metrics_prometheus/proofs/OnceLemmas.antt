@@ -1,4 +1,4 @@
--- Of series that are given, each has one row.
+-- Each listed series has one row.
 use Rattle.std.proofs.Common.{◌≡◌, ◌∙◌, ◌+◌, ℕ, zero, suc, Bool, true, false, cond, List, [], ◌∷◌, map, get_or, Contains, IsSome, Option, Some, None, refl, ap, sym, subst, arith}
 use Rattle.std.specs.Prelude.{IsPermutation, option_map}
 use Rattle.std.specs.List.{AllByRecursion, All, IsDistinct, dedup}
@@ -197,7 +197,7 @@ readings-once cells told kept are once = record {
     each [] f = tt
     each (k ∷ ks) f = (f k (in-first k ks), each ks (λ t there. f t (in-later k ks t there)))
 
--- ---- a list of which no series comes twice tells its own cells
+-- ---- a list without repeated series reports its own cells
 
 turned : (a b : SeriesKey) → series_key_eq a b ≡ false → series_key_eq b a ≡ false
 turned a b h = go (series_key_eq b a) refl

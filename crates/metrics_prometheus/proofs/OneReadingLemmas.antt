@@ -1,4 +1,4 @@
--- A text has one list of samples at most: its line feeds tell its lines, and each line tells its sample.
+-- A text has one list of samples at most: its line feeds determine its lines, and each line its sample.
 use Rattle.std.proofs.Common.{◌≡◌, ◌≢◌, ◌∙◌, ℕ, true, false, not, List, [], ◌∷◌, ◌++◌, length, drop, get_or, is_some, refl, ap, sym, subst, append_assoc, arith}
 use Rattle.std.specs.List.{All, AllByRecursion, flat_map, filter_map, cons_option}
 use Rattle.std.proofs.lemmas.List.Elements.{recursion_from_All}
@@ -7,7 +7,7 @@ use Rattle.metrics_prometheus.specs.Written.{Line, has, describes, tells_kind, l
 use Rattle.metrics_prometheus.specs.Reading.{CanBeRead}
 use Rattle.metrics_prometheus.proofs.BackLemmas.{same-sample}
 
--- what stands in front of the first line feed
+-- what comes before the first line feed
 first-feed : (n m x y : List ℕ) → AllByRecursion (λ c. c ≢ 10) n → AllByRecursion (λ c. c ≢ 10) m → n ++ 10 ∷ x ≡ m ++ 10 ∷ y → (n ≡ m) × (x ≡ y)
 first-feed [] [] x y hn hm e = (refl, ap (drop 1) e)
 first-feed [] (d ∷ m) x y hn hm e = absurd (hm.0 (ap (λ l. get_or l 0 d) (sym e)))
@@ -41,7 +41,7 @@ never e = cc
 abbrev AllRead : List Sample → Type 0
 AllRead ss = AllByRecursion CanBeRead ss
 
--- a line, and the samples behind it
+-- a line, and the samples after it
 same-more : (l k : Line) (xs ys : List Sample) → IsReadable l → IsReadable k → line_text l ≡ line_text k → AllRead (cons_option (sample_in l) xs) → AllRead (cons_option (sample_in k) ys) → xs ≡ ys
     → cons_option (sample_in l) xs ≡ cons_option (sample_in k) ys
 same-more (has s) (has t) xs ys hl hk e cl ck rest = ap (λ z. z ∷ xs) (same-sample s t cl.0 ck.0 e) ∙ ap (λ zs. t ∷ zs) rest

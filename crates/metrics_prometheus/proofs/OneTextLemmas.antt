@@ -1,4 +1,4 @@
--- A set of cells has one text at most: the rows of held series stand in one order alone.
+-- A set of cells has one text at most: the rows of held series have one order alone.
 use Rattle.std.proofs.Common.{◌≡◌, ◌∙◌, inl, inr, ℕ, List, [], ◌∷◌, map, Contains, None, refl, ap, sym, subst}
 use Rattle.std.specs.List.{AllByRecursion}
 use Rattle.std.specs.declared.cmp.Ordering.TheVariants.{Less}
@@ -19,7 +19,7 @@ IsBelow a b = row_cmp a b ≡ Less
 abbrev AreAmong : List Row → List Row → Type 0
 AreAmong xs ys = (r : Row) → Contains xs r → Contains ys r
 
--- ---- rows that ascend are told by their elements
+-- ---- rows that ascend are determined by their elements
 
 same-first : (x y : Row) (xs ys : List Row) → AllByRecursion (IsBelow x) xs → AllByRecursion (IsBelow y) ys → Contains (y ∷ ys) x → Contains (x ∷ xs) y → x ≡ y
 same-first x y xs ys up down f g = elim (in-split y ys x f) [

@@ -45,7 +45,7 @@ pub pairs-map : {A : Type 0} (R S : A → A → Type 0) → ((x y : A) → R x y
 pairs-map R S f [] p = p
 pairs-map R S f (x ∷ xs) p = (each-map (R x) (S x) (f x) xs p.0, pairs-map R S f xs p.1)
 
--- the same, where something is known of each element
+-- the same, if something is known of each element
 pub pairs-with : {A : Type 0} (P : A → Type 0) (R S : A → A → Type 0) → ((x y : A) → P x → P y → R x y → S x y) → (xs : List A) → AllByRecursion P xs → Pairs R xs → Pairs S xs
 pairs-with P R S f [] h p = p
 pairs-with P R S f (x ∷ xs) h p =

@@ -27,7 +27,7 @@ module _ {A B : Type 0} (f : A → B) where
   map-get (x ∷ xs) zero d r within = refl
   map-get (x ∷ xs) (suc j) d r within = map-get xs j d r (omega (arith, within))
 
-  -- what is sorted stays so where it is shown
+  -- what is sorted stays so when it is shown
   pub sorted-map : (C : A → A → Ordering) (D : B → B → Ordering) → ((a b : A) → C a b ≡ D (f a) (f b)) → (xs : List A) → IsSorted C xs → IsSorted D (map f xs)
   sorted-map C D same [] up k d first small = absurd (omega (arith, small))
   sorted-map C D same (x ∷ xs) up k d first small =

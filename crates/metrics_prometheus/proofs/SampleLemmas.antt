@@ -37,7 +37,7 @@ end_text bucket = codes "_bucket"
 end_text sum = codes "_sum"
 end_text number = codes "_count"
 
--- what stands behind the row's labels
+-- what follows the row's labels
 abbrev pub more : End → LabelParts → List LabelParts
 more bucket l = l ∷ []
 more sum l = []
@@ -83,7 +83,7 @@ pub data IsOf (r : Row) (s : Sample) : Type 0 where
 abbrev pub IsAmong : List Row → Row → Type 0
 IsAmong all r = kind_eq r.kind Histogram ≡ true → list_any (bytes_eq r.name) (histogram_names all) ≡ true
 
--- a row that may stand in the text
+-- a row that may be in the text
 abbrev pub IsFree : List Row → Row → Type 0
 IsFree all r = (is_taken all r.name ≡ false) × IsAmong all r
 
@@ -233,7 +233,7 @@ module _ (r : Row) (d : Distribution) where
       each-append (IsOf r) (map bucket_of (ascending d.buckets)) (all_of ∷ sum_of ∷ number_of ∷ []) (buckets-are k (ascending d.buckets))
       (part k bucket none refl refl, (part k sum none refl (sym (append-nil r.labels)), (part k number none refl (sym (append-nil r.labels)), tt)))
 
--- ---- the samples of a row, where its reading is of its kind
+-- ---- the samples of a row, if its reading is of its kind
 
 pub row-differs : (r : Row) (o : Option Reading) → ReadsAs r.kind o → Pairs Differ (samples_of r o)
 row-differs r None h = tt

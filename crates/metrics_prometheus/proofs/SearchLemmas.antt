@@ -71,7 +71,7 @@ module _ {A : Type 0} (f : A → List ℕ) where
       go false e = e
       go true e = absurd (h (ap (names n) (same-bytes name n e) ∙ tied_itself nat_list_cmp_total n))
 
-  -- where a search came to
+  -- the place that a search came to
   pub searched-there : (xs : List A) (name : List ℕ) (i : ℕ) (x : A) → i < length xs → x ≡ get_or xs i x → names (f x) name ≡ Equal → Some (f x) ≡ found_in (map f xs) name
   searched-there xs name i x small at equal =
       let same : f x ≡ name = exact_bytes (f x) name equal in

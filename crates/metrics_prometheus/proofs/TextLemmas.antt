@@ -18,11 +18,11 @@ if-false : {A : Type 0} (b written : Bool) (x y : A) → written ≡ not b → w
 if-false true written x y is was = refl
 if-false false written x y is was = absurd (let e : true ≡ false = sym is ∙ was in cc)
 
--- the row that was written last, where this one was
+-- the row that was written last, if this one was
 pub last-written : (all : List Row) (last : Option Row) (r : Row) (written : Bool) → written ≡ not (is_left_out all last r) → written ≡ true → Some r ≡ last_after all last r
 last-written all last r written is was = if-true (is_left_out all last r) written last (Some r) is was
 
--- and where it wasn't
+-- and if it wasn't
 pub last-kept : (all : List Row) (last : Option Row) (r : Row) (written : Bool) → written ≡ not (is_left_out all last r) → written ≡ false → last ≡ last_after all last r
 last-kept all last r written is was = if-false (is_left_out all last r) written last (Some r) is was
 

@@ -24,7 +24,7 @@ use Rattle.metrics_prometheus.proofs.HeadLemmas.{no-comment}
 use Rattle.metrics_prometheus.proofs.LabelLemmas.{labels-keyed}
 use Rattle.metrics_prometheus.proofs.HeldLemmas.{each-row}
 
--- a text is these lines, of which these are the samples
+-- a text is these lines, and these are their samples
 pub record AreLines (all : List Line) (text : List ℕ) (samples : List Sample) : Type 0 where
   pub text_is : text ≡ flat_map line_text all
   pub readable : AllByRecursion IsReadable all
@@ -33,7 +33,7 @@ pub record AreLines (all : List Line) (text : List ℕ) (samples : List Sample) 
 nothing : AreLines [] [] []
 nothing = record { text_is = refl; readable = tt; samples_are = refl }
 
--- one text behind another
+-- one text after another
 joined : (a b : List Line) (t u : List ℕ) (ss zs : List Sample) → AreLines a t ss → AreLines b u zs → AreLines (a ++ b) (t ++ u) (ss ++ zs)
 joined a b t u ss zs h g = record {
   text_is = ap (λ x. x ++ u) h.text_is ∙ ap (λ x. flat_map line_text a ++ x) g.text_is ∙ sym (flat_map-append line_text a b);
@@ -173,7 +173,7 @@ module _ (cells : Cells) (all : List Row) where
   lines_of last [] = []
   lines_of last (x ∷ xs) = row_at (reason_of all last x) last x ++ lines_of (last_after all last x) xs
 
-  -- a row, and those behind it
+  -- a row, and those after it
   of-row : (last : Option Row) (x : Row) → IsNamedRow x → (xs : List Row) (o : Option Reason) → ((next : Option Row) → AreLines (lines_of next xs) (rows_text cells all next xs) (flat_map samples_at (written all next xs)))
       → AreLines (row_at o last x ++ lines_of (cond (is_some o) last (Some x)) xs) (told_as o (reading_at cells x) last x ++ rows_text cells all (cond (is_some o) last (Some x)) xs) (flat_map samples_at (cond (is_some o) (written all last xs) (x ∷ written all (Some x) xs)))
   of-row last x h xs (Some why) rest = joined (leaves_out x why ∷ []) (lines_of last xs) (left_out_line x why) (rows_text cells all last xs) [] (flat_map samples_at (written all last xs)) (of-left x why h) (rest last)

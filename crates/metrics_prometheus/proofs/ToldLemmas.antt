@@ -1,4 +1,4 @@
--- Each row is told in the text: by its samples, or by a line that it is left out, and then something keeps it from the text.
+-- The text reports each row: by its samples, or by a line that it is left out, and then something keeps it from the text.
 use Rattle.std.proofs.Common.{◌≡◌, ◌∙◌, ◌⊎◌, ◌↔◌, inl, inr, ℕ, zero, suc, Bool, true, false, not, ◌&&◌, ◌||◌, cond, List, [], ◌∷◌, ◌++◌, map, Contains, Option, Some, None, is_some, refl, ap, sym, subst, arith, append_assoc}
 use Rattle.std.specs.Prelude.{bytes_eq}
 use Rattle.std.specs.List.{AllByRecursion, IsDistinct}
@@ -48,7 +48,7 @@ module _ (cells : Cells) (all whole : List Row) where
   here last x rest (Some why) skipped done out = with-line why (out why refl) [] rest refl
   here last x rest None skipped done out = with-samples (name_text last x) rest (in-first x done) (append_assoc (name_text last x) (lines (samples_of x (reading_at cells x))) rest)
 
-  -- a row behind it
+  -- a row after it
   behind : (x r : Row) (line rest : List ℕ) (b : Bool) (skipped done : List Row) → Part cells all whole r rest (cond b skipped done) → Part cells all whole r (line ++ rest) (cond b skipped (x ∷ done))
   behind x r line rest b skipped done (with-line why out before after is) = with-line why out (line ++ before) after (ap (λ t. line ++ t) is ∙ sym (append_assoc line before (left_out_line r why ++ after)))
   behind x r line rest b skipped done (with-samples before after has is) =
@@ -114,7 +114,7 @@ written-stands rows up r has =
       ];
     }
 
--- a row that may stand is left out by a clash alone
+-- a row that may be written is left out by a clash alone
 clash-left : (fit taken clash : Bool) → fit ≡ true → taken ≡ false → (not fit || (taken || clash)) ≡ true → clash ≡ true
 clash-left true false clash f t e = e
 clash-left true true clash f t e = absurd (let g : true ≡ false = t in cc)

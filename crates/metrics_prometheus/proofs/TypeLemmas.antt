@@ -1,4 +1,4 @@
--- The kind of each name that is written is told once, before the first of its samples.
+-- Each name that is written has one line for its kind, before the first of its samples.
 use Rattle.std.proofs.Common.{◌≡◌, ◌∙◌, ◌⊎◌, inl, inr, ℕ, Bool, true, false, cond, List, [], ◌∷◌, ◌++◌, map, Contains, Option, Some, None, is_some, refl, ap, sym, subst, append_assoc}
 use Rattle.std.specs.Prelude.{bytes_eq}
 use Rattle.std.specs.List.{AllByRecursion, filter_map}
@@ -22,7 +22,7 @@ use Rattle.metrics_prometheus.proofs.DistinctLemmas.{AreAcross, rows-across}
 use Rattle.metrics_prometheus.proofs.ReadingLemmas.{rows-read}
 use Rattle.metrics_prometheus.proofs.TextLineLemmas.{help_at, begin_at, name_at, samples_at, row_at, lines_of, text-lines}
 
--- ---- names that are behind another
+-- ---- names that are after another
 
 -- one name is another, or comes before it
 abbrev IsPast : List ℕ → List ℕ → Type 0
@@ -38,7 +38,7 @@ past-next n m k past up = elim (turn (names m k) (names k m) (nat_list_cmp_total
   | inr equal ↦ subst (IsPast n) (sym (exact_bytes k m equal)) past
 ]
 
--- the name behind another one is none of those before that
+-- the name after another one is none of those before that
 past-other : (n m k : List ℕ) → IsPast n m → is_lt (names k m) ≡ false → bytes_eq m k ≡ false → bytes_eq k n ≡ false
 past-other n m k past up other = go (bytes_eq k n) refl past
   where
@@ -49,7 +49,7 @@ past-other n m k past up other = go (bytes_eq k n) refl past
 
 -- ---- lines without a kind
 
--- a line doesn't tell the kind of that name
+-- a line doesn't report the kind of that name
 abbrev IsOther : List ℕ → Line → Type 0
 IsOther n l = is_type_of n l ≡ false
 
@@ -68,7 +68,7 @@ name-other : (n : List ℕ) (last : Option Row) (r : Row) → bytes_eq r.name n 
 name-other n None r other = begin-other n r other
 name-other n (Some w) r other = cond_both (bytes_eq w.name r.name) [] (begin_at r) (AllByRecursion (IsOther n)) (λ _. tt) (λ _. begin-other n r other)
 
--- behind a row that was written
+-- after a row that was written
 name-later : (n : List ℕ) (v r : Row) → IsPast n v.name → is_lt (names r.name v.name) ≡ false → AllByRecursion (IsOther n) (name_at (Some v) r)
 name-later n v r past up = cond_both (bytes_eq v.name r.name) [] (begin_at r) (AllByRecursion (IsOther n)) (λ _. tt) (λ other. begin-other n r (past-other n v.name r.name past up other))
 
@@ -92,9 +92,9 @@ samples-all (s ∷ ss) = ap (λ l. s ∷ l) (samples-all ss)
 row-all : (last : Option Row) (r : Row) (ss : List Sample) → filter_map sample_in (name_at last r ++ map has ss) ≡ ss
 row-all last r ss = filter_map-append sample_in (name_at last r) (map has ss) ∙ ap (λ l. l ++ filter_map sample_in (map has ss)) (name-none last r) ∙ samples-all ss
 
--- ---- the line that tells a kind
+-- ---- the line that reports a kind
 
--- lines in front of it
+-- lines before it
 in-front : (front all : List Line) (w : Row) (ss : List Sample) → AllByRecursion (IsOther w.name) front → ((s : Sample) → Contains ss s → Contains (filter_map sample_in front) s → ⊥)
     → TellsKindOnce all w ss → TellsKindOnce (front ++ all) w ss
 in-front front all w ss others none t = record {
@@ -143,7 +143,7 @@ module _ (cells : Cells) (all : List Row) where
       (λ _. none-later n v xs past up.1 ups.1)
       (λ _. none-later n x xs (past-next n v.name x.name past above) ups.0 ups.1))
 
-  -- rows that are written stand in order, and their samples differ
+  -- rows that are written are in order, and their samples differ
   abbrev AreBoth : Row → Row → Type 0
   AreBoth a b = IsBefore a b × AreAcross cells a b
 
@@ -173,7 +173,7 @@ module _ (cells : Cells) (all : List Row) where
   no-sample : (x w : Row) → AreAcross cells x w → (s : Sample) → Contains (own_samples w) s → Contains (own_samples x) s → ⊥
   no-sample x w across s its there = each-in _ (own_samples w) s (each-in _ (own_samples x) s across there) its refl refl
 
-  -- a row that is written, and those behind it
+  -- a row that is written, and those after it
   row-once : (last : Option Row) (x w : Row) (xs : List Row) → IsNew last w.name → AllByRecursion (IsUp x) xs → Pairs IsUp xs
       → AllByRecursion (AreBoth x) (written all (Some x) xs) → Contains (x ∷ written all (Some x) xs) w
       → (IsNew (Some x) w.name → Contains (written all (Some x) xs) w → TellsKindOnce (later_lines (Some x) xs) w (own_samples w))

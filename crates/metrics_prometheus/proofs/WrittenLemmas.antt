@@ -34,7 +34,7 @@ label_total = then_total (on_total (λ l. l.0) nat_list_cmp_total) (on_total (λ
 label_lists_total : IsTotalOrder label_lists
 label_lists_total = lists_total label_total
 
--- a row stands before another: its name comes before, or it has the same name and kind, and its labels come before
+-- a row comes before another: its name comes before, or it has the same name and kind, and its labels come before
 abbrev pub IsBefore : Row → Row → Type 0
 IsBefore a b = (names a.name b.name ≡ Less) ⊎ ((a.name ≡ b.name) × ((a.kind ≡ b.kind) × (label_lists a.labels b.labels ≡ Less)))
 
@@ -47,7 +47,7 @@ before-trans a b c (inr h) (inr g) = inr (h.0 ∙ g.0, (h.1.0 ∙ g.1.0, label_l
 pub never : {K : Type 0} (R : K → K → Ordering) (total : IsTotalOrder R) (x : K) → R x x ≡ Less → ⊥
 never R total x e = let g : Less ≡ Greater = sym e ∙ total.antisymm x x ∙ ap ordering_reverse e in cc
 
--- rows that stand before one another are apart
+-- rows that come before one another are apart
 pub before-apart : (a b : Row) → IsBefore a b → AreApart a b
 before-apart a b (inl h) e = absurd (never names nat_list_cmp_total b.name (ap (λ n. names n b.name) (sym e) ∙ h))
 before-apart a b (inr h) e = (h.1.0, λ same. never label_lists label_lists_total b.labels (ap (λ l. label_lists l b.labels) (sym same) ∙ h.1.1))
@@ -148,7 +148,7 @@ left-case true false y e = (refl, e)
 left-case true true y e = absurd (let g : true ≡ false = e in cc)
 left-case false x y e = absurd (let g : true ≡ false = e in cc)
 
--- the rows that are written behind one are before one another, and that one before them
+-- the rows that are written after one are before one another, and that one before them
 written-behind : (all : List Row) (w : Row) (rs : List Row) → AllByRecursion (IsUp w) rs → Pairs IsUp rs → AllByRecursion (IsBefore w) (written all (Some w) rs) × Pairs IsBefore (written all (Some w) rs)
 written-behind all w [] h up = (tt, tt)
 written-behind all w (r ∷ rs) h up =

@@ -20,8 +20,8 @@ use Rattle.metrics_prometheus.specs.Numbers.{unsigned, number}
 use Rattle.metrics_prometheus.specs.Labels.{shown_labels, repeats, reserved_of, are_fit, AreTexts}
 use Rattle.metrics_prometheus.specs.Samples.{Sample, lines, labels_text, histogram_samples}
 
--- a series as Prometheus is shown it, beside its own key: with the description of its own name, and so many digits behind the
--- point of each number
+-- a series as Prometheus is shown it, next to its own key: with the description of its own name, and the number of decimal
+-- places of each number
 pub record Row : Type 0 where
   pub name : List ℕ
   pub kind : MetricKind
@@ -50,16 +50,16 @@ row_cmp = then_cmp (on (λ r. r.name) (slice_cmp nat_cmp)) (then_cmp (on (λ r. 
 abbrev pub is_fit_histogram : Row → Bool
 is_fit_histogram r = kind_eq r.kind Histogram && are_fit r.kind r.labels
 
--- the names of these: a histogram that its labels keep from the text takes no name
+-- the names of these: a histogram that its labels keep from the text uses no name
 abbrev pub histogram_names : List Row → List (List ℕ)
 histogram_names [] = []
 histogram_names (r ∷ rs) = if is_fit_histogram r then r.name ∷ histogram_names rs else histogram_names rs
 
--- a name, where it is one of these
+-- a name, if it is one of these
 abbrev pub found_in : List (List ℕ) → List ℕ → Option (List ℕ)
 found_in names name = if list_any (bytes_eq name) names then Some name else None
 
--- what stands in front of the end of a name, where the name ends so and that is one of these
+-- what comes before the suffix of a name, if the name ends so and that is one of these
 abbrev pub part_of : List (List ℕ) → List ℕ → List ℕ → Option (List ℕ)
 part_of names name end = if ends_with nat_eq name end then found_in names (take (length name - length end) name) else None
 
@@ -109,7 +109,7 @@ is_left_out rows last r = is_some (reason_of rows last r)
 
 -- ---- the text
 
--- a description, where there is one
+-- a description, if there is one
 abbrev pub help_line : List ℕ → Option (List ℕ) → List ℕ
 help_line name None = []
 help_line name (Some text) = codes "# HELP " ++ (name ++ (32 ∷ (help_escaped text ++ 10 ∷ [])))
@@ -120,7 +120,7 @@ type_line r = codes "# TYPE " ++ (r.name ++ (32 ∷ (kind_word r.kind ++ 10 ∷ 
 abbrev pub name_lines : Row → List ℕ
 name_lines r = help_line r.name r.help ++ type_line r
 
--- a name's description and its kind are told once, before its first sample
+-- a name's description and its kind come once, before its first sample
 abbrev pub name_text : Option Row → Row → List ℕ
 name_text None r = name_lines r
 name_text (Some w) r = if bytes_eq w.name r.name then [] else name_lines r
@@ -134,7 +134,7 @@ samples_of r (Some (samples d)) = histogram_samples r.places r.name r.labels d
 abbrev pub reading_at : Cells → Row → Option Reading
 reading_at cells r = option_map (λ c. c.reading) (cells (series_at r.kind r.key))
 
--- names stand in it as they are in a description
+-- names are in it as they are in a description
 abbrev pub reason_text : Reason → List ℕ
 reason_text label_twice = codes "two labels of one name"
 reason_text (label_reserved n) = codes "label " ++ help_escaped n
@@ -150,7 +150,7 @@ series_named r = kind_word r.kind ++ (32 ∷ (help_escaped r.key.name ++ labels_
 abbrev pub left_out_words : Row → Reason → List ℕ
 left_out_words r why = series_named r ++ (codes ": " ++ reason_text why)
 
--- the same behind what tells such a line from others
+-- the same after what marks such a line
 abbrev pub left_out_line : Row → Reason → List ℕ
 left_out_line r why = codes "# left out: " ++ (left_out_words r why ++ 10 ∷ [])
 
@@ -185,14 +185,14 @@ pub record AreRows (display : Display) (cells : Cells) (rows : List Row) : Type 
 abbrev pub HoldsTexts : Cells → Type 0
 HoldsTexts cells = (s : SeriesKey) → IsHeld cells s → AreTexts s.key.labels
 
--- a text has for each held series its samples, behind its name's description and kind, or one line that says that it is left out;
--- names and units are shown by the naming, from what is told of them; label values are UTF-8
+-- a text has for each held series its samples, after its name's description and kind, or one line that says that it is left
+-- out; names and units follow the naming and the descriptions; label values are UTF-8
 pub record IsDescribed (naming : Naming) (legend : Legend) (cells : Cells) (text : List ℕ) : Type 0 where
   pub rows : List Row
   pub all : AreRows (display_of naming legend) cells rows
   pub texts : HoldsTexts cells
   pub is : text ≡ rows_text cells rows None rows
 
--- the same with names and numbers as they are given, where nothing is told of them
+-- the same with unchanged names and numbers, if no name is described
 abbrev pub IsExposition : Cells → List ℕ → Type 0
 IsExposition cells text = IsDescribed AsGiven no_legend cells text

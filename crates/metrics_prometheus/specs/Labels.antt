@@ -35,7 +35,7 @@ abbrev pub repeats : List LabelParts → Bool
 repeats [] = false
 repeats (l ∷ ls) = list_any (λ m. bytes_eq m.0 l.0) ls || repeats ls
 
--- a name that Prometheus keeps for itself: one that begins with two underscores, and the bound of a histogram's bucket
+-- a name that Prometheus reserves for itself: one that begins with two underscores, and the bound of a histogram's bucket
 abbrev pub is_reserved : MetricKind → List ℕ → Bool
 is_reserved kind name = starts_with nat_eq name (codes "__") || (kind_eq kind Histogram && bytes_eq name (codes "le"))
 

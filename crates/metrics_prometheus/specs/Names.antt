@@ -7,7 +7,7 @@ use Rattle.std.specs.Char.{is_ascii_alphabetic, is_ascii_digit}
 abbrev pub begins : Bool → ℕ → Bool
 begins colons c = is_ascii_alphabetic c || (nat_eq c 95 || (colons && nat_eq c 58))
 
--- behind the first character digits are allowed too
+-- after the first character digits are allowed too
 abbrev pub goes_on : Bool → ℕ → Bool
 goes_on colons c = begins colons c || is_ascii_digit c
 
@@ -35,7 +35,7 @@ abbrev pub is_name : Bool → List ℕ → Bool
 is_name colons [] = false
 is_name colons (c ∷ cs) = begins colons c && list_all (goes_on colons) cs
 
--- a backslash stands before a backslash and a double quote, and a line feed is a backslash and an n
+-- a backslash comes before a backslash and a double quote, and a line feed is a backslash and an n
 abbrev pub escape : ℕ → List ℕ
 escape c = if nat_eq c 92 then codes "\\\\" else (if nat_eq c 34 then codes "\\\"" else (if nat_eq c 10 then codes "\\n" else encode_utf8 c))
 
@@ -46,7 +46,7 @@ escaped value = flat_map escape (chars value)
 abbrev pub is_plain : ℕ → Bool
 is_plain c = not (nat_eq c 92) && (not (nat_eq c 34) && not (nat_eq c 10))
 
--- the same of a description, where a double quote stays
+-- the same of a description, in which a double quote stays
 abbrev pub help_escape : ℕ → List ℕ
 help_escape c = if nat_eq c 92 then codes "\\\\" else (if nat_eq c 10 then codes "\\n" else encode_utf8 c)
 

@@ -10,7 +10,7 @@ use Rattle.metrics_prometheus.specs.declared.naming.Naming.{Naming}
 use Rattle.metrics_prometheus.specs.declared.naming.Naming.TheVariants.{AsGiven, Recommended}
 use Rattle.metrics_prometheus.specs.Names.{metric_name}
 
--- what a kind and name are shown with: a name, a description, and how many digits stand behind the point of each number
+-- what a kind and name are shown with: a name, a description, and how many decimal places each number has
 pub record Shown : Type 0 where
   pub name : List ℕ
   pub help : Option (List ℕ)
@@ -21,7 +21,7 @@ Display = MetricKind → List ℕ → Shown
 
 -- ---- base units
 
--- the end of a name whose numbers are of the base unit
+-- the suffix of a name whose numbers are of the base unit
 abbrev pub unit_end : Option Measure → List ℕ
 unit_end None = []
 unit_end (Some Count) = []
@@ -53,7 +53,7 @@ with_end name end = if ends_with nat_eq name end then name else name ++ end
 abbrev pub without_end : List ℕ → List ℕ → List ℕ
 without_end name end = if ends_with nat_eq name end then take (length name - length end) name else name
 
--- the name ends in its unit, and a counter's in `_total` behind that
+-- the name ends in its unit, and a counter's in `_total` after that
 abbrev pub recommended_name : MetricKind → Option Measure → List ℕ → List ℕ
 recommended_name Counter unit name = with_end (without_end name (codes "_total")) (unit_end unit) ++ codes "_total"
 recommended_name Gauge unit name = with_end name (unit_end unit)

@@ -21,12 +21,12 @@ pub record HasNames (s : Sample) : Type 0 where
   pub name : is_name true s.name ≡ true
   pub keys : AllByRecursion (λ l. is_name false l.0 ≡ true) s.labels
 
--- a sample that is told by its line
+-- a sample that its line determines
 pub record CanBeRead (s : Sample) : Type 0 where
   pub names : HasNames s
   pub texts : AreTexts s.labels
 
--- two samples have the same text in front of their values
+-- two samples have the same text before their values
 abbrev pub is_same_text : Sample → Sample → Bool
 is_same_text a b = bytes_eq (series_text a) (series_text b)
 
@@ -57,7 +57,7 @@ AreOfKinds cells = (s : SeriesKey) → ReadsAs s.kind (reading_in cells s)
 
 -- ---- the samples of a histogram
 
--- each bucket once, by ascending bounds, with numbers that don't fall and aren't above the count; behind them +Inf's bucket,
+-- each bucket once, by ascending bounds, with numbers that don't fall and aren't above the count; after them +Inf's bucket,
 -- which has the count, the sum and the count
 pub record AreBuckets (places : ℕ) (name : List ℕ) (labels : List LabelParts) (d : Distribution) (ss : List Sample) : Type 0 where
   pub buckets : List (ℤ × ℕ)

@@ -35,7 +35,7 @@ Shows cells r = reading_at cells (row_shown r) ≡ Some (reading_shown r.reading
 abbrev pub told_shown : ShownRow → Told
 told_shown r = (series_at r.kind r.key.now, reading_shown r.reading)
 
--- rows are those of their series, in order, of which each comes once
+-- rows are those of their series, in order, each once
 pub record AreRowsOf (display : Display) (told : List Told) (rows : List ShownRow) : Type 0 where
   pub own : map pair_shown rows ≡ map (pair_of display) (map told_shown rows)
   pub once : AreOnce told (map told_shown rows)

@@ -17,17 +17,17 @@ pub record Sample : Type 0 where
 abbrev pub label_text : LabelParts → List ℕ
 label_text l = l.0 ++ (codes "=\"" ++ (escaped l.1 ++ codes "\""))
 
--- a comma stands between labels
+-- a comma is between labels
 abbrev pub joined : List LabelParts → List ℕ
 joined [] = []
 joined (l ∷ ls) = label_text l ++ flat_map (λ m. 44 ∷ label_text m) ls
 
--- labels stand in braces, and none in nothing
+-- labels are in braces, and none in nothing
 abbrev pub labels_text : List LabelParts → List ℕ
 labels_text [] = []
 labels_text (l ∷ ls) = 123 ∷ (joined (l ∷ ls) ++ codes "}")
 
--- NAME{LABELS}: what stands in front of the value
+-- NAME{LABELS}: what comes before the value
 abbrev pub series_text : Sample → List ℕ
 series_text s = s.name ++ labels_text s.labels
 
@@ -44,7 +44,7 @@ lines samples = flat_map sample_line samples
 abbrev pub bucket_sample : List ℕ → List LabelParts → List ℕ → ℕ → Sample
 bucket_sample name labels bound n = record { name = name ++ codes "_bucket"; labels = labels ++ (codes "le", bound) ∷ []; value = decimal n }
 
--- behind the buckets one for all samples, their sum and their number
+-- after the buckets one for all samples, their sum and their number
 abbrev pub histogram_ends : ℕ → List ℕ → List LabelParts → Distribution → List Sample
 histogram_ends places name labels d =
     bucket_sample name labels (codes "+Inf") d.count

@@ -1,4 +1,4 @@
--- Names and lists that are given, or were made.
+-- Names and lists of the caller's, or that were made.
 use Rattle.std.specs.Prelude.{ℕ, List, string_bytes}
 use Rattle.metrics_prometheus.specs.declared.shown.NameText.{NameText}
 use Rattle.metrics_prometheus.specs.declared.shown.NameText.TheVariants.{Given as GivenName, Made as MadeName}

@@ -37,14 +37,14 @@ pub data IsWhy (rows : List Row) (r : Row) (why : Reason) : Type 0 where
   alone : reason_of rows None r ≡ Some why → IsWhy rows r why
   beside : (w : Row) → Contains (written rows None rows) w → reason_of rows (Some w) r ≡ Some why → IsWhy rows r why
 
--- a row that may stand is written, and its samples stand in the text; of another the line stands there that it is left out, and why
+-- a row that may be written has its samples in the text; another one has a line that it is left out, and why
 pub data IsTold (cells : Cells) (rows : List Row) (text : List ℕ) (r : Row) : Type 0 where
   shown : MayStand rows r → (before after : List ℕ) → text ≡ before ++ (lines (samples_of r (reading_at cells r)) ++ after) → IsTold cells rows text r
   left_out : (MayStand rows r → ⊥) → (why : Reason) → IsWhy rows r why → (before after : List ℕ) → text ≡ before ++ (left_out_line r why ++ after) → IsTold cells rows text r
 
 -- ---- the lines of a text
 
--- a line has a sample, or it describes a name, or tells the kind of a row's name, or why a row is left out
+-- a line has a sample, or describes a name, or reports the kind of a row's name, or why a row is left out
 pub data Line : Type 0 where
   has : Sample → Line
   describes : List ℕ → List ℕ → Line
@@ -70,7 +70,7 @@ left_out_in (describes name text) = None
 left_out_in (tells_kind r) = None
 left_out_in (leaves_out r why) = Some (left_out_words r why)
 
--- a line feed stands at its end, and nowhere else
+-- a line feed is at its end, and nowhere else
 pub record IsLine (bytes : List ℕ) : Type 0 where
   pub inside : List ℕ
   pub is : bytes ≡ inside ++ 10 ∷ []
@@ -86,7 +86,7 @@ pub record IsReadable (l : Line) : Type 0 where
   pub ends : IsLine (line_text l)
   pub comment : begins_comment (line_text l) ≡ not (is_some (sample_in l))
 
--- a text of lines that can be told apart, of which these are the samples
+-- a text of lines that can be told apart, with these samples
 pub record HasSamples (text : List ℕ) (samples : List Sample) : Type 0 where
   pub all : List Line
   pub text_is : text ≡ flat_map line_text all
@@ -95,14 +95,14 @@ pub record HasSamples (text : List ℕ) (samples : List Sample) : Type 0 where
 
 -- ---- the kinds of names
 
--- a line tells the kind of that name
+-- a line reports the kind of that name
 abbrev pub is_type_of : List ℕ → Line → Bool
 is_type_of name (has s) = false
 is_type_of name (describes n text) = false
 is_type_of name (tells_kind r) = bytes_eq r.name name
 is_type_of name (leaves_out r why) = false
 
--- of these lines one tells the kind of the row's name, as the row has it, and none of these samples comes before it
+-- one of these lines reports the kind of the row's name, as the row has it, and none of these samples comes before it
 pub record TellsKindOnce (all : List Line) (w : Row) (samples : List Sample) : Type 0 where
   pub before : List Line
   pub first : Row
@@ -114,7 +114,7 @@ pub record TellsKindOnce (all : List Line) (w : Row) (samples : List Sample) : T
   pub none_after : AllByRecursion (λ l. is_type_of w.name l ≡ false) after
   pub behind : (s : Sample) → Contains samples s → Contains (filter_map sample_in before) s → ⊥
 
--- a text of lines that can be told apart, which tell the kind of each row's name once, before the row's samples
+-- a text of lines that can be told apart; they report the kind of each row's name once, before the row's samples
 pub record TellsKinds (cells : Cells) (rows : List Row) (text : List ℕ) : Type 0 where
   pub lines : HasSamples text (samples_written cells rows)
   pub once : (w : Row) → Contains (written rows None rows) w → TellsKindOnce lines.all w (samples_of w (reading_at cells w))

@@ -14,7 +14,7 @@ use Rattle.metrics_replay.specs.Replaying.{log_of, register_kind, register_place
 
 -- ---- the handle of a number
 
--- the register call at a place, if one stands there
+-- the register call at a place, if there is one
 abbrev registration_at : List Call → List Answer → ℕ → Option Registration
 registration_at cs as' i = option_and_then registration_of (slice_get (log_of cs as') i)
 
@@ -31,7 +31,7 @@ places-suc i (c ∷ cs) =
       | Some k ↦ ap (λ is. suc i ∷ is) (places-suc (suc i) cs)
     ]
 
--- where each register call stands
+-- the place of each register call
 pub registration-places : (cs : List Call) (as' : List Answer) (n : ℕ) → length cs ≡ length as' →
     registration n (log_of cs as') ≡ option_and_then (registration_at cs as') (slice_get (register_places 0 cs) n)
 registration-places [] as' n e = refl
@@ -140,7 +140,7 @@ places-push i (x ∷ cs) c =
     ap (place_in_front (register_kind x) i) (places-push (suc i) cs c ∙ ap (λ j. register_places (suc i) cs ++ place_in_front (register_kind c) j []) e)
     ∙ elim (register_kind x) as (λ o. place_in_front o i (register_places (suc i) cs ++ more) ≡ place_in_front o i (register_places (suc i) cs) ++ more) [ None ↦ refl | Some k ↦ refl ]
 
--- what a replay keeps: where the books were new, contents and answers are what the definitions say of the calls so far
+-- what a replay keeps: if the books were new, contents and answers are what the definitions say of the calls so far
 pub record Replayed (first now : Meaning) (calls : List Call) (answers : List Answer) : Type 0 where
   pub number : length calls ≡ length answers
   pub keeps : KeepsTargets first now

@@ -7,7 +7,7 @@ use Rattle.metrics.specs.History.{Log, reached, content_after, ArePlain}
 use Rattle.metrics.proofs.HistoryLemmas.{Kept}
 use Rattle.metrics_replay.specs.Replaying.{register_places}
 
--- each reply is the plain answer after the calls before it, and the books are what the journal gives
+-- each reply is the expected answer after the calls before it, and the books are what the journal says
 abbrev pub IsJournal : Meaning → Log → Type 0
 IsJournal m log =
     ArePlain m.targets (length m.contents) log
@@ -17,7 +17,7 @@ IsJournal m log =
 abbrev pub calls_of : Log → List Call
 calls_of log = map (λ e. e.0) log
 
--- a journal of a recorder whose books were new, what its register calls gave, and where they stand in it
+-- a journal of a recorder whose books were new, what its register calls returned, and their places in it
 pub record IsKeptOf (m : Meaning) (log : Log) (registers : List ℕ) : Type 0 where
   pub plain : ArePlain m.targets (length m.contents) log
   pub kept : Kept (Unit {0}) m.targets log m.contents

@@ -17,7 +17,7 @@ use Rattle.metrics.specs.Answering.{Handle, holds_all, IsBadHandle, Answers}
 abbrev pub handle_seen : MetricKind × Bor (List Address) → Handle
 handle_seen h = (h.0, h.1.now)
 
--- whether a series of the handle's kind stands at each of its addresses
+-- whether a series of the handle's kind is at each of its addresses
 abbrev pub holds_handle : Option Handle → List Content → Bool
 holds_handle None cs = true
 holds_handle (Some h) cs = holds_all h.0 h.1 cs
@@ -26,12 +26,12 @@ holds_handle (Some h) cs = holds_all h.0 h.1 cs
 abbrev pub IsNoAddress : Meaning → Meaning → Answer → Type 0
 IsNoAddress old new a = (a ≡ Answer.Refused NoSuchAddress) × (new.contents ≡ old.contents)
 
--- an update of a handle that is not held: no such address where it is of the handle's kind, and else a bad handle
+-- an update of a handle that is not held: no such address if it is of the handle's kind, and else a bad handle
 abbrev pub UpdatesUnheld : Meaning → Meaning → Option Handle → Update → Answer → Type 0
 UpdatesUnheld old new None u a = IsBadHandle old new a
 UpdatesUnheld old new (Some h) u a = MatchBool (kind_eq (kind_of u) h.0) (IsNoAddress old new a) (IsBadHandle old new a)
 
--- what one call does and answers, where the handle that comes with it is not held
+-- what one call does and answers, if the handle that comes with it is not held
 abbrev pub AnswersUnheld : Meaning → Meaning → Option Handle → Call → Answer → Type 0
 AnswersUnheld old new h (Call.Update n u) a = UpdatesUnheld old new h u a
 AnswersUnheld old new h c a = Answers old new h c a

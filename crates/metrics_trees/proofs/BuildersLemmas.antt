@@ -122,7 +122,7 @@ module _ (s : RouteTables) (rs : List Route) (h : AreTablesOf s rs) where
   winner-routed all =
       ap (λ (f : MetricKind → List ℕ → ℕ). choosing f all) (fun_ext (λ kind. fun_ext (λ name. same_choice kind name)))
 
-  -- where there is no target no route wins, and the default stands for all
+  -- if there is no target no route wins, and the default has all names
   pub alone-routed : TargetsBelow s 0 → (d : Meaning) → d ≡ routed rs (d ∷ [])
   alone-routed b d =
       let all = routed rs (d ∷ []) in

@@ -44,7 +44,7 @@ module _ (kind : MetricKind) (name : List ℕ) where
       ∙ ap (λ ts. here ++ ts) (between-split all (suc j) n k ∙ ap (λ i. targets_between kind name all (suc j) n ++ targets_between kind name all i k) f)
       ∙ sym (append_assoc here (targets_between kind name all (suc j) n) (targets_between kind name all (j + suc n) k))
 
-  -- behind one recorder more the others' targets are raised
+  -- after one recorder more the others' targets are raised
   between-behind : (a : Meaning) (rest : List Meaning) (j n : ℕ) →
       targets_between kind name (a ∷ rest) (suc j) n ≡ raise (books_of a) (targets_between kind name rest j n)
   between-behind a rest j zero = refl
@@ -187,7 +187,7 @@ module _ {Y : Type 0} (M : Y → Meaning) (kind : MetricKind) (name : List ℕ) 
           ∙ ap (λ ts. after_targets f ts (joined_all (map M was)).contents) (sym taken)
           ∙ ap (after_targets f (take n (whole.targets kind name))) (sym (contents-group reach (map M was)))
 
-      -- one child was refused
+      -- one child failed
       pub acts-refused : {A B : Type 0} (P : A → Type 0) (Q : B → Type 0) (e : Refused) → Acts f targets (M x) (M y) (Err e) P →
           Acts f (whole.targets kind name) whole next (Err (after_front (length (reached was first i)) e)) Q
       acts-refused P Q (Memory a) r = (fits a r.0, stopped a r.0 r.1)
@@ -264,7 +264,7 @@ module _ {Y : Type 0} (M : Y → Meaning) (kind : MetricKind) (name : List ℕ) 
       size : (answer : List Address) → answer ≡ there → length answer ≡ length ((M x).targets kind name)
       size answer a = ap length a ∙ length-addresses kind labels ((M x).targets kind name) (M x).contents
 
-      -- one child was refused, or its addresses found no memory
+      -- one child failed, or its addresses found no memory
       pub refused-after : {B : Type 0} (A : Type 0) (after : List Address) (r : Result (List Address) Refused) (e : Refused) (P : B → Type 0) →
           Registers (M x) (M y) kind (record { name = name; labels = labels }) r → IsAppended {A = A} found after front r (Err e) →
           Acts registers ((group_meaning reach (map M was)).targets kind name) (group_meaning reach (map M was)) (group_meaning reach (map M (set now i y))) (Err e) P

@@ -71,7 +71,7 @@ contents-group (ByRoute routes) all = refl
 
 -- ---- calls on the targets of one
 
--- acting on one's targets is acting on them where they stand among all
+-- acting on one's targets is acting on them at their places among all
 pub acts_within : {X : Type 0} (f : X → Content → Content) (front rest : List Meaning) (x y : Meaning) (ts : List (ℕ × X)) →
     AllBelow (books_of x) ts → y.contents ≡ after_targets f ts x.contents →
     (joined_all (front ++ y ∷ rest)).contents ≡ after_targets f (raise (books_of (joined_all front)) ts) (joined_all (front ++ x ∷ rest)).contents
@@ -168,7 +168,7 @@ module _ (front rest : List Meaning) (x : Meaning) (b : ℕ) (lt : b < books_of 
   snapshots-one y old new o n reset (Err NoSuchAddress) h = absurd h
   snapshots-one y old new o n reset (Err BadHandle) h = absurd h
 
--- no series stands at a number that no book has
+-- no series is at a number that no book has
 pub holds-past : (kind : MetricKind) (b s : ℕ) (cs : List Content) → length cs ≤ b → holds_at kind (record { book = b; series = s }) cs ≡ false
 holds-past kind b s cs le = ap (λ q. is_kind kind (kind_at s (content_at b cs)) && q) (not_less b (length cs) le) ∙ never (is_kind kind (kind_at s (content_at b cs)))
   where

@@ -38,7 +38,7 @@ pub record Loop {B : Type 0} (m : B → Meaning) (v : Vec (Node B) Global) (ends
   pub group : IsGroup m v ends reach old
   pub range_is : range ≡ range_of reach kind name (length v.items)
 
--- a refusal behind no targets
+-- a failure after no targets
 after-none : (d : Refused) → d ≡ after_front 0 d
 after-none (Memory acted) = let z : acted ≡ 0 + acted = omega arith in ap Memory z
 after-none NoSuchAddress = refl
@@ -51,7 +51,7 @@ raised-none (a ∷ found) =
     let same : 0 + a.book ≡ a.book = omega arith in
     ap (λ (n : ℕ). record { book = n; series = a.series } ∷ raised 0 found) same ∙ ap (λ as'. a ∷ as') (raised-none found)
 
--- what stands behind no books is what would have been added to nothing
+-- what comes after no books is what would have been added to nothing
 by-answer : (r : Result (List Address) Refused) (P : Result (List Address) Refused → Type 0) →
     ((after : List Address) → IsAppended {A = Unit {0}} [] after 0 r (Ok tt) → P (Ok after)) → ((d : Refused) → IsAppended {A = Unit {0}} [] [] 0 r (Err d) → P (Err d)) → P r
 by-answer (Ok there) P ok err = ok there (sym (raised-none there))
@@ -78,7 +78,7 @@ module _ {B : Type 0} {m : B → Meaning} {v : Vec (Node B) Global} {ends : Vec 
   bounds : (range.0 ≤ range.1) × (range.1 ≤ length v.items)
   bounds = range-within reach kind name (length v.items) range loop.range_is (row-is loop.group).within
 
-  -- where the range has one child
+  -- if the range has one child
   pub below-one : range.0 ≡ 0 → range.1 ≡ 1 → range.0 < range.1
   below-one first end = omega (arith, first, end)
 

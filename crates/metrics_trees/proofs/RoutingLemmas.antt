@@ -17,7 +17,7 @@ use Rattle.metrics.specs.declared.kind.PerKind.{PerKind}
 use Rattle.prefix_match.specs.declared.trie.PrefixTrie.{PrefixTrie}
 use Rattle.metrics_trees.specs.Routing.{RouteTables, no_routes, longest_within, target_of, AddsRoute, last_target, AreTablesOf, TargetsBelow}
 
--- ---- the longest stored front
+-- ---- the longest stored prefix
 
 none_of : (o : Option ℕ) → (IsSome o → ⊥) → o ≡ None
 none_of None h = refl
@@ -55,7 +55,7 @@ within_some pairs name p v (suc n) a l m = at_or_below (λ b. within_some pairs 
         let no : IsSome (stored pairs (take (suc n) name)) → ⊥ = λ s. (let le = a.longest (take (suc n) name) s (take_front name (suc n) m) in omega (arith, le, len)) in
         ap (λ o. option_or o (longest_within pairs name n)) (none_of (stored pairs (take (suc n) name)) no) ∙ below l
 
--- an answer of a trie is the longest stored front
+-- a result of a trie is the longest stored prefix
 pub longest_answers : (pairs : List (List ℕ × ℕ)) (name : List ℕ) (answer : Option ℕ) → IfSome answer (IsLongest pairs name) → IfNone answer (HasNoFront pairs name) → answer ≡ longest_within pairs name (length name)
 longest_answers pairs name None s h = sym (within_none pairs name (length name) h (omega arith))
 longest_answers pairs name (Some v) (p, a) h =
@@ -129,7 +129,7 @@ last_at (x ∷ routes) kind p (suc at) r e h last =
     ap (λ o. option_or o (cond (has kind p x) (Some x.target) None))
     (last_at routes kind p at r e h (λ i s g t. (let l = last (suc i) s g t in omega arith)))
 
--- ---- the longest stored front is the winner
+-- ---- the longest stored prefix is the winner
 
 both : (a b : Bool) → a ≡ true → b ≡ true → (a && b) ≡ true
 both a b h g = ap (λ x. x && b) h ∙ g

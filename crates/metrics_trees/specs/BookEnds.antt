@@ -10,7 +10,7 @@ abbrev pub total : List ℕ → ℕ
 total [] = 0
 total (n ∷ ns) = n + total ns
 
--- the number of books up to the end of each recorder, the first of which begins at a number
+-- the number of books up to the end of each recorder; the first begins at a number
 abbrev pub ends_from : ℕ → List ℕ → List ℕ
 ends_from start [] = []
 ends_from start (n ∷ ns) = (start + n) ∷ ends_from (start + n) ns
@@ -21,14 +21,14 @@ pub record IsPlace (sizes : List ℕ) (book : ℕ) (place : ℕ × ℕ) : Type 0
   pub number : total (take place.0 sizes) + place.1 ≡ book
   pub below : place.1 < get_or sizes place.0 0
 
--- an address of a recorder that stands behind so many books
+-- an address of a recorder that comes after so many books
 abbrev pub raised_one : ℕ → Address → Address
 raised_one front a = record { book = front + a.book; series = a.series }
 
 abbrev pub raised : ℕ → List Address → List Address
 raised front found = map (raised_one front) found
 
--- one recorder more answered after those before it, or was refused. Where its addresses find no memory its call has acted too
+-- one recorder more answered after those before it, or failed. If its addresses find no memory its call has acted too
 abbrev pub IsAppended : {A : Type 0} → List Address → List Address → ℕ → Result (List Address) Refused → Result A Refused → Type 0
 IsAppended old new front (Ok there) (Ok done) = new ≡ old ++ raised front there
 IsAppended old new front (Ok there) (Err f) = f ≡ Memory (length old + length there)

@@ -29,7 +29,7 @@ books_in all = books_of (joined_all all)
 abbrev pub BooksFit : List Meaning → Meaning → Type 0
 BooksFit all a = books_in all + books_of a ≤ most_books
 
--- why one recorder more is refused: for too many books exactly if there would be, and else for memory
+-- why one recorder more is rejected: for too many books exactly if there would be, and else for memory
 abbrev pub refusal : List Meaning → Meaning → Error
 refusal all a = if nat_lt most_books (books_in all + books_of a) then TooManyBooks else Memory
 
@@ -45,12 +45,12 @@ abbrev pub all_meanings : {B : Type 0} → (B → Meaning) → Option (Node B) �
 all_meanings m (Some default) children = node_meaning m default ∷ []
 all_meanings m None children = meanings m children
 
--- why a route to one recorder more is refused: for a mask without kinds, else as the recorder is
+-- why a route to one recorder more is rejected: for a mask without kinds, else as the recorder is
 abbrev pub route_refusal : ℕ → List Meaning → Meaning → Error
 route_refusal mask all a = if nat_eq mask 0 then EmptyMask else refusal all a
 
--- why a route to an earlier target is refused: for a mask without kinds, else for a number that no target has,
--- else for memory
+-- why a route to an earlier target is rejected: for a mask without kinds, else for a number that no target has, else for
+-- memory
 abbrev pub target_refusal : ℕ → ℕ → ℕ → Error
 target_refusal mask target targets =
     if nat_eq mask 0 then EmptyMask else if nat_lt target targets then Memory else NoSuchTarget

@@ -15,7 +15,7 @@ RouteTables = PerKind (List (List ℕ × ℕ))
 abbrev pub no_routes : RouteTables
 no_routes = record { counter = []; gauge = []; histogram = [] }
 
--- the target of the longest stored front of a name with at most n bytes
+-- the target of the longest stored prefix of a name with at most n bytes
 abbrev pub longest_within : List (List ℕ × ℕ) → List ℕ → ℕ → Option ℕ
 longest_within pairs name zero = stored pairs []
 longest_within pairs name (suc n) =

@@ -1,4 +1,4 @@
--- No byte so far is refused.
+-- No byte so far is rejected.
 use Rattle.std.proofs.Common.{◌≡◌, drop}
 use Rattle.std.specs.List.{list_all}
 use Rattle.metrics_prometheus.specs.Names.{goes_on}

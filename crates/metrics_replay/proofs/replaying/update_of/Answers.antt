@@ -10,7 +10,7 @@ use Rattle.metrics.proofs.HandlesLemmas.{handled}
 use Rattle.metrics_replay.specs.Replaying.{handle_seen}
 use Rattle.metrics_replay.proofs.replaying.update_of.Goals as goal
 
--- the addresses are held, so no update of them is refused as no such address
+-- the addresses are held, so no update of them fails with no such address
 pub returns-in-Err-clause-updates : goal.returns-in-Err-clause-updates
 returns-in-Err-clause-updates g c is_held =
     let old = g.R.Recorder.meaning c.args.on.now in

@@ -72,7 +72,7 @@ returns-after-loop-i g t c =
     let called = whole-called loop c.args.key.now.labels c.loop-i.children c.loop-i.i c.loop-i.invariant.through c.loop-i.invariant.sound _ c.loop-i.invariant.found c.loop-i.auto.i-end c.loop-i-test.false in
     record { sound = called.sound; keeps = called.keeps; registers = called.registers }
 
--- ---- where the first child alone is called
+-- ---- if the first child alone is called
 
 pub index_mut-requires : goal.index_mut-requires
 index_mut-requires g t c =
