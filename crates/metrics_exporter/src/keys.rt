@@ -24,7 +24,7 @@ pub(crate) enum CellRef<'a> {
 }
 
 impl<'a> CellRef<'a> {
-    /// The generation of the cell.
+    /// Returns the generation of the cell.
     pub fn generation(&self) -> Generation
         ensures { result ≡ (cell_shown self.now).generation }
     {

@@ -47,7 +47,7 @@ fn name_place(name: &str, other: &[u8]) -> Ordering
     name.as_bytes().cmp(other)
 }
 
-/// The name, where it is one of these.
+/// The name, if it is one of these.
 fn found_in<'r>(names: &[&'r str], name: &[u8]) -> Option<&'r str>
     requires { IsSorted (slice_cmp nat_cmp) (names_shown names.now) }
     ensures { option_map (λ n. n.now) result ≡ found_in (names_shown names.now) name.now }

@@ -48,7 +48,7 @@ impl<T> Block<T> {
         })
     }
 
-    /// The number of values.
+    /// Returns the number of values.
     pub fn len(&self) -> usize
         ensures value { result ≡ length self.now }
         ensures fits { result ≤ 64 }
@@ -56,7 +56,7 @@ impl<T> Block<T> {
         self.len
     }
 
-    /// The values, in place.
+    /// Returns the values, in place.
     pub fn data(&self) -> &[T]
         ensures value { result.now ≡ self.now }
         ensures fits { length result.now ≤ 64 }

@@ -81,7 +81,7 @@ fn take_out<T: Drop, F: FnMut(&[T])>(blocks: &mut Vec<Block<T>>, f: &mut F)
     }
 }
 
-/// Takes each block out, the newest first, shows what it held before dropping it, and then shows nothing once more.
+/// Takes each block out, the newest first, and shows what it held exactly once, before dropping it.
 fn take_out_once<T: Drop, F: FnMut(&[T])>(blocks: &mut Vec<Block<T>>, mut f: F)
     requires { TakesInTurn F.FnMut f (reverse blocks.old.items) }
     ensures empty { blocks.new.items ≡ [] }

@@ -84,7 +84,7 @@ pub not_longer_front : (ps : List (List ℕ)) (w v : List ℕ) → is_front ps w
 not_longer_front ps w v h =
     false_from_ne_true _ (λ e. false≢true (sym h ∙ is_front_shorter ps w v e))
 
--- one byte more: only the longest front so far matters
+-- one byte more: only the longest prefix so far matters
 pub longest_front_push : (ps : List (List ℕ)) (w : List ℕ) (b : ℕ) → longest_front ps (w ++ b ∷ []) ≡ longest_front ps (longest_front ps w ++ b ∷ [])
 longest_front_push ps [] b = rw longest_front_nil refl
 longest_front_push ps (c ∷ w) b =
@@ -151,7 +151,7 @@ some_ends_nil (p ∷ ps) = rw (no_more p, some_ends_nil ps) (ap (λ b. b || is_p
 pub not_pattern : (ps : List (List ℕ)) (w : List ℕ) → is_front ps w ≡ false → is_pattern ps w ≡ false
 not_pattern ps w h = false_from_ne_true _ (λ e. false≢true (sym h ∙ is_front-pattern ps w e))
 
--- what ends a list ends its longest front
+-- what ends a list ends its longest prefix
 pub some_ends_front : (ps : List (List ℕ)) (w : List ℕ) → some_ends ps w ≡ some_ends ps (longest_front ps w)
 some_ends_front ps [] = rw longest_front_nil refl
 some_ends_front ps (c ∷ w) =
@@ -160,7 +160,7 @@ some_ends_front ps (c ∷ w) =
       | inr n ↦ rw (longest_front_tail ps c w n) (some_ends_cons ps c w ∙ ap (λ b. b || some_ends ps w) (not_pattern ps (c ∷ w) n) ∙ some_ends_front ps w)
     ]
 
--- the longest front is an end
+-- the longest prefix is an end
 pub longest_front_ends : (ps : List (List ℕ)) (w : List ℕ) → (a : List ℕ) × (w ≡ a ++ longest_front ps w)
 longest_front_ends ps [] = ([], sym (longest_front_nil ps))
 longest_front_ends ps (c ∷ w) =

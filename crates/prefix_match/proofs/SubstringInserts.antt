@@ -12,7 +12,7 @@ use Rattle.prefix_match.proofs.SubstringFronts.{same_bytes, bytes_same, bytes_di
 use Rattle.prefix_match.proofs.SubstringStates.{text_of-root, same_state, child_text, no_child_text, AddsChild, kept_text, new_text, last_or_before, with_child_adds, tree_with_child}
 use Rattle.prefix_match.proofs.SubstringShapes.{shape_tree, shape_text, shape-set}
 
--- the states have the fronts of the patterns, and of q those of at most i bytes
+-- the states have the prefixes of the patterns, and of q those of at most i bytes
 pub record IsPartTrie (ps : List (List ℕ)) (q : List ℕ) (i : ℕ) (nodes : List Node) : Type 0 where
   pub fronts : (w : List ℕ) → is_front ps w ≡ true → (x : ℕ) × ((x < length nodes) × (text_of nodes x ≡ w))
   pub part : (j : ℕ) → j ≤ i → (x : ℕ) × ((x < length nodes) × (text_of nodes x ≡ take j q))
@@ -178,7 +178,7 @@ insert_end old nodes state i q m all e h =
           (λ x d. ap (λ y. y.matching) (get_or-set_other nodes state x (record m { matching = true }) no_node d)) (ap (λ y. y.matching) here) (h.part ps t),
     )
 
--- a root alone has the fronts of no pattern
+-- a root alone has the prefixes of no pattern
 pub root_trie : (nodes : List Node) (b : ℕ) → nodes ≡ record { byte = b; matching = false; parent = 0; first_child = 0; next_sibling = 0; fail = 0 } ∷ [] → IsTrie [] nodes
 unfolding is_front
 root_trie nodes b e =

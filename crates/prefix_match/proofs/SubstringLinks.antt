@@ -23,7 +23,7 @@ drop_push : (w : List ℕ) (b : ℕ) → 0 < length w → drop 1 (w ++ b ∷ [])
 drop_push [] b h = absurd (omega arith)
 drop_push (y ∷ w) b h = refl
 
--- what is no front goes on without its first byte
+-- what is no prefix goes on without its first byte
 shorter : (ps : List (List ℕ)) (w : List ℕ) (b : ℕ) → 0 < length w → is_front ps (w ++ b ∷ []) ≡ false → longest_front ps (longest_front ps (drop 1 w) ++ b ∷ []) ≡ longest_front ps (w ++ b ∷ [])
 shorter ps [] b h n = absurd (omega arith)
 shorter ps (y ∷ w) b h n = sym (longest_front_push ps w b) ∙ sym (longest_front_tail ps y (w ++ b ∷ []) n)

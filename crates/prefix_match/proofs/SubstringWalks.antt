@@ -67,7 +67,7 @@ ends_from_occurs s text o =
     let e : some_ends ps (o.1 ++ lp) ≡ true = ap (λ u. some_ends ps (o.1 ++ u)) (sym there) ∙ some_ends_at ps k o.1 within in
     ends_at_end ps t n (omega (arith, ap length o.3.1, length-append (o.1 ++ lp) o.2)) (ap (some_ends ps) cut ∙ e)
 
--- a pattern that ends at a place has at most the bytes of the longest front there
+-- a pattern that ends at a place has at most the bytes of the longest prefix there
 pub occurs_within : (s : Patterns) (text : List ℕ) (n m : ℕ) → some_ends (compared s) (take n (lowered s.fold_case text)) ≡ true → length (longest_front (compared s) (take n (lowered s.fold_case text))) ≤ m → OccursWithin s text m
 occurs_within s text n m e short =
     let ps : List (List ℕ) = compared s in
@@ -107,7 +107,7 @@ unfolding moves_at
 moves_to_go ps t n h =
     moves_to_more ps t n ∙ ap (λ b. moves_to ps t n + cond (not b) 1 0) (bytes_differ _ _ h)
 
--- as many moves as the longest front has bytes
+-- as many moves as the longest prefix has bytes
 pub length-le-moves_to : (ps : List (List ℕ)) (t : List ℕ) (n : ℕ) → n ≤ length t → length (longest_front ps (take n t)) ≤ moves_to ps t n
 length-le-moves_to ps t zero h = rw longest_front_nil (omega arith)
 length-le-moves_to ps t (suc n) h =

@@ -13,7 +13,7 @@ none_is_some c e = cc
 some_is : (c d : ℕ) → Some c ≡ Some d → c ≡ d
 some_is c d e = cc
 
--- what goes on past a longer front goes on past a shorter one, by the longer one's byte
+-- what goes on past a longer prefix goes on past a shorter one, by the longer one's byte
 past_front : (p q s : List ℕ) → Begins p q → length p < length q → Begins q s → GoesOn p s (slice_index q (length p))
 past_front p q s bp l bq =
     let fits = begins_fits q s bq in

@@ -19,7 +19,7 @@ pub(crate) enum Cell {
 }
 
 impl Cell {
-    /// The cell of a new series. It allocates nothing.
+    /// Makes the cell of a new series. It allocates nothing.
     pub fn new(alloc: Global, kind: MetricKind) -> Cell
         ensures { value_of result ≡ new_value kind }
     {
@@ -30,7 +30,7 @@ impl Cell {
         }
     }
 
-    /// The kind of the series.
+    /// Returns the kind of the series.
     pub fn kind(&self) -> MetricKind
         ensures { result ≡ kind_of_value (value_of self.now) }
     {
@@ -77,7 +77,7 @@ impl Cell {
         }
     }
 
-    /// The value as a snapshot reports it: samples in bucket order.
+    /// Returns the value as a snapshot reports it: samples in bucket order.
     pub fn value(&self) -> Result<DebugValue, Refused>
         ensures ok { IfOk result (λ v. v ≡ snapshot_value (value_of self.now)) }
         ensures memory { IfErr result (λ e. e ≡ Memory 0) }

@@ -24,7 +24,7 @@ pub(crate) struct Descriptions {
 }
 
 impl Descriptions {
-    /// No descriptions. It allocates nothing yet.
+    /// Makes an empty list of descriptions. It allocates nothing yet.
     pub fn new(alloc: Global) -> Descriptions
         ensures { (kind : _) (name : _) → described_by result kind name ≡ no_description }
     {
@@ -37,7 +37,7 @@ impl Descriptions {
         }
     }
 
-    /// The unit and a copy of the text of a name.
+    /// Returns the unit and a copy of the text of a name.
     pub fn get(
         &self,
         kind: MetricKind,

@@ -63,7 +63,7 @@ pub(crate) struct SeriesList {
 impl SeriesList {
     ghost use Rattle.metrics_debugging.specs.DebuggingOrder.{series_of, activity_of, active_at, idle};
 
-    /// No series. It allocates nothing yet.
+    /// Makes a list without series. It allocates nothing yet.
     pub fn new(alloc: Global) -> SeriesList
         ensures series { series_of result ≡ [] }
         ensures active { activity_of result ≡ [] }
@@ -78,7 +78,7 @@ impl SeriesList {
         }
     }
 
-    /// The number of the series of a key.
+    /// Returns the number of the series of a key.
     pub fn find(&self, kind: MetricKind, key: &Key) -> Option<usize>
         ensures { result ≡ position (is_of (series_key kind key.now)) (series_of self.now) }
     {
@@ -122,7 +122,7 @@ impl SeriesList {
         }
     }
 
-    /// The kind of a series.
+    /// Returns the kind of a series.
     pub fn kind_at(&self, series: usize) -> Option<MetricKind>
         ensures { result ≡ option_map (λ s. s.key.kind) (slice_get (series_of self.now) series) }
     {
@@ -160,7 +160,7 @@ impl SeriesList {
         Ok((key, unit, text, value))
     }
 
-    /// The rows of the book.
+    /// Returns the rows of the book.
     pub fn rows(&self, alloc: Global, descriptions: &Descriptions) -> Result<Vec<Row>, Refused>
         ensures ok { IfOk result (λ v. v.items ≡ map (row_of (content_of [] descriptions.now)) (series_of self.now)) }
         ensures memory { IfErr result (λ e. e ≡ Memory 0) }
@@ -172,7 +172,7 @@ impl SeriesList {
         Ok(rows)
     }
 
-    /// For each series whether it was registered or updated since the last snapshot.
+    /// Returns for each series whether it was registered or updated since the last snapshot.
     pub fn activity(&self, alloc: Global) -> Result<Vec<bool>, Refused>
         ensures ok { IfOk result (λ v. v.items ≡ activity_of self.now) }
         ensures memory { IfErr result (λ e. e ≡ Memory 0) }
