@@ -24,7 +24,7 @@ pub(crate) struct Descriptions {
 }
 
 impl Descriptions {
-    /// Makes an empty list of descriptions. It allocates nothing yet.
+    /// Makes empty maps of descriptions. It allocates nothing yet.
     pub fn new(alloc: Global) -> Descriptions
         ensures { (kind : _) (name : _) → described_by result kind name ≡ no_description }
     {
