@@ -39,26 +39,26 @@ pub fn counter_value(word: &AtomicU64) -> u64 {
 
 /// Returns the value in a word that is a gauge (`GaugeFn`), as it is now.
 ///
-/// The word has its 64 bits, so a value below 0 is a word from 2^63 on.
+/// The word holds its 64 bits: a value below 0 is a word of 2^63 or more.
 pub fn gauge_value(word: &AtomicU64) -> i64 {
     word.load(Ordering::SeqCst).cast_signed()
 }
 
-/// The bits of a value once another is added to it.
+/// Returns the bits of a value with another added.
 fn added(bits: u64, value: i64) -> u64
     ensures { result ≡ cast_unsigned w64 (saturate_signed w64 (cast_signed w64 bits +ℤ value)) }
 {
     bits.cast_signed().saturating_add(value).cast_unsigned()
 }
 
-/// The bits of a value once another is subtracted from it.
+/// Returns the bits of a value with another subtracted.
 fn subtracted(bits: u64, value: i64) -> u64
     ensures { result ≡ cast_unsigned w64 (saturate_signed w64 (cast_signed w64 bits -ℤ value)) }
 {
     bits.cast_signed().saturating_sub(value).cast_unsigned()
 }
 
-/// Exchanges the word for what `next` answers to it, and tries again if another thread was first.
+/// Replaces the word by what `next` returns for it, and tries again if another thread was first.
 fn change<W: Wait, F: Fn(u64) -> u64>(rt: &W, word: &AtomicU64, next: F)
     requires { F.IsAlwaysCallable next }
 {

@@ -1,4 +1,4 @@
-//! A number of changes that threads share.
+//! A count of changes that threads share.
 
 use std::sync::atomic::{AtomicU64, Ordering};
 
@@ -7,7 +7,7 @@ use std::sync::atomic::{AtomicU64, Ordering};
 pub struct AtomicGeneration(AtomicU64);
 
 impl AtomicGeneration {
-    /// Makes a generation of no changes.
+    /// Makes a generation that has counted no changes.
     pub fn new() -> AtomicGeneration {
         AtomicGeneration(AtomicU64::new(0))
     }

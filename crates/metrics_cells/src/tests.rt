@@ -57,7 +57,7 @@ fn a_shared_word_is_a_gauge(rt: HostRuntime) -> Result<(), Fail> {
     Ok(())
 }
 
-/// So often each of two threads changes a cell.
+/// How often each of two threads changes a cell.
 const TIMES: u32 = 100_000;
 
 fn increment_often<C: CounterFn>(cell: &C) {
