@@ -292,7 +292,7 @@ starts false places n e = ([], begins false places 1024, (1024, refl, refl), sta
 starts true places n e =
     ([], begins true places 1, (1, refl, (tt, λ j v there. light_more places [] (λ i u none. absurd (some-ne-none u (sym none))) j v there)), starts_words places true n e, refl, refl)
 
--- a thread of weight 1 may come to an open bucket at any time, and looks at the control word
+-- a thread of weight 1 may enter an open bucket at any time, and looks at the control word
 pub enters : (places slots : ℕ) → Enters (FollowsHistory places true) slots 0 (λ n v. control_looked (step slots 0 0 0 none) (first_view true places, []) n (v, []))
 enters places slots s k _ _ =
     let w : BucketState = k.1 in

@@ -88,7 +88,7 @@ module _ (places : ℕ) (many : Bool) where
         ),
       )
     where
-      -- where a whole thread's clear leaves, nothing is left
+      -- when a whole thread's clear leaves, nothing is left
       everything : (all : ℕ) (w : BucketState) → me.0.weight ≡ all → HoldFits places all w me.0.weight me.0.hold → IsClearing me.0.hold → (h : ℕ → ℕ) → get_elem? (set w.views id (leaving me.0)) id ≡ some (leaving me.0)
           → Facts places all (state_after places w id me.0 leave) → weigh_pushes h me.0.pushed ≡ weigh_walks h (leaving me.0).taken
       everything all w whole fits clearing h there f =

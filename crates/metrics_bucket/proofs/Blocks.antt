@@ -118,7 +118,7 @@ part_next vs start at l m =
     let f : start + n ≡ at = omega arith in
     ap (λ (k : ℕ). take k (drop start vs)) e ∙ (take_next (drop start vs) n (omega arith) ∙ ap (λ (x : ℕ). take n (drop start vs) ++ x ∷ []) (get_drop vs start n ∙ ap (λ (k : ℕ). get_or vs k 0) f))
 
--- a loop that puts the values of one chunk behind the others
+-- a loop that appends the values of one chunk to the others
 pub chunk_step : {T : Type 0} (f : ℕ → T) (vs : List ℕ) (start at bits : ℕ) (first items more : List T) → start ≤ at → at < length vs → items ≡ first ++ map f (take (at - start) (drop start vs)) → bits ≡ get_or vs at 0
     → more ≡ items ++ f bits ∷ [] → more ≡ first ++ map f (take (at + 1 - start) (drop start vs))
 chunk_step {T} f vs start at bits first items more l m is found push =
@@ -137,7 +137,7 @@ pub length_map : {T : Type 0} (f : ℕ → T) (xs : List ℕ) → length (map f 
 length_map f [] = refl
 length_map f (x ∷ xs) = ap suc (length_map f xs)
 
--- how many values are behind, while these chunks are to come
+-- how many values are appended, while these chunks are to come
 pub count_of : {T : Type 0} (f : ℕ → T) (vs : List ℕ) (n : ℕ) (items : List T) → items ++ map f (first_chunks n vs) ≡ map f (blocks vs) → length items + length (first_chunks n vs) ≡ length vs
 count_of {T} f vs n items e =
     let a : length (items ++ map f (first_chunks n vs)) ≡ length (map f (blocks vs)) = ap length e in

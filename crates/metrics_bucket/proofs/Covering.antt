@@ -65,7 +65,7 @@ module _ (places all : ℕ) (w : BucketState) (id : ℕ) (v : View) (f : Facts p
     pub whole_epoch : took_in v.hold ≡ 0 → w.epoch ≡ length v.taken
     whole_epoch none = let a = own_takes in omega arith
 
-    -- the live side's values stand at the places of its pushes
+    -- the live side's values are at the places of its pushes
     pub covers : v.hold ≡ Nothing → length (live_values places w) ≡ w.given → ((i : ℕ) → i < w.given → get_or (live_values places w) i 0 ≡ get_or w.values (base places w.live + i) 0) → Covers v.pushed (walk (length v.taken) (live_values places w))
     covers free long found n q there =
         let epoch = whole_epoch (ap took_in free) in

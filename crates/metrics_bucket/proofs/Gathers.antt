@@ -10,7 +10,7 @@ use Rattle.metrics.specs.Book.{joined_lists, blocks}
 use Rattle.metrics_bucket.specs.Gathers.{Gathers}
 use Rattle.metrics_bucket.proofs.Blocks.{chunk, first_chunks, chunks_from, chunks_newest, chunks_joined, length_map, length_blocks}
 
--- where there is room for all, all are put in
+-- if there is room for all, all are appended
 pub gathers_all : {T : Type 0} (v w : Vec T) (xs : List T) → Gathers v xs w → length v.items + length xs ≤ vec_capacity v → (w.items ≡ v.items ++ xs) × (vec_capacity w ≡ vec_capacity v)
 gathers_all {T} v w xs put room = (put.0 ∙ ap (λ (l : List T). v.items ++ l) (take_all (vec_capacity v - length v.items) xs (omega arith)), put.1)
 
@@ -30,7 +30,7 @@ joined_chunks {T} f (suc k) vs =
     let e : 0 + k ≡ k = omega arith in
     (λ i. map f (chunk (e i) vs) ++ joined_chunks f k vs i) ∙ sym (map-append f (chunk k vs) (first_chunks k vs))
 
--- what is gathered, where there was room for all
+-- what is gathered, if there was room for all
 pub gathered_are : {T : Type 0} (f : ℕ → T) (list : List ℕ) (v w : Vec T) → v.items ≡ [] → length list ≤ vec_capacity v → FoldsTo Gathers v (valued f (newest_first list)) w → w.items ≡ map f (blocks list)
 gathered_are {T} f list v w none room folds =
     let is = ap (λ (l : List (List ℕ)). joined_lists (valued f l)) (sym (chunks_newest list)) ∙ (joined_chunks f ((length list + 63) / 64) list ∙ ap (map f) (chunks_joined list)) in

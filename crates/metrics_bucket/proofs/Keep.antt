@@ -1,4 +1,4 @@
--- What one step leaves of the facts of the others, and which facts are left to it.
+-- Which facts of the others one step keeps, and which are left to show.
 use Rattle.std.proofs.Common.{◌≡◌, ◌≢◌, ℕ, zero, suc, ◌+◌, ◌<◌, ◌≤◌, ◌%◌, List, [], ◌∷◌, length, get_or, set, refl, sym, ap, ◌∙◌, subst, ⊎_elim, arith, eq-eqb, ne_eqb}
 use mathlib.Core.Logic.{dite}
 use mathlib.Core.Option.{some, some-ne-none}
@@ -98,7 +98,7 @@ module _ (places all : ℕ) (w w' : BucketState) where
   visit_kept s i (Read x) k h = let t = k h.0 in (t.0, t.1 ∙ h.1)
   visit_kept s i (Wiped x) k h = tt
 
-  -- what a hold says stays true, where the step spares it
+  -- what a hold says stays true if the step spares it
   pub hold_kept : (weight : ℕ) (hold : Hold) → w.live < 2 → w.given ≤ places → (turn_in hold ≡ 1 → (w'.live ≡ w.live) × (w.given ≤ w'.given))
       → ((s i : ℕ) → s < 2 → i < places → ticket_in s i hold ≡ 1 → get_or w'.values (place_index places s i) 0 ≡ get_or w.values (place_index places s i) 0)
       → ((s i : ℕ) → s < 2 → i < places → turn_in hold ≡ 1 → get_or w.marks (place_index places s i) 0 ≡ 1
@@ -155,7 +155,7 @@ each_after p all w w' id v v' f at some_weight is same_places same_weight grows 
 pub held_by : (w : BucketState) (id : ℕ) (v : View) (hold : Hold) → get_elem? w.views id ≡ some v → v.hold ≡ hold → get_elem? w.views id ≡ some (holding v hold)
 held_by w id v hold at e = at ∙ (λ k. some (holding v (e k)))
 
--- the facts after a step of one that takes no side: what is left is which words, and which sums of the thread, it changes
+-- the facts after a step of one that takes no side; left to show is which words, and which sums of the thread, it changes
 module _ (places all : ℕ) (w w' : BucketState) (id : ℕ) (v u : View) (f : Facts places all w) (at : get_elem? w.views id ≡ some v) (has : 0 < v.weight) (views : w'.views ≡ set w.views id u) (live : w'.live ≡ w.live)
     (same_places : u.places ≡ v.places) (same_weight : u.weight ≡ v.weight) (took : took_of u ≡ took_of v) where
   new_total : (g : View → ℕ) → total g w'.views + g v ≡ total g w.views + g u

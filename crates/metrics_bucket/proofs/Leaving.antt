@@ -184,7 +184,7 @@ module _ (places all : ℕ) (w : BucketState) (id : ℕ) (v : View) (f : Facts p
         (λ k z y. let m = mark_high k (omega arith) (omega arith) in let is = m.2 in m.3 ∙ (given_here w.live w.given 1 m.0 (sym e) ∙ below_over m.0 w.given (omega arith)))
     by_side h (suc (suc live)) e l = absurd (omega arith)
 
-    -- what it pushed is what stands on the live side and what it took
+    -- what it pushed is what is on the live side and what it took
     pub learns : (h : ℕ → ℕ) → weigh_pushes h v.pushed ≡ weigh h (live_values places w) + weigh_walks h v.taken
     learns h =
         let b = f.bags h in

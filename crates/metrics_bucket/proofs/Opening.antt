@@ -1,4 +1,4 @@
--- Threads that come to an open bucket.
+-- Threads that enter an open bucket.
 use Rattle.std.proofs.Common.{Bool, true, false, ◌≡◌, ℕ, zero, suc, ◌<◌, ◌≤◌, List, [], ◌∷◌, ◌++◌, length, set, replicate, refl, sym, ap, ◌∙◌, subst, arith}
 use Rattle.std.proofs.lemmas.Bool.{false≢true}
 use mathlib.Core.Logic.{dite}
@@ -105,7 +105,7 @@ module _ (places : ℕ) (w : BucketState) (by : ℕ) (v : View) (at : get_elem? 
   before : (act : Act) → set (w.views ++ new_view places 1 ∷ []) by (view_after places w v act) ≡ set w.views by (view_after places w v act) ++ new_view places 1 ∷ []
   before act = set_before w.views (new_view places 1 ∷ []) by (view_after places w v act) v at
 
-  -- a plain step is the same beside one more thread
+  -- a plain step is the same with one more thread
   pub step_more : (act : Act) → IsPlain act → state_after places (more places w) by v act ≡ more places (state_after places w by v act)
   step_more look p = ap (with_views (state_after places w by v look)) (before look)
   step_more ticket p = ap (with_views (state_after places w by v ticket)) (before ticket)

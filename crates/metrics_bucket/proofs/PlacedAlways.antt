@@ -226,7 +226,7 @@ module _ (places all : ℕ) (w : BucketState) (id : ℕ) (v : View) (f : Facts p
   leaves (SideKnown s) e c = absurd c
   leaves (Settling s xs) e c = absurd c
 
-  -- a hold that holds no place goes over to another
+  -- a hold without a place changes to another
   quiet : (turn e' t' : ℕ) (hold : Hold) → ((k i : ℕ) → held_in k i v.epoch v.hold ≡ 0) → ((k : ℕ) → clearing_of k v.epoch v.hold ≡ 0) → ((k i : ℕ) → wiped_hold k i v.epoch v.hold ≡ 0) → took_in v.hold ≡ 0
       → ((k i : ℕ) → held_in k i e' hold ≡ 0) → ((k : ℕ) → clearing_of k e' hold ≡ 0) → ((k i : ℕ) → wiped_hold k i e' hold ≡ 0) → took_in hold ≡ 0
       → HoldPlaced w e' hold → (turn_in hold ≡ 1 → t' ≡ walks_made w) → Placed places record w { turn = turn; views = set w.views id (holds_as v e' t' hold) }

@@ -44,7 +44,7 @@ module _ (places : ℕ) (w w' : BucketState) (id : ℕ) (v u : View) (p : Placed
   }
 
 module _ (places all : ℕ) (w : BucketState) (id : ℕ) (v : View) (f : Facts places all w) (p : Placed places w) (at : get_elem? w.views id ≡ some v) (has : 0 < v.weight) where
-  -- a step that changes no place, and in what the thread holds nothing that is counted
+  -- a step that changes no place, and nothing that is counted in what the thread holds
   pub keeps_places : (turn e' t' s' : ℕ) (hold : Hold) → ((e i : ℕ) → held_in e i e' hold ≡ held_in e i v.epoch v.hold) → ((e : ℕ) → clearing_of e e' hold ≡ clearing_of e v.epoch v.hold)
       → ((e i : ℕ) → wiped_hold e i e' hold ≡ wiped_hold e i v.epoch v.hold) → took_in hold ≡ took_in v.hold → ((e : ℕ) → cond (eqb e e') (took_in hold) 0 ≡ cond (eqb e v.epoch) (took_in v.hold) 0) → HoldPlaced w e' hold → (turn_in hold ≡ 1 → t' ≡ walks_made w)
       → Placed places record w { turn = turn; views = set w.views id (knows_as v e' t' s' hold) }

@@ -1,4 +1,4 @@
--- What single steps leave of the places of pushes and walks.
+-- What single steps keep of the places of pushes and walks.
 use Rattle.std.proofs.Common.{◌≡◌, ◌≢◌, ℕ, zero, suc, ◌+◌, ◌<◌, ◌≤◌, cond, eqb, List, [], ◌∷◌, ◌++◌, get_or, set, refl, sym, ap, ◌∙◌, subst, inl, inr, ⊎_elim, arith, eq-eqb, ne_eqb}
 use mathlib.Core.Logic.{dite}
 use mathlib.Core.Option.{some, some-injective, some-ne-none}
@@ -116,7 +116,7 @@ below_next e i n = dite (ℕ_discrete i n)
     (λ l. let d = below_under i (n + 1) (omega arith) in let k = below_under i n (omega arith) in omega arith)
     (λ l. let d = below_over i (n + 1) (omega arith) in let k = below_over i n (omega arith) in omega arith))
 
--- one more ticket of an epoch of which no take told
+-- one more ticket of an epoch that no take reported
 pub given_more : (e i epoch n told : ℕ) → (e ≡ epoch → told ≡ 0) → below i (told + cond (eqb e epoch) (n + 1) 0) ≡ below i (told + cond (eqb e epoch) n 0) + same e i epoch n
 given_more e i epoch n told z = dite (ℕ_discrete e epoch)
     (λ p. let none = z p in
@@ -208,7 +208,7 @@ module _ (places : ℕ) (w : BucketState) (p : Placed places w) where
       let rest = rest_none e i w.views j v at (omega arith) in
       (omega arith, rest ∙ own.1)
 
-  -- a finished push is of an epoch that was, or below the tickets of the one that goes on
+  -- a finished push is of an earlier epoch, or below the tickets of the current one
   pub own_reach : (j : ℕ) (v : View) (n : ℕ) (q : Push) → get_elem? w.views j ≡ some v → get_elem? v.pushed n ≡ some q → (q.epoch ≤ w.epoch) × (q.epoch ≡ w.epoch → q.place < w.given)
   own_reach j v n q at there =
       let e : ℕ = q.epoch in

@@ -24,7 +24,7 @@ use Rattle.metrics_bucket.proofs.WipedVisits.{value_there, length_values}
 use Rattle.metrics_bucket.proofs.PlacedAlways.{opens_placed, runs_placed}
 use Rattle.metrics_bucket.proofs.TicketsAndTurns.{runs_given, runs_turns}
 
--- where no take is, none told of a place
+-- without a take, none reported a place
 no_length : (e : ℕ) (ws : List Walk) → walks_in e ws ≡ 0 → lengths_of e ws ≡ 0
 no_length e [] z = refl
 no_length e (x ∷ ws) z =

@@ -74,7 +74,7 @@ stands_unmark h (y ∷ ys) (suc n ∷ ms) zero l m e = omega arith
 stands_unmark h (y ∷ ys) (zero ∷ ms) (suc k) l m e = stands_unmark h ys ms k (omega arith) (omega arith) e
 stands_unmark h (y ∷ ys) (suc n ∷ ms) (suc k) l m e = let r = stands_unmark h ys ms k (omega arith) (omega arith) e in omega arith
 
--- two different places stand apart in the lists
+-- two different places are apart in the lists
 pub index_apart : (places s i s' i' : ℕ) → s < 2 → s' < 2 → i < places → i' < places → (s ≡ s' → i ≡ i' → ⊥) → place_index places s i ≢ place_index places s' i'
 index_apart p zero i zero i' a b c d n e = n refl (omega arith)
 index_apart p zero i (suc s') i' a b c d n e = omega arith

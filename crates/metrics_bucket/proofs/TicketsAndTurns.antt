@@ -168,7 +168,7 @@ module _ (places all : ℕ) (w : BucketState) (id : ℕ) (v : View) (f : Facts p
   same_walks : (u : View) → walks_of u ≡ walks_of v → total walks_of (set w.views id u) ≡ walks_made w
   same_walks u same_made = let t = total_set walks_of w.views id v u at in omega arith
 
-  -- a walk is finished where the turn comes back with a list
+  -- a walk is finished when the turn comes back with a list
   turns_after : (act : Act) → May places all w id v act → is_claim act + (walks_made w + w.turn) ≡ walks_made (state_after places w id v act) + is_quit act + (state_after places w id v act).turn
   turns_after look m = let a = same_walks (view_after places w v look) refl in omega arith
   turns_after look_to_settle m = let a = same_walks (view_after places w v look_to_settle) refl in omega arith

@@ -89,7 +89,7 @@ next_visit xs ms x m c visits s i d e =
     let shift : 0 + suc i ≡ suc (0 + i) = omega arith in
     ((λ k. get_or (m ∷ ms) (sym shift k) 0) ∙ t.0, (λ k. get_or (x ∷ xs) (sym shift k) 0) ∙ t.1)
 
--- what a walk read is a part of what stands
+-- what a walk read is a part of what has a mark
 pub part_stands : (h : ℕ → ℕ) (xs ms : List ℕ) (b : ℕ) (visits : List Visit) → b + length visits ≤ length xs → b + length visits ≤ length ms → Standing xs ms b visits → weigh h (values_in visits) ≤ stands h xs ms
 part_stands h xs ms b [] l m s = omega arith
 part_stands h [] ms b (c ∷ cs) l m s = absurd (omega arith)

@@ -29,7 +29,7 @@ module _ (places all : ℕ) (w : BucketState) (id : ℕ) (v : View) (f : Facts p
   abbrev with_hold_at : ℕ → Hold → BucketState
   with_hold_at epoch hold = record w { views = set w.views id (holding_at v epoch hold) }
 
-  -- a step that changes no word, and in what the thread holds nothing that is counted
+  -- a step that changes no word, and nothing that is counted in what the thread holds
   pub keeps_hold : (epoch : ℕ) (hold : Hold) → ((s i : ℕ) → ticket_in s i hold ≡ ticket_in s i v.hold) → ((s i : ℕ) → owed_in s i hold ≡ owed_in s i v.hold) → turn_in hold ≡ turn_in v.hold → took_in hold ≡ took_in v.hold
       → ((h : ℕ → ℕ) → wiped h hold ≡ wiped h v.hold) → HoldFits places all (with_hold_at epoch hold) v.weight hold → Facts places all (with_hold_at epoch hold)
   keeps_hold epoch hold ticket owed turn took wipes fits =

@@ -18,7 +18,9 @@ pub record Home : Type 0 where
 abbrev pub home_code : Coded Home
 home_code = code_by (TableId × ℕ) (coded× table_id_coded coded_ℕ) (λ e. (e.table, e.places)) (λ p. record { table = p.0; places = p.1 }) (λ _. refl)
 
--- A pen's account: what it pushed, the walks that took and those that only read, its weight, whether it has a ticket, the control word that it saw last, which is twice the number of tickets given and the live side, and the turn's word that its last refused claim found
+-- A pen's account: what it pushed, the walks that took and those that only read, its weight, and whether it has a ticket. Then
+-- the control word that it saw last, which is twice the number of tickets given plus the live side, and the turn's word that
+-- its last failed claim found
 pub record Account : Type 0 where
   pub home : Home
   pub weight : ℕ
@@ -77,7 +79,7 @@ IsBusy old new = new ≡ record old { turn_seen = 1 }
 abbrev pub with_push : Account → Push → Account
 with_push a p = record a { pushed = a.pushed ++ p ∷ []; ticket = false }
 
--- the account after a push of this value, and no other change but of the control word that it saw last
+-- the account after a push of this value, with no other change but the control word that it saw last
 abbrev pub IsPushed : Account → ℕ → Account → Type 0
 IsPushed old x new = (e i : ℕ) × (i < old.home.places) × (new ≡ with_push (looked_at old new.seen) (push e i x))
 

@@ -7,7 +7,8 @@ use Rattle.metrics_bucket.specs.Facts.{weigh, weigh_pushes, weigh_walks}
 use Rattle.metrics_bucket.specs.Places.{Covers}
 use Rattle.metrics_bucket.specs.BucketState.{walk}
 
--- these are the values of the pushes since the last take, in the bucket's order by their places: what was pushed is what was taken and these
+-- the values of the pushes since the last take, in the bucket's order by their places: what was pushed is what was taken,
+-- together with these
 abbrev pub Settled : {T : Type 0} → (ℕ → T) → List Push → List Walk → List T → Type 0
 Settled {T} value pushed taken given = (vs : List ℕ) × (given ≡ map value (blocks vs)) × ((h : ℕ → ℕ) → weigh_pushes h pushed ≡ weigh h (blocks vs) + weigh_walks h taken) × Covers pushed (walk (length taken) vs)
 

@@ -27,16 +27,19 @@ abbrev pub tickets_given : ℕ → ℕ → List Event → ℕ
 tickets_given e now [] = 0
 tickets_given e now (event ∷ events) = gives_in e now event.act + tickets_given e (epoch_after now event.act) events
 
--- each ticket that was given is under way or pushed, once, and there are no others; each epoch that ended was taken once
+-- each ticket that was given is under way or pushed, exactly once, and there are no others; each epoch that ended was taken
+-- once
 abbrev pub TicketsAreOnce : List Event → BucketState → Type 0
 TicketsAreOnce history w = (e : ℕ) → ((i : ℕ) → total (tickets_at e i) w.views ≡ below i (tickets_given e 0 history)) × (total (takes_in e) w.views ≡ below e w.epoch)
 
--- a finished push stands with mark 1, on the live side below its tickets or on the side that was taken last, or it was wiped by one clear, and only one of these
+-- of a finished push exactly one holds: it has mark 1 on the live side below its tickets, or on the side that was taken last,
+-- or one clear wiped it
 abbrev pub InOnePlace : ℕ → BucketState → Type 0
 InOnePlace places w = (j n : ℕ) (v : View) (p : Push) → get_elem? w.views j ≡ some v → get_elem? v.pushed n ≡ some p
     → (p.place < places) × (p.epoch ≡ w.epoch → p.place < w.given) × (mark_of places w p.epoch p.place + total (wipes_at p.epoch p.place) w.views ≡ 1)
 
--- what a walk found at a place, finished or under way, is the value of that ticket's push; so is what stands there with mark 1. A walk reads a place only while its mark is 1
+-- what a walk found at a place, finished or under way, is the value of that ticket's push; so is what is there with mark 1. A
+-- walk reads a place only while its mark is 1
 abbrev pub FindsPushes : ℕ → BucketState → Type 0
 FindsPushes places w = ((j : ℕ) (v : View) → get_elem? w.views j ≡ some v
     → ((n : ℕ) (walk : Walk) → get_elem? v.taken n ≡ some walk → WalkFinds w walk) × ((n : ℕ) (walk : Walk) → get_elem? v.read n ≡ some walk → WalkFinds w walk) × HoldPlaced w v.epoch v.hold
@@ -49,7 +52,7 @@ LeavesComplete history w = (j s : ℕ) (v : View) (visits : List Visit) → get_
     → ((leaving v).taken ≡ v.taken ++ walk v.epoch (values_in visits) ∷ []) × (length (values_in visits) ≡ tickets_given v.epoch 0 history)
     × ((i : ℕ) → i < length (values_in visits) → IsPush w v.epoch i (slice_index (values_in visits) i))
 
--- where a clear is to take, the side that becomes live has no mark 1 and no ticket under way
+-- when a clear is about to take, the side that becomes live has no mark 1 and no ticket under way
 abbrev pub TakesClean : ℕ → BucketState → Type 0
 TakesClean places w = (j : ℕ) (v : View) (s i : ℕ) → get_elem? w.views j ≡ some v → v.hold ≡ SideKnown s → i < places → (slice_index w.marks (place_index places (other w.live) i) ≡ 0) × (total (ticket_at (other w.live) i) w.views ≡ 0)
 
@@ -92,7 +95,7 @@ abbrev pub by_first : List Act → List Event
 by_first [] = []
 by_first (act ∷ acts) = record { by = 0; act = act } ∷ by_first acts
 
--- a history with a clear that takes a pushed value, so that the law is of some history
+-- a history with a clear that takes a pushed value, so that the law isn't vacuous
 abbrev pub ClearsFive : Type 0
 ClearsFive = (w : BucketState) × Runs 1 1 (start 1 1) (by_first push_and_clear) w × (v : View) × (get_elem? w.views 0 ≡ some v) × (v.taken ≡ walk 0 (5 ∷ []) ∷ [])
 
@@ -107,7 +110,7 @@ push_and_read = event 0 ticket ∷ event 1 claim ∷ event 1 look_to_read ∷ ev
 abbrev pub ReadsSeven : Type 0
 ReadsSeven = (w : BucketState) × Runs 1 2 (start 1 2) push_and_read w × (v u : View) × (get_elem? w.views 0 ≡ some v) × (get_elem? w.views 1 ≡ some u) × (v.turn_seen ≡ 1) × (u.read ≡ walk 0 (7 ∷ []) ∷ [])
 
--- Over every history from any number of threads, and over every history from one whole thread, as a running bucket has it
+-- The law of every history from any number of threads, and of every history from one whole thread, as in a running bucket
 abbrev pub BucketLaw : Type 0
 BucketLaw = ((places threads : ℕ) (history : List Event) (w : BucketState) → Runs places threads (start places threads) history w → IsSound places threads history w)
     × ((places : ℕ) (history : List Event) (w : BucketState) → Runs places 1024 (opened places) history w → IsSound places 1024 history w)

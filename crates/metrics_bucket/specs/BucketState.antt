@@ -26,7 +26,7 @@ abbrev pub other : ℕ → ℕ
 other zero = 1
 other (suc side) = 0
 
--- where place i of a side stands in the lists
+-- where place i of a side is in the lists
 abbrev pub place_index : ℕ → ℕ → ℕ → ℕ
 place_index places side i = base places side + i
 
@@ -143,7 +143,7 @@ left_part v = record { places = v.places; weight = v.weight - v.weight / 2; push
 abbrev pub right_part : View → View
 right_part v = new_view v.places (v.weight / 2)
 
--- what a thread has that takes in another
+-- what a thread has after it joined another
 abbrev pub both_parts : View → View → View
 both_parts v x = record { places = v.places; weight = v.weight + x.weight; pushed = v.pushed ++ x.pushed; taken = v.taken ++ x.taken; read = v.read ++ x.read; hold = v.hold; epoch = v.epoch; turn = v.turn; seen = v.seen; turn_seen = v.turn_seen }
 

@@ -1,4 +1,4 @@
--- What a clear that left did.
+-- What a clear has done once it left.
 use Rattle.std.specs.Prelude.{ℕ}
 use Rattle.metrics_bucket.specs.declared.view.View.{View}
 use Rattle.metrics_bucket.specs.declared.view.Walk.{Walk}

@@ -26,7 +26,7 @@ abbrev pub weigh_walks : (ℕ → ℕ) → List Walk → ℕ
 weigh_walks h [] = 0
 weigh_walks h (walk ∷ walks) = weigh h walk.values + weigh_walks h walks
 
--- the weights of the values that stand with a mark
+-- the weights of the values that have a mark
 abbrev pub stands : (ℕ → ℕ) → List ℕ → List ℕ → ℕ
 stands h [] ms = 0
 stands h (x ∷ xs) [] = 0
@@ -150,6 +150,6 @@ pub record Facts (places all : ℕ) (w : BucketState) : Type 0 where
   pub one_turn : w.turn ≤ 1
   pub swaps : w.live ≡ total took_of w.views % 2
   pub shares : total weight_of w.views ≡ all
-  -- what was pushed is what stands with a mark and what was wiped, however the values are weighed
+  -- what was pushed is what has a mark and what was wiped, however the values are weighed
   pub bags : (h : ℕ → ℕ) → total (pushed_of h) w.views ≡ stands h w.values w.marks + total (taken_of h) w.views
   pub each : (j : ℕ) (v : View) → get_elem? w.views j ≡ some v → ViewFits places all w v

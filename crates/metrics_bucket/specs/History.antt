@@ -88,7 +88,7 @@ abbrev pub begins : Bool → ℕ → ℕ → BucketState
 begins false places all = record { epoch = 0; live = 0; given = 0; turn = 0; values = zeros (places + places); marks = zeros (places + places); views = new_view places all ∷ [] }
 begins true places all = start places all
 
--- a step that asks for no whole weight, and changes no view but the thread's own
+-- a step that needs no whole weight, and changes no view but the thread's own
 abbrev pub IsPlain : Act → Type 0
 IsPlain look_to_settle = ⊥
 IsPlain split = ⊥
@@ -107,7 +107,8 @@ abbrev pub FitsKey : Bool → ℕ → List Event → BucketState → Type 0
 FitsKey false all h w = all ≡ 1024
 FitsKey true all h w = ArePlain h × AreLight w.views
 
--- The rule of the running table: a history from one whole thread, or, where many may come, from as many of weight 1 as came, leads to a state that has its words, what goes with the turn, and all accounts
+-- The rule of the running table: a history leads to a state that has its words, what goes with the turn, and all accounts. It
+-- starts from one whole thread or, where many may enter, from as many of weight 1 as entered
 abbrev pub FollowsHistory : ℕ → Bool → State Turn View → Type 0
 FollowsHistory places many s =
     (h : List Event) × (w : BucketState) × ((all : ℕ) × Runs places all (begins many places all) h w × FitsKey many all h w) × (words_of w ≡ s.words) × (w.views ≡ s.views) × (homes_of w ≡ s.homes)

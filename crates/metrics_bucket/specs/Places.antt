@@ -47,7 +47,7 @@ abbrev pub clearing_of : ℕ → ℕ → Hold → ℕ
 clearing_of e epoch (Clearing s visits) = if e == epoch then length visits else 0
 clearing_of e epoch _ = 0
 
--- how many places of this epoch the thread's takes told
+-- how many places of this epoch the thread's takes reported
 abbrev pub told_of : ℕ → View → ℕ
 told_of e v = lengths_of e v.taken + clearing_of e v.epoch v.hold
 
@@ -132,13 +132,13 @@ pub record ViewPlaced (w : BucketState) (v : View) : Type 0 where
 pub record Placed (places : ℕ) (w : BucketState) : Type 0 where
   -- each ticket that was given in an epoch is held or pushed, once, and no other
   pub tickets : (e i : ℕ) → total (tickets_at e i) w.views ≡ below i (given_of e w)
-  -- no take told of an epoch that goes on or is to come
+  -- no take reported an epoch that goes on or is to come
   pub told : (e : ℕ) → w.epoch ≤ e → total (told_of e) w.views ≡ 0
-  -- a take told of at most all places
+  -- a take reported at most all places
   pub room : (e : ℕ) → total (told_of e) w.views ≤ places
   -- each epoch that ended has one take, and no other epoch has one
   pub once : (e : ℕ) → total (takes_in e) w.views ≡ below e w.epoch
-  -- a finished push stands with mark 1, or was wiped by one clear
+  -- a finished push has mark 1, or one clear wiped it
   pub one_place : (e i : ℕ) → i < places → total (pushed_at e i) w.views ≡ mark_of places w e i + total (wipes_at e i) w.views
   -- a place with mark 1 has the value of its ticket's push
   pub marked : (s i : ℕ) → s < 2 → i < places → slice_index w.marks (place_index places s i) ≡ 1 → (e : ℕ) × IsEpochOf w s e × IsPush w e i (slice_index w.values (place_index places s i))

@@ -1,4 +1,4 @@
--- What a reading walk that looked or left did.
+-- What a reading walk has done once it looked or left.
 use Rattle.std.specs.Prelude.{◌≡◌, ℕ, [], ◌/◌, ◌%◌, replicate}
 use Rattle.metrics_bucket.specs.declared.view.View.{View}
 use Rattle.metrics_bucket.specs.declared.view.Walk.{Walk}

@@ -38,7 +38,7 @@ HasLooked m m' = m' ≡ (seeing m.0 m'.0.seen, m.1)
 abbrev pub WasBusy : Seated → Seated → Type 0
 WasBusy m m' = m' ≡ (finding m.0 1, m.1)
 
--- what a refusal says to a thread with the whole weight: the side is full
+-- what a failure says to a thread with the whole weight: the side is full
 abbrev pub IsFullFor : ℕ → List Push → List Walk → Type 0
 IsFullFor places pushed taken = length pushed ≡ count_all taken + places
 
@@ -56,7 +56,7 @@ abbrev pub values_known : Hold → List ℕ
 values_known (Settling s vs) = vs
 values_known hold = []
 
--- each list is, as a bag, a part of what was pushed
+-- each list is, as a multiset, a part of what was pushed
 abbrev pub ArePartsOf : List Walk → List Push → Type 0
 ArePartsOf read pushed = (n : ℕ) (xs : Walk) → get_elem? read n ≡ some xs → (h : ℕ → ℕ) → weigh h xs.values ≤ weigh_pushes h pushed
 

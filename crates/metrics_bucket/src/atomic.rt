@@ -36,7 +36,7 @@ impl<T: Sample> AtomicBucket<T> {
 
     /// Makes an empty bucket of 1 to 1,024 blocks on each side.
     ///
-    /// Fails with `BadBlocks` for another number of blocks, and else only when out of memory.
+    /// Fails with `BadBlocks` for another number of blocks, otherwise only when out of memory.
     pub fn new(alloc: Global, blocks: usize) -> Result<AtomicBucket<T>, Error>
         ensures places { IfOk result (λ b. side_places b ≡ 64 * blocks) }
         ensures good { (0 < blocks) × (blocks ≤ 1024) → IfErr result (λ e. e ≡ Error.Memory) }
@@ -49,7 +49,7 @@ impl<T: Sample> AtomicBucket<T> {
         Ok(AtomicBucket { bucket, door })
     }
 
-    // A thread that comes to the bucket, and has done nothing.
+    // Enters a new thread, which has done nothing.
     #[inline(always)]
     fn enter(&self) -> (u64, Seat<Turn, View>)
         ensures table { result.1.table_id ≡ self.now.bucket.table }
@@ -68,7 +68,7 @@ impl<T: Sample> AtomicBucket<T> {
 
     /// Pushes a value, or returns it.
     ///
-    /// `Full`: all places of the live side are given.
+    /// `Full`: the live side has no place left.
     pub fn push<R: Wait>(&self, rt: &R, value: T) -> Result<(), (Error, T)>
         ensures { IfErr result (λ e. (e.0 ≡ Error.Full) × (e.1 ≡ value)) }
     {
@@ -80,7 +80,7 @@ impl<T: Sample> AtomicBucket<T> {
     ///
     /// It waits for pushes that were under way when it looked.
     /// `Busy`: another walk is under way.
-    /// `Memory`: there is no room for the values. Nothing changed.
+    /// `Memory`: out of memory for the values. Nothing changed.
     pub fn data<R: Wait>(&self, rt: &R, alloc: Global) -> Result<Vec<T>, Error>
         ensures count { IfOk result (λ v. vec_len v ≤ side_places self.now) }
         ensures err { IfErr result (λ e. (e ≡ Error.Memory) ⊎ (e ≡ Error.Busy)) }

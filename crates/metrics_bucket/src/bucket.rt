@@ -55,7 +55,7 @@ impl<T: Sample> Model for RuledBucket<T> {
 impl<T: Sample> RuledBucket<T> {
     /// Makes a bucket of 1 to 1,024 blocks on each side, and its whole pen.
     ///
-    /// Fails with `BadBlocks` for another number of blocks, and else only when out of memory.
+    /// Fails with `BadBlocks` for another number of blocks, otherwise only when out of memory.
     pub fn new(alloc: Global, blocks: usize) -> Result<(RuledBucket<T>, Pen), Error>
         ensures ok { IfOk result (λ r. (r.0.places ≡ 64 * blocks) × (r.1 ≡ first_account r.0)) }
         ensures good { (0 < blocks) × (blocks ≤ 1024) → IfErr result (λ e. e ≡ Error.Memory) }
@@ -85,7 +85,7 @@ impl<T: Sample> RuledBucket<T> {
         Ok((bucket, pen))
     }
 
-    // A bucket, its table, and its first seat. Threads may come to an open one at any time.
+    // Makes a bucket, its table, and its first seat. Threads may enter an open one at any time.
     fn of_key(
         alloc: Global,
         places: usize,
@@ -123,7 +123,7 @@ impl<T: Sample> RuledBucket<T> {
         Ok((bucket, same, seat))
     }
 
-    // A bucket that threads may come to at any time, and its table.
+    // Makes a bucket that threads may enter at any time, and its table.
     pub(crate) fn open_places(
         alloc: Global,
         places: usize,
@@ -156,7 +156,7 @@ impl<T: Sample> RuledBucket<T> {
         })
     }
 
-    // Where a side's place is among the values, and among the marks.
+    // Returns the index of a side's place among the values, and among the marks.
     pub(crate) fn place_index(&self, side: usize, at: usize) -> usize
         requires { (side < 2) × (at < self.now.places) }
         ensures { (result ≡ place_index self.now.places side at) × (result < self.now.places + self.now.places) }
@@ -164,12 +164,12 @@ impl<T: Sample> RuledBucket<T> {
         if side == 0 { at } else { self.places + at }
     }
 
-    // The control word, by a look without a pen.
+    // Reads the control word without a pen.
     pub(crate) fn control(&self) -> u64 {
         self.table.shared.peek(0)
     }
 
-    /// Returns whether no ticket of the live side was given, by the word that it sees.
+    /// Returns whether no ticket of the live side was drawn, by the control word that it sees.
     ///
     /// A push that is under way counts, and a value that a clear is about to take does not.
     pub fn is_empty_as(&self, pen: &mut Pen) -> bool
@@ -184,9 +184,9 @@ impl<T: Sample> RuledBucket<T> {
 
     /// Draws a ticket, which `finish_as` uses up.
     ///
-    /// A walk that comes to its place waits until then, so a pen that never finishes leaves walks waiting.
-    /// `Full`: the word that it sees has all places of the live side given.
-    /// `Raced`: that word has not, and another thread changed it in between; another try may succeed.
+    /// A walk that reaches its place waits until then, so a pen that never finishes leaves walks waiting.
+    /// `Full`: by the word that it saw, the live side has no place left.
+    /// `Raced`: a place was left, but another thread changed the word in between; another try may succeed.
     pub fn begin_as(&self, pen: &mut Pen) -> Result<(), Error>
         requires own { pen.old.home ≡ self.now }
         requires free { pen.old.ticket ≡ false }
@@ -223,7 +223,7 @@ impl<T: Sample> RuledBucket<T> {
         self.draw_at(seat, found)
     }
 
-    // Draws the ticket that follows the control word that the seat saw last.
+    // Draws the next ticket by the control word that the seat saw last.
     fn draw_at(&self, seat: &mut Seat<Turn, View>, found: u64) -> Result<(usize, usize), Error>
         requires home { (seat.old.table_id ≡ self.now.table) × (seat.old.me.0.places ≡ self.now.places)
             × (0 < seat.old.me.0.weight) }
@@ -300,9 +300,9 @@ impl<T: Sample> RuledBucket<T> {
         }
     }
 
-    /// Pushes a value; a lost race is tried again.
+    /// Pushes a value, and tries again after a lost race.
     ///
-    /// `Full` returns the value: the word that it saw last has all places of the live side given.
+    /// `Full` returns the value: by the word that it saw last, the live side has no place left.
     pub fn push_as<R: Wait>(&self, rt: &R, pen: &mut Pen, value: T) -> Result<(), (Error, T)>
         requires own { pen.old.home ≡ self.now }
         requires free { pen.old.ticket ≡ false }
@@ -317,7 +317,7 @@ impl<T: Sample> RuledBucket<T> {
         self.push_by(rt, &mut pen.seat, value)
     }
 
-    // Pushes a value by a seat that holds nothing; a lost race is tried again.
+    // Pushes a value by a seat that holds nothing, and tries again after a lost race.
     pub(crate) fn push_by<R: Wait>(
         &self,
         rt: &R,
@@ -350,7 +350,7 @@ impl<T: Sample> RuledBucket<T> {
         unreachable!()
     }
 
-    // Pushes a value by a seat that holds nothing and has just looked; a lost race is tried again.
+    // Pushes a value by a seat that holds nothing and has just looked, and tries again after a lost race.
     pub(crate) fn push_after<R: Wait>(
         &self,
         rt: &R,
@@ -404,7 +404,7 @@ impl<T: Sample> RuledBucket<T> {
         }
     }
 
-    // The live side's values, in the bucket's order.
+    // Collects the live side's values, in the bucket's order.
     fn settled_values(&self, seat: &mut Seat<Turn, View>, values: &mut Vec<T>)
         requires home { (seat.old.table_id ≡ self.now.table) × (seat.old.me.0.places ≡ self.now.places) }
         requires whole { (seat.old.me.0.weight ≡ 1024) × (seat.old.me.0.hold ≡ Nothing) × (seat.old.me.1 ≡ []) }
@@ -426,8 +426,8 @@ impl<T: Sample> RuledBucket<T> {
 
     /// Ends the bucket, and returns the values that were pushed and not taken.
     ///
-    /// They come by their tickets in blocks of 64, the newest block first. If there is no memory for all places of a side,
-    /// it returns bucket and pen.
+    /// They are in ticket order in blocks of 64, the newest block first. If there is no memory for all places of a side, it
+    /// returns bucket and pen.
     pub fn settle(self, alloc: Global, pen: Pen) -> Result<Vec<T>, (RuledBucket<T>, Pen)>
         requires own { pen.home ≡ self }
         requires whole { pen.weight ≡ 1024 }

@@ -58,7 +58,7 @@ impl<T: Sample> RuledBucket<T> {
 
     /// Takes all values that were pushed and not taken, shows them to the visitor, and returns their number.
     ///
-    /// They come in chunks of 64 by their tickets, the newest chunk first. It waits for pushes that drew a ticket before it
+    /// They come in ticket order in chunks of 64, the newest chunk first. It waits for pushes that drew a ticket before it
     /// took the side; later ones go to the other side.
     /// `Busy`: another walk is under way, or this pen's own closure or visitor is inside one.
     pub fn clear_to_as<R: Wait, V: Visitor<T>>(

@@ -3,7 +3,7 @@ ghost use Rattle.metrics_bucket.specs.Gathers.{Gathers};
 
 use crate::visitor::Visitor;
 
-// Appends these values to the others, as far as there is room.
+// Appends as many of these values as there is room for.
 fn append<T: Copy>(values: &mut Vec<T>, part: &[T])
     ensures { Gathers values.old part.now values.new }
 {
@@ -13,7 +13,7 @@ fn append<T: Copy>(values: &mut Vec<T>, part: &[T])
     }
 }
 
-/// A visitor that appends the values it is shown to one another, as far as there is room.
+/// A visitor that collects the values it is shown, as many as it has room for.
 #[derive(Drop)]
 pub struct Gathered<T> {
     pub values: Vec<T>,

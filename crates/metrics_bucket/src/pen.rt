@@ -15,8 +15,8 @@ pub(crate) type Words = Table<Turn, View, (usize, bool), BucketRule, Global>;
 
 /// A thread's part of one bucket, which each call on the bucket borrows.
 ///
-/// It has a weight: a bucket has 1,024 parts, all of them with its first pen. A pen that holds all the weight knows the
-/// state of the whole bucket.
+/// It has a weight: of a bucket's 1,024 parts, the first pen has all. A pen that holds all the weight knows the state of the
+/// whole bucket.
 ///
 /// Contracts see it as its account: what it pushed, took and read, its weight, whether it has a ticket, the control word
 /// that it saw last, and the turn's word that its last failed claim found.
@@ -57,7 +57,7 @@ impl Pen {
         self.ticket.is_some()
     }
 
-    /// Gives half of the weight to a new pen with an empty account.
+    /// Returns a new pen with half of the weight and an empty account.
     ///
     /// `NoPen`: one part can't be split.
     pub fn split(&mut self) -> Result<Pen, Error>

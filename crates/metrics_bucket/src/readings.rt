@@ -29,7 +29,7 @@ use std::alloc::Global;
 use std::sync::Wait;
 
 impl<T: Sample> RuledBucket<T> {
-    // Claims the turn, and looks how many places were given: answers the control word.
+    // Claims the turn, and returns the control word, which says how many places were given.
     fn claim_and_look(&self, seat: &mut Seat<Turn, View>) -> Result<u64, Error>
         requires home { (seat.old.table_id ≡ self.now.table) × (seat.old.me.0.places ≡ self.now.places)
             × (0 < seat.old.me.0.weight) }
@@ -48,7 +48,7 @@ impl<T: Sample> RuledBucket<T> {
         Ok(shared.load::<LookToRead>(seat, 0))
     }
 
-    // Returns the turn, and has read nothing.
+    // Gives the turn back after reading nothing.
     fn give_turn_back(&self, seat: &mut Seat<Turn, View>)
         requires home { (seat.old.table_id ≡ self.now.table) × (0 < seat.old.me.0.weight) }
         requires hold { CanQuit seat.old.me.0.hold × (seat.old.me.1 ≡ (0, turn_at seat.old.me.0.turn) ∷ []) }
@@ -123,11 +123,11 @@ impl<T: Sample> RuledBucket<T> {
         Ok(gathered.values)
     }
 
-    /// Returns all values that were pushed and not taken: by their tickets in blocks of 64, the newest block first.
+    /// Returns all values that were pushed and not taken, in ticket order in blocks of 64, the newest block first.
     ///
     /// It waits for pushes that drew a ticket before it looked.
     /// `Busy`: another walk is under way.
-    /// `Memory`: there is no room for the values. Nothing changed.
+    /// `Memory`: out of memory for the values. Nothing changed.
     pub fn data_as<R: Wait>(&self, rt: &R, alloc: Global, pen: &mut Pen) -> Result<Vec<T>, Error>
         requires own { pen.old.home ≡ self.now }
         requires free { pen.old.ticket ≡ false }

@@ -5,7 +5,7 @@ use atomic_table::TableRule;
 /// The rule of the bucket's table: the words follow a history.
 pub struct BucketRule;
 
-// Its key: how many places a side has, and whether threads may come at any time.
+// Its key: how many places a side has, and whether threads may enter at any time.
 impl TableRule<Turn, View, (usize, bool)> for BucketRule {
     ghost use Rattle.metrics_bucket.specs.History.{FollowsHistory};
     ghost use Rattle.metrics_bucket.specs.BucketState.{first_view};

@@ -13,7 +13,7 @@ pub trait Sample: Copy {
     fn to_word(self) -> u64
         ensures { result ≡ word self };
 
-    /// Returns the value of a word, and some value for a word that no value has.
+    /// Returns the value of a word, or some value if no value has that word.
     fn of_word(bits: u64) -> Self
         ensures { result ≡ value bits };
 
@@ -44,7 +44,7 @@ impl Sample for u64 {
     }
 }
 
-/// The word holds the 64 bits of the value, as that of a gauge does.
+/// The word holds the 64 bits of the value, as a gauge's does.
 impl Sample for i64 {
     ghost use Rattle.std.specs.Prelude.{◌≡◌};
     ghost use Rattle.std.specs.Int.{w64, cast_signed, cast_unsigned};

@@ -1,4 +1,4 @@
-//! Pens of a bucket that wait for those who come to know it.
+//! Spare pens of a bucket, for threads that come to know it.
 ghost use Rattle.std.specs.Prelude.{◌≡◌, ◌*◌, ◌^◌, ◌⊎◌, true, false, All, IfOk, OnOk, IfErr};
 ghost use Rattle.metrics_bucket.specs.Account.{first_account, looked_at, IsLooked};
 ghost use Rattle.metrics_bucket.specs.Spares.{fresh_account, spare_account, IsSpareOf, WithSpares};
@@ -112,7 +112,7 @@ impl Spares {
         })
     }
 
-    // The pen that waits at this place.
+    // Takes the pen that waits at this place.
     fn take_at(&self, at: usize) -> Result<Pen, Error>
         ensures ok { IfOk result (λ p. p ≡ spare_account self.now) }
         ensures err { IfErr result (λ e. (e ≡ Error.Memory) ⊎ (e ≡ Error.NoPen)) }
@@ -153,7 +153,7 @@ impl Spares {
 
     /// Joins all pens that still wait into this pen.
     ///
-    /// When out of memory the pen keeps those that it has joined.
+    /// If it runs out of memory, the pen keeps those that it has joined.
     pub fn gather(&self, pen: &mut Pen) -> Result<(), Error>
         requires own { pen.old.home ≡ self.now }
         requires free { pen.old.ticket ≡ false }

@@ -1,4 +1,4 @@
-//! The walk over the places of a side, which clears and readings have in common.
+//! The walk over the places of a side, which clears and readings share.
 ghost use Rattle.std.specs.Prelude.{◌≡◌, ℕ, ◌+◌, ◌-◌, ◌*◌, ◌^◌, ◌<◌, ◌≤◌, length, take, drop};
 ghost use Rattle.std.specs.Prelude.{map, replicate, slice_set, [], ◌∷◌};
 ghost use Rattle.std.specs.List.{FoldsTo};
@@ -55,7 +55,7 @@ impl<T: Sample> RuledBucket<T> {
         turn.walks = turn.walks.wrapping_add(1);
     }
 
-    // Waits for the value of a place, and does with the place what such a walk does.
+    // Waits for the value of a place, then does there what this kind of walk does.
     fn walk_place<R: Wait, W: Walker>(
         &self,
         rt: &R,
@@ -82,7 +82,7 @@ impl<T: Sample> RuledBucket<T> {
         T::of_word(bits)
     }
 
-    // Walks over these places, and puts their values at the beginning of the room.
+    // Walks over these places, and stores their values at the start of the room.
     fn walk_chunk<R: Wait, W: Walker>(
         &self,
         rt: &R,
