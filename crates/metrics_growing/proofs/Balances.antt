@@ -1,4 +1,4 @@
--- What calls do to the bags of a pen, seen over all its segments.
+-- What calls do to the multisets of a pen, seen over all its segments.
 use Rattle.std.proofs.Common.{◌≡◌, ℕ, ◌+◌, List, [], ◌∷◌, refl, ap, ⊎_elim, arith}
 use Rattle.std.specs.List.{All}
 use Rattle.std.proofs.lemmas.List.Elements.{All-head, All-tail}
@@ -84,7 +84,7 @@ pub right_sums : (h : ℕ → ℕ) (ps : List Part) → (pushed_by h (right_part
 right_sums h [] = (omega arith, omega arith)
 right_sums h (p ∷ ps) = (omega arith, omega arith)
 
--- a pen that takes in another has the bags of both
+-- a pen that joins another has the multisets of both
 pub joined_sums : (h : ℕ → ℕ) (ps qs : List Part) → (pushed_by h (joined_parts ps qs) ≡ pushed_by h ps + pushed_by h qs) × (taken_by h (joined_parts ps qs) ≡ taken_by h ps + taken_by h qs)
 joined_sums h [] qs = (omega arith, omega arith)
 joined_sums h (p ∷ ps) [] = (omega arith, omega arith)

@@ -64,7 +64,7 @@ homes_set [] at p q pe qe = refl
 homes_set (r ∷ ps) zero p q pe qe = ap (λ (x : Home). x ∷ map home_of ps) (qe ∙ ap home_of pe)
 homes_set (r ∷ ps) (suc at) p q pe qe = ap (λ (xs : List Home). home_of r ∷ xs) (homes_set ps at p q pe qe)
 
--- of what is done to a pen
+-- what is done to a pen
 pub keeps_same : (ps : List Part) → Keeps ps ps
 keeps_same ps = ([], sym (append-nil ps), All-nil IsNew)
 
@@ -74,7 +74,7 @@ keeps_met ps qs p e new = (p ∷ [], e, All-push IsNew [] p (All-nil IsNew) new)
 pub keeps_trans : (ps qs rs : List Part) → Keeps ps qs → Keeps qs rs → Keeps ps rs
 keeps_trans ps qs rs (xs, e, a) (ys, f, b) = (xs ++ ys, f ∙ (ap (λ (zs : List Part). zs ++ ys) e ∙ append_assoc ps xs ys), All-append IsNew xs ys a b)
 
--- of parts in which a pen looked
+-- parts in which a pen looked
 looked_same : (p : Part) → LookedIn p p
 looked_same p = (refl, refl)
 
@@ -111,7 +111,7 @@ looks_met (p ∷ ps) (x ∷ qs) q k new = (k.0, looks_met ps qs q k.1 new)
 raced_full : Raced ≡ Full → ⊥
 raced_full e = cc
 
--- what a refused try says of its part
+-- what a failed try says of its part
 pub refusal : (p q : Part) (e : Error) → LookedIn p q → (((e ≡ Full) × (p.account.home.places ≤ q.account.seen / 2)) ⊎ ((e ≡ Raced) × (q.account.seen / 2 < p.account.home.places)))
     → (IsWhole p → (e ≡ Full) × IsFullFor p.account.home.places p.account.pushed p.account.taken) → ((e ≡ Full) × PassedIn p q) ⊎ ((e ≡ Raced) × LostIn p q)
 refusal p q e look cause whole =
@@ -146,7 +146,7 @@ reached_in at ps qs r = ⊎_elim
     (λ (next : (at ≡ length ps) × MetOne ps qs). let n = ap (λ (zs : List Part). length zs) next.1.1 in let m = length_push ps next.1.0 in omega arith)
     r
 
--- how far a push has come: so many parts are passed, and behind them none changed and none was met
+-- how far a push has come: so many parts are passed, and after them none changed and none was met
 abbrev pub Came : ℕ → List Part → List Part → Type 0
 Came zero ps qs = ps ≡ qs
 Came (suc at) [] [] = ⊥
@@ -154,7 +154,7 @@ Came (suc at) [] (q ∷ qs) = HasOnlyLooked q × IsPassed q × Came at [] qs
 Came (suc at) (p ∷ ps) [] = ⊥
 Came (suc at) (p ∷ ps) (q ∷ qs) = PassedIn p q × Came at ps qs
 
--- where all that was known is passed, there is no part behind
+-- once all that was known is passed, there is no part after
 came_less : (at : ℕ) (qs : List Part) → Came at [] qs → at < length qs → ⊥
 came_less zero qs c l = let n = ap (λ (zs : List Part). length zs) c in omega arith
 came_less (suc at) [] c l = c
@@ -332,7 +332,7 @@ pub pick : (ps : List Part) (at : ℕ) → at < length ps → Part
 pick [] at l = absurd (omega arith)
 pick (p ∷ ps) at l = p
 
--- a pen that takes in another
+-- a pen that joins another
 link_at : (links : List ℕ) (ps : List Part) (at : ℕ) (p : Part) → IsOf links ps → at < length ps → p ≡ get_or ps at p → p.link ≡ get_or links at 0
 link_at links [] at p e l pe = absurd (omega arith)
 link_at [] (q ∷ ps) at p e l pe = let n = ap is_cons e in absurd (omega arith)
@@ -348,7 +348,7 @@ of_joined links (p ∷ ps) [] e d = e
 of_joined [] (p ∷ ps) (q ∷ qs) e d = let n = ap is_cons e in absurd (omega arith)
 of_joined (x ∷ links) (p ∷ ps) (q ∷ qs) e d = let t = of_joined links ps qs (ap tail_of e) (ap tail_of d) in λ i. ap head_of e i ∷ t i
 
--- the front of the parts of a bucket
+-- the first parts of a bucket
 pub of_front : (links : List ℕ) (ps qs : List Part) → IsOf links (ps ++ qs) → IsOf links ps
 of_front links [] qs e = refl
 of_front [] (p ∷ ps) qs e = let n = ap is_cons e in absurd (omega arith)

@@ -1,4 +1,4 @@
--- The bags of all segments that a pen knows.
+-- The multisets of all segments that a pen knows.
 use Rattle.std.specs.Prelude.{◌≡◌, ℕ, ◌+◌, List, [], ◌∷◌, length, map, All}
 use Rattle.metrics_bucket.specs.declared.view.Walk.{Walk}
 use Rattle.metrics_bucket.specs.Facts.{weigh, weigh_pushes, weigh_walks}
@@ -34,11 +34,11 @@ abbrev pub first_weight : List Part → ℕ
 first_weight [] = 0
 first_weight (p ∷ ps) = p.account.weight
 
--- the bag of values pushed in this segment is the bag of those taken from it
+-- the values pushed in this segment are, as a multiset, those taken from it
 abbrev pub IsBalanced : Part → Type 0
 IsBalanced p = (h : ℕ → ℕ) → pushed_in h p ≡ taken_in h p
 
--- the values that were taken at last, with those taken before, are the bag of what was pushed
+-- the values that were taken at last, with those taken before, are the multiset of what was pushed
 pub record Settled {T : Type 0} (value : ℕ → T) (old new : List Part) (given : List T) : Type 0 where
   pub parts : List Part
   pub walks : List Walk

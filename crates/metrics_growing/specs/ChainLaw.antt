@@ -54,7 +54,7 @@ finished h [] = 0
 finished h (inside i e ∷ moves) = finished_by h e.act + finished h moves
 finished h (link places ∷ moves) = finished h moves
 
--- the weights of the values that stand in a segment with mark 1, or were wiped there
+-- the weights of the values that have mark 1 in a segment, or were wiped there
 abbrev pub in_place : (ℕ → ℕ) → Link → ℕ
 in_place h l = stands h l.state.values l.state.marks + total (taken_of h) l.state.views
 
@@ -77,13 +77,13 @@ abbrev pub all_inside : ℕ → List Event → List Move
 all_inside i [] = []
 all_inside i (e ∷ events) = inside i e ∷ all_inside i events
 
--- a chain of two segments in which 5 is pushed and cleared in the second, so that the law is of some chain: there a thread took 5, and the
--- first segment is as it began
+-- a chain of two segments in which 5 is pushed and cleared in the second, so that the law isn't vacuous: there a thread took
+-- 5, and the first segment is as it began
 abbrev pub TwoSegments : Type 0
 TwoSegments = (ls : List Link) × ChainRuns 1 (λ places. start places 1) [] (link 2 ∷ link 1 ∷ all_inside 1 (by_first push_and_clear)) ls
     × (get_elem? ls 0 ≡ some (new_link (λ places. start places 1) 2))
     × ((w : BucketState) × (v : View) × (get_elem? ls 1 ≡ some record { places = 1; state = w }) × (get_elem? w.views 0 ≡ some v) × (v.taken ≡ walk 0 (5 ∷ []) ∷ []))
 
--- It is the law of chains whose segments begin with any number of threads, and of those that begin with one whole thread each
+-- The law of chains whose segments begin with any number of threads, and of those that begin with one whole thread each
 abbrev pub ChainLaw : Type 0
 ChainLaw = ((threads : ℕ) → IsLaw threads (λ places. start places threads)) × IsLaw 1024 opened × TwoSegments

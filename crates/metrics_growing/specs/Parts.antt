@@ -8,11 +8,11 @@ use Rattle.metrics_bucket.specs.Blocks.{newest_first}
 use Rattle.metrics_bucket.specs.Steps.{IsFullFor}
 use Rattle.metrics_bucket.specs.Spares.{spare_account, WithSpares}
 
--- an account but for what its last refused claim found
+-- an account without what its last failed claim found
 abbrev pub unclaimed : Account → Account
 unclaimed a = record a { turn_seen = 0 }
 
--- the link by which the segment is found, and the account of the pen that is used there, but for what its claims found
+-- the link by which the segment is found, and the account of the pen that is used there, without what its claims found
 pub record Part : Type 0 where
   pub link : ℕ
   pub account : Account
@@ -50,7 +50,8 @@ IsWhole p = p.account.weight ≡ 1024
 abbrev pub IsFilled : Part → Type 0
 IsFilled p = IsFullFor p.account.home.places p.account.pushed p.account.taken
 
--- a push may go on behind this part: the word that its pen saw has all places given, and where it is whole, its segment is full
+-- a push may go on after this part: the word that its pen saw has all places given, and if the pen is whole, its segment is
+-- full
 abbrev pub IsPassed : Part → Type 0
 IsPassed p = (p.account.home.places ≤ p.account.seen / 2) × (IsWhole p → IsFilled p)
 
@@ -125,7 +126,7 @@ LosesRaces (suc n) ps rs = (qs : List Part) × LosesRaces n ps qs × LosesRace q
 abbrev pub PushedByTries : ℕ → List Part → List Part → Type 0
 PushedByTries x ps rs = (n : ℕ) × (qs : List Part) × LosesRaces n ps qs × Pushed x qs rs
 
--- one of these walks was taken in each part, from the first on, as far as there are walks; the parts behind stayed
+-- one of these walks was taken in each part, from the first on, until the walks end; the parts after them stayed
 abbrev pub Took : List Part → List Walk → List Part → Type 0
 Took ps [] rs = ps ≡ rs
 Took (p ∷ ps) (walk ∷ walks) (r ∷ rs) = TakenIn walk p r × Took ps walks rs

@@ -52,7 +52,7 @@ impl<T: Sample> Model for GrowingBucket<T> {
     ghost invariant = { λ b. (0 < b.blocks) × (b.blocks ≤ 1024) × (length b.links.items ≡ 64) };
 }
 
-// Appends so many empty links to the others.
+// Appends this many empty links to the others.
 fn fill(alloc: Global, count: usize, links: &mut Vec<OnceBox<Segment>>) -> Result<(), Error>
     ensures more { (more : _) × (links.new.items ≡ links.old.items ++ more) }
     ensures count { OnOk result (length links.new.items ≡ length links.old.items + count) }
@@ -66,7 +66,7 @@ fn fill(alloc: Global, count: usize, links: &mut Vec<OnceBox<Segment>>) -> Resul
     Ok(())
 }
 
-// How many places a side of this segment has, if the first one has so many blocks.
+// Returns how many places a side of this segment has, if the first one has this many blocks.
 fn places_of(blocks: usize, at: usize) -> Result<usize, Error>
     requires blocks { (0 < blocks) × (blocks ≤ 1024) }
     requires at { at < 64 }
@@ -85,7 +85,7 @@ fn places_of(blocks: usize, at: usize) -> Result<usize, Error>
 impl<T: Sample> GrowingBucket<T> {
     /// Makes a bucket whose first segment has 1 to 1,024 blocks on each side, and its first pen, which is whole.
     ///
-    /// Fails with `BadBlocks` for another number of blocks, and else only when out of memory.
+    /// Fails with `BadBlocks` for another number of blocks, otherwise only when out of memory.
     pub fn new(alloc: Global, blocks: usize) -> Result<(GrowingBucket<T>, GrowPen), Error>
         ensures own { IfOk result (λ r. IsOf r.0 r.1) }
         ensures first { IfOk result (λ r. (p : Part) × (r.1 ≡ p ∷ []) × (p.account ≡ first_account p.account.home)
@@ -238,7 +238,7 @@ impl<T: Sample> GrowingBucket<T> {
     ///
     /// `Raced`: another thread drew the ticket; another try may succeed.
     /// `NoPen`: a segment that the pen doesn't know has no spare pen left.
-    /// `Memory`: a segment or a pen of one found no memory, or there are 64 full segments.
+    /// `Memory`: out of memory for a segment or a pen of one, or there are 64 full segments.
     pub fn try_push(&self, pen: &mut GrowPen, value: T) -> Result<(), (Error, T)>
         requires own { IsOf self.now pen.old }
         ensures own { IsOf self.now pen.new }
@@ -253,7 +253,7 @@ impl<T: Sample> GrowingBucket<T> {
         }
     }
 
-    /// Pushes a value as `try_push` does; a lost race is tried again.
+    /// Pushes a value as `try_push` does, and tries again after a lost race.
     pub fn push<R: Wait>(&self, rt: &R, pen: &mut GrowPen, value: T) -> Result<(), (Error, T)>
         requires own { IsOf self.now pen.old }
         ensures own { IsOf self.now pen.new }

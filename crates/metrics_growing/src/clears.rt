@@ -38,7 +38,7 @@ impl<T: Sample> GrowingBucket<T> {
         Ok(())
     }
 
-    // There are no more of them than links.
+    // Returns how many segments are known, which are no more than links.
     pub(crate) fn count_known(&self, known: &Vec<Known>) -> usize
         requires own { IsOf self.now known.now.items }
         ensures { (result ≡ length known.now.items) × (result ≤ 64) }
@@ -47,7 +47,7 @@ impl<T: Sample> GrowingBucket<T> {
         known.len().min(links)
     }
 
-    // The bucket of a segment that is known, for values of this type.
+    // Returns the bucket of a segment that is known, for values of this type.
     fn bucket_at(&self, known: &mut Vec<Known>, at: usize) -> Result<RuledBucket<T>, Error>
         requires own { IsOf self.now known.old.items }
         requires at { at < length known.old.items }
@@ -64,7 +64,7 @@ impl<T: Sample> GrowingBucket<T> {
         part.bucket_of::<T>(link)
     }
 
-    // The buckets of all segments that are known.
+    // Returns the buckets of all segments that are known.
     pub(crate) fn buckets(&self, known: &mut Vec<Known>) -> Result<Vec<RuledBucket<T>>, Error>
         requires own { IsOf self.now known.old.items }
         ensures same { known.new.items ≡ known.old.items }
@@ -115,7 +115,7 @@ impl<T: Sample> GrowingBucket<T> {
         part.clear(rt, link, &buckets[at], visitor)
     }
 
-    // The first segment may be busy, a later one's turn is waited for.
+    // Clears a segment. The first one may be busy; at a later one it waits for the turn.
     fn clear_one<R: Wait, V: Visitor<T>>(
         &self,
         rt: &R,
@@ -183,7 +183,7 @@ impl<T: Sample> GrowingBucket<T> {
     ///
     /// It goes from segment to segment, and shows each segment's values in chunks of 64, the newest chunk first. It waits for
     /// pushes that drew a ticket before it took their segment's side.
-    /// `Busy`: another walk is under way in the first segment; a later segment's is waited for.
+    /// `Busy`: another walk is under way in the first segment. It waits for one in a later segment.
     /// `NoPen`: a segment that the pen doesn't know has no spare pen left.
     pub fn clear_to<R: Wait, V: Visitor<T>>(
         &self,

@@ -53,7 +53,7 @@ impl Known {
         }
     }
 
-    /// The segment's bucket, for values of this type.
+    /// Returns the segment's bucket, for values of this type.
     pub(crate) fn bucket_of<T: Sample>(
         &mut self,
         link: &OnceBox<Segment>,
@@ -69,7 +69,7 @@ impl Known {
         segment.core.try_clone_as::<T>()
     }
 
-    /// How many places a side of the segment has.
+    /// Returns how many places a side of the segment has.
     pub(crate) fn places(&mut self, link: &OnceBox<Segment>) -> usize
         requires link { self.old.link ≡ cell_name link.now }
         ensures same { self.new ≡ self.old }
@@ -81,7 +81,7 @@ impl Known {
         segment.places
     }
 
-    /// Takes what is in the segment.
+    /// Takes all values in the segment.
     pub(crate) fn clear<T: Sample, R: Wait, V: Visitor<T>>(
         &mut self,
         rt: &R,
@@ -122,7 +122,7 @@ impl Known {
         self.pen.is_whole()
     }
 
-    /// Gives half of the weight to a new pen.
+    /// Returns a new pen with half of the weight.
     pub(crate) fn split(&mut self) -> Result<Known, Error>
         ensures ok { IfOk result (λ k. (self.new ≡ left_part self.old) × (k ≡ right_part self.old)) }
         ensures err { IfErr result (λ e. (self.new ≡ self.old) × (1 < self.old.account.weight → e ≡ Error.Memory)) }

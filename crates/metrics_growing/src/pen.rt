@@ -48,7 +48,7 @@ fn take_in(known: &mut Vec<Known>, others: Vec<Known>)
 }
 
 impl GrowPen {
-    /// Gives half of the weight in the first segment, and in no other, to a new pen.
+    /// Returns a new pen with half of the weight in the first segment, and in no other.
     ///
     /// `NoPen`: one part of the weight can't be split.
     pub fn split(&mut self) -> Result<GrowPen, Error>

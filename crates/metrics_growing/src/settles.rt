@@ -12,7 +12,7 @@ use metrics_bucket::{Gathered, Sample};
 use std::alloc::Global;
 use std::sync::Wait;
 
-// Whether there is no other pen of any of these segments.
+// Returns whether there is no other pen of any of these segments.
 fn are_whole(known: &[Known]) -> bool
     ensures { IsTrue result ↔ All IsWhole known.now }
 {
@@ -56,7 +56,7 @@ impl<T: Sample> GrowingBucket<T> {
         Ok(())
     }
 
-    // How many places a side of a segment that is known has.
+    // Returns how many places a side of a segment that is known has.
     fn places_at(&self, known: &mut Vec<Known>, at: usize) -> usize
         requires own { IsOf self.now known.old.items }
         requires at { at < length known.old.items }
@@ -73,7 +73,7 @@ impl<T: Sample> GrowingBucket<T> {
         part.places(link)
     }
 
-    // How many places a side of all known segments together has.
+    // Returns how many places a side of all known segments together has.
     fn all_places(&self, known: &mut Vec<Known>) -> usize
         requires own { IsOf self.now known.old.items }
         ensures same { known.new.items ≡ known.old.items }
@@ -86,10 +86,10 @@ impl<T: Sample> GrowingBucket<T> {
         places
     }
 
-    /// Takes all values that were pushed and not taken, if the pen is whole in each segment.
+    /// Returns all values that were pushed and not taken, if the pen is whole in each segment.
     ///
-    /// Those of the first segment come first, each segment's by their tickets in blocks of 64, the newest block first. They count
-    /// as taken from then on.
+    /// Those of the first segment come first, each segment's in ticket order in blocks of 64, the newest block first. They
+    /// count as taken from then on.
     /// `NoPen`: there is another pen of some segment.
     /// If it fails no value has moved, and the pen keeps the spare pens that it has joined.
     pub fn settle<R: Wait>(&self, rt: &R, alloc: Global, pen: &mut GrowPen) -> Result<Vec<T>, Error>
