@@ -8,18 +8,18 @@ use std::fmt;
 use std::sync::{OnceLock, Wait};
 use thiserror::Error;
 
-/// Why a recorder was not installed. It has the recorder.
+/// Why a recorder was not installed, with the recorder.
 #[derive(Drop, Error)]
 pub enum SetRecorderError<R> {
     /// The cell is taken. It stays as it was.
     #[error("a recorder is installed already")]
     Taken(R),
-    /// There was no memory for what goes into the cell.
+    /// Out of memory for what goes into the cell.
     #[error("memory")]
     Memory(R),
 }
 
-/// Without the recorder, so that the error of any recorder can be shown.
+/// Leaves the recorder out, so that the error of any recorder can be shown.
 impl<R> fmt::Debug for SetRecorderError<R> {
     fn fmt<W: fmt::Write>(&self, f: &mut fmt::Formatter<W>) -> fmt::Result {
         match self {

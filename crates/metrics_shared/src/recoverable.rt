@@ -15,7 +15,7 @@ use std::sync::{Arc, Mutex, OnceLock, Wait};
 /// A slot that a recorder and a recovery handle share.
 type SharedSlot<R> = Arc<Mutex<Slot<R>>, Global>;
 
-/// An empty slot, twice.
+/// Makes an empty slot, and returns it twice.
 fn empty_slot<R: Recorder>(alloc: Global) -> Result<(SharedSlot<R>, SharedSlot<R>), AllocError> {
     let slot = Arc::new(alloc, Mutex::new(Slot::empty()))?;
     let other = Arc::try_clone(&slot)?;
@@ -99,7 +99,7 @@ pub struct SlotRecorder<R> {
 impl<R: Recorder> SlotRecorder<R> {
     ghost use Rattle.metrics_shared.specs.Slot.{CallsSlot};
 
-    /// Calls `f` on the recorder under the lock, and returns its answer.
+    /// Calls `f` on the recorder under the lock, and returns its result.
     ///
     /// Returns `None` after the recorder was taken out, and doesn't call `f`. An `f` that calls this slot again waits for ever.
     pub fn with<W: Wait, V, F: FnOnce(&mut R) -> V + Drop>(&self, rt: &W, f: F) -> Option<V>

@@ -1,7 +1,7 @@
 //! A recorder under a lock.
 //!
-//! A call's contract is the recorder's own, of what it met under the lock and what it left there. Which recorder it
-//! met no contract says: other threads may call it at any time.
+//! A call's contract is the recorder's own, of what it found under the lock and what it left there. No contract says which
+//! recorder it found: other threads may call it at any time.
 ghost use Rattle.std.specs.Fn.{FnOnceReturnsAtMut};
 ghost use Rattle.std.specs.Result.{result_map_both};
 ghost use Rattle.metrics.specs.Meaning.{KeepsTargets, Describes, Registers, Updates, Snapshots};
@@ -26,7 +26,7 @@ impl<R: Recorder> Shared<R> {
         }
     }
 
-    /// Calls `f` on the recorder under the lock, and returns its answer. An `f` that calls this recorder again waits for ever.
+    /// Calls `f` on the recorder under the lock, and returns its result. An `f` that calls this recorder again waits for ever.
     pub fn with<W: Wait, V, F: FnOnce(&mut R) -> V>(&self, rt: &W, f: F) -> V
         requires { F.IsAlwaysCallable f }
         ensures { (old : R) × (new : R) × FnOnceReturnsAtMut F.FnOnce f old result new }

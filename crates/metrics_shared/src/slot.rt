@@ -33,7 +33,7 @@ impl<R: Recorder> Slot<R> {
         }
     }
 
-    /// A slot without one.
+    /// Makes a slot without a recorder.
     pub(crate) fn empty() -> Slot<R>
         ensures { result ≡ None }
     {
@@ -48,7 +48,7 @@ impl<R: Recorder> Slot<R> {
         self.recorder.take()
     }
 
-    /// Calls `f` on the recorder, and returns its answer. An empty slot returns `None`, and doesn't call `f`.
+    /// Calls `f` on the recorder, and returns its result. An empty slot returns `None`, and doesn't call `f`.
     pub fn with<V, F: FnOnce(&mut R) -> V + Drop>(&mut self, f: F) -> Option<V>
         requires { F.IsAlwaysCallable f }
         ensures { CallsSlot self.old self.new (result ≡ None)
