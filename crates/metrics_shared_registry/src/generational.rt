@@ -42,7 +42,7 @@ impl<T> Generational<T> {
         Generation::new(self.generation.load())
     }
 
-    /// Whether a clone of this cell exists at the moment.
+    /// Returns whether a clone of this cell exists at the moment.
     ///
     /// If there is none, and no other thread can reach this cell, then no thread changes it, and every change that was made
     /// through a clone is visible.
@@ -50,7 +50,7 @@ impl<T> Generational<T> {
         Arc::strong_count(&self.generation) > 1
     }
 
-    /// Calls `f` once on the cell and then raises the generation, whatever `f` answers.
+    /// Calls `f` once on the cell and then raises the generation, whatever `f` returns.
     pub fn with_increment<V, F: Fn(&T) -> V>(&self, f: F) -> V
         requires { F.IsAlwaysCallable f }
         ensures { FnReturnsAt F.Fn f self.now.inner result }

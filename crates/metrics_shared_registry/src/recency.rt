@@ -37,7 +37,7 @@ impl<K: Hashable + EqualClone + Drop> Recency<K> {
         }
     }
 
-    /// Whether notes are taken of the kind: there is a timeout, and the mask has the kind.
+    /// Returns whether it notes series of the kind: there is a timeout, and the mask has the kind.
     fn watches(&self, kind: MetricKind) -> bool
         ensures { result ≡ is_watched (rules_of self.now) kind }
     {

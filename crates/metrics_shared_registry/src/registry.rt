@@ -51,7 +51,7 @@ where
         &self.storage
     }
 
-    /// The shard of a key.
+    /// Returns the shard of a key.
     fn shard(&self, key: &K) -> &RwLock<Kinds<K, S>> {
         &self.shards[shard_of(key, self.shards.len())]
     }
@@ -77,7 +77,7 @@ where
         }
     }
 
-    /// Calls `op` once on the cell of a counter, and returns its answer. The storage makes the cell if the key isn't held.
+    /// Calls `op` once on the cell of a counter, and returns its result. The storage makes the cell if the key isn't held.
     ///
     /// A call that fails changes nothing. A call for a held key never fails.
     pub fn get_or_create_counter<W: Wait, V, F: FnOnce(&S::Counter) -> V + Drop>(
@@ -132,7 +132,7 @@ where
         Ok(handles)
     }
 
-    /// Keeps the counters for which `f` answers true. It calls `f` once for each counter, in some order.
+    /// Keeps the counters for which `f` returns true. It calls `f` once for each counter, in some order.
     pub fn retain_counters<W: Wait, F: FnMut(&K, &S::Counter) -> bool + Drop>(&self, rt: &W, f: F)
         requires { F.IsAlwaysCallable f }
     {
@@ -161,7 +161,7 @@ where
         }
     }
 
-    /// Calls `op` once on the cell of a gauge, and returns its answer. The storage makes the cell if the key isn't held.
+    /// Calls `op` once on the cell of a gauge, and returns its result. The storage makes the cell if the key isn't held.
     ///
     /// A call that fails changes nothing. A call for a held key never fails.
     pub fn get_or_create_gauge<W: Wait, V, F: FnOnce(&S::Gauge) -> V + Drop>(
@@ -216,7 +216,7 @@ where
         Ok(handles)
     }
 
-    /// Keeps the gauges for which `f` answers true. It calls `f` once for each gauge, in some order.
+    /// Keeps the gauges for which `f` returns true. It calls `f` once for each gauge, in some order.
     pub fn retain_gauges<W: Wait, F: FnMut(&K, &S::Gauge) -> bool + Drop>(&self, rt: &W, f: F)
         requires { F.IsAlwaysCallable f }
     {
@@ -245,7 +245,7 @@ where
         }
     }
 
-    /// Calls `op` once on the cell of a histogram, and returns its answer. The storage makes the cell if the key isn't held.
+    /// Calls `op` once on the cell of a histogram, and returns its result. The storage makes the cell if the key isn't held.
     ///
     /// A call that fails changes nothing. A call for a held key never fails.
     pub fn get_or_create_histogram<W: Wait, V, F: FnOnce(&S::Histogram) -> V + Drop>(
@@ -300,7 +300,7 @@ where
         Ok(handles)
     }
 
-    /// Keeps the histograms for which `f` answers true. It calls `f` once for each histogram, in some order.
+    /// Keeps the histograms for which `f` returns true. It calls `f` once for each histogram, in some order.
     pub fn retain_histograms<W: Wait, F: FnMut(&K, &S::Histogram) -> bool + Drop>(
         &self,
         rt: &W,
@@ -333,7 +333,7 @@ impl Registry<Key, AtomicStorage> {
     }
 }
 
-/// Shards with nothing in them.
+/// Makes shards with nothing in them.
 fn new_shards<K: Hashable + EqualClone + Drop, S: Storage<K>>(
     alloc: Global,
     count: usize,
