@@ -44,7 +44,7 @@ module _ {K C : Type 0} {eq : K → K → Bool} (laws : IsEquivalence eq) (Makes
   made-by : {V : Type 0} (call : C → V → C → Type 0) → ((b : C) (v : V) (a : C) → call b v a → a ≡ b) → (v : V) → CallsAt eq Makes call key v old new → MadeAt eq Makes key old new
   made-by call same v at = let P : C → Type 0 = λ a. Sets eq key (Some a) old new in (at.0, at.2, subst P (same at.0 v at.1 at.3) at.4)
 
-  -- a refusal changes nothing
+  -- a call that fails changes nothing
   pub stay : {V : Type 0} (clone : K → K → Type 0) (call : C → V → C → Type 0) (InOneShard : Type 0) → ((b : C) (v : V) (a : C) → call b v a → a ≡ b) → (result : Result V Error) → GetsOrCreates eq clone Makes call InOneShard key result old new → StaySame eq old new
   stay clone call InOneShard same (Ok v) got = stay-made (made-by call same v got.0)
   stay clone call InOneShard same (Err e) got = stay-same eq old new got.1

@@ -30,7 +30,7 @@ module _ {K : Type 0} (eq : K → K → Bool) where
   reply_of has (Delete kind key) = has kind key
   reply_of has (Has kind key) = has kind key
 
-  -- each reply is that of a finite map after the calls before it
+  -- each reply is that of a finite map after the earlier calls
   abbrev pub IsLegalFrom : Journal K → Journal K → Type 0
   IsLegalFrom before [] = Unit {0}
   IsLegalFrom before (e ∷ log) = (e.1 ≡ reply_of (holds before) e.0) × IsLegalFrom (before ++ e ∷ []) log

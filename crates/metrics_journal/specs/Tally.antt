@@ -2,7 +2,7 @@
 use Rattle.std.specs.Prelude.{ℕ, ◌+◌, Bool, true, false}
 use Rattle.metrics_journal.specs.Journal.{one_if}
 
--- its weight, of how many shards it stands for, and the calls that were answered true and false
+-- its weight, how many shards it counts for, and the calls that were answered true and false
 pub record Account : Type 0 where
   pub weight : ℕ
   pub shards : ℕ

@@ -87,7 +87,7 @@ where
     }
 }
 
-/// Shards in order, with empty journals.
+/// Makes shards in order, with empty journals.
 fn new_shards<K: Hashable + EqualClone + Drop, S: Storage<K>>(
     alloc: Global,
     count: usize,
@@ -133,8 +133,8 @@ where
 
 /// A registry whose shards keep journals. Any thread calls it with a tally.
 ///
-/// All its shards are under one lock. `T` names the ledger of the calls that were answered true, and `F` that of those that
-/// were answered false.
+/// All its shards are under one lock. `T` names the ledger of the calls with reply true, and `F` that of those with reply
+/// false.
 #[derive(Drop)]
 pub struct JournaledRegistry<K: Hashable, S: Storage<K>, T: Ledger, F: Ledger> {
     journals: Mutex<Journals<K, S, T, F>>,

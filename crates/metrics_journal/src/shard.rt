@@ -13,9 +13,9 @@ use metrics_registry::{EqualClone, Hashable, Kinds, Storage, is_shard_count};
 use std::alloc::Global;
 use std::marker::Model;
 
-/// What a shard has beside its storage: the cells of its keys, and the calls that were made with their replies.
+/// What a shard has besides its storage: the cells of its keys, and the calls that were made with their replies.
 ///
-/// Each reply is that of a finite map after the calls before it, and the cells are those of the keys that the journal says.
+/// Each reply is that of a finite map after the earlier calls, and the cells are those of the keys that the journal says.
 #[derive(Drop)]
 pub(crate) struct Part<K: Hashable, S: Storage<K>> {
     shard: usize,
@@ -47,7 +47,7 @@ where
     S::Gauge: Drop,
     S::Histogram: Drop,
 {
-    /// Makes the shard of this number, from 0, among so many shards, with no calls and no keys. It allocates nothing.
+    /// Makes the shard of this number, from 0, among this many shards, with no calls and no keys. It allocates nothing.
     pub fn new(alloc: Global, shard: usize, shards: usize) -> Part<K, S>
         ensures place { (result.shard ≡ shard) × (result.shards ≡ shards) }
         ensures empty { (result.journal ≡ []) × (result.cells.counters ≡ []) × (result.cells.gauges ≡ [])
@@ -106,7 +106,7 @@ where
 
 /// A shard of a registry: the cells of the shard's keys, and the calls that were made with their replies.
 ///
-/// Each reply is that of a finite map after the calls before it, and the shard holds the keys that the journal says.
+/// Each reply is that of a finite map after the earlier calls, and the shard holds the keys that the journal says.
 #[derive(Drop)]
 pub struct JournaledShard<K: Hashable, S: Storage<K>> {
     storage: S,
@@ -137,7 +137,7 @@ where
     S::Gauge: Drop,
     S::Histogram: Drop,
 {
-    /// Makes the shard of this number, from 0, among so many shards, with no calls and no keys.
+    /// Makes the shard of this number, from 0, among this many shards, with no calls and no keys.
     ///
     /// The number of shards is a power of two from 1 to 1,024.
     pub fn new(alloc: Global, storage: S, shard: usize, shards: usize) -> Result<Self, Error>

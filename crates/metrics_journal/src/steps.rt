@@ -9,7 +9,7 @@ use crate::calls::ShardCall;
 use metrics::{Error, MetricKind};
 use metrics_registry::{EqualClone, Hashable, Kinds, Storage};
 
-/// Whether a key is held.
+/// Returns whether a key is held.
 fn has<K: Hashable + EqualClone + Drop, S: Storage<K>>(
     cells: &Kinds<K, S>,
     kind: MetricKind,

@@ -1,4 +1,4 @@
-//! What a thread was answered.
+//! The replies that a thread has counted.
 ghost use Rattle.std.specs.Prelude.{◌≡◌, ◌+◌, ◌-◌, ◌*◌, ◌/◌, ◌≤◌, true, false, IsTrue, ◌↔◌};
 ghost use Rattle.std.specs.Prelude.{IfOk, IfErr};
 ghost use Rattle.metrics.specs.declared.error.Error.TheVariants.{NoPen as Least};
@@ -12,10 +12,10 @@ use std::sync::ledger::{Blank, Book, Ledger, Share};
 /// The weight of a whole tally.
 const WHOLE: u64 = 1024;
 
-/// What a call that is answered true adds to the amount of `trues`. The rest of the amount, which is less, is `shards`.
+/// What a call with reply true adds to the amount of `trues`. The rest of the amount, which is less, is `shards`.
 const STEP: u64 = 2048;
 
-/// How many calls were answered true and how many false, of those that were made with this tally.
+/// How many of the calls made with this tally were answered true, and how many false.
 ///
 /// The tallies of a registry weigh 1,024 together, and count for all its shards together. So the whole tally knows how many
 /// journals there are.
@@ -50,7 +50,7 @@ impl<T: Ledger, F: Ledger> Model for Tally<T, F> {
 }
 
 impl<T: Ledger, F: Ledger> Tally<T, F> {
-    /// The books of two ledgers, and a tally of their whole weight that counts for so many shards.
+    /// Opens the books of two ledgers, and a tally of their whole weight that counts for this many shards.
     pub(crate) fn open(
         trues: Blank,
         falses: Blank,
@@ -81,8 +81,8 @@ impl<T: Ledger, F: Ledger> Tally<T, F> {
         self.weight == WHOLE
     }
 
-    /// Gives half of the weight, rounded down, to a new tally that has counted nothing. Fails if the weight is 1, as a pen does:
-    /// with `Error::NoPen`, though a tally has no pens.
+    /// Returns a new tally that has counted nothing, with half of the weight, rounded down. Fails if the weight is 1, as a pen
+    /// does: with `Error::NoPen`, though a tally has no pens.
     pub fn split(&mut self) -> Result<Tally<T, F>, Error>
         ensures ok { IfOk result (λ t. (t.weight ≡ self.old.weight / 2) × (t.trues ≡ 0) × (t.falses ≡ 0)
             × (self.old ≡ joined self.new t)) }
@@ -138,7 +138,7 @@ impl<T: Ledger, F: Ledger> Tally<T, F> {
         }
     }
 
-    /// The whole tally has counted what the books have.
+    /// Shows that the whole tally has counted what the books have.
     pub(crate) fn audit(self, trues: &mut Book<T>, falses: &mut Book<F>)
         requires whole { self.weight ≡ 1024 }
         ensures trues { trues.old.total ≡ self.shards + 2048 * self.trues }
