@@ -8,7 +8,7 @@ use metrics_storage::Histogram;
 use prefix_match::{MatchError, PrefixTrie};
 use std::alloc::Global;
 
-/// Which bounds a histogram counts at: those of the longest prefix that its name begins with, and else the default ones.
+/// Which bounds a histogram counts at: those of the longest prefix that its name begins with, otherwise the default ones.
 #[derive(Drop)]
 pub struct Bounds {
     default: Histogram,
@@ -16,7 +16,7 @@ pub struct Bounds {
     chosen: Vec<Histogram>,
 }
 
-/// A histogram without samples at these bounds, of which there has to be one.
+/// Returns a histogram without samples at these bounds. Fails with `NoBounds` if there are none.
 fn empty_at(alloc: Global, bounds: &[i64]) -> Result<Histogram, Error>
     ensures ok { IfOk result (λ h. h ≡ no_samples bounds.now) }
     ensures some { OnOk result (0 < length bounds.now) }
@@ -31,7 +31,8 @@ fn empty_at(alloc: Global, bounds: &[i64]) -> Result<Histogram, Error>
 impl Bounds {
     ghost use Rattle.metrics_collector.specs.Choice.{IsChoice, chosen_at};
 
-    /// Uses these bounds for each name. There has to be one.
+    /// Returns bounds that are `default` for each name. Fails with `NoBounds` if it is empty, otherwise only when out of
+    /// memory.
     pub fn new(alloc: Global, default: &[i64]) -> Result<Bounds, Error>
         ensures ok { IfOk result (λ b. (b.default ≡ no_samples default.now) × (b.prefixes.pairs ≡ [])) }
         ensures err { IfErr result (λ e. e ≡ (if nat_lt 0 (length default.now) then OutOfMemory else WithoutBounds)) }
@@ -44,8 +45,8 @@ impl Bounds {
         })
     }
 
-    /// Sets other bounds for the names that begin so, where no longer prefix is theirs. There has to be one. A refusal changes no
-    /// choice.
+    /// Sets other bounds for the names that begin with the prefix, unless a longer prefix is theirs.
+    /// Fails with `NoBounds` if there are none, otherwise with `Memory`. A call that fails changes no choice.
     pub fn set(&mut self, alloc: Global, prefix: &str, bounds: &[i64]) -> Result<(), Error>
         ensures default { self.new.default ≡ self.old.default }
         ensures ok { OnOk result (chosen_at self.new prefix.now ≡ no_samples bounds.now) }

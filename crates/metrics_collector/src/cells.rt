@@ -41,7 +41,7 @@ impl CounterFn for CounterHandle {
         CounterFn::increment(&*self.count, value);
     }
 
-    /// Raises the count to the value, if it is below that. Else it is no activity.
+    /// Raises the count to the value, if it is below that. Otherwise it is no activity.
     fn absolute(&self, value: u64) {
         CounterFn::absolute(&*self.count, value);
     }
@@ -49,8 +49,8 @@ impl CounterFn for CounterHandle {
 
 /// A gauge's cell, which any thread may keep and change (`GaugeFn`).
 ///
-/// An update is two atomic instructions: one of the value, and one of a number of changes, since a gauge that is set to the
-/// value that it has is in use.
+/// An update is two atomic instructions: one of the value, and one of a number of changes, since setting a gauge to the value
+/// that it has is activity too.
 ///
 /// A handle has 16 bytes. It keeps its series in the collector: one that is kept for ever keeps some 250 bytes, and the key's
 /// texts.
@@ -60,8 +60,8 @@ pub type GaugeHandle = Generational<Arc<AtomicU64>>;
 ///
 /// No sample is lost: the cell has no room to run out of, and nothing has to drain it. The number of samples shows activity.
 ///
-/// The samples are in parts, each under a lock of its own, and a handle records into one of them. The collector gives these
-/// out in turn, and so does `clone`. So give each thread a handle of its own: then they seldom wait for each other.
+/// The samples are in parts, each under a lock of its own, and a handle records into one of them. The collector and `clone`
+/// assign parts in turn. So give each thread a handle of its own: then they seldom wait for each other.
 ///
 /// A handle has 16 bytes. It keeps its series in the collector: one that is kept for ever keeps some 550 bytes, 32 for each
 /// bound, 8 for each further part that there may be, and the key's texts. Each further part has some 350 bytes and 32 for each
@@ -73,7 +73,7 @@ pub struct HistogramHandle {
 }
 
 impl HistogramHandle {
-    /// Returns what the cell holds. It fails with `Error::Memory`, or with `Error::CountFull` where there are more than 2^64 - 1
+    /// Returns what the cell holds. Fails with `Error::Memory`, or with `Error::CountFull` if there are more than 2^64 - 1
     /// samples.
     pub fn read<W: Wait>(&self, rt: &W) -> Result<Histogram, Error> {
         self.parts.read(rt)
@@ -91,7 +91,7 @@ impl Clone for HistogramHandle {
     }
 }
 
-/// A sample is refused, with `Error::CountFull`, where the count of its part would pass 2^64 - 1, and never else.
+/// A sample is rejected, with `Error::CountFull`, only if the count of its part would pass 2^64 - 1.
 impl HistogramFn for HistogramHandle {
     type Error = Error;
 
@@ -111,14 +111,14 @@ pub(crate) trait Watched {
     fn kind() -> MetricKind
         ensures { result ≡ kind_held };
 
-    /// Whether a clone exists at the moment. If none does, and no other thread can reach this cell, it stays as it is, and each
-    /// change that was made through a clone is seen.
+    /// Returns whether a clone exists at the moment. If none does, and no other thread can reach this cell, it stays as it is,
+    /// and each change that was made through a clone is seen.
     fn is_shared(&self) -> bool;
 
-    /// A number that each activity changes.
+    /// Returns a number that each activity changes.
     fn generation<W: Wait>(&self, rt: &W) -> Generation;
 
-    /// What it holds at the moment.
+    /// Returns what it holds at the moment.
     fn held<W: Wait>(&self, rt: &W) -> Result<Value, Error>
         ensures { IfOk result (λ value. kind_of value ≡ kind_held) };
 }
@@ -191,12 +191,12 @@ const PARTS: usize = 8;
 pub struct CollectorCells {
     alloc: Global,
     bounds: Bounds,
-    /// How many parts a histogram may have beside its first one.
+    /// How many parts a histogram may have besides its first one.
     others: AtomicUsize,
 }
 
 impl CollectorCells {
-    /// Histograms count at the bounds of their names, in up to 8 parts.
+    /// Makes a storage whose histograms count at the bounds of their names, in up to 8 parts.
     pub fn new(alloc: Global, bounds: Bounds) -> CollectorCells
         ensures { result.bounds ≡ bounds }
     {
@@ -207,7 +207,7 @@ impl CollectorCells {
         }
     }
 
-    /// Gives each histogram that is made from then on up to so many parts, and at least one.
+    /// Lets each histogram that is made from then on have up to this many parts, and at least one.
     pub(crate) fn set_stripes(&self, stripes: usize) {
         self.others
             .store(stripes.saturating_sub(1), Ordering::SeqCst);

@@ -28,8 +28,8 @@ use std::sync::{Mutex, RwLock, Wait};
 /// Metrics that threads share by reference, and their text for Prometheus.
 ///
 /// A thread asks for a handle once, and then changes its cell with no look-up. While some thread has a handle of a series, the
-/// series stays: where it is idle it is hidden from the texts, and shown again once it changes. An idle series of which no
-/// thread has a handle leaves, and begins anew when it is asked for again.
+/// series stays: when idle it is hidden from the texts, and shown again once it changes. An idle series of which no thread has
+/// a handle is removed, and begins anew when it is asked for again.
 #[derive(Drop)]
 pub struct Collector {
     alloc: Global,
@@ -45,8 +45,8 @@ pub struct Collector {
 impl Collector {
     /// Makes a collector without series, in this many shards, a power of two from 1 to 1,024.
     ///
-    /// A series of a kind of the mask is idle that has kept its generation over readings which lie further apart than the
-    /// timeout; without a timeout none is. The timeout and the moments are in one unit of the caller's choice.
+    /// A series of a kind in the mask is idle if it kept its generation over readings further apart than the timeout. Without
+    /// a timeout none is. The timeout and the moments are in one unit of the caller's choice.
     pub fn new(
         alloc: Global,
         shards: usize,
@@ -70,7 +70,7 @@ impl Collector {
         })
     }
 
-    /// Gives all series from then on these labels beside their own. A series' own label wins over one of the same name.
+    /// Adds these labels to all series from then on. A series' own label wins over one of the same name.
     pub fn with_labels(self, labels: Vec<Label>) -> Collector
         ensures { result.labels.items ≡ labels.items }
     {
@@ -88,11 +88,11 @@ impl Collector {
         collector
     }
 
-    /// Counts the samples of each histogram that is made from then on in up to so many parts, each under a lock of its own. 0
-    /// counts as 1. Without this call there are up to 8.
+    /// Splits the samples of each histogram that is made from then on into up to this many parts, each under a lock of its own.
+    /// 0 counts as 1. Without this call there are up to 8.
     ///
-    /// The threads' handles are given the parts in turn. So more parts let more threads record at one time. What is read is the
-    /// same. A part takes 8 bytes, and from its first sample on some 350 and 32 for each bound.
+    /// Handles get the parts in turn, so more parts let more threads record at one time. What is read is the same. A part
+    /// takes 8 bytes, and from its first sample on some 350 and 32 for each bound.
     pub fn with_stripes(self, stripes: usize) -> Collector
         ensures { result ≡ self }
     {
@@ -100,7 +100,7 @@ impl Collector {
         self
     }
 
-    /// Keeps the description of a name, in place of the one before. A refusal changes nothing.
+    /// Keeps the description of a name, in place of an earlier one. A call that fails changes nothing.
     pub fn describe<W: Wait>(
         &self,
         rt: &W,
@@ -117,7 +117,7 @@ impl Collector {
             .describe(alloc, kind, name, unit, text)
     }
 
-    /// Returns a handle of a counter, which begins at 0 where there is none. Labels in another order name the same series.
+    /// Returns a handle of a counter, which begins at 0 if it is new. Labels in another order name the same series.
     ///
     /// An update is one atomic instruction. An increment by 0 is no activity. A handle keeps its series, as long as it is kept:
     /// some 200 bytes and the key's texts.
@@ -128,10 +128,10 @@ impl Collector {
         Ok(registry.get_or_create_counter(rt, key, |cell: &CounterHandle| cell.clone())??)
     }
 
-    /// Adds to a counter of which no handle is kept, and which begins at 0 where there is none.
+    /// Adds to a counter without keeping a handle. A new counter begins at 0.
     ///
-    /// It looks the key up, where a handle's update doesn't. It fails with `Error::Memory` where the series is new, or where the
-    /// key's labels aren't in order.
+    /// It looks the key up, which a handle's update doesn't. It fails with `Error::Memory` only if the series is new, or if
+    /// the key's labels aren't in order.
     pub fn increment<W: Wait>(&self, rt: &W, key: &Key, value: u64) -> Result<(), Error> {
         if self.labels.is_empty() && key.labels().len() < 2 {
             return self.increment_kept(rt, key, value);
@@ -147,10 +147,10 @@ impl Collector {
         })
     }
 
-    /// Returns a handle of a gauge, which begins at 0 where there is none. Labels in another order name the same series.
+    /// Returns a handle of a gauge, which begins at 0 if it is new. Labels in another order name the same series.
     ///
-    /// Each update is activity, also one that leaves the value as it is. A handle keeps its series, as long as it is kept: some
-    /// 250 bytes and the key's texts.
+    /// Each update is activity, even one that leaves the value as it is. A handle keeps its series, as long as it is kept:
+    /// some 250 bytes and the key's texts.
     pub fn gauge<W: Wait>(&self, rt: &W, key: &Key) -> Result<GaugeHandle, Error> {
         let kept = kept_key(self.alloc, key, &self.labels)?;
         let key = kept.as_ref().unwrap_or(key);
@@ -158,7 +158,7 @@ impl Collector {
         Ok(registry.get_or_create_gauge(rt, key, |cell: &GaugeHandle| cell.clone())??)
     }
 
-    /// Returns a handle of a histogram, which begins without samples where there is none. Labels in another order name the same
+    /// Returns a handle of a histogram, which begins without samples if it is new. Labels in another order name the same
     /// series.
     ///
     /// Each sample is activity. Ask for a handle in each thread: those of one histogram seldom wait for each other. A handle
@@ -187,14 +187,15 @@ impl Collector {
         }
     }
 
-    /// Reads each cell once. Series that are idle aren't among those gathered, and leave where no thread has a handle.
+    /// Reads each cell once, and returns the series in use. An idle series is removed if no thread has a handle.
     ///
-    /// Shards are read side by side with threads that ask for handles. Only where an idle series leaves, each shard is locked for
-    /// a moment. Threads with handles never wait for it, but for one that records into the part of a histogram that is read.
+    /// Shards are read while other threads ask for handles. Only if an idle series is removed is each shard locked for a
+    /// moment. Threads with handles never wait for it, except one that records into the part of a histogram that is being
+    /// read.
     ///
     /// # Errors
     ///
-    /// `Error::Memory`, and `Error::CountFull` where a histogram has more than 2^64 - 1 samples.
+    /// `Error::Memory`, and `Error::CountFull` if a histogram has more than 2^64 - 1 samples.
     pub fn gather<W: Wait>(&self, rt: &W, alloc: Global, now: u64) -> Result<Gathered, Error>
         ensures { IfErr result IsUnread }
     {
@@ -234,7 +235,7 @@ impl Collector {
     ///
     /// # Errors
     ///
-    /// Those of `gather`. What it met is then shown by the next one, also if that comes after the timeout.
+    /// Those of `gather`. The next one then shows what this one found, even if it comes after the timeout.
     pub fn render<W: Wait>(&self, rt: &W, alloc: Global, now: u64) -> Result<String, Error>
         ensures text { IfOk result (λ text. (legend : Legend) × (gathered : GatheredParts) × (kept : List Told)
             × AreOnce (all_gathered gathered) kept × AreOfKinds (cells_told kept)

@@ -64,7 +64,7 @@ impl GatheredSeries {
     }
 }
 
-/// All series by reference.
+/// Returns all series by reference.
 fn readings(alloc: Global, series: &[GatheredSeries]) -> Result<Vec<SeriesReading<'_>>, AllocError>
     ensures told { IfOk result (λ all. all_told all.items ≡ gathered_told series.now) }
     ensures kinds { IfOk result (λ all. AllByRecursion IsOfKind (all_told all.items)) }
@@ -77,7 +77,7 @@ fn readings(alloc: Global, series: &[GatheredSeries]) -> Result<Vec<SeriesReadin
 }
 
 impl Gathered {
-    /// Writes the series in Prometheus's text exposition format, each name behind its description. The naming decides names and
+    /// Writes the series in Prometheus's text exposition format, each name after its description. The naming decides names and
     /// units.
     pub fn text(
         &self,

@@ -10,7 +10,7 @@ ghost use Rattle.metrics_collector.specs.Labelling.{new_among, AreOrdered, IsKep
 use metrics::{Error, Key, Label};
 use std::alloc::Global;
 
-/// Whether a label has this name.
+/// Returns whether a label has this name.
 fn has_name(labels: &[Label], name: &str) -> bool
     ensures { result ≡ list_any (λ m. bytes_eq m.0 name.now) labels.now }
 {
@@ -51,7 +51,7 @@ fn add_new(
     Ok(all)
 }
 
-/// Copies of labels.
+/// Returns copies of labels.
 fn copies(alloc: Global, labels: &[Label]) -> Result<Vec<Label>, Error>
     ensures ok { IfOk result (λ all. all.items ≡ labels.now) }
     ensures err { IfErr result (λ e. e ≡ OutOfMemory) }
@@ -63,12 +63,12 @@ fn copies(alloc: Global, labels: &[Label]) -> Result<Vec<Label>, Error>
     Ok(all)
 }
 
-/// Takes nothing and does nothing: its contract says what the order of labels is.
+/// Does nothing: its contract says what the order of labels is.
 fn label_order()
     ensures { (a b : LabelParts) → ⟦<Label as Ord>⟧.cmp a b ≡ label_cmp a b }
 {}
 
-/// Whether a label comes before another.
+/// Returns whether a label comes before another.
 fn is_before(label: &Label, other: &Label) -> bool
     ensures { result ≡ is_lt (label_cmp label.now other.now) }
 {
@@ -76,7 +76,7 @@ fn is_before(label: &Label, other: &Label) -> bool
     label.cmp(other).is_lt()
 }
 
-/// Whether labels are in order.
+/// Returns whether labels are in order.
 fn are_sorted(labels: &[Label]) -> bool
     ensures { IsTrue result → IsSorted label_cmp labels.now }
 {
@@ -88,7 +88,7 @@ fn are_sorted(labels: &[Label]) -> bool
     true
 }
 
-/// Puts labels in order.
+/// Sorts labels.
 fn sort_labels(labels: &mut Vec<Label>)
     ensures { AreOrdered labels.old.items labels.new.items }
 {
@@ -96,8 +96,8 @@ fn sort_labels(labels: &mut Vec<Label>)
     labels.sort_unstable();
 }
 
-/// The key under which a collector with these labels keeps the series, and `None` where it is the key itself. That takes no
-/// memory.
+/// Returns the key under which a collector with these labels keeps the series, or `None` if it is the key itself. `None` needs
+/// no memory.
 pub(crate) fn kept_key(alloc: Global, key: &Key, more: &[Label]) -> Result<Option<Key>, Error>
     ensures ok { IfOk result (λ found. MatchOption found (IsKept more.now key.now key.now) (IsKept more.now key.now)) }
     ensures err { IfErr result (λ e. e ≡ OutOfMemory) }

@@ -25,7 +25,7 @@ pub(crate) struct Parts {
     others: Vec<OnceBox<Part>>,
 }
 
-/// Places for so many parts.
+/// Makes places for this many parts.
 fn places(alloc: Global, count: usize) -> Result<Vec<OnceBox<Part>>, AllocError> {
     let mut places = Vec::with_capacity(alloc, count)?;
     for _ in 0..count {
@@ -46,7 +46,7 @@ fn add(total: &mut Histogram, part: &Histogram) -> Result<(), Error>
 }
 
 impl Parts {
-    /// Makes a histogram of up to so many parts, of which the first one is there at once.
+    /// Makes a histogram of a first part, which is there at once, and up to `others` further ones.
     pub fn new(alloc: Global, empty: Histogram, others: usize) -> Result<Parts, AllocError> {
         let others = places(alloc, others)?;
         Ok(Parts {
@@ -57,13 +57,13 @@ impl Parts {
         })
     }
 
-    /// The place of a new handle's part: that of the first part for the first handle, and then each in turn.
+    /// Returns the place of a new handle's part: that of the first part for the first handle, and then each in turn.
     pub fn next_place(&self) -> usize {
         let given = self.given.fetch_add(1, Ordering::SeqCst);
         self.others.len() - given % (self.others.len() + 1)
     }
 
-    /// A part without samples.
+    /// Makes a part without samples.
     fn new_part<W: Wait>(&self, rt: &W) -> Result<Box<Part>, Error> {
         let empty = Histogram::new(self.alloc, self.first.lock(rt).bounds())?;
         let Some(empty) = empty else {
@@ -72,7 +72,7 @@ impl Parts {
         Ok(Box::new(self.alloc, CachePadded::new(Mutex::new(empty)))?)
     }
 
-    /// The part at a place, which is made here unless another thread is first. Without memory it is the first part.
+    /// Returns the part at a place, and makes it unless another thread is first. Out of memory, it returns the first part.
     #[cold]
     fn make<'a, W: Wait>(&'a self, rt: &W, place: &'a OnceBox<Part>) -> &'a Part {
         match place.get_or_try_init(|| self.new_part(rt)) {
@@ -81,7 +81,7 @@ impl Parts {
         }
     }
 
-    /// The part at a place, and the first part behind the last place.
+    /// Returns the part at a place, or the first part after the last place.
     fn at<W: Wait>(&self, rt: &W, place: usize) -> &Part {
         let Some(place) = self.others.get(place) else {
             return &self.first;
@@ -97,7 +97,7 @@ impl Parts {
         self.at(rt, place).lock(rt).record(sample)
     }
 
-    /// The number of samples in all parts, modulo 2^64.
+    /// Returns the number of samples in all parts, modulo 2^64.
     pub fn count<W: Wait>(&self, rt: &W) -> u64 {
         let mut count = self.first.lock(rt).count();
         for place in &self.others {
@@ -108,7 +108,7 @@ impl Parts {
         count
     }
 
-    /// The samples of all parts, of which one at a time is locked.
+    /// Returns the samples of all parts. It locks one part at a time.
     pub fn read<W: Wait>(&self, rt: &W) -> Result<Histogram, Error> {
         let mut total = self.first.lock(rt).clone()?;
         for place in &self.others {

@@ -19,14 +19,14 @@ pub(crate) enum Fate {
     Shown,
     /// It isn't shown until it changes: it is idle, but some thread has a handle.
     Hidden,
-    /// It is to leave: it is idle, and no thread has a handle.
+    /// It is to be removed: it is idle, and no thread has a handle.
     Gone,
 }
 
 ghost use Rattle.metrics_collector.specs.Fates.{fate_of};
 ghost use Rattle.metrics_collector.specs.declared.walk.Fate.TheVariants.{Gone as GoneAway};
 
-/// One check of a series.
+/// Checks a series once.
 pub(crate) fn look(
     recency: &mut OwnedRecency<Key>,
     kind: MetricKind,
@@ -49,7 +49,7 @@ pub(crate) fn look(
     Ok(Fate::Gone)
 }
 
-/// Whether a series stays. One that leaves is forgotten; one that can't be noted stays.
+/// Returns whether a series stays. One that is removed is forgotten; one that can't be noted stays.
 pub(crate) fn stays(
     recency: &mut OwnedRecency<Key>,
     kind: MetricKind,
@@ -75,18 +75,18 @@ pub(crate) fn stays(
     }
 }
 
-/// Forgets series that were gathered for a text which nobody saw, so that the next reading meets them as new ones.
+/// Forgets series that were gathered for a text that nobody saw, so that the next reading finds them new.
 pub(crate) fn forget_all(recency: &mut OwnedRecency<Key>, series: &[GatheredSeries]) {
     for one in series {
         recency.forget(one.reading().reading.kind(), &one.key);
     }
 }
 
-/// A walk over the cells at one moment. A first pass gathers what is shown, while others may use the registry; only where it
-/// met something that is to leave, a second one, which has each shard for itself, decides again and lets it go.
+/// A walk over the cells at one moment. A first pass gathers what is shown, while others may use the registry. Only if it
+/// found something to remove, a second pass, which has each shard for itself, decides again and removes it.
 ///
-/// Clones are looked for before the generation is read: where there are none, and the shard is locked, no thread can raise it.
-/// The value is read last, so that it has each change that the generation counts.
+/// It looks for clones before it reads the generation: if there are none, and the shard is locked, no thread can raise it. It
+/// reads the value last, so that it has each change that the generation counts.
 #[derive(Drop)]
 pub(crate) struct Walk {
     pub now: u64,
@@ -94,12 +94,12 @@ pub(crate) struct Walk {
     pub series: Vec<GatheredSeries>,
     /// Why the walk gathers no more.
     pub refused: Option<Error>,
-    /// The series that are to leave.
+    /// The series to remove.
     pub gone: PerKind<HashSet<Key>>,
 }
 
 impl Walk {
-    /// Whether a series is shown.
+    /// Returns whether a series is shown.
     fn is_shown(
         &mut self,
         kind: MetricKind,
@@ -148,7 +148,7 @@ impl Walk {
         }
     }
 
-    /// Whether a series stays in the registry, whose shard no other thread has meanwhile.
+    /// Returns whether a series stays in the registry. No other thread has its shard meanwhile.
     pub fn stays<W: Wait, C: Watched>(&mut self, rt: &W, key: &Key, cell: &C) -> bool {
         let kind = C::kind();
         if !self.gone.of(kind).contains(key) {
