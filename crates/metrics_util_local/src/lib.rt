@@ -1,5 +1,5 @@
-//! What of the toolbox asks for no handle, by the Rust crate's modules: nothing here waits or starts a thread. It has no
-//! function of its own.
+//! The part of the toolbox that needs no handles, by the Rust crate's modules: nothing here waits or starts a thread. It has
+//! no function of its own.
 #![tactic(auto)]
 
 /// A book in memory.
