@@ -1,5 +1,5 @@
-//! What tests share that look at the state after a refusal: the marks between which memory may be refused, and what is
-//! expected then.
+//! What tests share that look at the state after a failed allocation: the marks between which allocations may fail, and what
+//! is expected then.
 #![tactic(auto)]
 
 ghost use Rattle.std.specs.Prelude.{◌≡◌, ◌↔◌, ℕ, ◌+◌, ◌-◌, ◌^◌, min};
@@ -13,13 +13,13 @@ use std::alloc::Global;
 /// What went wrong.
 pub type Wrong = &'static str;
 
-/// A request of this size tells the library that refuses memory that it counts requests from here on. It is never met.
+/// A request of this size makes the library that fails allocations count requests from here on. It never succeeds.
 const COUNTS_FROM_HERE: usize = 1_000_000_000_007;
 
-/// The same, that it counts none from here on.
+/// The same, but it counts none from here on.
 const COUNTS_TO_HERE: usize = 1_000_000_000_039;
 
-/// A test that goes on after a refusal: how many of its calls were refused for memory.
+/// A test that goes on after a failure: how many of its calls ran out of memory.
 #[derive(Drop)]
 pub struct Trial {
     pub alloc: Global,
@@ -32,23 +32,24 @@ fn mark(alloc: Global, size: usize) {
 }
 
 impl Trial {
+    /// Makes a trial without failures.
     pub fn new(alloc: Global) -> Trial
         ensures { result ≡ record { alloc = alloc; refusals = 0 } }
     {
         Trial { alloc, refusals: 0 }
     }
 
-    /// From here on memory may be refused.
+    /// Lets allocations fail from here on.
     pub fn begin(&self) {
         mark(self.alloc, COUNTS_FROM_HERE);
     }
 
-    /// From here on none is refused.
+    /// Lets no allocation fail from here on.
     pub fn calm(&self) {
         mark(self.alloc, COUNTS_TO_HERE);
     }
 
-    /// Notes a refusal. Any other than one for memory is wrong.
+    /// Notes a failure. Any other than out of memory is wrong.
     pub fn note(&mut self, error: Error) -> Result<(), Wrong>
         ensures counted { self.new ≡ record self.old { refusals = min (self.old.refusals + 1) (2 ^ 64 - 1) } }
         ensures memory { IsOk result ↔ (error ≡ OutOfMemory) }
@@ -57,7 +58,7 @@ impl Trial {
         expect(error == Error::Memory, "another refusal than memory")
     }
 
-    /// Notes the refusal of a call that acted on nothing.
+    /// Notes the failure of a call that acted on nothing.
     pub fn note_refused(&mut self, refused: Refused) -> Result<(), Wrong>
         ensures counted { self.new ≡ record self.old { refusals = min (self.old.refusals + 1) (2 ^ 64 - 1) } }
         ensures memory { IsOk result ↔ (refused ≡ MemoryRefused 0) }
@@ -70,13 +71,14 @@ impl Trial {
     }
 }
 
+/// Fails with `otherwise` if the condition doesn't hold.
 pub fn expect(holds: bool, otherwise: Wrong) -> Result<(), Wrong>
     ensures { IsOk result ↔ IsTrue holds }
 {
     if holds { Ok(()) } else { Err(otherwise) }
 }
 
-/// The answer of a call that has memory at hand.
+/// Returns the result of a call that has memory at hand, and so must not fail.
 pub fn done<T: Drop, E: Drop>(answer: Result<T, E>) -> Result<T, Wrong>
     ensures { MatchResult answer (λ v. result ≡ Ok v) (λ _. IsErr result) }
 {
@@ -86,7 +88,7 @@ pub fn done<T: Drop, E: Drop>(answer: Result<T, E>) -> Result<T, Wrong>
     }
 }
 
-/// What a call gives that is made while memory may be refused, and again with memory at hand where it was.
+/// Returns the result of a call made while allocations may fail, and again with memory at hand if it failed.
 pub fn made<T: Drop, F: Fn() -> Result<T, Error>>(trial: &mut Trial, make: &F) -> Result<T, Wrong>
     requires { F.IsAlwaysCallable make.now }
     ensures { IfOk result (λ v. F.post make.now (Ok v)) }
