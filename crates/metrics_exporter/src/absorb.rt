@@ -26,7 +26,7 @@ pub struct PartlyAbsorbed {
     pub samples: usize,
 }
 
-/// Lets `?` convert it to its error. That drops which part was absorbed.
+/// Lets `?` pass the error through. It no longer says which part was absorbed.
 impl From<PartlyAbsorbed> for Error {
     ghost from_gives = { λ part e. e ≡ part.error };
 
@@ -39,18 +39,18 @@ impl Exporter {
     ghost use Rattle.metrics_exporter.specs.Kept.{described};
 
     /// Absorbs a snapshot of a recorder's book, row by row, in their order. A row with a description describes its key's name,
-    /// with its unit, as `describe` does. Then the row updates the series of its key and of its value's kind. If its series was
-    /// active, a count is added, also 0, and a gauge is set, also to the value that it has. If it was idle, only a count other
-    /// than 0 is added. Each sample is recorded.
+    /// with its unit, as `describe` does. Then the row is an update of the series of its key and of its value's kind. If its
+    /// series was active, a count is added, even 0, and a gauge is set, even to the value that it has. If it was idle, only a
+    /// count other than 0 is added. Each sample is recorded.
     ///
     /// So a series stays for as long as it is registered or updated between snapshots, with any value, and `expire` removes an
     /// idle one once.
     ///
     /// Each book needs one reader: take its snapshots by `snapshot_with` and `Reset::KeepGauges`, and absorb each of them.
-    /// `snapshot` resets gauges too, so `absorb` sees a change and no level: a gauge that counts 5, 6, 7 is set to 5, 1, 1. A
-    /// snapshot that isn't absorbed loses its counts, samples and activity.
+    /// `snapshot` resets gauges too, so that `absorb` sees a change and no level: a gauge that counts 5, 6, 7 is set to 5, 1,
+    /// 1. Any snapshot that isn't absorbed takes away counts, samples and activity.
     ///
-    /// An error reports which part was absorbed; `absorb_from` continues from there.
+    /// An error says which part was absorbed; `absorb_from` goes on from there.
     pub fn absorb(&mut self, snapshot: &Snapshot) -> Result<(), PartlyAbsorbed>
         ensures absorbs { (active : List Bool) × ((setup : Setup) (log : Log) → IsAfter setup log self.old
             → Absorbs setup log (marked snapshot.now active) result self.new) }
@@ -60,10 +60,10 @@ impl Exporter {
         absorb_rows(self, snapshot.as_slice(), snapshot.activity())
     }
 
-    /// Continues with a snapshot of which a part was absorbed, and absorbs the rest of it as `absorb` does. It repeats the
-    /// description of the row in which it stopped.
+    /// Goes on with a snapshot of which a part was absorbed, and absorbs the rest of it as `absorb` does. The row in which it
+    /// stopped is described again.
     ///
-    /// An error reports which part was absorbed by all these calls. For a part after the last row it does nothing.
+    /// An error says which part was absorbed by all these calls. A part after the last row leaves nothing to do.
     pub fn absorb_from(
         &mut self,
         snapshot: &Snapshot,
@@ -81,7 +81,7 @@ impl Exporter {
 
 ghost use Rattle.metrics_exporter.specs.Kept.{described};
 
-/// Describes the name of a row, if the row has a description.
+/// Describes a row's name, if the row has a description.
 fn describe_row(
     on: &mut Exporter,
     series: &CompositeKey,
@@ -99,14 +99,14 @@ fn describe_row(
     }
 }
 
-/// The items after the first ones.
+/// Returns the items after the first ones.
 fn rest_of<T>(items: &[T], first: usize) -> &[T]
     ensures { result.now ≡ drop first items.now }
 {
     &items[first.min(items.len())..]
 }
 
-/// Whether a row's series was active.
+/// Returns whether a row's series was active.
 fn is_active(activity: &[bool], row: usize) -> bool
     ensures { result ≡ get_or activity.now row true }
 {
