@@ -190,7 +190,7 @@ pub fn answer_request<S: Surroundings>(
     }
 }
 
-/// Shows what is held, at the end of the input, where something changed since the last scrape. Nothing is idle then.
+/// Shows what is held, at the end of the input, where something changed since the last scrape. Nothing expires then.
 pub fn answer_end<S: Surroundings>(
     alloc: Global,
     on: &mut Served,
