@@ -185,7 +185,7 @@ impl<R: Recorder> Layer<R> for FilterLayer {
     }
 }
 
-/// A filter over a recorder: a name that is refused reaches no book.
+/// A filter over a recorder: a rejected name reaches no book.
 #[derive(Drop)]
 pub struct Filter<R> {
     patterns: SubstringSet,
