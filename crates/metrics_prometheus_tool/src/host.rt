@@ -1,4 +1,4 @@
-//! What stands around the program: the clock, standard error, and the file for scrapes.
+//! The surroundings of the program: the clock, standard error, and the file for scrapes.
 
 use std::fmt::Display;
 use std::rt::{Clock, Files};
@@ -9,11 +9,13 @@ use tool_prometheus::Surroundings;
 /// The runtime, and the path of the file for scrapes.
 #[derive(Drop)]
 pub struct Host<'a, R> {
+    /// The runtime.
     pub rt: &'a R,
+    /// The path of the file for scrapes, if there is one.
     pub path: Option<&'a str>,
 }
 
-/// Writes the text beside the file and renames it, so that no reader sees a part of it.
+/// Writes the text beside the file and renames it, so that readers see all of it or nothing.
 fn replace<R: AllocGlobal + Files>(rt: &R, path: &str, text: &str) -> io::Result<()> {
     let beside = format!(in rt.alloc(); "{path}.tmp")?;
     fs::write(rt, beside.as_str(), text)?;

@@ -12,7 +12,7 @@ use std::process::ExitCode;
 use std::{env, io};
 use tool_prometheus::{Options, command};
 
-/// Answers what standard input asks for.
+/// Answers standard input.
 fn serve(host: &HostRuntime, options: &Options, path: Option<&str>) -> io::Result<u8> {
     let mut input = BufReader::new(host.alloc(), host.reader())?;
     let mut output = io::writer(host);
@@ -29,7 +29,7 @@ fn tell(host: &HostRuntime, error: clap::Error) -> io::Result<u8> {
     Ok(if error.exit_code() == 0 { 0 } else { 2 })
 }
 
-/// The status of the whole program, or an error where there was no memory to begin with.
+/// The status of the whole program, or an error if memory ran out at its start.
 fn status(host: &HostRuntime) -> io::Result<u8> {
     let mut words: Vec<String> = Vec::new(host.alloc());
     for word in env::args(host)? {

@@ -27,7 +27,7 @@ The end of the input is a scrape, unless nothing changed since the last one.
 Status: 0 at the end of the input, 1 if memory or a device failed, 2 at a bad line or wrong words,
 3 if bad lines were passed over.";
 
-/// An option that takes a value.
+/// An option with a value.
 fn option<'a>(alloc: Global, name: &'a str, value: &'a str, help: &'a str) -> Arg<'a> {
     Arg::new(alloc, name)
         .long(name)
@@ -36,7 +36,7 @@ fn option<'a>(alloc: Global, name: &'a str, value: &'a str, help: &'a str) -> Ar
         .action(ArgAction::Set)
 }
 
-/// An option that takes none.
+/// An option without a value.
 fn flag<'a>(alloc: Global, name: &'a str, help: &'a str) -> Arg<'a> {
     Arg::new(alloc, name)
         .long(name)
@@ -44,7 +44,7 @@ fn flag<'a>(alloc: Global, name: &'a str, help: &'a str) -> Arg<'a> {
         .action(ArgAction::SetTrue)
 }
 
-/// The options that an exporter is made with.
+/// The options for making an exporter.
 fn with_plan<'a>(alloc: Global, command: Command<'a>) -> Result<Command<'a>, AllocError> {
     let idle = option(
         alloc,
@@ -131,7 +131,7 @@ fn bounds_of(alloc: Global, matches: &ArgMatches<'_>) -> Result<Items<i64>, Allo
     Ok(Items::from(bounds))
 }
 
-/// What an exporter is made with.
+/// How an exporter is to be made.
 fn plan_of(alloc: Global, matches: &ArgMatches<'_>) -> Result<ExportPlan, AllocError> {
     Ok(ExportPlan {
         shards: matches.get_one::<usize>("shards").unwrap_or(1),
@@ -145,7 +145,7 @@ fn plan_of(alloc: Global, matches: &ArgMatches<'_>) -> Result<ExportPlan, AllocE
     })
 }
 
-/// The names and units that are asked for.
+/// The requested names and units.
 fn naming_of(matches: &ArgMatches<'_>) -> Naming {
     if matches.get_flag("recommended-names") {
         Naming::Recommended
@@ -154,7 +154,7 @@ fn naming_of(matches: &ArgMatches<'_>) -> Naming {
     }
 }
 
-/// What the words ask for, and the path of the file for scrapes. The first word is the program's name.
+/// Returns what the words ask for, and the path of the file for scrapes. The first word is the program's name.
 pub fn options_of<'a>(
     alloc: Global,
     words: &'a [String],

@@ -1,5 +1,5 @@
-//! Reads a tree of recorders and then calls from standard input, makes each call on a real tree of books
-//! and prints the answers; or answers the lines of an exporter; or runs a storm and prints its totals.
+//! Reads a tree of recorders and then calls from standard input, makes each call on a real tree of books and prints the
+//! answers; or answers the lines of an exporter; or runs a storm and prints its totals.
 #![tactic(auto)]
 
 use std::io::BufReader;
@@ -9,8 +9,8 @@ use std::thread::Threads;
 use std::{env, io};
 use tool_lines::command;
 
-/// The status of the whole program, or an error where there was no memory to begin with. Both arguments are the runtime:
-/// `rt` starts threads and waits, `host` gives memory, words and streams.
+/// The status of the whole program, or an error if memory ran out at its start. Both arguments are the runtime: `rt`
+/// starts threads and waits, `host` provides memory, words and streams.
 fn status<R: Threads + Wait + Sync>(rt: &R, host: &HostRuntime) -> io::Result<u8> {
     let mut arguments: Vec<String> = Vec::new(host.alloc());
     match env::args(host) {
@@ -20,7 +20,7 @@ fn status<R: Threads + Wait + Sync>(rt: &R, host: &HostRuntime) -> io::Result<u8
             }
         }
         Err(e) => {
-            // A word that is no text is a wrong word, so none are passed on.
+            // A word that is no text is an invalid word, so none are passed on.
             if e.kind() != io::ErrorKind::InvalidData {
                 return Err(e);
             }

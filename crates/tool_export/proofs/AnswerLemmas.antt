@@ -58,7 +58,7 @@ module _ (old new : Exporter) (key : KeyParts) (by : Update) where
 
 -- ---- a scrape
 
--- an expiry and the text behind it
+-- an expiry and the text after it
 abbrev pub Scrapes : Exporter → Exporter → ℕ
     → (Setup → Log → List (Answered KeyParts) → Result ℕ Error → Type 0) → Type 0
 Scrapes old new now Shown = (setup : Setup) (log : Log) → IsAfter setup log old → (checks : List (Answered KeyParts))

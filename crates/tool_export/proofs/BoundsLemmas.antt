@@ -61,7 +61,7 @@ next_number rest (n ∷ m ∷ ns) h e = (n, h.1.0, inr (m ∷ ns, (omega arith, 
 
 -- ---- so far
 
--- numbers, a comma behind each
+-- numbers, a comma after each
 abbrev pub ended_numbers : List ℤ → List ℕ
 ended_numbers ns = flat_map (λ n. signed_decimal n ++ 44 ∷ []) ns
 
@@ -91,7 +91,7 @@ ended_push (m ∷ ns) n rest =
 
 module _ (word rest digits behind : List ℕ) (ns : List ℤ) (so : BoundsSoFar word rest ns)
     (cut : rest ≡ digits ++ 44 ∷ behind) (lacks : Lacks 44 digits) where
-  -- the number before the comma, and those behind it
+  -- the number before the comma, and those after it
   cut_numbers : (ms : List ℤ) → AreSamples ms → word ≡ samples_text ms → (n : ℤ) × FitsSigned w64 n
       × (digits ≡ signed_decimal n) × ((others : List ℤ) × AreSamples others × (behind ≡ samples_text others))
   cut_numbers ms h e =

@@ -1,4 +1,4 @@
--- Lines have one text at most, and each answer is the plain one where no text tells want of memory.
+-- Lines have at most one text, and each answer is the expected one if no text reports out of memory.
 use Rattle.std.proofs.Common.{◌≡◌, ℕ, List, [], ◌∷◌, ◌++◌, inl, inr, refl, sym, ◌∙◌, ap, subst, map, Ok}
 use Rattle.std.proofs.Common.{append_assoc, append-nil}
 use Rattle.std.specs.List.{AllByRecursion}

@@ -1,4 +1,4 @@
--- Words are those of one plan at most.
+-- Words are those of at most one plan.
 use Rattle.std.proofs.Common.{◌≡◌, ℕ, ℤ, pos, ◌<◌, ◌^◌, List, [], ◌∷◌, ◌++◌, refl, sym, ◌∙◌, ap, subst, arith, codes}
 use Rattle.std.proofs.Common.{decimal, FitsSigned, w64}
 use Rattle.std.specs.Prelude.{Bool, true, false, ◌==◌, Option, None, Some, IfSome, get_or}

@@ -32,7 +32,7 @@ lacks_amount (Subtract n) h = lacks_signed n h
 lacks_amount (Set n) h = lacks_signed n h
 lacks_amount (Record n) h = lacks_signed n h
 
--- these bytes behind this word are no update
+-- these bytes after this word are no update
 abbrev pub IsNoChange : List ℕ → List ℕ → Type 0
 IsNoChange word bytes = (key : KeyParts) (by : Update) → IsInRange by → IsName key.name → AreLabels key.labels
     → word ≡ update_word by →

@@ -110,7 +110,7 @@ exports setup at_end first old new read text (Err Device) after (es, more, found
       (sym (append-nil (lines_in es))) tt (sym is),
 )
 
--- a want of memory is told after a flush too
+-- out of memory is reported after a flush too
 pub flushed_memory : (r : Result ℕ RunError) → IsFlushed (Err (Memory None)) r → r ≡ Err (Memory None)
 flushed_memory r (inl is) = is
 flushed_memory r (inr (whole, is)) = absurd whole

@@ -1,4 +1,4 @@
--- A line spells one request at most.
+-- A line spells at most one request.
 use Rattle.std.proofs.Common.{◌≡◌, ℕ, List, ◌∷◌, ◌++◌, refl, sym, ap, arith, codes, decimal}
 use Rattle.std.proofs.lemmas.Fmt.{decimal_injective}
 use Rattle.metrics.specs.declared.handles.Update.{Update}

@@ -1,4 +1,4 @@
--- What the lines of an exporter are answered.
+-- The answers to the lines of an exporter.
 use Rattle.std.specs.Prelude.{◌≡◌, ◌≢◌, ℕ, ◌==◌, List, [], ◌∷◌, ◌++◌, codes, decimal, ◌⊎◌}
 use Rattle.std.specs.Prelude.{Result, Ok, Err, None, map, flat_map}
 use Rattle.std.specs.List.{count_by, AllByRecursion}
@@ -25,14 +25,14 @@ number_of_lines text = count_by (λ x. x == 10) text
 abbrev pub scrape_text : ℕ → List ℕ → List ℕ
 scrape_text now series = codes "scrape " ++ (decimal now ++ (32 ∷ (decimal (number_of_lines series) ++ (10 ∷ series))))
 
--- want of memory
+-- out of memory
 abbrev pub want_text : List ℕ
 want_text = codes "refused E1 memory\n"
 
 abbrev pub done_text : List ℕ
 done_text = codes "ok\n"
 
--- a count of samples that can't take one more
+-- a count of samples that is full
 abbrev pub full_text : List ℕ
 full_text = codes "refused E8 count full\n"
 
@@ -47,8 +47,9 @@ update_text (Err e) = want_text
 abbrev pub IsShown : Cells → Result ℕ Error → List ℕ → Type 0
 IsShown cells answer series = (n : ℕ) × (answer ≡ Ok n) × IsText cells series
 
--- The plain answer to a request after a list of calls: the call, as it goes into the list with its answer, and its text. An
--- update is made, or refused where the count of its samples is full; a scrape is an expiry, and then the text of the series.
+-- The expected answer to a request after a list of calls: the call, as it is added to the list with its answer, and its
+-- text. An update is made, or fails if the count of its samples is full; a scrape is an expiry, and then the text of
+-- the series.
 abbrev pub IsPlain : Setup → Log → Request → Event → List ℕ → Type 0
 IsPlain setup log (Change key by) event text =
     ((event ≡ updates key by (Ok tt)) × (text ≡ done_text) × (IsFull (steps log) key by → ⊥))
@@ -57,13 +58,13 @@ IsPlain setup log (Scrape now) event text = (checks : List (Answered KeyParts)) 
     × (event ≡ expires now checks (Ok n)) × IsExpiry setup (steps log) now checks (Ok n)
     × IsText (cells_after setup (steps (log ++ event ∷ []))) series × (text ≡ scrape_text now series)
 
--- Some series is held where a scrape is refused: before its expiry, if that is refused, and else after it.
+-- Some series is held if a scrape fails: before its expiry, if that fails, and otherwise after it.
 abbrev pub HoldsAtRefusal : Setup → Log → Event → Result ℕ Error → Type 0
 HoldsAtRefusal setup log event (Ok n) = HoldsSome (cells_after setup (steps (log ++ event ∷ [])))
 HoldsAtRefusal setup log event (Err e) = HoldsSome (cells_after setup (steps log))
 
--- Want of memory: an update that would make its series and changes nothing, or a scrape that found some series. Its expiry made
--- all its checks or a front of them.
+-- Out of memory: an update that would make its series and changes nothing, or a scrape that found some series. Its
+-- expiry made all its checks or the first n of them.
 abbrev pub IsWant : Setup → Log → Request → Event → List ℕ → Type 0
 IsWant setup log (Change key by) event text =
     (event ≡ updates key by (Err Memory)) × (text ≡ want_text) × (cells_after setup (steps log) (series_of key by) ≡ None)
@@ -103,7 +104,7 @@ abbrev pub AreAnswered : (Setup → Log → Request → Event → List ℕ → T
 AreAnswered Is setup log [] = Unit {0}
 AreAnswered Is setup log (x ∷ xs) = Is setup log x.request x.event x.text × AreAnswered Is setup (log ++ x.event ∷ []) xs
 
--- no line was answered with want of memory
+-- no line's answer is out of memory
 abbrev pub LacksWant : List Exchange → Type 0
 LacksWant xs = AllByRecursion (λ x. x.text ≢ want_text) xs
 
@@ -118,7 +119,8 @@ IsStop (l ∷ ls) = IsBad l
 abbrev pub AreLines : List (List ℕ) → List Request → Type 0
 AreLines ls requests = AllByRecursion CanBeSpelled requests × (ls ≡ map spelling requests)
 
--- What lines print: those up to the end or the first bad one are answered plainly by an exporter that begins without series.
+-- What lines print: those up to the end or the first bad one get their expected answers from an exporter that begins
+-- without series.
 pub record IsExported (setup : Setup) (ls : List (List ℕ)) (text : List ℕ) : Type 0 where
   pub exchanges : List Exchange
   pub front : List (List ℕ)

@@ -24,8 +24,8 @@ IsExportRun at_end first old new read text r = IsRun answers IsBad at_end first 
 abbrev pub log_of : List Exchange → Log
 log_of xs = map (λ x. x.event) xs
 
--- The first lines of all were answered, each plainly or by want of memory, and the exporter stands as after their calls. Where
--- no line was answered with want of memory, the text is just what all the lines print.
+-- The first lines of all were answered, each as expected or as out of memory, and the exporter is as after their calls.
+-- If no line's answer is out of memory, the text is just what all the lines print.
 pub record IsSession (setup : Setup) (new : Exporter) (first all : List (List ℕ)) (text : List ℕ) : Type 0 where
   pub exchanges : List Exchange
   pub spelled : AreLines first (requests_in exchanges)
@@ -49,7 +49,7 @@ Exports setup at_end first new read text (Err (BadLine k)) = (ls : List (List �
     × AreFirst at_end read (ls ++ bad ∷ []) × (lines_of read ≡ ls ++ bad ∷ []) × IsBad bad
     × IsSession setup new ls (lines_of read) text
     × (k ≡ capped (first + length ls))
--- each line before the one at which memory was wanted
+-- each line before the one at which memory ran out
 Exports setup at_end first new read text (Err (Memory (Some k))) = (ls : List (List ℕ))
     × AreFirst at_end read ls × IsSession setup new ls ls text × (k ≡ capped (first + length ls))
 -- a beginning

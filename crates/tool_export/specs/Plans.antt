@@ -1,4 +1,4 @@
--- What the words behind `export` ask for.
+-- The plan that the words after `export` describe.
 use Rattle.std.specs.Prelude.{if◌then◌else◌, ◌≡◌, ℕ, ◌<◌, ◌^◌, ℤ, Bool, true, List, [], ◌∷◌}
 use Rattle.std.specs.Prelude.{◌++◌, codes, decimal, length, Option, None, Some, IfSome, FitsSigned}
 use Rattle.std.specs.Int.{w64}
@@ -18,7 +18,7 @@ watches w Counter = w.counters
 watches w Gauge = w.gauges
 watches w Histogram = w.histograms
 
--- what the exporter of a plan is made with
+-- how the exporter of a plan is made
 abbrev pub setup_of : ExportPlan → Setup
 setup_of plan = record { bounds = plan.bounds; rules = record { timeout = plan.idle_timeout; mask = watches plan.watched } }
 

@@ -19,8 +19,8 @@ fn update_text(answered: Result<(), Error>) -> &'static str
     }
 }
 
-/// Makes the call that is asked for, and appends its text. An error is want of memory for the text: the call is made then
-/// too, and what `text` holds is left open.
+/// Makes the requested call and appends its text. Fails only without memory for the text: the call is still made, and
+/// the content of `text` is unspecified.
 pub fn answer_request(
     on: &mut Exporter,
     request: &Request,

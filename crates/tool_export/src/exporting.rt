@@ -48,10 +48,10 @@ impl LineMachine for ExportLines {
     }
 }
 
-/// Answers each line that the reader gives, on the exporter, up to the end or the first fault, and flushes the writer. The
-/// first line has the number `first`. Answers are out before the reader waits for more input.
+/// Answers each line of the reader on the exporter, up to the end or the first fault, and flushes the writer. The first
+/// line has the number `first`. Answers are written before the reader waits for more input.
 ///
-/// The answer is how many lines were answered; it and the numbers of lines stop at `u64::MAX`.
+/// Returns how many lines were answered; it and the numbers of lines saturate at `u64::MAX`.
 pub fn export<I: BufRead, O: Write>(
     alloc: Global,
     on: &mut Exporter,
@@ -64,8 +64,8 @@ pub fn export<I: BufRead, O: Write>(
         × Appends (O.contents output.old) (O.contents output.new) text
         × IsExportRun (OnSome (I.remaining input.old) (IsAtEnd (I.remaining input.new)))
         first on.old on.new read text result }
-    // On an exporter after no calls: where no line was answered with want of memory, the text is just what the lines print, or
-    // a beginning of it where memory or the device failed.
+    // On an exporter after no calls: if no line's answer is out of memory, the text is just what the lines print, or a
+    // beginning of it if memory or the device failed.
     ensures exact { (setup : Setup) → IsAfter setup [] on.old → (read text : List ℕ)
         × Consumes (I.remaining input.old) (I.remaining input.new) read
         × Appends (O.contents output.old) (O.contents output.new) text
@@ -75,7 +75,7 @@ pub fn export<I: BufRead, O: Write>(
     run_lines::<ExportLines, I, O>(alloc, on, &mut notes, input, output, first)
 }
 
-/// A new exporter with what the plan asks for. For the plans of `plan_of` an error is want of memory.
+/// Returns a new exporter as the plan describes it. For the plans of `plan_of` the only error is out of memory.
 pub fn exporter_of(alloc: Global, plan: &ExportPlan) -> Result<Exporter, Error>
     ensures made { IfOk result (IsAfter (setup_of plan.now) []) }
     ensures shards { IfOk result (λ e. e.registry.count ≡ plan.now.shards) }
@@ -91,8 +91,8 @@ pub fn exporter_of(alloc: Global, plan: &ExportPlan) -> Result<Exporter, Error>
     )
 }
 
-/// Makes an exporter, and answers each line that the reader gives, from line 1 on. Where none can be made, nothing is read,
-/// and the error is want of memory; that comes of memory alone for the plans of `plan_of`.
+/// Makes an exporter, and answers each line of the reader, from line 1 on. If none can be made, it reads nothing and
+/// fails with out of memory, which is the only cause for the plans of `plan_of`.
 pub fn export_new<I: BufRead, O: Write>(
     alloc: Global,
     plan: &ExportPlan,

@@ -9,13 +9,13 @@ ghost use Rattle.tool_export.specs.Plans.{IsAllowed, plan_words};
 
 use metrics_exporter::exporter_law;
 
-/// Takes nothing and does nothing: its contract has the laws of what lines print.
+/// Does nothing: its contract states the laws of what lines print.
 pub fn export_law()
-    // A line spells one request at most.
+    // A line spells at most one request.
     ensures request { (line : List ℕ) (r s : Request) → Spells line r → Spells line s → r ≡ s }
-    // Words are those of one plan at most.
+    // Words are those of at most one plan.
     ensures plan { (a b : Plan) → IsAllowed a → IsAllowed b → plan_words a ≡ plan_words b → a ≡ b }
-    // Lines print one text at most.
+    // Lines print at most one text.
     ensures one { (setup : Setup) (ls : List (List ℕ)) (a b : List ℕ) → IsExported setup ls a → IsExported setup ls b
         → a ≡ b }
     // The text of the first lines begins the text of all.

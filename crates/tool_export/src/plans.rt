@@ -1,4 +1,4 @@
-//! What the words behind `export` ask for.
+//! The plan that the words after `export` describe.
 ghost use Rattle.std.specs.Prelude.{◌≡◌, ℕ, ℤ, List, [], ◌∷◌, ◌<◌, ◌^◌, Option as Maybe, IfSome};
 ghost use Rattle.std.specs.Prelude.{true, false, MatchResult, MatchOption, decimal, if◌then◌else◌};
 ghost use Rattle.metrics_registry.specs.Held.{is_shard_count as is_count};
@@ -17,16 +17,22 @@ use tool_grammar::{number_of, signed_number_of, split_at_first};
 /// The kinds whose series may be removed.
 #[derive(Clone, Copy)]
 pub struct Watched {
+    /// Counters may.
     pub counters: bool,
+    /// Gauges may.
     pub gauges: bool,
+    /// Histograms may.
     pub histograms: bool,
 }
 
-/// What an exporter is to be made with.
+/// How an exporter is to be made.
 #[derive(Drop)]
 pub struct ExportPlan {
+    /// The shards of the registry.
     pub shards: usize,
+    /// The kinds whose series may be idle.
     pub watched: Watched,
+    /// The longest time that a series may be idle, or none.
     pub idle_timeout: Option<u64>,
     /// In the order of the command line.
     pub bounds: Items<i64>,
@@ -61,7 +67,7 @@ fn only_if(is_there: bool, mask: MetricKindMask) -> MetricKindMask
     if is_there { mask } else { MetricKindMask::NONE }
 }
 
-/// The mask of these kinds.
+/// Returns the mask of these kinds.
 pub fn mask_from(watched: Watched) -> MetricKindMask
     ensures { (kind : Kind) → mask_has kind result ≡ watches watched kind }
 {
@@ -83,7 +89,7 @@ fn timeout_of(word: &[u8]) -> Option<Option<u64>>
     Some(Some(timeout))
 }
 
-/// Numbers with a comma between two, one at least.
+/// At least one number, with a comma between two.
 fn bounds_of(alloc: Global, word: &[u8]) -> Result<Option<Vec<i64>>, AllocError>
     ensures { MatchResult result (λ found. MatchOption found
         ((ns : List ℤ) → AreSamples ns → word.now ≡ samples_text ns → ⊥)
@@ -105,7 +111,7 @@ fn bounds_of(alloc: Global, word: &[u8]) -> Result<Option<Vec<i64>>, AllocError>
     Ok(Some(bounds))
 }
 
-/// Whether a word is numbers with a comma between two, one at least.
+/// Whether a word is at least one number, with a comma between two.
 fn are_bounds(word: &[u8]) -> bool
     ensures are { result ≡ true → (ns : List ℤ) × AreSamples ns × (word.now ≡ samples_text ns) }
     ensures not_are { result ≡ false → (ns : List ℤ) → AreSamples ns → word.now ≡ samples_text ns → ⊥ }
@@ -136,8 +142,8 @@ fn shards_of(word: &[u8]) -> Option<usize>
     }
 }
 
-/// What the words S, M, T and B ask for: shards, the kinds whose series may be idle, the timeout, and the bounds of histograms.
-/// An error is want of memory for the bounds, where the words ask for an exporter.
+/// Returns the plan of the words S, M, T and B: shards, the kinds whose series may be idle, the timeout, and the bounds
+/// of histograms. Fails only without memory for the bounds, and only if the words describe an exporter.
 pub fn plan_of(
     alloc: Global,
     shards: &str,

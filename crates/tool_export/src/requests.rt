@@ -10,7 +10,7 @@ use metrics::{Key, Refused, Update};
 use std::alloc::Global;
 use tool_grammar::{key_of, number_of, split_at_first, update_of};
 
-/// What a line asks for.
+/// The request of a line.
 #[derive(Debug, Drop)]
 pub enum Request {
     /// An update of a series.
@@ -19,7 +19,7 @@ pub enum Request {
     Scrape(u64),
 }
 
-/// The update of a line, from its first word and the bytes behind it.
+/// The update of a line, from its first word and the bytes after it.
 fn change_of(alloc: Global, word: &[u8], bytes: &[u8]) -> Result<Option<Request>, Refused>
     ensures { MatchResult result (λ found. MatchOption found
         ((key : KeyParts) (by : Change) → IsInRange by → IsName key.name → AreLabels key.labels
@@ -39,7 +39,7 @@ fn change_of(alloc: Global, word: &[u8], bytes: &[u8]) -> Result<Option<Request>
     }
 }
 
-/// What a line asks for, if it spells a request. An error is want of memory.
+/// Returns the request that a line spells, if it spells one. Fails only when out of memory.
 pub fn request_of(alloc: Global, line: &[u8]) -> Result<Option<Request>, Refused>
     ensures { MatchResult result (λ found. MatchOption found (IsBad line.now) (Spells line.now)) (λ e. e ≡ Memory 0) }
 {

@@ -34,7 +34,7 @@ pub fn write_scrape(now: u64, series: &str, text: &mut String) -> Result<(), All
     text.push_str(series)
 }
 
-/// Removes what is idle at the moment, and gives the text of the series that are left. It is never refused where none is held.
+/// Removes the series idle at this moment, and returns the text of the rest. Never fails if no series is held.
 pub fn series_at(on: &mut Exporter, now: u64) -> Result<String, Error>
     ensures { (setup : Setup) (log : Log) → IsAfter setup log on.old → (checks : List (Answered KeyParts))
         × (answer : Result ℕ Refusal) × IsExpiry setup (steps log) now checks answer

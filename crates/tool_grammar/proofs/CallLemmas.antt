@@ -1,4 +1,4 @@
--- A line spells one call at most.
+-- A line spells at most one call.
 use Rattle.std.proofs.Common.{◌≡◌, ℕ, ◌<◌, ◌^◌, List, [], ◌∷◌, ◌++◌, codes, decimal, Option, Some, None, ℤ, pos, negsuc, FitsSigned, refl, sym, ap, ◌∙◌, get_or, arith}
 use lib.Signed.{mag}
 use Rattle.std.specs.Int.{w64}
@@ -170,7 +170,7 @@ labels_same (l ∷ ls) (k ∷ ks) h g e =
     let both = before_same 32 (l.0 ++ 61 ∷ l.1) (k.0 ++ 61 ∷ k.1) (label_words ls) (label_words ks) (lacks_label l h.0) (lacks_label k g.0) (starts_labels ls) (starts_labels ks) tail in
     ap (λ z. z ∷ ls) (label_same l k h.0 g.0 both.0) ∙ ap (λ zs. k ∷ zs) (labels_same ls ks h.1 g.1 both.1)
 
--- ---- lines, by their first word and what stands behind its space
+-- ---- lines, by their first word and what follows its space
 
 abbrev call_word : Call → List ℕ
 call_word (call.Describe kind name unit text) = codes "describe"
@@ -255,7 +255,7 @@ keep_same m n r s h g e =
     let both = first_same 32 _ (decimal m) (codes "keep") (decimal n) (codes "keep") (lacks_decimal m h.0) (lacks_decimal n g.0) refl e in
     ap (λ x. call.SnapshotWith x r) (decimal_same m n h.0 g.0 both.0) ∙ ap (λ x. call.SnapshotWith n x) (h.1 ∙ sym g.1)
 
--- a snapshot without `keep` has one word behind it
+-- a snapshot without `keep` has one word after it
 not_kept : (m n : ℕ) → m < 2 ^ 64 → decimal m ≡ decimal n ++ 32 ∷ codes "keep" → ⊥
 not_kept m n h e = not_cut 32 (decimal m) (decimal n) (codes "keep") (lacks_decimal m h) e
 

@@ -61,7 +61,7 @@ no_update_word (Subtract n) e = absurd (omega (arith, ap (λ xs. get_or xs 1 0) 
 no_update_word (Set n) e = absurd (omega (arith, ap (λ xs. get_or xs 1 0) e))
 no_update_word (Record n) e = absurd (omega (arith, ap (λ xs. get_or xs 0 0) e))
 
--- what stands behind the first word of a snapshot line: a book, and `keep` or nothing
+-- what follows the first word of a snapshot line: a book, and `keep` or nothing
 abbrev SnapshotRest : List ℕ → Type 0
 SnapshotRest bytes = (b : ℕ) × (b < 2 ^ 64) × ((bytes ≡ decimal b) ⊎ (bytes ≡ decimal b ++ 32 ∷ codes "keep"))
 

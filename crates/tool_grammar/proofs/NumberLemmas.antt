@@ -3,14 +3,14 @@ use Rattle.std.proofs.Common.{◌≡◌, ℕ, ◌+◌, ◌*◌, ◌/◌, ◌%◌
 use Rattle.std.proofs.lemmas.Fmt.{decimal_step, decimal_digit}
 use Rattle.std.proofs.lemmas.List.{drop_more}
 
--- a digit behind a number that isn't 0
+-- a digit after a number that isn't 0
 decimal_more : (n d : ℕ) → 1 ≤ n → d < 10 → n * 10 + d < 2 ^ 64 → decimal (n * 10 + d) ≡ decimal n ++ ((48 + d) ∷ [])
 decimal_more n d some small fits =
     let front : (n * 10 + d) / 10 ≡ n = omega arith in
     let last : (n * 10 + d) % 10 ≡ d = omega arith in
     decimal_step (n * 10 + d) (omega arith) fits ∙ ap (λ k. decimal k ++ ((48 + (n * 10 + d) % 10) ∷ [])) front ∙ ap (λ k. decimal n ++ ((48 + k) ∷ [])) last
 
--- the first digit, and those behind it
+-- the first digit, and those after it
 pub digits_begin : (others : List ℕ) (first n : ℕ) → n < 10 → first ≡ 48 + n → first ∷ others ≡ decimal n ++ others
 digits_begin others first n small is = ap (λ z. z ∷ others) is ∙ ap (λ z. z ++ others) (sym (decimal_digit n small))
 

@@ -129,7 +129,7 @@ pub starts_labels : (ls : List (List ℕ × List ℕ)) → StartsAt 32 (label_wo
 starts_labels [] = tt
 starts_labels (l ∷ ls) = refl
 
--- What is left of a line of labels: the next label, and those behind it.
+-- What is left of a line of labels: the next label, and those after it.
 pub record NextLabel (word after : List ℕ) : Type 0 where
   pub label : List ℕ × List ℕ
   pub others : List (List ℕ × List ℕ)

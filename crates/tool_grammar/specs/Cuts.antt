@@ -1,4 +1,4 @@
--- Where a byte stands in a text.
+-- The place of a byte in a text.
 use Rattle.std.specs.Prelude.{◌≡◌, ◌≢◌, ℕ, List, [], ◌∷◌, All}
 
 -- the byte isn't there

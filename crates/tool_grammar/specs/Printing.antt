@@ -66,7 +66,7 @@ text_of registers c (answer.Updated n) = codes "updated " ++ (decimal n ++ 10 �
 text_of registers c (answer.Snapshot rows) = codes "snapshot " ++ (decimal (book_of c) ++ (32 ∷ (decimal (length rows) ++ (10 ∷ rows_text rows))))
 text_of registers c (answer.Refused e) = refusal_text_of e
 
--- the number of register calls, the refused ones counted too
+-- the number of register calls, including those that failed
 abbrev pub registers_in : Log → ℕ
 registers_in log = length (filter_map registration_of log)
 
@@ -74,6 +74,6 @@ abbrev pub print_from : Log → Log → List ℕ
 print_from before [] = []
 print_from before (e ∷ log) = text_of (registers_in before) e.0 e.1 ++ print_from (before ++ e ∷ []) log
 
--- the answers, one after the other. A register call is told its number, from 0
+-- the answers, one after the other. The text of a register call has its number, from 0
 abbrev pub print : Log → List ℕ
 print log = print_from [] log

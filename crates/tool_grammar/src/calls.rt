@@ -1,4 +1,4 @@
-//! Lines to calls.
+//! Parses lines into calls.
 ghost use Rattle.std.specs.Prelude.{◌≡◌, ◌≢◌, ℕ, List, [], ◌∷◌, ◌++◌, ◌<◌, ◌^◌, IsUtf8};
 ghost use Rattle.std.specs.Prelude.{MatchResult, MatchOption, Option, Some, decimal, codes};
 ghost use Rattle.metrics_names.specs.declared.kind.MetricKind.{MetricKind};
@@ -15,7 +15,7 @@ use crate::words::{kind_of, name_of, number_of, unit_of, update_of};
 use metrics::{Call, Key, KeyName, Label, MetricKind, Refused, Reset, Text, Unit};
 use std::alloc::Global;
 
-/// Unit and text of a describe line.
+/// The unit and text of a describe line.
 fn unit_and_text(bytes: &[u8]) -> Option<(Option<Unit>, &str)>
     ensures { MatchOption result
         ((unit : Option Measure) (text : List ℕ) → IsUtf8 text → bytes.now ≡ unit_word unit ++ 32 ∷ text → ⊥)
@@ -29,7 +29,7 @@ fn unit_and_text(bytes: &[u8]) -> Option<(Option<Unit>, &str)>
     }
 }
 
-/// Name, unit and text of a describe line.
+/// The name, unit and text of a describe line.
 fn described(bytes: &[u8]) -> Option<(&str, Option<Unit>, &str)>
     ensures { MatchOption result
         ((name : List ℕ) (unit : Option Measure) (text : List ℕ) → IsName name → IsUtf8 text →
@@ -43,7 +43,7 @@ fn described(bytes: &[u8]) -> Option<(&str, Option<Unit>, &str)>
     Some((name, unit, text))
 }
 
-/// The kind of a line, and what stands behind it.
+/// The kind of a line, and what follows it.
 fn kind_and_rest(bytes: &[u8]) -> Option<(MetricKind, &[u8])>
     ensures { MatchOption result
         ((kind : MetricKind) (rest : List ℕ) → bytes.now ≡ kind_word kind ++ 32 ∷ rest → ⊥)
@@ -54,7 +54,7 @@ fn kind_and_rest(bytes: &[u8]) -> Option<(MetricKind, &[u8])>
     Some((kind, rest))
 }
 
-/// The call of a describe line, from the bytes behind its first word.
+/// The call of a describe line, from the bytes after its first word.
 fn describe_of(alloc: Global, bytes: &[u8]) -> Result<Option<Call>, Refused>
     ensures { let line = codes "describe " ++ bytes.now in
         MatchResult result (λ found. MatchOption found (IsBad line) (Spells line)) (λ e. e ≡ Memory 0) }
@@ -89,7 +89,7 @@ fn label_of(alloc: Global, word: &[u8]) -> Result<Option<Label>, Refused>
     Ok(Some(Label::new(alloc, key_text, value_text)?))
 }
 
-/// How many labels stand there at most: each has a space before it.
+/// The most labels that there can be: each has a space before it.
 fn room_for(bytes: &[u8]) -> usize {
     bytes.iter().filter(|byte| **byte == b' ').count()
 }
@@ -116,7 +116,7 @@ fn labels_of(alloc: Global, bytes: &[u8]) -> Result<Option<Vec<Label>>, Refused>
     Ok(Some(labels))
 }
 
-/// The key that name and labels spell, if they do. An error is want of memory.
+/// Returns the key that name and labels spell, if they spell one. Fails only when out of memory.
 pub fn key_of(alloc: Global, bytes: &[u8]) -> Result<Option<Key>, Refused>
     ensures { MatchResult result (λ found. MatchOption found
         ((key : KeyParts) → IsName key.name → AreLabels key.labels →
@@ -134,7 +134,7 @@ pub fn key_of(alloc: Global, bytes: &[u8]) -> Result<Option<Key>, Refused>
     }
 }
 
-/// The call of a register line, from the bytes behind its first word.
+/// The call of a register line, from the bytes after its first word.
 fn register_of(alloc: Global, bytes: &[u8]) -> Result<Option<Call>, Refused>
     ensures { let line = codes "register " ++ bytes.now in
         MatchResult result (λ found. MatchOption found (IsBad line) (Spells line)) (λ e. e ≡ Memory 0) }
@@ -148,7 +148,7 @@ fn register_of(alloc: Global, bytes: &[u8]) -> Result<Option<Call>, Refused>
     }
 }
 
-/// The number of a handle, and what stands behind it.
+/// The number of a handle, and what follows it.
 fn handle_and_rest(bytes: &[u8]) -> Option<(u64, &[u8])>
     ensures { MatchOption result
         ((h : ℕ) (rest : List ℕ) → h < 2 ^ 64 → bytes.now ≡ decimal h ++ 32 ∷ rest → ⊥)
@@ -159,7 +159,7 @@ fn handle_and_rest(bytes: &[u8]) -> Option<(u64, &[u8])>
     Some((handle, rest))
 }
 
-/// The call of an update line, from its first word and the bytes behind it.
+/// The call of an update line, from its first word and the bytes after it.
 fn update_call_of(word: &[u8], bytes: &[u8]) -> Option<Call>
     ensures { MatchOption result
         ((h : ℕ) (by : Change) → h < 2 ^ 64 → IsInRange by →
@@ -171,7 +171,7 @@ fn update_call_of(word: &[u8], bytes: &[u8]) -> Option<Call>
     Some(Call::Update(handle as usize, by))
 }
 
-/// The call of a snapshot line, from the bytes behind its first word.
+/// The call of a snapshot line, from the bytes after its first word.
 fn snapshot_of(bytes: &[u8]) -> Option<Call>
     ensures { let line = codes "snapshot " ++ bytes.now in MatchOption result (IsBad line) (Spells line) }
 {
@@ -187,7 +187,7 @@ fn snapshot_of(bytes: &[u8]) -> Option<Call>
     }
 }
 
-/// The call that a line spells, if it does. An error is want of memory.
+/// Returns the call that a line spells, if it spells one. Fails only when out of memory.
 pub fn call_of(alloc: Global, line: &[u8]) -> Result<Option<Call>, Refused>
     ensures { MatchResult result (λ found. MatchOption found (IsBad line.now) (Spells line.now))
         (λ e. e ≡ Memory 0) }

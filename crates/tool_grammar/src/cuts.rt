@@ -1,11 +1,11 @@
-//! Cuts of bytes at a byte.
+//! Cuts bytes at a byte.
 ghost use Rattle.std.specs.Prelude.{◌≡◌, ℕ, List, ◌∷◌, ◌++◌, ◌<◌, ◌≤◌, take, length, MatchOption};
 ghost use Rattle.std.specs.Prelude.{slice_index};
 ghost use Rattle.tool_grammar.specs.Cuts.{Lacks, StartsAt};
 
 use memchr::memchr;
 
-/// How many bytes stand before the first such byte, or all.
+/// Returns how many bytes precede the first such byte, or the number of all.
 pub fn place_of(bytes: &[u8], byte: u8) -> usize
     ensures bound { result ≤ length bytes.now }
     ensures before { Lacks byte (take result bytes.now) }
@@ -17,7 +17,7 @@ pub fn place_of(bytes: &[u8], byte: u8) -> usize
     }
 }
 
-/// What stands behind the front, if that is the line's.
+/// Returns what follows `front`, if the line begins with it.
 pub fn behind<'a>(line: &'a [u8], front: &[u8]) -> Option<&'a [u8]>
     ensures { MatchOption result ((rest : List ℕ) → line.now ≡ front.now ++ rest → ⊥)
         (λ rest. line.now ≡ front.now ++ rest.now) }
@@ -25,7 +25,7 @@ pub fn behind<'a>(line: &'a [u8], front: &[u8]) -> Option<&'a [u8]>
     line.strip_prefix(front)
 }
 
-/// The bytes before the first such byte, and the others.
+/// Returns the bytes before the first such byte, and the others.
 pub fn split_before(bytes: &[u8], byte: u8) -> (&[u8], &[u8])
     ensures whole { bytes.now ≡ result.0.now ++ result.1.now }
     ensures before { Lacks byte result.0.now }
@@ -35,7 +35,7 @@ pub fn split_before(bytes: &[u8], byte: u8) -> (&[u8], &[u8])
     (&bytes[..place], &bytes[place..])
 }
 
-/// The bytes before the first such byte, and those behind it.
+/// Returns the bytes before the first such byte, and those after it.
 pub fn split_at_first(bytes: &[u8], byte: u8) -> Option<(&[u8], &[u8])>
     ensures { MatchOption result ((front back : List ℕ) → bytes.now ≡ front ++ byte ∷ back → ⊥)
         (λ parts. (bytes.now ≡ parts.0.now ++ byte ∷ parts.1.now) × Lacks byte parts.0.now) }

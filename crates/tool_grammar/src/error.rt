@@ -1,4 +1,4 @@
-//! Why a program stopped, and what it says of it.
+//! Why a program stopped, and its message.
 ghost use Rattle.std.specs.Prelude.{◌≡◌};
 
 use std::alloc::AllocError;
@@ -8,7 +8,7 @@ use thiserror::Error;
 /// Why a run stopped.
 #[derive(Clone, Copy, Debug, PartialEq, Eq, Error)]
 pub enum RunError {
-    /// No memory: the number of the line that was being read, if one was.
+    /// Out of memory: the number of the line that was being read, if one was.
     #[error("{place}memory", place = Place(.0))]
     Memory(Option<u64>),
     /// The line's number.

@@ -1,4 +1,4 @@
-//! Answers to text.
+//! Prints answers.
 ghost use Rattle.std.specs.Prelude.{◌≡◌, ◌++◌, ◌∷◌, [], OnOk, codes, decimal, length, string_bytes};
 ghost use Rattle.tool_grammar.specs.Grammar.{kind_word, unit_word, name_word, label_words};
 ghost use Rattle.tool_grammar.specs.Printing.{samples_text, value_text, note_text, row_text, rows_text, text_of, refusal_text_of};
@@ -33,7 +33,7 @@ fn unit_text(unit: Option<Unit>) -> &'static str
     }
 }
 
-/// A name, where the empty one is a dash.
+/// A name, where a dash is the empty one.
 fn shown_name(name: &str) -> &str
     ensures { result.now ≡ name_word name.now }
 {
@@ -131,7 +131,7 @@ fn write_refusal(text: &mut String, refused: Refused) -> Result<(), AllocError>
     }
 }
 
-/// Writes a line of words and a number, digit by digit, which is shorter than by a format.
+/// Writes a line of words and a number, digit by digit, which is faster than a format.
 fn write_counted(text: &mut String, words: &str, count: usize) -> Result<(), AllocError>
     ensures { OnOk result (string_bytes text.new ≡ string_bytes text.old ++ (words.now ++ (decimal count ++ 10 ∷ []))) }
 {
@@ -141,7 +141,7 @@ fn write_counted(text: &mut String, words: &str, count: usize) -> Result<(), All
     text.push_str("\n")
 }
 
-/// Most updates meet one cell, so their line is at hand.
+/// Most updates meet one cell, so their line is ready-made.
 fn write_updated(text: &mut String, count: usize) -> Result<(), AllocError>
     ensures { OnOk result (string_bytes text.new ≡ string_bytes text.old
         ++ (codes "updated " ++ (decimal count ++ 10 ∷ []))) }
@@ -171,8 +171,8 @@ fn write_snapshot(text: &mut String, book: usize, rows: &[Row]) -> Result<(), Al
     write_rows(text, rows)
 }
 
-/// Puts the text of an answer behind what `text` holds. `registers` is the number of register calls before it. Where there
-/// is no memory for it, its front may stand there.
+/// Appends the text of an answer to `text`. `registers` is the number of register calls before it. When out of memory,
+/// `text` may end in a part of it.
 pub fn write_answer(
     text: &mut String,
     registers: usize,

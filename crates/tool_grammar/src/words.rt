@@ -12,7 +12,7 @@ ghost use Rattle.tool_grammar.specs.Grammar.{kind_word, unit_word, name_word, up
 use itoa::Buffer;
 use metrics::{MetricKind, Unit, Update};
 
-/// The text of a word, where a dash is the empty text.
+/// Returns the text of a word, where a dash is the empty text.
 pub fn name_of(word: &[u8]) -> Option<&str>
     requires { Lacks 32 word.now }
     ensures { MatchOption result ((name : List ℕ) → IsName name → word.now ≡ name_word name → ⊥)
@@ -30,7 +30,7 @@ pub fn name_of(word: &[u8]) -> Option<&str>
     }
 }
 
-/// The kind that a word names.
+/// Returns the kind that a word names.
 pub fn kind_of(word: &[u8]) -> Option<MetricKind>
     ensures { MatchOption result ((kind : MetricKind) → word.now ≡ kind_word kind → ⊥)
         (λ kind. word.now ≡ kind_word kind) }
@@ -43,7 +43,7 @@ pub fn kind_of(word: &[u8]) -> Option<MetricKind>
     }
 }
 
-/// A unit, or a dash for none.
+/// Returns the unit that a word names; a dash is none.
 pub fn unit_of(word: &[u8]) -> Option<Option<Unit>>
     ensures { MatchOption result ((unit : Option Measure) → word.now ≡ unit_word unit → ⊥)
         (λ unit. word.now ≡ unit_word unit) }
@@ -79,7 +79,7 @@ fn time_of(word: &[u8]) -> Option<Unit>
     None
 }
 
-/// The unit other than of time that a word names.
+/// The unit, other than of time, that a word names.
 fn amount_unit_of(word: &[u8]) -> Option<Unit>
     ensures { MatchOption result
         ((word.now ≢ codes "count") × (word.now ≢ codes "percent") × (word.now ≢ codes "bytes"))
@@ -97,7 +97,7 @@ fn amount_unit_of(word: &[u8]) -> Option<Unit>
     None
 }
 
-/// The number that a digit stands for.
+/// The value of a digit.
 fn digit_of(byte: u8) -> Option<u64>
     ensures { IfSome result (λ d. (d < 10) × (byte ≡ 48 + d)) }
 {
@@ -108,8 +108,8 @@ fn digit_of(byte: u8) -> Option<u64>
     }
 }
 
-/// The number that digits print, one digit after another, which is the short way for most words. It takes no sign and no
-/// needless zero, and nothing past 2^64 - 1.
+/// The number that digits print, read one digit after another: the fast path for most words. It accepts no sign, no
+/// leading zero, and nothing past 2^64 - 1.
 fn plain_number_of(digits: &[u8]) -> Option<u64>
     ensures { IfSome result (λ n. digits.now ≡ decimal n) }
 {
@@ -135,7 +135,7 @@ fn signed(n: u64) -> Option<i64>
     }
 }
 
-/// The number from -(2^63 - 1) to -1 that the digits of `n` print behind a minus.
+/// The number from -(2^63 - 1) to -1 that the digits of `n` print after a minus.
 fn negated(n: u64) -> Option<i64>
     ensures { IfSome result (λ m. signed_decimal m ≡ 45 ∷ decimal n) }
 {
@@ -155,7 +155,7 @@ fn plain_signed_number_of(word: &[u8]) -> Option<i64>
     }
 }
 
-/// A number below 2^64 as it is printed, and nothing else.
+/// Returns the number below 2^64 that the digits print, in its printed form alone.
 pub fn number_of(digits: &[u8]) -> Option<u64>
     ensures { MatchOption result ((n : ℕ) → n < 2 ^ 64 → digits.now ≡ decimal n → ⊥)
         (λ n. digits.now ≡ decimal n) }
@@ -166,7 +166,7 @@ pub fn number_of(digits: &[u8]) -> Option<u64>
     }
 }
 
-/// The same by what std reads of the text, printed once more: it tells what the short way left.
+/// The same by std's parser, printed once more: it decides what the fast path left.
 fn parsed_number_of(digits: &[u8]) -> Option<u64>
     ensures { MatchOption result ((n : ℕ) → n < 2 ^ 64 → digits.now ≡ decimal n → ⊥)
         (λ n. digits.now ≡ decimal n) }
@@ -187,7 +187,7 @@ fn parsed_number_of(digits: &[u8]) -> Option<u64>
     }
 }
 
-/// A number from -2^63 to 2^63 - 1 as it is printed, and nothing else.
+/// Returns the number from -2^63 to 2^63 - 1 that the word prints, in its printed form alone.
 pub fn signed_number_of(word: &[u8]) -> Option<i64>
     ensures { MatchOption result ((n : ℤ) → FitsSigned w64 n → word.now ≡ signed_decimal n → ⊥)
         (λ n. word.now ≡ signed_decimal n) }
@@ -198,7 +198,7 @@ pub fn signed_number_of(word: &[u8]) -> Option<i64>
     }
 }
 
-/// The same by what std reads of the text, printed once more.
+/// The same by std's parser, printed once more.
 fn parsed_signed_number_of(word: &[u8]) -> Option<i64>
     ensures { MatchOption result ((n : ℤ) → FitsSigned w64 n → word.now ≡ signed_decimal n → ⊥)
         (λ n. word.now ≡ signed_decimal n) }
@@ -219,7 +219,7 @@ fn parsed_signed_number_of(word: &[u8]) -> Option<i64>
     }
 }
 
-/// The update that a line's first word names, by the amount in the last one.
+/// Returns the update that a line's first word names, by the amount in the last one.
 pub fn update_of(word: &[u8], amount: &[u8]) -> Option<Update>
     ensures { MatchOption result
         ((by : Change) → IsInRange by → word.now ≡ update_word by → amount.now ≡ amount_word by → ⊥)

@@ -64,6 +64,6 @@ free_totals plan =
 pub none_of_totals : {A : Type 0} (plan : StormPlan) (W : List ℕ → Type 0) (r : Result A RunError) → IsErr r → W [] → Begins (PrintsTotals plan) W r
 none_of_totals plan W r err w = ([], totals_text (free_totals plan), w, (free_totals plan, record { stopped = omega arith; pushed = refl; found = refl }, refl), not_ok r _ err)
 
--- an error is handed on
+-- an error is passed through
 pub handed_on : {A B : Type 0} (Print W : List ℕ → Type 0) (r : Result A RunError) (q : Result B RunError) → IsErr q → Begins Print W r → Begins Print W q
 handed_on Print W r q err (text, more, w, print, all) = (text, more, w, print, not_ok q _ err)

@@ -27,7 +27,7 @@ first_calls (c ∷ cs) (d ∷ ds) p q h g s e =
     let (others, rest) = first_calls cs ds p q h.1 g.1 s parts.1 in
     (others, ap (λ z. z ∷ ds) (sym (call_same (spelling c) c d (h.0, refl) (g.0, parts.0))) ∙ ap (λ zs. c ∷ zs) rest)
 
--- ---- the plain answers to the other calls
+-- ---- the expected answers to the other calls
 
 either_plain : (b : Bool) (x y : Answer) (May : ℕ → Type 0) → IsOrMeets x May x → IsOrMeets y May y → IsOrMeets (if b then x else y) May (if b then x else y)
 either_plain true x y May h g = h
@@ -41,7 +41,7 @@ module _ (targets : Targets) (books : ℕ) where
   snapshot_plain : (before : Log) (b : ℕ) (May : ℕ → Type 0) → IsOrMeets (plain_snapshot targets books before b) May (plain_snapshot targets books before b)
   snapshot_plain before b May = either_plain (nat_lt b books) (Answer.Snapshot (rows (content_after (reached targets b before)))) (Answer.Refused NoSuchBook) May refl refl
 
-  -- the plain answer is plain
+  -- the expected answer is an expected one
   is_plain : (before : Log) (c : Call) → IsPlain targets books before c (plain_answer targets books before c)
   is_plain before (call.Describe kind name unit text) = refl
   is_plain before (call.Register kind key) = refl
@@ -61,7 +61,7 @@ module _ (targets : Targets) (books : ℕ) where
   plainly_plain before [] = tt
   plainly_plain before (c ∷ cs) = (is_plain before c, plainly_plain (before ++ (c, plain_answer targets books before c) ∷ []) cs)
 
-  -- plain answers behind plain answers
+  -- expected answers after expected answers
   plain_append : (before log more : Log) → ArePlainFrom targets books before log → ArePlainFrom targets books (before ++ log) more → ArePlainFrom targets books before (log ++ more)
   plain_append before [] more h g = subst (λ b. ArePlainFrom targets books b more) (append-nil before) g
   plain_append before (e ∷ log) more h g = (h.0, plain_append (before ++ e ∷ []) log more h.1 (subst (λ b. ArePlainFrom targets books b more) (sym (append_assoc before (e ∷ []) log)) g))
@@ -73,7 +73,7 @@ print_append before (e ∷ log) more =
     ap (λ t. here ++ t) (print_append (before ++ e ∷ []) log more ∙ ap (λ b. print_from (before ++ e ∷ []) log ++ print_from b more) (append_assoc before (e ∷ []) log))
     ∙ sym (append_assoc here (print_from (before ++ e ∷ []) log) (print_from (before ++ e ∷ log) more))
 
--- answers to calls, and then the plain ones to others
+-- answers to calls, and then the expected ones to others
 extended : (m : Meaning) (calls others : List Call) (text : List ℕ) → IsAnswered m calls text → (more : List ℕ) × IsAnswered m (calls ++ others) (text ++ more)
 extended m calls others text h =
     let books = length m.contents in

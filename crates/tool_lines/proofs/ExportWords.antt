@@ -9,7 +9,7 @@ abbrev pub behind : List (List ℕ) → List (List ℕ)
 behind [] = []
 behind (w ∷ ws) = ws
 
--- what the four words behind `export` ask for is what all of them ask for
+-- what the four words after `export` ask for is what all of them ask for
 pub asks_of : {E : Type 0} (r : Result (Option ExportPlan) E) (words four : List (List ℕ)) → words ≡ codes "export" ∷ four
     → MatchResult r (λ found. MatchOption found ((plan : ExportPlan) → IsAllowed plan → four ≡ plan_words plan → ⊥) (λ plan. IsAllowed plan × (four ≡ plan_words plan))) (λ e. (plan : ExportPlan) × IsAllowed plan × (four ≡ plan_words plan))
     → MatchResult r (λ found. MatchOption found ((plan : ExportPlan) → AsksExport words plan → ⊥) (λ plan. AsksExport words plan)) (λ e. (plan : ExportPlan) × AsksExport words plan)

@@ -105,7 +105,7 @@ pub finished : {On Notes : Type 0} (mean : On → Meaning) (seen : Notes → Ent
     → (read : List ℕ) × (text : List ℕ) × Consumes a b read × Appends x y text × stream.IsRun (Says mean seen) IsBad (OnSome a (IsAtEnd b)) first p q read text r → Finished a b x y first (mean p.0) (mean q) r
 finished mean seen a b x y first p q r none (read, text, took, wrote, run) = (read, text, took, wrote, of_run mean seen p none (OnSome a (IsAtEnd b)) first q read text r run)
 
--- where the bytes are known, an `Ok` says it plainly
+-- if the bytes are known, an `Ok` says it directly
 known_ok : (a b x y : Option (List ℕ)) (s t : Meaning) (first n : ℕ) → Finished a b x y first s t (Ok n)
     → IfSome a (λ xs. IfSome x (λ held. (log : Log) × AreSpelled (lines_of xs) log × AreMade s t log × (y ≡ Some (held ++ print log))))
 known_ok None b x y s t first n h = tt

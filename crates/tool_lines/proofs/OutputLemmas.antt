@@ -104,7 +104,7 @@ text_ends n c (answer.Updated k) = ends_behind (codes "updated ") _ (ends_behind
 text_ends n c (answer.Snapshot rows) = ends_behind (codes "snapshot ") _ (ends_behind (decimal (book_of c)) _ (ends_more 32 _ (ends_behind (decimal (length rows)) _ (rows_end (10 ∷ []) rows ends_feed))))
 text_ends n c (answer.Refused e) = refusal_ends e
 
--- ---- texts without want of memory
+-- ---- texts without out of memory
 
 module _ (P : List ℕ → Type 0) where
   all_left : (a b : List (List ℕ)) → AllByRecursion P (a ++ b) → AllByRecursion P a
@@ -128,7 +128,7 @@ tells_want more w =
     let (l, ls, e) = lines-front (codes "refused E1 memory") more feedless (omega arith) in
     (subst (AllByRecursion (λ l. (more : List ℕ) → l ≡ codes "refused E1 memory" ++ more → ⊥)) e w).0 l refl
 
--- an answer whose text tells no want of memory is the plain one
+-- an answer whose text doesn't report out of memory is the expected one
 plain_of : (plain : Answer) (May : ℕ → Type 0) (n : ℕ) (c : Call) (a : Answer) → IsOrMeets plain May a → LacksWant (text_of n c a) → a ≡ plain
 plain_of plain May n c (answer.Refused (refused.Memory k)) h w = absurd (tells_want (codes ", acted " ++ (decimal k ++ 10 ∷ [])) w)
 plain_of plain May n c (answer.Refused refused.NoSuchAddress) h w = h
@@ -158,7 +158,7 @@ answered m log text plain is = record {
 
 -- ---- lines that were read
 
--- the lines of what was read stand before those of what is left
+-- the lines of what was read precede those of what is left
 read_lines : (xs ys read : List ℕ) (ls : List (List ℕ)) → xs ≡ read ++ ys → AreRead (ys ≡ []) read ls → lines_of xs ≡ ls ++ lines_of ys
 read_lines xs ys read ls took (inl (e, f)) = ap lines_of took ∙ f ys
 read_lines xs ys read ls took (inr (e, f)) = ap lines_of (took ∙ ap (λ k. read ++ k) e ∙ append-nil read) ∙ f ∙ sym (append-nil ls) ∙ ap (λ k. ls ++ lines_of k) (sym e)
@@ -249,7 +249,7 @@ module _ (xs ys left held : List ℕ) (y : Option (List ℕ)) (s t : Meaning) (t
         (text, more, answers_front (meaning_of tree) ys left read ks log (text ++ more) took at spelled plain (sym e), now),
       )
 
--- what is known of a run behind a tree
+-- what is known of a run after a tree
 pub runs_over : (a b c x y : Option (List ℕ)) (s t : Meaning) (first : ℕ) (r : Result ℕ RunError) (read : List ℕ) → Consumes a b read → BuildsTree (OnSome a (IsAtEnd b)) read s first → Finished b c x y first s t r
     → RunsKnown a x y r
 runs_over None b c x y s t first r read took built h = tt
@@ -275,7 +275,7 @@ runs_over (Some xs) (Some ys) (Some left) (Some held) (Some now) s t first (Err 
     let front = read_lines xs ys read (tree_lines tree ++ tree_spelling line.End ∷ []) took are in
     some_answered xs ys left held (Some now) s t tree allowed is front more ls log text rest took' at spelled made text_is (ap Some w)
 
--- ---- a tree that was refused
+-- ---- a tree that failed
 
 no_tree : (xs ys read : List ℕ) (k : ℕ) → xs ≡ read ++ ys → RefusesTree (ys ≡ []) read (BadLine k) → NoTree (lines_of xs)
 no_tree xs ys read k took (inl (ls, bad, are, first, number)) t rest w =

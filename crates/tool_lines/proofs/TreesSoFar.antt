@@ -133,7 +133,7 @@ module _ (a b c : Option (List ℕ)) (stack : List Level) (number : ℕ) (so : T
   pub refuse_last : IsLine bytes → 0 < length bytes → Consumes b c bytes → OnSome b (IsAtEnd c) → (new : List Level) (e : LineError) → DoesLine bytes stack new (Err e) → Refused a c (error_at number e)
   refuse_last h p r e = refuse bytes r (line_or_none bytes h) (last_read h p r e)
 
-  -- the last line took its trees, and no `end` follows
+  -- the last line accepted its trees, and no `end` follows
   pub ended_early : IsLine bytes → 0 < length bytes → Consumes b c bytes → OnSome b (IsAtEnd c) → (new : List Level) → DoesLine bytes stack new (Ok false) → Refused a c (BadLine (number + 1))
   ended_early h p r e new does =
       let (said, us, sp, st, built) = does so.trees so.built in

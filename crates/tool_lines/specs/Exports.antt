@@ -15,7 +15,7 @@ abbrev pub end_status : Result ℕ RunError → ℕ
 end_status (Ok n) = 0
 end_status (Err e) = status_number e
 
--- the lines of an exporter were answered, and the status tells how that ended
+-- the lines of an exporter were answered, and the status reports how that ended
 abbrev pub EndsExport : ExportPlan → Type 0 → (List ℕ → Type 0) → (List ℕ → Type 0) → ℕ → Type 0
 EndsExport plan at_end Reads Writes status = (read text : List ℕ) × (r : Result ℕ RunError)
     × Reads read × Writes text × IsExport (setup_of plan) at_end read text r × (status ≡ end_status r)

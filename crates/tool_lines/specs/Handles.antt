@@ -1,4 +1,4 @@
--- What register calls gave, by their numbers.
+-- What register calls returned, by their numbers.
 use Rattle.std.specs.Prelude.{ℕ, ◌<◌, List, [], ◌∷◌, Option, None, option_map, option_and_then, slice_get, vec_len, vec_capacity}
 use Rattle.metrics.specs.declared.calls.Call.{Call}
 use Rattle.metrics.specs.declared.calls.Call.TheVariants as call
@@ -6,7 +6,7 @@ use Rattle.metrics.specs.declared.handles.Address.{Address}
 use Rattle.metrics.specs.Answering.{Handle}
 use Rattle.tool_lines.specs.declared.handles.Handles.{Handles}
 
--- one for each register call: its kind and the addresses that it gave, and None where it was refused
+-- one for each register call: its kind and the addresses that it returned, and None if it failed
 abbrev pub Entries : Type 0
 Entries = List (Option Handle)
 
@@ -25,7 +25,7 @@ entry_named (call.Register kind key) es = None
 entry_named (call.Snapshot b) es = None
 entry_named (call.SnapshotWith b reset) es = None
 
--- what a call adds, by what it gave
+-- what a call adds, by what it returned
 abbrev pub entries_by : Call → Option (List Address) → Entries
 entries_by (call.Register kind key) given = option_map (λ h. (kind, h)) given ∷ []
 entries_by (call.Describe kind name unit text) given = []

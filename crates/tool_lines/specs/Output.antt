@@ -34,20 +34,20 @@ pub record Input (ls : List (List ℕ)) : Type 0 where
 
 -- ---- what is written
 
--- the calls' plain answers on a recorder of new books, printed
+-- the calls' expected answers on a recorder of new books, printed
 abbrev pub answers_text : Meaning → List Call → List ℕ
 answers_text m calls = print (plain_log m.targets (length m.contents) calls)
 
--- the text of an input: the plain answers to its calls on its tree
+-- the text of an input: the expected answers to its calls on its tree
 abbrev pub printed : {ls : List (List ℕ)} → Input ls → List ℕ
 printed i = answers_text (meaning_of i.tree) i.calls
 
--- no line of the text tells want of memory
+-- no line of the text reports out of memory
 abbrev pub LacksWant : List ℕ → Type 0
 LacksWant text = AllByRecursion (λ l. (more : List ℕ) → l ≡ codes "refused E1 memory" ++ more → ⊥) (lines_of text)
 
--- An answer to each call, the plain one or want of memory, printed; and where no line tells want of memory, just the text of the plain
--- answers.
+-- An answer to each call, the expected one or out of memory, printed; and if no line reports out of memory, just the
+-- text of the expected answers.
 pub record IsAnswered (m : Meaning) (calls : List Call) (text : List ℕ) : Type 0 where
   pub log : Log
   pub each : map (λ e. e.0) log ≡ calls
@@ -66,8 +66,8 @@ AnswersFront m ls text = (calls : List Call) × (rest : List (List ℕ))
 abbrev pub AnswersSome : Meaning → List (List ℕ) → (List ℕ → Type 0) → Type 0
 AnswersSome m ls Writes = (text more : List ℕ) × AnswersFront m ls (text ++ more) × Writes text
 
--- What was written for the lines of calls on a recorder of new books, by the result: all were answered, or those before a
--- bad line, or before one at which memory was wanted; or the writing stopped.
+-- What was written for the lines of calls on a recorder of new books, by the result: all were answered, or those before
+-- a bad line, or before one at which memory ran out; or the writing stopped.
 abbrev pub AnswersCalls : {A : Type 0} → Meaning → List (List ℕ) → (List ℕ → Type 0) → Result A RunError → Type 0
 AnswersCalls m ls Writes (Ok done) = (calls : List Call) × (text : List ℕ)
     × BeginsWithCalls ls calls [] × IsAnswered m calls text × Writes text
@@ -82,7 +82,7 @@ abbrev pub AnswersAll : List (List ℕ) → (List ℕ → Type 0) → Type 0
 AnswersAll ls Writes = (i : Input ls) × (text : List ℕ)
     × (i.rest ≡ []) × IsAnswered (meaning_of i.tree) i.calls text × Writes text
 
--- a bad line stands behind the calls, and those before it were answered; or the lines begin with no tree, and nothing was written
+-- a bad line follows the calls, and those before it were answered; or the lines begin with no tree, and nothing was written
 abbrev pub AnswersFirst : List (List ℕ) → (List ℕ → Type 0) → Type 0
 AnswersFirst ls Writes =
     ((i : Input ls) × (text : List ℕ) × (0 < length i.rest) × IsAnswered (meaning_of i.tree) i.calls text × Writes text)

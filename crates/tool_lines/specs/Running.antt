@@ -26,8 +26,8 @@ AreSpelled [] (e ∷ log) = ⊥
 AreSpelled (l ∷ ls) [] = ⊥
 AreSpelled (l ∷ ls) (e ∷ log) = Spells l e.0 × AreSpelled ls log
 
--- The calls were made on a recorder, which was old before them and is new after them. Where its books were new, each answer is
--- the plain one, and the books hold what calls and answers give.
+-- The calls were made on a recorder, which was old before them and is new after them. If its books were new, each
+-- answer is the expected one, and the books hold what calls and answers say.
 pub record AreMade (old new : Meaning) (log : Log) : Type 0 where
   pub keeps : KeepsTargets old new
   pub books : length new.contents ≡ length old.contents
@@ -48,7 +48,7 @@ IsRun at_end first old new read text (Ok n) = (log : Log)
 IsRun at_end first old new read text (Err (BadLine k)) = (ls : List (List ℕ)) × (bad : List ℕ) × (log : Log)
     × AreFirst at_end read (ls ++ bad ∷ []) × (lines_of read ≡ ls ++ bad ∷ []) × IsBad bad
     × AreSpelled ls log × AreMade old new log × (text ≡ print log) × (k ≡ capped (first + length ls))
--- each line before the one at which memory was refused
+-- each line before the one at which memory ran out
 IsRun at_end first old new read text (Err (Memory (Some k))) = (ls : List (List ℕ)) × (log : Log)
     × AreFirst at_end read ls
     × AreSpelled ls log × AreMade old new log × (text ≡ print log) × (k ≡ capped (first + length ls))
@@ -58,7 +58,7 @@ IsRun at_end first old new read text (Err Device) = IsCutShort at_end old new re
 
 -- ---- one line
 
--- what an answer gives to a register call
+-- what an answer returns to a register call
 abbrev pub addresses_in : Answer → Option (List Address)
 addresses_in (Registered found) = Some found
 addresses_in (Described n) = None
@@ -70,7 +70,7 @@ addresses_in (Refused e) = None
 abbrev pub AreHeld : Entries → List Content → Type 0
 AreHeld handles cs = (n : ℕ) → IsHeld (entry_at n handles) cs
 
--- The line spells the call, which was made; where the handles were held, it was answered so.
+-- The line spells the call, which was made; if the handles were held, it was answered so.
 pub record IsAnswered (old new : Meaning) (before after : Entries) (line : List ℕ) (c : Call) (a : Answer) : Type 0 where
   pub spells : Spells line c
   pub keeps : KeepsTargets old new
@@ -81,7 +81,7 @@ pub record IsAnswered (old new : Meaning) (before after : Entries) (line : List 
 abbrev pub AnswersLine : Meaning → Meaning → Entries → Entries → List ℕ → List ℕ → Type 0
 AnswersLine old new before after line text = (c : Call) × (a : Answer) × IsAnswered old new before after line c a × (text ≡ text_of (length before) c a)
 
--- why a line gave no call
+-- why a line spelled no call
 abbrev pub IsUnread : List ℕ → Unanswered → Type 0
 IsUnread line unanswered.Bad = IsBad line
 IsUnread line unanswered.Memory = Unit {0}

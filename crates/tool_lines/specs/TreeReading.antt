@@ -10,8 +10,8 @@ use Rattle.tool_tree_levels.specs.declared.level.LineError.{LineError}
 use Rattle.tool_tree_levels.specs.declared.level.LineError.TheVariants as levels
 use Rattle.tool_stream.specs.Lines.{lines_of, unlines}
 
--- These lines were read: each with its line feed, so that what is read after them has its own lines; or they are all, at the
--- reader's end.
+-- These lines were read: each with its line feed, so that what is read after them has its own lines; or they are all,
+-- at the reader's end.
 abbrev pub AreRead : Type 0 → List ℕ → List (List ℕ) → Type 0
 AreRead at_end read ls =
     ((read ≡ unlines ls) × ((rest : List ℕ) → lines_of (read ++ rest) ≡ ls ++ lines_of rest)) ⊎ (at_end × (lines_of read ≡ ls))
@@ -22,13 +22,13 @@ BuildsTree at_end read m number = (t : Tree)
     × IsAllowed t × (m ≡ meaning_of t)
     × AreRead at_end read (tree_lines t ++ spelling line.End ∷ []) × (number ≡ suc (suc (length (tree_lines t))))
 
--- Lines of trees were read, one tree after the other, and behind them at most one line, or a part of it.
+-- Lines of trees were read, one tree after the other, and after them at most one line, or a part of it.
 abbrev pub StopsBehind : List ℕ → List (List ℕ) → Type 0
 StopsBehind read ls = (part : List ℕ)
     × AreOfTrees ls × (read ≡ unlines ls ++ part) × (lines_of read ≡ ls ++ lines_of part) × (length (lines_of part) ≤ 1)
 
--- The first bad line, behind the lines of trees; or the reader is at its end behind such lines, and they have no `end`.
--- Want of memory tells the number of the line behind those of trees.
+-- The first bad line, after the lines of trees; or the reader is at its end after such lines, and they have no `end`.
+-- The error for out of memory has the number of the line after those of trees.
 abbrev pub RefusesTree : Type 0 → List ℕ → RunError → Type 0
 RefusesTree at_end read (BadLine k) =
     ((ls : List (List ℕ)) × (bad : List ℕ) × AreRead at_end read (ls ++ bad ∷ []) × IsFirstBad ls bad × (k ≡ suc (length ls)))

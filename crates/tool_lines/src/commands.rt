@@ -1,4 +1,4 @@
-//! The whole program, over the words of its command line.
+//! The whole program, for the words of its command line.
 ghost use Rattle.std.specs.Prelude.{◌≡◌, ◌≤◌, ◌++◌, ◌⊎◌, ℕ, List, Some, IfSome, OnSome, IfErr, map};
 ghost use Rattle.std.specs.Io.KnownBytes.{Consumes, Appends, IsAtEnd};
 ghost use Rattle.tool_export.specs.declared.plans.ExportPlan.{ExportPlan as Plan};
@@ -38,7 +38,7 @@ impl Gate for Open {
     }
 }
 
-/// Reads a tree, and answers the call lines behind it.
+/// Reads a tree, and answers the call lines after it.
 fn answer<I: BufRead, O: Write>(
     alloc: Global,
     input: &mut I,
@@ -90,7 +90,7 @@ fn answer_storm<R: Threads + Wait + Sync, O: Write>(
     write_totals(alloc, &totals, output)
 }
 
-/// As `answer_storm`, on a growing bucket.
+/// Does as `answer_storm`, on a growing bucket.
 fn answer_growing_storm<R: Threads + Wait + Sync, O: Write>(
     rt: &R,
     alloc: Global,
@@ -141,7 +141,7 @@ fn status_of(e: RunError) -> u8
     }
 }
 
-/// Does what words other than those of an export ask for, and answers the status.
+/// Does what words other than those of an export ask for, and returns the status.
 fn answer_words<R: Threads + Wait + Sync, I: BufRead, O: Write, E: Write>(
     rt: &R,
     alloc: Global,
@@ -182,7 +182,7 @@ fn answer_words<R: Threads + Wait + Sync, I: BufRead, O: Write, E: Write>(
     }
 }
 
-/// The status at the end of a run. Why it stopped goes to `errors`, whose faults are ignored.
+/// Returns the status at the end of a run. Writes why it stopped to `errors`, whose faults are ignored.
 fn told<E: Write>(errors: &mut E, answered: Result<u64, RunError>) -> u8
     ensures { result ≡ end_status answered }
 {
@@ -195,7 +195,7 @@ fn told<E: Write>(errors: &mut E, answered: Result<u64, RunError>) -> u8
     }
 }
 
-/// Answers the lines of an exporter, and tells the status at its end.
+/// Answers the lines of an exporter, and returns the status at its end.
 fn answer_export<I: BufRead, O: Write, E: Write>(
     alloc: Global,
     plan: &ExportPlan,
@@ -211,8 +211,8 @@ fn answer_export<I: BufRead, O: Write, E: Write>(
     told(errors, answered)
 }
 
-/// Runs the program over the words after its name, and answers its status. Why it stopped goes to
-/// `errors`, whose faults are ignored.
+/// Runs the program for the words after its name, and returns its status. Writes why it stopped to `errors`, whose
+/// faults are ignored.
 pub fn command<R: Threads + Wait + Sync, I: BufRead, O: Write, E: Write>(
     rt: &R,
     alloc: Global,
@@ -221,8 +221,8 @@ pub fn command<R: Threads + Wait + Sync, I: BufRead, O: Write, E: Write>(
     output: &mut O,
     errors: &mut E,
 ) -> u8
-    // Status 0 comes only where the words ask for something, and it is what was written: the answers to calls on a tree of
-    // new books, or the three lines of a storm; or what an exporter answers, which is told below.
+    // Status 0 requires words that ask for something. Then it was written: the answers to calls on a tree of new books,
+    // or the three lines of a storm; or an exporter's answers, as described below.
     ensures done { result ≡ 0 → ((asked : Asked) × (text : List ℕ) × Asks (map (λ w. w.now) words.now) asked
         × Appends (O.contents output.old) (O.contents output.new) text × Prints asked text)
         ⊎ ((plan : Plan) × AsksExport (map (λ w. w.now) words.now) plan) }
@@ -238,12 +238,12 @@ pub fn command<R: Threads + Wait + Sync, I: BufRead, O: Write, E: Write>(
     ensures part { result ≡ 1 → Asks (map (λ w. w.now) words.now) ask.Run
         → IfSome (I.remaining input.old) (λ bytes. IfSome (O.contents output.old) (λ held.
         AnswersPart (lines_of bytes) (λ text. O.contents output.new ≡ Some (held ++ text)))) }
-    // With any status, also where the bytes aren't known: what was written begins a text that may be printed, so of a storm's
-    // totals.
+    // With any status, also if the bytes aren't known: what was written begins a text that may be printed, so of a
+    // storm's totals.
     ensures begun { (asked : Asked) → Asks (map (λ w. w.now) words.now) asked
         → (text more : List ℕ) × Appends (O.contents output.old) (O.contents output.new) text
         × Prints asked (text ++ more) }
-    // For an export: what was read and written, and how that ended. Where no line was answered with want of memory, the text is
+    // For an export: what was read and written, and how that ended. If no line's answer is out of memory, the text is
     // just what the lines print, up to the end or the first bad one.
     ensures exported { (any : Plan) → AsksExport (map (λ w. w.now) words.now) any
         → (plan : Plan) × AsksExport (map (λ w. w.now) words.now) plan
@@ -254,7 +254,7 @@ pub fn command<R: Threads + Wait + Sync, I: BufRead, O: Write, E: Write>(
     ensures wrong { ((asked : Asked) → Asks (map (λ w. w.now) words.now) asked → ⊥)
         → ((plan : Plan) → AsksExport (map (λ w. w.now) words.now) plan → ⊥)
         → (result ≡ 2) × (output.new ≡ output.old) }
-    // No words have another status than 0, 1 and 2, and a storm never has 2.
+    // Words have only the statuses 0, 1 and 2, and a storm never has 2.
     ensures status { result ≤ 2 }
     ensures storm { (plan : Storm) → AsksStorm (map (λ w. w.now) words.now) plan → result ≤ 1 }
 {

@@ -6,7 +6,8 @@ ghost use Rattle.tool_lines.specs.Exports.{AsksExport};
 use std::alloc::{AllocError, Global};
 use tool_export::{ExportPlan, plan_of};
 
-/// What the words `export S M T B` ask for. An error is want of memory for the bounds, where they do ask for an exporter.
+/// Returns the plan of the words `export S M T B`, if they ask for an exporter. Fails only without memory for the
+/// bounds of such a plan.
 pub fn export_of(alloc: Global, words: &[&str]) -> Result<Option<ExportPlan>, AllocError>
     ensures { MatchResult result
         (λ found. MatchOption found ((plan : Plan) → AsksExport (map (λ w. w.now) words.now) plan → ⊥)

@@ -1,4 +1,4 @@
-//! What register calls gave, by their numbers.
+//! What register calls returned, by their numbers.
 ghost use Rattle.std.specs.Prelude.{◌≡◌, ◌++◌, [], length, OnOk, option_map};
 ghost use Rattle.metrics_replay.specs.Replaying.{handle_seen};
 ghost use Rattle.tool_lines.specs.Handles.{entries, entry_at, entry_named, entries_by, HasRoom};
@@ -8,14 +8,14 @@ use std::alloc::{AllocError, Global};
 use std::marker::Model;
 use std::slice;
 
-/// The addresses that a register call gave. Most give one, which stands here itself.
+/// The addresses that a register call returned. Most return one, which is stored inline.
 #[derive(Drop)]
 enum Kept {
     One(Address),
     List(Items<Address>),
 }
 
-/// The same, seen as a list.
+/// The same as a list.
 #[derive(Drop)]
 struct Given {
     kept: Kept,
@@ -52,14 +52,14 @@ impl Given {
     }
 }
 
-/// For each register call, in order: its kind and what it gave, and nothing where it was refused.
+/// For each register call, in order: its kind and what it returned, and nothing if it failed.
 #[derive(Drop)]
 pub struct Handles {
     entries: Vec<Option<(MetricKind, Given)>>,
 }
 
 impl Handles {
-    /// Before the first register call.
+    /// Returns the handles before the first register call.
     pub fn new(alloc: Global) -> Handles
         ensures { entries result ≡ [] }
     {
@@ -68,14 +68,14 @@ impl Handles {
         }
     }
 
-    /// How many register calls there were, refused ones counted too.
+    /// Returns how many register calls there were, including those that failed.
     pub fn len(&self) -> usize
         ensures { result ≡ length (entries self.now) }
     {
         self.entries.len()
     }
 
-    /// The kind of the register call with that number, from 0, and what it gave.
+    /// Returns the kind of the register call with that number, from 0, and what it returned.
     pub fn entry(&self, number: usize) -> Option<(MetricKind, &[Address])>
         ensures { option_map handle_seen result ≡ entry_at number (entries self.now) }
     {
@@ -85,7 +85,7 @@ impl Handles {
         }
     }
 
-    /// The same of the register call that an update names. Other calls name none.
+    /// Returns the same of the register call that an update names. Other calls name none.
     pub fn named(&self, call: &Call) -> Option<(MetricKind, &[Address])>
         ensures { option_map handle_seen result ≡ entry_named call.now (entries self.now) }
     {
@@ -96,7 +96,7 @@ impl Handles {
         }
     }
 
-    /// Makes room for what a call will give; only a register call needs any.
+    /// Reserves room for what a call will return; only a register call needs any.
     pub fn reserve_for(&mut self, call: &Call) -> Result<(), AllocError>
         ensures entries { entries self.new ≡ entries self.old }
         ensures room { OnOk result (HasRoom call.now self.new) }
@@ -108,7 +108,7 @@ impl Handles {
         }
     }
 
-    /// Notes what a call gave, if it was a register call.
+    /// Notes what a call returned, if it was a register call.
     pub fn note(&mut self, call: &Call, given: Option<Items<Address>>)
         requires { HasRoom call.now self.old }
         ensures { entries self.new ≡ entries self.old ++ entries_by call.now given }

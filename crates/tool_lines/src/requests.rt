@@ -9,8 +9,11 @@ use tool_grammar::number_of;
 /// How many workers a storm has, how many values each pushes, and how many blocks the bucket has.
 #[derive(Clone, Copy)]
 pub struct StormPlan {
+    /// The number of workers.
     pub pushers: usize,
+    /// How many values each pushes.
     pub values: u64,
+    /// The blocks of the bucket, or of a growing one's first segment.
     pub blocks: usize,
 }
 
@@ -54,8 +57,8 @@ fn plan_of(pushers: &str, values: &str, blocks: &str) -> Option<StormPlan>
     })
 }
 
-/// What the words behind the program's name ask for: `run`, or `storm P V B` or `storm P V B grow` with numbers that a storm
-/// allows.
+/// Returns what the words after the program's name ask for: `run`, or `storm P V B` or `storm P V B grow` with numbers
+/// that a storm allows.
 pub fn request_of(words: &[&str]) -> Option<Request>
     ensures { MatchOption result ((asked : Asked) → Asks (map (λ w. w.now) words.now) asked → ⊥)
         (λ asked. Asks (map (λ w. w.now) words.now) asked) }

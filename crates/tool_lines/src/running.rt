@@ -20,7 +20,7 @@ use std::marker::PhantomData;
 use tool_grammar::{RunError, call_of, write_answer};
 use tool_stream::{LineMachine, Unanswered, run_lines};
 
-/// What an answer gives to a register call.
+/// What an answer returns to a register call.
 fn addresses(answer: Answer) -> Option<Items<Address>>
     ensures { result ≡ addresses_in answer }
 {
@@ -31,7 +31,7 @@ fn addresses(answer: Answer) -> Option<Items<Address>>
     }
 }
 
-/// The call of a line, with room for what it will give.
+/// The call of a line, with room for what it will return.
 fn read_call(alloc: Global, handles: &mut Handles, line: &[u8]) -> Result<Call, Unanswered>
     ensures entries { entries handles.new ≡ entries handles.old }
     ensures call { MatchResult result (λ c. Spells line.now c × HasRoom c handles.new) (λ e. IsUnread line.now e) }
@@ -47,7 +47,7 @@ fn read_call(alloc: Global, handles: &mut Handles, line: &[u8]) -> Result<Call, 
     }
 }
 
-/// Puts the text of an answer behind what `said` holds. `registers` is the number of register calls before it.
+/// Appends the text of an answer to `said`. `registers` is the number of register calls before it.
 fn say(registers: usize, call: &Call, answer: &Answer, said: &mut String) -> Result<(), Unanswered>
     ensures { MatchResult result
         (λ _. string_bytes said.new ≡ string_bytes said.old ++ text_of registers call.now answer.now)
@@ -59,7 +59,7 @@ fn say(registers: usize, call: &Call, answer: &Answer, said: &mut String) -> Res
     }
 }
 
-/// Call lines on a recorder. The notes are what register calls gave.
+/// Call lines on a recorder. The notes are what register calls returned.
 struct CallLines<R> {
     of: PhantomData<R>,
 }
@@ -88,13 +88,13 @@ impl<R: Recorder> LineMachine for CallLines<R> {
     }
 }
 
-/// Makes the call of each line that the reader gives, and answers it, up to the end or the first fault, and flushes the
-/// writer. The first line has the number `first`.
+/// Makes the call of each line of the reader, and answers it, up to the end or the first fault, and flushes the writer.
+/// The first line has the number `first`.
 ///
-/// Answers are written before the reader is looked at where that may wait, at the end, and before a fault is told. So who
-/// types sees each answer before the next line is read, and what lies ready is answered together.
+/// Answers are written before a look at the reader that may wait, at the end, and before a fault is reported.
+/// Interactive users see each answer before the next line is read; lines that are ready are answered together.
 ///
-/// The result is how many calls were answered; it and the numbers of lines stop at `u64::MAX`.
+/// Returns how many calls were answered; it and the numbers of lines saturate at `u64::MAX`.
 pub fn run<R: Recorder, I: BufRead, O: Write>(
     alloc: Global,
     on: &mut R,
@@ -107,12 +107,12 @@ pub fn run<R: Recorder, I: BufRead, O: Write>(
         × Appends (O.contents output.old) (O.contents output.new) text
         × IsRun (OnSome (I.remaining input.old) (IsAtEnd (I.remaining input.new)))
         first (R.meaning on.old) (R.meaning on.new) read text result }
-    // Where they are known: all that the reader had was read, and the writer holds what it held and the answers.
+    // If they are known: all that the reader had was read, and the writer holds what it held and the answers.
     ensures known { OnOk result (IfSome (I.remaining input.old) (λ xs. IfSome (O.contents output.old) (λ held.
         (log : Log) × AreSpelled (lines_of xs) log × AreMade (R.meaning on.old) (R.meaning on.new) log
         × (O.contents output.new ≡ Some (held ++ print log))))) }
-    // Over new books: the lines are those of calls, up to the end, the first bad one or a fault, and what was written is their
-    // output; where the writing stopped, a beginning of it.
+    // Over new books: the lines are those of calls, up to the end, the first bad one or a fault, and what was written
+    // is their output; if the writing stopped, a beginning of it.
     ensures answered { AreNew (R.meaning on.old).contents
         → IfSome (I.remaining input.old) (λ xs. IfSome (O.contents output.old) (λ held.
         AnswersCalls (R.meaning on.old) (lines_of xs) (λ text. O.contents output.new ≡ Some (held ++ text)) result)) }

@@ -21,7 +21,7 @@ fn write_sampled(text: &mut String, sampled: (u64, u64, i128)) -> Result<(), All
     writeln!(text, "sampled {held} of {count} sum {sum}")
 }
 
-/// The three lines of a storm.
+/// Returns the three lines of a storm.
 pub fn text_of_totals(alloc: Global, totals: &Totals) -> Result<String, AllocError>
     ensures { IfOk result (λ text. string_bytes text ≡ totals_text totals.now) }
 {

@@ -51,13 +51,14 @@ fn built(stack: Vec<Level>, number: u64) -> Result<(Child<DebuggingRecorder>, u6
     }
 }
 
-/// Reads the tree lines, and answers a tree of new books and the number of the next line.
+/// Reads the tree lines, and returns a tree of new books and the number of the next line.
 ///
-/// The lines work on a stack of recorders. `book` and `noop` put one there, `prefix P` and `filter ..` wrap
-/// the top, `fanout N` and `router T ROUTE ..` take several, and at `end` there must be just one. An input
-/// that ends earlier has its bad line at the number after its last line.
+/// The lines work on a stack of recorders. `book` and `noop` push one, `prefix P` and `filter ..` wrap the top, `fanout
+/// N` and `router T ROUTE ..` combine several, and at `end` there must be just one. An input that ends earlier has its
+/// bad line at the number after its last line.
 ///
-/// Want of memory tells the number of the line behind those that were taken; at a device's fault at most one line more was read.
+/// The error for out of memory has the number of the line after those that were accepted; at a device's fault at most
+/// one line more was read.
 pub fn tree<I: BufRead>(
     alloc: Global,
     input: &mut I,

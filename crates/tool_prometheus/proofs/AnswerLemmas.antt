@@ -101,7 +101,7 @@ module _ (old : Served) (exporter : Exporter) where
 
   -- ---- a scrape
 
-  -- an expiry and what is shown behind it
+  -- an expiry and what is shown after it
   abbrev pub Scrapes : {T : Type 0} → (T → List ℕ) → ℕ → Result T Error → Type 0
   Scrapes bytes now r = (setup : Setup) (log : Log) → IsAfter setup log old.exporter → (checks : List (Answered KeyParts))
       × (answer : Result ℕ Error)
@@ -141,7 +141,7 @@ pub shown_or_not : (naming : Naming) (cells : Cells) (on : Exporter) (answer : R
 shown_or_not naming cells on answer n bytes (Ok t) Held is h held = (n, is, h)
 shown_or_not naming cells on answer n bytes (Err e) Held is h held = (h, held)
 
--- ---- lines that ask for nothing
+-- ---- lines that are no request
 
 pub nothing_told : (on : Served) → Answers on on Nothing []
 nothing_told on = (

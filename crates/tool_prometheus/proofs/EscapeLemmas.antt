@@ -69,7 +69,7 @@ escapes-same c d bs ds x y (itself k p n f) (quote l g) e = absurd (mixed d c ds
 escapes-same c d bs ds x y (itself k p n f) (feed l g) e = absurd (mixed d c ds bs y x 110 g k f (sym e))
 escapes-same c d bs ds x y (itself k p n f) (itself l q m g) e = plain c d bs ds x y f g e
 
--- an escape tells its character, and where it ends
+-- an escape determines its character, and where it ends
 pub escape-same : (c d : ℕ) (x y : List ℕ) → escape c ++ x ≡ escape d ++ y → (c ≡ d) × (x ≡ y)
 escape-same c d x y e = escapes-same c d (escape c) (escape d) x y (escape-is c) (escape-is d) e
 

@@ -1,4 +1,4 @@
--- A line spells one request at most.
+-- A line spells at most one request.
 use Rattle.std.proofs.Common.{◌≡◌, ◌∙◌, ℕ, ◌<◌, ◌^◌, List, [], ◌∷◌, ◌++◌, codes, decimal, drop, get_or, refl, ap, sym, subst, arith}
 use Rattle.std.specs.Prelude.{Option, None, Some}
 use Rattle.std.proofs.lemmas.Fmt.{decimal_injective}

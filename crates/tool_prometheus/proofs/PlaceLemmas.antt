@@ -5,7 +5,7 @@ use Rattle.std.specs.Ordering.{is_lt}
 use Rattle.metrics_names.specs.Names.{LabelParts, label_cmp}
 use Rattle.metrics_prometheus.specs.Labels.{placed}
 
--- it stands behind those before which it doesn't come, and before the next
+-- it follows those that it doesn't precede, and precedes the next
 pub place-at : (l : LabelParts) (ms : List LabelParts) (i : ℕ) → i ≤ length ms
     → ((k : ℕ) (d : LabelParts) → k < i → is_lt (label_cmp l (get_or ms k d)) ≡ false)
     → (i < length ms → (d : LabelParts) → is_lt (label_cmp l (get_or ms i d)) ≡ true) → insert ms i l ≡ placed l ms

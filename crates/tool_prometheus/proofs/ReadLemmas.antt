@@ -20,7 +20,7 @@ use Rattle.tool_prometheus.proofs.EscapeLemmas.{escaped-same, starts-else}
 use Rattle.tool_prometheus.proofs.LabelLemmas.{QuotedSoFar, quoted-fails, LabelsSoFar, labels-fail, label-twice, starts-words}
 use Rattle.tool_prometheus.proofs.SentenceLemmas.{lacks_name}
 
--- what holds is told of any error
+-- what holds is known of any error
 pub certain : {P : Type 0} (e : Unread) → P → Fails P e
 certain Memory p = tt
 certain (Bad cause at) p = p
@@ -111,7 +111,7 @@ pub labels-err : (bytes rest : List ℕ) (labels : List LabelParts) (e : Unread)
 labels-err bytes rest labels Memory so some none = tt
 labels-err bytes rest labels (Bad cause at) so some none = labels-fail bytes rest labels so some none
 
--- ---- words behind a space
+-- ---- words after a space
 
 module _ (bytes word rest : List ℕ) (is : bytes ≡ 32 ∷ (word ++ rest)) (lacks : Lacks 32 word) (starts : StartsAt 32 rest) where
   same-word : (other r : List ℕ) → Lacks 32 other → StartsAt 32 r → bytes ≡ 32 ∷ (other ++ r) → (word ≡ other) × (rest ≡ r)

@@ -22,7 +22,7 @@ pub lacks_name : (n : List ℕ) → IsName n → Lacks 32 (name_word n)
 lacks_name [] h = lacks_literal 32 (codes "-") refl
 lacks_name (x ∷ xs) h = h.1
 
--- ---- a line by its first word and what stands behind it
+-- ---- a line by its first word and what follows it
 
 abbrev pub first_word : Sentence → List ℕ
 first_word (change by name ws) = update_word by

@@ -11,7 +11,7 @@ use Rattle.tool_prometheus.specs.Serving.{answers, Stops, EndsLines}
 use Rattle.tool_prometheus.proofs.AnswerLemmas.{append-nil}
 
 module _ (skips : Bool) {N : Type 0} where
-  -- what was noted is nothing to the lines
+  -- what was noted doesn't affect the lines
   forget : (p : Served × N) (es : Dialogue) (q : Served × N) → FoldsTo (λ p e q. answers {Notes = N} skips p e.0 e.1 q) p es q
       → FoldsTo (λ p e q. answers {Notes = Unit {0}} skips p e.0 e.1 q) (p.0, tt) es (q.0, tt)
   forget p [] q e = λ i. ((e i).0, tt)
@@ -55,7 +55,7 @@ pub end-text : {E : Type 0} (r : Result (Unit {0}) E) (new old whole : List ℕ)
 end-text (Ok done) new old whole h is none = is ∙ ap (λ z. z ++ whole) none
 end-text (Err e) new old whole h is none = absurd (let g : true ≡ false = h in cc)
 
--- a want of memory is told after a flush too
+-- out of memory is reported after a flush too
 pub flushed-memory : (r : Result ℕ RunError) → IsFlushed (Err (Memory None)) r → r ≡ Err (Memory None)
 flushed-memory r (inl is) = is
 flushed-memory r (inr (whole, is)) = absurd whole

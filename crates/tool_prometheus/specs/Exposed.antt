@@ -1,4 +1,4 @@
--- What requests are answered.
+-- The answers to requests.
 use Rattle.std.specs.Prelude.{if◌then◌else◌, ◌≡◌, ℕ, ◌<◌, ◌^◌, Bool, true, false, List, [], ◌∷◌, ◌++◌, codes, ◌⊎◌, Result, Ok, Err, Option, None, Some}
 use Rattle.metrics.specs.declared.error.Error.{Error}
 use Rattle.metrics.specs.declared.error.Error.TheVariants.{Memory, CountFull}
@@ -23,28 +23,28 @@ use Rattle.tool_prometheus.specs.Lines.{Spells, IsBad}
 abbrev pub scrape_text : Bool → List ℕ → List ℕ
 scrape_text has_file shown = if has_file then [] else shown ++ 10 ∷ []
 
--- want of memory, as a comment
+-- out of memory, as a comment
 abbrev pub want_text : List ℕ
 want_text = codes "# refused E1 memory\n"
 
--- a count of samples that can't take one more
+-- a count of samples that is full
 abbrev pub full_text : List ℕ
 full_text = codes "# refused E8 count full\n"
 
--- what tells a refusal; a call that was not refused prints nothing by it
+-- the report of a failure; a call that succeeded prints nothing by it
 abbrev pub refusal_text : Result (Unit {0}) Error → List ℕ
 refusal_text (Ok done) = []
 refusal_text (Err CountFull) = full_text
 refusal_text (Err e) = want_text
 
--- what a scrape prints that showed this, or was refused
+-- what a scrape prints that showed this, or failed
 abbrev pub shown_text : {T : Type 0} → (T → List ℕ) → Bool → Result T Error → List ℕ
 shown_text bytes has_file (Ok shown) = scrape_text has_file (bytes shown)
 shown_text bytes has_file (Err e) = refusal_text (Err e)
 
 -- ---- one request
 
--- an exposition of these cells, with what the exporter was told of names
+-- an exposition of these cells, with the exporter's descriptions of names
 abbrev pub IsExposed : Naming → Exporter → Cells → List ℕ → Type 0
 IsExposed naming on cells text = IsDescribed naming (described on) cells text
 
@@ -56,7 +56,7 @@ IsShown naming cells on answer shown = (n : ℕ) × (answer ≡ Ok n) × IsExpos
 abbrev pub KeepsRest : Served → Served → Type 0
 KeepsRest old new = (new.naming ≡ old.naming) × (new.has_file ≡ old.has_file) × (new.has_bad ≡ old.has_bad)
 
--- an exposition of what is held after the calls, with what was told of names
+-- an exposition of what is held after the calls, with the descriptions of names
 abbrev pub Shows : Setup → Log → Served → List ℕ → Type 0
 Shows setup log on shown = IsExposed on.naming on.exporter (cells_after setup (steps log)) shown
 
@@ -65,13 +65,13 @@ abbrev pub IsMoment : Option ℕ → ℕ → Type 0
 IsMoment (Some now) moment = moment ≡ now
 IsMoment None moment = moment < 2 ^ 64
 
--- what is told of names stays
+-- the descriptions of names stay
 abbrev pub KeepsTold : Served → Served → Type 0
 KeepsTold old new = SameLegend (described new.exporter) (described old.exporter)
 
--- The plain answer to a request after a list of calls: the calls that it made, as they go into the list with their answers, and
--- its text. An update is made, or refused where the count of its samples is full; a scrape is an expiry, and then an exposition.
--- Afterwards something has changed since the last scrape, or nothing.
+-- The expected answer to a request after a list of calls: the calls that it made, as they are added to the list with
+-- their answers, and its text. An update is made, or fails if the count of its samples is full; a scrape is an expiry,
+-- and then an exposition. Afterwards something has changed since the last scrape, or nothing.
 abbrev pub IsPlain : Setup → Log → Served → Request → Log → Served → List ℕ → Type 0
 IsPlain setup log old (Change key by) made new text = KeepsTold old new ×
     (((made ≡ updates key by (Ok tt) ∷ []) × (text ≡ []) × (IsFull (steps log) key by → ⊥) × (new.is_changed ≡ true))
@@ -86,8 +86,8 @@ IsPlain setup log old (Scrape moment) made new text = KeepsTold old new ×
     × Shows setup (log ++ made) new shown × (text ≡ scrape_text old.has_file shown) × (new.is_changed ≡ false))
 IsPlain setup log old Nothing made new text = (new ≡ old) × (made ≡ []) × (text ≡ [])
 
--- Want of memory: an update that would make its series and changes nothing, a description that changes nothing, or a scrape that
--- found some series. Its expiry made all its checks or a front of them.
+-- Out of memory: an update that would make its series and changes nothing, a description that changes nothing, or a
+-- scrape that found some series. Its expiry made all its checks or the first n of them.
 abbrev pub IsWant : Setup → Log → Served → Request → Log → Served → List ℕ → Type 0
 IsWant setup log old (Change key by) made new text = KeepsTold old new
     × (made ≡ updates key by (Err Memory) ∷ []) × (text ≡ want_text) × (new.is_changed ≡ old.is_changed)
@@ -109,18 +109,18 @@ abbrev pub Answers : Served → Served → Request → List ℕ → Type 0
 Answers old new request text = KeepsRest old new × ((setup : Setup) (log : Log) → IsAfter setup log old.exporter →
     (made : Log) × IsAfter setup (log ++ made) new.exporter × IsAnswer setup log old request made new text)
 
--- a bad line that is passed over is noted, and has no text
+-- a bad line that is skipped is noted, and has no text
 abbrev pub PassesOver : Served → List ℕ → Served → Type 0
 PassesOver old text new = (new ≡ record old { has_bad = true }) × (text ≡ [])
 
--- A line's request was answered; or a bad line was passed over, where lines are.
+-- A line's request was answered; or a bad line was skipped, if lines may be.
 abbrev pub AnswersLine : Bool → Served → List ℕ → List ℕ → Served → Type 0
 AnswersLine skips old line text new = ((request : Request) × Spells line request × Answers old new request text)
     ⊎ ((skips ≡ true) × IsBad line × PassesOver old text new)
 
 -- ---- the end of the input
 
--- What is held at the end is shown where something changed since the last scrape; or memory was wanted, and some series is held.
+-- What is held at the end is shown if something changed since the last scrape; or memory ran out, and some series is held.
 abbrev pub ShowsEnd : Served → List ℕ → Type 0
 ShowsEnd on text = (setup : Setup) (log : Log) → IsAfter setup log on.exporter →
     ((shown : List ℕ) × Shows setup log on shown × (text ≡ scrape_text on.has_file shown))

@@ -37,7 +37,7 @@ escape c = if nat_eq c 92 then codes "\\\\" else (if nat_eq c 34 then codes "\\\
 abbrev pub escaped : List ℕ → List ℕ
 escaped value = flat_map escape value
 
--- a label as it is written: its key, its value, and whether that stands in quotes
+-- a label as it is written: its key, its value, and whether that is in quotes
 pub record Written : Type 0 where
   pub key : List ℕ
   pub value : List ℕ
@@ -59,7 +59,7 @@ abbrev pub StartsElse : ℕ → List ℕ → Type 0
 StartsElse c [] = Unit {0}
 StartsElse c (x ∷ xs) = x ≢ c
 
--- in quotes a line feed may stand too
+-- in quotes a line feed is allowed too
 abbrev pub IsQuotable : ℕ → Type 0
 IsQuotable c = (c ≡ 10) ⊎ IsPlain c
 
@@ -85,7 +85,7 @@ MayFollow labels (w ∷ ws) = IsWritten w × LacksKey w.key labels × MayFollow 
 abbrev pub AreWritten : List Written → Type 0
 AreWritten ws = MayFollow [] ws
 
--- each put in its place among those before it
+-- each inserted at its place among those before it
 abbrev pub put_in : List LabelParts → List Written → List LabelParts
 put_in labels [] = labels
 put_in labels (w ∷ ws) = put_in (placed (label_of w) labels) ws
@@ -122,7 +122,7 @@ CanBeSpelled scrape_by_clock = Unit {0}
 CanBeSpelled (comment text) = Unit {0}
 CanBeSpelled empty = Unit {0}
 
--- what a sentence asks for
+-- the request of a sentence
 abbrev pub request_in : Sentence → Request
 request_in (change by name ws) = Change (record { name = name; labels = in_order ws }) by
 request_in (describe kind name unit text) = Describe kind name unit text
@@ -142,7 +142,7 @@ body_of [] = []
 body_of (x ∷ []) = if nat_eq x 13 then [] else x ∷ []
 body_of (x ∷ (y ∷ ys)) = x ∷ body_of (y ∷ ys)
 
--- the bytes are those of a sentence that asks for this
+-- the bytes are those of a sentence with this request
 abbrev pub Reads : List ℕ → Request → Type 0
 Reads bytes request = (s : Sentence) × CanBeSpelled s × (bytes ≡ spelling s) × (request ≡ request_in s)
 
@@ -160,7 +160,7 @@ IsBad line = IsNone (body_of line)
 
 -- ---- errors
 
--- where memory wasn't wanted, this holds
+-- unless memory ran out, this holds
 abbrev pub Fails : Type 0 → Unread → Type 0
 Fails P unread.Memory = Unit {0}
 Fails P (unread.Bad cause word) = P

@@ -15,7 +15,7 @@ use Rattle.tool_prometheus.specs.Exposed.{AnswersLine, IsEnd}
 abbrev pub answers : {Notes : Type 0} → Bool → Answering (Served × Notes)
 answers skips p line text q = AnswersLine skips p.0 line text q.0
 
--- a bad line ends a run that doesn't pass over it
+-- a bad line ends a run that doesn't skip it
 abbrev pub Stops : Bool → List ℕ → Type 0
 Stops skips line = (skips ≡ false) × IsBad line
 
@@ -44,14 +44,14 @@ Serves options at_end read text r =
     ((start : Served) × IsFresh options start × IsPrometheusRun options.skips_bad at_end start read text r)
     ⊎ ((read ≡ []) × (text ≡ []) × (r ≡ Err (Memory None)))
 
--- the status at the end: a bad line, a fault, or neither; a fault of the file is one, and a bad line that was passed over is told
+-- the status at the end: a bad line, a fault, or neither; a fault of the file is one, and a skipped bad line is reported
 abbrev pub IsStatus : Result ℕ RunError → ℕ → Type 0
 IsStatus (Ok n) status = (status ≡ 0) ⊎ ((status ≡ 1) ⊎ (status ≡ 3))
 IsStatus (Err (BadLine k)) status = status ≡ 2
 IsStatus (Err (Memory at)) status = status ≡ 1
 IsStatus (Err Device) status = status ≡ 1
 
--- the lines were answered, and the status tells how that ended
+-- the lines were answered, and the status reports how that ended
 abbrev pub Ends : Options → Type 0 → (List ℕ → Type 0) → (List ℕ → Type 0) → ℕ → Type 0
 Ends options at_end Reads Writes status = (read text : List ℕ) × (r : Result ℕ RunError)
     × Reads read × Writes text × Serves options at_end read text r × IsStatus r status

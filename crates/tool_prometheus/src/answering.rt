@@ -22,18 +22,19 @@ use std::alloc::{AllocError, Global};
 /// What the lines act on.
 #[derive(Drop)]
 pub struct Served {
+    /// The exporter.
     pub exporter: Exporter,
-    /// Under which names and in which units series are shown.
+    /// The names and units that series are shown with.
     pub naming: Naming,
     /// Scrapes go to a file, and not to the output.
     pub has_file: bool,
-    /// Something changed since the last scrape that was not refused.
+    /// Something changed since the last scrape that succeeded.
     pub is_changed: bool,
-    /// A bad line was passed over.
+    /// A bad line was skipped.
     pub has_bad: bool,
 }
 
-/// The comment that tells a refusal, or nothing where there was none.
+/// The comment that reports a failure, or nothing if there was none.
 fn refusal_text(answered: Result<(), Error>) -> &'static str
     ensures { result.now ≡ text_of_refusal answered }
 {
@@ -54,7 +55,7 @@ fn owes(before: bool, answered: &Result<(), Error>) -> bool
     }
 }
 
-/// Updates a series, and appends what tells a refusal.
+/// Updates a series, and appends the report of a failure.
 fn answer_change(
     on: &mut Served,
     key: &Key,
@@ -69,7 +70,7 @@ fn answer_change(
     text.push_str(refusal_text(answered))
 }
 
-/// Describes a name, and appends what tells a refusal.
+/// Describes a name, and appends the report of a failure.
 fn answer_describe(
     on: &mut Served,
     kind: MetricKind,
@@ -86,8 +87,7 @@ fn answer_describe(
     text.push_str(refusal_text(answered))
 }
 
-/// Removes what is idle at the moment, and gives an exposition of the series that are left. It is never refused where none is
-/// held.
+/// Removes the series idle at this moment, and returns an exposition of the rest. Never fails if no series is held.
 fn shown_at(alloc: Global, naming: Naming, on: &mut Exporter, now: u64) -> Result<String, Error>
     ensures shown { (setup : Setup) (log : Log) → IsAfter setup log on.old → (checks : List (Answered KeyParts))
         × (answer : Outcome ℕ Refusal) × IsExpiry setup (steps log) now checks answer
@@ -121,7 +121,7 @@ fn hand_out<S: Surroundings>(
     text.push_str("\n")
 }
 
-/// Hands out what a scrape shows, or appends what tells a refusal.
+/// Writes what a scrape shows, or appends the report of a failure.
 fn hand_out_shown<S: Surroundings>(
     on: &mut Served,
     watch: &mut Watch<S>,
@@ -158,7 +158,7 @@ fn answer_scrape<S: Surroundings>(
     hand_out_shown(on, watch, shown, text)
 }
 
-/// The moment of a scrape, which is the clock's where the line has none.
+/// The moment of a scrape: the clock's if the line has none.
 fn moment_of<S: Surroundings>(watch: &mut Watch<S>, moment: Option<u64>) -> u64
     ensures { IsMoment moment result }
 {
@@ -168,8 +168,8 @@ fn moment_of<S: Surroundings>(watch: &mut Watch<S>, moment: Option<u64>) -> u64
     }
 }
 
-/// Makes the call that is asked for, and appends its text. An error is want of memory for the text: the call is made then
-/// too, and what `text` holds is left open.
+/// Makes the requested call and appends its text. Fails only without memory for the text: the call is still made, and
+/// the content of `text` is unspecified.
 pub fn answer_request<S: Surroundings>(
     alloc: Global,
     on: &mut Served,
@@ -190,7 +190,7 @@ pub fn answer_request<S: Surroundings>(
     }
 }
 
-/// Shows what is held, at the end of the input, where something changed since the last scrape. Nothing expires then.
+/// Shows what is held, at the end of the input, if something changed since the last scrape. Nothing expires then.
 pub fn answer_end<S: Surroundings>(
     alloc: Global,
     on: &mut Served,

@@ -1,4 +1,4 @@
-//! The whole program, over what the words of its command line ask for.
+//! The whole program, for a parsed command line.
 ghost use Rattle.std.specs.Prelude.{ℕ, List, [], Err as Failed, OnSome};
 ghost use Rattle.std.specs.Io.KnownBytes.{Consumes, Appends, IsAtEnd};
 ghost use Rattle.metrics_exporter.specs.Kept.{IsAfter};
@@ -17,13 +17,14 @@ use tool_export::{ExportPlan, exporter_of};
 use tool_grammar::RunError;
 use tool_stream::flush;
 
-/// What the words of the command line ask for.
+/// What the command line asks for.
 #[derive(Drop)]
 pub struct Options {
+    /// How the exporter is to be made.
     pub plan: ExportPlan,
-    /// Under which names and in which units series are shown.
+    /// The names and units that series are shown with.
     pub naming: Naming,
-    /// Bad lines are told and passed over.
+    /// Bad lines are reported and skipped.
     pub skips_bad: bool,
     /// Scrapes go to a file, and not to the output.
     pub has_file: bool,
@@ -40,7 +41,7 @@ fn status_of(e: RunError) -> u8
     }
 }
 
-/// The status at the end of a run. Why it stopped is told.
+/// Reports why a run stopped, and returns the status at its end.
 fn told<S: Surroundings>(watch: &mut Watch<S>, answered: Result<u64, RunError>, has_bad: bool) -> u8
     ensures { IsStatus answered result }
 {
@@ -52,7 +53,7 @@ fn told<S: Surroundings>(watch: &mut Watch<S>, answered: Result<u64, RunError>, 
     }
 }
 
-/// Answers each line that the reader gives, on what was made for the options.
+/// Answers each line of the reader, on what was made for the options.
 fn serve<S: Surroundings, I: BufRead, O: Write>(
     alloc: Global,
     options: &Options,
@@ -73,7 +74,7 @@ fn serve<S: Surroundings, I: BufRead, O: Write>(
     }
 }
 
-/// Answers each line that the reader gives, on a new exporter of the plan.
+/// Answers each line of the reader, on a new exporter of the plan.
 fn serve_new<S: Surroundings, I: BufRead, O: Write>(
     alloc: Global,
     options: &Options,
@@ -98,8 +99,8 @@ fn serve_new<S: Surroundings, I: BufRead, O: Write>(
     told(watch, answered, on.has_bad)
 }
 
-/// Makes an exporter, and answers each line that the reader gives, from line 1 on. Answers the program's status; why it
-/// stopped is told.
+/// Makes an exporter, and answers each line of the reader, from line 1 on. Reports why it stopped, and returns the
+/// program's status.
 pub fn command<S: Surroundings, I: BufRead, O: Write>(
     alloc: Global,
     options: &Options,

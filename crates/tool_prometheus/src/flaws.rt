@@ -1,4 +1,4 @@
-//! Why a line is bad, and what is said of it.
+//! Why a line is bad, and the message for it.
 ghost use Rattle.std.specs.Prelude.{◌≡◌};
 
 use metrics::Refused;
@@ -13,25 +13,25 @@ pub enum Cause {
     FirstWord,
     /// The line ends before this word.
     Missing(&'static str),
-    /// Two spaces stand side by side, or one at the end.
+    /// Two spaces are side by side, or one is at the end.
     Empty,
-    /// A number from 0 to 2^64 - 1 was wanted.
+    /// Expected a number from 0 to 2^64 - 1.
     Whole,
-    /// A number from -2^63 to 2^63 - 1 was wanted.
+    /// Expected a number from -2^63 to 2^63 - 1.
     Signed,
-    /// A kind of series was wanted.
+    /// Expected a kind of series.
     Kind,
-    /// A unit was wanted.
+    /// Expected a unit.
     Unit,
-    /// `LABEL=VALUE` was wanted.
+    /// Expected `LABEL=VALUE`.
     Label,
     /// Another label of the line has this key.
     Twice,
     /// A quoted value has no quote at its end.
     Unclosed,
-    /// A backslash stands before another character than a quote, a backslash or an n.
+    /// A backslash precedes a character other than a quote, a backslash or an n.
     Escape,
-    /// Something else than a space stands behind a quoted value.
+    /// Something other than a space follows a quoted value.
     Behind,
     /// A name or a label has a control character.
     Control,
@@ -39,10 +39,10 @@ pub enum Cause {
     Bytes,
 }
 
-/// Why a line asks for nothing.
+/// Why a line is no request.
 #[derive(Clone, Copy, Debug)]
 pub enum Unread<'a> {
-    /// No memory was found for what it asks for.
+    /// Out of memory for the request.
     Memory,
     /// The line is bad: what is wrong, and with which word.
     Bad(Cause, &'a [u8]),
@@ -68,12 +68,16 @@ impl<'a> From<AllocError> for Unread<'a> {
     }
 }
 
-/// What is said of a bad line.
+/// The message for a bad line.
 #[derive(Drop)]
 pub struct Message<'a> {
+    /// The number of the line, from 1.
     pub number: u64,
+    /// The line without its line feed.
     pub line: &'a [u8],
+    /// Why it is bad.
     pub cause: Cause,
+    /// The word at fault.
     pub word: &'a [u8],
 }
 
@@ -105,7 +109,7 @@ impl fmt::Display for Shown<'_> {
     }
 }
 
-/// What is said of a word with this flaw.
+/// The message for a word with this flaw.
 fn wanted(cause: Cause, word: &[u8]) -> &'static str {
     match cause {
         Cause::FirstWord => "is not increment, absolute, add, sub, set, record, describe or scrape",
@@ -131,7 +135,7 @@ fn wanted(cause: Cause, word: &[u8]) -> &'static str {
     }
 }
 
-/// Whether a word is digits, behind a minus or not.
+/// Whether a word is digits, with or without a minus.
 fn is_digits(word: &[u8]) -> bool {
     let digits = word.strip_prefix(b"-").unwrap_or(word);
     !digits.is_empty() && digits.iter().all(|byte| byte.is_ascii_digit())

@@ -49,7 +49,7 @@ pub(crate) fn text_of(word: &[u8]) -> Result<&str, Unread<'_>>
     }
 }
 
-/// The character that stands behind a backslash for this one.
+/// The character that a backslash and this one spell.
 fn unescaped(byte: u8) -> Option<u8>
     ensures { MatchOption result ((c : ℕ) → escape c ≡ 92 ∷ byte ∷ [] → ⊥)
         (λ c. IsQuotable c × (escape c ≡ 92 ∷ byte ∷ [])) }
@@ -67,7 +67,7 @@ fn front(bytes: &[u8], count: usize) -> &[u8] {
     bytes.get(..count).unwrap_or(bytes)
 }
 
-/// The first byte of a quoted value that is not at its end, and what stands behind it.
+/// The first byte of a quoted value that is not at its end, and what follows it.
 fn next_byte(bytes: &[u8]) -> Result<(u8, &[u8]), Unread<'_>>
     requires { StartsElse 34 bytes.now }
     ensures { MatchResult result (λ f. IsQuotable f.0 × (bytes.now ≡ escape f.0 ++ f.1.now))
@@ -92,7 +92,7 @@ fn next_byte(bytes: &[u8]) -> Result<(u8, &[u8]), Unread<'_>>
     }
 }
 
-/// Puts a byte behind the others.
+/// Appends a byte.
 fn put(value: &mut Vec<u8>, byte: u8) -> Result<(), AllocError>
     ensures { OnOk result (value.new.items ≡ value.old.items ++ byte ∷ []) }
 {
@@ -100,7 +100,7 @@ fn put(value: &mut Vec<u8>, byte: u8) -> Result<(), AllocError>
     Ok(())
 }
 
-/// The value whose first quote was read, and what stands behind its last one.
+/// The value after its first quote, and what follows its last one.
 fn quoted(alloc: Global, bytes: &[u8]) -> Result<(Vec<u8>, &[u8]), Unread<'_>>
     ensures { MatchResult result
         (λ f. AllByRecursion IsQuotable f.0.items × (bytes.now ≡ escaped f.0.items ++ 34 ∷ f.1.now))
@@ -120,7 +120,7 @@ fn quoted(alloc: Global, bytes: &[u8]) -> Result<(Vec<u8>, &[u8]), Unread<'_>>
     Err(Unread::Bad(Cause::Unclosed, bytes))
 }
 
-/// The value whose first quote was read, and what stands behind its last one: nothing, or a space.
+/// The value after its first quote, and what follows its last one: nothing, or a space.
 fn closed(alloc: Global, bytes: &[u8]) -> Result<(Vec<u8>, &[u8]), Unread<'_>>
     ensures { MatchResult result (λ f. AllByRecursion IsQuotable f.0.items × (bytes.now ≡ escaped f.0.items ++ 34 ∷ f.1.now)
         × StartsAt 32 f.1.now)
@@ -134,7 +134,7 @@ fn closed(alloc: Global, bytes: &[u8]) -> Result<(Vec<u8>, &[u8]), Unread<'_>>
     Ok((value, rest))
 }
 
-/// Whether nothing stands there, or a space first.
+/// Whether the bytes are empty or begin with a space.
 fn starts_at_space(bytes: &[u8]) -> bool
     ensures yes { result ≡ true → StartsAt 32 bytes.now }
     ensures no { result ≡ false → StartsAt 32 bytes.now → ⊥ }
@@ -160,7 +160,7 @@ fn label_of<'a>(
     }
 }
 
-/// A label of this key whose value stands there in quotes, behind the first one, and what stands behind it.
+/// A label of this key with a quoted value, from after its first quote, and what follows it.
 fn quoted_label<'a>(
     alloc: Global,
     key: &str,
@@ -177,7 +177,7 @@ fn quoted_label<'a>(
     Ok((label, rest))
 }
 
-/// A label of this key whose value stands there without quotes, and what stands behind it.
+/// A label of this key with an unquoted value, and what follows it.
 fn bare_label<'a>(
     alloc: Global,
     key: &str,
@@ -195,7 +195,7 @@ fn bare_label<'a>(
     Ok((label, rest))
 }
 
-/// A label of this key whose value stands there, and what stands behind it.
+/// A label of this key with the value that begins here, and what follows it.
 fn label_from<'a>(
     alloc: Global,
     key: &str,
@@ -213,7 +213,7 @@ fn label_from<'a>(
     }
 }
 
-/// The key of a label, and what stands behind its equals sign.
+/// The key of a label, and what follows its equals sign.
 fn key_and_value(bytes: &[u8]) -> Result<(&str, &[u8]), Unread<'_>>
     ensures { MatchResult result
         (λ f. IsText f.0.now × Lacks 32 f.0.now × Lacks 61 f.0.now × (bytes.now ≡ f.0.now ++ 61 ∷ f.1.now))
@@ -230,7 +230,7 @@ fn key_and_value(bytes: &[u8]) -> Result<(&str, &[u8]), Unread<'_>>
     Ok((key, value))
 }
 
-/// The label that begins there with a space, and what stands behind it.
+/// The label that begins here with a space, and what follows it.
 fn next_label(alloc: Global, bytes: &[u8]) -> Result<(Label, &[u8]), Unread<'_>>
     ensures { MatchResult result
         (λ f. (w : Written) × IsWritten w × (f.0 ≡ (w.key, w.value)) × (bytes.now ≡ label_word w ++ f.1.now)
@@ -258,12 +258,12 @@ fn has_key(labels: &[Label], key: &str) -> bool
     false
 }
 
-/// Takes nothing and does nothing: its contract says what the order of labels is.
+/// Does nothing: its contract states the order of labels.
 fn label_order()
     ensures { (a b : LabelParts) → ⟦<Label as Ord>⟧.cmp a b ≡ label_cmp a b }
 {}
 
-/// Whether a label stands before another.
+/// Whether a label precedes another.
 fn is_before(label: &Label, other: &Label) -> bool
     ensures { result ≡ is_lt (label_cmp label.now other.now) }
 {
@@ -284,7 +284,7 @@ fn place_among(labels: &[Label], label: &Label) -> usize
     labels.len()
 }
 
-/// Puts a label in its place.
+/// Inserts a label at its place.
 fn put_label(labels: &mut Vec<Label>, label: Label) -> Result<(), AllocError>
     ensures { OnOk result (labels.new.items ≡ placed label labels.old.items) }
 {
@@ -293,7 +293,7 @@ fn put_label(labels: &mut Vec<Label>, label: Label) -> Result<(), AllocError>
     Ok(())
 }
 
-/// Reads the label that begins there, and puts it in its place among the others; what stands behind it.
+/// Reads the label that begins here, and inserts it at its place among the others. Returns what follows it.
 fn read_label<'a>(
     alloc: Global,
     bytes: &'a [u8],
@@ -314,13 +314,13 @@ fn read_label<'a>(
     Ok(rest)
 }
 
-/// The key of the label that stands there.
+/// The key of the label that begins here.
 fn key_in(bytes: &[u8]) -> &[u8] {
     let word = split_before(bytes, b'=').0;
     word.strip_prefix(b" ").unwrap_or(word)
 }
 
-/// How many labels stand there at most: each has a space before it.
+/// The most labels that there can be: each has a space before it.
 fn room_for(bytes: &[u8]) -> usize {
     bytes.iter().filter(|byte| **byte == b' ').count()
 }

@@ -1,4 +1,4 @@
-//! The lines of this tool: updates, descriptions, scrapes, and lines that are passed over.
+//! The lines of this tool: updates, descriptions, scrapes, and lines that are skipped.
 ghost use Rattle.std.specs.Prelude.{◌≡◌, ℕ, List, [], ◌∷◌, ◌++◌, ◌<◌, ◌^◌, IsUtf8, codes, decimal};
 ghost use Rattle.std.specs.Prelude.{MatchResult, Option as Maybe};
 ghost use Rattle.metrics_names.specs.declared.kind.MetricKind.{MetricKind as Kind};
@@ -15,7 +15,7 @@ use metrics::{Key, KeyName, MetricKind, Text, Unit, Update};
 use std::alloc::Global;
 use tool_grammar::{behind, kind_of, number_of, split_before, unit_of, update_of};
 
-/// What a line asks for.
+/// The request of a line.
 #[derive(Debug, Drop)]
 pub enum Request {
     /// An update of a series.
@@ -38,7 +38,7 @@ fn body_of(line: &[u8]) -> &[u8]
     if *last == b'\r' { front } else { line }
 }
 
-/// The next word, which has a space before it, and what stands behind it.
+/// The next word, which has a space before it, and what follows it.
 fn next_word<'a>(bytes: &'a [u8], what: &'static str) -> Result<(&'a [u8], &'a [u8]), Unread<'a>>
     ensures { MatchResult result
         (λ f. (bytes.now ≡ 32 ∷ (f.0.now ++ f.1.now)) × Lacks 32 f.0.now × StartsAt 32 f.1.now)
@@ -65,7 +65,7 @@ fn name_of(word: &[u8]) -> Result<&str, Unread<'_>>
     text_of(word)
 }
 
-/// The update of a word, and what stands behind its amount.
+/// The update of a word, and what follows its amount.
 fn update_and_rest<'a>(word: &'a [u8], bytes: &'a [u8]) -> Result<(Update, &'a [u8]), Unread<'a>>
     ensures { MatchResult result
         (λ f. IsInRange f.0 × (word.now ≡ update_word f.0) × (bytes.now ≡ 32 ∷ (amount_word f.0 ++ f.1.now))
@@ -97,7 +97,7 @@ fn amount_flaw<'a>(word: &'a [u8], amount: Option<&'a [u8]>) -> Unread<'a> {
     }
 }
 
-/// The update of a line, from its first word and what stands behind it.
+/// The update of a line, from its first word and what follows it.
 fn change_of<'a>(alloc: Global, word: &'a [u8], bytes: &'a [u8]) -> Result<Request, Unread<'a>>
     ensures { MatchResult result (Reads (word.now ++ bytes.now))
         (Fails ((by : Change) (name : List ℕ) (ws : List Written) → IsInRange by → IsName name → AreWritten ws
@@ -111,7 +111,7 @@ fn change_of<'a>(alloc: Global, word: &'a [u8], bytes: &'a [u8]) -> Result<Reque
     Ok(Request::Change(Key::from_parts(alloc, name, labels)?, by))
 }
 
-/// The kind of a describe line, and what stands behind it.
+/// The kind of a describe line, and what follows it.
 fn kind_and_rest(bytes: &[u8]) -> Result<(MetricKind, &[u8]), Unread<'_>>
     ensures { MatchResult result (λ f. (bytes.now ≡ 32 ∷ (kind_word f.0 ++ f.1.now)) × StartsAt 32 f.1.now)
         (Fails ((kind : Kind) (rest : List ℕ) → StartsAt 32 rest → bytes.now ≡ 32 ∷ (kind_word kind ++ rest) → ⊥)) }
@@ -123,7 +123,7 @@ fn kind_and_rest(bytes: &[u8]) -> Result<(MetricKind, &[u8]), Unread<'_>>
     }
 }
 
-/// The name of a describe line, and what stands behind it.
+/// The name of a describe line, and what follows it.
 fn name_and_rest(bytes: &[u8]) -> Result<(&str, &[u8]), Unread<'_>>
     ensures { MatchResult result
         (λ f. IsName f.0.now × (bytes.now ≡ 32 ∷ (name_word f.0.now ++ f.1.now)) × StartsAt 32 f.1.now)
@@ -135,7 +135,7 @@ fn name_and_rest(bytes: &[u8]) -> Result<(&str, &[u8]), Unread<'_>>
     Ok((name, rest))
 }
 
-/// The unit of a describe line, and what stands behind it.
+/// The unit of a describe line, and what follows it.
 fn unit_and_rest(bytes: &[u8]) -> Result<(Option<Unit>, &[u8]), Unread<'_>>
     ensures { MatchResult result (λ f. (bytes.now ≡ 32 ∷ (unit_word f.0 ++ f.1.now)) × StartsAt 32 f.1.now)
         (Fails ((unit : Maybe Measure) (rest : List ℕ) → StartsAt 32 rest
@@ -162,7 +162,7 @@ fn note_of(bytes: &[u8]) -> Result<&str, Unread<'_>>
     }
 }
 
-/// The description of a line, from what stands behind its first word.
+/// The description of a line, from what follows its first word.
 fn describe_of(alloc: Global, bytes: &[u8]) -> Result<Request, Unread<'_>>
     ensures { MatchResult result (Reads (codes "describe" ++ bytes.now))
         (Fails ((kind : Kind) (name : List ℕ) (unit : Maybe Measure) (text : List ℕ) → IsName name → IsUtf8 text
@@ -177,7 +177,7 @@ fn describe_of(alloc: Global, bytes: &[u8]) -> Result<Request, Unread<'_>>
     Ok(Request::Describe(kind, name, unit, text))
 }
 
-/// The scrape of a line, from what stands behind its first word.
+/// The scrape of a line, from what follows its first word.
 fn scrape_of(bytes: &[u8]) -> Result<Request, Unread<'_>>
     requires { StartsAt 32 bytes.now }
     ensures { MatchResult result (Reads (codes "scrape" ++ bytes.now))
@@ -192,7 +192,7 @@ fn scrape_of(bytes: &[u8]) -> Result<Request, Unread<'_>>
     }
 }
 
-/// What stands behind a word asks for.
+/// The request of a first word and what follows it.
 fn request_from<'a>(alloc: Global, word: &'a [u8], rest: &'a [u8]) -> Result<Request, Unread<'a>>
     requires { Lacks 32 word.now × StartsAt 32 rest.now × IsBegun (word.now ++ rest.now) }
     ensures { MatchResult result (Reads (word.now ++ rest.now)) (Fails (IsNone (word.now ++ rest.now))) }
@@ -206,7 +206,7 @@ fn request_from<'a>(alloc: Global, word: &'a [u8], rest: &'a [u8]) -> Result<Req
     change_of(alloc, word, rest)
 }
 
-/// What a line without its end asks for.
+/// The request of a line without its end.
 fn sentence_of(alloc: Global, body: &[u8]) -> Result<Request, Unread<'_>>
     ensures { MatchResult result (Reads body.now) (Fails (IsNone body.now)) }
 {
@@ -220,7 +220,7 @@ fn sentence_of(alloc: Global, body: &[u8]) -> Result<Request, Unread<'_>>
     request_from(alloc, word, rest)
 }
 
-/// What a line asks for, if it spells a request.
+/// Returns the request that a line spells, or why it spells none.
 pub fn request_of(alloc: Global, line: &[u8]) -> Result<Request, Unread<'_>>
     ensures { MatchResult result (Spells line.now) (Fails (IsBad line.now)) }
 {

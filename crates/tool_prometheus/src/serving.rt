@@ -14,7 +14,7 @@ use std::marker::PhantomData;
 use tool_grammar::RunError;
 use tool_stream::{LineMachine, Unanswered, flush, run_lines, write_text};
 
-/// Answers the lines of an exporter. With `SKIPS` bad lines are passed over.
+/// Answers the lines of an exporter. With `SKIPS` bad lines are skipped.
 pub struct PrometheusLines<const SKIPS: bool, S> {
     of: PhantomData<S>,
 }
@@ -56,7 +56,7 @@ impl<const SKIPS: bool, S: Surroundings> LineMachine for PrometheusLines<SKIPS, 
     }
 }
 
-/// Writes what is held, where something changed since the last scrape.
+/// Writes what is held, if something changed since the last scrape.
 fn end<S: Surroundings, O: Write>(
     alloc: Global,
     on: &mut Served,
@@ -77,7 +77,7 @@ fn end<S: Surroundings, O: Write>(
     }
 }
 
-/// Answers each line that the reader gives, up to the end or the first fault, and flushes the writer.
+/// Answers each line of the reader, up to the end or the first fault, and flushes the writer.
 pub fn prometheus<const SKIPS: bool, S: Surroundings, I: BufRead, O: Write>(
     alloc: Global,
     on: &mut Served,

@@ -6,7 +6,7 @@ use std::alloc::Global;
 use std::{fmt, mem};
 use tool_grammar::RunError;
 
-/// How many bad lines are told one by one.
+/// How many bad lines are reported one by one.
 const TOLD: u64 = 10;
 
 /// What is noted of a run, beside its surroundings.
@@ -18,15 +18,15 @@ pub struct Watch<S: Surroundings> {
     lines: u64,
     /// How many of them were bad.
     bad: u64,
-    /// What is said of the bad line that ended the run.
+    /// The message for the bad line that ended the run.
     message: Option<String>,
     /// A scrape could not be put into the file.
     has_failed: bool,
-    /// The lines that told of series that were left out.
+    /// The lines that reported series that were left out.
     told: Vec<String>,
 }
 
-/// Whether a line is among those that were told.
+/// Whether a line is among those that were reported.
 fn is_told(told: &[String], line: &str) -> bool {
     for other in told {
         if other.as_str() == line {
@@ -36,7 +36,7 @@ fn is_told(told: &[String], line: &str) -> bool {
     false
 }
 
-/// What a line of a text says of a series that is left out.
+/// The message for a series that a line of a text leaves out.
 fn left_out(line: &str) -> Option<&str> {
     let said = line.strip_prefix("# ")?;
     if said.starts_with("left out: ") {
@@ -77,7 +77,7 @@ impl<S: Surroundings> Watch<S> {
         }
     }
 
-    /// Tells of a series that is left out, if it was not told so before.
+    /// Reports a series that is left out, unless it was reported before.
     fn tell_once(&mut self, line: &str) {
         if is_told(&self.told, line) {
             return;
@@ -88,7 +88,7 @@ impl<S: Surroundings> Watch<S> {
         }
     }
 
-    /// Tells each series that a text leaves out, and why, once.
+    /// Reports each series that a text leaves out, and why, once.
     pub(crate) fn tell_left_out(&mut self, text: &str) {
         for line in text.lines() {
             if let Some(said) = left_out(line) {
@@ -97,7 +97,7 @@ impl<S: Surroundings> Watch<S> {
         }
     }
 
-    /// Notes what is said of the bad line that ends the run.
+    /// Notes the message for the bad line that ends the run.
     pub(crate) fn note(&mut self, line: &[u8], cause: Cause, word: &[u8]) {
         let message = Message {
             number: self.lines,
@@ -108,7 +108,7 @@ impl<S: Surroundings> Watch<S> {
         self.message = message.to_string(self.alloc).ok();
     }
 
-    /// Tells a bad line that is passed over, if it is one of the first.
+    /// Reports a bad line that is skipped, if it is one of the first.
     pub(crate) fn pass_over(&mut self, line: &[u8], cause: Cause, word: &[u8]) {
         self.bad = self.bad.saturating_add(1);
         if self.bad <= TOLD {
@@ -126,7 +126,7 @@ impl<S: Surroundings> Watch<S> {
         self.has_failed
     }
 
-    /// Tells how many bad lines were passed over, where not each was told, and why the run stopped.
+    /// Reports how many bad lines were skipped, unless each was reported, and why the run stopped.
     pub(crate) fn tell_end(&mut self, answered: Result<u64, RunError>) {
         if self.bad > TOLD {
             self.around.tell(Passed(self.bad));
@@ -142,7 +142,7 @@ impl<S: Surroundings> Watch<S> {
     }
 }
 
-/// How many lines were passed over.
+/// How many lines were skipped.
 #[derive(Drop)]
 struct Passed(u64);
 

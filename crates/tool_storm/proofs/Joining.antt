@@ -31,7 +31,7 @@ pub fresh_front : (home : Home) (front back : List Account) → AreFresh home (f
 fresh_front home [] bs f = (tt, f)
 fresh_front home (a ∷ more) bs (x, f) = let r = fresh_front home more bs f in ((x, r.0), r.1)
 
--- the bag of one worker
+-- the multiset of one worker
 pub worker_bag : (h : ℕ → ℕ) (values : ℕ) (stopped : Bool) → weigh h (pushes_of stopped values) + (if stopped then 1 else 0) * weigh h (below values) ≡ weigh h (below values)
 worker_bag h values true = omega arith
 worker_bag h values false = omega arith

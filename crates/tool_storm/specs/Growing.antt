@@ -35,14 +35,14 @@ pub record IsGrowWorked (links : List ℕ) (mine : List Part) (values : ℕ) (w 
   pub pen : HasGrown mine (pushes_of w.stopped values) w.pen
   pub pushed : Tells w.pushed (count_of (pushes_of w.stopped values)) (sum_of (pushes_of w.stopped values))
 
--- one more worker has ended, and its pen was taken in
+-- one more worker has ended, and its pen was joined in
 pub record HasJoined (ran : GrowRan) (w : GrowWorked) (r : GrowRan) : Type 0 where
   pub pen : r.pen ≡ joined_parts ran.pen w.pen
   pub pushed : Adds ran.pushed w.pushed.count w.pushed.sum r.pushed
   pub found : r.found ≡ ran.found
   pub stopped : r.stopped ≡ ran.stopped + (if w.stopped then 1 else 0)
 
--- so many workers ended, and the clearer, whose pen took all of theirs in
+-- so many workers ended, and the clearer, whose pen all of theirs were joined into
 pub record IsGrowRan (links : List ℕ) (values workers : ℕ) (r : GrowRan) : Type 0 where
   pub own : IsOf links r.pen
   pub stopped : r.stopped ≤ workers

@@ -18,11 +18,11 @@ abbrev pub weights : List Account → ℕ
 weights [] = 0
 weights (a ∷ more) = a.weight + weights more
 
--- a pen that took these lists, found this word of the turn last, and is else as it was
+-- a pen that took these lists, found this word of the turn last, and is otherwise unchanged
 abbrev pub with_taken : Account → List Walk → ℕ → Account
 with_taken a walks turn_seen = record a { taken = walks; turn_seen = turn_seen }
 
--- a pen without ticket that pushed these values, saw this control word last, and is else as it was
+-- a pen without ticket that pushed these values, saw this control word last, and is otherwise unchanged
 abbrev pub with_pushed : Account → List Push → ℕ → Account
 with_pushed a pushes seen = record a { pushed = pushes; ticket = false; seen = seen }
 

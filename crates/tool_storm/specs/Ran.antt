@@ -14,7 +14,7 @@ pub record IsReady (pushers : ℕ) (home : Home) (pens : List Account) (pen : Ac
   pub count : length pens ≡ pushers
   pub whole : pen.weight + weights pens ≡ 1024
 
--- a worker for each of these pens ended, and the clearer, whose pen had this weight and took all of them in
+-- a worker for each of these pens ended, and the clearer, whose pen had this weight and which all of them were joined into
 pub record IsRan (place : Home) (values weight : ℕ) (pens : List Account) (r : Ran) : Type 0 where
   pub home : r.pen.home ≡ place
   pub free : r.pen.ticket ≡ false

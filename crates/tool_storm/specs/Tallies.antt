@@ -1,4 +1,4 @@
--- What a tally tells.
+-- The meaning of a tally.
 use Rattle.std.specs.Prelude.{◌≡◌, ℕ, ◌+◌, ◌%◌, ◌^◌}
 use Rattle.tool_storm.specs.declared.tally.Tally.{Tally}
 

@@ -16,8 +16,8 @@ use std::sync::atomic::Ordering;
 use std::thread::{Scope, Threads};
 use tool_grammar::RunError;
 
-/// Workers that ended, and the clearer: the pen into which theirs were joined, what was pushed and found, and how many the gate
-/// stopped.
+/// Workers that ended, and the clearer: the pen that theirs were joined into, what was pushed and found, and how many
+/// the gate stopped.
 #[derive(Drop)]
 pub(crate) struct GrowRan {
     pub(crate) pen: GrowPen,
@@ -62,7 +62,7 @@ fn clear_until<R: Wait>(
     (pen, found)
 }
 
-/// Where none is left to be started: clears until all have ended.
+/// Clears until all have ended, once no worker is left to start.
 fn clear_all<R: Wait>(rt: &R, shared: &GrowShared, pen: GrowPen, started: usize) -> GrowRan
     requires { IsFreshPen shared.now.bucket pen }
     ensures { (values : ℕ) → IsGrowRan shared.now.bucket values 0 result }
@@ -101,8 +101,8 @@ fn joined(ran: GrowRan, worked: GrowWorked) -> Result<GrowRan, RunError>
     })
 }
 
-/// Starts a worker for each pen, from the number `worker` on, clears until they ended, and joins them. Where a thread can't be
-/// started, those that were end first.
+/// Starts a worker for each pen, from the number `worker` on, clears until they ended, and joins them. If a thread
+/// can't be started, those already started end first.
 pub(crate) fn run<'s, 'e, R: Threads + Wait + Sync, G: Gate + Sync>(
     scope: &'s Scope<'s, &'e ()>,
     rt: &'e R,

@@ -21,7 +21,7 @@ use std::sync::atomic::AtomicUsize;
 use std::thread::{self, Threads};
 use tool_grammar::RunError;
 
-/// Splits a pen into so many, and puts them behind the others.
+/// Splits a pen into so many, and appends them to the others.
 fn split_among(
     bucket: &GrowingBucket<u64>,
     mut pen: GrowPen,
@@ -108,9 +108,9 @@ fn run_all<R: Threads + Wait + Sync, G: Gate + Sync>(
     )
 }
 
-/// As `storm`, on a growing bucket whose first segment has this many blocks: no worker tries again for want of places.
+/// Runs `storm` on a growing bucket whose first segment has this many blocks: no worker waits for room.
 ///
-/// The only error is want of memory; a thread that can't be started is one.
+/// The only error is out of memory; it also covers a thread that can't be started.
 pub fn storm_growing<R: Threads + Wait + Sync, G: Gate + Sync>(
     rt: &R,
     alloc: Global,

@@ -34,7 +34,7 @@ pub(crate) struct GrowWorked {
     pub(crate) stopped: bool,
 }
 
-/// That a worker with this pen pushes the numbers below `values`, or is stopped, or is refused.
+/// That a worker with this pen pushes the numbers below `values`, or is stopped, or fails.
 #[derive(Drop)]
 pub(crate) struct GrowWorks {
     pub(crate) pen: Snapshot<GrowPen>,
@@ -65,7 +65,7 @@ fn push_all<R: Wait>(rt: &R, shared: &GrowShared, pen: &mut GrowPen) -> Result<T
         if shared.bucket.push(rt, pen, value).is_err() {
             return Err(RunError::Memory(None));
         }
-        // It refuses only past 2^64 - 1 values.
+        // It fails only past 2^64 - 1 values.
         let _ = shared.reservoir.push(rt, value as i64);
         pushed.add(Tally {
             count: 1,

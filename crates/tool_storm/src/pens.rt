@@ -6,7 +6,7 @@ ghost use Rattle.tool_storm.specs.Pens.{IsFresh, AreFresh, weights};
 use metrics::Error;
 use metrics_bucket::Pen;
 
-/// Splits a pen into so many, and puts them behind the others.
+/// Splits a pen into so many, and appends them to the others.
 pub(crate) fn split_among(mut pen: Pen, count: usize, pens: &mut Vec<Pen>) -> Result<(), Error>
     requires count { (0 < count) × (count ≤ pen.weight) }
     requires fresh { IsFresh pen.home pen × AreFresh pen.home pens.old.items }

@@ -19,7 +19,7 @@ use std::sync::Wait;
 use std::thread::{Scope, Threads};
 use tool_grammar::RunError;
 
-/// Workers that ended, and the clearer: the pen into which theirs were joined, what was pushed and found, and how many
+/// Workers that ended, and the clearer: the pen that theirs were joined into, what was pushed and found, and how many
 /// the gate stopped.
 #[derive(Drop)]
 pub(crate) struct Ran {
@@ -29,7 +29,7 @@ pub(crate) struct Ran {
     pub(crate) stopped: usize,
 }
 
-/// Where none is left to be started: clears until all have ended.
+/// Clears until all have ended, once no worker is left to start.
 fn clear_all<R: Wait>(rt: &R, shared: &Shared, pen: Pen, started: usize) -> Ran
     requires { IsFresh shared.now.bucket pen }
     ensures { (values : ℕ) → IsRan shared.now.bucket values pen.weight [] result }
@@ -69,8 +69,8 @@ fn joined(ran: Ran, worked: Worked) -> Ran
     }
 }
 
-/// Starts a worker for each pen, from the number `worker` on, clears until they ended, and joins them. Where a thread
-/// can't be started, those that were end first.
+/// Starts a worker for each pen, from the number `worker` on, clears until they ended, and joins them. If a thread
+/// can't be started, those already started end first.
 pub(crate) fn run<'s, 'e, R: Threads + Wait + Sync, G: Gate + Sync>(
     scope: &'s Scope<'s, &'e ()>,
     rt: &'e R,

@@ -27,7 +27,7 @@ pub(crate) const SAMPLES: usize = 16;
 pub struct Totals {
     /// How many values the workers pushed into the bucket, and their sum.
     pub pushed: (u64, u64),
-    /// How many values the clearer was handed and `settle` gave, and their sum.
+    /// How many values the clearer and `settle` found, and their sum.
     pub found: (u64, u64),
     /// How many values the reservoir held, of how many that were pushed into it, and the sum of those pushed.
     pub sampled: (u64, u64, i128),
@@ -113,11 +113,12 @@ fn run_all<R: Threads + Wait + Sync, G: Gate + Sync>(
     )
 }
 
-/// Starts `pushers` workers, 1 to 64, which pass the gate and then push the numbers below `values`, at most 1,000,000,
-/// into one bucket of 1 to 1,024 blocks, where each tries again while the bucket is full, and into a reservoir of 16.
-/// Meanwhile the calling thread clears the bucket, until all workers ended. A worker that the gate stops pushes nothing.
+/// Starts `pushers` workers, 1 to 64. Each passes the gate and then pushes the numbers below `values`, at most
+/// 1,000,000, into a reservoir of 16 and into one bucket of 1 to 1,024 blocks, retrying while the bucket is full.
+/// Meanwhile the calling thread clears the bucket, until all workers ended. A worker that the gate stops pushes
+/// nothing.
 ///
-/// The only error is want of memory; a thread that can't be started is one.
+/// The only error is out of memory; it also covers a thread that can't be started.
 pub fn storm<R: Threads + Wait + Sync, G: Gate + Sync>(
     rt: &R,
     alloc: Global,

@@ -37,7 +37,7 @@ impl Promise<Worked> for Works {
     ghost kept_by = { λ p w. IsWorked p.pen.value p.values w };
 }
 
-/// Pushes one value, and tries again while the bucket is full.
+/// Pushes one value, retrying while the bucket is full.
 fn push_one<R: Wait>(rt: &R, bucket: &RuledBucket<u64>, pen: &mut Pen, value: u64)
     requires own { pen.old.home ≡ bucket.now }
     requires free { pen.old.ticket ≡ false }
@@ -64,7 +64,7 @@ fn push_all<R: Wait>(rt: &R, shared: &Shared, pen: &mut Pen) -> Tally
     let mut pushed = Tally::new();
     for value in 0..shared.values {
         push_one(rt, &shared.bucket, pen, value);
-        // It refuses only past 2^64 - 1 values.
+        // It fails only past 2^64 - 1 values.
         let _ = shared.reservoir.push(rt, value as i64);
         pushed.add(Tally {
             count: 1,

@@ -1,4 +1,4 @@
--- Fronts of a text that were written, and what waits behind them.
+-- Parts of a text that were written, and what waits after them.
 use Rattle.std.proofs.Common.{◌≡◌, ℕ, List, [], ◌++◌, Option, OnOk, Result, Ok, Err, refl, sym, ap, ◌∙◌, append_assoc, append-nil}
 use Rattle.std.specs.Io.KnownBytes.{Appends}
 use Rattle.std.proofs.KnownBytes.{Appends-nil, Appends-trans}
@@ -20,12 +20,12 @@ pub put_lost : (x y : Option (List ℕ)) (waiting text waits : List ℕ) → Los
 put_lost x y waiting text waits (front, lost, is, wrote) =
     (front, lost ++ text, ap (λ k. k ++ text) is ∙ append_assoc front (waits ++ lost) text ∙ ap (λ k. front ++ k) (append_assoc waits lost text), wrote)
 
--- the text waits behind what was left
+-- the text waits after what was left
 pub put_again : (x y : Option (List ℕ)) (waiting text left waits : List ℕ) → HandsOn x y waiting left → waits ≡ left ++ text → HandsOn x y (waiting ++ text) waits
 put_again x y waiting text left waits (front, is, wrote) e =
     (front, ap (λ k. k ++ text) is ∙ append_assoc front left text ∙ ap (λ k. front ++ k) (sym e), wrote)
 
--- it was written behind what was left, which was nothing
+-- it was written after what was left, which was nothing
 pub put_written : (x y z : Option (List ℕ)) (waiting text left waits : List ℕ) (r : Result (Unit {0}) Broken) → HandsOn x y waiting left → left ≡ [] → waits ≡ left → WroteFront y z text r → Writes x z (waiting ++ text) waits r
 put_written x y z waiting text left waits (Ok u) (front, is, wrote) none same (done, more, split, wrote', all) = (
   front ++ done,
@@ -58,7 +58,7 @@ module _ {A : Type 0} where
   handed x y waiting waits (Err faults.Memory) h = h
   handed x y waiting waits (Err faults.Device) (front, is, wrote) = (front, [], is ∙ ap (λ k. front ++ k) (sym (append-nil waits)), wrote)
 
--- behind what was written before
+-- after what was written before
 pub on : (x y z : Option (List ℕ)) (all out waiting waits : List ℕ) → all ≡ out ++ waiting → Appends x y out → HandsOn y z waiting waits → (o : List ℕ) × (all ≡ o ++ waits) × Appends x z o
 on x y z all out waiting waits e wrote (front, is, wrote') =
     (out ++ front, e ∙ ap (λ k. out ++ k) is ∙ sym (append_assoc out front waits), Appends-trans x y z _ _ wrote wrote')

@@ -28,7 +28,7 @@ lines-last (x ∷ l) h p = lines_alone x l (recursion_from_All _ (x ∷ l) h)
 
 -- ---- the lines of a text, from its lines
 
--- a first line, with its line feed, and lines behind it
+-- a first line, with its line feed, and lines after it
 abbrev IsEndedFirst : List ℕ → List ℕ → List ℕ → List (List ℕ) → Type 0
 IsEndedFirst xs k l ls = (rest : List ℕ) × (xs ≡ ended k ++ rest) × (lines_of rest ≡ l ∷ ls)
 
@@ -56,7 +56,7 @@ first_ended : (xs k l : List ℕ) (ls : List (List ℕ)) → lines_of xs ≡ k �
 first_ended [] k l ls e = absurd (cc)
 first_ended (x ∷ xs) k l ls e = one_more x xs k l ls (λ m. first_ended xs m l ls) e
 
--- the lines before a line of a text, each with its line feed, are its front
+-- the lines before a line of a text, each with its line feed, begin the text
 pub split_before : (ls : List (List ℕ)) (xs l : List ℕ) (more : List (List ℕ)) → lines_of xs ≡ ls ++ l ∷ more → (rest : List ℕ) × (xs ≡ unlines ls ++ rest) × (lines_of rest ≡ l ∷ more)
 split_before [] xs l more e = (xs, refl, e)
 split_before (k ∷ []) xs l more e =
@@ -69,7 +69,7 @@ split_before (k ∷ (j ∷ ls)) xs l more e =
 
 -- ---- the lines of a text that is cut
 
--- the lines of a text and a line feed stand before those of whatever follows
+-- the lines of a text and a line feed precede those of whatever follows
 abbrev HasCut : List ℕ → Type 0
 HasCut xs = (l : List ℕ) × (ls : List (List ℕ)) × (lines_of (xs ++ 10 ∷ []) ≡ l ∷ ls) × ((ys : List ℕ) → lines_of (xs ++ 10 ∷ ys) ≡ (l ∷ ls) ++ lines_of ys)
 

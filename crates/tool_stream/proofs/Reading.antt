@@ -72,11 +72,11 @@ module _ (a b c : Option (List ℕ)) (old now after : List ℕ) (so : Reading a 
 pub rest_stop : (a b : Option (List ℕ)) (old now : List ℕ) (g : Fault) → Reading a b old now → Ends a b old now (Err g)
 rest_stop a b old now g (rest, is, line, taken) = (rest, is, (line, taken))
 
--- the rest of a line is the line, behind nothing
+-- the rest of a line is the line, after nothing
 pub whole_rest : (a c : Option (List ℕ)) (old new : List ℕ) (r : Result Found Fault) → old ≡ [] → Ends a c old new r → ReadsLine a c new r
 whole_rest a c old new r none (rest, is, reads) = subst (λ k. ReadsRest a c new k r) (sym (is ∙ ap (λ k. k ++ rest) none)) reads
 
--- a line is a front and its rest
+-- a line is a first part and its rest
 pub read_on : (a b c : Option (List ℕ)) (front line : List ℕ) (r : Result Found Fault) → ReadsAtHand a b front (Ok false) → Ends b c front line r → ReadsLine a c line r
 read_on a b c front line (Ok Line) (il, took) (rest, is, (iw, took')) =
     (iw, subst (Consumes a c) (sym (append_assoc front rest (10 ∷ [])) ∙ ap ended (sym is)) (Consumes-trans a b c front (ended rest) took took'))
@@ -91,7 +91,7 @@ read_on a b c front line (Ok End) (il, took) (rest, is, (took', end, none)) =
 read_on a b c front line (Err f) (il, took) (rest, is, (iw, took')) =
     (iw, subst (Consumes a c) (sym is) (Consumes-trans a b c front rest took took'))
 
--- what is at hand
+-- what the reader shows
 pub hand_feed : (a c : Option (List ℕ)) (now after : List ℕ) → now ≡ [] → TakesPart a c now after (Ok Feed) → ReadsAtHand a c after (Ok true)
 hand_feed a c now after none (part, e, line, took) =
     let is : part ≡ after = sym (e ∙ ap (λ k. k ++ part) none) in

@@ -10,11 +10,11 @@ use Rattle.tool_stream.specs.declared.answering.Unanswered.TheVariants as unansw
 use Rattle.tool_grammar.specs.declared.error.RunError.{RunError}
 use Rattle.tool_grammar.specs.declared.error.RunError.TheVariants.{Memory, BadLine, Device}
 
--- numbers stop at 2^64 - 1
+-- numbers saturate at 2^64 - 1
 abbrev pub capped : ℕ → ℕ
 capped n = min n (2 ^ 64 - 1)
 
--- on a line a machine may give a text and go on as another
+-- on a line a machine may return a text and continue as another
 abbrev pub Answering : Type 0 → Type 1
 Answering M = M → List ℕ → List ℕ → M → Type 0
 
@@ -42,12 +42,12 @@ IsUnanswered answers bad old line unanswered.Bad new = bad line × (new.0 ≡ ol
 IsUnanswered answers bad old line unanswered.Memory new = new.0 ≡ old.0
 IsUnanswered answers bad old line unanswered.Lost new = (text : List ℕ) × answers old line text new
 
--- What a machine did with a line: it put the text that answers it behind what stood there, or gives none.
+-- What a machine did with a line: it appended the text that answers it to what was there, or returned none.
 abbrev pub Replies : {On Notes : Type 0} → Answering (On × Notes) → (List ℕ → Type 0) → On × Notes → On × Notes → List ℕ → List ℕ → List ℕ → Result (Unit {0}) Unanswered → Type 0
 Replies answers bad old new line before after (Ok _) = (text : List ℕ) × (after ≡ before ++ text) × answers old line text new
 Replies answers bad old new line before after (Err e) = IsUnanswered answers bad old line e new
 
--- These are the first lines of what was read, each with its line feed; or all of them, where the reader is at its end.
+-- These are the first lines of what was read, each with its line feed; or all of them, if the reader is at its end.
 abbrev pub AreFirst : Type 0 → List ℕ → List (List ℕ) → Type 0
 AreFirst at_end read ls =
     ((rest : List ℕ) × (read ≡ unlines ls ++ rest) × (lines_of read ≡ ls ++ lines_of rest)) ⊎ (at_end × (lines_of read ≡ ls))
@@ -65,7 +65,7 @@ IsRun answers bad at_end first old new read text (Ok n) = (es : Dialogue)
 IsRun answers bad at_end first old new read text (Err (BadLine k)) = (es : Dialogue) × (line : List ℕ)
     × AreFirst at_end read (lines_in es ++ line ∷ []) × (lines_of read ≡ lines_in es ++ line ∷ []) × bad line
     × Leaves answers old es new × (text ≡ texts_in es) × (k ≡ capped (first + length es))
--- each line before the one at which memory was refused
+-- each line before the one at which memory ran out
 IsRun answers bad at_end first old new read text (Err (Memory (Some k))) = (es : Dialogue)
     × AreFirst at_end read (lines_in es) × Leaves answers old es new × (text ≡ texts_in es) × (k ≡ capped (first + length es))
 -- a beginning

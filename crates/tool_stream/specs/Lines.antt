@@ -30,7 +30,7 @@ ended l = l ++ 10 ∷ []
 abbrev pub unlines : List (List ℕ) → List ℕ
 unlines ls = flat_map ended ls
 
--- What a call that takes the next part of a line did: to the known bytes, and to the line.
+-- What a call that reads the next part of a line did: to the known bytes, and to the line.
 abbrev pub TakesPart : Option (List ℕ) → Option (List ℕ) → List ℕ → List ℕ → Result Part Fault → Type 0
 TakesPart old new before after (Ok Feed) = (part : List ℕ) × (after ≡ before ++ part) × IsLine part × Consumes old new (ended part)
 TakesPart old new before after (Ok More) = (part : List ℕ) × (after ≡ before ++ part) × IsLine part × Consumes old new part
@@ -48,7 +48,7 @@ ReadsRest old new line rest (Err e) = IsLine line × Consumes old new rest
 abbrev pub ReadsLine : Option (List ℕ) → Option (List ℕ) → List ℕ → Result Found Fault → Type 0
 ReadsLine old new line result = ReadsRest old new line line result
 
--- What a call did that reads a line out of what is at hand: all of it, or a front.
+-- What a call that reads a line from the bytes shown did: all of the line, or its first part.
 abbrev pub ReadsAtHand : Option (List ℕ) → Option (List ℕ) → List ℕ → Result Bool Fault → Type 0
 ReadsAtHand old new line (Ok true) = IsLine line × Consumes old new (ended line)
 ReadsAtHand old new line (Ok false) = IsLine line × Consumes old new line

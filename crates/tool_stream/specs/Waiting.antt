@@ -5,15 +5,15 @@ use Rattle.tool_stream.specs.declared.stream.Broken.{Broken}
 use Rattle.tool_stream.specs.declared.stream.Fault.{Fault}
 use Rattle.tool_stream.specs.declared.stream.Fault.TheVariants.{Memory, Device}
 
--- a front of the text was written, and the rest waits
+-- the first part of the text was written, and the rest waits
 abbrev pub HandsOn : Option (List ℕ) → Option (List ℕ) → List ℕ → List ℕ → Type 0
 HandsOn old new text waiting = (front : List ℕ) × (text ≡ front ++ waiting) × Appends old new front
 
--- a front of the text was written, more of it waits, and the rest is lost
+-- the first part of the text was written, more of it waits, and the rest is lost
 abbrev pub LosesSome : Option (List ℕ) → Option (List ℕ) → List ℕ → List ℕ → Type 0
 LosesSome old new text waiting = (front : List ℕ) × (lost : List ℕ) × (text ≡ front ++ (waiting ++ lost)) × Appends old new front
 
--- none is lost but where the writer failed
+-- none is lost unless the writer failed
 abbrev pub Writes : Option (List ℕ) → Option (List ℕ) → List ℕ → List ℕ → Result (Unit {0}) Broken → Type 0
 Writes old new text waiting (Ok _) = HandsOn old new text waiting
 Writes old new text waiting (Err e) = LosesSome old new text waiting

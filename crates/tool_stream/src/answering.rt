@@ -9,18 +9,18 @@ use std::alloc::Global;
 use std::io::{BufRead, Write};
 use tool_grammar::RunError;
 
-/// Why a machine gave a line no text.
+/// Why a machine returned no text for a line.
 #[derive(Clone, Copy, Debug, PartialEq, Eq)]
 pub enum Unanswered {
     /// The line is bad. Nothing was done.
     Bad,
-    /// No memory to read the line. Nothing was done.
+    /// Out of memory while the line was read. Nothing was done.
     Memory,
-    /// The line was answered, and no memory was found for the text.
+    /// The line was answered, but there was no memory for the text.
     Lost,
 }
 
-/// What answers lines, one at a time: it acts on a value that outlives the run, and keeps notes for the run alone.
+/// Answers lines, one at a time: it acts on a value that outlives the run, and keeps notes for the run alone.
 pub trait LineMachine {
     /// What the lines act on.
     type On;
@@ -28,14 +28,14 @@ pub trait LineMachine {
     /// What is noted while the lines are read.
     type Notes;
 
-    /// On a line, both may give a text and go on as others.
+    /// On a line, value and notes may return a text and become others.
     ghost answers: { Self.On × Self.Notes → List ℕ → List ℕ → Self.On × Self.Notes → Type 0 };
 
-    /// The lines that it does not take.
+    /// The lines that it rejects.
     ghost is_bad: { List ℕ → Type 0 };
 
-    /// Answers a line: its text goes behind what `text` holds. Where it gives none, what `text` holds then is left open,
-    /// and nothing more is asked of these notes.
+    /// Answers a line, and appends its text to `text`. On failure the content of `text` is unspecified, and these notes
+    /// are not used again.
     fn answer(
         alloc: Global,
         on: &mut Self::On,
@@ -57,7 +57,7 @@ impl From<Broken> for RunError {
     }
 }
 
-/// Answers one line: its text waits behind the others. `text` holds it in between.
+/// Answers one line: its text waits after the others. `text` holds it in between.
 fn answer_line<M: LineMachine, O: Write>(
     alloc: Global,
     on: &mut M::On,
@@ -83,7 +83,7 @@ fn answer_line<M: LineMachine, O: Write>(
     }
 }
 
-/// The error at a line that could not be read.
+/// Returns the error at a line that could not be read.
 pub fn at_line(fault: Fault, number: u64) -> RunError
     ensures { result ≡ fault_at number fault }
 {
@@ -132,8 +132,8 @@ fn answer_lines<M: LineMachine, I: BufRead, O: Write>(
     Err(RunError::Device)
 }
 
-/// Flushes the writer, and hands on what was answered. A flush that fails is the device's fault, unless
-/// memory or the device failed before it.
+/// Flushes the writer, and passes the result through. A flush that fails is the device's fault, unless memory or the
+/// device failed before it.
 pub fn flush<O: Write>(output: &mut O, answered: Result<u64, RunError>) -> Result<u64, RunError>
     ensures bytes { Keeps (O.contents output.old) (O.contents output.new) }
     ensures flushed { IsFlushed answered result }
@@ -145,15 +145,15 @@ pub fn flush<O: Write>(output: &mut O, answered: Result<u64, RunError>) -> Resul
     }
 }
 
-/// Answers each line that the reader gives, up to the end or the first fault, and flushes the writer. The first line has
-/// the number `first`.
+/// Answers each line of the reader, up to the end or the first fault, and flushes the writer. The first line has the
+/// number `first`.
 ///
-/// Texts wait in a buffer of some 8 KiB. They are written out before the reader is looked at where that may wait, which is
-/// where nothing is left of what it showed last, or no line feed; and at the end, before a fault is told. So who types
-/// sees each answer before the next line is read, and a file is answered in blocks. Where there is no memory for the
-/// buffer, texts are written one by one.
+/// Texts wait in a buffer of some 8 KiB. They are written before a look at the reader that may wait, at the end, and
+/// before a fault is reported. A look may wait if the bytes last shown are used up, or what is left has no line feed. Interactive
+/// users see each answer at once; file input is answered in blocks. Without memory for the buffer, texts are written
+/// one by one.
 ///
-/// The answer is how many lines were answered; it and the numbers of lines stop at `u64::MAX`.
+/// Returns how many lines were answered; it and the numbers of lines saturate at `u64::MAX`.
 pub fn run_lines<M: LineMachine, I: BufRead, O: Write>(
     alloc: Global,
     on: &mut M::On,

@@ -1,4 +1,4 @@
-//! Lines from a buffered reader, each answered by a text to a writer.
+//! Reads lines from a buffered reader, and answers each by a text to a writer.
 #![tactic(auto)]
 
 mod answering;

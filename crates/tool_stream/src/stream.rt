@@ -38,7 +38,7 @@ impl From<Broken> for Fault {
     }
 }
 
-/// Writes the text by single writes, each of which may take less than it is offered.
+/// Writes the text by single writes, each of which may accept less than it is offered.
 pub fn write_text<O: Write>(output: &mut O, text: &[u8]) -> Result<(), Broken>
     ensures { (done more : List ℕ) × (text.now ≡ done ++ more)
         × Appends (O.contents output.old) (O.contents output.new) done
@@ -62,7 +62,7 @@ pub fn write_text<O: Write>(output: &mut O, text: &[u8]) -> Result<(), Broken>
     Err(Broken)
 }
 
-/// What is left of a line at the front of a reader's bytes.
+/// What is left of a line at the start of a reader's bytes.
 #[derive(Clone, Copy)]
 pub enum Part {
     /// The line's end, with its line feed.
@@ -84,8 +84,8 @@ pub enum Found {
     End,
 }
 
-/// Moves what the reader shows of the line to the end of `line`. `at_hand` is then how many bytes the reader shows behind
-/// it: at 0 the next look at the reader may wait.
+/// Moves what the reader shows of the line to the end of `line`. `at_hand` is then how many bytes the reader shows
+/// after it: at 0 the next look at the reader may wait.
 pub fn take_part<I: BufRead>(
     input: &mut I,
     line: &mut Vec<u8>,
@@ -120,8 +120,7 @@ pub fn take_part<I: BufRead>(
     }
 }
 
-/// Reads what is left of the line, and puts it behind what `line` holds, without its line feed. `at_hand` is as
-/// `take_part` leaves it.
+/// Appends what is left of the line to `line`, without its line feed. `at_hand` is as `take_part` leaves it.
 pub fn rest_of_line<I: BufRead>(
     input: &mut I,
     line: &mut Vec<u8>,
@@ -147,7 +146,7 @@ pub fn rest_of_line<I: BufRead>(
     Err(Fault::Device)
 }
 
-/// Reads the next line into `line`, in place of what it held, without its line feed.
+/// Reads the next line into `line`, in place of its content, without its line feed.
 pub fn next_line<I: BufRead>(input: &mut I, line: &mut Vec<u8>) -> Result<Found, Fault>
     ensures { ReadsLine (I.remaining input.old) (I.remaining input.new) line.new.items result }
 {

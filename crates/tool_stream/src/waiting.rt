@@ -1,4 +1,4 @@
-//! Texts that wait to be written, so that many go out by one write.
+//! Texts that wait, so that one write writes many.
 ghost use Rattle.std.specs.Prelude.{◌≡◌, ◌++◌, [], if◌then◌else◌};
 ghost use Rattle.tool_stream.specs.Lines.{ReadsAtHand, ReadsLine};
 ghost use Rattle.tool_stream.specs.Waiting.{Writes, WritesBeside};
@@ -6,10 +6,10 @@ ghost use Rattle.tool_stream.specs.Waiting.{Writes, WritesBeside};
 use crate::stream::{Broken, Fault, Found, Part, rest_of_line, take_part, write_text};
 use std::io::{BufRead, Write};
 
-/// How many bytes wait at most before they are written out; one shorter text may stand behind them.
+/// The most bytes that wait before they are written; one shorter text may follow them.
 const BLOCK: usize = 8192;
 
-/// Writes out what waits. Then nothing waits, also where the writer failed.
+/// Writes what waits. Nothing waits afterwards, even if the writer failed.
 pub fn write_out<O: Write>(output: &mut O, waiting: &mut Vec<u8>) -> Result<(), Broken>
     ensures waiting { waiting.new.items ≡ [] }
     ensures bytes { Writes (O.contents output.old) (O.contents output.new) waiting.old.items waiting.new.items result }
@@ -19,15 +19,14 @@ pub fn write_out<O: Write>(output: &mut O, waiting: &mut Vec<u8>) -> Result<(), 
     written
 }
 
-/// Puts the text behind what waits, where there is room and memory for it.
+/// Appends the text to what waits, if there is room and memory for it.
 fn wait(waiting: &mut Vec<u8>, text: &[u8]) -> bool
     ensures { waiting.new.items ≡ (if result then waiting.old.items ++ text.now else waiting.old.items) }
 {
     waiting.len() < BLOCK && text.len() < BLOCK && waiting.extend_from_slice(text).is_ok()
 }
 
-/// Puts the text behind what waits. What waits is written out before it where it is a block, or where there is no memory for
-/// more.
+/// Appends the text to what waits. A full block is written first, and so is what waits when memory for more runs out.
 pub fn put<O: Write>(output: &mut O, waiting: &mut Vec<u8>, text: &[u8]) -> Result<(), Broken>
     ensures { Writes (O.contents output.old) (O.contents output.new) (waiting.old.items ++ text.now) waiting.new.items result }
 {
@@ -41,8 +40,7 @@ pub fn put<O: Write>(output: &mut O, waiting: &mut Vec<u8>, text: &[u8]) -> Resu
     write_text(output, text)
 }
 
-/// Reads the next line into `line` out of what the reader has at hand, which is so many bytes. It answers whether it found the
-/// line's end.
+/// Reads the next line into `line` from the `at_hand` bytes that the reader shows. Returns whether it found the line's end.
 fn line_at_hand<I: BufRead>(
     input: &mut I,
     line: &mut Vec<u8>,
@@ -60,7 +58,7 @@ fn line_at_hand<I: BufRead>(
     }
 }
 
-/// Reads the next line into `line`, as `next_line`, and writes out what waits before a look at the reader that may wait.
+/// Reads the next line into `line`, as `next_line`, and writes what waits before a look at the reader that may wait.
 pub fn read_line<I: BufRead, O: Write>(
     input: &mut I,
     line: &mut Vec<u8>,

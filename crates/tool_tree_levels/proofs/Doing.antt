@@ -133,7 +133,7 @@ module _ (l : TreeLine) (old front all : List Level) (m : Meaning) (n : ℕ) (Fi
       let gift = gives (split_old ts h).here (split_old ts h).all_built in
       unfine (gift.fine (subst IsMade (step_is ts us h s) s.top.1))
 
-  -- the recorder was put, or refused
+  -- the recorder was pushed, or rejected
   pub does_put : (new : List Level) (r : Result (Unit {0}) LineError) → CanBeSpelled l → Fine → Puts m n front new r → Does l old new r
   does_put new (Ok done) spelled fine (le, top, mean, lev, e) = does_ok new top spelled fine mean lev le e
   does_put new (Err Memory) spelled fine p = tt
@@ -201,7 +201,7 @@ gives_router n rs d all e (t ∷ here) h =
       fine = λ x. (subst (λ k. NameTargets k 0 rs) number x.0, subst (λ ms. books_in ms ≤ 65536) means x.1);
     }
 
--- a line that was refused
+-- a line that failed
 pub does_refused : (l : TreeLine) (old new : List Level) (e : LineError) → (e ≡ Bad → (ts us : List Tree) → AreBuilt old ts → Steps l ts us → ⊥) → Does l old new (Err e)
 does_refused l old new Memory h = tt
 does_refused l old new Bad h = h refl

@@ -65,7 +65,7 @@ not_memory e r h b is = two (h is) b
     two : r ≡ Memory → r ≡ Bad → ⊥
     two p q = cc
 
--- a recorder that was refused for anything but memory has too many books
+-- a recorder that was rejected for anything but memory has too many books
 pub too_many : (all : List Meaning) (m : Meaning) (e : Error) (r : LineError) → e ≡ refusal all m → (e ≡ error.Memory → r ≡ Memory) → r ≡ Bad → 65536 < books_in all + length m.contents
 too_many all m e r is from bad = lt_of 65536 _ (test_is _ error.TooManyBooks error.Memory e is (not_memory e r from bad))
 
@@ -122,12 +122,12 @@ then_is false P Q e h f = absurd (cc)
 below : (a b : ℕ) → a < b → nat_lt a b ≡ true
 below a b h = grind (arith, nat_tests)
 
--- a route to a target that is there is refused for memory alone
+-- a route to a target that is there fails for memory alone
 pub to_earlier : (mask target count : ℕ) (e : Error) (r : LineError) → e ≡ target_refusal mask target count → nat_eq mask 0 ≡ false → target < count → (e ≡ error.Memory → r ≡ Memory) → r ≡ Bad → ⊥
 to_earlier mask target count e r is some lt from bad =
     not_memory e r from bad (then_is _ error.Memory error.NoSuchTarget e (else_is _ error.EmptyMask _ e is some) (below target count lt))
 
--- a route to one recorder more is refused for memory, or for too many books
+-- a route to one recorder more fails for memory, or for too many books
 pub to_next : (mask : ℕ) (all : List Meaning) (m : Meaning) (e : Error) (r : LineError) → e ≡ route_refusal mask all m → nat_eq mask 0 ≡ false → (e ≡ error.Memory → r ≡ Memory) → r ≡ Bad → 65536 < books_in all + length m.contents
 to_next mask all m e r is some from bad = too_many all m e r (else_is _ error.EmptyMask _ e is some) from bad
 

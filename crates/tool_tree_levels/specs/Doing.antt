@@ -23,13 +23,13 @@ AreBuilt [] (t ∷ ts) = ⊥
 AreBuilt (l ∷ ls) [] = ⊥
 AreBuilt (l ∷ ls) (t ∷ ts) = IsBuilt l t × AreBuilt ls ts
 
--- The line took its trees and put its own; or memory was refused; or the line can't stand there.
+-- The line removed its trees and pushed its own; or memory ran out; or the line is bad there.
 abbrev pub Does : TreeLine → List Level → List Level → Result (Unit {0}) LineError → Type 0
 Does line old new (Ok done) = (ts : List Tree) → AreBuilt old ts → (us : List Tree) × Steps line ts us × AreBuilt new us
 Does line old new (Err Memory) = Unit {0}
 Does line old new (Err Bad) = (ts us : List Tree) → AreBuilt old ts → Steps line ts us → ⊥
 
--- a recorder of so many levels was put on the stack
+-- a recorder of so many levels was pushed
 abbrev pub Puts : Meaning → ℕ → List Level → List Level → Result (Unit {0}) LineError → Type 0
 Puts m n old new (Ok done) = (n ≤ 1000) × (l : Level) × (level_meaning l ≡ m) × (l.levels ≡ n) × (new ≡ old ++ l ∷ [])
 Puts m n old new (Err Memory) = Unit {0}
@@ -44,8 +44,8 @@ is_end (line.Fanout n) = false
 is_end (line.Router n routes) = false
 is_end line.End = true
 
--- The bytes are `end` over one recorder; or they spell a line that took its trees and put its own; or memory was refused; or the bytes
--- are neither `end` over one tree nor a line that can stand there.
+-- The bytes are `end` over one recorder; or they spell a line that removed its trees and pushed its own; or memory ran
+-- out; or the bytes are neither `end` over one tree nor a line that is allowed there.
 abbrev pub DoesLine : List ℕ → List Level → List Level → Result Bool LineError → Type 0
 DoesLine bytes old new (Ok true) = (bytes ≡ spelling line.End) × (length old ≡ 1) × (new ≡ old)
 DoesLine bytes old new (Ok false) = (ts : List Tree) → AreBuilt old ts → (said : TreeLine) × (us : List Tree) × Spells bytes said × Steps said ts us × AreBuilt new us

@@ -1,4 +1,4 @@
-//! Recorders out of recorders.
+//! Builds recorders out of recorders.
 ghost use Rattle.std.specs.Prelude.{◌≡◌, ◌<◌, ◌≤◌, ◌++◌, ◌∷◌, [], ℕ, suc, length, MatchResult};
 ghost use Rattle.std.specs.List.{sum_by};
 ghost use Rattle.metrics.specs.Book.{new_book};
@@ -15,7 +15,7 @@ use metrics_layers::{FilterLayer, PrefixLayer};
 use metrics_trees::{Child, FanoutBuilder};
 use std::alloc::Global;
 
-/// A new book.
+/// Returns a new book.
 pub fn book(alloc: Global) -> Result<Child<DebuggingRecorder>, LineError>
     ensures { MatchResult result (λ c. ⟦<Child<DebuggingRecorder> as Recorder>⟧.meaning c ≡ one_book new_book)
         (λ e. e ≡ NoMemory) }
@@ -41,7 +41,7 @@ fn prefixed_by(
     }
 }
 
-/// A recorder below a prefix.
+/// Returns a recorder below a prefix.
 pub fn below_prefix(
     alloc: Global,
     child: Child<DebuggingRecorder>,
@@ -96,7 +96,7 @@ fn filtered_by(
     }
 }
 
-/// A recorder below a filter.
+/// Returns a recorder below a filter.
 pub fn below_filter(
     alloc: Global,
     child: Child<DebuggingRecorder>,
@@ -116,7 +116,7 @@ pub fn below_filter(
     }
 }
 
-/// Takes recorders from the top of the stack, the topmost first.
+/// Removes recorders from the top of the stack, and returns them, the topmost first.
 pub fn take_top(alloc: Global, stack: &mut Vec<Level>, count: u64) -> Result<Vec<Level>, LineError>
     ensures { MatchResult result
         (λ taken. (stack.old.items ≡ stack.new.items ++ backwards taken.items) × (length taken.items ≡ count))
@@ -135,7 +135,7 @@ pub fn take_top(alloc: Global, stack: &mut Vec<Level>, count: u64) -> Result<Vec
     Ok(taken)
 }
 
-/// A fanout over recorders, of which the last is the first child, and its number of levels.
+/// Returns a fanout over recorders, of which the last is the first child, and its number of levels.
 pub fn fanout_over(
     alloc: Global,
     mut taken: Vec<Level>,

@@ -1,4 +1,4 @@
-//! A recorder of the stack, and why a tree line is refused.
+//! A recorder of the stack, and why a tree line fails.
 ghost use Rattle.std.specs.Prelude.{◌≡◌, ◌≤◌};
 
 use metrics::{Error, Refused};
@@ -9,12 +9,14 @@ use std::alloc::AllocFailed;
 /// A recorder of the stack, and its number of levels.
 #[derive(Drop)]
 pub struct Level {
+    /// The recorder.
     pub child: Child<DebuggingRecorder>,
+    /// Its number of levels.
     pub levels: u64,
     ghost low: { levels ≤ 1000 },
 }
 
-/// Why a tree line was refused.
+/// Why a tree line failed.
 #[derive(Clone, Copy)]
 pub enum LineError {
     Memory,
@@ -22,7 +24,7 @@ pub enum LineError {
     Bad,
 }
 
-/// What the library refuses for anything but memory is the line's fault.
+/// Any failure of the library other than out of memory is the line's fault.
 impl From<Error> for LineError {
     ghost use Rattle.metrics.specs.declared.error.Error.TheVariants.{Memory as Refused};
     ghost use Rattle.tool_tree_levels.specs.declared.level.LineError.TheVariants.{Memory};
@@ -37,7 +39,7 @@ impl From<Error> for LineError {
     }
 }
 
-/// The recorder that comes back is dropped.
+/// The recorder in the error is dropped.
 impl<T: Drop> From<(Error, T)> for LineError {
     ghost use Rattle.metrics.specs.declared.error.Error.TheVariants.{Memory as Refused};
     ghost use Rattle.tool_tree_levels.specs.declared.level.LineError.TheVariants.{Memory};
@@ -59,7 +61,7 @@ impl<T: Drop> From<AllocFailed<T>> for LineError {
     }
 }
 
-/// A new book is refused for memory alone.
+/// A new book fails only when out of memory.
 impl From<Refused> for LineError {
     ghost use Rattle.tool_tree_levels.specs.declared.level.LineError.TheVariants.{Memory};
 
@@ -70,8 +72,8 @@ impl From<Refused> for LineError {
     }
 }
 
-/// The error of a call that keeps nothing of what it was given, which is dropped here: a caller that drops a recorder itself
-/// is proved anew for each kind of recorder.
+/// Returns the error of a call, and drops what the call was given. A caller that drops a recorder itself is proved anew
+/// for each kind of recorder.
 pub fn refusing<T: Drop>(error: LineError, _given: T) -> LineError
     ensures { result ≡ error }
 {

@@ -17,7 +17,7 @@ use tool_tree_lines::{RouteWord, TreeLine};
 /// The greatest number of levels of a tree.
 const MOST_LEVELS: u64 = 1000;
 
-/// Puts a recorder on the stack. More than 1,000 levels are refused.
+/// Pushes a recorder. Fails beyond 1,000 levels.
 fn put(
     stack: &mut Vec<Level>,
     child: Child<DebuggingRecorder>,
@@ -32,7 +32,7 @@ fn put(
     Ok(())
 }
 
-/// Puts a new book on the stack.
+/// Pushes a new book.
 fn put_book(alloc: Global, stack: &mut Vec<Level>) -> Result<(), LineError>
     ensures { Does line.Book stack.old.items stack.new.items result }
 {
@@ -42,7 +42,7 @@ fn put_book(alloc: Global, stack: &mut Vec<Level>) -> Result<(), LineError>
     }
 }
 
-/// Puts a recorder that keeps nothing on the stack.
+/// Pushes a recorder that keeps nothing.
 fn put_noop(stack: &mut Vec<Level>) -> Result<(), LineError>
     ensures { Does line.Noop stack.old.items stack.new.items result }
 {
@@ -83,7 +83,7 @@ fn put_filter(
     }
 }
 
-/// Puts a fanout over recorders from the top of the stack; the deepest is the first child.
+/// Replaces recorders at the top of the stack by a fanout over them; the deepest is the first child.
 fn put_fanout(alloc: Global, stack: &mut Vec<Level>, count: u64) -> Result<(), LineError>
     requires { CanBeSpelled (line.Fanout count) }
     ensures { Does (line.Fanout count) stack.old.items stack.new.items result }
@@ -98,7 +98,7 @@ fn put_fanout(alloc: Global, stack: &mut Vec<Level>, count: u64) -> Result<(), L
     }
 }
 
-/// Puts a router over recorders from the top of the stack; the deepest is the default, then the targets.
+/// Replaces recorders at the top of the stack by a router over them; the deepest is the default, then the targets.
 fn put_router(
     alloc: Global,
     stack: &mut Vec<Level>,

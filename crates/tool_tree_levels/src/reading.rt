@@ -44,7 +44,7 @@ fn is_one(stack: &Vec<Level>) -> Result<bool, LineError>
     }
 }
 
-/// Does what a line says, and answers whether the tree ends here.
+/// Does what a line says, and returns whether the tree ends here.
 pub fn read_line(alloc: Global, stack: &mut Vec<Level>, line: &[u8]) -> Result<bool, LineError>
     ensures { DoesLine line.now stack.old.items stack.new.items result }
 {

@@ -1,4 +1,4 @@
-//! Routers.
+//! Builds routers.
 ghost use Rattle.std.specs.Prelude.{◌≡◌, ◌<◌, ◌≤◌, ◌+◌, ◌^◌, ◌++◌, ◌∷◌, [], ℕ, suc, ◌-◌};
 ghost use Rattle.std.specs.Prelude.{max, length, map, List, if◌then◌else◌, OnOk, MatchResult};
 ghost use Rattle.std.specs.List.{AllByRecursion};
@@ -17,7 +17,7 @@ use metrics_trees::{Child, RouterBuilder};
 use std::alloc::Global;
 use tool_tree_lines::{Kinds, RouteWord};
 
-/// The mask, where it is wanted.
+/// The mask, if it is asked for.
 fn only_if(wanted: bool, mask: MetricKindMask) -> MetricKindMask
     ensures { result ≡ (if wanted then mask else 0) }
 {
@@ -33,7 +33,7 @@ fn mask_from(kinds: Kinds) -> MetricKindMask
         | only_if(kinds.histograms, MetricKindMask::HISTOGRAM)
 }
 
-/// The pattern that a word stands for.
+/// The pattern that a word spells.
 fn pattern_text(word: &Text) -> &str
     ensures { result.now ≡ pattern_of word.now }
 {
@@ -79,7 +79,7 @@ fn add_one(
     }
 }
 
-/// Adds routes, to targets from the end of the list, all of which have to be named. Answers the greatest number of levels.
+/// Adds routes, to targets from the end of the list, all of which have to be named. Returns the greatest number of levels.
 fn add_routes(
     builder: &mut RouterBuilder<DebuggingRecorder>,
     targets: &mut Vec<Level>,
@@ -114,7 +114,7 @@ fn add_routes(
     }
 }
 
-/// A router over recorders, of which the last is the default, and its number of levels.
+/// Returns a router over recorders, of which the last is the default, and its number of levels.
 pub fn router_over(
     alloc: Global,
     mut taken: Vec<Level>,
@@ -132,7 +132,7 @@ pub fn router_over(
     let Some(Level { child, levels }) = taken.pop() else {
         return Err(LineError::Memory);
     };
-    // The trait bounds the number of books where it is asked for.
+    // The trait bounds the number of books when it is asked for.
     let _books = child.books();
     let mut builder = RouterBuilder::from_recorder(alloc, child);
     let most = match add_routes(&mut builder, &mut taken, routes, levels) {

@@ -1,4 +1,4 @@
--- A tree is its last line and the trees that this takes.
+-- A tree is its last line and the trees that this line uses.
 use Rattle.std.proofs.Common.{◌≡◌, ℕ, suc, List, [], ◌∷◌, ◌++◌, length, Option, Some, None, refl, sym, ap, ◌∙◌, arith, append_assoc, append-nil, length-append}
 use Rattle.tool_tree_lines.specs.declared.tree_line.TreeLine.{TreeLine}
 use Rattle.tool_tree_lines.specs.declared.tree_line.TreeLine.TheVariants as line
@@ -30,7 +30,7 @@ pub lines-list : (ts : Trees) → trees_lines ts ≡ all_lines (list_of ts)
 lines-list none = refl
 lines-list (more t ts) = ap (λ ls. tree_lines t ++ ls) (lines-list ts)
 
--- the lines of a tree are those of the trees that its last line takes, and that one
+-- the lines of a tree are those of the trees that its last line uses, and that one
 pub lines-top : (t : Tree) → tree_lines t ≡ all_lines (taken t) ++ spelling (last_line t) ∷ []
 lines-top Book = refl
 lines-top Noop = refl
@@ -39,7 +39,7 @@ lines-top (Filter fold table patterns t) = ap (λ ls. ls ++ spelling (line.Filte
 lines-top (Fanout ts) = ap (λ ls. ls ++ spelling (line.Fanout (number_of ts)) ∷ []) (lines-list ts)
 lines-top (Router routes default ts) = ap (λ ls. (tree_lines default ++ ls) ++ spelling (line.Router (number_of ts) routes) ∷ []) (lines-list ts)
 
--- how many trees a line takes
+-- how many trees a line uses
 abbrev pub arity : TreeLine → ℕ
 arity line.Book = 0
 arity line.Noop = 0
@@ -57,7 +57,7 @@ length-taken (Filter fold table patterns t) = refl
 length-taken (Fanout ts) = length-list_of ts
 length-taken (Router routes default ts) = ap suc (length-list_of ts)
 
--- the tree of a line and of what it takes
+-- the tree of a line and of what it uses
 abbrev make : TreeLine → List Tree → Option Tree
 make line.Book ts = Some Book
 make line.Noop ts = Some Noop
@@ -90,7 +90,7 @@ not_end t e = none_is (make line.End (taken t)) refl (sym (ap (λ l. make l (tak
     none_is : (o : Option Tree) → o ≡ None → o ≡ Some t → ⊥
     none_is o p q = cc
 
--- ---- a line takes trees from the end, and puts one there
+-- ---- a line removes trees from the end, and appends one
 
 pub step_of : (t : Tree) (front : List Tree) → IsTop t → Steps (last_line t) (front ++ taken t) (front ++ t ∷ [])
 step_of t front h = record { front = front; tree = t; line_is = refl; before = refl; after = refl; top = h }
@@ -117,7 +117,7 @@ all_lines-append : (ts us : List Tree) → all_lines (ts ++ us) ≡ all_lines ts
 all_lines-append [] us = refl
 all_lines-append (t ∷ ts) us = ap (λ ls. tree_lines t ++ ls) (all_lines-append ts us) ∙ sym (append_assoc (tree_lines t) (all_lines ts) (all_lines us))
 
--- the lines of trees with one more at the end: its last line stands behind those of the trees before it and of those that it takes
+-- the lines of trees with one more at the end: its last line follows those of the trees before it and of those that it uses
 pub lines_push : (front : List Tree) (t : Tree) → all_lines (front ++ t ∷ []) ≡ all_lines (front ++ taken t) ++ spelling (last_line t) ∷ []
 lines_push front t =
     all_lines-append front (t ∷ []) ∙ ap (λ ls. all_lines front ++ ls) (append-nil (tree_lines t) ∙ lines-top t)

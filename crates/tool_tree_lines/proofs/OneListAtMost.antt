@@ -1,4 +1,4 @@
--- Lines are those of one list of trees at most, and a bad line over trees is the first one.
+-- Lines are those of at most one list of trees, and a bad line over trees is the first one.
 use Rattle.std.proofs.Common.{◌≡◌, ℕ, zero, suc, ◌≤◌, List, [], ◌∷◌, ◌++◌, length, refl, sym, ap, subst, ◌∙◌, ◌+◌, arith, length-append, ◌⊎◌, inl, inr}
 use Rattle.std.specs.List.{AllByRecursion}
 use Rattle.tool_tree_lines.specs.Words.{spelling}
@@ -52,7 +52,7 @@ ends_with (s ∷ ts) = put (ends_with ts)
     put (inl e) = inr ([], s, ap (λ us. s ∷ us) e)
     put (inr (front, t, e)) = inr (s ∷ front, t, ap (λ us. s ∷ us) e)
 
--- a line behind others, where both are the same
+-- a line after others, where both are the same
 last_same : (a b : List (List ℕ)) (x y : List ℕ) → a ++ x ∷ [] ≡ b ++ y ∷ [] → (a ≡ b) × (x ≡ y)
 last_same a b x y e = let both = split_same a b (x ∷ []) (y ∷ []) e refl in (both.0, cc)
 
@@ -60,7 +60,7 @@ last_same a b x y e = let both = split_same a b (x ∷ []) (y ∷ []) e refl in 
 not_none : (ls : List (List ℕ)) (x : List ℕ) → [] ≡ ls ++ x ∷ [] → ⊥
 not_none ls x e = absurd (omega (arith, ap length e, length-append ls (x ∷ [])))
 
--- lines are those of one list of trees at most
+-- lines are those of at most one list of trees
 abbrev IsOnlyOf : ℕ → List Tree → List Tree → Type 0
 IsOnlyOf n ts us = length (all_lines ts) ≤ n → AllByRecursion IsAllowed ts → AllByRecursion IsAllowed us → all_lines ts ≡ all_lines us → ts ≡ us
 

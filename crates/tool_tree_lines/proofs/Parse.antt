@@ -14,9 +14,9 @@ use Rattle.tool_tree_lines.specs.declared.tree_line.First.TheVariants as first
 use Rattle.tool_tree_lines.specs.Words.{HasKind, words, case_word, form_word, kinds_word, route_word, first_word, line_word, IsRoute, Spells, IsNoLine, SpellsFrom, IsNoLineFrom}
 use Rattle.tool_tree_lines.proofs.Lines.{tail_same, starts_words, lacks_case, lacks_form, cut_line, lacks_kinds, route_parts, decimal_same}
 
--- ---- words behind spaces
+-- ---- words after spaces
 
--- What is left of a line of words: the next one, and those behind it.
+-- What is left of a line of words: the next one, and those after it.
 pub record NextOf {A : Type 0} (Is : A → Type 0) (word : A → List ℕ) (here after : List ℕ) : Type 0 where
   pub first : A
   pub others : List A
@@ -110,7 +110,7 @@ too_great bytes word m lt gt e w n le g =
     let same : m ≡ n = decimal_same m n lt (omega arith) (sym w ∙ tail_same 32 _ _ (sym e ∙ g)) in
     absurd (omega arith)
 
--- a space and a word, behind which something stands, are no word
+-- a space and a word that something follows are no word
 pub no_only : (bytes here after : List ℕ) → bytes ≡ 32 ∷ (here ++ after) → Lacks 32 here → StartsAt 32 after → 0 < length after → (w : List ℕ) → Lacks 32 w → bytes ≡ 32 ∷ w → ⊥
 no_only bytes here [] e lw sa p w h g = absurd (omega arith)
 no_only bytes here (x ∷ after) e lw sa p w h g =
@@ -131,20 +131,20 @@ module _ (bytes case rest : List ℕ) (whole : bytes ≡ 32 ∷ (case ++ rest)) 
   no_form form others r lf so fails fold table last s e =
       fails table (before_same 32 form (form_word table) others last lf (lacks_form table) so s (tail_same 32 _ _ (sym r ∙ (flags_parts fold table last e).1))).0
 
--- a number with something behind it
+-- a number that something follows
 pub no_number : (bytes here after : List ℕ) → bytes ≡ 32 ∷ (here ++ after) → Lacks 32 here → StartsAt 32 after → ((n : ℕ) → n < 2 ^ 64 → here ≡ decimal n → ⊥)
     → (n : ℕ) (others : List ℕ) → n < 2 ^ 64 → StartsAt 32 others → bytes ≡ 32 ∷ (decimal n ++ others) → ⊥
 no_number bytes here after e lw sa fails n others lt s g =
     fails n lt (before_same 32 here (decimal n) after others lw (lacks_decimal n lt) sa s (tail_same 32 _ _ (sym e ∙ g))).0
 
--- the words behind a filter's flags are no names
+-- the words after a filter's flags are no names
 pub no_patterns : (bytes others : List ℕ) (fold table : Bool) → bytes ≡ 32 ∷ (case_word fold ++ 32 ∷ (form_word table ++ others)) → StartsAt 32 others → ((ps : List (List ℕ)) → AllByRecursion IsName ps → others ≡ words name_word ps → ⊥)
     → (f t : Bool) (ps : List (List ℕ)) → AllByRecursion IsName ps → bytes ≡ 32 ∷ (case_word f ++ 32 ∷ (form_word t ++ words name_word ps)) → ⊥
 no_patterns bytes others fold table e s fails f t ps h g =
     let one = first_same 32 _ (case_word fold) (form_word table ++ others) (case_word f) (form_word t ++ words name_word ps) (lacks_case fold) (lacks_case f) refl (tail_same 32 _ _ (sym e ∙ g)) in
     fails ps h (before_same 32 (form_word table) (form_word t) others (words name_word ps) (lacks_form table) (lacks_form t) s (starts_words name_word ps) one.1).1
 
--- the words behind a router's number are no routes
+-- the words after a router's number are no routes
 pub no_routes : (bytes others : List ℕ) (m : ℕ) → m < 2 ^ 64 → bytes ≡ 32 ∷ (decimal m ++ others) → StartsAt 32 others → ((rs : List RouteWord) → AllByRecursion IsRoute rs → others ≡ words route_word rs → ⊥)
     → (n : ℕ) (rs : List RouteWord) → n < 2 ^ 64 → AllByRecursion IsRoute rs → bytes ≡ 32 ∷ (decimal n ++ words route_word rs) → ⊥
 no_routes bytes others m lt e s fails n rs ln h g =

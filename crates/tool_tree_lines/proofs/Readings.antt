@@ -1,4 +1,4 @@
--- Reading lines over trees: what stands behind a tree's lines doesn't hang on how they are read.
+-- Reading lines over trees: what follows a tree's lines doesn't depend on how they are read.
 use Rattle.std.proofs.Common.{◌≡◌, ℕ, List, [], ◌∷◌, ◌++◌, refl, sym, subst, ◌∙◌, append_assoc, append-nil, ◌⊎◌, inl, inr}
 use Rattle.std.specs.List.{AllByRecursion}
 use Rattle.tool_tree_lines.specs.declared.tree_line.TreeLine.{TreeLine}
@@ -9,7 +9,7 @@ use Rattle.tool_tree_lines.specs.Steps.{list_of, taken, Steps}
 use Rattle.tool_tree_lines.proofs.Lines.{line_same}
 use Rattle.tool_tree_lines.proofs.LastLines.{all_lines, not_end, step_of, steps_same}
 
--- the lines, read over these trees, end in this one, and the others stand behind its `end`
+-- the lines, read over these trees, end in this one, and the others follow its `end`
 abbrev pub Reads : List (List ℕ) → List Tree → Tree → List (List ℕ) → Type 0
 Reads [] ts t rest = ⊥
 Reads (l ∷ ls) ts t rest =
@@ -94,7 +94,7 @@ off_all (s ∷ ss) h ls front t rest r =
 pub reads_whole : (ls : List (List ℕ)) (t : Tree) (rest : List (List ℕ)) → BeginsWithTree ls t rest → Reads ls [] t rest
 reads_whole ls t rest h = subst (λ (k : List (List ℕ)). Reads k [] t rest) (sym h.1) (on_tree t h.0 (spelling line.End ∷ rest) [] t rest (inl (refl, refl, refl)))
 
--- lines begin with one tree at most
+-- lines begin with at most one tree
 pub one_tree : (ls : List (List ℕ)) (s t : Tree) (rest others : List (List ℕ)) → BeginsWithTree ls s rest → BeginsWithTree ls t others → (s ≡ t) × (rest ≡ others)
 one_tree ls s t rest others h g =
     ends (off_tree s h.0 (spelling line.End ∷ rest) [] t others (subst (λ (k : List (List ℕ)). Reads k [] t others) h.1 (reads_whole ls t others g)))
@@ -106,7 +106,7 @@ one_tree ls s t rest others h g =
     ends (inl (e, f, g)) = (head_same f, g)
     ends (inr (said, mid, sp, st, r)) = absurd (not_end st.tree (st.line_is ∙ line_same said line.End sp.0 tt (sym sp.1)))
 
--- what a bad line is: neither the end of one tree, nor a line that takes what is there
+-- what a bad line is: neither the end of one tree, nor a line that accepts the trees there
 pub record IsBadOver (ts : List Tree) (bad : List ℕ) : Type 0 where
   pub no_end : (t : Tree) → bad ≡ spelling line.End → ts ≡ t ∷ [] → ⊥
   pub no_step : (said : TreeLine) (mid : List Tree) → Spells bad said → Steps said ts mid → ⊥

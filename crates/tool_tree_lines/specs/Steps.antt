@@ -7,7 +7,7 @@ abbrev pub list_of : Trees → List Tree
 list_of none = []
 list_of (more t ts) = t ∷ list_of ts
 
--- the trees that the last line of a tree takes, in order
+-- the trees that the last line of a tree uses, in order
 abbrev pub taken : Tree → List Tree
 taken Book = []
 taken Noop = []
@@ -16,7 +16,7 @@ taken (Filter fold table patterns t) = t ∷ []
 taken (Fanout ts) = list_of ts
 taken (Router routes default ts) = default ∷ list_of ts
 
--- the line takes trees from the end, and puts there the tree whose last line it is
+-- the line removes trees from the end, and appends the tree whose last line it is
 pub record Steps (l : TreeLine) (old new : List Tree) : Type 0 where
   pub front : List Tree
   pub tree : Tree

@@ -39,7 +39,7 @@ number_of (more t ts) = suc (number_of ts)
 
 -- ---- lines
 
--- the line that makes the tree out of those that it takes
+-- the line that makes the tree out of those that it uses
 abbrev pub last_line : Tree → TreeLine
 last_line Book = line.Book
 last_line Noop = line.Noop
@@ -48,7 +48,7 @@ last_line (Filter fold table patterns t) = line.Filter fold table patterns
 last_line (Fanout ts) = line.Fanout (number_of ts)
 last_line (Router routes default ts) = line.Router (number_of ts) routes
 
--- the lines of a tree: those of the trees that it takes, in order, and then its own
+-- the lines of a tree: those of the trees that it uses, in order, and then its own
 abbrev mutual
   pub tree_lines : Tree → List (List ℕ)
   tree_lines Book = spelling line.Book ∷ []
@@ -125,7 +125,7 @@ pub record NameInOrder (n : ℕ) (routes : List RouteWord) : Type 0 where
   pub only : (k : ℕ) → IsNamed k routes → k < n
   pub in_order : (before after : List RouteWord) (r : RouteWord) (k : ℕ) → routes ≡ before ++ r ∷ after → k < r.target → IsNamed k before
 
--- what is required of a tree beside what is required of those that it takes, its line and its levels
+-- what is required of a tree beside what is required of those that it uses, its line and its levels
 abbrev pub IsMade : Tree → Type 0
 IsMade Book = Unit {0}
 IsMade Noop = Unit {0}
@@ -169,7 +169,8 @@ NoTree ls = (t : Tree) (rest : List (List ℕ)) → BeginsWithTree ls t rest →
 abbrev pub AreOfTrees : List (List ℕ) → Type 0
 AreOfTrees ls = (ts : Trees) × AreAllowed ts × (ls ≡ trees_lines ts)
 
--- The first bad line, behind others: those are the lines of trees, with it they aren't, and no lines that begin so begin with a tree.
+-- The first bad line, after others: those are the lines of trees, with it they aren't, and no lines that begin so begin
+-- with a tree.
 pub record IsFirstBad (ls : List (List ℕ)) (bad : List ℕ) : Type 0 where
   pub before : AreOfTrees ls
   pub no_more : AreOfTrees (ls ++ bad ∷ []) → ⊥

@@ -36,7 +36,7 @@ kinds_word k = letter k.counters (codes "c") ++ (letter k.gauges (codes "g") ++ 
 abbrev pub HasKind : Kinds → Type 0
 HasKind k = (k.counters || (k.gauges || k.histograms)) ≡ true
 
--- kinds, target and pattern, with a slash between two. The pattern stands as it is written: nothing or a dash for the empty one
+-- kinds, target and pattern, with a slash between two. The pattern is as written: nothing or a dash for the empty one
 abbrev pub route_word : RouteWord → List ℕ
 route_word r = kinds_word r.kinds ++ 47 ∷ (decimal r.target ++ 47 ∷ r.pattern)
 
@@ -61,7 +61,7 @@ line_word (line.Fanout n) = codes "fanout"
 line_word (line.Router n routes) = codes "router"
 line_word line.End = codes "end"
 
--- what stands behind it
+-- what follows it
 abbrev pub line_rest : TreeLine → List ℕ
 line_rest line.Book = []
 line_rest line.Noop = []
@@ -96,7 +96,7 @@ Spells bytes l = CanBeSpelled l × (bytes ≡ spelling l)
 abbrev pub IsNoLine : List ℕ → Type 0
 IsNoLine bytes = (l : TreeLine) → Spells bytes l → ⊥
 
--- a first word, and what stands behind it, spell the line
+-- a first word, and what follows it, spell the line
 abbrev pub SpellsFrom : List ℕ → List ℕ → TreeLine → Type 0
 SpellsFrom word rest l = CanBeSpelled l × (word ≡ line_word l) × (rest ≡ line_rest l)
 

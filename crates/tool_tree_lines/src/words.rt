@@ -161,7 +161,7 @@ fn routes_of(alloc: Global, bytes: &[u8]) -> Result<Option<Vec<RouteWord>>, Allo
     Ok(Some(routes))
 }
 
-/// The word behind a space, and what stands behind the word.
+/// The word after a space, and what follows the word.
 fn next_word(bytes: &[u8]) -> Option<(&[u8], &[u8])>
     ensures { MatchOption result ((others : List ℕ) → bytes.now ≡ 32 ∷ others → ⊥)
         (λ found. (bytes.now ≡ 32 ∷ (found.0.now ++ found.1.now)) × Lacks 32 found.0.now × StartsAt 32 found.1.now) }
@@ -170,7 +170,7 @@ fn next_word(bytes: &[u8]) -> Option<(&[u8], &[u8])>
     Some(split_before(others, b' '))
 }
 
-/// The one word behind a space.
+/// The one word after a space.
 fn only_word(bytes: &[u8]) -> Option<&[u8]>
     ensures { MatchOption result ((word : List ℕ) → Lacks 32 word → bytes.now ≡ 32 ∷ word → ⊥)
         (λ word. Lacks 32 word.now × (bytes.now ≡ 32 ∷ word.now)) }
@@ -179,7 +179,7 @@ fn only_word(bytes: &[u8]) -> Option<&[u8]>
     if others.is_empty() { Some(word) } else { None }
 }
 
-/// The prefix of a prefix line, from the bytes behind its first word.
+/// The prefix of a prefix line, from the bytes after its first word.
 fn prefix_of(alloc: Global, bytes: &[u8]) -> Result<Option<Text>, AllocError>
     ensures { IfOk result (λ found. MatchOption found ((p : List ℕ) → IsName p → bytes.now ≡ 32 ∷ name_word p → ⊥)
         (λ p. IsName p × (bytes.now ≡ 32 ∷ name_word p))) }
@@ -190,7 +190,7 @@ fn prefix_of(alloc: Global, bytes: &[u8]) -> Result<Option<Text>, AllocError>
     name_text(alloc, word)
 }
 
-/// The flags of a filter line, and what stands behind them, from the bytes behind its first word.
+/// The flags of a filter line, and what follows them, from the bytes after its first word.
 fn flags_of(bytes: &[u8]) -> Option<(bool, bool, &[u8])>
     ensures { MatchOption result
         ((fold table : Bool) (others : List ℕ) → StartsAt 32 others
@@ -205,7 +205,7 @@ fn flags_of(bytes: &[u8]) -> Option<(bool, bool, &[u8])>
     Some((fold, table, others))
 }
 
-/// The number of children of a fanout line, from the bytes behind its first word.
+/// The number of children of a fanout line, from the bytes after its first word.
 fn count_of(bytes: &[u8]) -> Option<u64>
     ensures { MatchOption result ((n : ℕ) → n ≤ 65536 → bytes.now ≡ 32 ∷ decimal n → ⊥)
         (λ n. (n ≤ 65536) × (bytes.now ≡ 32 ∷ decimal n)) }
@@ -214,7 +214,7 @@ fn count_of(bytes: &[u8]) -> Option<u64>
     if count <= 65_536 { Some(count) } else { None }
 }
 
-/// The number of targets of a router line, and what stands behind it, from the bytes behind its first word.
+/// The number of targets of a router line, and what follows it, from the bytes after its first word.
 fn targets_of(bytes: &[u8]) -> Option<(u64, &[u8])>
     ensures { MatchOption result
         ((n : ℕ) (others : List ℕ) → n < 2 ^ 64 → StartsAt 32 others → bytes.now ≡ 32 ∷ (decimal n ++ others)
@@ -226,14 +226,14 @@ fn targets_of(bytes: &[u8]) -> Option<(u64, &[u8])>
     Some((targets, others))
 }
 
-/// A line of one word, which stands alone.
+/// A line of just one word.
 fn alone(bytes: &[u8], line: TreeLine) -> Option<TreeLine>
     ensures { MatchOption result (bytes.now ≡ [] → ⊥) (λ found. (found ≡ line) × (bytes.now ≡ [])) }
 {
     if bytes.is_empty() { Some(line) } else { None }
 }
 
-/// The line of a first word, by what stands behind it.
+/// The line of a first word, by what follows it.
 fn line_from(alloc: Global, first: First, bytes: &[u8]) -> Result<Option<TreeLine>, AllocError>
     ensures { IfOk result (λ found. MatchOption found (IsNoLineFrom (first_word first) bytes.now)
         (SpellsFrom (first_word first) bytes.now)) }
@@ -271,7 +271,7 @@ fn line_from(alloc: Global, first: First, bytes: &[u8]) -> Result<Option<TreeLin
     }
 }
 
-/// What a line says, if it is a tree line.
+/// Returns what a line says, if it is a tree line. Fails only when out of memory.
 pub fn tree_line_of(alloc: Global, line: &[u8]) -> Result<Option<TreeLine>, AllocError>
     ensures { IfOk result (λ found. MatchOption found (IsNoLine line.now) (Spells line.now)) }
 {

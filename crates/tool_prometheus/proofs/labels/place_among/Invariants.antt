@@ -1,4 +1,4 @@
--- It comes before none so far.
+-- It precedes none so far.
 use Rattle.std.proofs.Common.{◌≡◌, ℕ, ◌<◌, false, get_or}
 use Rattle.std.specs.Ordering.{is_lt}
 use Rattle.metrics_names.specs.Names.{LabelParts, label_cmp}

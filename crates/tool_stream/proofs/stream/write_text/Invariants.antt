@@ -1,4 +1,4 @@
--- What is gone from `rest` was appended.
+-- What `rest` lacks was appended.
 use Rattle.std.proofs.Common.{◌≡◌, ℕ, List, ◌++◌}
 use Rattle.std.specs.Io.KnownBytes.{Appends}
 use Rattle.tool_stream.proofs.stream.write_text.Given as goal

@@ -1,4 +1,4 @@
--- What was taken stood at the end.
+-- What was taken was at the end.
 use Rattle.std.proofs.Common.{◌≡◌, ◌-◌, ◌≤◌, ◌++◌, length}
 use Rattle.tool_tree_levels.specs.Levels.{backwards}
 use Rattle.tool_tree_levels.proofs.building.take_top.Given as goal
