@@ -17,7 +17,7 @@ const HELP: &str = "What is timed.";
 /// As many as processors.
 const SHARDS: usize = 4;
 
-/// A thousand samples below 6000, the same each time.
+/// Returns a thousand samples below 6000, the same each time.
 pub fn samples(alloc: Global) -> Result<Vec<i64>, AllocError> {
     let mut all = Vec::new(alloc);
     let mut state: u64 = 2;
@@ -31,19 +31,20 @@ pub fn samples(alloc: Global) -> Result<Vec<i64>, AllocError> {
     Ok(all)
 }
 
-/// The items from a thread's quarter on, and those before it.
+/// Returns the items from a thread's quarter on, and those before it.
 pub fn turned<T>(items: &Vec<T>, thread: usize) -> (&[T], &[T]) {
     let quarter = (items.len() / 4).saturating_mul(thread);
     let (head, tail) = items.as_slice().split_at(quarter.min(items.len()));
     (tail, head)
 }
 
-/// The key of a series by its number.
+/// Returns the key of a series by its number.
 pub fn key(alloc: Global, name: &str, number: u32) -> Result<Key> {
     let route = format!(in alloc; "/api/v1/item/{number:03}")?;
     taken(Key::from_labels(alloc, name, &[("route", route.as_str())]))
 }
 
+/// Returns so many keys of one name.
 pub fn keys(alloc: Global, name: &str, count: u32) -> Result<Vec<Key>> {
     let mut all = Vec::new(alloc);
     for number in 0..count {
@@ -52,7 +53,7 @@ pub fn keys(alloc: Global, name: &str, count: u32) -> Result<Vec<Key>> {
     Ok(all)
 }
 
-/// A collector without series, in which none is ever idle.
+/// Returns a collector without series, in which none is ever idle.
 pub fn collector<W: Wait>(rt: &W, alloc: Global) -> Result<Collector> {
     let bounds = taken(Bounds::new(alloc, &BOUNDS))?;
     let collector = taken(Collector::new(alloc, SHARDS, MetricKindMask::ALL, None, bounds))?;

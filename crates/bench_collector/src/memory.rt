@@ -41,7 +41,8 @@ fn growth<R: AllocGlobal + Files + Wait>(
     Ok(after.saturating_sub(before))
 }
 
-/// Prints the bytes of each series, for the words `memory counters` and `memory histograms`. Whether the words ask for it.
+/// Prints the bytes of each series, for the words `memory counters` and `memory histograms`. Returns whether the words
+/// ask for it.
 pub fn print_asked<R: AllocGlobal + Env + Files + Print + Wait>(
     rt: &R,
     alloc: Global,

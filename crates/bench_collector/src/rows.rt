@@ -90,7 +90,7 @@ fn uncounted(is_done: bool) -> Span {
     }
 }
 
-/// The time from the first one's begin to the last one's end.
+/// The time from the first one's start to the last one's end.
 fn took(spans: &[Span]) -> Result<u64> {
     let mut first = u64::MAX;
     let mut last = 0u64;
@@ -172,7 +172,7 @@ fn run_round<R: Clock + Threads + Wait + Sync>(rt: &R, row: &Row, times: u64) ->
 }
 
 impl Row {
-    /// So many threads, each walk in so many operations.
+    /// Returns a row of so many threads, each walk in so many operations.
     pub fn new(alloc: Global, task: Task, threads: usize, operations: u64) -> Row {
         Row {
             alloc,
@@ -184,7 +184,7 @@ impl Row {
         }
     }
 
-    /// Records of four threads into one histogram, while a fifth gathers it.
+    /// Returns a row of four threads that record into one histogram, while a fifth gathers it.
     pub fn scraped<W: Wait>(rt: &W, alloc: Global) -> Result<Row> {
         let collector = collector(rt, alloc)?;
         let task = Task::Records(Records::of(rt, alloc, &collector, 4)?);
@@ -198,18 +198,19 @@ impl Row {
         Ok(row)
     }
 
+    /// Returns whether scrapes are part of the row.
     pub fn is_scraped(&self) -> bool {
         self.scrapes.is_some()
     }
 
-    /// How many operations so many walks of each thread make.
+    /// Returns how many operations so many walks of each thread make.
     pub fn operations(&self, times: u64) -> u64 {
         times
             .saturating_mul(self.operations)
             .saturating_mul(self.threads as u64)
     }
 
-    /// Lets each thread walk so many times, and returns the nanoseconds from the first one's begin to the last one's end.
+    /// Lets each thread walk so many times, and returns the nanoseconds from the first one's start to the last one's end.
     pub fn run<R: Clock + Threads + Wait + Sync>(&mut self, rt: &R, times: u64) -> Result<u64> {
         let took = run_round(rt, self, times)?;
         self.walks = self
@@ -218,7 +219,7 @@ impl Row {
         Ok(took)
     }
 
-    /// Fails where what was done isn't found.
+    /// Fails if what was done isn't found.
     pub fn check<W: Wait>(&self, rt: &W) -> Result<()> {
         if self.task.is_found(rt, self.walks) {
             Ok(())
@@ -227,7 +228,7 @@ impl Row {
         }
     }
 
-    /// Says what else is worth knowing of a row that was timed.
+    /// Prints what else is worth knowing of a row that was timed.
     pub fn remark<R: Eprint>(&self, rt: &R, name: &str) -> Result<()> {
         if let Task::Texts(texts) = &self.task {
             eprintln!(rt; "# {name} size {}", texts.size)?;

@@ -1,4 +1,4 @@
-//! Scrapes of a collector each 5 milliseconds.
+//! Scrapes of a collector every 5 milliseconds.
 
 use anyhow::{Result, anyhow};
 use bench_harness::{nanos_since, taken};
@@ -10,15 +10,19 @@ use std::sync::atomic::{AtomicU64, Ordering};
 use std::thread;
 use std::time::{Duration, Instant};
 
-/// The nanoseconds from the begin of one scrape to that of the next.
+/// The nanoseconds from the start of one scrape to that of the next.
 const EACH: u64 = 5_000_000;
 
 /// How often the one series of a collector was gathered, and the nanoseconds of that.
 #[derive(Drop)]
 pub struct Scrapes {
+    /// The memory for the scrapes.
     pub alloc: Global,
+    /// The collector that is gathered.
     pub collector: Collector,
+    /// How often it was gathered.
     pub count: AtomicU64,
+    /// The nanoseconds of that.
     pub nanos: AtomicU64,
 }
 
@@ -39,7 +43,7 @@ impl Scrapes {
         Ok(nanos)
     }
 
-    /// Gathers until so many have ended. Whether all went well.
+    /// Gathers until so many have ended. Returns whether all went well.
     pub fn scrape_on<R: Clock + Wait>(&self, rt: &R, ended: &AtomicU64, all: u64) -> bool {
         for _ in 0..u64::MAX {
             if ended.load(Ordering::SeqCst) >= all {

@@ -17,7 +17,7 @@ pub enum Series {
 }
 
 impl Series {
-    /// The lines of each.
+    /// Returns the lines of each.
     pub fn lines(self) -> usize {
         match self {
             Series::Counters => 1,
@@ -65,7 +65,7 @@ fn add<W: Wait>(
     }
 }
 
-/// A collector that holds so many series. Nobody keeps a handle.
+/// Returns a collector that holds so many series. Nobody keeps a handle.
 pub fn holding<W: Wait>(
     rt: &W,
     alloc: Global,

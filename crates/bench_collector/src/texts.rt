@@ -18,7 +18,7 @@ pub struct Texts {
     pub size: usize,
 }
 
-/// How many lines a text of so many series has, with those of its one name.
+/// Returns how many lines a text of so many series has, with those of its one name.
 fn lines(series: Series, count: u32) -> usize {
     series
         .lines()
@@ -36,6 +36,7 @@ fn check_lines<W: Wait>(rt: &W, alloc: Global, collector: &Collector, lines: usi
 }
 
 impl Texts {
+    /// Prepares the benchmark.
     pub fn new<W: Wait>(
         rt: &W,
         alloc: Global,
@@ -68,7 +69,7 @@ impl Texts {
         )
     }
 
-    /// Whether each text has the size of the first.
+    /// Returns whether each text has the size of the first.
     pub fn walk<W: Wait>(&self, rt: &W, times: u64) -> bool {
         for _ in 0..times {
             let is_same = self.read(rt).is_ok_and(|size| size == self.size);

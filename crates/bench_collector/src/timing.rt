@@ -1,5 +1,5 @@
-//! How a row is timed: its work is done so often that a round lasts about so long as it is to, and of nine rounds the least and
-//! the median are printed.
+//! Times a row: its work is repeated until a round lasts about the intended time, and of nine rounds the least and the
+//! median are printed.
 
 use crate::rows::Row;
 use anyhow::Result;
@@ -15,7 +15,7 @@ const ROUND: u64 = 60_000_000;
 /// A round that is scraped lasts longer, so that many scrapes fall into it.
 const SCRAPED_ROUND: u64 = 200_000_000;
 
-/// How often the work is doubled at most, until it lasts a quarter of a round.
+/// The most doublings of the work, until it lasts a quarter of a round.
 const DOUBLINGS: u32 = 40;
 
 /// Does a row's work once, or times it, and prints its line.

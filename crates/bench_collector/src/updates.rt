@@ -16,12 +16,14 @@ pub struct Increments {
 }
 
 impl Increments {
+    /// Returns a new collector and its counter.
     pub fn new<W: Wait>(rt: &W, alloc: Global) -> Result<Increments> {
         let key = taken(Key::from_name(alloc, "requests_total"))?;
         let counter = taken(collector(rt, alloc)?.counter(rt, &key))?;
         Ok(Increments { counter })
     }
 
+    /// Adds one so many times.
     pub fn walk(&self, times: u64) {
         for _ in 0..times {
             for _ in 0..WALK {
@@ -30,7 +32,7 @@ impl Increments {
         }
     }
 
-    /// Whether what so many walks did is found.
+    /// Returns whether what so many walks did is found.
     pub fn is_found(&self, walks: u64) -> bool {
         self.counter.value() == walks.wrapping_mul(WALK)
     }
@@ -44,6 +46,7 @@ pub struct Sets {
 }
 
 impl Sets {
+    /// Returns a new collector, its gauge and the samples.
     pub fn new<W: Wait>(rt: &W, alloc: Global) -> Result<Sets> {
         let key = taken(Key::from_name(alloc, "level"))?;
         let gauge = taken(collector(rt, alloc)?.gauge(rt, &key))?;
@@ -57,6 +60,7 @@ impl Sets {
         }
     }
 
+    /// Sets the gauge so many times, from a thread's quarter on.
     pub fn walk(&self, thread: usize, times: u64) {
         let (first, then) = turned(&self.samples, thread);
         for _ in 0..times {
@@ -81,7 +85,7 @@ fn record_all<W: Wait>(rt: &W, handle: &HistogramHandle, samples: &[i64]) -> Res
 }
 
 impl Records {
-    /// Into the histogram `latency` of a collector.
+    /// Returns a handle of the histogram `latency` of a collector, and the samples.
     pub fn of<W: Wait>(
         rt: &W,
         alloc: Global,
@@ -97,11 +101,12 @@ impl Records {
         Ok(Records { handles, samples })
     }
 
+    /// Prepares the benchmark.
     pub fn new<W: Wait>(rt: &W, alloc: Global, threads: usize) -> Result<Records> {
         Records::of(rt, alloc, &collector(rt, alloc)?, threads)
     }
 
-    /// Whether all went well.
+    /// Returns whether all went well.
     pub fn walk<W: Wait>(&self, rt: &W, thread: usize, times: u64) -> bool {
         let Some(handle) = self.handles.get(thread) else {
             return false;
@@ -117,7 +122,7 @@ impl Records {
         true
     }
 
-    /// Whether what so many walks did is found.
+    /// Returns whether what so many walks did is found.
     pub fn is_found<W: Wait>(&self, rt: &W, walks: u64) -> bool {
         let mut sum = 0i64;
         for sample in &self.samples {
@@ -139,6 +144,7 @@ pub struct LookUps {
 }
 
 impl LookUps {
+    /// Prepares the benchmark.
     pub fn new<W: Wait>(rt: &W, alloc: Global) -> Result<LookUps> {
         let keys = keys(alloc, "requests_total", 1000)?;
         let collector = collector(rt, alloc)?;
@@ -163,7 +169,7 @@ impl LookUps {
         }
     }
 
-    /// Whether all went well.
+    /// Returns whether all went well.
     pub fn walk<W: Wait>(&self, rt: &W, thread: usize, times: u64) -> bool {
         let (first, then) = turned(&self.keys, thread);
         for _ in 0..times {
@@ -176,7 +182,7 @@ impl LookUps {
         true
     }
 
-    /// Whether what so many walks did is found.
+    /// Returns whether what so many walks did is found.
     pub fn is_found<W: Wait>(&self, rt: &W, walks: u64) -> bool {
         for key in &self.keys {
             if !self.has_count(rt, key, walks) {

@@ -13,26 +13,28 @@ pub const ROUNDS: usize = 9;
 
 /// A benchmark: one walk makes a fixed number of operations.
 pub trait Bench<R>: Drop {
-    /// What stands before walks, and isn't timed.
+    /// Prepares walks, and isn't timed.
     fn prepare(&mut self, _rt: &R) -> Result<()> {
         Ok(())
     }
 
-    /// One walk. What it answers hangs on what was found, so that no work is left out.
+    /// Walks once. The result depends on what was found, so that no work is left out.
     fn walk(&mut self, rt: &R) -> Result<u64>;
 }
 
-/// How much a round does: so many times it prepares, and then times so many walks together. One walk makes so many
-/// operations.
+/// The size of a round: so many times it prepares, and then times so many walks together. One walk makes so many operations.
 #[derive(Clone, Copy)]
 pub struct Size {
+    /// The operations of a walk.
     pub operations: u32,
+    /// The walks that are timed together.
     pub walks: u32,
+    /// How many times a round prepares.
     pub times: u32,
 }
 
 impl Size {
-    /// All walks of a round are timed together: about so many operations in all.
+    /// Returns the size at which all walks of a round are timed together: about so many operations in all.
     pub fn together(operations: u32, all: u32) -> Size {
         Size {
             operations,
@@ -41,7 +43,7 @@ impl Size {
         }
     }
 
-    /// Each walk is prepared, and timed alone: about so many operations in all.
+    /// Returns the size at which each walk is prepared, and timed alone: about so many operations in all.
     pub fn apart(operations: u32, all: u32) -> Size {
         Size {
             operations,
@@ -50,9 +52,9 @@ impl Size {
         }
     }
 
-    /// The time of one operation in hundredths of a nanosecond, where a round took so many nanoseconds.
+    /// Returns the time of one operation in hundredths of a nanosecond, for a round of so many nanoseconds.
     ///
-    /// What the walks found is looked at, so that the compiler keeps them.
+    /// What the walks found is used, so that the compiler keeps them.
     pub fn hundredths(self, nanos: u64, seen: u64) -> u64 {
         let walks = u64::from(self.times) * u64::from(self.walks);
         let count = walks.saturating_mul(u64::from(self.operations)).max(1);
@@ -60,7 +62,7 @@ impl Size {
     }
 }
 
-/// What a call gave that must succeed.
+/// Returns the result of a call that must succeed.
 pub fn taken<T: Drop, E: Drop>(answer: Result<T, E>) -> Result<T> {
     match answer {
         Ok(value) => Ok(value),
@@ -75,6 +77,7 @@ pub struct Words {
 }
 
 impl Words {
+    /// Reads the program's words.
     pub fn new(rt: &(impl Env + AllocGlobal)) -> Result<Words> {
         let mut words = env::args(rt)?.skip(1);
         let is_timed = words.next().is_some_and(|word| word.as_str() == "time");
@@ -84,12 +87,12 @@ impl Words {
         })
     }
 
-    /// Whether a benchmark of this name runs once.
+    /// Returns whether a benchmark of this name runs once.
     pub fn ask_once(&self) -> bool {
         self.timed.is_none()
     }
 
-    /// Whether a benchmark of this name is timed.
+    /// Returns whether a benchmark of this name is timed.
     pub fn ask_time(&self, name: &str) -> bool {
         match &self.timed {
             Some(front) => name.starts_with(front.as_str()),
@@ -155,6 +158,7 @@ fn round<R: Clock, B: Bench<R>>(rt: &R, bench: &mut B, size: Size) -> Result<u64
     Ok(size.hundredths(nanos, seen))
 }
 
+/// Returns the nanoseconds since `start`.
 pub fn nanos_since(rt: &impl Clock, start: Instant) -> Result<u64> {
     Ok(u64::try_from(start.elapsed(rt)?.as_nanos()).unwrap_or(u64::MAX))
 }

@@ -5,7 +5,7 @@ use bench_harness::Bench;
 use metrics::{Address, Key, Label, MetricKind, Recorder, Refused, Update};
 use std::alloc::Global;
 
-/// A thousand keys of one name, each with a label of its own.
+/// Returns a thousand keys of one name, each with a label of its own.
 pub fn thousand_keys(alloc: Global) -> Result<Vec<Key>> {
     let mut all = Vec::new(alloc);
     for i in 0..1000u32 {
@@ -17,7 +17,7 @@ pub fn thousand_keys(alloc: Global) -> Result<Vec<Key>> {
     Ok(all)
 }
 
-/// One key without labels.
+/// Returns one key without labels.
 pub fn one_key(alloc: Global) -> Result<Vec<Key>> {
     let mut all = Vec::new(alloc);
     all.push(Key::from_name(alloc, "requests_total")?)?;
@@ -55,6 +55,7 @@ pub struct Registers<R> {
 }
 
 impl<R: Recorder> Registers<R> {
+    /// Prepares the benchmark.
     pub fn new(alloc: Global, on: Result<R>, keys: Result<Vec<Key>>) -> Result<Registers<R>> {
         let (on, keys) = registered(alloc, on, keys)?;
         Ok(Registers { alloc, on, keys })
@@ -76,6 +77,7 @@ pub struct Increments<R> {
 }
 
 impl<R: Recorder> Increments<R> {
+    /// Prepares the benchmark.
     pub fn new(
         alloc: Global,
         on: Result<R>,
@@ -108,6 +110,7 @@ pub struct Snapshots<R> {
 }
 
 impl<R: Recorder> Snapshots<R> {
+    /// Prepares the benchmark.
     pub fn new(alloc: Global, on: Result<R>, keys: Result<Vec<Key>>) -> Result<Snapshots<R>> {
         let (on, _) = registered(alloc, on, keys)?;
         Ok(Snapshots { alloc, on })
@@ -129,6 +132,7 @@ pub struct Rounds<R> {
 }
 
 impl<R: Recorder> Rounds<R> {
+    /// Prepares the benchmark.
     pub fn new(alloc: Global, on: Result<R>, keys: Result<Vec<Key>>) -> Result<Rounds<R>> {
         let (on, keys) = registered(alloc, on, keys)?;
         Ok(Rounds { alloc, on, keys })

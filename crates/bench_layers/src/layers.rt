@@ -1,4 +1,4 @@
-//! Recorders below layers, handed to the benchmarks as some recorder.
+//! Recorders below layers, passed to the benchmarks as some recorder.
 
 use crate::matching::{borrowed, names, names_of_routes, patterns, routes};
 use crate::sink::Sink;
@@ -19,7 +19,7 @@ fn keys(alloc: Global, names: &[String]) -> Result<Vec<Key>, Refused> {
     Ok(all)
 }
 
-/// A hundred keys without labels.
+/// Returns a hundred keys without labels.
 pub fn plain_keys(alloc: Global) -> Result<Vec<Key>> {
     let mut all = Vec::new(alloc);
     for i in 0..100u32 {
@@ -29,25 +29,25 @@ pub fn plain_keys(alloc: Global) -> Result<Vec<Key>> {
     Ok(all)
 }
 
-/// A new book.
+/// Returns a new book.
 pub fn book(alloc: Global) -> Result<DebuggingRecorder> {
     Ok(DebuggingRecorder::new(alloc)?)
 }
 
-/// A new book below a prefix.
+/// Returns a new book below a prefix.
 pub fn prefixed_book(alloc: Global) -> Result<Child<DebuggingRecorder>> {
     let layer = PrefixLayer::new(alloc, "app")?;
     let book = Child::leaf(DebuggingRecorder::new(alloc)?);
     taken(book.prefix(alloc, &layer))
 }
 
-/// A prefix over a recorder that keeps nothing.
+/// Returns a prefix over a recorder that keeps nothing.
 pub fn prefix(alloc: Global) -> Result<Prefix<Sink>> {
     let layer = PrefixLayer::new(alloc, "testing")?;
     taken(layer.layer(alloc, Sink::new()))
 }
 
-/// A filter of a hundred patterns over a recorder that keeps nothing.
+/// Returns a filter of a hundred patterns over a recorder that keeps nothing.
 pub fn filter(alloc: Global, table: bool) -> Result<Filter<Sink>> {
     let patterns = patterns(alloc)?;
     let listed = borrowed(alloc, patterns.as_slice())?;
@@ -56,7 +56,7 @@ pub fn filter(alloc: Global, table: bool) -> Result<Filter<Sink>> {
     taken(layer.layer(alloc, Sink::new()))
 }
 
-/// A hundred keys, each with one of the patterns in its name, or none.
+/// Returns a hundred keys, each with one of the patterns in its name, or none.
 pub fn keys_of_patterns(alloc: Global, refused: bool) -> Result<Vec<Key>> {
     let patterns = patterns(alloc)?;
     let names = names(alloc, patterns.as_slice(), refused)?;
@@ -71,7 +71,7 @@ fn add_routes(alloc: Global, builder: &mut RouterBuilder<Sink>) -> Result<()> {
     Ok(())
 }
 
-/// A router of a hundred routes to recorders that keep nothing.
+/// Returns a router of a hundred routes to recorders that keep nothing.
 pub fn router(alloc: Global) -> Result<Router<Sink>> {
     let mut builder = RouterBuilder::from_recorder(alloc, Child::leaf(Sink::new()));
     match add_routes(alloc, &mut builder) {
@@ -80,13 +80,13 @@ pub fn router(alloc: Global) -> Result<Router<Sink>> {
     }
 }
 
-/// A hundred keys, each with the pattern of a route before its name, or none with one.
+/// Returns a hundred keys, each with the pattern of a route before its name, or none with one.
 pub fn keys_of_routes(alloc: Global, matching: bool) -> Result<Vec<Key>> {
     let names = names_of_routes(alloc, matching)?;
     Ok(keys(alloc, names.as_slice())?)
 }
 
-/// A fanout of four recorders that keep nothing.
+/// Returns a fanout of four recorders that keep nothing.
 pub fn fanout_of_sinks(alloc: Global) -> Result<Fanout<Sink>> {
     let mut builder = FanoutBuilder::default(alloc);
     for _ in 0..4u32 {
@@ -95,7 +95,7 @@ pub fn fanout_of_sinks(alloc: Global) -> Result<Fanout<Sink>> {
     Ok(builder.build())
 }
 
-/// A fanout of new books.
+/// Returns a fanout of new books.
 pub fn fanout_of_books(alloc: Global, count: u32) -> Result<Fanout<DebuggingRecorder>> {
     let mut builder = FanoutBuilder::default(alloc);
     for _ in 0..count {

@@ -5,7 +5,7 @@ use bench_harness::Bench;
 use prefix_match::{PrefixTrie, SubstringSet};
 use std::alloc::{AllocError, Global};
 
-/// A hundred patterns of eight lower-case letters, the same each time.
+/// Returns a hundred patterns of eight lower-case letters, the same each time.
 pub fn patterns(alloc: Global) -> Result<Vec<String>, AllocError> {
     let mut all = Vec::new(alloc);
     let mut state: u64 = 1;
@@ -26,7 +26,7 @@ fn letter(number: u64) -> char {
     char::from(b'a' + (number % 26) as u8)
 }
 
-/// A hundred names, each with a pattern in its middle, or without one.
+/// Returns a hundred names, each with a pattern in its middle, or without one.
 pub fn names(
     alloc: Global,
     patterns: &[String],
@@ -44,7 +44,7 @@ pub fn names(
     Ok(all)
 }
 
-/// The patterns of a hundred routes.
+/// Returns the patterns of a hundred routes.
 pub fn routes(alloc: Global) -> Result<Vec<String>, AllocError> {
     let mut all = Vec::new(alloc);
     for i in 0..100u32 {
@@ -53,7 +53,7 @@ pub fn routes(alloc: Global) -> Result<Vec<String>, AllocError> {
     Ok(all)
 }
 
-/// A hundred names, each with the pattern of a route as its front, or none with one.
+/// Returns a hundred names, each beginning with the pattern of a route, or none with one.
 pub fn names_of_routes(alloc: Global, with_pattern: bool) -> Result<Vec<String>, AllocError> {
     let mut all = Vec::new(alloc);
     for i in 0..100u32 {
@@ -63,6 +63,7 @@ pub fn names_of_routes(alloc: Global, with_pattern: bool) -> Result<Vec<String>,
     Ok(all)
 }
 
+/// Returns the texts, borrowed.
 pub fn borrowed(alloc: Global, texts: &[String]) -> Result<Vec<&str>, AllocError> {
     let mut all = Vec::new(alloc);
     for text in texts {
@@ -79,6 +80,7 @@ pub struct Filter {
 }
 
 impl Filter {
+    /// Prepares the benchmark.
     pub fn new(alloc: Global, table: bool, refused: bool) -> Result<Filter> {
         let patterns = patterns(alloc)?;
         let listed = borrowed(alloc, patterns.as_slice())?;
@@ -98,7 +100,7 @@ impl<H> Bench<H> for Filter {
     }
 }
 
-/// A router's question: which of a hundred patterns is the longest front of a name?
+/// A router's question: which of a hundred patterns is the longest prefix of a name?
 #[derive(Drop)]
 pub struct Trie {
     trie: PrefixTrie,
@@ -106,6 +108,7 @@ pub struct Trie {
 }
 
 impl Trie {
+    /// Prepares the benchmark.
     pub fn new(alloc: Global, matches: bool) -> Result<Trie> {
         let mut trie = PrefixTrie::new(alloc);
         for (i, pattern) in routes(alloc)?.iter().enumerate() {

@@ -1,4 +1,4 @@
-//! A recorder that keeps nothing, for the cost of what stands above it.
+//! A recorder that keeps nothing, for the cost of what is above it.
 
 use metrics::{
     Address, Key, KeyName, MetricKind, NoopRecorder, Recorder, Refused, Reset, Snapshot, Unit,
@@ -14,6 +14,7 @@ pub struct Sink {
 }
 
 impl Sink {
+    /// Returns a recorder that no call has reached.
     pub fn new() -> Sink {
         Sink {
             nothing: NoopRecorder,

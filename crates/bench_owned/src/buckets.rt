@@ -12,6 +12,7 @@ pub struct Pushes {
 }
 
 impl Pushes {
+    /// Prepares the benchmark.
     pub fn new(alloc: Global) -> Pushes {
         Pushes {
             bucket: OwnedBucket::new(alloc),
@@ -33,7 +34,7 @@ impl<R> Bench<R> for Pushes {
     }
 }
 
-/// Clears full buckets one after another, with the sum of their values. That they are filled isn't timed.
+/// Clears full buckets one after another, with the sum of their values. Filling them isn't timed.
 #[derive(Drop)]
 pub struct Clears {
     buckets: Vec<OwnedBucket<i64>>,
@@ -41,6 +42,7 @@ pub struct Clears {
 }
 
 impl Clears {
+    /// Prepares the benchmark.
     pub fn new(alloc: Global, values: i64, buckets: usize) -> Result<Clears> {
         let mut all = Vec::new(alloc);
         for _ in 0..buckets {

@@ -18,7 +18,7 @@ fn key(alloc: Global, i: u32) -> Result<Key> {
     Ok(Key::from_parts(alloc, "requests_total", labels)?)
 }
 
-/// The keys of 1,000 routes.
+/// Returns the keys of 1,000 routes.
 pub fn keys_1000(alloc: Global) -> Result<Vec<Key>> {
     let mut keys = Vec::new(alloc);
     for i in 0..1000u32 {
@@ -27,7 +27,7 @@ pub fn keys_1000(alloc: Global) -> Result<Vec<Key>> {
     Ok(keys)
 }
 
-/// Adds one to a counter, and answers the sum.
+/// Adds one to a counter, and returns the sum.
 fn increment(registry: &mut Plain, key: &Key) -> Result<u64, Error> {
     registry.get_or_create_counter(key, |cell: &mut u64| {
         *cell = cell.wrapping_add(1);
@@ -44,7 +44,7 @@ fn holding(alloc: Global, keys: &[Key], shards: usize) -> Result<Plain> {
     Ok(registry)
 }
 
-/// Gets 1,000 times a counter of the first keys, in turn, among 1,000 that are held.
+/// Gets a counter of the first keys 1,000 times, in turn, among 1,000 that are held.
 #[derive(Drop)]
 pub struct Creates {
     registry: Plain,
@@ -53,6 +53,7 @@ pub struct Creates {
 }
 
 impl Creates {
+    /// Prepares the benchmark.
     pub fn new(alloc: Global, first: usize, shards: usize) -> Result<Creates> {
         let keys = keys_1000(alloc)?;
         let registry = holding(alloc, &keys, shards)?;
@@ -86,6 +87,7 @@ pub struct Checks {
 }
 
 impl Checks {
+    /// Prepares the benchmark.
     pub fn new(alloc: Global) -> Result<Checks> {
         let keys = keys_1000(alloc)?;
         let registry = holding(alloc, &keys, 1)?;

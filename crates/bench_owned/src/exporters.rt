@@ -39,6 +39,7 @@ pub struct Updates {
 }
 
 impl Updates {
+    /// Prepares the benchmark.
     pub fn new(alloc: Global) -> Result<Updates> {
         Ok(Updates {
             held: Held::new(alloc)?,
@@ -60,6 +61,7 @@ pub struct Texts {
 }
 
 impl Texts {
+    /// Prepares the benchmark.
     pub fn new(alloc: Global) -> Result<Texts> {
         Ok(Texts {
             held: Held::new(alloc)?,
@@ -82,6 +84,7 @@ pub struct Expositions {
 }
 
 impl Expositions {
+    /// Prepares the benchmark.
     pub fn new(alloc: Global) -> Result<Expositions> {
         let held = Held::new(alloc)?;
         Ok(Expositions { held, alloc })
@@ -103,6 +106,7 @@ pub struct Expires {
 }
 
 impl Expires {
+    /// Prepares the benchmark.
     pub fn new(alloc: Global) -> Result<Expires> {
         Ok(Expires {
             held: Held::new(alloc)?,

@@ -35,6 +35,7 @@ pub struct Records {
 }
 
 impl Records {
+    /// Prepares the benchmark.
     pub fn new(alloc: Global) -> Result<Records> {
         Ok(Records {
             histogram: histogram(alloc)?,
@@ -60,6 +61,7 @@ pub struct RecordsMany {
 }
 
 impl RecordsMany {
+    /// Prepares the benchmark.
     pub fn new(alloc: Global) -> Result<RecordsMany> {
         Ok(RecordsMany {
             histogram: histogram(alloc)?,

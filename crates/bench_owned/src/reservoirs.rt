@@ -44,6 +44,7 @@ pub struct Filling {
 }
 
 impl Filling {
+    /// Prepares the benchmark.
     pub fn new(alloc: Global) -> Result<Filling> {
         Ok(Filling {
             drawing: Drawing::new(alloc)?,
@@ -72,6 +73,7 @@ pub struct Sampling {
 }
 
 impl Sampling {
+    /// Prepares the benchmark.
     pub fn new(alloc: Global) -> Result<Sampling> {
         let mut drawing = Drawing::new(alloc)?;
         for value in 0..1_000_000i64 {

@@ -25,7 +25,7 @@ const SHARDS: usize = 4;
 /// 24 hours in nanoseconds.
 const DAY: u64 = 86_400_000_000_000;
 
-/// The key of a name, with one label.
+/// Returns the key of a name, with one label.
 pub fn key(alloc: Global, name: &str, i: u32) -> Result<Key> {
     let route = format!(in alloc; "/api/v1/item/{i:03}")?;
     Ok(labelled(alloc, name, route.as_str())?)
@@ -91,6 +91,7 @@ pub struct Creates {
 }
 
 impl Creates {
+    /// Prepares the benchmark.
     pub fn new<W: Wait>(rt: &W, alloc: Global, first: usize) -> Result<Creates> {
         let keys = keys_1000(alloc)?;
         let registry = holding(rt, alloc, &keys)?;
@@ -113,11 +114,11 @@ impl<R: Wait> Bench<R> for Creates {
     }
 }
 
-/// How many times a thread looks whether the others have come, before it begins without them.
+/// How many times a thread looks for the others, before it begins without them.
 const LOOKS: u32 = 10_000_000;
 
-/// Adds one to each counter as `increment_all` does, the keys from a place on and then those before it, once all four threads
-/// have come.
+/// Adds one to each counter as `increment_all` does, the keys from a place on and then those before it, once all four
+/// threads have arrived.
 fn increment_beside<W: Wait>(
     rt: &W,
     come: &AtomicU64,
@@ -143,7 +144,7 @@ fn increment_beside<W: Wait>(
     true
 }
 
-/// Gets 500,000 times a counter of the first keys, in turn, in each of four threads. Each begins a quarter of the keys further.
+/// Gets a counter of the first keys 500,000 times, in turn, in each of four threads. Each begins a quarter of the keys further.
 impl ThreadBench for Creates {
     fn walk<R: Threads + Wait + Sync>(&mut self, rt: &R) -> Result<u64> {
         let registry = &self.registry;
@@ -187,6 +188,7 @@ pub struct Checks {
 }
 
 impl Checks {
+    /// Prepares the benchmark.
     pub fn new<W: Wait>(rt: &W, alloc: Global) -> Result<Checks> {
         let keys = keys_1000(alloc)?;
         let (registry, generations) = taken(dated(rt, alloc, &keys))?;

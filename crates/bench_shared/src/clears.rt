@@ -7,7 +7,7 @@ use metrics_bucket::{Pen, RuledBucket};
 use std::alloc::Global;
 use std::sync::Wait;
 
-/// A bucket beside its pen.
+/// A bucket with its pen.
 #[derive(Drop)]
 struct Filled {
     bucket: RuledBucket<i64>,
@@ -16,7 +16,7 @@ struct Filled {
     ghost free: { pen.ticket ≡ false },
 }
 
-/// Pushes this many values, and counts those that were refused.
+/// Pushes this many values, and counts those that were rejected.
 fn fill(bucket: &RuledBucket<i64>, pen: &mut Pen, values: i64) -> u64
     requires { (pen.old.home ≡ bucket.now) × (pen.old.ticket ≡ false) }
     ensures { (pen.new.home ≡ pen.old.home) × (pen.new.ticket ≡ false) }
@@ -56,7 +56,7 @@ impl Filled {
     }
 }
 
-/// Clears full buckets one after another, with the sum of their values. That they are filled isn't timed.
+/// Clears full buckets one after another, with the sum of their values. Filling them isn't timed.
 #[derive(Drop)]
 pub struct Clears {
     buckets: Vec<Filled>,
@@ -64,6 +64,7 @@ pub struct Clears {
 }
 
 impl Clears {
+    /// Prepares the benchmark.
     pub fn new(alloc: Global, blocks: u16, buckets: usize) -> Result<Clears> {
         let mut all = Vec::new(alloc);
         for _ in 0..buckets {

@@ -10,7 +10,7 @@ use std::alloc::Global;
 use std::sync::Wait;
 use std::thread::{Threads, join};
 
-/// Pushes the values from 0 on, below `end`, and counts those that were refused.
+/// Pushes the values from 0 on, below `end`, and counts those that failed.
 fn push_run<R: Wait>(
     rt: &R,
     bucket: &GrowingBucket<i64>,
@@ -29,7 +29,7 @@ fn push_run<R: Wait>(
     (pen, refused)
 }
 
-/// A bucket whose first segment has 65,536 places, beside its pen.
+/// A bucket whose first segment has 65,536 places, with its pen.
 #[derive(Drop)]
 struct Alone {
     bucket: GrowingBucket<i64>,
@@ -51,7 +51,7 @@ impl Alone {
         (Alone { bucket, pen }, refused)
     }
 
-    /// The sum of what the clear shows comes beside it.
+    /// The result has the sum of what the clear shows.
     fn clear<R: Wait>(self, rt: &R) -> Result<(Alone, u64)> {
         let Alone { bucket, mut pen } = self;
         let mut sum: i64 = 0;
@@ -64,8 +64,8 @@ impl Alone {
     }
 }
 
-/// Pushes by one thread, or clears of a bucket of 65,536 values, with their sum. What stands between two walks, the clear or the
-/// pushes, isn't timed.
+/// Pushes by one thread, or clears of a bucket of 65,536 values, with their sum. What is between two walks, the clear
+/// or the pushes, isn't timed.
 #[derive(Drop)]
 pub struct GrowingTurns {
     held: Option<Alone>,
@@ -73,6 +73,7 @@ pub struct GrowingTurns {
 }
 
 impl GrowingTurns {
+    /// Prepares the benchmark.
     pub fn new(alloc: Global, are_pushes: bool) -> Result<GrowingTurns> {
         Ok(GrowingTurns {
             held: Some(Alone::new(alloc)?),
@@ -80,7 +81,7 @@ impl GrowingTurns {
         })
     }
 
-    /// Pushes or clears. How many pushes were refused, or the sum.
+    /// Pushes or clears. Returns how many pushes failed, or the sum.
     fn turn<R: Wait>(&mut self, rt: &R, are_pushes: bool) -> Result<u64> {
         let held = self.held.take().ok_or(anyhow!("empty"))?;
         let (held, told) = if are_pushes {
@@ -161,7 +162,7 @@ fn push_in_four<R: Threads + Wait + Sync>(
     (front, back, a.wrapping_add(b))
 }
 
-/// A bucket whose first segment has 65,536 places, beside four pens.
+/// A bucket whose first segment has 65,536 places, with four pens.
 #[derive(Drop)]
 struct Four {
     bucket: GrowingBucket<i64>,
@@ -226,13 +227,14 @@ impl Four {
     }
 }
 
-/// Pushes by four threads, their start with it. The clear between two walks isn't timed.
+/// Pushes by four threads, including their start. The clear between two walks isn't timed.
 #[derive(Drop)]
 pub struct GrowingPushesOfFour {
     held: Option<Four>,
 }
 
 impl GrowingPushesOfFour {
+    /// Prepares the benchmark.
     pub fn new(alloc: Global) -> Result<GrowingPushesOfFour> {
         Ok(GrowingPushesOfFour {
             held: Some(Four::new(alloc)?),

@@ -19,7 +19,7 @@ fn number(word: &str) -> Result<usize> {
     }
 }
 
-/// Holds so many histograms of a storage, and answers how many were made.
+/// Holds so many histograms of a storage, and returns how many were made.
 fn hold<W: Wait>(rt: &W, alloc: Global, storage: AtomicStorage, count: usize) -> Result<usize> {
     let registry = taken(Registry::new(alloc, storage, SHARDS))?;
     let mut made = 0usize;
@@ -31,8 +31,8 @@ fn hold<W: Wait>(rt: &W, alloc: Global, storage: AtomicStorage, count: usize) ->
     Ok(made)
 }
 
-/// Holds what the words `hold COUNT [BLOCKS]` ask for: so many histograms, of so many blocks each, or of as many as those
-/// of `Registry::atomic` have. Answers how many were made, and nothing where the words begin in another way.
+/// Holds what the words `hold COUNT [BLOCKS]` ask for: so many histograms, of so many blocks each, or of as many as
+/// those of `Registry::atomic` have. Returns how many were made, or nothing if the words begin in another way.
 pub fn hold_asked<R: AllocGlobal + Env + Wait>(rt: &R, alloc: Global) -> Result<Option<usize>> {
     let mut words = env::args(rt)?.skip(1);
     if words.next().is_none_or(|word| word.as_str() != "hold") {

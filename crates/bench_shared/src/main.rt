@@ -1,7 +1,7 @@
 //! Benchmarks of what threads share: see `bench_harness` for its words. With the words `hold COUNT [BLOCKS]` it holds
 //! histograms.
 //!
-//! Where four threads work, an operation's time is the time of the walk, divided by the operations of all four.
+//! When four threads work, an operation's time is the time of the walk, divided by the operations of all four.
 #![tactic(auto)]
 
 mod cells;

@@ -9,7 +9,7 @@ use std::alloc::Global;
 use std::sync::Wait;
 use std::thread::{Threads, join};
 
-/// A bucket of 65,536 places beside its pen.
+/// A bucket of 65,536 places with its pen.
 #[derive(Drop)]
 struct Alone {
     bucket: RuledBucket<i64>,
@@ -18,7 +18,7 @@ struct Alone {
     ghost free: { pen.ticket ≡ false },
 }
 
-/// Pushes the values from `from` on, below `end`, and counts those that were refused.
+/// Pushes the values from `from` on, below `end`, and counts those that were rejected.
 fn push_run<R: Wait>(
     rt: &R,
     bucket: &RuledBucket<i64>,
@@ -66,6 +66,7 @@ pub struct Pushes {
 }
 
 impl Pushes {
+    /// Prepares the benchmark.
     pub fn new(alloc: Global) -> Result<Pushes> {
         Ok(Pushes {
             held: Some(Alone::new(alloc)?),
@@ -88,7 +89,7 @@ impl<R: Wait> Bench<R> for Pushes {
     }
 }
 
-/// A bucket of 65,536 places beside four pens.
+/// A bucket of 65,536 places with four pens.
 #[derive(Drop)]
 struct Four {
     bucket: RuledBucket<i64>,
@@ -226,13 +227,14 @@ impl Four {
     }
 }
 
-/// Pushes into a bucket by four threads, their start with it. The clear between two walks isn't timed.
+/// Pushes into a bucket by four threads, including their start. The clear between two walks isn't timed.
 #[derive(Drop)]
 pub struct PushesOfFour {
     held: Option<Four>,
 }
 
 impl PushesOfFour {
+    /// Prepares the benchmark.
     pub fn new(alloc: Global) -> Result<PushesOfFour> {
         Ok(PushesOfFour {
             held: Some(Four::new(alloc)?),

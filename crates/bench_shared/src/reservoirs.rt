@@ -39,6 +39,7 @@ pub struct Filling {
 }
 
 impl Filling {
+    /// Prepares the benchmark.
     pub fn new(alloc: Global) -> Result<Filling> {
         Ok(Filling {
             reservoir: new_reservoir(alloc)?,
@@ -65,6 +66,7 @@ pub struct Sampling {
 }
 
 impl Sampling {
+    /// Prepares the benchmark.
     pub fn new<R: Wait>(rt: &R, alloc: Global) -> Result<Sampling> {
         Ok(Sampling {
             alloc,
@@ -79,10 +81,10 @@ impl<R: Wait> Bench<R> for Sampling {
     }
 }
 
-/// How many times a thread looks whether the others have come, before it begins without them.
+/// How many times a thread looks for the others, before it begins without them.
 const LOOKS: u32 = 10_000_000;
 
-/// Pushes as `push_all` does, once all four threads have come.
+/// Pushes as `push_all` does, once all four threads have arrived.
 fn push_beside<R: Wait>(rt: &R, come: &AtomicU64, reservoir: &Reservoir, values: i64) -> bool {
     come.fetch_add(1, Ordering::SeqCst);
     for _ in 0..LOOKS {

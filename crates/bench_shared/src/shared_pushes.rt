@@ -8,7 +8,7 @@ use std::alloc::Global;
 use std::sync::Wait;
 use std::thread::{Threads, join};
 
-/// Pushes this many values, and counts those that were refused.
+/// Pushes this many values, and counts those that were rejected.
 fn push_run<R: Wait>(rt: &R, bucket: &AtomicBucket<i64>, values: i64) -> u64 {
     let mut refused = 0u64;
     for value in 0..values {
@@ -42,6 +42,7 @@ pub struct SharedPushes {
 }
 
 impl SharedPushes {
+    /// Prepares the benchmark.
     pub fn new(alloc: Global) -> Result<SharedPushes> {
         let bucket = taken(AtomicBucket::new(alloc, 1024))?;
         Ok(SharedPushes { bucket })

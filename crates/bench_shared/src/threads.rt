@@ -12,12 +12,12 @@ use std::time::Instant;
 pub trait ThreadBench: Drop {
     ghost use Rattle.std.specs.Thread.{IsSync};
 
-    /// What stands before a walk, and isn't timed.
+    /// Prepares a walk, and isn't timed.
     fn prepare<R: Wait>(&mut self, _rt: &R) -> Result<()> {
         Ok(())
     }
 
-    /// One walk. What it answers hangs on what was done, so that no work is left out.
+    /// Walks once. The result depends on what was done, so that no work is left out.
     fn walk<R: Threads + Wait + Sync>(&mut self, rt: &R) -> Result<u64>
         requires { IsSync R.row };
 }

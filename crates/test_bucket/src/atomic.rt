@@ -8,12 +8,12 @@ use std::process::Abort;
 use std::sync::{Arc, Wait};
 use test_trial::Trial;
 
-/// A bucket of so many blocks.
+/// Returns a bucket of so many blocks.
 pub fn bucket_of<R: Abort>(rt: &R, alloc: Global, blocks: usize) -> AtomicBucket<u64> {
     AtomicBucket::<u64>::new(alloc, blocks).expect(rt, "out of memory")
 }
 
-/// Pushes the values below `end`, which takes no memory.
+/// Pushes the values below `end`, which allocates nothing.
 fn push_below<R: Abort + Wait>(rt: &R, bucket: &AtomicBucket<u64>, end: u64) {
     for value in 0..end {
         assert!(rt; bucket.push(rt, value).is_ok());
@@ -31,7 +31,7 @@ fn in_blocks<R: Abort>(rt: &R, alloc: Global, end: u64) -> Vec<u64> {
     values
 }
 
-/// That a reading gives these values, or was refused for memory.
+/// Checks that a reading found these values, or ran out of memory.
 fn expect_read<R: Abort>(
     rt: &R,
     trial: &mut Trial,
@@ -173,7 +173,7 @@ fn expect_busy<R: Abort + Wait>(rt: &R, alloc: Global, bucket: &AtomicBucket<u64
     }
 }
 
-/// More calls are refused than there may be at once.
+/// More calls fail than there may be at once.
 #[test]
 fn calls_that_are_refused_leave_the_bucket(rt: HostRuntime) {
     let bucket = bucket_of(&rt, rt.alloc(), 1);

@@ -21,7 +21,7 @@ fn push_all<R: Wait>(rt: &R, bucket: &AtomicBucket<u64>, from: u64, end: u64) {
     }
 }
 
-/// Two threads push 0 to 1999, and then it is told that they ended.
+/// Two threads push 0 to 1999, and then report that they ended.
 fn push_in_two<R: Threads + Wait + Sync>(rt: &R, bucket: &AtomicBucket<u64>, ended: &AtomicUsize) {
     join(
         rt,
@@ -51,7 +51,7 @@ fn clear_to_the_end<R: Abort + Wait>(
     shown
 }
 
-/// What a thread's clears show while two others push. They wait for it, so it ends here where it can't be started.
+/// What a thread's clears show while two others push. They wait for it, so the test ends here if it can't be started.
 fn push_and_clear<R: Abort + Threads + Wait + Sync>(
     rt: &R,
     alloc: Global,
@@ -69,7 +69,7 @@ fn push_and_clear<R: Abort + Threads + Wait + Sync>(
     })
 }
 
-/// Whether these are the numbers from 0 on, each once, in some order.
+/// Returns whether these are the numbers from 0 on, each once, in some order.
 pub fn are_all_once(mut values: Vec<u64>, count: usize) -> bool {
     values.sort_unstable();
     let mut want = 0u64;
@@ -89,7 +89,7 @@ fn each_value_comes_out_once(rt: HostRuntime) {
     assert!(rt; are_all_once(shown, 2000) && bucket.is_empty(&rt) == Ok(true));
 }
 
-/// Pushes 8,000 values, each once, and counts those that were refused.
+/// Pushes 8,000 values, each once, and counts those that were rejected.
 fn refusals<R: Wait>(rt: &R, bucket: &AtomicBucket<u64>) -> usize {
     let mut refused = 0usize;
     for value in 0..8000u64 {

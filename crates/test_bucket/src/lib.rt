@@ -1,4 +1,4 @@
-//! Tests of `AtomicBucket` and `RuledBucket`, through what `metrics_bucket` hands out.
+//! Tests of `AtomicBucket` and `RuledBucket`, through what `metrics_bucket` re-exports.
 #![tactic(auto)]
 
 #[cfg(test)]

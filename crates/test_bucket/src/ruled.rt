@@ -7,14 +7,14 @@ use std::alloc::Global;
 use std::process::Abort;
 use std::sync::Wait;
 
-/// A bucket of so many blocks, and its whole pen.
+/// Returns a bucket of so many blocks, and its whole pen.
 pub fn bucket_of<R: Abort>(rt: &R, alloc: Global, blocks: usize) -> (RuledBucket<u64>, Pen)
     ensures { (result.1.home ≡ result.0) × (result.1.ticket ≡ false) }
 {
     RuledBucket::<u64>::new(alloc, blocks).expect(rt, "out of memory")
 }
 
-/// A pen of half the weight.
+/// Returns a pen of half the weight.
 pub fn split_off<R: Abort>(rt: &R, pen: &mut Pen) -> Pen
     requires { pen.old.ticket ≡ false }
     ensures rest { (pen.new.home ≡ pen.old.home) × (pen.new.ticket ≡ false) }
@@ -23,7 +23,7 @@ pub fn split_off<R: Abort>(rt: &R, pen: &mut Pen) -> Pen
     pen.split().expect(rt, "out of memory")
 }
 
-/// Pushes the values below `end`, which takes no memory.
+/// Pushes the values below `end`, which allocates nothing.
 pub fn push_below<R: Abort>(rt: &R, bucket: &RuledBucket<u64>, pen: &mut Pen, end: u64)
     requires { (pen.old.home ≡ bucket.now) × (pen.old.ticket ≡ false) }
     ensures { (pen.new.home ≡ bucket.now) × (pen.new.ticket ≡ false) }
@@ -33,7 +33,7 @@ pub fn push_below<R: Abort>(rt: &R, bucket: &RuledBucket<u64>, pen: &mut Pen, en
     }
 }
 
-/// What is left in the bucket at its end.
+/// Returns what is left in the bucket at its end.
 pub fn settled<R: Abort>(rt: &R, alloc: Global, bucket: RuledBucket<u64>, pen: Pen) -> Vec<u64>
     requires { (pen.home ≡ bucket) × (pen.ticket ≡ false) }
 {
@@ -108,7 +108,7 @@ fn tickets_keep_their_places(rt: HostRuntime) {
     assert!(rt; values.as_slice() == [5, 7].as_slice());
 }
 
-/// A pen beside its bucket, as a walk's closure may hold it.
+/// A pen with its bucket, as a walk's closure may hold it.
 #[derive(Drop)]
 struct Held<'a> {
     bucket: &'a RuledBucket<u64>,

@@ -1,4 +1,4 @@
-//! `RuledBucket` after a refusal.
+//! `RuledBucket` after a call that ran out of memory.
 ghost use Rattle.std.specs.Prelude.{◌≡◌, false, IfOk};
 
 use crate::ruled::{bucket_of, settled, split_off};
@@ -19,7 +19,7 @@ fn two_pushed<R: Abort>(rt: &R, alloc: Global) -> (RuledBucket<u64>, Pen)
     (bucket, pen)
 }
 
-/// That 5 and 7 are left, where the first try to settle may be refused.
+/// Checks that 5 and 7 are left, where the first try to settle may run out of memory.
 fn expect_settled<R: Abort>(rt: &R, trial: &Trial, bucket: RuledBucket<u64>, pen: Pen)
     requires { (pen.home ≡ bucket) × (pen.ticket ≡ false) }
 {
@@ -41,7 +41,7 @@ fn settle_gives_bucket_and_pen_back(rt: HostRuntime) {
     expect_settled(&rt, &trial, bucket, pen);
 }
 
-/// Whether 5 and 7 were read. Else memory was refused.
+/// Whether 5 and 7 were read. Otherwise memory ran out.
 fn is_read<R: Abort + Wait>(
     rt: &R,
     trial: &mut Trial,
@@ -77,7 +77,7 @@ fn a_refused_reading_leaves(rt: HostRuntime) {
     assert!(rt; bucket.clear_as(&rt, &mut other) == Ok(2));
 }
 
-/// A pen of half the weight, where the first try may be refused.
+/// A pen of half the weight, where the first try may run out of memory.
 fn split_again<R: Abort>(rt: &R, trial: &mut Trial, pen: &mut Pen) -> Result<Pen, Error>
     requires { pen.old.ticket ≡ false }
     ensures rest { (pen.new.home ≡ pen.old.home) × (pen.new.ticket ≡ false) }

@@ -12,7 +12,7 @@ use std::sync::Wait;
 use std::sync::atomic::{AtomicUsize, Ordering};
 use std::thread::{Promise, Threads, join, scope, scope_env};
 
-/// Pushes one value; where it waits, it tries again while the bucket is full.
+/// Pushes one value; if it waits, it retries while the bucket is full.
 fn push_waiting<R: Wait>(rt: &R, bucket: &RuledBucket<u64>, pen: &mut Pen, value: u64, waits: bool)
     requires { (pen.old.home ≡ bucket.now) × (pen.old.ticket ≡ false) }
     ensures { (pen.new.home ≡ pen.old.home) × (pen.new.weight ≡ pen.old.weight) × (pen.new.ticket ≡ false) }
@@ -108,7 +108,7 @@ struct Cleared {
     count: usize,
 }
 
-/// That a clearer gives the pen back that it was given.
+/// Checks that a clearer returns the pen that it was given.
 #[derive(Drop)]
 struct Clears {
     pen: Snapshot<Pen>,
@@ -120,7 +120,7 @@ impl Promise<Cleared> for Clears {
     ghost kept_by = { λ p c. (c.pen.home ≡ p.pen.value.home) × (c.pen.ticket ≡ false) };
 }
 
-/// Clears once at least, and until it is told that the others ended.
+/// Clears at least once, and until the others report that they ended.
 fn clear_to_the_end<R: Abort + Wait>(
     rt: &R,
     alloc: Global,
@@ -146,7 +146,7 @@ fn clear_to_the_end<R: Abort + Wait>(
     Cleared { pen, shown, count }
 }
 
-/// Does this while a thread clears, and gives what both gave. It ends here where the thread can't be started.
+/// Does this while a thread clears, and returns what both returned. Ends the test here if the thread can't be started.
 fn beside_a_clearer<R: Abort + Threads + Wait + Sync, T, F: FnOnce() -> T>(
     rt: &R,
     alloc: Global,
@@ -186,7 +186,7 @@ fn beside_a_clearer<R: Abort + Threads + Wait + Sync, T, F: FnOnce() -> T>(
     )
 }
 
-/// Four threads push 0 to 3999, and then it is told that they ended.
+/// Four threads push 0 to 3999, and then report that they ended.
 fn push_to_the_end<R: Abort + Threads + Wait + Sync>(
     rt: &R,
     bucket: &RuledBucket<u64>,
@@ -201,7 +201,7 @@ fn push_to_the_end<R: Abort + Threads + Wait + Sync>(
     pen
 }
 
-/// Reads once at least, and until it is told that the others ended. Each value is below 4000.
+/// Reads at least once, and until the others report that they ended. Each value is below 4000.
 fn read_to_the_end<R: Abort + Wait>(
     rt: &R,
     bucket: &RuledBucket<u64>,
@@ -223,7 +223,7 @@ fn read_to_the_end<R: Abort + Wait>(
     pen
 }
 
-/// Pushers and a reader at once. The reader comes last where no thread can be started for it.
+/// Pushers and a reader at once. The reader is last if no thread can be started for it.
 fn push_and_read<R: Abort + Threads + Wait + Sync>(
     rt: &R,
     bucket: &RuledBucket<u64>,
@@ -250,7 +250,7 @@ fn push_and_read<R: Abort + Threads + Wait + Sync>(
     pen
 }
 
-/// Pushers, a reader and a clearer at once. One pen comes back, with what the clearer was shown.
+/// Pushers, a reader and a clearer at once. They return one pen, and what the clearer was shown.
 fn push_read_and_clear<R: Abort + Threads + Wait + Sync>(
     rt: &R,
     alloc: Global,
@@ -324,7 +324,7 @@ fn push_beside<R: Abort + Wait>(
     (slow, other)
 }
 
-/// The slow pen's push began. The pens come back once a clear has waited for it.
+/// The slow pen's push began. The pens are returned once a clear has waited for it.
 fn clear_beside<R: Abort + Threads + Wait + Sync>(
     rt: &R,
     alloc: Global,

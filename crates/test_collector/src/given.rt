@@ -12,13 +12,13 @@ pub const MEMORY: &str = "out of memory";
 /// The longest time that a series may be idle.
 pub const TIMEOUT: u64 = 5;
 
-/// Makes a collector whose series may be idle for 5, and whose histograms count at 10.
+/// Returns a collector whose series may be idle for 5, and whose histograms count at 10.
 pub fn collector<R: AllocGlobal + Abort>(rt: &R, mask: MetricKindMask) -> Collector {
     let bounds = Bounds::new(rt.alloc(), &[10]).expect(rt, MEMORY);
     Collector::new(rt.alloc(), 4, mask, Some(TIMEOUT), bounds).expect(rt, MEMORY)
 }
 
-/// Two labels that all series have.
+/// Returns two labels that all series have.
 pub fn labels<R: AllocGlobal + Abort>(rt: &R) -> Vec<Label> {
     let mut all = Vec::new(rt.alloc());
     for (name, value) in [("zone", "e"), ("host", "h")] {
@@ -28,18 +28,22 @@ pub fn labels<R: AllocGlobal + Abort>(rt: &R) -> Vec<Label> {
     all
 }
 
+/// Returns the key of a name without labels.
 pub fn key<R: AllocGlobal + Abort>(rt: &R, name: &str) -> Key {
     Key::from_name(rt.alloc(), name).expect(rt, MEMORY)
 }
 
+/// Returns a handle of a counter.
 pub fn counter<R: AllocGlobal + Abort + Wait>(rt: &R, on: &Collector, name: &str) -> CounterHandle {
     on.counter(rt, &key(rt, name)).expect(rt, MEMORY)
 }
 
+/// Returns a handle of a gauge.
 pub fn gauge<R: AllocGlobal + Abort + Wait>(rt: &R, on: &Collector, name: &str) -> GaugeHandle {
     on.gauge(rt, &key(rt, name)).expect(rt, MEMORY)
 }
 
+/// Returns a handle of a histogram.
 pub fn histogram<R: AllocGlobal + Abort + Wait>(
     rt: &R,
     on: &Collector,

@@ -1,4 +1,4 @@
-//! Series that are idle: hidden while somebody has a handle, and else gone.
+//! Series that are idle: hidden while somebody has a handle, and otherwise gone.
 
 use crate::given::{
     collector, count, counter, expect_text, expect_texts, gauge, histogram, record, set,

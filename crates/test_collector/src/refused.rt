@@ -1,4 +1,4 @@
-//! What is left where an allocation failed. Each test then goes on with memory at hand.
+//! What is left after an allocation failed. Each test then continues with memory available.
 
 use crate::given::{MEMORY, collector, count, counter, expect_text, labels, record, set};
 use metrics::{Error, Key, MetricKind, MetricKindMask};
@@ -8,7 +8,7 @@ use std::process::Abort;
 use std::sync::Wait;
 use test_trial::Trial;
 
-/// Takes note of an error, which has to be out of memory.
+/// Notes an error, which has to be out of memory.
 fn note<R: Abort>(rt: &R, trial: &mut Trial, error: Error) {
     trial.note(error).expect(rt, "another error");
 }
@@ -160,7 +160,7 @@ fn update<R: AllocGlobal + Abort + Wait>(rt: &R, on: &Collector) {
     record(rt, on, "h", 2);
 }
 
-/// Compares the next text, which comes late where the first one ran out of memory.
+/// Compares the next text, which is late if the first one ran out of memory.
 fn expect_next<R: AllocGlobal + Abort + Wait>(
     rt: &R,
     trial: &mut Trial,
@@ -186,8 +186,8 @@ const BEFORE: &str = "# TYPE hidden counter\nhidden 1\n# TYPE left counter\nleft
 
 const AFTER: &str = "# TYPE hidden counter\nhidden 3\n# TYPE left counter\nleft 0\n";
 
-/// What a reading without memory met is shown by the next one, though that comes after the timeout. A series that was idle
-/// stays hidden where a handle is kept, and else is gone.
+/// What a reading without memory met is shown by the next one, though after the timeout. A series that was idle stays
+/// hidden if a handle is kept, and is gone otherwise.
 fn expect_readings<R: AllocGlobal + Abort + Wait>(rt: &R, trial: &mut Trial, on: &Collector) {
     let hidden = counter(rt, on, "hidden");
     CounterFn::increment(&hidden, 1);
@@ -207,7 +207,7 @@ fn a_reading_without_memory_counts_for_nothing(rt: HostRuntime) {
     expect_readings(&rt, &mut trial, &on);
 }
 
-/// The same where the series were shown before, and have changed.
+/// The same for series that were shown before, and have changed.
 #[test]
 fn a_change_that_a_reading_without_memory_met_is_shown(rt: HostRuntime) {
     let mut trial = Trial::new(rt.alloc());

@@ -207,7 +207,7 @@ fn expect_all<R: AllocGlobal + Abort + Threads + Wait + Sync>(
     expect_sums(rt, on, sums);
 }
 
-/// Memory may be refused in a first run of a few rounds.
+/// Memory may run out in a first run of a few rounds.
 #[test]
 fn eight_threads_and_a_reader_count_each_update_once(rt: HostRuntime) {
     let on = collector(&rt, MetricKindMask::ALL);

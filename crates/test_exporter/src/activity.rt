@@ -12,7 +12,7 @@ fn watching(rt: &impl Abort, alloc: Global) -> Exporter {
     Exporter::new(alloc, 2, MetricKindMask::ALL, Some(5), &[10]).expect(rt, MEMORY)
 }
 
-/// Absorbs the book's snapshot, and expires. Answers how many series went.
+/// Absorbs the book's snapshot, and expires. Returns how many series went.
 fn scrape<R: Recorder, E: Exports>(
     alloc: Global,
     book: &mut R,

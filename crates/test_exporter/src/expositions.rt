@@ -67,7 +67,7 @@ fn expect_described<E: Exports>(rt: &impl Abort, alloc: Global, mut exporter: E)
     expect_shown(rt, alloc, &exporter, DESCRIBED);
 }
 
-/// Of two names that are shown as one the first that is written gives the description.
+/// The first written of two names that are shown as one provides the description.
 #[test]
 fn a_description_is_shown_before_its_kind(rt: HostRuntime) {
     expect_described(&rt, rt.alloc(), exporter_of(&rt, rt.alloc(), &[10]));

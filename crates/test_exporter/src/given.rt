@@ -13,7 +13,7 @@ pub type Given = (
     Update,
 );
 
-/// How an end for want of memory is told.
+/// The message of an end out of memory.
 pub const MEMORY: &str = "out of memory";
 
 /// What tests ask of an exporter. Helpers over any of these don't read an exporter's contracts, so they are proved fast.
@@ -72,11 +72,12 @@ impl Exports for Exporter {
     }
 }
 
-/// An exporter that removes nothing.
+/// Returns an exporter that removes nothing.
 pub fn exporter_of(rt: &impl Abort, alloc: Global, bounds: &[i64]) -> Exporter {
     Exporter::new(alloc, 2, MetricKindMask::NONE, None, bounds).expect(rt, MEMORY)
 }
 
+/// Returns a key of a name and labels.
 pub fn key(rt: &impl Abort, alloc: Global, name: &str, labels: &[(&str, &str)]) -> Key {
     let mut all = Vec::new(alloc);
     for (label, value) in labels {

@@ -1,4 +1,4 @@
-//! Tests of `metrics_exporter` and `metrics_prometheus`, through what they hand out.
+//! Tests of `metrics_exporter` and `metrics_prometheus`, through what they re-export.
 #![tactic(auto)]
 
 #[cfg(test)]

@@ -5,7 +5,7 @@ use metrics::{Error, MetricKindMask};
 use metrics_exporter::Exporter;
 use std::process::Abort;
 
-/// Numbers of shards, bounds, and the refusal. The shards are looked at first.
+/// Numbers of shards, bounds, and the error. The shards are checked first.
 const ASKED: [(usize, &[i64], Option<Error>); 9] = [
     (0, &[], Some(Error::BadShards)),
     (3, &[], Some(Error::BadShards)),

@@ -57,14 +57,14 @@ fn an_idle_counter_goes_and_begins_again(rt: HostRuntime) {
     expect_begun_again(&rt, rt.alloc(), made.expect(&rt, MEMORY));
 }
 
-/// Checks that the first `count` series are held. The text may be refused, and then comes at a second call.
+/// Checks that the first `count` series are held. The first call for the text may run out of memory; a second one returns it.
 fn expect_held<E: Exports>(trial: &mut Trial, exporter: &E, count: usize) -> Result<(), Wrong> {
     let text = made(trial, &|| exporter.text())?;
     expect(exporter.len() == count, "another number of series")?;
     expect(TEXTS.get(count) == Some(&text.as_str()), "another text")
 }
 
-/// Makes an update. Where it is refused nothing has changed, and it is made again.
+/// Makes an update. If it fails nothing has changed, and it is made again.
 fn update<E: Exports>(
     rt: &impl Abort,
     trial: &mut Trial,
@@ -85,7 +85,7 @@ fn update<E: Exports>(
     expect_held(trial, exporter, held.saturating_add(1))
 }
 
-/// Expires at a moment at which these are idle. Where it is refused some series may have gone, of the last first, and a second
+/// Expires at a moment at which these are idle. If it fails some series may have gone, the last first, and a second
 /// call removes the others.
 fn expire<E: Exports>(
     trial: &mut Trial,

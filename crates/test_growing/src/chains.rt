@@ -9,14 +9,14 @@ use std::alloc::Global;
 use std::process::Abort;
 use std::sync::Wait;
 
-/// A bucket whose first segment has one block, and its pen.
+/// Returns a bucket whose first segment has one block, and its pen.
 pub fn bucket_of_one<R: Abort>(rt: &R, alloc: Global) -> (GrowingBucket<u64>, GrowPen)
     ensures { IsOf result.0 result.1 }
 {
     GrowingBucket::<u64>::new(alloc, 1).expect(rt, "out of memory")
 }
 
-/// Another pen of the same bucket, with half of the weight.
+/// Returns another pen of the same bucket, with half of the weight.
 pub fn split_off<R: Abort>(rt: &R, bucket: &GrowingBucket<u64>, pen: &mut GrowPen) -> GrowPen
     requires { IsOf bucket.now pen.old }
     ensures rest { IsOf bucket.now pen.new }
@@ -35,7 +35,7 @@ fn push_below<R: Abort>(rt: &R, bucket: &GrowingBucket<u64>, pen: &mut GrowPen, 
     }
 }
 
-/// Clears, and gives the first value of each chunk and how many it has. They are as many in all as the clear answers.
+/// Clears, and returns the first value of each chunk and how many it has. Their number in all is what the clear returns.
 fn cleared_chunks<R: Abort + Wait>(
     rt: &R,
     alloc: Global,
@@ -95,7 +95,7 @@ fn a_push_takes_the_first_segment_that_has_room(rt: HostRuntime) {
     assert!(rt; chunks.as_slice() == wanted.as_slice());
 }
 
-/// The error of a call, where that isn't want of memory.
+/// The error of a call, unless it is out of memory.
 fn refusal<R: Abort, T: Drop>(rt: &R, answer: Result<T, Error>) -> Option<Error> {
     match answer {
         Ok(_) => None,
@@ -104,7 +104,7 @@ fn refusal<R: Abort, T: Drop>(rt: &R, answer: Result<T, Error>) -> Option<Error>
     }
 }
 
-/// One pen of both.
+/// Returns one pen of both.
 pub fn merged<R: Abort>(
     rt: &R,
     bucket: &GrowingBucket<u64>,
@@ -154,7 +154,7 @@ fn expect_no_pen<R: Abort + Wait>(rt: &R, bucket: &GrowingBucket<u64>, late: &mu
     assert!(rt; refusal(rt, cleared) == Some(Error::NoPen));
 }
 
-/// The first of 128 pens makes the second segment, and each other takes one of its 127 spare pens.
+/// The first of 128 pens makes the second segment, and each other gets one of its 127 spare pens.
 #[test]
 fn spare_pens_are_used_up_and_gathered(rt: HostRuntime) {
     let (bucket, mut pen) = bucket_of_one(&rt, rt.alloc());
@@ -169,7 +169,7 @@ fn spare_pens_are_used_up_and_gathered(rt: HostRuntime) {
     assert!(rt; values.len() == 192);
 }
 
-/// A pen beside its bucket, as a clear's closure may hold it.
+/// A pen with its bucket, as a clear's closure may hold it.
 #[derive(Drop)]
 struct Held<'a> {
     bucket: &'a GrowingBucket<u64>,
@@ -178,7 +178,7 @@ struct Held<'a> {
 }
 
 impl Held<'_> {
-    /// Clears. A clear that is refused has not called its closure.
+    /// Clears. A clear that fails has not called its closure.
     fn clear<R: Abort + Wait>(&mut self, rt: &R) -> Result<usize, Error> {
         let mut calls = 0u64;
         let answer = self
@@ -202,7 +202,7 @@ impl Visitor<u64> for Held<'_> {
     }
 }
 
-/// What it pushes goes to the first segment, which is just cleared, so that takes no memory.
+/// What it pushes goes to the first segment, which is just cleared, so that allocates nothing.
 #[test]
 fn a_clears_visitor_may_push(rt: HostRuntime) {
     let (bucket, mut pen) = bucket_of_one(&rt, rt.alloc());

@@ -1,4 +1,4 @@
-//! Tests of the bucket that grows, through what `metrics_growing` hands out.
+//! Tests of the bucket that grows, through what `metrics_growing` re-exports.
 #![tactic(auto)]
 
 #[cfg(test)]

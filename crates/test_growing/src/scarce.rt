@@ -1,4 +1,4 @@
-//! A bucket that grows, after a refusal: every value and every pen is in its place.
+//! A bucket that grows, after a failed call: every value and every pen is in its place.
 ghost use Rattle.metrics_growing.specs.Parts.{IsOf};
 
 use crate::chains::{bucket_of_one, split_off};
@@ -8,7 +8,7 @@ use std::process::Abort;
 use std::sync::Wait;
 use test_trial::Trial;
 
-/// Pushes a value. Where memory is refused, it comes back, and is pushed with memory at hand.
+/// Pushes a value. A failed push returns it, and it is pushed again with memory available.
 fn push<R: Abort>(
     rt: &R,
     trial: &mut Trial,
@@ -40,7 +40,7 @@ fn push_65<R: Abort>(rt: &R, trial: &mut Trial, bucket: &GrowingBucket<u64>, pen
     }
 }
 
-/// That a settling gives the values of `from` on, below `end`, in order. The first try may be refused.
+/// Checks that a settling returns the values of `from` on, below `end`, in order. The first try may run out of memory.
 fn expect_settled<R: Abort + Wait>(
     rt: &R,
     trial: &mut Trial,
@@ -66,7 +66,7 @@ fn expect_settled<R: Abort + Wait>(
     expect_run(rt, values.as_slice(), from, end);
 }
 
-/// That these are the values of `from` on, below `end`, in order.
+/// Checks that these are the values of `from` on, below `end`, in order.
 fn expect_run<R: Abort>(rt: &R, values: &[u64], from: u64, end: u64) {
     let mut next = from;
     for value in values {
@@ -76,7 +76,7 @@ fn expect_run<R: Abort>(rt: &R, values: &[u64], from: u64, end: u64) {
     assert!(rt; next == end);
 }
 
-/// Clears 65 values, where the first try may be refused. A pen that doesn't know a segment takes memory for a pen of it.
+/// Clears 65 values, where the first try may run out of memory. A pen that doesn't know a segment allocates a pen of it.
 fn expect_cleared<R: Abort + Wait>(
     rt: &R,
     trial: &mut Trial,
@@ -116,7 +116,7 @@ fn a_refused_clear_leaves_all(rt: HostRuntime) {
     expect_settled(&rt, &mut trial, &bucket, &mut pen, 7, 8);
 }
 
-/// A pen of half the weight, where the first try may be refused and leaves the pen.
+/// A pen of half the weight, where the first try may run out of memory and leaves the pen.
 fn half<R: Abort>(
     rt: &R,
     trial: &mut Trial,
@@ -139,7 +139,7 @@ fn half<R: Abort>(
     }
 }
 
-/// Joins the pens, where the first try may be refused and leaves both.
+/// Joins the pens, where the first try may run out of memory and leaves both.
 fn join<R: Abort>(
     rt: &R,
     trial: &mut Trial,
@@ -182,7 +182,7 @@ fn a_pen_learns_what_another_knows(rt: HostRuntime) {
     expect_settled(&rt, &mut trial, &bucket, &mut pen, 0, 65);
 }
 
-/// Whether or not memory is refused, a settling without all pens is, and leaves the value.
+/// With or without memory, a settling without all pens fails, and leaves the value.
 #[test]
 fn settle_wants_all_pens(rt: HostRuntime) {
     let mut trial = Trial::new(rt.alloc());

@@ -62,7 +62,7 @@ fn push_in<R: Abort + Threads + Wait + Sync>(
     merged(rt, bucket, pen, other)
 }
 
-/// Eight threads push 0 to 1999, and then it is told that they ended.
+/// Eight threads push 0 to 1999, and then report that they ended.
 fn push_to_the_end<R: Abort + Threads + Wait + Sync>(
     rt: &R,
     bucket: &GrowingBucket<u64>,
@@ -107,8 +107,8 @@ fn clear_to_the_end<R: Abort + Wait>(
     (pen, shown)
 }
 
-/// Eight pushers and a clearer at once. One pen comes back, with what the clearer showed. Where no thread can be started for
-/// the clearer, it comes last.
+/// Eight pushers and a clearer at once. They return one pen, with what the clearer showed. If no thread can be started
+/// for the clearer, it is last.
 fn push_and_clear<R: Abort + Threads + Wait + Sync>(
     rt: &R,
     alloc: Global,

@@ -5,11 +5,13 @@ use metrics_journal::{JournaledRegistry, ShardCall};
 use metrics_registry::PlainStorage;
 use std::alloc::Global;
 
+/// A registry with journals of its calls.
 pub type Registry<T, F> = JournaledRegistry<Key, PlainStorage, T, F>;
 
 /// A call with its reply.
 pub type Pair = (ShardCall<Key>, bool);
 
+/// What a call does.
 #[derive(Clone, Copy, Debug, PartialEq, Eq)]
 pub enum Act {
     Create,
@@ -17,7 +19,7 @@ pub enum Act {
     Delete,
 }
 
-/// The call of a key without labels.
+/// Returns the call of a key without labels.
 pub fn call_of(
     alloc: Global,
     act: Act,
@@ -32,7 +34,7 @@ pub fn call_of(
     })
 }
 
-/// Whether this is the call of a key without labels.
+/// Returns whether this is the call of a key without labels.
 pub fn is_call(call: &ShardCall<Key>, act: Act, kind: MetricKind, name: &str) -> bool {
     let found = match call {
         ShardCall::Create(kind, _) => (Act::Create, *kind),

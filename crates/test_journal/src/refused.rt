@@ -1,4 +1,4 @@
-//! Journals while memory is refused: they have the calls that were made and no other.
+//! Journals that run out of memory: they have the calls that were made and no other.
 ghost use Rattle.std.specs.Prelude.{◌≡◌};
 
 use crate::given::{Act, Pair, Registry, call_of, is_call};
@@ -28,7 +28,7 @@ const CALLS: [Act; 10] = [
     Act::Delete,
 ];
 
-/// How many of the calls are made while memory may be refused.
+/// How many of the calls are made while memory may run out.
 const REFUSED: usize = 5;
 
 /// A counter by the plain rules: whether it is held, and the calls that are noted with their replies.
@@ -46,7 +46,7 @@ impl Known {
         }
     }
 
-    /// Takes the answer to a call. The first calls may be refused.
+    /// Notes the result of a call. The first calls may run out of memory.
     fn take(
         &mut self,
         trial: &mut Trial,
@@ -145,7 +145,7 @@ fn call_each<T: Ledger, F: Ledger, R: Wait>(
     Ok(known)
 }
 
-/// The same under a lock, where a ledger counts the replies. Whether there was memory for the registry.
+/// The same under a lock, where a ledger counts the replies. Returns whether there was memory for the registry.
 fn is_journaled<T: Ledger, F: Ledger, R: Wait>(
     rt: &R,
     trial: &mut Trial,

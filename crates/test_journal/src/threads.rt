@@ -14,7 +14,7 @@ use std::thread::{Threads, join};
 
 const NAMES: [&'static str; 10] = ["k0", "k1", "k2", "k3", "k4", "k5", "k6", "k7", "k8", "k9"];
 
-/// Creates the ten counters, and answers how many were new.
+/// Creates the ten counters, and returns how many were new.
 fn create_all<T: Ledger, F: Ledger, R: Wait>(
     rt: &R,
     alloc: Global,
@@ -63,7 +63,7 @@ fn create_in_four<T: Ledger + Send + Sync, F: Ledger + Send + Sync, R: Threads +
     Ok(first?.saturating_add(second?))
 }
 
-/// How many pairs of all journals create the counter of a name, and how many of these were answered true.
+/// How many pairs of all journals create the counter of a name, and how many of these replied true.
 fn found(journals: &[Vec<Pair>], name: &str) -> (usize, usize) {
     let mut pairs = 0usize;
     let mut new = 0usize;

@@ -8,14 +8,17 @@ use std::sync::Wait;
 use std::thread::Threads;
 use tool_lines::command;
 
-/// How an end for want of memory is told.
+/// The message of an end out of memory.
 pub const MEMORY: &str = "out of memory";
 
-/// Gives at most `most` bytes a read, and fails at the read before which `left` is 0.
+/// Returns at most `most` bytes a read, and fails at the read before which `left` is 0.
 #[derive(Drop)]
 pub struct FaultyReader<'a> {
+    /// The bytes that are left to read.
     pub rest: &'a [u8],
+    /// The most bytes of a read.
     pub most: usize,
+    /// How many reads succeed.
     pub left: usize,
 }
 
@@ -32,14 +35,19 @@ impl Read for FaultyReader<'_> {
     }
 }
 
-/// Takes at most `most` bytes a write, and fails at the write before which `left` is 0, or at a flush. It notes how many bytes
-/// it was offered at most.
+/// Accepts at most `most` bytes a write, and fails at the write before which `left` is 0, or at a flush. Notes the most
+/// bytes that it was offered.
 #[derive(Drop)]
 pub struct FaultyWriter {
+    /// What was written.
     pub held: Vec<u8>,
+    /// The most bytes of a write.
     pub most: usize,
+    /// How many writes succeed.
     pub left: usize,
+    /// Whether a flush succeeds.
     pub is_flush_good: bool,
+    /// The most bytes that a write was offered.
     pub offered: usize,
 }
 
@@ -64,7 +72,7 @@ impl Write for FaultyWriter {
     }
 }
 
-/// A writer with room for all that a test writes, and a flush that is good.
+/// Returns a writer with room for all that a test writes, and a flush that succeeds.
 pub fn writer(rt: &impl Abort, alloc: Global, most: usize, left: usize) -> FaultyWriter {
     FaultyWriter {
         held: Vec::with_capacity(alloc, 32_768).expect(rt, MEMORY),
@@ -75,7 +83,7 @@ pub fn writer(rt: &impl Abort, alloc: Global, most: usize, left: usize) -> Fault
     }
 }
 
-/// Ends the test where memory was refused.
+/// Ends the test if memory ran out.
 pub fn end_if_refused(rt: &impl Abort, is_refused: bool) {
     let found: Result<(), AllocError> = if is_refused { Err(AllocError) } else { Ok(()) };
     found.expect(rt, MEMORY);
@@ -85,7 +93,7 @@ fn tells_memory(held: &[u8]) -> bool {
     str::from_utf8(held).is_ok_and(|text| text.contains("memory"))
 }
 
-/// The status of the program, and what it writes to its errors.
+/// Returns the status of the program, and what it writes to its errors.
 pub fn told<R: Threads + Wait + Sync + Abort, I: BufRead + Drop>(
     rt: &R,
     alloc: Global,
@@ -100,7 +108,7 @@ pub fn told<R: Threads + Wait + Sync + Abort, I: BufRead + Drop>(
     (status, held)
 }
 
-/// The same of a run over a text that comes three bytes a read and is answered by a byte a write, and the answers.
+/// Returns the same of a run over a text that is read by three bytes and answered by a byte a write, and the answers.
 pub fn ran_slowly<R: Threads + Wait + Sync + Abort>(
     rt: &R,
     alloc: Global,

@@ -1,4 +1,4 @@
-//! Tests of `tool_lines`, `tool_prometheus` and `tool_storm`, through what they hand out.
+//! Tests of `tool_lines`, `tool_prometheus` and `tool_storm`, through what they re-export.
 #![tactic(auto)]
 
 #[cfg(test)]

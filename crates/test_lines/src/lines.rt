@@ -1,4 +1,4 @@
-//! Devices that fail, answers that are out in time, and words and numbers that no text case can spell.
+//! Devices that fail, answers that are written in time, and words and numbers that no text case can spell.
 
 use crate::devices::{FaultyReader, MEMORY, end_if_refused, ran_slowly, told, writer};
 use metrics_debugging::DebuggingRecorder;
@@ -24,12 +24,12 @@ const BAD: &[u8] = b"book\nend\nincrement 0 1\njump\n";
 
 const BAD_TEXT: &[u8] = b"refused E18 bad handle\n";
 
-/// Whether the program stopped since a device failed.
+/// Whether the program stopped because a device failed.
 fn is_device((status, errors): &(u8, Vec<u8>)) -> bool {
     *status == 1 && errors.as_slice() == b"device failed\n".as_slice()
 }
 
-/// Whether a device failed, and a beginning of the answers is out. That of a refusal for memory ends the test.
+/// Whether a device failed, and a beginning of the answers was written. Out of memory ends the test.
 fn is_cut(rt: &impl Abort, told: &(u8, Vec<u8>), held: &[u8], whole: &[u8]) -> bool {
     let is_beginning = whole.starts_with(held);
     let last = held.rsplit(|byte| *byte == b'\n').next().unwrap_or(held);
@@ -139,7 +139,7 @@ impl Surroundings for Alone {
     }
 }
 
-/// The status of an exporter for Prometheus whose writer takes so many bytes, and how many it took.
+/// The status of an exporter for Prometheus whose writer accepts so many bytes, and how many it accepted.
 fn shown_to(rt: &impl Abort, alloc: Global, given: &[u8], writes: usize) -> (u8, usize) {
     let plan = plan_of(alloc, "1", "-", "-", "5").expect(rt, MEMORY);
     let options = Options {
@@ -164,7 +164,7 @@ fn the_end_of_an_exporter_fails(rt: HostRuntime) {
     }
 }
 
-/// What a run over a new book answers, from a line on.
+/// What a run over a new book writes, from a line on.
 fn answered<I: BufRead + Drop, O: Write>(
     rt: &impl Abort,
     alloc: Global,
@@ -195,7 +195,7 @@ fn numbers_of_lines_stop(rt: HostRuntime) {
     assert_eq!(rt; text.as_str(), "line 18446744073709551615: bad line");
 }
 
-/// A line so many times, and the lines behind it.
+/// A line so many times, and the lines after it.
 fn repeated(rt: &impl Abort, alloc: Global, line: &[u8], times: usize, behind: &[u8]) -> Vec<u8> {
     let mut text = Vec::new(alloc);
     for _ in 0..times {
@@ -205,7 +205,7 @@ fn repeated(rt: &impl Abort, alloc: Global, line: &[u8], times: usize, behind: &
     text
 }
 
-/// A fanout takes at most 65,536 recorders, of which none needs to be a book.
+/// A fanout accepts at most 65,536 recorders, of which none needs to be a book.
 #[test]
 fn fanouts_of_many_noops(rt: HostRuntime) {
     let good: &[u8] = b"fanout 65536\nfanout 2\nend\n";
@@ -220,7 +220,7 @@ fn fanouts_of_many_noops(rt: HostRuntime) {
 /// Lines, each of 11 bytes; each has the answer `snapshot 0 0`, of 13 bytes with its line feed.
 const TYPED: &[u8] = b"snapshot 0\nsnapshot 0\nsnapshot 0\nsnapshot 0\nsnapshot 0\n";
 
-/// Notes where an answer to a line that the reader gave is not out by the next read.
+/// Notes whether the answer to a line of the reader is not written by the next read.
 #[derive(Drop)]
 struct Typist<'a> {
     reader: FaultyReader<'a>,
@@ -238,7 +238,7 @@ impl Read for Typist<'_> {
     }
 }
 
-/// Takes all bytes, and counts them.
+/// Accepts all bytes, and counts them.
 #[derive(Drop)]
 struct Screen<'a> {
     out: &'a Cell<usize>,
@@ -255,7 +255,7 @@ impl Write for Screen<'_> {
     }
 }
 
-/// Whether the answers to lines that come so many bytes a read are all out, and were out before each read.
+/// Whether the answers to lines of which so many bytes are read at a time are all written, and were before each read.
 fn are_out_in_time(rt: &impl Abort, alloc: Global, most: usize) -> bool {
     let (out, is_kept_waiting) = (Cell::new(0), Cell::new(false));
     let (rest, left) = (TYPED, 1000);
@@ -276,9 +276,9 @@ fn answers_are_out_before_a_read(rt: HostRuntime) {
     }
 }
 
-/// What waits is less than a block of 8192 bytes, and an answer behind it. So answers of 13 bytes leave in pieces of 631, which
-/// are 8203 bytes, and there are four pieces; answers to few lines at hand leave in one. Without memory for the block each
-/// answer would leave alone, so none is refused.
+/// Less than a block of 8192 bytes waits, and one answer after it. So answers of 13 bytes leave in pieces of 631, which
+/// are 8203 bytes, and there are four pieces; answers to few lines leave in one. Without memory for the block each
+/// answer would leave alone, so no allocation may fail.
 #[test]
 fn answers_to_lines_at_hand_are_written_in_blocks(rt: HostRuntime) {
     for (times, writes, held, offered) in [(1, 1, 65, 65), (400, 4, 26_000, 8203)] {

@@ -28,7 +28,7 @@ impl Gate for OnlyOdd {
     }
 }
 
-/// Holds each of two workers until the other has come.
+/// Holds each of two workers until the other has arrived.
 #[derive(Drop)]
 struct Pair {
     come: AtomicU64,
@@ -100,7 +100,7 @@ const BOTH: Totals = Totals {
     ..TWO_OF_THREE
 };
 
-/// A storm that memory or a thread may be refused, and after it one whose two workers wait for one another.
+/// A storm that may lack memory or a thread, and after it one whose two workers wait for one another.
 #[test]
 fn workers_run_at_once(rt: HostRuntime) {
     let trial = Trial::new(rt.alloc());

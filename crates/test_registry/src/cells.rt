@@ -10,7 +10,7 @@ use std::sync::Wait;
 use std::sync::atomic::{AtomicU64, Ordering};
 use std::thread::join;
 
-/// A histogram that refuses every sample.
+/// A histogram that rejects every sample.
 #[derive(Drop)]
 struct Full;
 

@@ -1,4 +1,4 @@
-//! A storage of cells whose clones take memory.
+//! A storage of cells whose clones allocate.
 ghost use Rattle.std.specs.Prelude.{◌≡◌, IfErr};
 ghost use Rattle.metrics.specs.declared.error.Error.TheVariants.{Memory as OutOfMemory};
 
@@ -8,12 +8,13 @@ use std::alloc::Global;
 use std::sync::Arc;
 use std::sync::atomic::AtomicU64;
 
-/// A clone takes memory, and has the very word.
+/// A cell whose clone allocates, and has the very word.
 pub type Boxed = Box<Arc<AtomicU64>>;
 
 /// Makes such a cell for each kind.
 #[derive(Clone, Copy, Debug)]
 pub struct Copies {
+    /// The memory of its cells.
     pub alloc: Global,
 }
 

@@ -9,14 +9,14 @@ use std::alloc::Global;
 use std::process::Abort;
 use std::sync::{Arc, Wait};
 
-/// Adds a one, and answers how many there are.
+/// Adds a one, and returns how many there are.
 pub fn add<R: Abort + Wait, E: Entries>(rt: &R, on: &mut E, kind: MetricKind, key: &Key) -> u64 {
     let added = on.add(rt, kind, key);
     assert!(rt; added.calls == u64::from(added.ones.is_ok()));
     added.ones.expect(rt, "out of memory")
 }
 
-/// How many ones were added to a cell, if the key is held.
+/// Returns how many ones were added to a cell, if the key is held.
 pub fn ones<R: Abort + Wait, E: Entries>(
     rt: &R,
     on: &E,
@@ -121,8 +121,8 @@ fn fill<R: Abort + Wait, E: Entries>(rt: &R, alloc: Global, on: &mut E) {
     }
 }
 
-/// Each kind has entries of its own: a retain that keeps none takes those of its kind alone. A second one is called for what is
-/// left.
+/// Each kind has entries of its own: a retain that keeps none removes those of its kind alone. A second one is called
+/// for what is left.
 fn expect_none_is_kept<R: Abort + Wait, E: Entries>(rt: &R, on: &mut E, gone: MetricKind) {
     assert!(rt; on.retain(rt, gone, "none") == 8);
     for kind in KINDS {

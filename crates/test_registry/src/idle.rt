@@ -1,4 +1,4 @@
-//! Idle entries that go.
+//! Idle entries that are removed.
 
 use crate::entries::{add, ones};
 use crate::kinds::{Cell, Entries, KINDS, of_kind};
@@ -96,7 +96,7 @@ struct Watched<'a, E, C> {
 }
 
 impl<E: Entries, C: Checks<E>> Watched<'_, E, C> {
-    /// One check. A refused one notes nothing; else a key that is held goes where it was noted for longer than the timeout.
+    /// One check. A failed one notes nothing; otherwise a held key is removed if it was noted for longer than the timeout.
     fn check<W: Wait>(
         &mut self,
         rt: &W,
@@ -238,8 +238,8 @@ fn change<R: Abort + Wait>(rt: &R, on: &Dated, (kind, key): (MetricKind, &Key)) 
 /// The moments of the checks, all further apart than the timeout, and how many ones the cell has then.
 const CHANGES: [(u64, u64); 3] = [(10, 1), (20, 2), (30, 3)];
 
-/// A changed generation counts as use, and a change through a clone is seen in the registry. Once there is no more change the
-/// entry goes.
+/// A changed generation counts as use, and a change through a clone is seen in the registry. Once there is no more
+/// change the entry is removed.
 fn expect_changed_stays<R: Abort + Wait>(
     rt: &R,
     on: &Dated,

@@ -9,6 +9,7 @@ use std::collections::HashMap;
 use std::sync::atomic::{AtomicU64, Ordering};
 use std::sync::{Arc, Wait};
 
+/// All kinds.
 pub const KINDS: [MetricKind; 3] = [
     MetricKind::Counter,
     MetricKind::Gauge,
@@ -35,11 +36,11 @@ macro_rules! of_kind {
 
 pub(crate) use of_kind;
 
-/// A cell that any thread may change. Adding takes no memory.
+/// A cell that any thread may change. Adding allocates nothing.
 pub trait Cell: Clone + Drop {
     fn add<W: Wait>(&self, rt: &W);
 
-    /// How many ones were added.
+    /// Returns how many ones were added.
     fn ones<W: Wait>(&self, rt: &W) -> u64;
 }
 
@@ -63,7 +64,7 @@ impl Cell for Arc<AtomicBucket<i64>> {
     }
 }
 
-/// A clone takes memory, and has the very cell.
+/// A clone allocates, and has the very cell.
 impl<T: Cell> Cell for Box<T> {
     fn add<W: Wait>(&self, rt: &W) {
         (**self).add(rt);
@@ -98,13 +99,13 @@ pub type Handles = (usize, Option<u64>);
 
 /// A map from kinds and keys to cells.
 pub trait Entries: Drop {
-    /// Adds a one to a cell, which is made where the key isn't held.
+    /// Adds a one to a cell, which is made if the key isn't held.
     fn add<W: Wait>(&mut self, rt: &W, kind: MetricKind, key: &Key) -> Added;
 
-    /// How many ones were added to a cell, if the key is held.
+    /// Returns how many ones were added to a cell, if the key is held.
     fn ones<W: Wait>(&self, rt: &W, kind: MetricKind, key: &Key) -> Result<Option<u64>, Error>;
 
-    /// The list of handles. A one may be added through that of the key.
+    /// Returns the list of handles. A one may be added through that of the key.
     fn handles<W: Wait>(
         &self,
         rt: &W,
@@ -113,10 +114,10 @@ pub trait Entries: Drop {
         adds: bool,
     ) -> Result<Handles, Error>;
 
-    /// Keeps the names that begin with a text. How often the closure was called.
+    /// Keeps the names that begin with a text. Returns how often the closure was called.
     fn retain<W: Wait>(&mut self, rt: &W, kind: MetricKind, prefix: &str) -> usize;
 
-    /// How often a visit's closure is called.
+    /// Returns how often a visit's closure is called.
     fn visits<W: Wait>(&self, rt: &W, kind: MetricKind) -> usize;
 
     fn delete<W: Wait>(&mut self, rt: &W, kind: MetricKind, key: &Key) -> bool;
@@ -130,7 +131,7 @@ fn begins(calls: &mut usize, key: &Key, prefix: &str) -> bool {
     key.name().starts_with(prefix)
 }
 
-/// Adds a one, counts the call, and answers how many ones there are.
+/// Adds a one, counts the call, and returns how many ones there are.
 fn add_one<W: Wait, C: Cell>(rt: &W, calls: &mut u64, cell: &C) -> u64 {
     *calls = calls.wrapping_add(1);
     cell.add(rt);

@@ -1,4 +1,4 @@
-//! Entries while memory is refused, by the plain rules of a finite map.
+//! Entries that run out of memory, by the plain rules of a finite map.
 
 use crate::copies::Copies;
 use crate::kinds::{Entries, Handles, KINDS};
@@ -12,23 +12,27 @@ use test_trial::{Trial, Wrong, done, expect, made};
 /// A key of a kind, and how many ones were added to its cell, if it is held.
 #[derive(Drop)]
 pub struct Known {
+    /// The kind.
     pub kind: MetricKind,
+    /// The key.
     pub key: Key,
     ones: Option<u64>,
 }
 
 impl Known {
+    /// Returns a key without an entry.
     pub fn new(trial: &Trial, kind: MetricKind, name: &str) -> Result<Known, Wrong> {
         let key = done(Key::from_name(trial.alloc, name))?;
         let ones = None;
         Ok(Known { kind, key, ones })
     }
 
+    /// Returns whether the entry is held.
     pub fn is_held(&self) -> bool {
         self.ones.is_some()
     }
 
-    /// Takes note that the entry is gone.
+    /// Notes that the entry is gone.
     pub fn forget(&mut self) {
         self.ones = None;
     }
@@ -41,7 +45,7 @@ impl Known {
         )
     }
 
-    /// The same, where the look itself may be refused before. A refused one changes nothing.
+    /// Checks the same, where the look itself may fail first. A failed one changes nothing.
     fn look<W: Wait, E: Entries>(&self, rt: &W, trial: &mut Trial, on: &E) -> Result<(), Wrong> {
         trial.begin();
         let found = on.ones(rt, self.kind, &self.key);
@@ -53,7 +57,7 @@ impl Known {
         looked.and(self.expect_held(rt, on))
     }
 
-    /// Adds a one, and takes what is answered.
+    /// Adds a one, and notes the result.
     fn add<W: Wait, E: Entries>(
         &mut self,
         rt: &W,
@@ -78,7 +82,7 @@ impl Known {
         }
     }
 
-    /// Adds a one. A refused call leaves all as it was.
+    /// Adds a one. A failed call leaves all as it was.
     pub fn add_one<W: Wait, E: Entries>(
         &mut self,
         rt: &W,
@@ -100,7 +104,7 @@ impl Known {
             .and(self.expect_held(rt, on))
     }
 
-    /// Deletes the key, which takes no memory.
+    /// Deletes the key, which allocates nothing.
     pub fn delete<W: Wait, E: Entries>(
         &mut self,
         rt: &W,
@@ -137,7 +141,7 @@ fn expect_list((length, ones): Handles, known: &Known, all: &[Known]) -> Result<
     ))
 }
 
-/// Checks that the handles are those of the keys that are held, whether or not memory may be refused.
+/// Checks that the handles are those of the keys that are held, whether or not memory may run out.
 fn expect_handles<W: Wait, E: Entries>(
     rt: &W,
     trial: &mut Trial,
@@ -158,7 +162,7 @@ fn expect_handles<W: Wait, E: Entries>(
     Ok(())
 }
 
-/// Keeps the names that begin with `foo`, which takes no memory, and visits what is left.
+/// Keeps the names that begin with `foo`, which allocates nothing, and visits what is left.
 fn retain<W: Wait, E: Entries>(
     rt: &W,
     trial: &Trial,
@@ -183,7 +187,7 @@ fn retain<W: Wait, E: Entries>(
     ))
 }
 
-/// Keys come and go: the second try of a create that was refused is made with memory refused too, the last at hand.
+/// Keys come and go: after a failed create the second try lacks memory too, and the last has it.
 fn come_and_go<W: Wait, E: Entries>(
     rt: &W,
     trial: &mut Trial,

@@ -11,8 +11,8 @@ use std::sync::Wait;
 use std::thread::{Threads, join};
 use test_trial::Trial;
 
-/// Adds ones to the cell of the shared key, while the thread's own key comes and goes. Whether that was each time new, and
-/// then held.
+/// Adds ones to the cell of the shared key, while the thread's own key comes and goes. Whether that was each time new,
+/// and then held.
 fn add_all<W: Wait>(
     rt: &W,
     on: &Registry<Key, AtomicStorage>,
@@ -30,7 +30,7 @@ fn add_all<W: Wait>(
     Ok(is_good)
 }
 
-/// Both threads make the first key's cell where it isn't there, and add to it.
+/// Both threads make the first key's cell if it isn't there, and add to it.
 fn expect_sum<R: Threads + Wait + Abort + Sync>(
     rt: &R,
     on: &Registry<Key, AtomicStorage>,
@@ -68,7 +68,7 @@ fn expect_sums<R: Threads + Wait + Abort + Sync>(rt: &R, alloc: Global, shards: 
     expect_each_sum(rt, &on, [&key, &one, &other], times);
 }
 
-/// Memory may be refused in a first run of a few rounds.
+/// Memory may run out in a first run of a few rounds.
 #[test]
 fn two_threads_add_to_one_cell(rt: HostRuntime) {
     expect_sums(&rt, rt.alloc(), 2, 3);
@@ -78,7 +78,7 @@ fn two_threads_add_to_one_cell(rt: HostRuntime) {
     }
 }
 
-/// A registry whose keys take no memory.
+/// A registry whose keys allocate nothing.
 type Numbers = Registry<DefaultHashable<u64>, AtomicStorage>;
 
 /// Adds a one to the cell of each number below the count.
@@ -98,7 +98,7 @@ fn count_two<W: Wait, C: Cell>(rt: &W, count: &mut u64, cell: &C) {
     }
 }
 
-/// Both threads make each cell where it isn't there. A number has one cell, to which both have added.
+/// Both threads make each cell if it isn't there. A number has one cell, to which both have added.
 fn expect_pairs<R: Threads + Wait + Abort + Sync>(
     rt: &R,
     on: &Numbers,
@@ -127,7 +127,7 @@ fn expect_pairs_of_each<R: Threads + Wait + Abort + Sync>(rt: &R, alloc: Global,
     }
 }
 
-/// Memory may be refused in a first run of a few keys.
+/// Memory may run out in a first run of a few keys.
 #[test]
 fn a_raced_create_makes_one_cell(rt: HostRuntime) {
     expect_pairs_of_each(&rt, rt.alloc(), 5);

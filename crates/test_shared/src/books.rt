@@ -8,17 +8,17 @@ use std::process::Abort;
 /// The first series of the first book.
 pub const AT: Address = Address { book: 0, series: 0 };
 
-/// A new book.
+/// Returns a new book.
 pub fn new_book(rt: &impl Abort, alloc: Global) -> DebuggingRecorder {
     DebuggingRecorder::new(alloc).expect(rt, "out of memory")
 }
 
-/// The key of a name without labels.
+/// Returns the key of a name without labels.
 pub fn key(rt: &impl Abort, alloc: Global, name: &str) -> Key {
     Key::from_name(alloc, name).expect(rt, "out of memory")
 }
 
-/// What the first series counts, if it is a counter.
+/// Returns the count of the first series, if it is a counter.
 pub fn count_of(rows: &[Row]) -> Option<u64> {
     match rows.first() {
         Some((_, _, _, DebugValue::Counter(n))) => Some(*n),
@@ -26,7 +26,7 @@ pub fn count_of(rows: &[Row]) -> Option<u64> {
     }
 }
 
-/// Whether the only series is a gauge of this value.
+/// Returns whether the only series is a gauge of this value.
 pub fn is_gauge(rows: &[Row], value: i64) -> bool {
     match rows.first() {
         Some((_, _, _, DebugValue::Gauge(found))) => rows.len() == 1 && *found == value,
@@ -34,7 +34,7 @@ pub fn is_gauge(rows: &[Row], value: i64) -> bool {
     }
 }
 
-/// Gives a recorder of one book its first series, a gauge of this value.
+/// Adds a first series to a recorder of one book, a gauge of this value.
 pub fn with_gauge<B: Recorder>(rt: &impl Abort, alloc: Global, mut on: B, value: i64) -> B {
     let key = key(rt, alloc, "g");
     let found = on.register(alloc, MetricKind::Gauge, &key);
@@ -46,7 +46,7 @@ pub fn with_gauge<B: Recorder>(rt: &impl Abort, alloc: Global, mut on: B, value:
     on
 }
 
-/// That a recorder of one book has a gauge of this value alone, which stands.
+/// Checks that a recorder of one book has a gauge of this value alone.
 pub fn expect_gauge<B: Recorder>(rt: &impl Abort, alloc: Global, on: &mut B, value: i64) {
     let rows = on.snapshot_with(alloc, 0, Reset::KeepGauges);
     assert!(rt; is_gauge(rows.expect(rt, "out of memory").as_slice(), value));

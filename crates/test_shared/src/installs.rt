@@ -29,7 +29,7 @@ fn a_refused_install_is_told(rt: HostRuntime) {
     }
 }
 
-/// That a cell that is taken gives this recorder back, with this gauge.
+/// Checks that a cell that is taken returns this recorder, with this gauge.
 fn expect_taken<M: Drop, B: Recorder>(
     rt: &impl Abort,
     alloc: Global,
@@ -42,8 +42,8 @@ fn expect_taken<M: Drop, B: Recorder>(
     }
 }
 
-/// Fills a cell with a recorder of the gauge 3, which is found there, and tries one of the gauge 4, which comes back.
-/// Neither takes memory.
+/// Fills a cell with a recorder of the gauge 3, which is found there, and tries one of the gauge 4, which is returned.
+/// Neither allocates.
 fn install_twice<R: Abort + Wait, B: Recorder>(rt: &R, alloc: Global, first: B, second: B) {
     let cell = OnceLock::new();
     let answer = first.install(rt, &cell);
@@ -62,8 +62,7 @@ fn a_recorder_is_installed_once(rt: HostRuntime) {
     install_twice(&rt, alloc, Stack::new(book(3)), Stack::new(book(4)));
 }
 
-/// Fills a cell with the slot of a recorder of this gauge. Where the first try is refused for memory it comes back as it
-/// was.
+/// Fills a cell with the slot of a recorder of this gauge. If the first try runs out of memory it returns the slot unchanged.
 fn installed<R: Abort + Wait, B: Recorder>(
     rt: &R,
     trial: &mut Trial,
@@ -84,7 +83,7 @@ fn installed<R: Abort + Wait, B: Recorder>(
     }
 }
 
-/// Fills a cell with the slot of a recorder of the gauge 3, and tries one of the gauge 4, which comes back.
+/// Fills a cell with the slot of a recorder of the gauge 3, and tries one of the gauge 4, which is returned.
 fn install_slots<R: Abort + Wait, B: Recorder>(rt: &R, trial: &mut Trial, first: B, second: B) {
     let cell = OnceLock::new();
     let handle = installed(rt, trial, &cell, first, 3).expect(rt, "not installed");
@@ -103,7 +102,7 @@ fn a_slot_is_installed_once(rt: HostRuntime) {
     install_slots(&rt, &mut Trial::new(alloc), book(3), book(4));
 }
 
-/// How many targets a register call meets that is made as soon as the cell is filled. `None` where it never is.
+/// How many targets a register call meets that is made as soon as the cell is filled. `None` if it never is.
 fn targets_when_filled<R: Wait, B: Recorder>(
     rt: &R,
     alloc: Global,
@@ -124,8 +123,7 @@ fn targets_when_filled<R: Wait, B: Recorder>(
     None
 }
 
-/// How many targets a second thread meets, which registers as soon as the recorder can be found. `None` where memory
-/// lacked.
+/// How many targets a second thread meets, which registers as soon as the recorder can be found. `None` if memory ran out.
 fn targets_while_installed<R: Threads + Wait + Sync, B: Recorder + Send>(
     rt: &R,
     alloc: Global,
@@ -146,7 +144,7 @@ fn targets_while_installed<R: Threads + Wait + Sync, B: Recorder + Send>(
     targets
 }
 
-/// Memory may be refused at the first of them.
+/// Memory may run out at the first of them.
 #[test]
 fn a_recorder_is_there_once_it_can_be_found(rt: HostRuntime) {
     let alloc = rt.alloc();

@@ -1,6 +1,6 @@
-//! Tests of `metrics_shared`, through what it hands out.
+//! Tests of `metrics_shared`, through what it re-exports.
 //!
-//! They stand in a crate of their own: a crate with tests is proved twice.
+//! They are in a crate of their own: a crate with tests is proved twice.
 #![tactic(auto)]
 
 #[cfg(test)]

@@ -1,4 +1,4 @@
-//! A recorder of one's own: a book that refuses some calls, and that tells its end.
+//! A recorder of one's own: a book that fails some calls, and that reports its end.
 
 use metrics::{
     Address, Key, KeyName, MetricKind, Recorder, Refused, Reset, Snapshot, Unit, Update,
@@ -12,14 +12,15 @@ use std::sync::atomic::{AtomicU64, Ordering};
 /// How many recorders have ended.
 pub type Ends = Arc<AtomicU64, Global>;
 
-/// A book that tells that memory lacked after it described without a unit, after it registered a histogram, and before it
-/// takes the sample 6. Its end is counted.
+/// A book that reports out of memory after it described without a unit, after it registered a histogram, and before it
+/// records the sample 6. Its end is counted.
 pub struct Own {
     book: DebuggingRecorder,
     ends: Ends,
 }
 
 impl Own {
+    /// Returns a new book whose end is counted.
     pub fn new(rt: &impl Abort, alloc: Global, ends: &Ends) -> Own {
         Own {
             book: DebuggingRecorder::new(alloc).expect(rt, "out of memory"),
@@ -28,12 +29,12 @@ impl Own {
     }
 }
 
-/// No recorder has ended yet.
+/// Returns the count while no recorder has ended.
 pub fn no_ends(rt: &impl Abort, alloc: Global) -> Ends {
     Arc::new(alloc, AtomicU64::new(0)).expect(rt, "out of memory")
 }
 
-/// How many recorders have ended.
+/// Returns how many recorders have ended.
 pub fn ended(ends: &Ends) -> u64 {
     ends.load(Ordering::SeqCst)
 }

@@ -14,10 +14,10 @@ use std::time::Duration;
 
 type Shared = AtomicSamplingReservoir<Xoshiro256PlusPlus>;
 
-/// What a drain told: the number of values and their sum, the rate, and how many items came.
+/// What a drain reported: the number of values and their sum, the rate, and how many items it yielded.
 type Told = (u64, i128, (u64, u64), usize);
 
-/// What the drain of a reservoir without values tells.
+/// What the drain of a reservoir without values reports.
 const NOTHING: Told = (0, 0, (1, 1), 0);
 
 /// A new reservoir of this size.
@@ -26,7 +26,7 @@ fn sampling(rt: &impl Abort, alloc: Global, size: usize, seed: u64) -> Shared {
     AtomicSamplingReservoir::new(alloc, size, generator).expect(rt, "out of memory")
 }
 
-/// Pushes the numbers below `values`, which takes no memory.
+/// Pushes the numbers below `values`, which allocates nothing.
 fn push_all<R: Abort + Wait, G: Rng + Drop>(
     rt: &R,
     reservoir: &AtomicSamplingReservoir<G>,
@@ -46,7 +46,7 @@ fn consumed<R: Wait, G: Rng + Drop>(rt: &R, reservoir: &AtomicSamplingReservoir<
     told
 }
 
-/// The size, and by turns how many values are pushed and what a drain tells.
+/// The size, and by turns how many values are pushed and what a drain reports.
 type Turns = (usize, &'static [(i64, Told)]);
 
 const TURNS: [Turns; 4] = [
@@ -124,7 +124,7 @@ fn a_forgotten_drain_empties(rt: HostRuntime) {
     assert!(&rt; consumed(&rt, &reservoir) == NOTHING);
 }
 
-/// Pushes 1 a thousand times, and tells whether each was taken.
+/// Pushes 1 a thousand times, and returns whether each was accepted.
 fn push_ones<R: Wait, G: Rng + Drop>(rt: &R, reservoir: &AtomicSamplingReservoir<G>) -> bool {
     let mut is_done = true;
     for _ in 0..1000 {
@@ -133,7 +133,7 @@ fn push_ones<R: Wait, G: Rng + Drop>(rt: &R, reservoir: &AtomicSamplingReservoir
     is_done
 }
 
-/// How many values several drains told of together.
+/// How many values several drains reported together.
 fn drained<R: Wait, G: Rng + Drop>(
     rt: &R,
     reservoir: &AtomicSamplingReservoir<G>,
@@ -184,8 +184,8 @@ fn is_reached<R: Wait>(rt: &R, step: &AtomicU64, wanted: u64) -> bool {
     false
 }
 
-/// A first thread consumes until a second one has come to its own `consume` and had time for it. Answers the step that
-/// the second one's closure saw, and `None` where the first can't be started.
+/// A first thread consumes until a second one has reached its own `consume` and had time for it. Returns the step that
+/// the second one's closure saw, and `None` if the first can't be started.
 fn step_of_the_second<R: Threads + Wait + Sync, G: Rng + Drop + Send>(
     rt: &R,
     reservoir: &AtomicSamplingReservoir<G>,

@@ -1,4 +1,4 @@
-//! What stands under a lock after its recorder refused a call.
+//! The state under a lock after its recorder failed a call.
 
 use crate::books::{AT, key};
 use crate::own::{Own, no_ends};
@@ -19,7 +19,7 @@ fn is_five(rows: &[Row]) -> bool {
     }
 }
 
-/// That a call tells on how many targets its recorder had acted. Where memory really lacked it had acted on none.
+/// Checks that a call reports on how many targets its recorder had acted. If memory really ran out it had acted on none.
 fn expect_told<T: Drop>(rt: &impl Abort, answer: Result<T, Refused>) {
     let refused = answer.err();
     assert!(rt;
@@ -29,7 +29,7 @@ fn expect_told<T: Drop>(rt: &impl Abort, answer: Result<T, Refused>) {
     assert_eq!(rt; refused, Some(Refused::Memory { acted: 1 }));
 }
 
-/// That the first sample is taken, and the second refused.
+/// Checks that the first sample is accepted, and the second fails.
 fn expect_updated(rt: &impl Abort, first: Result<(), Refused>, second: Result<(), Refused>) {
     first.expect(rt, "out of memory");
     assert_eq!(rt; second, Err(Refused::Memory { acted: 0 }));
@@ -69,7 +69,7 @@ fn call_slot<R: Abort + Wait, B: Recorder>(
     expect_updated(rt, first, slot.update(rt, AT, Update::Record(6)));
 }
 
-/// Calls a recorder through a slot, and looks at it once it is taken back.
+/// Calls a recorder through a slot, and checks it after it is taken back.
 fn expect_slot<R: Abort + Wait, B: Recorder>(
     rt: &R,
     alloc: Global,

@@ -69,7 +69,7 @@ fn snapshots_of_a_shared_book(rt: HostRuntime) {
     expect_gauges(&rt, alloc, &Shared::new(new_book(&rt, alloc)));
 }
 
-/// Adds 1 to the counter a thousand times, and tells whether each was done.
+/// Adds 1 to the counter a thousand times, and returns whether each was done.
 fn add_many<R: Wait, B: Recorder>(rt: &R, on: &Shared<B>) -> bool {
     let mut is_done = true;
     for _ in 0..1000 {

@@ -9,7 +9,7 @@ use std::process::Abort;
 use std::sync::Wait;
 use test_trial::Trial;
 
-/// What is taken out of a slot, which takes no memory.
+/// Returns what is taken out of a slot, which allocates nothing.
 pub fn taken_out<R: Abort + Wait, B: Recorder>(
     rt: &R,
     trial: &Trial,
@@ -21,7 +21,7 @@ pub fn taken_out<R: Abort + Wait, B: Recorder>(
     recovered.expect(rt, "the slot is empty")
 }
 
-/// Puts a recorder with the gauge 3 into a slot. Where the first try is refused it comes back as it was.
+/// Puts a recorder with the gauge 3 into a slot. A failed first try returns it unchanged.
 fn built<R: Abort + Wait, B: Recorder>(
     rt: &R,
     trial: &mut Trial,
@@ -41,7 +41,7 @@ fn built<R: Abort + Wait, B: Recorder>(
     }
 }
 
-/// That a recorder comes back from its slot as it was, and ends when it is dropped and not before.
+/// Checks that a slot returns its recorder unchanged, and that it ends when it is dropped and not before.
 fn expect_back<R: Abort + Wait, B: Recorder>(rt: &R, trial: &mut Trial, on: B, ends: &Ends) {
     let (slot, handle) = built(rt, trial, on);
     assert_eq!(rt; slot.with(rt, |on| on.books()), Some(1));
@@ -83,7 +83,7 @@ fn make_fives<R: Abort + Wait, B: Recorder>(rt: &R, alloc: Global, slot: &SlotRe
     }
 }
 
-/// What a slot takes once its recorder was taken out: each call is done, and reaches nothing.
+/// What a slot accepts once its recorder was taken out: each call is done, and reaches nothing.
 fn make_sevens<R: Abort + Wait, B: Recorder>(rt: &R, alloc: Global, slot: &SlotRecorder<B>) {
     let name = KeyName::new(alloc, "k").expect(rt, "out of memory");
     let key = key(rt, alloc, "k");

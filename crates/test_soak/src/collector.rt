@@ -1,5 +1,5 @@
-//! A collector: seven threads change two series whose handles they keep and make counters that they change once, and one reads
-//! the text meanwhile. Each series is idle that hasn't changed between two readings.
+//! A collector: seven threads change two series whose handles they keep and make counters that they change once, and
+//! one reads the text meanwhile. Each series is idle that hasn't changed between two readings.
 ghost use Rattle.std.specs.Thread.{IsSync};
 
 use crate::Deadline;

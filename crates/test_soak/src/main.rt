@@ -1,6 +1,6 @@
-//! Eight threads on the histograms of one registry and on one bucket, for as many seconds as the program's word says: six push
-//! into cells that are made where they aren't there, one clears, and one removes and expires cells. Each sample is counted in
-//! and out. Beside them eight threads use a collector.
+//! Eight threads on the histograms of one registry and on one bucket, for as many seconds as the program's word says.
+//! Six push into cells that are made if they aren't there, one clears, and one removes and expires cells. Each sample
+//! is counted in and out. Eight more threads use a collector.
 #![tactic(auto)]
 
 mod collector;
@@ -21,7 +21,7 @@ use std::time::Instant;
 
 const THREADS: usize = 8;
 
-/// Keys of which a round of pushes takes each as often.
+/// The keys, each of which a round of pushes uses equally often.
 const KEYS: usize = 16;
 
 /// How many pushes are between two looks at the clock.
@@ -76,6 +76,7 @@ impl Deadline {
         })
     }
 
+    /// Returns whether the time is up.
     pub fn is_over<R: Clock>(self, rt: &R) -> bool {
         match self.start.elapsed(rt) {
             Ok(passed) => passed.as_secs() >= self.seconds,
@@ -115,7 +116,7 @@ impl Shared {
     }
 }
 
-/// Takes all samples, and tries again while another walk is under way.
+/// Takes all samples, and retries while another walk is under way.
 fn take<W: Wait>(rt: &W, bucket: &AtomicBucket<i64>, taken: &mut Samples) {
     for _ in rt.forever() {
         if bucket.clear_with(rt, |values| taken.add(values)).is_ok() {
@@ -124,7 +125,7 @@ fn take<W: Wait>(rt: &W, bucket: &AtomicBucket<i64>, taken: &mut Samples) {
     }
 }
 
-/// Pushes into each key's histogram, which is made where it isn't there, and into the bucket. What is full refuses.
+/// Pushes into each key's histogram, which is made if it isn't there, and into the bucket. A full one rejects the value.
 fn push<W: Wait>(rt: &W, on: &Shared, told: &mut Told) -> Result<(), Error> {
     for number in 0..PUSHES {
         let value = number as i64;
@@ -142,14 +143,14 @@ fn push<W: Wait>(rt: &W, on: &Shared, told: &mut Told) -> Result<(), Error> {
     Ok(())
 }
 
-/// Clears each histogram where it stands, and the bucket.
+/// Clears each histogram in place, and the bucket.
 fn clear<W: Wait>(rt: &W, on: &Shared, told: &mut Told) {
     on.cells
         .visit_histograms(rt, |_, cell| take(rt, cell, &mut told.taken));
     take(rt, &on.bucket, &mut told.taken);
 }
 
-/// Removes histograms in three ways, and takes what they held: nobody else removes any, so no sample comes behind that.
+/// Removes histograms in three ways, and takes what they held: nobody else removes any, so no sample comes after that.
 fn remove<W: Wait>(rt: &W, on: &Shared, told: &mut Told, now: u64) -> Result<(), Error> {
     for (key, cell) in &on.cells.get_histogram_handles(rt, on.alloc)? {
         let generation = Generation::new(0);

@@ -8,7 +8,7 @@ use std::cell::Cell;
 use std::process::Abort;
 use test_trial::{Trial, made};
 
-/// Pushes the numbers 0 to 63 into a new block, and 42, which comes back.
+/// Pushes the numbers 0 to 63 into a new block, and 42, which is returned.
 fn fill_block<R: Abort, T: Numbered, F: Fn(i64) -> T>(rt: &R, alloc: Global, make: &F)
     requires { F.IsAlwaysCallable make.now }
 {
@@ -49,7 +49,7 @@ fn samples_are_recorded(rt: HostRuntime) {
     assert_eq!(rt; samples.as_slice(), [7].as_slice());
 }
 
-/// Pushes a value, and again where memory was refused: then it came back, and the bucket needs a block.
+/// Pushes a value, and again if memory ran out: then the value was returned, and the bucket needs a block.
 fn push<R: Abort, T: Numbered>(rt: &R, trial: &mut Trial, on: &mut OwnedBucket<T>, value: T) {
     let number = value.number();
     trial.begin();
@@ -83,7 +83,7 @@ fn fill<R: Abort, T: Numbered, F: Fn(i64) -> T>(
     assert_eq!(rt; told, 128_064_000);
 }
 
-/// Takes the numbers 0 to 129 out, which takes no memory.
+/// Takes the numbers 0 to 129 out, which allocates nothing.
 fn clear<R: Abort, T: Numbered>(rt: &R, trial: &Trial, on: &mut OwnedBucket<T>) {
     trial.begin();
     let mut told = 0;
@@ -93,7 +93,7 @@ fn clear<R: Abort, T: Numbered>(rt: &R, trial: &Trial, on: &mut OwnedBucket<T>) 
     assert!(rt; on.is_empty());
 }
 
-/// Reads the numbers 128 and 129, 64 to 127, and 0 to 63, where the first try may be refused.
+/// Reads the numbers 128 and 129, 64 to 127, and 0 to 63, where the first try may run out of memory.
 fn read<R: Abort, T: Numbered + Clone>(rt: &R, trial: &mut Trial, on: &OwnedBucket<T>) {
     let values = made(trial, &|| on.data()).expect(rt, "refused");
     let (newest, older) = values.as_slice().split_at(values.len().min(2));
@@ -127,7 +127,7 @@ fn texts_come_newest_block_first(rt: HostRuntime) {
     clear(&rt, &trial, &mut bucket);
 }
 
-/// Also where a value came back first.
+/// Also if a value was returned first.
 #[test]
 fn each_value_ends_once(rt: HostRuntime) {
     let mut trial = Trial::new(rt.alloc());

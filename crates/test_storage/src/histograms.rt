@@ -4,8 +4,8 @@ use metrics_storage::Histogram;
 use std::alloc::Global;
 use std::process::Abort;
 
-/// The bounds of a histogram, the samples that it takes at once and the one that comes alone, how many there are and their
-/// sum, and the counts of its buckets.
+/// The bounds of a histogram, the samples that it records at once and the one that follows alone, how many there are
+/// and their sum, and the counts of its buckets.
 struct Samples {
     bounds: &'static [i64],
     many: &'static [i64],
@@ -34,7 +34,7 @@ const SAMPLES: [Samples; 2] = [
     },
 ];
 
-/// A bucket behind those that were shown before it, as one number.
+/// A bucket after those that were shown before it, as one number.
 fn shown(before: i64, (bound, count): (i64, u64)) -> i64 {
     before
         .wrapping_mul(100)
@@ -43,7 +43,7 @@ fn shown(before: i64, (bound, count): (i64, u64)) -> i64 {
         .wrapping_add_unsigned(count)
 }
 
-/// That a histogram tells these samples, and shows them too.
+/// Checks that a histogram reports these samples, and shows them too.
 fn expect_told(rt: &impl Abort, histogram: &Histogram, samples: &Samples) {
     assert_eq!(rt;
         (histogram.count(), histogram.sum()),
@@ -60,7 +60,7 @@ fn expect_told(rt: &impl Abort, histogram: &Histogram, samples: &Samples) {
     assert_eq!(rt; found, wanted);
 }
 
-/// Records, which takes no memory, and copies.
+/// Records, which allocates nothing, and copies.
 fn expect_samples(rt: &impl Abort, alloc: Global, samples: &Samples) {
     let made = Histogram::new(alloc, samples.bounds).expect(rt, "out of memory");
     let mut histogram = made.expect(rt, "no histogram");

@@ -1,7 +1,7 @@
-//! Tests of `metrics_storage`, of `prefix_match`, and of the names and kinds of `metrics` and `metrics_registry`, through
-//! what they hand out.
+//! Tests of `metrics_storage`, of `prefix_match`, and of the names and kinds of `metrics` and `metrics_registry`,
+//! through what they re-export.
 //!
-//! They stand in a crate of their own: a crate with tests is proved twice.
+//! They are in a crate of their own: a crate with tests is proved twice.
 #![tactic(auto)]
 
 #[cfg(test)]

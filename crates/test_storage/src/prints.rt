@@ -1,4 +1,4 @@
-//! How texts, lists, calls, answers and refusals print.
+//! How texts, lists, calls, answers and errors print.
 
 use metrics::{Answer, Call, Items, Refused, Text, Update};
 use std::alloc::AllocError;

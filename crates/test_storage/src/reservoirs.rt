@@ -1,4 +1,4 @@
-//! Reservoirs with one owner, which take memory where they are made and nowhere else.
+//! Reservoirs with one owner, which allocate when they are made and not later.
 
 use metrics_storage::reservoir::{Drain, Reservoir};
 use metrics_storage::reservoir_law;
@@ -6,13 +6,13 @@ use std::alloc::Global;
 use std::mem;
 use std::process::Abort;
 
-/// What a drain tells: the number of values, their sum and the rate.
+/// What a drain reports: the number of values, their sum and the rate.
 type Told = (u64, i128, (u64, u64));
 
-/// What the drain of a reservoir without values tells.
+/// What the drain of a reservoir without values reports.
 const NOTHING: Told = (0, 0, (1, 1));
 
-/// The pushes on a reservoir, each with its draw, its size, what a drain tells and what it gives.
+/// The pushes on a reservoir, each with its draw, its size, what a drain reports and what it yields.
 type Row = (usize, &'static [(i64, u64)], Told, &'static [i64]);
 
 const ROWS: [Row; 4] = [

@@ -1,4 +1,4 @@
-//! The trie of routes, whose answers stand where memory is refused.
+//! The trie of routes, whose answers stay when memory runs out.
 
 use metrics::Error;
 use prefix_match::PrefixTrie;
@@ -41,7 +41,7 @@ fn expect_longest(rt: &impl Abort, trie: &PrefixTrie, entries: &[Entry]) {
     }
 }
 
-/// Inserts an entry, and again where memory was refused, which leaves every answer as it was.
+/// Inserts an entry, and again if memory ran out, which leaves every answer as it was.
 fn insert(
     rt: &impl Abort,
     trial: &mut Trial,
@@ -77,7 +77,7 @@ fn the_longest_pattern_is_found(rt: HostRuntime) {
     }
 }
 
-/// Reserves a pattern, where the first try may be refused and leaves every answer.
+/// Reserves a pattern, where the first try may run out of memory and leaves every answer.
 fn reserve(rt: &impl Abort, trial: &mut Trial, trie: &mut PrefixTrie) {
     trial.begin();
     let first = trie.reserve(b"abd");
@@ -93,7 +93,7 @@ fn reserve(rt: &impl Abort, trial: &mut Trial, trie: &mut PrefixTrie) {
     }
 }
 
-/// An insert that was reserved takes no memory.
+/// An insert that was reserved allocates nothing.
 #[test]
 fn a_reserved_route_is_not_refused(rt: HostRuntime) {
     let mut trial = Trial::new(rt.alloc());

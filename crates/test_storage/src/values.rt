@@ -23,7 +23,9 @@ impl Numbered for String {
 
 /// Has a number, and counts its end.
 pub struct Ending<'a> {
+    /// Its number.
     pub number: i64,
+    /// How many have ended.
     pub ends: &'a Cell<u64>,
 }
 
@@ -40,12 +42,12 @@ impl<'a> Numbered for Ending<'a> {
     }
 }
 
-/// The text of a number.
+/// Returns the text of a number.
 pub fn text(rt: &impl Abort, alloc: Global, number: i64) -> String {
     format!(in alloc; "{number}").expect(rt, "out of memory")
 }
 
-/// The first number of a chunk, behind those of the chunks before it; or -1 where its numbers don't rise one by one.
+/// Returns the first number of a chunk, after those of the chunks before it; or -1 if its numbers don't rise one by one.
 pub fn firsts<T: Numbered>(told: i64, chunk: &[T]) -> i64 {
     let first = chunk.first().map_or(-1, |first| first.number());
     let mut next = first;

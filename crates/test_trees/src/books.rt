@@ -26,7 +26,7 @@ fn are_all(rows: &[Row]) -> bool {
     }
 }
 
-/// Describes a name by the call of a kind. Answers how many books took it.
+/// Describes a name by the call of a kind. Returns how many books accepted it.
 fn described<P: Abort, R: Recorder>(test: &Test<P>, on: &mut R, kind: MetricKind) -> usize {
     let name = test.ok(KeyName::new(test.alloc, "hits"));
     let told = match kind {

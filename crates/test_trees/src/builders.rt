@@ -1,4 +1,4 @@
-//! Trees, and what makes them: what is refused gives the recorder back, as it was.
+//! Trees, and their builders: a failed call returns the recorder unchanged.
 
 use crate::given::{Book, Test};
 use crate::layers::{filter, prefix};
@@ -30,13 +30,13 @@ fn a_child_comes_back_from_a_layer(rt: HostRuntime) {
     expect_books(&test, under_filter(&test, child), 1);
 }
 
-/// Adds a book that has the gauge. The first try may be refused.
+/// Adds a book that has the gauge. The first try may run out of memory.
 fn add<P: Abort>(test: &Test<P>, builder: &mut FanoutBuilder<Book>) {
     let child = Child::leaf(test.book_of_gauge());
     test.made_from(child, |child| builder.add_recorder(child));
 }
 
-/// Adds a book of no series, with memory at hand.
+/// Adds a book of no series, with memory available.
 fn add_empty<P: Abort>(test: &Test<P>, builder: &mut FanoutBuilder<Book>) {
     test.made(builder.add_recorder(Child::leaf(test.book())));
 }
@@ -52,7 +52,7 @@ fn add_all<P: Abort>(test: &Test<P>, builder: &mut FanoutBuilder<Book>) {
     }
 }
 
-/// Checks that one book more comes back.
+/// Checks that one book more is returned.
 fn expect_full<P: Abort>(test: &Test<P>, builder: &mut FanoutBuilder<Book>) {
     let child = Child::leaf(test.book_of_gauge());
     test.given_back(
@@ -71,7 +71,7 @@ fn a_fanout_has_at_most_65536_books(rt: HostRuntime) {
     expect_books(&test, builder.build(), 65_536);
 }
 
-/// Adds routes to a target that comes back from an empty mask first. Each first try may be refused.
+/// Adds routes to a target that an empty mask returns first. Each first try may run out of memory.
 fn add_routes<P: Abort, B: Recorder>(
     test: &Test<P>,
     builder: &mut RouterBuilder<B>,

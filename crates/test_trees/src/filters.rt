@@ -1,4 +1,4 @@
-//! Which names a filter refuses, and how long its patterns may be.
+//! Which names a filter rejects, and how long its patterns may be.
 
 use crate::given::Test;
 use metrics::{Error, Key, MetricKind, Recorder};
@@ -93,7 +93,7 @@ fn expect_too_long<P: Abort, R: Recorder>(test: &Test<P>, layer: &FilterLayer, o
     test.given_back(on, Error::PatternsTooLong, |on| layer.layer(test.alloc, on));
 }
 
-/// Checks that the longest layer is accepted, and refused with one byte more.
+/// Checks that the longest layer is accepted, and rejected with one byte more.
 fn expect_limit<P: Abort>(test: &Test<P>, use_dfa: bool) {
     let mut layer = longest_layer(test, use_dfa);
     expect_accepted(test, &layer, test.book_of_gauge());

@@ -1,4 +1,4 @@
-//! What the tests share: calls whose first try may be refused, and what a recorder has then.
+//! What the tests share: calls whose first try may fail, and what a recorder has then.
 
 use metrics::{Address, DebugValue, Error, Key, MetricKind, Recorder, Reset, Row, Update};
 use metrics_debugging::DebuggingRecorder;
@@ -7,22 +7,25 @@ use std::fmt::Debug;
 use std::process::Abort;
 use test_trial::Trial;
 
+/// The book that the tests use.
 pub type Book = DebuggingRecorder;
 
-/// A register call by kind and name, and the addresses that it answers: book and series.
+/// A register call by kind and name, and the addresses that it returns: book and series.
 pub type Registered<'a> = (MetricKind, &'a str, &'a [(usize, usize)]);
 
-/// A test, which a refusal ends; or which goes on after the refusals between its marks.
+/// A test, which ends at a failed call; or which continues after those between its marks.
 #[derive(Drop)]
 pub struct Test<'a, P: Abort> {
+    /// The runtime.
     pub rt: &'a P,
+    /// The memory that calls allocate from.
     pub alloc: Global,
     trial: Trial,
     goes_on: bool,
 }
 
 impl<'a, P: Abort> Test<'a, P> {
-    /// A test that a refusal ends.
+    /// Returns a test that ends at a failed call.
     pub fn whole(rt: &'a P, alloc: Global) -> Test<'a, P> {
         let trial = Trial::new(alloc);
         Test {
@@ -33,7 +36,7 @@ impl<'a, P: Abort> Test<'a, P> {
         }
     }
 
-    /// A test that goes on after a refusal.
+    /// Returns a test that continues after a failed call.
     pub fn marked(rt: &'a P, alloc: Global) -> Test<'a, P> {
         let trial = Trial::new(alloc);
         Test {
@@ -44,21 +47,21 @@ impl<'a, P: Abort> Test<'a, P> {
         }
     }
 
-    /// From here on memory may be refused.
+    /// Lets memory run out from here on.
     pub fn begin(&self) {
         if self.goes_on {
             self.trial.begin();
         }
     }
 
-    /// From here on a refusal ends the test.
+    /// Ends the test at a failed call from here on.
     pub fn calm(&self) {
         if self.goes_on {
             self.trial.calm();
         }
     }
 
-    /// Returns what a call gives that isn't refused.
+    /// Returns the result of a call that succeeds.
     pub fn ok<T, E: Debug>(&self, answer: Result<T, E>) -> T {
         if self.goes_on {
             answer.expect(self.rt, "refused with memory at hand")
@@ -67,7 +70,7 @@ impl<'a, P: Abort> Test<'a, P> {
         }
     }
 
-    /// Returns what a call makes that isn't refused, and would give its argument back.
+    /// Returns the result of a call that succeeds, and would return its argument on failure.
     pub fn made<M, R: Drop>(&self, answer: Result<M, (Error, R)>) -> M {
         match answer {
             Ok(made) => made,
@@ -75,7 +78,7 @@ impl<'a, P: Abort> Test<'a, P> {
         }
     }
 
-    /// Takes a refusal of a call between the marks, which acted on nothing.
+    /// Notes a failed call between the marks, which acted on nothing.
     pub fn note<E: Debug + Drop + PartialEq + From<AllocError>>(&self, error: E) {
         if self.goes_on {
             assert_eq!(self.rt; error, E::from(AllocError));
@@ -84,7 +87,7 @@ impl<'a, P: Abort> Test<'a, P> {
         }
     }
 
-    /// Returns what a call gives. The first try may be refused.
+    /// Returns the result of a call. The first try may fail.
     pub fn tried<T, E, F: FnMut() -> Result<T, E>>(&self, mut call: F) -> T
     where
         E: Debug + Drop + PartialEq + From<AllocError>,
@@ -102,7 +105,7 @@ impl<'a, P: Abort> Test<'a, P> {
         }
     }
 
-    /// Returns what a call makes of a recorder. The first try may be refused, and gives the recorder back as it was.
+    /// Returns what a call makes of a recorder. The first try may fail, and returns the recorder unchanged.
     pub fn made_from<R: Recorder, M, F>(&self, on: R, mut call: F) -> M
     where
         F: FnMut(R) -> Result<M, (Error, R)>,
@@ -121,7 +124,7 @@ impl<'a, P: Abort> Test<'a, P> {
         }
     }
 
-    /// Returns the recorder of a call that can't be done, which comes back as it was.
+    /// Returns the recorder of a call that can't be done, which leaves it unchanged.
     pub fn given_back<R: Recorder, M, F>(&self, on: R, why: Error, mut call: F) -> R
     where
         F: FnMut(R) -> Result<M, (Error, R)>,
@@ -140,12 +143,12 @@ impl<'a, P: Abort> Test<'a, P> {
         }
     }
 
-    /// A new book.
+    /// Returns a new book.
     pub fn book(&self) -> Book {
         self.ok(DebuggingRecorder::new(self.alloc))
     }
 
-    /// A book whose only series is the gauge `g` with the value 3, by which it is known again.
+    /// Returns a book whose only series is the gauge `g` with the value 3, which identifies it.
     pub fn book_of_gauge(&self) -> Book {
         let mut book = self.book();
         self.expect_registered(&mut book, &[(MetricKind::Gauge, "g", &[(0, 0)])]);
@@ -154,14 +157,14 @@ impl<'a, P: Abort> Test<'a, P> {
         book
     }
 
-    /// Checks that the last book of a recorder has the gauge alone, which stands.
+    /// Checks that the last book of a recorder has the gauge alone.
     pub fn expect_gauge<R: Recorder>(&self, on: &mut R) {
         let last = on.books().checked_sub(1).expect(self.rt, "no book");
         let rows = self.ok(on.snapshot_with(self.alloc, last, Reset::KeepGauges));
         assert!(self.rt; are_gauge(rows.as_slice()));
     }
 
-    /// Checks that each register call of a table answers its addresses.
+    /// Checks that each register call of a table returns its addresses.
     pub fn expect_registered<R: Recorder>(&self, on: &mut R, wanted: &[Registered]) {
         for (kind, name, addresses) in wanted {
             let is_right = self.is_registered(on, (*kind, name, addresses));

@@ -1,4 +1,4 @@
-//! Handles that a recorder didn't give.
+//! Handles that a recorder didn't return.
 
 use crate::given::{Registered, Test};
 use metrics::{
@@ -85,7 +85,7 @@ fn expect_taken<P: Abort, R: Recorder>(test: &Test<P>, mut first: R, mut second:
     assert!(test.rt; count(test, &mut second) == Some(0));
 }
 
-/// The first book takes the handle of the second, which stays as it was: a handle is its addresses.
+/// The first book accepts the handle of the second, which stays as it was: a handle is its addresses.
 #[test]
 fn a_handle_of_another_tree_is_taken(rt: HostRuntime) {
     let test = Test::whole(&rt, rt.alloc());

@@ -1,4 +1,4 @@
-//! Layers, and stacks of them: what is refused for memory gives the recorder back, as it was.
+//! Layers, and stacks of them: a call that runs out of memory returns the recorder unchanged.
 
 use crate::given::Test;
 use metrics::MetricKind::Counter;
@@ -6,12 +6,12 @@ use metrics::{Key, Recorder};
 use metrics_layers::{FilterLayer, Layer, Prefix, PrefixLayer, Stack};
 use std::process::Abort;
 
-/// A layer. The first try may be refused.
+/// Returns a layer. The first try may run out of memory.
 pub fn prefix<P: Abort>(test: &Test<P>, text: &str) -> PrefixLayer {
     test.tried(|| PrefixLayer::new(test.alloc, text))
 }
 
-/// The same.
+/// Returns a layer likewise.
 pub fn filter<P: Abort>(test: &Test<P>) -> FilterLayer {
     test.tried(|| FilterLayer::from_patterns(test.alloc, &["x.t", "he"]))
 }
@@ -28,7 +28,7 @@ fn a_layer_gives_its_recorder_back(rt: HostRuntime) {
     expect_layered(&test, filter(&test), test.book_of_gauge());
 }
 
-/// Pushes a layer, and where that is refused an equal one on what comes back.
+/// Pushes a layer, and if that fails an equal one on the recorder that it returned.
 fn pushed<P: Abort, R: Recorder, L: Layer<R>>(
     test: &Test<P>,
     stack: Stack<R>,
@@ -48,7 +48,7 @@ fn pushed<P: Abort, R: Recorder, L: Layer<R>>(
     }
 }
 
-/// Registers a counter. The first try may be refused, and then the book has the gauge alone.
+/// Registers a counter. The first try may run out of memory, and then the book has the gauge alone.
 fn register<P: Abort, R: Recorder>(test: &Test<P>, on: &mut R, name: &str) {
     let key = test.ok(Key::from_name(test.alloc, name));
     test.begin();

@@ -1,6 +1,6 @@
 //! Tests of layers, of trees of them and of the books below.
 //!
-//! They stand in a crate of their own: a crate with tests is proved twice.
+//! They are in a crate of their own: a crate with tests is proved twice.
 #![tactic(auto)]
 
 #[cfg(test)]

@@ -46,7 +46,7 @@ fn router_of<P: Abort, B: Recorder>(test: &Test<P>, first: B, second: B, third: 
     builder.build()
 }
 
-/// Checks what register calls answer, and the only name in each of two books.
+/// Checks what register calls return, and the only name in each of two books.
 fn expect_calls<P: Abort, R: Recorder>(
     test: &Test<P>,
     mut on: R,

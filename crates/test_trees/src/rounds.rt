@@ -163,7 +163,7 @@ impl Round {
         }
     }
 
-    /// Takes the next answer. A refused call acted on nothing, and the handle of a refused register call is bad.
+    /// Notes the next answer. A failed call acted on nothing, and the handle of a failed register call is bad.
     fn take<P: Abort>(&mut self, test: &Test<P>, answer: &Answer) {
         let is_done = !matches!(answer, Answer::Refused(_));
         match answer {
@@ -190,7 +190,7 @@ impl Round {
     }
 }
 
-/// Replays the first calls. The first try may be refused as a whole, and then the book has no row.
+/// Replays the first calls. The first try may fail as a whole, and then the book has no row.
 fn replayed<P: Abort, R: Recorder>(test: &Test<P>, book: &mut R, calls: &[Call]) -> Vec<Answer> {
     test.begin();
     let first = replay(test.alloc, book, calls);
@@ -255,7 +255,7 @@ fn a_replay_goes_on_after_a_refusal(rt: HostRuntime) {
     expect_held(&test, test.book());
 }
 
-/// Makes a call of a journal. The first try may be refused: then it is not made, and the journal is as it was.
+/// Makes a call of a journal. The first try may fail: then it is not made, and the journal is as it was.
 fn make<P: Abort, R: Recorder>(
     test: &Test<P>,
     on: &mut Journaled<R>,

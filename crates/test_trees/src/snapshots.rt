@@ -1,4 +1,4 @@
-//! What a snapshot gives: samples in bucket order, and a map.
+//! What a snapshot returns: samples in bucket order, and a map.
 
 use crate::given::Test;
 use metrics::{
@@ -25,7 +25,7 @@ fn expect_samples<P: Abort>(test: &Test<P>, rows: &Snapshot, wanted: &[i64]) {
     }
 }
 
-/// Records 0 to 64, which begins a second block, and takes two snapshots. Each call's first try may be refused.
+/// Records 0 to 64, which begins a second block, and takes two snapshots. Each call's first try may run out of memory.
 fn expect_bucket_order<P: Abort, R: Recorder>(test: &Test<P>, on: &mut R) {
     let at = Address { book: 0, series: 0 };
     let mut wanted = [64i64; 65];
@@ -63,7 +63,7 @@ fn rows_of_two<P: Abort, R: Recorder>(test: &Test<P>, mut on: R, key: &Key) -> S
     test.ok(on.snapshot(test.alloc, 0))
 }
 
-/// The snapshot as a map. The first try may be refused, and gives the snapshot back.
+/// The snapshot as a map. The first try may run out of memory, and returns the snapshot.
 fn map_of<P: Abort>(test: &Test<P>, rows: Snapshot) -> HashMap<CompositeKey, RowValue> {
     test.begin();
     let first = rows.into_hashmap(test.alloc);

@@ -1,5 +1,5 @@
-//! What tests share that look at the state after a failed allocation: the marks between which allocations may fail, and what
-//! is expected then.
+//! Shared by tests that check the state after a failed call: the marks between which memory may run out, and what is
+//! expected then.
 #![tactic(auto)]
 
 ghost use Rattle.std.specs.Prelude.{◌≡◌, ◌↔◌, ℕ, ◌+◌, ◌-◌, ◌^◌, min};
@@ -13,16 +13,18 @@ use std::alloc::Global;
 /// What went wrong.
 pub type Wrong = &'static str;
 
-/// A request of this size makes the library that fails allocations count requests from here on. It never succeeds.
+/// A request of this size asks the preload library to count requests from here on. It is never met.
 const COUNTS_FROM_HERE: usize = 1_000_000_000_007;
 
-/// The same, but it counts none from here on.
+/// A request of this size asks it to count none from here on.
 const COUNTS_TO_HERE: usize = 1_000_000_000_039;
 
-/// A test that goes on after a failure: how many of its calls ran out of memory.
+/// A test that continues after a failed call: how many of its calls ran out of memory.
 #[derive(Drop)]
 pub struct Trial {
+    /// The memory that calls allocate from.
     pub alloc: Global,
+    /// How many calls ran out of memory.
     pub refusals: u64,
 }
 
@@ -32,14 +34,14 @@ fn mark(alloc: Global, size: usize) {
 }
 
 impl Trial {
-    /// Makes a trial without failures.
+    /// Returns a test without failed calls.
     pub fn new(alloc: Global) -> Trial
         ensures { result ≡ record { alloc = alloc; refusals = 0 } }
     {
         Trial { alloc, refusals: 0 }
     }
 
-    /// Lets allocations fail from here on.
+    /// Lets memory run out from here on.
     pub fn begin(&self) {
         mark(self.alloc, COUNTS_FROM_HERE);
     }
@@ -49,7 +51,7 @@ impl Trial {
         mark(self.alloc, COUNTS_TO_HERE);
     }
 
-    /// Notes a failure. Any other than out of memory is wrong.
+    /// Notes a failed call. Any cause other than out of memory is wrong.
     pub fn note(&mut self, error: Error) -> Result<(), Wrong>
         ensures counted { self.new ≡ record self.old { refusals = min (self.old.refusals + 1) (2 ^ 64 - 1) } }
         ensures memory { IsOk result ↔ (error ≡ OutOfMemory) }
@@ -58,7 +60,7 @@ impl Trial {
         expect(error == Error::Memory, "another refusal than memory")
     }
 
-    /// Notes the failure of a call that acted on nothing.
+    /// Notes a failed call that acted on nothing.
     pub fn note_refused(&mut self, refused: Refused) -> Result<(), Wrong>
         ensures counted { self.new ≡ record self.old { refusals = min (self.old.refusals + 1) (2 ^ 64 - 1) } }
         ensures memory { IsOk result ↔ (refused ≡ MemoryRefused 0) }
@@ -71,14 +73,14 @@ impl Trial {
     }
 }
 
-/// Fails with `otherwise` if the condition doesn't hold.
+/// Fails with `otherwise` unless `holds`.
 pub fn expect(holds: bool, otherwise: Wrong) -> Result<(), Wrong>
     ensures { IsOk result ↔ IsTrue holds }
 {
     if holds { Ok(()) } else { Err(otherwise) }
 }
 
-/// Returns the result of a call that has memory at hand, and so must not fail.
+/// Returns the result of a call that has memory available.
 pub fn done<T: Drop, E: Drop>(answer: Result<T, E>) -> Result<T, Wrong>
     ensures { MatchResult answer (λ v. result ≡ Ok v) (λ _. IsErr result) }
 {
@@ -88,7 +90,7 @@ pub fn done<T: Drop, E: Drop>(answer: Result<T, E>) -> Result<T, Wrong>
     }
 }
 
-/// Returns the result of a call made while allocations may fail, and again with memory at hand if it failed.
+/// Returns the result of a call that is made while memory may run out, and again with memory available if it did.
 pub fn made<T: Drop, F: Fn() -> Result<T, Error>>(trial: &mut Trial, make: &F) -> Result<T, Wrong>
     requires { F.IsAlwaysCallable make.now }
     ensures { IfOk result (λ v. F.post make.now (Ok v)) }
