@@ -2,7 +2,7 @@
 """Writes docs/API.md: each public item that `metrics` and `metrics_util` export, with its signature and its docs.
 
     docs/api.py          writes the page
-    docs/api.py check    ends with status 1 where the page is not what would be written
+    docs/api.py check    ends with status 1 if the page differs from what it would write
 
 Bodies, clauses and ghost items are left out."""
 import os
@@ -20,7 +20,7 @@ Each public item with its signature and its docs, by the modules of `metrics_uti
 
 
 def skip(text, at):
-    """The place behind the string, character or comment that begins here, else the next one."""
+    """Returns the place after the string, character or comment that begins here, or else the next one."""
     if text.startswith("//", at):
         end = text.find("\n", at)
         return len(text) if end < 0 else end
@@ -31,7 +31,7 @@ def skip(text, at):
 
 
 def behind(text, at):
-    """The place behind the bracket that closes the one here."""
+    """Returns the place after the bracket that closes the one here."""
     depth = 0
     while True:
         depth += (text[at] in "([{") - (text[at] in ")]}")
@@ -44,7 +44,7 @@ CLAUSE = re.compile(r"(?<!\w)(requires|ensures|where)\b")
 
 
 def end_of_item(text, at):
-    """Where the item that begins here has its block or its semicolon, and where it ends."""
+    """Returns where the item that begins here has its block or its semicolon, and where it ends."""
     while text[at] not in "{;":
         clause = CLAUSE.match(text, at)
         if clause and clause[1] != "where":
@@ -54,7 +54,7 @@ def end_of_item(text, at):
 
 
 def head_of(text):
-    """An item's text up to its clauses, body or semicolon."""
+    """Returns an item's text up to its clauses, body or semicolon."""
     at = 0
     while at < len(text) and text[at] not in "{;" and not re.match(r"(requires|ensures)\b", text[at:]):
         at = behind(text, at) if text[at] in "([" else skip(text, at)
@@ -62,7 +62,7 @@ def head_of(text):
 
 
 def without_generics(text):
-    """The text behind the generic parameters that it may begin with."""
+    """Returns the text after the generic parameters that it may begin with."""
     depth = 0
     for at, letter in enumerate(text):
         depth += (letter == "<") - (letter == ">" and text[at - 1] != "-")
@@ -72,7 +72,7 @@ def without_generics(text):
 
 
 def pieces(text):
-    """The items of a file or a block: for each its docs, its attributes and its text."""
+    """Returns the items of a file or a block: for each its docs, its attributes and its text."""
     at, docs, attributes = 0, [], []
     while at < len(text):
         if text[at].isspace():
@@ -99,7 +99,7 @@ def end_of_ghost(text, at):
 
 
 def parts(block):
-    """A list of fields or variants, cut at its commas, each with its docs."""
+    """Returns a list of fields or variants, cut at its commas, each with its docs."""
     at, start = 0, 0
     while at < len(block):
         if block[at] in "([{":
@@ -113,7 +113,7 @@ def parts(block):
 
 
 def shown_part(part):
-    """The docs of a field or a variant, and its text; None for a ghost one."""
+    """Returns the docs of a field or a variant, and its text; None for a ghost one."""
     docs = [line.strip() for line in part.splitlines() if line.strip().startswith("///")]
     rest = " ".join(line.strip() for line in part.splitlines() if not line.strip().startswith(("///", "//", "#")))
     rest = " ".join(rest.split())
@@ -126,7 +126,7 @@ def block_of(text):
 
 
 def members(block, is_public):
-    """The functions, types and constants of an impl or a trait."""
+    """Returns the functions, types and constants of an impl or a trait."""
     lines = []
     for docs, _, text in pieces(block):
         if text.startswith("ghost") or not ITEM.match(text) or (is_public and not text.startswith("pub ")):
@@ -140,7 +140,7 @@ def indented(lines):
 
 
 def shown_type(kind, text):
-    """A struct with its public fields, or an enum with its variants."""
+    """Returns a struct with its public fields, or an enum with its variants."""
     head, block = head_of(text), block_of(text)
     if block is None:
         return [head + ";"] if "(" not in head else [re.sub(r"\(.*\)", "(..)", head) + ";"]
@@ -177,7 +177,7 @@ class Crate:
                     self.exports[path[-1]] = path
 
     def shown(self, name):
-        """What the page shows of an item."""
+        """Returns what the page shows of an item."""
         kind, docs, attributes, text = self.items[name]
         lines = [*docs]
         derived = [it for it in attributes if it.startswith("#[derive(")]
@@ -198,7 +198,7 @@ class Crate:
 
 
 def exported(item):
-    """The paths that a `pub use` exports."""
+    """Returns the paths that a `pub use` exports."""
     path = " ".join(item[len("pub use "):].rstrip(";").split())
     found = re.match(r"(.*?)::\{(.*)\}$", path)
     names = [it.strip() for it in found[2].split(",") if it.strip()] if found else [path.rpartition("::")[2]]
@@ -216,7 +216,7 @@ class Page:
         return self.crates[name]
 
     def find(self, within, path):
-        """The crate that defines what a path of another crate exports."""
+        """Returns the crate that defines what a path of another crate exports."""
         crate = path[0] if os.path.isdir(os.path.join(CRATES, path[0])) else within
         while path[-1] not in self.crate(crate).items:
             crate = self.crate(crate).exports[path[-1]][0]

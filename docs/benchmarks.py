@@ -4,11 +4,11 @@
     docs/benchmarks.py OURS THEIRS
 
 OURS and THEIRS are what several runs of the benchmarks printed, ours and the peers': lines `name ns_per_op`, each the least
-of its rounds, and lines `# name median ns_per_op`. A row of a table with a ratio names ours and, behind 'beside', the other
-side's where it has another name. Its figure is the least of the runs, with the middle one in brackets, and its ratio is of
-the least. A row of several threads beside `prometheus` goes by the medians of the rounds, and its ratio by the middle one:
-where threads write one word, the least is of the round in which they ran least at the same time. Without words it draws the
-chart of the figures that stand."""
+of its rounds, and lines `# name median ns_per_op`. A row of a table with a ratio names ours and, after 'beside', the other
+side's if it has another name. Its figure is the least of the runs, with the middle one in brackets, and its ratio is of
+the least. A row of several threads beside `prometheus` uses the medians of the rounds, and its ratio the middle one:
+when threads write one word, the least is of the round in which they overlapped least. Without words it draws the
+chart of the present figures."""
 import html
 import math
 import os
@@ -29,7 +29,7 @@ def goes_by_medians(name):
 
 
 def figures(path):
-    """The runs' figures by name."""
+    """Returns the runs' figures by name."""
     found = {}
     for line in open(path):
         words = line.split()
@@ -63,7 +63,7 @@ def rewritten(line, ours, theirs):
 
 
 def chart(rows):
-    """A bar for each ratio, on a logarithmic scale: to the left of the line ours is ahead."""
+    """Draws a bar for each ratio, on a logarithmic scale: to the left of the line ours is ahead."""
     left, wide, high = 420, 440, 16
     scale = lambda ratio: left + wide * (math.log10(ratio) + 1.5) / 2.5
     parts = []
@@ -85,7 +85,7 @@ def chart(rows):
 
 
 def compared(lines):
-    """Names and ratios of the tables that have a peer's figures in nanoseconds."""
+    """Returns names and ratios of the tables that have a peer's figures in nanoseconds."""
     theirs = False
     for line in lines:
         theirs = line.startswith("|") and (theirs or any(peer in line for peer in PEERS))

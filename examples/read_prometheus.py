@@ -5,7 +5,7 @@
     read_prometheus.py access LOG OUTPUT          judges what came of an access log, by counts of its own
 
 Each exposition goes to `promtool check metrics`, and to the text parser of the package prometheus_client. What a scrape is to
-show is worked out here from the rules in crates/metrics_prometheus/README.md and docs/PROGRAM.md, without the program.
+show follows here from the rules in crates/metrics_prometheus/README.md and docs/PROGRAM.md, without the program.
 """
 
 import argparse
@@ -19,14 +19,14 @@ LEAST, GREATEST = -(2**63), 2**63 - 1
 
 
 class Wrong(Exception):
-    """What was written is not what was to be."""
+    """The output is not the expected one."""
 
 
 # ---- what is kept
 
 
 def updated(word, amount, value):
-    """The value of a series after an update; None is that of a series that isn't held."""
+    """Returns the value of a series after an update; None is that of a series that isn't held."""
     if word == "increment":
         return ((value or 0) + amount) % 2**64
     if word == "absolute":
@@ -78,7 +78,7 @@ class Exporter:
 
 
 def spelled(name, allowed):
-    """A name with an underscore for each character that isn't allowed, and for no character."""
+    """Returns a name with an underscore for each character that isn't allowed; the empty name is one underscore."""
     other = re.sub(f"[^0-9{allowed}]", "_", name)
     return re.sub("^[0-9]", "_", other) or "_"
 
@@ -88,7 +88,7 @@ def shown_labels(labels):
     return sorted(shown, key=lambda l: (l[0].encode(), l[1].encode()))
 
 
-# The end of a recommended name by its unit, and how many digits of a number stand behind the point.
+# The end of a recommended name by its unit, and how many digits of a number follow the point.
 BASE = {"percent": ("_ratio", 2), "seconds": ("_seconds", 0), "milliseconds": ("_seconds", 3), "bytes": ("_bytes", 0)}
 BASE |= {"microseconds": ("_seconds", 6), "nanoseconds": ("_seconds", 9)}
 
@@ -107,14 +107,14 @@ def shown_name(exporter, kind, name):
 
 
 def pointed(number, places):
-    """A number with so many digits behind the point."""
+    """Returns a number with so many digits after the point."""
     digits = str(abs(number)).rjust(places + 1, "0")
     at = len(digits) - places
     return ("-" if number < 0 else "") + digits[:at] + ("." + digits[at:] if places else "")
 
 
 def rows_of(exporter):
-    """Name, kind and labels of each series as they are shown, and its own key; in order."""
+    """Returns name, kind and labels of each series as they are shown, and its own key; in order."""
     rows = [
         (shown_name(exporter, kind, name), kind, shown_labels(labels), (kind, name, labels))
         for kind, name, labels in exporter.held
@@ -134,7 +134,7 @@ def is_reserved(kind, key):
 
 
 def labels_reason(kind, labels):
-    """Why labels can't be shown: a name comes twice, or Prometheus keeps it for itself."""
+    """Returns why labels can't be shown: a name occurs twice, or Prometheus reserves it."""
     keys = [key for key, _ in labels]
     if len(set(keys)) < len(keys):
         return "two labels of one name"
@@ -142,12 +142,12 @@ def labels_reason(kind, labels):
 
 
 def histograms_of(rows):
-    """The names of the histograms that their labels don't keep from the text."""
+    """Returns the names of the histograms whose labels can be shown."""
     return {name for name, kind, labels, _ in rows if kind == 2 and labels_reason(kind, labels) is None}
 
 
 def reason_of(row, last, histograms):
-    """Why a row is left out, or None."""
+    """Returns why a row is left out, or None."""
     name, kind, labels, _ = row
     reason = labels_reason(kind, labels)
     if reason is not None:
@@ -163,12 +163,12 @@ def reason_of(row, last, histograms):
 
 
 def one_line(text):
-    """A name as it stands in a line of its own."""
+    """Returns a name as it is written in a line of its own."""
     return text.replace("\\", "\\\\").replace("\n", "\\n")
 
 
 def left_out_line(row, reason):
-    """The line that says why a series is left out, by its own name and the labels as they are shown."""
+    """Returns the line that says why a series is left out, by its own name and the labels as they are shown."""
     return "# left out: %s %s%s: %s" % (KINDS[row[1]], one_line(row[3][1]), braces(row[2]), reason)
 
 
@@ -180,7 +180,7 @@ def braces(labels):
 
 
 def samples_of(exporter, row):
-    """The samples of a row: the end of each name, the labels, and the number as it is written."""
+    """Returns the samples of a row: the end of each name, the labels, and the number as it is written."""
     _, kind, labels, key = row
     value, places = exporter.held[key][0], base_of(exporter, kind, key[1])[1]
     if kind != 2:
@@ -192,13 +192,13 @@ def samples_of(exporter, row):
 
 
 def help_lines(exporter, row):
-    """The description of a family by that of its first row's own name."""
+    """Returns the description of a family: that of its first row's own name."""
     text = exporter.helps.get((row[1], row[3][1]))
     return [] if text is None else [f"# HELP {row[0]} {one_line(text)}"]
 
 
 def expected(exporter):
-    """Each family that is to be read, the lines of the series that are left out, and those of descriptions."""
+    """Returns each expected family, the lines of the series that are left out, and those of descriptions."""
     rows = rows_of(exporter)
     histograms = histograms_of(rows)
     families, left_out, helps, last = [], [], [], None
@@ -220,7 +220,7 @@ def expected(exporter):
 
 
 def as_client(family):
-    """A family as the client shows it: a counter's samples end in _total, and its name does not; numbers are floats."""
+    """Returns a family as the client shows it: a counter's samples end in _total, and its name does not; numbers are floats."""
     name, kind, samples = family
     end = ""
     if kind == "counter":
@@ -229,7 +229,7 @@ def as_client(family):
 
 
 def as_read(text):
-    """The families that the client reads."""
+    """Returns the families that the client reads."""
     from prometheus_client.parser import text_string_to_metric_families
 
     return [
@@ -239,12 +239,12 @@ def as_read(text):
 
 
 def numbers_of(text):
-    """The numbers of the samples as they stand: a float doesn't tell all those of 64 bits apart."""
+    """Returns the numbers of the samples as written: a float can't distinguish all those of 64 bits."""
     return [line.rsplit(" ", 1)[1] for line in text.split("\n")[:-1] if line[0] != "#"]
 
 
 def judge(text, families, left_out, helps, is_recommended=False):
-    """Compares an exposition with what is to be read. promtool has no advice on recommended names."""
+    """Compares an exposition with the expected one. promtool has no advice on recommended names."""
     if text is None:
         raise Wrong("a scrape has no exposition")
     told = subprocess.run(["promtool", "check", "metrics"], input=text.encode(), capture_output=True)
@@ -267,7 +267,7 @@ def judge(text, families, left_out, helps, is_recommended=False):
 
 
 def expositions(output):
-    """The texts before the empty lines."""
+    """Returns the texts before the empty lines."""
     texts, text = [], ""
     for line in output.split("\n")[:-1]:
         if line == "":
@@ -279,7 +279,7 @@ def expositions(output):
 
 
 def is_number(word, amount):
-    """Whether the line takes this for a number."""
+    """Returns whether this is a number of a line."""
     if word in ("increment", "absolute", "scrape"):
         return re.fullmatch("0|[1-9][0-9]*", amount) is not None and int(amount) < 2**64
     return re.fullmatch("0|-?[1-9][0-9]*", amount) is not None and -(2**63) <= int(amount) < 2**63
@@ -298,7 +298,7 @@ def unescaped(value):
 
 
 def labels_of(rest):
-    """The labels behind a name in the order of their keys, or None where they can't be read."""
+    """Returns the labels after a name in the order of their keys, or None if they can't be read."""
     labels, at = {}, 0
     while at < len(rest):
         found = LABEL.match(rest, at)
@@ -327,7 +327,7 @@ def describe_of(rest):
 
 
 def request_of(line):
-    """What a line asks for, or None where it is bad."""
+    """Returns what a line asks for, or None if it is bad."""
     line = line.removesuffix("\r")
     word, space, rest = line.partition(" ")
     if line == "" or line[0] == "#":
@@ -340,7 +340,7 @@ def request_of(line):
 
 
 def options_of(words):
-    """What the words of the command line ask for."""
+    """Returns what the words of the command line ask for."""
     parser = argparse.ArgumentParser()
     parser.add_argument("--idle", default="-")
     parser.add_argument("--idle-kinds", default=",".join(KINDS))
@@ -360,7 +360,7 @@ def exporter_of(options, made=Exporter):
 
 
 def check(lines, output, exporter, skips_bad):
-    """Judges what was written for the lines; answers how many samples were read."""
+    """Judges what was written for the lines; returns how many samples were read."""
     texts = iter(expositions(output))
     count, is_changed = 0, False
 
@@ -397,7 +397,7 @@ ACCESS = re.compile(r'\S+ - - \[[^]]*\] "(\S+) (.*) HTTP/1\.[01]" (\d+) (\d+) (\
 
 
 def access(log, text):
-    """Counts what an access log holds, and compares it with the samples that came of it; answers how many there are."""
+    """Counts what an access log holds, and compares it with the samples that came of it; returns how many there are."""
     requests, sizes, times = {}, {}, {}
     for line in log.split("\n")[:-1]:
         method, path, code, size, milliseconds = ACCESS.fullmatch(line).groups()
@@ -421,7 +421,7 @@ def access(log, text):
 
 
 def make(number):
-    """Lines that make so many series, a scrape, updates of one half of them, and a scrape that removes idle ones."""
+    """Yields lines that make so many series, a scrape, updates of one half of them, and a scrape that removes idle ones."""
     words = ("increment", "set", "record")
     lines = [f'{words[i % 3]} {i * 7919 % 100003} {KINDS[i % 3]}.{i % 97} host=h{i} path=C:\\{i}"' for i in range(number)]
     return "\n".join([*lines, "scrape 1", *lines[::2], "scrape 2", "scrape 7", ""])

@@ -1,7 +1,7 @@
-"""Judges what the programs wrote while requests for memory were refused, by the rules of docs/PROGRAM.md.
+"""Judges what the programs wrote while requests for memory failed, by the rules of docs/PROGRAM.md.
 
-Each answer is the expected one, or says that memory was refused; then the call stands in its first n targets, and in no
-other. A run ends as it does with memory at hand, or out of memory after whole answers."""
+Each answer is the expected one, or says that memory ran out; then the call reached its first n targets, and no
+other. A run ends as it does with memory available, or out of memory after whole answers."""
 
 import copy
 import functools
@@ -20,10 +20,10 @@ NAMES = {"c": "counter", "g": "gauge", "h": "histogram"}
 
 
 class Wrong(Exception):
-    """What was written can't be."""
+    """The output is impossible."""
 
 
-# ---- trees: nested tuples, of which a walk notes what happens on the way of a name
+# ---- trees: nested tuples, of which a walk notes what happens to a name on its way
 
 
 def plain(word):
@@ -35,7 +35,7 @@ def folded(text):
 
 
 def taken(stack, count):
-    """The last recorders of the stack, the deepest first."""
+    """Returns the last recorders of the stack, the deepest first."""
     children = stack[len(stack) - count:]
     del stack[len(stack) - count:]
     return children
@@ -47,7 +47,7 @@ def route_of(word):
 
 
 def tree_of(lines):
-    """The tree that the lines make. Its books are numbered in the order of their lines."""
+    """Returns the tree that the lines make. Its books are numbered in the order of their lines."""
     stack, books = [], 0
     for line in lines:
         match line.split(b" "):
@@ -69,7 +69,7 @@ def tree_of(lines):
 
 
 def winner(routes, kind, name):
-    """The child that a name goes to: 0 is the default."""
+    """Returns the child that a name goes to: 0 is the default."""
     fit = [(len(front), at, to) for at, (mask, to, front) in enumerate(routes) if kind in mask and name.startswith(front)]
     return max(fit)[2] + 1 if fit else 0
 
@@ -141,7 +141,7 @@ def acted_of(said):
 
 
 class Calls:
-    """The books of a tree, and what register calls gave. `after` answers what follows a call line, by what was said to it."""
+    """The books of a tree, and what register calls returned. `after` returns what follows a call line, by its answer."""
 
     def __init__(self, lines):
         self.tree, books = tree_of(lines)
@@ -189,7 +189,7 @@ class Calls:
         return None if acted is not None else [b"registered %d %d" % (len(self.handles) - 1, len(targets))]
 
     def stops(self, way, kind, labels):
-        """On how many targets a refused register call may have acted. One that holds the series counts from the start."""
+        """Returns how many targets a failed register call may have reached. One that holds the series counts from the start."""
         done = 0
         for what, *target in way:
             held = what == "target" and (kind, target[1], labels) in self.books[target[0]].series
@@ -197,7 +197,7 @@ class Calls:
             done += what == "target"
 
     def front(self, targets, acted, stops):
-        """The first targets, which were acted on."""
+        """Returns the first targets, which were reached."""
         if acted is not None and acted not in stops:
             raise Wrong("acted %d, where it may be one of %s" % (acted, sorted(stops)))
         return targets[:acted]
@@ -232,7 +232,7 @@ order_of = functools.lru_cache(maxsize=None)(model.in_bytes)
 
 
 class Export(model.Exporter):
-    """The held series. What a refused scrape has left may be one of several, so `after` answers several."""
+    """The held series. What a failed scrape has left may be one of several, so `after` returns several."""
 
     refusal = b"refused E1 memory"
 
@@ -274,7 +274,7 @@ class Export(model.Exporter):
         yield self, 0, False
 
     def begun(self, now):
-        """What an expiry may leave that was refused, or the text after it: a refusal meets only a new series, or an idle one."""
+        """Yields what a failed expiry or text may leave: a failure meets only a new series, or an idle one."""
         left = self.copied()
         if self.held:
             yield left.copied()
@@ -311,7 +311,7 @@ class Export(model.Exporter):
 
 
 class Prometheus(Export):
-    """The same, told in Prometheus's text. An update that was made says nothing, so any of several may be the refused one. The
+    """The same in Prometheus's text. An update that was made prints nothing, so any of several may be the one that failed. The
     end of the input is a scrape without an expiry, unless nothing changed since the last one."""
 
     refusal = b"# refused E1 memory"
@@ -402,7 +402,7 @@ def lines_of(text):
 
 
 def stop_of(status, errors, bad, code):
-    """Whether the run was out of memory, and at which line if it says so."""
+    """Returns whether the run was out of memory, and at which line if it says so."""
     if (status, errors) == (code, bad):
         return False, None
     found = re.fullmatch(rb"(?:line ([1-9]\d*): )?memory\n", errors)
@@ -412,7 +412,7 @@ def stop_of(status, errors, bad, code):
 
 
 def after_all(states, step, said, most):
-    """What may follow a step: the machine, how many lines were said, how many refusals among them. Each once."""
+    """Yields what may follow a step, each once: the machine, how many lines were printed, how many failures are among them."""
     found = []
     for machine, at, refusals in states:
         for after, count, is_refused in step(machine, said[at:]):
@@ -424,7 +424,7 @@ def after_all(states, step, said, most):
 
 
 def follow(machine, lines, said, most, is_short, is_ended):
-    """Goes through lines, and what was said to each, with so many refusals at most. A short run answered some of the lines."""
+    """Goes through lines and their answers, with at most so many failures. A short run answered some of the lines."""
     states = [(machine, 0, 0)]
     for line in lines:
         if is_short and any(at == len(said) for _, at, _ in states):
@@ -473,14 +473,14 @@ MOST = {"none": 0, "once": 1, "on": sys.maxsize}
 
 
 def judge_words(how, out, status, errors, bad, code):
-    """Judges what wrong words are told, or those that ask for help. Where memory is refused the text may be shorter."""
+    """Judges the reply to invalid words, or to those that ask for help. If memory runs out the text may be shorter."""
     if how == "none" and (status, errors) != (code, bad) or status not in (code, 1) or (code and out):
         raise Wrong("status %d with %r" % (status, errors))
 
 
 def judge(program, words, given, bad, code, how, status, out, errors):
-    """Raises Wrong where the run can't have gone so. `bad` is what goes to standard error and `code` the status with memory at
-    hand, and `how` says what was refused: `none`, one request (`once`), or all from one on (`on`)."""
+    """Raises Wrong if the run is impossible. `bad` is the text on standard error and `code` the status with memory
+    available, and `how` says which requests failed: `none`, one (`once`), or all from one on (`on`)."""
     lines, said, most = lines_of(given), out.split(b"\n"), MOST[how]
     if bad.startswith(b"usage:"):
         is_stopped, number = stop_of(status, errors, bad, code)
@@ -502,17 +502,17 @@ def judge(program, words, given, bad, code, how, status, out, errors):
         judge_lines(0, lambda: Prometheus(words), lines, bad, code, most, status, told, said)
 
 
-# What is told of a series that a text leaves out: a refused scrape tells nothing.
+# The message for a series that a text leaves out: a failed scrape prints none.
 LEFT_OUT = re.compile(rb"^left out: .*\n", re.MULTILINE)
 
 
 def without_passed_over(errors, bad):
-    """What was told beside bad lines that were passed over, each of which is told at once."""
+    """Returns the messages beside those for skipped bad lines, each of which is reported at once."""
     return b"".join(line for line in errors.splitlines(True) if line not in bad.splitlines(True))
 
 
 def without_text(errors, bad):
-    """What was told of the end: of a bad line the whole text, where there was no memory for it and its number stood alone."""
+    """Returns the message for the end: for a bad line the whole text, if memory ran out and its number was alone."""
     errors, bad = LEFT_OUT.sub(b"", errors), LEFT_OUT.sub(b"", bad)
     short = re.fullmatch(rb"(line \d+: )bad line\n", errors)
     return bad if short and bad.startswith(short[1]) else errors

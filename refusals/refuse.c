@@ -1,14 +1,14 @@
 /*
- * A preload library that refuses requests for memory and for threads, so that a built program shows what it does then.
+ * A preload library that makes requests for memory and for threads fail, so that a built program shows what it does then.
  *
- *   REFUSE_AT=N     refuses the Nth counted request. 0, or none: refuses nothing and counts
- *   REFUSE_HOW=on   refuses all counted requests from the Nth on. Else the Nth alone
- *   REFUSE_ALL=1    counts from the start of the process. Else between the program's two marks alone
- *   REFUSE_TOLD=F   keeps three numbers in the file F, eight bytes each: requests refused, requests counted, and marks
+ *   REFUSE_AT=N     the Nth counted request fails. 0, or none: only counts
+ *   REFUSE_HOW=on   all counted requests from the Nth on fail. Otherwise the Nth alone
+ *   REFUSE_ALL=1    counts from the start of the process. Otherwise between the program's two marks alone
+ *   REFUSE_TOLD=F   keeps three numbers in the file F, eight bytes each: failed requests, counted requests, and marks
  *                   from which requests count.
- *                   They are right at any time, so however the program ends
+ *                   They are right at any time, however the program ends
  *
- * A mark is a request of an odd size that nothing else asks for. It is answered by no memory, which the program expects.
+ * A mark is a request of an odd size that nothing else asks for. It fails, as the program expects.
  */
 #define _GNU_SOURCE
 #include <dlfcn.h>
@@ -43,7 +43,7 @@ static unsigned long at;
 static int goes_on;
 static int (*create_thread)(pthread_t *, const pthread_attr_t *, void *(*)(void *), void *);
 
-/* Has the numbers stand in a file from here on. */
+/* Keeps the numbers in a file from here on. */
 static void tell_in(const char *name)
 {
     int file = open(name, O_RDWR | O_CREAT | O_TRUNC | O_CLOEXEC, 0600);
@@ -69,7 +69,7 @@ __attribute__((constructor)) static void begin(void)
     atomic_store(&is_counting, getenv("REFUSE_ALL") != NULL);
 }
 
-/* Whether the request is refused: a mark, or one that was to be refused. */
+/* Whether the request fails: a mark, or one that is to fail. */
 static int is_refused(size_t size)
 {
     unsigned long number;

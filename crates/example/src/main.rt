@@ -15,7 +15,7 @@ fn tree(alloc: Global) -> Result<Child<DebuggingRecorder>, Error> {
     Ok(book.prefix(alloc, &prefix)?.filter(alloc, &filter)?)
 }
 
-/// Counts two names, and returns what the book has.
+/// Counts two names, and answers what the book has.
 fn count<R: Recorder>(alloc: Global, mut on: R) -> Result<Snapshot, Error> {
     for (name, by) in [("hits", 2), ("debug.hits", 5)] {
         let counter = on.register_counter(alloc, &Key::from_name(alloc, name)?)?;

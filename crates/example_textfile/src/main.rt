@@ -9,7 +9,7 @@ use std::fs;
 use std::rt::Files;
 use std::sync::Wait;
 
-/// Writes the text beside the file and renames it, so that readers see all of it or nothing.
+/// Writes the text beside the file and renames it, so that no reader sees a part of it.
 fn publish<R: AllocGlobal + Files + Wait>(rt: &R, on: &Collector, path: &str) -> Result<()> {
     let text = on.render(rt, rt.alloc(), 0)?;
     let beside = format!(in rt.alloc(); "{path}.tmp")?;
