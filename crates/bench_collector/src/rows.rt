@@ -14,7 +14,7 @@ use std::sync::atomic::{AtomicU64, Ordering};
 use std::thread::{self, Threads};
 use std::time::Instant;
 
-/// How many times a thread looks whether the others have come, before it begins without them.
+/// How many times a thread looks for the others, before it begins without them.
 const LOOKS: u32 = 10_000_000;
 
 /// What each thread of a row does.
@@ -73,7 +73,7 @@ struct Round<'a> {
     times: u64,
 }
 
-/// From when to when a thread worked, in nanoseconds.
+/// The start and the end of a thread's work, in nanoseconds.
 #[derive(Clone, Copy)]
 struct Span {
     begin: u64,

@@ -1,6 +1,6 @@
 //! The harness of the benchmark programs. Without words a program runs each benchmark once and prints its name. With the
 //! word `time` it times each, and prints `name ns_per_op` to standard output, the least of nine rounds after a warm-up,
-//! and their median to standard error. A further word is a beginning of the names that are wanted.
+//! and their median to standard error. A further word selects the names that begin with it.
 #![tactic(auto)]
 
 use anyhow::{Result, anyhow};

@@ -44,7 +44,7 @@ fn expect_read<R: Abort>(
     }
 }
 
-/// Reads 70 times while memory may be refused, and then with memory at hand.
+/// Reads 70 times while memory may run out, and then with memory available.
 fn read_again<R: Abort + Wait>(
     rt: &R,
     trial: &mut Trial,

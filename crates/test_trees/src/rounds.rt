@@ -181,7 +181,7 @@ impl Round {
         }
     }
 
-    /// Checks what the book has, unless a snapshot was taken at last.
+    /// Checks what the book has, unless the last call was a snapshot.
     fn expect_book<P: Abort, R: Recorder>(&self, test: &Test<P>, on: &mut R) {
         let rows = test.ok(on.snapshot(test.alloc, 0));
         if !self.done.is_empty() {
