@@ -5,7 +5,8 @@ ghost use Rattle.once_cell.specs.Once.{cell_name};
 ghost use Rattle.std.specs.List.{FoldsTo};
 ghost use Rattle.metrics_bucket.specs.declared.view.Walk.{Walk};
 ghost use Rattle.metrics_bucket.specs.Blocks.{valued, newest_first};
-ghost use Rattle.metrics_growing.specs.Parts.{IsWhole, left_part, right_part, joined_part, PushedIn, PassedIn, LostIn, TakenIn, SpareIn};
+ghost use Rattle.metrics_growing.specs.Parts.{IsWhole, left_part, right_part, joined_part, PushedIn};
+ghost use Rattle.metrics_growing.specs.Parts.{PassedIn, LostIn, TakenIn, SpareIn};
 
 use crate::segment::Segment;
 use metrics::Error;

@@ -3,7 +3,8 @@ ghost use Rattle.std.specs.Prelude.{◌≡◌, ℕ, List};
 ghost use Rattle.std.specs.Cmp.Lexicographic.{slice_cmp};
 ghost use Rattle.std.specs.Ordering.{nat_cmp};
 ghost use Rattle.metrics_names.specs.Names.{KeyParts, SeriesKey, series_key_eq, label_cmp, key_cmp, series_key_cmp};
-ghost use Rattle.metrics_laws.specs.Laws.{EqualityIsOfAllParts, FilterTestsSubstrings, WinnerIsWinner, ChunksAreTheList, ChunksAreFull};
+ghost use Rattle.metrics_laws.specs.Laws.{EqualityIsOfAllParts, FilterTestsSubstrings, WinnerIsWinner};
+ghost use Rattle.metrics_laws.specs.Laws.{ChunksAreTheList, ChunksAreFull};
 
 use metrics::{CompositeKey, Key, KeyName, Label};
 

@@ -2,7 +2,8 @@
 ghost use Rattle.std.specs.Prelude.{◌≡◌, ◌<◌, ◌++◌, true, false, if◌then◌else◌, IfOk, OnOk};
 ghost use Rattle.std.specs.Prelude.{string_bytes, chars};
 ghost use Rattle.std.specs.List.{list_all};
-ghost use Rattle.metrics_prometheus.specs.Names.{begins, goes_on, or_underscore, spelled, or_one, metric_name, label_name, is_name};
+ghost use Rattle.metrics_prometheus.specs.Names.{begins, goes_on, or_underscore, spelled};
+ghost use Rattle.metrics_prometheus.specs.Names.{or_one, metric_name, label_name, is_name};
 ghost use Rattle.metrics_prometheus.specs.Names.{escape, escaped, is_plain, help_escape, help_escaped};
 
 use crate::shown::ShownName;
