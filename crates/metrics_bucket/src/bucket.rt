@@ -17,8 +17,8 @@ use crate::steps::{
 };
 use crate::view::{Turn, View};
 use atomic_table::{Seat, Table};
-use crossbeam_utils::Backoff;
 use metrics::Error;
+use metrics_cells::Pause;
 use std::alloc::Global;
 use std::marker::{Model, PhantomData};
 use std::sync::{Arc, Wait};
@@ -336,7 +336,7 @@ impl<T: Sample> RuledBucket<T> {
             → MatchResult result (λ _. length seat.old.me.0.pushed < count_all seat.old.me.0.taken + self.now.places)
             (λ e. (e.0 ≡ Error.Full) × IsFullFor self.now.places seat.old.me.0.pushed seat.old.me.0.taken) }
     {
-        let pause = Backoff::new();
+        let pause = Pause::new();
         for _ in rt.forever() {
             match self.draw(seat) {
                 Ok((side, at)) => {
@@ -344,7 +344,7 @@ impl<T: Sample> RuledBucket<T> {
                     return Ok(());
                 }
                 Err(Error::Full) => return Err((Error::Full, value)),
-                Err(_) => pause.spin(),
+                Err(_) => pause.after_lost_race(),
             }
         }
         unreachable!()
@@ -374,7 +374,10 @@ impl<T: Sample> RuledBucket<T> {
                 Ok(())
             }
             Err(Error::Full) => Err((Error::Full, value)),
-            Err(_) => self.push_by(rt, seat, value),
+            Err(_) => {
+                Pause::new().after_lost_race();
+                self.push_by(rt, seat, value)
+            }
         }
     }
 

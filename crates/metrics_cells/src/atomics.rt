@@ -3,6 +3,7 @@ ghost use Rattle.std.specs.Prelude.{◌≡◌, ◌+ℤ◌, ◌-ℤ◌};
 ghost use Rattle.std.specs.Int.{w64, cast_signed, cast_unsigned, saturate_signed};
 
 use crate::handles::{CounterFn, GaugeFn};
+use crate::pause::Pause;
 use std::sync::Wait;
 use std::sync::atomic::{AtomicU64, Ordering};
 
@@ -62,11 +63,12 @@ fn subtracted(bits: u64, value: i64) -> u64
 fn change<W: Wait, F: Fn(u64) -> u64>(rt: &W, word: &AtomicU64, next: F)
     requires { F.IsAlwaysCallable next }
 {
-    let mut seen = word.load(Ordering::SeqCst);
+    let pause = Pause::new();
     for _ in rt.forever() {
+        let seen = word.load(Ordering::SeqCst);
         match word.compare_exchange(seen, next(seen), Ordering::SeqCst, Ordering::SeqCst) {
             Ok(_) => return,
-            Err(now) => seen = now,
+            Err(_) => pause.after_lost_race(),
         }
     }
 }

@@ -10,9 +10,9 @@ ghost use Rattle.metrics_growing.specs.Parts.{PushedIn, PassedIn, LostIn, Pushed
 use crate::known::Known;
 use crate::pen::GrowPen;
 use crate::segment::Segment;
-use crossbeam_utils::Backoff;
 use metrics::Error;
 use metrics_bucket::{Pen, Sample};
+use metrics_cells::Pause;
 use once_cell::race::{Note, OnceBox};
 use std::alloc::Global;
 use std::marker::{Model, PhantomData};
@@ -262,11 +262,11 @@ impl<T: Sample> GrowingBucket<T> {
             × ((e.0 ≡ Error.Memory) ⊎ ((e.0 ≡ Error.NoPen) × (length pen.new < length self.now)))
             × All IsPassed pen.new × (e.1 ≡ value)) }
     {
-        let pause = Backoff::new();
+        let pause = Pause::new();
         for _ in rt.forever() {
             match self.try_push(pen, value) {
                 Ok(()) => return Ok(()),
-                Err((Error::Raced, _)) => pause.spin(),
+                Err((Error::Raced, _)) => pause.after_lost_race(),
                 Err(refused) => return Err(refused),
             }
         }
