@@ -9,7 +9,16 @@ use metrics::{Error, Key};
 use metrics_registry::{EqualClone, Hashable, Kinds, Storage, is_shard_count, shard_of};
 use std::alloc::Global;
 use std::collections::HashMap;
-use std::sync::{RwLock, Wait};
+use std::sync::{RwLock, RwLockReadGuard, Wait};
+
+/// Shares the lock of a shard. It waits only while a writer has the lock or waits for it.
+fn reading<'a, T, R: Wait>(rt: &R, shard: &'a RwLock<T>) -> RwLockReadGuard<'a, T> {
+    // A try is in line, and costs less than `read`.
+    match shard.try_read() {
+        Some(held) => held,
+        None => shard.read(rt),
+    }
+}
 
 /// A registry that any thread may call: for each kind of metric a map from keys to cells, in shards.
 ///
@@ -71,7 +80,7 @@ where
         S::Counter: Clone,
         ensures { IfErr result (λ e. e ≡ OutOfMemory) }
     {
-        match self.shard(key).read(rt).counters.get(key) {
+        match reading(rt, self.shard(key)).counters.get(key) {
             Some(cell) => Ok(Some(cell.clone()?)),
             None => Ok(None),
         }
@@ -91,7 +100,7 @@ where
         ensures err { IfErr result (λ e. e ≡ OutOfMemory) }
     {
         let shard = self.shard(key);
-        if let Some(cell) = shard.read(rt).counters.get(key) {
+        if let Some(cell) = reading(rt, shard).counters.get(key) {
             return Ok(op(cell));
         }
         let create = |cell: &mut S::Counter| -> V
@@ -155,7 +164,7 @@ where
         S::Gauge: Clone,
         ensures { IfErr result (λ e. e ≡ OutOfMemory) }
     {
-        match self.shard(key).read(rt).gauges.get(key) {
+        match reading(rt, self.shard(key)).gauges.get(key) {
             Some(cell) => Ok(Some(cell.clone()?)),
             None => Ok(None),
         }
@@ -175,7 +184,7 @@ where
         ensures err { IfErr result (λ e. e ≡ OutOfMemory) }
     {
         let shard = self.shard(key);
-        if let Some(cell) = shard.read(rt).gauges.get(key) {
+        if let Some(cell) = reading(rt, shard).gauges.get(key) {
             return Ok(op(cell));
         }
         let create = |cell: &mut S::Gauge| -> V
@@ -239,7 +248,7 @@ where
         S::Histogram: Clone,
         ensures { IfErr result (λ e. e ≡ OutOfMemory) }
     {
-        match self.shard(key).read(rt).histograms.get(key) {
+        match reading(rt, self.shard(key)).histograms.get(key) {
             Some(cell) => Ok(Some(cell.clone()?)),
             None => Ok(None),
         }
@@ -259,7 +268,7 @@ where
         ensures err { IfErr result (λ e. e ≡ OutOfMemory) }
     {
         let shard = self.shard(key);
-        if let Some(cell) = shard.read(rt).histograms.get(key) {
+        if let Some(cell) = reading(rt, shard).histograms.get(key) {
             return Ok(op(cell));
         }
         let create = |cell: &mut S::Histogram| -> V
