@@ -4,11 +4,11 @@ ghost use Rattle.std.specs.Arc.{arc_value};
 ghost use Rattle.metrics_names.specs.declared.kind.MetricKind.TheVariants.{Counter as CounterKind, Gauge as GaugeKind};
 ghost use Rattle.metrics_names.specs.declared.kind.MetricKind.TheVariants.{Histogram as HistogramKind};
 
-use crate::bounds::Bounds;
 use crate::gathered::Value;
 use crate::parts::Parts;
 use metrics::{Error, Key, MetricKind};
 use metrics_cells::{CounterFn, HistogramFn, counter_value, gauge_value};
+use metrics_exporter::Bounds;
 use metrics_registry::{Generation, Storage};
 use metrics_shared_registry::Generational;
 use metrics_storage::Histogram;

@@ -10,13 +10,13 @@ ghost use Rattle.metrics_prometheus.specs.Reading.{AreOfKinds};
 ghost use Rattle.metrics_collector.specs.Gathering.{all_gathered, IsUnread};
 ghost use Rattle.metrics_collector.specs.declared.gathered.Gathered.{Gathered as GatheredParts};
 
-use crate::bounds::Bounds;
 use crate::cells::{CollectorCells, CounterHandle, GaugeHandle, HistogramHandle};
 use crate::gathered::Gathered;
 use crate::keys::kept_key;
 use crate::walk::{Walk, forget_all};
 use metrics::{Error, Key, Label, MetricKind, MetricKindMask, PerKind, Unit};
 use metrics_cells::CounterFn;
+use metrics_exporter::Bounds;
 use metrics_prometheus::{Descriptions, Naming};
 use metrics_registry::OwnedRecency;
 use metrics_shared_registry::Registry;

@@ -1,7 +1,6 @@
 //! Metrics that the threads of a program share, and their text for Prometheus.
 #![tactic(auto)]
 
-mod bounds;
 mod cells;
 mod collector;
 mod gathered;
@@ -9,9 +8,9 @@ mod keys;
 mod parts;
 mod walk;
 
-pub use bounds::Bounds;
 pub use cells::{CollectorCells, CounterHandle, GaugeHandle, HistogramHandle};
 pub use collector::Collector;
 pub use gathered::{Gathered, GatheredSeries, Value};
 pub use metrics::Error;
+pub use metrics_exporter::Bounds;
 pub use metrics_prometheus::{Descriptions, Naming};

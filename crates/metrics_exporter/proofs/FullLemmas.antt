@@ -83,15 +83,15 @@ never b e = (λ f. false≢true (sym f ∙ e), λ h. absurd h)
 
 -- an update finds no room exactly if it is full
 pub full-cells : (setup : Setup) (xs : List Step) (key : KeyParts) (u : Update) → (cell_has_room (cells_after setup xs (series_of key u)) ≡ false) ↔ IsFull xs key u
-full-cells setup xs key (Increment n) = never _ (counter-room setup.bounds key (since xs (series_of key (Increment n))))
-full-cells setup xs key (Absolute n) = never _ (counter-room setup.bounds key (since xs (series_of key (Absolute n))))
-full-cells setup xs key (Add n) = never _ (gauge-room setup.bounds key (since xs (series_of key (Add n))))
-full-cells setup xs key (Subtract n) = never _ (gauge-room setup.bounds key (since xs (series_of key (Subtract n))))
-full-cells setup xs key (Set n) = never _ (gauge-room setup.bounds key (since xs (series_of key (Set n))))
+full-cells setup xs key (Increment n) = never _ (counter-room (setup.bounds key.name) key (since xs (series_of key (Increment n))))
+full-cells setup xs key (Absolute n) = never _ (counter-room (setup.bounds key.name) key (since xs (series_of key (Absolute n))))
+full-cells setup xs key (Add n) = never _ (gauge-room (setup.bounds key.name) key (since xs (series_of key (Add n))))
+full-cells setup xs key (Subtract n) = never _ (gauge-room (setup.bounds key.name) key (since xs (series_of key (Subtract n))))
+full-cells setup xs key (Set n) = never _ (gauge-room (setup.bounds key.name) key (since xs (series_of key (Set n))))
 full-cells setup xs key (Record n) =
     let s : SeriesKey = series_of key (Record n) in
     let us : List Update = since xs s in
-    let room : cell_has_room (cells_after setup xs s) ≡ nat_lt (length us) (2 ^ 64 - 1) = histogram-room setup.bounds key us (all-kind s (after_removal s xs)) in (
+    let room : cell_has_room (cells_after setup xs s) ≡ nat_lt (length us) (2 ^ 64 - 1) = histogram-room (setup.bounds key.name) key us (all-kind s (after_removal s xs)) in (
       λ none. let h : 2 ^ 64 - 1 ≤ length us = ltb-false (length us) (2 ^ 64 - 1) (sym room ∙ none) in let g : 2 ^ 64 ≤ length us + 1 = omega (arith, h) in g,
       λ full. room ∙ le-ltb (length us) (2 ^ 64 - 1) (let h : 2 ^ 64 ≤ length us + 1 = full in omega (arith, h)),
     )

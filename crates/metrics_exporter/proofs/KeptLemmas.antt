@@ -21,7 +21,8 @@ use Rattle.metrics_registry.specs.Idleness.{Answered, run_answer, run_answers, T
 use Rattle.metrics_exporter.specs.declared.exporter.Exporter.{Exporter}
 use Rattle.metrics_exporter.specs.Exporting.{Setup, Event, updates, Log, Step, updated, checked, steps, steps_of, series_of, count, level, samples, Cell, IsFull, cells_after, checks_in, check_of_held}
 use Rattle.metrics_exporter.specs.Stepping.{cell_has_room, TakesUpdate, RefusesUpdate, UpdatesCells, ChecksCells, cell_with, or_new, new_cell, cells_without, notes_without}
-use Rattle.metrics_exporter.specs.Kept.{SeriesRegistry, cells_of, Keeps, KeepsBut, IsAfter}
+use Rattle.metrics_exporter.specs.Choice.{bounds_for}
+use Rattle.metrics_exporter.specs.Kept.{SeriesRegistry, cells_of, empty_for, HasBounds, Keeps, KeepsBut, IsAfter}
 use Rattle.metrics_exporter.specs.Gathering.{cell_in}
 use Rattle.metrics_exporter.proofs.StepLemmas.{cells-updated, cells-checked, checks-updated, checks-checked}
 
@@ -32,7 +33,7 @@ steps-push log e = flat_map-append steps_of log (e ∷ []) ∙ ap (λ l. steps l
 
 -- ---- a new exporter
 
-pub new-keeps : (setup : Setup) (e : Exporter) → e.registry.storage.empty ≡ no_samples setup.bounds → rules_of e.recency ≡ setup.rules
+pub new-keeps : (setup : Setup) (e : Exporter) → HasBounds e.registry setup → rules_of e.recency ≡ setup.rules
     → e.registry.counters ≡ [] → e.registry.gauges ≡ [] → e.registry.histograms ≡ []
     → ((kind : MetricKind) (key : KeyParts) → table_of key_eq e.recency kind key ≡ new_table kind key) → TableGivesRuns key_eq → Keeps setup [] e
 new-keeps setup e bounds rules counters gauges histograms notes law = record {
@@ -52,7 +53,7 @@ new-keeps setup e bounds rules counters gauges histograms notes law = record {
 pub keeps-same : (setup : Setup) (xs : List Step) (a b : Exporter) → b.registry ≡ a.registry → rules_of b.recency ≡ rules_of a.recency
     → ((kind : MetricKind) (key : KeyParts) → table_of key_eq b.recency kind key ≡ table_of key_eq a.recency kind key) → Keeps setup xs a → Keeps setup xs b
 keeps-same setup xs a b registry rules notes kept = record {
-  bounds = ap (λ (r : SeriesRegistry). r.storage.empty) registry ∙ kept.bounds;
+  bounds = λ name. ap (λ (r : SeriesRegistry). bounds_for r.storage.bounds name) registry ∙ kept.bounds name;
   rules = rules ∙ kept.rules;
   cells = λ s. ap (λ r. cells_of r s) registry ∙ kept.cells s;
   checks = λ checks. ap (λ t. table_answers key_eq setup.rules t checks) (λ i kind key. notes kind key i) ∙ kept.checks checks;
@@ -61,17 +62,17 @@ keeps-same setup xs a b registry rules notes kept = record {
 -- ---- an update
 
 pub keeps-updated : (setup : Setup) (xs : List Step) (a b : Exporter) (key : KeyParts) (u : Update) → b.registry.storage ≡ a.registry.storage → b.recency ≡ a.recency
-    → UpdatesCells a.registry.storage.empty (series_of key u) u (cells_of a.registry) (cells_of b.registry) → Keeps setup xs a → Keeps setup (xs ++ updated key u ∷ []) b
+    → UpdatesCells (empty_for a.registry key.name) (series_of key u) u (cells_of a.registry) (cells_of b.registry) → Keeps setup xs a → Keeps setup (xs ++ updated key u ∷ []) b
 keeps-updated setup xs a b key u storage recency changed kept = record {
-  bounds = ap (λ s. s.empty) storage ∙ kept.bounds;
+  bounds = λ name. ap (λ s. bounds_for s.bounds name) storage ∙ kept.bounds name;
   rules = ap rules_of recency ∙ kept.rules;
   cells = λ t.
       let s = series_of key u in
       changed t
       ∙ ap (λ o. cond (series_key_eq s t) o (cells_of a.registry t))
-      (ap (λ d. Some (cell_with u (or_new (new_cell d (kind_of u)) (cells_of a.registry s)))) kept.bounds
-      ∙ ap (λ o. Some (cell_with u (or_new (new_cell (no_samples setup.bounds) (kind_of u)) o))) (kept.cells s))
-      ∙ ap (λ o. cond (series_key_eq s t) (Some (cell_with u (or_new (new_cell (no_samples setup.bounds) (kind_of u)) (cells_after setup xs s)))) o) (kept.cells t)
+      (ap (λ bounds. Some (cell_with u (or_new (new_cell (no_samples bounds) (kind_of u)) (cells_of a.registry s)))) (kept.bounds key.name)
+      ∙ ap (λ o. Some (cell_with u (or_new (new_cell (no_samples (setup.bounds key.name)) (kind_of u)) o))) (kept.cells s))
+      ∙ ap (λ o. cond (series_key_eq s t) (Some (cell_with u (or_new (new_cell (no_samples (setup.bounds key.name)) (kind_of u)) (cells_after setup xs s)))) o) (kept.cells t)
       ∙ sym (cells-updated setup xs key u t);
   checks = λ checks.
       ap (λ r. table_answers key_eq setup.rules (table_of key_eq r) checks) recency ∙ kept.checks checks
@@ -155,7 +156,7 @@ pub keeps-removed : (setup : Setup) (xs : List Step) (gone : List SeriesKey) (a 
     → ((s : SeriesKey) → cells_of b.registry s ≡ cells_without gone (cells_of a.registry) s)
     → ((kind : MetricKind) (key : KeyParts) → table_of key_eq b.recency kind key ≡ notes_without gone (table_of key_eq a.recency) kind key) → KeepsBut gone setup xs a.registry a.recency → Keeps setup xs b
 keeps-removed setup xs gone a b storage rules cells notes kept = record {
-  bounds = ap (λ d. d.empty) storage ∙ kept.bounds;
+  bounds = λ name. ap (λ s. bounds_for s.bounds name) storage ∙ kept.bounds name;
   rules = rules ∙ kept.rules;
   cells = λ s. cells s ∙ kept.cells s;
   checks = λ checks. ap (λ t. table_answers key_eq setup.rules t checks) (λ i kind key. notes kind key i) ∙ kept.checks checks;
@@ -168,7 +169,7 @@ Done = Result (Unit {0}) Error
 
 -- after an update, whatever it was answered
 pub update-after : (setup : Setup) (log : Log) (a b : Exporter) (key : KeyParts) (u : Update) (r : Done)
-    → OnOk r (UpdatesCells a.registry.storage.empty (series_of key u) u (cells_of a.registry) (cells_of b.registry))
+    → OnOk r (UpdatesCells (empty_for a.registry key.name) (series_of key u) u (cells_of a.registry) (cells_of b.registry))
     → IfErr r (λ e. RefusesUpdate (cells_of a.registry (series_of key u)) e × (b.registry ≡ a.registry))
     → b.registry.storage ≡ a.registry.storage → b.recency ≡ a.recency → IsAfter setup log a → IsAfter setup (log ++ updates key u r ∷ []) b
 update-after setup log a b key u (Ok done) changed refused storage recency after =

@@ -2,6 +2,7 @@ pub mod GatheringLemmas
 pub mod WalkLemmas
 pub mod SortedLemmas
 pub mod NumberLemmas
+pub mod BoundsLemmas
 pub mod StepLemmas
 pub mod FullLemmas
 pub mod EntryLemmas

@@ -146,23 +146,23 @@ cell-push bounds s (v ∷ us) u =
 -- an update changes the cell of its series, and no other
 pub cells-updated : (setup : Setup) (xs : List Step) (key : KeyParts) (u : Update) (t : SeriesKey) →
     cells_after setup (xs ++ updated key u ∷ []) t
-    ≡ cond (series_key_eq (series_of key u) t) (Some (cell_with u (or_new (new_cell (no_samples setup.bounds) (kind_of u)) (cells_after setup xs (series_of key u))))) (cells_after setup xs t)
+    ≡ cond (series_key_eq (series_of key u) t) (Some (cell_with u (or_new (new_cell (no_samples (setup.bounds key.name)) (kind_of u)) (cells_after setup xs (series_of key u))))) (cells_after setup xs t)
 cells-updated setup xs key u t =
-    ap (cell_of setup.bounds t) (since-updated xs key u t) ∙ go (series_key_eq (series_of key u) t) refl
+    ap (cell_of (setup.bounds t.key.name) t) (since-updated xs key u t) ∙ go (series_key_eq (series_of key u) t) refl
   where
-    go : (b : Bool) → series_key_eq (series_of key u) t ≡ b → cell_of setup.bounds t (cond b (since xs t ++ u ∷ []) (since xs t))
-        ≡ cond b (Some (cell_with u (or_new (new_cell (no_samples setup.bounds) (kind_of u)) (cells_after setup xs (series_of key u))))) (cells_after setup xs t)
+    go : (b : Bool) → series_key_eq (series_of key u) t ≡ b → cell_of (setup.bounds t.key.name) t (cond b (since xs t ++ u ∷ []) (since xs t))
+        ≡ cond b (Some (cell_with u (or_new (new_cell (no_samples (setup.bounds key.name)) (kind_of u)) (cells_after setup xs (series_of key u))))) (cells_after setup xs t)
     go false e = refl
     go true e =
-        ap (λ r. cell_of setup.bounds r (since xs r ++ u ∷ [])) (sym (key_exact (series_of key u) t e))
-        ∙ cell-push setup.bounds (series_of key u) (since xs (series_of key u)) u
+        ap (λ r. cell_of (setup.bounds r.key.name) r (since xs r ++ u ∷ [])) (sym (key_exact (series_of key u) t e))
+        ∙ cell-push (setup.bounds key.name) (series_of key u) (since xs (series_of key u)) u
 
 -- a check whose result is false empties the cell of its series, and no check changes another
 pub cells-checked : (setup : Setup) (xs : List Step) (a : Answered KeyParts) (t : SeriesKey) →
     cells_after setup (xs ++ checked a ∷ []) t ≡ cond (not a.answer && series_key_eq (series_checked a) t) None (cells_after setup xs t)
-cells-checked setup xs a t = ap (cell_of setup.bounds t) (since-checked xs a t) ∙ go (series_key_eq (series_checked a) t) a.answer
+cells-checked setup xs a t = ap (cell_of (setup.bounds t.key.name) t) (since-checked xs a t) ∙ go (series_key_eq (series_checked a) t) a.answer
   where
-    go : (b c : Bool) → cell_of setup.bounds t (cond (b && not c) [] (since xs t)) ≡ cond (not c && b) None (cells_after setup xs t)
+    go : (b c : Bool) → cell_of (setup.bounds t.key.name) t (cond (b && not c) [] (since xs t)) ≡ cond (not c && b) None (cells_after setup xs t)
     go true true = refl
     go true false = refl
     go false true = refl

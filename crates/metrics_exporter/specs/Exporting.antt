@@ -14,9 +14,9 @@ use Rattle.metrics_storage.specs.Histogram.{Distribution, no_samples, with_sampl
 use Rattle.metrics_registry.specs.Recency.{Rules, Check}
 use Rattle.metrics_registry.specs.Idleness.{Answered, run_answers}
 
--- what an exporter was made with: the bounds of its histograms, and when a series is idle
+-- what an exporter was made with: the bounds of a histogram by its name, and when a series is idle
 pub record Setup : Type 0 where
-  pub bounds : List ℤ
+  pub bounds : List ℕ → List ℤ
   pub rules : Rules
 
 -- ---- the calls
@@ -100,7 +100,7 @@ abbrev pub Cells : Type 0
 Cells = SeriesKey → Option Cell
 
 abbrev pub cells_after : Setup → List Step → Cells
-cells_after setup xs s = cell_of setup.bounds s (since xs s)
+cells_after setup xs s = cell_of (setup.bounds s.key.name) s (since xs s)
 
 -- a sample that comes to a series would make its count pass 2^64 - 1
 abbrev pub IsFull : List Step → KeyParts → Update → Type 0

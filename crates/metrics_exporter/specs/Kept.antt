@@ -12,6 +12,7 @@ use Rattle.metrics_registry.specs.RecencyEntries.{rules_of, table_of}
 use Rattle.metrics_registry.specs.Idleness.{Answered, run_answers}
 use Rattle.metrics_exporter.specs.declared.cells.CountedCells.{CountedCells}
 use Rattle.metrics_exporter.specs.declared.exporter.Exporter.{Exporter}
+use Rattle.metrics_exporter.specs.Choice.{bounds_for}
 use Rattle.metrics_exporter.specs.Describing.{Legend, described_by}
 use Rattle.metrics_exporter.specs.Exporting.{Setup, Log, Step, steps, count, level, samples, Cell, Cells, cells_after, checks_in}
 use Rattle.metrics_exporter.specs.Gathering.{cell_in}
@@ -25,6 +26,14 @@ abbrev pub cells_at : SeriesRegistry → MetricKind → KeyParts → Option Cell
 cells_at r Counter key = option_map (cell_in count) (held key_eq r.counters key)
 cells_at r Gauge key = option_map (cell_in level) (held key_eq r.gauges key)
 cells_at r Histogram key = option_map (cell_in samples) (held key_eq r.histograms key)
+
+-- a histogram without samples at the bounds of a name
+abbrev pub empty_for : SeriesRegistry → List ℕ → Distribution
+empty_for r name = no_samples (bounds_for r.storage.bounds name)
+
+-- each name has the bounds that the setup says
+abbrev pub HasBounds : SeriesRegistry → Setup → Type 0
+HasBounds r setup = (name : List ℕ) → bounds_for r.storage.bounds name ≡ setup.bounds name
 
 -- the cell of each series
 abbrev pub cells_of : SeriesRegistry → Cells
@@ -48,14 +57,14 @@ AnswersAfter rules table answered = (checks : List (Check KeyParts)) → table_a
 
 -- an exporter of this setup keeps the result of these steps
 pub record Keeps (setup : Setup) (xs : List Step) (e : Exporter) : Type 0 where
-  pub bounds : e.registry.storage.empty ≡ no_samples setup.bounds
+  pub bounds : HasBounds e.registry setup
   pub rules : rules_of e.recency ≡ setup.rules
   pub cells : (s : SeriesKey) → cells_of e.registry s ≡ cells_after setup xs s
   pub checks : AnswersAfter setup.rules (table_of key_eq e.recency) (checks_in xs)
 
 -- a registry and notes are the result of these steps once these series are removed from both
 pub record KeepsBut (gone : List SeriesKey) (setup : Setup) (xs : List Step) (r : SeriesRegistry) (notes : OwnedRecency KeyParts) : Type 0 where
-  pub bounds : r.storage.empty ≡ no_samples setup.bounds
+  pub bounds : HasBounds r setup
   pub rules : rules_of notes ≡ setup.rules
   pub cells : (s : SeriesKey) → cells_without gone (cells_of r) s ≡ cells_after setup xs s
   pub checks : AnswersAfter setup.rules (notes_without gone (table_of key_eq notes)) (checks_in xs)

@@ -9,7 +9,7 @@ ghost use Rattle.metrics_registry.specs.Held.{held, CountersAlone, GaugesAlone, 
 ghost use Rattle.metrics_registry.specs.RecencyEntries.{rules_of, table_of, check_of};
 ghost use Rattle.metrics_exporter.specs.Exporting.{series_of};
 ghost use Rattle.metrics_exporter.specs.Gathering.{series_at, series_shown, cell_shown};
-ghost use Rattle.metrics_exporter.specs.Kept.{cells_of, KeepsSetting};
+ghost use Rattle.metrics_exporter.specs.Kept.{cells_of, empty_for, KeepsSetting};
 ghost use Rattle.metrics_exporter.specs.Stepping.{count_with, level_with, counted_with, has_room, UpdatesEntry, UpdatesCells};
 ghost use Rattle.metrics_exporter.specs.Stepping.{TakesSample};
 ghost use Rattle.metrics_exporter.specs.Stepping.{TakesUpdate, RefusesUpdate, NotesOrAdds};
@@ -96,7 +96,7 @@ fn record(
     sample: i64,
 ) -> Result<(), Error>
     ensures ok { OnOk result (UpdatesEntry (with_samples
-        (sample ∷ [])) registry.old.storage.empty key.now registry.old.histograms registry.new.histograms) }
+        (sample ∷ [])) (empty_for registry.old key.now.name) key.now registry.old.histograms registry.new.histograms) }
     ensures room { OnOk result (has_room (held key_eq registry.old.histograms key.now) ≡ true) }
     ensures err { IfErr result (λ e.
         (e ≡ (if has_room (held key_eq registry.old.histograms key.now) then OutOfMemory else CountFull))
@@ -127,8 +127,8 @@ pub(crate) fn update_cells(
     key: &Key,
     by: Update,
 ) -> Result<(), Error>
-    ensures ok { OnOk result (UpdatesCells registry.old.storage.empty (series_of key.now by) by (cells_of registry.old)
-        (cells_of registry.new)) }
+    ensures ok { OnOk result (UpdatesCells (empty_for registry.old key.now.name) (series_of key.now by) by
+        (cells_of registry.old) (cells_of registry.new)) }
     ensures room { OnOk result (TakesUpdate (cells_of registry.old (series_of key.now by))) }
     ensures err { IfErr result (λ e. RefusesUpdate (cells_of registry.old (series_of key.now by)) e
         × (registry.new ≡ registry.old)) }

@@ -15,6 +15,7 @@ ghost use Rattle.metrics_exporter.specs.Describing.{DescribesName, described_by}
 ghost use Rattle.metrics_exporter.specs.ExporterText.{IsText};
 ghost use Rattle.metrics_exporter.specs.Readings.{AreReadings, all_told};
 
+use crate::bounds::Bounds;
 use crate::cells::CountedCells;
 use crate::changes::{remove_series, update_cells};
 use crate::descriptions::Descriptions;
@@ -24,7 +25,6 @@ use crate::lines::write_series;
 use crate::readings::{SeriesReading, readings_of};
 use metrics::{CompositeKey, Error, Key, MetricKind, MetricKindMask, Unit, Update};
 use metrics_registry::{OwnedRecency, OwnedRegistry, is_shard_count, recency_law};
-use metrics_storage::Histogram;
 use std::alloc::Global;
 
 /// Series by kind and key. It writes their values as text, and removes idle ones.
@@ -38,6 +38,7 @@ pub struct Exporter {
 
 impl Exporter {
     ghost use Rattle.metrics_exporter.specs.Kept.{IsAfter, Keeps, KeepsBut, held_cells, described};
+    ghost use Rattle.metrics_exporter.specs.Choice.{bounds_for};
 
     /// Makes an exporter without series. Its registry has so many shards, a power of two from 1 to 1,024. Its histograms count
     /// at the bounds, of which there has to be one.
@@ -52,7 +53,7 @@ impl Exporter {
         bounds: &[i64],
     ) -> Result<Exporter, Error>
         ensures ok { IfOk result (IsAfter (record {
-          bounds = bounds.now;
+          bounds = λ name. bounds.now;
           rules = record { timeout = idle_timeout; mask = λ kind. mask_has kind mask };
         }) []) }
         ensures shards { IfOk result (λ e. e.registry.count ≡ shards) }
@@ -61,14 +62,32 @@ impl Exporter {
         ensures err { IfErr result (λ e. e ≡
             (if is_count shards then (if nat_lt 0 (length bounds.now) then OutOfMemory else WithoutBounds) else NotShards)) }
     {
-        recency_law::<Key>();
         if !is_shard_count(shards) {
             return Err(Error::BadShards);
         }
-        let Some(empty) = Histogram::new(alloc, bounds)? else {
-            return Err(Error::NoBounds);
-        };
-        let registry = OwnedRegistry::new(alloc, CountedCells::new(empty), shards)?;
+        let bounds = Bounds::new(alloc, bounds)?;
+        Exporter::with_bounds(alloc, shards, mask, idle_timeout, bounds)
+    }
+
+    /// Makes an exporter as `new` does, whose histograms count at the bounds of the longest prefix of their names.
+    pub fn with_bounds(
+        alloc: Global,
+        shards: usize,
+        mask: MetricKindMask,
+        idle_timeout: Option<u64>,
+        bounds: Bounds,
+    ) -> Result<Exporter, Error>
+        ensures ok { IfOk result (IsAfter (record {
+          bounds = bounds_for bounds;
+          rules = record { timeout = idle_timeout; mask = λ kind. mask_has kind mask };
+        }) []) }
+        ensures shards { IfOk result (λ e. e.registry.count ≡ shards) }
+        ensures undescribed { IfOk result (λ e. (kind : _) (name : _) → described e kind name ≡ no_description) }
+        ensures asked { OnOk result (is_count shards ≡ true) }
+        ensures err { IfErr result (λ e. e ≡ (if is_count shards then OutOfMemory else NotShards)) }
+    {
+        recency_law::<Key>();
+        let registry = OwnedRegistry::new(alloc, CountedCells::new(bounds), shards)?;
         let recency = OwnedRecency::new(alloc, mask, idle_timeout);
         Ok(Exporter {
             alloc,

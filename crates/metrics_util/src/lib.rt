@@ -18,7 +18,7 @@ pub mod debugging {
 /// Series over a registry, as text.
 pub mod exporter {
     pub use metrics_exporter::{
-        Descriptions, Exporter, PartlyAbsorbed, ReadingRef, SeriesReading, exporter_law,
+        Bounds, Descriptions, Exporter, PartlyAbsorbed, ReadingRef, SeriesReading, exporter_law,
     };
     pub use metrics_prometheus::{
         Naming, exposition, exposition_law, exposition_named, exposition_of, exposition_text_law,

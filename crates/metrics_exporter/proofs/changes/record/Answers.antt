@@ -1,4 +1,5 @@
-use Rattle.std.proofs.Common.{rules, of_calls}
+use Rattle.std.proofs.Common.{refl, rules, of_calls}
+use Rattle.metrics_exporter.specs.Kept.{empty_for}
 use Rattle.metrics_exporter.specs.Stepping.{TakesSample}
 use Rattle.metrics_exporter.proofs.RoomLemmas.{sample-refused, registry-refused, same-registry}
 use Rattle.metrics_exporter.proofs.changes.record.Goals as goal
@@ -12,4 +13,4 @@ returns-clause-err c =
     let r = c.in_ok-get_or_create_histogram.field-0 in
     let takes : TakesSample c.args.sample call.0 r call.1 = search (rules, of_calls) in
     registry-refused r _ _ _ (same-registry new old h.rest.0 h.rest.1 h.rest.2 h.rest.3)
-    (sample-refused c.args.sample c.args.key.now old.storage.empty old.storage.none old.histograms new.histograms call.0 call.1 call.4 h.histograms.1.0 c.shards-shards.ensures.once.2 r call.2 takes)
+    (sample-refused c.args.sample c.args.key.now (empty_for old c.args.key.now.name) refl old.histograms new.histograms call.0 call.1 call.4 h.histograms.1.0 c.shards-shards.ensures.once.2 r call.2 takes)

@@ -1,6 +1,7 @@
 use Rattle.std.proofs.Common.{refl, subst}
 use Rattle.std.specs.Cmp.{IsTotalOrder}
 use Rattle.metrics_names.specs.contracts.key.CompositeKeyOrd.TheImpl.Laws.{total-law}
+use Rattle.metrics_exporter.proofs.BoundsLemmas.{at-none, at-some}
 use Rattle.metrics_exporter.proofs.LawLemmas.{one-text, one-expiry}
 use Rattle.metrics_exporter.proofs.laws.exporter_law.Goals as goal
 
@@ -21,3 +22,9 @@ returns-clause-again c = refl
 
 pub returns-clause-expiry : goal.returns-clause-expiry
 returns-clause-expiry c = one-expiry (subst IsTotalOrder (λ i a b. c.key_order.ensures.order a b i) total-law)
+
+pub returns-clause-longest : goal.returns-clause-longest
+returns-clause-longest c = λ default ns set name prefix is. at-some set name default ns prefix is
+
+pub returns-clause-default : goal.returns-clause-default
+returns-clause-default c = λ default set name none. at-none set name default none

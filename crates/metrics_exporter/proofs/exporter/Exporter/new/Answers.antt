@@ -1,12 +1,16 @@
-use Rattle.std.proofs.Common.{◌∙◌, ap}
-use Rattle.metrics_exporter.specs.Kept.{SeriesRegistry}
-use Rattle.metrics_exporter.proofs.KeptLemmas.{new-keeps}
+use Rattle.std.proofs.Common.{◌≡◌, ℕ, List, [], subst}
+use Rattle.std.specs.Prelude.{ℤ}
+use Rattle.std.proofs.lemmas.Result.{IfOk-weaker}
+use Rattle.metrics.specs.Layers.{mask_has}
+use Rattle.metrics_registry.specs.Recency.{Rules}
+use Rattle.metrics_exporter.specs.Choice.{bounds_for}
+use Rattle.metrics_exporter.specs.Exporting.{Setup}
+use Rattle.metrics_exporter.specs.Kept.{IsAfter}
 use Rattle.metrics_exporter.proofs.exporter.Exporter.new.Goals as goal
 
 pub returns-clause-ok : goal.returns-clause-ok
 returns-clause-ok c =
-    let made = rw c.in-Some.is at c.in_ok-empty.ensures in
-    let registry = c.in_ok-registry.ensures.ok.1 in
-    new-keeps _ _ (ap (λ (r : SeriesRegistry). r.storage.empty) registry ∙ c.new-2.ensures ∙ made.1) c.new-recency.ensures.rules
-    (ap (λ (r : SeriesRegistry). r.counters) registry) (ap (λ (r : SeriesRegistry). r.gauges) registry) (ap (λ (r : SeriesRegistry). r.histograms) registry)
-    c.new-recency.ensures.empty c.recency_law.ensures.runs
+    let rules : Rules = record { timeout = c.args.idle_timeout; mask = λ kind. mask_has kind c.args.mask } in
+    let with : (List ℕ → List ℤ) → Setup = λ bounds. record { bounds = bounds; rules = rules } in
+    let same : bounds_for c.in_ok-bounds.bounds ≡ (λ name. c.args.bounds.now) = λ i name. c.in_ok-bounds.ensures.all name i in
+    IfOk-weaker c.with_bounds.result _ _ (λ e after. subst (λ bounds. IsAfter (with bounds) [] e) same after) c.with_bounds.ensures.ok

@@ -1,11 +1,13 @@
 //! The bounds of histograms by their names.
-ghost use Rattle.std.specs.Prelude.{◌≡◌, ◌<◌, [], length, if◌then◌else◌, nat_lt, IfOk, IfErr, OnOk, OnErr};
+ghost use Rattle.std.specs.Prelude.{◌≡◌, ◌<◌, ℕ, ℤ, [], List, Some as Just, All};
+ghost use Rattle.std.specs.Prelude.{length, if◌then◌else◌, nat_lt, IfOk, IfErr, OnOk, OnErr, bytes_eq};
 ghost use Rattle.metrics.specs.declared.error.Error.TheVariants.{Memory as OutOfMemory, NoBounds as WithoutBounds};
-ghost use Rattle.metrics_storage.specs.Histogram.{no_samples};
+ghost use Rattle.metrics_storage.specs.Histogram.{no_samples, bounds_of};
+ghost use Rattle.metrics_exporter.specs.Prefixes.{IsEmpty, ArePlaces};
 
 use metrics::Error;
 use metrics_storage::Histogram;
-use prefix_match::{MatchError, PrefixTrie};
+use prefix_match::PrefixTrie;
 use std::alloc::Global;
 
 /// Which bounds a histogram counts at: those of the longest prefix that its name begins with, otherwise the default ones.
@@ -14,6 +16,9 @@ pub struct Bounds {
     default: Histogram,
     prefixes: PrefixTrie,
     chosen: Vec<Histogram>,
+    ghost unused: { IsEmpty default },
+    ghost all_unused: { All IsEmpty chosen.items },
+    ghost within: { ArePlaces prefixes.pairs (length chosen.items) },
 }
 
 /// Returns a histogram without samples at these bounds. Fails with `NoBounds` if there are none.
@@ -29,12 +34,14 @@ fn empty_at(alloc: Global, bounds: &[i64]) -> Result<Histogram, Error>
 }
 
 impl Bounds {
-    ghost use Rattle.metrics_collector.specs.Choice.{IsChoice, chosen_at};
+    ghost use Rattle.metrics_exporter.specs.Choice.{IsChoice, chosen_at, set_for, bounds_for};
 
     /// Returns bounds that are `default` for each name. Fails with `NoBounds` if it is empty, otherwise only when out of
     /// memory.
     pub fn new(alloc: Global, default: &[i64]) -> Result<Bounds, Error>
         ensures ok { IfOk result (λ b. (b.default ≡ no_samples default.now) × (b.prefixes.pairs ≡ [])) }
+        ensures some { OnOk result (0 < length default.now) }
+        ensures all { IfOk result (λ b. (name : List ℕ) → bounds_for b name ≡ default.now) }
         ensures err { IfErr result (λ e. e ≡ (if nat_lt 0 (length default.now) then OutOfMemory else WithoutBounds)) }
     {
         let default = empty_at(alloc, default)?;
@@ -50,20 +57,27 @@ impl Bounds {
     pub fn set(&mut self, alloc: Global, prefix: &str, bounds: &[i64]) -> Result<(), Error>
         ensures default { self.new.default ≡ self.old.default }
         ensures ok { OnOk result (chosen_at self.new prefix.now ≡ no_samples bounds.now) }
+        ensures sets { OnOk result ((p : List ℕ) → set_for self.new p
+            ≡ (if bytes_eq p prefix.now then Just bounds.now else set_for self.old p)) }
+        ensures refused { OnErr result ((p : List ℕ) → set_for self.new p ≡ set_for self.old p) }
+        ensures err { IfErr result (λ e. e ≡ (if nat_lt 0 (length bounds.now) then OutOfMemory else WithoutBounds)) }
     {
         let empty = empty_at(alloc, bounds)?;
         self.chosen.reserve(1)?;
         let at = self.chosen.len();
-        if self.prefixes.insert(prefix.as_bytes(), at).is_err() {
-            return Err(Error::Memory);
+        match self.prefixes.insert(prefix.as_bytes(), at) {
+            Ok(_) => {
+                self.chosen.push_reserved(empty);
+                Ok(())
+            }
+            Err(_) => Err(Error::Memory),
         }
-        self.chosen.push_reserved(empty);
-        Ok(())
     }
 
     /// Returns a histogram without samples at the bounds of a name.
     pub fn of(&self, name: &str) -> &Histogram
-        ensures { IsChoice self.now name.now result.now }
+        ensures choice { IsChoice self.now name.now result.now }
+        ensures bounds { result.now ≡ no_samples (bounds_for self.now name.now) }
     {
         let Some(at) = self.prefixes.longest(name.as_bytes()) else {
             return &self.default;
