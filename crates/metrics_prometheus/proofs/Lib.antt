@@ -28,3 +28,4 @@ pub mod OnceLemmas
 pub mod SearchLemmas
 pub mod OneTextLemmas
 pub mod TypeLemmas
+pub mod PlaceLemmas

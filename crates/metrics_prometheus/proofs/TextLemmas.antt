@@ -7,7 +7,8 @@ use Rattle.metrics_exporter.specs.Describing.{Legend}
 use Rattle.metrics_prometheus.specs.declared.naming.Naming.{Naming}
 use Rattle.metrics_prometheus.specs.Naming.{display_of}
 use Rattle.metrics_prometheus.specs.Exposition.{Row, is_left_out, row_text, last_after, rows_text, AreRows, HoldsTexts, IsDescribed}
-use Rattle.metrics_prometheus.specs.declared.rows.ShownRow.{ShownRow}
+use Rattle.metrics_prometheus.specs.declared.rows.Place.{Place}
+use Rattle.metrics_prometheus.specs.Places.{rows_placed}
 use Rattle.metrics_prometheus.specs.Rows.{row_shown, rows_shown}
 
 if-true : {A : Type 0} (b written : Bool) (x y : A) → written ≡ not b → written ≡ true → y ≡ cond b x y
@@ -27,14 +28,14 @@ pub last-kept : (all : List Row) (last : Option Row) (r : Row) (written : Bool) 
 last-kept all last r written is was = if-false (is_left_out all last r) written last (Some r) is was
 
 -- the text with one more row
-pub text-more : (cells : Cells) (all : List Row) (last after : Option Row) (xs : List ShownRow) (i : ℕ) (x : ShownRow) (before now whole : List ℕ)
-    → i < length xs → x ≡ get_or xs i x → now ≡ before ++ row_text cells all last (row_shown x) → after ≡ last_after all last (row_shown x)
-    → before ++ rows_text cells all last (rows_shown (drop i xs)) ≡ whole → now ++ rows_text cells all after (rows_shown (drop (i + 1) xs)) ≡ whole
+pub text-more : (cells : Cells) (all : List Row) (last after : Option Row) (xs : List Place) (i : ℕ) (x : Place) (before now whole : List ℕ)
+    → i < length xs → x ≡ get_or xs i x → now ≡ before ++ row_text cells all last (row_shown x.row.now) → after ≡ last_after all last (row_shown x.row.now)
+    → before ++ rows_text cells all last (rows_shown (rows_placed (drop i xs))) ≡ whole → now ++ rows_text cells all after (rows_shown (rows_placed (drop (i + 1) xs))) ≡ whole
 text-more cells all last after xs i x before now whole small at is then was =
-    let text : Option Row → List ℕ = λ l. rows_text cells all l (rows_shown (drop (i + 1) xs)) in
-    ap (λ t. t ++ text after) is ∙ ap (λ l. (before ++ row_text cells all last (row_shown x)) ++ text l) then
-    ∙ append_assoc before (row_text cells all last (row_shown x)) (text (last_after all last (row_shown x)))
-    ∙ ap (λ t. before ++ t) (sym (at_drop_more (λ ys. rows_text cells all last (rows_shown ys)) xs i x small ∙ ap (λ y. row_text cells all last (row_shown y) ++ text (last_after all last (row_shown y))) (sym at)))
+    let text : Option Row → List ℕ = λ l. rows_text cells all l (rows_shown (rows_placed (drop (i + 1) xs))) in
+    ap (λ t. t ++ text after) is ∙ ap (λ l. (before ++ row_text cells all last (row_shown x.row.now)) ++ text l) then
+    ∙ append_assoc before (row_text cells all last (row_shown x.row.now)) (text (last_after all last (row_shown x.row.now)))
+    ∙ ap (λ t. before ++ t) (sym (at_drop_more (λ ys. rows_text cells all last (rows_shown (rows_placed ys))) xs i x small ∙ ap (λ y. row_text cells all last (row_shown y.row.now) ++ text (last_after all last (row_shown y.row.now))) (sym at)))
     ∙ was
 
 -- the text of the rows of the held series

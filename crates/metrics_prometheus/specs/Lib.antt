@@ -6,6 +6,7 @@ pub mod Shown
 pub mod Samples
 pub mod Exposition
 pub mod Rows
+pub mod Places
 pub mod Heads
 pub mod Written
 pub mod Reading

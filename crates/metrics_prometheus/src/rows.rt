@@ -1,8 +1,9 @@
 //! Series in the order in which they are written.
-ghost use Rattle.std.specs.Prelude.{◌≡◌, MatchResult, OnOk, IfOk, IfErr, All, map};
+ghost use Rattle.std.specs.Prelude.{◌≡◌, List, MatchResult, OnOk, IfOk, IsTrue, All, map};
+ghost use Rattle.std.specs.List.{AllByRecursion};
 ghost use Rattle.std.specs.Str.{IsUtf8};
 ghost use Rattle.metrics.specs.declared.error.Error.TheVariants.{Memory as OutOfMemory};
-ghost use Rattle.metrics_exporter.specs.Readings.{told_of, all_told};
+ghost use Rattle.metrics_exporter.specs.Readings.{Told, told_of, all_told};
 ghost use Rattle.metrics_prometheus.specs.Exposition.{row_cmp};
 
 use crate::labels::shown_labels;
@@ -10,7 +11,7 @@ use crate::naming::{Naming, shown_name, shown_places};
 use crate::shown::{ShownItems, ShownName};
 use metrics::{Error, Key, Label, MetricKind};
 use metrics_exporter::{Descriptions, ReadingRef, SeriesReading};
-use std::alloc::Global;
+use std::alloc::{AllocError, Global};
 
 /// A series as Prometheus is shown it: name, kind and labels, and beside them its own key. Rows compare in this order. The
 /// description of the name and what the series has go along.
@@ -149,7 +150,7 @@ fn row_of<'a>(
 }
 
 /// A row for each series, in their order.
-fn rows_of<'a>(
+pub(crate) fn rows_of<'a>(
     alloc: Global,
     naming: Naming,
     descriptions: &'a Descriptions,
@@ -183,21 +184,92 @@ fn are_same(row: &ShownRow<'_>, other: &ShownRow<'_>) -> bool
     row.key == other.key && row == other
 }
 
-/// The rows of series, in order. A repeated series has one row.
-pub(crate) fn sorted_rows<'a>(
-    alloc: Global,
-    naming: Naming,
-    descriptions: &'a Descriptions,
-    series: &[SeriesReading<'a>],
-) -> Result<Vec<ShownRow<'a>>, Error>
-    ensures rows { IfOk result
-        (λ rows. AreRowsOf (display_of naming (described_by descriptions.now)) (all_told series.now) rows.items) }
-    ensures texts { OnOk result (All (λ s. All (λ l. IsUtf8 l.1) s.key.now.labels) series.now) }
-    ensures err { IfErr result (λ e. e ≡ OutOfMemory) }
+/// A row by reference. Before the row itself, these labels decide its place: the row's own, where all rows have one name and
+/// kind, and none elsewhere.
+#[derive(Clone, Copy, PartialEq, Eq, PartialOrd, Ord)]
+pub(crate) struct Place<'r, 'a> {
+    pub labels: &'r [Label],
+    pub row: &'r ShownRow<'a>,
+}
+
+ghost use Rattle.metrics_prometheus.specs.declared.rows.Place.{Place as PlaceParts};
+ghost use Rattle.metrics_prometheus.specs.Places.{rows_placed, place_cmp, labels_placed, IsPlaced};
+ghost use Rattle.metrics_prometheus.specs.Places.{has_head, HasHead, AreAlike};
+
+/// Does nothing. Its contract says what the order of places is.
+fn place_order()
+    ensures { (a b : PlaceParts) → ⟦<Place<'static, 'static> as Ord>⟧.cmp a b ≡ place_cmp a b }
+{}
+
+fn place_of<'r, 'a>(row: &'r ShownRow<'a>, are_alike: bool) -> Place<'r, 'a>
+    ensures row { result.row.now ≡ row.now }
+    ensures labels { result.labels.now ≡ labels_placed are_alike row.now }
 {
-    let mut rows = rows_of(alloc, naming, descriptions, series)?;
+    let labels = if are_alike {
+        row.labels.as_slice()
+    } else {
+        &[]
+    };
+    Place { labels, row }
+}
+
+/// A place for each row, in their order.
+fn places_of<'r, 'a>(
+    alloc: Global,
+    rows: &'r [ShownRow<'a>],
+    are_alike: bool,
+) -> Result<Vec<Place<'r, 'a>>, AllocError>
+    ensures rows { IfOk result (λ places. rows_placed places.items ≡ rows.now) }
+    ensures placed { IfOk result (λ places. AllByRecursion (IsPlaced are_alike) places.items) }
+{
+    let mut places = Vec::with_capacity(alloc, rows.len())?;
+    for row in rows {
+        places.push(place_of(row, are_alike))?;
+    }
+    Ok(places)
+}
+
+/// Returns whether a row has the name and kind of the first.
+fn has_head(row: &ShownRow<'_>, first: &ShownRow<'_>) -> bool
+    ensures { result ≡ has_head first.now row.now }
+{
+    row.kind == first.kind && row.name == first.name
+}
+
+/// Returns whether each row has the name and kind of the first.
+fn have_head(rows: &[ShownRow<'_>], first: &ShownRow<'_>) -> bool
+    ensures { IsTrue result → All (HasHead first.now) rows.now }
+{
+    for row in rows {
+        if !has_head(row, first) {
+            return false;
+        }
+    }
+    true
+}
+
+/// Returns whether all rows have one name and kind.
+fn are_alike(rows: &[ShownRow<'_>]) -> bool
+    ensures { IsTrue result → AreAlike rows.now }
+{
+    match rows {
+        [] => false,
+        [first, ..] => have_head(rows, first),
+    }
+}
+
+/// The rows, in order. A repeated series has one row.
+pub(crate) fn sorted_rows<'r, 'a>(
+    alloc: Global,
+    rows: &'r [ShownRow<'a>],
+) -> Result<Vec<Place<'r, 'a>>, AllocError>
+    ensures { (display : Display) (told : List Told) → map pair_shown rows.now ≡ map (pair_of display) told
+        → IfOk result (λ places. AreRowsOf display told (rows_placed places.items)) }
+{
+    let mut places = places_of(alloc, rows, are_alike(rows))?;
     row_order();
-    rows.sort()?;
-    rows.dedup_by(|row, last| are_same(row, last));
-    Ok(rows)
+    place_order();
+    places.sort()?;
+    places.dedup_by(|place, last| are_same(place.row, last.row));
+    Ok(places)
 }

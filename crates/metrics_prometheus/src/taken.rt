@@ -6,10 +6,11 @@ ghost use Rattle.std.specs.Cmp.Lexicographic.{slice_cmp};
 ghost use Rattle.std.specs.Ordering.{nat_cmp};
 ghost use Rattle.metrics_names.specs.Names.{label_cmp};
 ghost use Rattle.metrics_prometheus.specs.Exposition.{row_cmp, is_fit_histogram, histogram_names, found_in, part_of, whole_of};
+ghost use Rattle.metrics_prometheus.specs.Places.{rows_placed};
 ghost use Rattle.metrics_prometheus.specs.Rows.{row_shown, rows_shown, names_shown};
 
 use crate::labels::are_fit;
-use crate::rows::ShownRow;
+use crate::rows::{Place, ShownRow};
 use metrics::MetricKind;
 use std::alloc::{AllocError, Global};
 use std::cmp::Ordering;
@@ -24,17 +25,17 @@ fn is_fit_histogram(row: &ShownRow<'_>) -> bool
 /// The names of the histograms whose labels are fit, in order.
 pub(crate) fn histogram_names<'r>(
     alloc: Global,
-    rows: &'r [ShownRow<'_>],
+    places: &[Place<'r, '_>],
 ) -> Result<Vec<&'r str>, AllocError>
-    requires sorted { IsSorted row_cmp (rows_shown rows.now) }
-    requires labels { AllByRecursion (λ r. IsSorted label_cmp r.labels) rows.now }
-    ensures names { IfOk result (λ names. names_shown names.items ≡ histogram_names (rows_shown rows.now)) }
+    requires sorted { IsSorted row_cmp (rows_shown (rows_placed places.now)) }
+    requires labels { AllByRecursion (λ p. IsSorted label_cmp p.row.now.labels) places.now }
+    ensures names { IfOk result (λ names. names_shown names.items ≡ histogram_names (rows_shown (rows_placed places.now))) }
     ensures sorted { IfOk result (λ names. IsSorted (slice_cmp nat_cmp) (names_shown names.items)) }
 {
     let mut names = Vec::new(alloc);
-    for row in rows {
-        if is_fit_histogram(row) {
-            names.push(row.name.as_str())?;
+    for place in places {
+        if is_fit_histogram(place.row) {
+            names.push(place.row.name.as_str())?;
         }
     }
     Ok(names)

@@ -16,13 +16,14 @@ ghost use Rattle.metrics_prometheus.specs.Exposition.{Row, row_cmp, histogram_na
 ghost use Rattle.metrics_prometheus.specs.Exposition.{help_line, type_line, name_lines, name_text};
 ghost use Rattle.metrics_prometheus.specs.Exposition.{samples_of, row_told, rows_text, last_after};
 ghost use Rattle.metrics_prometheus.specs.Exposition.{IsExposition, IsDescribed};
+ghost use Rattle.metrics_prometheus.specs.Places.{rows_placed};
 ghost use Rattle.metrics_prometheus.specs.Rows.{row_shown, rows_shown, Shows, names_shown};
 ghost use Rattle.metrics_prometheus.specs.Samples.{lines};
 
 use crate::names::write_help_text;
 use crate::naming::Naming;
 use crate::reasons::{kind_text, reason_of, write_left_out};
-use crate::rows::{ShownRow, sorted_rows};
+use crate::rows::{Place, ShownRow, rows_of, sorted_rows};
 use crate::samples::{write_histogram, write_sample};
 use crate::taken::histogram_names;
 use metrics::Error;
@@ -133,19 +134,19 @@ fn write_row(
 }
 
 /// The text of rows.
-fn rows_text(alloc: Global, rows: &[ShownRow<'_>]) -> Result<String, Error>
-    requires sorted { IsSorted row_cmp (rows_shown rows.now) }
-    requires labels { AllByRecursion (λ r. IsSorted label_cmp r.labels) rows.now }
-    ensures ok { (cells : Cells) → AllByRecursion (Shows cells) rows.now → IfOk result (λ text. string_bytes text
-        ≡ rows_text cells (rows_shown rows.now) None (rows_shown rows.now)) }
+fn rows_text(alloc: Global, places: &[Place<'_, '_>]) -> Result<String, Error>
+    requires sorted { IsSorted row_cmp (rows_shown (rows_placed places.now)) }
+    requires labels { AllByRecursion (λ p. IsSorted label_cmp p.row.now.labels) places.now }
+    ensures ok { (cells : Cells) → AllByRecursion (λ p. Shows cells p.row.now) places.now → IfOk result (λ text. string_bytes text
+        ≡ rows_text cells (rows_shown (rows_placed places.now)) None (rows_shown (rows_placed places.now))) }
     ensures err { IfErr result (λ e. e ≡ OutOfMemory) }
 {
-    let histograms = histogram_names(alloc, rows)?;
+    let histograms = histogram_names(alloc, places)?;
     let mut text = String::new(alloc);
     let mut last = None;
-    for row in rows {
-        if write_row(alloc, &mut text, &histograms, last, row)? {
-            last = Some(row);
+    for place in places {
+        if write_row(alloc, &mut text, &histograms, last, place.row)? {
+            last = Some(place.row);
         }
     }
     Ok(text)
@@ -175,8 +176,9 @@ pub fn exposition_of(
     if series.is_empty() {
         return Ok(String::new(alloc));
     }
-    let rows = sorted_rows(alloc, naming, descriptions, series)?;
-    rows_text(alloc, &rows)
+    let rows = rows_of(alloc, naming, descriptions, series)?;
+    let places = sorted_rows(alloc, &rows)?;
+    rows_text(alloc, &places)
 }
 
 /// Writes the held series in Prometheus's text format, version 0.0.4, each name after its description in the exporter. The

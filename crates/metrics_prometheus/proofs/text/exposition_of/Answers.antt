@@ -3,44 +3,68 @@ use Rattle.std.specs.List.{AllByRecursion}
 use Rattle.metrics_exporter.specs.Exporting.{Cells}
 use Rattle.metrics_exporter.specs.Readings.{all_told, cells_told, AreReadings, AreOnce}
 use Rattle.metrics_exporter.specs.declared.readings.SeriesReading.{SeriesReading}
-use Rattle.metrics_prometheus.specs.Exposition.{rows_text, IsDescribed}
+use Rattle.std.specs.List.Sorted.{IsSorted}
+use Rattle.metrics_names.specs.Names.{label_cmp}
+use Rattle.metrics_prometheus.specs.Exposition.{row_cmp, rows_text, IsDescribed}
 use Rattle.metrics_prometheus.specs.declared.rows.ShownRow.{ShownRow}
+use Rattle.metrics_prometheus.specs.declared.rows.Place.{Place}
 use Rattle.metrics_exporter.specs.Describing.{described_by}
 use Rattle.metrics_prometheus.specs.Naming.{display_of}
-use Rattle.metrics_prometheus.specs.Rows.{rows_shown, told_shown, Shows}
+use Rattle.metrics_prometheus.specs.Places.{rows_placed}
+use Rattle.metrics_prometheus.specs.Rows.{rows_shown, pair_shown, pair_of, told_shown, Shows}
 use Rattle.metrics_prometheus.proofs.HeldLemmas.{holds-texts, kept-texts, none-given, none-long}
 use Rattle.metrics_exporter.proofs.SortedLemmas.{none-distinct}
 use Rattle.metrics_prometheus.proofs.OnceLemmas.{readings-once, readings-told}
 use Rattle.metrics_prometheus.proofs.RowLemmas.{are-rows, rows-show}
+use Rattle.metrics_prometheus.proofs.PlaceLemmas.{each-mapped}
 use Rattle.metrics_prometheus.proofs.TextLemmas.{text-of-rows, with-first}
 use Rattle.metrics_prometheus.proofs.text.exposition_of.Goals as goal
+
+pub rows_text-requires : goal.rows_text-requires
+rows_text-requires c =
+    let naming = c.args.naming in
+    let legend = described_by c.args.descriptions.now in
+    let display = display_of naming legend in
+    let places = c.in_ok-places.places.items in
+    let rows = rows_placed places in
+    let is = c.in_ok-places.ensures display (all_told c.args.series.now) (subst (λ (l : List ShownRow). map pair_shown l ≡ map (pair_of display) (all_told c.args.series.now)) (sym c.deref.ensures.value) c.in_ok-rows.ensures.rows) in
+    let O : List Place → Type 0 = λ ps. IsSorted row_cmp (rows_shown (rows_placed ps)) in
+    let L : List Place → Type 0 = λ ps. AllByRecursion (λ p. IsSorted label_cmp p.row.now.labels) ps in
+    record {
+      sorted = subst O (sym c.deref-2.ensures.value) is.ordered;
+      labels = subst L (sym c.deref-2.ensures.value) (each-mapped (λ p. p.row.now) (λ r. IsSorted label_cmp r.labels) places is.labels);
+    }
 
 pub returns-clause-ok : goal.returns-clause-ok
 returns-clause-ok c = λ cells are.
     let naming = c.args.naming in
     let legend = described_by c.args.descriptions.now in
-    let rows = c.in_ok-rows.rows.items in
-    let is = c.in_ok-rows.ensures.rows in
+    let display = display_of naming legend in
+    let places = c.in_ok-places.places.items in
+    let rows = rows_placed places in
+    let is = c.in_ok-places.ensures display (all_told c.args.series.now) (subst (λ (l : List ShownRow). map pair_shown l ≡ map (pair_of display) (all_told c.args.series.now)) (sym c.deref.ensures.value) c.in_ok-rows.ensures.rows) in
     let kept = readings-once cells (all_told c.args.series.now) (map told_shown rows) are is.once in
     let r = c.rows_text.result in
-    let Q : List ShownRow → Type 0 = λ rows. (cells : Cells) → AllByRecursion (Shows cells) rows → IfOk r (λ text. string_bytes text ≡ rows_text cells (rows_shown rows) None (rows_shown rows)) in
-    text-of-rows string_bytes naming legend cells (rows_shown rows) (are-rows (display_of naming legend) cells rows kept is.own is.ordered) (holds-texts cells c.args.series.now are c.in_ok-rows.ensures.texts) r
-    (subst Q c.deref.ensures.value c.rows_text.ensures.ok cells (rows-show (display_of naming legend) cells rows kept is.own))
+    let Q : List Place → Type 0 = λ ps. (cells : Cells) → AllByRecursion (λ p. Shows cells p.row.now) ps → IfOk r (λ text. string_bytes text ≡ rows_text cells (rows_shown (rows_placed ps)) None (rows_shown (rows_placed ps))) in
+    text-of-rows string_bytes naming legend cells (rows_shown rows) (are-rows display cells rows kept is.own is.ordered) (holds-texts cells c.args.series.now are c.in_ok-rows.ensures.texts) r
+    (subst Q c.deref-2.ensures.value c.rows_text.ensures.ok cells (each-mapped (λ p. p.row.now) (Shows cells) places (rows-show display cells rows kept is.own)))
 
 pub returns-clause-each : goal.returns-clause-each
 returns-clause-each c =
     let naming = c.args.naming in
     let legend = described_by c.args.descriptions.now in
-    let rows = c.in_ok-rows.rows.items in
-    let is = c.in_ok-rows.ensures.rows in
+    let display = display_of naming legend in
+    let places = c.in_ok-places.places.items in
+    let rows = rows_placed places in
+    let is = c.in_ok-places.ensures display (all_told c.args.series.now) (subst (λ (l : List ShownRow). map pair_shown l ≡ map (pair_of display) (all_told c.args.series.now)) (sym c.deref.ensures.value) c.in_ok-rows.ensures.rows) in
     let told = map told_shown rows in
     let cells = cells_told told in
     let kept : AreReadings cells told = readings-told told is.once.once in
     let r = c.rows_text.result in
-    let Q : List ShownRow → Type 0 = λ rows. (cells : Cells) → AllByRecursion (Shows cells) rows → IfOk r (λ text. string_bytes text ≡ rows_text cells (rows_shown rows) None (rows_shown rows)) in
+    let Q : List Place → Type 0 = λ ps. (cells : Cells) → AllByRecursion (λ p. Shows cells p.row.now) ps → IfOk r (λ text. string_bytes text ≡ rows_text cells (rows_shown (rows_placed ps)) None (rows_shown (rows_placed ps))) in
     with-first r (λ text. IsDescribed naming legend cells (string_bytes text)) _ (λ text h. (told, is.once, h))
-    (text-of-rows string_bytes naming legend cells (rows_shown rows) (are-rows (display_of naming legend) cells rows kept is.own is.ordered) (kept-texts cells told c.args.series.now kept is.once c.in_ok-rows.ensures.texts) r
-    (subst Q c.deref.ensures.value c.rows_text.ensures.ok cells (rows-show (display_of naming legend) cells rows kept is.own)))
+    (text-of-rows string_bytes naming legend cells (rows_shown rows) (are-rows display cells rows kept is.own is.ordered) (kept-texts cells told c.args.series.now kept is.once c.in_ok-rows.ensures.texts) r
+    (subst Q c.deref-2.ensures.value c.rows_text.ensures.ok cells (each-mapped (λ p. p.row.now) (Shows cells) places (rows-show display cells rows kept is.own))))
 
 pub returns-then-is_empty-clause-ok : goal.returns-then-is_empty-clause-ok
 returns-then-is_empty-clause-ok c = λ cells are.

@@ -4,11 +4,12 @@ use Rattle.std.specs.Prelude.{option_map}
 use Rattle.std.specs.List.{AllByRecursion}
 use Rattle.metrics_exporter.specs.Exporting.{Cells}
 use Rattle.metrics_prometheus.specs.Exposition.{rows_text}
+use Rattle.metrics_prometheus.specs.Places.{rows_placed}
 use Rattle.metrics_prometheus.specs.Rows.{row_shown, rows_shown, Shows}
 use Rattle.metrics_prometheus.proofs.text.rows_text.Given as goal
 
-abbrev pub invariant-loop-row : goal.invariant-loop-row
-invariant-loop-row l =
-    (cells : Cells) → AllByRecursion (Shows cells) l.rows
-    → string_bytes l.text ++ rows_text cells (rows_shown l.rows) (option_map (λ w. row_shown w.now) l.last) (rows_shown (drop l.row-index l.rows))
-    ≡ rows_text cells (rows_shown l.rows) None (rows_shown l.rows)
+abbrev pub invariant-loop-place : goal.invariant-loop-place
+invariant-loop-place l =
+    (cells : Cells) → AllByRecursion (λ p. Shows cells p.row.now) l.places
+    → string_bytes l.text ++ rows_text cells (rows_shown (rows_placed l.places)) (option_map (λ w. row_shown w.now) l.last) (rows_shown (rows_placed (drop l.place-index l.places)))
+    ≡ rows_text cells (rows_shown (rows_placed l.places)) None (rows_shown (rows_placed l.places))

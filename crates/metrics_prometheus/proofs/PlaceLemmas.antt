@@ -1,0 +1,129 @@
+-- Rows in order of their places.
+use Rattle.std.proofs.Common.{◌≡◌, ◌∙◌, ◌+◌, ◌<◌, ℕ, Bool, true, false, cond, List, [], ◌∷◌, ◌++◌, map, length, get_or, take, refl, ap, sym, subst, arith}
+use Rattle.std.specs.Prelude.{IsPermutation, IsTrue, bytes_eq}
+use Rattle.std.specs.List.{AllByRecursion, All, dedup, dedup_from}
+use Rattle.std.specs.List.Sorted.{IsSorted}
+use Rattle.std.specs.Cmp.Lexicographic.{slice_cmp}
+use Rattle.std.specs.Ordering.{is_lt, nat_cmp, ordering_then}
+use Rattle.std.specs.declared.cmp.Ordering.{Ordering}
+use Rattle.std.specs.declared.cmp.Ordering.TheVariants.{Less, Equal, Greater}
+use Rattle.std.proofs.lemmas.Cmp.{nat_list_cmp_total, tied_itself}
+use Rattle.std.proofs.lemmas.List.{take_more, map-append}
+use Rattle.std.proofs.lemmas.List.Elements.{All-from_recursion, recursion_from_All}
+use Rattle.std.proofs.lemmas.List.Sorted.{All-permutation}
+use Rattle.metrics_names.specs.declared.kind.MetricKind.{MetricKind}
+use Rattle.metrics_names.specs.declared.kind.MetricKind.TheVariants.{Counter, Gauge, Histogram}
+use Rattle.metrics_names.specs.Names.{LabelParts, kind_eq, kind_number, label_cmp, key_cmp}
+use Rattle.metrics_prometheus.specs.declared.rows.ShownRow.{ShownRow}
+use Rattle.metrics_prometheus.specs.declared.rows.Place.{Place}
+use Rattle.metrics_prometheus.specs.Exposition.{Row, row_cmp}
+use Rattle.metrics_prometheus.specs.Rows.{row_shown}
+use Rattle.metrics_prometheus.specs.Places.{rows_placed, place_cmp, labels_placed, IsPlaced, HasHead, AreAlike}
+use Rattle.metrics_prometheus.proofs.PairLemmas.{each-at, each-append, each-both, each-map}
+use Rattle.metrics_prometheus.proofs.RowLemmas.{map-length, map-get}
+use Rattle.metrics_prometheus.proofs.SameLemmas.{both-true, same-kind, same-bytes}
+use Rattle.metrics_prometheus.proofs.WrittenLemmas.{names}
+
+-- ---- lists that are mapped
+
+module _ {A B : Type 0} (f : A → B) where
+  dedup-from-map : (same : B → B → Bool) (k : A) (xs : List A) → map f (dedup_from (λ x y. same (f x) (f y)) k xs) ≡ dedup_from same (f k) (map f xs)
+  dedup-from-map same k [] = refl
+  dedup-from-map same k (x ∷ xs) = go (same (f x) (f k)) (dedup-from-map same k xs) (dedup-from-map same x xs)
+    where
+      go : (b : Bool) → map f (dedup_from (λ x y. same (f x) (f y)) k xs) ≡ dedup_from same (f k) (map f xs) → map f (dedup_from (λ x y. same (f x) (f y)) x xs) ≡ dedup_from same (f x) (map f xs)
+          → map f (cond b (dedup_from (λ x y. same (f x) (f y)) k xs) (k ∷ dedup_from (λ x y. same (f x) (f y)) x xs)) ≡ cond b (dedup_from same (f k) (map f xs)) (f k ∷ dedup_from same (f x) (map f xs))
+      go true e g = e
+      go false e g = ap (λ l. f k ∷ l) g
+
+  pub dedup-map : (same : B → B → Bool) (xs : List A) → map f (dedup (λ x y. same (f x) (f y)) xs) ≡ dedup same (map f xs)
+  dedup-map same [] = refl
+  dedup-map same (x ∷ xs) = dedup-from-map same x xs
+
+  -- what is sorted stays so where it is shown, if the orders agree at what is known of each element
+  pub sorted-where : (P : A → Type 0) (C : A → A → Ordering) (D : B → B → Ordering) → ((a b : A) → P a → P b → C a b ≡ D (f a) (f b)) → (xs : List A) → AllByRecursion P xs → IsSorted C xs → IsSorted D (map f xs)
+  sorted-where P C D same [] each up k d first small = absurd (omega (arith, small))
+  sorted-where P C D same (x ∷ xs) each up k d first small =
+      let fits : k + 1 < length (x ∷ xs) = omega (arith, small, map-length f xs) in
+      let below : k < length (x ∷ xs) = omega (arith, fits) in
+      let a = get_or (x ∷ xs) (k + 1) x in
+      let b = get_or (x ∷ xs) k x in
+      ap is_lt (ap (λ s. D s (get_or (map f (x ∷ xs)) k d)) (map-get f (x ∷ xs) (k + 1) d x fits) ∙ ap (D (f a)) (map-get f (x ∷ xs) k d x below) ∙ sym (same a b (each-at P (x ∷ xs) (k + 1) x each fits) (each-at P (x ∷ xs) k x each below)))
+      ∙ up k x (omega arith) fits
+
+  pub each-mapped : (P : B → Type 0) (xs : List A) → AllByRecursion P (map f xs) → AllByRecursion (λ x. P (f x)) xs
+  each-mapped P [] h = tt
+  each-mapped P (x ∷ xs) h = (h.0, each-mapped P xs h.1)
+
+-- ---- places
+
+-- one place more
+pub placed-more : (rows : List ShownRow) (ps qs : List Place) (i : ℕ) (r : ShownRow) (p : Place) → i < length rows → r ≡ get_or rows i r → p.row.now ≡ r
+    → qs ≡ ps ++ p ∷ [] → rows_placed ps ≡ take i rows → rows_placed qs ≡ take (i + 1) rows
+placed-more rows ps qs i r p small at is more so =
+    let f : Place → ShownRow = λ p. p.row.now in
+    ap (map f) more ∙ map-append f ps (p ∷ []) ∙ ap (λ l. l ++ f p ∷ []) so ∙ ap (λ x. take i rows ++ x ∷ []) (is ∙ at) ∙ sym (take_more rows i r small)
+
+pub is-placed : (alike : Bool) (r : ShownRow) (p : Place) → p.row.now ≡ r → p.labels.now ≡ labels_placed alike r → IsPlaced alike p
+is-placed alike r p is labels = labels ∙ ap (labels_placed alike) (sym is)
+
+pub each-more : (alike : Bool) (ps qs : List Place) (p : Place) → qs ≡ ps ++ p ∷ [] → AllByRecursion (IsPlaced alike) ps → IsPlaced alike p → AllByRecursion (IsPlaced alike) qs
+each-more alike ps qs p more each one = subst (AllByRecursion (IsPlaced alike)) (sym more) (each-append (IsPlaced alike) ps (p ∷ []) each (one, tt))
+
+twice : (o p : Ordering) → ordering_then o (ordering_then o p) ≡ ordering_then o p
+twice Less p = refl
+twice Equal p = refl
+twice Greater p = refl
+
+kind-tied : (k : MetricKind) → nat_cmp (kind_number k) (kind_number k) ≡ Equal
+kind-tied Counter = refl
+kind-tied Gauge = refl
+kind-tied Histogram = refl
+
+-- rows of one name and kind go by their labels
+by-labels : (a b : Row) → a.name ≡ b.name → a.kind ≡ b.kind → row_cmp a b ≡ ordering_then (slice_cmp label_cmp a.labels b.labels) (key_cmp a.key b.key)
+by-labels a b name kind =
+    let rest : Ordering = ordering_then (slice_cmp label_cmp a.labels b.labels) (key_cmp a.key b.key) in
+    let kinds : nat_cmp (kind_number a.kind) (kind_number b.kind) ≡ Equal = ap (λ k. nat_cmp (kind_number k) (kind_number b.kind)) kind ∙ kind-tied b.kind in
+    let tied : names a.name b.name ≡ Equal = ap (λ n. names n b.name) name ∙ tied_itself nat_list_cmp_total b.name in
+    ap (λ o. ordering_then o (ordering_then (nat_cmp (kind_number a.kind) (kind_number b.kind)) rest)) tied ∙ ap (λ o. ordering_then o rest) kinds
+
+head-is : (first r : ShownRow) → HasHead first r → (r.kind ≡ first.kind) × (r.name ≡ first.name)
+head-is first r h =
+    let both = both-true (kind_eq r.kind first.kind) (bytes_eq r.name first.name) h in
+    (same-kind r.kind first.kind both.0, same-bytes r.name first.name both.1)
+
+abbrev IsKnown : ShownRow → Place → Type 0
+IsKnown first p = IsPlaced true p × HasHead first p.row.now
+
+alike-cmp : (first : ShownRow) (a b : Place) → IsKnown first a → IsKnown first b → place_cmp a b ≡ row_cmp (row_shown a.row.now) (row_shown b.row.now)
+alike-cmp first a b ka kb =
+    let x = row_shown a.row.now in
+    let y = row_shown b.row.now in
+    let ha = head-is first a.row.now ka.1 in
+    let hb = head-is first b.row.now kb.1 in
+    let labels : Ordering = slice_cmp label_cmp x.labels y.labels in
+    let same : row_cmp x y ≡ ordering_then labels (key_cmp x.key y.key) = by-labels x y (ha.1 ∙ sym hb.1) (ha.0 ∙ sym hb.0) in
+    ap (λ l. ordering_then (slice_cmp label_cmp l b.labels.now) (row_cmp x y)) ka.0 ∙ ap (λ l. ordering_then (slice_cmp label_cmp x.labels l) (row_cmp x y)) kb.0
+    ∙ ap (ordering_then labels) same ∙ twice labels (key_cmp x.key y.key) ∙ sym same
+
+other-cmp : (a b : Place) → IsPlaced false a → IsPlaced false b → place_cmp a b ≡ row_cmp (row_shown a.row.now) (row_shown b.row.now)
+other-cmp a b ka kb =
+    let o = row_cmp (row_shown a.row.now) (row_shown b.row.now) in
+    ap (λ l. ordering_then (slice_cmp label_cmp l b.labels.now) o) ka ∙ ap (λ l. ordering_then (slice_cmp label_cmp [] l) o) kb
+
+pub placed-sorted : (C : Place → Place → Ordering) (R : ShownRow → ShownRow → Ordering) → ((a b : Place) → C a b ≡ place_cmp a b) → ((a b : ShownRow) → R a b ≡ row_cmp (row_shown a) (row_shown b))
+    → (alike : Bool) (rows : List ShownRow) (us ps : List Place) → rows_placed us ≡ rows → IsPermutation us ps → AllByRecursion (IsPlaced alike) us → (IsTrue alike → AreAlike rows) → IsSorted C ps → IsSorted R (rows_placed ps)
+placed-sorted C R places order false rows us ps are moved each heads up =
+    let f : Place → ShownRow = λ p. p.row.now in
+    let P : Place → Type 0 = IsPlaced false in
+    let known : AllByRecursion P ps = recursion_from_All P ps (All-permutation P us ps moved (All-from_recursion P us each)) in
+    sorted-where f P C R (λ a b ka kb. places a b ∙ other-cmp a b ka kb ∙ sym (order (f a) (f b))) ps known up
+placed-sorted C R places order true rows us ps are moved each heads up =
+    let f : Place → ShownRow = λ p. p.row.now in
+    let alike = heads refl in
+    let P : Place → Type 0 = IsKnown alike.0 in
+    let have : AllByRecursion (λ p. HasHead alike.0 (f p)) us = each-mapped f (HasHead alike.0) us (recursion_from_All (HasHead alike.0) (rows_placed us) (subst (All (HasHead alike.0)) (sym are) alike.1)) in
+    let both : AllByRecursion P us = each-both (IsPlaced true) (λ p. HasHead alike.0 (f p)) us each have in
+    let known : AllByRecursion P ps = recursion_from_All P ps (All-permutation P us ps moved (All-from_recursion P us both)) in
+    sorted-where f P C R (λ a b ka kb. places a b ∙ alike-cmp alike.0 a b ka kb ∙ sym (order (f a) (f b))) ps known up
