@@ -1,5 +1,5 @@
 -- What is held of a series is of its kind.
-use Rattle.std.proofs.Common.{◌≡◌, ◌∙◌, ◌<◌, ◌^◌, ℤ, List, [], ◌∷◌, map, Some, None, Option, option_map, subst, refl, ap, sym}
+use Rattle.std.proofs.Common.{◌≡◌, ◌∙◌, ◌<◌, ◌^◌, ℕ, ℤ, List, [], ◌∷◌, map, Some, None, Option, option_map, subst, refl, ap, sym}
 use Rattle.std.specs.List.{All, AllByRecursion}
 use Rattle.std.specs.Int.{w64}
 use Rattle.std.specs.Int.RustNames.{FitsSigned}
@@ -73,10 +73,10 @@ small : (z : ℤ) → FitsSigned w64 z → mag z < 2 ^ 63
 small z h = h.sfits
 
 -- what an exporter holds after some steps
-pub kinds-after : (setup : Setup) (xs : List Step) → All (FitsSigned w64) setup.bounds → AreOfKinds (cells_after setup xs)
+pub kinds-after : (setup : Setup) (xs : List Step) → ((name : List ℕ) → All (FitsSigned w64) (setup.bounds name)) → AreOfKinds (cells_after setup xs)
 kinds-after setup xs fits s =
-    let bounds = setup.bounds in
-    reads bounds (each-places (λ b. mag b < 2 ^ 63) bounds (λ k d within. small _ (fits k d within))) s (since xs s)
+    let bounds = setup.bounds s.key.name in
+    reads bounds (each-places (λ b. mag b < 2 ^ 63) bounds (λ k d within. small _ (fits s.key.name k d within))) s (since xs s)
 
 -- what is held of a row's series
 pub rows-read : (cells : Cells) → AreOfKinds cells → (r : Row) → ReadsAs r.kind (reading_at cells r)
@@ -113,6 +113,7 @@ pub rows-buckets : (setup : Setup) (xs : List Step) (r : Row) (d : Distribution)
     → AreBuckets r.places r.name r.labels d (samples_of r (reading_at (cells_after setup xs) r))
 rows-buckets setup xs r d e =
     let s = series_at r.kind r.key in
-    let from = subst (IsMade setup.bounds) e (made setup.bounds s (since xs s)) in
-    let is = subst (λ k. AreBuckets r.places r.name r.labels k (histogram_samples r.places r.name r.labels k)) from.1 (buckets-are from.0 setup.bounds r.places r.name r.labels) in
+    let bounds = setup.bounds s.key.name in
+    let from = subst (IsMade bounds) e (made bounds s (since xs s)) in
+    let is = subst (λ k. AreBuckets r.places r.name r.labels k (histogram_samples r.places r.name r.labels k)) from.1 (buckets-are from.0 bounds r.places r.name r.labels) in
     subst (λ o. AreBuckets r.places r.name r.labels d (samples_of r o)) (sym e) is

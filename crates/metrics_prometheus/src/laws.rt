@@ -50,7 +50,8 @@ pub fn exposition_law()
     ensures one { (naming : Naming) (legend : Legend) (cells : Cells) (a b : List ℕ)
         → IsDescribed naming legend cells a → IsDescribed naming legend cells b → a ≡ b }
     // What an exporter holds is of the kinds of its series.
-    ensures kinds { (setup : Setup) (xs : List Step) → All (FitsSigned w64) setup.bounds → AreOfKinds (cells_after setup xs) }
+    ensures kinds { (setup : Setup) (xs : List Step) → ((name : List ℕ) → All (FitsSigned w64) (setup.bounds name))
+        → AreOfKinds (cells_after setup xs) }
 {
     row_order();
 }
