@@ -1,5 +1,5 @@
 -- Rows in order of their places.
-use Rattle.std.proofs.Common.{◌≡◌, ◌∙◌, ◌+◌, ◌<◌, ℕ, Bool, true, false, cond, List, [], ◌∷◌, ◌++◌, map, length, get_or, take, refl, ap, sym, subst, arith}
+use Rattle.std.proofs.Common.{◌≡◌, ◌∙◌, ◌+◌, ◌<◌, ℕ, Bool, true, false, cond, ◌&&◌, List, [], ◌∷◌, ◌++◌, map, length, get_or, take, refl, ap, sym, subst, arith}
 use Rattle.std.specs.Prelude.{IsPermutation, IsTrue, bytes_eq}
 use Rattle.std.specs.List.{AllByRecursion, All, dedup, dedup_from}
 use Rattle.std.specs.List.Sorted.{IsSorted}
@@ -18,7 +18,7 @@ use Rattle.metrics_prometheus.specs.declared.rows.ShownRow.{ShownRow}
 use Rattle.metrics_prometheus.specs.declared.rows.Place.{Place}
 use Rattle.metrics_prometheus.specs.Exposition.{Row, row_cmp}
 use Rattle.metrics_prometheus.specs.Rows.{row_shown}
-use Rattle.metrics_prometheus.specs.Places.{rows_placed, place_cmp, labels_placed, IsPlaced, HasHead, AreAlike}
+use Rattle.metrics_prometheus.specs.Places.{rows_placed, place_cmp, first_value, value_placed, IsPlaced, are_led, HasHead, AreAlike}
 use Rattle.metrics_prometheus.proofs.PairLemmas.{each-at, each-append, each-both, each-map}
 use Rattle.metrics_prometheus.proofs.RowLemmas.{map-length, map-get}
 use Rattle.metrics_prometheus.proofs.SameLemmas.{both-true, same-kind, same-bytes}
@@ -64,16 +64,16 @@ placed-more rows ps qs i r p small at is more so =
     let f : Place → ShownRow = λ p. p.row.now in
     ap (map f) more ∙ map-append f ps (p ∷ []) ∙ ap (λ l. l ++ f p ∷ []) so ∙ ap (λ x. take i rows ++ x ∷ []) (is ∙ at) ∙ sym (take_more rows i r small)
 
-pub is-placed : (alike : Bool) (r : ShownRow) (p : Place) → p.row.now ≡ r → p.labels.now ≡ labels_placed alike r → IsPlaced alike p
-is-placed alike r p is labels = labels ∙ ap (labels_placed alike) (sym is)
+pub is-placed : (alike : Bool) (r : ShownRow) (p : Place) → p.row.now ≡ r → p.value.now ≡ value_placed alike r → IsPlaced alike p
+is-placed alike r p is value = value ∙ ap (value_placed alike) (sym is)
 
 pub each-more : (alike : Bool) (ps qs : List Place) (p : Place) → qs ≡ ps ++ p ∷ [] → AllByRecursion (IsPlaced alike) ps → IsPlaced alike p → AllByRecursion (IsPlaced alike) qs
 each-more alike ps qs p more each one = subst (AllByRecursion (IsPlaced alike)) (sym more) (each-append (IsPlaced alike) ps (p ∷ []) each (one, tt))
 
-twice : (o p : Ordering) → ordering_then o (ordering_then o p) ≡ ordering_then o p
-twice Less p = refl
-twice Equal p = refl
-twice Greater p = refl
+twice : (o p q : Ordering) → ordering_then o (ordering_then (ordering_then o p) q) ≡ ordering_then (ordering_then o p) q
+twice Less p q = refl
+twice Equal p q = refl
+twice Greater p q = refl
 
 kind-tied : (k : MetricKind) → nat_cmp (kind_number k) (kind_number k) ≡ Equal
 kind-tied Counter = refl
@@ -88,10 +88,24 @@ by-labels a b name kind =
     let tied : names a.name b.name ≡ Equal = ap (λ n. names n b.name) name ∙ tied_itself nat_list_cmp_total b.name in
     ap (λ o. ordering_then o (ordering_then (nat_cmp (kind_number a.kind) (kind_number b.kind)) rest)) tied ∙ ap (λ o. ordering_then o rest) kinds
 
-head-is : (first r : ShownRow) → HasHead first r → (r.kind ≡ first.kind) × (r.name ≡ first.name)
+-- labels of one first key go by their first values
+by-value : (fs ls ms : List LabelParts) → are_led fs ls ≡ true → are_led fs ms ≡ true → (o : Ordering) → ordering_then (names (first_value ls) (first_value ms)) (ordering_then (slice_cmp label_cmp ls ms) o) ≡ ordering_then (slice_cmp label_cmp ls ms) o
+by-value [] ls ms h g o = absurd (let e : false ≡ true = h in cc)
+by-value (f ∷ fs) [] ms h g o = absurd (let e : false ≡ true = h in cc)
+by-value (f ∷ fs) (l ∷ ls) [] h g o = absurd (let e : false ≡ true = g in cc)
+by-value (f ∷ fs) (l ∷ ls) (m ∷ ms) h g o =
+    let key : l.0 ≡ m.0 = sym (same-bytes f.0 l.0 h) ∙ same-bytes f.0 m.0 g in
+    let tied : names l.0 m.0 ≡ Equal = ap (λ n. names n m.0) key ∙ tied_itself nat_list_cmp_total m.0 in
+    let value = names l.1 m.1 in
+    let rest = slice_cmp label_cmp ls ms in
+    let same : slice_cmp label_cmp (l ∷ ls) (m ∷ ms) ≡ ordering_then value rest = ap (λ k. ordering_then (ordering_then k value) rest) tied in
+    ap (λ s. ordering_then value (ordering_then s o)) same ∙ twice value rest o ∙ sym (ap (λ s. ordering_then s o) same)
+
+head-is : (first r : ShownRow) → HasHead first r → (r.kind ≡ first.kind) × (r.name ≡ first.name) × (are_led first.labels r.labels ≡ true)
 head-is first r h =
-    let both = both-true (kind_eq r.kind first.kind) (bytes_eq r.name first.name) h in
-    (same-kind r.kind first.kind both.0, same-bytes r.name first.name both.1)
+    let both = both-true (kind_eq r.kind first.kind) (bytes_eq r.name first.name && are_led first.labels r.labels) h in
+    let rest = both-true (bytes_eq r.name first.name) (are_led first.labels r.labels) both.1 in
+    (same-kind r.kind first.kind both.0, same-bytes r.name first.name rest.0, rest.1)
 
 abbrev IsKnown : ShownRow → Place → Type 0
 IsKnown first p = IsPlaced true p × HasHead first p.row.now
@@ -102,15 +116,16 @@ alike-cmp first a b ka kb =
     let y = row_shown b.row.now in
     let ha = head-is first a.row.now ka.1 in
     let hb = head-is first b.row.now kb.1 in
-    let labels : Ordering = slice_cmp label_cmp x.labels y.labels in
-    let same : row_cmp x y ≡ ordering_then labels (key_cmp x.key y.key) = by-labels x y (ha.1 ∙ sym hb.1) (ha.0 ∙ sym hb.0) in
-    ap (λ l. ordering_then (slice_cmp label_cmp l b.labels.now) (row_cmp x y)) ka.0 ∙ ap (λ l. ordering_then (slice_cmp label_cmp x.labels l) (row_cmp x y)) kb.0
-    ∙ ap (ordering_then labels) same ∙ twice labels (key_cmp x.key y.key) ∙ sym same
+    let value : Ordering = names (first_value x.labels) (first_value y.labels) in
+    let keys : Ordering = key_cmp x.key y.key in
+    let same : row_cmp x y ≡ ordering_then (slice_cmp label_cmp x.labels y.labels) keys = by-labels x y (ha.1 ∙ sym hb.1) (ha.0 ∙ sym hb.0) in
+    ap (λ l. ordering_then (names l b.value.now) (row_cmp x y)) ka.0 ∙ ap (λ l. ordering_then (names (first_value x.labels) l) (row_cmp x y)) kb.0
+    ∙ ap (ordering_then value) same ∙ by-value first.labels x.labels y.labels ha.2 hb.2 keys ∙ sym same
 
 other-cmp : (a b : Place) → IsPlaced false a → IsPlaced false b → place_cmp a b ≡ row_cmp (row_shown a.row.now) (row_shown b.row.now)
 other-cmp a b ka kb =
     let o = row_cmp (row_shown a.row.now) (row_shown b.row.now) in
-    ap (λ l. ordering_then (slice_cmp label_cmp l b.labels.now) o) ka ∙ ap (λ l. ordering_then (slice_cmp label_cmp [] l) o) kb
+    ap (λ l. ordering_then (names l b.value.now) o) ka ∙ ap (λ l. ordering_then (names [] l) o) kb
 
 pub placed-sorted : (C : Place → Place → Ordering) (R : ShownRow → ShownRow → Ordering) → ((a b : Place) → C a b ≡ place_cmp a b) → ((a b : ShownRow) → R a b ≡ row_cmp (row_shown a) (row_shown b))
     → (alike : Bool) (rows : List ShownRow) (us ps : List Place) → rows_placed us ≡ rows → IsPermutation us ps → AllByRecursion (IsPlaced alike) us → (IsTrue alike → AreAlike rows) → IsSorted C ps → IsSorted R (rows_placed ps)

@@ -1,10 +1,10 @@
 -- Rows by reference, in their places.
-use Rattle.std.specs.Prelude.{if◌then◌else◌, ◌≡◌, Bool, true, ◌&&◌, bytes_eq, List, [], map}
+use Rattle.std.specs.Prelude.{if◌then◌else◌, ◌≡◌, ℕ, Bool, true, false, ◌&&◌, bytes_eq, List, [], ◌∷◌, map}
 use Rattle.std.specs.List.{All}
 use Rattle.std.specs.Cmp.Lexicographic.{slice_cmp}
 use Rattle.std.specs.declared.cmp.Ordering.{Ordering}
-use Rattle.std.specs.Ordering.{on, then_cmp}
-use Rattle.metrics_names.specs.Names.{LabelParts, label_cmp, kind_eq}
+use Rattle.std.specs.Ordering.{nat_cmp, on, then_cmp}
+use Rattle.metrics_names.specs.Names.{LabelParts, kind_eq}
 use Rattle.metrics_prometheus.specs.declared.rows.ShownRow.{ShownRow}
 use Rattle.metrics_prometheus.specs.declared.rows.Place.{Place}
 use Rattle.metrics_prometheus.specs.Exposition.{row_cmp}
@@ -14,24 +14,34 @@ use Rattle.metrics_prometheus.specs.Rows.{row_shown}
 abbrev pub rows_placed : List Place → List ShownRow
 rows_placed places = map (λ p. p.row.now) places
 
--- the labels of places decide, and then their rows
+-- the texts of places decide, and then their rows
 abbrev pub place_cmp : Place → Place → Ordering
-place_cmp = then_cmp (on (λ p. p.labels.now) (slice_cmp label_cmp)) (on (λ p. row_shown p.row.now) row_cmp)
+place_cmp = then_cmp (on (λ p. p.value.now) (slice_cmp nat_cmp)) (on (λ p. row_shown p.row.now) row_cmp)
 
--- the labels of a row's place: its own, beside rows of one name and kind
-abbrev pub labels_placed : Bool → ShownRow → List LabelParts
-labels_placed alike r = if alike then r.labels else []
+abbrev pub first_value : List LabelParts → List ℕ
+first_value [] = []
+first_value (l ∷ ls) = l.1
+
+-- the text of a row's place: the value of its first label, beside rows that are alike
+abbrev pub value_placed : Bool → ShownRow → List ℕ
+value_placed alike r = if alike then first_value r.labels else []
 
 abbrev pub IsPlaced : Bool → Place → Type 0
-IsPlaced alike p = p.labels.now ≡ labels_placed alike p.row.now
+IsPlaced alike p = p.value.now ≡ value_placed alike p.row.now
 
--- a row has the name and kind of the first
+-- labels of both lists come first, with one key
+abbrev pub are_led : List LabelParts → List LabelParts → Bool
+are_led [] ms = false
+are_led (l ∷ ls) [] = false
+are_led (l ∷ ls) (m ∷ ms) = bytes_eq l.0 m.0
+
+-- a row has the name, kind and first label's key of the first
 abbrev pub has_head : ShownRow → ShownRow → Bool
-has_head first r = kind_eq r.kind first.kind && bytes_eq r.name first.name
+has_head first r = kind_eq r.kind first.kind && (bytes_eq r.name first.name && are_led first.labels r.labels)
 
 abbrev pub HasHead : ShownRow → ShownRow → Type 0
 HasHead first r = has_head first r ≡ true
 
--- rows of one name and kind
+-- rows of one name, kind and first label's key
 abbrev pub AreAlike : List ShownRow → Type 0
 AreAlike rows = (first : ShownRow) × All (HasHead first) rows

@@ -184,33 +184,43 @@ fn are_same(row: &ShownRow<'_>, other: &ShownRow<'_>) -> bool
     row.key == other.key && row == other
 }
 
-/// A row by reference. Before the row itself, these labels decide its place: the row's own, where all rows have one name and
-/// kind, and none elsewhere.
+/// A row by reference. Before the row itself, this text decides its place: the value of its first label, if all rows have one
+/// name, kind and first label's key, and nothing otherwise.
 #[derive(Clone, Copy, PartialEq, Eq, PartialOrd, Ord)]
 pub(crate) struct Place<'r, 'a> {
-    pub labels: &'r [Label],
+    pub value: &'r str,
     pub row: &'r ShownRow<'a>,
 }
 
 ghost use Rattle.metrics_prometheus.specs.declared.rows.Place.{Place as PlaceParts};
-ghost use Rattle.metrics_prometheus.specs.Places.{rows_placed, place_cmp, labels_placed, IsPlaced};
-ghost use Rattle.metrics_prometheus.specs.Places.{has_head, HasHead, AreAlike};
+ghost use Rattle.metrics_prometheus.specs.Places.{rows_placed, place_cmp, first_value, value_placed, IsPlaced};
+ghost use Rattle.metrics_prometheus.specs.Places.{are_led, has_head, HasHead, AreAlike};
 
 /// Does nothing. Its contract says what the order of places is.
 fn place_order()
     ensures { (a b : PlaceParts) → ⟦<Place<'static, 'static> as Ord>⟧.cmp a b ≡ place_cmp a b }
 {}
 
+/// The value of the first label.
+fn first_value(labels: &[Label]) -> &str
+    ensures { result.now ≡ first_value labels.now }
+{
+    match labels {
+        [] => "",
+        [first, ..] => first.value(),
+    }
+}
+
 fn place_of<'r, 'a>(row: &'r ShownRow<'a>, are_alike: bool) -> Place<'r, 'a>
     ensures row { result.row.now ≡ row.now }
-    ensures labels { result.labels.now ≡ labels_placed are_alike row.now }
+    ensures value { result.value.now ≡ value_placed are_alike row.now }
 {
-    let labels = if are_alike {
-        row.labels.as_slice()
+    let value = if are_alike {
+        first_value(row.labels.as_slice())
     } else {
-        &[]
+        ""
     };
-    Place { labels, row }
+    Place { value, row }
 }
 
 /// A place for each row, in their order.
@@ -229,14 +239,29 @@ fn places_of<'r, 'a>(
     Ok(places)
 }
 
-/// Returns whether a row has the name and kind of the first.
+/// Returns whether labels of both lists come first with one key.
+fn are_led(labels: &[Label], other: &[Label]) -> bool
+    ensures { result ≡ are_led labels.now other.now }
+{
+    match labels {
+        [] => false,
+        [first, ..] => match other {
+            [] => false,
+            [label, ..] => first.key() == label.key(),
+        },
+    }
+}
+
+/// Returns whether a row has the name, kind and first label's key of the first.
 fn has_head(row: &ShownRow<'_>, first: &ShownRow<'_>) -> bool
     ensures { result ≡ has_head first.now row.now }
 {
-    row.kind == first.kind && row.name == first.name
+    row.kind == first.kind
+        && row.name == first.name
+        && are_led(first.labels.as_slice(), row.labels.as_slice())
 }
 
-/// Returns whether each row has the name and kind of the first.
+/// Returns whether each row has the name, kind and first label's key of the first.
 fn have_head(rows: &[ShownRow<'_>], first: &ShownRow<'_>) -> bool
     ensures { IsTrue result → All (HasHead first.now) rows.now }
 {
@@ -248,7 +273,7 @@ fn have_head(rows: &[ShownRow<'_>], first: &ShownRow<'_>) -> bool
     true
 }
 
-/// Returns whether all rows have one name and kind.
+/// Returns whether all rows have one name, kind and first label's key.
 fn are_alike(rows: &[ShownRow<'_>]) -> bool
     ensures { IsTrue result → AreAlike rows.now }
 {

@@ -11,5 +11,5 @@ loop-row-preserved c =
     let alike = c.args.are_alike in
     record {
       rows = placed-more rows before after c.loop-row.row-index row place c.loop-row-test.true c.row-item.is c.place_of.ensures.row c.in_ok-push.ensures.items c.loop-row.invariant.rows;
-      placed = each-more alike before after place c.in_ok-push.ensures.items c.loop-row.invariant.placed (is-placed alike row place c.place_of.ensures.row c.place_of.ensures.labels);
+      placed = each-more alike before after place c.in_ok-push.ensures.items c.loop-row.invariant.placed (is-placed alike row place c.place_of.ensures.row c.place_of.ensures.value);
     }
