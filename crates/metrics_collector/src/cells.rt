@@ -100,9 +100,16 @@ impl HistogramFn for HistogramHandle {
     }
 }
 
+/// What a cell held, and its generation then.
+#[derive(Drop)]
+pub(crate) struct Seen {
+    pub generation: Generation,
+    pub value: Value,
+}
+
 /// A cell that a reading looks at.
 pub(crate) trait Watched {
-    ghost use Rattle.metrics_collector.specs.Gathering.{kind_of};
+    ghost use Rattle.metrics_collector.specs.Gathering.{kind_of, IsGenerationOf};
     ghost use Rattle.metrics_names.specs.declared.kind.MetricKind.{MetricKind as AnyKind};
 
     /// The kind of its series.
@@ -115,12 +122,13 @@ pub(crate) trait Watched {
     /// and each change that was made through a clone is seen.
     fn is_shared(&self) -> bool;
 
-    /// Returns a number that each activity changes.
+    /// Returns a number that each activity changes. It takes no memory.
     fn generation<W: Wait>(&self, rt: &W) -> Generation;
 
-    /// Returns what it holds at the moment.
-    fn held<W: Wait>(&self, rt: &W) -> Result<Value, Error>
-        ensures { IfOk result (λ value. kind_of value ≡ kind_held) };
+    /// Returns what it holds at the moment, with its generation then.
+    fn held<W: Wait>(&self, rt: &W) -> Result<Seen, Error>
+        ensures kind { IfOk result (λ seen. kind_of seen.value ≡ kind_held) }
+        ensures generation { IfOk result (λ seen. IsGenerationOf seen.value seen.generation) };
 }
 
 impl Watched for CounterHandle {
@@ -138,8 +146,12 @@ impl Watched for CounterHandle {
         Generation::new(self.value())
     }
 
-    fn held<W: Wait>(&self, _rt: &W) -> Result<Value, Error> {
-        Ok(Value::Count(self.value()))
+    fn held<W: Wait>(&self, _rt: &W) -> Result<Seen, Error> {
+        let count = self.value();
+        Ok(Seen {
+            generation: Generation::new(count),
+            value: Value::Count(count),
+        })
     }
 }
 
@@ -158,8 +170,12 @@ impl Watched for GaugeHandle {
         self.get_generation()
     }
 
-    fn held<W: Wait>(&self, _rt: &W) -> Result<Value, Error> {
-        Ok(Value::Level(gauge_value(self.get_inner())))
+    /// An update changes the value and then the generation. They are read in the other order: an update between the two reads
+    /// is shown at once, and again by the next reading.
+    fn held<W: Wait>(&self, _rt: &W) -> Result<Seen, Error> {
+        let generation = self.get_generation();
+        let value = Value::Level(gauge_value(self.get_inner()));
+        Ok(Seen { generation, value })
     }
 }
 
@@ -178,8 +194,12 @@ impl Watched for HistogramHandle {
         Generation::new(self.parts.count(rt))
     }
 
-    fn held<W: Wait>(&self, rt: &W) -> Result<Value, Error> {
-        Ok(Value::Samples(self.read(rt)?))
+    fn held<W: Wait>(&self, rt: &W) -> Result<Seen, Error> {
+        let samples = self.read(rt)?;
+        Ok(Seen {
+            generation: Generation::new(samples.count()),
+            value: Value::Samples(samples),
+        })
     }
 }
 

@@ -5,7 +5,7 @@ ghost use Rattle.metrics_names.specs.Names.{KeyParts, key_eq};
 ghost use Rattle.metrics_registry.specs.Recency.{table_answer};
 ghost use Rattle.metrics_registry.specs.RecencyEntries.{rules_of, table_of, check_of};
 
-use crate::cells::Watched;
+use crate::cells::{Seen, Watched};
 use crate::gathered::GatheredSeries;
 use metrics::{Error, Key, MetricKind, PerKind};
 use metrics_registry::{Generation, OwnedRecency};
@@ -86,7 +86,7 @@ pub(crate) fn forget_all(recency: &mut OwnedRecency<Key>, series: &[GatheredSeri
 /// found something to remove, a second pass, which has each shard for itself, decides again and removes it.
 ///
 /// It looks for clones before it reads the generation: if there are none, and the shard is locked, no thread can raise it. It
-/// reads the value last, so that it has each change that the generation counts.
+/// notes the generation of the value that it shows. So one reading alone shows a change as new.
 #[derive(Drop)]
 pub(crate) struct Walk {
     pub now: u64,
@@ -121,8 +121,18 @@ impl Walk {
         Ok(fate == Fate::Shown)
     }
 
-    fn push<W: Wait, C: Watched>(&mut self, rt: &W, key: &Key, cell: &C) -> Result<(), Error> {
-        let value = cell.held(rt)?;
+    /// Adds a series with what it holds. Where that has changed since the look, it notes the generation anew.
+    fn push<W: Wait, C: Watched>(
+        &mut self,
+        rt: &W,
+        key: &Key,
+        cell: &C,
+        looked: Generation,
+    ) -> Result<(), Error> {
+        let Seen { generation, value } = cell.held(rt)?;
+        if generation != looked {
+            self.recency.note(C::kind(), key, generation, self.now)?;
+        }
         let key = key.clone()?;
         self.series.push(GatheredSeries { key, value })?;
         Ok(())
@@ -134,7 +144,7 @@ impl Walk {
         if !self.is_shown(C::kind(), key, seen, has_clones)? {
             return Ok(());
         }
-        let pushed = self.push(rt, key, cell);
+        let pushed = self.push(rt, key, cell, seen);
         if pushed.is_err() {
             self.recency.forget(C::kind(), key);
         }
