@@ -6,6 +6,8 @@ mod given;
 #[cfg(test)]
 mod idle;
 #[cfg(test)]
+mod once;
+#[cfg(test)]
 mod refused;
 #[cfg(test)]
 mod series;
