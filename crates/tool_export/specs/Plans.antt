@@ -20,7 +20,7 @@ watches w Histogram = w.histograms
 
 -- how the exporter of a plan is made
 abbrev pub setup_of : ExportPlan → Setup
-setup_of plan = record { bounds = plan.bounds; rules = record { timeout = plan.idle_timeout; mask = watches plan.watched } }
+setup_of plan = record { bounds = λ name. plan.bounds; rules = record { timeout = plan.idle_timeout; mask = watches plan.watched } }
 
 -- a letter for each kind, in this order, or a dash for none
 abbrev pub watched_word : Watched → List ℕ

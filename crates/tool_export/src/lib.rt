@@ -11,6 +11,6 @@ mod scraping;
 pub use answering::answer_request;
 pub use exporting::{ExportLines, export, export_new, exporter_of};
 pub use laws::export_law;
-pub use plans::{ExportPlan, Watched, plan_of};
+pub use plans::{ExportPlan, Watched, mask_from, plan_of};
 pub use requests::{Request, request_of};
 pub use tool_grammar::RunError;

@@ -10,12 +10,12 @@ pub returns-clause-made : goal.returns-clause-made
 returns-clause-made c =
     let plan = c.args.plan.now in
     let same : record {
-      bounds = c.as_slice.result.now;
+      bounds = λ name. c.as_slice.result.now;
       rules =
           record { timeout = plan.idle_timeout; mask = λ kind. mask_has kind c.mask_from-mask.result };
     } ≡ setup_of plan =
     λ i. record {
-      bounds = c.as_slice.ensures i;
+      bounds = λ name. c.as_slice.ensures i;
       rules =
           record { timeout = plan.idle_timeout; mask = λ kind. c.mask_from-mask.ensures kind i };
     } in
