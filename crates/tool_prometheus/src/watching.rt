@@ -2,7 +2,9 @@
 
 use crate::flaws::{Cause, Message};
 use crate::surroundings::Surroundings;
+use metrics_prometheus::left_out;
 use std::alloc::Global;
+use std::collections::HashSet;
 use std::{fmt, mem};
 use tool_grammar::RunError;
 
@@ -22,28 +24,8 @@ pub struct Watch<S: Surroundings> {
     message: Option<String>,
     /// A scrape could not be put into the file.
     has_failed: bool,
-    /// The lines that reported series that were left out.
-    told: Vec<String>,
-}
-
-/// Whether a line is among those that were reported.
-fn is_told(told: &[String], line: &str) -> bool {
-    for other in told {
-        if other.as_str() == line {
-            return true;
-        }
-    }
-    false
-}
-
-/// The message for a series that a line of a text leaves out.
-fn left_out(line: &str) -> Option<&str> {
-    let said = line.strip_prefix("# ")?;
-    if said.starts_with("left out: ") {
-        Some(said)
-    } else {
-        None
-    }
+    /// What was reported of series that are left out.
+    left_out: HashSet<String>,
 }
 
 impl<S: Surroundings> Watch<S> {
@@ -56,7 +38,7 @@ impl<S: Surroundings> Watch<S> {
             bad: 0,
             message: None,
             has_failed: false,
-            told: Vec::new(alloc),
+            left_out: HashSet::new(alloc),
         }
     }
 
@@ -77,23 +59,24 @@ impl<S: Surroundings> Watch<S> {
         }
     }
 
-    /// Reports a series that is left out, unless it was reported before.
-    fn tell_once(&mut self, line: &str) {
-        if is_told(&self.told, line) {
+    /// Reports a series that is left out, unless it was reported before. Out of memory, it is reported again later.
+    fn tell_once(&mut self, words: &str) {
+        if self.left_out.contains(words) {
             return;
         }
-        self.around.tell(line);
-        if let Ok(line) = String::from_str(self.alloc, line) {
-            let _ = self.told.push(line);
+        self.around.tell(LeftOut(words));
+        if let Ok(words) = String::from_str(self.alloc, words) {
+            let _ = self.left_out.insert(words);
         }
     }
 
-    /// Reports each series that a text leaves out, and why, once.
+    /// Reports each series that a text leaves out, and why, once. Out of memory, a later text's report has them.
     pub(crate) fn tell_left_out(&mut self, text: &str) {
-        for line in text.lines() {
-            if let Some(said) = left_out(line) {
-                self.tell_once(said);
-            }
+        let Ok(found) = left_out(self.alloc, text) else {
+            return;
+        };
+        for words in &found {
+            self.tell_once(words);
         }
     }
 
@@ -139,6 +122,17 @@ impl<S: Surroundings> Watch<S> {
             },
             Err(e) => self.around.tell(e),
         }
+    }
+}
+
+/// Which series is left out, and why.
+#[derive(Drop)]
+struct LeftOut<'a>(&'a str);
+
+impl fmt::Display for LeftOut<'_> {
+    fn fmt<W: fmt::Write>(&self, f: &mut fmt::Formatter<W>) -> fmt::Result {
+        let words = self.0;
+        write!(f, "left out: {words}")
     }
 }
 
