@@ -49,6 +49,7 @@ class Exporter:
         self.helps = {}
         self.units = {}
         self.is_recommended = False
+        self.labels = {}
 
     def describe(self, kind, name, unit, text):
         self.helps[kind, name] = text
@@ -293,6 +294,10 @@ LABEL = re.compile(r' ([^ =]*)=(?:"((?:[^"\\]|\\["\\n])*)"|((?!")[^ ]*))(?= |\Z)
 CONTROL = re.compile("[\x00-\x1f\x7f\udc80-\udcff]")
 
 
+def in_order(labels):
+    return tuple(sorted(labels.items(), key=lambda label: label[0].encode()))
+
+
 def unescaped(value):
     return re.sub(r"\\(.)", lambda found: "\n" if found[1] == "n" else found[1], value)
 
@@ -306,7 +311,7 @@ def labels_of(rest):
             return None
         labels[found[1]] = found[3] if found[2] is None else unescaped(found[2])
         at = found.end()
-    return tuple(sorted(labels.items(), key=lambda label: label[0].encode()))
+    return in_order(labels)
 
 
 def update_of(word, rest):
@@ -339,12 +344,21 @@ def request_of(line):
     return describe_of(rest) if word == "describe" else update_of(word, rest)
 
 
+def labelled(request, common):
+    """A request with the labels of all series; a series' own label of the same key wins."""
+    match request:
+        case ("update", word, amount, name, labels):
+            return "update", word, amount, name, in_order(common | dict(labels))
+    return request
+
+
 def options_of(words):
     """Returns what the words of the command line ask for."""
     parser = argparse.ArgumentParser()
     parser.add_argument("--idle", default="-")
     parser.add_argument("--idle-kinds", default=",".join(KINDS))
     parser.add_argument("--bounds", default="5,10,25,50,100,250,500,1000,2500,5000,10000")
+    parser.add_argument("--label", action="append", default=[])
     parser.add_argument("--shards")
     parser.add_argument("--textfile")
     parser.add_argument("--skip-bad", action="store_true")
@@ -352,10 +366,15 @@ def options_of(words):
     return parser.parse_args(words)
 
 
+def common_labels(options):
+    return dict(label.split("=", 1) for label in options.label)
+
+
 def exporter_of(options, made=Exporter):
     kinds = "".join(kind[0] for kind in options.idle_kinds.split(","))
     exporter = made(kinds, options.idle, options.bounds)
     exporter.is_recommended = options.recommended_names
+    exporter.labels = common_labels(options)
     return exporter
 
 
@@ -369,8 +388,8 @@ def check(lines, output, exporter, skips_bad):
         judge(next(texts, None), *wanted, is_recommended=exporter.is_recommended)
         return sum(len(samples) for _, _, samples in wanted[0])
 
-    for request in map(request_of, lines):
-        match request:
+    for line in lines:
+        match labelled(request_of(line), exporter.labels):
             case None if not skips_bad:  # a bad line ends the run
                 is_changed = False
                 break

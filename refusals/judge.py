@@ -322,6 +322,7 @@ class Prometheus(Export):
         kinds = "".join(kind[0] for kind in options.idle_kinds.split(","))
         super().__init__(["", kinds, options.idle, options.bounds])
         self.is_changed, self.is_recommended = False, options.recommended_names
+        self.labels = model.common_labels(options)
 
     def copied(self):
         other = super().copied()
@@ -330,7 +331,7 @@ class Prometheus(Export):
 
     def after(self, line, said):
         is_refused = said[:1] == [self.refusal]
-        match model.request_of(line.decode(errors="surrogateescape")):
+        match model.labelled(model.request_of(line.decode(errors="surrogateescape")), self.labels):
             case ("scrape", moment):
                 yield from self.after_scrape(moment or 0, said, is_refused)
             case ("update", word, amount, name, labels):

@@ -3,6 +3,7 @@
 
 mod host;
 mod options;
+mod values;
 
 use crate::host::Host;
 use crate::options::options_of;
@@ -13,7 +14,7 @@ use std::{env, io};
 use tool_prometheus::{Options, command};
 
 /// Answers standard input.
-fn serve(host: &HostRuntime, options: &Options, path: Option<&str>) -> io::Result<u8> {
+fn serve(host: &HostRuntime, options: Options, path: Option<&str>) -> io::Result<u8> {
     let mut input = BufReader::new(host.alloc(), host.reader())?;
     let mut output = io::writer(host);
     let around = Host { rt: host, path };
@@ -36,7 +37,7 @@ fn status(host: &HostRuntime) -> io::Result<u8> {
         words.push(word)?;
     }
     match options_of(host.alloc(), &words) {
-        Ok((options, path)) => serve(host, &options, path),
+        Ok((options, path)) => serve(host, options, path),
         Err(error) => tell(host, error),
     }
 }

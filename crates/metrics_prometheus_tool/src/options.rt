@@ -1,7 +1,8 @@
 //! The words of the command line.
 
+use crate::values::{Unfit, bounds_of, idle_of, labels_of};
+use clap::error::ErrorKind;
 use clap::{Arg, ArgAction, ArgMatches, Command, Error, value_parser};
-use metrics::Items;
 use std::alloc::{AllocError, Global};
 use tool_export::{ExportPlan, Watched};
 use tool_prometheus::{Naming, Options};
@@ -15,17 +16,26 @@ const SHARDS: &[&str] = &[
 const LINES: &str = "\
 A line of the input is one of
   increment N NAME LABEL=VALUE ..   adds N to a counter
-  absolute N NAME LABEL=VALUE ..    raises a counter to N
-  add N, sub N, set N ..            changes a gauge
+  absolute N NAME LABEL=VALUE ..    raises a counter to N, if it is less
+  set N NAME LABEL=VALUE ..         sets a gauge; add and sub change it by N
   record N NAME LABEL=VALUE ..      adds a sample to a histogram
-  describe KIND NAME UNIT TEXT      tells what a name means
-  scrape NOW, or scrape alone       writes what is held; NOW is a number of seconds
+  describe KIND NAME UNIT TEXT      describes a name; KIND is counter, gauge or histogram, UNIT is
+                                    -, count, percent, seconds, milliseconds, microseconds,
+                                    nanoseconds or bytes, TEXT is the rest of the line
+  scrape NOW                        removes idle series and writes the others; NOW is a moment in
+                                    any unit, from 0 on
+  scrape                            the same at the clock's seconds since 1970
   an empty line, or a comment that begins with #
-A VALUE with spaces stands in double quotes. N is a whole number.
-The end of the input is a scrape, unless nothing changed since the last one.
+One space is between two words. N is a whole number, for gauges and samples also a negative one.
+The first update of a series makes it. A VALUE with spaces is in double quotes; there \\\", \\\\ and \\n
+are a quote, a backslash and a line feed.
+The end of the input writes all series, unless nothing changed since the last scrape.
 
-Status: 0 at the end of the input, 1 if memory or a device failed, 2 at a bad line or wrong words,
-3 if bad lines were passed over.";
+A call that fails writes a line '# refused ..' to standard output. Standard error has what is wrong
+with bad lines, and which series are left out.
+
+Status: 0 at the end of the input, 1 if memory, a device or the file failed, 2 at a bad line or
+wrong words, 3 if bad lines were skipped.";
 
 /// An option with a value.
 fn option<'a>(alloc: Global, name: &'a str, value: &'a str, help: &'a str) -> Arg<'a> {
@@ -44,34 +54,60 @@ fn flag<'a>(alloc: Global, name: &'a str, help: &'a str) -> Arg<'a> {
         .action(ArgAction::SetTrue)
 }
 
-/// The options for making an exporter.
+/// The options that say which series are kept.
 fn with_plan<'a>(alloc: Global, command: Command<'a>) -> Result<Command<'a>, AllocError> {
+    let bounds = option(
+        alloc,
+        "bounds",
+        "N,..",
+        "Upper bounds of the buckets of histograms (--bounds=-5,0 if the first is negative)",
+    )
+    .value_delimiter(',')
+    .allow_negative_numbers(true)
+    .default_value("5,10,25,50,100,250,500,1000,2500,5000,10000");
+    let label = option(
+        alloc,
+        "label",
+        "LABEL=VALUE",
+        "Adds a label to each series; a series' own label of that name wins. May be repeated",
+    )
+    .action(ArgAction::Append);
     let idle = option(
         alloc,
         "idle",
-        "WHOLE_NUMBER",
-        "Removes a series that had no update over scrapes more than N apart",
-    )
-    .value_parser(value_parser!(u64));
+        "N",
+        "Removes each series that had no update over scrapes more than N apart, in the unit of NOW",
+    );
     let kinds = option(
         alloc,
         "idle-kinds",
         "KIND,..",
-        "Kinds of which idle series are removed",
+        "Kinds of series that --idle removes",
     )
     .value_delimiter(',')
     .value_parser(KINDS)
     .default_value("counter,gauge,histogram");
-    let bounds = option(
+    command.arg(bounds)?.arg(label)?.arg(idle)?.arg(kinds)
+}
+
+/// The options that say how series are written.
+fn with_output<'a>(alloc: Global, command: Command<'a>) -> Result<Command<'a>, AllocError> {
+    let recommended = flag(
         alloc,
-        "bounds",
-        "WHOLE_NUMBER,..",
-        "Bounds of the buckets of histograms, whole numbers",
-    )
-    .value_delimiter(',')
-    .allow_negative_numbers(true)
-    .value_parser(value_parser!(i64))
-    .default_value("5,10,25,50,100,250,500,1000,2500,5000,10000");
+        "recommended-names",
+        "Shows names and units as Prometheus recommends: _seconds, _bytes, _ratio, _total",
+    );
+    let file = option(
+        alloc,
+        "textfile",
+        "PATH",
+        "Writes each scrape to PATH.tmp and renames it to PATH, not to standard output",
+    );
+    let skips = flag(
+        alloc,
+        "skip-bad",
+        "Reports and skips bad lines, instead of ending at the first one",
+    );
     let shards = option(
         alloc,
         "shards",
@@ -80,7 +116,7 @@ fn with_plan<'a>(alloc: Global, command: Command<'a>) -> Result<Command<'a>, All
     )
     .value_parser(SHARDS)
     .default_value("1");
-    command.arg(idle)?.arg(kinds)?.arg(bounds)?.arg(shards)
+    command.arg(recommended)?.arg(file)?.arg(skips)?.arg(shards)
 }
 
 /// The command line.
@@ -89,25 +125,11 @@ fn command_line<'a>(alloc: Global) -> Result<Command<'a>, AllocError> {
         .bin_name("metrics_prometheus_tool")?
         .version("0.6.0")
         .about(
-            "Reads lines of updates from standard input, and writes Prometheus's text at each scrape.",
+            "Reads updates of series from standard input, and writes the series in Prometheus's text \
+            format at each scrape.",
         )
         .after_help(LINES);
-    let file = option(
-        alloc,
-        "textfile",
-        "PATH",
-        "Writes each scrape to PATH.tmp and renames it to PATH; standard output stays empty",
-    );
-    let recommended = flag(
-        alloc,
-        "recommended-names",
-        "Shows names and units as Prometheus recommends: _seconds, _bytes, _ratio, _total",
-    );
-    let skips = flag(alloc, "skip-bad", "Tells bad lines and passes over them");
-    with_plan(alloc, command)?
-        .arg(file)?
-        .arg(recommended)?
-        .arg(skips)
+    with_output(alloc, with_plan(alloc, command)?)
 }
 
 /// Whether a kind is among those of the option.
@@ -118,21 +140,8 @@ fn is_watched(matches: &ArgMatches<'_>, kind: &str) -> bool {
     }
 }
 
-/// The bounds of the option, in the order of the command line.
-fn bounds_of(alloc: Global, matches: &ArgMatches<'_>) -> Result<Items<i64>, AllocError> {
-    let mut bounds = Vec::new(alloc);
-    if let Some(values) = matches.get_many::<i64>("bounds") {
-        for bound in values {
-            if let Ok(bound) = bound {
-                bounds.push(bound)?;
-            }
-        }
-    }
-    Ok(Items::from(bounds))
-}
-
 /// How an exporter is to be made.
-fn plan_of(alloc: Global, matches: &ArgMatches<'_>) -> Result<ExportPlan, AllocError> {
+fn plan_of<'a>(alloc: Global, matches: &ArgMatches<'a>) -> Result<ExportPlan, Unfit<'a>> {
     Ok(ExportPlan {
         shards: matches.get_one::<usize>("shards").unwrap_or(1),
         watched: Watched {
@@ -140,8 +149,8 @@ fn plan_of(alloc: Global, matches: &ArgMatches<'_>) -> Result<ExportPlan, AllocE
             gauges: is_watched(matches, "gauge"),
             histograms: is_watched(matches, "histogram"),
         },
-        idle_timeout: matches.get_one::<u64>("idle"),
-        bounds: bounds_of(alloc, matches)?,
+        idle_timeout: idle_of(matches.get_str("idle"))?,
+        bounds: bounds_of(alloc, matches.get_strs("bounds"))?,
     })
 }
 
@@ -154,19 +163,35 @@ fn naming_of(matches: &ArgMatches<'_>) -> Naming {
     }
 }
 
+/// What the options ask for.
+fn asked<'a>(alloc: Global, matches: &ArgMatches<'a>) -> Result<Options, Unfit<'a>> {
+    Ok(Options {
+        plan: plan_of(alloc, matches)?,
+        naming: naming_of(matches),
+        labels: labels_of(alloc, matches.get_strs("label"))?,
+        skips_bad: matches.get_flag("skip-bad"),
+        has_file: matches.contains_id("textfile"),
+    })
+}
+
+/// The error for a value that an option can't use.
+fn error_of(alloc: Global, command: &mut Command<'_>, unfit: Unfit<'_>) -> Result<Error, Error> {
+    if let Unfit::Memory = unfit {
+        return Err(Error::from(AllocError));
+    }
+    let message = unfit.to_string(alloc)?;
+    Ok(command.error(ErrorKind::ValueValidation, message.as_str())?)
+}
+
 /// Returns what the words ask for, and the path of the file for scrapes. The first word is the program's name.
 pub fn options_of<'a>(
     alloc: Global,
     words: &'a [String],
 ) -> Result<(Options, Option<&'a str>), Error> {
-    let command = command_line(alloc)?;
-    let matches = command.try_get_matches_from(words)?;
-    let path = matches.get_str("textfile");
-    let options = Options {
-        plan: plan_of(alloc, &matches)?,
-        naming: naming_of(&matches),
-        skips_bad: matches.get_flag("skip-bad"),
-        has_file: path.is_some(),
-    };
-    Ok((options, path))
+    let mut command = command_line(alloc)?;
+    let matches = command.try_get_matches_from_mut(words)?;
+    match asked(alloc, &matches) {
+        Ok(options) => Ok((options, matches.get_str("textfile"))),
+        Err(unfit) => Err(error_of(alloc, &mut command, unfit)?),
+    }
 }

@@ -11,7 +11,7 @@ use std::process::Abort;
 use test_trial::Trial;
 use tool_export::plan_of;
 use tool_lines::{RunError, command, run};
-use tool_prometheus::{Naming, Options, Surroundings};
+use tool_prometheus::{Items, Naming, Options, Surroundings};
 
 const GOOD: &[u8] = b"book\nprefix app\nend\ndescribe counter hits count all hits\n\
     register counter hits host=a\nincrement 0 2\nincrement 0 3\nsnapshot 0\nsnapshot 0\n";
@@ -145,11 +145,12 @@ fn shown_to(rt: &impl Abort, alloc: Global, given: &[u8], writes: usize) -> (u8,
     let options = Options {
         plan: plan.expect(rt, "a plan"),
         naming: Naming::AsGiven,
+        labels: Items::from(Vec::new(alloc)),
         skips_bad: false,
         has_file: false,
     };
     let (mut input, mut output) = (given, writer(rt, alloc, 1, writes));
-    let status = tool_prometheus::command(alloc, &options, Alone, &mut input, &mut output);
+    let status = tool_prometheus::command(alloc, options, Alone, &mut input, &mut output);
     (status, output.held.len())
 }
 

@@ -16,7 +16,7 @@ use Rattle.metrics_prometheus.specs.declared.naming.Naming.{Naming}
 use Rattle.tool_export.specs.Exported.{HoldsAtRefusal}
 use Rattle.tool_prometheus.specs.declared.answering.Served.{Served}
 use Rattle.tool_prometheus.specs.declared.requests.Request.TheVariants.{Change, Describe, Scrape, Nothing}
-use Rattle.tool_prometheus.specs.Exposed.{scrape_text, refusal_text, shown_text, IsExposed, IsShown, IsMoment, Answers, ShowsEnd}
+use Rattle.tool_prometheus.specs.Exposed.{refusal_text, shown_text, IsExposed, IsShown, IsMoment, Answers, ShowsEnd}
 
 pub append-nil : {A : Type 0} (xs : List A) → xs ++ [] ≡ xs
 append-nil [] = refl
@@ -55,7 +55,7 @@ module _ (old : Served) (exporter : Exporter) where
 
     told_done : Told (Ok tt)
     told_done calls full absent = (
-      (refl, refl, refl),
+      (refl, refl, refl, refl),
       λ setup log after. (
         updates key by (Ok tt) ∷ [],
         calls setup log after,
@@ -65,14 +65,14 @@ module _ (old : Served) (exporter : Exporter) where
 
     told_full : Told (Err CountFull)
     told_full calls full absent = (
-      (refl, refl, refl),
+      (refl, refl, refl, refl),
       λ setup log after.
           (updates key by (Err CountFull) ∷ [], calls setup log after, inl (keeps old.is_changed, inr (refl, refl, (full setup log after).0 refl, refl))),
     )
 
     told_want : Told (Err Memory)
     told_want calls full absent = (
-      (refl, refl, refl),
+      (refl, refl, refl, refl),
       λ setup log after.
           (updates key by (Err Memory) ∷ [], calls setup log after, inr (keeps old.is_changed, refl, refl, refl, absent setup log after refl)),
     )
@@ -95,9 +95,9 @@ module _ (old : Served) (exporter : Exporter) where
         → OnErr r ((k : MetricKind) (n : List ℕ) → described exporter k n ≡ described old.exporter k n)
         → IfErr r (λ e. e ≡ Memory) → Answers old (with_exporter (owed r)) (Describe kind name unit note) (refusal_text r)
     described_told (Ok done) told same memory =
-        ((refl, refl, refl), λ setup log after. ([], stands setup log after, inl (told, refl, refl, refl)))
+        ((refl, refl, refl, refl), λ setup log after. ([], stands setup log after, inl (told, refl, refl, refl)))
     described_told (Err e) told same memory =
-        ((refl, refl, refl), λ setup log after. ([], stands setup log after, inr (same, refl, ap (λ x. refusal_text (Err x)) memory, refl)))
+        ((refl, refl, refl, refl), λ setup log after. ([], stands setup log after, inr (same, refl, ap (λ x. refusal_text (Err x)) memory, refl)))
 
   -- ---- a scrape
 
@@ -113,7 +113,7 @@ module _ (old : Served) (exporter : Exporter) where
       → described exporter ≡ described old.exporter → IsMoment moment now → Scrapes bytes now r
       → Answers old (with_exporter (cond (is_ok r) false old.is_changed)) (Scrape moment) (shown_text bytes old.has_file r)
   scraped bytes moment now (Ok t) same at scrapes = (
-    (refl, refl, refl),
+    (refl, refl, refl, refl),
     λ setup log after.
         let (checks, answer, made, stands, (n, is, shown)) = scrapes setup log after in (
           expires now checks answer ∷ [],
@@ -125,7 +125,7 @@ module _ (old : Served) (exporter : Exporter) where
         ),
   )
   scraped bytes moment now (Err e) same at scrapes = (
-    (refl, refl, refl),
+    (refl, refl, refl, refl),
     λ setup log after.
         let (checks, answer, made, stands, (is, held)) = scrapes setup log after in (
           expires now checks answer ∷ [],
@@ -145,7 +145,7 @@ shown_or_not naming cells on answer n bytes (Err e) Held is h held = (h, held)
 
 pub nothing_told : (on : Served) → Answers on on Nothing []
 nothing_told on = (
-  (refl, refl, refl),
+  (refl, refl, refl, refl),
   λ setup log after.
       ([], subst (λ l. IsAfter setup l on.exporter) (sym (append-nil log)) after, inl (refl, refl, refl)),
 )

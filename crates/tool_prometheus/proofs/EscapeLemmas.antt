@@ -1,6 +1,5 @@
 -- Quoted values.
 use Rattle.std.proofs.Common.{◌≡◌, ◌≢◌, ◌∙◌, ℕ, Bool, true, false, cond, List, [], ◌∷◌, ◌++◌, codes, drop, get_or, nat_eq, append_assoc, refl, ap, sym, arith}
-use Rattle.std.specs.List.{AllByRecursion, flat_map}
 use Rattle.std.proofs.lemmas.Bool.{eqb-true, eq-eqb}
 use Rattle.tool_prometheus.specs.Lines.{escape, escaped, StartsElse}
 

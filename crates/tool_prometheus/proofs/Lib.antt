@@ -1,3 +1,4 @@
+pub mod CommonLemmas
 pub mod EscapeLemmas
 pub mod LabelLemmas
 pub mod PlaceLemmas

@@ -1,10 +1,9 @@
 -- A line spells at most one request.
-use Rattle.std.proofs.Common.{◌≡◌, ◌∙◌, ℕ, ◌<◌, ◌^◌, List, [], ◌∷◌, ◌++◌, codes, decimal, drop, get_or, refl, ap, sym, subst, arith}
-use Rattle.std.specs.Prelude.{Option, None, Some}
+use Rattle.std.proofs.Common.{◌≡◌, ◌∙◌, ℕ, List, [], ◌∷◌, ◌++◌, codes, drop, refl, ap, sym, arith}
+use Rattle.std.specs.Prelude.{Option, Some}
 use Rattle.std.proofs.lemmas.Fmt.{decimal_injective}
-use Rattle.metrics_names.specs.Names.{LabelParts, KeyParts}
+use Rattle.metrics_names.specs.Names.{LabelParts}
 use Rattle.metrics_names.specs.declared.kind.MetricKind.{MetricKind}
-use Rattle.metrics_names.specs.declared.kind.MetricKind.TheVariants.{Counter}
 use Rattle.metrics_names.specs.declared.common.Unit.{Unit as Measure}
 use Rattle.metrics.specs.declared.handles.Update.{Update}
 use Rattle.metrics.specs.declared.handles.Update.TheVariants.{Increment, Absolute, Add, Subtract, Set, Record}
@@ -12,14 +11,14 @@ use Rattle.metrics.specs.declared.calls.Call.{Call}
 use Rattle.metrics.specs.declared.calls.Call.TheVariants as call
 use Rattle.metrics_prometheus.specs.Labels.{placed}
 use Rattle.tool_grammar.specs.Cuts.{Lacks, StartsAt}
-use Rattle.tool_grammar.specs.Grammar.{name_word, update_word, amount_word, spelling as call_spelling}
+use Rattle.tool_grammar.specs.Grammar.{name_word, amount_word, spelling as call_spelling}
 use Rattle.tool_grammar.proofs.WordsLemmas.{before_same, first_same, lacks_literal, lacks_update}
 use Rattle.tool_grammar.proofs.CallLemmas.{call_same, name_same}
 use Rattle.tool_export.proofs.RequestLemmas.{lacks_amount, no_scrape}
 use Rattle.tool_export.proofs.SpellingLemmas.{same_update}
 use Rattle.tool_prometheus.specs.declared.requests.Request.{Request}
 use Rattle.tool_prometheus.specs.declared.requests.Request.TheVariants.{Change, Describe, Scrape, Nothing}
-use Rattle.tool_prometheus.specs.Lines.{IsName, Written, MayFollow, AreWritten, label_word, label_words, in_order, label_of, Sentence, change, describe, scrape, scrape_by_clock, comment, empty}
+use Rattle.tool_prometheus.specs.Lines.{Written, MayFollow, label_words, in_order, with_labels, label_of, Sentence, change, describe, scrape, scrape_by_clock, comment, empty}
 use Rattle.tool_prometheus.specs.Lines.{spelling, CanBeSpelled, request_in, Spells, IsBegun}
 use Rattle.tool_prometheus.proofs.LabelLemmas.{label-same, starts-words}
 use Rattle.tool_prometheus.proofs.SentenceLemmas.{lacks_name, first_word, behind_it, IsOther, cut, differs, no_describe}
@@ -84,84 +83,85 @@ cut-is empty o = absurd o
 
 -- ---- two sentences of one line, by the first
 
-abbrev Same : Sentence → Sentence → Type 0
-Same s t = CanBeSpelled s → CanBeSpelled t → IsOther t × (first_word s ≡ first_word t) × (behind_it s ≡ behind_it t)
-    → spelling s ≡ spelling t → request_in s ≡ request_in t
+module _ (common : List LabelParts) where
+  abbrev Same : Sentence → Sentence → Type 0
+  Same s t = CanBeSpelled s → CanBeSpelled t → IsOther t × (first_word s ≡ first_word t) × (behind_it s ≡ behind_it t)
+      → spelling s ≡ spelling t → request_in common s ≡ request_in common t
 
-change-same : (by : Update) (name : List ℕ) (ws : List Written) (t : Sentence) → Same (change by name ws) t
-change-same by name ws (change u n vs) h g (o, w, b) e =
-    let tail = ap (drop 1) b in
-    let amounts = first_same 32 (amount_word by ++ 32 ∷ (name_word name ++ label_words ws)) (amount_word by) (name_word name ++ label_words ws)
-    (amount_word u) (name_word n ++ label_words vs) (lacks_amount by h.0) (lacks_amount u g.0) refl tail in
-    let names = before_same 32 (name_word name) (name_word n) (label_words ws) (label_words vs) (lacks_name name h.1) (lacks_name n g.1)
-    (starts-words ws) (starts-words vs) amounts.1 in
-    let updates = same_update by u h.0 g.0 w amounts.0 in
-    let same = name_same name n (h.1.0.1, h.1.1, h.1.2) (g.1.0.1, g.1.1, g.1.2) names.0 in
-    let labels = words-same ws vs [] [] h.2 g.2 names.1 in
-    λ i. Change (record { name = same i; labels = in_order (labels i) }) (updates i)
-change-same by name ws (describe kind n unit text) h g (o, w, b) e = absurd (no_describe by (sym w))
-change-same by name ws (scrape now) h g (o, w, b) e = absurd (no_scrape by (sym w))
-change-same by name ws scrape_by_clock h g (o, w, b) e = absurd (no_scrape by (sym w))
-change-same by name ws (comment text) h g (o, w, b) e = absurd o
-change-same by name ws empty h g (o, w, b) e = absurd o
+  change-same : (by : Update) (name : List ℕ) (ws : List Written) (t : Sentence) → Same (change by name ws) t
+  change-same by name ws (change u n vs) h g (o, w, b) e =
+      let tail = ap (drop 1) b in
+      let amounts = first_same 32 (amount_word by ++ 32 ∷ (name_word name ++ label_words ws)) (amount_word by) (name_word name ++ label_words ws)
+      (amount_word u) (name_word n ++ label_words vs) (lacks_amount by h.0) (lacks_amount u g.0) refl tail in
+      let names = before_same 32 (name_word name) (name_word n) (label_words ws) (label_words vs) (lacks_name name h.1) (lacks_name n g.1)
+      (starts-words ws) (starts-words vs) amounts.1 in
+      let updates = same_update by u h.0 g.0 w amounts.0 in
+      let same = name_same name n (h.1.0.1, h.1.1, h.1.2) (g.1.0.1, g.1.1, g.1.2) names.0 in
+      let labels = words-same ws vs [] [] h.2 g.2 names.1 in
+      λ i. Change (record { name = same i; labels = with_labels common (in_order (labels i)) }) (updates i)
+  change-same by name ws (describe kind n unit text) h g (o, w, b) e = absurd (no_describe by (sym w))
+  change-same by name ws (scrape now) h g (o, w, b) e = absurd (no_scrape by (sym w))
+  change-same by name ws scrape_by_clock h g (o, w, b) e = absurd (no_scrape by (sym w))
+  change-same by name ws (comment text) h g (o, w, b) e = absurd o
+  change-same by name ws empty h g (o, w, b) e = absurd o
 
-describe-same : (kind : MetricKind) (name : List ℕ) (unit : Option Measure) (text : List ℕ) (t : Sentence) → Same (describe kind name unit text) t
-describe-same kind name unit text (change u n vs) h g (o, w, b) e = absurd (no_describe u w)
-describe-same kind name unit text (describe k n m x) h g (o, w, b) e =
-    ap request_of (call_same (call_spelling (call.Describe kind name unit text)) (call.Describe kind name unit text) (call.Describe k n m x)
-    (((h.0.0.1, h.0.1, h.0.2), h.1), refl) (((g.0.0.1, g.0.1, g.0.2), g.1), e))
-describe-same kind name unit text (scrape now) h g (o, w, b) e = absurd (differs (sym w))
-describe-same kind name unit text scrape_by_clock h g (o, w, b) e = absurd (differs (sym w))
-describe-same kind name unit text (comment more) h g (o, w, b) e = absurd o
-describe-same kind name unit text empty h g (o, w, b) e = absurd o
+  describe-same : (kind : MetricKind) (name : List ℕ) (unit : Option Measure) (text : List ℕ) (t : Sentence) → Same (describe kind name unit text) t
+  describe-same kind name unit text (change u n vs) h g (o, w, b) e = absurd (no_describe u w)
+  describe-same kind name unit text (describe k n m x) h g (o, w, b) e =
+      ap request_of (call_same (call_spelling (call.Describe kind name unit text)) (call.Describe kind name unit text) (call.Describe k n m x)
+      (((h.0.0.1, h.0.1, h.0.2), h.1), refl) (((g.0.0.1, g.0.1, g.0.2), g.1), e))
+  describe-same kind name unit text (scrape now) h g (o, w, b) e = absurd (differs (sym w))
+  describe-same kind name unit text scrape_by_clock h g (o, w, b) e = absurd (differs (sym w))
+  describe-same kind name unit text (comment more) h g (o, w, b) e = absurd o
+  describe-same kind name unit text empty h g (o, w, b) e = absurd o
 
-scrape-same : (now : ℕ) (t : Sentence) → Same (scrape now) t
-scrape-same now (change u n vs) h g (o, w, b) e = absurd (no_scrape u w)
-scrape-same now (describe k n m x) h g (o, w, b) e = absurd (differs w)
-scrape-same now (scrape n) h g (o, w, b) e = ap (λ m. Scrape (Some m)) (decimal_injective now n h g (ap (drop 1) b))
-scrape-same now scrape_by_clock h g (o, w, b) e = absurd (cc)
-scrape-same now (comment more) h g (o, w, b) e = absurd o
-scrape-same now empty h g (o, w, b) e = absurd o
+  scrape-same : (now : ℕ) (t : Sentence) → Same (scrape now) t
+  scrape-same now (change u n vs) h g (o, w, b) e = absurd (no_scrape u w)
+  scrape-same now (describe k n m x) h g (o, w, b) e = absurd (differs w)
+  scrape-same now (scrape n) h g (o, w, b) e = ap (λ m. Scrape (Some m)) (decimal_injective now n h g (ap (drop 1) b))
+  scrape-same now scrape_by_clock h g (o, w, b) e = absurd (cc)
+  scrape-same now (comment more) h g (o, w, b) e = absurd o
+  scrape-same now empty h g (o, w, b) e = absurd o
 
-clock-same : (t : Sentence) → Same scrape_by_clock t
-clock-same (change u n vs) h g (o, w, b) e = absurd (no_scrape u w)
-clock-same (describe k n m x) h g (o, w, b) e = absurd (differs w)
-clock-same (scrape n) h g (o, w, b) e = absurd (cc)
-clock-same scrape_by_clock h g (o, w, b) e = refl
-clock-same (comment more) h g (o, w, b) e = absurd o
-clock-same empty h g (o, w, b) e = absurd o
+  clock-same : (t : Sentence) → Same scrape_by_clock t
+  clock-same (change u n vs) h g (o, w, b) e = absurd (no_scrape u w)
+  clock-same (describe k n m x) h g (o, w, b) e = absurd (differs w)
+  clock-same (scrape n) h g (o, w, b) e = absurd (cc)
+  clock-same scrape_by_clock h g (o, w, b) e = refl
+  clock-same (comment more) h g (o, w, b) e = absurd o
+  clock-same empty h g (o, w, b) e = absurd o
 
-by-first : (s t : Sentence) → IsOther s → Same s t
-by-first (change by name ws) t o = change-same by name ws t
-by-first (describe kind name unit text) t o = describe-same kind name unit text t
-by-first (scrape now) t o = scrape-same now t
-by-first scrape_by_clock t o = clock-same t
-by-first (comment text) t o = absurd o
-by-first empty t o = absurd o
+  by-first : (s t : Sentence) → IsOther s → Same s t
+  by-first (change by name ws) t o = change-same by name ws t
+  by-first (describe kind name unit text) t o = describe-same kind name unit text t
+  by-first (scrape now) t o = scrape-same now t
+  by-first scrape_by_clock t o = clock-same t
+  by-first (comment text) t o = absurd o
+  by-first empty t o = absurd o
 
--- by the first, where it is neither a comment nor empty
-other-same : (s t : Sentence) → IsOther s → CanBeSpelled s → CanBeSpelled t → spelling s ≡ spelling t → request_in s ≡ request_in t
-other-same s t o h g e =
-    by-first s t o h g (cut (first_word s) (behind_it s) (lacks s o) (starts s o) (begun s o) t (sym (cut-is s o) ∙ e)) e
+  -- by the first, where it is neither a comment nor empty
+  other-same : (s t : Sentence) → IsOther s → CanBeSpelled s → CanBeSpelled t → spelling s ≡ spelling t → request_in common s ≡ request_in common t
+  other-same s t o h g e =
+      by-first s t o h g (cut (first_word s) (behind_it s) (lacks s o) (starts s o) (begun s o) t (sym (cut-is s o) ∙ e)) e
 
-sentences-same : (s t : Sentence) → CanBeSpelled s → CanBeSpelled t → spelling s ≡ spelling t → request_in s ≡ request_in t
-sentences-same (change by name ws) t h g e = other-same (change by name ws) t tt h g e
-sentences-same (describe kind name unit text) t h g e = other-same (describe kind name unit text) t tt h g e
-sentences-same (scrape now) t h g e = other-same (scrape now) t tt h g e
-sentences-same scrape_by_clock t h g e = other-same scrape_by_clock t tt h g e
-sentences-same (comment x) (change by name ws) h g e = sym (other-same (change by name ws) (comment x) tt g h (sym e))
-sentences-same (comment x) (describe kind name unit text) h g e = sym (other-same (describe kind name unit text) (comment x) tt g h (sym e))
-sentences-same (comment x) (scrape now) h g e = sym (other-same (scrape now) (comment x) tt g h (sym e))
-sentences-same (comment x) scrape_by_clock h g e = sym (other-same scrape_by_clock (comment x) tt g h (sym e))
-sentences-same (comment x) (comment y) h g e = refl
-sentences-same (comment x) empty h g e = refl
-sentences-same empty (change by name ws) h g e = sym (other-same (change by name ws) empty tt g h (sym e))
-sentences-same empty (describe kind name unit text) h g e = sym (other-same (describe kind name unit text) empty tt g h (sym e))
-sentences-same empty (scrape now) h g e = sym (other-same (scrape now) empty tt g h (sym e))
-sentences-same empty scrape_by_clock h g e = sym (other-same scrape_by_clock empty tt g h (sym e))
-sentences-same empty (comment y) h g e = refl
-sentences-same empty empty h g e = refl
+  sentences-same : (s t : Sentence) → CanBeSpelled s → CanBeSpelled t → spelling s ≡ spelling t → request_in common s ≡ request_in common t
+  sentences-same (change by name ws) t h g e = other-same (change by name ws) t tt h g e
+  sentences-same (describe kind name unit text) t h g e = other-same (describe kind name unit text) t tt h g e
+  sentences-same (scrape now) t h g e = other-same (scrape now) t tt h g e
+  sentences-same scrape_by_clock t h g e = other-same scrape_by_clock t tt h g e
+  sentences-same (comment x) (change by name ws) h g e = sym (other-same (change by name ws) (comment x) tt g h (sym e))
+  sentences-same (comment x) (describe kind name unit text) h g e = sym (other-same (describe kind name unit text) (comment x) tt g h (sym e))
+  sentences-same (comment x) (scrape now) h g e = sym (other-same (scrape now) (comment x) tt g h (sym e))
+  sentences-same (comment x) scrape_by_clock h g e = sym (other-same scrape_by_clock (comment x) tt g h (sym e))
+  sentences-same (comment x) (comment y) h g e = refl
+  sentences-same (comment x) empty h g e = refl
+  sentences-same empty (change by name ws) h g e = sym (other-same (change by name ws) empty tt g h (sym e))
+  sentences-same empty (describe kind name unit text) h g e = sym (other-same (describe kind name unit text) empty tt g h (sym e))
+  sentences-same empty (scrape now) h g e = sym (other-same (scrape now) empty tt g h (sym e))
+  sentences-same empty scrape_by_clock h g e = sym (other-same scrape_by_clock empty tt g h (sym e))
+  sentences-same empty (comment y) h g e = refl
+  sentences-same empty empty h g e = refl
 
-pub request_same : (line : List ℕ) (q r : Request) → Spells line q → Spells line r → q ≡ r
-request_same line q r (s, can, is, asks) (t, could, was, asked) =
-    asks ∙ sentences-same s t can could (sym is ∙ was) ∙ sym asked
+  pub request_same : (line : List ℕ) (q r : Request) → Spells common line q → Spells common line r → q ≡ r
+  request_same line q r (s, can, is, asks) (t, could, was, asked) =
+      asks ∙ sentences-same s t can could (sym is ∙ was) ∙ sym asked

@@ -1,5 +1,5 @@
 -- The place of a label among others.
-use Rattle.std.proofs.Common.{◌≡◌, ℕ, zero, suc, ◌<◌, ◌≤◌, Bool, true, false, cond, List, [], ◌∷◌, ◌++◌, length, get_or, refl, ap, sym, arith, ◌∙◌}
+use Rattle.std.proofs.Common.{◌≡◌, ℕ, zero, suc, ◌<◌, ◌≤◌, true, false, cond, List, [], ◌∷◌, length, get_or, refl, ap, sym, arith, ◌∙◌}
 use Rattle.std.specs.Prelude.{insert}
 use Rattle.std.specs.Ordering.{is_lt}
 use Rattle.metrics_names.specs.Names.{LabelParts, label_cmp}

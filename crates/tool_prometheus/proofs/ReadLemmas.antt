@@ -1,6 +1,6 @@
 -- What the parts of a line are read as.
-use Rattle.std.proofs.Common.{◌≡◌, ◌≢◌, ◌∙◌, ℕ, zero, suc, ◌<◌, ◌≤◌, ◌^◌, Bool, true, false, List, [], ◌∷◌, ◌++◌, codes, decimal, drop, take, get_or, length, append_assoc, refl, ap, sym, subst, arith}
-use Rattle.std.specs.Prelude.{Option, None, Some, Result, Ok, Err, MatchResult, IsUtf8}
+use Rattle.std.proofs.Common.{◌≡◌, ◌∙◌, ℕ, zero, suc, ◌<◌, ◌≤◌, ◌^◌, Bool, true, false, List, [], ◌∷◌, ◌++◌, codes, decimal, drop, take, get_or, length, append_assoc, refl, ap, sym, subst, arith}
+use Rattle.std.specs.Prelude.{Option, Some, Result, Ok, Err, MatchResult, IsUtf8}
 use Rattle.std.specs.List.{AllByRecursion}
 use Rattle.metrics_names.specs.Names.{LabelParts}
 use Rattle.metrics_names.specs.declared.kind.MetricKind.{MetricKind}
@@ -12,12 +12,11 @@ use Rattle.tool_grammar.proofs.WordsLemmas.{before_same, first_same, lacks_kind,
 use Rattle.tool_export.proofs.RequestLemmas.{lacks_amount}
 use Rattle.tool_prometheus.specs.declared.flaws.Unread.{Unread}
 use Rattle.tool_prometheus.specs.declared.flaws.Unread.TheVariants.{Memory, Bad}
-use Rattle.tool_prometheus.specs.declared.requests.Request.{Request}
 use Rattle.tool_prometheus.specs.declared.requests.Request.TheVariants.{Change, Describe, Scrape}
-use Rattle.tool_prometheus.specs.Lines.{escape, escaped, IsQuotable, IsText, IsName, StartsElse, CanBeValue, value_word, Written, IsWritten}
-use Rattle.tool_prometheus.specs.Lines.{label_word, label_words, LacksKey, AreWritten, in_order, change, describe, scrape, Reads, Fails}
+use Rattle.tool_prometheus.specs.Lines.{escape, escaped, IsQuotable, IsText, IsName, CanBeValue, value_word, Written, IsWritten}
+use Rattle.tool_prometheus.specs.Lines.{label_word, label_words, LacksKey, AreWritten, in_order, with_labels, change, describe, scrape, Reads, Fails}
 use Rattle.tool_prometheus.proofs.EscapeLemmas.{escaped-same, starts-else}
-use Rattle.tool_prometheus.proofs.LabelLemmas.{QuotedSoFar, quoted-fails, LabelsSoFar, labels-fail, label-twice, starts-words}
+use Rattle.tool_prometheus.proofs.LabelLemmas.{QuotedSoFar, quoted-fails, LabelsSoFar, labels-fail, starts-words}
 use Rattle.tool_prometheus.proofs.SentenceLemmas.{lacks_name}
 
 -- what holds is known of any error
@@ -169,15 +168,15 @@ module _ (word bytes : List ℕ) (by : Update) (rest : List ℕ) (range : IsInRa
     no-change-labels Memory none = tt
     no-change-labels (Bad cause at) none = λ u name ws h hn hw w e. none ws hw (behind-name u name ws h hn e).1
 
-    pub change-read : (name : List ℕ) (labels : List LabelParts) → IsName name → named ≡ name_word name → word ≡ update_word by
-        → ((ws : List Written) × AreWritten ws × (labels ≡ in_order ws) × (after ≡ label_words ws))
-        → Reads (word ++ bytes) (Change (record { name = name; labels = labels }) by)
-    change-read name labels hn is_name is_word (ws, written, same, at) = (
+    pub change-read : (common : List LabelParts) (name : List ℕ) (own labels : List LabelParts) → IsName name → named ≡ name_word name
+        → word ≡ update_word by → ((ws : List Written) × AreWritten ws × (own ≡ in_order ws) × (after ≡ label_words ws))
+        → labels ≡ with_labels common own → Reads common (word ++ bytes) (Change (record { name = name; labels = labels }) by)
+    change-read common name own labels hn is_name is_word (ws, written, same, at) all = (
       change by name ws,
       (range, hn, written),
       ap (λ w. w ++ bytes) is_word ∙ ap (λ b. update_word by ++ b) (is ∙ ap (λ z. 32 ∷ (amount_word by ++ z)) (cut
           ∙ ap (λ z. 32 ∷ z) (ap (λ z. z ++ after) is_name ∙ ap (λ z. name_word name ++ z) at))),
-      λ i. Change (record { name = name; labels = same i }) by,
+      ap (λ ls. Change (record { name = name; labels = ls }) by) (all ∙ ap (with_labels common) same),
     )
 
 -- ---- a description
@@ -211,9 +210,9 @@ module _ (bytes : List ℕ) (kind : MetricKind) (rest : List ℕ) (is : bytes �
           none text utf8 (before_same 32 (unit_word unit) (unit_word u) last (32 ∷ text) (lacks_unit unit) (lacks_unit u) ends refl
           (ap (drop 1) (sym measured ∙ behind-named k n _ h e))).1
 
-      pub description-read : (text : List ℕ) → IsUtf8 text → last ≡ 32 ∷ text
-          → Reads (codes "describe" ++ bytes) (Describe kind name unit text)
-      description-read text utf8 at = (
+      pub description-read : (common : List LabelParts) (text : List ℕ) → IsUtf8 text → last ≡ 32 ∷ text
+          → Reads common (codes "describe" ++ bytes) (Describe kind name unit text)
+      description-read common text utf8 at = (
         describe kind name unit text,
         (hn, utf8),
         ap (λ b. codes "describe" ++ b) (is ∙ ap (λ z. 32 ∷ (kind_word kind ++ z)) (cut ∙ ap (λ z. 32 ∷ (name_word name ++ z))
@@ -223,7 +222,7 @@ module _ (bytes : List ℕ) (kind : MetricKind) (rest : List ℕ) (is : bytes �
 
 -- ---- a scrape
 
-pub scrape-read : (bytes digits : List ℕ) (now : ℕ) → bytes ≡ 32 ∷ digits → digits ≡ decimal now → now < 2 ^ 64
-    → Reads (codes "scrape" ++ bytes) (Scrape (Some now))
-scrape-read bytes digits now is at small =
+pub scrape-read : (common : List LabelParts) (bytes digits : List ℕ) (now : ℕ) → bytes ≡ 32 ∷ digits → digits ≡ decimal now
+    → now < 2 ^ 64 → Reads common (codes "scrape" ++ bytes) (Scrape (Some now))
+scrape-read common bytes digits now is at small =
     (scrape now, small, ap (λ b. codes "scrape" ++ b) (is ∙ ap (λ z. 32 ∷ z) at), refl)

@@ -1,22 +1,22 @@
 -- A line is that of one sentence, or of none.
-use Rattle.std.proofs.Common.{◌≡◌, ◌≢◌, ◌∙◌, ℕ, ◌<◌, ◌^◌, Bool, true, false, cond, List, [], ◌∷◌, ◌++◌, codes, decimal, drop, get_or, length, append_assoc, refl, ap, sym, subst, arith}
-use Rattle.std.specs.Prelude.{Option, None, Some, Result, Ok, Err, MatchResult, IsUtf8}
+use Rattle.std.proofs.Common.{◌≡◌, ◌≢◌, ◌∙◌, ℕ, ◌<◌, ◌^◌, cond, List, [], ◌∷◌, ◌++◌, codes, decimal, refl, ap, sym, subst}
+use Rattle.std.specs.Prelude.{Option, Result, Ok, Err, MatchResult, IsUtf8}
 use Rattle.std.proofs.lemmas.Bool.{false≢true, ne_eqb}
 use Rattle.std.proofs.lemmas.Slice.Eq.{bytes_eq-Decides}
 use Rattle.metrics.specs.declared.handles.Update.{Update}
 use Rattle.metrics.specs.declared.handles.Update.TheVariants.{Increment, Absolute, Add, Subtract, Set, Record}
+use Rattle.metrics_names.specs.Names.{LabelParts}
 use Rattle.metrics_names.specs.declared.kind.MetricKind.{MetricKind}
 use Rattle.metrics_names.specs.declared.common.Unit.{Unit as Measure}
 use Rattle.tool_grammar.specs.Cuts.{Lacks, StartsAt}
 use Rattle.tool_grammar.specs.Grammar.{kind_word, unit_word, name_word, update_word, amount_word, IsInRange}
-use Rattle.tool_grammar.proofs.WordsLemmas.{before_same, lacks_literal, lacks_update, lacks_kind, lacks_unit}
-use Rattle.tool_export.proofs.RequestLemmas.{lacks_amount, no_scrape}
+use Rattle.tool_grammar.proofs.WordsLemmas.{before_same, lacks_literal, lacks_update}
+use Rattle.tool_export.proofs.RequestLemmas.{no_scrape}
 use Rattle.tool_prometheus.specs.declared.flaws.Unread.{Unread}
 use Rattle.tool_prometheus.specs.declared.requests.Request.{Request}
 use Rattle.tool_prometheus.specs.Lines.{IsName, Written, AreWritten, label_words, Sentence, change, describe, scrape, scrape_by_clock, comment, empty}
-use Rattle.tool_prometheus.specs.Lines.{spelling, CanBeSpelled, request_in, Reads, IsNone, IsBegun, Fails, body_of}
+use Rattle.tool_prometheus.specs.Lines.{spelling, CanBeSpelled, Reads, IsNone, IsBegun, Fails, body_of}
 use Rattle.tool_prometheus.specs.declared.flaws.Unread.TheVariants.{Memory, Bad}
-use Rattle.tool_prometheus.proofs.LabelLemmas.{starts-words}
 
 pub lacks_name : (n : List ℕ) → IsName n → Lacks 32 (name_word n)
 lacks_name [] h = lacks_literal 32 (codes "-") refl
@@ -77,12 +77,13 @@ module _ (word rest : List ℕ) (lacks : Lacks 32 word) (starts : StartsAt 32 re
 
   -- ---- a line that begins with `scrape`
 
-  pub scrape_line : word ≡ codes "scrape" → (r : Result Request Unread) → MatchResult r (Reads (codes "scrape" ++ rest))
+  pub scrape_line : (common : List LabelParts) → word ≡ codes "scrape" → (r : Result Request Unread)
+      → MatchResult r (Reads common (codes "scrape" ++ rest))
       (Fails ((rest ≡ [] → ⊥) × ((now : ℕ) → now < 2 ^ 64 → rest ≡ 32 ∷ decimal now → ⊥)))
-      → MatchResult r (Reads (word ++ rest)) (Fails (IsNone (word ++ rest)))
-  scrape_line is (Ok q) h = subst (λ w. Reads (w ++ rest) q) (sym is) h
-  scrape_line is (Err Memory) h = tt
-  scrape_line is (Err (Bad cause at)) h = λ s can is_spelled. no s can (cut s is_spelled) h
+      → MatchResult r (Reads common (word ++ rest)) (Fails (IsNone (word ++ rest)))
+  scrape_line common is (Ok q) h = subst (λ w. Reads common (w ++ rest) q) (sym is) h
+  scrape_line common is (Err Memory) h = tt
+  scrape_line common is (Err (Bad cause at)) h = λ s can is_spelled. no s can (cut s is_spelled) h
     where
       no : (s : Sentence) → CanBeSpelled s → IsOther s × (word ≡ first_word s) × (rest ≡ behind_it s)
           → (rest ≡ [] → ⊥) × ((now : ℕ) → now < 2 ^ 64 → rest ≡ 32 ∷ decimal now → ⊥) → ⊥
@@ -95,13 +96,14 @@ module _ (word rest : List ℕ) (lacks : Lacks 32 word) (starts : StartsAt 32 re
 
   -- ---- a line that begins with `describe`
 
-  pub describe_line : word ≡ codes "describe" → (r : Result Request Unread) → MatchResult r (Reads (codes "describe" ++ rest))
+  pub describe_line : (common : List LabelParts) → word ≡ codes "describe" → (r : Result Request Unread)
+      → MatchResult r (Reads common (codes "describe" ++ rest))
       (Fails ((kind : MetricKind) (name : List ℕ) (unit : Option Measure) (text : List ℕ) → IsName name → IsUtf8 text
       → rest ≡ 32 ∷ (kind_word kind ++ 32 ∷ (name_word name ++ 32 ∷ (unit_word unit ++ 32 ∷ text))) → ⊥))
-      → MatchResult r (Reads (word ++ rest)) (Fails (IsNone (word ++ rest)))
-  describe_line is (Ok q) h = subst (λ w. Reads (w ++ rest) q) (sym is) h
-  describe_line is (Err Memory) h = tt
-  describe_line is (Err (Bad cause at)) h = λ s can is_spelled. no s can (cut s is_spelled) h
+      → MatchResult r (Reads common (word ++ rest)) (Fails (IsNone (word ++ rest)))
+  describe_line common is (Ok q) h = subst (λ w. Reads common (w ++ rest) q) (sym is) h
+  describe_line common is (Err Memory) h = tt
+  describe_line common is (Err (Bad cause at)) h = λ s can is_spelled. no s can (cut s is_spelled) h
     where
       no : (s : Sentence) → CanBeSpelled s → IsOther s × (word ≡ first_word s) × (rest ≡ behind_it s)
           → ((kind : MetricKind) (name : List ℕ) (unit : Option Measure) (text : List ℕ) → IsName name → IsUtf8 text
@@ -115,14 +117,14 @@ module _ (word rest : List ℕ) (lacks : Lacks 32 word) (starts : StartsAt 32 re
 
   -- ---- any other line
 
-  pub change_line : word ≢ codes "scrape" → word ≢ codes "describe" → (r : Result Request Unread)
-      → MatchResult r (Reads (word ++ rest))
+  pub change_line : (common : List LabelParts) → word ≢ codes "scrape" → word ≢ codes "describe" → (r : Result Request Unread)
+      → MatchResult r (Reads common (word ++ rest))
       (Fails ((by : Update) (name : List ℕ) (ws : List Written) → IsInRange by → IsName name → AreWritten ws
       → word ≡ update_word by → rest ≡ 32 ∷ (amount_word by ++ 32 ∷ (name_word name ++ label_words ws)) → ⊥))
-      → MatchResult r (Reads (word ++ rest)) (Fails (IsNone (word ++ rest)))
-  change_line scrapes describes (Ok q) h = h
-  change_line scrapes describes (Err Memory) h = tt
-  change_line scrapes describes (Err (Bad cause at)) h = λ s can is_spelled. no s can (cut s is_spelled) h
+      → MatchResult r (Reads common (word ++ rest)) (Fails (IsNone (word ++ rest)))
+  change_line common scrapes describes (Ok q) h = h
+  change_line common scrapes describes (Err Memory) h = tt
+  change_line common scrapes describes (Err (Bad cause at)) h = λ s can is_spelled. no s can (cut s is_spelled) h
     where
       no : (s : Sentence) → CanBeSpelled s → IsOther s × (word ≡ first_word s) × (rest ≡ behind_it s)
           → ((by : Update) (name : List ℕ) (ws : List Written) → IsInRange by → IsName name → AreWritten ws

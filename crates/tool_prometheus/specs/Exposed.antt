@@ -4,10 +4,10 @@ use Rattle.metrics.specs.declared.error.Error.{Error}
 use Rattle.metrics.specs.declared.error.Error.TheVariants.{Memory, CountFull}
 use Rattle.metrics_registry.specs.Idleness.{Answered}
 use Rattle.metrics_names.specs.Names.{KeyParts}
-use Rattle.metrics_exporter.specs.Exporting.{Setup, Event, updates, expires, Log, steps, Cells, cells_after, series_of}
+use Rattle.metrics_exporter.specs.Exporting.{Setup, updates, expires, Log, steps, Cells, cells_after, series_of}
 use Rattle.metrics_exporter.specs.Exporting.{IsExpiry, IsFull, HoldsSome}
 use Rattle.metrics_exporter.specs.declared.exporter.Exporter.{Exporter}
-use Rattle.metrics_exporter.specs.Describing.{Legend, SameLegend, DescribesName}
+use Rattle.metrics_exporter.specs.Describing.{SameLegend, DescribesName}
 use Rattle.metrics_exporter.specs.Kept.{IsAfter, described}
 use Rattle.metrics_prometheus.specs.Exposition.{IsDescribed}
 use Rattle.metrics_prometheus.specs.declared.naming.Naming.{Naming}
@@ -54,7 +54,7 @@ IsShown naming cells on answer shown = (n : ℕ) × (answer ≡ Ok n) × IsExpos
 
 -- only the exporter and what a scrape owes changed
 abbrev pub KeepsRest : Served → Served → Type 0
-KeepsRest old new = (new.naming ≡ old.naming) × (new.has_file ≡ old.has_file) × (new.has_bad ≡ old.has_bad)
+KeepsRest old new = (new.naming ≡ old.naming) × (new.has_file ≡ old.has_file) × (new.has_bad ≡ old.has_bad) × (new.labels ≡ old.labels)
 
 -- an exposition of what is held after the calls, with the descriptions of names
 abbrev pub Shows : Setup → Log → Served → List ℕ → Type 0
@@ -115,7 +115,7 @@ PassesOver old text new = (new ≡ record old { has_bad = true }) × (text ≡ [
 
 -- A line's request was answered; or a bad line was skipped, if lines may be.
 abbrev pub AnswersLine : Bool → Served → List ℕ → List ℕ → Served → Type 0
-AnswersLine skips old line text new = ((request : Request) × Spells line request × Answers old new request text)
+AnswersLine skips old line text new = ((request : Request) × Spells old.labels line request × Answers old new request text)
     ⊎ ((skips ≡ true) × IsBad line × PassesOver old text new)
 
 -- ---- the end of the input

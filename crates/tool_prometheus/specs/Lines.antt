@@ -1,8 +1,8 @@
 -- The lines of this tool: what each spells.
-use Rattle.std.specs.Prelude.{if◌then◌else◌, ◌≡◌, ◌≢◌, ℕ, ◌<◌, ◌≤◌, ◌^◌, Bool, true, false, List, [], ◌∷◌, ◌++◌, ◌⊎◌, All, IsUtf8, nat_eq}
+use Rattle.std.specs.Prelude.{if◌then◌else◌, ◌≡◌, ◌≢◌, ℕ, ◌<◌, ◌≤◌, ◌^◌, Bool, true, false, List, [], ◌∷◌, ◌++◌, ◌⊎◌, All, IsUtf8, nat_eq, bytes_eq}
 use Rattle.std.specs.Prelude.{codes, decimal, flat_map, Option, None, Some}
-use Rattle.std.specs.List.{AllByRecursion}
-use Rattle.metrics_names.specs.Names.{LabelParts, KeyParts}
+use Rattle.std.specs.List.{AllByRecursion, list_any}
+use Rattle.metrics_names.specs.Names.{LabelParts}
 use Rattle.metrics_names.specs.declared.kind.MetricKind.{MetricKind}
 use Rattle.metrics_names.specs.declared.common.Unit.{Unit as Measure}
 use Rattle.metrics.specs.declared.handles.Update.{Update}
@@ -94,6 +94,24 @@ put_in labels (w ∷ ws) = put_in (placed (label_of w) labels) ws
 abbrev pub in_order : List Written → List LabelParts
 in_order ws = put_in [] ws
 
+-- one of the labels has this key
+abbrev pub has_key : List ℕ → List LabelParts → Bool
+has_key key labels = list_any (λ l. bytes_eq l.0 key) labels
+
+-- the labels with a common one in its place, unless one of them has its key
+abbrev pub with_label : LabelParts → List LabelParts → List LabelParts
+with_label l labels = if has_key l.0 labels then labels else placed l labels
+
+-- the labels of a series that has the common ones beside its own
+abbrev pub with_labels : List LabelParts → List LabelParts → List LabelParts
+with_labels [] own = own
+with_labels (l ∷ common) own = with_labels common (with_label l own)
+
+-- the value of the first label with this key
+abbrev pub value_of : List ℕ → List LabelParts → Option (List ℕ)
+value_of key [] = None
+value_of key (l ∷ labels) = if bytes_eq l.0 key then Some l.1 else value_of key labels
+
 -- ---- lines
 
 -- a line as it is written
@@ -122,14 +140,14 @@ CanBeSpelled scrape_by_clock = Unit {0}
 CanBeSpelled (comment text) = Unit {0}
 CanBeSpelled empty = Unit {0}
 
--- the request of a sentence
-abbrev pub request_in : Sentence → Request
-request_in (change by name ws) = Change (record { name = name; labels = in_order ws }) by
-request_in (describe kind name unit text) = Describe kind name unit text
-request_in (scrape now) = Scrape (Some now)
-request_in scrape_by_clock = Scrape None
-request_in (comment text) = Nothing
-request_in empty = Nothing
+-- the request of a sentence, where all series have these labels
+abbrev pub request_in : List LabelParts → Sentence → Request
+request_in common (change by name ws) = Change (record { name = name; labels = with_labels common (in_order ws) }) by
+request_in common (describe kind name unit text) = Describe kind name unit text
+request_in common (scrape now) = Scrape (Some now)
+request_in common scrape_by_clock = Scrape None
+request_in common (comment text) = Nothing
+request_in common empty = Nothing
 
 -- neither empty nor a comment
 abbrev pub IsBegun : List ℕ → Type 0
@@ -142,17 +160,17 @@ body_of [] = []
 body_of (x ∷ []) = if nat_eq x 13 then [] else x ∷ []
 body_of (x ∷ (y ∷ ys)) = x ∷ body_of (y ∷ ys)
 
--- the bytes are those of a sentence with this request
-abbrev pub Reads : List ℕ → Request → Type 0
-Reads bytes request = (s : Sentence) × CanBeSpelled s × (bytes ≡ spelling s) × (request ≡ request_in s)
+-- the bytes are those of a sentence with this request, where all series have these labels
+abbrev pub Reads : List LabelParts → List ℕ → Request → Type 0
+Reads common bytes request = (s : Sentence) × CanBeSpelled s × (bytes ≡ spelling s) × (request ≡ request_in common s)
 
 -- the bytes are those of no sentence
 abbrev pub IsNone : List ℕ → Type 0
 IsNone bytes = (s : Sentence) → CanBeSpelled s → bytes ≡ spelling s → ⊥
 
--- the line spells the request
-abbrev pub Spells : List ℕ → Request → Type 0
-Spells line request = Reads (body_of line) request
+-- the line spells the request, where all series have these labels
+abbrev pub Spells : List LabelParts → List ℕ → Request → Type 0
+Spells common line request = Reads common (body_of line) request
 
 -- the line spells no request
 abbrev pub IsBad : List ℕ → Type 0

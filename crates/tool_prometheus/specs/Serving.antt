@@ -1,9 +1,8 @@
 -- What the program did with the lines that it read.
-use Rattle.std.specs.Prelude.{if◌then◌else◌, ◌≡◌, ℕ, Bool, true, false, not, List, [], ◌++◌, ◌⊎◌, Result, Ok, Err, None}
+use Rattle.std.specs.Prelude.{◌≡◌, ℕ, Bool, false, List, [], ◌++◌, ◌⊎◌, Result, Ok, Err, None}
 use Rattle.tool_grammar.specs.declared.error.RunError.{RunError}
 use Rattle.tool_grammar.specs.declared.error.RunError.TheVariants.{Memory, BadLine, Device}
 use Rattle.tool_stream.specs.Answering.{Answering, IsRun}
-use Rattle.metrics_exporter.specs.Exporting.{Setup}
 use Rattle.metrics_exporter.specs.Kept.{IsAfter}
 use Rattle.tool_export.specs.Plans.{setup_of}
 use Rattle.tool_prometheus.specs.declared.answering.Served.{Served}
@@ -36,7 +35,7 @@ IsPrometheusRun skips at_end old read text r = (new : Served) × (lines last : L
 -- an exporter of the plan, before its first line
 abbrev pub IsFresh : Options → Served → Type 0
 IsFresh options on = IsAfter (setup_of options.plan) [] on.exporter × (on.naming ≡ options.naming) × (on.has_file ≡ options.has_file)
-    × (on.is_changed ≡ false) × (on.has_bad ≡ false)
+    × (on.is_changed ≡ false) × (on.has_bad ≡ false) × (on.labels ≡ options.labels)
 
 -- The lines were answered by a new exporter; or none was made, and nothing was read or written.
 abbrev pub Serves : Options → Type 0 → List ℕ → List ℕ → Result ℕ RunError → Type 0

@@ -14,7 +14,7 @@ ghost use Rattle.tool_prometheus.specs.Exposed.{refusal_text as text_of_refusal}
 use crate::requests::Request;
 use crate::surroundings::Surroundings;
 use crate::watching::Watch;
-use metrics::{Error, Key, MetricKind, Unit, Update};
+use metrics::{Error, Items, Key, Label, MetricKind, Unit, Update};
 use metrics_exporter::Exporter;
 use metrics_prometheus::{Naming, exposition_named};
 use std::alloc::{AllocError, Global};
@@ -26,6 +26,8 @@ pub struct Served {
     pub exporter: Exporter,
     /// The names and units that series are shown with.
     pub naming: Naming,
+    /// Labels of each series beside its own.
+    pub labels: Items<Label>,
     /// Scrapes go to a file, and not to the output.
     pub has_file: bool,
     /// Something changed since the last scrape that succeeded.

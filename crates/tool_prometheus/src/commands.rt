@@ -9,6 +9,7 @@ use crate::answering::Served;
 use crate::serving::prometheus;
 use crate::surroundings::Surroundings;
 use crate::watching::Watch;
+use metrics::{Items, Label};
 use metrics_exporter::Exporter;
 use metrics_prometheus::Naming;
 use std::alloc::Global;
@@ -24,6 +25,8 @@ pub struct Options {
     pub plan: ExportPlan,
     /// The names and units that series are shown with.
     pub naming: Naming,
+    /// Labels of each series beside its own, which win.
+    pub labels: Items<Label>,
     /// Bad lines are reported and skipped.
     pub skips_bad: bool,
     /// Scrapes go to a file, and not to the output.
@@ -53,10 +56,10 @@ fn told<S: Surroundings>(watch: &mut Watch<S>, answered: Result<u64, RunError>, 
     }
 }
 
-/// Answers each line of the reader, on what was made for the options.
+/// Answers each line of the reader.
 fn serve<S: Surroundings, I: BufRead, O: Write>(
     alloc: Global,
-    options: &Options,
+    skips_bad: bool,
     on: &mut Served,
     watch: &mut Watch<S>,
     input: &mut I,
@@ -64,10 +67,10 @@ fn serve<S: Surroundings, I: BufRead, O: Write>(
 ) -> Result<u64, RunError>
     ensures { (read text : List ℕ) × Consumes (I.remaining input.old) (I.remaining input.new) read
         × Appends (O.contents output.old) (O.contents output.new) text
-        × IsPrometheusRun options.now.skips_bad (OnSome (I.remaining input.old) (IsAtEnd (I.remaining input.new)))
+        × IsPrometheusRun skips_bad (OnSome (I.remaining input.old) (IsAtEnd (I.remaining input.new)))
         on.old read text result }
 {
-    if options.skips_bad {
+    if skips_bad {
         prometheus::<true, S, I, O>(alloc, on, watch, input, output)
     } else {
         prometheus::<false, S, I, O>(alloc, on, watch, input, output)
@@ -77,25 +80,33 @@ fn serve<S: Surroundings, I: BufRead, O: Write>(
 /// Answers each line of the reader, on a new exporter of the plan.
 fn serve_new<S: Surroundings, I: BufRead, O: Write>(
     alloc: Global,
-    options: &Options,
+    options: Options,
     exporter: Exporter,
     watch: &mut Watch<S>,
     input: &mut I,
     output: &mut O,
 ) -> u8
-    requires { IsAfter (setup_of options.now.plan) [] exporter }
-    ensures { Ends options.now (OnSome (I.remaining input.old) (IsAtEnd (I.remaining input.new)))
+    requires { IsAfter (setup_of options.plan) [] exporter }
+    ensures { Ends options (OnSome (I.remaining input.old) (IsAtEnd (I.remaining input.new)))
         (Consumes (I.remaining input.old) (I.remaining input.new))
         (Appends (O.contents output.old) (O.contents output.new)) result }
 {
+    let Options {
+        naming,
+        labels,
+        skips_bad,
+        has_file,
+        ..
+    } = options;
     let mut on = Served {
         exporter,
-        naming: options.naming,
-        has_file: options.has_file,
+        naming,
+        labels,
+        has_file,
         is_changed: false,
         has_bad: false,
     };
-    let answered = serve(alloc, options, &mut on, watch, input, output);
+    let answered = serve(alloc, skips_bad, &mut on, watch, input, output);
     told(watch, answered, on.has_bad)
 }
 
@@ -103,12 +114,12 @@ fn serve_new<S: Surroundings, I: BufRead, O: Write>(
 /// program's status.
 pub fn command<S: Surroundings, I: BufRead, O: Write>(
     alloc: Global,
-    options: &Options,
+    options: Options,
     around: S,
     input: &mut I,
     output: &mut O,
 ) -> u8
-    ensures { Ends options.now (OnSome (I.remaining input.old) (IsAtEnd (I.remaining input.new)))
+    ensures { Ends options (OnSome (I.remaining input.old) (IsAtEnd (I.remaining input.new)))
         (Consumes (I.remaining input.old) (I.remaining input.new))
         (Appends (O.contents output.old) (O.contents output.new)) result }
 {

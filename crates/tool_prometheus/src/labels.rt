@@ -1,6 +1,6 @@
 //! The labels of a line.
 ghost use Rattle.std.specs.Prelude.{◌≡◌, ◌≤◌, ℕ, List, [], ◌∷◌, ◌++◌, All, IsUtf8, true, false, insert};
-ghost use Rattle.std.specs.Prelude.{MatchResult, MatchOption, OnOk, length};
+ghost use Rattle.std.specs.Prelude.{MatchResult, MatchOption, IfErr, IfOk, OnOk, length};
 ghost use Rattle.std.specs.List.{AllByRecursion};
 ghost use Rattle.std.specs.Ordering.{is_lt};
 ghost use Rattle.metrics_names.specs.Names.{LabelParts, label_cmp};
@@ -8,10 +8,11 @@ ghost use Rattle.metrics_prometheus.specs.Labels.{placed};
 ghost use Rattle.tool_grammar.specs.Cuts.{Lacks, StartsAt};
 ghost use Rattle.tool_prometheus.specs.Lines.{IsPlain, IsText, escape, escaped, Written, label_word, label_words, StartsElse};
 ghost use Rattle.tool_prometheus.specs.Lines.{CanBeValue, IsWritten, AreWritten, value_word, in_order, Fails};
-ghost use Rattle.tool_prometheus.specs.Lines.{IsQuotable, LacksKey};
+ghost use Rattle.tool_prometheus.specs.Lines.{IsQuotable, LacksKey, has_key, with_label, with_labels};
+ghost use Rattle.tool_prometheus.specs.declared.flaws.Unread.TheVariants.{Memory as NoMemory};
 
 use crate::flaws::{Cause, Unread};
-use metrics::Label;
+use metrics::{Label, Refused};
 use std::alloc::{AllocError, Global};
 use tool_grammar::{behind, place_of, split_at_first, split_before};
 
@@ -337,4 +338,31 @@ pub(crate) fn labels_of(alloc: Global, bytes: &[u8]) -> Result<Vec<Label>, Unrea
         rest = read_label(alloc, rest, &mut labels)?;
     }
     Ok(labels)
+}
+
+/// Puts a copy of a common label in its place, unless a label has its key.
+fn put_common(alloc: Global, labels: &mut Vec<Label>, common: &Label) -> Result<(), Refused>
+    ensures { OnOk result (labels.new.items ≡ with_label common.now labels.old.items) }
+{
+    if has_key(labels, common.key()) {
+        return Ok(());
+    }
+    put_label(labels, Label::new(alloc, common.key(), common.value())?)?;
+    Ok(())
+}
+
+/// A series' own labels in order, and the common ones beside them.
+pub(crate) fn with_labels<'a>(
+    alloc: Global,
+    common: &[Label],
+    own: Vec<Label>,
+) -> Result<Vec<Label>, Unread<'a>>
+    ensures ok { IfOk result (λ all. all.items ≡ with_labels common.now own.items) }
+    ensures err { IfErr result (λ e. e ≡ NoMemory) }
+{
+    let mut all = own;
+    for label in common {
+        put_common(alloc, &mut all, label)?;
+    }
+    Ok(all)
 }

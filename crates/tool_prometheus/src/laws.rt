@@ -1,12 +1,21 @@
 //! Laws of the definitions.
 ghost use Rattle.std.specs.Prelude.{◌≡◌, ℕ, List};
+ghost use Rattle.std.specs.Option.{option_or};
+ghost use Rattle.metrics_names.specs.Names.{LabelParts};
 ghost use Rattle.tool_prometheus.specs.declared.requests.Request.{Request as Asked};
-ghost use Rattle.tool_prometheus.specs.Lines.{Spells, IsBad};
+ghost use Rattle.tool_prometheus.specs.Lines.{Spells, IsBad, with_labels, value_of};
 
 /// Does nothing: its contract states the laws of lines.
 pub fn line_law()
     // A line spells at most one request.
-    ensures one { (line : List ℕ) (q r : Asked) → Spells line q → Spells line r → q ≡ r }
+    ensures one { (common : List LabelParts) (line : List ℕ) (q r : Asked) → Spells common line q → Spells common line r → q ≡ r }
     // A line that spells a request is not bad.
-    ensures apart { (line : List ℕ) (q : Asked) → Spells line q → IsBad line → ⊥ }
+    ensures apart { (common : List LabelParts) (line : List ℕ) (q : Asked) → Spells common line q → IsBad line → ⊥ }
+{}
+
+/// Does nothing: its contract states the law of the labels that all series have.
+pub fn label_law()
+    // A key has its value among a series' own labels, or else among the common ones.
+    ensures { (common own : List LabelParts) (key : List ℕ) →
+        value_of key (with_labels common own) ≡ option_or (value_of key own) (value_of key common) }
 {}

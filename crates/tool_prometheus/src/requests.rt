@@ -1,6 +1,7 @@
 //! The lines of this tool: updates, descriptions, scrapes, and lines that are skipped.
 ghost use Rattle.std.specs.Prelude.{◌≡◌, ℕ, List, [], ◌∷◌, ◌++◌, ◌<◌, ◌^◌, IsUtf8, codes, decimal};
 ghost use Rattle.std.specs.Prelude.{MatchResult, Option as Maybe};
+ghost use Rattle.metrics_names.specs.Names.{LabelParts};
 ghost use Rattle.metrics_names.specs.declared.kind.MetricKind.{MetricKind as Kind};
 ghost use Rattle.metrics_names.specs.declared.common.Unit.{Unit as Measure};
 ghost use Rattle.metrics.specs.declared.handles.Update.{Update as Change};
@@ -10,8 +11,8 @@ ghost use Rattle.tool_prometheus.specs.Lines.{IsName, Written, AreWritten, label
 ghost use Rattle.tool_prometheus.specs.Lines.{IsBad, body_of as body, IsBegun};
 
 use crate::flaws::{Cause, Unread};
-use crate::labels::{labels_of, text_of};
-use metrics::{Key, KeyName, MetricKind, Text, Unit, Update};
+use crate::labels::{labels_of, text_of, with_labels};
+use metrics::{Key, KeyName, Label, MetricKind, Text, Unit, Update};
 use std::alloc::Global;
 use tool_grammar::{behind, kind_of, number_of, split_before, unit_of, update_of};
 
@@ -98,8 +99,13 @@ fn amount_flaw<'a>(word: &'a [u8], amount: Option<&'a [u8]>) -> Unread<'a> {
 }
 
 /// The update of a line, from its first word and what follows it.
-fn change_of<'a>(alloc: Global, word: &'a [u8], bytes: &'a [u8]) -> Result<Request, Unread<'a>>
-    ensures { MatchResult result (Reads (word.now ++ bytes.now))
+fn change_of<'a>(
+    alloc: Global,
+    common: &[Label],
+    word: &'a [u8],
+    bytes: &'a [u8],
+) -> Result<Request, Unread<'a>>
+    ensures { MatchResult result (Reads common.now (word.now ++ bytes.now))
         (Fails ((by : Change) (name : List ℕ) (ws : List Written) → IsInRange by → IsName name → AreWritten ws
         → word.now ≡ update_word by
         → bytes.now ≡ 32 ∷ (amount_word by ++ 32 ∷ (name_word name ++ label_words ws)) → ⊥)) }
@@ -107,7 +113,7 @@ fn change_of<'a>(alloc: Global, word: &'a [u8], bytes: &'a [u8]) -> Result<Reque
     let (by, rest) = update_and_rest(word, bytes)?;
     let (word, rest) = next_word(rest, "NAME")?;
     let name = name_of(word)?;
-    let labels = labels_of(alloc, rest)?;
+    let labels = with_labels(alloc, common, labels_of(alloc, rest)?)?;
     Ok(Request::Change(Key::from_parts(alloc, name, labels)?, by))
 }
 
@@ -164,7 +170,7 @@ fn note_of(bytes: &[u8]) -> Result<&str, Unread<'_>>
 
 /// The description of a line, from what follows its first word.
 fn describe_of(alloc: Global, bytes: &[u8]) -> Result<Request, Unread<'_>>
-    ensures { MatchResult result (Reads (codes "describe" ++ bytes.now))
+    ensures { (common : List LabelParts) → MatchResult result (Reads common (codes "describe" ++ bytes.now))
         (Fails ((kind : Kind) (name : List ℕ) (unit : Maybe Measure) (text : List ℕ) → IsName name → IsUtf8 text
         → bytes.now ≡ 32 ∷ (kind_word kind ++ 32 ∷ (name_word name ++ 32 ∷ (unit_word unit ++ 32 ∷ text))) → ⊥)) }
 {
@@ -180,7 +186,7 @@ fn describe_of(alloc: Global, bytes: &[u8]) -> Result<Request, Unread<'_>>
 /// The scrape of a line, from what follows its first word.
 fn scrape_of(bytes: &[u8]) -> Result<Request, Unread<'_>>
     requires { StartsAt 32 bytes.now }
-    ensures { MatchResult result (Reads (codes "scrape" ++ bytes.now))
+    ensures { (common : List LabelParts) → MatchResult result (Reads common (codes "scrape" ++ bytes.now))
         (Fails ((bytes.now ≡ [] → ⊥) × ((now : ℕ) → now < 2 ^ 64 → bytes.now ≡ 32 ∷ decimal now → ⊥))) }
 {
     let Some(digits) = behind(bytes, b" ") else {
@@ -193,9 +199,14 @@ fn scrape_of(bytes: &[u8]) -> Result<Request, Unread<'_>>
 }
 
 /// The request of a first word and what follows it.
-fn request_from<'a>(alloc: Global, word: &'a [u8], rest: &'a [u8]) -> Result<Request, Unread<'a>>
+fn request_from<'a>(
+    alloc: Global,
+    common: &[Label],
+    word: &'a [u8],
+    rest: &'a [u8],
+) -> Result<Request, Unread<'a>>
     requires { Lacks 32 word.now × StartsAt 32 rest.now × IsBegun (word.now ++ rest.now) }
-    ensures { MatchResult result (Reads (word.now ++ rest.now)) (Fails (IsNone (word.now ++ rest.now))) }
+    ensures { MatchResult result (Reads common.now (word.now ++ rest.now)) (Fails (IsNone (word.now ++ rest.now))) }
 {
     if word == b"scrape".as_slice() {
         return scrape_of(rest);
@@ -203,12 +214,12 @@ fn request_from<'a>(alloc: Global, word: &'a [u8], rest: &'a [u8]) -> Result<Req
     if word == b"describe".as_slice() {
         return describe_of(alloc, rest);
     }
-    change_of(alloc, word, rest)
+    change_of(alloc, common, word, rest)
 }
 
 /// The request of a line without its end.
-fn sentence_of(alloc: Global, body: &[u8]) -> Result<Request, Unread<'_>>
-    ensures { MatchResult result (Reads body.now) (Fails (IsNone body.now)) }
+fn sentence_of<'a>(alloc: Global, common: &[Label], body: &'a [u8]) -> Result<Request, Unread<'a>>
+    ensures { MatchResult result (Reads common.now body.now) (Fails (IsNone body.now)) }
 {
     let Some((first, _others)) = body.split_first() else {
         return Ok(Request::Nothing);
@@ -217,12 +228,17 @@ fn sentence_of(alloc: Global, body: &[u8]) -> Result<Request, Unread<'_>>
         return Ok(Request::Nothing);
     }
     let (word, rest) = split_before(body, b' ');
-    request_from(alloc, word, rest)
+    request_from(alloc, common, word, rest)
 }
 
-/// Returns the request that a line spells, or why it spells none.
-pub fn request_of(alloc: Global, line: &[u8]) -> Result<Request, Unread<'_>>
-    ensures { MatchResult result (Spells line.now) (Fails (IsBad line.now)) }
+/// Returns the request that a line spells, or why it spells none. An updated series has the common labels beside its own, in
+/// the order of their keys; its own label of a key wins.
+pub fn request_of<'a>(
+    alloc: Global,
+    common: &[Label],
+    line: &'a [u8],
+) -> Result<Request, Unread<'a>>
+    ensures { MatchResult result (Spells common.now line.now) (Fails (IsBad line.now)) }
 {
-    sentence_of(alloc, body_of(line))
+    sentence_of(alloc, common, body_of(line))
 }

@@ -36,7 +36,7 @@ impl<const SKIPS: bool, S: Surroundings> LineMachine for PrometheusLines<SKIPS, 
         text: &mut String,
     ) -> Result<(), Unanswered> {
         watch.count();
-        match request_of(alloc, line) {
+        match request_of(alloc, on.labels.as_slice(), line) {
             Ok(request) => match answer_request(alloc, on, watch, &request, text) {
                 Ok(()) => Ok(()),
                 Err(_) => Err(Unanswered::Lost),

@@ -1,7 +1,7 @@
 use Rattle.tool_prometheus.proofs.commands.serve.Goals as goal
 
-pub returns-then-options : goal.returns-then-options
-returns-then-options g c = rw c.if-options.true c.prometheus.ensures
+pub returns-then-skips_bad : goal.returns-then-skips_bad
+returns-then-skips_bad g c = rw c.if-skips_bad.true c.prometheus.ensures
 
-pub returns-else-options : goal.returns-else-options
-returns-else-options g c = rw c.if-options.false c.prometheus-else-options.ensures
+pub returns-else-skips_bad : goal.returns-else-skips_bad
+returns-else-skips_bad g c = rw c.if-skips_bad.false c.prometheus-else-skips_bad.ensures

@@ -7,9 +7,10 @@ returns g c =
     let (read, text, took, wrote, ran) = c.serve-answered.ensures in
     let start : Served = record {
       exporter = c.args.exporter;
-      naming = c.args.options.now.naming;
-      has_file = c.args.options.now.has_file;
+      naming = c.args.options.naming;
+      labels = c.args.options.labels;
+      has_file = c.args.options.has_file;
       is_changed = false;
       has_bad = false;
     } in
-    (read, text, c.serve-answered.result, took, wrote, inl (start, (c.requires, refl, refl, refl, refl), ran), c.told.ensures)
+    (read, text, c.serve-answered.result, took, wrote, inl (start, (c.requires, refl, refl, refl, refl, refl), ran), c.told.ensures)

@@ -1,4 +1,3 @@
-use Rattle.std.proofs.Common.{arith}
 use Rattle.std.proofs.lemmas.Result.{err_from_is_err_and}
 use Rattle.tool_prometheus.proofs.ReadLemmas.{has-space, no-key, key-found}
 use Rattle.tool_prometheus.proofs.labels.key_and_value.Goals as goal

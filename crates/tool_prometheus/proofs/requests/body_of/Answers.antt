@@ -1,4 +1,4 @@
-use Rattle.std.proofs.Common.{◌≡◌, ℕ, List, ◌∷◌, [], ◌++◌, ap, sym, ◌∙◌}
+use Rattle.std.proofs.Common.{◌∷◌, [], ◌++◌, ap, sym, ◌∙◌}
 use Rattle.tool_prometheus.specs.Lines.{body_of}
 use Rattle.tool_prometheus.proofs.SentenceLemmas.{body-return, body-other}
 use Rattle.tool_prometheus.proofs.requests.body_of.Goals as goal

@@ -1,0 +1,120 @@
+//! The values of options that the command line's parser doesn't check.
+
+use metrics::{Items, Label};
+use std::alloc::{AllocError, AllocFailed, Global};
+use std::fmt;
+
+/// Why the value of an option can't be used.
+#[derive(Clone, Copy, Debug)]
+pub enum Unfit<'a> {
+    /// Out of memory.
+    Memory,
+    /// The option with its value's form, the value, and what is accepted.
+    Value(&'static str, &'a str, &'static str),
+}
+
+impl From<AllocError> for Unfit<'_> {
+    fn from(_error: AllocError) -> Self {
+        Unfit::Memory
+    }
+}
+
+impl<T: Drop> From<AllocFailed<T>> for Unfit<'_> {
+    fn from(_error: AllocFailed<T>) -> Self {
+        Unfit::Memory
+    }
+}
+
+impl fmt::Display for Unfit<'_> {
+    fn fmt<W: fmt::Write>(&self, f: &mut fmt::Formatter<W>) -> fmt::Result {
+        match self {
+            Unfit::Memory => f.write_str("memory"),
+            Unfit::Value(option, given, accepted) => {
+                write!(f, "invalid value '{given}' for '{option}': {accepted}")
+            }
+        }
+    }
+}
+
+/// The timeout of idle series.
+pub fn idle_of(given: Option<&str>) -> Result<Option<u64>, Unfit<'_>> {
+    let Some(given) = given else {
+        return Ok(None);
+    };
+    match given.parse::<u64>() {
+        Ok(timeout) => Ok(Some(timeout)),
+        Err(_) => Err(Unfit::Value(
+            "--idle <N>",
+            given,
+            "N is a whole number from 0 to 18446744073709551615",
+        )),
+    }
+}
+
+/// The bounds of histograms, in the order of the command line.
+pub fn bounds_of<'a>(alloc: Global, given: Option<&[&'a str]>) -> Result<Items<i64>, Unfit<'a>> {
+    let Some(given) = given else {
+        return Ok(Items::from(Vec::new(alloc)));
+    };
+    let mut bounds = Vec::with_capacity(alloc, given.len())?;
+    for bound in given {
+        match bound.parse::<i64>() {
+            Ok(bound) => bounds.push(bound)?,
+            Err(_) => return Err(Unfit::Value(
+                "--bounds <N,..>",
+                bound,
+                "N is a whole number from -9223372036854775808 to 9223372036854775807",
+            )),
+        }
+    }
+    Ok(Items::from(bounds))
+}
+
+/// Whether Prometheus allows a label of this name, and doesn't keep it for itself.
+fn is_label_name(name: &str) -> bool {
+    let is_first = |byte: &u8| byte.is_ascii_alphabetic() || *byte == b'_';
+    let bytes = name.as_bytes();
+    bytes.first().is_some_and(is_first)
+        && bytes
+            .iter()
+            .all(|byte| is_first(byte) || byte.is_ascii_digit())
+        && !name.starts_with("__")
+        && name != "le"
+}
+
+/// The label that a value of the option adds to the others, or what is wrong with it.
+fn label_of<'a>(labels: &[Label], given: &'a str) -> Result<(&'a str, &'a str), &'static str> {
+    let Some((name, value)) = given.split_once('=') else {
+        return Err("it has no '='");
+    };
+    if !is_label_name(name) {
+        return Err(
+            "LABEL has letters, digits and _, begins with neither a digit nor __, and is not le",
+        );
+    }
+    if value.bytes().any(|byte| byte.is_ascii_control()) {
+        return Err("VALUE has no control characters");
+    }
+    if labels.iter().any(|label| label.key() == name) {
+        return Err("each LABEL is given once");
+    }
+    Ok((name, value))
+}
+
+/// The labels of each series, in the order of the command line.
+pub fn labels_of<'a>(alloc: Global, given: Option<&[&'a str]>) -> Result<Items<Label>, Unfit<'a>> {
+    let Some(given) = given else {
+        return Ok(Items::from(Vec::new(alloc)));
+    };
+    let mut labels = Vec::with_capacity(alloc, given.len())?;
+    for word in given {
+        match label_of(&labels, word) {
+            Ok((name, value)) => match Label::new(alloc, name, value) {
+                Ok(label) => labels.push(label)?,
+                Err(_) => return Err(Unfit::Memory),
+            },
+            Err(accepted) => return Err(Unfit::Value("--label <LABEL=VALUE>", word, accepted)),
+        }
+    }
+    Ok(Items::from(labels))
+}
