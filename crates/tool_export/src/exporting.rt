@@ -3,7 +3,8 @@ ghost use Rattle.std.specs.Prelude.{◌≡◌, [], ℕ, List, OnSome, IfOk, IfEr
 ghost use Rattle.std.specs.Io.KnownBytes.{Consumes, Appends, IsAtEnd};
 ghost use Rattle.metrics.specs.declared.error.Error.TheVariants.{Memory as OutOfMemory};
 ghost use Rattle.metrics_exporter.specs.Exporting.{Setup};
-ghost use Rattle.metrics_exporter.specs.Kept.{IsAfter};
+ghost use Rattle.metrics_exporter.specs.Kept.{IsAfter, described};
+ghost use Rattle.metrics_exporter.specs.Describing.{SameLegend, no_legend};
 ghost use Rattle.tool_export.specs.Exporting.{answers as told, Exports, IsExport, IsExportRun};
 ghost use Rattle.tool_export.specs.Plans.{setup_of, IsAllowed};
 ghost use Rattle.tool_export.specs.Requests.{IsBad};
@@ -78,6 +79,7 @@ pub fn export<I: BufRead, O: Write>(
 /// Returns a new exporter as the plan describes it. For the plans of `plan_of` the only error is out of memory.
 pub fn exporter_of(alloc: Global, plan: &ExportPlan) -> Result<Exporter, Error>
     ensures made { IfOk result (IsAfter (setup_of plan.now) []) }
+    ensures undescribed { IfOk result (λ e. SameLegend (described e) no_legend) }
     ensures shards { IfOk result (λ e. e.registry.count ≡ plan.now.shards) }
     ensures err { IsAllowed plan.now → IfErr result (λ e. e ≡ OutOfMemory) }
 {

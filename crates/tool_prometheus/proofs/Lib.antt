@@ -7,3 +7,5 @@ pub mod AnswerLemmas
 pub mod ServingLemmas
 pub mod OneLemmas
 pub mod ReadLemmas
+pub mod OutputLemmas
+pub mod RunLemmas

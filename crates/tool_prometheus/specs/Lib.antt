@@ -1,3 +1,4 @@
 pub mod Lines
 pub mod Exposed
 pub mod Serving
+pub mod Output

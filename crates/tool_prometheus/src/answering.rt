@@ -199,7 +199,9 @@ pub fn answer_end<S: Surroundings>(
     watch: &mut Watch<S>,
     text: &mut String,
 ) -> Result<(), AllocError>
-    ensures { (whole : List ℕ) × IsEnd on.old whole × OnOk result (string_bytes text.new ≡ string_bytes text.old ++ whole) }
+    ensures shows { (whole : List ℕ) × IsEnd on.old whole
+        × OnOk result (string_bytes text.new ≡ string_bytes text.old ++ whole) }
+    ensures kept { on.new.has_bad ≡ on.old.has_bad }
 {
     if !on.is_changed {
         return Ok(());

@@ -1,7 +1,8 @@
 //! The whole program, for a parsed command line.
-ghost use Rattle.std.specs.Prelude.{ℕ, List, [], Err as Failed, OnSome};
+ghost use Rattle.std.specs.Prelude.{ℕ, Bool as Truth, List, [], Err as Failed, OnSome};
 ghost use Rattle.std.specs.Io.KnownBytes.{Consumes, Appends, IsAtEnd};
-ghost use Rattle.metrics_exporter.specs.Kept.{IsAfter};
+ghost use Rattle.metrics_exporter.specs.Kept.{IsAfter, described};
+ghost use Rattle.metrics_exporter.specs.Describing.{SameLegend, no_legend};
 ghost use Rattle.tool_export.specs.Plans.{setup_of};
 ghost use Rattle.tool_prometheus.specs.Serving.{Ends, IsStatus, IsPrometheusRun};
 
@@ -35,7 +36,7 @@ pub struct Options {
 
 /// The status of a program that stopped for this reason.
 fn status_of(e: RunError) -> u8
-    ensures { IsStatus (Failed e) result }
+    ensures { (has_bad : Truth) → IsStatus (Failed e) has_bad result }
 {
     match e {
         RunError::BadLine(_) => 2,
@@ -46,7 +47,7 @@ fn status_of(e: RunError) -> u8
 
 /// Reports why a run stopped, and returns the status at its end.
 fn told<S: Surroundings>(watch: &mut Watch<S>, answered: Result<u64, RunError>, has_bad: bool) -> u8
-    ensures { IsStatus answered result }
+    ensures { IsStatus answered has_bad result }
 {
     watch.tell_end(answered);
     match answered {
@@ -68,7 +69,7 @@ fn serve<S: Surroundings, I: BufRead, O: Write>(
     ensures { (read text : List ℕ) × Consumes (I.remaining input.old) (I.remaining input.new) read
         × Appends (O.contents output.old) (O.contents output.new) text
         × IsPrometheusRun skips_bad (OnSome (I.remaining input.old) (IsAtEnd (I.remaining input.new)))
-        on.old read text result }
+        on.old read text result on.new.has_bad }
 {
     if skips_bad {
         prometheus::<true, S, I, O>(alloc, on, watch, input, output)
@@ -86,7 +87,8 @@ fn serve_new<S: Surroundings, I: BufRead, O: Write>(
     input: &mut I,
     output: &mut O,
 ) -> u8
-    requires { IsAfter (setup_of options.plan) [] exporter }
+    requires after { IsAfter (setup_of options.plan) [] exporter }
+    requires undescribed { SameLegend (described exporter) no_legend }
     ensures { Ends options (OnSome (I.remaining input.old) (IsAtEnd (I.remaining input.new)))
         (Consumes (I.remaining input.old) (I.remaining input.new))
         (Appends (O.contents output.old) (O.contents output.new)) result }

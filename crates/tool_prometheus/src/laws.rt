@@ -2,8 +2,13 @@
 ghost use Rattle.std.specs.Prelude.{◌≡◌, ℕ, List};
 ghost use Rattle.std.specs.Option.{option_or};
 ghost use Rattle.metrics_names.specs.Names.{LabelParts};
+ghost use Rattle.tool_prometheus.specs.declared.commands.Options.{Options};
 ghost use Rattle.tool_prometheus.specs.declared.requests.Request.{Request as Asked};
 ghost use Rattle.tool_prometheus.specs.Lines.{Spells, IsBad, with_labels, value_of};
+ghost use Rattle.tool_prometheus.specs.Output.{IsOutput, Runs, NothingFailed, NamesMoments, with_shards};
+
+use metrics_exporter::exporter_law;
+use metrics_prometheus::exposition_law;
 
 /// Does nothing: its contract states the laws of lines.
 pub fn line_law()
@@ -19,3 +24,20 @@ pub fn label_law()
     ensures { (common own : List LabelParts) (key : List ℕ) →
         value_of key (with_labels common own) ≡ option_or (value_of key own) (value_of key common) }
 {}
+
+/// Does nothing: its contract states the laws of what a whole run of `command` writes.
+pub fn output_law()
+    // The same options, bytes and moments of the clock have one text and one status.
+    ensures one { (options : Options) (bytes clock a b : List ℕ) (s t : ℕ) → IsOutput options bytes clock a s
+        → IsOutput options bytes clock b t → (a ≡ b) × (s ≡ t) }
+    // A run writes that text and ends with that status, if neither memory, the device nor the file fails.
+    ensures written { (options : Options) (bytes text : List ℕ) (status : ℕ) → Runs options bytes text status
+        → NothingFailed text status → (clock : List ℕ) × IsOutput options bytes clock text status }
+    // So two such runs over the same bytes agree, with any numbers of shards, where each scrape has its own moment.
+    ensures same { (options : Options) (shards : ℕ) (bytes a b : List ℕ) (s t : ℕ) → NamesMoments options bytes
+        → Runs options bytes a s → Runs (with_shards shards options) bytes b t
+        → NothingFailed a s → NothingFailed b t → (a ≡ b) × (s ≡ t) }
+{
+    exporter_law();
+    exposition_law();
+}

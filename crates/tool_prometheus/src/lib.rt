@@ -14,7 +14,7 @@ mod watching;
 pub use answering::{Served, answer_end, answer_request};
 pub use commands::{Options, command};
 pub use flaws::{Cause, Message, Unread};
-pub use laws::{label_law, line_law};
+pub use laws::{label_law, line_law, output_law};
 pub use metrics::{Items, Label};
 pub use metrics_prometheus::Naming;
 pub use requests::{Request, request_of};

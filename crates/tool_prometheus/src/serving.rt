@@ -1,5 +1,5 @@
 //! The loop over the lines of an exporter.
-ghost use Rattle.std.specs.Prelude.{ℕ, List, OnSome, Ok as Answered};
+ghost use Rattle.std.specs.Prelude.{◌≡◌, ℕ, List, OnSome, Ok as Answered};
 ghost use Rattle.std.specs.Io.KnownBytes.{Consumes, Appends, IsAtEnd};
 ghost use Rattle.tool_prometheus.specs.Serving.{answers as told, Stops, EndsLines, IsPrometheusRun};
 
@@ -65,7 +65,7 @@ fn end<S: Surroundings, O: Write>(
     count: u64,
 ) -> Result<u64, RunError>
     ensures { (last : List ℕ) × Appends (O.contents output.old) (O.contents output.new) last
-        × EndsLines on.old last (Answered count) result }
+        × EndsLines on.old last (Answered count) result × (on.new.has_bad ≡ on.old.has_bad) }
 {
     let mut text = String::new(alloc);
     if answer_end(alloc, on, watch, &mut text).is_err() {
@@ -87,7 +87,8 @@ pub fn prometheus<const SKIPS: bool, S: Surroundings, I: BufRead, O: Write>(
 ) -> Result<u64, RunError>
     ensures { (read text : List ℕ) × Consumes (I.remaining input.old) (I.remaining input.new) read
         × Appends (O.contents output.old) (O.contents output.new) text
-        × IsPrometheusRun SKIPS (OnSome (I.remaining input.old) (IsAtEnd (I.remaining input.new))) on.old read text result }
+        × IsPrometheusRun SKIPS (OnSome (I.remaining input.old) (IsAtEnd (I.remaining input.new))) on.old read text result
+        on.new.has_bad }
 {
     match run_lines::<PrometheusLines<SKIPS, S>, I, O>(alloc, on, watch, input, output, 1) {
         Ok(count) => end(alloc, on, watch, output, count),

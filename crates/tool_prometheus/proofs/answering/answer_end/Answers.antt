@@ -1,4 +1,4 @@
-use Rattle.std.proofs.Common.{rules, string_bytes, inl}
+use Rattle.std.proofs.Common.{ap, rules, string_bytes, inl}
 use Rattle.tool_prometheus.specs.Exposed.{shown_text}
 use Rattle.tool_prometheus.proofs.AnswerLemmas.{end_shown}
 use Rattle.tool_prometheus.proofs.answering.answer_end.Goals as goal
@@ -7,4 +7,7 @@ pub returns : goal.returns
 returns g c =
     let r = c.exposition_named-shown.result in
     let done = end_shown c.args.on.now string_bytes r c.exposition_named-shown.ensures.text c.exposition_named-shown.ensures.refused in
-    (shown_text string_bytes c.args.on.now.has_file r, inl (search rules, done), c.hand_out_shown.ensures.text)
+    record {
+      shows = (shown_text string_bytes c.args.on.now.has_file r, inl (search rules, done), c.hand_out_shown.ensures.text);
+      kept = ap (λ on. on.has_bad) c.hand_out_shown.ensures.changed;
+    }

@@ -13,4 +13,4 @@ returns g c =
       is_changed = false;
       has_bad = false;
     } in
-    (read, text, c.serve-answered.result, took, wrote, inl (start, (c.requires, refl, refl, refl, refl, refl), ran), c.told.ensures)
+    (read, text, c.serve-answered.result, c.serve-answered.new.on.has_bad, took, wrote, inl (start, (c.requires.after, c.requires.undescribed, refl, refl, refl, refl, refl), ran), c.told.ensures)
