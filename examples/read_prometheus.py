@@ -37,19 +37,29 @@ def updated(word, amount, value):
     return min(max(level, LEAST), GREATEST)
 
 
+def ascending(bounds):
+    return sorted({int(bound) for bound in bounds.split(",")})
+
+
 class Exporter:
     """The held series, and of each watched one at how many updates and at which moment it was seen."""
 
     def __init__(self, kinds, timeout, bounds):
         self.watched = [KINDS.index(k) for k in KINDS if k[0] in kinds]
         self.timeout = None if timeout == "-" else int(timeout)
-        self.bounds = sorted({int(bound) for bound in bounds.split(",")})
+        self.bounds = ascending(bounds)
+        self.prefixes = {}
         self.held = {}
         self.seen = {}
         self.helps = {}
         self.units = {}
         self.is_recommended = False
         self.labels = {}
+
+    def bounds_for(self, name):
+        """Returns the bounds of the longest prefix of a name, otherwise the default ones."""
+        prefix = max(filter(name.startswith, self.prefixes), key=len, default=None)
+        return self.bounds if prefix is None else self.prefixes[prefix]
 
     def describe(self, kind, name, unit, text):
         self.helps[kind, name] = text
@@ -186,7 +196,7 @@ def samples_of(exporter, row):
     value, places = exporter.held[key][0], base_of(exporter, kind, key[1])[1]
     if kind != 2:
         return [("", labels, pointed(value, places))]
-    buckets = [(pointed(bound, places), sum(1 for x in value if x <= bound)) for bound in exporter.bounds]
+    buckets = [(pointed(bound, places), sum(1 for x in value if x <= bound)) for bound in exporter.bounds_for(key[1])]
     buckets.append(("+Inf", len(value)))
     parts = [("_bucket", labels + [("le", bound)], str(count)) for bound, count in buckets]
     return parts + [("_sum", labels, pointed(sum(value), places)), ("_count", labels, str(len(value)))]
@@ -358,6 +368,7 @@ def options_of(words):
     parser.add_argument("--idle", default="-")
     parser.add_argument("--idle-kinds", default=",".join(KINDS))
     parser.add_argument("--bounds", default="5,10,25,50,100,250,500,1000,2500,5000,10000")
+    parser.add_argument("--bounds-of", action="append", default=[])
     parser.add_argument("--label", action="append", default=[])
     parser.add_argument("--shards")
     parser.add_argument("--textfile")
@@ -370,10 +381,16 @@ def common_labels(options):
     return dict(label.split("=", 1) for label in options.label)
 
 
+def prefix_bounds(options):
+    parts = [value.rpartition("=") for value in options.bounds_of]
+    return {prefix: ascending(bounds) for prefix, _, bounds in parts}
+
+
 def exporter_of(options, made=Exporter):
     kinds = "".join(kind[0] for kind in options.idle_kinds.split(","))
     exporter = made(kinds, options.idle, options.bounds)
     exporter.is_recommended = options.recommended_names
+    exporter.prefixes = prefix_bounds(options)
     exporter.labels = common_labels(options)
     return exporter
 

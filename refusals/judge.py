@@ -322,6 +322,7 @@ class Prometheus(Export):
         kinds = "".join(kind[0] for kind in options.idle_kinds.split(","))
         super().__init__(["", kinds, options.idle, options.bounds])
         self.is_changed, self.is_recommended = False, options.recommended_names
+        self.prefixes = model.prefix_bounds(options)
         self.labels = model.common_labels(options)
 
     def copied(self):

@@ -1,6 +1,6 @@
 //! The words of the command line.
 
-use crate::values::{Unfit, bounds_of, idle_of, labels_of};
+use crate::values::{Unfit, bounds_of, idle_of, labels_of, prefixes_of};
 use clap::error::ErrorKind;
 use clap::{Arg, ArgAction, ArgMatches, Command, Error, value_parser};
 use std::alloc::{AllocError, Global};
@@ -65,6 +65,13 @@ fn with_plan<'a>(alloc: Global, command: Command<'a>) -> Result<Command<'a>, All
     .value_delimiter(',')
     .allow_negative_numbers(true)
     .default_value("5,10,25,50,100,250,500,1000,2500,5000,10000");
+    let prefixes = option(
+        alloc,
+        "bounds-of",
+        "PREFIX=N,..",
+        "Bounds of histograms whose names begin with PREFIX; the longest wins. May be repeated",
+    )
+    .action(ArgAction::Append);
     let label = option(
         alloc,
         "label",
@@ -87,7 +94,12 @@ fn with_plan<'a>(alloc: Global, command: Command<'a>) -> Result<Command<'a>, All
     .value_delimiter(',')
     .value_parser(KINDS)
     .default_value("counter,gauge,histogram");
-    command.arg(bounds)?.arg(label)?.arg(idle)?.arg(kinds)
+    command
+        .arg(bounds)?
+        .arg(prefixes)?
+        .arg(label)?
+        .arg(idle)?
+        .arg(kinds)
 }
 
 /// The options that say how series are written.
@@ -167,6 +179,7 @@ fn naming_of(matches: &ArgMatches<'_>) -> Naming {
 fn asked<'a>(alloc: Global, matches: &ArgMatches<'a>) -> Result<Options, Unfit<'a>> {
     Ok(Options {
         plan: plan_of(alloc, matches)?,
+        prefixes: prefixes_of(alloc, matches.get_strs("bounds-of"))?,
         naming: naming_of(matches),
         labels: labels_of(alloc, matches.get_strs("label"))?,
         skips_bad: matches.get_flag("skip-bad"),

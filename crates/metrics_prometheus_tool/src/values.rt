@@ -1,8 +1,12 @@
 //! The values of options that the command line's parser doesn't check.
 
-use metrics::{Items, Label};
+use metrics::{Items, Label, Text};
 use std::alloc::{AllocError, AllocFailed, Global};
 use std::fmt;
+use tool_prometheus::PrefixBounds;
+
+/// What a bound is.
+const BOUND: &str = "N is a whole number from -9223372036854775808 to 9223372036854775807";
 
 /// Why the value of an option can't be used.
 #[derive(Clone, Copy, Debug)]
@@ -60,14 +64,59 @@ pub fn bounds_of<'a>(alloc: Global, given: Option<&[&'a str]>) -> Result<Items<i
     for bound in given {
         match bound.parse::<i64>() {
             Ok(bound) => bounds.push(bound)?,
-            Err(_) => return Err(Unfit::Value(
-                "--bounds <N,..>",
-                bound,
-                "N is a whole number from -9223372036854775808 to 9223372036854775807",
-            )),
+            Err(_) => return Err(Unfit::Value("--bounds <N,..>", bound, BOUND)),
         }
     }
     Ok(Items::from(bounds))
+}
+
+/// The prefix and the bounds that a value of the option sets, or what is wrong with it. The prefix may have equals signs.
+fn prefix_of<'a>(
+    prefixes: &[PrefixBounds],
+    given: &'a str,
+) -> Result<(&'a str, &'a str), &'static str> {
+    let Some((prefix, bounds)) = given.rsplit_once('=') else {
+        return Err("it has no '='");
+    };
+    if bounds.split(',').any(|bound| bound.parse::<i64>().is_err()) {
+        return Err(BOUND);
+    }
+    if prefixes.iter().any(|other| other.prefix.as_str() == prefix) {
+        return Err("each PREFIX is given once");
+    }
+    Ok((prefix, bounds))
+}
+
+/// The numbers between commas.
+fn numbers_of(alloc: Global, bounds: &str) -> Result<Items<i64>, AllocError> {
+    let mut numbers = Vec::new(alloc);
+    for bound in bounds.split(',') {
+        if let Ok(number) = bound.parse::<i64>() {
+            numbers.push(number)?;
+        }
+    }
+    Ok(Items::from(numbers))
+}
+
+/// The bounds by prefixes of names, in the order of the command line.
+pub fn prefixes_of<'a>(
+    alloc: Global,
+    given: Option<&[&'a str]>,
+) -> Result<Items<PrefixBounds>, Unfit<'a>> {
+    let Some(given) = given else {
+        return Ok(Items::from(Vec::new(alloc)));
+    };
+    let mut prefixes = Vec::with_capacity(alloc, given.len())?;
+    for word in given {
+        match prefix_of(&prefixes, word) {
+            Ok((prefix, bounds)) => prefixes.push(PrefixBounds {
+                prefix: Text::new(alloc, prefix)?,
+                bounds: numbers_of(alloc, bounds)?,
+            })?,
+            Err(accepted) => return Err(Unfit::Value("--bounds-of <PREFIX=N,..>", word, accepted)),
+        }
+    }
+    Ok(Items::from(prefixes))
 }
 
 /// Whether Prometheus allows a label of this name, and doesn't keep it for itself.

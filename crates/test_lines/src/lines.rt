@@ -145,6 +145,7 @@ fn shown_to(rt: &impl Abort, alloc: Global, given: &[u8], writes: usize) -> (u8,
     let options = Options {
         plan: plan.expect(rt, "a plan"),
         naming: Naming::AsGiven,
+        prefixes: Items::from(Vec::new(alloc)),
         labels: Items::from(Vec::new(alloc)),
         skips_bad: false,
         has_file: false,

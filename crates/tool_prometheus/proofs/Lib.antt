@@ -1,6 +1,7 @@
 pub mod CommonLemmas
 pub mod EscapeLemmas
 pub mod LabelLemmas
+pub mod MakingLemmas
 pub mod PlaceLemmas
 pub mod SentenceLemmas
 pub mod AnswerLemmas

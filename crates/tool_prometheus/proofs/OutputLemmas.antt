@@ -8,7 +8,7 @@ use Rattle.metrics_exporter.specs.Exporting.{Setup, Step, expires, steps, Cells,
 use Rattle.metrics_exporter.specs.Describing.{Legend}
 use Rattle.metrics_prometheus.specs.declared.naming.Naming.{Naming}
 use Rattle.metrics_prometheus.specs.Exposition.{IsDescribed}
-use Rattle.tool_export.specs.Plans.{setup_of}
+use Rattle.tool_prometheus.specs.Making.{setup_for}
 use Rattle.tool_prometheus.specs.declared.commands.Options.{Options}
 use Rattle.tool_prometheus.specs.declared.requests.Request.{Request}
 use Rattle.tool_prometheus.specs.declared.requests.Request.TheVariants.{Change, Describe, Scrape, Nothing}
@@ -48,7 +48,7 @@ module _ (one : OneExposition) (expiry : OneExpiry) (options : Options) where
   exposition-same : (done : Done) (a b : List ℕ) → PrintsExposition options done a → PrintsExposition options done b → a ≡ b
   exposition-same done a b (shown, is, prints) (other, was, printed) =
       prints ∙ ap (scrape_text options.has_file) (one options.naming done.legend
-      (cells_after (setup_of options.plan) (steps done.calls)) shown other is was) ∙ sym printed
+      (cells_after (setup_for options) (steps done.calls)) shown other is was) ∙ sym printed
 
   pub prints-same : (old : Done) (request : Request) (r s p q : List ℕ) (new other : Done) (a b : List ℕ)
       → Prints options old request r new a → Prints options old request s other b → r ++ p ≡ s ++ q
@@ -65,8 +65,8 @@ module _ (one : OneExposition) (expiry : OneExpiry) (options : Options) where
       (unread r s p q none nor e, is ∙ sym was, text ∙ sym said)
   prints-same old (Scrape moment) r s p q new other a b (x, at, checks, n, made, is, shown) (y, by, others, m, ran, was, show) e =
       let moments = moment-same moment r s p q x y at by e in
-      let checked = expiry (setup_of options.plan) (steps old.calls) y checks others n m
-      (subst (λ z. IsExpiry (setup_of options.plan) (steps old.calls) z checks (Ok n)) moments.1 made) ran in
+      let checked = expiry (setup_for options) (steps old.calls) y checks others n m
+      (subst (λ z. IsExpiry (setup_for options) (steps old.calls) z checks (Ok n)) moments.1 made) ran in
       let events : expires x checks (Ok n) ≡ expires y others (Ok m) =
       λ i. expires (moments.1 i) (checked.0 i) (Ok (checked.1 i)) in
       let news : new ≡ other =

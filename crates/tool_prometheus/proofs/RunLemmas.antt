@@ -16,7 +16,7 @@ use Rattle.tool_grammar.specs.declared.error.RunError.TheVariants.{Memory, BadLi
 use Rattle.tool_stream.specs.Lines.{lines_of, unlines, ended}
 use Rattle.tool_stream.specs.Answering.{Dialogue, lines_in, texts_in, AreAnswered, AreFirst, IsRun}
 use Rattle.tool_stream.proofs.LinesLemmas.{lines-cut}
-use Rattle.tool_export.specs.Plans.{setup_of}
+use Rattle.tool_prometheus.specs.Making.{setup_for}
 use Rattle.tool_prometheus.specs.declared.commands.Options.{Options}
 use Rattle.tool_prometheus.specs.declared.answering.Served.{Served}
 use Rattle.tool_prometheus.specs.declared.requests.Request.{Request}
@@ -99,7 +99,7 @@ no-step log key by = flat_map-append steps_of log (updates key by (Err CountFull
 
 module _ (options : Options) where
   abbrev setup : Setup
-  setup = setup_of options.plan
+  setup = setup_for options
 
   -- what is done where a run has come so far
   abbrev done_on : Log → Served → Done

@@ -1,4 +1,5 @@
 pub mod Lines
 pub mod Exposed
+pub mod Making
 pub mod Serving
 pub mod Output

@@ -8,7 +8,7 @@ use Rattle.metrics_exporter.specs.Exporting.{Log, updates, expires, steps, cells
 use Rattle.metrics_exporter.specs.Describing.{Legend, no_legend, told_again}
 use Rattle.metrics_prometheus.specs.Exposition.{IsDescribed}
 use Rattle.tool_stream.specs.Lines.{lines_of}
-use Rattle.tool_export.specs.Plans.{setup_of}
+use Rattle.tool_prometheus.specs.Making.{setup_for}
 use Rattle.tool_prometheus.specs.declared.commands.Options.{Options}
 use Rattle.tool_prometheus.specs.declared.requests.Request.{Request}
 use Rattle.tool_prometheus.specs.declared.requests.Request.TheVariants.{Change, Describe, Scrape, Nothing}
@@ -32,7 +32,7 @@ nothing_done = record { calls = []; legend = no_legend; is_changed = false; has_
 -- an exposition of what is held, unless it goes to a file
 abbrev pub PrintsExposition : Options → Done → List ℕ → Type 0
 PrintsExposition options done text = (shown : List ℕ)
-    × IsDescribed options.naming done.legend (cells_after (setup_of options.plan) (steps done.calls)) shown
+    × IsDescribed options.naming done.legend (cells_after (setup_for options) (steps done.calls)) shown
     × (text ≡ scrape_text options.has_file shown)
 
 -- the moment of a scrape is its own, or else one that the clock showed
@@ -50,7 +50,7 @@ Prints options old (Change key by) clock new text = (clock ≡ [])
 Prints options old (Describe kind name unit note) clock new text = (clock ≡ []) × (text ≡ [])
     × (new ≡ record old { legend = told_again kind name unit note old.legend; is_changed = true })
 Prints options old (Scrape moment) clock new text = (now : ℕ) × HasMoment moment clock now
-    × (checks : List (Answered KeyParts)) × (n : ℕ) × IsExpiry (setup_of options.plan) (steps old.calls) now checks (Ok n)
+    × (checks : List (Answered KeyParts)) × (n : ℕ) × IsExpiry (setup_for options) (steps old.calls) now checks (Ok n)
     × (new ≡ record old { calls = old.calls ++ expires now checks (Ok n) ∷ []; is_changed = false })
     × PrintsExposition options new text
 Prints options old Nothing clock new text = (clock ≡ []) × (text ≡ []) × (new ≡ old)

@@ -5,7 +5,7 @@ use Rattle.tool_grammar.specs.declared.error.RunError.TheVariants.{Memory, BadLi
 use Rattle.tool_stream.specs.Answering.{Answering, IsRun}
 use Rattle.metrics_exporter.specs.Kept.{IsAfter, described}
 use Rattle.metrics_exporter.specs.Describing.{SameLegend, no_legend}
-use Rattle.tool_export.specs.Plans.{setup_of}
+use Rattle.tool_prometheus.specs.Making.{setup_for}
 use Rattle.tool_prometheus.specs.declared.answering.Served.{Served}
 use Rattle.tool_prometheus.specs.declared.commands.Options.{Options}
 use Rattle.tool_prometheus.specs.Lines.{IsBad}
@@ -33,9 +33,9 @@ IsPrometheusRun skips at_end old read text r has_bad = (new : Served) × (lines 
     × IsRun (answers {Notes = Unit {0}} skips) (Stops skips) at_end 1 (old, tt) new read lines q
     × EndsLines new last q r × (text ≡ lines ++ last) × (has_bad ≡ new.has_bad)
 
--- an exporter of the plan, before its first line: nothing was called or described
+-- an exporter of the options, before its first line: nothing was called or described
 abbrev pub IsFresh : Options → Served → Type 0
-IsFresh options on = IsAfter (setup_of options.plan) [] on.exporter × SameLegend (described on.exporter) no_legend
+IsFresh options on = IsAfter (setup_for options) [] on.exporter × SameLegend (described on.exporter) no_legend
     × (on.naming ≡ options.naming) × (on.has_file ≡ options.has_file) × (on.is_changed ≡ false) × (on.has_bad ≡ false)
     × (on.labels ≡ options.labels)
 

@@ -3,10 +3,11 @@ ghost use Rattle.std.specs.Prelude.{ℕ, Bool as Truth, List, [], Err as Failed,
 ghost use Rattle.std.specs.Io.KnownBytes.{Consumes, Appends, IsAtEnd};
 ghost use Rattle.metrics_exporter.specs.Kept.{IsAfter, described};
 ghost use Rattle.metrics_exporter.specs.Describing.{SameLegend, no_legend};
-ghost use Rattle.tool_export.specs.Plans.{setup_of};
+ghost use Rattle.tool_prometheus.specs.Making.{setup_for};
 ghost use Rattle.tool_prometheus.specs.Serving.{Ends, IsStatus, IsPrometheusRun};
 
 use crate::answering::Served;
+use crate::making::{PrefixBounds, exporter_for};
 use crate::serving::prometheus;
 use crate::surroundings::Surroundings;
 use crate::watching::Watch;
@@ -15,7 +16,7 @@ use metrics_exporter::Exporter;
 use metrics_prometheus::Naming;
 use std::alloc::Global;
 use std::io::{BufRead, Write};
-use tool_export::{ExportPlan, exporter_of};
+use tool_export::ExportPlan;
 use tool_grammar::RunError;
 use tool_stream::flush;
 
@@ -24,6 +25,8 @@ use tool_stream::flush;
 pub struct Options {
     /// How the exporter is to be made.
     pub plan: ExportPlan,
+    /// Bounds in place of the plan's, by prefixes of names.
+    pub prefixes: Items<PrefixBounds>,
     /// The names and units that series are shown with.
     pub naming: Naming,
     /// Labels of each series beside its own, which win.
@@ -87,7 +90,7 @@ fn serve_new<S: Surroundings, I: BufRead, O: Write>(
     input: &mut I,
     output: &mut O,
 ) -> u8
-    requires after { IsAfter (setup_of options.plan) [] exporter }
+    requires after { IsAfter (setup_for options) [] exporter }
     requires undescribed { SameLegend (described exporter) no_legend }
     ensures { Ends options (OnSome (I.remaining input.old) (IsAtEnd (I.remaining input.new)))
         (Consumes (I.remaining input.old) (I.remaining input.new))
@@ -126,7 +129,7 @@ pub fn command<S: Surroundings, I: BufRead, O: Write>(
         (Appends (O.contents output.old) (O.contents output.new)) result }
 {
     let mut watch = Watch::new(alloc, around);
-    match exporter_of(alloc, &options.plan) {
+    match exporter_for(alloc, &options) {
         Ok(exporter) => serve_new(alloc, options, exporter, &mut watch, input, output),
         Err(_) => {
             let answered = flush(output, Err(RunError::Memory(None)));

@@ -1,0 +1,44 @@
+//! The exporter that the options ask for.
+ghost use Rattle.std.specs.Prelude.{◌≡◌, [], ℕ, List, IfOk};
+ghost use Rattle.metrics_exporter.specs.Choice.{bounds_for};
+ghost use Rattle.metrics_exporter.specs.Describing.{SameLegend, no_legend};
+ghost use Rattle.metrics_exporter.specs.Kept.{IsAfter, described};
+ghost use Rattle.metrics_exporter.specs.Prefixes.{at_longest};
+ghost use Rattle.tool_prometheus.specs.Making.{set_by, setup_for};
+
+use crate::commands::Options;
+use metrics::{Error, Items, Text};
+use metrics_exporter::{Bounds, Exporter};
+use std::alloc::Global;
+use tool_export::mask_from;
+
+/// The bounds of the histograms whose names begin with a prefix.
+#[derive(Drop)]
+pub struct PrefixBounds {
+    pub prefix: Text,
+    /// In the order of the command line.
+    pub bounds: Items<i64>,
+}
+
+/// Returns the bounds of each name: those of its longest prefix, otherwise the default ones.
+fn bounds_from(alloc: Global, default: &[i64], prefixes: &[PrefixBounds]) -> Result<Bounds, Error>
+    ensures { IfOk result (λ b. (name : List ℕ)
+        → bounds_for b name ≡ at_longest default.now (set_by prefixes.now) name) }
+{
+    let mut bounds = Bounds::new(alloc, default)?;
+    for one in prefixes {
+        bounds.set(alloc, one.prefix.as_str(), one.bounds.as_slice())?;
+    }
+    Ok(bounds)
+}
+
+/// Returns a new exporter as the options describe it.
+pub(crate) fn exporter_for(alloc: Global, options: &Options) -> Result<Exporter, Error>
+    ensures made { IfOk result (IsAfter (setup_for options.now) []) }
+    ensures undescribed { IfOk result (λ e. SameLegend (described e) no_legend) }
+{
+    let plan = &options.plan;
+    let bounds = bounds_from(alloc, plan.bounds.as_slice(), options.prefixes.as_slice())?;
+    let mask = mask_from(plan.watched);
+    Exporter::with_bounds(alloc, plan.shards, mask, plan.idle_timeout, bounds)
+}
