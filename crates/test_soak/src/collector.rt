@@ -1,11 +1,11 @@
-//! A collector: seven threads change two series whose handles they keep and make counters that they change once, and
+//! A collector: seven threads change two series whose handles they keep and make series that they change once, and
 //! one reads the text meanwhile. Each series is idle that hasn't changed between two readings.
 ghost use Rattle.std.specs.Thread.{IsSync};
 
 use crate::Deadline;
 use anyhow::{Result, anyhow};
 use metrics::{Error, Key, Label, MetricKindMask};
-use metrics_cells::{CounterFn, HistogramFn};
+use metrics_cells::{CounterFn, GaugeFn, HistogramFn};
 use metrics_collector::{Bounds, Collector};
 use std::alloc::Global;
 use std::rt::Clock;
@@ -18,13 +18,15 @@ const WORKERS: usize = 7;
 /// How many changes are between two looks at the clock.
 const CHANGES: i64 = 1024;
 
-/// How often the kept series were changed, how many counters were made that are changed once, and how many of these were shown
-/// with their change.
+/// How often the kept series were changed, how many series of each kind were made that are changed once, and how often such
+/// ones were shown with their change.
 #[derive(Clone, Copy)]
 struct Told {
     changed: u64,
     made: u64,
-    shown: u64,
+    counters: u64,
+    gauges: u64,
+    histograms: u64,
 }
 
 impl Told {
@@ -32,14 +34,18 @@ impl Told {
         Told {
             changed: 0,
             made: 0,
-            shown: 0,
+            counters: 0,
+            gauges: 0,
+            histograms: 0,
         }
     }
 
     fn join(&mut self, other: Told) {
         self.changed = self.changed.wrapping_add(other.changed);
         self.made = self.made.wrapping_add(other.made);
-        self.shown = self.shown.wrapping_add(other.shown);
+        self.counters = self.counters.wrapping_add(other.counters);
+        self.gauges = self.gauges.wrapping_add(other.gauges);
+        self.histograms = self.histograms.wrapping_add(other.histograms);
     }
 }
 
@@ -72,30 +78,33 @@ fn change<W: Wait>(rt: &W, on: Shared<'_>, times: i64) -> Result<(), Error> {
     Ok(())
 }
 
-/// The key of a counter that is changed once.
-fn once(alloc: Global, thread: usize, round: u64) -> Result<Key, Error> {
+/// The key of a series that is changed once.
+fn once(alloc: Global, name: &str, at: &str) -> Result<Key, Error> {
     let mut labels = Vec::new(alloc);
-    let at = format!(in alloc; "{thread}.{round}")?;
-    labels.push(Label::new(alloc, "at", at.as_str())?)?;
-    Ok(Key::from_parts(alloc, "once", labels)?)
+    labels.push(Label::new(alloc, "at", at)?)?;
+    Ok(Key::from_parts(alloc, name, labels)?)
 }
 
-fn change_once<W: Wait>(rt: &W, on: Shared<'_>, key: &Key) -> Result<(), Error> {
-    let counter = on.collector.counter(rt, key)?;
+/// Makes a series of each kind, and changes it once.
+fn change_once<W: Wait>(rt: &W, on: Shared<'_>, at: &str) -> Result<(), Error> {
+    let counter = on.collector.counter(rt, &once(on.alloc, "counter", at)?)?;
     CounterFn::increment(&counter, 1);
-    Ok(())
+    let gauge = on.collector.gauge(rt, &once(on.alloc, "gauge", at)?)?;
+    GaugeFn::set(&gauge, 1);
+    let histogram = on
+        .collector
+        .histogram(rt, &once(on.alloc, "histogram", at)?)?;
+    histogram.record(rt, 5)
 }
 
 fn work<R: Clock + Wait>(rt: &R, on: Shared<'_>, thread: usize) -> Result<Told, Error> {
     let mut told = Told::none();
     for round in 0..u64::MAX {
         change(rt, on, CHANGES)?;
-        change_once(rt, on, &once(on.alloc, thread, round)?)?;
-        told.join(Told {
-            changed: CHANGES as u64,
-            made: 1,
-            shown: 0,
-        });
+        let at = format!(in on.alloc; "{thread}.{round}")?;
+        change_once(rt, on, at.as_str())?;
+        told.changed = told.changed.wrapping_add(CHANGES as u64);
+        told.made = told.made.wrapping_add(1);
         if on.deadline.is_over(rt) {
             break;
         }
@@ -103,15 +112,25 @@ fn work<R: Clock + Wait>(rt: &R, on: Shared<'_>, thread: usize) -> Result<Told, 
     Ok(told)
 }
 
-/// How many counters of one change a text shows.
-fn changed_once(text: &str) -> u64 {
+/// How many lines of a text begin so and end with a 1.
+fn ones(text: &str, front: &str) -> u64 {
     let mut shown = 0u64;
     for line in text.lines() {
-        if line.starts_with("once{") && line.ends_with(" 1") {
+        if line.starts_with(front) && line.ends_with(" 1") {
             shown = shown.wrapping_add(1);
         }
     }
     shown
+}
+
+fn shown_in(text: &str) -> Told {
+    Told {
+        changed: 0,
+        made: 0,
+        counters: ones(text, "counter{"),
+        gauges: ones(text, "gauge{"),
+        histograms: ones(text, "histogram_count{"),
+    }
 }
 
 /// Reads the text until all workers have ended, and then once more.
@@ -120,7 +139,7 @@ fn read<W: Wait>(rt: &W, on: Shared<'_>) -> Result<Told, Error> {
     for now in 1..u64::MAX {
         let is_last = on.ended.load(Ordering::SeqCst) >= WORKERS;
         let text = on.collector.render(rt, on.alloc, now)?;
-        told.shown = told.shown.wrapping_add(changed_once(text.as_str()));
+        told.join(shown_in(text.as_str()));
         if is_last {
             break;
         }
@@ -160,13 +179,29 @@ fn expect_kept(alloc: Global, text: &str, changed: u64) -> Result<()> {
     Ok(())
 }
 
+/// One text shows the change of a counter or a histogram. That of a gauge is in one or two: its value changes first, and then the
+/// number of its changes.
+fn expect_shown(told: Told) -> Result<()> {
+    let made = told.made;
+    let twice = made.wrapping_mul(2);
+    let is_shown = told.counters == made && told.histograms == made;
+    if made == 0 || !is_shown || told.gauges < made || told.gauges > twice {
+        return Err(anyhow!(
+            "{} series of each kind were made; counters were shown {} times, gauges {}, histograms {}",
+            made,
+            told.counters,
+            told.gauges,
+            told.histograms
+        ));
+    }
+    Ok(())
+}
+
 fn soak_beside<R: Clock + Threads + Wait + Sync>(rt: &R, on: Shared<'_>) -> Result<()>
     requires { IsSync R.row }
 {
     let told = run_all(rt, on)?;
-    if told.shown < told.made || told.made == 0 {
-        return Err(anyhow!("{} counters were made, {} shown", told.made, told.shown));
-    }
+    expect_shown(told)?;
     change(rt, on, 1)?;
     let text = on.collector.render(rt, on.alloc, u64::MAX)?;
     expect_kept(on.alloc, text.as_str(), told.changed)

@@ -244,6 +244,6 @@ fn main(rt: HostRuntime) -> Result<()> {
     expect_samples(told?)?;
     collected?;
     println!(rt; "each sample came out once")?;
-    println!(rt; "each change of a collector was shown")?;
+    println!(rt; "each change of a collector's counters and histograms was shown once")?;
     Ok(())
 }
