@@ -100,7 +100,7 @@ impl Collector {
         self
     }
 
-    /// Keeps the description of a name, in place of an earlier one. A call that fails changes nothing.
+    /// Replaces the text of a name of this kind, and the unit if there is a new one. A call that fails changes nothing.
     pub fn describe<W: Wait>(
         &self,
         rt: &W,
