@@ -16,7 +16,7 @@ use Rattle.tool_stream.specs.Answering.{Answering, Dialogue, lines_in, texts_in,
 use Rattle.tool_stream.specs.Answering as stream
 use Rattle.tool_stream.specs.declared.answering.Unanswered.{Unanswered}
 use Rattle.tool_stream.specs.declared.answering.Unanswered.TheVariants as unanswered
-use Rattle.tool_tree_lines.specs.Trees.{Tree, meaning_of, IsAllowed}
+use Rattle.tool_trees.specs.Trees.{Tree, meaning_of, IsAllowed}
 use Rattle.tool_lines.specs.Handles.{Entries, entry_named, entries_by}
 use Rattle.tool_lines.specs.Running.{AreHeld, addresses_in, AreSpelled, AreMade, IsRun, IsAnswered, AnswersLine, PrintsAnswers}
 use Rattle.tool_lines.specs.Requests.{Begins}

@@ -19,10 +19,10 @@ use Rattle.tool_grammar.specs.declared.error.RunError.TheVariants.{Memory, BadLi
 use Rattle.std.proofs.lemmas.List.Elements.{recursion_from_All}
 use Rattle.tool_grammar.proofs.WordsLemmas.{lacks_literal}
 use Rattle.tool_grammar.proofs.CallLemmas.{call_same}
-use Rattle.tool_tree_lines.specs.declared.tree_line.TreeLine.TheVariants as line
-use Rattle.tool_tree_lines.specs.Words.{spelling as tree_spelling}
-use Rattle.tool_tree_lines.specs.Trees.{Tree, Book, tree_lines, meaning_of, IsAllowed, BeginsWithTree, NoTree}
-use Rattle.tool_tree_lines.proofs.Readings.{one_tree}
+use Rattle.tool_trees.specs.declared.tree_line.TreeLine.TheVariants as line
+use Rattle.tool_trees.specs.Words.{spelling as tree_spelling}
+use Rattle.tool_trees.specs.Trees.{Tree, Book, tree_lines, meaning_of, IsAllowed, BeginsWithTree, NoTree}
+use Rattle.tool_trees.proofs.Readings.{one_tree}
 use Rattle.tool_stream.specs.Lines.{lines_of, unlines}
 use Rattle.tool_stream.specs.Answering.{AreFirst, IsFlushed}
 use Rattle.tool_lines.specs.Running.{AreSpelled, AreMade, PrintsAnswers}

@@ -3,7 +3,7 @@ use Rattle.std.proofs.Common.{◌≡◌, zero, suc, List, [], ◌∷◌, ◌++�
 use Rattle.metrics.specs.Book.{Content, new_book}
 use Rattle.metrics.specs.Layers.{joined_all}
 use Rattle.metrics.specs.Meaning.{Meaning, AreNew}
-use Rattle.tool_tree_lines.specs.Trees.{Tree, Book, Noop, Prefix, Filter, Fanout, Router, Trees, none, more, meaning_of, meanings_of}
+use Rattle.tool_trees.specs.Trees.{Tree, Book, Noop, Prefix, Filter, Fanout, Router, Trees, none, more, meaning_of, meanings_of}
 
 one_new : AreNew (new_book ∷ [])
 one_new zero lt = refl

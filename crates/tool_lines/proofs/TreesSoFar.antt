@@ -6,19 +6,19 @@ use Rattle.std.proofs.KnownBytes.{Consumes-nil, Consumes-trans}
 use Rattle.metrics.specs.Meaning.{Meaning}
 use Rattle.tool_grammar.specs.declared.error.RunError.{RunError}
 use Rattle.tool_grammar.specs.declared.error.RunError.TheVariants.{BadLine, Device}
-use Rattle.tool_tree_lines.specs.declared.tree_line.TreeLine.{TreeLine}
-use Rattle.tool_tree_lines.specs.Words.{spelling, Spells}
-use Rattle.tool_tree_lines.specs.Trees.{Tree, last_line, tree_lines, IsAllowed, NoTree, AreOfTrees}
-use Rattle.tool_tree_lines.specs.Steps.{Steps}
-use Rattle.tool_tree_lines.proofs.LastLines.{all_lines, lines_push}
-use Rattle.tool_tree_lines.proofs.Readings.{no_end}
-use Rattle.tool_tree_lines.proofs.OneListAtMost.{of_trees, first_bad}
-use Rattle.tool_tree_levels.specs.declared.level.Level.{Level}
-use Rattle.tool_tree_levels.specs.declared.level.LineError.{LineError}
-use Rattle.tool_tree_levels.specs.declared.level.LineError.TheVariants as levels
-use Rattle.tool_tree_levels.specs.Levels.{level_meaning}
-use Rattle.tool_tree_levels.specs.Doing.{AreBuilt, DoesLine}
-use Rattle.tool_tree_levels.proofs.Doing.{built_allowed}
+use Rattle.tool_trees.specs.declared.tree_line.TreeLine.{TreeLine}
+use Rattle.tool_trees.specs.Words.{spelling, Spells}
+use Rattle.tool_trees.specs.Trees.{Tree, last_line, tree_lines, IsAllowed, NoTree, AreOfTrees}
+use Rattle.tool_trees.specs.Steps.{Steps}
+use Rattle.tool_trees.proofs.LastLines.{all_lines, lines_push}
+use Rattle.tool_trees.proofs.Readings.{no_end}
+use Rattle.tool_trees.proofs.OneListAtMost.{of_trees, first_bad}
+use Rattle.tool_trees.specs.declared.level.Level.{Level}
+use Rattle.tool_trees.specs.declared.level.LineError.{LineError}
+use Rattle.tool_trees.specs.declared.level.LineError.TheVariants as levels
+use Rattle.tool_trees.specs.Levels.{level_meaning}
+use Rattle.tool_trees.specs.Doing.{AreBuilt, DoesLine}
+use Rattle.tool_trees.proofs.Doing.{built_allowed}
 use Rattle.tool_stream.specs.Lines.{lines_of, ended, unlines, IsLine}
 use Rattle.tool_stream.specs.declared.stream.Fault.{Fault}
 use Rattle.tool_stream.specs.declared.stream.Fault.TheVariants as faults

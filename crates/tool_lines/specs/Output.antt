@@ -9,7 +9,7 @@ use Rattle.tool_grammar.specs.Grammar.{spelling, CanBeSpelled, IsBad}
 use Rattle.tool_grammar.specs.Printing.{print}
 use Rattle.tool_grammar.specs.declared.error.RunError.{RunError}
 use Rattle.tool_grammar.specs.declared.error.RunError.TheVariants.{Memory, BadLine, Device}
-use Rattle.tool_tree_lines.specs.Trees.{Tree, meaning_of, BeginsWithTree, NoTree}
+use Rattle.tool_trees.specs.Trees.{Tree, meaning_of, BeginsWithTree, NoTree}
 use Rattle.tool_stream.specs.Lines.{lines_of}
 
 -- ---- what lines are

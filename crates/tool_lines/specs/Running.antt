@@ -8,7 +8,7 @@ use Rattle.metrics.specs.Book.{Content, content_at}
 use Rattle.metrics.specs.Meaning.{Meaning, KeepsTargets, AreNew}
 use Rattle.metrics.specs.History.{Log, reached, content_after, ArePlain}
 use Rattle.metrics.specs.Answering.{Answers, IsHeld}
-use Rattle.tool_tree_lines.specs.Trees.{Tree, meaning_of, IsAllowed}
+use Rattle.tool_trees.specs.Trees.{Tree, meaning_of, IsAllowed}
 use Rattle.tool_stream.specs.Lines.{lines_of}
 use Rattle.tool_stream.specs.Answering.{capped, AreFirst}
 use Rattle.tool_stream.specs.declared.answering.Unanswered.{Unanswered}

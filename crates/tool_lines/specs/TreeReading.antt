@@ -3,11 +3,11 @@ use Rattle.std.specs.Prelude.{◌≡◌, ◌≤◌, ℕ, suc, List, [], ◌∷�
 use Rattle.metrics.specs.Meaning.{Meaning}
 use Rattle.tool_grammar.specs.declared.error.RunError.{RunError}
 use Rattle.tool_grammar.specs.declared.error.RunError.TheVariants.{Memory, BadLine, Device}
-use Rattle.tool_tree_lines.specs.declared.tree_line.TreeLine.TheVariants as line
-use Rattle.tool_tree_lines.specs.Words.{spelling}
-use Rattle.tool_tree_lines.specs.Trees.{Tree, tree_lines, meaning_of, IsAllowed, NoTree, AreOfTrees, IsFirstBad}
-use Rattle.tool_tree_levels.specs.declared.level.LineError.{LineError}
-use Rattle.tool_tree_levels.specs.declared.level.LineError.TheVariants as levels
+use Rattle.tool_trees.specs.declared.tree_line.TreeLine.TheVariants as line
+use Rattle.tool_trees.specs.Words.{spelling}
+use Rattle.tool_trees.specs.Trees.{Tree, tree_lines, meaning_of, IsAllowed, NoTree, AreOfTrees, IsFirstBad}
+use Rattle.tool_trees.specs.declared.level.LineError.{LineError}
+use Rattle.tool_trees.specs.declared.level.LineError.TheVariants as levels
 use Rattle.tool_stream.specs.Lines.{lines_of, unlines}
 
 -- These lines were read: each with its line feed, so that what is read after them has its own lines; or they are all,

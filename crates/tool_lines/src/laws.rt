@@ -2,7 +2,7 @@
 ghost use Rattle.std.specs.Prelude.{◌≡◌, ◌++◌, ℕ, List, []};
 ghost use Rattle.tool_stream.specs.Lines.{lines_of};
 ghost use Rattle.tool_lines.specs.Examples.{first_input, first_output};
-ghost use Rattle.tool_tree_lines.specs.Trees.{meaning_of};
+ghost use Rattle.tool_trees.specs.Trees.{meaning_of};
 ghost use Rattle.tool_lines.specs.Output.{Input, printed, Prints, IsAnswered, AnswersPart};
 
 /// States that lines are at most one input, so there is one text for them.

@@ -3,8 +3,8 @@ ghost use Rattle.std.specs.Prelude.{◌≡◌, ◌+◌, ◌<◌, ◌^◌, ◌∷
 ghost use Rattle.std.specs.Prelude.{MatchResult};
 ghost use Rattle.std.specs.Io.KnownBytes.{Consumes, IsAtEnd};
 ghost use Rattle.tool_grammar.specs.declared.error.RunError.TheVariants.{Device as NoDevice};
-ghost use Rattle.tool_tree_levels.specs.declared.level.Level.{Level as Stacked};
-ghost use Rattle.tool_tree_levels.specs.Levels.{level_meaning};
+ghost use Rattle.tool_trees.specs.declared.level.Level.{Level as Stacked};
+ghost use Rattle.tool_trees.specs.Levels.{level_meaning};
 ghost use Rattle.tool_lines.specs.TreeReading.{BuildsTree, RefusesTree, error_at};
 
 use metrics::Recorder;
@@ -14,7 +14,7 @@ use std::alloc::Global;
 use std::io::BufRead;
 use tool_grammar::RunError;
 use tool_stream::{Found, at_line, next_line};
-use tool_tree_levels::{Level, LineError, read_line};
+use tool_trees::{Level, LineError, read_line};
 
 /// The error at a tree line with this number.
 fn at_tree_line(error: LineError, number: u64) -> RunError

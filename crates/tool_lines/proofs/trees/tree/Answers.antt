@@ -1,5 +1,5 @@
 use Rattle.std.proofs.Common.{[], subst, Err}
-use Rattle.tool_tree_levels.specs.Doing.{DoesLine}
+use Rattle.tool_trees.specs.Doing.{DoesLine}
 use Rattle.metrics_debugging.specs.DebuggingMeaning as book
 use Rattle.metrics_trees.specs.Nodes.{node_meaning}
 use Rattle.tool_lines.proofs.TreesSoFar.{trees_more, result_line, result_last, refuse_line, refuse_last, ended_early, none_left, unread_tree, given_up}

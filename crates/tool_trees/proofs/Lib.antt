@@ -1,0 +1,10 @@
+pub mod Lines
+pub mod Parse
+pub mod LastLines
+pub mod Readings
+pub mod OneListAtMost
+pub mod Orders
+pub mod Doing
+pub mod Joins
+pub mod Routes
+pub mod OneLine

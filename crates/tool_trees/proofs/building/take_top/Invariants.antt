@@ -1,0 +1,10 @@
+-- What was taken was at the end.
+use Rattle.std.proofs.Common.{◌≡◌, ◌-◌, ◌≤◌, ◌++◌, length}
+use Rattle.tool_trees.specs.Levels.{backwards}
+use Rattle.tool_trees.proofs.building.take_top.Given as goal
+
+abbrev pub invariant-loop-stack : goal.invariant-loop-stack
+invariant-loop-stack l = record { split : l.initial.stack.items ≡ l.stack.items ++ backwards l.taken.items; within : length l.taken.items ≤ l.count }
+
+abbrev pub decreases-loop-stack : goal.decreases-loop-stack
+decreases-loop-stack l = l.count - length l.taken.items

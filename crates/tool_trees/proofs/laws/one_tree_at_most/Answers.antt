@@ -1,0 +1,5 @@
+use Rattle.tool_trees.proofs.Readings.{one_tree}
+use Rattle.tool_trees.proofs.laws.one_tree_at_most.Goals as goal
+
+pub returns : goal.returns
+returns c = one_tree

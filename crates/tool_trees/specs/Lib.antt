@@ -1,0 +1,5 @@
+pub mod Words
+pub mod Trees
+pub mod Steps
+pub mod Levels
+pub mod Doing

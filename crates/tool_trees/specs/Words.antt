@@ -1,0 +1,104 @@
+-- The lines of a tree: what each says.
+use Rattle.std.specs.Prelude.{◌≡◌, ◌||◌, ℕ, ◌<◌, ◌≤◌, ◌^◌, Bool, true, false, List, [], ◌∷◌, ◌++◌, codes, decimal, flat_map, IsUtf8}
+use Rattle.std.specs.List.{AllByRecursion}
+use Rattle.tool_grammar.specs.Cuts.{Lacks}
+use Rattle.tool_grammar.specs.Grammar.{name_word, IsName}
+use Rattle.tool_trees.specs.declared.tree_line.Kinds.{Kinds}
+use Rattle.tool_trees.specs.declared.tree_line.RouteWord.{RouteWord}
+use Rattle.tool_trees.specs.declared.tree_line.TreeLine.{TreeLine}
+use Rattle.tool_trees.specs.declared.tree_line.TreeLine.TheVariants as line
+use Rattle.tool_trees.specs.declared.tree_line.First.{First}
+use Rattle.tool_trees.specs.declared.tree_line.First.TheVariants as first
+
+-- ---- words
+
+-- several words, each with a space before it
+abbrev pub words : {A : Type 0} → (A → List ℕ) → List A → List ℕ
+words word xs = flat_map (λ x. 32 ∷ word x) xs
+
+abbrev pub case_word : Bool → List ℕ
+case_word false = codes "cs"
+case_word true = codes "ci"
+
+abbrev pub form_word : Bool → List ℕ
+form_word false = codes "links"
+form_word true = codes "dfa"
+
+abbrev pub letter : Bool → List ℕ → List ℕ
+letter false word = []
+letter true word = word
+
+-- a letter for each kind, in this order
+abbrev pub kinds_word : Kinds → List ℕ
+kinds_word k = letter k.counters (codes "c") ++ (letter k.gauges (codes "g") ++ letter k.histograms (codes "h"))
+
+-- one kind at least
+abbrev pub HasKind : Kinds → Type 0
+HasKind k = (k.counters || (k.gauges || k.histograms)) ≡ true
+
+-- kinds, target and pattern, with a slash between two. The pattern is as written: nothing or a dash for the empty one
+abbrev pub route_word : RouteWord → List ℕ
+route_word r = kinds_word r.kinds ++ 47 ∷ (decimal r.target ++ 47 ∷ r.pattern)
+
+-- ---- lines
+
+abbrev pub first_word : First → List ℕ
+first_word first.Book = codes "book"
+first_word first.Noop = codes "noop"
+first_word first.Prefix = codes "prefix"
+first_word first.Filter = codes "filter"
+first_word first.Fanout = codes "fanout"
+first_word first.Router = codes "router"
+first_word first.End = codes "end"
+
+-- the first word of a line
+abbrev pub line_word : TreeLine → List ℕ
+line_word line.Book = codes "book"
+line_word line.Noop = codes "noop"
+line_word (line.Prefix p) = codes "prefix"
+line_word (line.Filter fold table patterns) = codes "filter"
+line_word (line.Fanout n) = codes "fanout"
+line_word (line.Router n routes) = codes "router"
+line_word line.End = codes "end"
+
+-- what follows it
+abbrev pub line_rest : TreeLine → List ℕ
+line_rest line.Book = []
+line_rest line.Noop = []
+line_rest (line.Prefix p) = 32 ∷ name_word p
+line_rest (line.Filter fold table patterns) = 32 ∷ (case_word fold ++ 32 ∷ (form_word table ++ words name_word patterns))
+line_rest (line.Fanout n) = 32 ∷ decimal n
+line_rest (line.Router n routes) = 32 ∷ (decimal n ++ words route_word routes)
+line_rest line.End = []
+
+abbrev pub spelling : TreeLine → List ℕ
+spelling l = line_word l ++ line_rest l
+
+-- some kind, a number, and a pattern in one word
+abbrev pub IsRoute : RouteWord → Type 0
+IsRoute r = HasKind r.kinds × (r.target < 2 ^ 64) × IsUtf8 r.pattern × Lacks 32 r.pattern
+
+-- the lines that can be written
+abbrev pub CanBeSpelled : TreeLine → Type 0
+CanBeSpelled line.Book = Unit {0}
+CanBeSpelled line.Noop = Unit {0}
+CanBeSpelled (line.Prefix p) = IsName p
+CanBeSpelled (line.Filter fold table patterns) = AllByRecursion IsName patterns
+CanBeSpelled (line.Fanout n) = n ≤ 65536
+CanBeSpelled (line.Router n routes) = (n < 2 ^ 64) × AllByRecursion IsRoute routes
+CanBeSpelled line.End = Unit {0}
+
+-- the bytes spell the line
+abbrev pub Spells : List ℕ → TreeLine → Type 0
+Spells bytes l = CanBeSpelled l × (bytes ≡ spelling l)
+
+-- the bytes spell no line
+abbrev pub IsNoLine : List ℕ → Type 0
+IsNoLine bytes = (l : TreeLine) → Spells bytes l → ⊥
+
+-- a first word, and what follows it, spell the line
+abbrev pub SpellsFrom : List ℕ → List ℕ → TreeLine → Type 0
+SpellsFrom word rest l = CanBeSpelled l × (word ≡ line_word l) × (rest ≡ line_rest l)
+
+abbrev pub IsNoLineFrom : List ℕ → List ℕ → Type 0
+IsNoLineFrom word rest = (l : TreeLine) → SpellsFrom word rest l → ⊥

@@ -1,0 +1,146 @@
+//! Builds routers.
+ghost use Rattle.std.specs.Prelude.{◌≡◌, ◌<◌, ◌≤◌, ◌+◌, ◌^◌, ◌++◌, ◌∷◌, [], ℕ, suc, ◌-◌};
+ghost use Rattle.std.specs.Prelude.{max, length, map, List, if◌then◌else◌, OnOk, MatchResult};
+ghost use Rattle.std.specs.List.{AllByRecursion};
+ghost use Rattle.metrics_names.specs.declared.kind.MetricKind.{MetricKind as Kind};
+ghost use Rattle.metrics.specs.Layers.{Route, mask_has, routed};
+ghost use Rattle.metrics_trees.specs.Builders.{router_recorders, HasRoutes};
+ghost use Rattle.tool_trees.specs.Words.{IsRoute};
+ghost use Rattle.tool_trees.specs.Trees.{pattern_of, mask_of, route_of, books_in, NameTargets};
+ghost use Rattle.tool_trees.specs.declared.level.LineError.TheVariants.{Bad as IsBadLine};
+ghost use Rattle.tool_trees.specs.Levels.{backwards, level_meanings, most_of, Adds, CantAdd, AreRouted};
+
+use crate::level::{Level, LineError, refusing};
+use crate::tree_line::{Kinds, RouteWord};
+use metrics::{MetricKindMask, Recorder, Text};
+use metrics_debugging::DebuggingRecorder;
+use metrics_trees::{Child, RouterBuilder};
+use std::alloc::Global;
+
+/// The mask, if it is asked for.
+fn only_if(wanted: bool, mask: MetricKindMask) -> MetricKindMask
+    ensures { result ≡ (if wanted then mask else 0) }
+{
+    if wanted { mask } else { MetricKindMask::NONE }
+}
+
+/// The mask of some kinds.
+fn mask_from(kinds: Kinds) -> MetricKindMask
+    ensures { (kind : Kind) → mask_has kind result ≡ mask_has kind (mask_of kinds) }
+{
+    only_if(kinds.counters, MetricKindMask::COUNTER)
+        | only_if(kinds.gauges, MetricKindMask::GAUGE)
+        | only_if(kinds.histograms, MetricKindMask::HISTOGRAM)
+}
+
+/// The pattern that a word spells.
+fn pattern_text(word: &Text) -> &str
+    ensures { result.now ≡ pattern_of word.now }
+{
+    let text = word.as_str();
+    if text == "-" { "" } else { text }
+}
+
+/// Adds a route, to a target that was named, or to the next one from the end of the list.
+fn add_one(
+    builder: &mut RouterBuilder<DebuggingRecorder>,
+    targets: &mut Vec<Level>,
+    named: u64,
+    most: u64,
+    route: &RouteWord,
+) -> Result<(u64, u64), LineError>
+    requires is_route { IsRoute route.now }
+    requires named { suc named ≡ length (router_recorders builder.old) }
+    requires few { named + length targets.old.items < 2 ^ 64 }
+    ensures routes { OnOk result ((rs : List Route) → HasRoutes builder.old rs
+        → HasRoutes builder.new (rs ++ route_of route.now ∷ [])) }
+    ensures step { MatchResult result
+        (λ next. Adds route.now.target named most (router_recorders builder.old) (router_recorders builder.new)
+        targets.old.items targets.new.items next)
+        (λ e. e ≡ IsBadLine → CantAdd route.now.target named (router_recorders builder.old) targets.old.items) }
+{
+    let mask = mask_from(route.kinds);
+    let pattern = pattern_text(&route.pattern);
+    if route.target < named {
+        return match builder.add_route_to(mask, pattern, route.target as usize) {
+            Ok(()) => Ok((named, most)),
+            Err(error) => Err(LineError::from(error)),
+        };
+    }
+    if route.target > named {
+        return Err(LineError::Bad);
+    }
+    let Some(Level { child, levels }) = targets.pop() else {
+        return Err(LineError::Bad);
+    };
+    match builder.add_route(mask, pattern, child) {
+        Ok(_) => Ok((named + 1, most.max(levels))),
+        Err(refused) => Err(LineError::from(refused)),
+    }
+}
+
+/// Adds routes, to targets from the end of the list, all of which have to be named. Returns the greatest number of levels.
+fn add_routes(
+    builder: &mut RouterBuilder<DebuggingRecorder>,
+    targets: &mut Vec<Level>,
+    routes: &[RouteWord],
+    first: u64,
+) -> Result<u64, LineError>
+    requires are_routes { AllByRecursion IsRoute routes.now }
+    requires alone { length (router_recorders builder.old) ≡ 1 }
+    requires none { HasRoutes builder.old [] }
+    requires low { first ≤ 1000 }
+    requires fits { books_in (router_recorders builder.old) ≤ 65536 }
+    ensures routes { OnOk result (HasRoutes builder.new (map route_of routes.now)) }
+    ensures all { MatchResult result
+        (λ most. AreRouted (router_recorders builder.old) (router_recorders builder.new) targets.old.items routes.now first most)
+        (λ e. e ≡ IsBadLine → NameTargets (length targets.old.items) 0 routes.now
+        → books_in (router_recorders builder.old ++ level_meanings (backwards targets.old.items)) ≤ 65536 → ⊥) }
+{
+    let mut named: u64 = 0;
+    let mut most = first;
+    for route in routes {
+        let next = match add_one(builder, targets, named, most, route) {
+            Ok(next) => next,
+            Err(error) => return Err(error),
+        };
+        named = next.0;
+        most = next.1;
+    }
+    if targets.is_empty() {
+        Ok(most)
+    } else {
+        Err(LineError::Bad)
+    }
+}
+
+/// Returns a router over recorders, of which the last is the default, and its number of levels.
+pub fn router_over(
+    alloc: Global,
+    mut taken: Vec<Level>,
+    routes: &[RouteWord],
+) -> Result<(Child<DebuggingRecorder>, u64), LineError>
+    requires are_routes { AllByRecursion IsRoute routes.now }
+    requires some { 0 < length taken.items }
+    ensures { let all = backwards taken.items in MatchResult result
+        (λ made. NameTargets (length taken.items - 1) 0 routes.now × (books_in (level_meanings all) ≤ 65536)
+        × (⟦<Child<DebuggingRecorder> as Recorder>⟧.meaning made.0 ≡ routed (map route_of routes.now) (level_meanings all))
+        × (made.1 ≡ suc (most_of all)))
+        (λ e. e ≡ IsBadLine → NameTargets (length taken.items - 1) 0 routes.now
+        → books_in (level_meanings all) ≤ 65536 → ⊥) }
+{
+    let Some(Level { child, levels }) = taken.pop() else {
+        return Err(LineError::Memory);
+    };
+    // The trait bounds the number of books when it is asked for.
+    let _books = child.books();
+    let mut builder = RouterBuilder::from_recorder(alloc, child);
+    let most = match add_routes(&mut builder, &mut taken, routes, levels) {
+        Ok(most) => most,
+        Err(error) => return Err(refusing(error, builder)),
+    };
+    match Child::router(builder.build()) {
+        Ok(router) => Ok((router, most + 1)),
+        Err(refused) => Err(LineError::from(refused)),
+    }
+}
