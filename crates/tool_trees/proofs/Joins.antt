@@ -1,20 +1,14 @@
 -- Recorders side by side, and routes.
-use Rattle.std.proofs.Common.{◌≡◌, ◌≢◌, ℕ, zero, suc, ◌<◌, ◌≤◌, ◌+◌, max, Bool, true, false, ◌&&◌, ◌||◌, if◌then◌else◌, nat_eq, nat_lt, List, [], ◌∷◌, ◌++◌, length, Some, None, refl, sym, ap, subst, ◌∙◌, arith, append-nil, append_assoc, length-append}
-use Rattle.std.specs.Option.{option_or}
-use Rattle.std.specs.Str.{bytes_eq}
+use Rattle.std.proofs.Common.{◌≡◌, ◌≢◌, ℕ, suc, ◌<◌, ◌≤◌, ◌+◌, max, Bool, true, false, if◌then◌else◌, nat_eq, nat_lt, List, [], ◌∷◌, ◌++◌, length, refl, sym, ap, subst, ◌∙◌, arith, append-nil, append_assoc, length-append}
 use Rattle.std.proofs.lemmas.Bool.Decides.{nat_tests}
-use Rattle.metrics_names.specs.declared.kind.MetricKind.{MetricKind}
-use Rattle.metrics_names.specs.declared.kind.MetricKind.TheVariants.{Counter, Gauge, Histogram}
 use Rattle.metrics.specs.declared.error.Error.{Error}
 use Rattle.metrics.specs.declared.error.Error.TheVariants as error
 use Rattle.metrics.specs.Meaning.{Meaning}
-use Rattle.metrics.specs.Layers.{Route, mask_has, joined_all}
+use Rattle.metrics.specs.Layers.{joined_all}
 use Rattle.metrics_trees.specs.Recorders.{refusal, route_refusal, target_refusal}
-use Rattle.metrics_trees.specs.Routing.{RouteTables, AreTablesOf, last_target}
 use Rattle.metrics_trees.proofs.JoinedLemmas.{books-append}
-use Rattle.tool_trees.specs.declared.tree_line.Kinds.{Kinds}
 use Rattle.tool_trees.specs.Words.{HasKind}
-use Rattle.tool_trees.specs.Trees.{books_in, mask_of}
+use Rattle.tool_trees.specs.Trees.{books_in}
 use Rattle.tool_trees.proofs.LastLines.{split_same}
 use Rattle.tool_trees.specs.declared.level.Level.{Level}
 use Rattle.tool_trees.specs.declared.level.LineError.{LineError}
@@ -76,40 +70,10 @@ too_many_all now whole taken rest l e h lt =
     let one : books_in (level_meaning l ∷ level_meanings (backwards rest)) ≡ length (level_meaning l).contents + books_in (level_meanings (backwards rest)) = length-append (level_meaning l).contents (joined_all (level_meanings (backwards rest))).contents in
     omega (arith, all, one, lt)
 
--- ---- masks
-
-AreAlike : ℕ → ℕ → Type 0
-AreAlike m n = (kind : MetricKind) → mask_has kind m ≡ mask_has kind n
-
-differs : (a b : Bool) → a ≡ b → a ≡ false → b ≡ true → ⊥
-differs a b e p q = cc
-
-some_bit : (c g h : Bool) (m : ℕ) → (c || (g || h)) ≡ true → ((kind : MetricKind) → mask_has kind 0 ≡ mask_has kind (mask_of (record { counters = c; gauges = g; histograms = h }))) → ⊥
-some_bit false false false m s e = absurd (cc)
-some_bit false false true m s e = differs _ _ (e Histogram) refl refl
-some_bit false true false m s e = differs _ _ (e Gauge) refl refl
-some_bit false true true m s e = differs _ _ (e Gauge) refl refl
-some_bit true false false m s e = differs _ _ (e Counter) refl refl
-some_bit true false true m s e = differs _ _ (e Counter) refl refl
-some_bit true true false m s e = differs _ _ (e Counter) refl refl
-some_bit true true true m s e = differs _ _ (e Counter) refl refl
-
--- a mask of some kinds isn't empty
-pub not_empty : (k : Kinds) (m : ℕ) → HasKind k → ((kind : MetricKind) → mask_has kind m ≡ mask_has kind (mask_of k)) → nat_eq m 0 ≡ false
-not_empty k zero s e = absurd (some_bit k.counters k.gauges k.histograms 0 s e)
-not_empty k (suc m) s e = grind (arith, nat_tests)
-
 -- ---- routes
 
-last_as : (rs : List Route) (r s : Route) → ((kind : MetricKind) → mask_has kind r.mask ≡ mask_has kind s.mask) → r.pattern ≡ s.pattern → r.target ≡ s.target → (kind : MetricKind) (p : List ℕ) → last_target (rs ++ r ∷ []) kind p ≡ last_target (rs ++ s ∷ []) kind p
-last_as [] r s e f g kind p =
-    ap (λ b. option_or None (if b && bytes_eq p r.pattern then Some r.target else None)) (e kind) ∙ ap (λ q. option_or None (if mask_has kind s.mask && bytes_eq p q then Some r.target else None)) f
-    ∙ ap (λ t. option_or None (if mask_has kind s.mask && bytes_eq p s.pattern then Some t else None)) g
-last_as (q ∷ rs) r s e f g kind p = ap (λ o. option_or o (if mask_has kind q.mask && bytes_eq p q.pattern then Some q.target else None)) (last_as rs r s e f g kind p)
-
--- routes of like masks are kept alike
-pub routes_as : (tables : RouteTables) (rs : List Route) (r s : Route) → ((kind : MetricKind) → mask_has kind r.mask ≡ mask_has kind s.mask) → r.pattern ≡ s.pattern → r.target ≡ s.target → AreTablesOf tables (rs ++ r ∷ []) → AreTablesOf tables (rs ++ s ∷ [])
-routes_as tables rs r s e f g h kind p = h kind p ∙ last_as rs r s e f g kind p
+pub not_empty : (mask : ℕ) → HasKind mask → nat_eq mask 0 ≡ false
+not_empty mask h = grind (arith, nat_tests, h.0)
 
 else_is : (b : Bool) (P Q : Error) (e : Error) → e ≡ (if b then P else Q) → b ≡ false → e ≡ Q
 else_is true P Q e h f = absurd (cc)

@@ -1,19 +1,21 @@
 -- Bytes spell at most one line.
-use Rattle.std.proofs.Common.{◌≡◌, ◌≢◌, ℕ, ◌<◌, ◌^◌, List, [], ◌∷◌, ◌++◌, Bool, true, false, ◌||◌, eqb, codes, decimal, get_or, refl, sym, ap, ◌∙◌, arith}
+use Rattle.std.proofs.Common.{if◌then◌else◌, ◌≡◌, ◌≢◌, ℕ, zero, suc, ◌+◌, ◌<◌, ◌≤◌, ◌^◌, List, [], ◌∷◌, ◌++◌, length, Bool, true, false, ◌||◌, eqb, codes, decimal, get_or, refl, sym, ap, ◌∙◌, arith}
 use Rattle.std.specs.List.{AllByRecursion}
 use Rattle.std.specs.Str.Parse.{AllDigits, digits_value}
 use Rattle.std.proofs.lemmas.List.Elements.{recursion_from_All, All-from_recursion, All-append}
 use Rattle.std.proofs.lemmas.Fmt.{decimal_is_IsNumeral}
 use Rattle.std.proofs.lemmas.Str.Parse.{digit_from_value}
+use Rattle.metrics_names.specs.declared.kind.MetricKind.{MetricKind}
+use Rattle.metrics_names.specs.declared.kind.MetricKind.TheVariants.{Counter, Gauge, Histogram}
+use Rattle.metrics.specs.Layers.{mask_has}
 use Rattle.tool_grammar.specs.Cuts.{Lacks, StartsAt}
 use Rattle.tool_grammar.specs.Grammar.{name_word, IsName}
 use Rattle.tool_grammar.proofs.CallLemmas.{name_same}
 use Rattle.tool_grammar.proofs.WordsLemmas.{before_same, first_same, lacks_literal, lacks_name, lacks_decimal}
-use Rattle.tool_trees.specs.declared.tree_line.Kinds.{Kinds}
 use Rattle.tool_trees.specs.declared.tree_line.RouteWord.{RouteWord}
 use Rattle.tool_trees.specs.declared.tree_line.TreeLine.{TreeLine}
 use Rattle.tool_trees.specs.declared.tree_line.TreeLine.TheVariants as line
-use Rattle.tool_trees.specs.Words.{letter, words, case_word, form_word, kinds_word, route_word, line_word, line_rest, spelling, IsRoute, CanBeSpelled}
+use Rattle.tool_trees.specs.Words.{HasKind, letter, words, case_word, form_word, kinds_word, route_word, line_word, line_rest, spelling, IsRoute, CanBeSpelled}
 
 pub tail_same : (x : ℕ) (a b : List ℕ) → x ∷ a ≡ x ∷ b → a ≡ b
 tail_same x a b e = cc
@@ -72,70 +74,42 @@ form_same true true e = refl
 
 -- ---- routes
 
-abbrev has_byte : ℕ → List ℕ → Bool
-has_byte c [] = false
-has_byte c (x ∷ xs) = eqb x c || has_byte c xs
+-- the mask of the letters c, g and h
+abbrev kinds_in : List ℕ → ℕ
+kinds_in [] = 0
+kinds_in (x ∷ xs) = (if eqb x 99 then 1 else if eqb x 103 then 2 else 4) + kinds_in xs
 
-abbrev letters : Bool → Bool → Bool → List ℕ
-letters c g h = letter c (codes "c") ++ (letter g (codes "g") ++ letter h (codes "h"))
+kinds_read : (mask : ℕ) → mask ≤ 7 → kinds_in (kinds_word mask) ≡ mask
+kinds_read (suc (suc (suc (suc (suc (suc (suc (suc mask)))))))) le = absurd (omega (arith, le))
+kinds_read mask le = refl
 
-has_c : (c g h : Bool) → has_byte 99 (letters c g h) ≡ c
-has_c false false false = refl
-has_c false false true = refl
-has_c false true false = refl
-has_c false true true = refl
-has_c true false false = refl
-has_c true false true = refl
-has_c true true false = refl
-has_c true true true = refl
+kinds_same : (j k : ℕ) → HasKind j → HasKind k → kinds_word j ≡ kinds_word k → j ≡ k
+kinds_same j k h g e = sym (kinds_read j h.1) ∙ ap kinds_in e ∙ kinds_read k g.1
 
-has_g : (c g h : Bool) → has_byte 103 (letters c g h) ≡ g
-has_g false false false = refl
-has_g false false true = refl
-has_g false true false = refl
-has_g false true true = refl
-has_g true false false = refl
-has_g true false true = refl
-has_g true true false = refl
-has_g true true true = refl
+lacks_letter : (c : ℕ) (b : Bool) (x : ℕ) → c < x → Lacks c (letter b (x ∷ []))
+lacks_letter c false x lt = All-from_recursion (λ y. y ≢ c) [] tt
+lacks_letter c true x lt = All-from_recursion (λ y. y ≢ c) (x ∷ []) ((λ e. absurd (omega (arith, lt, e))), tt)
 
-has_h : (c g h : Bool) → has_byte 104 (letters c g h) ≡ h
-has_h false false false = refl
-has_h false false true = refl
-has_h false true false = refl
-has_h false true true = refl
-has_h true false false = refl
-has_h true false true = refl
-has_h true true false = refl
-has_h true true true = refl
+pub lacks_kinds : (c mask : ℕ) → c < 99 → Lacks c (kinds_word mask)
+lacks_kinds c mask lt =
+    All-append (λ y. y ≢ c) _ _ (lacks_letter c (mask_has Counter mask) 99 lt)
+    (All-append (λ y. y ≢ c) _ _ (lacks_letter c (mask_has Gauge mask) 103 (omega (arith, lt))) (lacks_letter c (mask_has Histogram mask) 104 (omega (arith, lt))))
 
-kinds_same : (j k : Kinds) → kinds_word j ≡ kinds_word k → j ≡ k
-kinds_same j k e =
-    ap (λ b. record { counters = b; gauges = j.gauges; histograms = j.histograms }) (sym (has_c j.counters j.gauges j.histograms) ∙ ap (has_byte 99) e ∙ has_c k.counters k.gauges k.histograms)
-    ∙ ap (λ b. record { counters = k.counters; gauges = b; histograms = j.histograms }) (sym (has_g j.counters j.gauges j.histograms) ∙ ap (has_byte 103) e ∙ has_g k.counters k.gauges k.histograms)
-    ∙ ap (λ b. record { counters = k.counters; gauges = k.gauges; histograms = b }) (sym (has_h j.counters j.gauges j.histograms) ∙ ap (has_byte 104) e ∙ has_h k.counters k.gauges k.histograms)
+two_bytes : (word : List ℕ) (x y : ℕ) → length word ≡ 2 → get_or word 0 0 ≡ x → get_or word 1 0 ≡ y → word ≡ x ∷ (y ∷ [])
+two_bytes (a ∷ (b ∷ [])) x y l p q = ap (λ z. z ∷ (b ∷ [])) p ∙ ap (λ z. x ∷ (z ∷ [])) q
+two_bytes word x y l p q = absurd (omega (arith, l))
 
-pub lacks_kinds : (c : ℕ) (k : Kinds) → c < 99 → Lacks c (kinds_word k)
-lacks_kinds x k lt = All-from_recursion _ (kinds_word k) (each k.counters k.gauges k.histograms)
-  where
-    one_c : 99 ≢ x
-    one_c e = absurd (omega (arith, e))
+some_kind : (word : List ℕ) (mask : ℕ) → word ≡ kinds_word mask → length word ≡ 2 → 0 < mask
+some_kind word zero e l = absurd (omega (arith, ap length e, l))
+some_kind word (suc mask) e l = omega arith
 
-    one_g : 103 ≢ x
-    one_g e = absurd (omega (arith, e))
-
-    one_h : 104 ≢ x
-    one_h e = absurd (omega (arith, e))
-
-    each : (c g h : Bool) → AllByRecursion (λ y. y ≢ x) (letters c g h)
-    each false false false = tt
-    each false false true = (one_h, tt)
-    each false true false = (one_g, tt)
-    each false true true = (one_g, (one_h, tt))
-    each true false false = (one_c, tt)
-    each true false true = (one_c, (one_h, tt))
-    each true true false = (one_c, (one_g, tt))
-    each true true true = (one_c, (one_g, (one_h, tt)))
+-- the kinds of two masks, spelled by two letters
+pub kinds_of_both : (word : List ℕ) (a b both x y : ℕ) → length word ≡ 2 → get_or word 0 0 ≡ x → get_or word 1 0 ≡ y → both ≤ 7 → ((kind : MetricKind) → mask_has kind both ≡ (mask_has kind a || mask_has kind b))
+    → x ∷ (y ∷ []) ≡ letter (mask_has Counter a || mask_has Counter b) (codes "c") ++ (letter (mask_has Gauge a || mask_has Gauge b) (codes "g") ++ letter (mask_has Histogram a || mask_has Histogram b) (codes "h"))
+    → HasKind both × (word ≡ kinds_word both)
+kinds_of_both word a b both x y l p q le has e =
+    let same : word ≡ kinds_word both = rw (has Counter, has Gauge, has Histogram) (two_bytes word x y l p q ∙ e) in
+    ((some_kind word both same l, le), same)
 
 pub lacks_route : (r : RouteWord) → IsRoute r → Lacks 32 (route_word r)
 lacks_route r h =
@@ -162,7 +136,7 @@ route_is r s e f g =
 pub route_same : (r s : RouteWord) → IsRoute r → IsRoute s → route_word r ≡ route_word s → r ≡ s
 route_same r s h g e =
     let parts = route_parts (kinds_word r.kinds) (decimal r.target) r.pattern s g (lacks_kinds 47 r.kinds (omega arith)) (slashless r.target h.1) e in
-    route_is r s (kinds_same r.kinds s.kinds parts.0) (decimal_same r.target s.target h.1 g.1 parts.1) parts.2
+    route_is r s (kinds_same r.kinds s.kinds h.0 g.0 parts.0) (decimal_same r.target s.target h.1 g.1 parts.1) parts.2
 
 -- ---- lines
 

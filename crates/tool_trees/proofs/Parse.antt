@@ -5,7 +5,6 @@ use Rattle.std.specs.List.{AllByRecursion}
 use Rattle.tool_grammar.specs.Cuts.{Lacks, StartsAt}
 use Rattle.tool_grammar.specs.Grammar.{name_word, IsName}
 use Rattle.tool_grammar.proofs.WordsLemmas.{before_same, first_same, lacks_decimal, not_cut}
-use Rattle.tool_trees.specs.declared.tree_line.Kinds.{Kinds}
 use Rattle.tool_trees.specs.declared.tree_line.RouteWord.{RouteWord}
 use Rattle.tool_trees.specs.declared.tree_line.TreeLine.{TreeLine}
 use Rattle.tool_trees.specs.declared.tree_line.TreeLine.TheVariants as line
@@ -78,7 +77,7 @@ module _ (bytes kinds rest : List ℕ) (whole : bytes ≡ kinds ++ 47 ∷ rest) 
     are_parts : (r : RouteWord) → IsRoute r → bytes ≡ route_word r → (kinds ≡ kinds_word r.kinds) × (target ≡ decimal r.target) × (pattern ≡ r.pattern)
     are_parts r h e = route_parts kinds target pattern r h before slash (ap (λ z. kinds ++ 47 ∷ z) (sym parts) ∙ sym whole ∙ e)
 
-    pub no_kinds : ((k : Kinds) → HasKind k → kinds ≡ kinds_word k → ⊥) → (r : RouteWord) → IsRoute r → bytes ≡ route_word r → ⊥
+    pub no_kinds : ((k : ℕ) → HasKind k → kinds ≡ kinds_word k → ⊥) → (r : RouteWord) → IsRoute r → bytes ≡ route_word r → ⊥
     no_kinds fails r h e = fails r.kinds h.0 (are_parts r h e).0
 
     pub no_target : ((n : ℕ) → n < 2 ^ 64 → target ≡ decimal n → ⊥) → (r : RouteWord) → IsRoute r → bytes ≡ route_word r → ⊥
@@ -92,7 +91,7 @@ lacks_behind c [] b h = h
 lacks_behind c (x ∷ a) b h = lacks_behind c a b h.1
 
 -- what was read is a route
-pub route_found : (word kinds rest target pattern p : List ℕ) (m : Kinds) (n : ℕ) → word ≡ kinds ++ 47 ∷ rest → rest ≡ target ++ 47 ∷ pattern → Lacks 32 word → HasKind m → kinds ≡ kinds_word m → n < 2 ^ 64 → target ≡ decimal n →
+pub route_found : (word kinds rest target pattern p : List ℕ) (m n : ℕ) → word ≡ kinds ++ 47 ∷ rest → rest ≡ target ++ 47 ∷ pattern → Lacks 32 word → HasKind m → kinds ≡ kinds_word m → n < 2 ^ 64 → target ≡ decimal n →
     IsUtf8 pattern → p ≡ pattern → let r : RouteWord = record { kinds = m; target = n; pattern = p } in IsRoute r × (word ≡ route_word r)
 route_found word kinds rest target pattern p m n whole parts lacks some ek lt et utf8 ep =
     let all : word ≡ kinds ++ 47 ∷ (target ++ 47 ∷ pattern) = whole ∙ ap (λ z. kinds ++ 47 ∷ z) parts in

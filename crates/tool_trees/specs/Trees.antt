@@ -1,11 +1,10 @@
 -- The trees that tree lines spell: their lines, what is required of them, and what they mean.
-use Rattle.std.specs.Prelude.{if◌then◌else◌, ◌≡◌, ℕ, suc, ◌+◌, ◌<◌, ◌≤◌, ◌⊎◌, max, Bool, List, [], ◌∷◌, ◌++◌, codes, length, map}
+use Rattle.std.specs.Prelude.{if◌then◌else◌, ◌≡◌, ℕ, suc, ◌<◌, ◌≤◌, ◌⊎◌, max, Bool, List, [], ◌∷◌, ◌++◌, codes, length, map}
 use Rattle.std.specs.List.{sum_by}
 use Rattle.std.specs.Str.{bytes_eq}
 use Rattle.metrics.specs.Book.{new_book}
 use Rattle.metrics.specs.Meaning.{Meaning, nothing, one_book}
 use Rattle.metrics.specs.Layers.{Route, prefixed, filtered, joined_all, routed}
-use Rattle.tool_trees.specs.declared.tree_line.Kinds.{Kinds}
 use Rattle.tool_trees.specs.declared.tree_line.RouteWord.{RouteWord}
 use Rattle.tool_trees.specs.declared.tree_line.TreeLine.{TreeLine}
 use Rattle.tool_trees.specs.declared.tree_line.TreeLine.TheVariants as line
@@ -68,12 +67,8 @@ abbrev mutual
 abbrev pub pattern_of : List ℕ → List ℕ
 pattern_of word = if bytes_eq word (codes "-") then [] else word
 
--- bit 0 is for counters, bit 1 for gauges, bit 2 for histograms
-abbrev pub mask_of : Kinds → ℕ
-mask_of k = (if k.counters then 1 else 0) + ((if k.gauges then 2 else 0) + (if k.histograms then 4 else 0))
-
 abbrev pub route_of : RouteWord → Route
-route_of r = record { mask = mask_of r.kinds; pattern = pattern_of r.pattern; target = r.target }
+route_of r = record { mask = r.kinds; pattern = pattern_of r.pattern; target = r.target }
 
 -- the recorder that a tree is, its books new
 abbrev mutual

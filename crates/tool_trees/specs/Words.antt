@@ -1,9 +1,10 @@
 -- The lines of a tree: what each says.
-use Rattle.std.specs.Prelude.{◌≡◌, ◌||◌, ℕ, ◌<◌, ◌≤◌, ◌^◌, Bool, true, false, List, [], ◌∷◌, ◌++◌, codes, decimal, flat_map, IsUtf8}
+use Rattle.std.specs.Prelude.{◌≡◌, ℕ, ◌<◌, ◌≤◌, ◌^◌, Bool, true, false, List, [], ◌∷◌, ◌++◌, codes, decimal, flat_map, IsUtf8}
 use Rattle.std.specs.List.{AllByRecursion}
+use Rattle.metrics_names.specs.declared.kind.MetricKind.TheVariants.{Counter, Gauge, Histogram}
+use Rattle.metrics.specs.Layers.{mask_has}
 use Rattle.tool_grammar.specs.Cuts.{Lacks}
 use Rattle.tool_grammar.specs.Grammar.{name_word, IsName}
-use Rattle.tool_trees.specs.declared.tree_line.Kinds.{Kinds}
 use Rattle.tool_trees.specs.declared.tree_line.RouteWord.{RouteWord}
 use Rattle.tool_trees.specs.declared.tree_line.TreeLine.{TreeLine}
 use Rattle.tool_trees.specs.declared.tree_line.TreeLine.TheVariants as line
@@ -28,13 +29,13 @@ abbrev pub letter : Bool → List ℕ → List ℕ
 letter false word = []
 letter true word = word
 
--- a letter for each kind, in this order
-abbrev pub kinds_word : Kinds → List ℕ
-kinds_word k = letter k.counters (codes "c") ++ (letter k.gauges (codes "g") ++ letter k.histograms (codes "h"))
+-- a letter for each kind of a mask, in this order
+abbrev pub kinds_word : ℕ → List ℕ
+kinds_word mask = letter (mask_has Counter mask) (codes "c") ++ (letter (mask_has Gauge mask) (codes "g") ++ letter (mask_has Histogram mask) (codes "h"))
 
--- one kind at least
-abbrev pub HasKind : Kinds → Type 0
-HasKind k = (k.counters || (k.gauges || k.histograms)) ≡ true
+-- a mask with one kind at least
+abbrev pub HasKind : ℕ → Type 0
+HasKind mask = (0 < mask) × (mask ≤ 7)
 
 -- kinds, target and pattern, with a slash between two. The pattern is as written: nothing or a dash for the empty one
 abbrev pub route_word : RouteWord → List ℕ

@@ -13,5 +13,5 @@ mod words;
 pub use laws::{one_tree_at_most, targets_in_order};
 pub use level::{Level, LineError};
 pub use reading::read_line;
-pub use tree_line::{Kinds, RouteWord, TreeLine};
+pub use tree_line::{RouteWord, TreeLine};
 pub use words::tree_line_of;

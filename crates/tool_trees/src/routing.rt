@@ -1,37 +1,20 @@
 //! Builds routers.
 ghost use Rattle.std.specs.Prelude.{◌≡◌, ◌<◌, ◌≤◌, ◌+◌, ◌^◌, ◌++◌, ◌∷◌, [], ℕ, suc, ◌-◌};
-ghost use Rattle.std.specs.Prelude.{max, length, map, List, if◌then◌else◌, OnOk, MatchResult};
+ghost use Rattle.std.specs.Prelude.{max, length, map, List, OnOk, MatchResult};
 ghost use Rattle.std.specs.List.{AllByRecursion};
-ghost use Rattle.metrics_names.specs.declared.kind.MetricKind.{MetricKind as Kind};
-ghost use Rattle.metrics.specs.Layers.{Route, mask_has, routed};
+ghost use Rattle.metrics.specs.Layers.{Route, routed};
 ghost use Rattle.metrics_trees.specs.Builders.{router_recorders, HasRoutes};
 ghost use Rattle.tool_trees.specs.Words.{IsRoute};
-ghost use Rattle.tool_trees.specs.Trees.{pattern_of, mask_of, route_of, books_in, NameTargets};
+ghost use Rattle.tool_trees.specs.Trees.{pattern_of, route_of, books_in, NameTargets};
 ghost use Rattle.tool_trees.specs.declared.level.LineError.TheVariants.{Bad as IsBadLine};
 ghost use Rattle.tool_trees.specs.Levels.{backwards, level_meanings, most_of, Adds, CantAdd, AreRouted};
 
 use crate::level::{Level, LineError, refusing};
-use crate::tree_line::{Kinds, RouteWord};
-use metrics::{MetricKindMask, Recorder, Text};
+use crate::tree_line::RouteWord;
+use metrics::{Recorder, Text};
 use metrics_debugging::DebuggingRecorder;
 use metrics_trees::{Child, RouterBuilder};
 use std::alloc::Global;
-
-/// The mask, if it is asked for.
-fn only_if(wanted: bool, mask: MetricKindMask) -> MetricKindMask
-    ensures { result ≡ (if wanted then mask else 0) }
-{
-    if wanted { mask } else { MetricKindMask::NONE }
-}
-
-/// The mask of some kinds.
-fn mask_from(kinds: Kinds) -> MetricKindMask
-    ensures { (kind : Kind) → mask_has kind result ≡ mask_has kind (mask_of kinds) }
-{
-    only_if(kinds.counters, MetricKindMask::COUNTER)
-        | only_if(kinds.gauges, MetricKindMask::GAUGE)
-        | only_if(kinds.histograms, MetricKindMask::HISTOGRAM)
-}
 
 /// The pattern that a word spells.
 fn pattern_text(word: &Text) -> &str
@@ -59,10 +42,10 @@ fn add_one(
         targets.old.items targets.new.items next)
         (λ e. e ≡ IsBadLine → CantAdd route.now.target named (router_recorders builder.old) targets.old.items) }
 {
-    let mask = mask_from(route.kinds);
+    let kinds = route.kinds;
     let pattern = pattern_text(&route.pattern);
     if route.target < named {
-        return match builder.add_route_to(mask, pattern, route.target as usize) {
+        return match builder.add_route_to(kinds, pattern, route.target as usize) {
             Ok(()) => Ok((named, most)),
             Err(error) => Err(LineError::from(error)),
         };
@@ -73,7 +56,7 @@ fn add_one(
     let Some(Level { child, levels }) = targets.pop() else {
         return Err(LineError::Bad);
     };
-    match builder.add_route(mask, pattern, child) {
+    match builder.add_route(kinds, pattern, child) {
         Ok(_) => Ok((named + 1, most.max(levels))),
         Err(refused) => Err(LineError::from(refused)),
     }

@@ -4,14 +4,13 @@ ghost use Rattle.std.specs.Prelude.{IfOk, MatchOption, codes, decimal};
 ghost use Rattle.std.specs.List.{AllByRecursion};
 ghost use Rattle.tool_grammar.specs.Cuts.{Lacks, StartsAt};
 ghost use Rattle.tool_grammar.specs.Grammar.{name_word, IsName};
-ghost use Rattle.tool_trees.specs.declared.tree_line.Kinds.{Kinds as Named};
 ghost use Rattle.tool_trees.specs.declared.tree_line.RouteWord.{RouteWord as Written};
 ghost use Rattle.tool_trees.specs.declared.tree_line.First.{First as Begin};
 ghost use Rattle.tool_trees.specs.Words.{HasKind, words, case_word, form_word, kinds_word, route_word, first_word, IsRoute};
 ghost use Rattle.tool_trees.specs.Words.{Spells, IsNoLine, SpellsFrom, IsNoLineFrom};
 
-use crate::tree_line::{First, Kinds, RouteWord, TreeLine};
-use metrics::{Items, Text};
+use crate::tree_line::{First, RouteWord, TreeLine};
+use metrics::{Items, MetricKindMask, Text};
 use std::alloc::{AllocError, Global};
 use tool_grammar::{behind, name_of, number_of, split_at_first, split_before};
 
@@ -56,25 +55,20 @@ fn first_of(word: &[u8]) -> Option<First>
 }
 
 /// The kinds that the letters of a word name.
-fn kinds_of(word: &[u8]) -> Option<Kinds>
-    ensures { MatchOption result ((kinds : Named) → HasKind kinds → word.now ≡ kinds_word kinds → ⊥)
+fn kinds_of(word: &[u8]) -> Option<MetricKindMask>
+    ensures { MatchOption result ((kinds : ℕ) → HasKind kinds → word.now ≡ kinds_word kinds → ⊥)
         (λ kinds. HasKind kinds × (word.now ≡ kinds_word kinds)) }
 {
-    let (counters, gauges, histograms) = match word {
-        b"c" => (true, false, false),
-        b"g" => (false, true, false),
-        b"h" => (false, false, true),
-        b"cg" => (true, true, false),
-        b"ch" => (true, false, true),
-        b"gh" => (false, true, true),
-        b"cgh" => (true, true, true),
-        _ => return None,
-    };
-    Some(Kinds {
-        counters,
-        gauges,
-        histograms,
-    })
+    match word {
+        b"c" => Some(MetricKindMask::COUNTER),
+        b"g" => Some(MetricKindMask::GAUGE),
+        b"h" => Some(MetricKindMask::HISTOGRAM),
+        b"cg" => Some(MetricKindMask::COUNTER | MetricKindMask::GAUGE),
+        b"ch" => Some(MetricKindMask::COUNTER | MetricKindMask::HISTOGRAM),
+        b"gh" => Some(MetricKindMask::GAUGE | MetricKindMask::HISTOGRAM),
+        b"cgh" => Some(MetricKindMask::ALL),
+        _ => None,
+    }
 }
 
 /// A name, from the bytes of its word.

@@ -1,21 +1,21 @@
-use Rattle.std.proofs.Common.{◌≡◌, ◌+◌, suc, refl, ap, ◌∙◌, arith, inr}
+use Rattle.std.proofs.Common.{◌≡◌, ◌+◌, suc, sym, ap, ◌∙◌, arith, inr}
 use Rattle.metrics_trees.specs.Builders.{router_recorders}
 use Rattle.tool_trees.specs.Levels.{level_meaning}
-use Rattle.tool_trees.proofs.Joins.{not_empty, routes_as, to_earlier, to_next, cant_add}
+use Rattle.tool_trees.proofs.Joins.{not_empty, to_earlier, to_next, cant_add}
 use Rattle.tool_trees.proofs.routing.add_one.Goals as goal
 
 pub returns-in-Ok-clause-routes : goal.returns-in-Ok-clause-routes
-returns-in-Ok-clause-routes c = λ rs h. routes_as _ rs _ _ c.mask_from-mask.ensures c.pattern_text-pattern.ensures refl (c.in-Ok.ensures.3 rs h)
+returns-in-Ok-clause-routes c = λ rs h. rw (sym c.pattern_text-pattern.ensures) (c.in-Ok.ensures.3 rs h)
 
 pub returns-in-Err-clause-step : goal.returns-in-Err-clause-step
 returns-in-Err-clause-step c = λ bad.
-    let some = not_empty c.args.route.now.kinds _ c.requires.is_route.0 c.mask_from-mask.ensures in
+    let some = not_empty c.args.route.now.kinds c.requires.is_route.0 in
     absurd (to_earlier _ _ _ _ _ c.in-Err.ensures.0 some (omega (arith, c.requires.named, c.if-route-named.true)) c.from.ensures bad)
 
 pub returns-in-Ok-add_route-clause-routes : goal.returns-in-Ok-add_route-clause-routes
 returns-in-Ok-add_route-clause-routes c = λ rs h.
     let target : c.in-Ok-add_route.field-0 ≡ c.args.route.now.target = omega (arith, c.in-Ok-add_route.ensures.0, c.requires.named, c.if-route-named.false, c.if-route-named-2.false) in
-    routes_as _ rs _ _ c.mask_from-mask.ensures c.pattern_text-pattern.ensures target (c.in-Ok-add_route.ensures.4 rs h)
+    rw (sym c.pattern_text-pattern.ensures, sym target) (c.in-Ok-add_route.ensures.4 rs h)
 
 pub returns-in-Ok-add_route-clause-step : goal.returns-in-Ok-add_route-clause-step
 returns-in-Ok-add_route-clause-step c =
@@ -25,6 +25,6 @@ returns-in-Ok-add_route-clause-step c =
 
 pub returns-in-Err-add_route-clause-step : goal.returns-in-Err-add_route-clause-step
 returns-in-Err-add_route-clause-step c = λ bad.
-    let some = not_empty c.args.route.now.kinds _ c.requires.is_route.0 c.mask_from-mask.ensures in
+    let some = not_empty c.args.route.now.kinds c.requires.is_route.0 in
     cant_add _ _ (router_recorders c.args.builder.now) _ c.pop.new.self.items c.in-Some.field-0 (λ lt. absurd (omega (arith, lt, c.if-route-named.false))) c.in-Some.ensures.items
     (to_next _ (router_recorders c.args.builder.now) (level_meaning c.in-Some.field-0) _ _ c.in-Err-add_route.ensures.0 some c.from-in-Err-add_route.ensures bad)
