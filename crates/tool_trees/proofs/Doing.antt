@@ -32,9 +32,8 @@ length-backwards (x ∷ xs) = length-append (backwards xs) (x ∷ []) ∙ (omega
 
 pub built_push : (ls : List Level) (ts : List Tree) (l : Level) (t : Tree) → AreBuilt ls ts → IsBuilt l t → AreBuilt (ls ++ l ∷ []) (ts ++ t ∷ [])
 built_push [] [] l t h g = (g, tt)
-built_push [] (s ∷ ts) l t h g = absurd h
-built_push (k ∷ ls) [] l t h g = absurd h
 built_push (k ∷ ls) (s ∷ ts) l t h g = (h.0, built_push ls ts l t h.1 g)
+built_push ls ts l t h g = absurd h
 
 pub record Split (front all : List Level) (ts : List Tree) : Type 0 where
   pub before : List Tree
@@ -52,27 +51,23 @@ built_split (l ∷ front) all (t ∷ ts) h =
 
 pub built_length : (ls : List Level) (ts : List Tree) → AreBuilt ls ts → length ls ≡ length ts
 built_length [] [] h = refl
-built_length [] (t ∷ ts) h = absurd h
-built_length (l ∷ ls) [] h = absurd h
 built_length (l ∷ ls) (t ∷ ts) h = ap suc (built_length ls ts h.1)
+built_length ls ts h = absurd h
 
 pub built_meanings : (ls : List Level) (ts : List Tree) → AreBuilt ls ts → meanings_of (from_list ts) ≡ level_meanings ls
 built_meanings [] [] h = refl
-built_meanings [] (t ∷ ts) h = absurd h
-built_meanings (l ∷ ls) [] h = absurd h
 built_meanings (l ∷ ls) (t ∷ ts) h = ap (λ m. m ∷ meanings_of (from_list ts)) (sym h.0.meaning) ∙ ap (λ ms. level_meaning l ∷ ms) (built_meanings ls ts h.1)
+built_meanings ls ts h = absurd h
 
 pub built_most : (ls : List Level) (ts : List Tree) → AreBuilt ls ts → most_levels (from_list ts) ≡ most_of ls
 built_most [] [] h = refl
-built_most [] (t ∷ ts) h = absurd h
-built_most (l ∷ ls) [] h = absurd h
 built_most (l ∷ ls) (t ∷ ts) h = ap (λ n. max n (most_levels (from_list ts))) (sym h.0.levels) ∙ ap (λ n. max l.levels n) (built_most ls ts h.1)
+built_most ls ts h = absurd h
 
 pub built_allowed : (ls : List Level) (ts : List Tree) → AreBuilt ls ts → AllByRecursion IsAllowed ts
 built_allowed [] [] h = tt
-built_allowed [] (t ∷ ts) h = absurd h
-built_allowed (l ∷ ls) [] h = absurd h
 built_allowed (l ∷ ls) (t ∷ ts) h = (h.0.allowed, built_allowed ls ts h.1)
+built_allowed ls ts h = absurd h
 
 allowed_of : (t : Tree) → IsTop t → AllByRecursion IsAllowed (taken t) → IsAllowed t
 allowed_of Book h g = h

@@ -41,42 +41,31 @@ lines-top (Router routes default ts) = ap (λ ls. (tree_lines default ++ ls) ++ 
 
 -- how many trees a line uses
 abbrev pub arity : TreeLine → ℕ
-arity line.Book = 0
-arity line.Noop = 0
 arity (line.Prefix p) = 1
 arity (line.Filter fold table patterns) = 1
 arity (line.Fanout n) = n
 arity (line.Router n routes) = suc n
-arity line.End = 0
+arity l = 0
 
 pub length-taken : (t : Tree) → length (taken t) ≡ arity (last_line t)
-length-taken Book = refl
-length-taken Noop = refl
-length-taken (Prefix p t) = refl
-length-taken (Filter fold table patterns t) = refl
 length-taken (Fanout ts) = length-list_of ts
 length-taken (Router routes default ts) = ap suc (length-list_of ts)
+length-taken t = refl
 
 -- the tree of a line and of what it uses
 abbrev make : TreeLine → List Tree → Option Tree
 make line.Book ts = Some Book
 make line.Noop ts = Some Noop
-make (line.Prefix p) [] = None
 make (line.Prefix p) (t ∷ ts) = Some (Prefix p t)
-make (line.Filter fold table patterns) [] = None
 make (line.Filter fold table patterns) (t ∷ ts) = Some (Filter fold table patterns t)
 make (line.Fanout n) ts = Some (Fanout (from_list ts))
-make (line.Router n routes) [] = None
 make (line.Router n routes) (t ∷ ts) = Some (Router routes t (from_list ts))
-make line.End ts = None
+make l ts = None
 
 made : (t : Tree) → make (last_line t) (taken t) ≡ Some t
-made Book = refl
-made Noop = refl
-made (Prefix p t) = refl
-made (Filter fold table patterns t) = refl
 made (Fanout ts) = ap (λ us. Some (Fanout us)) (from_list-of ts)
 made (Router routes default ts) = ap (λ us. Some (Router routes default us)) (from_list-of ts)
+made t = refl
 
 some_same : {A : Type 0} (x y : A) → Some x ≡ Some y → x ≡ y
 some_same x y e = cc

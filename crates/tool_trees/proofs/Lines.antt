@@ -1,9 +1,9 @@
 -- Bytes spell at most one line.
 use Rattle.std.proofs.Common.{if◌then◌else◌, ◌≡◌, ◌≢◌, ℕ, zero, suc, ◌+◌, ◌<◌, ◌≤◌, ◌^◌, List, [], ◌∷◌, ◌++◌, length, Bool, true, false, ◌||◌, eqb, codes, decimal, get_or, refl, sym, ap, ◌∙◌, arith}
 use Rattle.std.specs.List.{AllByRecursion}
-use Rattle.std.specs.Str.Parse.{AllDigits, digits_value}
+use Rattle.std.specs.Str.Parse.{AllDigits}
 use Rattle.std.proofs.lemmas.List.Elements.{recursion_from_All, All-from_recursion, All-append}
-use Rattle.std.proofs.lemmas.Fmt.{decimal_is_IsNumeral}
+use Rattle.std.proofs.lemmas.Fmt.{decimal_is_IsNumeral, decimal_injective}
 use Rattle.std.proofs.lemmas.Str.Parse.{digit_from_value}
 use Rattle.metrics_names.specs.declared.kind.MetricKind.{MetricKind}
 use Rattle.metrics_names.specs.declared.kind.MetricKind.TheVariants.{Counter, Gauge, Histogram}
@@ -21,9 +21,6 @@ pub tail_same : (x : ℕ) (a b : List ℕ) → x ∷ a ≡ x ∷ b → a ≡ b
 tail_same x a b e = cc
 
 -- ---- numbers
-
-pub decimal_same : (m n : ℕ) → m < 2 ^ 64 → n < 2 ^ 64 → decimal m ≡ decimal n → m ≡ n
-decimal_same m n h g e = sym (decimal_is_IsNumeral m h).1 ∙ ap (digits_value 10) e ∙ (decimal_is_IsNumeral n g).1
 
 digits_lack : (ds : List ℕ) → AllDigits 10 ds → AllByRecursion (λ x. x ≢ 47) ds
 digits_lack [] h = tt
@@ -60,17 +57,19 @@ pub lacks_form : (b : Bool) → Lacks 32 (form_word b)
 lacks_form false = lacks_literal 32 (form_word false) refl
 lacks_form true = lacks_literal 32 (form_word true) refl
 
+-- the first two bytes, added up: they tell words of one sort apart
+abbrev pub lead : List ℕ → ℕ
+lead xs = get_or xs 0 0 + get_or xs 1 0
+
 case_same : (a b : Bool) → case_word a ≡ case_word b → a ≡ b
 case_same false false e = refl
-case_same false true e = absurd (omega (arith, ap (λ xs. get_or xs 1 0) e))
-case_same true false e = absurd (omega (arith, ap (λ xs. get_or xs 1 0) e))
 case_same true true e = refl
+case_same a b e = absurd (omega (arith, ap lead e))
 
 form_same : (a b : Bool) → form_word a ≡ form_word b → a ≡ b
 form_same false false e = refl
-form_same false true e = absurd (omega (arith, ap (λ xs. get_or xs 0 0) e))
-form_same true false e = absurd (omega (arith, ap (λ xs. get_or xs 0 0) e))
 form_same true true e = refl
+form_same a b e = absurd (omega (arith, ap lead e))
 
 -- ---- routes
 
@@ -136,27 +135,19 @@ route_is r s e f g =
 pub route_same : (r s : RouteWord) → IsRoute r → IsRoute s → route_word r ≡ route_word s → r ≡ s
 route_same r s h g e =
     let parts = route_parts (kinds_word r.kinds) (decimal r.target) r.pattern s g (lacks_kinds 47 r.kinds (omega arith)) (slashless r.target h.1) e in
-    route_is r s (kinds_same r.kinds s.kinds h.0 g.0 parts.0) (decimal_same r.target s.target h.1 g.1 parts.1) parts.2
+    route_is r s (kinds_same r.kinds s.kinds h.0 g.0 parts.0) (decimal_injective r.target s.target h.1 g.1 parts.1) parts.2
 
 -- ---- lines
 
 pub starts_rest : (l : TreeLine) → StartsAt 32 (line_rest l)
 starts_rest line.Book = tt
 starts_rest line.Noop = tt
-starts_rest (line.Prefix p) = refl
-starts_rest (line.Filter fold table patterns) = refl
-starts_rest (line.Fanout n) = refl
-starts_rest (line.Router n routes) = refl
 starts_rest line.End = tt
+starts_rest l = refl
 
 pub lacks_word : (l : TreeLine) → Lacks 32 (line_word l)
-lacks_word line.Book = lacks_literal 32 (codes "book") refl
-lacks_word line.Noop = lacks_literal 32 (codes "noop") refl
-lacks_word (line.Prefix p) = lacks_literal 32 (codes "prefix") refl
-lacks_word (line.Filter fold table patterns) = lacks_literal 32 (codes "filter") refl
-lacks_word (line.Fanout n) = lacks_literal 32 (codes "fanout") refl
-lacks_word (line.Router n routes) = lacks_literal 32 (codes "router") refl
 lacks_word line.End = lacks_literal 32 (codes "end") refl
+lacks_word l = lacks_literal 32 (line_word l) refl
 
 filter_same : (a b c d : Bool) (ps qs : List (List ℕ)) → AllByRecursion IsName ps → AllByRecursion IsName qs → line_rest (line.Filter a c ps) ≡ line_rest (line.Filter b d qs) → line.Filter a c ps ≡ line.Filter b d qs
 filter_same a b c d ps qs h g e =
@@ -167,58 +158,17 @@ filter_same a b c d ps qs h g e =
 router_same : (m n : ℕ) (rs ss : List RouteWord) → (m < 2 ^ 64) × AllByRecursion IsRoute rs → (n < 2 ^ 64) × AllByRecursion IsRoute ss → line_rest (line.Router m rs) ≡ line_rest (line.Router n ss) → line.Router m rs ≡ line.Router n ss
 router_same m n rs ss h g e =
     let two = before_same 32 (decimal m) (decimal n) (words route_word rs) (words route_word ss) (lacks_decimal m h.0) (lacks_decimal n g.0) (starts_words route_word rs) (starts_words route_word ss) (tail_same 32 _ _ e) in
-    ap (λ x. line.Router x rs) (decimal_same m n h.0 g.0 two.0) ∙ ap (λ x. line.Router n x) (words_same IsRoute route_word lacks_route route_same rs ss h.1 g.1 two.1)
+    ap (λ x. line.Router x rs) (decimal_injective m n h.0 g.0 two.0) ∙ ap (λ x. line.Router n x) (words_same IsRoute route_word lacks_route route_same rs ss h.1 g.1 two.1)
 
 parts_same : (s t : TreeLine) → CanBeSpelled s → CanBeSpelled t → line_word s ≡ line_word t → line_rest s ≡ line_rest t → s ≡ t
 parts_same line.Book line.Book h g w r = refl
-parts_same line.Book line.Noop h g w r = absurd (omega (arith, ap (λ xs. get_or xs 0 0) w))
-parts_same line.Book (line.Prefix p') h g w r = absurd (omega (arith, ap (λ xs. get_or xs 0 0) w))
-parts_same line.Book (line.Filter fold' table' patterns') h g w r = absurd (omega (arith, ap (λ xs. get_or xs 0 0) w))
-parts_same line.Book (line.Fanout n') h g w r = absurd (omega (arith, ap (λ xs. get_or xs 0 0) w))
-parts_same line.Book (line.Router n' routes') h g w r = absurd (omega (arith, ap (λ xs. get_or xs 0 0) w))
-parts_same line.Book line.End h g w r = absurd (omega (arith, ap (λ xs. get_or xs 0 0) w))
-parts_same line.Noop line.Book h g w r = absurd (omega (arith, ap (λ xs. get_or xs 0 0) w))
 parts_same line.Noop line.Noop h g w r = refl
-parts_same line.Noop (line.Prefix p') h g w r = absurd (omega (arith, ap (λ xs. get_or xs 0 0) w))
-parts_same line.Noop (line.Filter fold' table' patterns') h g w r = absurd (omega (arith, ap (λ xs. get_or xs 0 0) w))
-parts_same line.Noop (line.Fanout n') h g w r = absurd (omega (arith, ap (λ xs. get_or xs 0 0) w))
-parts_same line.Noop (line.Router n' routes') h g w r = absurd (omega (arith, ap (λ xs. get_or xs 0 0) w))
-parts_same line.Noop line.End h g w r = absurd (omega (arith, ap (λ xs. get_or xs 0 0) w))
-parts_same (line.Prefix p) line.Book h g w r = absurd (omega (arith, ap (λ xs. get_or xs 0 0) w))
-parts_same (line.Prefix p) line.Noop h g w r = absurd (omega (arith, ap (λ xs. get_or xs 0 0) w))
-parts_same (line.Prefix p) (line.Prefix p') h g w r = ap line.Prefix (name_same p p' h g (tail_same _ _ _ r))
-parts_same (line.Prefix p) (line.Filter fold' table' patterns') h g w r = absurd (omega (arith, ap (λ xs. get_or xs 0 0) w))
-parts_same (line.Prefix p) (line.Fanout n') h g w r = absurd (omega (arith, ap (λ xs. get_or xs 0 0) w))
-parts_same (line.Prefix p) (line.Router n' routes') h g w r = absurd (omega (arith, ap (λ xs. get_or xs 0 0) w))
-parts_same (line.Prefix p) line.End h g w r = absurd (omega (arith, ap (λ xs. get_or xs 0 0) w))
-parts_same (line.Filter fold table patterns) line.Book h g w r = absurd (omega (arith, ap (λ xs. get_or xs 0 0) w))
-parts_same (line.Filter fold table patterns) line.Noop h g w r = absurd (omega (arith, ap (λ xs. get_or xs 0 0) w))
-parts_same (line.Filter fold table patterns) (line.Prefix p') h g w r = absurd (omega (arith, ap (λ xs. get_or xs 0 0) w))
-parts_same (line.Filter fold table patterns) (line.Filter fold' table' patterns') h g w r = filter_same fold fold' table table' patterns patterns' h g r
-parts_same (line.Filter fold table patterns) (line.Fanout n') h g w r = absurd (omega (arith, ap (λ xs. get_or xs 1 0) w))
-parts_same (line.Filter fold table patterns) (line.Router n' routes') h g w r = absurd (omega (arith, ap (λ xs. get_or xs 0 0) w))
-parts_same (line.Filter fold table patterns) line.End h g w r = absurd (omega (arith, ap (λ xs. get_or xs 0 0) w))
-parts_same (line.Fanout n) line.Book h g w r = absurd (omega (arith, ap (λ xs. get_or xs 0 0) w))
-parts_same (line.Fanout n) line.Noop h g w r = absurd (omega (arith, ap (λ xs. get_or xs 0 0) w))
-parts_same (line.Fanout n) (line.Prefix p') h g w r = absurd (omega (arith, ap (λ xs. get_or xs 0 0) w))
-parts_same (line.Fanout n) (line.Filter fold' table' patterns') h g w r = absurd (omega (arith, ap (λ xs. get_or xs 1 0) w))
-parts_same (line.Fanout n) (line.Fanout n') h g w r = ap line.Fanout (decimal_same n n' (omega arith) (omega arith) (tail_same _ _ _ r))
-parts_same (line.Fanout n) (line.Router n' routes') h g w r = absurd (omega (arith, ap (λ xs. get_or xs 0 0) w))
-parts_same (line.Fanout n) line.End h g w r = absurd (omega (arith, ap (λ xs. get_or xs 0 0) w))
-parts_same (line.Router n routes) line.Book h g w r = absurd (omega (arith, ap (λ xs. get_or xs 0 0) w))
-parts_same (line.Router n routes) line.Noop h g w r = absurd (omega (arith, ap (λ xs. get_or xs 0 0) w))
-parts_same (line.Router n routes) (line.Prefix p') h g w r = absurd (omega (arith, ap (λ xs. get_or xs 0 0) w))
-parts_same (line.Router n routes) (line.Filter fold' table' patterns') h g w r = absurd (omega (arith, ap (λ xs. get_or xs 0 0) w))
-parts_same (line.Router n routes) (line.Fanout n') h g w r = absurd (omega (arith, ap (λ xs. get_or xs 0 0) w))
-parts_same (line.Router n routes) (line.Router n' routes') h g w r = router_same n n' routes routes' h g r
-parts_same (line.Router n routes) line.End h g w r = absurd (omega (arith, ap (λ xs. get_or xs 0 0) w))
-parts_same line.End line.Book h g w r = absurd (omega (arith, ap (λ xs. get_or xs 0 0) w))
-parts_same line.End line.Noop h g w r = absurd (omega (arith, ap (λ xs. get_or xs 0 0) w))
-parts_same line.End (line.Prefix p') h g w r = absurd (omega (arith, ap (λ xs. get_or xs 0 0) w))
-parts_same line.End (line.Filter fold' table' patterns') h g w r = absurd (omega (arith, ap (λ xs. get_or xs 0 0) w))
-parts_same line.End (line.Fanout n') h g w r = absurd (omega (arith, ap (λ xs. get_or xs 0 0) w))
-parts_same line.End (line.Router n' routes') h g w r = absurd (omega (arith, ap (λ xs. get_or xs 0 0) w))
+parts_same (line.Prefix p) (line.Prefix q) h g w r = ap line.Prefix (name_same p q h g (tail_same _ _ _ r))
+parts_same (line.Filter a c ps) (line.Filter b d qs) h g w r = filter_same a b c d ps qs h g r
+parts_same (line.Fanout m) (line.Fanout n) h g w r = ap line.Fanout (decimal_injective m n (omega arith) (omega arith) (tail_same _ _ _ r))
+parts_same (line.Router m rs) (line.Router n ss) h g w r = router_same m n rs ss h g r
 parts_same line.End line.End h g w r = refl
+parts_same s t h g w r = absurd (omega (arith, ap lead w))
 
 -- a line is cut at its first space in one way
 pub cut_line : (word rest : List ℕ) (l : TreeLine) → Lacks 32 word → StartsAt 32 rest → word ++ rest ≡ spelling l → (word ≡ line_word l) × (rest ≡ line_rest l)

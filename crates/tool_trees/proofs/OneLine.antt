@@ -13,13 +13,8 @@ use Rattle.tool_trees.specs.Doing.{Does, is_end, DoesLine}
 use Rattle.tool_trees.proofs.Doing.{built_length}
 
 is_the_end : (l : TreeLine) → is_end l ≡ true → l ≡ line.End
-is_the_end line.Book e = absurd (cc)
-is_the_end line.Noop e = absurd (cc)
-is_the_end (line.Prefix p) e = absurd (cc)
-is_the_end (line.Filter fold table patterns) e = absurd (cc)
-is_the_end (line.Fanout n) e = absurd (cc)
-is_the_end (line.Router n routes) e = absurd (cc)
 is_the_end line.End e = refl
+is_the_end l e = absurd (cc)
 
 same_said : (bytes : List ℕ) (s t : TreeLine) → Spells bytes s → Spells bytes t → s ≡ t
 same_said bytes s t h g = line_same s t h.0 g.0 (sym h.1 ∙ g.1)

@@ -17,20 +17,16 @@ each_allowed none h = tt
 each_allowed (more s ss) h = (h.0, each_allowed ss h.1)
 
 taken_allowed : (t : Tree) → IsAllowed t → AllByRecursion IsAllowed (taken t)
-taken_allowed Book h = tt
-taken_allowed Noop h = tt
 taken_allowed (Prefix p t) h = (h.1, tt)
 taken_allowed (Filter fold table patterns t) h = (h.1, tt)
 taken_allowed (Fanout ss) h = each_allowed ss h.1
 taken_allowed (Router routes d ss) h = (h.1, each_allowed ss h.2)
+taken_allowed t h = tt
 
 top_of : (t : Tree) → IsAllowed t → IsTop t
 top_of Book h = h
 top_of Noop h = h
-top_of (Prefix p t) h = h.0
-top_of (Filter fold table patterns t) h = h.0
-top_of (Fanout ss) h = h.0
-top_of (Router routes d ss) h = h.0
+top_of t h = h.0
 
 both_allowed : (ts us : List Tree) → AllByRecursion IsAllowed ts → AllByRecursion IsAllowed us → AllByRecursion IsAllowed (ts ++ us)
 both_allowed [] us h g = g

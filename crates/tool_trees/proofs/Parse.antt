@@ -1,5 +1,6 @@
 -- Words and lines as they are read.
-use Rattle.std.proofs.Common.{◌≡◌, ◌≢◌, ℕ, ◌<◌, ◌≤◌, ◌^◌, List, [], ◌∷◌, ◌++◌, length, Bool, Option, Some, None, MatchOption, codes, decimal, get_or, refl, sym, ap, subst, ◌∙◌, arith, append_assoc, append-nil, IsUtf8}
+use Rattle.std.proofs.Common.{◌≡◌, ◌≢◌, ℕ, ◌<◌, ◌≤◌, ◌^◌, List, [], ◌∷◌, ◌++◌, length, Bool, false, eqb, Option, Some, None, MatchOption, codes, decimal, refl, sym, ap, subst, ◌∙◌, arith, append_assoc, append-nil, IsUtf8}
+use Rattle.std.proofs.lemmas.Fmt.{decimal_injective}
 use Rattle.std.proofs.lemmas.List.Elements.{recursion_from_All, All-from_recursion}
 use Rattle.std.specs.List.{AllByRecursion}
 use Rattle.tool_grammar.specs.Cuts.{Lacks, StartsAt}
@@ -9,9 +10,8 @@ use Rattle.tool_trees.specs.declared.tree_line.RouteWord.{RouteWord}
 use Rattle.tool_trees.specs.declared.tree_line.TreeLine.{TreeLine}
 use Rattle.tool_trees.specs.declared.tree_line.TreeLine.TheVariants as line
 use Rattle.tool_trees.specs.declared.tree_line.First.{First}
-use Rattle.tool_trees.specs.declared.tree_line.First.TheVariants as first
-use Rattle.tool_trees.specs.Words.{HasKind, words, case_word, form_word, kinds_word, route_word, first_word, line_word, IsRoute, Spells, IsNoLine, SpellsFrom, IsNoLineFrom}
-use Rattle.tool_trees.proofs.Lines.{tail_same, starts_words, lacks_case, lacks_form, cut_line, lacks_kinds, route_parts, decimal_same}
+use Rattle.tool_trees.specs.Words.{HasKind, words, case_word, form_word, kinds_word, route_word, first_of, first_word, line_word, IsRoute, Spells, IsNoLine, SpellsFrom, IsNoLineFrom}
+use Rattle.tool_trees.proofs.Lines.{lead, tail_same, starts_words, lacks_case, lacks_form, cut_line, lacks_kinds, route_parts}
 
 -- ---- words after spaces
 
@@ -32,6 +32,9 @@ module _ {A : Type 0} (Is : A → Type 0) (word : A → List ℕ) (lacks : (x : 
       let tail : others ≡ word x ++ words word xs = tail_same 32 _ _ (sym r ∙ e) in
       let both = before_same 32 here (word x) after (words word xs) lw (lacks x h.0) sa (starts_words word xs) (sym o ∙ tail) in
       record { first = x; others = xs; is = h.0; are = h.1; here_is = both.0; after_is = both.1 }
+
+pub positive : (n : ℕ) (b : Bool) → b ≡ eqb n 0 → b ≡ false → 0 < n
+positive n b e f = grind arith
 
 -- words begin with a space
 pub no_words : {A : Type 0} (word : A → List ℕ) (rest : List ℕ) (xs : List A) → rest ≡ words word xs → 0 < length rest → ((others : List ℕ) → rest ≡ 32 ∷ others → ⊥) → ⊥
@@ -54,9 +57,6 @@ pub record WordsSoFar {A : Type 0} (Is : A → Type 0) (word : A → List ℕ) (
   pub are : AllByRecursion Is xs
   pub whole : bytes ≡ words word xs ++ rest
   pub left : (ys : List A) → AllByRecursion Is ys → bytes ≡ words word ys → (zs : List A) × AllByRecursion Is zs × (rest ≡ words word zs)
-
-pub words_none : {A : Type 0} (Is : A → Type 0) (word : A → List ℕ) (bytes : List ℕ) → WordsSoFar Is word bytes bytes []
-words_none Is word bytes = record { are = tt; whole = refl; left = λ ys h e. (ys, h, e) }
 
 pub words_more : {A : Type 0} (Is : A → Type 0) (word : A → List ℕ) (lacks : (x : A) → Is x → Lacks 32 (word x)) (bytes rest others here after : List ℕ) (xs : List A) (x : A) →
     WordsSoFar Is word bytes rest xs → rest ≡ 32 ∷ others → others ≡ here ++ after → Lacks 32 here → StartsAt 32 after → Is x → here ≡ word x → WordsSoFar Is word bytes after (xs ++ x ∷ [])
@@ -106,7 +106,7 @@ route_found word kinds rest target pattern p m n whole parts lacks some ek lt et
 -- a number that is too great
 pub too_great : (bytes word : List ℕ) (m : ℕ) → m < 2 ^ 64 → 65536 < m → bytes ≡ 32 ∷ word → word ≡ decimal m → (n : ℕ) → n ≤ 65536 → bytes ≡ 32 ∷ decimal n → ⊥
 too_great bytes word m lt gt e w n le g =
-    let same : m ≡ n = decimal_same m n lt (omega arith) (sym w ∙ tail_same 32 _ _ (sym e ∙ g)) in
+    let same : m ≡ n = decimal_injective m n lt (omega arith) (sym w ∙ tail_same 32 _ _ (sym e ∙ g)) in
     absurd (omega arith)
 
 -- a space and a word that something follows are no word
@@ -122,9 +122,6 @@ module _ (bytes case rest : List ℕ) (whole : bytes ≡ 32 ∷ (case ++ rest)) 
   pub no_case : ((b : Bool) → case ≡ case_word b → ⊥) → (fold table : Bool) (others : List ℕ) → StartsAt 32 others → bytes ≡ 32 ∷ (case_word fold ++ 32 ∷ (form_word table ++ others)) → ⊥
   no_case fails fold table others s e = fails fold (flags_parts fold table others e).0
 
-  pub no_more : ((others : List ℕ) → rest ≡ 32 ∷ others → ⊥) → (fold table : Bool) (others : List ℕ) → StartsAt 32 others → bytes ≡ 32 ∷ (case_word fold ++ 32 ∷ (form_word table ++ others)) → ⊥
-  no_more fails fold table others s e = fails (form_word table ++ others) (flags_parts fold table others e).1
-
   pub no_form : (form others : List ℕ) → rest ≡ 32 ∷ (form ++ others) → Lacks 32 form → StartsAt 32 others → ((b : Bool) → form ≡ form_word b → ⊥)
       → (fold table : Bool) (last : List ℕ) → StartsAt 32 last → bytes ≡ 32 ∷ (case_word fold ++ 32 ∷ (form_word table ++ last)) → ⊥
   no_form form others r lf so fails fold table last s e =
@@ -136,13 +133,6 @@ pub no_number : (bytes here after : List ℕ) → bytes ≡ 32 ∷ (here ++ afte
 no_number bytes here after e lw sa fails n others lt s g =
     fails n lt (before_same 32 here (decimal n) after others lw (lacks_decimal n lt) sa s (tail_same 32 _ _ (sym e ∙ g))).0
 
--- the words after a filter's flags are no names
-pub no_patterns : (bytes others : List ℕ) (fold table : Bool) → bytes ≡ 32 ∷ (case_word fold ++ 32 ∷ (form_word table ++ others)) → StartsAt 32 others → ((ps : List (List ℕ)) → AllByRecursion IsName ps → others ≡ words name_word ps → ⊥)
-    → (f t : Bool) (ps : List (List ℕ)) → AllByRecursion IsName ps → bytes ≡ 32 ∷ (case_word f ++ 32 ∷ (form_word t ++ words name_word ps)) → ⊥
-no_patterns bytes others fold table e s fails f t ps h g =
-    let one = first_same 32 _ (case_word fold) (form_word table ++ others) (case_word f) (form_word t ++ words name_word ps) (lacks_case fold) (lacks_case f) refl (tail_same 32 _ _ (sym e ∙ g)) in
-    fails ps h (before_same 32 (form_word table) (form_word t) others (words name_word ps) (lacks_form table) (lacks_form t) s (starts_words name_word ps) one.1).1
-
 -- the words after a router's number are no routes
 pub no_routes : (bytes others : List ℕ) (m : ℕ) → m < 2 ^ 64 → bytes ≡ 32 ∷ (decimal m ++ others) → StartsAt 32 others → ((rs : List RouteWord) → AllByRecursion IsRoute rs → others ≡ words route_word rs → ⊥)
     → (n : ℕ) (rs : List RouteWord) → n < 2 ^ 64 → AllByRecursion IsRoute rs → bytes ≡ 32 ∷ (decimal n ++ words route_word rs) → ⊥
@@ -151,91 +141,14 @@ no_routes bytes others m lt e s fails n rs ln h g =
 
 -- ---- lines
 
-abbrev first_of : TreeLine → First
-first_of line.Book = first.Book
-first_of line.Noop = first.Noop
-first_of (line.Prefix p) = first.Prefix
-first_of (line.Filter fold table patterns) = first.Filter
-first_of (line.Fanout n) = first.Fanout
-first_of (line.Router n routes) = first.Router
-first_of line.End = first.End
-
-word_of_first : (l : TreeLine) → line_word l ≡ first_word (first_of l)
-word_of_first line.Book = refl
-word_of_first line.Noop = refl
-word_of_first (line.Prefix p) = refl
-word_of_first (line.Filter fold table patterns) = refl
-word_of_first (line.Fanout n) = refl
-word_of_first (line.Router n routes) = refl
-word_of_first line.End = refl
-
 module _ (bytes word rest : List ℕ) (whole : bytes ≡ word ++ rest) (lacks : Lacks 32 word) (starts : StartsAt 32 rest) where
   pub no_first : ((f : First) → word ≡ first_word f → ⊥) → IsNoLine bytes
-  no_first fails l h = fails (first_of l) ((cut_line word rest l lacks starts (sym whole ∙ h.1)).0 ∙ word_of_first l)
-
-  pub whole_line : (f : First) (found : Option TreeLine) → word ≡ first_word f → MatchOption found (IsNoLineFrom (first_word f) rest) (SpellsFrom (first_word f) rest) → MatchOption found (IsNoLine bytes) (Spells bytes)
-  whole_line f None e h = λ l s. let both = cut_line word rest l lacks starts (sym whole ∙ s.1) in h l (s.0, sym e ∙ both.0, both.1)
-  whole_line f (Some l) e h = (h.0, whole ∙ ap (λ w. w ++ rest) (e ∙ h.1) ∙ ap (λ r. line_word l ++ r) h.2)
-
-pub no_book : (rest : List ℕ) → (rest ≡ [] → ⊥) → IsNoLineFrom (codes "book") rest
-no_book rest fails line.Book h = fails h.2
-no_book rest fails line.Noop h = absurd (omega (arith, ap (λ xs. get_or xs 0 0) h.1))
-no_book rest fails (line.Prefix p) h = absurd (omega (arith, ap (λ xs. get_or xs 0 0) h.1))
-no_book rest fails (line.Filter fold table patterns) h = absurd (omega (arith, ap (λ xs. get_or xs 0 0) h.1))
-no_book rest fails (line.Fanout n) h = absurd (omega (arith, ap (λ xs. get_or xs 0 0) h.1))
-no_book rest fails (line.Router n routes) h = absurd (omega (arith, ap (λ xs. get_or xs 0 0) h.1))
-no_book rest fails line.End h = absurd (omega (arith, ap (λ xs. get_or xs 0 0) h.1))
-
-pub no_noop : (rest : List ℕ) → (rest ≡ [] → ⊥) → IsNoLineFrom (codes "noop") rest
-no_noop rest fails line.Book h = absurd (omega (arith, ap (λ xs. get_or xs 0 0) h.1))
-no_noop rest fails line.Noop h = fails h.2
-no_noop rest fails (line.Prefix p) h = absurd (omega (arith, ap (λ xs. get_or xs 0 0) h.1))
-no_noop rest fails (line.Filter fold table patterns) h = absurd (omega (arith, ap (λ xs. get_or xs 0 0) h.1))
-no_noop rest fails (line.Fanout n) h = absurd (omega (arith, ap (λ xs. get_or xs 0 0) h.1))
-no_noop rest fails (line.Router n routes) h = absurd (omega (arith, ap (λ xs. get_or xs 0 0) h.1))
-no_noop rest fails line.End h = absurd (omega (arith, ap (λ xs. get_or xs 0 0) h.1))
-
-pub no_prefix : (rest : List ℕ) → ((p : List ℕ) → IsName p → rest ≡ 32 ∷ name_word p → ⊥) → IsNoLineFrom (codes "prefix") rest
-no_prefix rest fails line.Book h = absurd (omega (arith, ap (λ xs. get_or xs 0 0) h.1))
-no_prefix rest fails line.Noop h = absurd (omega (arith, ap (λ xs. get_or xs 0 0) h.1))
-no_prefix rest fails (line.Prefix p) h = fails p h.0 h.2
-no_prefix rest fails (line.Filter fold table patterns) h = absurd (omega (arith, ap (λ xs. get_or xs 0 0) h.1))
-no_prefix rest fails (line.Fanout n) h = absurd (omega (arith, ap (λ xs. get_or xs 0 0) h.1))
-no_prefix rest fails (line.Router n routes) h = absurd (omega (arith, ap (λ xs. get_or xs 0 0) h.1))
-no_prefix rest fails line.End h = absurd (omega (arith, ap (λ xs. get_or xs 0 0) h.1))
+  no_first fails l h = fails (first_of l) (cut_line word rest l lacks starts (sym whole ∙ h.1)).0
 
 pub no_filter : (rest : List ℕ) → ((fold table : Bool) (patterns : List (List ℕ)) → AllByRecursion IsName patterns → rest ≡ 32 ∷ (case_word fold ++ 32 ∷ (form_word table ++ words name_word patterns)) → ⊥) → IsNoLineFrom (codes "filter") rest
-no_filter rest fails line.Book h = absurd (omega (arith, ap (λ xs. get_or xs 0 0) h.1))
-no_filter rest fails line.Noop h = absurd (omega (arith, ap (λ xs. get_or xs 0 0) h.1))
-no_filter rest fails (line.Prefix p) h = absurd (omega (arith, ap (λ xs. get_or xs 0 0) h.1))
 no_filter rest fails (line.Filter fold table patterns) h = fails fold table patterns h.0 h.2
-no_filter rest fails (line.Fanout n) h = absurd (omega (arith, ap (λ xs. get_or xs 1 0) h.1))
-no_filter rest fails (line.Router n routes) h = absurd (omega (arith, ap (λ xs. get_or xs 0 0) h.1))
-no_filter rest fails line.End h = absurd (omega (arith, ap (λ xs. get_or xs 0 0) h.1))
-
-pub no_fanout : (rest : List ℕ) → ((n : ℕ) → n ≤ 65536 → rest ≡ 32 ∷ decimal n → ⊥) → IsNoLineFrom (codes "fanout") rest
-no_fanout rest fails line.Book h = absurd (omega (arith, ap (λ xs. get_or xs 0 0) h.1))
-no_fanout rest fails line.Noop h = absurd (omega (arith, ap (λ xs. get_or xs 0 0) h.1))
-no_fanout rest fails (line.Prefix p) h = absurd (omega (arith, ap (λ xs. get_or xs 0 0) h.1))
-no_fanout rest fails (line.Filter fold table patterns) h = absurd (omega (arith, ap (λ xs. get_or xs 1 0) h.1))
-no_fanout rest fails (line.Fanout n) h = fails n h.0 h.2
-no_fanout rest fails (line.Router n routes) h = absurd (omega (arith, ap (λ xs. get_or xs 0 0) h.1))
-no_fanout rest fails line.End h = absurd (omega (arith, ap (λ xs. get_or xs 0 0) h.1))
+no_filter rest fails l h = absurd (omega (arith, ap lead h.1))
 
 pub no_router : (rest : List ℕ) → ((n : ℕ) (routes : List RouteWord) → n < 2 ^ 64 → AllByRecursion IsRoute routes → rest ≡ 32 ∷ (decimal n ++ words route_word routes) → ⊥) → IsNoLineFrom (codes "router") rest
-no_router rest fails line.Book h = absurd (omega (arith, ap (λ xs. get_or xs 0 0) h.1))
-no_router rest fails line.Noop h = absurd (omega (arith, ap (λ xs. get_or xs 0 0) h.1))
-no_router rest fails (line.Prefix p) h = absurd (omega (arith, ap (λ xs. get_or xs 0 0) h.1))
-no_router rest fails (line.Filter fold table patterns) h = absurd (omega (arith, ap (λ xs. get_or xs 0 0) h.1))
-no_router rest fails (line.Fanout n) h = absurd (omega (arith, ap (λ xs. get_or xs 0 0) h.1))
 no_router rest fails (line.Router n routes) h = fails n routes h.0.0 h.0.1 h.2
-no_router rest fails line.End h = absurd (omega (arith, ap (λ xs. get_or xs 0 0) h.1))
-
-pub no_end : (rest : List ℕ) → (rest ≡ [] → ⊥) → IsNoLineFrom (codes "end") rest
-no_end rest fails line.Book h = absurd (omega (arith, ap (λ xs. get_or xs 0 0) h.1))
-no_end rest fails line.Noop h = absurd (omega (arith, ap (λ xs. get_or xs 0 0) h.1))
-no_end rest fails (line.Prefix p) h = absurd (omega (arith, ap (λ xs. get_or xs 0 0) h.1))
-no_end rest fails (line.Filter fold table patterns) h = absurd (omega (arith, ap (λ xs. get_or xs 0 0) h.1))
-no_end rest fails (line.Fanout n) h = absurd (omega (arith, ap (λ xs. get_or xs 0 0) h.1))
-no_end rest fails (line.Router n routes) h = absurd (omega (arith, ap (λ xs. get_or xs 0 0) h.1))
-no_end rest fails line.End h = fails h.2
+no_router rest fails l h = absurd (omega (arith, ap lead h.1))

@@ -21,9 +21,6 @@ pub record RoutesSoFar (old now : List Meaning) (targets rest : List Level) (rou
   pub greatest : max most (most_of (backwards rest)) ≡ max first (most_of (backwards targets))
   pub low : most ≤ 1000
 
-pub routes_begin : (old : List Meaning) (targets : List Level) (routes : List RouteWord) (first : ℕ) → length old ≡ 1 → books_in old ≤ 65536 → first ≤ 1000 → RoutesSoFar old old targets targets routes routes 0 first first
-routes_begin old targets routes first one fits low = record { forth = λ h. h; back = λ h. h; count = omega arith; recorders = refl; number = one; fits = fits; greatest = refl; low = low }
-
 last_of : (xs : List Level) → 0 < length xs → (after : List Level) × (l : Level) × (xs ≡ after ++ l ∷ [])
 last_of [] lt = absurd (omega arith)
 last_of (x ∷ []) lt = ([], x, refl)
@@ -94,9 +91,6 @@ module _ (old now : List Meaning) (targets rest : List Level) (routes : List Rou
         greatest = (let top : most_of (backwards rest) ≡ 0 = ap (λ (ls : List Level). most_of (backwards ls)) e in omega (arith, so.greatest, top));
         low = so.low;
       }
-
-  pub routes_unnamed : 0 < length rest → NameTargets (length targets) 0 routes → ⊥
-  routes_unnamed lt names = let e : named ≡ length targets = so.back names in absurd (omega (arith, so.count, e, lt))
 
 -- ---- by index
 

@@ -19,9 +19,8 @@ pub record IsBuilt (l : Level) (t : Tree) : Type 0 where
 
 abbrev pub AreBuilt : List Level → List Tree → Type 0
 AreBuilt [] [] = Unit {0}
-AreBuilt [] (t ∷ ts) = ⊥
-AreBuilt (l ∷ ls) [] = ⊥
 AreBuilt (l ∷ ls) (t ∷ ts) = IsBuilt l t × AreBuilt ls ts
+AreBuilt ls ts = ⊥
 
 -- The line removed its trees and pushed its own; or memory ran out; or the line is bad there.
 abbrev pub Does : TreeLine → List Level → List Level → Result (Unit {0}) LineError → Type 0
@@ -36,13 +35,8 @@ Puts m n old new (Err Memory) = Unit {0}
 Puts m n old new (Err Bad) = 1000 < n
 
 abbrev pub is_end : TreeLine → Bool
-is_end line.Book = false
-is_end line.Noop = false
-is_end (line.Prefix p) = false
-is_end (line.Filter fold table patterns) = false
-is_end (line.Fanout n) = false
-is_end (line.Router n routes) = false
 is_end line.End = true
+is_end l = false
 
 -- The bytes are `end` over one recorder; or they spell a line that removed its trees and pushed its own; or memory ran
 -- out; or the bytes are neither `end` over one tree nor a line that is allowed there.

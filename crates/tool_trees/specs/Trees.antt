@@ -122,12 +122,10 @@ pub record NameInOrder (n : ℕ) (routes : List RouteWord) : Type 0 where
 
 -- what is required of a tree beside what is required of those that it uses, its line and its levels
 abbrev pub IsMade : Tree → Type 0
-IsMade Book = Unit {0}
-IsMade Noop = Unit {0}
-IsMade (Prefix p t) = Unit {0}
 IsMade (Filter fold table patterns t) = sum_by length patterns ≤ 1048576
 IsMade (Fanout ts) = books_in (meanings_of ts) ≤ 65536
 IsMade (Router routes default ts) = NameTargets (number_of ts) 0 routes × (books_in (meaning_of default ∷ meanings_of ts) ≤ 65536)
+IsMade t = Unit {0}
 
 abbrev pub IsTop : Tree → Type 0
 IsTop t = CanBeSpelled (last_line t) × IsMade t × (levels_of t ≤ 1000)

@@ -43,6 +43,16 @@ route_word r = kinds_word r.kinds ++ 47 ∷ (decimal r.target ++ 47 ∷ r.patter
 
 -- ---- lines
 
+-- which line it is
+abbrev pub first_of : TreeLine → First
+first_of line.Book = first.Book
+first_of line.Noop = first.Noop
+first_of (line.Prefix p) = first.Prefix
+first_of (line.Filter fold table patterns) = first.Filter
+first_of (line.Fanout n) = first.Fanout
+first_of (line.Router n routes) = first.Router
+first_of line.End = first.End
+
 abbrev pub first_word : First → List ℕ
 first_word first.Book = codes "book"
 first_word first.Noop = codes "noop"
@@ -54,23 +64,15 @@ first_word first.End = codes "end"
 
 -- the first word of a line
 abbrev pub line_word : TreeLine → List ℕ
-line_word line.Book = codes "book"
-line_word line.Noop = codes "noop"
-line_word (line.Prefix p) = codes "prefix"
-line_word (line.Filter fold table patterns) = codes "filter"
-line_word (line.Fanout n) = codes "fanout"
-line_word (line.Router n routes) = codes "router"
-line_word line.End = codes "end"
+line_word l = first_word (first_of l)
 
 -- what follows it
 abbrev pub line_rest : TreeLine → List ℕ
-line_rest line.Book = []
-line_rest line.Noop = []
 line_rest (line.Prefix p) = 32 ∷ name_word p
 line_rest (line.Filter fold table patterns) = 32 ∷ (case_word fold ++ 32 ∷ (form_word table ++ words name_word patterns))
 line_rest (line.Fanout n) = 32 ∷ decimal n
 line_rest (line.Router n routes) = 32 ∷ (decimal n ++ words route_word routes)
-line_rest line.End = []
+line_rest l = []
 
 abbrev pub spelling : TreeLine → List ℕ
 spelling l = line_word l ++ line_rest l
@@ -81,13 +83,11 @@ IsRoute r = HasKind r.kinds × (r.target < 2 ^ 64) × IsUtf8 r.pattern × Lacks 
 
 -- the lines that can be written
 abbrev pub CanBeSpelled : TreeLine → Type 0
-CanBeSpelled line.Book = Unit {0}
-CanBeSpelled line.Noop = Unit {0}
 CanBeSpelled (line.Prefix p) = IsName p
 CanBeSpelled (line.Filter fold table patterns) = AllByRecursion IsName patterns
 CanBeSpelled (line.Fanout n) = n ≤ 65536
 CanBeSpelled (line.Router n routes) = (n < 2 ^ 64) × AllByRecursion IsRoute routes
-CanBeSpelled line.End = Unit {0}
+CanBeSpelled l = Unit {0}
 
 -- the bytes spell the line
 abbrev pub Spells : List ℕ → TreeLine → Type 0

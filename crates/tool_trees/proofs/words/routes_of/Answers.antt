@@ -1,11 +1,7 @@
-use Rattle.std.proofs.Common.{◌≡◌, ℕ, Bool, false, eqb, ◌<◌, arith}
 use Rattle.tool_trees.specs.Words.{route_word, IsRoute}
 use Rattle.tool_trees.proofs.Lines.{lacks_route}
-use Rattle.tool_trees.proofs.Parse.{no_words, next_of, words_more}
+use Rattle.tool_trees.proofs.Parse.{positive, no_words, next_of, words_more}
 use Rattle.tool_trees.proofs.words.routes_of.Goals as goal
-
-positive : (n : ℕ) (b : Bool) → b ≡ eqb n 0 → b ≡ false → 0 < n
-positive n b e f = grind arith
 
 pub returns-in_default : goal.returns-in_default
 returns-in_default c = λ xs h e.
