@@ -1,7 +1,8 @@
 -- A line spells at most one call.
-use Rattle.std.proofs.Common.{◌≡◌, ℕ, ◌<◌, ◌^◌, List, [], ◌∷◌, ◌++◌, codes, decimal, Option, Some, None, ℤ, pos, negsuc, FitsSigned, refl, sym, ap, ◌∙◌, get_or, arith}
+use Rattle.std.proofs.Common.{if◌then◌else◌, ◌≡◌, ℕ, ◌+◌, ◌*◌, ◌<◌, ◌^◌, List, [], ◌∷◌, ◌++◌, codes, decimal, Option, Some, None, ℤ, pos, negsuc, FitsSigned, refl, sym, ap, ◌∙◌, get_or, arith}
 use lib.Signed.{mag}
 use Rattle.std.specs.Int.{w64}
+use Rattle.std.specs.Str.{bytes_eq}
 use Rattle.std.specs.Fmt.{signed_decimal}
 use Rattle.std.proofs.lemmas.Fmt.{decimal_injective, signed_decimal_injective}
 use Rattle.metrics_names.specs.declared.kind.MetricKind.{MetricKind}
@@ -23,82 +24,34 @@ tail_same x a b e = cc
 
 -- ---- words
 
+-- a sum over the second and third byte: it tells words of one sort apart
+abbrev mark : List ℕ → ℕ
+mark xs = get_or xs 1 0 + 2 * get_or xs 2 0
+
 kind_same : (j k : MetricKind) → kind_word j ≡ kind_word k → j ≡ k
 kind_same Counter Counter e = refl
-kind_same Counter Gauge e = absurd (omega (arith, ap (λ xs. get_or xs 0 0) e))
-kind_same Counter Histogram e = absurd (omega (arith, ap (λ xs. get_or xs 0 0) e))
-kind_same Gauge Counter e = absurd (omega (arith, ap (λ xs. get_or xs 0 0) e))
 kind_same Gauge Gauge e = refl
-kind_same Gauge Histogram e = absurd (omega (arith, ap (λ xs. get_or xs 0 0) e))
-kind_same Histogram Counter e = absurd (omega (arith, ap (λ xs. get_or xs 0 0) e))
-kind_same Histogram Gauge e = absurd (omega (arith, ap (λ xs. get_or xs 0 0) e))
 kind_same Histogram Histogram e = refl
+kind_same j k e = absurd (omega (arith, ap mark e))
+
+-- the unit of a word
+abbrev unit_in : List ℕ → Option Measure
+unit_in word =
+    if bytes_eq word (codes "count") then Some Count
+    else if bytes_eq word (codes "percent") then Some Percent
+    else if bytes_eq word (codes "seconds") then Some Seconds
+    else if bytes_eq word (codes "milliseconds") then Some Milliseconds
+    else if bytes_eq word (codes "microseconds") then Some Microseconds
+    else if bytes_eq word (codes "nanoseconds") then Some Nanoseconds
+    else if bytes_eq word (codes "bytes") then Some Bytes
+    else None
+
+unit_read : (u : Option Measure) → unit_in (unit_word u) ≡ u
+unit_read (Some Count) = refl
+unit_read u = refl
 
 unit_same : (u v : Option Measure) → unit_word u ≡ unit_word v → u ≡ v
-unit_same None None e = refl
-unit_same None (Some Count) e = absurd (omega (arith, ap (λ xs. get_or xs 0 0) e))
-unit_same None (Some Percent) e = absurd (omega (arith, ap (λ xs. get_or xs 0 0) e))
-unit_same None (Some Seconds) e = absurd (omega (arith, ap (λ xs. get_or xs 0 0) e))
-unit_same None (Some Milliseconds) e = absurd (omega (arith, ap (λ xs. get_or xs 0 0) e))
-unit_same None (Some Microseconds) e = absurd (omega (arith, ap (λ xs. get_or xs 0 0) e))
-unit_same None (Some Nanoseconds) e = absurd (omega (arith, ap (λ xs. get_or xs 0 0) e))
-unit_same None (Some Bytes) e = absurd (omega (arith, ap (λ xs. get_or xs 0 0) e))
-unit_same (Some Count) None e = absurd (omega (arith, ap (λ xs. get_or xs 0 0) e))
-unit_same (Some Count) (Some Count) e = refl
-unit_same (Some Count) (Some Percent) e = absurd (omega (arith, ap (λ xs. get_or xs 0 0) e))
-unit_same (Some Count) (Some Seconds) e = absurd (omega (arith, ap (λ xs. get_or xs 0 0) e))
-unit_same (Some Count) (Some Milliseconds) e = absurd (omega (arith, ap (λ xs. get_or xs 0 0) e))
-unit_same (Some Count) (Some Microseconds) e = absurd (omega (arith, ap (λ xs. get_or xs 0 0) e))
-unit_same (Some Count) (Some Nanoseconds) e = absurd (omega (arith, ap (λ xs. get_or xs 0 0) e))
-unit_same (Some Count) (Some Bytes) e = absurd (omega (arith, ap (λ xs. get_or xs 0 0) e))
-unit_same (Some Percent) None e = absurd (omega (arith, ap (λ xs. get_or xs 0 0) e))
-unit_same (Some Percent) (Some Count) e = absurd (omega (arith, ap (λ xs. get_or xs 0 0) e))
-unit_same (Some Percent) (Some Percent) e = refl
-unit_same (Some Percent) (Some Seconds) e = absurd (omega (arith, ap (λ xs. get_or xs 0 0) e))
-unit_same (Some Percent) (Some Milliseconds) e = absurd (omega (arith, ap (λ xs. get_or xs 0 0) e))
-unit_same (Some Percent) (Some Microseconds) e = absurd (omega (arith, ap (λ xs. get_or xs 0 0) e))
-unit_same (Some Percent) (Some Nanoseconds) e = absurd (omega (arith, ap (λ xs. get_or xs 0 0) e))
-unit_same (Some Percent) (Some Bytes) e = absurd (omega (arith, ap (λ xs. get_or xs 0 0) e))
-unit_same (Some Seconds) None e = absurd (omega (arith, ap (λ xs. get_or xs 0 0) e))
-unit_same (Some Seconds) (Some Count) e = absurd (omega (arith, ap (λ xs. get_or xs 0 0) e))
-unit_same (Some Seconds) (Some Percent) e = absurd (omega (arith, ap (λ xs. get_or xs 0 0) e))
-unit_same (Some Seconds) (Some Seconds) e = refl
-unit_same (Some Seconds) (Some Milliseconds) e = absurd (omega (arith, ap (λ xs. get_or xs 0 0) e))
-unit_same (Some Seconds) (Some Microseconds) e = absurd (omega (arith, ap (λ xs. get_or xs 0 0) e))
-unit_same (Some Seconds) (Some Nanoseconds) e = absurd (omega (arith, ap (λ xs. get_or xs 0 0) e))
-unit_same (Some Seconds) (Some Bytes) e = absurd (omega (arith, ap (λ xs. get_or xs 0 0) e))
-unit_same (Some Milliseconds) None e = absurd (omega (arith, ap (λ xs. get_or xs 0 0) e))
-unit_same (Some Milliseconds) (Some Count) e = absurd (omega (arith, ap (λ xs. get_or xs 0 0) e))
-unit_same (Some Milliseconds) (Some Percent) e = absurd (omega (arith, ap (λ xs. get_or xs 0 0) e))
-unit_same (Some Milliseconds) (Some Seconds) e = absurd (omega (arith, ap (λ xs. get_or xs 0 0) e))
-unit_same (Some Milliseconds) (Some Milliseconds) e = refl
-unit_same (Some Milliseconds) (Some Microseconds) e = absurd (omega (arith, ap (λ xs. get_or xs 2 0) e))
-unit_same (Some Milliseconds) (Some Nanoseconds) e = absurd (omega (arith, ap (λ xs. get_or xs 0 0) e))
-unit_same (Some Milliseconds) (Some Bytes) e = absurd (omega (arith, ap (λ xs. get_or xs 0 0) e))
-unit_same (Some Microseconds) None e = absurd (omega (arith, ap (λ xs. get_or xs 0 0) e))
-unit_same (Some Microseconds) (Some Count) e = absurd (omega (arith, ap (λ xs. get_or xs 0 0) e))
-unit_same (Some Microseconds) (Some Percent) e = absurd (omega (arith, ap (λ xs. get_or xs 0 0) e))
-unit_same (Some Microseconds) (Some Seconds) e = absurd (omega (arith, ap (λ xs. get_or xs 0 0) e))
-unit_same (Some Microseconds) (Some Milliseconds) e = absurd (omega (arith, ap (λ xs. get_or xs 2 0) e))
-unit_same (Some Microseconds) (Some Microseconds) e = refl
-unit_same (Some Microseconds) (Some Nanoseconds) e = absurd (omega (arith, ap (λ xs. get_or xs 0 0) e))
-unit_same (Some Microseconds) (Some Bytes) e = absurd (omega (arith, ap (λ xs. get_or xs 0 0) e))
-unit_same (Some Nanoseconds) None e = absurd (omega (arith, ap (λ xs. get_or xs 0 0) e))
-unit_same (Some Nanoseconds) (Some Count) e = absurd (omega (arith, ap (λ xs. get_or xs 0 0) e))
-unit_same (Some Nanoseconds) (Some Percent) e = absurd (omega (arith, ap (λ xs. get_or xs 0 0) e))
-unit_same (Some Nanoseconds) (Some Seconds) e = absurd (omega (arith, ap (λ xs. get_or xs 0 0) e))
-unit_same (Some Nanoseconds) (Some Milliseconds) e = absurd (omega (arith, ap (λ xs. get_or xs 0 0) e))
-unit_same (Some Nanoseconds) (Some Microseconds) e = absurd (omega (arith, ap (λ xs. get_or xs 0 0) e))
-unit_same (Some Nanoseconds) (Some Nanoseconds) e = refl
-unit_same (Some Nanoseconds) (Some Bytes) e = absurd (omega (arith, ap (λ xs. get_or xs 0 0) e))
-unit_same (Some Bytes) None e = absurd (omega (arith, ap (λ xs. get_or xs 0 0) e))
-unit_same (Some Bytes) (Some Count) e = absurd (omega (arith, ap (λ xs. get_or xs 0 0) e))
-unit_same (Some Bytes) (Some Percent) e = absurd (omega (arith, ap (λ xs. get_or xs 0 0) e))
-unit_same (Some Bytes) (Some Seconds) e = absurd (omega (arith, ap (λ xs. get_or xs 0 0) e))
-unit_same (Some Bytes) (Some Milliseconds) e = absurd (omega (arith, ap (λ xs. get_or xs 0 0) e))
-unit_same (Some Bytes) (Some Microseconds) e = absurd (omega (arith, ap (λ xs. get_or xs 0 0) e))
-unit_same (Some Bytes) (Some Nanoseconds) e = absurd (omega (arith, ap (λ xs. get_or xs 0 0) e))
-unit_same (Some Bytes) (Some Bytes) e = refl
+unit_same u v e = sym (unit_read u) ∙ ap unit_in e ∙ unit_read v
 
 pub name_same : (p q : List ℕ) → IsName p → IsName q → name_word p ≡ name_word q → p ≡ q
 name_same [] [] h g e = refl
@@ -118,41 +71,12 @@ signed_same y z h g e = signed_decimal_injective y z (small y h) (small z g) e
 
 update_same : (u v : Update) → IsInRange u → IsInRange v → update_word u ≡ update_word v → amount_word u ≡ amount_word v → u ≡ v
 update_same (Increment m) (Increment n) h g w e = ap Increment (decimal_same m n h g e)
-update_same (Increment m) (Absolute n) h g w e = absurd (omega (arith, ap (λ xs. get_or xs 0 0) w))
-update_same (Increment m) (Add n) h g w e = absurd (omega (arith, ap (λ xs. get_or xs 0 0) w))
-update_same (Increment m) (Subtract n) h g w e = absurd (omega (arith, ap (λ xs. get_or xs 0 0) w))
-update_same (Increment m) (Set n) h g w e = absurd (omega (arith, ap (λ xs. get_or xs 0 0) w))
-update_same (Increment m) (Record n) h g w e = absurd (omega (arith, ap (λ xs. get_or xs 0 0) w))
-update_same (Absolute m) (Increment n) h g w e = absurd (omega (arith, ap (λ xs. get_or xs 0 0) w))
 update_same (Absolute m) (Absolute n) h g w e = ap Absolute (decimal_same m n h g e)
-update_same (Absolute m) (Add n) h g w e = absurd (omega (arith, ap (λ xs. get_or xs 1 0) w))
-update_same (Absolute m) (Subtract n) h g w e = absurd (omega (arith, ap (λ xs. get_or xs 0 0) w))
-update_same (Absolute m) (Set n) h g w e = absurd (omega (arith, ap (λ xs. get_or xs 0 0) w))
-update_same (Absolute m) (Record n) h g w e = absurd (omega (arith, ap (λ xs. get_or xs 0 0) w))
-update_same (Add m) (Increment n) h g w e = absurd (omega (arith, ap (λ xs. get_or xs 0 0) w))
-update_same (Add m) (Absolute n) h g w e = absurd (omega (arith, ap (λ xs. get_or xs 1 0) w))
 update_same (Add m) (Add n) h g w e = ap Add (signed_same m n h g e)
-update_same (Add m) (Subtract n) h g w e = absurd (omega (arith, ap (λ xs. get_or xs 0 0) w))
-update_same (Add m) (Set n) h g w e = absurd (omega (arith, ap (λ xs. get_or xs 0 0) w))
-update_same (Add m) (Record n) h g w e = absurd (omega (arith, ap (λ xs. get_or xs 0 0) w))
-update_same (Subtract m) (Increment n) h g w e = absurd (omega (arith, ap (λ xs. get_or xs 0 0) w))
-update_same (Subtract m) (Absolute n) h g w e = absurd (omega (arith, ap (λ xs. get_or xs 0 0) w))
-update_same (Subtract m) (Add n) h g w e = absurd (omega (arith, ap (λ xs. get_or xs 0 0) w))
 update_same (Subtract m) (Subtract n) h g w e = ap Subtract (signed_same m n h g e)
-update_same (Subtract m) (Set n) h g w e = absurd (omega (arith, ap (λ xs. get_or xs 1 0) w))
-update_same (Subtract m) (Record n) h g w e = absurd (omega (arith, ap (λ xs. get_or xs 0 0) w))
-update_same (Set m) (Increment n) h g w e = absurd (omega (arith, ap (λ xs. get_or xs 0 0) w))
-update_same (Set m) (Absolute n) h g w e = absurd (omega (arith, ap (λ xs. get_or xs 0 0) w))
-update_same (Set m) (Add n) h g w e = absurd (omega (arith, ap (λ xs. get_or xs 0 0) w))
-update_same (Set m) (Subtract n) h g w e = absurd (omega (arith, ap (λ xs. get_or xs 1 0) w))
 update_same (Set m) (Set n) h g w e = ap Set (signed_same m n h g e)
-update_same (Set m) (Record n) h g w e = absurd (omega (arith, ap (λ xs. get_or xs 0 0) w))
-update_same (Record m) (Increment n) h g w e = absurd (omega (arith, ap (λ xs. get_or xs 0 0) w))
-update_same (Record m) (Absolute n) h g w e = absurd (omega (arith, ap (λ xs. get_or xs 0 0) w))
-update_same (Record m) (Add n) h g w e = absurd (omega (arith, ap (λ xs. get_or xs 0 0) w))
-update_same (Record m) (Subtract n) h g w e = absurd (omega (arith, ap (λ xs. get_or xs 0 0) w))
-update_same (Record m) (Set n) h g w e = absurd (omega (arith, ap (λ xs. get_or xs 0 0) w))
 update_same (Record m) (Record n) h g w e = ap Record (signed_same m n h g e)
+update_same u v h g w e = absurd (omega (arith, ap mark w))
 
 -- ---- labels
 
@@ -201,28 +125,16 @@ lacks_call (call.Snapshot b) = lacks_literal 32 (codes "snapshot") refl
 lacks_call (call.SnapshotWith b reset) = lacks_literal 32 (codes "snapshot") refl
 
 no_describe : (u : Update) → update_word u ≡ codes "describe" → ⊥
-no_describe (Increment n) e = absurd (omega (arith, ap (λ xs. get_or xs 0 0) e))
-no_describe (Absolute n) e = absurd (omega (arith, ap (λ xs. get_or xs 0 0) e))
-no_describe (Add n) e = absurd (omega (arith, ap (λ xs. get_or xs 0 0) e))
-no_describe (Subtract n) e = absurd (omega (arith, ap (λ xs. get_or xs 0 0) e))
-no_describe (Set n) e = absurd (omega (arith, ap (λ xs. get_or xs 0 0) e))
-no_describe (Record n) e = absurd (omega (arith, ap (λ xs. get_or xs 0 0) e))
+no_describe (Increment n) e = absurd (omega (arith, ap mark e))
+no_describe u e = absurd (omega (arith, ap mark e))
 
 no_register : (u : Update) → update_word u ≡ codes "register" → ⊥
-no_register (Increment n) e = absurd (omega (arith, ap (λ xs. get_or xs 0 0) e))
-no_register (Absolute n) e = absurd (omega (arith, ap (λ xs. get_or xs 0 0) e))
-no_register (Add n) e = absurd (omega (arith, ap (λ xs. get_or xs 0 0) e))
-no_register (Subtract n) e = absurd (omega (arith, ap (λ xs. get_or xs 0 0) e))
-no_register (Set n) e = absurd (omega (arith, ap (λ xs. get_or xs 0 0) e))
-no_register (Record n) e = absurd (omega (arith, ap (λ xs. get_or xs 2 0) e))
+no_register (Increment n) e = absurd (omega (arith, ap mark e))
+no_register u e = absurd (omega (arith, ap mark e))
 
 no_snapshot : (u : Update) → update_word u ≡ codes "snapshot" → ⊥
-no_snapshot (Increment n) e = absurd (omega (arith, ap (λ xs. get_or xs 0 0) e))
-no_snapshot (Absolute n) e = absurd (omega (arith, ap (λ xs. get_or xs 0 0) e))
-no_snapshot (Add n) e = absurd (omega (arith, ap (λ xs. get_or xs 0 0) e))
-no_snapshot (Subtract n) e = absurd (omega (arith, ap (λ xs. get_or xs 1 0) e))
-no_snapshot (Set n) e = absurd (omega (arith, ap (λ xs. get_or xs 1 0) e))
-no_snapshot (Record n) e = absurd (omega (arith, ap (λ xs. get_or xs 0 0) e))
+no_snapshot (Increment n) e = absurd (omega (arith, ap mark e))
+no_snapshot u e = absurd (omega (arith, ap mark e))
 
 describe_same : (j k : MetricKind) (m n : List ℕ) (u v : Option Measure) (s t : List ℕ) → CanBeSpelled (call.Describe j m u s) → CanBeSpelled (call.Describe k n v t)
     → call_rest (call.Describe j m u s) ≡ call_rest (call.Describe k n v t) → call.Describe j m u s ≡ call.Describe k n v t
@@ -261,30 +173,19 @@ not_kept m n h e = not_cut 32 (decimal m) (decimal n) (codes "keep") (lacks_deci
 
 parts_same : (c d : Call) → CanBeSpelled c → CanBeSpelled d → call_word c ≡ call_word d → call_rest c ≡ call_rest d → c ≡ d
 parts_same (call.Describe j m u s) (call.Describe k n v t) h g w e = describe_same j k m n u v s t h g e
-parts_same (call.Describe j m u s) (call.Register k b) h g w e = absurd (omega (arith, ap (λ xs. get_or xs 0 0) w))
 parts_same (call.Describe j m u s) (call.Update n v) h g w e = absurd (no_describe v (sym w))
-parts_same (call.Describe j m u s) (call.Snapshot n) h g w e = absurd (omega (arith, ap (λ xs. get_or xs 0 0) w))
-parts_same (call.Describe j m u s) (call.SnapshotWith n q) h g w e = absurd (omega (arith, ap (λ xs. get_or xs 0 0) w))
-parts_same (call.Register j a) (call.Describe k n v t) h g w e = absurd (omega (arith, ap (λ xs. get_or xs 0 0) w))
 parts_same (call.Register j a) (call.Register k b) h g w e = register_same j k a b h g e
 parts_same (call.Register j a) (call.Update n v) h g w e = absurd (no_register v (sym w))
-parts_same (call.Register j a) (call.Snapshot n) h g w e = absurd (omega (arith, ap (λ xs. get_or xs 0 0) w))
-parts_same (call.Register j a) (call.SnapshotWith n q) h g w e = absurd (omega (arith, ap (λ xs. get_or xs 0 0) w))
 parts_same (call.Update m u) (call.Describe k n v t) h g w e = absurd (no_describe u w)
 parts_same (call.Update m u) (call.Register k b) h g w e = absurd (no_register u w)
 parts_same (call.Update m u) (call.Update n v) h g w e = update_call_same m n u v h g w e
-parts_same (call.Update m u) (call.Snapshot n) h g w e = absurd (no_snapshot u w)
-parts_same (call.Update m u) (call.SnapshotWith n q) h g w e = absurd (no_snapshot u w)
-parts_same (call.Snapshot m) (call.Describe k n v t) h g w e = absurd (omega (arith, ap (λ xs. get_or xs 0 0) w))
-parts_same (call.Snapshot m) (call.Register k b) h g w e = absurd (omega (arith, ap (λ xs. get_or xs 0 0) w))
-parts_same (call.Snapshot m) (call.Update n v) h g w e = absurd (no_snapshot v (sym w))
+parts_same (call.Update m u) d h g w e = absurd (no_snapshot u w)
 parts_same (call.Snapshot m) (call.Snapshot n) h g w e = ap call.Snapshot (decimal_same m n h g e)
 parts_same (call.Snapshot m) (call.SnapshotWith n q) h g w e = absurd (not_kept m n h e)
-parts_same (call.SnapshotWith m r) (call.Describe k n v t) h g w e = absurd (omega (arith, ap (λ xs. get_or xs 0 0) w))
-parts_same (call.SnapshotWith m r) (call.Register k b) h g w e = absurd (omega (arith, ap (λ xs. get_or xs 0 0) w))
-parts_same (call.SnapshotWith m r) (call.Update n v) h g w e = absurd (no_snapshot v (sym w))
 parts_same (call.SnapshotWith m r) (call.Snapshot n) h g w e = absurd (not_kept n m g (sym e))
 parts_same (call.SnapshotWith m r) (call.SnapshotWith n q) h g w e = keep_same m n r q h g e
+parts_same c (call.Update n v) h g w e = absurd (no_snapshot v (sym w))
+parts_same c d h g w e = absurd (omega (arith, ap mark w))
 
 pub call_same : (line : List ℕ) (c d : Call) → Spells line c → Spells line d → c ≡ d
 call_same line c d h g =

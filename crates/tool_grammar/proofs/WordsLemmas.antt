@@ -82,26 +82,15 @@ lacks_literal c xs h = All-from_recursion _ xs (lacks_tested c xs h)
 
 pub lacks_kind : (k : MetricKind) → Lacks 32 (kind_word k)
 lacks_kind Counter = lacks_literal 32 (kind_word Counter) refl
-lacks_kind Gauge = lacks_literal 32 (kind_word Gauge) refl
-lacks_kind Histogram = lacks_literal 32 (kind_word Histogram) refl
+lacks_kind k = lacks_literal 32 (kind_word k) refl
 
 pub lacks_unit : (u : Option Measure) → Lacks 32 (unit_word u)
-lacks_unit None = lacks_literal 32 (unit_word None) refl
 lacks_unit (Some Count) = lacks_literal 32 (unit_word (Some Count)) refl
-lacks_unit (Some Percent) = lacks_literal 32 (unit_word (Some Percent)) refl
-lacks_unit (Some Seconds) = lacks_literal 32 (unit_word (Some Seconds)) refl
-lacks_unit (Some Milliseconds) = lacks_literal 32 (unit_word (Some Milliseconds)) refl
-lacks_unit (Some Microseconds) = lacks_literal 32 (unit_word (Some Microseconds)) refl
-lacks_unit (Some Nanoseconds) = lacks_literal 32 (unit_word (Some Nanoseconds)) refl
-lacks_unit (Some Bytes) = lacks_literal 32 (unit_word (Some Bytes)) refl
+lacks_unit u = lacks_literal 32 (unit_word u) refl
 
 pub lacks_update : (by : Update) → Lacks 32 (update_word by)
 lacks_update (Increment n) = lacks_literal 32 (update_word (Increment n)) refl
-lacks_update (Absolute n) = lacks_literal 32 (update_word (Absolute n)) refl
-lacks_update (Add n) = lacks_literal 32 (update_word (Add n)) refl
-lacks_update (Subtract n) = lacks_literal 32 (update_word (Subtract n)) refl
-lacks_update (Set n) = lacks_literal 32 (update_word (Set n)) refl
-lacks_update (Record n) = lacks_literal 32 (update_word (Record n)) refl
+lacks_update by = lacks_literal 32 (update_word by) refl
 
 pub lacks_name : (n : List ℕ) → IsName n → Lacks 32 (name_word n)
 lacks_name [] h = lacks_literal 32 (name_word []) refl
