@@ -5,10 +5,11 @@ use Rattle.std.proofs.lemmas.Fmt.{decimal_injective}
 use Rattle.tool_grammar.specs.declared.error.RunError.{RunError}
 use Rattle.tool_storm.specs.declared.totals.Totals.{Totals}
 use Rattle.tool_storm.specs.Numbers.{sum_below}
+use Rattle.tool_storm.specs.Texts.{totals_text}
 use Rattle.tool_lines.specs.declared.requests.StormPlan.{StormPlan}
 use Rattle.tool_lines.specs.declared.requests.Request.{Request}
 use Rattle.tool_lines.specs.declared.requests.Request.TheVariants.{Run, Storm, GrowingStorm}
-use Rattle.tool_lines.specs.Requests.{IsAllowedPlan, request_words, Asks, totals_text, PrintsTotals, Prints, Begins}
+use Rattle.tool_lines.specs.Requests.{IsAllowedPlan, request_words, Asks, PrintsTotals, Prints, Begins}
 
 -- ---- words ask for one thing at most
 

@@ -1,9 +1,9 @@
 -- What the words of a command line ask for, and what the program writes for it.
-use Rattle.std.specs.Prelude.{◌≡◌, ℕ, ℤ, ◌-◌, ◌*◌, ◌<◌, ◌≤◌, List, [], ◌∷◌, ◌++◌, ◌⊎◌}
+use Rattle.std.specs.Prelude.{◌≡◌, ℕ, ◌-◌, ◌*◌, ◌<◌, ◌≤◌, List, [], ◌∷◌, ◌++◌, ◌⊎◌}
 use Rattle.std.specs.Prelude.{codes, decimal, Result, OnOk}
-use Rattle.std.specs.Fmt.{signed_decimal}
 use Rattle.tool_storm.specs.declared.totals.Totals.{Totals}
 use Rattle.tool_storm.specs.Numbers.{sum_below}
+use Rattle.tool_storm.specs.Texts.{totals_text}
 use Rattle.tool_grammar.specs.declared.error.RunError.{RunError}
 use Rattle.tool_lines.specs.Running.{PrintsAnswers, status_number}
 use Rattle.tool_lines.specs.declared.requests.StormPlan.{StormPlan}
@@ -46,18 +46,6 @@ pub record IsStorm (pushers values : ℕ) (t : Totals) : Type 0 where
   pub stopped : t.stopped ≤ pushers
   pub pushed : t.pushed ≡ ((pushers - t.stopped) * values, (pushers - t.stopped) * sum_below values)
   pub found : t.found ≡ t.pushed
-
--- a number of values and their sum
-abbrev pub pair_text : List ℕ → ℕ × ℕ → List ℕ
-pair_text name pair = name ++ (32 ∷ (decimal pair.0 ++ (codes " sum " ++ (decimal pair.1 ++ 10 ∷ []))))
-
--- what the reservoir held, of how many values, and their sum
-abbrev pub sampled_text : ℕ × ℕ × ℤ → List ℕ
-sampled_text sampled = codes "sampled " ++ (decimal sampled.0 ++ (codes " of " ++ (decimal sampled.1 ++ (codes " sum " ++ (signed_decimal sampled.2 ++ 10 ∷ [])))))
-
--- three lines
-abbrev pub totals_text : Totals → List ℕ
-totals_text t = pair_text (codes "pushed") t.pushed ++ (pair_text (codes "found") t.found ++ sampled_text t.sampled)
 
 -- the text is that of the totals of such a storm
 abbrev pub PrintsTotals : StormPlan → List ℕ → Type 0

@@ -11,12 +11,12 @@ ghost use Rattle.tool_lines.specs.declared.requests.Request.TheVariants as ask;
 ghost use Rattle.tool_stream.specs.Lines.{lines_of};
 ghost use Rattle.tool_lines.specs.Output.{AnswersAll, AnswersFirst, AnswersPart, RunsKnown};
 ghost use Rattle.tool_lines.specs.Requests.{IsAllowed, IsAllowedPlan, Asks, AsksStorm, PrintsTotals, Prints, Begins};
-ghost use Rattle.tool_lines.specs.Requests.{IsFault, totals_text};
+ghost use Rattle.tool_lines.specs.Requests.{IsFault};
+ghost use Rattle.tool_storm.specs.Texts.{totals_text};
 
 use crate::exports::export_of;
 use crate::requests::{Request, StormPlan, request_of};
 use crate::running::run;
-use crate::totals::text_of_totals;
 use crate::trees::tree;
 use std::alloc::Global;
 use std::io::{BufRead, Write};
@@ -24,7 +24,7 @@ use std::sync::Wait;
 use std::thread::Threads;
 use tool_export::{ExportPlan, export_new};
 use tool_grammar::RunError;
-use tool_storm::{Gate, Totals, storm, storm_growing};
+use tool_storm::{Gate, Totals, storm, storm_growing, text_of_totals};
 use tool_stream::{flush, write_text};
 
 const USAGE: &str = "usage: metrics_tool run | storm P V B [grow] | export S M T B";

@@ -7,7 +7,6 @@ mod handles;
 mod laws;
 mod requests;
 mod running;
-mod totals;
 mod trees;
 
 pub use commands::command;

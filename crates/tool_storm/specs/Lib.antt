@@ -4,3 +4,4 @@ pub mod Pens
 pub mod Worked
 pub mod Ran
 pub mod Growing
+pub mod Texts

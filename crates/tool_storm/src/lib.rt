@@ -9,10 +9,12 @@ mod grow_worker;
 mod pens;
 mod shared;
 mod tally;
+mod text;
 mod threads;
 mod totals;
 mod worker;
 
 pub use gate::Gate;
 pub use grow_totals::storm_growing;
+pub use text::text_of_totals;
 pub use totals::{Totals, storm};

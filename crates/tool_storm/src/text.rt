@@ -1,9 +1,9 @@
 //! The text of a storm's totals.
 ghost use Rattle.std.specs.Prelude.{◌≡◌, ◌++◌, OnOk, IfOk, string_bytes};
-ghost use Rattle.tool_lines.specs.Requests.{pair_text, sampled_text, totals_text};
+ghost use Rattle.tool_storm.specs.Texts.{pair_text, sampled_text, totals_text};
 
+use crate::totals::Totals;
 use std::alloc::{AllocError, Global};
-use tool_storm::Totals;
 
 /// The line of a number of values and their sum.
 fn write_pair(text: &mut String, name: &str, pair: (u64, u64)) -> Result<(), AllocError>
