@@ -14,9 +14,6 @@ same_values [] = refl
 same_values (x ∷ xs) = ap (λ (l : List ℕ). x ∷ l) (same_values xs)
 
 -- numbers are their own values
-pub same_items : (xs : List ℕ) → map (λ (x : ℕ). x) xs ≡ xs
-same_items xs = same_values xs
-
 pub same_chunks : (xss : List (List ℕ)) → valued (λ (x : ℕ). x) xss ≡ xss
 same_chunks [] = refl
 same_chunks (xs ∷ xss) = (λ i. same_values xs i ∷ same_chunks xss i)

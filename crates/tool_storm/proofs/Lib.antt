@@ -1,4 +1,5 @@
 pub mod Chunks
 pub mod TallyLemmas
 pub mod Joining
-pub mod GrowLemmas
+pub mod Accounts
+pub mod Parts

@@ -1,21 +1,19 @@
 -- Tallies of many lists.
-use Rattle.std.proofs.Common.{◌≡◌, ℕ, zero, suc, ◌+◌, ◌*◌, ◌≤◌, List, [], ◌∷◌, ◌++◌, refl, sym, ap, subst, arith}
+use Rattle.std.proofs.Common.{◌≡◌, ℕ, zero, suc, ◌+◌, ◌*◌, ◌≤◌, List, [], ◌∷◌, refl, sym, ap, subst, arith}
 use Rattle.std.specs.List.{FoldsTo}
 use Rattle.std.specs.Prelude.{Result, Ok, Err, IfOk, IfErr}
 use Rattle.metrics.specs.Book.{joined_lists}
-use Rattle.metrics_bucket.specs.declared.view.Walk.{Walk}
-use Rattle.metrics_bucket.specs.Blocks.{newest_first, valued}
+use Rattle.metrics_bucket.specs.Blocks.{valued}
 use Rattle.metrics_bucket.proofs.Sums.{weigh-append}
-use Rattle.metrics_bucket.proofs.Visits.{weigh_walks-append}
 use Rattle.tool_storm.specs.declared.tally.Tally.{Tally}
-use Rattle.tool_storm.specs.Numbers.{count_of, sum_of, taken_count, taken_sum, below, sum_below}
+use Rattle.tool_storm.specs.Numbers.{count_of, sum_of, below, sum_below}
 use Rattle.tool_storm.specs.Tallies.{Tells, Adds}
-use Rattle.tool_storm.proofs.Chunks.{weigh_newest, same_chunks}
+use Rattle.tool_storm.proofs.Chunks.{same_chunks}
 
 pub tells_more : (t u : Tally) (n s m r : ℕ) → Tells t n s → Adds t m r u → Tells u (n + m) (s + r)
 tells_more t u n s m r a b = (let x = a.0 in let y = b.0 in omega arith, let x = a.1 in let y = b.1 in omega arith)
 
-pub tells_all : (xss : List (List ℕ)) (t u : Tally) (n s : ℕ) → Tells t n s → FoldsTo (λ t xs u. Adds t (count_of xs) (sum_of xs) u) t xss u → Tells u (n + count_of (joined_lists xss)) (s + sum_of (joined_lists xss))
+tells_all : (xss : List (List ℕ)) (t u : Tally) (n s : ℕ) → Tells t n s → FoldsTo (λ t xs u. Adds t (count_of xs) (sum_of xs) u) t xss u → Tells u (n + count_of (joined_lists xss)) (s + sum_of (joined_lists xss))
 tells_all [] t u n s a e =
     let x = a.0 in let y = a.1 in
     let c : u.count ≡ t.count = ap (λ (z : Tally). z.count) (sym e) in
@@ -28,18 +26,9 @@ tells_all (xs ∷ xss) t u n s a (v, b, f) =
     let d = weigh-append (λ x. x) xs (joined_lists xss) in
     (omega arith, omega arith)
 
--- a clear's chunks were all added
-pub tells_clear : (walk : Walk) (taken : List Walk) (t u : Tally) → Tells t (taken_count taken) (taken_sum taken) → FoldsTo (λ t xs u. Adds t (count_of xs) (sum_of xs) u) t (valued (λ (x : ℕ). x) (newest_first walk.values)) u
-    → Tells u (taken_count (taken ++ walk ∷ [])) (taken_sum (taken ++ walk ∷ []))
-tells_clear walk taken t u a f =
-    let list : List ℕ = walk.values in
-    let k = tells_all (newest_first list) t u (taken_count taken) (taken_sum taken) a (subst (λ (l : List (List ℕ)). FoldsTo (λ t xs u. Adds t (count_of xs) (sum_of xs) u) t l u) (same_chunks (newest_first list)) f) in
-    let x = k.0 in let y = k.1 in
-    let c = weigh_walks-append (λ _. 1) taken walk in
-    let s = weigh_walks-append (λ x. x) taken walk in
-    let c' = weigh_newest (λ _. 1) list in
-    let s' = weigh_newest (λ x. x) list in
-    (omega arith, omega arith)
+-- the chunks that a clear showed were all added
+pub tells_chunks : (xss : List (List ℕ)) (t u : Tally) (n s : ℕ) → Tells t n s → FoldsTo (λ t xs u. Adds t (count_of xs) (sum_of xs) u) t (valued (λ (x : ℕ). x) xss) u → Tells u (n + count_of (joined_lists xss)) (s + sum_of (joined_lists xss))
+tells_chunks xss t u n s a f = tells_all xss t u n s a (subst (λ (l : List (List ℕ)). FoldsTo (λ t xs u. Adds t (count_of xs) (sum_of xs) u) t l u) (same_chunks xss) f)
 
 pub count_below : (n : ℕ) → count_of (below n) ≡ n
 count_below zero = refl

@@ -3,5 +3,4 @@ pub mod Tallies
 pub mod Pens
 pub mod Worked
 pub mod Ran
-pub mod Growing
 pub mod Texts

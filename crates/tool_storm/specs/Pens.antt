@@ -1,31 +1,54 @@
--- Accounts of the pens of a storm.
-use Rattle.std.specs.Prelude.{◌≡◌, ℕ, ◌+◌, false, List, [], ◌∷◌}
-use Rattle.metrics_bucket.specs.declared.view.Push.{Push}
-use Rattle.metrics_bucket.specs.declared.view.Walk.{Walk}
-use Rattle.metrics_bucket.specs.Account.{Home, Account}
-use Rattle.metrics_bucket.specs.Facts.{weigh, weigh_pushes}
+-- What the accounts of a storm's pens say.
+use Rattle.std.specs.Prelude.{◌≡◌, ℕ, ◌+◌, ◌/◌, List, [], ◌∷◌}
+use Rattle.metrics_bucket.specs.Account.{Account}
+use Rattle.metrics_bucket.specs.Facts.{weigh, weigh_pushes, weigh_walks}
+use Rattle.metrics_growing.specs.Parts.{Part}
+use Rattle.metrics_growing.specs.Bags.{pushed_by, taken_by}
+use Rattle.tool_storm.specs.declared.tally.Tally.{Tally}
+use Rattle.tool_storm.specs.Tallies.{Tells}
 
--- a pen of this bucket that pushed and took nothing
-abbrev pub IsFresh : Home → Account → Type 0
-IsFresh home a = (a.home ≡ home) × (a.ticket ≡ false) × (a.pushed ≡ []) × (a.taken ≡ [])
+-- the weight of a pen, and the multisets of what it pushed and took, each by what it weighs
+pub record Bags : Type 0 where
+  pub weight : ℕ
+  pub pushed : (ℕ → ℕ) → ℕ
+  pub taken : (ℕ → ℕ) → ℕ
 
-abbrev pub AreFresh : Home → List Account → Type 0
-AreFresh home [] = Unit {0}
-AreFresh home (a ∷ more) = IsFresh home a × AreFresh home more
+-- those of a pen of a `RuledBucket`
+abbrev pub bags_of : Account → Bags
+bags_of a = record { weight = a.weight; pushed = λ h. weigh_pushes h a.pushed; taken = λ h. weigh_walks h a.taken }
+
+-- those of a pen of a growing bucket, where no weight is counted
+abbrev pub bags_in : List Part → Bags
+bags_in ps = record { weight = 0; pushed = λ h. pushed_by h ps; taken = λ h. taken_by h ps }
+
+-- it pushed and took nothing
+abbrev pub IsFresh : Bags → Type 0
+IsFresh b = (h : ℕ → ℕ) → (b.pushed h ≡ 0) × (b.taken h ≡ 0)
+
+-- the values were pushed, and nothing else changed
+abbrev pub HasPushed : Bags → List ℕ → Bags → Type 0
+HasPushed old values new = (new.weight ≡ old.weight) × ((h : ℕ → ℕ) → (new.pushed h ≡ old.pushed h + weigh h values) × (new.taken h ≡ old.taken h))
+
+-- values were taken, and nothing else changed
+abbrev pub HasTaken : Bags → Bags → Type 0
+HasTaken old new = (new.weight ≡ old.weight) × ((h : ℕ → ℕ) → new.pushed h ≡ old.pushed h)
+
+-- one has what both had
+abbrev pub IsJoined : Bags → Bags → Bags → Type 0
+IsJoined a b one = (one.weight ≡ a.weight + b.weight) × ((h : ℕ → ℕ) → (one.pushed h ≡ a.pushed h + b.pushed h) × (one.taken h ≡ a.taken h + b.taken h))
+
+-- two have what one had, and the second has half of the weight
+abbrev pub IsSplit : Bags → Bags → Bags → Type 0
+IsSplit one a b = IsJoined a b one × (b.weight ≡ one.weight / 2)
 
 -- the weights of all, added up
-abbrev pub weights : List Account → ℕ
-weights [] = 0
-weights (a ∷ more) = a.weight + weights more
+abbrev pub weights : {P : Type 0} → (P → Bags) → List P → ℕ
+weights bags [] = 0
+weights bags (p ∷ more) = (bags p).weight + weights bags more
 
--- a pen that took these lists, found this word of the turn last, and is otherwise unchanged
-abbrev pub with_taken : Account → List Walk → ℕ → Account
-with_taken a walks turn_seen = record a { taken = walks; turn_seen = turn_seen }
+-- the tally of what was pushed, and of what was taken
+abbrev pub TellsPushed : Tally → Bags → Type 0
+TellsPushed t b = Tells t (b.pushed (λ _. 1)) (b.pushed (λ x. x))
 
--- a pen without ticket that pushed these values, saw this control word last, and is otherwise unchanged
-abbrev pub with_pushed : Account → List Push → ℕ → Account
-with_pushed a pushes seen = record a { pushed = pushes; ticket = false; seen = seen }
-
--- the values were pushed, and nothing else changed but the control word that was seen last
-abbrev pub HasPushed : Account → List ℕ → Account → Type 0
-HasPushed old values new = (new ≡ with_pushed old new.pushed new.seen) × ((h : ℕ → ℕ) → weigh_pushes h new.pushed ≡ weigh_pushes h old.pushed + weigh h values)
+abbrev pub TellsTaken : Tally → Bags → Type 0
+TellsTaken t b = Tells t (b.taken (λ _. 1)) (b.taken (λ x. x))

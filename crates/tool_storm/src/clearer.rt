@@ -1,45 +1,32 @@
 //! The thread that clears.
-ghost use Rattle.std.specs.Prelude.{◌≡◌, [], false};
-ghost use Rattle.tool_storm.specs.Numbers.{taken_count, taken_sum};
-ghost use Rattle.tool_storm.specs.Tallies.{Tells};
-ghost use Rattle.tool_storm.specs.Pens.{with_taken};
+ghost use Rattle.std.specs.Prelude.{◌≡◌};
+ghost use Rattle.tool_storm.specs.Pens.{IsFresh, HasTaken, TellsTaken};
 
+use crate::bucket::Bucket;
 use crate::shared::Shared;
 use crate::tally::Tally;
 use crossbeam_utils::Backoff;
-use metrics_bucket::{Pen, RuledBucket};
 use std::sync::Wait;
 use std::sync::atomic::Ordering;
 
-/// Clears once, if no other walk is under way.
-fn clear_once<R: Wait>(rt: &R, bucket: &RuledBucket<u64>, pen: &mut Pen, found: &mut Tally)
-    requires own { pen.old.home ≡ bucket.now }
-    requires free { pen.old.ticket ≡ false }
-    requires found { Tells found.old (taken_count pen.old.taken) (taken_sum pen.old.taken) }
-    ensures pen { pen.new ≡ with_taken pen.old pen.new.taken pen.new.turn_seen }
-    ensures found { Tells found.new (taken_count pen.new.taken) (taken_sum pen.new.taken) }
-{
-    let _ = bucket.clear_to_as(rt, pen, found);
-}
-
 /// Clears until so many workers have ended, and then once more.
-pub(crate) fn clear_until<R: Wait>(
+pub(crate) fn clear_until<R: Wait, B: Bucket>(
     rt: &R,
-    shared: &Shared,
-    mut pen: Pen,
+    shared: &Shared<B>,
+    mut pen: B::Pen,
     started: usize,
-) -> (Pen, Tally)
-    requires own { pen.home ≡ shared.now.bucket }
-    requires free { pen.ticket ≡ false }
-    requires none { pen.taken ≡ [] }
-    ensures pen { result.0 ≡ with_taken pen result.0.taken result.0.turn_seen }
-    ensures found { Tells result.1 (taken_count result.0.taken) (taken_sum result.0.taken) }
+) -> (B::Pen, Tally)
+    requires own { B.owns shared.now.bucket pen }
+    requires fresh { IsFresh (B.bags pen) }
+    ensures own { B.owns shared.now.bucket result.0 }
+    ensures taken { HasTaken (B.bags pen) (B.bags result.0) }
+    ensures found { TellsTaken result.1 (B.bags result.0) }
 {
     let mut found = Tally::new();
     let pause = Backoff::new();
     for _ in rt.forever() {
         let last = shared.ended.load(Ordering::SeqCst) >= started;
-        clear_once(rt, &shared.bucket, &mut pen, &mut found);
+        shared.bucket.clear_once(rt, &mut pen, &mut found);
         if last {
             break;
         }

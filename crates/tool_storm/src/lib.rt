@@ -1,12 +1,12 @@
 //! Many threads push into one bucket and one reservoir, while another clears the bucket.
 #![tactic(auto)]
 
+mod bucket;
 mod clearer;
 mod gate;
-mod grow_threads;
-mod grow_totals;
-mod grow_worker;
+mod growing;
 mod pens;
+mod ruled;
 mod shared;
 mod tally;
 mod text;
@@ -15,6 +15,5 @@ mod totals;
 mod worker;
 
 pub use gate::Gate;
-pub use grow_totals::storm_growing;
 pub use text::text_of_totals;
-pub use totals::{Totals, storm};
+pub use totals::{Totals, storm, storm_growing};

@@ -1,7 +1,6 @@
 //! What all threads of a storm share.
 ghost use Rattle.std.specs.Prelude.{◌≡◌};
 
-use metrics_bucket::RuledBucket;
 use metrics_shared::reservoir::AtomicSamplingReservoir;
 use rand_xoshiro::Xoshiro256PlusPlus;
 use std::sync::atomic::AtomicUsize;
@@ -9,8 +8,8 @@ use std::sync::atomic::AtomicUsize;
 /// The bucket and the reservoir that the workers push into, the numbers that each pushes (those below `values`), and how
 /// many workers have ended.
 #[derive(Drop)]
-pub(crate) struct Shared {
-    pub(crate) bucket: RuledBucket<u64>,
+pub(crate) struct Shared<B> {
+    pub(crate) bucket: B,
     pub(crate) reservoir: AtomicSamplingReservoir<Xoshiro256PlusPlus>,
     pub(crate) values: u64,
     pub(crate) ended: AtomicUsize,

@@ -4,4 +4,5 @@ use Rattle.tool_storm.specs.Pens.{HasPushed}
 use Rattle.tool_storm.proofs.worker.push_all.Given as goal
 
 abbrev pub invariant-loop-value : goal.invariant-loop-value
-invariant-loop-value g l = HasPushed l.initial.pen (below l.value) l.pen × Tells l.pushed (count_of (below l.value)) (sum_of (below l.value))
+invariant-loop-value g l =
+    g.B.Bucket.owns l.shared.bucket l.pen × HasPushed (g.B.Bucket.bags l.initial.pen) (below l.value) (g.B.Bucket.bags l.pen) × Tells l.pushed (count_of (below l.value)) (sum_of (below l.value))

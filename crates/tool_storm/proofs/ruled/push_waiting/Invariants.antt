@@ -1,5 +1,5 @@
 use Rattle.metrics_bucket.specs.Account.{IsLooked}
-use Rattle.tool_storm.proofs.worker.push_one.Given as goal
+use Rattle.tool_storm.proofs.ruled.push_waiting.Given as goal
 
 abbrev pub invariant-loop : goal.invariant-loop
 invariant-loop g l = IsLooked l.initial.pen l.pen
