@@ -1,5 +1,6 @@
 //! Workers in threads of their own, and the clearer.
-ghost use Rattle.std.specs.Prelude.{◌≡◌, ℕ, ◌+◌, ◌<◌, ◌^◌, if◌then◌else◌, None, IfOk, IfErr, All, length};
+ghost use Rattle.std.specs.Prelude.{◌≡◌, ℕ, ◌+◌, ◌<◌, ◌^◌, if◌then◌else◌, None, IfOk, IfErr, All};
+ghost use Rattle.std.specs.Prelude.{length};
 ghost use Rattle.tool_grammar.specs.declared.error.RunError.TheVariants.{Memory};
 ghost use Rattle.tool_storm.specs.Tallies.{Adds};
 ghost use Rattle.tool_storm.specs.Pens.{IsFresh, IsJoined, weights};

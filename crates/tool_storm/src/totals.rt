@@ -1,5 +1,6 @@
 //! The storm as a whole.
-ghost use Rattle.std.specs.Prelude.{◌≡◌, ◌+◌, ◌-◌, ◌*◌, ◌<◌, ◌≤◌, ◌^◌, length, None, IfOk, IfErr, All};
+ghost use Rattle.std.specs.Prelude.{◌≡◌, ◌+◌, ◌-◌, ◌*◌, ◌<◌, ◌≤◌, ◌^◌, length, None, IfOk, IfErr};
+ghost use Rattle.std.specs.Prelude.{All};
 ghost use Rattle.tool_grammar.specs.declared.error.RunError.TheVariants.{Memory};
 ghost use Rattle.tool_storm.specs.Numbers.{sum_below};
 ghost use Rattle.tool_storm.specs.Pens.{IsFresh, weights};
