@@ -1,15 +1,17 @@
 -- The text of rows, one row after another.
-use Rattle.std.proofs.Common.{◌≡◌, ◌∙◌, ◌+◌, ◌<◌, ◌++◌, ℕ, Bool, true, false, not, List, Option, Some, None, Result, Ok, Err, MatchResult, IfOk, length, get_or, drop, refl, cond, ap, sym, append_assoc}
-use Rattle.std.specs.Prelude.{IfErr}
+use Rattle.std.proofs.Common.{◌≡◌, ◌∙◌, ◌+◌, ◌-◌, ◌<◌, ◌++◌, ℕ, Bool, true, false, not, List, [], Option, Some, None, Result, Ok, Err, MatchResult, IfOk, length, get_or, take, drop, codes, nat_eq, option_map, refl, cond, ap, sym, append_assoc}
+use Rattle.std.specs.Prelude.{IfErr, bytes_eq}
+use Rattle.std.specs.Option.{option_or}
+use Rattle.std.specs.List.{ends_with}
 use Rattle.std.proofs.lemmas.List.{at_drop_more}
 use Rattle.metrics_exporter.specs.Exporting.{Cells}
 use Rattle.metrics_exporter.specs.Describing.{Legend}
 use Rattle.metrics_prometheus.specs.declared.naming.Naming.{Naming}
 use Rattle.metrics_prometheus.specs.Naming.{display_of}
-use Rattle.metrics_prometheus.specs.Exposition.{Row, is_left_out, row_text, last_after, rows_text, AreRows, HoldsTexts, IsDescribed}
+use Rattle.metrics_prometheus.specs.Exposition.{Row, histogram_names, found_in, part_of, part, labels_reason, name_reason, same_name_reason, last_reason, reason_of, name_lines, name_text, is_left_out, row_text, last_after, rows_text, AreRows, HoldsTexts, IsDescribed}
 use Rattle.metrics_prometheus.specs.declared.rows.Place.{Place}
 use Rattle.metrics_prometheus.specs.Places.{rows_placed}
-use Rattle.metrics_prometheus.specs.Rows.{row_shown, rows_shown}
+use Rattle.metrics_prometheus.specs.Rows.{row_shown, rows_shown, named}
 
 if-true : {A : Type 0} (b written : Bool) (x y : A) → written ≡ not b → written ≡ true → y ≡ cond b x y
 if-true true written x y is was = absurd (let e : true ≡ false = sym was ∙ is in cc)
@@ -26,6 +28,40 @@ last-written all last r written is was = if-true (is_left_out all last r) writte
 -- and if it wasn't
 pub last-kept : (all : List Row) (last : Option Row) (r : Row) (written : Bool) → written ≡ not (is_left_out all last r) → written ≡ false → last ≡ last_after all last r
 last-kept all last r written is was = if-false (is_left_out all last r) written last (Some r) is was
+
+-- no name is one of no histogram's samples
+none-part : (name end : List ℕ) → part_of [] name end ≡ None
+none-part name end = go (ends_with nat_eq name end)
+  where
+    go : (b : Bool) → cond b (found_in [] (take (length name - length end) name)) None ≡ None
+    go true = refl
+    go false = refl
+
+pub none-named : (name : List ℕ) → None ≡ name_reason [] name
+none-named name =
+    sym (ap (λ o. option_map (λ n. part n) (option_or o (option_or (part_of [] name (codes "_sum")) (part_of [] name (codes "_count"))))) (none-part name (codes "_bucket"))
+    ∙ ap (λ o. option_map (λ n. part n) (option_or o (part_of [] name (codes "_count")))) (none-part name (codes "_sum"))
+    ∙ ap (λ o. option_map (λ n. part n) o) (none-part name (codes "_count")))
+
+-- a row of another name counts for nothing
+named-last : (last : Option Row) (r : Row) → last_reason (named last r.name) r ≡ last_reason last r
+named-last None r = refl
+named-last (Some w) r = go (bytes_eq w.name r.name) refl
+  where
+    go : (b : Bool) → bytes_eq w.name r.name ≡ b → last_reason (cond b (Some w) None) r ≡ cond b (same_name_reason w r) None
+    go true e = ap (λ b. cond b (same_name_reason w r) None) e
+    go false e = refl
+
+pub named-reason : (all : List Row) (last : Option Row) (r : Row) → reason_of all (named last r.name) r ≡ reason_of all last r
+named-reason all last r = ap (λ o. option_or (labels_reason r.kind r.labels) (option_or (name_reason (histogram_names all) r.name) o)) (named-last last r)
+
+pub named-text : (last : Option Row) (r : Row) → name_text (named last r.name) r ≡ name_text last r
+named-text None r = refl
+named-text (Some w) r = go (bytes_eq w.name r.name) refl
+  where
+    go : (b : Bool) → bytes_eq w.name r.name ≡ b → name_text (cond b (Some w) None) r ≡ cond b [] (name_lines r)
+    go true e = ap (λ b. cond b [] (name_lines r)) e
+    go false e = refl
 
 -- the text with one more row
 pub text-more : (cells : Cells) (all : List Row) (last after : Option Row) (xs : List Place) (i : ℕ) (x : Place) (before now whole : List ℕ)

@@ -1,5 +1,5 @@
 -- Rows by reference, each with what it shows.
-use Rattle.std.specs.Prelude.{◌≡◌, ℕ, List, map, Some, option_map}
+use Rattle.std.specs.Prelude.{if◌then◌else◌, ◌≡◌, ℕ, bytes_eq, List, map, Option, None, Some, option_map}
 use Rattle.std.specs.List.{AllByRecursion}
 use Rattle.std.specs.List.Sorted.{IsSorted}
 use Rattle.std.specs.Borrow.{Bor}
@@ -49,6 +49,11 @@ reason_shown (LabelReserved n) = label_reserved n.now
 reason_shown (PartOf n) = part n.now
 reason_shown (NameTaken kind) = name_taken kind
 reason_shown (LabelsTaken n) = labels_taken n.now
+
+-- the row that was written last, if it has that name
+abbrev pub named : Option Row → List ℕ → Option Row
+named None name = None
+named (Some w) name = if bytes_eq w.name name then Some w else None
 
 -- names by reference
 abbrev pub names_shown : List (Bor (List ℕ)) → List (List ℕ)

@@ -1,10 +1,11 @@
 //! The labels of a series as Prometheus is shown them.
 ghost use Rattle.std.specs.Prelude.{◌≡◌, ◌≤◌, length, insert, MatchResult, IfOk, OnOk, All, is_some, option_map, true, IsTrue};
 ghost use Rattle.std.specs.List.Sorted.{IsSorted};
+ghost use Rattle.std.specs.Cmp.Lexicographic.{pointwise};
 ghost use Rattle.std.specs.Ordering.{is_lt};
 ghost use Rattle.std.specs.Str.{IsUtf8};
 ghost use Rattle.metrics.specs.declared.error.Error.TheVariants.{Memory as OutOfMemory};
-ghost use Rattle.metrics_names.specs.Names.{LabelParts, label_cmp};
+ghost use Rattle.metrics_names.specs.Names.{LabelParts, label_eq, label_cmp};
 ghost use Rattle.metrics_prometheus.specs.Labels.{placed, added, shown_labels, is_whole};
 ghost use Rattle.metrics_prometheus.specs.Labels.{repeats, is_last, is_reserved, reserved_of, are_fit};
 
@@ -17,6 +18,13 @@ use std::alloc::Global;
 fn label_order()
     ensures { (a b : LabelParts) → ⟦<Label as Ord>⟧.cmp a b ≡ label_cmp a b }
 {}
+
+/// Returns whether labels are equal. Most are ordered in less time than `==` takes.
+pub(crate) fn are_equal(labels: &[Label], other: &[Label]) -> bool
+    ensures { result ≡ pointwise label_eq labels.now other.now }
+{
+    labels.cmp(&other).is_eq()
+}
 
 /// Returns whether a label comes before another.
 fn is_before(label: &Label, other: &Label) -> bool

@@ -1,5 +1,5 @@
 //! Why a series is left out, and the line that says so.
-ghost use Rattle.std.specs.Prelude.{◌≡◌, ◌++◌, List, OnOk, option_map, string_bytes};
+ghost use Rattle.std.specs.Prelude.{◌≡◌, ◌++◌, List, OnOk, IfSome, option_map, string_bytes};
 ghost use Rattle.std.specs.List.Sorted.{IsSorted};
 ghost use Rattle.std.specs.Cmp.Lexicographic.{slice_cmp};
 ghost use Rattle.std.specs.Ordering.{nat_cmp};
@@ -10,7 +10,7 @@ ghost use Rattle.metrics_prometheus.specs.Exposition.{reason_text, series_named,
 ghost use Rattle.metrics_prometheus.specs.Names.{help_escaped};
 ghost use Rattle.metrics_exporter.specs.ExporterText.{kind_word};
 
-use crate::labels::{repeats, reserved_of};
+use crate::labels::{are_equal, repeats, reserved_of};
 use crate::names::write_help_text;
 use crate::rows::ShownRow;
 use crate::samples::write_labels;
@@ -52,6 +52,9 @@ fn name_reason<'r>(histograms: &[&'r str], name: &[u8]) -> Option<Reason<'r>>
     requires { IsSorted (slice_cmp nat_cmp) (names_shown histograms.now) }
     ensures { option_map reason_shown result ≡ name_reason (names_shown histograms.now) name.now }
 {
+    if histograms.is_empty() {
+        return None;
+    }
     match whole_of(histograms, name) {
         Some(whole) => Some(Reason::PartOf(whole)),
         None => None,
@@ -65,29 +68,24 @@ fn same_name_reason<'r>(written: &ShownRow<'r>, row: &ShownRow<'_>) -> Option<Re
     if written.kind != row.kind {
         return Some(Reason::NameTaken(written.kind));
     }
-    if written.labels == row.labels {
+    if are_equal(written.labels.as_slice(), row.labels.as_slice()) {
         return Some(Reason::LabelsTaken(written.key.name()));
     }
     None
 }
 
-/// Why a row can't be next to the one that was written last.
+/// Why a row can't be next to the one that was written last, if that has its name.
 fn last_reason<'r>(last: Option<&ShownRow<'r>>, row: &ShownRow<'_>) -> Option<Reason<'r>>
+    requires { IfSome last (λ w. w.now.name ≡ row.now.name) }
     ensures { option_map reason_shown result ≡ last_reason (option_map (λ w. row_shown w.now) last.entry) (row_shown row.now) }
 {
     match last {
-        Some(written) => {
-            if written.name == row.name {
-                same_name_reason(written, row)
-            } else {
-                None
-            }
-        }
+        Some(written) => same_name_reason(written, row),
         None => None,
     }
 }
 
-/// Why a row is left out beside rows with these histograms, if it is.
+/// Why a row is left out beside rows with these histograms, if it is. The row that was written last counts if it has its name.
 pub(crate) fn reason_of<'r>(
     histograms: &[&'r str],
     last: Option<&ShownRow<'r>>,
@@ -95,6 +93,7 @@ pub(crate) fn reason_of<'r>(
 ) -> Option<Reason<'r>>
     requires sorted { IsSorted (slice_cmp nat_cmp) (names_shown histograms.now) }
     requires labels { IsSorted label_cmp row.now.labels }
+    requires named { IfSome last (λ w. w.now.name ≡ row.now.name) }
     ensures { (rows : List Row) → names_shown histograms.now ≡ histogram_names rows → option_map reason_shown result
         ≡ reason_of rows (option_map (λ w. row_shown w.now) last.entry) (row_shown row.now) }
 {

@@ -8,7 +8,7 @@ ghost use Rattle.metrics_prometheus.specs.Exposition.{row_cmp};
 
 use crate::labels::shown_labels;
 use crate::naming::{Naming, shown_name, shown_places};
-use crate::shown::{ShownItems, ShownName};
+use crate::shown::{ShownItems, ShownName, are_equal};
 use metrics::{Error, Key, Label, MetricKind};
 use metrics_exporter::{Descriptions, ReadingRef, SeriesReading};
 use std::alloc::{AllocError, Global};
@@ -92,7 +92,7 @@ fn head_of<'a>(
         (λ head. head_shown head ≡ display_of naming (described_by descriptions.now) kind name.now) (λ e. e ≡ OutOfMemory) }
 {
     if let Some(whole) = last {
-        if whole.kind == kind && whole.name == name {
+        if whole.kind == kind && are_equal(whole.name, name) {
             return Ok(Head {
                 name: ShownName::given(name),
                 help: whole.help,
@@ -110,7 +110,7 @@ fn whole_of<'a>(row: &ShownRow<'a>) -> Option<Whole<'a>>
 {
     let key = row.key;
     let name = key.name();
-    if row.name.as_str() != name {
+    if !are_equal(row.name.as_str(), name) {
         return None;
     }
     Some(Whole {

@@ -1,6 +1,6 @@
 //! The text of the held series.
 ghost use Rattle.std.specs.Prelude.{◌≡◌, ◌<◌, ◌++◌, List, length, not, None, Some, option_map, string_bytes};
-ghost use Rattle.std.specs.Prelude.{OnOk, OnErr, IfOk, IfErr, MatchResult};
+ghost use Rattle.std.specs.Prelude.{OnOk, OnErr, IfOk, IfErr, IfSome, MatchResult};
 ghost use Rattle.std.specs.List.{AllByRecursion};
 ghost use Rattle.std.specs.List.Sorted.{IsSorted};
 ghost use Rattle.std.specs.Cmp.Lexicographic.{slice_cmp};
@@ -17,7 +17,7 @@ ghost use Rattle.metrics_prometheus.specs.Exposition.{help_line, type_line, name
 ghost use Rattle.metrics_prometheus.specs.Exposition.{samples_of, row_told, rows_text, last_after};
 ghost use Rattle.metrics_prometheus.specs.Exposition.{IsExposition, IsDescribed};
 ghost use Rattle.metrics_prometheus.specs.Places.{rows_placed};
-ghost use Rattle.metrics_prometheus.specs.Rows.{row_shown, rows_shown, Shows, names_shown};
+ghost use Rattle.metrics_prometheus.specs.Rows.{row_shown, rows_shown, Shows, names_shown, named};
 ghost use Rattle.metrics_prometheus.specs.Samples.{lines};
 
 use crate::names::write_help_text;
@@ -63,23 +63,35 @@ fn write_name_lines(text: &mut String, row: &ShownRow<'_>) -> Result<(), AllocEr
     write_type_line(text, row)
 }
 
-/// Writes the description of a name that wasn't written last.
+/// The row that was written last, if it has a row's name.
+fn named<'w, 'r>(last: Option<&'w ShownRow<'r>>, row: &ShownRow<'_>) -> Option<&'w ShownRow<'r>>
+    ensures named { option_map (λ w. row_shown w.now) result ≡ named (option_map (λ w. row_shown w.now) last.entry) row.now.name }
+    ensures same { IfSome result (λ w. w.now.name ≡ row.now.name) }
+{
+    match last {
+        Some(written) => {
+            if written.name == row.name {
+                Some(written)
+            } else {
+                None
+            }
+        }
+        None => None,
+    }
+}
+
+/// Writes the description of a row's name, unless the row that was written last has it.
 fn write_name(
     text: &mut String,
     last: Option<&ShownRow<'_>>,
     row: &ShownRow<'_>,
 ) -> Result<(), AllocError>
+    requires { IfSome last (λ w. w.now.name ≡ row.now.name) }
     ensures { OnOk result (string_bytes text.new
         ≡ string_bytes text.old ++ name_text (option_map (λ w. row_shown w.now) last.entry) (row_shown row.now)) }
 {
     match last {
-        Some(written) => {
-            if written.name == row.name {
-                Ok(())
-            } else {
-                write_name_lines(text, row)
-            }
-        }
+        Some(_) => Ok(()),
         None => write_name_lines(text, row),
     }
 }
@@ -124,11 +136,12 @@ fn write_row(
         → written ≡ not (is_left_out rows (option_map (λ w. row_shown w.now) last.entry) (row_shown row.now))) }
     ensures err { IfErr result (λ e. e ≡ OutOfMemory) }
 {
-    if let Some(reason) = reason_of(histograms, last, row) {
+    let same = named(last, row);
+    if let Some(reason) = reason_of(histograms, same, row) {
         write_left_out(text, row, reason)?;
         return Ok(false);
     }
-    write_name(text, last, row)?;
+    write_name(text, same, row)?;
     write_samples(alloc, text, row)?;
     Ok(true)
 }
