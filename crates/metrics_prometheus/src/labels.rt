@@ -7,10 +7,11 @@ ghost use Rattle.std.specs.Str.{IsUtf8};
 ghost use Rattle.metrics.specs.declared.error.Error.TheVariants.{Memory as OutOfMemory};
 ghost use Rattle.metrics_names.specs.Names.{LabelParts, label_eq, label_cmp};
 ghost use Rattle.metrics_prometheus.specs.Labels.{placed, added, shown_labels, is_whole};
+ghost use Rattle.metrics_prometheus.specs.Places.{first_value};
 ghost use Rattle.metrics_prometheus.specs.Labels.{repeats, is_last, is_reserved, reserved_of, are_fit};
 
 use crate::names::{is_name, label_name};
-use crate::shown::ShownItems;
+use crate::shown::{self, ShownItems};
 use metrics::{Error, Label, MetricKind};
 use std::alloc::Global;
 
@@ -19,10 +20,23 @@ fn label_order()
     ensures { (a b : LabelParts) → ⟦<Label as Ord>⟧.cmp a b ≡ label_cmp a b }
 {}
 
-/// Returns whether labels are equal. Most are ordered in less time than `==` takes.
+/// The value of the first label.
+pub(crate) fn first_value(labels: &[Label]) -> &str
+    ensures { result.now ≡ first_value labels.now }
+{
+    match labels {
+        [] => "",
+        [first, ..] => first.value(),
+    }
+}
+
+/// Returns whether labels are equal. First values mostly decide, and short texts are ordered in less time than `==` takes.
 pub(crate) fn are_equal(labels: &[Label], other: &[Label]) -> bool
     ensures { result ≡ pointwise label_eq labels.now other.now }
 {
+    if !shown::are_equal(first_value(labels), first_value(other)) {
+        return false;
+    }
     labels.cmp(&other).is_eq()
 }
 

@@ -6,7 +6,7 @@ ghost use Rattle.metrics.specs.declared.error.Error.TheVariants.{Memory as OutOf
 ghost use Rattle.metrics_exporter.specs.Readings.{Told, told_of, all_told};
 ghost use Rattle.metrics_prometheus.specs.Exposition.{row_cmp};
 
-use crate::labels::shown_labels;
+use crate::labels::{first_value, shown_labels};
 use crate::naming::{Naming, shown_name, shown_places};
 use crate::shown::{ShownItems, ShownName, are_equal};
 use metrics::{Error, Key, Label, MetricKind};
@@ -193,23 +193,13 @@ pub(crate) struct Place<'r, 'a> {
 }
 
 ghost use Rattle.metrics_prometheus.specs.declared.rows.Place.{Place as PlaceParts};
-ghost use Rattle.metrics_prometheus.specs.Places.{rows_placed, place_cmp, first_value, value_placed, IsPlaced};
+ghost use Rattle.metrics_prometheus.specs.Places.{rows_placed, place_cmp, value_placed, IsPlaced};
 ghost use Rattle.metrics_prometheus.specs.Places.{are_led, has_head, HasHead, AreAlike};
 
 /// Does nothing. Its contract says what the order of places is.
 fn place_order()
     ensures { (a b : PlaceParts) → ⟦<Place<'static, 'static> as Ord>⟧.cmp a b ≡ place_cmp a b }
 {}
-
-/// The value of the first label.
-fn first_value(labels: &[Label]) -> &str
-    ensures { result.now ≡ first_value labels.now }
-{
-    match labels {
-        [] => "",
-        [first, ..] => first.value(),
-    }
-}
 
 fn place_of<'r, 'a>(row: &'r ShownRow<'a>, are_alike: bool) -> Place<'r, 'a>
     ensures row { result.row.now ≡ row.now }

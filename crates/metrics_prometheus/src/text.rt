@@ -146,6 +146,9 @@ fn write_row(
     Ok(true)
 }
 
+/// About how many bytes a row's text has, at least.
+const ROW_BYTES: usize = 48;
+
 /// The text of rows.
 fn rows_text(alloc: Global, places: &[Place<'_, '_>]) -> Result<String, Error>
     requires sorted { IsSorted row_cmp (rows_shown (rows_placed places.now)) }
@@ -155,7 +158,7 @@ fn rows_text(alloc: Global, places: &[Place<'_, '_>]) -> Result<String, Error>
     ensures err { IfErr result (λ e. e ≡ OutOfMemory) }
 {
     let histograms = histogram_names(alloc, places)?;
-    let mut text = String::new(alloc);
+    let mut text = String::with_capacity(alloc, places.len().saturating_mul(ROW_BYTES))?;
     let mut last = None;
     for place in places {
         if write_row(alloc, &mut text, &histograms, last, place.row)? {
