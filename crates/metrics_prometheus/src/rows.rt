@@ -49,9 +49,7 @@ struct Head<'a> {
 }
 
 ghost use Rattle.std.specs.Prelude.{IfSome};
-ghost use Rattle.metrics_exporter.specs.Gathering.{series_at};
 ghost use Rattle.metrics_exporter.specs.Describing.{described_by};
-ghost use Rattle.metrics_prometheus.specs.Exposition.{row_of as shown_row};
 ghost use Rattle.metrics_prometheus.specs.Naming.{Display, display_of};
 ghost use Rattle.metrics_prometheus.specs.Rows.{row_shown, pair_shown, pair_of, AreRowsOf};
 ghost use Rattle.metrics_prometheus.specs.Heads.{head_shown, IsWhole};
@@ -78,61 +76,63 @@ fn found_head<'a>(
     })
 }
 
+/// What a kind and name are shown with, if the name is shown unchanged.
+fn whole_of<'a>(head: &Head<'a>, kind: MetricKind, name: &'a str) -> Option<Whole<'a>>
+    ensures { (display : Display) → head_shown head.now ≡ display kind name.now → IfSome result (IsWhole display) }
+{
+    if !are_equal(head.name.as_str(), name) {
+        return None;
+    }
+    Some(Whole {
+        kind,
+        name,
+        help: head.help,
+        places: head.places,
+    })
+}
+
 /// What a kind and name are shown with. It is looked up unless the row before has them.
 fn head_of<'a>(
     alloc: Global,
     naming: Naming,
     descriptions: &'a Descriptions,
-    last: Option<Whole<'a>>,
+    last: &mut Option<Whole<'a>>,
     kind: MetricKind,
     name: &'a str,
 ) -> Result<Head<'a>, Error>
-    requires { IfSome last (IsWhole (display_of naming (described_by descriptions.now))) }
-    ensures { MatchResult result
+    requires { IfSome last.old (IsWhole (display_of naming (described_by descriptions.now))) }
+    ensures head { MatchResult result
         (λ head. head_shown head ≡ display_of naming (described_by descriptions.now) kind name.now) (λ e. e ≡ OutOfMemory) }
+    ensures last { IfSome last.new (IsWhole (display_of naming (described_by descriptions.now))) }
 {
-    if let Some(whole) = last {
+    if let Some(whole) = *last {
         if whole.kind == kind && are_equal(whole.name, name) {
             return Ok(Head {
-                name: ShownName::given(name),
+                name: ShownName::given(whole.name),
                 help: whole.help,
                 places: whole.places,
             });
         }
     }
-    found_head(alloc, naming, descriptions, kind, name)
+    let head = found_head(alloc, naming, descriptions, kind, name)?;
+    *last = whole_of(&head, kind, name);
+    Ok(head)
 }
 
-/// What a row's kind and name are shown with, if the name is shown unchanged.
-fn whole_of<'a>(row: &ShownRow<'a>) -> Option<Whole<'a>>
-    ensures { (display : Display) → row_shown row.now ≡ shown_row display (series_at row.now.kind row.now.key.now)
-        → IfSome result (IsWhole display) }
-{
-    let key = row.key;
-    let name = key.name();
-    if !are_equal(row.name.as_str(), name) {
-        return None;
-    }
-    Some(Whole {
-        kind: row.kind,
-        name,
-        help: row.help,
-        places: row.places,
-    })
-}
-
+/// The row of a series. What its kind and name are shown with is kept for the next one.
 fn row_of<'a>(
     alloc: Global,
     naming: Naming,
     descriptions: &'a Descriptions,
-    last: Option<Whole<'a>>,
+    last: &mut Option<Whole<'a>>,
     series: SeriesReading<'a>,
 ) -> Result<ShownRow<'a>, Error>
-    requires { IfSome last (IsWhole (display_of naming (described_by descriptions.now))) }
+    requires { IfSome last.old (IsWhole (display_of naming (described_by descriptions.now))) }
     ensures row { MatchResult result
         (λ row. pair_shown row ≡ pair_of (display_of naming (described_by descriptions.now)) (told_of series.entry))
         (λ e. e ≡ OutOfMemory) }
     ensures texts { OnOk result (All (λ l. IsUtf8 l.1) series.entry.key.now.labels) }
+    ensures last { IfSome last.new (IsWhole (display_of naming (described_by descriptions.now))) }
 {
     let kind = series.reading.kind();
     let labels = shown_labels(alloc, series.key.labels())?;
@@ -165,8 +165,7 @@ pub(crate) fn rows_of<'a>(
     let mut rows = Vec::with_capacity(alloc, series.len())?;
     let mut last = None;
     for entry in series {
-        let row = row_of(alloc, naming, descriptions, last, *entry)?;
-        last = whole_of(&row);
+        let row = row_of(alloc, naming, descriptions, &mut last, *entry)?;
         rows.push(row)?;
     }
     Ok(rows)

@@ -26,7 +26,7 @@ loop-entry-preserved c =
     let display = display_of c.args.naming (described_by c.args.descriptions.now) in
     let row = c.in_ok-row.row in
     record {
-      last = c.whole_of-last.ensures display (own-row display (row_shown row) (told_of entry).0 (ap (λ (p : Row × Reading). p.0) c.in_ok-row.ensures.row));
+      last = c.row_of.ensures.last;
       rows = rows-more display c.loop-entry.rows.items c.push.new.self.items series i row entry c.loop-entry-test.true c.entry-item.is c.in_ok-push.ensures.items c.in_ok-row.ensures.row c.loop-entry.invariant.rows;
       texts = All-more HasTexts series i entry c.loop-entry-test.true c.loop-entry.invariant.texts (subst HasTexts c.entry-item.is c.in_ok-row.ensures.texts);
     }
