@@ -46,10 +46,6 @@ rows-more display xs ys ss i x s small at is shown so =
     ap (map pair_shown) is ∙ map-append pair_shown xs (x ∷ []) ∙ ap (λ l. l ++ pair_shown x ∷ []) so ∙ ap (λ r. map f done ++ r ∷ []) (shown ∙ ap (λ q. f (told_of q)) at)
     ∙ sym (ap (λ l. map f (all_told l)) (take_more ss i s small) ∙ ap (map f) (map-append told_of (take i ss) (get_or ss i s ∷ [])) ∙ map-append f done (last ∷ []))
 
--- a row is that of its own series
-pub own-row : (display : Display) (r : Row) (s : SeriesKey) → r ≡ row_of display s → r ≡ row_of display (series_at r.kind r.key)
-own-row display r s e = e ∙ sym (ap (λ q. row_of display (series_at q.kind q.key)) e)
-
 -- rows by reference, as rows
 rows-first : (rows : List ShownRow) → map (λ (p : Row × Reading). p.0) (map pair_shown rows) ≡ rows_shown rows
 rows-first [] = refl

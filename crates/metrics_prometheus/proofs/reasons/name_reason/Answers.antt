@@ -1,4 +1,4 @@
-use Rattle.std.proofs.Common.{rules, ◌≡◌, ◌∙◌, List, ℕ, [], length, arith, ap, sym}
+use Rattle.std.proofs.Common.{rules, ◌≡◌, ◌∙◌, List, ℕ, length, arith, ap, sym}
 use Rattle.std.specs.Borrow.{Bor}
 use Rattle.metrics_prometheus.specs.Exposition.{name_reason}
 use Rattle.metrics_prometheus.specs.Rows.{names_shown}

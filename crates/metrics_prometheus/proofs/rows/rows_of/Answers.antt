@@ -1,4 +1,4 @@
-use Rattle.std.proofs.Common.{ap, subst}
+use Rattle.std.proofs.Common.{subst}
 use Rattle.std.specs.Prelude.{All}
 use Rattle.std.specs.Str.{IsUtf8}
 use Rattle.std.proofs.lemmas.List.{take_all}
@@ -7,11 +7,7 @@ use Rattle.metrics_exporter.specs.declared.readings.SeriesReading.{SeriesReading
 use Rattle.metrics_names.specs.Names.{LabelParts}
 use Rattle.metrics_exporter.specs.Describing.{described_by}
 use Rattle.metrics_prometheus.specs.Naming.{display_of}
-use Rattle.metrics_exporter.specs.Exporting.{Reading}
-use Rattle.metrics_exporter.specs.Readings.{told_of}
-use Rattle.metrics_prometheus.specs.Exposition.{Row}
-use Rattle.metrics_prometheus.specs.Rows.{row_shown}
-use Rattle.metrics_prometheus.proofs.RowLemmas.{rows-more, own-row}
+use Rattle.metrics_prometheus.proofs.RowLemmas.{rows-more}
 use Rattle.metrics_prometheus.proofs.rows.rows_of.Goals as goal
 
 -- the labels of a series have texts as values
