@@ -4,6 +4,7 @@ pub mod LabelLemmas
 pub mod MakingLemmas
 pub mod PlaceLemmas
 pub mod SentenceLemmas
+pub mod WordLemmas
 pub mod AnswerLemmas
 pub mod ServingLemmas
 pub mod OneLemmas

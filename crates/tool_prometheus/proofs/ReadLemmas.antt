@@ -18,6 +18,7 @@ use Rattle.tool_prometheus.specs.Lines.{label_word, label_words, LacksKey, AreWr
 use Rattle.tool_prometheus.proofs.EscapeLemmas.{escaped-same, starts-else}
 use Rattle.tool_prometheus.proofs.LabelLemmas.{QuotedSoFar, quoted-fails, LabelsSoFar, labels-fail, starts-words}
 use Rattle.tool_prometheus.proofs.SentenceLemmas.{lacks_name}
+use Rattle.tool_prometheus.proofs.WordLemmas.{visible-text}
 
 -- what holds is known of any error
 pub certain : {P : Type 0} (e : Unread) → P → Fails P e
@@ -26,12 +27,11 @@ certain (Bad cause at) p = p
 
 -- ---- values
 
-pub no-bare : (bytes word rest : List ℕ) (e : Unread) → bytes ≡ word ++ rest → Lacks 32 word → StartsAt 32 rest
-    → Fails (IsText word → ⊥) e
+pub no-bare : (bytes : List ℕ) (e : Unread)
+    → Fails ((text r : List ℕ) → IsText text → Lacks 32 text → StartsAt 32 r → bytes ≡ text ++ r → ⊥) e
     → Fails ((value r : List ℕ) → CanBeValue false value → StartsAt 32 r → bytes ≡ value ++ r → ⊥) e
-no-bare bytes word rest Memory is lacks starts none = tt
-no-bare bytes word rest (Bad cause at) is lacks starts none = λ value r can sr e.
-    none (subst IsText (sym (before_same 32 word value rest r lacks can.1 starts sr (sym is ∙ e)).0) can.0)
+no-bare bytes Memory none = tt
+no-bare bytes (Bad cause at) none = λ value r can sr e. none value r can.0 can.1 sr e
 
 -- a quoted value is read up to its quote in one way
 pub not-closed : (bytes value rest : List ℕ) → bytes ≡ escaped value ++ 34 ∷ rest → (StartsAt 32 rest → ⊥)
@@ -134,6 +134,17 @@ module _ (bytes word rest : List ℕ) (is : bytes ≡ 32 ∷ (word ++ rest)) (la
   no-amount first none by r range sr is_word e =
       none by range is_word (same-word (amount_word by) r (lacks_amount by range) sr e).0
 
+text-name : (name : List ℕ) → IsName name → IsText (name_word name)
+text-name [] h = visible-text (codes "-") (λ k d small. grind arith)
+text-name (x ∷ xs) h = h.0
+
+pub no-name-text : (bytes others : List ℕ) (e : Unread) → bytes ≡ 32 ∷ others
+    → Fails ((text r : List ℕ) → IsText text → Lacks 32 text → StartsAt 32 r → others ≡ text ++ r → ⊥) e
+    → Fails ((name r : List ℕ) → IsName name → StartsAt 32 r → bytes ≡ 32 ∷ (name_word name ++ r) → ⊥) e
+no-name-text bytes others Memory is none = tt
+no-name-text bytes others (Bad cause at) is none = λ name r h sr e.
+    none (name_word name) r (text-name name h) (lacks_name name h) sr (ap (drop 1) (sym is ∙ e))
+
 -- ---- an update
 
 abbrev pub IsNoChange : List ℕ → List ℕ → Type 0
@@ -148,34 +159,32 @@ module _ (word bytes : List ℕ) (by : Update) (rest : List ℕ) (range : IsInRa
       (before_same 32 (amount_word by) (amount_word u) rest (32 ∷ more) (lacks_amount by range) (lacks_amount u h) starts refl
       (ap (drop 1) (sym is ∙ e))).1
 
-  pub no-name-word : (e : Unread) → Fails ((r : List ℕ) → rest ≡ 32 ∷ r → ⊥) e → Fails (IsNoChange word bytes) e
-  no-name-word Memory none = tt
-  no-name-word (Bad cause at) none = λ u name ws h hn hw w e. none (name_word name ++ label_words ws) (behind-amount u _ h e)
+  pub no-change-name : (e : Unread) → Fails ((name r : List ℕ) → IsName name → StartsAt 32 r → rest ≡ 32 ∷ (name_word name ++ r) → ⊥) e
+      → Fails (IsNoChange word bytes) e
+  no-change-name Memory none = tt
+  no-change-name (Bad cause at) none = λ u name ws h hn hw w e.
+      none name (label_words ws) hn (starts-words ws) (behind-amount u _ h e)
 
-  module _ (named after : List ℕ) (cut : rest ≡ 32 ∷ (named ++ after)) (lacks : Lacks 32 named) (stops : StartsAt 32 after) where
-    behind-name : (u : Update) (name : List ℕ) (ws : List Written) → IsInRange u → IsName name
-        → bytes ≡ 32 ∷ (amount_word u ++ 32 ∷ (name_word name ++ label_words ws)) → (named ≡ name_word name) × (after ≡ label_words ws)
-    behind-name u name ws h hn e =
-        before_same 32 named (name_word name) after (label_words ws) lacks (lacks_name name hn) stops (starts-words ws)
-        (ap (drop 1) (sym cut ∙ behind-amount u _ h e))
-
-    pub no-change-name : (e : Unread) → Fails ((name : List ℕ) → IsName name → named ≡ name_word name → ⊥) e → Fails (IsNoChange word bytes) e
-    no-change-name Memory none = tt
-    no-change-name (Bad cause at) none = λ u name ws h hn hw w e. none name hn (behind-name u name ws h hn e).0
+  module _ (name after : List ℕ) (hn : IsName name) (cut : rest ≡ 32 ∷ (name_word name ++ after)) (stops : StartsAt 32 after) where
+    behind-name : (u : Update) (n : List ℕ) (ws : List Written) → IsInRange u → IsName n
+        → bytes ≡ 32 ∷ (amount_word u ++ 32 ∷ (name_word n ++ label_words ws)) → after ≡ label_words ws
+    behind-name u n ws h h' e =
+        (before_same 32 (name_word name) (name_word n) after (label_words ws) (lacks_name name hn) (lacks_name n h') stops (starts-words ws)
+        (ap (drop 1) (sym cut ∙ behind-amount u _ h e))).1
 
     pub no-change-labels : (e : Unread) → Fails ((ws : List Written) → AreWritten ws → after ≡ label_words ws → ⊥) e
         → Fails (IsNoChange word bytes) e
     no-change-labels Memory none = tt
-    no-change-labels (Bad cause at) none = λ u name ws h hn hw w e. none ws hw (behind-name u name ws h hn e).1
+    no-change-labels (Bad cause at) none = λ u n ws h h' hw w e. none ws hw (behind-name u n ws h h' e)
 
-    pub change-read : (common : List LabelParts) (name : List ℕ) (own labels : List LabelParts) → IsName name → named ≡ name_word name
-        → word ≡ update_word by → ((ws : List Written) × AreWritten ws × (own ≡ in_order ws) × (after ≡ label_words ws))
+    pub change-read : (common : List LabelParts) (own labels : List LabelParts) → word ≡ update_word by
+        → ((ws : List Written) × AreWritten ws × (own ≡ in_order ws) × (after ≡ label_words ws))
         → labels ≡ with_labels common own → Reads common (word ++ bytes) (Change (record { name = name; labels = labels }) by)
-    change-read common name own labels hn is_name is_word (ws, written, same, at) all = (
+    change-read common own labels is_word (ws, written, same, at) all = (
       change by name ws,
       (range, hn, written),
       ap (λ w. w ++ bytes) is_word ∙ ap (λ b. update_word by ++ b) (is ∙ ap (λ z. 32 ∷ (amount_word by ++ z)) (cut
-          ∙ ap (λ z. 32 ∷ z) (ap (λ z. z ++ after) is_name ∙ ap (λ z. name_word name ++ z) at))),
+          ∙ ap (λ z. 32 ∷ (name_word name ++ z)) at)),
       ap (λ ls. Change (record { name = name; labels = ls }) by) (all ∙ ap (with_labels common) same),
     )
 

@@ -20,6 +20,10 @@ use Rattle.tool_prometheus.specs.declared.requests.Request.TheVariants.{Change, 
 abbrev pub IsPlain : ℕ → Type 0
 IsPlain c = (32 ≤ c) × (c ≢ 127)
 
+-- a visible character of ASCII
+abbrev pub IsVisible : ℕ → Type 0
+IsVisible c = (32 < c) × (c < 127)
+
 -- a text without control characters
 abbrev pub IsText : List ℕ → Type 0
 IsText text = All IsPlain text × IsUtf8 text

@@ -1,54 +1,21 @@
 //! The labels of a line.
-ghost use Rattle.std.specs.Prelude.{◌≡◌, ◌≤◌, ℕ, List, [], ◌∷◌, ◌++◌, All, IsUtf8, true, false, insert};
-ghost use Rattle.std.specs.Prelude.{MatchResult, MatchOption, IfErr, IfOk, OnOk, length};
+ghost use Rattle.std.specs.Prelude.{◌≡◌, ◌≤◌, ℕ, List, [], ◌∷◌, ◌++◌, IsUtf8, true, false, insert};
+ghost use Rattle.std.specs.Prelude.{MatchResult, MatchOption, IfErr, IfOk, IfSome, OnOk, length};
 ghost use Rattle.std.specs.List.{AllByRecursion};
 ghost use Rattle.std.specs.Ordering.{is_lt};
 ghost use Rattle.metrics_names.specs.Names.{LabelParts, label_cmp};
 ghost use Rattle.metrics_prometheus.specs.Labels.{placed};
 ghost use Rattle.tool_grammar.specs.Cuts.{Lacks, StartsAt};
-ghost use Rattle.tool_prometheus.specs.Lines.{IsPlain, IsText, escape, escaped, Written, label_word, label_words, StartsElse};
+ghost use Rattle.tool_prometheus.specs.Lines.{IsText, escape, escaped, Written, label_word, label_words, StartsElse};
 ghost use Rattle.tool_prometheus.specs.Lines.{CanBeValue, IsWritten, AreWritten, value_word, in_order, Fails};
 ghost use Rattle.tool_prometheus.specs.Lines.{IsQuotable, LacksKey, has_key, with_label, with_labels};
 ghost use Rattle.tool_prometheus.specs.declared.flaws.Unread.TheVariants.{Memory as NoMemory};
 
 use crate::flaws::{Cause, Unread};
+use crate::words::{is_plain, text_before, text_of, visible_before};
 use metrics::{Label, Refused};
 use std::alloc::{AllocError, Global};
 use tool_grammar::{behind, place_of, split_at_first, split_before};
-
-/// Whether a byte is no control character.
-fn is_plain(byte: u8) -> bool
-    ensures yes { result ≡ true → IsPlain byte }
-    ensures no { result ≡ false → IsPlain byte → ⊥ }
-{
-    32 <= byte && byte != 127
-}
-
-/// Whether a text has no control character.
-pub(crate) fn are_plain(text: &[u8]) -> bool
-    ensures yes { result ≡ true → All IsPlain text.now }
-    ensures no { result ≡ false → All IsPlain text.now → ⊥ }
-{
-    for byte in text {
-        if !is_plain(*byte) {
-            return false;
-        }
-    }
-    true
-}
-
-/// A text without control characters.
-pub(crate) fn text_of(word: &[u8]) -> Result<&str, Unread<'_>>
-    ensures { MatchResult result (λ text. IsText word.now × (text.now ≡ word.now)) (Fails (IsText word.now → ⊥)) }
-{
-    if !are_plain(word) {
-        return Err(Unread::Bad(Cause::Control, word));
-    }
-    match str::from_utf8(word) {
-        Ok(text) => Ok(text),
-        Err(_) => Err(Unread::Bad(Cause::Bytes, word)),
-    }
-}
 
 /// The character that a backslash and this one spell.
 fn unescaped(byte: u8) -> Option<u8>
@@ -190,8 +157,7 @@ fn bare_label<'a>(
         (Fails ((value rest : List ℕ) → CanBeValue false value → StartsAt 32 rest
         → bytes.now ≡ value ++ rest → ⊥)) }
 {
-    let (word, rest) = split_before(bytes, b' ');
-    let value = text_of(word)?;
+    let (value, rest) = text_before(bytes, b' ')?;
     let label = Label::new(alloc, key, value)?;
     Ok((label, rest))
 }
@@ -216,6 +182,29 @@ fn label_from<'a>(
 
 /// The key of a label, and what follows its equals sign.
 fn key_and_value(bytes: &[u8]) -> Result<(&str, &[u8]), Unread<'_>>
+    ensures { MatchResult result
+        (λ f. IsText f.0.now × Lacks 32 f.0.now × Lacks 61 f.0.now × (bytes.now ≡ f.0.now ++ 61 ∷ f.1.now))
+        (Fails ((key rest : List ℕ) → IsText key → Lacks 32 key → Lacks 61 key
+        → bytes.now ≡ key ++ 61 ∷ rest → ⊥)) }
+{
+    match visible_key(bytes) {
+        Some(found) => Ok(found),
+        None => any_key(bytes),
+    }
+}
+
+/// A key of visible ASCII, and what follows its equals sign: the fast path for most keys.
+fn visible_key(bytes: &[u8]) -> Option<(&str, &[u8])>
+    ensures { IfSome result (λ f. IsText f.0.now × Lacks 32 f.0.now × Lacks 61 f.0.now
+        × (bytes.now ≡ f.0.now ++ 61 ∷ f.1.now)) }
+{
+    let (key, rest) = visible_before(bytes, b'=')?;
+    let value = behind(rest, b"=")?;
+    Some((key, value))
+}
+
+/// Any key, and what follows its equals sign.
+fn any_key(bytes: &[u8]) -> Result<(&str, &[u8]), Unread<'_>>
     ensures { MatchResult result
         (λ f. IsText f.0.now × Lacks 32 f.0.now × Lacks 61 f.0.now × (bytes.now ≡ f.0.now ++ 61 ∷ f.1.now))
         (Fails ((key rest : List ℕ) → IsText key → Lacks 32 key → Lacks 61 key

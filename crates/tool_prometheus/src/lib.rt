@@ -11,6 +11,7 @@ mod requests;
 mod serving;
 mod surroundings;
 mod watching;
+mod words;
 
 pub use answering::{Served, answer_end, answer_request};
 pub use commands::{Options, command};

@@ -7,11 +7,12 @@ ghost use Rattle.metrics_names.specs.declared.common.Unit.{Unit as Measure};
 ghost use Rattle.metrics.specs.declared.handles.Update.{Update as Change};
 ghost use Rattle.tool_grammar.specs.Cuts.{Lacks, StartsAt};
 ghost use Rattle.tool_grammar.specs.Grammar.{kind_word, unit_word, name_word, update_word, amount_word, IsInRange};
-ghost use Rattle.tool_prometheus.specs.Lines.{IsName, Written, AreWritten, label_words, Fails, Reads, IsNone, Spells};
+ghost use Rattle.tool_prometheus.specs.Lines.{IsName, IsText, Written, AreWritten, label_words, Fails, Reads, IsNone, Spells};
 ghost use Rattle.tool_prometheus.specs.Lines.{IsBad, body_of as body, IsBegun};
 
 use crate::flaws::{Cause, Unread};
-use crate::labels::{labels_of, text_of, with_labels};
+use crate::labels::{labels_of, with_labels};
+use crate::words::text_before;
 use metrics::{Key, KeyName, Label, MetricKind, Text, Unit, Update};
 use std::alloc::Global;
 use tool_grammar::{behind, kind_of, number_of, split_before, unit_of, update_of};
@@ -51,19 +52,20 @@ fn next_word<'a>(bytes: &'a [u8], what: &'static str) -> Result<(&'a [u8], &'a [
     }
 }
 
-/// The name that a word spells: a dash is the empty one.
-fn name_of(word: &[u8]) -> Result<&str, Unread<'_>>
-    requires { Lacks 32 word.now }
-    ensures { MatchResult result (λ name. IsName name.now × (word.now ≡ name_word name.now))
-        (Fails ((name : List ℕ) → IsName name → word.now ≡ name_word name → ⊥)) }
+/// The name that a text spells: a dash is the empty one.
+fn name_of(text: &str) -> Result<&str, Unread<'_>>
+    requires { IsText text.now × Lacks 32 text.now }
+    ensures { MatchResult result (λ name. IsName name.now × (text.now ≡ name_word name.now))
+        (Fails ((name : List ℕ) → IsName name → text.now ≡ name_word name → ⊥)) }
 {
+    let word = text.as_bytes();
     if word.is_empty() {
         return Err(Unread::Bad(Cause::Empty, word));
     }
     if word == b"-".as_slice() {
         return Ok("");
     }
-    text_of(word)
+    Ok(text)
 }
 
 /// The update of a word, and what follows its amount.
@@ -98,6 +100,21 @@ fn amount_flaw<'a>(word: &'a [u8], amount: Option<&'a [u8]>) -> Unread<'a> {
     }
 }
 
+/// The name of a line, and what follows it.
+fn name_and_rest(bytes: &[u8]) -> Result<(&str, &[u8]), Unread<'_>>
+    ensures { MatchResult result
+        (λ f. IsName f.0.now × (bytes.now ≡ 32 ∷ (name_word f.0.now ++ f.1.now)) × StartsAt 32 f.1.now)
+        (Fails ((name rest : List ℕ) → IsName name → StartsAt 32 rest
+        → bytes.now ≡ 32 ∷ (name_word name ++ rest) → ⊥)) }
+{
+    let Some(others) = behind(bytes, b" ") else {
+        return Err(Unread::Bad(Cause::Missing("NAME"), bytes));
+    };
+    let (text, rest) = text_before(others, b' ')?;
+    let name = name_of(text)?;
+    Ok((name, rest))
+}
+
 /// The update of a line, from its first word and what follows it.
 fn change_of<'a>(
     alloc: Global,
@@ -111,8 +128,7 @@ fn change_of<'a>(
         → bytes.now ≡ 32 ∷ (amount_word by ++ 32 ∷ (name_word name ++ label_words ws)) → ⊥)) }
 {
     let (by, rest) = update_and_rest(word, bytes)?;
-    let (word, rest) = next_word(rest, "NAME")?;
-    let name = name_of(word)?;
+    let (name, rest) = name_and_rest(rest)?;
     let labels = with_labels(alloc, common, labels_of(alloc, rest)?)?;
     Ok(Request::Change(Key::from_parts(alloc, name, labels)?, by))
 }
@@ -127,18 +143,6 @@ fn kind_and_rest(bytes: &[u8]) -> Result<(MetricKind, &[u8]), Unread<'_>>
         Some(kind) => Ok((kind, rest)),
         None => Err(Unread::Bad(Cause::Kind, word)),
     }
-}
-
-/// The name of a describe line, and what follows it.
-fn name_and_rest(bytes: &[u8]) -> Result<(&str, &[u8]), Unread<'_>>
-    ensures { MatchResult result
-        (λ f. IsName f.0.now × (bytes.now ≡ 32 ∷ (name_word f.0.now ++ f.1.now)) × StartsAt 32 f.1.now)
-        (Fails ((name rest : List ℕ) → IsName name → StartsAt 32 rest
-        → bytes.now ≡ 32 ∷ (name_word name ++ rest) → ⊥)) }
-{
-    let (word, rest) = next_word(bytes, "NAME")?;
-    let name = name_of(word)?;
-    Ok((name, rest))
 }
 
 /// The unit of a describe line, and what follows it.

@@ -5,5 +5,4 @@ use Rattle.tool_prometheus.proofs.labels.bare_label.Goals as goal
 pub returns-in_err-value : goal.returns-in_err-value
 returns-in_err-value c =
     let p = err_from_is_err_and c.from_residual.result c.from_residual.ensures.1 in
-    rw (p.1, p.2) (no-bare c.args.bytes.now c.split_before.result.0.now c.split_before.result.1.now c.in_err-value.field-0.0
-    c.split_before.ensures.whole c.split_before.ensures.before c.split_before.ensures.others c.in_err-value.ensures)
+    rw (p.1, p.2) (no-bare c.args.bytes.now c.in_err-value.field-0.0 c.in_err-value.ensures)
