@@ -57,13 +57,14 @@ fn visible_len(bytes: &[u8], end: u8) -> Option<usize>
     Some(bytes.len())
 }
 
-/// The text before the first such byte, and the others, if that text is visible ASCII.
+/// The text before the first such byte, and the others, if that text is visible ASCII: the fast path for most words.
 pub(crate) fn visible_before(bytes: &[u8], end: u8) -> Option<(&str, &[u8])>
     ensures { IfSome result (λ f. IsText f.0.now × Lacks 32 f.0.now × Lacks end f.0.now
         × (bytes.now ≡ f.0.now ++ f.1.now) × StartsAt end f.1.now) }
 {
     let len = visible_len(bytes, end)?;
     let word = &bytes[..len];
+    // ASCII is UTF-8, so no second pass is needed.
     let text = unsafe { str::from_utf8_unchecked(word) };
     Some((text, &bytes[len..]))
 }
