@@ -1,5 +1,5 @@
 -- The lines of a text that say what it leaves out.
-use Rattle.std.proofs.Common.{◌≡◌, ◌≢◌, ◌∙◌, ◌+◌, ◌<◌, ℕ, true, false, not, List, [], ◌∷◌, ◌++◌, map, codes, drop, length, get_or, Option, Some, None, is_some, MatchOption, refl, ap, sym, append_assoc, append-nil, arith}
+use Rattle.std.proofs.Common.{◌≡◌, ◌≢◌, ◌∙◌, ◌+◌, ◌<◌, ℕ, true, false, List, [], ◌∷◌, ◌++◌, codes, drop, length, get_or, Option, Some, None, MatchOption, refl, ap, sym, append_assoc, append-nil, arith}
 use Rattle.std.specs.Prelude.{flat_map, option_map}
 use Rattle.std.specs.Borrow.{Bor}
 use Rattle.std.specs.Str.Pattern.{FindsTextPrefix, FindsChar, SplitsAroundMatch}
@@ -9,7 +9,7 @@ use Rattle.std.specs.Option.{option_to_list}
 use Rattle.std.proofs.lemmas.List.{append_cancel_left, append_cancel_right, map-append, length-append, get_or_default}
 use Rattle.metrics_prometheus.specs.Exposition.{left_out_words}
 use Rattle.metrics_prometheus.specs.Rows.{names_shown}
-use Rattle.metrics_prometheus.specs.Written.{Line, has, describes, tells_kind, leaves_out, line_text, sample_in, left_out_in, IsLine, IsReadable, begins_comment}
+use Rattle.metrics_prometheus.specs.Written.{Line, has, describes, tells_kind, leaves_out, line_text, left_out_in, IsLine, IsReadable, begins_comment}
 use Rattle.metrics_prometheus.proofs.PairLemmas.{each-places}
 use Rattle.metrics_prometheus.proofs.OneReadingLemmas.{same-first}
 

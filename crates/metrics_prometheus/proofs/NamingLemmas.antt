@@ -1,6 +1,6 @@
 -- The names that are shown are such as Prometheus allows.
 use Rattle.std.proofs.Common.{◌≡◌, ◌≢◌, ◌∙◌, ◌+◌, ◌-◌, ◌⊎◌, inl, inr, ℕ, zero, suc, Bool, true, false, cond, ◌&&◌, nat_eq, List, [], ◌∷◌, ◌++◌, take, length, codes, Option, Some, None, refl, ap, sym, subst, append-nil}
-use Rattle.std.specs.List.{AllByRecursion, ends_with, list_all}
+use Rattle.std.specs.List.{ends_with, list_all}
 use Rattle.std.specs.Str.{IsCharBoundary}
 use Rattle.std.proofs.lemmas.Bool.Decides.{Decides-eqb}
 use Rattle.std.proofs.lemmas.Slice.Eq.{ends_is}

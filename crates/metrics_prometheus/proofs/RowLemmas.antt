@@ -7,9 +7,7 @@ use Rattle.std.specs.Ordering.{is_lt}
 use Rattle.std.specs.declared.cmp.Ordering.{Ordering}
 use Rattle.std.proofs.lemmas.List.{take_more, map-append}
 use Rattle.std.proofs.lemmas.List.Sorted.{IsPermutation-refl}
-use Rattle.metrics_names.specs.Names.{SeriesKey}
 use Rattle.metrics_exporter.specs.Exporting.{Reading, Cells}
-use Rattle.metrics_exporter.specs.Gathering.{series_at}
 use Rattle.metrics_exporter.specs.Readings.{Told, told_of, all_told, reading_in, AreReadings}
 use Rattle.metrics_exporter.specs.declared.readings.SeriesReading.{SeriesReading}
 use Rattle.metrics_prometheus.specs.declared.rows.ShownRow.{ShownRow}

@@ -1,5 +1,5 @@
 -- Samples, and the line of each.
-use Rattle.std.specs.Prelude.{ℕ, ℤ, List, [], ◌∷◌, ◌++◌, map, codes, flat_map, decimal}
+use Rattle.std.specs.Prelude.{ℕ, List, [], ◌∷◌, ◌++◌, map, codes, flat_map, decimal}
 use Rattle.metrics_names.specs.Names.{LabelParts}
 use Rattle.metrics_storage.specs.Histogram.{Distribution, ascending}
 use Rattle.metrics_prometheus.specs.Names.{escaped}

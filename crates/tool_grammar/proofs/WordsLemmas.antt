@@ -1,16 +1,16 @@
 -- Words, and the one place where a line is cut.
-use Rattle.std.proofs.Common.{◌≡◌, ◌≢◌, ℕ, zero, suc, ◌<◌, ◌≤◌, ◌^◌, List, [], ◌∷◌, ◌++◌, length, Option, Some, None, Bool, true, not, ◌&&◌, eqb, refl, sym, ap, subst, ◌∙◌, arith, append_assoc, take, decimal, IsUtf8}
+use Rattle.std.proofs.Common.{◌≡◌, ◌≢◌, ℕ, zero, suc, ◌<◌, ◌≤◌, ◌^◌, List, [], ◌∷◌, ◌++◌, length, Option, Some, Bool, true, not, ◌&&◌, eqb, refl, sym, ap, subst, ◌∙◌, arith, append_assoc, take, decimal, IsUtf8}
 use Rattle.std.specs.List.{AllByRecursion}
 use Rattle.std.specs.Str.Parse.{AllDigits}
 use Rattle.std.proofs.lemmas.List.Elements.{recursion_from_All, All-from_recursion, All-append}
 use Rattle.std.proofs.lemmas.Fmt.{decimal_is_IsNumeral}
 use Rattle.std.proofs.lemmas.Str.Parse.{digit_from_value}
 use Rattle.metrics_names.specs.declared.kind.MetricKind.{MetricKind}
-use Rattle.metrics_names.specs.declared.kind.MetricKind.TheVariants.{Counter, Gauge, Histogram}
+use Rattle.metrics_names.specs.declared.kind.MetricKind.TheVariants.{Counter}
 use Rattle.metrics_names.specs.declared.common.Unit.{Unit as Measure}
-use Rattle.metrics_names.specs.declared.common.Unit.TheVariants.{Count, Percent, Seconds, Milliseconds, Microseconds, Nanoseconds, Bytes}
+use Rattle.metrics_names.specs.declared.common.Unit.TheVariants.{Count}
 use Rattle.metrics.specs.declared.handles.Update.{Update}
-use Rattle.metrics.specs.declared.handles.Update.TheVariants.{Increment, Absolute, Add, Subtract, Set, Record}
+use Rattle.metrics.specs.declared.handles.Update.TheVariants.{Increment}
 use Rattle.metrics_names.specs.Names.{KeyParts}
 use Rattle.tool_grammar.specs.Cuts.{Lacks, StartsAt}
 use Rattle.tool_grammar.specs.Grammar.{kind_word, unit_word, name_word, label_word, label_words, update_word, IsName, IsLabel, AreLabels}

@@ -1,5 +1,5 @@
 -- Words and lines as they are read.
-use Rattle.std.proofs.Common.{◌≡◌, ◌≢◌, ℕ, ◌<◌, ◌≤◌, ◌^◌, List, [], ◌∷◌, ◌++◌, length, Bool, false, eqb, Option, Some, None, MatchOption, codes, decimal, refl, sym, ap, subst, ◌∙◌, arith, append_assoc, append-nil, IsUtf8}
+use Rattle.std.proofs.Common.{◌≡◌, ◌≢◌, ℕ, ◌<◌, ◌≤◌, ◌^◌, List, [], ◌∷◌, ◌++◌, length, Bool, false, eqb, codes, decimal, refl, sym, ap, subst, ◌∙◌, arith, append_assoc, append-nil, IsUtf8}
 use Rattle.std.proofs.lemmas.Fmt.{decimal_injective}
 use Rattle.std.proofs.lemmas.List.Elements.{recursion_from_All, All-from_recursion}
 use Rattle.std.specs.List.{AllByRecursion}
@@ -7,10 +7,9 @@ use Rattle.tool_grammar.specs.Cuts.{Lacks, StartsAt}
 use Rattle.tool_grammar.specs.Grammar.{name_word, IsName}
 use Rattle.tool_grammar.proofs.WordsLemmas.{before_same, first_same, lacks_decimal, not_cut}
 use Rattle.tool_trees.specs.declared.tree_line.RouteWord.{RouteWord}
-use Rattle.tool_trees.specs.declared.tree_line.TreeLine.{TreeLine}
 use Rattle.tool_trees.specs.declared.tree_line.TreeLine.TheVariants as line
 use Rattle.tool_trees.specs.declared.tree_line.First.{First}
-use Rattle.tool_trees.specs.Words.{HasKind, words, case_word, form_word, kinds_word, route_word, first_of, first_word, line_word, IsRoute, Spells, IsNoLine, SpellsFrom, IsNoLineFrom}
+use Rattle.tool_trees.specs.Words.{HasKind, words, case_word, form_word, kinds_word, route_word, first_of, first_word, IsRoute, IsNoLine, IsNoLineFrom}
 use Rattle.tool_trees.proofs.Lines.{lead, tail_same, starts_words, lacks_case, lacks_form, cut_line, lacks_kinds, route_parts}
 
 -- ---- words after spaces

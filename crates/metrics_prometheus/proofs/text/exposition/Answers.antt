@@ -1,4 +1,4 @@
-use Rattle.std.proofs.Common.{◌≡◌, ℕ, IfOk, string_bytes, subst}
+use Rattle.std.proofs.Common.{◌≡◌, IfOk, string_bytes, subst}
 use Rattle.metrics_exporter.specs.Describing.{Legend, no_legend}
 use Rattle.metrics_exporter.specs.Exporting.{steps, cells_after}
 use Rattle.metrics_exporter.specs.Kept.{described}
