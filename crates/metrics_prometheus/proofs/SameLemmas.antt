@@ -1,14 +1,11 @@
 -- Tests of equality, and what they say.
-use Rattle.std.proofs.Common.{◌≡◌, ◌∙◌, Bool, true, false, ◌&&◌, ℕ, List, Decides, refl, ap, sym}
+use Rattle.std.proofs.Common.{◌≡◌, ◌∙◌, Bool, true, false, ◌&&◌, ℕ, List, Decides, refl, ap}
 use Rattle.std.specs.Prelude.{bytes_eq}
-use Rattle.std.specs.Cmp.Lexicographic.{pointwise, slice_cmp, lists_ties, texts_ties}
-use Rattle.std.specs.Ordering.{nat_cmp, ordering_then, is_eq}
-use Rattle.std.specs.declared.cmp.Ordering.{Ordering}
-use Rattle.std.specs.declared.cmp.Ordering.TheVariants.{Less, Equal, Greater}
+use Rattle.std.specs.Cmp.Lexicographic.{pointwise}
 use Rattle.std.proofs.lemmas.Slice.Eq.{bytes_eq-Decides, slice_eq-Decides}
 use Rattle.metrics_names.specs.declared.kind.MetricKind.{MetricKind}
 use Rattle.metrics_names.specs.declared.kind.MetricKind.TheVariants.{Counter, Gauge, Histogram}
-use Rattle.metrics_names.specs.Names.{LabelParts, label_eq, label_cmp, kind_eq}
+use Rattle.metrics_names.specs.Names.{LabelParts, label_eq, kind_eq}
 
 pub both-true : (a b : Bool) → (a && b) ≡ true → (a ≡ true) × (b ≡ true)
 both-true true b e = (refl, e)
@@ -30,15 +27,6 @@ bytes-same a b = (bytes_eq-Decides a b).1
 
 pub same-bytes : (a b : List ℕ) → bytes_eq a b ≡ true → a ≡ b
 same-bytes a b = (bytes_eq-Decides a b).0
-
-tied : (x y : Bool) (o p : Ordering) → x ≡ is_eq o → y ≡ is_eq p → (x && y) ≡ is_eq (ordering_then o p)
-tied x y Less p e f = ap (λ b. b && y) e
-tied x y Equal p e f = ap (λ b. b && y) e ∙ f
-tied x y Greater p e f = ap (λ b. b && y) e
-
--- the order of labels finds equal ones
-pub labels-tied : (a b : List LabelParts) → is_eq (slice_cmp label_cmp a b) ≡ pointwise label_eq a b
-labels-tied a b = sym (lists_ties label_cmp (λ x y. tied (bytes_eq x.0 y.0) (bytes_eq x.1 y.1) (slice_cmp nat_cmp x.0 y.0) (slice_cmp nat_cmp x.1 y.1) (texts_ties x.0 y.0) (texts_ties x.1 y.1)) a b)
 
 label-decides : (a b : LabelParts) → Decides (label_eq a b) (a ≡ b)
 label-decides (n, v) (m, w) = (

@@ -11,7 +11,7 @@ ghost use Rattle.metrics_prometheus.specs.Places.{first_value};
 ghost use Rattle.metrics_prometheus.specs.Labels.{repeats, is_last, is_reserved, reserved_of, are_fit};
 
 use crate::names::{is_name, label_name};
-use crate::shown::{self, ShownItems};
+use crate::shown::ShownItems;
 use metrics::{Error, Label, MetricKind};
 use std::alloc::Global;
 
@@ -30,14 +30,14 @@ pub(crate) fn first_value(labels: &[Label]) -> &str
     }
 }
 
-/// Returns whether labels are equal. First values mostly decide, and short texts are ordered in less time than `==` takes.
+/// Returns whether labels are equal. First values mostly decide.
 pub(crate) fn are_equal(labels: &[Label], other: &[Label]) -> bool
     ensures { result ≡ pointwise label_eq labels.now other.now }
 {
-    if !shown::are_equal(first_value(labels), first_value(other)) {
+    if first_value(labels) != first_value(other) {
         return false;
     }
-    labels.cmp(&other).is_eq()
+    labels == other
 }
 
 /// Returns whether a label comes before another.

@@ -8,7 +8,7 @@ ghost use Rattle.metrics_prometheus.specs.Exposition.{row_cmp};
 
 use crate::labels::{first_value, shown_labels};
 use crate::naming::{Naming, shown_name, shown_places};
-use crate::shown::{ShownItems, ShownName, are_equal};
+use crate::shown::{ShownItems, ShownName};
 use metrics::{Error, Key, Label, MetricKind};
 use metrics_exporter::{Descriptions, ReadingRef, SeriesReading};
 use std::alloc::{AllocError, Global};
@@ -80,7 +80,7 @@ fn found_head<'a>(
 fn whole_of<'a>(head: &Head<'a>, kind: MetricKind, name: &'a str) -> Option<Whole<'a>>
     ensures { (display : Display) → head_shown head.now ≡ display kind name.now → IfSome result (IsWhole display) }
 {
-    if !are_equal(head.name.as_str(), name) {
+    if head.name.as_str() != name {
         return None;
     }
     Some(Whole {
@@ -106,7 +106,7 @@ fn head_of<'a>(
     ensures last { IfSome last.new (IsWhole (display_of naming (described_by descriptions.now))) }
 {
     if let Some(whole) = *last {
-        if whole.kind == kind && are_equal(whole.name, name) {
+        if whole.kind == kind && whole.name == name {
             return Ok(Head {
                 name: ShownName::given(whole.name),
                 help: whole.help,

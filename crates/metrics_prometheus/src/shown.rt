@@ -1,5 +1,5 @@
 //! What Prometheus is shown: the caller's names and lists if they are allowed, and else others made of them.
-ghost use Rattle.std.specs.Prelude.{◌≡◌, ◌==◌, Some, refl, string_bytes, bytes_eq};
+ghost use Rattle.std.specs.Prelude.{◌≡◌, ◌==◌, Some, refl, string_bytes};
 ghost use Rattle.std.specs.Ordering.{nat_cmp};
 ghost use Rattle.std.specs.Cmp.{partial_equiv_from_equiv};
 ghost use Rattle.std.specs.Cmp.Lexicographic.{pointwise, slice_cmp, slice_partial_cmp, nat_list_eq_equiv, nat_list_cmp_total};
@@ -8,13 +8,6 @@ ghost use Rattle.std.specs.Cmp.Lexicographic.{lists_total, lists_ties, lists_per
 
 use std::cmp::Ordering;
 use std::marker::Model;
-
-/// Returns whether texts are equal. Those of up to 16 bytes are ordered in less time than `==` takes.
-pub(crate) fn are_equal(text: &str, other: &str) -> bool
-    ensures { result ≡ bytes_eq text.now other.now }
-{
-    text.cmp(other).is_eq()
-}
 
 /// A text of the caller's, or one that was made.
 #[derive(Drop)]
@@ -74,7 +67,7 @@ impl PartialEq for ShownName<'_> {
     ghost laws = { partial_equiv_from_equiv nat_list_eq_equiv };
 
     fn eq(&self, other: &Self) -> bool {
-        are_equal(self.as_str(), other.as_str())
+        self.as_str() == other.as_str()
     }
 }
 
