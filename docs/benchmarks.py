@@ -6,9 +6,8 @@
 OURS and THEIRS are what several runs of the benchmarks printed, ours and the peers': lines `name ns_per_op`, each the least
 of its rounds, and lines `# name median ns_per_op`. A row of a table with a ratio names ours and, after 'beside', the other
 side's if it has another name. Its figure is the least of the runs, with the middle one in brackets, and its ratio is of
-the least. A row of several threads beside `prometheus` uses the medians of the rounds, and its ratio the middle one:
-when threads write one word, the least is of the round in which they overlapped least. Without words it draws the
-chart of the present figures."""
+the least. A row of four threads uses the medians of the rounds, and its ratio the middle one: when threads write one
+word, the least is of the round in which they overlapped least. Without words it draws the chart of the present figures."""
 import html
 import math
 import os
@@ -25,7 +24,7 @@ PEERS = ("The Rust crate, ns", "`prometheus`, ns")
 
 
 def goes_by_medians(name):
-    return name.startswith("prometheus_") and name.endswith("_4t")
+    return name.endswith("_4t")
 
 
 def figures(path):
