@@ -5,7 +5,7 @@ ghost use Rattle.metrics_names.specs.Names.{SeriesKey, series_key_eq};
 ghost use Rattle.metrics.specs.Book.{resets};
 ghost use Rattle.metrics.specs.Rows.{last_row};
 
-use metrics_names::{CompositeKey, Items, MetricKind, Text, Unit};
+use metrics_names::{CompositeKey, Items, MetricKind, SharedText, Unit};
 use std::alloc::Global;
 use std::collections::HashMap;
 use std::marker::Model;
@@ -21,10 +21,10 @@ pub enum DebugValue {
 }
 
 /// A row of a snapshot: composite key, unit, description and value.
-pub type Row = (CompositeKey, Option<Unit>, Option<Text>, DebugValue);
+pub type Row = (CompositeKey, Option<Unit>, Option<SharedText>, DebugValue);
 
 /// A row without its composite key.
-pub type RowValue = (Option<Unit>, Option<Text>, DebugValue);
+pub type RowValue = (Option<Unit>, Option<SharedText>, DebugValue);
 
 /// Which series a snapshot resets: counters and gauges to 0, histograms to no samples.
 #[derive(Clone, Copy, Debug, PartialEq, Eq)]

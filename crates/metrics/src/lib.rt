@@ -17,6 +17,6 @@ pub use error::Error;
 pub use handles::{Address, Counter, Gauge, Histogram, Update, update_all};
 pub use kind::{MetricKindMask, PerKind};
 pub use metrics_names::{
-    CompositeKey, Items, Key, KeyName, Label, MetricKind, Refused, Text, Unit,
+    CompositeKey, Items, Key, KeyName, Label, MetricKind, Refused, SharedText, Text, Unit,
 };
 pub use recorder::{Boxed, NoopRecorder, Recorder};

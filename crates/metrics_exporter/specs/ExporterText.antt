@@ -2,24 +2,8 @@
 use Rattle.std.specs.Prelude.{◌≡◌, ℕ, ℤ, List, [], ◌∷◌, ◌++◌, codes, decimal, Option, None, Some}
 use Rattle.std.specs.Fmt.{signed_decimal}
 use Rattle.std.specs.List.{flat_map}
-use Rattle.metrics_names.specs.declared.kind.MetricKind.{MetricKind}
-use Rattle.metrics_names.specs.declared.kind.MetricKind.TheVariants.{Counter, Gauge, Histogram}
-use Rattle.metrics_names.specs.Names.{SeriesKey}
+use Rattle.metrics_names.specs.Names.{SeriesKey, kind_word, name_word, label_words}
 use Rattle.metrics_exporter.specs.Exporting.{Reading, count, level, samples, Cell, Cells, AreSeries}
-
-abbrev pub kind_word : MetricKind → List ℕ
-kind_word Counter = codes "counter"
-kind_word Gauge = codes "gauge"
-kind_word Histogram = codes "histogram"
-
--- a dash is the empty name
-abbrev pub name_word : List ℕ → List ℕ
-name_word [] = codes "-"
-name_word (x ∷ xs) = x ∷ xs
-
--- for each label a space, its key, an equals sign and its value
-abbrev pub label_words : List (List ℕ × List ℕ) → List ℕ
-label_words labels = flat_map (λ l. 32 ∷ (l.0 ++ 61 ∷ l.1)) labels
 
 -- for each bound the bound, and the number of samples at most it
 abbrev pub bucket_words : List (ℤ × ℕ) → List ℕ

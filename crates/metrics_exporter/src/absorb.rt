@@ -10,7 +10,7 @@ ghost use Rattle.metrics_exporter.specs.Absorbing.{samples_behind, row_behind, A
 ghost use Rattle.metrics_exporter.specs.Describing.{SameLegend, told_with, told_by, told_by_all};
 
 use crate::exporter::Exporter;
-use metrics::{CompositeKey, DebugValue, Error, Key, Row, Snapshot, Text, Unit, Update};
+use metrics::{CompositeKey, DebugValue, Error, Key, Row, SharedText, Snapshot, Unit, Update};
 use thiserror::Error as ThisError;
 
 /// Why a snapshot was absorbed in part, and which part: all of the first `rows` rows, and of the next one the first `samples`
@@ -86,7 +86,7 @@ fn describe_row(
     on: &mut Exporter,
     series: &CompositeKey,
     unit: Option<Unit>,
-    text: &Option<Text>,
+    text: &Option<SharedText>,
 ) -> Result<(), Error>
     ensures tells { OnOk result (SameLegend (described on.new) (told_with series.now unit text.now (described on.old))) }
     ensures calls { (setup : Setup) (log : Log) → IsAfter setup log on.old → IsAfter setup log on.new }

@@ -2,42 +2,15 @@
 ghost use Rattle.std.specs.Prelude.{◌≡◌, ◌++◌, Some, OnOk, IfErr, string_bytes};
 ghost use Rattle.metrics.specs.declared.error.Error.TheVariants.{Memory as OutOfMemory};
 ghost use Rattle.metrics_exporter.specs.Exporting.{samples};
-ghost use Rattle.metrics_exporter.specs.ExporterText.{kind_word, name_word, label_words, bucket_words, reading_words};
+ghost use Rattle.metrics_exporter.specs.ExporterText.{bucket_words, reading_words};
+ghost use Rattle.metrics_names.specs.Names.{name_word, label_words, kind_word};
 ghost use Rattle.metrics_exporter.specs.ExporterText.{series_line};
 ghost use Rattle.metrics_exporter.specs.Gathering.{series_shown, cell_shown};
 
 use crate::keys::{CellRef, SeriesRef};
-use metrics::{Error, Label, MetricKind};
+use metrics::Error;
 use metrics_storage::Histogram;
 use std::alloc::AllocError;
-
-fn kind_text(kind: MetricKind) -> &'static str
-    ensures { result.now ≡ kind_word kind }
-{
-    match kind {
-        MetricKind::Counter => "counter",
-        MetricKind::Gauge => "gauge",
-        MetricKind::Histogram => "histogram",
-    }
-}
-
-/// A name. The empty one is written as a dash.
-fn shown_name(name: &str) -> &str
-    ensures { result.now ≡ name_word name.now }
-{
-    if name.is_empty() { "-" } else { name }
-}
-
-fn write_labels(text: &mut String, labels: &[Label]) -> Result<(), AllocError>
-    ensures { OnOk result (string_bytes text.new ≡ string_bytes text.old ++ label_words labels.now) }
-{
-    for label in labels {
-        let key = label.key();
-        let value = label.value();
-        write!(text, " {key}={value}")?;
-    }
-    Ok(())
-}
 
 fn write_buckets(text: &mut String, buckets: &[(i64, u64)]) -> Result<(), AllocError>
     ensures { OnOk result (string_bytes text.new ≡ string_bytes text.old ++ bucket_words buckets.now) }
@@ -86,10 +59,9 @@ pub(crate) fn write_series(text: &mut String, series: &SeriesRef<'_>) -> Result<
         ≡ string_bytes text.old ++ series_line (series_shown series.now) (Some (cell_shown series.now.cell))) }
     ensures err { IfErr result (λ e. e ≡ OutOfMemory) }
 {
-    let word = kind_text(series.kind);
-    let name = shown_name(series.key.name());
-    write!(text, "{word} {name}")?;
-    write_labels(text, series.key.labels())?;
+    let word = series.kind.as_str();
+    write!(text, "{word} ")?;
+    series.key.write_words(text)?;
     write_cell(text, &series.cell)?;
     text.push_str("\n")?;
     Ok(())

@@ -1,5 +1,5 @@
 -- Names and keys. A name is a list of bytes.
-use Rattle.std.specs.Prelude.{ℕ, Bool, ◌&&◌, List, bytes_eq, nat_eq}
+use Rattle.std.specs.Prelude.{ℕ, Bool, ◌&&◌, List, [], ◌∷◌, ◌++◌, bytes_eq, nat_eq, codes, flat_map}
 use Rattle.std.specs.Cmp.Lexicographic.{pointwise, slice_cmp}
 use Rattle.std.specs.declared.cmp.Ordering.{Ordering}
 use Rattle.std.specs.Ordering.{nat_cmp, on, then_cmp}
@@ -25,6 +25,24 @@ abbrev pub kind_number : MetricKind → ℕ
 kind_number Counter = 0
 kind_number Gauge = 1
 kind_number Histogram = 2
+
+-- a kind's word
+abbrev pub kind_word : MetricKind → List ℕ
+kind_word Counter = codes "counter"
+kind_word Gauge = codes "gauge"
+kind_word Histogram = codes "histogram"
+
+-- a name's word: a dash is the empty name
+abbrev pub name_word : List ℕ → List ℕ
+name_word [] = codes "-"
+name_word (x ∷ xs) = x ∷ xs
+
+-- a space, the label's key, an equals sign and the label's value
+abbrev pub label_word : List ℕ × List ℕ → List ℕ
+label_word l = 32 ∷ (l.0 ++ 61 ∷ l.1)
+
+abbrev pub label_words : List (List ℕ × List ℕ) → List ℕ
+label_words ls = flat_map label_word ls
 
 -- equality is that of all parts
 abbrev pub kind_eq : MetricKind → MetricKind → Bool

@@ -1,10 +1,10 @@
 //! Names and keys.
-ghost use Rattle.std.specs.Prelude.{◌≡◌, ◌++◌, ◌∷◌, MatchResult, OnOk, [], map};
+ghost use Rattle.std.specs.Prelude.{◌≡◌, ◌++◌, ◌∷◌, MatchResult, OnOk, [], map, string_bytes};
 ghost use Rattle.std.specs.Cmp.{decided, partial_equiv_from_equiv};
 ghost use Rattle.std.specs.Hash as fed;
 ghost use Rattle.std.specs.Hash.{same_Alike};
 ghost use Rattle.metrics_names.specs.Hashing.{key_number};
-ghost use Rattle.metrics_names.specs.Names.{key_eq};
+ghost use Rattle.metrics_names.specs.Names.{key_eq, name_word, label_words};
 ghost use Rattle.metrics_names.specs.Equality.{key_eq-Decides};
 ghost use Rattle.metrics_names.specs.declared.refused.Refused.TheVariants.{Memory};
 
@@ -140,6 +140,24 @@ fn labels_of(alloc: Global, labels: &[(&str, &str)]) -> Result<Vec<Label>, Refus
     Ok(made)
 }
 
+/// The word of a name. The empty one is written as a dash.
+fn word_of_name(name: &str) -> &str
+    ensures { result.now ≡ name_word name.now }
+{
+    if name.is_empty() { "-" } else { name }
+}
+
+fn write_labels(text: &mut String, labels: &[Label]) -> Result<(), AllocError>
+    ensures { OnOk result (string_bytes text.new ≡ string_bytes text.old ++ label_words labels.now) }
+{
+    for label in labels {
+        let key = label.key();
+        let value = label.value();
+        write!(text, " {key}={value}")?;
+    }
+    Ok(())
+}
+
 impl PartialEq for Key {
     ghost eq = { key_eq };
 
@@ -243,6 +261,17 @@ impl Key {
         ensures { result.now ≡ self.now.labels }
     {
         self.labels.as_slice()
+    }
+
+    /// Appends the name, or a dash for the empty one, and each label as a space, `key=value`.
+    ///
+    /// Fails only when out of memory, after a part of it.
+    pub fn write_words(&self, text: &mut String) -> Result<(), AllocError>
+        ensures { OnOk result (string_bytes text.new
+            ≡ string_bytes text.old ++ (name_word self.now.name ++ label_words self.now.labels)) }
+    {
+        text.push_str(word_of_name(self.name()))?;
+        write_labels(text, self.labels())
     }
 
     /// Becomes the key of prefix, dot and the name of `key`, with its labels, which both keys share.

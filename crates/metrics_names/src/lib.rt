@@ -8,6 +8,7 @@ mod kind;
 mod label;
 mod refused;
 mod shared_items;
+mod shared_text;
 mod text;
 
 pub use common::Unit;
@@ -16,4 +17,5 @@ pub use key::{CompositeKey, Key, KeyName};
 pub use kind::MetricKind;
 pub use label::Label;
 pub use refused::Refused;
+pub use shared_text::SharedText;
 pub use text::Text;

@@ -7,7 +7,7 @@ use Rattle.std.proofs.lemmas.List.Elements.{filter_map-append}
 use Rattle.metrics_names.specs.declared.kind.MetricKind.{MetricKind}
 use Rattle.metrics_names.specs.declared.kind.MetricKind.TheVariants.{Counter, Gauge, Histogram}
 use Rattle.metrics_exporter.specs.Exporting.{Cells, Reading, count, level, samples}
-use Rattle.metrics_exporter.specs.ExporterText.{kind_word}
+use Rattle.metrics_names.specs.Names.{kind_word}
 use Rattle.metrics_prometheus.specs.Names.{goes_on, is_name, help_escaped}
 use Rattle.metrics_storage.specs.Histogram.{ascending}
 use Rattle.metrics_prometheus.specs.Numbers.{number}

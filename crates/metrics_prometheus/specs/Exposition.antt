@@ -7,9 +7,8 @@ use Rattle.std.specs.declared.cmp.Ordering.{Ordering}
 use Rattle.std.specs.Ordering.{nat_cmp, on, then_cmp}
 use Rattle.metrics_names.specs.declared.kind.MetricKind.{MetricKind}
 use Rattle.metrics_names.specs.declared.kind.MetricKind.TheVariants.{Histogram}
-use Rattle.metrics_names.specs.Names.{KeyParts, LabelParts, SeriesKey, kind_number, kind_eq, label_eq, label_cmp, key_cmp, series_key_eq}
+use Rattle.metrics_names.specs.Names.{KeyParts, LabelParts, SeriesKey, kind_number, kind_eq, label_eq, label_cmp, key_cmp, series_key_eq, kind_word}
 use Rattle.metrics_exporter.specs.Exporting.{Reading, count, level, samples, Cells, IsHeld}
-use Rattle.metrics_exporter.specs.ExporterText.{kind_word}
 use Rattle.metrics_exporter.specs.Gathering.{series_at}
 use Rattle.metrics_exporter.specs.Describing.{Legend, no_legend}
 use Rattle.metrics_prometheus.specs.declared.naming.Naming.{Naming}

@@ -3,12 +3,11 @@ ghost use Rattle.std.specs.Prelude.{◌≡◌, ◌++◌, List, OnOk, IfSome, opt
 ghost use Rattle.std.specs.List.Sorted.{IsSorted};
 ghost use Rattle.std.specs.Cmp.Lexicographic.{slice_cmp};
 ghost use Rattle.std.specs.Ordering.{nat_cmp};
-ghost use Rattle.metrics_names.specs.Names.{label_cmp};
+ghost use Rattle.metrics_names.specs.Names.{label_cmp, kind_word};
 ghost use Rattle.metrics_prometheus.specs.Exposition.{Row, histogram_names, labels_reason, name_reason};
 ghost use Rattle.metrics_prometheus.specs.Exposition.{same_name_reason, last_reason, reason_of};
 ghost use Rattle.metrics_prometheus.specs.Exposition.{reason_text, series_named, left_out_line};
 ghost use Rattle.metrics_prometheus.specs.Names.{help_escaped};
-ghost use Rattle.metrics_exporter.specs.ExporterText.{kind_word};
 
 use crate::labels::{are_equal, repeats, reserved_of};
 use crate::names::write_help_text;
@@ -106,16 +105,6 @@ pub(crate) fn reason_of<'r>(
     last_reason(last, row)
 }
 
-pub(crate) fn kind_text(kind: MetricKind) -> &'static str
-    ensures { result.now ≡ kind_word kind }
-{
-    match kind {
-        MetricKind::Counter => "counter",
-        MetricKind::Gauge => "gauge",
-        MetricKind::Histogram => "histogram",
-    }
-}
-
 /// Writes a text, and after it a name as it is in a description.
 fn write_named(text: &mut String, what: &str, name: &str) -> Result<(), AllocError>
     ensures { OnOk result (string_bytes text.new ≡ string_bytes text.old ++ (what.now ++ help_escaped name.now)) }
@@ -133,7 +122,7 @@ fn write_reason(text: &mut String, reason: Reason<'_>) -> Result<(), AllocError>
         Reason::PartOf(name) => write_named(text, "name of a part of histogram ", name),
         Reason::NameTaken(kind) => {
             text.push_str("name taken by a ")?;
-            text.push_str(kind_text(kind))
+            text.push_str(kind.as_str())
         }
         Reason::LabelsTaken(name) => write_named(text, "labels equal those of ", name),
     }
@@ -143,7 +132,7 @@ fn write_reason(text: &mut String, reason: Reason<'_>) -> Result<(), AllocError>
 fn write_series(text: &mut String, row: &ShownRow<'_>) -> Result<(), AllocError>
     ensures { OnOk result (string_bytes text.new ≡ string_bytes text.old ++ series_named (row_shown row.now)) }
 {
-    text.push_str(kind_text(row.kind))?;
+    text.push_str(row.kind.as_str())?;
     text.push_str(" ")?;
     write_help_text(text, row.key.name())?;
     write_labels(text, row.labels.as_slice())

@@ -22,7 +22,7 @@ ghost use Rattle.metrics_prometheus.specs.Samples.{lines};
 
 use crate::names::write_help_text;
 use crate::naming::Naming;
-use crate::reasons::{kind_text, reason_of, write_left_out};
+use crate::reasons::{reason_of, write_left_out};
 use crate::rows::{Place, ShownRow, rows_of, sorted_rows};
 use crate::samples::{write_histogram, write_sample};
 use crate::taken::histogram_names;
@@ -36,7 +36,7 @@ fn write_type_line(text: &mut String, row: &ShownRow<'_>) -> Result<(), AllocErr
     text.push_str("# TYPE ")?;
     text.push_str(row.name.as_str())?;
     text.push_str(" ")?;
-    text.push_str(kind_text(row.kind))?;
+    text.push_str(row.kind.as_str())?;
     text.push_str("\n")
 }
 

@@ -1,7 +1,7 @@
 //! Whole texts of series whose names and values no line of the program can spell.
 
 use crate::given::{Exports, Given, MEMORY, expect_shown, expect_text, exporter_of, fill, key};
-use metrics::{CompositeKey, DebugValue, MetricKind, Snapshot, Text, Unit, Update};
+use metrics::{CompositeKey, DebugValue, MetricKind, SharedText, Snapshot, Unit, Update};
 use std::alloc::Global;
 use std::process::Abort;
 
@@ -76,7 +76,7 @@ fn a_description_is_shown_before_its_kind(rt: HostRuntime) {
 /// A row of a counter of 2, with a unit and a text.
 fn described_row(rt: &impl Abort, alloc: Global) -> Snapshot {
     let hits = CompositeKey::new(MetricKind::Counter, key(rt, alloc, "hits", &[]));
-    let text = Text::new(alloc, "all hits").expect(rt, MEMORY);
+    let text = SharedText::new(alloc, "all hits").expect(rt, MEMORY);
     let row = (hits, Some(Unit::Count), Some(text), DebugValue::Counter(2));
     Snapshot::from(Vec::from_array(alloc, [row]).expect(rt, MEMORY))
 }

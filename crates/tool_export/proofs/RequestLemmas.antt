@@ -10,10 +10,10 @@ use Rattle.std.proofs.lemmas.List.Elements.{All-cons}
 use Rattle.std.proofs.lemmas.Slice.Eq.{bytes_eq-Decides}
 use Rattle.metrics.specs.declared.handles.Update.{Update}
 use Rattle.metrics.specs.declared.handles.Update.TheVariants.{Increment, Absolute, Add, Subtract, Set, Record}
-use Rattle.metrics_names.specs.Names.{KeyParts}
+use Rattle.metrics_names.specs.Names.{KeyParts, name_word, label_words}
 use Rattle.metrics_names.specs.declared.refused.Refused.{Refused}
 use Rattle.tool_grammar.specs.Cuts.{Lacks}
-use Rattle.tool_grammar.specs.Grammar.{name_word, label_words, update_word, amount_word, IsName, AreLabels, IsInRange}
+use Rattle.tool_grammar.specs.Grammar.{update_word, amount_word, IsName, AreLabels, IsInRange}
 use Rattle.tool_grammar.proofs.WordsLemmas.{first_same, lacks_literal, lacks_update, lacks_decimal}
 use Rattle.tool_export.specs.declared.requests.Request.{Request}
 use Rattle.tool_export.specs.declared.requests.Request.TheVariants.{Change, Scrape}

@@ -5,10 +5,10 @@ use Rattle.metrics.specs.declared.handles.Update.{Update}
 use Rattle.metrics.specs.declared.handles.Update.TheVariants.{Increment}
 use Rattle.metrics.specs.declared.calls.Call.{Call}
 use Rattle.metrics.specs.declared.calls.Call.TheVariants as call
-use Rattle.metrics_names.specs.Names.{KeyParts}
+use Rattle.metrics_names.specs.Names.{KeyParts, name_word, label_words, kind_word}
 use Rattle.metrics_names.specs.declared.kind.MetricKind.TheVariants.{Counter}
-use Rattle.tool_grammar.specs.Grammar.{name_word, label_words, update_word, amount_word, IsName, AreLabels, IsInRange}
-use Rattle.tool_grammar.specs.Grammar.{kind_word, spelling as call_spelling}
+use Rattle.tool_grammar.specs.Grammar.{update_word, amount_word, IsName, AreLabels, IsInRange}
+use Rattle.tool_grammar.specs.Grammar.{spelling as call_spelling}
 use Rattle.tool_grammar.proofs.WordsLemmas.{first_same, lacks_update}
 use Rattle.tool_grammar.proofs.CallLemmas.{call_same}
 use Rattle.tool_export.specs.declared.requests.Request.{Request}

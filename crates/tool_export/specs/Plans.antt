@@ -7,7 +7,7 @@ use Rattle.metrics_names.specs.declared.kind.MetricKind.{MetricKind}
 use Rattle.metrics_names.specs.declared.kind.MetricKind.TheVariants.{Counter, Gauge, Histogram}
 use Rattle.metrics_registry.specs.Held.{is_shard_count}
 use Rattle.metrics_exporter.specs.Exporting.{Setup}
-use Rattle.tool_grammar.specs.Grammar.{name_word}
+use Rattle.metrics_names.specs.Names.{name_word}
 use Rattle.tool_grammar.specs.Printing.{samples_text}
 use Rattle.tool_export.specs.declared.plans.Watched.{Watched}
 use Rattle.tool_export.specs.declared.plans.ExportPlan.{ExportPlan}

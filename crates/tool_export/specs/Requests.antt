@@ -1,6 +1,7 @@
 -- The lines of an exporter: what each spells.
 use Rattle.std.specs.Prelude.{◌≡◌, ℕ, ◌<◌, ◌^◌, List, ◌∷◌, ◌++◌, codes, decimal}
-use Rattle.tool_grammar.specs.Grammar.{name_word, label_words, update_word, amount_word, IsName, AreLabels, IsInRange}
+use Rattle.tool_grammar.specs.Grammar.{update_word, amount_word, IsName, AreLabels, IsInRange}
+use Rattle.metrics_names.specs.Names.{name_word, label_words}
 use Rattle.tool_export.specs.declared.requests.Request.{Request}
 use Rattle.tool_export.specs.declared.requests.Request.TheVariants.{Change, Scrape}
 

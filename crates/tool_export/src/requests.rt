@@ -1,9 +1,9 @@
 //! The lines of an exporter: updates, and scrapes.
 ghost use Rattle.std.specs.Prelude.{◌≡◌, ◌∷◌, ◌++◌, MatchResult, MatchOption};
 ghost use Rattle.metrics.specs.declared.handles.Update.{Update as Change};
-ghost use Rattle.metrics_names.specs.Names.{KeyParts};
+ghost use Rattle.metrics_names.specs.Names.{KeyParts, name_word, label_words};
 ghost use Rattle.metrics_names.specs.declared.refused.Refused.TheVariants.{Memory};
-ghost use Rattle.tool_grammar.specs.Grammar.{name_word, label_words, update_word, amount_word, IsName, AreLabels, IsInRange};
+ghost use Rattle.tool_grammar.specs.Grammar.{update_word, amount_word, IsName, AreLabels, IsInRange};
 ghost use Rattle.tool_export.specs.Requests.{Spells, IsBad};
 
 use metrics::{Key, Refused, Update};

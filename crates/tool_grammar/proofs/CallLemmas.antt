@@ -9,14 +9,14 @@ use Rattle.metrics_names.specs.declared.kind.MetricKind.{MetricKind}
 use Rattle.metrics_names.specs.declared.kind.MetricKind.TheVariants.{Counter, Gauge, Histogram}
 use Rattle.metrics_names.specs.declared.common.Unit.{Unit as Measure}
 use Rattle.metrics_names.specs.declared.common.Unit.TheVariants.{Count, Percent, Seconds, Milliseconds, Microseconds, Nanoseconds, Bytes}
-use Rattle.metrics_names.specs.Names.{KeyParts}
+use Rattle.metrics_names.specs.Names.{KeyParts, name_word, label_words, kind_word}
 use Rattle.metrics.specs.declared.handles.Update.{Update}
 use Rattle.metrics.specs.declared.handles.Update.TheVariants.{Increment, Absolute, Add, Subtract, Set, Record}
 use Rattle.metrics.specs.declared.debugging.Reset.{Reset}
 use Rattle.metrics.specs.declared.calls.Call.{Call}
 use Rattle.metrics.specs.declared.calls.Call.TheVariants as call
 use Rattle.tool_grammar.specs.Cuts.{Lacks}
-use Rattle.tool_grammar.specs.Grammar.{kind_word, unit_word, name_word, label_words, update_word, amount_word, IsName, IsLabel, AreLabels, IsInRange, spelling, CanBeSpelled, Spells}
+use Rattle.tool_grammar.specs.Grammar.{unit_word, update_word, amount_word, IsName, IsLabel, AreLabels, IsInRange, spelling, CanBeSpelled, Spells}
 use Rattle.tool_grammar.proofs.WordsLemmas.{before_same, first_same, not_cut, lacks_literal, lacks_kind, lacks_unit, lacks_update, lacks_name, lacks_decimal, lacks_label, starts_labels}
 
 tail_same : (x : ℕ) (a b : List ℕ) → x ∷ a ≡ x ∷ b → a ≡ b

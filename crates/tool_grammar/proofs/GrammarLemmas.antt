@@ -5,7 +5,8 @@ use Rattle.metrics.specs.declared.handles.Update.TheVariants.{Increment, Absolut
 use Rattle.metrics.specs.declared.calls.Call.{Call}
 use Rattle.metrics.specs.declared.calls.Call.TheVariants as call
 use Rattle.tool_grammar.specs.Cuts.{Lacks}
-use Rattle.tool_grammar.specs.Grammar.{kind_word, name_word, unit_word, label_words, update_word, amount_word, IsInRange, Spells, IsBad}
+use Rattle.tool_grammar.specs.Grammar.{unit_word, update_word, amount_word, IsInRange, Spells, IsBad}
+use Rattle.metrics_names.specs.Names.{name_word, label_words, kind_word}
 use Rattle.tool_grammar.proofs.WordsLemmas.{first_same, not_cut, lacks_decimal, lacks_literal, lacks_update}
 
 -- each call's line has a space

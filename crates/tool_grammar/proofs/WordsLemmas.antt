@@ -11,9 +11,9 @@ use Rattle.metrics_names.specs.declared.common.Unit.{Unit as Measure}
 use Rattle.metrics_names.specs.declared.common.Unit.TheVariants.{Count}
 use Rattle.metrics.specs.declared.handles.Update.{Update}
 use Rattle.metrics.specs.declared.handles.Update.TheVariants.{Increment}
-use Rattle.metrics_names.specs.Names.{KeyParts}
+use Rattle.metrics_names.specs.Names.{KeyParts, name_word, label_word, label_words, kind_word}
 use Rattle.tool_grammar.specs.Cuts.{Lacks, StartsAt}
-use Rattle.tool_grammar.specs.Grammar.{kind_word, unit_word, name_word, label_word, label_words, update_word, IsName, IsLabel, AreLabels}
+use Rattle.tool_grammar.specs.Grammar.{unit_word, update_word, IsName, IsLabel, AreLabels}
 
 -- ---- cuts
 

@@ -2,8 +2,7 @@
 use Rattle.std.specs.Prelude.{◌≡◌, ◌≢◌, ℕ, ◌<◌, ◌^◌, List, [], ◌∷◌, ◌++◌, codes, decimal, IsUtf8, FitsSigned, flat_map, Option, None, Some}
 use Rattle.std.specs.Int.{w64}
 use Rattle.std.specs.Fmt.{signed_decimal}
-use Rattle.metrics_names.specs.declared.kind.MetricKind.{MetricKind}
-use Rattle.metrics_names.specs.declared.kind.MetricKind.TheVariants.{Counter, Gauge, Histogram}
+use Rattle.metrics_names.specs.Names.{kind_word, name_word, label_words}
 use Rattle.metrics_names.specs.declared.common.Unit.{Unit as Measure}
 use Rattle.metrics_names.specs.declared.common.Unit.TheVariants.{Count, Percent, Seconds, Milliseconds, Microseconds, Nanoseconds, Bytes}
 use Rattle.metrics.specs.declared.handles.Update.{Update}
@@ -15,11 +14,6 @@ use Rattle.tool_grammar.specs.Cuts.{Lacks}
 
 -- ---- words
 
-abbrev pub kind_word : MetricKind → List ℕ
-kind_word Counter = codes "counter"
-kind_word Gauge = codes "gauge"
-kind_word Histogram = codes "histogram"
-
 -- a dash is no unit
 abbrev pub unit_word : Option Measure → List ℕ
 unit_word None = codes "-"
@@ -30,18 +24,6 @@ unit_word (Some Milliseconds) = codes "milliseconds"
 unit_word (Some Microseconds) = codes "microseconds"
 unit_word (Some Nanoseconds) = codes "nanoseconds"
 unit_word (Some Bytes) = codes "bytes"
-
--- a dash is the empty name
-abbrev pub name_word : List ℕ → List ℕ
-name_word [] = codes "-"
-name_word (x ∷ xs) = x ∷ xs
-
--- a space, the label's key, an equals sign and the label's value
-abbrev pub label_word : List ℕ × List ℕ → List ℕ
-label_word l = 32 ∷ (l.0 ++ 61 ∷ l.1)
-
-abbrev pub label_words : List (List ℕ × List ℕ) → List ℕ
-label_words ls = flat_map label_word ls
 
 -- the word of an update, and its amount
 abbrev pub update_word : Update → List ℕ

@@ -12,7 +12,8 @@ use Rattle.metrics.specs.declared.calls.Answer.{Answer}
 use Rattle.metrics.specs.declared.calls.Answer.TheVariants as answer
 use Rattle.metrics.specs.Book.{RowParts}
 use Rattle.metrics.specs.History.{Log, registration_of}
-use Rattle.tool_grammar.specs.Grammar.{kind_word, unit_word, name_word, label_words}
+use Rattle.tool_grammar.specs.Grammar.{unit_word}
+use Rattle.metrics_names.specs.Names.{name_word, label_words, kind_word}
 
 -- ---- rows
 

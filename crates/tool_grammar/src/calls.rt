@@ -5,9 +5,9 @@ ghost use Rattle.metrics_names.specs.declared.kind.MetricKind.{MetricKind};
 ghost use Rattle.metrics_names.specs.declared.refused.Refused.TheVariants.{Memory};
 ghost use Rattle.metrics_names.specs.declared.common.Unit.{Unit as Measure};
 ghost use Rattle.metrics.specs.declared.handles.Update.{Update as Change};
-ghost use Rattle.metrics_names.specs.Names.{KeyParts};
+ghost use Rattle.metrics_names.specs.Names.{KeyParts, name_word, label_word, label_words, kind_word};
 ghost use Rattle.tool_grammar.specs.Cuts.{Lacks, StartsAt};
-ghost use Rattle.tool_grammar.specs.Grammar.{kind_word, unit_word, name_word, label_word, label_words, update_word, amount_word};
+ghost use Rattle.tool_grammar.specs.Grammar.{unit_word, update_word, amount_word};
 ghost use Rattle.tool_grammar.specs.Grammar.{IsName, IsLabel, AreLabels, IsInRange, Spells, IsBad};
 
 use crate::cuts::{behind, split_at_first, split_before};

@@ -1,22 +1,13 @@
 //! Prints answers.
 ghost use Rattle.std.specs.Prelude.{◌≡◌, ◌++◌, ◌∷◌, [], OnOk, codes, decimal, length, string_bytes};
-ghost use Rattle.tool_grammar.specs.Grammar.{kind_word, unit_word, name_word, label_words};
+ghost use Rattle.tool_grammar.specs.Grammar.{unit_word};
+ghost use Rattle.metrics_names.specs.Names.{name_word, label_words, kind_word};
 ghost use Rattle.tool_grammar.specs.Printing.{samples_text, value_text, note_text, row_text, rows_text, text_of, refusal_text_of};
 ghost use Rattle.tool_grammar.specs.Printing.{book_of};
 
 use itoa::Buffer;
-use metrics::{Answer, Call, DebugValue, Label, MetricKind, Refused, Row, Text, Unit};
+use metrics::{Answer, Call, DebugValue, Refused, Row, SharedText, Unit};
 use std::alloc::AllocError;
-
-fn kind_text(kind: MetricKind) -> &'static str
-    ensures { result.now ≡ kind_word kind }
-{
-    match kind {
-        MetricKind::Counter => "counter",
-        MetricKind::Gauge => "gauge",
-        MetricKind::Histogram => "histogram",
-    }
-}
 
 fn unit_text(unit: Option<Unit>) -> &'static str
     ensures { result.now ≡ unit_word unit }
@@ -31,24 +22,6 @@ fn unit_text(unit: Option<Unit>) -> &'static str
         Some(Unit::Nanoseconds) => "nanoseconds",
         Some(Unit::Bytes) => "bytes",
     }
-}
-
-/// A name, where a dash is the empty one.
-fn shown_name(name: &str) -> &str
-    ensures { result.now ≡ name_word name.now }
-{
-    if name.is_empty() { "-" } else { name }
-}
-
-fn write_labels(text: &mut String, labels: &[Label]) -> Result<(), AllocError>
-    ensures { OnOk result (string_bytes text.new ≡ string_bytes text.old ++ label_words labels.now) }
-{
-    for label in labels {
-        let key = label.key();
-        let value = label.value();
-        write!(text, " {key}={value}")?;
-    }
-    Ok(())
 }
 
 fn write_samples(text: &mut String, samples: &[i64]) -> Result<(), AllocError>
@@ -78,7 +51,7 @@ fn write_value(text: &mut String, value: &DebugValue) -> Result<(), AllocError>
     }
 }
 
-fn write_note(text: &mut String, note: &Option<Text>) -> Result<(), AllocError>
+fn write_note(text: &mut String, note: &Option<SharedText>) -> Result<(), AllocError>
     ensures { OnOk result (string_bytes text.new ≡ string_bytes text.old ++ note_text note.now) }
 {
     match note {
@@ -90,10 +63,9 @@ fn write_note(text: &mut String, note: &Option<Text>) -> Result<(), AllocError>
 fn write_row(text: &mut String, row: &Row) -> Result<(), AllocError>
     ensures { OnOk result (string_bytes text.new ≡ string_bytes text.old ++ row_text row.now) }
 {
-    let kind = kind_text(row.0.kind());
-    let name = shown_name(row.0.key().name());
-    write!(text, "{kind} {name}")?;
-    write_labels(text, row.0.key().labels())?;
+    let kind = row.0.kind().as_str();
+    write!(text, "{kind} ")?;
+    row.0.key().write_words(text)?;
     let unit = unit_text(row.1);
     write!(text, " unit {unit} value ")?;
     write_value(text, &row.3)?;

@@ -7,7 +7,8 @@ ghost use Rattle.metrics_names.specs.declared.kind.MetricKind.{MetricKind};
 ghost use Rattle.metrics_names.specs.declared.common.Unit.{Unit as Measure};
 ghost use Rattle.metrics.specs.declared.handles.Update.{Update as Change};
 ghost use Rattle.tool_grammar.specs.Cuts.{Lacks};
-ghost use Rattle.tool_grammar.specs.Grammar.{kind_word, unit_word, name_word, update_word, amount_word, IsName, IsInRange};
+ghost use Rattle.tool_grammar.specs.Grammar.{unit_word, update_word, amount_word, IsName, IsInRange};
+ghost use Rattle.metrics_names.specs.Names.{name_word, kind_word};
 
 use itoa::Buffer;
 use metrics::{MetricKind, Unit, Update};

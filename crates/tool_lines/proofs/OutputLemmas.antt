@@ -12,7 +12,8 @@ use Rattle.metrics.specs.declared.calls.Answer.TheVariants as answer
 use Rattle.metrics.specs.Book.{RowParts}
 use Rattle.metrics.specs.Meaning.{Meaning, Targets, AreNew}
 use Rattle.metrics.specs.History.{Log, IsOrMeets, MayMeetMemory, plain_answer, ArePlainFrom, ArePlain, plain_log_from}
-use Rattle.tool_grammar.specs.Grammar.{kind_word, name_word, label_words, unit_word, spelling, CanBeSpelled, IsBad}
+use Rattle.tool_grammar.specs.Grammar.{unit_word, spelling, CanBeSpelled, IsBad}
+use Rattle.metrics_names.specs.Names.{name_word, label_words, kind_word}
 use Rattle.tool_grammar.specs.Printing.{value_text, note_text, row_text, rows_text, book_of, refusal_text_of, text_of, registers_in, print_from, print}
 use Rattle.tool_grammar.specs.declared.error.RunError.{RunError}
 use Rattle.tool_grammar.specs.declared.error.RunError.TheVariants.{Memory, BadLine, Device}

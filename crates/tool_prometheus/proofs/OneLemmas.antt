@@ -2,7 +2,7 @@
 use Rattle.std.proofs.Common.{◌≡◌, ◌∙◌, ℕ, List, [], ◌∷◌, ◌++◌, codes, drop, refl, ap, sym, arith}
 use Rattle.std.specs.Prelude.{Option, Some}
 use Rattle.std.proofs.lemmas.Fmt.{decimal_injective}
-use Rattle.metrics_names.specs.Names.{LabelParts}
+use Rattle.metrics_names.specs.Names.{LabelParts, name_word}
 use Rattle.metrics_names.specs.declared.kind.MetricKind.{MetricKind}
 use Rattle.metrics_names.specs.declared.common.Unit.{Unit as Measure}
 use Rattle.metrics.specs.declared.handles.Update.{Update}
@@ -11,7 +11,7 @@ use Rattle.metrics.specs.declared.calls.Call.{Call}
 use Rattle.metrics.specs.declared.calls.Call.TheVariants as call
 use Rattle.metrics_prometheus.specs.Labels.{placed}
 use Rattle.tool_grammar.specs.Cuts.{Lacks, StartsAt}
-use Rattle.tool_grammar.specs.Grammar.{name_word, amount_word, spelling as call_spelling}
+use Rattle.tool_grammar.specs.Grammar.{amount_word, spelling as call_spelling}
 use Rattle.tool_grammar.proofs.WordsLemmas.{before_same, first_same, lacks_literal, lacks_update}
 use Rattle.tool_grammar.proofs.CallLemmas.{call_same, name_same}
 use Rattle.tool_export.proofs.RequestLemmas.{lacks_amount, no_scrape}

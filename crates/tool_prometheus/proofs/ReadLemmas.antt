@@ -2,12 +2,12 @@
 use Rattle.std.proofs.Common.{◌≡◌, ◌∙◌, ℕ, zero, suc, ◌<◌, ◌≤◌, ◌^◌, Bool, true, false, List, [], ◌∷◌, ◌++◌, codes, decimal, drop, take, get_or, length, append_assoc, refl, ap, sym, subst, arith}
 use Rattle.std.specs.Prelude.{Option, Some, Result, Ok, Err, MatchResult, IsUtf8}
 use Rattle.std.specs.List.{AllByRecursion}
-use Rattle.metrics_names.specs.Names.{LabelParts}
+use Rattle.metrics_names.specs.Names.{LabelParts, name_word, kind_word}
 use Rattle.metrics_names.specs.declared.kind.MetricKind.{MetricKind}
 use Rattle.metrics_names.specs.declared.common.Unit.{Unit as Measure}
 use Rattle.metrics.specs.declared.handles.Update.{Update}
 use Rattle.tool_grammar.specs.Cuts.{Lacks, StartsAt}
-use Rattle.tool_grammar.specs.Grammar.{kind_word, unit_word, name_word, update_word, amount_word, IsInRange}
+use Rattle.tool_grammar.specs.Grammar.{unit_word, update_word, amount_word, IsInRange}
 use Rattle.tool_grammar.proofs.WordsLemmas.{before_same, first_same, lacks_kind, lacks_unit}
 use Rattle.tool_export.proofs.RequestLemmas.{lacks_amount}
 use Rattle.tool_prometheus.specs.declared.flaws.Unread.{Unread}

@@ -5,11 +5,11 @@ use Rattle.std.proofs.lemmas.Bool.{false≢true, ne_eqb}
 use Rattle.std.proofs.lemmas.Slice.Eq.{bytes_eq-Decides}
 use Rattle.metrics.specs.declared.handles.Update.{Update}
 use Rattle.metrics.specs.declared.handles.Update.TheVariants.{Increment, Absolute, Add, Subtract, Set, Record}
-use Rattle.metrics_names.specs.Names.{LabelParts}
+use Rattle.metrics_names.specs.Names.{LabelParts, name_word, kind_word}
 use Rattle.metrics_names.specs.declared.kind.MetricKind.{MetricKind}
 use Rattle.metrics_names.specs.declared.common.Unit.{Unit as Measure}
 use Rattle.tool_grammar.specs.Cuts.{Lacks, StartsAt}
-use Rattle.tool_grammar.specs.Grammar.{kind_word, unit_word, name_word, update_word, amount_word, IsInRange}
+use Rattle.tool_grammar.specs.Grammar.{unit_word, update_word, amount_word, IsInRange}
 use Rattle.tool_grammar.proofs.WordsLemmas.{before_same, lacks_literal, lacks_update}
 use Rattle.tool_export.proofs.RequestLemmas.{no_scrape}
 use Rattle.tool_prometheus.specs.declared.flaws.Unread.{Unread}

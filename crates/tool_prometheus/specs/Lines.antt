@@ -2,13 +2,13 @@
 use Rattle.std.specs.Prelude.{if◌then◌else◌, ◌≡◌, ◌≢◌, ℕ, ◌<◌, ◌≤◌, ◌^◌, Bool, true, false, List, [], ◌∷◌, ◌++◌, ◌⊎◌, All, IsUtf8, nat_eq, bytes_eq}
 use Rattle.std.specs.Prelude.{codes, decimal, flat_map, Option, None, Some}
 use Rattle.std.specs.List.{AllByRecursion, list_any}
-use Rattle.metrics_names.specs.Names.{LabelParts}
+use Rattle.metrics_names.specs.Names.{LabelParts, name_word, kind_word}
 use Rattle.metrics_names.specs.declared.kind.MetricKind.{MetricKind}
 use Rattle.metrics_names.specs.declared.common.Unit.{Unit as Measure}
 use Rattle.metrics.specs.declared.handles.Update.{Update}
 use Rattle.metrics_prometheus.specs.Labels.{placed}
 use Rattle.tool_grammar.specs.Cuts.{Lacks}
-use Rattle.tool_grammar.specs.Grammar.{kind_word, unit_word, name_word, update_word, amount_word, IsInRange}
+use Rattle.tool_grammar.specs.Grammar.{unit_word, update_word, amount_word, IsInRange}
 use Rattle.tool_prometheus.specs.declared.flaws.Unread.{Unread}
 use Rattle.tool_prometheus.specs.declared.flaws.Unread.TheVariants as unread
 use Rattle.tool_prometheus.specs.declared.requests.Request.{Request}

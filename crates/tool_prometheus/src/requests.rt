@@ -1,12 +1,12 @@
 //! The lines of this tool: updates, descriptions, scrapes, and lines that are skipped.
 ghost use Rattle.std.specs.Prelude.{◌≡◌, ℕ, List, [], ◌∷◌, ◌++◌, ◌<◌, ◌^◌, IsUtf8, codes, decimal};
 ghost use Rattle.std.specs.Prelude.{MatchResult, Option as Maybe};
-ghost use Rattle.metrics_names.specs.Names.{LabelParts};
+ghost use Rattle.metrics_names.specs.Names.{LabelParts, name_word, kind_word};
 ghost use Rattle.metrics_names.specs.declared.kind.MetricKind.{MetricKind as Kind};
 ghost use Rattle.metrics_names.specs.declared.common.Unit.{Unit as Measure};
 ghost use Rattle.metrics.specs.declared.handles.Update.{Update as Change};
 ghost use Rattle.tool_grammar.specs.Cuts.{Lacks, StartsAt};
-ghost use Rattle.tool_grammar.specs.Grammar.{kind_word, unit_word, name_word, update_word, amount_word, IsInRange};
+ghost use Rattle.tool_grammar.specs.Grammar.{unit_word, update_word, amount_word, IsInRange};
 ghost use Rattle.tool_prometheus.specs.Lines.{IsName, IsText, Written, AreWritten, label_words, Fails, Reads, IsNone, Spells};
 ghost use Rattle.tool_prometheus.specs.Lines.{IsBad, body_of as body, IsBegun};
 

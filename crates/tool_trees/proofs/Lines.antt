@@ -9,7 +9,8 @@ use Rattle.metrics_names.specs.declared.kind.MetricKind.{MetricKind}
 use Rattle.metrics_names.specs.declared.kind.MetricKind.TheVariants.{Counter, Gauge, Histogram}
 use Rattle.metrics.specs.Layers.{mask_has}
 use Rattle.tool_grammar.specs.Cuts.{Lacks, StartsAt}
-use Rattle.tool_grammar.specs.Grammar.{name_word, IsName}
+use Rattle.tool_grammar.specs.Grammar.{IsName}
+use Rattle.metrics_names.specs.Names.{name_word}
 use Rattle.tool_grammar.proofs.CallLemmas.{name_same}
 use Rattle.tool_grammar.proofs.WordsLemmas.{before_same, first_same, lacks_literal, lacks_name, lacks_decimal}
 use Rattle.tool_trees.specs.declared.tree_line.RouteWord.{RouteWord}

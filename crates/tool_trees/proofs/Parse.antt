@@ -4,7 +4,8 @@ use Rattle.std.proofs.lemmas.Fmt.{decimal_injective}
 use Rattle.std.proofs.lemmas.List.Elements.{recursion_from_All, All-from_recursion}
 use Rattle.std.specs.List.{AllByRecursion}
 use Rattle.tool_grammar.specs.Cuts.{Lacks, StartsAt}
-use Rattle.tool_grammar.specs.Grammar.{name_word, IsName}
+use Rattle.tool_grammar.specs.Grammar.{IsName}
+use Rattle.metrics_names.specs.Names.{name_word}
 use Rattle.tool_grammar.proofs.WordsLemmas.{before_same, first_same, lacks_decimal, not_cut}
 use Rattle.tool_trees.specs.declared.tree_line.RouteWord.{RouteWord}
 use Rattle.tool_trees.specs.declared.tree_line.TreeLine.TheVariants as line

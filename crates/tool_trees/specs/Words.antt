@@ -4,7 +4,8 @@ use Rattle.std.specs.List.{AllByRecursion}
 use Rattle.metrics_names.specs.declared.kind.MetricKind.TheVariants.{Counter, Gauge, Histogram}
 use Rattle.metrics.specs.Layers.{mask_has}
 use Rattle.tool_grammar.specs.Cuts.{Lacks}
-use Rattle.tool_grammar.specs.Grammar.{name_word, IsName}
+use Rattle.tool_grammar.specs.Grammar.{IsName}
+use Rattle.metrics_names.specs.Names.{name_word}
 use Rattle.tool_trees.specs.declared.tree_line.RouteWord.{RouteWord}
 use Rattle.tool_trees.specs.declared.tree_line.TreeLine.{TreeLine}
 use Rattle.tool_trees.specs.declared.tree_line.TreeLine.TheVariants as line

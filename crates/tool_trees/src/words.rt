@@ -3,7 +3,8 @@ ghost use Rattle.std.specs.Prelude.{◌≡◌, ℕ, List, [], ◌∷◌, ◌++�
 ghost use Rattle.std.specs.Prelude.{IfOk, MatchOption, codes, decimal};
 ghost use Rattle.std.specs.List.{AllByRecursion};
 ghost use Rattle.tool_grammar.specs.Cuts.{Lacks, StartsAt};
-ghost use Rattle.tool_grammar.specs.Grammar.{name_word, IsName};
+ghost use Rattle.tool_grammar.specs.Grammar.{IsName};
+ghost use Rattle.metrics_names.specs.Names.{name_word};
 ghost use Rattle.tool_trees.specs.declared.tree_line.RouteWord.{RouteWord as Written};
 ghost use Rattle.tool_trees.specs.declared.tree_line.First.{First as Begin};
 ghost use Rattle.tool_trees.specs.Words.{HasKind, words, case_word, form_word, kinds_word, route_word, first_word, IsRoute};

@@ -7,14 +7,14 @@ ghost use Rattle.metrics.specs.Book.{no_description, described_again};
 ghost use Rattle.metrics_debugging.specs.DebuggingDescriptions.{described_by, description_of};
 
 use indexmap::IndexMap;
-use metrics::{MetricKind, PerKind, Refused, Text, Unit};
+use metrics::{MetricKind, PerKind, Refused, SharedText, Unit};
 use std::alloc::{AllocError, Global};
 
 /// The description of a name.
 #[derive(Drop)]
 pub(crate) struct Described {
     unit: Option<Unit>,
-    text: Text,
+    text: SharedText,
 }
 
 /// The descriptions by kind and name.
@@ -37,12 +37,12 @@ impl Descriptions {
         }
     }
 
-    /// Returns the unit and a copy of the text of a name.
+    /// Returns the unit and the text of a name, which it shares.
     pub fn get(
         &self,
         kind: MetricKind,
         name: &str,
-    ) -> Result<(Option<Unit>, Option<Text>), AllocError>
+    ) -> Result<(Option<Unit>, Option<SharedText>), AllocError>
         ensures { IfOk result (λ d. record { unit = d.0; text = d.1 } ≡ described_by self.now kind name.now) }
     {
         match self.names.of(kind).get(name) {
@@ -85,7 +85,7 @@ fn describe_name(
         ≡ description_of (get_by_text names.old n)) }
     ensures memory { IfErr result (λ e. e ≡ Memory 0) }
 {
-    let text = Text::new(alloc, text)?;
+    let text = SharedText::new(alloc, text)?;
     if let Some(described) = names.get_mut(name) {
         described.unit = unit.or(described.unit);
         described.text = text;

@@ -1,5 +1,5 @@
 use Rattle.tool_trees.proofs.Lines.{starts_words}
-use Rattle.tool_grammar.specs.Grammar.{name_word}
+use Rattle.metrics_names.specs.Names.{name_word}
 use Rattle.tool_trees.specs.Words.{route_word, words}
 use Rattle.tool_trees.proofs.Parse.{no_filter, no_router, no_routes}
 use Rattle.tool_trees.proofs.words.line_from.Goals as goal

@@ -1,4 +1,5 @@
-use Rattle.tool_grammar.specs.Grammar.{name_word, IsName}
+use Rattle.tool_grammar.specs.Grammar.{IsName}
+use Rattle.metrics_names.specs.Names.{name_word}
 use Rattle.tool_grammar.proofs.WordsLemmas.{lacks_name}
 use Rattle.tool_trees.proofs.Parse.{positive, no_words, next_of, words_more}
 use Rattle.tool_trees.proofs.words.names_of.Goals as goal

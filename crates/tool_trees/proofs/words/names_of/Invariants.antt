@@ -1,6 +1,7 @@
 -- The names so far, and what is left.
 use Rattle.std.proofs.Common.{length}
-use Rattle.tool_grammar.specs.Grammar.{name_word, IsName}
+use Rattle.tool_grammar.specs.Grammar.{IsName}
+use Rattle.metrics_names.specs.Names.{name_word}
 use Rattle.tool_trees.proofs.Parse.{WordsSoFar}
 use Rattle.tool_trees.proofs.words.names_of.Given as goal
 
