@@ -12,7 +12,7 @@ ghost use Rattle.metrics.specs.declared.error.Error.TheVariants.{Memory as OutOf
 ghost use Rattle.metrics_registry.specs.Held.{held, place_of, Removes, Calls, Adds, Appends, ChangesAt};
 ghost use Rattle.metrics_registry.specs.Held.{TakesEach, CallsEach, RetainsEach, Copies, CopiesFront, AreCopied};
 
-use crate::common::EqualClone;
+use crate::keys::EqualClone;
 use indexmap::IndexMap;
 use indexmap::map::Iter;
 use metrics::Error;

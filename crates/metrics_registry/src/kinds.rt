@@ -6,7 +6,7 @@ ghost use Rattle.std.specs.Map.{keys_of};
 ghost use Rattle.metrics_registry.specs.Held.{held, MayCall, GetsOrCreates, is_shard_count as is_count};
 
 use crate::cells::Cells;
-use crate::common::{EqualClone, Hashable};
+use crate::keys::{EqualClone, Hashable};
 use crate::storage::Storage;
 use metrics::Error;
 use std::alloc::Global;

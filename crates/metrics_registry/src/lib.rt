@@ -2,8 +2,8 @@
 #![tactic(auto)]
 
 mod cells;
-mod common;
 mod generation;
+mod keys;
 mod kinds;
 mod laws;
 mod plain;
@@ -13,8 +13,8 @@ mod registry;
 mod storage;
 
 pub use cells::Cells;
-pub use common::{DefaultHashable, EqualClone, Hashable, KeyHasher};
 pub use generation::{Counted, Generation};
+pub use keys::{DefaultHashable, EqualClone, Hashable, KeyHasher};
 pub use kinds::{Kinds, is_shard_count, shard_of};
 pub use laws::recency_law;
 pub use metrics::Error;

@@ -14,7 +14,7 @@ ghost use Rattle.metrics.specs.declared.error.Error.TheVariants.{Memory as OutOf
 ghost use Rattle.metrics_names.specs.Names.{kind_eq};
 
 use crate::cells::Cells;
-use crate::common::{EqualClone, Hashable};
+use crate::keys::{EqualClone, Hashable};
 use crate::generation::Generation;
 use crate::kinds::shard_of;
 use crate::registry::OwnedRegistry;

@@ -9,7 +9,7 @@ ghost use Rattle.metrics_registry.specs.Held.{held, entries_of, IsShardOf, MayCa
 ghost use Rattle.metrics_registry.specs.Held.{TakesEach, CallsEach, RetainsEach};
 ghost use Rattle.metrics_registry.specs.Held.{CountersAlone, GaugesAlone, HistogramsAlone, is_shard_count as is_count};
 
-use crate::common::{EqualClone, Hashable};
+use crate::keys::{EqualClone, Hashable};
 use crate::kinds::{Kinds, is_shard_count, shard_of};
 use crate::storage::Storage;
 use metrics::Error;

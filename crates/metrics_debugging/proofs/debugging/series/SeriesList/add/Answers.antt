@@ -2,7 +2,7 @@ use Rattle.std.proofs.Common.{◌≡◌, ◌∙◌, ◌++◌, ◌∷◌, [], tru
 use Rattle.std.proofs.lemmas.List.{map-append}
 use Rattle.metrics_names.specs.Names.{key_eq}
 use Rattle.metrics_names.specs.Equality.{key_eq-Decides}
-use Rattle.metrics_registry.specs.contracts.common.KeyEqualClone.TheImpl.Laws.{clones-law}
+use Rattle.metrics_registry.specs.contracts.keys.KeyEqualClone.TheImpl.Laws.{clones-law}
 use Rattle.metrics.specs.Kinds.{of_kind}
 use Rattle.metrics_registry.specs.Held.{held}
 use Rattle.metrics_debugging.specs.declared.debugging.series.Stored.{Stored}

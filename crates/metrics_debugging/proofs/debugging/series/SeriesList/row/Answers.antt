@@ -5,7 +5,7 @@ use Rattle.metrics_names.specs.Names.{KeyParts}
 use Rattle.metrics_names.specs.Equality.{key_eq-Decides}
 use Rattle.metrics.specs.Book.{Description, row_of}
 use Rattle.metrics.specs.Kinds.{of_kind}
-use Rattle.metrics_registry.specs.contracts.common.KeyEqualClone.TheImpl.Laws.{clones-law}
+use Rattle.metrics_registry.specs.contracts.keys.KeyEqualClone.TheImpl.Laws.{clones-law}
 use Rattle.metrics_debugging.specs.Debugging.{content_of}
 use Rattle.metrics_debugging.specs.DebuggingDescriptions.{described_by}
 use Rattle.metrics_debugging.specs.DebuggingCells.{value_of, kind_of_value}
