@@ -1,6 +1,7 @@
 //! One shard: the cells of each kind.
 ghost use Rattle.std.specs.Prelude.{◌≡◌, ◌<◌, ◌%◌, ⊤, [], OnOk, true};
 ghost use Rattle.std.specs.Fn.{FnOnceReturnsAtMut, FnOnceTakesAtMut};
+ghost use Rattle.std.specs.Int.{is_power_of_two};
 ghost use Rattle.std.specs.List.{IsDistinct};
 ghost use Rattle.std.specs.Map.{keys_of};
 ghost use Rattle.metrics_registry.specs.Held.{held, MayCall, GetsOrCreates, is_shard_count as is_count};
@@ -129,28 +130,23 @@ pub fn shard_of<K: Hashable>(key: &K, count: usize) -> usize
     ensures shard { result ≡ K.number key.now % count }
     ensures within { result < count }
 {
-    if count == 1 {
-        return 0;
-    }
-    remainder(key.hashable(), count as u64) as usize
+    (key.hashable() % count as u64) as usize
 }
 
-/// The remainder of a number by a count, without a division if the count is a power of two, as that of a registry is.
-fn remainder(number: u64, count: u64) -> u64
-    requires { 0 < count }
-    ensures { result ≡ number % count }
+/// Returns the number of a key's shard among so many, a power of two, without a division.
+pub fn shard_by_mask<K: Hashable>(key: &K, count: usize) -> usize
+    requires { is_power_of_two count ≡ true }
+    ensures shard { result ≡ K.number key.now % count }
+    ensures within { result < count }
 {
-    let power = 1u64.wrapping_shl(count.trailing_zeros());
-    if power == count {
-        return number & (count - 1);
-    }
-    number % count
+    (key.hashable() & (count as u64 - 1)) as usize
 }
 
 /// Returns whether a registry may have so many shards: a power of two from 1 to 1,024.
 pub fn is_shard_count(shards: usize) -> bool
     ensures answer { result ≡ is_count shards }
     ensures some { result ≡ true → 0 < shards }
+    ensures power { result ≡ true → is_power_of_two shards ≡ true }
 {
     shards.is_power_of_two() && shards <= 1024
 }

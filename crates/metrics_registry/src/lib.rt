@@ -15,7 +15,7 @@ mod storage;
 pub use cells::Cells;
 pub use generation::{Counted, Generation};
 pub use keys::{DefaultHashable, EqualClone, Hashable, KeyHasher};
-pub use kinds::{Kinds, is_shard_count, shard_of};
+pub use kinds::{Kinds, is_shard_count, shard_by_mask, shard_of};
 pub use laws::recency_law;
 pub use metrics::Error;
 pub use plain::PlainStorage;

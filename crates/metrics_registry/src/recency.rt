@@ -16,7 +16,7 @@ ghost use Rattle.metrics_names.specs.Names.{kind_eq};
 use crate::cells::Cells;
 use crate::keys::{EqualClone, Hashable};
 use crate::generation::Generation;
-use crate::kinds::shard_of;
+use crate::kinds::shard_by_mask;
 use crate::registry::OwnedRegistry;
 use crate::storage::Storage;
 use metrics::{Error, MetricKind, MetricKindMask, PerKind};
@@ -171,7 +171,7 @@ impl<K: Hashable + EqualClone + Drop> OwnedRecency<K> {
             (table_of K.eq self.old) (table_of K.eq self.new) registry.old.counters registry.new.counters }
         ensures rest { CountersAlone registry.old registry.new }
     {
-        let shard = shard_of(key, registry.shards.len());
+        let shard = shard_by_mask(key, registry.shards.len());
         let cells = &mut registry.shards[shard].counters;
         self.check(MetricKind::Counter, key, generation, now, cells)
     }
@@ -197,7 +197,7 @@ impl<K: Hashable + EqualClone + Drop> OwnedRecency<K> {
             (table_of K.eq self.old) (table_of K.eq self.new) registry.old.gauges registry.new.gauges }
         ensures rest { GaugesAlone registry.old registry.new }
     {
-        let shard = shard_of(key, registry.shards.len());
+        let shard = shard_by_mask(key, registry.shards.len());
         let cells = &mut registry.shards[shard].gauges;
         self.check(MetricKind::Gauge, key, generation, now, cells)
     }
@@ -223,7 +223,7 @@ impl<K: Hashable + EqualClone + Drop> OwnedRecency<K> {
             (table_of K.eq self.old) (table_of K.eq self.new) registry.old.histograms registry.new.histograms }
         ensures rest { HistogramsAlone registry.old registry.new }
     {
-        let shard = shard_of(key, registry.shards.len());
+        let shard = shard_by_mask(key, registry.shards.len());
         let cells = &mut registry.shards[shard].histograms;
         self.check(MetricKind::Histogram, key, generation, now, cells)
     }

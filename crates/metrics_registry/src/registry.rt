@@ -10,7 +10,7 @@ ghost use Rattle.metrics_registry.specs.Held.{TakesEach, CallsEach, RetainsEach}
 ghost use Rattle.metrics_registry.specs.Held.{CountersAlone, GaugesAlone, HistogramsAlone, is_shard_count as is_count};
 
 use crate::keys::{EqualClone, Hashable};
-use crate::kinds::{Kinds, is_shard_count, shard_of};
+use crate::kinds::{Kinds, is_shard_count, shard_by_mask};
 use crate::storage::Storage;
 use metrics::Error;
 use std::alloc::Global;
@@ -29,7 +29,8 @@ pub struct OwnedRegistry<K: Hashable, S: Storage<K>> {
 }
 
 impl<K: Hashable, S: Storage<K>> Model for OwnedRegistry<K, S> {
-    ghost use Rattle.std.specs.Prelude.{◌<◌, vec_len, map};
+    ghost use Rattle.std.specs.Prelude.{◌≡◌, true, vec_len, map};
+    ghost use Rattle.std.specs.Int.{is_power_of_two};
     ghost use Rattle.metrics_registry.specs.Held.{Registry, entries_of, ArePlaced};
 
     ghost Value = { Registry S K S.Counter S.Gauge S.Histogram };
@@ -42,7 +43,7 @@ impl<K: Hashable, S: Storage<K>> Model for OwnedRegistry<K, S> {
       histograms = entries_of (map (λ s. s.histograms) r.shards.items);
     } };
 
-    ghost invariant = { λ r. (0 < vec_len r.shards)
+    ghost invariant = { λ r. (is_power_of_two (vec_len r.shards) ≡ true)
         × ArePlaced K.eq K.number (vec_len r.shards) 0 (map (λ s. s.counters) r.shards.items)
         × ArePlaced K.eq K.number (vec_len r.shards) 0 (map (λ s. s.gauges) r.shards.items)
         × ArePlaced K.eq K.number (vec_len r.shards) 0 (map (λ s. s.histograms) r.shards.items) };
@@ -111,7 +112,7 @@ where
         ensures gauges { IsShardOf K.eq key.now result.now.gauges self.now.gauges }
         ensures histograms { IsShardOf K.eq key.now result.now.histograms self.now.histograms }
     {
-        let shard = shard_of(key, self.shards.len());
+        let shard = shard_by_mask(key, self.shards.len());
         &self.shards[shard]
     }
 
@@ -135,7 +136,7 @@ where
             (FnOnceReturnsAtMut F.FnOnce op) (self.old.count ≡ 1) key.now result self.old.counters self.new.counters }
         ensures rest { CountersAlone self.old self.new }
     {
-        let shard = shard_of(key, self.shards.len());
+        let shard = shard_by_mask(key, self.shards.len());
         self.shards[shard].get_or_create_counter(&self.storage, key, op)
     }
 
@@ -185,7 +186,7 @@ where
         ensures removed { Removes K.eq key.now result self.old.counters self.new.counters }
         ensures rest { CountersAlone self.old self.new }
     {
-        let shard = shard_of(key, self.shards.len());
+        let shard = shard_by_mask(key, self.shards.len());
         self.shards[shard].counters.remove(key)
     }
 
@@ -209,7 +210,7 @@ where
             (FnOnceReturnsAtMut F.FnOnce op) (self.old.count ≡ 1) key.now result self.old.gauges self.new.gauges }
         ensures rest { GaugesAlone self.old self.new }
     {
-        let shard = shard_of(key, self.shards.len());
+        let shard = shard_by_mask(key, self.shards.len());
         self.shards[shard].get_or_create_gauge(&self.storage, key, op)
     }
 
@@ -259,7 +260,7 @@ where
         ensures removed { Removes K.eq key.now result self.old.gauges self.new.gauges }
         ensures rest { GaugesAlone self.old self.new }
     {
-        let shard = shard_of(key, self.shards.len());
+        let shard = shard_by_mask(key, self.shards.len());
         self.shards[shard].gauges.remove(key)
     }
 
@@ -283,7 +284,7 @@ where
             (FnOnceReturnsAtMut F.FnOnce op) (self.old.count ≡ 1) key.now result self.old.histograms self.new.histograms }
         ensures rest { HistogramsAlone self.old self.new }
     {
-        let shard = shard_of(key, self.shards.len());
+        let shard = shard_by_mask(key, self.shards.len());
         self.shards[shard].get_or_create_histogram(&self.storage, key, op)
     }
 
@@ -333,7 +334,7 @@ where
         ensures removed { Removes K.eq key.now result self.old.histograms self.new.histograms }
         ensures rest { HistogramsAlone self.old self.new }
     {
-        let shard = shard_of(key, self.shards.len());
+        let shard = shard_by_mask(key, self.shards.len());
         self.shards[shard].histograms.remove(key)
     }
 }

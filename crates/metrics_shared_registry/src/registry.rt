@@ -1,12 +1,13 @@
 //! Shards, each under a lock of its own.
-ghost use Rattle.std.specs.Prelude.{◌≡◌, ◌<◌, true, IfOk, IfErr, if◌then◌else◌, vec_len};
+ghost use Rattle.std.specs.Prelude.{◌≡◌, true, IfOk, IfErr, if◌then◌else◌, vec_len};
 ghost use Rattle.std.specs.Fn.{FnOnceReturnsAt};
+ghost use Rattle.std.specs.Int.{is_power_of_two};
 ghost use Rattle.metrics.specs.declared.error.Error.TheVariants.{Memory as OutOfMemory, BadShards as NotShards};
 ghost use Rattle.metrics_registry.specs.Held.{is_shard_count as is_count};
 
 use crate::storage::AtomicStorage;
 use metrics::{Error, Key};
-use metrics_registry::{EqualClone, Hashable, Kinds, Storage, is_shard_count, shard_of};
+use metrics_registry::{EqualClone, Hashable, Kinds, Storage, is_shard_count, shard_by_mask};
 use std::alloc::Global;
 use std::collections::HashMap;
 use std::sync::{RwLock, RwLockReadGuard, Wait};
@@ -32,7 +33,7 @@ fn reading<'a, T, R: Wait>(rt: &R, shard: &'a RwLock<T>) -> RwLockReadGuard<'a, 
 pub struct Registry<K: Hashable, S: Storage<K>> {
     storage: S,
     shards: Vec<RwLock<Kinds<K, S>>>,
-    ghost some: { 0 < vec_len shards },
+    ghost power: { is_power_of_two (vec_len shards) ≡ true },
 }
 
 impl<K: Hashable + EqualClone + Drop, S: Storage<K> + Drop> Registry<K, S>
@@ -62,7 +63,7 @@ where
 
     /// Returns the shard of a key.
     fn shard(&self, key: &K) -> &RwLock<Kinds<K, S>> {
-        &self.shards[shard_of(key, self.shards.len())]
+        &self.shards[shard_by_mask(key, self.shards.len())]
     }
 
     /// Removes every entry of every kind.

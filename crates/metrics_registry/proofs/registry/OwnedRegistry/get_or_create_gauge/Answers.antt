@@ -4,13 +4,13 @@ use Rattle.metrics_registry.proofs.ShardLemmas.{storage_is, count_is, counters_a
 use Rattle.metrics_registry.proofs.registry.OwnedRegistry.get_or_create_gauge.Goals as goal
 
 pub invariant_of-self : goal.invariant_of-self
-invariant_of-self g c = (search rules, kept-placed g.K.PartialEq.eq g.K.Hashable.number c.self.inside.shards.len c.shard_of-shard.result c.self.inside.shards.items c.index_mut.result.now c.get_or_create_gauge.new.self (search rules) (λ s. s.counters) c.self.invariant.1 c.get_or_create_gauge.ensures.rest.0, (gets-there g.met.K.Eq.laws g.K.Hashable.number g.met.K.Hashable.same c.self.inside.shards.len c.shard_of-shard.result c.self.inside.shards.items c.index_mut.result.now c.get_or_create_gauge.new.self (λ s. s.gauges) c.args.self.now.gauges (gauges_are c.self.view_is) c.self.invariant.2 (search rules) (search rules) (search rules) c.args.key.now (search rules) c.get_or_create_gauge.result g.K.Clone.is_clone g.S.Storage.makes_gauge c.self.inside.storage c.args.self.now.storage (FnOnceReturnsAtMut g.F.FnOnce c.args.op) c.args.self.now.count (storage_is c.self.view_is) (count_is c.self.view_is) c.get_or_create_gauge.ensures.gauges c.get_or_create_gauge.ensures.once).0, kept-placed g.K.PartialEq.eq g.K.Hashable.number c.self.inside.shards.len c.shard_of-shard.result c.self.inside.shards.items c.index_mut.result.now c.get_or_create_gauge.new.self (search rules) (λ s. s.histograms) c.self.invariant.3 c.get_or_create_gauge.ensures.rest.1)
+invariant_of-self g c = (search rules, kept-placed g.K.PartialEq.eq g.K.Hashable.number c.self.inside.shards.len c.shard_by_mask-shard.result c.self.inside.shards.items c.index_mut.result.now c.get_or_create_gauge.new.self (search rules) (λ s. s.counters) c.self.invariant.1 c.get_or_create_gauge.ensures.rest.0, (gets-there g.met.K.Eq.laws g.K.Hashable.number g.met.K.Hashable.same c.self.inside.shards.len c.shard_by_mask-shard.result c.self.inside.shards.items c.index_mut.result.now c.get_or_create_gauge.new.self (λ s. s.gauges) c.args.self.now.gauges (gauges_are c.self.view_is) c.self.invariant.2 (search rules) (search rules) (search rules) c.args.key.now (search rules) c.get_or_create_gauge.result g.K.Clone.is_clone g.S.Storage.makes_gauge c.self.inside.storage c.args.self.now.storage (FnOnceReturnsAtMut g.F.FnOnce c.args.op) c.args.self.now.count (storage_is c.self.view_is) (count_is c.self.view_is) c.get_or_create_gauge.ensures.gauges c.get_or_create_gauge.ensures.once).0, kept-placed g.K.PartialEq.eq g.K.Hashable.number c.self.inside.shards.len c.shard_by_mask-shard.result c.self.inside.shards.items c.index_mut.result.now c.get_or_create_gauge.new.self (search rules) (λ s. s.histograms) c.self.invariant.3 c.get_or_create_gauge.ensures.rest.1)
 
 pub returns-clause-gauges : goal.returns-clause-gauges
-returns-clause-gauges g c = (gets-there g.met.K.Eq.laws g.K.Hashable.number g.met.K.Hashable.same c.self.inside.shards.len c.shard_of-shard.result c.self.inside.shards.items c.index_mut.result.now c.get_or_create_gauge.new.self (λ s. s.gauges) c.args.self.now.gauges (gauges_are c.self.view_is) c.self.invariant.2 (search rules) (search rules) (search rules) c.args.key.now (search rules) c.get_or_create_gauge.result g.K.Clone.is_clone g.S.Storage.makes_gauge c.self.inside.storage c.args.self.now.storage (FnOnceReturnsAtMut g.F.FnOnce c.args.op) c.args.self.now.count (storage_is c.self.view_is) (count_is c.self.view_is) c.get_or_create_gauge.ensures.gauges c.get_or_create_gauge.ensures.once).1
+returns-clause-gauges g c = (gets-there g.met.K.Eq.laws g.K.Hashable.number g.met.K.Hashable.same c.self.inside.shards.len c.shard_by_mask-shard.result c.self.inside.shards.items c.index_mut.result.now c.get_or_create_gauge.new.self (λ s. s.gauges) c.args.self.now.gauges (gauges_are c.self.view_is) c.self.invariant.2 (search rules) (search rules) (search rules) c.args.key.now (search rules) c.get_or_create_gauge.result g.K.Clone.is_clone g.S.Storage.makes_gauge c.self.inside.storage c.args.self.now.storage (FnOnceReturnsAtMut g.F.FnOnce c.args.op) c.args.self.now.count (storage_is c.self.view_is) (count_is c.self.view_is) c.get_or_create_gauge.ensures.gauges c.get_or_create_gauge.ensures.once).1
 
 pub returns-clause-rest : goal.returns-clause-rest
-returns-clause-rest g c = (storage_is c.self.view_is, count_is c.self.view_is, kept-entries g.K.PartialEq.eq g.K.Hashable.number c.self.inside.shards.len c.shard_of-shard.result c.self.inside.shards.items c.index_mut.result.now c.get_or_create_gauge.new.self (search rules) (λ s. s.counters) c.get_or_create_gauge.ensures.rest.0 ∙ counters_are c.self.view_is, kept-entries g.K.PartialEq.eq g.K.Hashable.number c.self.inside.shards.len c.shard_of-shard.result c.self.inside.shards.items c.index_mut.result.now c.get_or_create_gauge.new.self (search rules) (λ s. s.histograms) c.get_or_create_gauge.ensures.rest.1 ∙ histograms_are c.self.view_is)
+returns-clause-rest g c = (storage_is c.self.view_is, count_is c.self.view_is, kept-entries g.K.PartialEq.eq g.K.Hashable.number c.self.inside.shards.len c.shard_by_mask-shard.result c.self.inside.shards.items c.index_mut.result.now c.get_or_create_gauge.new.self (search rules) (λ s. s.counters) c.get_or_create_gauge.ensures.rest.0 ∙ counters_are c.self.view_is, kept-entries g.K.PartialEq.eq g.K.Hashable.number c.self.inside.shards.len c.shard_by_mask-shard.result c.self.inside.shards.items c.index_mut.result.now c.get_or_create_gauge.new.self (search rules) (λ s. s.histograms) c.get_or_create_gauge.ensures.rest.1 ∙ histograms_are c.self.view_is)
 
 pub get_or_create_gauge-requires : goal.get_or_create_gauge-requires
-get_or_create_gauge-requires g c = may-call-there g.met.K.Eq.laws g.K.Hashable.number g.met.K.Hashable.same c.self.inside.shards.len c.shard_of-shard.result c.self.inside.shards.items c.index_mut.result.now c.index_mut.result.now (λ s. s.gauges) c.args.self.now.gauges (gauges_are c.self.view_is) c.self.invariant.2 (search rules) (search rules) (search rules) c.args.key.now (search rules) (FnOnceTakesAtMut g.F.FnOnce c.args.op) g.S.Storage.makes_gauge c.self.inside.storage c.args.self.now.storage (storage_is c.self.view_is) c.requires
+get_or_create_gauge-requires g c = may-call-there g.met.K.Eq.laws g.K.Hashable.number g.met.K.Hashable.same c.self.inside.shards.len c.shard_by_mask-shard.result c.self.inside.shards.items c.index_mut.result.now c.index_mut.result.now (λ s. s.gauges) c.args.self.now.gauges (gauges_are c.self.view_is) c.self.invariant.2 (search rules) (search rules) (search rules) c.args.key.now (search rules) (FnOnceTakesAtMut g.F.FnOnce c.args.op) g.S.Storage.makes_gauge c.self.inside.storage c.args.self.now.storage (storage_is c.self.view_is) c.requires
