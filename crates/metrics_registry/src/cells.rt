@@ -9,7 +9,7 @@ ghost use Rattle.std.specs.Fn.{FnOnceReturnsAtMut, FnOnceTakesAtMut};
 ghost use Rattle.std.specs.List.{IsDistinct};
 ghost use Rattle.std.specs.HashMap.{get};
 ghost use Rattle.metrics.specs.declared.error.Error.TheVariants.{Memory as OutOfMemory};
-ghost use Rattle.metrics_registry.specs.Held.{held, place_of, Removes, Calls, Adds, Appends, ChangesAt};
+ghost use Rattle.metrics_registry.specs.Held.{held, place_of, Removes, Calls, CallsAt, MayCall, Adds, Appends, ChangesAt};
 ghost use Rattle.metrics_registry.specs.Held.{TakesEach, CallsEach, RetainsEach, Copies, CopiesFront, AreCopied};
 
 use crate::keys::EqualClone;
@@ -164,6 +164,30 @@ impl<K: Hash + Drop, C: Drop> Cells<K, C> {
             unreachable!()
         };
         Ok(answer)
+    }
+
+    /// Calls `op` once on the cell of a key, and returns its result. It adds the given cell if the key isn't held, and drops it
+    /// otherwise.
+    ///
+    /// It clones the key, then looks it up once: for a key that may well be held, `change` costs less.
+    /// Fails only when out of memory. Then it changes nothing, and drops the cell and `op`.
+    pub fn change_or_create<V, F: FnOnce(&mut C) -> V + Drop>(
+        &mut self,
+        key: &K,
+        cell: C,
+        op: F,
+    ) -> Result<V, Error>
+    where
+        K: EqualClone,
+        requires { MayCall K.eq (λ _ c. c ≡ cell) (FnOnceTakesAtMut F.FnOnce op) key.now self.old }
+        ensures ok { IfOk result
+            (λ v. CallsAt K.eq (λ _ c. c ≡ cell) (FnOnceReturnsAtMut F.FnOnce op) key.now v self.old self.new) }
+        ensures err { IfErr result (λ e. (e ≡ OutOfMemory) × (self.new ≡ self.old)) }
+        ensures once { OnOk result (IsDistinct K.eq (keys_of self.new)) }
+    {
+        let key = key.clone()?;
+        let cell = self.map.entry(key)?.or_insert(cell);
+        Ok(op(cell))
     }
 
     /// Adds a cell at a key that isn't held, and returns its place.

@@ -14,8 +14,8 @@ ghost use Rattle.metrics.specs.declared.error.Error.TheVariants.{Memory as OutOf
 ghost use Rattle.metrics_names.specs.Names.{kind_eq};
 
 use crate::cells::Cells;
-use crate::keys::{EqualClone, Hashable};
 use crate::generation::Generation;
+use crate::keys::{EqualClone, Hashable};
 use crate::kinds::shard_by_mask;
 use crate::registry::OwnedRegistry;
 use crate::storage::Storage;

@@ -89,7 +89,8 @@ where
 
     /// Calls `op` once on the cell of a counter, and returns its result. The storage makes the cell if the key isn't held.
     ///
-    /// A call that fails changes nothing. A call for a held key never fails.
+    /// A call that fails changes nothing. A call for a held key never fails. If another thread adds the key meanwhile, `op` is
+    /// called on that cell, and the one made here is dropped.
     pub fn get_or_create_counter<W: Wait, V, F: FnOnce(&S::Counter) -> V + Drop>(
         &self,
         rt: &W,
@@ -104,13 +105,12 @@ where
         if let Some(cell) = reading(rt, shard).counters.get(key) {
             return Ok(op(cell));
         }
+        let cell = self.storage.counter(key)?;
         let create = |cell: &mut S::Counter| -> V
             requires { F.IsAlwaysCallable op }
             ensures { FnOnceReturnsAt F.FnOnce op cell.old result }
         { op(cell) };
-        shard
-            .write(rt)
-            .get_or_create_counter(&self.storage, key, create)
+        shard.write(rt).counters.change_or_create(key, cell, create)
     }
 
     /// Calls `f` once for each counter, in some order.
@@ -173,7 +173,8 @@ where
 
     /// Calls `op` once on the cell of a gauge, and returns its result. The storage makes the cell if the key isn't held.
     ///
-    /// A call that fails changes nothing. A call for a held key never fails.
+    /// A call that fails changes nothing. A call for a held key never fails. If another thread adds the key meanwhile, `op` is
+    /// called on that cell, and the one made here is dropped.
     pub fn get_or_create_gauge<W: Wait, V, F: FnOnce(&S::Gauge) -> V + Drop>(
         &self,
         rt: &W,
@@ -188,13 +189,12 @@ where
         if let Some(cell) = reading(rt, shard).gauges.get(key) {
             return Ok(op(cell));
         }
+        let cell = self.storage.gauge(key)?;
         let create = |cell: &mut S::Gauge| -> V
             requires { F.IsAlwaysCallable op }
             ensures { FnOnceReturnsAt F.FnOnce op cell.old result }
         { op(cell) };
-        shard
-            .write(rt)
-            .get_or_create_gauge(&self.storage, key, create)
+        shard.write(rt).gauges.change_or_create(key, cell, create)
     }
 
     /// Calls `f` once for each gauge, in some order.
@@ -257,7 +257,8 @@ where
 
     /// Calls `op` once on the cell of a histogram, and returns its result. The storage makes the cell if the key isn't held.
     ///
-    /// A call that fails changes nothing. A call for a held key never fails.
+    /// A call that fails changes nothing. A call for a held key never fails. If another thread adds the key meanwhile, `op` is
+    /// called on that cell, and the one made here is dropped.
     pub fn get_or_create_histogram<W: Wait, V, F: FnOnce(&S::Histogram) -> V + Drop>(
         &self,
         rt: &W,
@@ -272,13 +273,15 @@ where
         if let Some(cell) = reading(rt, shard).histograms.get(key) {
             return Ok(op(cell));
         }
+        let cell = self.storage.histogram(key)?;
         let create = |cell: &mut S::Histogram| -> V
             requires { F.IsAlwaysCallable op }
             ensures { FnOnceReturnsAt F.FnOnce op cell.old result }
         { op(cell) };
         shard
             .write(rt)
-            .get_or_create_histogram(&self.storage, key, create)
+            .histograms
+            .change_or_create(key, cell, create)
     }
 
     /// Calls `f` once for each histogram, in some order.

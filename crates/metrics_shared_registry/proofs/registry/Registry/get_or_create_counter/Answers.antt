@@ -6,4 +6,4 @@ pub returns-in-Some-clause-called : goal.returns-in-Some-clause-called
 returns-in-Some-clause-called g c = (c.in-Some.cell.now, (c.in-Some.cell, c.op.ensures, refl))
 
 pub returns-clause-called : goal.returns-clause-called
-returns-clause-called g c = if-ok c.get_or_create_counter.result _ _ _ (λ v k. (k.0.3.shown.now, k.0.3.met)) c.get_or_create_counter.ensures.counters
+returns-clause-called g c = if-ok c.change_or_create.result _ _ (λ v k. (k.3.shown.now, k.3.met)) c.change_or_create.ensures.ok
