@@ -4,7 +4,7 @@ use Rattle.metrics_bucket.specs.declared.pen.Pen.TheInside.{Inside}
 use Rattle.metrics_bucket.specs.declared.view.Hold.TheVariants.{Nothing}
 use Rattle.metrics_bucket.specs.Account.{hold_of, has_ticket, IsPushed}
 use Rattle.metrics_bucket.specs.Pens.{account_of}
-use Rattle.metrics_bucket.specs.Pushed.{HasPushed}
+use Rattle.metrics_bucket.specs.Steps.{HasPushed}
 
 pub free_hold : (t : Option (ℕ × ℕ)) → has_ticket t ≡ false → hold_of t ≡ Nothing
 free_hold None e = refl

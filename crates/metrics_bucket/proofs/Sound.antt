@@ -229,8 +229,7 @@ reads_seven =
       u5,
       refl,
       refl,
-      refl,
-      refl,
+      (refl, refl),
     )
 
 pub law : BucketLaw

@@ -5,6 +5,7 @@ use lib.ListN.{get_elem?}
 use Rattle.metrics_bucket.specs.declared.view.Push.{Push}
 use Rattle.metrics_bucket.specs.declared.view.Walk.{Walk}
 use Rattle.metrics_bucket.specs.declared.view.View.{View}
+use Rattle.metrics_bucket.specs.declared.view.Hold.{Hold}
 use Rattle.metrics_bucket.specs.declared.view.Hold.TheVariants.{SideKnown, Clearing}
 use Rattle.metrics_bucket.specs.declared.view.Visit.{Visit}
 use Rattle.metrics_bucket.specs.declared.view.Visit.TheVariants.{Marked}
@@ -38,12 +39,18 @@ abbrev pub InOnePlace : ℕ → BucketState → Type 0
 InOnePlace places w = (j n : ℕ) (v : View) (p : Push) → get_elem? w.views j ≡ some v → get_elem? v.pushed n ≡ some p
     → (p.place < places) × (p.epoch ≡ w.epoch → p.place < w.given) × (mark_of places w p.epoch p.place + total (wipes_at p.epoch p.place) w.views ≡ 1)
 
--- what a walk found at a place, finished or under way, is the value of that ticket's push; so is what is there with mark 1. A
--- walk reads a place only while its mark is 1
+-- each of these walks found at each place the value of that ticket's push
+abbrev pub WalksFind : BucketState → List Walk → Type 0
+WalksFind w walks = (n : ℕ) (walk : Walk) → get_elem? walks n ≡ some walk → WalkFinds w walk
+
+-- a walk reads a place only while its mark is 1
+abbrev pub ReadsMarked : ℕ → BucketState → Hold → Type 0
+ReadsMarked places w hold = (i : ℕ) → HasVisit hold i Marked → slice_index w.marks (place_index places (side_of hold) i) ≡ 1
+
+-- what a walk found at a place, finished or under way, is the value of that ticket's push; so is what is there with mark 1
 abbrev pub FindsPushes : ℕ → BucketState → Type 0
 FindsPushes places w = ((j : ℕ) (v : View) → get_elem? w.views j ≡ some v
-    → ((n : ℕ) (walk : Walk) → get_elem? v.taken n ≡ some walk → WalkFinds w walk) × ((n : ℕ) (walk : Walk) → get_elem? v.read n ≡ some walk → WalkFinds w walk) × HoldPlaced w v.epoch v.hold
-    × ((i : ℕ) → HasVisit v.hold i Marked → slice_index w.marks (place_index places (side_of v.hold) i) ≡ 1))
+    → WalksFind w v.taken × WalksFind w v.read × HoldPlaced w v.epoch v.hold × ReadsMarked places w v.hold)
     × ((j n : ℕ) (v : View) (p : Push) → get_elem? w.views j ≡ some v → get_elem? v.pushed n ≡ some p → IsPush w p.epoch p.place p.value)
 
 -- when a clear leaves, its list has the value of each ticket that was given in its epoch, at the ticket's place, and no other value
@@ -52,9 +59,13 @@ LeavesComplete history w = (j s : ℕ) (v : View) (visits : List Visit) → get_
     → ((leaving v).taken ≡ v.taken ++ walk v.epoch (values_in visits) ∷ []) × (length (values_in visits) ≡ tickets_given v.epoch 0 history)
     × ((i : ℕ) → i < length (values_in visits) → IsPush w v.epoch i (slice_index (values_in visits) i))
 
--- when a clear is about to take, the side that becomes live has no mark 1 and no ticket under way
+-- this place of the side that isn't live has no mark 1 and no ticket under way
+abbrev pub IsClean : ℕ → BucketState → ℕ → Type 0
+IsClean places w i = (slice_index w.marks (place_index places (other w.live) i) ≡ 0) × (total (ticket_at (other w.live) i) w.views ≡ 0)
+
+-- when a clear is about to take, the side that becomes live is clean
 abbrev pub TakesClean : ℕ → BucketState → Type 0
-TakesClean places w = (j : ℕ) (v : View) (s i : ℕ) → get_elem? w.views j ≡ some v → v.hold ≡ SideKnown s → i < places → (slice_index w.marks (place_index places (other w.live) i) ≡ 0) × (total (ticket_at (other w.live) i) w.views ≡ 0)
+TakesClean places w = (j : ℕ) (v : View) (s i : ℕ) → get_elem? w.views j ≡ some v → v.hold ≡ SideKnown s → i < places → IsClean places w i
 
 abbrev pub is_claim : Act → ℕ
 is_claim claim = 1
@@ -106,9 +117,13 @@ event by act = record { by = by; act = act }
 abbrev pub push_and_read : List Event
 push_and_read = event 0 ticket ∷ event 1 claim ∷ event 1 look_to_read ∷ event 0 (write 0 0 7) ∷ event 0 (finish 0 0 7) ∷ event 1 (see 0) ∷ event 1 (read 0) ∷ event 0 look_at_turn ∷ event 1 leave ∷ []
 
+-- a claim of the first found the turn held, and the second read 7
+abbrev pub FoundAndRead : View → View → Type 0
+FoundAndRead v u = (v.turn_seen ≡ 1) × (u.read ≡ walk 0 (7 ∷ []) ∷ [])
+
 -- a history of two threads with a reading that waits for a push
 abbrev pub ReadsSeven : Type 0
-ReadsSeven = (w : BucketState) × Runs 1 2 (start 1 2) push_and_read w × (v u : View) × (get_elem? w.views 0 ≡ some v) × (get_elem? w.views 1 ≡ some u) × (v.turn_seen ≡ 1) × (u.read ≡ walk 0 (7 ∷ []) ∷ [])
+ReadsSeven = (w : BucketState) × Runs 1 2 (start 1 2) push_and_read w × (v u : View) × (get_elem? w.views 0 ≡ some v) × (get_elem? w.views 1 ≡ some u) × FoundAndRead v u
 
 -- The law of every history from any number of threads, and of every history from one whole thread, as in a running bucket
 abbrev pub BucketLaw : Type 0

@@ -51,6 +51,10 @@ value_written st m r m' = (s i : ℕ) → m.0.hold ≡ Ticket s i → m' ≡ (ho
 abbrev pub push_finished : Step Turn → Seated → ℕ → Seated → Type 0
 push_finished st m r m' = (s i x : ℕ) → m.0.hold ≡ Written s i x → m' ≡ (pushing m.0 i x, m.1)
 
+-- this value was pushed at one epoch and place, and nothing else changed but the control word that it saw last
+abbrev pub HasPushed : Seated → ℕ → Seated → Type 0
+HasPushed m x m' = (e i : ℕ) × (i < m.0.places) × (m' ≡ (pushing (holding_at (seeing m.0 m'.0.seen) e Nothing) i x, m.1))
+
 -- the values that a thread knows to be the live side's
 abbrev pub values_known : Hold → List ℕ
 values_known (Settling s vs) = vs

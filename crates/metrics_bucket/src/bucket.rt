@@ -5,10 +5,9 @@ ghost use Rattle.std.specs.Prelude.{◌-◌, ◌/◌, vec_capacity};
 ghost use Rattle.metrics_bucket.specs.Account.{first_account, with_ticket, looked_at, IsLooked, IsPushed};
 ghost use Rattle.std.specs.Arc.{arc_value};
 ghost use Rattle.metrics_bucket.specs.BucketState.{place_index, first_view, holding_at, seeing, pushing};
-ghost use Rattle.metrics_bucket.specs.Pushed.{HasPushed};
 ghost use Rattle.metrics_bucket.specs.Blocks.{Settled};
 ghost use Rattle.metrics_bucket.specs.declared.view.Hold.TheVariants.{Nothing, Ticket, Settling};
-ghost use Rattle.metrics_bucket.specs.Steps.{count_all, HasLooked, IsControl, IsFullFor, values_known, ArePartsOf};
+ghost use Rattle.metrics_bucket.specs.Steps.{count_all, HasLooked, HasPushed, IsControl, IsFullFor, values_known, ArePartsOf};
 
 use crate::pen::{Pen, Words};
 use crate::sample::Sample;
