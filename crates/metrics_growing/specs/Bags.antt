@@ -43,9 +43,9 @@ pub record Settled {T : Type 0} (value : ℕ → T) (old new : List Part) (given
   pub parts : List Part
   pub walks : List Walk
   pub gathered : Gathered old parts
-  pub each : length walks ≡ length parts
+  pub one_a_part : length walks ≡ length parts
   pub took : Took parts walks new
-  pub given_are : given ≡ map value (all_blocks walks)
+  pub values : given ≡ map value (all_blocks walks)
   pub whole : All IsWhole new
   pub balanced : All IsBalanced new
-  pub bag : (h : ℕ → ℕ) → pushed_by h old ≡ taken_by h old + weigh h (all_blocks walks)
+  pub nothing_lost : (h : ℕ → ℕ) → pushed_by h old ≡ taken_by h old + weigh h (all_blocks walks)
