@@ -13,14 +13,15 @@ use mathlib.Core.Option.{some, some-injective}
 use lib.ListN.{get_elem?}
 use Rattle.atomic_table.proofs.Lists.{set_here, set_else}
 use Rattle.metrics_bucket.specs.declared.view.Hold.{Hold}
-use Rattle.metrics_bucket.specs.declared.view.Hold.TheVariants.{Reading}
+use Rattle.metrics_bucket.specs.declared.view.Hold.TheVariants.{Nothing, Reading}
 use Rattle.metrics_bucket.specs.declared.view.Visit.{Visit}
 use Rattle.metrics_bucket.specs.declared.view.Visit.TheVariants.{Unseen, Marked, Read}
-use Rattle.metrics_bucket.specs.BucketState.{other, place_index, walk, holding, leaving, left_from, put_visit, side_of, visits_of, value_in, values_in}
-use Rattle.metrics_bucket.specs.History.{HasVisit, CanLeave}
+use Rattle.metrics_bucket.specs.BucketState.{other, place_index, walk, holding, holds_as, with_taken, leaving, left_from, put_visit, side_of, visits_of, value_in, values_in}
+use Rattle.metrics_bucket.specs.History.{HasVisit, CanLeave, turn_at}
 use Rattle.metrics_bucket.specs.Blocks.{valued}
 use Rattle.metrics_bucket.specs.declared.view.Push.{Push}
-use Rattle.metrics_bucket.specs.WalkedPlaces.{with_walk, WalkKind, reads, clears, walking, visited, Walks}
+use Rattle.metrics_bucket.specs.WalkedPlaces.{with_walk, WalkKind, reads, clears, walking, visited, walk_of, IsWalked, Walks}
+use Rattle.metrics_bucket.specs.ClearedPlaces.{has_taken, IsSideTaken}
 use Rattle.metrics_bucket.specs.Places.{Reaches, Finds, Covers}
 use Rattle.metrics_bucket.proofs.Blocks.{chunk, chunks_from, chunks_front, drop_more, part_next}
 use Rattle.metrics_bucket.specs.Steps.{Seated}
@@ -285,6 +286,55 @@ covered pushed epoch end list reach long finds n q there = ⊎_elim
     (λ (low : q.epoch < epoch). inl low)
     (λ (r : (q.epoch ≡ epoch) × (q.place < end)). let below : q.place < length list = subst (λ (z : ℕ). q.place < z) (sym long) r.1 in inr (r.0, below, finds n q there r.0 below))
     (reach n q there)
+
+-- what leaving needs to know of a walk that is done with all its places
+pub done : (kind : WalkKind) (m m1 : Seated) (side given : ℕ) → Walks kind m m1 side 0 given → m.0.hold ≡ walking kind side (replicate given Unseen) → (m1.0.hold ≡ walking kind (side_of m1.0.hold) (visits_of m1.0.hold)) × CanLeave m1.0.hold
+done kind m m1 side given c h =
+    let is = ap (λ (z : Seated). z.0.hold) c.me in
+    let here : side_of m1.0.hold ≡ side = ap side_of is ∙ side_walking kind side (visits_of m1.0.hold) in (
+      is ∙ ap (λ (n : ℕ). walking kind n (visits_of m1.0.hold)) (sym here),
+      can_leave kind m m1 side given c h,
+    )
+
+pub done_turn : (kind : WalkKind) (m m1 : Seated) (side given : ℕ) → Walks kind m m1 side 0 given → m.1 ≡ (0, turn_at m.0.turn) ∷ [] → m1.1 ≡ (0, turn_at m1.0.turn) ∷ []
+done_turn kind m m1 side given c e = ap (λ (z : Seated). z.1) c.me ∙ (e ∙ ap (λ (z : Seated). (0, turn_at z.0.turn) ∷ []) (sym c.me))
+
+pub done_reach : (kind : WalkKind) (m m1 : Seated) (side given : ℕ) → Walks kind m m1 side 0 given → m.0.hold ≡ walking kind side (replicate given Unseen) → Reaches m.0.pushed m.0.epoch given → Reaches m1.0.pushed m1.0.epoch (length (visits_of m1.0.hold))
+done_reach kind m m1 side given c h reach =
+    let long : length (visits_of m1.0.hold) ≡ given = c.long ∙ length_walking kind m side given h in
+    subst (λ (z : Seated × ℕ). Reaches z.0.0.pushed z.0.0.epoch z.1) (λ i. (sym c.me i, sym long i)) reach
+
+-- what it left with, seen from where it began
+pub done_walk : (kind : WalkKind) (m m1 m2 : Seated) (side given : ℕ) → Walks kind m m1 side 0 given → m.0.hold ≡ walking kind side (replicate given Unseen) → IsWalked kind m1 (length (visits_of m1.0.hold)) (walk_of m1.0) m2 → IsWalked kind m given (walk_of m1.0) m2
+done_walk kind m m1 m2 side given c h r =
+    let list : Walk = walk_of m1.0 in
+    let weight : Seated → ℕ = λ (z : Seated). z.0.weight in (
+      r.0 ∙ (c.long ∙ length_walking kind m side given h),
+      r.1 ∙ (ap (λ (z : Seated). (with_walk kind z.0 list, [])) c.me ∙ (λ i. (with_walk_held kind m.0 (walking kind side (visits_of m1.0.hold)) list i, []))),
+      ap (λ (z : Seated). z.0.epoch) c.me,
+      subst (λ (z : Seated). Covers z.0.pushed list) c.me r.3,
+      (λ whole f. subst (λ (z : Seated). weigh_pushes f z.0.pushed ≡ weigh f list.values + weigh_walks f z.0.taken) c.me (r.4 (ap weight c.me ∙ whole) f)),
+    )
+
+-- a clear that took a side and walked it
+pub cleared : (m m1 m2 : Seated) (side given : ℕ) (list : Walk) → (t : IsSideTaken m side given m1) → IsWalked clears m1 given list m2
+    → (length list.values ≡ given) × (m2 ≡ (has_taken m.0 t.1 list, [])) × Covers m.0.pushed list × (m.0.weight ≡ 1024 → list.epoch ≡ length m.0.taken)
+cleared m m1 m2 side given list (e, n, is, reach, own) r =
+    let of_epoch : list.epoch ≡ e = r.2 ∙ ap (λ (z : Seated). z.0.epoch) is in (
+      r.0,
+      r.1 ∙ (ap (λ (z : Seated). (with_taken z.0 list, [])) is ∙ (λ i. (with_taken (holds_as m.0 (sym of_epoch i) n Nothing) list, []))),
+      subst (λ (z : Seated). Covers z.0.pushed list) is r.3,
+      (λ whole. of_epoch ∙ own whole),
+    )
+
+-- what a thread with the whole weight pushed is what it took
+pub cleared_weighs : (m m1 m2 : Seated) (side given : ℕ) (list : Walk) (h : ℕ → ℕ) → IsSideTaken m side given m1 → IsWalked clears m1 given list m2 → m.0.weight ≡ 1024 → weigh_pushes h m2.0.pushed ≡ weigh_walks h m2.0.taken
+cleared_weighs m m1 m2 side given list h (e, n, is, reach, own) r whole =
+    let told = r.4 (ap (λ (z : Seated). z.0.weight) is ∙ whole) h in
+    let pushed = ap (λ (z : Seated). weigh_pushes h z.0.pushed) r.1 in
+    let taken = ap (λ (z : Seated). weigh_walks h z.0.taken) r.1 in
+    let more = weigh_walks-append h m1.0.taken list in
+    omega arith
 
 -- calls seen through a part of the state
 pub folds_seen : {P Q A : Type 0} (R : P → A → P → Type 0) (part : Q → P) (p : Q) (xs : List A) (q : Q) → FoldsTo (λ p x q. R (part p) x (part q)) p xs q → FoldsTo R (part p) xs (part q)

@@ -1,5 +1,5 @@
 -- What walking over some places does.
-use Rattle.std.specs.Prelude.{◌≡◌, ℕ, ◌<◌, ◌≤◌, ◌⊎◌, List, length}
+use Rattle.std.specs.Prelude.{◌≡◌, ℕ, ◌+◌, ◌<◌, ◌≤◌, ◌⊎◌, List, [], length}
 use mathlib.Core.Option.{some}
 use lib.ListN.{get_elem?}
 use Rattle.metrics_bucket.specs.declared.view.View.{View}
@@ -8,7 +8,9 @@ use Rattle.metrics_bucket.specs.declared.view.Hold.{Hold}
 use Rattle.metrics_bucket.specs.declared.view.Hold.TheVariants.{Reading, Clearing}
 use Rattle.metrics_bucket.specs.declared.view.Visit.{Visit}
 use Rattle.metrics_bucket.specs.declared.view.Visit.TheVariants.{Unseen, Read, Wiped}
-use Rattle.metrics_bucket.specs.BucketState.{holding, with_taken, with_read, visits_of}
+use Rattle.metrics_bucket.specs.BucketState.{holding, walk, with_taken, with_read, visits_of, values_in}
+use Rattle.metrics_bucket.specs.Facts.{weigh, weigh_pushes, weigh_walks}
+use Rattle.metrics_bucket.specs.Places.{Covers}
 use Rattle.metrics_bucket.specs.Steps.{Seated}
 
 -- the two walks: one leaves each place as it found it, the other wipes it
@@ -30,6 +32,17 @@ visited clears x = Wiped x
 abbrev pub with_walk : WalkKind → View → Walk → View
 with_walk reads v list = with_read v list
 with_walk clears v list = with_taken v list
+
+-- what a walk found so far
+abbrev pub walk_of : View → Walk
+walk_of v = walk v.epoch (values_in (visits_of v.hold))
+
+-- a walk over so many places left with this list, and nothing else changed; a thread with the whole weight finds all that was
+-- pushed and not taken
+abbrev pub IsWalked : WalkKind → Seated → ℕ → Walk → Seated → Type 0
+IsWalked kind m given list m' =
+    (length list.values ≡ given) × (m' ≡ (with_walk kind m.0 list, [])) × (list.epoch ≡ m.0.epoch) × Covers m.0.pushed list
+    × (m.0.weight ≡ 1024 → (h : ℕ → ℕ) → weigh_pushes h m.0.pushed ≡ weigh h list.values + weigh_walks h m.0.taken)
 
 -- the places from start on, below end, are not seen yet
 abbrev pub AreUnseen : ℕ → ℕ → List Visit → Type 0

@@ -112,7 +112,8 @@ impl<T: Sample> AtomicBucket<T> {
         ensures count { IfOk result (λ n. n ≤ side_places self.now) }
         ensures err { IfErr result (λ e. e ≡ Error.Busy) }
     {
-        self.clear_with(rt, |_| {})
+        let (_, mut seat) = self.enter();
+        self.bucket.claim_and_wipe(rt, &mut seat)
     }
 
     /// Takes all values, shows them to `f` in chunks of 64, the newest chunk first, and returns their number.

@@ -8,7 +8,7 @@ ghost use Rattle.std.specs.Fn.{CalledAt};
 ghost use Rattle.metrics_bucket.specs.Blocks.{valued, newest_first};
 ghost use Rattle.metrics_bucket.specs.Account.{IsTaken, IsBusy};
 ghost use Rattle.metrics_bucket.specs.Steps.{WasBusy};
-ghost use Rattle.metrics_bucket.specs.ClearedPlaces.{has_taken};
+ghost use Rattle.metrics_bucket.specs.ClearedPlaces.{has_taken, IsSideTaken};
 ghost use Rattle.metrics_bucket.specs.declared.view.Hold.TheVariants.{Nothing};
 
 use crate::bucket::RuledBucket;
@@ -23,6 +23,50 @@ use metrics::Error;
 use std::sync::Wait;
 
 impl<T: Sample> RuledBucket<T> {
+    // Claims the turn, takes the live side, and returns it, and how many places were given.
+    fn claim_side(&self, seat: &mut Seat<Turn, View>) -> Result<(usize, usize), Error>
+        requires home { (seat.old.table_id ≡ self.now.table) × (seat.old.me.0.places ≡ self.now.places)
+            × (0 < seat.old.me.0.weight) }
+        requires hold { (seat.old.me.0.hold ≡ Nothing) × (seat.old.me.1 ≡ []) }
+        ensures table { seat.new.table_id ≡ seat.old.table_id }
+        ensures ok { IfOk result (λ t. (t.0 < 2) × (t.1 ≤ self.now.places) × IsSideTaken seat.old.me t.0 t.1 seat.new.me) }
+        ensures err { IfErr result (λ e. WasBusy seat.old.me seat.new.me × (e ≡ Error.Busy)
+            × (seat.old.me.0.weight ≢ 1024)) }
+    {
+        let shared = &self.table.shared;
+        if shared.compare_exchange::<ClaimTurn>(seat, 1, 0, 1) != 0 {
+            return Err(Error::Busy);
+        }
+        let live = shared.load::<LookToClear>(seat, 0) % 2;
+        let control = shared.swap::<TakeSide>(seat, 0, 1 - live);
+        Ok((live as usize, (control / 2) as usize))
+    }
+
+    // Takes all values, and shows them to nobody.
+    pub(crate) fn claim_and_wipe<R: Wait>(
+        &self,
+        rt: &R,
+        seat: &mut Seat<Turn, View>,
+    ) -> Result<usize, Error>
+        requires home { (seat.old.table_id ≡ self.now.table) × (seat.old.me.0.places ≡ self.now.places)
+            × (0 < seat.old.me.0.weight) }
+        requires hold { (seat.old.me.0.hold ≡ Nothing) × (seat.old.me.1 ≡ []) }
+        ensures table { seat.new.table_id ≡ seat.old.table_id }
+        ensures ok { IfOk result (λ n. (w : Walk) × (k : ℕ) × (length w.values ≡ n)
+            × (seat.new.me ≡ (has_taken seat.old.me.0 k w, [])) × Covers seat.old.me.0.pushed w
+            × (seat.old.me.0.weight ≡ 1024 → w.epoch ≡ length seat.old.me.0.taken)) }
+        ensures count { IfOk result (λ n. n ≤ self.now.places) }
+        ensures whole { seat.old.me.0.weight ≡ 1024
+            → OnOk result ((h : ℕ → ℕ) → weigh_pushes h seat.new.me.0.pushed ≡ weigh_walks h seat.new.me.0.taken) }
+        ensures err { IfErr result (λ e. WasBusy seat.old.me seat.new.me × (e ≡ Error.Busy)
+            × (seat.old.me.0.weight ≢ 1024)) }
+    {
+        let taken = self.claim_side(seat)?;
+        self.pass_and_leave::<R, Clearer>(rt, seat, taken.0, taken.1);
+        Ok(taken.1)
+    }
+
+    // Takes all values, and shows them to the visitor.
     pub(crate) fn claim_and_clear<R: Wait, V: Visitor<T>>(
         &self,
         rt: &R,
@@ -45,15 +89,9 @@ impl<T: Sample> RuledBucket<T> {
         ensures err { IfErr result (λ e. WasBusy seat.old.me seat.new.me × (visitor.new ≡ visitor.old) × (e ≡ Error.Busy)
             × (seat.old.me.0.weight ≢ 1024)) }
     {
-        let shared = &self.table.shared;
-        if shared.compare_exchange::<ClaimTurn>(seat, 1, 0, 1) != 0 {
-            return Err(Error::Busy);
-        }
-        let live = shared.load::<LookToClear>(seat, 0) % 2;
-        let control = shared.swap::<TakeSide>(seat, 0, 1 - live);
-        let given = (control / 2) as usize;
-        self.walk_and_leave::<R, Clearer, V>(rt, seat, live as usize, given, visitor);
-        Ok(given)
+        let taken = self.claim_side(seat)?;
+        self.walk_and_leave::<R, Clearer, V>(rt, seat, taken.0, taken.1, visitor);
+        Ok(taken.1)
     }
 
     /// Takes all values that were pushed and not taken, shows them to the visitor, and returns their number.
@@ -107,6 +145,6 @@ impl<T: Sample> RuledBucket<T> {
         ensures count { IfOk result (λ n. n ≤ self.now.places) }
         ensures err { IfErr result (λ e. IsBusy pen.old pen.new × (e ≡ Error.Busy) × (pen.old.weight ≢ 1024)) }
     {
-        self.clear_with_as(rt, pen, |_| {})
+        self.claim_and_wipe(rt, &mut pen.seat)
     }
 }

@@ -6,11 +6,10 @@ ghost use Rattle.metrics_bucket.specs.Blocks.{valued, newest_first};
 ghost use mathlib.Core.Option.{some};
 ghost use lib.ListN.{get_elem?};
 ghost use Rattle.metrics_bucket.specs.BucketState.{holding, put_visit, side_of, visits_of, values_in};
-ghost use Rattle.metrics_bucket.specs.Facts.{weigh, weigh_pushes, weigh_walks};
-ghost use Rattle.metrics_bucket.specs.Places.{Reaches, Covers};
+ghost use Rattle.metrics_bucket.specs.Places.{Reaches};
 ghost use Rattle.metrics_bucket.specs.declared.view.Walk.{Walk};
-ghost use Rattle.metrics_bucket.specs.History.{HasVisit, turn_at};
-ghost use Rattle.metrics_bucket.specs.WalkedPlaces.{with_walk, AreUnseen, Walks, walking, visited};
+ghost use Rattle.metrics_bucket.specs.History.{HasVisit, CanLeave, turn_at};
+ghost use Rattle.metrics_bucket.specs.WalkedPlaces.{AreUnseen, IsWalked, Walks, walking, visited, walk_of};
 ghost use Rattle.metrics_bucket.specs.declared.view.Visit.TheVariants.{Unseen, Marked};
 
 use crate::bucket::{BLOCK_SIZE, RuledBucket};
@@ -53,6 +52,20 @@ impl<T: Sample> RuledBucket<T> {
     {
         let turn = seat.slot_mut(&self.table.shared, 0);
         turn.walks = turn.walks.wrapping_add(1);
+    }
+
+    // Ends a walk that is done with all its places, and returns the turn.
+    fn leave<W: Walker>(&self, seat: &mut Seat<Turn, View>)
+        requires home { (seat.old.table_id ≡ self.now.table) × (0 < seat.old.me.0.weight) }
+        requires hold { (seat.old.me.0.hold ≡ walking W.kind (side_of seat.old.me.0.hold) (visits_of seat.old.me.0.hold))
+            × CanLeave seat.old.me.0.hold }
+        requires turn { seat.old.me.1 ≡ (0, turn_at seat.old.me.0.turn) ∷ [] }
+        requires reach { Reaches seat.old.me.0.pushed seat.old.me.0.epoch (length (visits_of seat.old.me.0.hold)) }
+        ensures table { seat.new.table_id ≡ seat.old.table_id }
+        ensures walked { IsWalked W.kind seat.old.me (length (visits_of seat.old.me.0.hold)) (walk_of seat.old.me.0) seat.new.me }
+    {
+        self.count_walk(seat);
+        self.table.shared.store::<LeaveTurn>(seat, 1, 0);
     }
 
     // Waits for the value of a place, then does there what this kind of walk does.
@@ -155,16 +168,35 @@ impl<T: Sample> RuledBucket<T> {
         requires reach { Reaches seat.old.me.0.pushed seat.old.me.0.epoch given }
         requires call { V.ready visitor.old }
         ensures table { seat.new.table_id ≡ seat.old.table_id }
-        ensures walked { (w : Walk) × (length w.values ≡ given) × (seat.new.me ≡ (with_walk W.kind seat.old.me.0 w, []))
-            × (w.epoch ≡ seat.old.me.0.epoch) × Covers seat.old.me.0.pushed w
-            × (seat.old.me.0.weight ≡ 1024 → (h : ℕ → ℕ)
-            → weigh_pushes h seat.old.me.0.pushed ≡ weigh h w.values + weigh_walks h seat.old.me.0.taken)
+        ensures walked { (w : Walk) × IsWalked W.kind seat.old.me given w seat.new.me
             × FoldsTo V.saw visitor.old (valued T.value (newest_first w.values)) visitor.new }
         ensures ready { V.ready visitor.new }
     {
-        let shared = &self.table.shared;
+        let _places = self.places;
         self.walk_side::<R, W, V>(rt, seat, side, given, visitor);
-        self.count_walk(seat);
-        shared.store::<LeaveTurn>(seat, 1, 0);
+        self.leave::<W>(seat);
+    }
+
+    // Walks over all places that were given, shows their values to nobody, and returns the turn.
+    pub(crate) fn pass_and_leave<R: Wait, W: Walker>(
+        &self,
+        rt: &R,
+        seat: &mut Seat<Turn, View>,
+        side: usize,
+        given: usize,
+    )
+        requires home { (seat.old.table_id ≡ self.now.table) × (seat.old.me.0.places ≡ self.now.places)
+            × (0 < seat.old.me.0.weight) }
+        requires hold { (side < 2) × (given ≤ self.now.places)
+            × (seat.old.me.0.hold ≡ walking W.kind side (replicate given Unseen)) }
+        requires turn { seat.old.me.1 ≡ (0, turn_at seat.old.me.0.turn) ∷ [] }
+        requires reach { Reaches seat.old.me.0.pushed seat.old.me.0.epoch given }
+        ensures table { seat.new.table_id ≡ seat.old.table_id }
+        ensures walked { (w : Walk) × IsWalked W.kind seat.old.me given w seat.new.me }
+    {
+        for at in 0..given {
+            self.walk_place::<R, W>(rt, seat, side, at);
+        }
+        self.leave::<W>(seat);
     }
 }

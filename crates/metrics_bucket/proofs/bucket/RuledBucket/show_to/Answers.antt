@@ -23,13 +23,13 @@ returns-clause-ok g c =
     let e = c.in_ok-control.ensures.ok in
     let r = c.walk_and_leave.ensures.walked in
     let w : Walk = r.0 in
-    let of_epoch : w.epoch ≡ e.0 = r.3 ∙ ap (λ (m : Seated). m.0.epoch) e.2 in (
+    let of_epoch : w.epoch ≡ e.0 = r.1.2 ∙ ap (λ (m : Seated). m.0.epoch) e.2 in (
       w,
       e.1,
-      r.1,
-      r.2 ∙ (let read : Seated → Seated = λ (z : Seated). (with_read z.0 w, []) in ap read e.2 ∙ (λ i. (with_read (holds_as c.args.seat.now.me.0 (sym of_epoch i) e.1 Nothing) w, []))),
-      subst (λ (z : List Push). Covers z w) (ap (λ (m : Seated). m.0.pushed) e.2) r.4,
+      r.1.0,
+      r.1.1 ∙ (let read : Seated → Seated = λ (z : Seated). (with_read z.0 w, []) in ap read e.2 ∙ (λ i. (with_read (holds_as c.args.seat.now.me.0 (sym of_epoch i) e.1 Nothing) w, []))),
+      subst (λ (z : List Push). Covers z w) (ap (λ (m : Seated). m.0.pushed) e.2) r.1.3,
       (λ whole. of_epoch ∙ e.5 whole),
-      subst (λ (z : Seated). z.0.weight ≡ 1024 → (h : ℕ → ℕ) → weigh_pushes h z.0.pushed ≡ weigh h w.values + weigh_walks h z.0.taken) e.2 r.5,
-      r.6,
+      subst (λ (z : Seated). z.0.weight ≡ 1024 → (h : ℕ → ℕ) → weigh_pushes h z.0.pushed ≡ weigh h w.values + weigh_walks h z.0.taken) e.2 r.1.4,
+      r.2,
     )
