@@ -1,10 +1,7 @@
-//! What a walk does at a place whose value it read.
-ghost use Rattle.std.specs.Prelude.{◌≡◌, ℕ, ◌<◌};
-ghost use mathlib.Core.Option.{some};
-ghost use lib.ListN.{get_elem?};
-ghost use Rattle.metrics_bucket.specs.BucketState.{holding, put_visit, visits_of};
-ghost use Rattle.metrics_bucket.specs.WalkedPlaces.{WalkKind, walking, visited};
-ghost use Rattle.metrics_bucket.specs.declared.view.Visit.TheVariants.{Read};
+//! What a walk does at places whose values it read.
+ghost use Rattle.std.specs.Prelude.{◌≡◌, ◌*◌, ◌<◌, ◌≤◌};
+ghost use Rattle.metrics_bucket.specs.BucketState.{visits_of};
+ghost use Rattle.metrics_bucket.specs.WalkedPlaces.{WalkKind, walking, AreRead, Leaves};
 
 use crate::bucket::RuledBucket;
 use crate::sample::Sample;
@@ -16,24 +13,24 @@ use atomic_table::Seat;
 pub(crate) trait Walker {
     ghost kind: { WalkKind };
 
-    // Called at each place, once its value was read.
-    fn leave_place<T: Sample>(
+    // Called for places whose values were read.
+    fn leave_places<T: Sample>(
         bucket: &RuledBucket<T>,
         seat: &mut Seat<Turn, View>,
         side: usize,
-        at: usize,
+        start: usize,
+        end: usize,
     )
         requires home { (seat.old.table_id ≡ bucket.now.table) × (seat.old.me.0.places ≡ bucket.now.places)
             × (0 < seat.old.me.0.weight) }
-        requires hold { (side < 2) × (at < bucket.now.places)
+        requires hold { (side < 2) × (start ≤ end) × (end ≤ bucket.now.places)
             × (seat.old.me.0.hold ≡ walking kind side (visits_of seat.old.me.0.hold)) }
-        requires visit { (x : ℕ) × (get_elem? (visits_of seat.old.me.0.hold) at ≡ some (Read x)) }
+        requires visits { AreRead start end (visits_of seat.old.me.0.hold) }
         ensures table { seat.new.table_id ≡ seat.old.table_id }
-        ensures visit { (x : ℕ) → get_elem? (visits_of seat.old.me.0.hold) at ≡ some (Read x)
-            → seat.new.me ≡ (holding seat.old.me.0 (put_visit seat.old.me.0.hold at (visited kind x)), seat.old.me.1) };
+        ensures left { Leaves kind seat.old.me seat.new.me side start end };
 }
 
-// It leaves the place as it was.
+// It leaves the places as they were.
 pub(crate) struct Reader;
 
 impl Walker for Reader {
@@ -41,15 +38,16 @@ impl Walker for Reader {
 
     ghost kind = { reads };
 
-    fn leave_place<T: Sample>(
+    fn leave_places<T: Sample>(
         _bucket: &RuledBucket<T>,
         _seat: &mut Seat<Turn, View>,
         _side: usize,
-        _at: usize,
+        _start: usize,
+        _end: usize,
     ) {}
 }
 
-// It wipes the place's mark.
+// It wipes the places' marks.
 pub(crate) struct Clearer;
 
 impl Walker for Clearer {
@@ -57,13 +55,17 @@ impl Walker for Clearer {
 
     ghost kind = { clears };
 
-    fn leave_place<T: Sample>(
+    fn leave_places<T: Sample>(
         bucket: &RuledBucket<T>,
         seat: &mut Seat<Turn, View>,
         side: usize,
-        at: usize,
+        start: usize,
+        end: usize,
     ) {
-        let mark = 2 + 2 * bucket.places + bucket.place_index(side, at);
-        bucket.table.shared.store::<WipeMark>(seat, mark, 0);
+        let shared = &bucket.table.shared;
+        let first = 2 + 2 * bucket.places + bucket.place_index(side, 0);
+        for at in start..end {
+            shared.store::<WipeMark>(seat, first + at, 0);
+        }
     }
 }

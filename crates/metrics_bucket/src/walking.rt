@@ -5,12 +5,12 @@ ghost use Rattle.std.specs.List.{FoldsTo};
 ghost use Rattle.metrics_bucket.specs.Blocks.{valued, newest_first};
 ghost use mathlib.Core.Option.{some};
 ghost use lib.ListN.{get_elem?};
-ghost use Rattle.metrics_bucket.specs.BucketState.{holding, put_visit, side_of, visits_of, values_in};
+ghost use Rattle.metrics_bucket.specs.BucketState.{holding, place_index, put_visit, side_of, visits_of, values_in};
 ghost use Rattle.metrics_bucket.specs.Places.{Reaches};
 ghost use Rattle.metrics_bucket.specs.declared.view.Walk.{Walk};
 ghost use Rattle.metrics_bucket.specs.History.{HasVisit, CanLeave, turn_at};
-ghost use Rattle.metrics_bucket.specs.WalkedPlaces.{AreUnseen, IsWalked, Walks, walking, visited, walk_of};
-ghost use Rattle.metrics_bucket.specs.declared.view.Visit.TheVariants.{Unseen, Marked};
+ghost use Rattle.metrics_bucket.specs.WalkedPlaces.{AreUnseen, IsWalked, Walks, walking, walk_of};
+ghost use Rattle.metrics_bucket.specs.declared.view.Visit.TheVariants.{Unseen, Marked, Read};
 
 use crate::bucket::{BLOCK_SIZE, RuledBucket};
 use crate::sample::Sample;
@@ -23,20 +23,29 @@ use crossbeam_utils::Backoff;
 use std::sync::Wait;
 
 impl<T: Sample> RuledBucket<T> {
-    // Waits until the place's mark is 1.
-    fn wait_for<R: Wait>(&self, rt: &R, seat: &mut Seat<Turn, View>, side: usize, at: usize)
+    // Waits until the place's mark is 1, and returns the place's index.
+    fn wait_for<R: Wait>(
+        &self,
+        rt: &R,
+        seat: &mut Seat<Turn, View>,
+        side: usize,
+        at: usize,
+    ) -> usize
         requires home { (seat.old.table_id ≡ self.now.table) × (seat.old.me.0.places ≡ self.now.places)
             × (0 < seat.old.me.0.weight) }
         requires visit { (side < 2) × (at < self.now.places) × (side_of seat.old.me.0.hold ≡ side)
             × HasVisit seat.old.me.0.hold at Unseen }
-        ensures { (seat.new.table_id ≡ seat.old.table_id)
+        ensures index { (result ≡ place_index self.now.places side at) × (result < self.now.places + self.now.places) }
+        ensures seat { (seat.new.table_id ≡ seat.old.table_id)
             × (seat.new.me ≡ (holding seat.old.me.0 (put_visit seat.old.me.0.hold at Marked), seat.old.me.1)) }
     {
-        let word = 2 + 2 * self.places + self.place_index(side, at);
+        let shared = &self.table.shared;
+        let place_index = self.place_index(side, at);
+        let mark = 2 + 2 * self.places + place_index;
         let pause = Backoff::new();
         for _ in rt.forever() {
-            if self.table.shared.load::<LookAtMark>(seat, word) == 1 {
-                return;
+            if shared.load::<LookAtMark>(seat, mark) == 1 {
+                return place_index;
             }
             pause.snooze();
         }
@@ -68,8 +77,8 @@ impl<T: Sample> RuledBucket<T> {
         self.table.shared.store::<LeaveTurn>(seat, 1, 0);
     }
 
-    // Waits for the value of a place, then does there what this kind of walk does.
-    fn walk_place<R: Wait, W: Walker>(
+    // Waits for the value of a place, and reads it.
+    fn read_place<R: Wait, W: Walker>(
         &self,
         rt: &R,
         seat: &mut Seat<Turn, View>,
@@ -84,14 +93,12 @@ impl<T: Sample> RuledBucket<T> {
         ensures { (x : ℕ) × (result ≡ T.value x) × (seat.new.table_id ≡ seat.old.table_id)
             × (seat.new.me ≡ (
               holding seat.old.me.0
-                  (walking W.kind side (slice_set (visits_of seat.old.me.0.hold) at (visited W.kind x))),
+                  (walking W.kind side (slice_set (visits_of seat.old.me.0.hold) at (Read x))),
               seat.old.me.1,
             )) }
     {
-        self.wait_for(rt, seat, side, at);
-        let place_index = self.place_index(side, at);
+        let place_index = self.wait_for(rt, seat, side, at);
         let bits = self.table.shared.load::<ReadValue>(seat, 2 + place_index);
-        W::leave_place(self, seat, side, at);
         T::of_word(bits)
     }
 
@@ -116,8 +123,9 @@ impl<T: Sample> RuledBucket<T> {
             ≡ map T.value (take (end - start) (drop start (values_in (visits_of seat.new.me.0.hold)))) }
     {
         for at in start..end {
-            room[at - start] = self.walk_place::<R, W>(rt, seat, side, at);
+            room[at - start] = self.read_place::<R, W>(rt, seat, side, at);
         }
+        W::leave_places(self, seat, side, start, end);
     }
 
     // Walks over all places that were given, and shows each chunk to the visitor.
@@ -195,8 +203,9 @@ impl<T: Sample> RuledBucket<T> {
         ensures walked { (w : Walk) × IsWalked W.kind seat.old.me given w seat.new.me }
     {
         for at in 0..given {
-            self.walk_place::<R, W>(rt, seat, side, at);
+            self.read_place::<R, W>(rt, seat, side, at);
         }
+        W::leave_places(self, seat, side, 0, given);
         self.leave::<W>(seat);
     }
 }
