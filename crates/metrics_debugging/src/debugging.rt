@@ -95,7 +95,8 @@ impl Recorder for DebuggingRecorder {
     {
         let Some(series) = self.series.find(kind, key) else {
             let mut found = Vec::with_capacity(alloc, 1)?;
-            let series = self.series.add(alloc, kind, key)?;
+            let description = self.descriptions.place(kind, key.name());
+            let series = self.series.add(alloc, kind, key, description)?;
             found.push_reserved(Address { book: 0, series });
             return Ok(found);
         };

@@ -1,5 +1,6 @@
 //! The descriptions of names.
 ghost use Rattle.std.specs.Prelude.{◌≡◌, ◌&&◌, if◌then◌else◌, bytes_eq, OnOk, OnErr, IfOk, IfErr};
+ghost use Rattle.std.specs.Option.{option_copied};
 ghost use Rattle.metrics_names.specs.declared.refused.Refused.TheVariants.{Memory};
 ghost use Rattle.indexmap.specs.IndexMap.{get_by_text};
 ghost use Rattle.metrics_names.specs.Names.{kind_eq};
@@ -37,15 +38,42 @@ impl Descriptions {
         }
     }
 
-    /// Returns the unit and the text of a name, which it shares.
+    /// Returns where the description of a name is, or where the next new one comes.
+    pub fn place(&self, kind: MetricKind, name: &str) -> u32 {
+        let names = self.names.of(kind);
+        if names.is_empty() {
+            return 0;
+        }
+        let place = names.get_index_of(name).unwrap_or(names.len());
+        u32::try_from(place).unwrap_or(u32::MAX)
+    }
+
+    /// Returns the description of a name. It hashes the name only if the description isn't at the place.
+    fn find(&self, kind: MetricKind, name: &str, place: u32) -> Option<&Described>
+        ensures { description_of (option_copied result) ≡ described_by self.now kind name.now }
+    {
+        let names = self.names.of(kind);
+        if names.is_empty() {
+            return None;
+        }
+        if let Some((there, described)) = names.get_index(place as usize) {
+            if there.as_str() == name {
+                return Some(described);
+            }
+        }
+        names.get(name)
+    }
+
+    /// Returns the unit and the text of a name, which it shares. The name is tried first at the place.
     pub fn get(
         &self,
         kind: MetricKind,
         name: &str,
+        place: u32,
     ) -> Result<(Option<Unit>, Option<SharedText>), AllocError>
         ensures { IfOk result (λ d. record { unit = d.0; text = d.1 } ≡ described_by self.now kind name.now) }
     {
-        match self.names.of(kind).get(name) {
+        match self.find(kind, name, place) {
             Some(described) => Ok((described.unit, Some(described.text.clone()?))),
             None => Ok((None, None)),
         }

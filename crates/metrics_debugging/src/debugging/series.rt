@@ -15,12 +15,13 @@ use metrics::{CompositeKey, Key, MetricKind, PerKind, Refused, Reset, Row, Updat
 use metrics_registry::Cells;
 use std::alloc::Global;
 
-/// A series: its cell, which is of its kind, the place of its key among those of the kind, and whether it was registered or
-/// updated since the last snapshot.
+/// A series: its cell, which is of its kind, the place of its key among those of the kind, where to look first for the
+/// description of its name, and whether it was registered or updated since the last snapshot.
 #[derive(Drop)]
 pub(crate) struct Stored {
     cell: Cell,
     place: usize,
+    description: u32,
     active: bool,
 }
 
@@ -85,8 +86,14 @@ impl SeriesList {
         self.numbers.of(kind).get(key).copied()
     }
 
-    /// Adds a series of a key that has none, and returns its number.
-    pub fn add(&mut self, alloc: Global, kind: MetricKind, key: &Key) -> Result<usize, Refused>
+    /// Adds a series of a key that has none, with where to look first for its description. Returns its number.
+    pub fn add(
+        &mut self,
+        alloc: Global,
+        kind: MetricKind,
+        key: &Key,
+        description: u32,
+    ) -> Result<usize, Refused>
         requires { position (is_of (series_key kind key.now)) (series_of self.old) ≡ None }
         ensures number { IfOk result (λ s. s ≡ length (series_of self.old)) }
         ensures ok { OnOk result (series_of self.new ≡ series_of self.old ++ new_series (series_key kind key.now) ∷ []) }
@@ -104,6 +111,7 @@ impl SeriesList {
                 self.series.push_reserved(Stored {
                     cell,
                     place,
+                    description,
                     active: true,
                 });
                 Ok(number)
@@ -155,7 +163,7 @@ impl SeriesList {
             unreachable!()
         };
         let value = stored.cell.value()?;
-        let (unit, text) = descriptions.get(kind, key.name())?;
+        let (unit, text) = descriptions.get(kind, key.name(), stored.description)?;
         let key = CompositeKey::new(kind, key.clone()?);
         Ok((key, unit, text, value))
     }

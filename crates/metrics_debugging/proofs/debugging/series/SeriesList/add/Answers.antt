@@ -27,7 +27,7 @@ invariant_of-self-in-Ok c =
     let kind = c.args.kind in
     let key = c.args.key.now in
     let number = c.len-number.result in
-    let x : Stored = record { cell = c.new-cell.result; place = c.in-Ok.place; active = true } in
+    let x : Stored = record { cell = c.new-cell.result; place = c.in-Ok.place; description = c.args.description; active = true } in
     let count : number ≡ length self.series.items = omega (arith, c.len-number.ensures, self.series.ok.0) in
     let is = c.of_mut-numbers.ensures.value in
     let place : c.in-Ok.place ≡ length (of_kind kind self.numbers) = (c.in-Ok.ensures {u = tt}).place ∙ ap length is in
@@ -43,7 +43,7 @@ returns-in-Ok-clause-ok c =
     let kind = c.args.kind in
     let key = c.args.key.now in
     let number = c.len-number.result in
-    let x : Stored = record { cell = c.new-cell.result; place = c.in-Ok.place; active = true } in
+    let x : Stored = record { cell = c.new-cell.result; place = c.in-Ok.place; description = c.args.description; active = true } in
     let count : number ≡ length self.series.items = omega (arith, c.len-number.ensures, self.series.ok.0) in
     let is = c.of_mut-numbers.ensures.value in
     let place : c.in-Ok.place ≡ length (of_kind kind self.numbers) = (c.in-Ok.ensures {u = tt}).place ∙ ap length is in
@@ -56,6 +56,6 @@ returns-in-Ok-clause-ok c =
 pub returns-in-Ok-clause-active : goal.returns-in-Ok-clause-active
 returns-in-Ok-clause-active c =
     let items = c.args.self.now.series.items in
-    let x : Stored = record { cell = c.new-cell.result; place = c.in-Ok.place; active = true } in
+    let x : Stored = record { cell = c.new-cell.result; place = c.in-Ok.place; description = c.args.description; active = true } in
     let stored = c.push_reserved.ensures.items ∙ ap (λ xs. xs ++ x ∷ []) ((c.in_ok-reserve.ensures {u = tt}).items) in
     ap (map is_active) stored ∙ map-append is_active items (x ∷ [])

@@ -11,7 +11,7 @@ pub invariant_of-self : goal.invariant_of-self
 invariant_of-self c =
     let self = c.args.self.now in
     let x = c.index_mut.result.now in
-    let y : Stored = record { cell = x.cell; place = x.place; active = true } in
+    let y : Stored = record x { active = true } in
     let small : c.args.series < length self.series.items = omega (arith, c.if-series-len.true, c.len.ensures, self.series.ok.0) in
     let at : slice_get self.series.items c.args.series ≡ Some x = slice_get_read self.series.items (length self.series.items) c.args.series x refl small c.index_mut.ensures.value in
     record { agree = agree-changed self.numbers self.series.items c.args.series x y at refl self.agree }
@@ -20,7 +20,7 @@ pub returns-then-series-len-clause-series : goal.returns-then-series-len-clause-
 returns-then-series-len-clause-series c =
     let self = c.args.self.now in
     let x = c.index_mut.result.now in
-    let y : Stored = record { cell = x.cell; place = x.place; active = true } in
+    let y : Stored = record x { active = true } in
     let small : c.args.series < length self.series.items = omega (arith, c.if-series-len.true, c.len.ensures, self.series.ok.0) in
     let at : slice_get self.series.items c.args.series ≡ Some x = slice_get_read self.series.items (length self.series.items) c.args.series x refl small c.index_mut.ensures.value in
     kept-all self.numbers self.series.items c.args.series x y at refl refl
@@ -29,7 +29,7 @@ pub returns-then-series-len-clause-active : goal.returns-then-series-len-clause-
 returns-then-series-len-clause-active c =
     let self = c.args.self.now in
     let x = c.index_mut.result.now in
-    let y : Stored = record { cell = x.cell; place = x.place; active = true } in
+    let y : Stored = record x { active = true } in
     let small : c.args.series < length self.series.items = omega (arith, c.if-series-len.true, c.len.ensures, self.series.ok.0) in
     let at : slice_get self.series.items c.args.series ≡ Some x = slice_get_read self.series.items (length self.series.items) c.args.series x refl small c.index_mut.ensures.value in
     activity-changed self.series.items c.args.series x y at (λ _. true) refl
