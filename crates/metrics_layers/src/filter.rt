@@ -112,16 +112,16 @@ impl FilterLayer {
         if !are_within_limit(self.patterns.as_slice()) {
             return Err(Error::PatternsTooLong);
         }
-        Ok(self.built(alloc)?)
+        Ok(self.make_automaton(alloc)?)
     }
 
-    /// The automaton of patterns that are within the limit.
-    fn built(&self, alloc: Global) -> Result<SubstringSet, AllocError>
+    /// Makes the automaton of patterns that are within the limit.
+    fn make_automaton(&self, alloc: Global) -> Result<SubstringSet, AllocError>
         ensures { IfOk result (λ s. s ≡ self.now) }
     {
         let texts = borrowed(alloc, self.patterns.as_slice())?;
         match SubstringSet::new(alloc, texts.as_slice(), self.case_insensitive, self.use_dfa) {
-            Ok(set) => Ok(set),
+            Ok(automaton) => Ok(automaton),
             Err(_) => Err(AllocError),
         }
     }
@@ -142,11 +142,11 @@ fn are_within_limit(patterns: &[Text]) -> bool
     true
 }
 
-/// Returns whether some of the patterns occurs in the name.
-pub fn is_refused(patterns: &SubstringSet, name: &str) -> bool
-    ensures { result ≡ matches patterns.now.fold_case patterns.now.listed name.now }
+/// Returns whether some pattern of the automaton occurs in the name.
+pub fn is_refused(automaton: &SubstringSet, name: &str) -> bool
+    ensures { result ≡ matches automaton.now.fold_case automaton.now.listed name.now }
 {
-    patterns.is_match(name.as_bytes())
+    automaton.is_match(name.as_bytes())
 }
 
 fn copied(alloc: Global, patterns: &[&str]) -> Result<Vec<Text>, AllocError>
@@ -179,7 +179,7 @@ impl<R: Recorder> Layer<R> for FilterLayer {
 
     fn layer(&self, alloc: Global, inner: R) -> Result<Filter<R>, (Error, R)> {
         match self.automaton(alloc) {
-            Ok(patterns) => Ok(Filter { patterns, inner }),
+            Ok(automaton) => Ok(Filter { automaton, inner }),
             Err(error) => Err((error, inner)),
         }
     }
@@ -188,12 +188,12 @@ impl<R: Recorder> Layer<R> for FilterLayer {
 /// A filter over a recorder: a rejected name reaches no book.
 #[derive(Drop)]
 pub struct Filter<R> {
-    patterns: SubstringSet,
+    automaton: SubstringSet,
     inner: R,
 }
 
 impl<R: Recorder> Recorder for Filter<R> {
-    ghost meaning = { λ f. filtered f.patterns.fold_case f.patterns.listed (R.meaning f.inner) };
+    ghost meaning = { λ f. filtered f.automaton.fold_case f.automaton.listed (R.meaning f.inner) };
 
     fn books(&self) -> usize {
         self.inner.books()
@@ -207,7 +207,7 @@ impl<R: Recorder> Recorder for Filter<R> {
         unit: Option<Unit>,
         text: &str,
     ) -> Result<usize, Refused> {
-        if is_refused(&self.patterns, name.as_str()) {
+        if is_refused(&self.automaton, name.as_str()) {
             return Ok(0);
         }
         self.inner.describe(alloc, kind, name, unit, text)
@@ -219,7 +219,7 @@ impl<R: Recorder> Recorder for Filter<R> {
         kind: MetricKind,
         key: &Key,
     ) -> Result<Vec<Address>, Refused> {
-        if is_refused(&self.patterns, key.name()) {
+        if is_refused(&self.automaton, key.name()) {
             return Ok(Vec::new(alloc));
         }
         self.inner.register(alloc, kind, key)

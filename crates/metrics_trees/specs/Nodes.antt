@@ -14,7 +14,7 @@ abbrev mutual
   node_meaning m (Leaf b) = m b
   node_meaning m Noop = nothing
   node_meaning m (Prefixed' front there p c) = prefixed front (node_meaning m c)
-  node_meaning m (Filtered' patterns p c) = filtered patterns.fold_case patterns.listed (node_meaning m c)
+  node_meaning m (Filtered' automaton p c) = filtered automaton.fold_case automaton.listed (node_meaning m c)
   node_meaning m (Group' shape all ends reach) = group_meaning reach (row_meanings m all)
 
   pub row_meanings : {B : Type 0} {k : _} → (B → Meaning) → Row_of-Node B k → List Meaning
@@ -39,7 +39,7 @@ abbrev mutual
   IsSound m (Leaf b) = Unit {0}
   IsSound m Noop = Unit {0}
   IsSound m (Prefixed' front there p c) = IsSound m c
-  IsSound m (Filtered' patterns p c) = IsSound m c
+  IsSound m (Filtered' automaton p c) = IsSound m c
   IsSound m (Group' shape all ends reach) =
       AreEnds ends.items (row_meanings m all) × IsWithin reach (length (row_meanings m all)) × IsRowSound m all
 
@@ -62,7 +62,7 @@ mutual
   IsSound-prop m (Leaf b) = Unit-prop
   IsSound-prop m Noop = Unit-prop
   IsSound-prop m (Prefixed' front there p c) = IsSound-prop m c
-  IsSound-prop m (Filtered' patterns p c) = IsSound-prop m c
+  IsSound-prop m (Filtered' automaton p c) = IsSound-prop m c
   IsSound-prop m (Group' shape all ends reach) =
       λ x y i. (Coded-set (coded_list coded_ℕ) ends.items (ends_from 0 (map books_of (row_meanings m all))) x.0 y.0 i, IsWithin-prop reach (length (row_meanings m all)) x.1 y.1 i, IsRowSound-prop m all x.2 y.2 i)
 

@@ -112,13 +112,13 @@ impl<B: Recorder> Child<B> {
             (⟦<Child<B> as Recorder>⟧.meaning self)))
             (λ e. (e.0 ≡ unwrap_or (fault_of layer.now) Memory) × (e.1 ≡ self)) }
     {
-        let patterns = match layer.automaton(alloc) {
-            Ok(patterns) => patterns,
+        let automaton = match layer.automaton(alloc) {
+            Ok(automaton) => automaton,
             Err(error) => return Err((error, self)),
         };
         let inner = self.boxed(alloc)?;
         Ok(Child {
-            node: Node::Filtered(patterns, inner),
+            node: Node::Filtered(automaton, inner),
         })
     }
 

@@ -61,8 +61,8 @@ impl<B: Recorder> Node<B> {
                 let full = dotted_name(alloc, prefix.as_str(), name.as_str())?;
                 inner.describe(alloc, kind, &full, unit, text)
             }
-            Node::Filtered(patterns, inner) => {
-                if is_refused(patterns, name.as_str()) {
+            Node::Filtered(automaton, inner) => {
+                if is_refused(automaton, name.as_str()) {
                     Ok(0)
                 } else {
                     inner.describe(alloc, kind, name, unit, text)
@@ -102,8 +102,8 @@ impl<B: Recorder> Node<B> {
                 there.set_below(prefix.as_str(), key)?;
                 inner.register(alloc, kind, there)
             }
-            Node::Filtered(patterns, inner) => {
-                if is_refused(patterns, key.name()) {
+            Node::Filtered(automaton, inner) => {
+                if is_refused(automaton, key.name()) {
                     Ok(Vec::new(alloc))
                 } else {
                     inner.register(alloc, kind, key)

@@ -105,8 +105,8 @@ fn insert_if(wanted: bool, trie: &mut PrefixTrie, pattern: &[u8], target: usize)
 
 /// The target of the longest pattern that the name begins with.
 #[tactic(auto, using(crate::proofs::RoutingLemmas::longest_answers))]
-fn target_within(patterns: &PrefixTrie, name: &str) -> Option<usize>
-    ensures { result ≡ longest_within patterns.now.pairs name.now (length name.now) }
+fn target_within(trie: &PrefixTrie, name: &str) -> Option<usize>
+    ensures { result ≡ longest_within trie.now.pairs name.now (length name.now) }
 {
-    patterns.longest(name.as_bytes())
+    trie.longest(name.as_bytes())
 }
