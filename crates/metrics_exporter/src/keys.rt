@@ -10,6 +10,7 @@ ghost use Rattle.metrics_exporter.specs.Exporting.{count, level, samples, HaveFi
 ghost use Rattle.metrics_exporter.specs.Kept.{cells_of};
 
 use crate::cells::CountedCells;
+use crate::kind_cells::KindCell;
 use metrics::{CompositeKey, Error, Key, MetricKind};
 use metrics_registry::{Cells, Counted, Generation, OwnedRegistry};
 use metrics_storage::Histogram;
@@ -46,49 +47,18 @@ pub(crate) struct SeriesRef<'a> {
     pub cell: CellRef<'a>,
 }
 
-/// Adds counters at the end.
-fn gather_counters<'a>(
-    cells: &'a Cells<Key, Counted<u64>>,
+/// Adds the series of one kind at the end.
+fn gather<'a, C: KindCell>(
+    cells: &'a Cells<Key, Counted<C>>,
     series: Vec<SeriesRef<'a>>,
 ) -> Result<Vec<SeriesRef<'a>>, AllocError>
-    ensures { IfOk result (λ all. all_seen all.items ≡ all_seen series.entry.items ++ seen_in CounterKind count cells.now) }
+    ensures { IfOk result
+        (λ all. all_seen all.items ≡ all_seen series.entry.items ++ seen_in C.kind_held C.shows cells.now) }
 {
-    let kind = MetricKind::Counter;
+    let kind = C::kind();
     let mut series = series;
     for (key, cell) in cells.iter() {
-        let cell = CellRef::Counter(cell);
-        series.push(SeriesRef { kind, key, cell })?;
-    }
-    Ok(series)
-}
-
-/// Adds gauges at the end.
-fn gather_gauges<'a>(
-    cells: &'a Cells<Key, Counted<i64>>,
-    series: Vec<SeriesRef<'a>>,
-) -> Result<Vec<SeriesRef<'a>>, AllocError>
-    ensures { IfOk result (λ all. all_seen all.items ≡ all_seen series.entry.items ++ seen_in GaugeKind level cells.now) }
-{
-    let kind = MetricKind::Gauge;
-    let mut series = series;
-    for (key, cell) in cells.iter() {
-        let cell = CellRef::Gauge(cell);
-        series.push(SeriesRef { kind, key, cell })?;
-    }
-    Ok(series)
-}
-
-/// Adds histograms at the end.
-fn gather_histograms<'a>(
-    cells: &'a Cells<Key, Counted<Histogram>>,
-    series: Vec<SeriesRef<'a>>,
-) -> Result<Vec<SeriesRef<'a>>, AllocError>
-    ensures { IfOk result (λ all. all_seen all.items ≡ all_seen series.entry.items ++ seen_in HistogramKind samples cells.now) }
-{
-    let kind = MetricKind::Histogram;
-    let mut series = series;
-    for (key, cell) in cells.iter() {
-        let cell = CellRef::Histogram(cell);
+        let cell = C::cell_ref(cell);
         series.push(SeriesRef { kind, key, cell })?;
     }
     Ok(series)
@@ -104,9 +74,9 @@ pub(crate) fn gathered_series<'a>(
 {
     let mut series = Vec::new(alloc);
     for shard in registry.shards() {
-        series = gather_counters(&shard.counters, series)?;
-        series = gather_gauges(&shard.gauges, series)?;
-        series = gather_histograms(&shard.histograms, series)?;
+        series = gather(&shard.counters, series)?;
+        series = gather(&shard.gauges, series)?;
+        series = gather(&shard.histograms, series)?;
     }
     Ok(series)
 }

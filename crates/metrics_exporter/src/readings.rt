@@ -9,6 +9,7 @@ ghost use Rattle.metrics_exporter.specs.Kept.{cells_of};
 
 use crate::cells::CountedCells;
 use crate::keys::held_number;
+use crate::kind_cells::KindCell;
 use metrics::{Error, Key, MetricKind};
 use metrics_registry::{Cells, Counted, OwnedRegistry};
 use metrics_storage::Histogram;
@@ -42,47 +43,17 @@ pub struct SeriesReading<'a> {
     pub reading: ReadingRef<'a>,
 }
 
-/// Adds counters at the end.
-fn gather_counts<'a>(
-    cells: &'a Cells<Key, Counted<u64>>,
-    told: Vec<SeriesReading<'a>>,
-) -> Result<Vec<SeriesReading<'a>>, AllocError>
-    ensures { IfOk result (λ all. all_told all.items ≡ all_told told.entry.items ++ told_in CounterKind count cells.now) }
-{
-    let mut told = told;
-    for (key, cell) in cells.iter() {
-        let reading = ReadingRef::Count(*cell.get_inner());
-        told.push(SeriesReading { key, reading })?;
-    }
-    Ok(told)
-}
-
-/// Adds gauges at the end.
-fn gather_levels<'a>(
-    cells: &'a Cells<Key, Counted<i64>>,
-    told: Vec<SeriesReading<'a>>,
-) -> Result<Vec<SeriesReading<'a>>, AllocError>
-    ensures { IfOk result (λ all. all_told all.items ≡ all_told told.entry.items ++ told_in GaugeKind level cells.now) }
-{
-    let mut told = told;
-    for (key, cell) in cells.iter() {
-        let reading = ReadingRef::Level(*cell.get_inner());
-        told.push(SeriesReading { key, reading })?;
-    }
-    Ok(told)
-}
-
-/// Adds histograms at the end.
-fn gather_samples<'a>(
-    cells: &'a Cells<Key, Counted<Histogram>>,
+/// Adds the series of one kind at the end.
+fn gather<'a, C: KindCell>(
+    cells: &'a Cells<Key, Counted<C>>,
     told: Vec<SeriesReading<'a>>,
 ) -> Result<Vec<SeriesReading<'a>>, AllocError>
     ensures { IfOk result
-        (λ all. all_told all.items ≡ all_told told.entry.items ++ told_in HistogramKind samples cells.now) }
+        (λ all. all_told all.items ≡ all_told told.entry.items ++ told_in C.kind_held C.shows cells.now) }
 {
     let mut told = told;
     for (key, cell) in cells.iter() {
-        let reading = ReadingRef::Samples(cell.get_inner());
+        let reading = cell.get_inner().reading();
         told.push(SeriesReading { key, reading })?;
     }
     Ok(told)
@@ -98,9 +69,9 @@ fn gathered<'a>(
 {
     let mut told = Vec::new(alloc);
     for shard in registry.shards() {
-        told = gather_counts(&shard.counters, told)?;
-        told = gather_levels(&shard.gauges, told)?;
-        told = gather_samples(&shard.histograms, told)?;
+        told = gather(&shard.counters, told)?;
+        told = gather(&shard.gauges, told)?;
+        told = gather(&shard.histograms, told)?;
     }
     Ok(told)
 }
