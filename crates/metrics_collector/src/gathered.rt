@@ -1,17 +1,18 @@
 //! What was read of a collector.
-ghost use Rattle.std.specs.Prelude.{◌≡◌, List, IfOk, IfErr, MatchResult, string_bytes};
-ghost use Rattle.std.specs.List.{AllByRecursion};
+ghost use Rattle.std.specs.Prelude.{◌≡◌, List, IfOk, IfErr, string_bytes};
 ghost use Rattle.metrics.specs.declared.error.Error.TheVariants.{Memory as OutOfMemory};
-ghost use Rattle.metrics_exporter.specs.Readings.{Told, all_told, told_of, AreReadings, AreOnce, cells_told};
+ghost use Rattle.metrics_exporter.specs.Readings.{Told, AreReadings, AreOnce, cells_told};
 ghost use Rattle.metrics_exporter.specs.Exporting.{Cells};
 ghost use Rattle.metrics_exporter.specs.Describing.{described_by};
 ghost use Rattle.metrics_prometheus.specs.Exposition.{IsDescribed};
-ghost use Rattle.metrics_prometheus.specs.Reading.{AreOfKinds, IsSmall};
+ghost use Rattle.metrics_prometheus.specs.Reading.{AreOfKinds};
 
 use metrics::{Error, Key};
-use metrics_prometheus::{Descriptions, Naming, ReadingRef, SeriesReading, exposition_of};
+use metrics_prometheus::{
+    Descriptions, Naming, ReadSeries, ReadingRef, SeriesReading, exposition_of,
+};
 use metrics_storage::Histogram;
-use std::alloc::{AllocError, Global};
+use std::alloc::Global;
 
 /// What a series had when it was read: a count, a gauge's value, or samples.
 #[derive(Drop)]
@@ -34,46 +35,22 @@ pub struct Gathered {
     pub series: Vec<GatheredSeries>,
 }
 
-ghost use Rattle.metrics_collector.specs.Gathering.{gathered_told, told_of_gathered, all_gathered, IsOfKind};
+ghost use Rattle.metrics_collector.specs.Gathering.{told_of_gathered, all_gathered};
 
-/// Does nothing: its contract says that the bounds are numbers of 64 bits.
-fn small_bounds(histogram: &Histogram)
-    ensures { AllByRecursion IsSmall histogram.now.buckets }
-{
-    histogram.bounds();
-}
+impl ReadSeries for GatheredSeries {
+    ghost told = { told_of_gathered };
 
-impl GatheredSeries {
-    /// Returns the series by reference.
-    pub fn reading(&self) -> SeriesReading<'_>
-        ensures told { told_of result ≡ told_of_gathered self.now }
-        ensures kind { IsOfKind (told_of result) }
-    {
+    fn reading(&self) -> SeriesReading<'_> {
         let reading = match &self.value {
             Value::Count(count) => ReadingRef::Count(*count),
             Value::Level(level) => ReadingRef::Level(*level),
-            Value::Samples(histogram) => {
-                small_bounds(histogram);
-                ReadingRef::Samples(histogram)
-            }
+            Value::Samples(histogram) => ReadingRef::Samples(histogram),
         };
         SeriesReading {
             key: &self.key,
             reading,
         }
     }
-}
-
-/// Returns all series by reference.
-fn readings(alloc: Global, series: &[GatheredSeries]) -> Result<Vec<SeriesReading<'_>>, AllocError>
-    ensures told { IfOk result (λ all. all_told all.items ≡ gathered_told series.now) }
-    ensures kinds { IfOk result (λ all. AllByRecursion IsOfKind (all_told all.items)) }
-{
-    let mut readings = Vec::with_capacity(alloc, series.len())?;
-    for one in series {
-        readings.push(one.reading())?;
-    }
-    Ok(readings)
 }
 
 impl Gathered {
@@ -92,7 +69,6 @@ impl Gathered {
             × IsDescribed naming (described_by descriptions.now) (cells_told kept) (string_bytes text)) }
         ensures err { IfErr result (λ e. e ≡ OutOfMemory) }
     {
-        let readings = readings(alloc, &self.series)?;
-        exposition_of(alloc, naming, descriptions, &readings)
+        exposition_of(alloc, naming, descriptions, &self.series)
     }
 }

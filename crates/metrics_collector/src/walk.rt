@@ -8,6 +8,7 @@ ghost use Rattle.metrics_registry.specs.RecencyEntries.{rules_of, table_of, chec
 use crate::cells::{Seen, Watched};
 use crate::gathered::GatheredSeries;
 use metrics::{Error, Key, MetricKind, PerKind};
+use metrics_prometheus::ReadSeries;
 use metrics_registry::{Generation, OwnedRecency};
 use std::collections::HashSet;
 use std::sync::Wait;

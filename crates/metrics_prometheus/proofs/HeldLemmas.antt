@@ -14,6 +14,7 @@ use Rattle.metrics_prometheus.specs.declared.naming.Naming.{Naming}
 use Rattle.metrics_exporter.specs.Describing.{Legend}
 use Rattle.metrics_prometheus.specs.Naming.{Display}
 use Rattle.metrics_prometheus.specs.Exposition.{Row, row_of, AreRows, HoldsTexts, IsDescribed}
+use Rattle.metrics_prometheus.specs.Rows.{HasTexts}
 use Rattle.metrics_prometheus.proofs.OnceLemmas.{unmapped}
 
 pub each-row : {display : Display} (P : Row → Type 0) (cells : Cells) (rows : List Row) → AreRows display cells rows → ((s : SeriesKey) → IsHeld cells s → P (row_of display s)) → AllByRecursion P rows
@@ -22,20 +23,18 @@ each-row {display} P cells rows are f =
     (λ j d small. f (get_or are.keys j d) ((are.held (get_or are.keys j d)).0 (j, small, get_or_default are.keys j (get_or are.keys j d) d small)))))
 
 -- if the labels of all series have texts as values, those of the held series have
-pub holds-texts : (cells : Cells) (series : List SeriesReading) → AreReadings cells (all_told series) → All (λ s. All (λ (l : LabelParts). IsUtf8 l.1) s.key.now.labels) series → HoldsTexts cells
-holds-texts cells series are texts s held =
+pub holds-texts : (cells : Cells) (told : List Told) → AreReadings cells told → All HasTexts told → HoldsTexts cells
+holds-texts cells told are texts s held =
     let Q : LabelParts → Type 0 = λ l. IsUtf8 l.1 in
     let P : SeriesKey → Type 0 = λ k. All Q k.key.labels in
-    let told = all_told series in
-    recursion_from_All Q s.key.labels (All-contains P (map (λ t. t.0) told) s (All-map P (λ t. t.0) told (All-map (λ t. P t.0) told_of series texts)) ((are.held s).1 held))
+    recursion_from_All Q s.key.labels (All-contains P (map (λ t. t.0) told) s (All-map P (λ t. t.0) told texts) ((are.held s).1 held))
 
 -- the same of what is left of them
-pub kept-texts : (cells : Cells) (kept : List Told) (series : List SeriesReading) → AreReadings cells kept → AreOnce (all_told series) kept → All (λ s. All (λ (l : LabelParts). IsUtf8 l.1) s.key.now.labels) series → HoldsTexts cells
-kept-texts cells kept series are once texts s held =
+pub kept-texts : (cells : Cells) (kept told : List Told) → AreReadings cells kept → AreOnce told kept → All HasTexts told → HoldsTexts cells
+kept-texts cells kept told are once texts s held =
     let Q : LabelParts → Type 0 = λ l. IsUtf8 l.1 in
-    let P : Told → Type 0 = λ t. All Q t.0.key.labels in
     let r = unmapped (λ (t : Told). t.0) kept s ((are.held s).1 held) in
-    recursion_from_All Q s.key.labels (subst (λ (k : SeriesKey). All Q k.key.labels) r.2 (All-contains P (all_told series) r.0 (All-map P told_of series texts) (once.among r.0 r.1)))
+    recursion_from_All Q s.key.labels (subst (λ (k : SeriesKey). All Q k.key.labels) r.2 (All-contains HasTexts told r.0 texts (once.among r.0 r.1)))
 
 -- one of these readings is of a series that is held
 pub some-read : {T E : Type 0} (cells : Cells) (series given : List SeriesReading) (r : Result T E) → given ≡ series → AreReadings cells (all_told series) → OnErr r (0 < length given) → OnErr r (HoldsSome cells)

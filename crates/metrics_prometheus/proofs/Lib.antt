@@ -29,3 +29,4 @@ pub mod SearchLemmas
 pub mod OneTextLemmas
 pub mod TypeLemmas
 pub mod PlaceLemmas
+pub mod KindLemmas

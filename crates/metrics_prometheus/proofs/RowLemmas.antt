@@ -8,8 +8,7 @@ use Rattle.std.specs.declared.cmp.Ordering.{Ordering}
 use Rattle.std.proofs.lemmas.List.{take_more, map-append}
 use Rattle.std.proofs.lemmas.List.Sorted.{IsPermutation-refl}
 use Rattle.metrics_exporter.specs.Exporting.{Reading, Cells}
-use Rattle.metrics_exporter.specs.Readings.{Told, told_of, all_told, reading_in, AreReadings}
-use Rattle.metrics_exporter.specs.declared.readings.SeriesReading.{SeriesReading}
+use Rattle.metrics_exporter.specs.Readings.{Told, reading_in, AreReadings}
 use Rattle.metrics_prometheus.specs.declared.rows.ShownRow.{ShownRow}
 use Rattle.metrics_prometheus.specs.Naming.{Display}
 use Rattle.metrics_prometheus.specs.Exposition.{Row, row_of, row_cmp, reading_at, AreRows}
@@ -35,14 +34,14 @@ module _ {A B : Type 0} (f : A → B) where
       ∙ up k x (omega arith) fits
 
 -- one row more
-pub rows-more : (display : Display) (xs ys : List ShownRow) (ss : List SeriesReading) (i : ℕ) (x : ShownRow) (s : SeriesReading)
-    → i < length ss → s ≡ get_or ss i s → ys ≡ xs ++ x ∷ [] → pair_shown x ≡ pair_of display (told_of s) → map pair_shown xs ≡ map (pair_of display) (all_told (take i ss)) → map pair_shown ys ≡ map (pair_of display) (all_told (take (i + 1) ss))
-rows-more display xs ys ss i x s small at is shown so =
+pub rows-more : {S : Type 0} (told : S → Told) (display : Display) (xs ys : List ShownRow) (ss : List S) (i : ℕ) (x : ShownRow) (s : S)
+    → i < length ss → s ≡ get_or ss i s → ys ≡ xs ++ x ∷ [] → pair_shown x ≡ pair_of display (told s) → map pair_shown xs ≡ map (pair_of display) (map told (take i ss)) → map pair_shown ys ≡ map (pair_of display) (map told (take (i + 1) ss))
+rows-more told display xs ys ss i x s small at is shown so =
     let f : Told → Row × Reading = pair_of display in
-    let done = all_told (take i ss) in
-    let last : Told = told_of (get_or ss i s) in
-    ap (map pair_shown) is ∙ map-append pair_shown xs (x ∷ []) ∙ ap (λ l. l ++ pair_shown x ∷ []) so ∙ ap (λ r. map f done ++ r ∷ []) (shown ∙ ap (λ q. f (told_of q)) at)
-    ∙ sym (ap (λ l. map f (all_told l)) (take_more ss i s small) ∙ ap (map f) (map-append told_of (take i ss) (get_or ss i s ∷ [])) ∙ map-append f done (last ∷ []))
+    let done = map told (take i ss) in
+    let last : Told = told (get_or ss i s) in
+    ap (map pair_shown) is ∙ map-append pair_shown xs (x ∷ []) ∙ ap (λ l. l ++ pair_shown x ∷ []) so ∙ ap (λ r. map f done ++ r ∷ []) (shown ∙ ap (λ q. f (told q)) at)
+    ∙ sym (ap (λ l. map f (map told l)) (take_more ss i s small) ∙ ap (map f) (map-append told (take i ss) (get_or ss i s ∷ [])) ∙ map-append f done (last ∷ []))
 
 -- rows by reference, as rows
 rows-first : (rows : List ShownRow) → map (λ (p : Row × Reading). p.0) (map pair_shown rows) ≡ rows_shown rows

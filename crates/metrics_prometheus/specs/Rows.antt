@@ -1,7 +1,8 @@
 -- Rows by reference, each with what it shows.
 use Rattle.std.specs.Prelude.{if◌then◌else◌, ◌≡◌, ℕ, bytes_eq, List, map, Option, None, Some, option_map}
-use Rattle.std.specs.List.{AllByRecursion}
+use Rattle.std.specs.List.{All, AllByRecursion}
 use Rattle.std.specs.List.Sorted.{IsSorted}
+use Rattle.std.specs.Str.{IsUtf8}
 use Rattle.std.specs.Borrow.{Bor}
 use Rattle.metrics_names.specs.Names.{label_cmp}
 use Rattle.metrics_exporter.specs.Exporting.{Reading, Cells}
@@ -26,6 +27,10 @@ pair_shown r = (row_shown r, reading_shown r.reading)
 
 abbrev pub pair_of : Display → Told → Row × Reading
 pair_of display t = (row_of display t.0, t.1)
+
+-- the values of a series' labels are UTF-8
+abbrev pub HasTexts : Told → Type 0
+HasTexts t = All (λ l. IsUtf8 l.1) t.0.key.labels
 
 -- a row shows what its series has
 abbrev pub Shows : Cells → ShownRow → Type 0

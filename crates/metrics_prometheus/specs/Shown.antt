@@ -6,9 +6,9 @@ use Rattle.metrics_prometheus.specs.declared.shown.ItemList.{ItemList}
 use Rattle.metrics_prometheus.specs.declared.shown.ItemList.TheVariants.{Given as GivenList, Made as MadeList}
 
 abbrev pub bytes_in : NameText → List ℕ
-bytes_in (GivenName name) = name.now
-bytes_in (MadeName name) = string_bytes name
+bytes_in (GivenName key) = key.now.name
+bytes_in (MadeName name) = string_bytes name.value
 
 abbrev pub items_in : {T : Type 0} → ItemList T → List T
 items_in (GivenList list) = list.now
-items_in (MadeList list) = list.items
+items_in (MadeList list) = list.value.items

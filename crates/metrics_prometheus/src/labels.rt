@@ -133,7 +133,7 @@ pub(crate) fn shown_labels<'a>(
     if are_sorted(labels) && are_whole(labels) {
         return Ok(ShownItems::given(labels));
     }
-    Ok(ShownItems::made(made_labels(alloc, labels)?))
+    Ok(ShownItems::made(alloc, made_labels(alloc, labels)?)?)
 }
 
 /// Returns whether a name is the one before.

@@ -7,6 +7,7 @@ ghost use Rattle.metrics_prometheus.specs.Names.{or_one, metric_name, label_name
 ghost use Rattle.metrics_prometheus.specs.Names.{escape, escaped, is_plain, help_escape, help_escaped};
 
 use crate::shown::ShownName;
+use metrics::Key;
 use std::alloc::{AllocError, Global};
 
 /// Whether a name may begin with the character; only a metric's may have colons.
@@ -79,14 +80,14 @@ pub(crate) fn metric_name(alloc: Global, name: &str) -> Result<String, AllocErro
     or_one(spell(alloc, name, true)?)
 }
 
-/// The same. A name that is allowed allocates nothing.
-pub(crate) fn allowed_name<'a>(alloc: Global, name: &'a str) -> Result<ShownName<'a>, AllocError>
-    ensures { IfOk result (λ n. n ≡ metric_name name.now) }
+/// A key's name as Prometheus allows it. A name that is allowed allocates nothing.
+pub(crate) fn allowed_name<'a>(alloc: Global, key: &'a Key) -> Result<ShownName<'a>, AllocError>
+    ensures { IfOk result (λ n. n ≡ metric_name key.now.name) }
 {
-    if is_name(name, true) {
-        return Ok(ShownName::given(name));
+    if is_name(key.name(), true) {
+        return Ok(ShownName::given(key));
     }
-    Ok(ShownName::made(metric_name(alloc, name)?))
+    ShownName::made(alloc, metric_name(alloc, key.name())?)
 }
 
 /// The name of a label as Prometheus allows it.

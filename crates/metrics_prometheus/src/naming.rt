@@ -20,7 +20,7 @@ ghost use Rattle.metrics_prometheus.specs.Naming.{recommended_name, shown_name, 
 
 use crate::names::{allowed_name, metric_name};
 use crate::shown::ShownName;
-use metrics::{MetricKind, Unit};
+use metrics::{Key, MetricKind, Unit};
 use std::alloc::{AllocError, Global};
 
 /// The suffix of a name whose numbers are of the base unit.
@@ -119,16 +119,16 @@ pub(crate) fn shown_name<'a>(
     naming: Naming,
     kind: MetricKind,
     unit: Option<Unit>,
-    name: &'a str,
+    key: &'a Key,
 ) -> Result<ShownName<'a>, AllocError>
-    ensures { IfOk result (λ n. n ≡ shown_name naming kind unit name.now) }
+    ensures { IfOk result (λ n. n ≡ shown_name naming kind unit key.now.name) }
 {
     match naming {
-        Naming::AsGiven => allowed_name(alloc, name),
+        Naming::AsGiven => allowed_name(alloc, key),
         Naming::Recommended => {
-            let allowed = metric_name(alloc, name)?;
+            let allowed = metric_name(alloc, key.name())?;
             let recommended = recommended_name(alloc, kind, unit, allowed)?;
-            Ok(ShownName::made(recommended))
+            ShownName::made(alloc, recommended)
         }
     }
 }

@@ -1,13 +1,15 @@
 //! Series in the order in which they are written.
 ghost use Rattle.std.specs.Prelude.{◌≡◌, List, MatchResult, OnOk, IfOk, IsTrue, All, map};
 ghost use Rattle.std.specs.List.{AllByRecursion};
-ghost use Rattle.std.specs.Str.{IsUtf8};
 ghost use Rattle.metrics.specs.declared.error.Error.TheVariants.{Memory as OutOfMemory};
-ghost use Rattle.metrics_exporter.specs.Readings.{Told, told_of, all_told};
+ghost use Rattle.metrics_exporter.specs.Readings.{Told, told_of};
 ghost use Rattle.metrics_prometheus.specs.Exposition.{row_cmp};
+ghost use Rattle.metrics_prometheus.specs.Reading.{IsOfKind};
+ghost use Rattle.metrics_prometheus.specs.Rows.{HasTexts};
 
 use crate::labels::{first_value, shown_labels};
 use crate::naming::{Naming, shown_name, shown_places};
+use crate::series::{ReadSeries, reading_kind};
 use crate::shown::{ShownItems, ShownName};
 use metrics::{Error, Key, Label, MetricKind};
 use metrics_exporter::{Descriptions, ReadingRef, SeriesReading};
@@ -20,13 +22,13 @@ use std::alloc::{AllocError, Global};
 pub(crate) struct ShownRow<'a> {
     pub name: ShownName<'a>,
     pub kind: MetricKind,
+    /// The decimal places of its numbers.
+    #[derive_where(skip)]
+    pub places: u8,
     pub labels: ShownItems<'a, Label>,
     pub key: &'a Key,
     #[derive_where(skip)]
     pub help: Option<&'a str>,
-    /// The decimal places of its numbers.
-    #[derive_where(skip)]
-    pub places: u8,
     #[derive_where(skip)]
     pub reading: ReadingRef<'a>,
 }
@@ -61,14 +63,15 @@ fn found_head<'a>(
     naming: Naming,
     descriptions: &'a Descriptions,
     kind: MetricKind,
-    name: &'a str,
+    key: &'a Key,
 ) -> Result<Head<'a>, Error>
     ensures { MatchResult result
-        (λ head. head_shown head ≡ display_of naming (described_by descriptions.now) kind name.now) (λ e. e ≡ OutOfMemory) }
+        (λ head. head_shown head ≡ display_of naming (described_by descriptions.now) kind key.now.name)
+        (λ e. e ≡ OutOfMemory) }
 {
-    let help = descriptions.text(kind, name);
-    let unit = descriptions.unit(kind, name);
-    let shown = shown_name(alloc, naming, kind, unit, name)?;
+    let help = descriptions.text(kind, key.name());
+    let unit = descriptions.unit(kind, key.name());
+    let shown = shown_name(alloc, naming, kind, unit, key)?;
     Ok(Head {
         name: shown,
         help,
@@ -98,24 +101,25 @@ fn head_of<'a>(
     descriptions: &'a Descriptions,
     last: &mut Option<Whole<'a>>,
     kind: MetricKind,
-    name: &'a str,
+    key: &'a Key,
 ) -> Result<Head<'a>, Error>
     requires { IfSome last.old (IsWhole (display_of naming (described_by descriptions.now))) }
     ensures head { MatchResult result
-        (λ head. head_shown head ≡ display_of naming (described_by descriptions.now) kind name.now) (λ e. e ≡ OutOfMemory) }
+        (λ head. head_shown head ≡ display_of naming (described_by descriptions.now) kind key.now.name)
+        (λ e. e ≡ OutOfMemory) }
     ensures last { IfSome last.new (IsWhole (display_of naming (described_by descriptions.now))) }
 {
     if let Some(whole) = *last {
-        if whole.kind == kind && whole.name == name {
+        if whole.kind == kind && whole.name == key.name() {
             return Ok(Head {
-                name: ShownName::given(whole.name),
+                name: ShownName::given(key),
                 help: whole.help,
                 places: whole.places,
             });
         }
     }
-    let head = found_head(alloc, naming, descriptions, kind, name)?;
-    *last = whole_of(&head, kind, name);
+    let head = found_head(alloc, naming, descriptions, kind, key)?;
+    *last = whole_of(&head, kind, key.name());
     Ok(head)
 }
 
@@ -131,12 +135,14 @@ fn row_of<'a>(
     ensures row { MatchResult result
         (λ row. pair_shown row ≡ pair_of (display_of naming (described_by descriptions.now)) (told_of series.entry))
         (λ e. e ≡ OutOfMemory) }
-    ensures texts { OnOk result (All (λ l. IsUtf8 l.1) series.entry.key.now.labels) }
+    ensures texts { OnOk result (HasTexts (told_of series.entry)) }
+    ensures kind { OnOk result (IsOfKind (told_of series.entry)) }
     ensures last { IfSome last.new (IsWhole (display_of naming (described_by descriptions.now))) }
 {
+    reading_kind(series.reading);
     let kind = series.reading.kind();
     let labels = shown_labels(alloc, series.key.labels())?;
-    let head = head_of(alloc, naming, descriptions, last, kind, series.key.name())?;
+    let head = head_of(alloc, naming, descriptions, last, kind, series.key)?;
     let Head { name, help, places } = head;
     Ok(ShownRow {
         name,
@@ -150,22 +156,23 @@ fn row_of<'a>(
 }
 
 /// A row for each series, in their order.
-pub(crate) fn rows_of<'a>(
+pub(crate) fn rows_of<'a, S: ReadSeries>(
     alloc: Global,
     naming: Naming,
     descriptions: &'a Descriptions,
-    series: &[SeriesReading<'a>],
+    series: &'a [S],
 ) -> Result<Vec<ShownRow<'a>>, Error>
     ensures rows { MatchResult result
         (λ rows. map pair_shown rows.items
-        ≡ map (pair_of (display_of naming (described_by descriptions.now))) (all_told series.now))
+        ≡ map (pair_of (display_of naming (described_by descriptions.now))) (map S.told series.now))
         (λ e. e ≡ OutOfMemory) }
-    ensures texts { OnOk result (All (λ s. All (λ l. IsUtf8 l.1) s.key.now.labels) series.now) }
+    ensures texts { OnOk result (All HasTexts (map S.told series.now)) }
+    ensures kinds { OnOk result (All IsOfKind (map S.told series.now)) }
 {
     let mut rows = Vec::with_capacity(alloc, series.len())?;
     let mut last = None;
-    for entry in series {
-        let row = row_of(alloc, naming, descriptions, &mut last, *entry)?;
+    for one in series {
+        let row = row_of(alloc, naming, descriptions, &mut last, one.reading())?;
         rows.push(row)?;
     }
     Ok(rows)

@@ -1,19 +1,21 @@
 //! What Prometheus is shown: the caller's names and lists if they are allowed, and else others made of them.
-ghost use Rattle.std.specs.Prelude.{◌≡◌, ◌==◌, Some, refl, string_bytes};
+ghost use Rattle.std.specs.Prelude.{◌≡◌, ◌==◌, IfOk, Some, refl, string_bytes};
 ghost use Rattle.std.specs.Ordering.{nat_cmp};
 ghost use Rattle.std.specs.Cmp.{partial_equiv_from_equiv};
 ghost use Rattle.std.specs.Cmp.Lexicographic.{pointwise, slice_cmp, slice_partial_cmp, nat_list_eq_equiv, nat_list_cmp_total};
 ghost use Rattle.std.specs.Cmp.Lexicographic.{texts_po, texts_ties, lists_equiv, lists_agrees};
 ghost use Rattle.std.specs.Cmp.Lexicographic.{lists_total, lists_ties, lists_per, lists_po};
 
+use metrics::Key;
+use std::alloc::{AllocError, Global};
 use std::cmp::Ordering;
 use std::marker::Model;
 
-/// A text of the caller's, or one that was made.
+/// A key with its own name, or a name that was made. It is in a box so that a row is small.
 #[derive(Drop)]
 enum NameText<'a> {
-    Given(&'a str),
-    Made(String),
+    Given(&'a Key),
+    Made(Box<String>),
 }
 
 /// A name, which contracts see as its bytes. Names are ordered by these.
@@ -32,22 +34,22 @@ impl<'a> Model for ShownName<'a> {
 }
 
 impl<'a> ShownName<'a> {
-    /// The caller's name.
-    pub(crate) fn given(name: &'a str) -> ShownName<'a>
-        ensures { result ≡ name.now }
+    /// The name of a key.
+    pub(crate) fn given(key: &'a Key) -> ShownName<'a>
+        ensures { result ≡ key.now.name }
     {
         ShownName {
-            name: NameText::Given(name),
+            name: NameText::Given(key),
         }
     }
 
     /// A name that was made.
-    pub(crate) fn made(name: String) -> ShownName<'a>
-        ensures { result ≡ string_bytes name }
+    pub(crate) fn made(alloc: Global, name: String) -> Result<ShownName<'a>, AllocError>
+        ensures { IfOk result (λ n. n ≡ string_bytes name) }
     {
-        ShownName {
-            name: NameText::Made(name),
-        }
+        Ok(ShownName {
+            name: NameText::Made(Box::new(alloc, name)?),
+        })
     }
 
     /// Returns the name's text.
@@ -55,7 +57,7 @@ impl<'a> ShownName<'a> {
         ensures { result.now ≡ self.now }
     {
         match &self.name {
-            NameText::Given(name) => name,
+            NameText::Given(key) => key.name(),
             NameText::Made(name) => name.as_str(),
         }
     }
@@ -103,7 +105,7 @@ impl Ord for ShownName<'_> {
 #[derive(Drop)]
 enum ItemList<'a, T> {
     Given(&'a [T]),
-    Made(Vec<T>),
+    Made(Box<Vec<T>>),
 }
 
 /// A list, which contracts see as that. Lists compare item by item.
@@ -132,12 +134,14 @@ impl<'a, T> ShownItems<'a, T> {
     }
 
     /// A list that was made.
-    pub(crate) fn made(list: Vec<T>) -> ShownItems<'a, T>
-        ensures { result ≡ list.items }
+    pub(crate) fn made(alloc: Global, list: Vec<T>) -> Result<ShownItems<'a, T>, AllocError>
+    where
+        T: Drop,
+        ensures { IfOk result (λ l. l ≡ list.items) }
     {
-        ShownItems {
-            list: ItemList::Made(list),
-        }
+        Ok(ShownItems {
+            list: ItemList::Made(Box::new(alloc, list)?),
+        })
     }
 
     /// Returns the items.

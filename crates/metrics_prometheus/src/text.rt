@@ -1,6 +1,6 @@
 //! The text of the held series.
 ghost use Rattle.std.specs.Prelude.{◌≡◌, ◌<◌, ◌++◌, List, length, not, None, Some, option_map, string_bytes};
-ghost use Rattle.std.specs.Prelude.{OnOk, OnErr, IfOk, IfErr, IfSome, MatchResult};
+ghost use Rattle.std.specs.Prelude.{OnOk, OnErr, IfOk, IfErr, IfSome, MatchResult, map};
 ghost use Rattle.std.specs.List.{AllByRecursion};
 ghost use Rattle.std.specs.List.Sorted.{IsSorted};
 ghost use Rattle.std.specs.Cmp.Lexicographic.{slice_cmp};
@@ -11,12 +11,13 @@ ghost use Rattle.metrics_exporter.specs.Exporting.{Cells, Setup, Log, steps, cel
 ghost use Rattle.metrics_names.specs.Names.{label_cmp};
 ghost use Rattle.metrics_exporter.specs.Kept.{IsAfter, described};
 ghost use Rattle.metrics_exporter.specs.Describing.{SameLegend, no_legend, described_by};
-ghost use Rattle.metrics_exporter.specs.Readings.{AreReadings, AreOnce, Told, all_told, reading_shown, cells_told};
+ghost use Rattle.metrics_exporter.specs.Readings.{AreReadings, AreOnce, Told, reading_shown, cells_told};
 ghost use Rattle.metrics_prometheus.specs.Exposition.{Row, row_cmp, histogram_names, is_left_out};
 ghost use Rattle.metrics_prometheus.specs.Exposition.{help_line, type_line, name_lines, name_text};
 ghost use Rattle.metrics_prometheus.specs.Exposition.{samples_of, row_told, rows_text, last_after};
 ghost use Rattle.metrics_prometheus.specs.Exposition.{IsExposition, IsDescribed};
 ghost use Rattle.metrics_prometheus.specs.Places.{rows_placed};
+ghost use Rattle.metrics_prometheus.specs.Reading.{AreOfKinds};
 ghost use Rattle.metrics_prometheus.specs.Rows.{row_shown, rows_shown, Shows, names_shown, named};
 ghost use Rattle.metrics_prometheus.specs.Samples.{lines};
 
@@ -25,9 +26,10 @@ use crate::naming::Naming;
 use crate::reasons::{reason_of, write_left_out};
 use crate::rows::{Place, ShownRow, rows_of, sorted_rows};
 use crate::samples::{write_histogram, write_sample};
+use crate::series::ReadSeries;
 use crate::taken::histogram_names;
 use metrics::Error;
-use metrics_exporter::{Descriptions, Exporter, ReadingRef, SeriesReading};
+use metrics_exporter::{Descriptions, Exporter, ReadingRef};
 use std::alloc::{AllocError, Global};
 
 fn write_type_line(text: &mut String, row: &ShownRow<'_>) -> Result<(), AllocError>
@@ -174,17 +176,18 @@ fn rows_text(alloc: Global, places: &[Place<'_, '_>]) -> Result<String, Error>
 ///
 /// The whole text is in memory, with a row for each series. Fails with `Error::Memory` when out of memory, and never for an
 /// empty list. A repeated series is written once.
-pub fn exposition_of(
+pub fn exposition_of<S: ReadSeries>(
     alloc: Global,
     naming: Naming,
     descriptions: &Descriptions,
-    series: &[SeriesReading<'_>],
+    series: &[S],
 ) -> Result<String, Error>
     // For the cells that the series report.
-    ensures ok { (cells : Cells) → AreReadings cells (all_told series.now)
+    ensures ok { (cells : Cells) → AreReadings cells (map S.told series.now)
         → IfOk result (λ text. IsDescribed naming (described_by descriptions.now) cells (string_bytes text)) }
     // For any list: each series once.
-    ensures each { IfOk result (λ text. (kept : List Told) × AreOnce (all_told series.now) kept
+    ensures each { IfOk result (λ text. (kept : List Told) × AreOnce (map S.told series.now) kept
+        × AreOfKinds (cells_told kept)
         × IsDescribed naming (described_by descriptions.now) (cells_told kept) (string_bytes text)) }
     ensures err { IfErr result (λ e. e ≡ OutOfMemory) }
     ensures refused { OnErr result (0 < length series.now) }

@@ -21,8 +21,8 @@ pub mod exporter {
         Bounds, Descriptions, Exporter, PartlyAbsorbed, ReadingRef, SeriesReading, exporter_law,
     };
     pub use metrics_prometheus::{
-        Naming, exposition, exposition_law, exposition_named, exposition_of, exposition_text_law,
-        left_out,
+        Naming, ReadSeries, exposition, exposition_law, exposition_named, exposition_of,
+        exposition_text_law, left_out,
     };
 }
 

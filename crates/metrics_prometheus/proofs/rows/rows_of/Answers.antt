@@ -1,31 +1,36 @@
-use Rattle.std.proofs.Common.{subst}
+use Rattle.std.proofs.Common.{◌∙◌, ap, subst}
 use Rattle.std.specs.Prelude.{All}
-use Rattle.std.specs.Str.{IsUtf8}
 use Rattle.std.proofs.lemmas.List.{take_all}
-use Rattle.std.proofs.lemmas.List.Elements.{All-more}
-use Rattle.metrics_exporter.specs.declared.readings.SeriesReading.{SeriesReading}
-use Rattle.metrics_names.specs.Names.{LabelParts}
+use Rattle.std.proofs.lemmas.List.Elements.{All-map, All-more}
 use Rattle.metrics_exporter.specs.Describing.{described_by}
 use Rattle.metrics_prometheus.specs.Naming.{display_of}
+use Rattle.metrics_prometheus.specs.Reading.{IsOfKind}
+use Rattle.metrics_prometheus.specs.Rows.{pair_of, HasTexts}
 use Rattle.metrics_prometheus.proofs.RowLemmas.{rows-more}
 use Rattle.metrics_prometheus.proofs.rows.rows_of.Goals as goal
 
--- the labels of a series have texts as values
-abbrev HasTexts : SeriesReading → Type 0
-HasTexts s = All (λ (l : LabelParts). IsUtf8 l.1) s.key.now.labels
-
-pub loop-entry-preserved : goal.loop-entry-preserved
-loop-entry-preserved c =
+pub loop-one-preserved : goal.loop-one-preserved
+loop-one-preserved g c =
+    let told = g.S.ReadSeries.told in
     let series = c.args.series.now in
-    let i = c.loop-entry.entry-index in
-    let entry = c.entry-item.result in
+    let i = c.loop-one.one-index in
+    let one = c.one-item.result in
     let display = display_of c.args.naming (described_by c.args.descriptions.now) in
     let row = c.in_ok-row.row in
+    let same = c.reading.ensures in
     record {
       last = c.row_of.ensures.last;
-      rows = rows-more display c.loop-entry.rows.items c.push.new.self.items series i row entry c.loop-entry-test.true c.entry-item.is c.in_ok-push.ensures.items c.in_ok-row.ensures.row c.loop-entry.invariant.rows;
-      texts = All-more HasTexts series i entry c.loop-entry-test.true c.loop-entry.invariant.texts (subst HasTexts c.entry-item.is c.in_ok-row.ensures.texts);
+      rows = rows-more told display c.loop-one.rows.items c.push.new.self.items series i row one c.loop-one-test.true c.one-item.is c.in_ok-push.ensures.items (c.in_ok-row.ensures.row ∙ ap (pair_of display) same) c.loop-one.invariant.rows;
+      texts = All-more (λ s. HasTexts (told s)) series i one c.loop-one-test.true c.loop-one.invariant.texts (subst (λ s. HasTexts (told s)) c.one-item.is (subst HasTexts same c.in_ok-row.ensures.texts));
+      kinds = All-more (λ s. IsOfKind (told s)) series i one c.loop-one-test.true c.loop-one.invariant.kinds (subst (λ s. IsOfKind (told s)) c.one-item.is (subst IsOfKind same c.in_ok-row.ensures.kind));
     }
 
 pub returns-clause-texts : goal.returns-clause-texts
-returns-clause-texts c = subst (All HasTexts) (take_all c.loop-entry.entry-index c.args.series.now c.loop-entry-test.false) c.loop-entry.invariant.texts
+returns-clause-texts g c =
+    let told = g.S.ReadSeries.told in
+    All-map HasTexts told c.args.series.now (subst (All (λ s. HasTexts (told s))) (take_all c.loop-one.one-index c.args.series.now c.loop-one-test.false) c.loop-one.invariant.texts)
+
+pub returns-clause-kinds : goal.returns-clause-kinds
+returns-clause-kinds g c =
+    let told = g.S.ReadSeries.told in
+    All-map IsOfKind told c.args.series.now (subst (All (λ s. IsOfKind (told s))) (take_all c.loop-one.one-index c.args.series.now c.loop-one-test.false) c.loop-one.invariant.kinds)

@@ -1,4 +1,4 @@
-use Rattle.metrics_collector.proofs.GatheredLemmas.{with-first}
+use Rattle.metrics_prometheus.proofs.TextLemmas.{with-first}
 use Rattle.metrics_collector.proofs.collector.Collector.render.Goals as goal
 
 pub returns-clause-text : goal.returns-clause-text
