@@ -33,15 +33,6 @@ pub(crate) struct ShownRow<'a> {
     pub reading: ReadingRef<'a>,
 }
 
-/// What a kind and name are shown with, if that name is shown unchanged.
-#[derive(Clone, Copy)]
-struct Whole<'a> {
-    kind: MetricKind,
-    name: &'a str,
-    help: Option<&'a str>,
-    places: u8,
-}
-
 /// What a kind and name are shown with.
 #[derive(Drop)]
 struct Head<'a> {
@@ -50,11 +41,19 @@ struct Head<'a> {
     places: u8,
 }
 
+/// What the last kind and name are shown with.
+#[derive(Drop)]
+struct Known<'a> {
+    kind: MetricKind,
+    name: &'a str,
+    head: Head<'a>,
+}
+
 ghost use Rattle.std.specs.Prelude.{IfSome};
 ghost use Rattle.metrics_exporter.specs.Describing.{described_by};
 ghost use Rattle.metrics_prometheus.specs.Naming.{Display, display_of};
 ghost use Rattle.metrics_prometheus.specs.Rows.{row_shown, pair_shown, pair_of, AreRowsOf};
-ghost use Rattle.metrics_prometheus.specs.Heads.{head_shown, IsWhole};
+ghost use Rattle.metrics_prometheus.specs.Heads.{head_shown, IsKnown};
 ghost use Rattle.metrics_prometheus.specs.declared.rows.ShownRow.{ShownRow as RowParts};
 
 /// Looks up what a kind and name are shown with.
@@ -79,19 +78,36 @@ fn found_head<'a>(
     })
 }
 
-/// What a kind and name are shown with, if the name is shown unchanged.
-fn whole_of<'a>(head: &Head<'a>, kind: MetricKind, name: &'a str) -> Option<Whole<'a>>
-    ensures { (display : Display) → head_shown head.now ≡ display kind name.now → IfSome result (IsWhole display) }
+/// The same head, which allocates nothing.
+fn shared_head<'a>(head: &Head<'a>) -> Result<Head<'a>, AllocError>
+    ensures { IfOk result (λ h. head_shown h ≡ head_shown head.now) }
 {
-    if head.name.as_str() != name {
-        return None;
-    }
-    Some(Whole {
-        kind,
-        name,
+    Ok(Head {
+        name: head.name.shared()?,
         help: head.help,
         places: head.places,
     })
+}
+
+/// What a kind and name are shown with, if they were the last ones.
+fn known_head<'l, 'a>(
+    last: &'l Option<Known<'a>>,
+    kind: MetricKind,
+    name: &str,
+) -> Option<&'l Head<'a>>
+    ensures { (display : Display) → IfSome last.now (IsKnown display)
+        → IfSome result (λ h. head_shown h.now ≡ display kind name.now) }
+{
+    match last {
+        Some(known) => {
+            if known.kind == kind && known.name == name {
+                Some(&known.head)
+            } else {
+                None
+            }
+        }
+        None => None,
+    }
 }
 
 /// What a kind and name are shown with. It is looked up unless the row before has them.
@@ -99,27 +115,25 @@ fn head_of<'a>(
     alloc: Global,
     naming: Naming,
     descriptions: &'a Descriptions,
-    last: &mut Option<Whole<'a>>,
+    last: &mut Option<Known<'a>>,
     kind: MetricKind,
     key: &'a Key,
 ) -> Result<Head<'a>, Error>
-    requires { IfSome last.old (IsWhole (display_of naming (described_by descriptions.now))) }
+    requires { IfSome last.old (IsKnown (display_of naming (described_by descriptions.now))) }
     ensures head { MatchResult result
         (λ head. head_shown head ≡ display_of naming (described_by descriptions.now) kind key.now.name)
         (λ e. e ≡ OutOfMemory) }
-    ensures last { IfSome last.new (IsWhole (display_of naming (described_by descriptions.now))) }
+    ensures last { IfSome last.new (IsKnown (display_of naming (described_by descriptions.now))) }
 {
-    if let Some(whole) = *last {
-        if whole.kind == kind && whole.name == key.name() {
-            return Ok(Head {
-                name: ShownName::given(key),
-                help: whole.help,
-                places: whole.places,
-            });
-        }
+    if let Some(head) = known_head(last, kind, key.name()) {
+        return Ok(shared_head(head)?);
     }
     let head = found_head(alloc, naming, descriptions, kind, key)?;
-    *last = whole_of(&head, kind, key.name());
+    *last = Some(Known {
+        kind,
+        name: key.name(),
+        head: shared_head(&head)?,
+    });
     Ok(head)
 }
 
@@ -128,16 +142,16 @@ fn row_of<'a>(
     alloc: Global,
     naming: Naming,
     descriptions: &'a Descriptions,
-    last: &mut Option<Whole<'a>>,
+    last: &mut Option<Known<'a>>,
     series: SeriesReading<'a>,
 ) -> Result<ShownRow<'a>, Error>
-    requires { IfSome last.old (IsWhole (display_of naming (described_by descriptions.now))) }
+    requires { IfSome last.old (IsKnown (display_of naming (described_by descriptions.now))) }
     ensures row { MatchResult result
         (λ row. pair_shown row ≡ pair_of (display_of naming (described_by descriptions.now)) (told_of series.entry))
         (λ e. e ≡ OutOfMemory) }
     ensures texts { OnOk result (HasTexts (told_of series.entry)) }
     ensures kind { OnOk result (IsOfKind (told_of series.entry)) }
-    ensures last { IfSome last.new (IsWhole (display_of naming (described_by descriptions.now))) }
+    ensures last { IfSome last.new (IsKnown (display_of naming (described_by descriptions.now))) }
 {
     reading_kind(series.reading);
     let kind = series.reading.kind();

@@ -10,12 +10,13 @@ use metrics::Key;
 use std::alloc::{AllocError, Global};
 use std::cmp::Ordering;
 use std::marker::Model;
+use std::rc::Rc;
 
-/// A key with its own name, or a name that was made. It is in a box so that a row is small.
+/// A key with its own name, or a name that was made, which rows share.
 #[derive(Drop)]
 enum NameText<'a> {
     Given(&'a Key),
-    Made(Box<String>),
+    Made(Rc<String>),
 }
 
 /// A name, which contracts see as its bytes. Names are ordered by these.
@@ -48,8 +49,20 @@ impl<'a> ShownName<'a> {
         ensures { IfOk result (λ n. n ≡ string_bytes name) }
     {
         Ok(ShownName {
-            name: NameText::Made(Box::new(alloc, name)?),
+            name: NameText::Made(Rc::new(alloc, name)?),
         })
+    }
+
+    /// The same name, which allocates nothing.
+    pub(crate) fn shared(&self) -> Result<ShownName<'a>, AllocError>
+        ensures { IfOk result (λ n. n ≡ self.now) }
+    {
+        match &self.name {
+            NameText::Given(key) => Ok(ShownName::given(key)),
+            NameText::Made(name) => Ok(ShownName {
+                name: NameText::Made(name.clone()?),
+            }),
+        }
     }
 
     /// Returns the name's text.

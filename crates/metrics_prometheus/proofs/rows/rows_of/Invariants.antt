@@ -3,7 +3,7 @@ use Rattle.std.proofs.Common.{◌≡◌, take, map}
 use Rattle.std.specs.Prelude.{All, IfSome}
 use Rattle.metrics_exporter.specs.Describing.{described_by}
 use Rattle.metrics_prometheus.specs.Naming.{display_of}
-use Rattle.metrics_prometheus.specs.Heads.{IsWhole}
+use Rattle.metrics_prometheus.specs.Heads.{IsKnown}
 use Rattle.metrics_prometheus.specs.Reading.{IsOfKind}
 use Rattle.metrics_prometheus.specs.Rows.{pair_shown, pair_of, HasTexts}
 use Rattle.metrics_prometheus.proofs.rows.rows_of.Given as goal
@@ -11,7 +11,7 @@ use Rattle.metrics_prometheus.proofs.rows.rows_of.Given as goal
 abbrev pub invariant-loop-one : goal.invariant-loop-one
 invariant-loop-one g l =
     record {
-      last : IfSome l.last (IsWhole (display_of l.naming (described_by l.descriptions)));
+      last : IfSome l.last (IsKnown (display_of l.naming (described_by l.descriptions)));
       rows : map pair_shown l.rows.items ≡ map (pair_of (display_of l.naming (described_by l.descriptions))) (map g.S.ReadSeries.told (take l.one-index l.series));
       texts : All (λ s. HasTexts (g.S.ReadSeries.told s)) (take l.one-index l.series);
       kinds : All (λ s. IsOfKind (g.S.ReadSeries.told s)) (take l.one-index l.series);
