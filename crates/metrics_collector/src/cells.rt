@@ -196,10 +196,9 @@ impl Watched for HistogramHandle {
 
     fn held<W: Wait>(&self, rt: &W) -> Result<Seen, Error> {
         let samples = self.read(rt)?;
-        Ok(Seen {
-            generation: Generation::new(samples.count()),
-            value: Value::Samples(samples),
-        })
+        let generation = Generation::new(samples.count());
+        let value = Value::Samples(Box::new(self.parts.allocator(), samples)?);
+        Ok(Seen { generation, value })
     }
 }
 

@@ -11,8 +11,9 @@ ghost use Rattle.metrics_collector.specs.Gathering.{all_gathered, IsUnread};
 ghost use Rattle.metrics_collector.specs.declared.gathered.Gathered.{Gathered as GatheredParts};
 
 use crate::cells::{CollectorCells, CounterHandle, GaugeHandle, HistogramHandle};
-use crate::gathered::Gathered;
+use crate::gathered::{Gathered, GatheredSeries};
 use crate::keys::kept_key;
+use crate::rows::Rows;
 use crate::walk::{Walk, forget_all};
 use metrics::{Error, Key, Label, MetricKind, MetricKindMask, PerKind, Unit};
 use metrics_cells::CounterFn;
@@ -39,6 +40,8 @@ pub struct Collector {
     idle_timeout: Option<u64>,
     registry: Registry<Key, CollectorCells>,
     recency: Mutex<OwnedRecency<Key>>,
+    /// The rows of the last text.
+    rows: Mutex<Vec<GatheredSeries>>,
     descriptions: RwLock<Descriptions>,
 }
 
@@ -66,6 +69,7 @@ impl Collector {
             idle_timeout,
             registry,
             recency: Mutex::new(OwnedRecency::new(alloc, mask, idle_timeout)),
+            rows: Mutex::new(Vec::new(alloc)),
             descriptions: RwLock::new(Descriptions::new(alloc)),
         })
     }
@@ -199,12 +203,25 @@ impl Collector {
     pub fn gather<W: Wait>(&self, rt: &W, alloc: Global, now: u64) -> Result<Gathered, Error>
         ensures { IfErr result IsUnread }
     {
+        self.gather_into(rt, alloc, now, Vec::new(alloc))
+    }
+
+    /// Gathers into the memory of these rows.
+    fn gather_into<W: Wait>(
+        &self,
+        rt: &W,
+        alloc: Global,
+        now: u64,
+        rows: Vec<GatheredSeries>,
+    ) -> Result<Gathered, Error>
+        ensures { IfErr result IsUnread }
+    {
         let mut recency = self.recency.lock(rt);
         let none = OwnedRecency::new(alloc, self.mask, self.idle_timeout);
         let mut walk = Walk {
             now,
             recency: mem::replace(&mut *recency, none),
-            series: Vec::new(alloc),
+            rows: Rows::reusing(rows),
             refused: None,
             gone: PerKind {
                 counter: HashSet::new(alloc),
@@ -216,10 +233,11 @@ impl Collector {
         let Walk {
             now: _,
             recency: mut noted,
-            series,
+            rows,
             refused,
             gone: _,
         } = walk;
+        let series = rows.into_vec();
         if refused.is_some() {
             forget_all(&mut noted, &series);
         }
@@ -236,17 +254,24 @@ impl Collector {
     /// # Errors
     ///
     /// Those of `gather`. The next one then shows what this one found, even if it comes after the timeout.
+    ///
+    /// # Memory
+    ///
+    /// The collector keeps the rows of its last text for the next one: some 60 bytes a series, and a copy of its name.
     pub fn render<W: Wait>(&self, rt: &W, alloc: Global, now: u64) -> Result<String, Error>
         ensures text { IfOk result (λ text. (legend : Legend) × (gathered : GatheredParts) × (kept : List Told)
             × AreOnce (all_gathered gathered) kept × AreOfKinds (cells_told kept)
             × IsDescribed self.now.naming legend (cells_told kept) (string_bytes text)) }
         ensures err { IfErr result IsUnread }
     {
-        let gathered = self.gather(rt, alloc, now)?;
+        let rows = mem::replace(&mut *self.rows.lock(rt), Vec::new(alloc));
+        let gathered = self.gather_into(rt, alloc, now, rows)?;
         let text = gathered.text(alloc, self.naming, &self.descriptions.read(rt));
         if text.is_err() {
             forget_all(&mut *self.recency.lock(rt), &gathered.series);
         }
+        let Gathered { series } = gathered;
+        *self.rows.lock(rt) = series;
         text
     }
 }

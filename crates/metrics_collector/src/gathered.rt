@@ -19,7 +19,7 @@ use std::alloc::Global;
 pub enum Value {
     Count(u64),
     Level(i64),
-    Samples(Histogram),
+    Samples(Box<Histogram>),
 }
 
 /// A series with what it had. Its kind is that of its value.

@@ -6,6 +6,7 @@ mod collector;
 mod gathered;
 mod keys;
 mod parts;
+mod rows;
 mod walk;
 
 pub use cells::{CollectorCells, CounterHandle, GaugeHandle, HistogramHandle};

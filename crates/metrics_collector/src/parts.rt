@@ -97,6 +97,10 @@ impl Parts {
         self.at(rt, place).lock(rt).record(sample)
     }
 
+    pub fn allocator(&self) -> Global {
+        self.alloc
+    }
+
     /// Returns the number of samples in all parts, modulo 2^64.
     pub fn count<W: Wait>(&self, rt: &W) -> u64 {
         let mut count = self.first.lock(rt).count();

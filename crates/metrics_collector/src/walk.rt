@@ -7,6 +7,7 @@ ghost use Rattle.metrics_registry.specs.RecencyEntries.{rules_of, table_of, chec
 
 use crate::cells::{Seen, Watched};
 use crate::gathered::GatheredSeries;
+use crate::rows::Rows;
 use metrics::{Error, Key, MetricKind, PerKind};
 use metrics_prometheus::ReadSeries;
 use metrics_registry::{Generation, OwnedRecency};
@@ -92,7 +93,7 @@ pub(crate) fn forget_all(recency: &mut OwnedRecency<Key>, series: &[GatheredSeri
 pub(crate) struct Walk {
     pub now: u64,
     pub recency: OwnedRecency<Key>,
-    pub series: Vec<GatheredSeries>,
+    pub rows: Rows,
     /// Why the walk gathers no more.
     pub refused: Option<Error>,
     /// The series to remove.
@@ -134,9 +135,7 @@ impl Walk {
         if generation != looked {
             self.recency.note(C::kind(), key, generation, self.now)?;
         }
-        let key = key.clone()?;
-        self.series.push(GatheredSeries { key, value })?;
-        Ok(())
+        Ok(self.rows.push(key, value)?)
     }
 
     fn look_at<W: Wait, C: Watched>(&mut self, rt: &W, key: &Key, cell: &C) -> Result<(), Error> {
