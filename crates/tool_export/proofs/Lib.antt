@@ -1,3 +1,8 @@
+mod Known
+pub mod LinesLemmas
+pub mod Reading
+mod Handing
+pub mod Loop
 pub mod RequestLemmas
 pub mod SpellingLemmas
 mod PlainLemmas

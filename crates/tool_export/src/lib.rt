@@ -1,16 +1,22 @@
-//! The lines of an exporter, as a library: updates and scrapes, the text that answers each, and the loop over them.
+//! A machine reads a stream line by line, and answers each line by a text; the page `export` on it answers updates and
+//! scrapes of an exporter.
 #![tactic(auto)]
 
 mod answering;
 mod exporting;
 mod laws;
+mod machine;
 mod plans;
 mod requests;
 mod scraping;
+mod stream;
+mod waiting;
 
 pub use answering::answer_request;
 pub use exporting::{ExportLines, export, export_new, exporter_of};
 pub use laws::export_law;
+pub use machine::{LineMachine, Unanswered, at_line, flush, run_lines};
 pub use plans::{ExportPlan, Watched, mask_from, plan_of};
 pub use requests::{Request, request_of};
+pub use stream::{Broken, Fault, Found, next_line, write_text};
 pub use tool_grammar::RunError;

@@ -13,9 +13,9 @@ use Rattle.metrics_exporter.specs.Kept.{IsAfter, Keeps, described}
 use Rattle.metrics_prometheus.specs.Exposition.{IsDescribed}
 use Rattle.tool_grammar.specs.declared.error.RunError.{RunError}
 use Rattle.tool_grammar.specs.declared.error.RunError.TheVariants.{Memory, BadLine, Device}
-use Rattle.tool_stream.specs.Lines.{lines_of, unlines, ended}
-use Rattle.tool_stream.specs.Answering.{Dialogue, lines_in, texts_in, AreAnswered, AreFirst, IsRun}
-use Rattle.tool_stream.proofs.LinesLemmas.{lines-cut}
+use Rattle.tool_export.specs.Lines.{lines_of, unlines, ended}
+use Rattle.tool_export.specs.Answering.{Dialogue, lines_in, texts_in, AreAnswered, AreFirst, IsRun}
+use Rattle.tool_export.proofs.LinesLemmas.{lines-cut}
 use Rattle.tool_prometheus.specs.Making.{setup_for}
 use Rattle.tool_prometheus.specs.declared.commands.Options.{Options}
 use Rattle.tool_prometheus.specs.declared.answering.Served.{Served}

@@ -7,7 +7,7 @@ use Rattle.metrics_registry.specs.Idleness.{Answered}
 use Rattle.metrics_exporter.specs.Exporting.{Log, updates, expires, steps, cells_after, IsExpiry, IsFull}
 use Rattle.metrics_exporter.specs.Describing.{Legend, no_legend, told_again}
 use Rattle.metrics_prometheus.specs.Exposition.{IsDescribed}
-use Rattle.tool_stream.specs.Lines.{lines_of}
+use Rattle.tool_export.specs.Lines.{lines_of}
 use Rattle.tool_prometheus.specs.Making.{setup_for}
 use Rattle.tool_prometheus.specs.declared.commands.Options.{Options}
 use Rattle.tool_prometheus.specs.declared.requests.Request.{Request}

@@ -2,7 +2,7 @@
 use Rattle.std.specs.Prelude.{if◌then◌else◌, ◌≡◌, ℕ, Bool, false, List, [], ◌++◌, ◌⊎◌, Result, Ok, Err, None}
 use Rattle.tool_grammar.specs.declared.error.RunError.{RunError}
 use Rattle.tool_grammar.specs.declared.error.RunError.TheVariants.{Memory, BadLine, Device}
-use Rattle.tool_stream.specs.Answering.{Answering, IsRun}
+use Rattle.tool_export.specs.Answering.{Answering, IsRun}
 use Rattle.metrics_exporter.specs.Kept.{IsAfter, described}
 use Rattle.metrics_exporter.specs.Describing.{SameLegend, no_legend}
 use Rattle.tool_prometheus.specs.Making.{setup_for}

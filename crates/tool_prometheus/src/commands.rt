@@ -16,9 +16,8 @@ use metrics_exporter::Exporter;
 use metrics_prometheus::Naming;
 use std::alloc::Global;
 use std::io::{BufRead, Write};
-use tool_export::ExportPlan;
+use tool_export::{ExportPlan, flush};
 use tool_grammar::RunError;
-use tool_stream::flush;
 
 /// What the command line asks for.
 #[derive(Drop)]

@@ -11,8 +11,8 @@ use crate::watching::Watch;
 use std::alloc::Global;
 use std::io::{BufRead, Write};
 use std::marker::PhantomData;
+use tool_export::{LineMachine, Unanswered, flush, run_lines, write_text};
 use tool_grammar::RunError;
-use tool_stream::{LineMachine, Unanswered, flush, run_lines, write_text};
 
 /// Answers the lines of an exporter. With `SKIPS` bad lines are skipped.
 pub struct PrometheusLines<const SKIPS: bool, S> {

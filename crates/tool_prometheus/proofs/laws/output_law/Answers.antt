@@ -1,6 +1,6 @@
 use Rattle.std.proofs.Common.{◌∙◌, refl, sym}
 use Rattle.tool_prometheus.specs.Output.{nothing_done, with_shards}
-use Rattle.tool_stream.specs.Lines.{lines_of}
+use Rattle.tool_export.specs.Lines.{lines_of}
 use Rattle.tool_prometheus.proofs.OutputLemmas.{lines-same, no-moments}
 use Rattle.tool_prometheus.proofs.RunLemmas.{run-output}
 use Rattle.tool_prometheus.proofs.laws.output_law.Goals as goal

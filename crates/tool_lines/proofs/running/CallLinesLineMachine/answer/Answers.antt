@@ -1,7 +1,7 @@
 use Rattle.std.proofs.Common.{◌≡◌, ◌++◌, MatchResult, length, string_bytes, sym, subst, ap, ◌∙◌, arith}
 use Rattle.metrics.specs.Answering.{Answers, IsHeld}
 use Rattle.tool_grammar.specs.Printing.{text_of}
-use Rattle.tool_stream.specs.declared.answering.Unanswered.TheVariants.{Lost}
+use Rattle.tool_export.specs.declared.machine.Unanswered.TheVariants.{Lost}
 use Rattle.tool_lines.specs.Handles.{entries, entry_named, entries_by}
 use Rattle.tool_lines.specs.Running.{AreHeld, IsAnswered}
 use Rattle.tool_lines.proofs.LogLemmas.{named_held}
