@@ -13,4 +13,4 @@ pub use cuts::{behind, place_of, split_at_first, split_before};
 pub use error::RunError;
 pub use laws::one_call_at_most;
 pub use printing::write_answer;
-pub use words::{kind_of, name_of, number_of, signed_number_of, unit_of, update_of};
+pub use words::{kind_of, kinds_of, name_of, number_of, signed_number_of, unit_of, update_of};

@@ -8,10 +8,11 @@ ghost use Rattle.metrics_names.specs.declared.common.Unit.{Unit as Measure};
 ghost use Rattle.metrics.specs.declared.handles.Update.{Update as Change};
 ghost use Rattle.tool_grammar.specs.Cuts.{Lacks};
 ghost use Rattle.tool_grammar.specs.Grammar.{unit_word, update_word, amount_word, IsName, IsInRange};
+ghost use Rattle.tool_grammar.specs.Kinds.{HasKind, kinds_word};
 ghost use Rattle.metrics_names.specs.Names.{name_word, kind_word};
 
 use itoa::Buffer;
-use metrics::{MetricKind, Unit, Update};
+use metrics::{MetricKind, MetricKindMask, Unit, Update};
 
 /// Returns the text of a word, where a dash is the empty text.
 pub fn name_of(word: &[u8]) -> Option<&str>
@@ -40,6 +41,23 @@ pub fn kind_of(word: &[u8]) -> Option<MetricKind>
         b"counter" => Some(MetricKind::Counter),
         b"gauge" => Some(MetricKind::Gauge),
         b"histogram" => Some(MetricKind::Histogram),
+        _ => None,
+    }
+}
+
+/// Returns the kinds that the letters of a word name.
+pub fn kinds_of(word: &[u8]) -> Option<MetricKindMask>
+    ensures { MatchOption result ((kinds : ℕ) → HasKind kinds → word.now ≡ kinds_word kinds → ⊥)
+        (λ kinds. HasKind kinds × (word.now ≡ kinds_word kinds)) }
+{
+    match word {
+        b"c" => Some(MetricKindMask::COUNTER),
+        b"g" => Some(MetricKindMask::GAUGE),
+        b"h" => Some(MetricKindMask::HISTOGRAM),
+        b"cg" => Some(MetricKindMask::COUNTER | MetricKindMask::GAUGE),
+        b"ch" => Some(MetricKindMask::COUNTER | MetricKindMask::HISTOGRAM),
+        b"gh" => Some(MetricKindMask::GAUGE | MetricKindMask::HISTOGRAM),
+        b"cgh" => Some(MetricKindMask::ALL),
         _ => None,
     }
 }

@@ -7,7 +7,7 @@ use Rattle.metrics.specs.Meaning.{Meaning}
 use Rattle.metrics.specs.Layers.{joined_all}
 use Rattle.metrics_trees.specs.Recorders.{refusal, route_refusal, target_refusal}
 use Rattle.metrics_trees.proofs.JoinedLemmas.{books-append}
-use Rattle.tool_trees.specs.Words.{HasKind}
+use Rattle.tool_grammar.specs.Kinds.{HasKind}
 use Rattle.tool_trees.specs.Trees.{books_in}
 use Rattle.tool_trees.proofs.LastLines.{split_same}
 use Rattle.tool_trees.specs.declared.level.Level.{Level}

@@ -10,8 +10,10 @@ use Rattle.tool_grammar.proofs.WordsLemmas.{before_same, first_same, lacks_decim
 use Rattle.tool_trees.specs.declared.tree_line.RouteWord.{RouteWord}
 use Rattle.tool_trees.specs.declared.tree_line.TreeLine.TheVariants as line
 use Rattle.tool_trees.specs.declared.tree_line.First.{First}
-use Rattle.tool_trees.specs.Words.{HasKind, words, case_word, form_word, kinds_word, route_word, first_of, first_word, IsRoute, IsNoLine, IsNoLineFrom}
-use Rattle.tool_trees.proofs.Lines.{lead, tail_same, starts_words, lacks_case, lacks_form, cut_line, lacks_kinds, route_parts}
+use Rattle.tool_grammar.specs.Kinds.{HasKind, kinds_word}
+use Rattle.tool_grammar.proofs.KindsLemmas.{lacks_kinds}
+use Rattle.tool_trees.specs.Words.{words, case_word, form_word, route_word, first_of, first_word, IsRoute, IsNoLine, IsNoLineFrom}
+use Rattle.tool_trees.proofs.Lines.{lead, tail_same, starts_words, lacks_case, lacks_form, cut_line, route_parts}
 
 -- ---- words after spaces
 

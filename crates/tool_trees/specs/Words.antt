@@ -1,10 +1,9 @@
 -- The lines of a tree: what each says.
 use Rattle.std.specs.Prelude.{◌≡◌, ℕ, ◌<◌, ◌≤◌, ◌^◌, Bool, true, false, List, [], ◌∷◌, ◌++◌, codes, decimal, flat_map, IsUtf8}
 use Rattle.std.specs.List.{AllByRecursion}
-use Rattle.metrics_names.specs.declared.kind.MetricKind.TheVariants.{Counter, Gauge, Histogram}
-use Rattle.metrics.specs.Layers.{mask_has}
 use Rattle.tool_grammar.specs.Cuts.{Lacks}
 use Rattle.tool_grammar.specs.Grammar.{IsName}
+use Rattle.tool_grammar.specs.Kinds.{HasKind, kinds_word}
 use Rattle.metrics_names.specs.Names.{name_word}
 use Rattle.tool_trees.specs.declared.tree_line.RouteWord.{RouteWord}
 use Rattle.tool_trees.specs.declared.tree_line.TreeLine.{TreeLine}
@@ -25,18 +24,6 @@ case_word true = codes "ci"
 abbrev pub form_word : Bool → List ℕ
 form_word false = codes "links"
 form_word true = codes "dfa"
-
-abbrev pub letter : Bool → List ℕ → List ℕ
-letter false word = []
-letter true word = word
-
--- a letter for each kind of a mask, in this order
-abbrev pub kinds_word : ℕ → List ℕ
-kinds_word mask = letter (mask_has Counter mask) (codes "c") ++ (letter (mask_has Gauge mask) (codes "g") ++ letter (mask_has Histogram mask) (codes "h"))
-
--- a mask with one kind at least
-abbrev pub HasKind : ℕ → Type 0
-HasKind mask = (0 < mask) × (mask ≤ 7)
 
 -- kinds, target and pattern, with a slash between two. The pattern is as written: nothing or a dash for the empty one
 abbrev pub route_word : RouteWord → List ℕ

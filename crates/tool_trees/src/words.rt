@@ -7,13 +7,13 @@ ghost use Rattle.tool_grammar.specs.Grammar.{IsName};
 ghost use Rattle.metrics_names.specs.Names.{name_word};
 ghost use Rattle.tool_trees.specs.declared.tree_line.RouteWord.{RouteWord as Written};
 ghost use Rattle.tool_trees.specs.declared.tree_line.First.{First as Begin};
-ghost use Rattle.tool_trees.specs.Words.{HasKind, words, case_word, form_word, kinds_word, route_word, first_word, IsRoute};
+ghost use Rattle.tool_trees.specs.Words.{words, case_word, form_word, route_word, first_word, IsRoute};
 ghost use Rattle.tool_trees.specs.Words.{Spells, IsNoLine, SpellsFrom, IsNoLineFrom};
 
 use crate::tree_line::{First, RouteWord, TreeLine};
-use metrics::{Items, MetricKindMask, Text};
+use metrics::{Items, Text};
 use std::alloc::{AllocError, Global};
-use tool_grammar::{behind, name_of, number_of, split_at_first, split_before};
+use tool_grammar::{behind, kinds_of, name_of, number_of, split_at_first, split_before};
 
 /// Whether a word asks for folding.
 fn folds(word: &[u8]) -> Option<bool>
@@ -51,23 +51,6 @@ fn first_of(word: &[u8]) -> Option<First>
         b"fanout" => Some(First::Fanout),
         b"router" => Some(First::Router),
         b"end" => Some(First::End),
-        _ => None,
-    }
-}
-
-/// The kinds that the letters of a word name.
-fn kinds_of(word: &[u8]) -> Option<MetricKindMask>
-    ensures { MatchOption result ((kinds : ℕ) → HasKind kinds → word.now ≡ kinds_word kinds → ⊥)
-        (λ kinds. HasKind kinds × (word.now ≡ kinds_word kinds)) }
-{
-    match word {
-        b"c" => Some(MetricKindMask::COUNTER),
-        b"g" => Some(MetricKindMask::GAUGE),
-        b"h" => Some(MetricKindMask::HISTOGRAM),
-        b"cg" => Some(MetricKindMask::COUNTER | MetricKindMask::GAUGE),
-        b"ch" => Some(MetricKindMask::COUNTER | MetricKindMask::HISTOGRAM),
-        b"gh" => Some(MetricKindMask::GAUGE | MetricKindMask::HISTOGRAM),
-        b"cgh" => Some(MetricKindMask::ALL),
         _ => None,
     }
 }

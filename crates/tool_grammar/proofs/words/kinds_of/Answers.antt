@@ -1,6 +1,6 @@
 use Rattle.std.proofs.Common.{refl, rules}
-use Rattle.tool_trees.proofs.Lines.{kinds_of_both}
-use Rattle.tool_trees.proofs.words.kinds_of.Goals as goal
+use Rattle.tool_grammar.proofs.KindsLemmas.{kinds_of_both}
+use Rattle.tool_grammar.proofs.words.kinds_of.Goals as goal
 
 pub returns-in-cg : goal.returns-in-cg
 returns-in-cg c = kinds_of_both _ 1 2 _ 99 103 (search rules) (search rules) (search rules) (search rules) c.bitor.ensures refl
