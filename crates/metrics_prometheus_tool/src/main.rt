@@ -11,6 +11,7 @@ use clap::error::ErrorKind;
 use std::io::BufReader;
 use std::process::ExitCode;
 use std::{env, io};
+use tool_export::exit_of;
 use tool_prometheus::{Options, command};
 
 /// Answers standard input.
@@ -32,10 +33,7 @@ fn tell(host: &HostRuntime, error: clap::Error) -> io::Result<u8> {
 
 /// The status of the whole program, or an error if memory ran out at its start.
 fn status(host: &HostRuntime) -> io::Result<u8> {
-    let mut words: Vec<String> = Vec::new(host.alloc());
-    for word in env::args(host)? {
-        words.push(word)?;
-    }
+    let words: Vec<String> = env::args(host)?.collect(host.alloc())?;
     match options_of(host.alloc(), &words) {
         Ok((options, path)) => serve(host, options, path),
         Err(error) => tell(host, error),
@@ -43,20 +41,5 @@ fn status(host: &HostRuntime) -> io::Result<u8> {
 }
 
 fn main(rt: HostRuntime) -> ExitCode {
-    match status(&rt) {
-        Ok(status) => ExitCode::from(status),
-        Err(e) => {
-            let _ = match e.kind() {
-                io::ErrorKind::InvalidData => eprintln!(rt;
-                    "a word of the command line is not UTF-8"
-                ),
-                _ => eprintln!(rt; "memory"),
-            };
-            ExitCode::from(if e.kind() == io::ErrorKind::InvalidData {
-                2
-            } else {
-                1
-            })
-        }
-    }
+    exit_of(&rt, status(&rt))
 }

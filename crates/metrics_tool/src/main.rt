@@ -7,29 +7,27 @@ use std::process::ExitCode;
 use std::sync::Wait;
 use std::thread::Threads;
 use std::{env, io};
+use tool_export::exit_of;
 use tool_lines::command;
+
+/// The words after the program's name.
+fn words_of(host: &HostRuntime) -> io::Result<Vec<String>> {
+    match env::args(host) {
+        Ok(all) => Ok(all.skip(1).collect(host.alloc())?),
+        // A word that is no text is an invalid word, so none are passed on.
+        Err(e) if e.kind() == io::ErrorKind::InvalidData => Ok(Vec::new(host.alloc())),
+        Err(e) => Err(e),
+    }
+}
 
 /// The status of the whole program, or an error if memory ran out at its start. Both arguments are the runtime: `rt`
 /// starts threads and waits, `host` provides memory, words and streams.
 fn status<R: Threads + Wait + Sync>(rt: &R, host: &HostRuntime) -> io::Result<u8> {
-    let mut arguments: Vec<String> = Vec::new(host.alloc());
-    match env::args(host) {
-        Ok(all) => {
-            for argument in all.skip(1) {
-                arguments.push(argument)?;
-            }
-        }
-        Err(e) => {
-            // A word that is no text is an invalid word, so none are passed on.
-            if e.kind() != io::ErrorKind::InvalidData {
-                return Err(e);
-            }
-        }
-    }
-    let mut words: Vec<&str> = Vec::new(host.alloc());
-    for argument in &arguments {
-        words.push(argument.as_str())?;
-    }
+    let arguments = words_of(host)?;
+    let words: Vec<&str> = arguments
+        .iter()
+        .map(|word| word.as_str())
+        .collect(host.alloc())?;
     let mut input = BufReader::new(host.alloc(), host.reader())?;
     let mut output = io::writer(host);
     let mut errors = host.stderr();
@@ -44,11 +42,5 @@ fn status<R: Threads + Wait + Sync>(rt: &R, host: &HostRuntime) -> io::Result<u8
 }
 
 fn main(rt: HostRuntime) -> ExitCode {
-    match status(&rt, &rt) {
-        Ok(status) => ExitCode::from(status),
-        Err(_) => {
-            let _ = eprintln!(rt; "memory");
-            ExitCode::from(1)
-        }
-    }
+    exit_of(&rt, status(&rt, &rt))
 }

@@ -1,5 +1,5 @@
 -- How far a run has come, and how it ends.
-use Rattle.std.proofs.Common.{◌≡◌, ℕ, suc, ◌+◌, ◌^◌, ◌<◌, List, [], ◌∷◌, ◌++◌, map, length, Option, OnSome, Result, Ok, Err, Some, None, refl, sym, ap, subst, ◌∙◌, inl, inr, arith, append_assoc, append-nil}
+use Rattle.std.proofs.Common.{◌≡◌, ℕ, ◌+◌, ◌^◌, ◌<◌, List, [], ◌∷◌, ◌++◌, length, Option, OnSome, Result, Ok, Err, Some, None, refl, sym, ap, subst, ◌∙◌, inl, inr, arith, append_assoc, append-nil}
 use Rattle.std.specs.Io.KnownBytes.{Consumes, Appends, Keeps, IsAtEnd}
 use Rattle.std.proofs.KnownBytes.{Consumes-nil, Consumes-trans, Appends-nil, Appends-trans, Appends-kept}
 use Rattle.std.proofs.lemmas.Fn.{FoldsTo-push}
@@ -7,7 +7,7 @@ use Rattle.std.proofs.lemmas.Grind.{flat_map-append}
 use Rattle.std.proofs.lemmas.List.{map-append, length_push}
 use Rattle.tool_export.specs.Lines.{lines_of, ended, unlines, IsLine}
 use Rattle.tool_export.specs.Waiting.{HandsOn, LosesSome, WritesBeside}
-use Rattle.tool_export.specs.Answering.{Answering, Dialogue, lines_in, texts_in, AreAnswered, Leaves, IsWhole, IsFlushed, capped, AreFirst, IsCutShort, IsRun, AnswersLine, fault_at}
+use Rattle.tool_export.specs.Answering.{Answering, Dialogue, lines_in, texts_in, AreAnswered, IsFlushed, capped, AreFirst, IsCutShort, IsRun, AnswersLine, fault_at}
 use Rattle.tool_export.specs.declared.stream.Fault.{Fault}
 use Rattle.tool_grammar.specs.declared.error.RunError.{RunError}
 use Rattle.tool_grammar.specs.declared.error.RunError.TheVariants.{Memory, BadLine, Device}

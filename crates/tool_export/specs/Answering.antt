@@ -100,3 +100,9 @@ IsFlushed before after = (after ≡ before) ⊎ (IsWhole before × (after ≡ Er
 abbrev pub fault_at : ℕ → Fault → RunError
 fault_at number FaultVariants.Memory = Memory (Some number)
 fault_at number FaultVariants.Device = Device
+
+-- the status of a program that stopped for this reason: 2 at a bad line, 1 at a fault of memory or the device
+abbrev pub status_number : RunError → ℕ
+status_number (BadLine k) = 2
+status_number (Memory at) = 1
+status_number Device = 1

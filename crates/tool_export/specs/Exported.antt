@@ -1,6 +1,6 @@
 -- The answers to the lines of an exporter.
 use Rattle.std.specs.Prelude.{◌≡◌, ◌≢◌, ℕ, ◌==◌, List, [], ◌∷◌, ◌++◌, codes, decimal, ◌⊎◌}
-use Rattle.std.specs.Prelude.{Result, Ok, Err, None, map, flat_map}
+use Rattle.std.specs.Prelude.{Result, Ok, Err, None, MatchResult, map, flat_map}
 use Rattle.std.specs.List.{count_by, AllByRecursion}
 use Rattle.metrics.specs.declared.error.Error.{Error}
 use Rattle.metrics.specs.declared.error.Error.TheVariants.{Memory, CountFull}
@@ -43,10 +43,6 @@ update_text (Err e) = want_text
 
 -- ---- one request
 
--- an expiry was answered, and this is the text of the series that it left
-abbrev pub IsShown : Cells → Result ℕ Error → List ℕ → Type 0
-IsShown cells answer series = (n : ℕ) × (answer ≡ Ok n) × IsText cells series
-
 -- The expected answer to a request after a list of calls: the call, as it is added to the list with its answer, and its
 -- text. An update is made, or fails if the count of its samples is full; a scrape is an expiry, and then the text of
 -- the series.
@@ -62,6 +58,14 @@ IsPlain setup log (Scrape now) event text = (checks : List (Answered KeyParts)) 
 abbrev pub HoldsAtRefusal : Setup → Log → Event → Result ℕ Error → Type 0
 HoldsAtRefusal setup log event (Ok n) = HoldsSome (cells_after setup (steps (log ++ event ∷ [])))
 HoldsAtRefusal setup log event (Err e) = HoldsSome (cells_after setup (steps log))
+
+-- What a scrape showed: idle series were removed, and this is shown of the others; or memory ran out.
+abbrev pub Scrapes : {T : Type 0} → (Cells → T → Type 0) → Exporter → Exporter → ℕ → Result T Error → Type 0
+Scrapes IsShown old new now result = (setup : Setup) (log : Log) → IsAfter setup log old → (checks : List (Answered KeyParts))
+    × (answer : Result ℕ Error) × IsExpiry setup (steps log) now checks answer
+    × IsAfter setup (log ++ expires now checks answer ∷ []) new × MatchResult result
+    (λ shown. (n : ℕ) × (answer ≡ Ok n) × IsShown (cells_after setup (steps (log ++ expires now checks answer ∷ []))) shown)
+    (λ e. (e ≡ Memory) × HoldsAtRefusal setup log (expires now checks answer) answer)
 
 -- Out of memory: an update that would make its series and changes nothing, or a scrape that found some series. Its
 -- expiry made all its checks or the first n of them.

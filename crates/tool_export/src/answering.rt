@@ -1,9 +1,9 @@
 //! Answers to requests.
 ghost use Rattle.std.specs.Prelude.{◌≡◌, ◌++◌, List, ℕ, OnOk, string_bytes};
-ghost use Rattle.tool_export.specs.Exported.{Answers, update_text as text_of_update};
+ghost use Rattle.metrics_exporter.specs.ExporterText.{IsText};
+ghost use Rattle.tool_export.specs.Exported.{Answers, Scrapes, number_of_lines, scrape_text, update_text as text_of_update};
 
 use crate::requests::Request;
-use crate::scraping::{series_at, write_scrape};
 use metrics::Error;
 use metrics_exporter::Exporter;
 use std::alloc::AllocError;
@@ -16,6 +16,38 @@ fn update_text(answered: Result<(), Error>) -> &'static str
         Ok(()) => "ok\n",
         Err(Error::CountFull) => "refused E8 count full\n",
         Err(_) => "refused E1 memory\n",
+    }
+}
+
+/// How many lines a text has.
+fn line_count(text: &[u8]) -> usize
+    ensures { result ≡ number_of_lines text.now }
+{
+    let mut count = 0;
+    for byte in text {
+        if *byte == b'\n' {
+            count += 1;
+        }
+    }
+    count
+}
+
+/// Appends the text of a scrape whose series have this text.
+fn write_scrape(now: u64, series: &str, text: &mut String) -> Result<(), AllocError>
+    ensures { OnOk result (string_bytes text.new ≡ string_bytes text.old ++ scrape_text now series.now) }
+{
+    let lines = line_count(series.as_bytes());
+    writeln!(text, "scrape {now} {lines}")?;
+    text.push_str(series)
+}
+
+/// Removes the series idle at this moment, and returns the text of the rest. Never fails if no series is held.
+fn series_at(on: &mut Exporter, now: u64) -> Result<String, Error>
+    ensures { Scrapes (λ cells text. IsText cells (string_bytes text)) on.old on.new now result }
+{
+    match on.expire(now) {
+        Ok(_) => on.text(),
+        Err(e) => Err(e),
     }
 }
 

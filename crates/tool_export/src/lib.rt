@@ -8,7 +8,7 @@ mod laws;
 mod machine;
 mod plans;
 mod requests;
-mod scraping;
+mod status;
 mod stream;
 mod waiting;
 
@@ -18,5 +18,6 @@ pub use laws::export_law;
 pub use machine::{LineMachine, Unanswered, at_line, flush, run_lines};
 pub use plans::{ExportPlan, Watched, mask_from, plan_of};
 pub use requests::{Request, request_of};
+pub use status::{exit_of, status_of};
 pub use stream::{Broken, Fault, Found, next_line, write_text};
 pub use tool_grammar::RunError;

@@ -3,8 +3,8 @@ use Rattle.std.specs.Prelude.{◌≡◌, ℕ, List, ◌∷◌, codes, Result, Ok
 use Rattle.tool_grammar.specs.declared.error.RunError.{RunError}
 use Rattle.tool_export.specs.declared.plans.ExportPlan.{ExportPlan}
 use Rattle.tool_export.specs.Plans.{IsAllowed, plan_words, setup_of}
+use Rattle.tool_export.specs.Answering.{status_number}
 use Rattle.tool_export.specs.Exporting.{IsExport}
-use Rattle.tool_lines.specs.Running.{status_number}
 
 -- the words ask for an exporter of this plan
 abbrev pub AsksExport : List (List ℕ) → ExportPlan → Type 0

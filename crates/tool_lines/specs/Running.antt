@@ -100,9 +100,3 @@ pub record PrintsAnswers (text : List ℕ) : Type 0 where
   pub are_new : AreNew old.contents
   pub are_made : AreMade old new log
   pub text_is : text ≡ print log
-
--- the status of a program that stopped for this reason
-abbrev pub status_number : RunError → ℕ
-status_number (BadLine k) = 2
-status_number (Memory at) = 1
-status_number Device = 1

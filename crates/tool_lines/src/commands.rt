@@ -3,7 +3,7 @@ ghost use Rattle.std.specs.Prelude.{◌≡◌, ◌≤◌, ◌++◌, ◌⊎◌, �
 ghost use Rattle.std.specs.Io.KnownBytes.{Consumes, Appends, IsAtEnd};
 ghost use Rattle.tool_export.specs.declared.plans.ExportPlan.{ExportPlan as Plan};
 ghost use Rattle.tool_lines.specs.Exports.{AsksExport, end_status, EndsExport};
-ghost use Rattle.tool_lines.specs.Running.{PrintsAnswers, status_number};
+ghost use Rattle.tool_lines.specs.Running.{PrintsAnswers};
 ghost use Rattle.tool_grammar.specs.declared.error.RunError.TheVariants.{Device as NoDevice};
 ghost use Rattle.tool_lines.specs.declared.requests.Request.{Request as Asked};
 ghost use Rattle.tool_lines.specs.declared.requests.StormPlan.{StormPlan as Storm};
@@ -22,7 +22,7 @@ use std::alloc::Global;
 use std::io::{BufRead, Write};
 use std::sync::Wait;
 use std::thread::Threads;
-use tool_export::{ExportPlan, export_new, flush, write_text};
+use tool_export::{ExportPlan, export_new, flush, status_of, write_text};
 use tool_grammar::RunError;
 use tool_storm::{Gate, Totals, storm, storm_growing, text_of_totals};
 
@@ -125,18 +125,6 @@ fn answer_request<R: Threads + Wait + Sync, I: BufRead, O: Write>(
         }
         Request::Storm(plan) => answer_storm(rt, alloc, plan, output),
         Request::GrowingStorm(plan) => answer_growing_storm(rt, alloc, plan, output),
-    }
-}
-
-/// The status of a program that stopped for this reason.
-fn status_of(e: RunError) -> u8
-    ensures number { result ≡ status_number e }
-    ensures not_done { 1 ≤ result }
-{
-    match e {
-        RunError::BadLine(_) => 2,
-        RunError::Memory(_) => 1,
-        RunError::Device => 1,
     }
 }
 

@@ -1,26 +1,21 @@
 -- Calls of an exporter as answers to requests.
-use Rattle.std.proofs.Common.{◌≡◌, ℕ, Bool, true, false, cond, List, [], ◌∷◌, ◌++◌, ◌⊎◌, ◌↔◌, inl, inr, refl, sym, ap, is_ok}
-use Rattle.std.proofs.Common.{subst, Option, Result, Ok, Err, None, MatchResult, OnErr, OnOk, IfErr}
+use Rattle.std.proofs.Common.{◌≡◌, ℕ, Bool, true, false, cond, List, [], ◌∷◌, ◌++◌, inl, inr, refl, sym, ap, append-nil, is_ok}
+use Rattle.std.proofs.Common.{subst, Option, Result, Ok, Err, MatchResult, OnErr, OnOk, IfErr}
 use Rattle.metrics.specs.declared.error.Error.{Error}
 use Rattle.metrics.specs.declared.error.Error.TheVariants.{Memory, CountFull}
 use Rattle.metrics.specs.declared.handles.Update.{Update}
-use Rattle.metrics_registry.specs.Idleness.{Answered}
 use Rattle.metrics_names.specs.Names.{KeyParts}
 use Rattle.metrics_names.specs.declared.kind.MetricKind.{MetricKind}
 use Rattle.metrics_names.specs.declared.common.Unit.{Unit as Measure}
 use Rattle.metrics_exporter.specs.declared.exporter.Exporter.{Exporter}
-use Rattle.metrics_exporter.specs.Exporting.{Setup, Log, Cells, updates, expires, steps, cells_after, series_of, IsExpiry, IsFull, HoldsSome}
+use Rattle.metrics_exporter.specs.Exporting.{Setup, Log, updates, expires, steps, cells_after, IsExpiry, HoldsSome}
 use Rattle.metrics_exporter.specs.Describing.{DescribesName, SameLegend}
 use Rattle.metrics_exporter.specs.Kept.{IsAfter, described}
-use Rattle.metrics_prometheus.specs.declared.naming.Naming.{Naming}
-use Rattle.tool_export.specs.Exported.{HoldsAtRefusal}
+use Rattle.tool_export.specs.Exported.{Scrapes}
+use Rattle.tool_export.proofs.AnswerLemmas.{Calls, Full, Absent, IsUpdateAnswer, by_answer, not_full}
 use Rattle.tool_prometheus.specs.declared.answering.Served.{Served}
 use Rattle.tool_prometheus.specs.declared.requests.Request.TheVariants.{Change, Describe, Scrape, Nothing}
-use Rattle.tool_prometheus.specs.Exposed.{refusal_text, shown_text, IsExposed, IsShown, IsMoment, Answers, ShowsEnd}
-
-pub append-nil : {A : Type 0} (xs : List A) → xs ++ [] ≡ xs
-append-nil [] = refl
-append-nil (x ∷ xs) = ap (λ z. x ∷ z) (append-nil xs)
+use Rattle.tool_prometheus.specs.Exposed.{refusal_text, shown_text, IsExposed, IsMoment, Answers, ShowsEnd}
 
 module _ (old : Served) (exporter : Exporter) where
   -- another exporter, and whether something changed
@@ -33,22 +28,9 @@ module _ (old : Served) (exporter : Exporter) where
   -- ---- an update
 
   module _ (key : KeyParts) (by : Update) (same : described exporter ≡ described old.exporter) where
-    -- the clauses of an update that was answered so
-    abbrev pub Calls : Result (Unit {0}) Error → Type 0
-    Calls r = (setup : Setup) (log : Log) → IsAfter setup log old.exporter → IsAfter setup (log ++ updates key by r ∷ []) exporter
-
-    abbrev pub Full : Result (Unit {0}) Error → Type 0
-    Full r = (setup : Setup) (log : Log) → IsAfter setup log old.exporter → (r ≡ Err CountFull) ↔ IsFull (steps log) key by
-
-    abbrev pub Absent : Result (Unit {0}) Error → Type 0
-    Absent r = (setup : Setup) (log : Log) → IsAfter setup log old.exporter → r ≡ Err Memory
-        → cells_after setup (steps log) (series_of key by) ≡ None
-
     abbrev pub Told : Result (Unit {0}) Error → Type 0
-    Told r = Calls r → Full r → Absent r → Answers old (with_exporter (owed r)) (Change key by) (refusal_text r)
-
-    no_error : (r : Result (Unit {0}) Error) (e : Error) → r ≡ Ok tt → r ≡ Err e → ⊥
-    no_error r e done is = absurd (cc)
+    Told r = Calls old.exporter exporter key by r → Full old.exporter exporter key by r → Absent old.exporter exporter key by r
+        → Answers old (with_exporter (owed r)) (Change key by) (refusal_text r)
 
     keeps : (changed : Bool) → SameLegend (described (with_exporter changed).exporter) (described old.exporter)
     keeps changed kind name = λ i. same i kind name
@@ -59,7 +41,7 @@ module _ (old : Served) (exporter : Exporter) where
       λ setup log after. (
         updates key by (Ok tt) ∷ [],
         calls setup log after,
-        inl (keeps true, inl (refl, refl, λ f. no_error (Ok tt) CountFull refl ((full setup log after).1 f), refl)),
+        inl (keeps true, inl (refl, refl, not_full old.exporter exporter key by full setup log after, refl)),
       ),
     )
 
@@ -77,11 +59,8 @@ module _ (old : Served) (exporter : Exporter) where
           (updates key by (Err Memory) ∷ [], calls setup log after, inr (keeps old.is_changed, refl, refl, refl, absent setup log after refl)),
     )
 
-    pub told : (r : Result (Unit {0}) Error)
-        → MatchResult r (λ done. Unit {0}) (λ e. ((e ≡ Memory) ⊎ (e ≡ CountFull)) × (exporter ≡ old.exporter)) → Told r
-    told (Ok done) h = told_done
-    told (Err e) (inl is, kept) = subst (λ x. Told (Err x)) (sym is) told_want
-    told (Err e) (inr is, kept) = subst (λ x. Told (Err x)) (sym is) told_full
+    pub told : (r : Result (Unit {0}) Error) → IsUpdateAnswer (exporter ≡ old.exporter) r → Told r
+    told r h = by_answer Told told_done told_full told_want (exporter ≡ old.exporter) r h
 
   -- ---- a description
 
@@ -101,16 +80,9 @@ module _ (old : Served) (exporter : Exporter) where
 
   -- ---- a scrape
 
-  -- an expiry and what is shown after it
-  abbrev pub Scrapes : {T : Type 0} → (T → List ℕ) → ℕ → Result T Error → Type 0
-  Scrapes bytes now r = (setup : Setup) (log : Log) → IsAfter setup log old.exporter → (checks : List (Answered KeyParts))
-      × (answer : Result ℕ Error)
-      × IsExpiry setup (steps log) now checks answer × IsAfter setup (log ++ expires now checks answer ∷ []) exporter
-      × MatchResult r (λ t. IsShown old.naming (cells_after setup (steps (log ++ expires now checks answer ∷ []))) exporter answer (bytes t))
-      (λ e. (e ≡ Memory) × HoldsAtRefusal setup log (expires now checks answer) answer)
-
   pub scraped : {T : Type 0} (bytes : T → List ℕ) (moment : Option ℕ) (now : ℕ) (r : Result T Error)
-      → described exporter ≡ described old.exporter → IsMoment moment now → Scrapes bytes now r
+      → described exporter ≡ described old.exporter → IsMoment moment now
+      → Scrapes (λ cells t. IsExposed old.naming exporter cells (bytes t)) old.exporter exporter now r
       → Answers old (with_exporter (cond (is_ok r) false old.is_changed)) (Scrape moment) (shown_text bytes old.has_file r)
   scraped bytes moment now (Ok t) same at scrapes = (
     (refl, refl, refl, refl),
@@ -133,13 +105,6 @@ module _ (old : Served) (exporter : Exporter) where
           inr (λ kind name i. same i kind name, ap (λ x. refusal_text (Err x)) is, refl, (now, at, checks, answer, refl, made, held)),
         ),
   )
-
-pub shown_or_not : (naming : Naming) (cells : Cells) (on : Exporter) (answer : Result ℕ Error) (n : ℕ) {T : Type 0} (bytes : T → List ℕ)
-    (text : Result T Error) (Held : Type 0) → answer ≡ Ok n
-    → MatchResult text (λ t. IsExposed naming on cells (bytes t)) (λ e. e ≡ Memory) → OnErr text Held
-    → MatchResult text (λ t. IsShown naming cells on answer (bytes t)) (λ e. (e ≡ Memory) × Held)
-shown_or_not naming cells on answer n bytes (Ok t) Held is h held = (n, is, h)
-shown_or_not naming cells on answer n bytes (Err e) Held is h held = (h, held)
 
 -- ---- lines that are no request
 

@@ -1,5 +1,5 @@
 -- How labels are read.
-use Rattle.std.proofs.Common.{◌≡◌, ◌∙◌, ℕ, ◌<◌, Bool, true, false, List, [], ◌∷◌, ◌++◌, drop, get_or, length, append_assoc, refl, ap, sym, subst, arith}
+use Rattle.std.proofs.Common.{◌≡◌, ◌∙◌, ℕ, ◌<◌, Bool, true, false, List, [], ◌∷◌, ◌++◌, drop, get_or, length, append-nil, append_assoc, refl, ap, sym, subst, arith}
 use Rattle.std.specs.List.{AllByRecursion}
 use Rattle.metrics_names.specs.Names.{LabelParts}
 use Rattle.metrics_prometheus.specs.Labels.{placed}
@@ -8,10 +8,6 @@ use Rattle.tool_grammar.proofs.WordsLemmas.{before_same, first_same}
 use Rattle.tool_prometheus.specs.Lines.{escape, escaped, IsQuotable, StartsElse, CanBeValue, value_word, Written, IsWritten, label_of}
 use Rattle.tool_prometheus.specs.Lines.{label_word, label_words, LacksKey, MayFollow, AreWritten, put_in, in_order}
 use Rattle.tool_prometheus.proofs.EscapeLemmas.{escape-same, escaped-same, escape-some}
-
-append-nil : (xs : List ℕ) → xs ++ [] ≡ xs
-append-nil [] = refl
-append-nil (x ∷ xs) = ap (λ z. x ∷ z) (append-nil xs)
 
 -- ---- quoted values
 

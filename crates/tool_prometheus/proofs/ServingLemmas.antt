@@ -1,6 +1,6 @@
 -- Runs over lines, and their ends.
 use Rattle.std.proofs.Common.{◌≡◌, ℕ, Bool, true, false, is_err, OnOk, List, [], ◌∷◌, ◌++◌, inl, inr, refl, sym, ap, subst, ◌∙◌}
-use Rattle.std.proofs.Common.{Result, Ok, Err, Some, None}
+use Rattle.std.proofs.Common.{Result, Ok, Err, Some, None, append-nil}
 use Rattle.std.specs.List.{FoldsTo}
 use Rattle.tool_grammar.specs.declared.error.RunError.{RunError}
 use Rattle.tool_grammar.specs.declared.error.RunError.TheVariants.{Memory, BadLine, Device}
@@ -8,7 +8,6 @@ use Rattle.tool_export.specs.Answering.{Dialogue, Leaves, IsRun, IsFlushed}
 use Rattle.tool_prometheus.specs.declared.answering.Served.{Served}
 use Rattle.tool_prometheus.specs.Exposed.{IsEnd}
 use Rattle.tool_prometheus.specs.Serving.{answers, Stops, EndsLines}
-use Rattle.tool_prometheus.proofs.AnswerLemmas.{append-nil}
 
 module _ (skips : Bool) {N : Type 0} where
   -- what was noted doesn't affect the lines

@@ -48,10 +48,6 @@ shown_text bytes has_file (Err e) = refusal_text (Err e)
 abbrev pub IsExposed : Naming → Exporter → Cells → List ℕ → Type 0
 IsExposed naming on cells text = IsDescribed naming (described on) cells text
 
--- an expiry was answered, and this is an exposition of the series that it left
-abbrev pub IsShown : Naming → Cells → Exporter → Result ℕ Error → List ℕ → Type 0
-IsShown naming cells on answer shown = (n : ℕ) × (answer ≡ Ok n) × IsExposed naming on cells shown
-
 -- only the exporter and what a scrape owes changed
 abbrev pub KeepsRest : Served → Served → Type 0
 KeepsRest old new = (new.naming ≡ old.naming) × (new.has_file ≡ old.has_file) × (new.has_bad ≡ old.has_bad) × (new.labels ≡ old.labels)

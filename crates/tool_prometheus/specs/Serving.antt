@@ -2,7 +2,7 @@
 use Rattle.std.specs.Prelude.{if◌then◌else◌, ◌≡◌, ℕ, Bool, false, List, [], ◌++◌, ◌⊎◌, Result, Ok, Err, None}
 use Rattle.tool_grammar.specs.declared.error.RunError.{RunError}
 use Rattle.tool_grammar.specs.declared.error.RunError.TheVariants.{Memory, BadLine, Device}
-use Rattle.tool_export.specs.Answering.{Answering, IsRun}
+use Rattle.tool_export.specs.Answering.{Answering, IsRun, status_number}
 use Rattle.metrics_exporter.specs.Kept.{IsAfter, described}
 use Rattle.metrics_exporter.specs.Describing.{SameLegend, no_legend}
 use Rattle.tool_prometheus.specs.Making.{setup_for}
@@ -48,9 +48,7 @@ Serves options at_end read text r has_bad =
 -- the status at the end: 2 at a bad line, 1 at a fault of memory, the device or the file, 3 if a bad line was skipped, otherwise 0
 abbrev pub IsStatus : Result ℕ RunError → Bool → ℕ → Type 0
 IsStatus (Ok n) has_bad status = (status ≡ 1) ⊎ (status ≡ (if has_bad then 3 else 0))
-IsStatus (Err (BadLine k)) has_bad status = status ≡ 2
-IsStatus (Err (Memory at)) has_bad status = status ≡ 1
-IsStatus (Err Device) has_bad status = status ≡ 1
+IsStatus (Err e) has_bad status = status ≡ status_number e
 
 -- the lines were answered, and the status reports how that ended
 abbrev pub Ends : Options → Type 0 → (List ℕ → Type 0) → (List ℕ → Type 0) → ℕ → Type 0

@@ -1,14 +1,9 @@
 //! Answers to requests.
-ghost use Rattle.std.specs.Prelude.{◌≡◌, ◌++◌, ◌∷◌, [], ℕ, List, Result as Outcome, OnOk, MatchResult};
+ghost use Rattle.std.specs.Prelude.{◌≡◌, ◌++◌, ℕ, List, OnOk};
 ghost use Rattle.std.specs.Prelude.{string_bytes, is_ok, true, false, if◌then◌else◌};
-ghost use Rattle.metrics.specs.declared.error.Error.{Error as Refusal};
-ghost use Rattle.metrics.specs.declared.error.Error.TheVariants.{Memory};
-ghost use Rattle.metrics_names.specs.Names.{KeyParts};
-ghost use Rattle.metrics_registry.specs.Idleness.{Answered};
-ghost use Rattle.metrics_exporter.specs.Exporting.{Setup, Log, expires, steps, cells_after, IsExpiry};
-ghost use Rattle.metrics_exporter.specs.Kept.{IsAfter, described};
-ghost use Rattle.tool_export.specs.Exported.{HoldsAtRefusal};
-ghost use Rattle.tool_prometheus.specs.Exposed.{Answers, IsShown, IsMoment, IsEnd, scrape_text, shown_text};
+ghost use Rattle.metrics_exporter.specs.Kept.{described};
+ghost use Rattle.tool_export.specs.Exported.{Scrapes};
+ghost use Rattle.tool_prometheus.specs.Exposed.{Answers, IsExposed, IsMoment, IsEnd, scrape_text, shown_text};
 ghost use Rattle.tool_prometheus.specs.Exposed.{refusal_text as text_of_refusal};
 
 use crate::requests::Request;
@@ -91,13 +86,7 @@ fn answer_describe(
 
 /// Removes the series idle at this moment, and returns an exposition of the rest. Never fails if no series is held.
 fn shown_at(alloc: Global, naming: Naming, on: &mut Exporter, now: u64) -> Result<String, Error>
-    ensures shown { (setup : Setup) (log : Log) → IsAfter setup log on.old → (checks : List (Answered KeyParts))
-        × (answer : Outcome ℕ Refusal) × IsExpiry setup (steps log) now checks answer
-        × IsAfter setup (log ++ expires now checks answer ∷ []) on.new
-        × MatchResult result
-        (λ text. IsShown naming (cells_after setup (steps (log ++ expires now checks answer ∷ []))) on.new answer
-        (string_bytes text))
-        (λ e. (e ≡ Memory) × HoldsAtRefusal setup log (expires now checks answer) answer) }
+    ensures shown { Scrapes (λ cells text. IsExposed naming on.new cells (string_bytes text)) on.old on.new now result }
     ensures told { described on.new ≡ described on.old }
 {
     match on.expire(now) {

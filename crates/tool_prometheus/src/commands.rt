@@ -1,5 +1,5 @@
 //! The whole program, for a parsed command line.
-ghost use Rattle.std.specs.Prelude.{ℕ, Bool as Truth, List, [], Err as Failed, OnSome};
+ghost use Rattle.std.specs.Prelude.{ℕ, List, [], OnSome};
 ghost use Rattle.std.specs.Io.KnownBytes.{Consumes, Appends, IsAtEnd};
 ghost use Rattle.metrics_exporter.specs.Kept.{IsAfter, described};
 ghost use Rattle.metrics_exporter.specs.Describing.{SameLegend, no_legend};
@@ -16,7 +16,7 @@ use metrics_exporter::Exporter;
 use metrics_prometheus::Naming;
 use std::alloc::Global;
 use std::io::{BufRead, Write};
-use tool_export::{ExportPlan, flush};
+use tool_export::{ExportPlan, flush, status_of};
 use tool_grammar::RunError;
 
 /// What the command line asks for.
@@ -34,17 +34,6 @@ pub struct Options {
     pub skips_bad: bool,
     /// Scrapes go to a file, and not to the output.
     pub has_file: bool,
-}
-
-/// The status of a program that stopped for this reason.
-fn status_of(e: RunError) -> u8
-    ensures { (has_bad : Truth) → IsStatus (Failed e) has_bad result }
-{
-    match e {
-        RunError::BadLine(_) => 2,
-        RunError::Memory(_) => 1,
-        RunError::Device => 1,
-    }
 }
 
 /// Reports why a run stopped, and returns the status at its end.

@@ -1,4 +1,4 @@
-use Rattle.std.proofs.Common.{rules}
+use Rattle.std.proofs.Common.{rules, string_bytes}
 use Rattle.tool_export.specs.Exported.{scrape_text, want_text, update_text}
 use Rattle.tool_export.proofs.AnswerLemmas.{told, scrape_shown, scrape_wants}
 use Rattle.tool_export.proofs.answering.answer_request.Goals as goal
@@ -11,8 +11,8 @@ returns-in-Change c =
 
 pub returns-in-Ok : goal.returns-in-Ok
 returns-in-Ok c =
-    let done = scrape_shown c.args.on.now c.series_at.new.on c.in-Scrape.now c.as_str.result.now
-    (rw c.as_str.ensures.value c.in-Ok.ensures) in
+    let done = scrape_shown c.args.on.now c.series_at.new.on c.in-Scrape.now string_bytes c.in-Ok.series c.as_str.result.now
+    (search rules) c.in-Ok.ensures in
     (scrape_text c.in-Scrape.now c.as_str.result.now, rw c.in-Scrape.is done, search rules)
 
 pub returns-in-Err : goal.returns-in-Err

@@ -1,6 +1,5 @@
-use Rattle.std.proofs.Common.{◌++◌, [], Ok, Err, refl, sym}
+use Rattle.std.proofs.Common.{◌++◌, [], Ok, Err, refl, sym, append-nil}
 use Rattle.std.proofs.KnownBytes.{Appends-trans}
-use Rattle.tool_prometheus.proofs.AnswerLemmas.{append-nil}
 use Rattle.tool_prometheus.proofs.ServingLemmas.{run-of}
 use Rattle.tool_prometheus.proofs.serving.prometheus.Goals as goal
 
