@@ -3,8 +3,9 @@
 use crate::values::{Unfit, bounds_of, idle_of, labels_of, prefixes_of};
 use clap::error::ErrorKind;
 use clap::{Arg, ArgAction, ArgMatches, Command, Error, value_parser};
+use metrics::MetricKindMask;
 use std::alloc::{AllocError, Global};
-use tool_export::{ExportPlan, Watched};
+use tool_export::ExportPlan;
 use tool_prometheus::{Naming, Options};
 
 const KINDS: &[&str] = &["counter", "gauge", "histogram"];
@@ -144,23 +145,25 @@ fn command_line<'a>(alloc: Global) -> Result<Command<'a>, AllocError> {
     with_output(alloc, with_plan(alloc, command)?)
 }
 
-/// Whether a kind is among those of the option.
-fn is_watched(matches: &ArgMatches<'_>, kind: &str) -> bool {
-    match matches.get_strs("idle-kinds") {
-        Some(kinds) => kinds.iter().any(|word| *word == kind),
-        None => true,
+/// The kinds of the option.
+fn watched_of(matches: &ArgMatches<'_>) -> MetricKindMask {
+    let mut watched = MetricKindMask::NONE;
+    for kind in matches.get_strs("idle-kinds").unwrap_or(KINDS) {
+        watched = watched
+            | match *kind {
+                "counter" => MetricKindMask::COUNTER,
+                "gauge" => MetricKindMask::GAUGE,
+                _ => MetricKindMask::HISTOGRAM,
+            };
     }
+    watched
 }
 
 /// How an exporter is to be made.
 fn plan_of<'a>(alloc: Global, matches: &ArgMatches<'a>) -> Result<ExportPlan, Unfit<'a>> {
     Ok(ExportPlan {
         shards: matches.get_one::<usize>("shards").unwrap_or(1),
-        watched: Watched {
-            counters: is_watched(matches, "counter"),
-            gauges: is_watched(matches, "gauge"),
-            histograms: is_watched(matches, "histogram"),
-        },
+        watched: watched_of(matches),
         idle_timeout: idle_of(matches.get_str("idle"))?,
         bounds: bounds_of(alloc, matches.get_strs("bounds"))?,
     })

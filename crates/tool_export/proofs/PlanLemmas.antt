@@ -1,18 +1,19 @@
 -- Words are those of at most one plan.
-use Rattle.std.proofs.Common.{◌≡◌, ℕ, ℤ, pos, ◌<◌, ◌^◌, List, [], ◌∷◌, ◌++◌, refl, sym, ◌∙◌, ap, subst, arith, codes}
+use Rattle.std.proofs.Common.{◌≡◌, ◌≢◌, ℕ, zero, suc, ℤ, pos, ◌<◌, ◌≤◌, ◌^◌, List, [], ◌∷◌, ◌++◌, refl, sym, ◌∙◌, ap, subst, arith, codes}
 use Rattle.std.proofs.Common.{decimal, FitsSigned, w64}
-use Rattle.std.specs.Prelude.{Bool, true, false, ◌==◌, Option, None, Some, IfSome, get_or}
+use Rattle.std.specs.Prelude.{Option, None, Some, IfSome, MatchOption, get_or}
 use Rattle.std.specs.Fmt.{signed_decimal}
-use Rattle.std.specs.List.{AllByRecursion, list_any}
+use Rattle.std.specs.List.{AllByRecursion}
 use Rattle.std.specs.Str.Parse.{AllDigits}
 use Rattle.std.proofs.lemmas.Fmt.{decimal_injective, decimal_is_IsNumeral}
 use Rattle.std.proofs.lemmas.Str.Parse.{digit_from_value}
 use Rattle.metrics.specs.declared.handles.Update.{Update}
 use Rattle.metrics.specs.declared.handles.Update.TheVariants.{Increment, Absolute, Add, Subtract, Set, Record}
 use Rattle.tool_grammar.specs.Cuts.{StartsAt}
+use Rattle.tool_grammar.specs.Kinds.{HasKind, kinds_word}
 use Rattle.tool_grammar.specs.Printing.{samples_text, more_samples}
+use Rattle.tool_grammar.proofs.KindsLemmas.{kinds_in}
 use Rattle.tool_grammar.proofs.WordsLemmas.{before_same}
-use Rattle.tool_export.specs.declared.plans.Watched.{Watched}
 use Rattle.tool_export.specs.declared.plans.ExportPlan.{ExportPlan}
 use Rattle.tool_export.specs.Plans.{watched_word, timeout_word, AreSamples, IsAllowed, plan_words}
 use Rattle.tool_export.proofs.BoundsLemmas.{below_word, lacks_comma}
@@ -20,51 +21,32 @@ use Rattle.tool_export.proofs.SpellingLemmas.{same_update}
 
 -- ---- the kinds
 
-abbrev has : ℕ → List ℕ → Bool
-has letter word = list_any (λ x. x == letter) word
+kinds_read : (kinds : ℕ) → kinds ≤ 7 → kinds_in (watched_word kinds) ≡ kinds
+kinds_read (suc (suc (suc (suc (suc (suc (suc (suc kinds)))))))) le = absurd (omega (arith, le))
+kinds_read kinds le = refl
 
-abbrev kinds : Bool → Bool → Bool → Watched
-kinds a b c = record { counters = a; gauges = b; histograms = c }
+same_watched : (v w : ℕ) → v ≤ 7 → w ≤ 7 → watched_word v ≡ watched_word w → v ≡ w
+same_watched v w h g e = sym (kinds_read v h) ∙ ap kinds_in e ∙ kinds_read w g
 
-has_c : (a b c : Bool) → has 99 (watched_word (kinds a b c)) ≡ a
-has_c true true true = refl
-has_c true true false = refl
-has_c true false true = refl
-has_c true false false = refl
-has_c false true true = refl
-has_c false true false = refl
-has_c false false true = refl
-has_c false false false = refl
+-- some kind has a letter, so its word is no dash
+named : (kinds : ℕ) → HasKind kinds → watched_word kinds ≡ kinds_word kinds
+named zero h = absurd (omega (arith, h.0))
+named (suc (suc (suc (suc (suc (suc (suc (suc kinds)))))))) h = absurd (omega (arith, h.1))
+named kinds h = refl
 
-has_g : (a b c : Bool) → has 103 (watched_word (kinds a b c)) ≡ b
-has_g true true true = refl
-has_g true true false = refl
-has_g true false true = refl
-has_g true false false = refl
-has_g false true true = refl
-has_g false true false = refl
-has_g false false true = refl
-has_g false false false = refl
+no_word : (word : List ℕ) → word ≢ codes "-" → ((kinds : ℕ) → HasKind kinds → word ≡ kinds_word kinds → ⊥) → (kinds : ℕ)
+    → kinds ≤ 7 → word ≡ watched_word kinds → ⊥
+no_word word other none zero le is = other is
+no_word word other none (suc kinds) le is =
+    let has : HasKind (suc kinds) = (omega arith, le) in none (suc kinds) has (is ∙ named (suc kinds) has)
 
-has_h : (a b c : Bool) → has 104 (watched_word (kinds a b c)) ≡ c
-has_h true true true = refl
-has_h true true false = refl
-has_h true false true = refl
-has_h true false false = refl
-has_h false true true = refl
-has_h false true false = refl
-has_h false false true = refl
-has_h false false false = refl
-
-same_kinds : (v w : Watched) → watched_word v ≡ watched_word w → v ≡ w
-same_kinds v w e =
-    let c : v.counters ≡ w.counters =
-    sym (has_c v.counters v.gauges v.histograms) ∙ ap (has 99) e ∙ has_c w.counters w.gauges w.histograms in
-    let g : v.gauges ≡ w.gauges =
-    sym (has_g v.counters v.gauges v.histograms) ∙ ap (has 103) e ∙ has_g w.counters w.gauges w.histograms in
-    let h : v.histograms ≡ w.histograms =
-    sym (has_h v.counters v.gauges v.histograms) ∙ ap (has 104) e ∙ has_h w.counters w.gauges w.histograms in
-    λ i. record { counters = c i; gauges = g i; histograms = h i }
+pub letters_or_dash : (found : Option ℕ) (word : List ℕ) → word ≢ codes "-"
+    → MatchOption found ((kinds : ℕ) → HasKind kinds → word ≡ kinds_word kinds → ⊥)
+    (λ kinds. HasKind kinds × (word ≡ kinds_word kinds))
+    → MatchOption found ((kinds : ℕ) → kinds ≤ 7 → word ≡ watched_word kinds → ⊥)
+    (λ kinds. (kinds ≤ 7) × (word ≡ watched_word kinds))
+letters_or_dash (Some kinds) word other (has, is) = (has.1, is ∙ sym (named kinds has))
+letters_or_dash None word other none = no_word word other none
 
 -- ---- the timeout
 
@@ -124,10 +106,10 @@ same_samples (m ∷ ms) (n ∷ ns) h g e =
 -- ---- all words
 
 pub one_plan : (a b : ExportPlan) → IsAllowed a → IsAllowed b → plan_words a ≡ plan_words b → a ≡ b
-one_plan a b (count, time, bounds) (number, limit, others) e =
+one_plan a b (count, few, time, bounds) (number, most, limit, others) e =
     let word : ℕ → List (List ℕ) → List ℕ = λ n words. get_or words n [] in
     let s = decimal_injective a.shards b.shards (below_word a.shards count) (below_word b.shards number) (ap (word 0) e) in
-    let w = same_kinds a.watched b.watched (ap (word 1) e) in
+    let w = same_watched a.watched b.watched few most (ap (word 1) e) in
     let t = same_timeout a.idle_timeout b.idle_timeout time limit (ap (word 2) e) in
     let n = same_samples a.bounds b.bounds bounds others (ap (word 3) e) in
     λ i. record { shards = s i; watched = w i; idle_timeout = t i; bounds = n i }

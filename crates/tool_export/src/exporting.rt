@@ -11,7 +11,7 @@ ghost use Rattle.tool_export.specs.Requests.{IsBad};
 
 use crate::answering::answer_request;
 use crate::machine::{LineMachine, Unanswered, flush, run_lines};
-use crate::plans::{ExportPlan, mask_from};
+use crate::plans::ExportPlan;
 use crate::requests::request_of;
 use metrics::Error;
 use metrics_exporter::Exporter;
@@ -83,11 +83,10 @@ pub fn exporter_of(alloc: Global, plan: &ExportPlan) -> Result<Exporter, Error>
     ensures shards { IfOk result (λ e. e.registry.count ≡ plan.now.shards) }
     ensures err { IsAllowed plan.now → IfErr result (λ e. e ≡ OutOfMemory) }
 {
-    let mask = mask_from(plan.watched);
     Exporter::new(
         alloc,
         plan.shards,
-        mask,
+        plan.watched,
         plan.idle_timeout,
         plan.bounds.as_slice(),
     )

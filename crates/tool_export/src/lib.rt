@@ -16,7 +16,7 @@ pub use answering::answer_request;
 pub use exporting::{ExportLines, export, export_new, exporter_of};
 pub use laws::export_law;
 pub use machine::{LineMachine, Unanswered, at_line, flush, run_lines};
-pub use plans::{ExportPlan, Watched, mask_from, plan_of};
+pub use plans::{ExportPlan, plan_of};
 pub use requests::{Request, request_of};
 pub use status::{exit_of, status_of};
 pub use stream::{Broken, Fault, Found, next_line, write_text};

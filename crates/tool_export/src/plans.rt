@@ -1,29 +1,15 @@
 //! The plan that the words after `export` describe.
-ghost use Rattle.std.specs.Prelude.{◌≡◌, ℕ, ℤ, List, [], ◌∷◌, ◌<◌, ◌^◌, Option as Maybe, IfSome};
-ghost use Rattle.std.specs.Prelude.{true, false, MatchResult, MatchOption, decimal, if◌then◌else◌};
+ghost use Rattle.std.specs.Prelude.{◌≡◌, ℕ, ℤ, List, [], ◌∷◌, ◌<◌, ◌≤◌, ◌^◌, Option as Maybe, IfSome};
+ghost use Rattle.std.specs.Prelude.{true, false, MatchResult, MatchOption, decimal};
 ghost use Rattle.metrics_registry.specs.Held.{is_shard_count as is_count};
-ghost use Rattle.metrics.specs.Layers.{mask_has};
-ghost use Rattle.metrics_names.specs.declared.kind.MetricKind.{MetricKind as Kind};
 ghost use Rattle.tool_grammar.specs.Printing.{samples_text};
-ghost use Rattle.tool_export.specs.declared.plans.Watched.{Watched as Kinds};
 ghost use Rattle.tool_export.specs.declared.plans.ExportPlan.{ExportPlan as Plan};
-ghost use Rattle.tool_export.specs.Plans.{IsAllowed, AreSamples, plan_words, timeout_word, watched_word, watches};
+ghost use Rattle.tool_export.specs.Plans.{IsAllowed, AreSamples, plan_words, timeout_word, watched_word};
 
 use metrics::{Items, MetricKindMask};
 use metrics_registry::is_shard_count;
 use std::alloc::{AllocError, Global};
-use tool_grammar::{number_of, signed_number_of, split_at_first};
-
-/// The kinds whose series may be removed.
-#[derive(Clone, Copy)]
-pub struct Watched {
-    /// Counters may.
-    pub counters: bool,
-    /// Gauges may.
-    pub gauges: bool,
-    /// Histograms may.
-    pub histograms: bool,
-}
+use tool_grammar::{kinds_of, number_of, signed_number_of, split_at_first};
 
 /// How an exporter is to be made.
 #[derive(Drop)]
@@ -31,7 +17,7 @@ pub struct ExportPlan {
     /// The shards of the registry.
     pub shards: usize,
     /// The kinds whose series may be idle.
-    pub watched: Watched,
+    pub watched: MetricKindMask,
     /// The longest time that a series may be idle, or none.
     pub idle_timeout: Option<u64>,
     /// In the order of the command line.
@@ -39,41 +25,14 @@ pub struct ExportPlan {
 }
 
 /// The kinds that a word of letters names; a dash names none.
-fn watched_of(word: &[u8]) -> Option<Watched>
-    ensures { MatchOption result ((kinds : Kinds) → word.now ≡ watched_word kinds → ⊥)
-        (λ kinds. word.now ≡ watched_word kinds) }
+fn watched_of(word: &[u8]) -> Option<MetricKindMask>
+    ensures { MatchOption result ((kinds : ℕ) → kinds ≤ 7 → word.now ≡ watched_word kinds → ⊥)
+        (λ kinds. (kinds ≤ 7) × (word.now ≡ watched_word kinds)) }
 {
-    let (counters, gauges, histograms) = match word {
-        b"-" => (false, false, false),
-        b"c" => (true, false, false),
-        b"g" => (false, true, false),
-        b"h" => (false, false, true),
-        b"cg" => (true, true, false),
-        b"ch" => (true, false, true),
-        b"gh" => (false, true, true),
-        b"cgh" => (true, true, true),
-        _ => return None,
-    };
-    Some(Watched {
-        counters,
-        gauges,
-        histograms,
-    })
-}
-
-fn only_if(is_there: bool, mask: MetricKindMask) -> MetricKindMask
-    ensures { result ≡ (if is_there then mask else 0) }
-{
-    if is_there { mask } else { MetricKindMask::NONE }
-}
-
-/// Returns the mask of these kinds.
-pub fn mask_from(watched: Watched) -> MetricKindMask
-    ensures { (kind : Kind) → mask_has kind result ≡ watches watched kind }
-{
-    only_if(watched.counters, MetricKindMask::COUNTER)
-        | only_if(watched.gauges, MetricKindMask::GAUGE)
-        | only_if(watched.histograms, MetricKindMask::HISTOGRAM)
+    if word == b"-".as_slice() {
+        return Some(MetricKindMask::NONE);
+    }
+    kinds_of(word)
 }
 
 /// A number, or a dash for none.

@@ -10,7 +10,6 @@ use crate::commands::Options;
 use metrics::{Error, Items, Text};
 use metrics_exporter::{Bounds, Exporter};
 use std::alloc::Global;
-use tool_export::mask_from;
 
 /// The bounds of the histograms whose names begin with a prefix.
 #[derive(Drop)]
@@ -39,6 +38,5 @@ pub(crate) fn exporter_for(alloc: Global, options: &Options) -> Result<Exporter,
 {
     let plan = &options.plan;
     let bounds = bounds_from(alloc, plan.bounds.as_slice(), options.prefixes.as_slice())?;
-    let mask = mask_from(plan.watched);
-    Exporter::with_bounds(alloc, plan.shards, mask, plan.idle_timeout, bounds)
+    Exporter::with_bounds(alloc, plan.shards, plan.watched, plan.idle_timeout, bounds)
 }

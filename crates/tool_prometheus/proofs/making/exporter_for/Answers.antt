@@ -1,6 +1,5 @@
 use Rattle.std.proofs.Common.{◌≡◌, ◌∙◌, ℕ, List, [], subst}
 use Rattle.std.proofs.lemmas.Result.{IfOk-weaker}
-use Rattle.metrics.specs.Layers.{mask_has}
 use Rattle.metrics_exporter.specs.Choice.{bounds_for}
 use Rattle.metrics_exporter.specs.Exporting.{Setup}
 use Rattle.metrics_exporter.specs.Kept.{IsAfter}
@@ -15,11 +14,11 @@ returns-clause-made c =
     λ name. c.in_ok-bounds.ensures name ∙ (λ i. at_longest (c.as_slice.ensures i) (set_by (c.as_slice-2.ensures i)) name) in
     let made : Setup = record {
       bounds = bounds_for c.in_ok-bounds.bounds;
-      rules = record { timeout = options.plan.idle_timeout; mask = λ kind. mask_has kind c.mask_from-mask.result };
+      rules = (setup_for options).rules;
     } in
     let same : made ≡ setup_for options =
     λ i. record {
       bounds = λ name. bounds name i;
-      rules = record { timeout = options.plan.idle_timeout; mask = λ kind. c.mask_from-mask.ensures kind i };
+      rules = (setup_for options).rules;
     } in
     IfOk-weaker c.with_bounds.result _ _ (λ e after. subst (λ (setup : Setup). IsAfter setup [] e) same after) c.with_bounds.ensures.ok
