@@ -6,7 +6,7 @@ use Rattle.metrics_journal.specs.Journal.{Journal}
 pub record ShardParts (K R : Type 0) : Type 0 where
   pub shard : ℕ
   pub shards : ℕ
-  pub cells : R
+  pub kinds : R
   pub journal : Journal K
 
 -- these, and the storage that makes the cells
@@ -14,5 +14,5 @@ pub record ShardState (K S R : Type 0) : Type 0 where
   pub storage : S
   pub shard : ℕ
   pub shards : ℕ
-  pub cells : R
+  pub kinds : R
   pub journal : Journal K

@@ -8,7 +8,7 @@ ghost use Rattle.metrics_journal.specs.Tally.{counted};
 ghost use Rattle.metrics_journal.specs.Journals.{journals_of, AreShards};
 
 use crate::calls::ShardCall;
-use crate::shard::Part;
+use crate::shard::ShardCells;
 use crate::tally::Tally;
 use metrics::Error;
 use metrics_registry::{EqualClone, Hashable, Storage, is_shard_count, shard_of};
@@ -22,7 +22,7 @@ use std::sync::{Mutex, Wait};
 #[derive(Drop)]
 struct Journals<K: Hashable, S: Storage<K>, T: Ledger, F: Ledger> {
     storage: S,
-    shards: Vec<Part<K, S>>,
+    shards: Vec<ShardCells<K, S>>,
     room: Vec<Vec<(ShardCall<K>, bool)>>,
     trues: Book<T>,
     falses: Book<F>,
@@ -91,7 +91,7 @@ where
 fn new_shards<K: Hashable + EqualClone + Drop, S: Storage<K>>(
     alloc: Global,
     count: usize,
-) -> Result<Vec<Part<K, S>>, Error>
+) -> Result<Vec<ShardCells<K, S>>, Error>
 where
     S::Counter: Drop,
     S::Gauge: Drop,
@@ -104,14 +104,14 @@ where
     let mut shards = Vec::new(alloc);
     shards.reserve(count)?;
     for shard in 0..count {
-        shards.push_reserved(Part::new(alloc, shard, count));
+        shards.push_reserved(ShardCells::new(alloc, shard, count));
     }
     Ok(shards)
 }
 
 /// Appends the journals of the shards, in order, to a list that has room for them.
 fn journals_in<K: Hashable + EqualClone + Drop, S: Storage<K>>(
-    shards: Vec<Part<K, S>>,
+    shards: Vec<ShardCells<K, S>>,
     room: Vec<Vec<(ShardCall<K>, bool)>>,
 ) -> Vec<Vec<(ShardCall<K>, bool)>>
 where

@@ -17,14 +17,14 @@ use std::marker::Model;
 ///
 /// Each reply is that of a finite map after the earlier calls, and the cells are those of the keys that the journal says.
 #[derive(Drop)]
-pub(crate) struct Part<K: Hashable, S: Storage<K>> {
+pub(crate) struct ShardCells<K: Hashable, S: Storage<K>> {
     shard: usize,
     shards: usize,
-    cells: Kinds<K, S>,
+    kinds: Kinds<K, S>,
     journal: Vec<(ShardCall<K>, bool)>,
 }
 
-impl<K: Hashable, S: Storage<K>> Model for Part<K, S> {
+impl<K: Hashable, S: Storage<K>> Model for ShardCells<K, S> {
     ghost use Rattle.std.specs.Prelude.{◌≡◌};
     ghost use Rattle.metrics_names.specs.declared.kind.MetricKind.{MetricKind as AnyKind};
     ghost use Rattle.metrics_registry.specs.declared.kinds.Kinds.{Kinds};
@@ -34,29 +34,29 @@ impl<K: Hashable, S: Storage<K>> Model for Part<K, S> {
 
     ghost Value = { ShardParts K (Kinds K S S.Counter S.Gauge S.Histogram) };
 
-    ghost view = { λ s. record { shard = s.shard; shards = s.shards; cells = s.cells; journal = s.journal.items } };
+    ghost view = { λ s. record { shard = s.shard; shards = s.shards; kinds = s.kinds; journal = s.journal.items } };
 
     ghost invariant = { λ s. IsLegal K.eq s.journal.items
         × AreOfShard K.number s.shards s.shard s.journal.items
-        × ((kind : AnyKind) (key : K) → has_key K.eq s.cells kind key ≡ holds K.eq s.journal.items kind key) };
+        × ((kind : AnyKind) (key : K) → has_key K.eq s.kinds kind key ≡ holds K.eq s.journal.items kind key) };
 }
 
-impl<K: Hashable + EqualClone + Drop, S: Storage<K>> Part<K, S>
+impl<K: Hashable + EqualClone + Drop, S: Storage<K>> ShardCells<K, S>
 where
     S::Counter: Drop,
     S::Gauge: Drop,
     S::Histogram: Drop,
 {
     /// Makes the shard of this number, from 0, among this many shards, with no calls and no keys. It allocates nothing.
-    pub fn new(alloc: Global, shard: usize, shards: usize) -> Part<K, S>
+    pub fn new(alloc: Global, shard: usize, shards: usize) -> ShardCells<K, S>
         ensures place { (result.shard ≡ shard) × (result.shards ≡ shards) }
-        ensures empty { (result.journal ≡ []) × (result.cells.counters ≡ []) × (result.cells.gauges ≡ [])
-            × (result.cells.histograms ≡ []) }
+        ensures empty { (result.journal ≡ []) × (result.kinds.counters ≡ []) × (result.kinds.gauges ≡ [])
+            × (result.kinds.histograms ≡ []) }
     {
-        Part {
+        ShardCells {
             shard,
             shards,
-            cells: Kinds::new(alloc),
+            kinds: Kinds::new(alloc),
             journal: Vec::new(alloc),
         }
     }
@@ -67,12 +67,12 @@ where
         ensures ok { IfOk result (λ reply. self.new.journal ≡ self.old.journal ++ (call, reply) ∷ []) }
         ensures err { IfErr result (λ e. (e ≡ OutOfMemory) × (self.new ≡ self.old)) }
         ensures place { (self.new.shard ≡ self.old.shard) × (self.new.shards ≡ self.old.shards) }
-        ensures cells { KeepsCells K.eq self.old.cells self.new.cells }
-        ensures made { HasMadeCells K.eq S.makes_counter S.makes_gauge S.makes_histogram storage.now self.old.cells
-            → HasMadeCells K.eq S.makes_counter S.makes_gauge S.makes_histogram storage.now self.new.cells }
+        ensures cells { KeepsCells K.eq self.old.kinds self.new.kinds }
+        ensures made { HasMadeCells K.eq S.makes_counter S.makes_gauge S.makes_histogram storage.now self.old.kinds
+            → HasMadeCells K.eq S.makes_counter S.makes_gauge S.makes_histogram storage.now self.new.kinds }
     {
         self.journal.reserve(1)?;
-        let reply = answer(storage, &mut self.cells, &call)?;
+        let reply = answer(storage, &mut self.kinds, &call)?;
         self.journal.push_reserved((call, reply));
         Ok(reply)
     }
@@ -87,11 +87,11 @@ where
     }
 
     /// Returns the cells of each kind.
-    pub fn cells(&self) -> &Kinds<K, S>
-        ensures cells { result.now ≡ self.now.cells }
+    pub fn kinds(&self) -> &Kinds<K, S>
+        ensures kinds { result.now ≡ self.now.kinds }
         ensures keys { (kind : AnyKind) (key : K) → has_key K.eq result.now kind key ≡ holds K.eq self.now.journal kind key }
     {
-        &self.cells
+        &self.kinds
     }
 
     /// Returns the calls with their replies, and drops the cells.
@@ -110,7 +110,7 @@ where
 #[derive(Drop)]
 pub struct JournaledShard<K: Hashable, S: Storage<K>> {
     storage: S,
-    part: Part<K, S>,
+    cells: ShardCells<K, S>,
 }
 
 impl<K: Hashable, S: Storage<K>> Model for JournaledShard<K, S> {
@@ -122,13 +122,13 @@ impl<K: Hashable, S: Storage<K>> Model for JournaledShard<K, S> {
 
     ghost view = { λ s. record {
       storage = s.storage;
-      shard = s.part.shard;
-      shards = s.part.shards;
-      cells = s.part.cells;
-      journal = s.part.journal;
+      shard = s.cells.shard;
+      shards = s.cells.shards;
+      kinds = s.cells.kinds;
+      journal = s.cells.journal;
     } };
 
-    ghost invariant = { λ s. HasMadeCells K.eq S.makes_counter S.makes_gauge S.makes_histogram s.storage s.part.cells };
+    ghost invariant = { λ s. HasMadeCells K.eq S.makes_counter S.makes_gauge S.makes_histogram s.storage s.cells.kinds };
 }
 
 impl<K: Hashable + EqualClone + Drop, S: Storage<K> + Drop> JournaledShard<K, S>
@@ -144,14 +144,14 @@ where
         requires { shard < shards }
         ensures ok { IfOk result (λ s. (is_count shards ≡ true) × (s.storage ≡ storage) × (s.shard ≡ shard)
             × (s.shards ≡ shards) × (s.journal ≡ [])
-            × (s.cells.counters ≡ []) × (s.cells.gauges ≡ []) × (s.cells.histograms ≡ [])) }
+            × (s.kinds.counters ≡ []) × (s.kinds.gauges ≡ []) × (s.kinds.histograms ≡ [])) }
         ensures err { IfErr result (λ e. (is_count shards ≡ false) × (e ≡ NotShards)) }
     {
         if !is_shard_count(shards) {
             return Err(Error::BadShards);
         }
-        let part = Part::new(alloc, shard, shards);
-        Ok(JournaledShard { storage, part })
+        let cells = ShardCells::new(alloc, shard, shards);
+        Ok(JournaledShard { storage, cells })
     }
 
     /// Makes a call of a key of this shard, and notes it with its reply. A call that fails changes nothing.
@@ -161,9 +161,9 @@ where
         ensures err { IfErr result (λ e. (e ≡ OutOfMemory) × (self.new ≡ self.old)) }
         ensures place { (self.new.storage ≡ self.old.storage) × (self.new.shard ≡ self.old.shard)
             × (self.new.shards ≡ self.old.shards) }
-        ensures cells { KeepsCells K.eq self.old.cells self.new.cells }
+        ensures cells { KeepsCells K.eq self.old.kinds self.new.kinds }
     {
-        self.part.call(&self.storage, call)
+        self.cells.call(&self.storage, call)
     }
 
     /// Returns the calls with their replies, in their order.
@@ -172,16 +172,16 @@ where
         ensures legal { IsLegal K.eq result.now }
         ensures keys { AreOfShard K.number self.now.shards self.now.shard result.now }
     {
-        self.part.journal()
+        self.cells.journal()
     }
 
-    /// Returns the part of the registry that the calls were made on: the cells of each kind.
-    pub fn registry(&self) -> &Kinds<K, S>
-        ensures cells { result.now ≡ self.now.cells }
+    /// Returns the cells of each kind.
+    pub fn kinds(&self) -> &Kinds<K, S>
+        ensures kinds { result.now ≡ self.now.kinds }
         ensures keys { (kind : AnyKind) (key : K) → has_key K.eq result.now kind key ≡ holds K.eq self.now.journal kind key }
         ensures made { HasMadeCells K.eq S.makes_counter S.makes_gauge S.makes_histogram self.now.storage result.now }
     {
-        self.part.cells()
+        self.cells.kinds()
     }
 
     /// Returns the storage, which makes the cells.
