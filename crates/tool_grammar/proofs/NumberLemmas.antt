@@ -1,5 +1,6 @@
 -- Numbers that are read digit by digit.
-use Rattle.std.proofs.Common.{◌≡◌, ℕ, ◌+◌, ◌*◌, ◌/◌, ◌%◌, ◌^◌, ◌<◌, ◌≤◌, List, [], ◌∷◌, ◌++◌, length, drop, slice_index, decimal, sym, ap, ◌∙◌, arith, append_assoc}
+use Rattle.std.proofs.Common.{◌≡◌, ℕ, ◌+◌, ◌*◌, ◌/◌, ◌%◌, ◌^◌, ◌<◌, ◌≤◌, List, [], ◌∷◌, ◌++◌, length, drop, slice_index, decimal, Some, None, Result, Ok, Err, MatchResult, sym, ap, subst, ◌∙◌, arith, append_assoc}
+use Rattle.std.specs.Result.{result_ok}
 use Rattle.std.proofs.lemmas.Fmt.{decimal_step, decimal_digit}
 use Rattle.std.proofs.lemmas.List.{drop_more}
 
@@ -22,3 +23,16 @@ digits_go_on others i n d m below is some small e fits =
     ap (λ z. decimal n ++ z) (drop_more others i 0 below ∙ ap (λ z. z ∷ rest) is)
     ∙ sym (append_assoc (decimal n) ((48 + d) ∷ []) rest)
     ∙ ap (λ z. z ++ rest) (sym (ap decimal e ∙ decimal_more n d some small (omega arith)))
+
+-- ---- results as options
+
+pub some_same : {T : Type 0} {a b : T} → Some a ≡ Some b → a ≡ b
+some_same h = cc h
+
+pub in_ok : {T E : Type 0} (A : T → Type 0) (B : E → Type 0) (r : Result T E) (x : T) → Some x ≡ result_ok r → MatchResult r A B → A x
+in_ok A B (Ok y) x is a = subst A (sym (some_same is)) a
+in_ok A B (Err e) x is b = absurd (cc is)
+
+pub in_err : {T E : Type 0} (A : T → Type 0) (B : E → Type 0) (r : Result T E) → None ≡ result_ok r → MatchResult r A B → (e : E) × B e
+in_err A B (Ok y) is a = absurd (cc is)
+in_err A B (Err e) is b = (e, b)

@@ -162,9 +162,6 @@ pub record LabelsSoFar (bytes rest : List ℕ) (labels : List (List ℕ × List 
   pub whole : bytes ≡ label_words labels ++ rest
   pub left : (ls : List (List ℕ × List ℕ)) → AreLabels ls → bytes ≡ label_words ls → (others : List (List ℕ × List ℕ)) × AreLabels others × (rest ≡ label_words others)
 
-pub labels_none : (bytes : List ℕ) → LabelsSoFar bytes bytes []
-labels_none bytes = record { are_labels = tt; whole = refl; left = λ ls h e. (ls, h, e) }
-
 pub labels_more : (bytes rest others word after : List ℕ) (labels : List (List ℕ × List ℕ)) (l : List ℕ × List ℕ) → LabelsSoFar bytes rest labels → rest ≡ 32 ∷ others → others ≡ word ++ after →
     Lacks 32 word → StartsAt 32 after → IsLabel l → word ≡ l.0 ++ 61 ∷ l.1 → LabelsSoFar bytes after (labels ++ l ∷ [])
 labels_more bytes rest others word after labels l so r o lw sa h e = record {
@@ -215,9 +212,6 @@ module _ (bytes word rest : List ℕ) (whole : bytes ≡ word ++ 32 ∷ rest) (b
 
   pub no_unit : ((u : Option Measure) → word ≡ unit_word u → ⊥) → (u : Option Measure) (text : List ℕ) → bytes ≡ unit_word u ++ 32 ∷ text → ⊥
   no_unit fails u text e = fails u (first_same 32 bytes word rest (unit_word u) text before (lacks_unit u) whole e).0
-
-  pub no_text : (IsUtf8 rest → ⊥) → (u : Option Measure) (text : List ℕ) → IsUtf8 text → bytes ≡ unit_word u ++ 32 ∷ text → ⊥
-  no_text fails u text utf8 e = fails (subst IsUtf8 (sym (first_same 32 bytes word rest (unit_word u) text before (lacks_unit u) whole e).1) utf8)
 
   pub no_name : ((n : List ℕ) → IsName n → word ≡ name_word n → ⊥) → (n others : List ℕ) → IsName n → bytes ≡ name_word n ++ 32 ∷ others → ⊥
   no_name fails n others is e = fails n is (first_same 32 bytes word rest (name_word n) others before (lacks_name n is) whole e).0

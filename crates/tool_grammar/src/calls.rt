@@ -23,10 +23,8 @@ fn unit_and_text(bytes: &[u8]) -> Option<(Option<Unit>, &str)>
 {
     let (word, rest) = split_at_first(bytes, b' ')?;
     let unit = unit_of(word)?;
-    match str::from_utf8(rest) {
-        Ok(text) => Some((unit, text)),
-        Err(_) => None,
-    }
+    let text = str::from_utf8(rest).ok()?;
+    Some((unit, text))
 }
 
 /// The name, unit and text of a describe line.

@@ -26,10 +26,7 @@ pub fn name_of(word: &[u8]) -> Option<&str>
     if word.is_empty() {
         return None;
     }
-    match str::from_utf8(word) {
-        Ok(name) => Some(name),
-        Err(_) => None,
-    }
+    str::from_utf8(word).ok()
 }
 
 /// Returns the kind that a word names.
@@ -190,19 +187,12 @@ fn parsed_number_of(digits: &[u8]) -> Option<u64>
     ensures { MatchOption result ((n : ℕ) → n < 2 ^ 64 → digits.now ≡ decimal n → ⊥)
         (λ n. digits.now ≡ decimal n) }
 {
-    let Ok(text) = str::from_utf8(digits) else {
-        return None;
-    };
-    match text.parse::<u64>() {
-        Ok(n) => {
-            let mut buffer = Buffer::new();
-            if buffer.format(n) == text {
-                Some(n)
-            } else {
-                None
-            }
-        }
-        Err(_) => None,
+    let text = str::from_utf8(digits).ok()?;
+    let n = text.parse::<u64>().ok()?;
+    if Buffer::new().format(n) == text {
+        Some(n)
+    } else {
+        None
     }
 }
 
@@ -222,19 +212,12 @@ fn parsed_signed_number_of(word: &[u8]) -> Option<i64>
     ensures { MatchOption result ((n : ℤ) → FitsSigned w64 n → word.now ≡ signed_decimal n → ⊥)
         (λ n. word.now ≡ signed_decimal n) }
 {
-    let Ok(text) = str::from_utf8(word) else {
-        return None;
-    };
-    match text.parse::<i64>() {
-        Ok(amount) => {
-            let mut buffer = Buffer::new();
-            if buffer.format(amount) == text {
-                Some(amount)
-            } else {
-                None
-            }
-        }
-        Err(_) => None,
+    let text = str::from_utf8(word).ok()?;
+    let amount = text.parse::<i64>().ok()?;
+    if Buffer::new().format(amount) == text {
+        Some(amount)
+    } else {
+        None
     }
 }
 
