@@ -145,16 +145,23 @@ fn command_line<'a>(alloc: Global) -> Result<Command<'a>, AllocError> {
     with_output(alloc, with_plan(alloc, command)?)
 }
 
+/// The kind of a word of the option, which has only these three.
+fn kind_of(word: &str) -> MetricKindMask {
+    match word.as_bytes() {
+        b"counter" => MetricKindMask::COUNTER,
+        b"gauge" => MetricKindMask::GAUGE,
+        _ => MetricKindMask::HISTOGRAM,
+    }
+}
+
 /// The kinds of the option.
 fn watched_of(matches: &ArgMatches<'_>) -> MetricKindMask {
+    let Some(words) = matches.get_strs("idle-kinds") else {
+        return MetricKindMask::ALL;
+    };
     let mut watched = MetricKindMask::NONE;
-    for kind in matches.get_strs("idle-kinds").unwrap_or(KINDS) {
-        watched = watched
-            | match *kind {
-                "counter" => MetricKindMask::COUNTER,
-                "gauge" => MetricKindMask::GAUGE,
-                _ => MetricKindMask::HISTOGRAM,
-            };
+    for word in words {
+        watched = watched | kind_of(word);
     }
     watched
 }

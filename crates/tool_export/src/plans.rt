@@ -1,6 +1,6 @@
 //! The plan that the words after `export` describe.
-ghost use Rattle.std.specs.Prelude.{◌≡◌, ℕ, ℤ, List, [], ◌∷◌, ◌<◌, ◌≤◌, ◌^◌, Option as Maybe, IfSome};
-ghost use Rattle.std.specs.Prelude.{true, false, MatchResult, MatchOption, decimal};
+ghost use Rattle.std.specs.Prelude.{◌≡◌, ℕ, ℤ, List, [], ◌∷◌, ◌<◌, ◌^◌, Option as Maybe, IfSome};
+ghost use Rattle.std.specs.Prelude.{◌≤◌, true, false, MatchResult, MatchOption, decimal};
 ghost use Rattle.metrics_registry.specs.Held.{is_shard_count as is_count};
 ghost use Rattle.tool_grammar.specs.Printing.{samples_text};
 ghost use Rattle.tool_export.specs.declared.plans.ExportPlan.{ExportPlan as Plan};

@@ -1,5 +1,5 @@
 -- Calls of an exporter as answers to requests.
-use Rattle.std.proofs.Common.{◌≡◌, ℕ, Bool, true, false, cond, List, [], ◌∷◌, ◌++◌, inl, inr, refl, sym, ap, append-nil, is_ok}
+use Rattle.std.proofs.Common.{◌≡◌, ℕ, Bool, true, false, ◌||◌, cond, List, [], ◌∷◌, ◌++◌, inl, inr, refl, sym, ap, append-nil, is_ok}
 use Rattle.std.proofs.Common.{subst, Option, Result, Ok, Err, MatchResult, OnErr, OnOk, IfErr}
 use Rattle.metrics.specs.declared.error.Error.{Error}
 use Rattle.metrics.specs.declared.error.Error.TheVariants.{Memory, CountFull}
@@ -23,7 +23,7 @@ module _ (old : Served) (exporter : Exporter) where
   with_exporter changed = record old { exporter = exporter; is_changed = changed }
 
   abbrev pub owed : Result (Unit {0}) Error → Bool
-  owed r = cond (is_ok r) true old.is_changed
+  owed r = is_ok r || old.is_changed
 
   -- ---- an update
 

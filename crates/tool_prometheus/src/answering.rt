@@ -1,6 +1,6 @@
 //! Answers to requests.
 ghost use Rattle.std.specs.Prelude.{◌≡◌, ◌++◌, ℕ, List, OnOk};
-ghost use Rattle.std.specs.Prelude.{string_bytes, is_ok, true, false, if◌then◌else◌};
+ghost use Rattle.std.specs.Prelude.{string_bytes, is_ok, false, if◌then◌else◌};
 ghost use Rattle.metrics_exporter.specs.Kept.{described};
 ghost use Rattle.tool_export.specs.Exported.{Scrapes};
 ghost use Rattle.tool_prometheus.specs.Exposed.{Answers, IsExposed, IsMoment, IsEnd, scrape_text, shown_text};
@@ -42,16 +42,6 @@ fn refusal_text(answered: Result<(), Error>) -> &'static str
     }
 }
 
-/// Whether something changed since the last scrape, after a call that was answered so.
-fn owes(before: bool, answered: &Result<(), Error>) -> bool
-    ensures { result ≡ (if is_ok answered.now then true else before) }
-{
-    match answered {
-        Ok(()) => true,
-        Err(_) => before,
-    }
-}
-
 /// Updates a series, and appends the report of a failure.
 fn answer_change(
     on: &mut Served,
@@ -63,7 +53,7 @@ fn answer_change(
         × OnOk result (string_bytes text.new ≡ string_bytes text.old ++ whole) }
 {
     let answered = on.exporter.update(key, by);
-    on.is_changed = owes(on.is_changed, &answered);
+    on.is_changed = answered.is_ok() | on.is_changed;
     text.push_str(refusal_text(answered))
 }
 
@@ -80,7 +70,7 @@ fn answer_describe(
         × OnOk result (string_bytes text.new ≡ string_bytes text.old ++ whole) }
 {
     let answered = on.exporter.describe(kind, name, unit, note);
-    on.is_changed = owes(on.is_changed, &answered);
+    on.is_changed = answered.is_ok() | on.is_changed;
     text.push_str(refusal_text(answered))
 }
 

@@ -8,4 +8,4 @@ returns c =
     let r = c.describe-answered.result in
     let done = described_told c.args.on.now c.describe-answered.new.self c.args.kind c.args.name.now c.args.unit c.args.note.now
     c.describe-answered.ensures.calls r c.describe-answered.ensures.ok c.describe-answered.ensures.err c.describe-answered.ensures.memory in
-    (refusal_text r, rw c.owes-on.ensures done, search rules)
+    (refusal_text r, rw c.is_ok.ensures.value done, search rules)
