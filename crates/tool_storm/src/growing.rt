@@ -21,10 +21,7 @@ impl Bucket for GrowingBucket<u64> {
     ghost whole = { 0 };
 
     fn open(alloc: Global, blocks: usize) -> Result<(GrowingBucket<u64>, GrowPen), RunError> {
-        match GrowingBucket::new(alloc, blocks) {
-            Ok(made) => Ok(made),
-            Err(_) => Err(RunError::Memory(None)),
-        }
+        GrowingBucket::new(alloc, blocks).or(Err(RunError::Memory(None)))
     }
 
     fn split(&self, pen: &mut GrowPen) -> Result<GrowPen, Error> {
@@ -32,10 +29,7 @@ impl Bucket for GrowingBucket<u64> {
     }
 
     fn join(&self, pen: &mut GrowPen, other: GrowPen) -> Result<(), RunError> {
-        match pen.join(other) {
-            Ok(()) => Ok(()),
-            Err(_) => Err(RunError::Memory(None)),
-        }
+        pen.join(other).or(Err(RunError::Memory(None)))
     }
 
     fn push_one<R: Wait>(&self, rt: &R, pen: &mut GrowPen, value: u64) -> Result<(), RunError> {
@@ -55,9 +49,7 @@ impl Bucket for GrowingBucket<u64> {
         alloc: Global,
         mut pen: GrowPen,
     ) -> Result<Vec<u64>, RunError> {
-        match self.settle(rt, alloc, &mut pen) {
-            Ok(rest) => Ok(rest),
-            Err(_) => Err(RunError::Memory(None)),
-        }
+        self.settle(rt, alloc, &mut pen)
+            .or(Err(RunError::Memory(None)))
     }
 }

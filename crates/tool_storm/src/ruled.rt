@@ -40,10 +40,7 @@ impl Bucket for RuledBucket<u64> {
     ghost whole = { 1024 };
 
     fn open(alloc: Global, blocks: usize) -> Result<(RuledBucket<u64>, Pen), RunError> {
-        match RuledBucket::new(alloc, blocks) {
-            Ok(made) => Ok(made),
-            Err(_) => Err(RunError::Memory(None)),
-        }
+        RuledBucket::new(alloc, blocks).or(Err(RunError::Memory(None)))
     }
 
     fn split(&self, pen: &mut Pen) -> Result<Pen, Error> {
@@ -65,9 +62,6 @@ impl Bucket for RuledBucket<u64> {
     }
 
     fn settle_all<R: Wait>(self, _rt: &R, alloc: Global, pen: Pen) -> Result<Vec<u64>, RunError> {
-        match self.settle(alloc, pen) {
-            Ok(rest) => Ok(rest),
-            Err(_) => Err(RunError::Memory(None)),
-        }
+        self.settle(alloc, pen).or(Err(RunError::Memory(None)))
     }
 }
