@@ -58,10 +58,7 @@ fn write_whole<O: Write>(output: &mut O, text: &[u8]) -> Result<(), RunError>
     ensures err { IfErr result (λ e. e ≡ NoDevice) }
 {
     write_text(output, text)?;
-    match output.flush() {
-        Ok(()) => Ok(()),
-        Err(_) => Err(RunError::Device),
-    }
+    output.flush().or(Err(RunError::Device))
 }
 
 /// Writes the three lines of these totals.
@@ -72,36 +69,6 @@ fn write_totals<O: Write>(alloc: Global, totals: &Totals, output: &mut O) -> Res
 {
     let text = text_of_totals(alloc, totals)?;
     write_whole(output, text.as_bytes())
-}
-
-/// Runs a storm whose gate lets every worker pass, and writes its three lines.
-fn answer_storm<R: Threads + Wait + Sync, O: Write>(
-    rt: &R,
-    alloc: Global,
-    plan: StormPlan,
-    output: &mut O,
-) -> Result<(), RunError>
-    requires { IsAllowedPlan plan }
-    ensures prints { Begins (PrintsTotals plan) (Appends (O.contents output.old) (O.contents output.new)) result }
-    ensures err { IfErr result IsFault }
-{
-    let totals = storm(rt, alloc, plan.pushers, plan.values, plan.blocks, &Open)?;
-    write_totals(alloc, &totals, output)
-}
-
-/// Does as `answer_storm`, on a growing bucket.
-fn answer_growing_storm<R: Threads + Wait + Sync, O: Write>(
-    rt: &R,
-    alloc: Global,
-    plan: StormPlan,
-    output: &mut O,
-) -> Result<(), RunError>
-    requires { IsAllowedPlan plan }
-    ensures prints { Begins (PrintsTotals plan) (Appends (O.contents output.old) (O.contents output.new)) result }
-    ensures err { IfErr result IsFault }
-{
-    let totals = storm_growing(rt, alloc, plan.pushers, plan.values, plan.blocks, &Open)?;
-    write_totals(alloc, &totals, output)
 }
 
 /// Does what was asked for.
@@ -123,8 +90,14 @@ fn answer_request<R: Threads + Wait + Sync, I: BufRead, O: Write>(
             answer(alloc, input, output)?;
             Ok(())
         }
-        Request::Storm(plan) => answer_storm(rt, alloc, plan, output),
-        Request::GrowingStorm(plan) => answer_growing_storm(rt, alloc, plan, output),
+        Request::Storm(plan) => {
+            let totals = storm(rt, alloc, plan.pushers, plan.values, plan.blocks, &Open)?;
+            write_totals(alloc, &totals, output)
+        }
+        Request::GrowingStorm(plan) => {
+            let totals = storm_growing(rt, alloc, plan.pushers, plan.values, plan.blocks, &Open)?;
+            write_totals(alloc, &totals, output)
+        }
     }
 }
 
