@@ -55,9 +55,6 @@ pub record TreesSoFar (a b : Option (List ℕ)) (stack : List Level) (number : �
   pub built : AreBuilt stack trees
   pub numbered : number ≡ suc (length (all_lines trees))
 
-pub trees_begin : (a : Option (List ℕ)) → TreesSoFar a a [] 1
-trees_begin a = record { trees = []; read = Consumes-nil a; split = λ rest. refl; built = tt; numbered = refl }
-
 -- what `tree` ensures
 abbrev pub Ends : Option (List ℕ) → Option (List ℕ) → (List ℕ → Type 0) → Type 0
 Ends a c P = (read : List ℕ) × Consumes a c read × P read
@@ -120,12 +117,6 @@ module _ (a b c : Option (List ℕ)) (stack : List Level) (number : ℕ) (so : T
   refuse part r short (read, took, are) new levels.Bad does =
       let bad = does so.trees so.built in
       (read, took, inl (all_lines so.trees, bytes, are, first_bad so.trees bytes (built_allowed stack so.trees so.built) (record { no_end = bad.0; no_step = bad.1 }), so.numbered))
-
-  pub finish_line : IsLine bytes → Consumes b c (ended bytes) → (new : List Level) → DoesLine bytes stack new (Ok true) → (m : Meaning) (n : ℕ) → n ≡ number + 1 → ((l : Level) → new ≡ l ∷ [] → m ≡ level_meaning l) → Built a c m n
-  finish_line h r = finish (line_read h r)
-
-  pub finish_last : IsLine bytes → 0 < length bytes → Consumes b c bytes → OnSome b (IsAtEnd c) → (new : List Level) → DoesLine bytes stack new (Ok true) → (m : Meaning) (n : ℕ) → n ≡ number + 1 → ((l : Level) → new ≡ l ∷ [] → m ≡ level_meaning l) → Built a c m n
-  finish_last h p r e = finish (last_read h p r e)
 
   pub refuse_line : IsLine bytes → Consumes b c (ended bytes) → (new : List Level) (e : LineError) → DoesLine bytes stack new (Err e) → Refused a c (error_at number e)
   refuse_line h r = refuse (ended bytes) r (one_line bytes h) (line_read h r)
