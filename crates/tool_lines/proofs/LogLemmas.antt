@@ -1,8 +1,12 @@
 -- The calls of a run, their handles and their texts.
-use Rattle.std.proofs.Common.{◌≡◌, ℕ, zero, suc, List, [], ◌∷◌, ◌++◌, length, map, Option, refl, ap, sym, ◌∙◌, subst, append_assoc, append-nil, slice_get}
+use Rattle.std.proofs.Common.{◌≡◌, ℕ, zero, suc, List, [], ◌∷◌, ◌++◌, length, map, Option, None, refl, ap, sym, ◌∙◌, subst, append_assoc, append-nil, slice_get}
 use Rattle.std.proofs.lemmas.List.{length-map}
 use Rattle.std.specs.Option.{option_and_then}
 use Rattle.std.specs.List.{filter_map}
+use Rattle.metrics_names.specs.Names.{KeyParts}
+use Rattle.metrics_names.specs.declared.kind.MetricKind.{MetricKind}
+use Rattle.metrics.specs.declared.handles.Address.{Address}
+use Rattle.metrics.specs.declared.handles.Update.{Update}
 use Rattle.metrics.specs.declared.calls.Call.{Call}
 use Rattle.metrics.specs.declared.calls.Call.TheVariants as call
 use Rattle.metrics.specs.declared.calls.Answer.{Answer}
@@ -43,7 +47,7 @@ named_held (call.Register kind key) handles cs h = tt
 named_held (call.Snapshot b) handles cs h = tt
 named_held (call.SnapshotWith b reset) handles cs h = tt
 
-entries_by-one : (c : Call) (a : Answer) → handles_of ((c, a) ∷ []) ≡ entries_by c (addresses_in a)
+pub entries_by-one : (c : Call) (a : Answer) → handles_of ((c, a) ∷ []) ≡ entries_by c (addresses_in a)
 entries_by-one (call.Update n u) a = refl
 entries_by-one (call.Describe kind name unit text) a = refl
 entries_by-one (call.Register kind key) (Registered found) = refl
@@ -53,6 +57,15 @@ entries_by-one (call.Register kind key) (Snapshot rows) = refl
 entries_by-one (call.Register kind key) (Refused e) = refl
 entries_by-one (call.Snapshot b) a = refl
 entries_by-one (call.SnapshotWith b reset) a = refl
+
+-- a call that is neither a register call nor an update names no handle and adds none
+pub neither : (c : Call) → ((kind : MetricKind) (key : KeyParts) → c ≡ call.Register kind key → ⊥) → ((n : ℕ) (u : Update) → c ≡ call.Update n u → ⊥) → (handles : Entries) (given : Option (List Address)) →
+    (entry_named c handles ≡ None) × (entries_by c given ≡ [])
+neither (call.Update n u) r s handles given = absurd (s n u refl)
+neither (call.Describe kind name unit text) r s handles given = (refl, refl)
+neither (call.Register kind key) r s handles given = absurd (r kind key refl)
+neither (call.Snapshot b) r s handles given = (refl, refl)
+neither (call.SnapshotWith b reset) r s handles given = (refl, refl)
 
 pub handles-push : (log : Log) (c : Call) (a : Answer) → handles_of (log ++ (c, a) ∷ []) ≡ handles_of log ++ entries_by c (addresses_in a)
 handles-push [] c a = entries_by-one c a

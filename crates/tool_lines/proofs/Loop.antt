@@ -4,10 +4,10 @@ use Rattle.std.specs.Io.KnownBytes.{Consumes, Appends, IsAtEnd}
 use Rattle.std.proofs.lemmas.List.{length-map}
 use Rattle.metrics.specs.declared.calls.Call.{Call}
 use Rattle.metrics.specs.declared.calls.Answer.{Answer}
-use Rattle.metrics.specs.Meaning.{Meaning, AreNew}
+use Rattle.metrics.specs.Meaning.{Meaning, AreNew, KeepsTargets}
 use Rattle.metrics.specs.History.{Log}
-use Rattle.metrics.specs.Answering.{Answers}
-use Rattle.tool_grammar.specs.Grammar.{IsBad}
+use Rattle.metrics.specs.Answering.{Handle, Answers, IsHeld}
+use Rattle.tool_grammar.specs.Grammar.{Spells, IsBad}
 use Rattle.tool_grammar.specs.Printing.{text_of, print}
 use Rattle.tool_grammar.specs.declared.error.RunError.{RunError}
 use Rattle.tool_grammar.specs.declared.error.RunError.TheVariants.{Memory, BadLine, Device}
@@ -20,7 +20,7 @@ use Rattle.tool_trees.specs.Trees.{Tree, meaning_of, IsAllowed}
 use Rattle.tool_lines.specs.Handles.{Entries, entry_named, entries_by}
 use Rattle.tool_lines.specs.Running.{AreHeld, addresses_in, AreSpelled, AreMade, IsRun, IsAnswered, AnswersLine, PrintsAnswers}
 use Rattle.tool_lines.specs.Requests.{Begins}
-use Rattle.tool_lines.proofs.LogLemmas.{handles_of, handles-push, print-push, spelled_push, spelled_length, Made, made_none, made_more, are_made, handles_held}
+use Rattle.tool_lines.proofs.LogLemmas.{handles_of, named_held, handles-push, print-push, spelled_push, spelled_length, Made, made_none, made_more, are_made, handles_held}
 
 -- These lines spell calls, which were made, and the text is their answers'.
 pub record Told (s t : Meaning) (handles : Entries) (lines : List (List ℕ)) (text : List ℕ) : Type 0 where
@@ -49,11 +49,20 @@ module _ {On Notes : Type 0} (mean : On → Meaning) (seen : Notes → Entries) 
   Says = λ p line text q. AnswersLine (mean p.0) (mean q.0) (seen p.1) (seen q.1) line text
 
   -- a line's call was made; its text was said, or lost
-  pub replied : (p q : On × Notes) (line before after : List ℕ) (c : Call) (a : Answer) (r : Result (Unit {0}) Unanswered) → IsAnswered (mean p.0) (mean q.0) (seen p.1) (seen q.1) line c a
+  spoken : (p q : On × Notes) (line before after : List ℕ) (c : Call) (a : Answer) (r : Result (Unit {0}) Unanswered) → IsAnswered (mean p.0) (mean q.0) (seen p.1) (seen q.1) line c a
       → MatchResult r (λ u. after ≡ before ++ text_of (length (seen p.1)) c a) (λ e. e ≡ unanswered.Lost) → stream.Replies Says IsBad p q line before after r
-  replied p q line before after c a (Ok u) ans said = (text_of (length (seen p.1)) c a, said, (c, a, ans, refl))
-  replied p q line before after c a (Err e) ans lost =
+  spoken p q line before after c a (Ok u) ans said = (text_of (length (seen p.1)) c a, said, (c, a, ans, refl))
+  spoken p q line before after c a (Err e) ans lost =
       subst (λ (x : Unanswered). stream.IsUnanswered Says IsBad p line x q) (sym lost) (text_of (length (seen p.1)) c a, (c, a, ans, refl))
+
+  -- the same, of a call that was made with the handle that it names
+  pub replied : (p q : On × Notes) (line before after : List ℕ) (c : Call) (a : Answer) (r : Result (Unit {0}) Unanswered) (h : Option Handle) → Spells line c → KeepsTargets (mean p.0) (mean q.0) → h ≡ entry_named c (seen p.1)
+      → (IsHeld h (mean p.0).contents → Answers (mean p.0) (mean q.0) h c a) → seen q.1 ≡ seen p.1 ++ entries_by c (addresses_in a)
+      → MatchResult r (λ u. after ≡ before ++ text_of (length (seen p.1)) c a) (λ e. e ≡ unanswered.Lost) → stream.Replies Says IsBad p q line before after r
+  replied p q line before after c a r h spells keeps named answers noted said =
+      let held : AreHeld (seen p.1) (mean p.0).contents → IsHeld h (mean p.0).contents = λ all. subst (λ e. IsHeld e (mean p.0).contents) (sym named) (named_held c (seen p.1) (mean p.0).contents all) in
+      let does : AreHeld (seen p.1) (mean p.0).contents → Answers (mean p.0) (mean q.0) (entry_named c (seen p.1)) c a = λ all. subst (λ e. Answers (mean p.0) (mean q.0) e c a) named (answers (held all)) in
+      spoken p q line before after c a r (record { spells = spells; keeps = keeps; answers = does; noted = noted }) said
 
   -- lines that were answered one after another
   told_all : (s : Meaning) (p q : On × Notes) (es : Dialogue) (lines now : List (List ℕ)) (text whole : List ℕ) → Told s (mean p.0) (seen p.1) lines text → AreAnswered Says p es q

@@ -33,10 +33,6 @@ entries_by (call.Update n u) given = []
 entries_by (call.Snapshot b) given = []
 entries_by (call.SnapshotWith b reset) given = []
 
--- a register call needs room for its entry
-abbrev pub HasRoom : Call → Handles → Type 0
-HasRoom (call.Register kind key) handles = vec_len handles.entries < vec_capacity handles.entries
-HasRoom (call.Describe kind name unit text) handles = Unit {0}
-HasRoom (call.Update n u) handles = Unit {0}
-HasRoom (call.Snapshot b) handles = Unit {0}
-HasRoom (call.SnapshotWith b reset) handles = Unit {0}
+-- there is room for one more
+abbrev pub HasRoom : Handles → Type 0
+HasRoom handles = vec_len handles.entries < vec_capacity handles.entries

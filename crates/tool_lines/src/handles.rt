@@ -1,9 +1,10 @@
 //! What register calls returned, by their numbers.
-ghost use Rattle.std.specs.Prelude.{◌≡◌, ◌++◌, [], length, OnOk, option_map};
+ghost use Rattle.std.specs.Prelude.{◌≡◌, ◌++◌, ◌∷◌, [], length, OnOk, option_map};
+ghost use Rattle.metrics.specs.Answering.{handle_given};
 ghost use Rattle.metrics_replay.specs.Replaying.{handle_seen};
-ghost use Rattle.tool_lines.specs.Handles.{entries, entry_at, entry_named, entries_by, HasRoom};
+ghost use Rattle.tool_lines.specs.Handles.{entries, entry_at, HasRoom};
 
-use metrics::{Address, Call, Items, MetricKind};
+use metrics::{Address, Answer, Items, MetricKind};
 use std::alloc::{AllocError, Global};
 use std::marker::Model;
 use std::slice;
@@ -85,44 +86,24 @@ impl Handles {
         }
     }
 
-    /// Returns the same of the register call that an update names. Other calls name none.
-    pub fn named(&self, call: &Call) -> Option<(MetricKind, &[Address])>
-        ensures { option_map handle_seen result ≡ entry_named call.now (entries self.now) }
-    {
-        match call {
-            Call::Update(number, _) => self.entry(*number),
-            Call::Describe(..) | Call::Register(..) => None,
-            Call::Snapshot(_) | Call::SnapshotWith(..) => None,
-        }
-    }
-
-    /// Reserves room for what a call will return; only a register call needs any.
-    pub fn reserve_for(&mut self, call: &Call) -> Result<(), AllocError>
+    /// Makes room for one more register call.
+    pub fn reserve(&mut self) -> Result<(), AllocError>
         ensures entries { entries self.new ≡ entries self.old }
-        ensures room { OnOk result (HasRoom call.now self.new) }
+        ensures room { OnOk result (HasRoom self.new) }
     {
-        match call {
-            Call::Register(..) => self.entries.reserve(1),
-            Call::Describe(..) | Call::Update(..) => Ok(()),
-            Call::Snapshot(_) | Call::SnapshotWith(..) => Ok(()),
-        }
+        self.entries.reserve(1)
     }
 
-    /// Notes what a call returned, if it was a register call.
-    pub fn note(&mut self, call: &Call, given: Option<Items<Address>>)
-        requires { HasRoom call.now self.old }
-        ensures { entries self.new ≡ entries self.old ++ entries_by call.now given }
+    /// Notes a register call of a kind, by its answer.
+    pub fn push(&mut self, kind: MetricKind, answer: Answer)
+        requires { HasRoom self.old }
+        ensures { entries self.new ≡ entries self.old ++ handle_given kind answer ∷ [] }
     {
-        match call {
-            Call::Register(kind, _) => {
-                let entry = match given {
-                    Some(found) => Some((*kind, Given::new(found))),
-                    None => None,
-                };
-                self.entries.push_reserved(entry);
-            }
-            Call::Describe(..) | Call::Update(..) => {}
-            Call::Snapshot(_) | Call::SnapshotWith(..) => {}
-        }
+        let entry = match answer {
+            Answer::Registered(found) => Some((kind, Given::new(found))),
+            Answer::Described(_) | Answer::Updated(_) | Answer::Snapshot(_) | Answer::Refused(_) =>
+                None,
+        };
+        self.entries.push_reserved(entry);
     }
 }

@@ -7,12 +7,12 @@ ghost use Rattle.tool_export.specs.Lines.{lines_of};
 ghost use Rattle.tool_lines.specs.Output.{AnswersCalls};
 ghost use Rattle.tool_grammar.specs.Grammar.{Spells, IsBad};
 ghost use Rattle.tool_grammar.specs.Printing.{print, text_of};
-ghost use Rattle.tool_lines.specs.Handles.{entries, HasRoom};
+ghost use Rattle.tool_lines.specs.Handles.{entries};
 ghost use Rattle.tool_export.specs.declared.machine.Unanswered.TheVariants.{Lost};
-ghost use Rattle.tool_lines.specs.Running.{IsRun, AreSpelled, AreMade, AnswersLine, addresses_in, IsUnread};
+ghost use Rattle.tool_lines.specs.Running.{IsRun, AreSpelled, AreMade, AnswersLine, IsUnread};
 
 use crate::handles::Handles;
-use metrics::{Address, Answer, Call, Items, Recorder};
+use metrics::{Answer, Call, Recorder};
 use metrics_replay::answer_of;
 use std::alloc::Global;
 use std::io::{BufRead, Write};
@@ -20,29 +20,13 @@ use std::marker::PhantomData;
 use tool_export::{LineMachine, Unanswered, run_lines};
 use tool_grammar::{RunError, call_of, write_answer};
 
-/// What an answer returns to a register call.
-fn addresses(answer: Answer) -> Option<Items<Address>>
-    ensures { result ≡ addresses_in answer }
+/// The call of a line.
+fn read_call(alloc: Global, line: &[u8]) -> Result<Call, Unanswered>
+    ensures { MatchResult result (Spells line.now) (IsUnread line.now) }
 {
-    match answer {
-        Answer::Registered(found) => Some(found),
-        Answer::Described(_) | Answer::Updated(_) | Answer::Snapshot(_) | Answer::Refused(_) =>
-            None,
-    }
-}
-
-/// The call of a line, with room for what it will return.
-fn read_call(alloc: Global, handles: &mut Handles, line: &[u8]) -> Result<Call, Unanswered>
-    ensures entries { entries handles.new ≡ entries handles.old }
-    ensures call { MatchResult result (λ c. Spells line.now c × HasRoom c handles.new) (λ e. IsUnread line.now e) }
-{
-    let call = match call_of(alloc, line) {
-        Ok(Some(call)) => call,
-        Ok(None) => return Err(Unanswered::Bad),
-        Err(_) => return Err(Unanswered::Memory),
-    };
-    match handles.reserve_for(&call) {
-        Ok(()) => Ok(call),
+    match call_of(alloc, line) {
+        Ok(Some(call)) => Ok(call),
+        Ok(None) => Err(Unanswered::Bad),
         Err(_) => Err(Unanswered::Memory),
     }
 }
@@ -53,10 +37,7 @@ fn say(registers: usize, call: &Call, answer: &Answer, said: &mut String) -> Res
         (λ _. string_bytes said.new ≡ string_bytes said.old ++ text_of registers call.now answer.now)
         (λ e. e ≡ Lost) }
 {
-    match write_answer(said, registers, call, answer) {
-        Ok(()) => Ok(()),
-        Err(_) => Err(Unanswered::Lost),
-    }
+    write_answer(said, registers, call, answer).or(Err(Unanswered::Lost))
 }
 
 /// Call lines on a recorder. The notes are what register calls returned.
@@ -80,11 +61,26 @@ impl<R: Recorder> LineMachine for CallLines<R> {
         line: &[u8],
         text: &mut String,
     ) -> Result<(), Unanswered> {
-        let call = read_call(alloc, notes, line)?;
-        let answer = answer_of(alloc, on, &call, notes.named(&call));
-        let said = say(notes.len(), &call, &answer, text);
-        notes.note(&call, addresses(answer));
-        said
+        let call = read_call(alloc, line)?;
+        match &call {
+            Call::Register(kind, _) => {
+                if notes.reserve().is_err() {
+                    return Err(Unanswered::Memory);
+                }
+                let answer = answer_of(alloc, on, &call, None);
+                let said = say(notes.len(), &call, &answer, text);
+                notes.push(*kind, answer);
+                said
+            }
+            Call::Update(number, _) => {
+                let answer = answer_of(alloc, on, &call, notes.entry(*number));
+                say(notes.len(), &call, &answer, text)
+            }
+            _ => {
+                let answer = answer_of(alloc, on, &call, None);
+                say(notes.len(), &call, &answer, text)
+            }
+        }
     }
 }
 

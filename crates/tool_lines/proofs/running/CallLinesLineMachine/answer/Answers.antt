@@ -1,27 +1,45 @@
-use Rattle.std.proofs.Common.{◌≡◌, ◌++◌, MatchResult, length, string_bytes, sym, subst, ap, ◌∙◌, arith}
-use Rattle.metrics.specs.Answering.{Answers, IsHeld}
+use Rattle.std.proofs.Common.{◌≡◌, [], ◌∷◌, ◌++◌, None, MatchResult, length, string_bytes, sym, subst, ap, ◌∙◌, arith, append-nil}
+use Rattle.metrics.specs.declared.calls.Call.TheVariants as call
+use Rattle.metrics.specs.Answering.{handle_given}
 use Rattle.tool_grammar.specs.Printing.{text_of}
 use Rattle.tool_export.specs.declared.machine.Unanswered.TheVariants.{Lost}
 use Rattle.tool_lines.specs.Handles.{entries, entry_named, entries_by}
-use Rattle.tool_lines.specs.Running.{AreHeld, IsAnswered}
-use Rattle.tool_lines.proofs.LogLemmas.{named_held}
+use Rattle.tool_lines.specs.Running.{addresses_in}
+use Rattle.tool_lines.proofs.LogLemmas.{entries_by-one, neither}
 use Rattle.tool_lines.proofs.Loop.{replied}
 use Rattle.tool_lines.proofs.running.CallLinesLineMachine.answer.Goals as goal
 
-pub returns : goal.returns
-returns g c =
-    let M = g.R.Recorder.meaning in
-    let call = c.in_ok-call.call in
+pub returns-in-Register : goal.returns-in-Register
+returns-in-Register g c =
+    let line_call = c.in_ok-call.call in
     let answer = c.answer_of-answer.result in
     let handles = entries c.args.notes.now in
-    let old = M c.args.on.now in
-    let new = M c.answer_of-answer.new.on in
-    let same = c.read_call.ensures.entries in
-    let named = c.named.ensures ∙ ap (entry_named call) same in
-    let held : AreHeld handles old.contents → IsHeld _ old.contents = λ h. subst (λ e. IsHeld e old.contents) (sym named) (named_held call handles old.contents h) in
-    let answers : AreHeld handles old.contents → Answers old new (entry_named call handles) call answer = λ h. subst (λ e. Answers old new e call answer) named (c.answer_of-answer.ensures.answers (held h)) in
+    let is = c.in-Register.is in
+    let same = c.reserve.ensures.entries in
     let long : c.len.result ≡ length handles = omega (arith, c.len.ensures, ap length same) in
-    let noted = c.note.ensures ∙ ap (λ h. h ++ entries_by call c.addresses.result) same ∙ ap (λ a. handles ++ entries_by call a) c.addresses.ensures in
-    let said = subst (λ n. MatchResult c.say-said.result (λ u. string_bytes c.say-said.new.said ≡ string_bytes c.args.text.now ++ text_of n call answer) (λ e. e ≡ Lost)) long c.say-said.ensures in
-    let answered : IsAnswered old new handles (entries c.note.new.self) c.args.line.now call answer = record { spells = c.in_ok-call.ensures.call.0; keeps = c.answer_of-answer.ensures.keeps; answers = answers; noted = noted } in
-    replied M entries (c.args.on.now, c.args.notes.now) (c.answer_of-answer.new.on, c.note.new.self) c.args.line.now _ _ call answer c.say-said.result answered said
+    let said = subst (λ n. MatchResult c.say-said.result (λ u. string_bytes c.say-said.new.said ≡ string_bytes c.args.text.now ++ text_of n line_call answer) (λ e. e ≡ Lost)) long c.say-said.ensures in
+    let noted = c.push.ensures ∙ ap (λ h. h ++ handle_given c.in-Register.kind answer ∷ []) same ∙ ap (λ es. handles ++ es) (entries_by-one (call.Register c.in-Register.kind c.in-Register.field-1) answer) ∙ ap (λ k. handles ++ entries_by k (addresses_in answer)) (sym is) in
+    replied g.R.Recorder.meaning entries (c.args.on.now, c.args.notes.now) (c.answer_of-answer.new.on, c.push.new.self) c.args.line.now _ _ line_call answer c.say-said.result None
+    c.in_ok-call.ensures c.answer_of-answer.ensures.keeps (sym (ap (λ k. entry_named k handles) is)) c.answer_of-answer.ensures.answers noted said
+
+pub returns-in-Update : goal.returns-in-Update
+returns-in-Update g c =
+    let line_call = c.in_ok-call.call in
+    let answer = c.answer_of-answer-in-Update.result in
+    let handles = entries c.args.notes.now in
+    let is = c.in-Update.is in
+    let said = subst (λ n. MatchResult c.say.result (λ u. string_bytes c.say.new.said ≡ string_bytes c.args.text.now ++ text_of n line_call answer) (λ e. e ≡ Lost)) c.len-in-Update.ensures c.say.ensures in
+    let noted = sym (append-nil handles) ∙ ap (λ k. handles ++ entries_by k (addresses_in answer)) (sym is) in
+    replied g.R.Recorder.meaning entries (c.args.on.now, c.args.notes.now) (c.answer_of-answer-in-Update.new.on, c.args.notes.now) c.args.line.now _ _ line_call answer c.say.result _
+    c.in_ok-call.ensures c.answer_of-answer-in-Update.ensures.keeps (c.entry.ensures ∙ sym (ap (λ k. entry_named k handles) is)) c.answer_of-answer-in-Update.ensures.answers noted said
+
+pub returns : goal.returns
+returns g c =
+    let line_call = c.in_ok-call.call in
+    let answer = c.answer_of-answer-in_default.result in
+    let handles = entries c.args.notes.now in
+    let plain = neither line_call c.in_default.not-Register c.in_default.not-Update handles (addresses_in answer) in
+    let said = subst (λ n. MatchResult c.say-in_default.result (λ u. string_bytes c.say-in_default.new.said ≡ string_bytes c.args.text.now ++ text_of n line_call answer) (λ e. e ≡ Lost)) c.len-in_default.ensures c.say-in_default.ensures in
+    let noted = sym (append-nil handles) ∙ ap (λ es. handles ++ es) (sym plain.1) in
+    replied g.R.Recorder.meaning entries (c.args.on.now, c.args.notes.now) (c.answer_of-answer-in_default.new.on, c.args.notes.now) c.args.line.now _ _ line_call answer c.say-in_default.result None
+    c.in_ok-call.ensures c.answer_of-answer-in_default.ensures.keeps (sym plain.0) c.answer_of-answer-in_default.ensures.answers noted said
