@@ -35,10 +35,7 @@ fn prefixed_by(
         ≡ prefixed layer.now (⟦<Child<DebuggingRecorder> as Recorder>⟧.meaning child))
         (λ e. e ≡ NoMemory) }
 {
-    match child.prefix(alloc, layer) {
-        Ok(made) => Ok(made),
-        Err(refused) => Err(LineError::from(refused)),
-    }
+    Ok(child.prefix(alloc, layer)?)
 }
 
 /// Returns a recorder below a prefix.
@@ -90,10 +87,7 @@ fn filtered_by(
         ≡ filtered layer.now.fold_case layer.now.listed (⟦<Child<DebuggingRecorder> as Recorder>⟧.meaning child)))
         (λ e. e ≡ IsBadLine → 1048576 < sum_by length layer.now.listed) }
 {
-    match child.filter(alloc, layer) {
-        Ok(made) => Ok(made),
-        Err(refused) => Err(LineError::from(refused)),
-    }
+    Ok(child.filter(alloc, layer)?)
 }
 
 /// Returns a recorder below a filter.

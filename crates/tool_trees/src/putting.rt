@@ -36,10 +36,8 @@ fn put(
 fn put_book(alloc: Global, stack: &mut Vec<Level>) -> Result<(), LineError>
     ensures { Does line.Book stack.old.items stack.new.items result }
 {
-    match book(alloc) {
-        Ok(child) => put(stack, child, 1),
-        Err(error) => Err(error),
-    }
+    let child = book(alloc)?;
+    put(stack, child, 1)
 }
 
 /// Pushes a recorder that keeps nothing.
@@ -57,10 +55,8 @@ fn put_prefix(alloc: Global, stack: &mut Vec<Level>, prefix: &Text) -> Result<()
     let Some(Level { child, levels }) = stack.pop() else {
         return Err(LineError::Bad);
     };
-    match below_prefix(alloc, child, prefix) {
-        Ok(child) => put(stack, child, levels + 1),
-        Err(error) => Err(error),
-    }
+    let child = below_prefix(alloc, child, prefix)?;
+    put(stack, child, levels + 1)
 }
 
 /// Wraps the top of the stack in a filter.
@@ -77,10 +73,8 @@ fn put_filter(
     let Some(Level { child, levels }) = stack.pop() else {
         return Err(LineError::Bad);
     };
-    match below_filter(alloc, child, fold, table, patterns.as_slice()) {
-        Ok(child) => put(stack, child, levels + 1),
-        Err(error) => Err(error),
-    }
+    let child = below_filter(alloc, child, fold, table, patterns.as_slice())?;
+    put(stack, child, levels + 1)
 }
 
 /// Replaces recorders at the top of the stack by a fanout over them; the deepest is the first child.
@@ -88,14 +82,9 @@ fn put_fanout(alloc: Global, stack: &mut Vec<Level>, count: u64) -> Result<(), L
     requires { CanBeSpelled (line.Fanout count) }
     ensures { Does (line.Fanout count) stack.old.items stack.new.items result }
 {
-    let taken = match take_top(alloc, stack, count) {
-        Ok(taken) => taken,
-        Err(error) => return Err(error),
-    };
-    match fanout_over(alloc, taken) {
-        Ok((child, levels)) => put(stack, child, levels),
-        Err(error) => Err(error),
-    }
+    let taken = take_top(alloc, stack, count)?;
+    let (child, levels) = fanout_over(alloc, taken)?;
+    put(stack, child, levels)
 }
 
 /// Replaces recorders at the top of the stack by a router over them; the deepest is the default, then the targets.
@@ -111,14 +100,9 @@ fn put_router(
     if targets >= stack.len() as u64 {
         return Err(LineError::Bad);
     }
-    let taken = match take_top(alloc, stack, targets + 1) {
-        Ok(taken) => taken,
-        Err(error) => return Err(error),
-    };
-    match router_over(alloc, taken, routes.as_slice()) {
-        Ok((child, levels)) => put(stack, child, levels),
-        Err(error) => Err(error),
-    }
+    let taken = take_top(alloc, stack, targets + 1)?;
+    let (child, levels) = router_over(alloc, taken, routes.as_slice())?;
+    put(stack, child, levels)
 }
 
 /// Does what a tree line says.

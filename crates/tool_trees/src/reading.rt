@@ -49,15 +49,10 @@ fn is_one(stack: &Vec<Level>) -> Result<bool, LineError>
 pub fn read_line(alloc: Global, stack: &mut Vec<Level>, line: &[u8]) -> Result<bool, LineError>
     ensures { DoesLine line.now stack.old.items stack.new.items result }
 {
-    let said = match said_by(alloc, line) {
-        Ok(said) => said,
-        Err(error) => return Err(error),
-    };
+    let said = said_by(alloc, line)?;
     if ends(&said) {
         return is_one(stack);
     }
-    match put_line(alloc, stack, &said) {
-        Ok(()) => Ok(false),
-        Err(error) => Err(error),
-    }
+    put_line(alloc, stack, &said)?;
+    Ok(false)
 }

@@ -83,10 +83,7 @@ fn add_routes(
     let mut named: u64 = 0;
     let mut most = first;
     for route in routes {
-        let next = match add_one(builder, targets, named, most, route) {
-            Ok(next) => next,
-            Err(error) => return Err(error),
-        };
+        let next = add_one(builder, targets, named, most, route)?;
         named = next.0;
         most = next.1;
     }
@@ -122,8 +119,6 @@ pub fn router_over(
         Ok(most) => most,
         Err(error) => return Err(refusing(error, builder)),
     };
-    match Child::router(builder.build()) {
-        Ok(router) => Ok((router, most + 1)),
-        Err(refused) => Err(LineError::from(refused)),
-    }
+    let router = Child::router(builder.build())?;
+    Ok((router, most + 1))
 }

@@ -6,8 +6,8 @@ use Rattle.tool_trees.specs.Doing.{Puts}
 use Rattle.tool_trees.proofs.Doing.{does_put, gives_book}
 use Rattle.tool_trees.proofs.putting.put_book.Goals as goal
 
-pub returns-in-Ok : goal.returns-in-Ok
-returns-in-Ok c =
+pub returns : goal.returns
+returns c =
     let old = c.args.stack.now.items in
     let new = c.put.new.stack.items in
-    does_put line.Book old old [] (one_book new_book) 1 (Unit {0}) gives_book (sym (append-nil old)) new c.put.result tt tt (subst (λ (m : Meaning). Puts m 1 old new c.put.result) c.in-Ok.ensures c.put.ensures)
+    does_put line.Book old old [] (one_book new_book) 1 (Unit {0}) gives_book (sym (append-nil old)) new c.put.result tt tt (subst (λ (m : Meaning). Puts m 1 old new c.put.result) c.in_ok-child.ensures c.put.ensures)

@@ -11,7 +11,7 @@ returns-in-Err c = λ bad.
     router_bad c.args.taken.items c.pop.new.self.items c.in-Some.field-0 (router_recorders c.from_recorder-builder.result) c.args.routes.now c.in-Some.ensures.items c.from_recorder-builder.ensures.recorders
     (c.in-Err.ensures.all (sym c.refusing.ensures ∙ bad))
 
-pub returns-in-Ok-router : goal.returns-in-Ok-router
-returns-in-Ok-router c =
+pub returns : goal.returns
+returns c =
     router_good c.args.taken.items c.pop.new.self.items c.in-Some.field-0 (router_recorders c.from_recorder-builder.result) c.args.routes.now c.in-Some.ensures.items c.from_recorder-builder.ensures.recorders
-    (router_recorders c.add_routes.new.builder) c.in-Ok.most (node_meaning book.meaning_of c.in-Ok-router.router.node) c.in-Ok.ensures.all (c.in-Ok-router.ensures.meaning ∙ c.build.ensures.routed (map route_of c.args.routes.now) c.in-Ok.ensures.routes)
+    (router_recorders c.add_routes.new.builder) c.in-Ok.most (node_meaning book.meaning_of c.in_ok-router.router.node) c.in-Ok.ensures.all (c.in_ok-router.ensures.meaning ∙ c.build.ensures.routed (map route_of c.args.routes.now) c.in-Ok.ensures.routes)
