@@ -257,7 +257,8 @@ impl Collector {
     ///
     /// # Memory
     ///
-    /// The collector keeps the rows of its last text for the next one: some 60 bytes a series, and a copy of its name.
+    /// The collector keeps the rows of its last text for the next one: some 60 bytes and its name for each series, and for a
+    /// histogram 130 bytes more, and 32 for each bound.
     pub fn render<W: Wait>(&self, rt: &W, alloc: Global, now: u64) -> Result<String, Error>
         ensures text { IfOk result (λ text. (legend : Legend) × (gathered : GatheredParts) × (kept : List Told)
             × AreOnce (all_gathered gathered) kept × AreOfKinds (cells_told kept)

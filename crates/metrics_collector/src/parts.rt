@@ -97,6 +97,7 @@ impl Parts {
         self.at(rt, place).lock(rt).record(sample)
     }
 
+    /// Returns where the parts' memory is from.
     pub fn allocator(&self) -> Global {
         self.alloc
     }

@@ -26,7 +26,7 @@ impl Model for Rows {
     ghost invariant = { λ a. a.count ≤ length a.series.items };
 }
 
-/// Makes a row that of a key and what its series has. The key is copied only if it is another one.
+/// Gives a row this key and this value. The key is copied only if the row has another one.
 fn refill(row: &mut GatheredSeries, key: &Key, value: Value) -> Result<(), AllocError>
     ensures { OnOk result (row.new ≡ record { key = key.now; value = value }) }
 {

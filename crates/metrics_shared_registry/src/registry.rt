@@ -24,7 +24,7 @@ fn reading<'a, T, R: Wait>(rt: &R, shard: &'a RwLock<T>) -> RwLockReadGuard<'a, 
 /// A registry that any thread may call: for each kind of metric a map from keys to cells, in shards.
 ///
 /// A key's shard is `Hashable::hashable` of it modulo the number of shards; there it is found by its own `Hash`. A call of one
-/// key holds the lock of its shard until it returns, its closure included; calls that change no shard share the lock.
+/// key runs its closure under the lock of its shard; calls that change no shard share the lock.
 /// Calls of all keys go from shard to shard, and hold one lock at a time: they may or may not see a change made meanwhile.
 /// A closure that calls this registry again may wait for ever.
 ///
@@ -89,8 +89,8 @@ where
 
     /// Calls `op` once on the cell of a counter, and returns its result. The storage makes the cell if the key isn't held.
     ///
-    /// A call that fails changes nothing. A call for a held key never fails. If another thread adds the key meanwhile, `op` is
-    /// called on that cell, and the one made here is dropped.
+    /// A call that fails changes nothing. A call for a held key never fails. A new cell is made before the shard is locked:
+    /// if another thread adds the key meanwhile, `op` is called on that thread's cell, and this one is dropped.
     pub fn get_or_create_counter<W: Wait, V, F: FnOnce(&S::Counter) -> V + Drop>(
         &self,
         rt: &W,
@@ -173,8 +173,8 @@ where
 
     /// Calls `op` once on the cell of a gauge, and returns its result. The storage makes the cell if the key isn't held.
     ///
-    /// A call that fails changes nothing. A call for a held key never fails. If another thread adds the key meanwhile, `op` is
-    /// called on that cell, and the one made here is dropped.
+    /// A call that fails changes nothing. A call for a held key never fails. A new cell is made before the shard is locked:
+    /// if another thread adds the key meanwhile, `op` is called on that thread's cell, and this one is dropped.
     pub fn get_or_create_gauge<W: Wait, V, F: FnOnce(&S::Gauge) -> V + Drop>(
         &self,
         rt: &W,
@@ -257,8 +257,8 @@ where
 
     /// Calls `op` once on the cell of a histogram, and returns its result. The storage makes the cell if the key isn't held.
     ///
-    /// A call that fails changes nothing. A call for a held key never fails. If another thread adds the key meanwhile, `op` is
-    /// called on that cell, and the one made here is dropped.
+    /// A call that fails changes nothing. A call for a held key never fails. A new cell is made before the shard is locked:
+    /// if another thread adds the key meanwhile, `op` is called on that thread's cell, and this one is dropped.
     pub fn get_or_create_histogram<W: Wait, V, F: FnOnce(&S::Histogram) -> V + Drop>(
         &self,
         rt: &W,

@@ -26,7 +26,7 @@ pub struct AtomicStorage {
 }
 
 impl AtomicStorage {
-    /// Makes a storage whose cells allocate from `alloc`. A histogram takes some 34 KB.
+    /// Makes a storage whose cells allocate from `alloc`. A histogram takes some 33 KB.
     pub fn new(alloc: Global) -> AtomicStorage
         ensures { result.blocks ≡ 16 }
     {
