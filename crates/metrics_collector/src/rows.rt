@@ -1,5 +1,5 @@
 //! The rows of a reading.
-ghost use Rattle.std.specs.Prelude.{◌≡◌, ◌∷◌, ◌++◌, [], OnOk, IfErr, length};
+ghost use Rattle.std.specs.Prelude.{◌≡◌, ◌∷◌, ◌++◌, [], OnOk, length};
 
 use crate::gathered::{GatheredSeries, Value};
 use metrics::Key;

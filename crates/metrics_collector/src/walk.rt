@@ -1,7 +1,7 @@
 //! Looks at cells: whether a series is shown, and whether it stays.
 ghost use Rattle.std.specs.Prelude.{◌≡◌, true, false, IfOk, IfErr};
 ghost use Rattle.metrics.specs.declared.error.Error.TheVariants.{Memory as OutOfMemory};
-ghost use Rattle.metrics_names.specs.Names.{KeyParts, key_eq};
+ghost use Rattle.metrics_names.specs.Names.{key_eq};
 ghost use Rattle.metrics_registry.specs.Recency.{table_answer};
 ghost use Rattle.metrics_registry.specs.RecencyEntries.{rules_of, table_of, check_of};
 

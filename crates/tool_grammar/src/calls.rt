@@ -1,12 +1,12 @@
 //! Parses lines into calls.
-ghost use Rattle.std.specs.Prelude.{◌≡◌, ◌≢◌, ℕ, List, [], ◌∷◌, ◌++◌, ◌<◌, ◌^◌, IsUtf8};
+ghost use Rattle.std.specs.Prelude.{◌≡◌, ℕ, List, ◌∷◌, ◌++◌, ◌<◌, ◌^◌, IsUtf8};
 ghost use Rattle.std.specs.Prelude.{MatchResult, MatchOption, Option, Some, decimal, codes};
 ghost use Rattle.metrics_names.specs.declared.kind.MetricKind.{MetricKind};
 ghost use Rattle.metrics_names.specs.declared.refused.Refused.TheVariants.{Memory};
 ghost use Rattle.metrics_names.specs.declared.common.Unit.{Unit as Measure};
 ghost use Rattle.metrics.specs.declared.handles.Update.{Update as Change};
-ghost use Rattle.metrics_names.specs.Names.{KeyParts, name_word, label_word, label_words, kind_word};
-ghost use Rattle.tool_grammar.specs.Cuts.{Lacks, StartsAt};
+ghost use Rattle.metrics_names.specs.Names.{KeyParts, name_word, label_words, kind_word};
+ghost use Rattle.tool_grammar.specs.Cuts.{Lacks};
 ghost use Rattle.tool_grammar.specs.Grammar.{unit_word, update_word, amount_word};
 ghost use Rattle.tool_grammar.specs.Grammar.{IsName, IsLabel, AreLabels, IsInRange, Spells, IsBad};
 

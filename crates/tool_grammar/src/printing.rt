@@ -1,7 +1,6 @@
 //! Prints answers.
 ghost use Rattle.std.specs.Prelude.{◌≡◌, ◌++◌, ◌∷◌, [], OnOk, codes, decimal, length, string_bytes};
 ghost use Rattle.tool_grammar.specs.Grammar.{unit_word};
-ghost use Rattle.metrics_names.specs.Names.{name_word, label_words, kind_word};
 ghost use Rattle.tool_grammar.specs.Printing.{samples_text, value_text, note_text, row_text, rows_text, text_of, refusal_text_of};
 ghost use Rattle.tool_grammar.specs.Printing.{book_of};
 

@@ -10,7 +10,7 @@ ghost use Rattle.tool_lines.specs.declared.requests.StormPlan.{StormPlan as Stor
 ghost use Rattle.tool_lines.specs.declared.requests.Request.TheVariants as ask;
 ghost use Rattle.tool_export.specs.Lines.{lines_of};
 ghost use Rattle.tool_lines.specs.Output.{AnswersAll, AnswersFirst, AnswersPart, RunsKnown};
-ghost use Rattle.tool_lines.specs.Requests.{IsAllowed, IsAllowedPlan, Asks, AsksStorm, PrintsTotals, Prints, Begins};
+ghost use Rattle.tool_lines.specs.Requests.{IsAllowed, Asks, AsksStorm, Prints, Begins};
 ghost use Rattle.tool_lines.specs.Requests.{IsFault};
 ghost use Rattle.tool_storm.specs.Texts.{totals_text};
 

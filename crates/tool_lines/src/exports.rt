@@ -1,5 +1,5 @@
 //! The words of a command line that ask for an exporter.
-ghost use Rattle.std.specs.Prelude.{◌≡◌, map, MatchResult, MatchOption};
+ghost use Rattle.std.specs.Prelude.{map, MatchResult, MatchOption};
 ghost use Rattle.tool_export.specs.declared.plans.ExportPlan.{ExportPlan as Plan};
 ghost use Rattle.tool_lines.specs.Exports.{AsksExport};
 

@@ -1,5 +1,5 @@
 -- What the exporter of the options is made with.
-use Rattle.std.specs.Prelude.{if◌then◌else◌, ◌≡◌, ℕ, ℤ, List, [], ◌∷◌, Option, None, Some, bytes_eq}
+use Rattle.std.specs.Prelude.{if◌then◌else◌, ℕ, ℤ, List, [], ◌∷◌, Option, None, Some, bytes_eq}
 use Rattle.std.specs.Option.{option_or}
 use Rattle.metrics_exporter.specs.Exporting.{Setup}
 use Rattle.metrics_exporter.specs.Prefixes.{at_longest}

@@ -1,5 +1,5 @@
 //! The words of a line.
-ghost use Rattle.std.specs.Prelude.{◌≡◌, ◌<◌, ◌≤◌, ℕ, List, ◌++◌, All, IsUtf8, true, false, take, length, slice_index};
+ghost use Rattle.std.specs.Prelude.{◌≡◌, ◌<◌, ◌≤◌, ℕ, List, ◌++◌, All, true, false, take, length, slice_index};
 ghost use Rattle.std.specs.Prelude.{MatchResult, IfSome};
 ghost use Rattle.tool_grammar.specs.Cuts.{Lacks, StartsAt};
 ghost use Rattle.tool_prometheus.specs.Lines.{IsPlain, IsVisible, IsText, Fails};

@@ -1,5 +1,4 @@
 //! The thread that clears.
-ghost use Rattle.std.specs.Prelude.{◌≡◌};
 ghost use Rattle.tool_storm.specs.Pens.{IsFresh, HasTaken, TellsTaken};
 
 use crate::bucket::Bucket;

@@ -1,5 +1,4 @@
 //! What all threads of a storm share.
-ghost use Rattle.std.specs.Prelude.{◌≡◌};
 
 use metrics_shared::reservoir::AtomicSamplingReservoir;
 use rand_xoshiro::Xoshiro256PlusPlus;

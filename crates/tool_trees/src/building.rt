@@ -1,5 +1,5 @@
 //! Builds recorders out of recorders.
-ghost use Rattle.std.specs.Prelude.{◌≡◌, ◌<◌, ◌≤◌, ◌++◌, ◌∷◌, [], ℕ, suc, length, MatchResult};
+ghost use Rattle.std.specs.Prelude.{◌≡◌, ◌<◌, ◌≤◌, ◌++◌, suc, length, MatchResult};
 ghost use Rattle.std.specs.List.{sum_by};
 ghost use Rattle.metrics.specs.Book.{new_book};
 ghost use Rattle.metrics.specs.Meaning.{one_book};

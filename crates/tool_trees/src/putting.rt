@@ -1,5 +1,4 @@
 //! What each tree line does to the stack.
-ghost use Rattle.std.specs.Prelude.{◌≡◌, ℕ};
 ghost use Rattle.tool_trees.specs.declared.tree_line.TreeLine.TheVariants as line;
 ghost use Rattle.tool_grammar.specs.Grammar.{IsName};
 ghost use Rattle.tool_trees.specs.Words.{CanBeSpelled};

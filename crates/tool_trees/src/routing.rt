@@ -1,5 +1,5 @@
 //! Builds routers.
-ghost use Rattle.std.specs.Prelude.{◌≡◌, ◌<◌, ◌≤◌, ◌+◌, ◌^◌, ◌++◌, ◌∷◌, [], ℕ, suc, ◌-◌};
+ghost use Rattle.std.specs.Prelude.{◌≡◌, ◌<◌, ◌≤◌, ◌+◌, ◌^◌, ◌++◌, ◌∷◌, [], suc, ◌-◌};
 ghost use Rattle.std.specs.Prelude.{max, length, map, List, OnOk, MatchResult};
 ghost use Rattle.std.specs.List.{AllByRecursion};
 ghost use Rattle.metrics.specs.Layers.{Route, routed};

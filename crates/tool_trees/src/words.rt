@@ -1,6 +1,6 @@
 //! The words of tree lines.
-ghost use Rattle.std.specs.Prelude.{◌≡◌, ℕ, List, [], ◌∷◌, ◌++◌, ◌<◌, ◌≤◌, ◌^◌, Bool, IsUtf8};
-ghost use Rattle.std.specs.Prelude.{IfOk, MatchOption, codes, decimal};
+ghost use Rattle.std.specs.Prelude.{◌≡◌, ℕ, List, [], ◌∷◌, ◌++◌, ◌<◌, ◌≤◌, ◌^◌, Bool};
+ghost use Rattle.std.specs.Prelude.{IfOk, MatchOption, decimal};
 ghost use Rattle.std.specs.List.{AllByRecursion};
 ghost use Rattle.tool_grammar.specs.Cuts.{Lacks, StartsAt};
 ghost use Rattle.tool_grammar.specs.Grammar.{IsName};
