@@ -1,5 +1,5 @@
 //! Addresses of series, updates, and typed handles.
-ghost use Rattle.std.specs.Prelude.{◌≡◌, ◌≤◌, ◌<◌, ◌+◌, ◌^◌, [], true};
+ghost use Rattle.std.specs.Prelude.{◌≡◌, ◌<◌, [], true};
 ghost use Rattle.metrics.specs.declared.handles.Update.TheVariants.{Increment, Absolute, Add, Subtract, Set, Record};
 ghost use Rattle.metrics.specs.Book.{kind_of};
 ghost use Rattle.metrics.specs.Meaning.{KeepsTargets};

@@ -9,7 +9,7 @@ use Rattle.atomic_table.proofs.Lists.{set_else}
 use Rattle.metrics_bucket.specs.declared.view.View.{View}
 use Rattle.metrics_bucket.specs.declared.view.Hold.{Hold}
 use Rattle.metrics_bucket.specs.declared.view.Hold.TheVariants.{Nothing, Ticket, Written, Claimed, SideKnown, Reading, Clearing, Settling}
-use Rattle.metrics_bucket.specs.BucketState.{BucketState, total, walks_of, walks_made, new_view, left_from, Act, look, look_to_settle, ticket, write, finish, claim, look_at_turn, look_to_read, look_to_clear, takes, see, read, wipe, leave, quit, split, join, view_after, state_after}
+use Rattle.metrics_bucket.specs.BucketState.{BucketState, walks_of, walks_made, new_view, left_from, Act, look, look_to_settle, ticket, write, finish, claim, look_at_turn, look_to_read, look_to_clear, takes, see, read, wipe, leave, quit, split, join, view_after, state_after}
 use Rattle.metrics_bucket.specs.Facts.{weight_of, Facts}
 use Rattle.metrics_bucket.specs.History.{May, Event, Runs, start, begins, IsPlain, ArePlain, AreLight, FitsKey}
 use Rattle.metrics_bucket.proofs.Sums.{total_one, total_snoc}

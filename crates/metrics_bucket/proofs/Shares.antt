@@ -9,7 +9,7 @@ use Rattle.metrics_bucket.specs.declared.view.Hold.{Hold}
 use Rattle.metrics_bucket.specs.declared.view.Hold.TheVariants.{Nothing, Ticket, Written, Claimed, SideKnown, Reading, Clearing, Settling}
 use Rattle.metrics_bucket.specs.BucketState.{total, BucketState, place_index, new_view, left_part, right_part, both_parts}
 use Rattle.metrics_bucket.specs.Facts.{weigh_pushes, weigh_walks, stands, given_at, ticket_in, ticket_at, owed_in, owed_at, turn_in, turn_of, took_in, took_of, weight_of, pushed_of, taken_of, wiped, HoldFits, IsIdle, ViewFits, Facts}
-use Rattle.metrics_bucket.proofs.Sums.{total_set, total_snoc, weigh_pushes-append, given_here, given_else}
+use Rattle.metrics_bucket.proofs.Sums.{total_set, total_snoc, weigh_pushes-append, given_else}
 
 pub weigh_walks-both : (h : ℕ → ℕ) (xss yss : List Walk) → weigh_walks h (xss ++ yss) ≡ weigh_walks h xss + weigh_walks h yss
 weigh_walks-both h [] yss = omega arith

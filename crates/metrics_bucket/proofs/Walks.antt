@@ -12,7 +12,7 @@ use Rattle.metrics_bucket.specs.declared.view.Visit.{Visit}
 use Rattle.metrics_bucket.specs.declared.view.Visit.TheVariants.{Unseen, Marked, Read, Wiped}
 use Rattle.metrics_bucket.specs.BucketState.{total, BucketState, other, place_index, live_values, holding, holding_at, claiming, walks_made, look_to_settle, claim, look_to_read, look_to_clear, takes, state_after}
 use Rattle.metrics_bucket.specs.Facts.{given_at, ticket_in, ticket_at, is_open, owed_in, owed_at, turn_in, turn_of, took_in, took_of, weight_of, pushed_of, taken_of, wiped, wiped_visit, wiped_in, VisitFits, VisitsFit, HoldFits, ViewFits, Facts}
-use Rattle.metrics_bucket.proofs.Sums.{total_set, total_one, weigh-append, index_apart, index_below, here_or, same_here, same_else, given_here, given_else, open_new, below_over, stands_unmark}
+use Rattle.metrics_bucket.proofs.Sums.{total_set, given_here, given_else, open_new}
 use Rattle.metrics_bucket.proofs.Keep.{other_side, turn_alone, owed_le, each_after, held_by, facts_beside}
 use Rattle.metrics_bucket.proofs.Visits.{open_kept, wiped_set, wiped_new, new_visit, length_new, other_next}
 

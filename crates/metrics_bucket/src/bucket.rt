@@ -1,6 +1,6 @@
 //! The bucket, and the calls that push.
 ghost use Rattle.std.specs.Prelude.{◌≡◌, ℕ, ◌+◌, ◌*◌, ◌^◌, ◌<◌, ◌≤◌, ◌↔◌, ◌⊎◌, true};
-ghost use Rattle.std.specs.Prelude.{false, IsTrue, IfOk, OnOk, IfErr, OnErr, MatchResult, length, take, drop, map, [], ◌++◌};
+ghost use Rattle.std.specs.Prelude.{false, IsTrue, IfOk, OnOk, IfErr, MatchResult, length, take, drop, map, [], ◌++◌};
 ghost use Rattle.std.specs.Prelude.{◌-◌, ◌/◌, vec_capacity};
 ghost use Rattle.metrics_bucket.specs.Account.{first_account, with_ticket, looked_at, IsLooked, IsPushed};
 ghost use Rattle.std.specs.Arc.{arc_value};

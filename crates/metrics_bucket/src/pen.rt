@@ -1,5 +1,5 @@
 //! A thread's part of a bucket.
-ghost use Rattle.std.specs.Prelude.{◌≡◌, ◌<◌, ◌↔◌, true, false, IsTrue, IfOk, IfErr};
+ghost use Rattle.std.specs.Prelude.{◌≡◌, ◌<◌, ◌↔◌, false, IsTrue, IfOk, IfErr};
 ghost use Rattle.metrics_bucket.specs.Account.{left_account, right_account, joined_account};
 
 use crate::rule::BucketRule;

@@ -1,8 +1,8 @@
 //! The bounds of histograms by their names.
-ghost use Rattle.std.specs.Prelude.{◌≡◌, ◌<◌, ℕ, ℤ, [], List, Some as Just, All};
+ghost use Rattle.std.specs.Prelude.{◌≡◌, ◌<◌, ℕ, [], List, Some as Just, All};
 ghost use Rattle.std.specs.Prelude.{length, if◌then◌else◌, nat_lt, IfOk, IfErr, OnOk, OnErr, bytes_eq};
 ghost use Rattle.metrics.specs.declared.error.Error.TheVariants.{Memory as OutOfMemory, NoBounds as WithoutBounds};
-ghost use Rattle.metrics_storage.specs.Histogram.{no_samples, bounds_of};
+ghost use Rattle.metrics_storage.specs.Histogram.{no_samples};
 ghost use Rattle.metrics_exporter.specs.Prefixes.{IsEmpty, ArePlaces};
 
 use metrics::Error;

@@ -1,5 +1,5 @@
 //! Updates and checks of the cells.
-ghost use Rattle.std.specs.Prelude.{◌≡◌, true, false, ◌↔◌, ◌+◌, ◌<◌, ◌∷◌, [], pos, IsErr, Err, None};
+ghost use Rattle.std.specs.Prelude.{◌≡◌, true, ◌↔◌, ◌+◌, ◌<◌, ◌∷◌, [], pos, IsErr, Err, None};
 ghost use Rattle.std.specs.Prelude.{OnOk, IfErr, MatchResult, if◌then◌else◌};
 ghost use Rattle.metrics_names.specs.declared.kind.MetricKind.{MetricKind as AnyKind};
 ghost use Rattle.metrics_names.specs.Names.{KeyParts, SeriesKey, key_eq, series_key_eq};

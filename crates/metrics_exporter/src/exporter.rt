@@ -1,11 +1,11 @@
 //! An exporter of series as text.
-ghost use Rattle.std.specs.Prelude.{◌≡◌, ◌↔◌, ◌+◌, ◌*◌, ◌<◌, ◌≤◌, ◌++◌, ◌∷◌, ℕ, List};
+ghost use Rattle.std.specs.Prelude.{◌≡◌, ◌↔◌, ◌+◌, ◌<◌, ◌++◌, ◌∷◌, ℕ, List};
 ghost use Rattle.std.specs.Prelude.{[], true, length, if◌then◌else◌, string_bytes, Ok, Err, None, IfOk, IfErr, OnOk};
-ghost use Rattle.std.specs.Prelude.{MatchResult, OnErr, IsSome, ◌⊎◌, nat_lt, min};
+ghost use Rattle.std.specs.Prelude.{MatchResult, OnErr, ◌⊎◌, nat_lt, min};
 ghost use Rattle.metrics.specs.declared.error.Error.TheVariants.{Memory as OutOfMemory, BadShards as NotShards};
 ghost use Rattle.metrics.specs.declared.error.Error.TheVariants.{NoBounds as WithoutBounds, CountFull as Full};
 ghost use Rattle.metrics.specs.Layers.{mask_has};
-ghost use Rattle.metrics_names.specs.Names.{SeriesKey, KeyParts, key_eq};
+ghost use Rattle.metrics_names.specs.Names.{KeyParts};
 ghost use Rattle.metrics_registry.specs.Held.{is_shard_count as is_count};
 ghost use Rattle.metrics_registry.specs.Idleness.{Answered};
 ghost use Rattle.metrics_exporter.specs.Exporting.{Setup, Log, Step, updates, expires, steps, IsFull, IsExpiry, IsHeldNumber};

@@ -3,7 +3,6 @@ ghost use Rattle.std.specs.Prelude.{◌≡◌, ◌++◌, Some, OnOk, IfErr, stri
 ghost use Rattle.metrics.specs.declared.error.Error.TheVariants.{Memory as OutOfMemory};
 ghost use Rattle.metrics_exporter.specs.Exporting.{samples};
 ghost use Rattle.metrics_exporter.specs.ExporterText.{bucket_words, reading_words};
-ghost use Rattle.metrics_names.specs.Names.{name_word, label_words, kind_word};
 ghost use Rattle.metrics_exporter.specs.ExporterText.{series_line};
 ghost use Rattle.metrics_exporter.specs.Gathering.{series_shown, cell_shown};
 

@@ -4,7 +4,7 @@ ghost use Rattle.std.specs.Prelude.{Some, All, length, [], ◌∷◌, ◌++◌};
 ghost use Rattle.once_cell.specs.Once.{cell_name};
 ghost use Rattle.metrics_bucket.specs.Account.{first_account};
 ghost use Rattle.metrics_bucket.specs.Spares.{spare_account};
-ghost use Rattle.metrics_growing.specs.Parts.{Part, IsOf, IsNew, IsPassed, OnlyLooks, ChangedAt, MetOne, Reached};
+ghost use Rattle.metrics_growing.specs.Parts.{Part, IsOf, IsPassed, OnlyLooks, ChangedAt, MetOne, Reached};
 ghost use Rattle.metrics_growing.specs.Parts.{PushedIn, PassedIn, LostIn, Pushed, PushedByTries, LosesRace};
 
 use crate::known::Known;

@@ -1,5 +1,5 @@
 //! What a pen has of one segment.
-ghost use Rattle.std.specs.Prelude.{◌≡◌, ◌≢◌, ◌<◌, ◌≤◌, ◌^◌, ◌⊎◌, ◌↔◌, false, IsTrue};
+ghost use Rattle.std.specs.Prelude.{◌≡◌, ◌≢◌, ◌<◌, ◌≤◌, ◌^◌, ◌⊎◌, ◌↔◌, IsTrue};
 ghost use Rattle.std.specs.Prelude.{length, IfOk, OnOk, IfErr};
 ghost use Rattle.once_cell.specs.Once.{cell_name};
 ghost use Rattle.std.specs.List.{FoldsTo};

@@ -1,9 +1,9 @@
 //! All shards under one lock.
-ghost use Rattle.std.specs.Prelude.{◌≡◌, ◌<◌, ◌≤◌, ◌%◌, ◌+◌, true, false, if◌then◌else◌, map, IfOk};
+ghost use Rattle.std.specs.Prelude.{◌≡◌, ◌<◌, ◌≤◌, ◌+◌, true, false, if◌then◌else◌, map, IfOk};
 ghost use Rattle.std.specs.Prelude.{IfErr, vec_len, vec_capacity};
 ghost use Rattle.metrics.specs.declared.error.Error.TheVariants.{Memory as OutOfMemory, BadShards as NotShards};
 ghost use Rattle.metrics_registry.specs.Held.{is_shard_count as is_count};
-ghost use Rattle.metrics_journal.specs.Journal.{AreJournals, replies_in, key_of};
+ghost use Rattle.metrics_journal.specs.Journal.{AreJournals, replies_in};
 ghost use Rattle.metrics_journal.specs.Tally.{counted};
 ghost use Rattle.metrics_journal.specs.Journals.{journals_of, AreShards};
 

@@ -1,5 +1,5 @@
 //! Calls of a shard whose contracts say only which keys are held.
-ghost use Rattle.std.specs.Prelude.{◌≡◌, ◌&&◌, ◌||◌, not, true, OnOk, IfOk, IfErr};
+ghost use Rattle.std.specs.Prelude.{◌≡◌, ◌&&◌, ◌||◌, not, OnOk, IfOk, IfErr};
 ghost use Rattle.metrics.specs.declared.error.Error.TheVariants.{Memory as OutOfMemory};
 ghost use Rattle.metrics_names.specs.declared.kind.MetricKind.{MetricKind as AnyKind};
 ghost use Rattle.metrics_names.specs.Names.{kind_eq};

@@ -1,5 +1,5 @@
 //! A filter of names by the patterns that occur in them.
-ghost use Rattle.std.specs.Prelude.{◌≡◌, ◌↔◌, ◌<◌, ◌≤◌, true, false, [], ◌∷◌, ◌++◌, map, length};
+ghost use Rattle.std.specs.Prelude.{◌≡◌, ◌↔◌, ◌<◌, ◌≤◌, true, false, [], map, length};
 ghost use Rattle.std.specs.Prelude.{IsTrue, IfOk, IfErr, OnErr, MatchResult};
 ghost use Rattle.std.specs.List.{sum_by};
 ghost use Rattle.metrics.specs.Layers.{matches, filtered};

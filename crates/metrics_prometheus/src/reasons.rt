@@ -3,7 +3,7 @@ ghost use Rattle.std.specs.Prelude.{◌≡◌, ◌++◌, List, OnOk, IfSome, opt
 ghost use Rattle.std.specs.List.Sorted.{IsSorted};
 ghost use Rattle.std.specs.Cmp.Lexicographic.{slice_cmp};
 ghost use Rattle.std.specs.Ordering.{nat_cmp};
-ghost use Rattle.metrics_names.specs.Names.{label_cmp, kind_word};
+ghost use Rattle.metrics_names.specs.Names.{label_cmp};
 ghost use Rattle.metrics_prometheus.specs.Exposition.{Row, histogram_names, labels_reason, name_reason};
 ghost use Rattle.metrics_prometheus.specs.Exposition.{same_name_reason, last_reason, reason_of};
 ghost use Rattle.metrics_prometheus.specs.Exposition.{reason_text, series_named, left_out_line};

@@ -4,7 +4,7 @@ ghost use Rattle.std.specs.Prelude.{IfOk, OnOk, IfErr, IsTrue, flat_map, map};
 ghost use Rattle.metrics.specs.declared.error.Error.TheVariants.{Memory as OutOfMemory};
 ghost use Rattle.metrics_storage.specs.Histogram.{ascending};
 ghost use Rattle.metrics_prometheus.specs.Numbers.{number};
-ghost use Rattle.metrics_prometheus.specs.Samples.{label_text, joined, labels_text, sample_line, lines};
+ghost use Rattle.metrics_prometheus.specs.Samples.{label_text, labels_text, sample_line, lines};
 ghost use Rattle.metrics_prometheus.specs.Samples.{bucket_sample, histogram_samples};
 
 use crate::names::write_value;

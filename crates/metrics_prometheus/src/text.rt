@@ -14,7 +14,7 @@ ghost use Rattle.metrics_exporter.specs.Describing.{SameLegend, no_legend, descr
 ghost use Rattle.metrics_exporter.specs.Readings.{AreReadings, AreOnce, Told, reading_shown, cells_told};
 ghost use Rattle.metrics_prometheus.specs.Exposition.{Row, row_cmp, histogram_names, is_left_out};
 ghost use Rattle.metrics_prometheus.specs.Exposition.{help_line, type_line, name_lines, name_text};
-ghost use Rattle.metrics_prometheus.specs.Exposition.{samples_of, row_told, rows_text, last_after};
+ghost use Rattle.metrics_prometheus.specs.Exposition.{samples_of, row_told, rows_text};
 ghost use Rattle.metrics_prometheus.specs.Exposition.{IsExposition, IsDescribed};
 ghost use Rattle.metrics_prometheus.specs.Places.{rows_placed};
 ghost use Rattle.metrics_prometheus.specs.Reading.{AreOfKinds};

@@ -4,7 +4,7 @@ ghost use Rattle.std.specs.Fn.{FnOnceReturnsAtMut, FnOnceTakesAtMut};
 ghost use Rattle.std.specs.Int.{is_power_of_two};
 ghost use Rattle.std.specs.List.{IsDistinct};
 ghost use Rattle.std.specs.Map.{keys_of};
-ghost use Rattle.metrics_registry.specs.Held.{held, MayCall, GetsOrCreates, is_shard_count as is_count};
+ghost use Rattle.metrics_registry.specs.Held.{MayCall, GetsOrCreates, is_shard_count as is_count};
 
 use crate::cells::Cells;
 use crate::keys::{EqualClone, Hashable};

@@ -1,14 +1,13 @@
 //! Lists of calls, made one after another.
-ghost use Rattle.std.specs.Prelude.{◌≡◌, ◌≤◌, ◌<◌, ◌+◌, ◌++◌, [], ℕ, List, length, vec_len};
-ghost use Rattle.std.specs.Prelude.{vec_capacity, map, IfOk, IfErr, OnErr, Option, None, Some, option_map, false};
-ghost use Rattle.std.specs.List.{filter_map};
+ghost use Rattle.std.specs.Prelude.{◌≡◌, ◌≤◌, ◌<◌, ◌+◌, ◌++◌, [], ℕ, length, vec_len};
+ghost use Rattle.std.specs.Prelude.{vec_capacity, IfOk, IfErr, OnErr, Option, None, Some, option_map, false};
 ghost use Rattle.metrics_names.specs.declared.refused.Refused.TheVariants.{Memory};
 ghost use Rattle.metrics_names.specs.Names.{kind_eq};
 ghost use Rattle.metrics.specs.Book.{kind_of, content_at};
-ghost use Rattle.metrics.specs.Meaning.{Meaning, KeepsTargets, AreNew};
+ghost use Rattle.metrics.specs.Meaning.{KeepsTargets, AreNew};
 ghost use Rattle.metrics.specs.History.{reached, content_after, ArePlain};
-ghost use Rattle.metrics.specs.Answering.{Handle, handle_given, handle_named, handle, UpdatesCall, AllHeld, IsHeld, places};
-ghost use Rattle.metrics.specs.Answering.{UpdatesAll, Answers};
+ghost use Rattle.metrics.specs.Answering.{handle_given, handle_named, handle, UpdatesCall, IsHeld, places};
+ghost use Rattle.metrics.specs.Answering.{Answers};
 ghost use Rattle.metrics_replay.specs.Replaying.{log_of, register_places, place_in_front, handle_seen, register_kind};
 ghost use Rattle.metrics_replay.specs.Replaying.{holds_handle, UpdatesUnheld, AnswersUnheld};
 

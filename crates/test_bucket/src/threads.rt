@@ -1,5 +1,5 @@
 //! `RuledBucket`, used by several threads at once.
-ghost use Rattle.std.specs.Prelude.{◌≡◌, ◌<◌, ◌≤◌, true, false};
+ghost use Rattle.std.specs.Prelude.{◌≡◌, ◌<◌, true, false};
 
 use crate::beside::are_all_once;
 use crate::ruled::{bucket_of, settled, split_off};

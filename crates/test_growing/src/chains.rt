@@ -1,5 +1,4 @@
 //! A bucket that grows, used by one thread.
-ghost use Rattle.std.specs.Prelude.{◌≡◌};
 ghost use Rattle.metrics_growing.specs.Parts.{IsOf};
 
 use metrics::Error;

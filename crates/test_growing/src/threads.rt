@@ -1,5 +1,4 @@
 //! A bucket that grows, used by several threads at once.
-ghost use Rattle.std.specs.Prelude.{◌≡◌};
 ghost use Rattle.metrics_growing.specs.Parts.{IsOf};
 
 use crate::chains::{bucket_of_one, merged, split_off};

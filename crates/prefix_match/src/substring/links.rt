@@ -1,9 +1,9 @@
 //! The automaton as a trie with fail links.
 ghost use Rattle.std.specs.Prelude.{◌≡◌, ◌≢◌, ℕ, ◌+◌, ◌*◌, ◌^◌, ◌<◌, ◌≤◌, List, []};
-ghost use Rattle.std.specs.Prelude.{◌∷◌, ◌++◌, map, length, drop, IfOk};
+ghost use Rattle.std.specs.Prelude.{map, length, IfOk};
 ghost use Rattle.std.specs.List.{sum_by};
 ghost use Rattle.std.specs.Vec.{vec_len};
-ghost use Rattle.prefix_match.specs.Substring.{lowered, longest_front, pattern_limit};
+ghost use Rattle.prefix_match.specs.Substring.{lowered, pattern_limit};
 ghost use Rattle.prefix_match.specs.SubstringStates.{node_at, text_of, IsTree, IsRootRow, IsByDepth, KeepsShape};
 ghost use Rattle.prefix_match.specs.SubstringStates.{Falls, FallsBelow, StepsTo, FailsTo, LinksState, LinksAll};
 ghost use Rattle.prefix_match.specs.SubstringStates.{IsLinked, WalksLinks};

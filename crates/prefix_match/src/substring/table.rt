@@ -1,5 +1,5 @@
 //! The automaton as a full table.
-ghost use Rattle.std.specs.Prelude.{◌≡◌, ℕ, ◌+◌, ◌*◌, ◌<◌, ◌≤◌, ◌⊎◌, Bool, false, true, List};
+ghost use Rattle.std.specs.Prelude.{◌≡◌, ℕ, ◌+◌, ◌*◌, ◌<◌, ◌≤◌, ◌⊎◌, false, true, List};
 ghost use Rattle.std.specs.Prelude.{length, get_or, IfOk};
 ghost use Rattle.prefix_match.specs.Substring.{lowered, lowered_byte};
 ghost use Rattle.prefix_match.specs.SubstringStates.{IsTree, IsByDepth, Falls, IsLinked};

@@ -1,6 +1,6 @@
 //! The trie of the patterns, from which both forms are made.
 ghost use Rattle.std.specs.Prelude.{◌≡◌, ℕ, ◌+◌, ◌^◌, ◌<◌, ◌≤◌, List, [], ◌∷◌, ◌++◌, map};
-ghost use Rattle.std.specs.Prelude.{length, sum, IfSome, IfNone, IfOk, OnOk};
+ghost use Rattle.std.specs.Prelude.{length, IfSome, IfNone, IfOk, OnOk};
 ghost use Rattle.std.specs.Vec.{vec_len};
 ghost use Rattle.std.specs.List.{sum_by};
 ghost use Rattle.prefix_match.specs.Substring.{lowered};

@@ -1,6 +1,6 @@
 //! The nodes of a radix trie.
-ghost use Rattle.std.specs.Prelude.{◌≡◌, ℕ, ◌<◌, ◌≤◌, ◌≢◌, List, [], None, Some, length, take, IfOk};
-ghost use Rattle.std.specs.Prelude.{OnOk, IfErr, OnErr, IfSome, OnSome, IfNone, IsOk, IsSome, slice_index, slice_set};
+ghost use Rattle.std.specs.Prelude.{◌≡◌, ℕ, ◌<◌, ◌≢◌, [], None, Some, length, take, IfOk};
+ghost use Rattle.std.specs.Prelude.{OnOk, IfErr, OnErr, IfSome, IfNone, IsOk, slice_index, slice_set};
 ghost use Rattle.std.specs.List.{Contains};
 ghost use Rattle.prefix_match.specs.TrieTree.{AreTree, FitsBelow, GoesOn, Begins, IsDeepest, IsNext, Best, SameNodes, AddsNode};
 ghost use Rattle.prefix_match.specs.TrieTree.{IsCommonLen, path_at, value_at, child_at, next_child, child_in, paths, values};

@@ -1,4 +1,4 @@
-use Rattle.std.proofs.Common.{rules, ◌≡◌, ℕ, suc, ◌+◌, ◌-◌, ◌*◌, ◌/◌, ◌%◌, ◌<◌, ◌≤◌, List, [], ◌∷◌, ◌++◌, length, map, min, take, drop, sym, ap, ◌∙◌, subst, arith, append-nil}
+use Rattle.std.proofs.Common.{rules, ◌≡◌, ℕ, suc, ◌+◌, ◌-◌, ◌*◌, ◌/◌, ◌≤◌, List, ◌++◌, length, map, min, take, drop, sym, ap, ◌∙◌, subst, arith, append-nil}
 use Rattle.metrics_bucket.specs.Facts.{weigh}
 use Rattle.metrics_bucket.specs.Steps.{Seated, values_known}
 use Rattle.metrics.specs.Book.{blocks}
