@@ -1,4 +1,7 @@
 //! A histogram over fixed bounds.
+//!
+//! Its counts are 64-bit words, and a sample past the greatest is refused. Its sum has 128 bits, which so many samples
+//! can't pass.
 ghost use Rattle.std.specs.Prelude.{◌≡◌, ◌+◌, ◌^◌, ◌<◌, ◌≤◌, [], ◌∷◌, length, replicate, None};
 ghost use Rattle.std.specs.Prelude.{IfOk, IsErr, IsTrue, MatchResult, MatchOption, Ok, OnOk, ◌↔◌};
 ghost use Rattle.metrics_storage.specs.Histogram.{Distribution, sum_of, no_samples, with_samples, rank, sum_up_to, buckets_of};
@@ -8,9 +11,6 @@ ghost use Rattle.metrics_storage.specs.Histogram.{ascending, place_added, order_
 ghost use Rattle.metrics_storage.specs.Histogram.{ranked, all_ranked, total, IsSumOf, own_ranks};
 ghost use Rattle.metrics_storage.specs.Histogram.{TakesBuckets, ShowsBuckets, bounds_of, merged, both_ranked};
 ghost use Rattle.metrics.specs.declared.error.Error.TheVariants.{Memory as OutOfMemory, CountFull};
-
-#[cfg(test)]
-mod tests;
 
 use metrics::Error;
 use std::alloc::{AllocError, Global};

@@ -2,13 +2,12 @@
 
 use metrics::Key;
 use metrics_bucket::AtomicBucket;
-use metrics_cells::{CounterFn, GaugeFn, HistogramFn, counter_value};
+use metrics_cells::{CounterFn, GaugeFn, HistogramFn};
 use metrics_registry::{Generation, Storage};
 use metrics_shared_registry::{Generational, Registry};
 use std::process::Abort;
 use std::sync::Wait;
 use std::sync::atomic::{AtomicU64, Ordering};
-use std::thread::join;
 
 /// A histogram that rejects every sample.
 #[derive(Drop)]
@@ -76,50 +75,4 @@ fn a_histogram_has_room(rt: HostRuntime) {
     let registry = Registry::atomic(rt.alloc(), 1).expect(&rt, "out of memory");
     let cell = registry.storage().histogram(&key);
     expect_room(&rt, &cell.expect(&rt, "out of memory"));
-}
-
-/// So often each of two threads changes a count.
-const TIMES: u64 = 100_000;
-
-/// Increments a count. Whether it never fell.
-fn is_rising(count: &AtomicU64) -> bool {
-    let mut is_rising = true;
-    let mut before = 0;
-    for _ in 0..TIMES {
-        CounterFn::increment(count, 1);
-        let now = counter_value(count);
-        is_rising &= now > before;
-        before = now;
-    }
-    is_rising
-}
-
-/// Raises a count to a value that it has.
-fn raise_to_one(count: &AtomicU64) {
-    for _ in 0..TIMES {
-        count.absolute(1);
-    }
-}
-
-#[test]
-fn absolute_loses_no_increment(rt: HostRuntime) {
-    let count = AtomicU64::new(1);
-    let (is_rising, ()) = join(&rt, || is_rising(&count), || raise_to_one(&count));
-    assert!(rt; counter_value(&count) == 100_001);
-    assert!(rt; is_rising);
-}
-
-/// Raises a count by one, each time, where no other thread does.
-fn raise_past(count: &AtomicU64) {
-    for _ in 0..TIMES {
-        count.absolute(counter_value(count).wrapping_add(1));
-    }
-}
-
-#[test]
-fn a_raised_count_never_falls(rt: HostRuntime) {
-    let count = AtomicU64::new(1);
-    let (is_rising, ()) = join(&rt, || is_rising(&count), || raise_past(&count));
-    assert!(rt; is_rising);
-    assert!(rt; counter_value(&count) > TIMES);
 }

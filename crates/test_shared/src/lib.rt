@@ -1,10 +1,12 @@
-//! Tests of `metrics_shared`, through what it re-exports.
+//! Tests of `metrics_shared`, through what it re-exports, and of `metrics_cells`.
 //!
 //! They are in a crate of their own: a crate with tests is proved twice.
 #![tactic(auto)]
 
 #[cfg(test)]
 mod books;
+#[cfg(test)]
+mod cells;
 #[cfg(test)]
 mod course;
 #[cfg(test)]

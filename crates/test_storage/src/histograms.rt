@@ -1,5 +1,6 @@
 //! Histograms over fixed bounds.
 
+use metrics::Error;
 use metrics_storage::Histogram;
 use std::alloc::Global;
 use std::process::Abort;
@@ -86,4 +87,58 @@ fn samples_are_counted_up_to_each_bound(rt: HostRuntime) {
 fn no_bounds_make_no_histogram(rt: HostRuntime) {
     let made = Histogram::new(rt.alloc(), &[]).expect(&rt, "refused");
     assert!(rt; made.is_none());
+}
+
+/// A histogram of these samples.
+fn histogram_of(rt: &impl Abort, alloc: Global, bounds: &[i64], samples: &[i64]) -> Histogram {
+    let made = Histogram::new(alloc, bounds).expect(rt, "out of memory");
+    let mut histogram = made.expect(rt, "no bounds");
+    histogram.record_many(samples).expect(rt, "count full");
+    histogram
+}
+
+/// Adds the samples of a histogram of the same bounds.
+fn merge(rt: &impl Abort, all: &mut Histogram, more: &Histogram) {
+    assert!(rt; all.same_bounds(more));
+    if all.same_bounds(more) {
+        all.merge(more).expect(rt, "count full");
+    }
+}
+
+/// Doubles the samples of a histogram, and adds one.
+fn double_and_add(rt: &impl Abort, all: &mut Histogram, one: &Histogram) {
+    let copy = all.clone().expect(rt, "out of memory");
+    merge(rt, all, &copy);
+    merge(rt, all, one);
+}
+
+#[test]
+fn the_greatest_count_refuses_a_sample(rt: HostRuntime) {
+    let one = histogram_of(&rt, rt.alloc(), &[10], &[3]);
+    let mut full = histogram_of(&rt, rt.alloc(), &[10], &[3]);
+    for _ in 0..63 {
+        double_and_add(&rt, &mut full, &one);
+    }
+    assert_eq!(rt; full.record(3), Err(Error::CountFull));
+    assert_eq!(rt; full.record_many(&[3]), Err(Error::CountFull));
+    assert_eq!(rt;
+        (full.count(), full.sum()),
+        (u64::MAX, 55_340_232_221_128_654_845)
+    );
+    let buckets = full.buckets().expect(&rt, "out of memory");
+    assert_eq!(rt; buckets.as_slice(), [(10, u64::MAX)].as_slice());
+}
+
+#[test]
+fn merging_adds_the_samples(rt: HostRuntime) {
+    let mut all = histogram_of(&rt, rt.alloc(), &[10, -5, 10], &[-7, 8]);
+    let more = histogram_of(&rt, rt.alloc(), &[10, -5, 10], &[4, 12]);
+    let other = histogram_of(&rt, rt.alloc(), &[-5, 10], &[]);
+    assert!(rt; !all.same_bounds(&other));
+    assert_eq!(rt; all.bounds(), [10, -5, 10].as_slice());
+    merge(&rt, &mut all, &more);
+    assert_eq!(rt; (all.count(), all.sum()), (4, 17));
+    let mut found = 0;
+    all.visit_ascending(|bound, count| found = shown(found, (bound, count)));
+    assert_eq!(rt; found, -4_988_997);
 }

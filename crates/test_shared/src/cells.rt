@@ -1,6 +1,6 @@
 //! Cells, used by one thread and by several, with expected values from outside.
 
-use crate::{CounterFn, GaugeFn, HistogramFn, counter_value, gauge_value};
+use metrics_cells::{CounterFn, GaugeFn, HistogramFn, counter_value, gauge_value};
 use std::process::Abort;
 use std::sync::atomic::AtomicU64;
 use std::sync::{Arc, Wait};
@@ -58,7 +58,7 @@ fn a_shared_word_is_a_gauge(rt: HostRuntime) -> Result<(), Fail> {
 }
 
 /// How often each of two threads changes a cell.
-const TIMES: u32 = 100_000;
+const TIMES: u64 = 100_000;
 
 fn increment_often<C: CounterFn>(cell: &C) {
     for _ in 0..TIMES {
@@ -130,4 +130,47 @@ fn a_shared_sum_is_a_histogram(rt: HostRuntime) -> Result<(), Fail> {
     let sum = Arc::new(rt.alloc(), Sum(AtomicU64::new(0)))?;
     expect_samples(&rt, &sum, &sum.0);
     Ok(())
+}
+
+/// Increments a count. Whether it never fell.
+fn is_rising(count: &AtomicU64) -> bool {
+    let mut is_rising = true;
+    let mut before = 0;
+    for _ in 0..TIMES {
+        CounterFn::increment(count, 1);
+        let now = counter_value(count);
+        is_rising &= now > before;
+        before = now;
+    }
+    is_rising
+}
+
+/// Raises a count to a value that it has.
+fn raise_to_one(count: &AtomicU64) {
+    for _ in 0..TIMES {
+        count.absolute(1);
+    }
+}
+
+#[test]
+fn absolute_loses_no_increment(rt: HostRuntime) {
+    let count = AtomicU64::new(1);
+    let (is_rising, ()) = join(&rt, || is_rising(&count), || raise_to_one(&count));
+    assert!(rt; counter_value(&count) == 100_001);
+    assert!(rt; is_rising);
+}
+
+/// Raises a count by one, each time, where no other thread does.
+fn raise_past(count: &AtomicU64) {
+    for _ in 0..TIMES {
+        count.absolute(counter_value(count).wrapping_add(1));
+    }
+}
+
+#[test]
+fn a_raised_count_never_falls(rt: HostRuntime) {
+    let count = AtomicU64::new(1);
+    let (is_rising, ()) = join(&rt, || is_rising(&count), || raise_past(&count));
+    assert!(rt; is_rising);
+    assert!(rt; counter_value(&count) > TIMES);
 }
