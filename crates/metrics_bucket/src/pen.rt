@@ -5,13 +5,16 @@ ghost use Rattle.metrics_bucket.specs.Account.{left_account, right_account, join
 use crate::rule::BucketRule;
 use crate::steps::{Halves, LookAtWeight};
 use crate::view::{Turn, View};
-use atomic_table::{Seat, Table};
+use atomic_table::{Seat, Shared, Table};
 use metrics::Error;
 use std::alloc::Global;
 use std::marker::Model;
 use std::sync::Arc;
 
 pub(crate) type Words = Table<Turn, View, (usize, bool), BucketRule, Global>;
+
+// The words of a bucket, as the threads share them.
+pub(crate) type SharedWords = Shared<Turn, View, (usize, bool), BucketRule>;
 
 /// A thread's part of one bucket, which each call on the bucket borrows.
 ///

@@ -1,18 +1,20 @@
 //! The walk over the places of a side, which clears and readings share.
 ghost use Rattle.std.specs.Prelude.{◌≡◌, ℕ, ◌+◌, ◌-◌, ◌*◌, ◌^◌, ◌<◌, ◌≤◌, length, take, drop};
-ghost use Rattle.std.specs.Prelude.{map, replicate, slice_set, [], ◌∷◌};
+ghost use Rattle.std.specs.Prelude.{map, replicate, slice_set, [], ◌∷◌, IsTrue, false};
 ghost use Rattle.std.specs.List.{FoldsTo};
 ghost use Rattle.metrics_bucket.specs.Blocks.{valued, newest_first};
 ghost use mathlib.Core.Option.{some};
 ghost use lib.ListN.{get_elem?};
 ghost use Rattle.metrics_bucket.specs.BucketState.{holding, place_index, put_visit, side_of, visits_of, values_in};
 ghost use Rattle.metrics_bucket.specs.Places.{Reaches};
+ghost use Rattle.metrics_bucket.specs.WalkSteps.{IsMarkOf, IsValueOf};
 ghost use Rattle.metrics_bucket.specs.declared.view.Walk.{Walk};
 ghost use Rattle.metrics_bucket.specs.History.{HasVisit, CanLeave, turn_at};
 ghost use Rattle.metrics_bucket.specs.WalkedPlaces.{AreUnseen, IsWalked, Walks, walking, walk_of};
 ghost use Rattle.metrics_bucket.specs.declared.view.Visit.TheVariants.{Unseen, Marked, Read};
 
 use crate::bucket::{BLOCK_SIZE, RuledBucket};
+use crate::pen::SharedWords;
 use crate::sample::Sample;
 use crate::steps::{LeaveTurn, LookAtMark, ReadValue};
 use crate::view::{Turn, View};
@@ -23,31 +25,42 @@ use crossbeam_utils::Backoff;
 use std::sync::Wait;
 
 impl<T: Sample> RuledBucket<T> {
-    // Waits until the place's mark is 1, and returns the place's index.
-    fn wait_for<R: Wait>(
-        &self,
-        rt: &R,
-        seat: &mut Seat<Turn, View>,
-        side: usize,
-        at: usize,
-    ) -> usize
-        requires home { (seat.old.table_id ≡ self.now.table) × (seat.old.me.0.places ≡ self.now.places)
-            × (0 < seat.old.me.0.weight) }
-        requires visit { (side < 2) × (at < self.now.places) × (side_of seat.old.me.0.hold ≡ side)
-            × HasVisit seat.old.me.0.hold at Unseen }
-        ensures index { (result ≡ place_index self.now.places side at) × (result < self.now.places + self.now.places) }
-        ensures seat { (seat.new.table_id ≡ seat.old.table_id)
-            × (seat.new.me ≡ (holding seat.old.me.0 (put_visit seat.old.me.0.hold at Marked), seat.old.me.1)) }
+    // Looks at the mark of a place, at this word, and returns whether it is 1.
+    #[inline(always)]
+    fn is_marked(shared: &SharedWords, seat: &mut Seat<Turn, View>, mark: usize, at: usize) -> bool
+        requires home { (seat.old.table_id ≡ shared.now.table_id) × (0 < seat.old.me.0.weight) }
+        requires word { (mark < shared.now.table_id.words) × IsMarkOf seat.old.me.0 mark at }
+        requires visit { HasVisit seat.old.me.0.hold at Unseen }
+        ensures table { seat.new.table_id ≡ seat.old.table_id }
+        ensures marked { IsTrue result
+            → seat.new.me ≡ (holding seat.old.me.0 (put_visit seat.old.me.0.hold at Marked), seat.old.me.1) }
+        ensures other { result ≡ false → seat.new.me ≡ seat.old.me }
     {
-        let shared = &self.table.shared;
-        let place_index = self.place_index(side, at);
-        let mark = 2 + 2 * self.places + place_index;
+        shared.load::<LookAtMark>(seat, mark) == 1
+    }
+
+    // Waits until the mark of a place, at this word, is 1.
+    #[inline(never)]
+    fn wait_for<R: Wait>(
+        rt: &R,
+        shared: &SharedWords,
+        seat: &mut Seat<Turn, View>,
+        mark: usize,
+        at: usize,
+    )
+        requires home { (seat.old.table_id ≡ shared.now.table_id) × (0 < seat.old.me.0.weight) }
+        requires word { (mark < shared.now.table_id.words) × IsMarkOf seat.old.me.0 mark at }
+        requires visit { HasVisit seat.old.me.0.hold at Unseen }
+        ensures table { seat.new.table_id ≡ seat.old.table_id }
+        ensures marked { seat.new.me
+            ≡ (holding seat.old.me.0 (put_visit seat.old.me.0.hold at Marked), seat.old.me.1) }
+    {
         let pause = Backoff::new();
         for _ in rt.forever() {
-            if shared.load::<LookAtMark>(seat, mark) == 1 {
-                return place_index;
-            }
             pause.snooze();
+            if Self::is_marked(shared, seat, mark, at) {
+                return;
+            }
         }
         unreachable!()
     }
@@ -77,18 +90,42 @@ impl<T: Sample> RuledBucket<T> {
         self.table.shared.store::<LeaveTurn>(seat, 1, 0);
     }
 
-    // Waits for the value of a place, and reads it.
-    fn read_place<R: Wait, W: Walker>(
-        &self,
+    // Waits until the mark of a place, at this word, is 1, which it mostly is.
+    #[inline(always)]
+    fn see_mark<R: Wait>(
         rt: &R,
+        shared: &SharedWords,
+        seat: &mut Seat<Turn, View>,
+        mark: usize,
+        at: usize,
+    )
+        requires home { (seat.old.table_id ≡ shared.now.table_id) × (0 < seat.old.me.0.weight) }
+        requires word { (mark < shared.now.table_id.words) × IsMarkOf seat.old.me.0 mark at }
+        requires visit { HasVisit seat.old.me.0.hold at Unseen }
+        ensures table { seat.new.table_id ≡ seat.old.table_id }
+        ensures marked { seat.new.me
+            ≡ (holding seat.old.me.0 (put_visit seat.old.me.0.hold at Marked), seat.old.me.1) }
+    {
+        if !Self::is_marked(shared, seat, mark, at) {
+            Self::wait_for(rt, shared, seat, mark, at);
+        }
+    }
+
+    // Waits for the value of a place, and reads it. It is given the words of its value and its mark.
+    #[inline(always)]
+    fn read_place<R: Wait, W: Walker>(
+        rt: &R,
+        shared: &SharedWords,
         seat: &mut Seat<Turn, View>,
         side: usize,
+        value: usize,
+        mark: usize,
         at: usize,
     ) -> T
-        requires home { (seat.old.table_id ≡ self.now.table) × (seat.old.me.0.places ≡ self.now.places)
-            × (0 < seat.old.me.0.weight) }
-        requires hold { (side < 2) × (at < self.now.places)
-            × (seat.old.me.0.hold ≡ walking W.kind side (visits_of seat.old.me.0.hold)) }
+        requires home { (seat.old.table_id ≡ shared.now.table_id) × (0 < seat.old.me.0.weight) }
+        requires words { (value < shared.now.table_id.words) × (mark < shared.now.table_id.words)
+            × IsValueOf seat.old.me.0 value at × IsMarkOf seat.old.me.0 mark at }
+        requires hold { seat.old.me.0.hold ≡ walking W.kind side (visits_of seat.old.me.0.hold) }
         requires visit { get_elem? (visits_of seat.old.me.0.hold) at ≡ some Unseen }
         ensures { (x : ℕ) × (result ≡ T.value x) × (seat.new.table_id ≡ seat.old.table_id)
             × (seat.new.me ≡ (
@@ -97,8 +134,8 @@ impl<T: Sample> RuledBucket<T> {
               seat.old.me.1,
             )) }
     {
-        let place_index = self.wait_for(rt, seat, side, at);
-        let bits = self.table.shared.load::<ReadValue>(seat, 2 + place_index);
+        Self::see_mark(rt, shared, seat, mark, at);
+        let bits = shared.load::<ReadValue>(seat, value);
         T::of_word(bits)
     }
 
@@ -122,8 +159,12 @@ impl<T: Sample> RuledBucket<T> {
         ensures room { take (end - start) room.new
             ≡ map T.value (take (end - start) (drop start (values_in (visits_of seat.new.me.0.hold)))) }
     {
+        let shared = &self.table.shared;
+        let value = 2 + self.place_index(side, 0);
+        let mark = 2 * self.places + value;
         for at in start..end {
-            room[at - start] = self.read_place::<R, W>(rt, seat, side, at);
+            let found = Self::read_place::<R, W>(rt, shared, seat, side, value + at, mark + at, at);
+            room[at - start] = found;
         }
         W::leave_places(self, seat, side, start, end);
     }
@@ -202,8 +243,11 @@ impl<T: Sample> RuledBucket<T> {
         ensures table { seat.new.table_id ≡ seat.old.table_id }
         ensures walked { (w : Walk) × IsWalked W.kind seat.old.me given w seat.new.me }
     {
+        let shared = &self.table.shared;
+        let value = 2 + self.place_index(side, 0);
+        let mark = 2 * self.places + value;
         for at in 0..given {
-            self.read_place::<R, W>(rt, seat, side, at);
+            Self::read_place::<R, W>(rt, shared, seat, side, value + at, mark + at, at);
         }
         W::leave_places(self, seat, side, 0, given);
         self.leave::<W>(seat);
