@@ -13,7 +13,7 @@ use Rattle.metrics_exporter.specs.ExporterText.{IsText}
 use Rattle.metrics_exporter.specs.Kept.{IsAfter}
 use Rattle.metrics_exporter.proofs.LawLemmas.{holds-some}
 use Rattle.tool_export.specs.declared.requests.Request.TheVariants.{Change, Scrape}
-use Rattle.tool_export.specs.Exported.{scrape_text, want_text, update_text, Scrapes, Answers}
+use Rattle.tool_export.specs.Exported.{scrape_text, report_text, Scrapes, Answers}
 
 -- ---- an update
 
@@ -43,7 +43,7 @@ module _ (old new : Exporter) (key : KeyParts) (by : Update) where
       → cells_after setup (steps log) (series_of key by) ≡ None
 
   abbrev pub Told : Result (Unit {0}) Error → Type 0
-  Told r = Calls r → Full r → Absent r → Answers old new (Change key by) (update_text r)
+  Told r = Calls r → Full r → Absent r → Answers old new (Change key by) (report_text r)
 
   pub not_full : Full (Ok tt) → (setup : Setup) (log : Log) → IsAfter setup log old → IsFull (steps log) key by → ⊥
   not_full full setup log after is = no_error (Ok tt) CountFull refl ((full setup log after).1 is)
@@ -87,10 +87,11 @@ scrape_shown old new now bytes shown series same scraped setup log after =
 abbrev pub ShowsNone : Exporter → Exporter → ℕ → Error → Type 0
 ShowsNone old new now e = Scrapes {T = Unit {0}} (λ cells shown. Unit {0}) old new now (Err e)
 
-pub scrape_wants : (old new : Exporter) (now : ℕ) (e : Error) → ShowsNone old new now e → Answers old new (Scrape now) want_text
+pub scrape_wants : (old new : Exporter) (now : ℕ) (e : Error) → ShowsNone old new now e
+    → Answers old new (Scrape now) (report_text (Err e))
 scrape_wants old new now e scraped setup log after =
     let (checks, answer, made, stands, (is, held)) = scraped setup log after in
-    (expires now checks answer, stands, inr (checks, answer, refl, made, refl, held))
+    (expires now checks answer, stands, inr (checks, answer, refl, made, ap (λ x. report_text (Err x)) is, held))
 
 -- ---- an expiry, and what is shown after it
 

@@ -36,10 +36,11 @@ done_text = codes "ok\n"
 abbrev pub full_text : List ℕ
 full_text = codes "refused E8 count full\n"
 
-abbrev pub update_text : Result (Unit {0}) Error → List ℕ
-update_text (Ok done) = done_text
-update_text (Err CountFull) = full_text
-update_text (Err e) = want_text
+-- the line that reports how a call ended
+abbrev pub report_text : Result (Unit {0}) Error → List ℕ
+report_text (Ok done) = done_text
+report_text (Err CountFull) = full_text
+report_text (Err e) = want_text
 
 -- ---- one request
 

@@ -1,16 +1,17 @@
 //! Answers to requests.
 ghost use Rattle.std.specs.Prelude.{◌≡◌, ◌++◌, List, ℕ, OnOk, string_bytes};
 ghost use Rattle.metrics_exporter.specs.ExporterText.{IsText};
-ghost use Rattle.tool_export.specs.Exported.{Answers, Scrapes, number_of_lines, scrape_text, update_text as text_of_update};
+ghost use Rattle.tool_export.specs.Exported.{Answers, number_of_lines, scrape_text, report_text as text_of_report};
 
+use crate::pages::{Page, shown_at};
 use crate::requests::Request;
 use metrics::Error;
 use metrics_exporter::Exporter;
 use std::alloc::AllocError;
 
-/// The text of an update's answer.
-fn update_text(answered: Result<(), Error>) -> &'static str
-    ensures { result.now ≡ text_of_update answered }
+/// Returns the line that reports how a call ended.
+pub fn report_text(answered: Result<(), Error>) -> &'static str
+    ensures { result.now ≡ text_of_report answered }
 {
     match answered {
         Ok(()) => "ok\n",
@@ -41,13 +42,15 @@ fn write_scrape(now: u64, series: &str, text: &mut String) -> Result<(), AllocEr
     text.push_str(series)
 }
 
-/// Removes the series idle at this moment, and returns the text of the rest. Never fails if no series is held.
-fn series_at(on: &mut Exporter, now: u64) -> Result<String, Error>
-    ensures { Scrapes (λ cells text. IsText cells (string_bytes text)) on.old on.new now result }
-{
-    match on.expire(now) {
-        Ok(_) => on.text(),
-        Err(e) => Err(e),
+/// The page with a line for each series.
+#[derive(Drop)]
+struct SeriesLines;
+
+impl Page for SeriesLines {
+    ghost shows = { λ _ _. IsText };
+
+    fn text(&self, on: &Exporter) -> Result<String, Error> {
+        on.text()
     }
 }
 
@@ -62,10 +65,10 @@ pub fn answer_request(
         × OnOk result (string_bytes text.new ≡ string_bytes text.old ++ whole) }
 {
     match request {
-        Request::Change(key, by) => text.push_str(update_text(on.update(key, *by))),
-        Request::Scrape(now) => match series_at(on, *now) {
+        Request::Change(key, by) => text.push_str(report_text(on.update(key, *by))),
+        Request::Scrape(now) => match shown_at(&SeriesLines, on, *now) {
             Ok(series) => write_scrape(*now, series.as_str(), text),
-            Err(_) => text.push_str("refused E1 memory\n"),
+            Err(e) => text.push_str(report_text(Err(e))),
         },
     }
 }
