@@ -11,7 +11,8 @@ use Rattle.metrics_exporter.specs.Describing.{SameLegend, DescribesName}
 use Rattle.metrics_exporter.specs.Kept.{IsAfter, described}
 use Rattle.metrics_prometheus.specs.Exposition.{IsDescribed}
 use Rattle.metrics_prometheus.specs.declared.naming.Naming.{Naming}
-use Rattle.tool_export.specs.Exported.{HoldsAtRefusal}
+use Rattle.tool_export.specs.Exported.{HoldsAtRefusal, report_text}
+use Rattle.tool_export.specs.Exported.{want_text as want_line, full_text as full_line}
 use Rattle.tool_prometheus.specs.declared.answering.Served.{Served}
 use Rattle.tool_prometheus.specs.declared.requests.Request.{Request}
 use Rattle.tool_prometheus.specs.declared.requests.Request.TheVariants.{Change, Describe, Scrape, Nothing}
@@ -25,17 +26,16 @@ scrape_text has_file shown = if has_file then [] else shown ++ 10 ∷ []
 
 -- out of memory, as a comment
 abbrev pub want_text : List ℕ
-want_text = codes "# refused E1 memory\n"
+want_text = codes "# " ++ want_line
 
 -- a count of samples that is full
 abbrev pub full_text : List ℕ
-full_text = codes "# refused E8 count full\n"
+full_text = codes "# " ++ full_line
 
 -- the report of a failure; a call that succeeded prints nothing by it
 abbrev pub refusal_text : Result (Unit {0}) Error → List ℕ
 refusal_text (Ok done) = []
-refusal_text (Err CountFull) = full_text
-refusal_text (Err e) = want_text
+refusal_text (Err e) = codes "# " ++ report_text (Err e)
 
 -- what a scrape prints that showed this, or failed
 abbrev pub shown_text : {T : Type 0} → (T → List ℕ) → Bool → Result T Error → List ℕ

@@ -1,10 +1,7 @@
 //! Answers to requests.
 ghost use Rattle.std.specs.Prelude.{◌≡◌, ◌++◌, ℕ, List, OnOk};
 ghost use Rattle.std.specs.Prelude.{string_bytes, is_ok, false, if◌then◌else◌};
-ghost use Rattle.metrics_exporter.specs.Kept.{described};
-ghost use Rattle.tool_export.specs.Exported.{Scrapes};
-ghost use Rattle.tool_prometheus.specs.Exposed.{Answers, IsExposed, IsMoment, IsEnd, scrape_text, shown_text};
-ghost use Rattle.tool_prometheus.specs.Exposed.{refusal_text as text_of_refusal};
+ghost use Rattle.tool_prometheus.specs.Exposed.{Answers, IsExposed, IsMoment, IsEnd, refusal_text, scrape_text, shown_text};
 
 use crate::requests::Request;
 use crate::surroundings::Surroundings;
@@ -13,6 +10,7 @@ use metrics::{Error, Items, Key, Label, MetricKind, Unit, Update};
 use metrics_exporter::Exporter;
 use metrics_prometheus::{Naming, exposition_named};
 use std::alloc::{AllocError, Global};
+use tool_export::{Page, report_text, shown_at};
 
 /// What the lines act on.
 #[derive(Drop)]
@@ -31,14 +29,13 @@ pub struct Served {
     pub has_bad: bool,
 }
 
-/// The comment that reports a failure, or nothing if there was none.
-fn refusal_text(answered: Result<(), Error>) -> &'static str
-    ensures { result.now ≡ text_of_refusal answered }
+/// Appends a comment that reports a failure, or nothing if there was none.
+fn write_refusal(answered: Result<(), Error>, text: &mut String) -> Result<(), AllocError>
+    ensures { OnOk result (string_bytes text.new ≡ string_bytes text.old ++ refusal_text answered) }
 {
     match answered {
-        Ok(()) => "",
-        Err(Error::CountFull) => "# refused E8 count full\n",
-        Err(_) => "# refused E1 memory\n",
+        Ok(()) => Ok(()),
+        Err(e) => write!(text, "# {}", report_text(Err(e))),
     }
 }
 
@@ -54,7 +51,7 @@ fn answer_change(
 {
     let answered = on.exporter.update(key, by);
     on.is_changed = answered.is_ok() | on.is_changed;
-    text.push_str(refusal_text(answered))
+    write_refusal(answered, text)
 }
 
 /// Describes a name, and appends the report of a failure.
@@ -71,17 +68,21 @@ fn answer_describe(
 {
     let answered = on.exporter.describe(kind, name, unit, note);
     on.is_changed = answered.is_ok() | on.is_changed;
-    text.push_str(refusal_text(answered))
+    write_refusal(answered, text)
 }
 
-/// Removes the series idle at this moment, and returns an exposition of the rest. Never fails if no series is held.
-fn shown_at(alloc: Global, naming: Naming, on: &mut Exporter, now: u64) -> Result<String, Error>
-    ensures shown { Scrapes (λ cells text. IsExposed naming on.new cells (string_bytes text)) on.old on.new now result }
-    ensures told { described on.new ≡ described on.old }
-{
-    match on.expire(now) {
-        Ok(_) => exposition_named(on, alloc, naming),
-        Err(e) => Err(e),
+/// The page for Prometheus.
+#[derive(Drop)]
+struct Exposition {
+    alloc: Global,
+    naming: Naming,
+}
+
+impl Page for Exposition {
+    ghost shows = { λ page on cells text. IsExposed page.naming on cells text };
+
+    fn text(&self, on: &Exporter) -> Result<String, Error> {
+        exposition_named(on, self.alloc, self.naming)
     }
 }
 
@@ -119,7 +120,7 @@ fn hand_out_shown<S: Surroundings>(
             watch.tell_left_out(shown.as_str());
             hand_out(watch, on.has_file, shown.as_str(), text)
         }
-        Err(e) => text.push_str(refusal_text(Err(e))),
+        Err(e) => write_refusal(Err(e), text),
     }
 }
 
@@ -135,7 +136,8 @@ fn answer_scrape<S: Surroundings>(
         × OnOk result (string_bytes text.new ≡ string_bytes text.old ++ whole) }
 {
     let now = moment_of(watch, moment);
-    let shown = shown_at(alloc, on.naming, &mut on.exporter, now);
+    let naming = on.naming;
+    let shown = shown_at(&Exposition { alloc, naming }, &mut on.exporter, now);
     hand_out_shown(on, watch, shown, text)
 }
 
@@ -185,6 +187,7 @@ pub fn answer_end<S: Surroundings>(
     if !on.is_changed {
         return Ok(());
     }
-    let shown = exposition_named(&on.exporter, alloc, on.naming);
+    let naming = on.naming;
+    let shown = Exposition { alloc, naming }.text(&on.exporter);
     hand_out_shown(on, watch, shown, text)
 }

@@ -5,8 +5,8 @@ use Rattle.tool_prometheus.proofs.answering.answer_end.Goals as goal
 
 pub returns : goal.returns
 returns g c =
-    let r = c.exposition_named-shown.result in
-    let done = end_shown c.args.on.now string_bytes r c.exposition_named-shown.ensures.text c.exposition_named-shown.ensures.refused in
+    let r = c.text-shown.result in
+    let done = end_shown c.args.on.now string_bytes r c.text-shown.ensures.text c.text-shown.ensures.refused in
     record {
       shows = (shown_text string_bytes c.args.on.now.has_file r, inl (search rules, done), c.hand_out_shown.ensures.text);
       kept = ap (λ on. on.has_bad) c.hand_out_shown.ensures.changed;
