@@ -1,22 +1,10 @@
-#!/usr/bin/env python3
-"""Writes docs/API.md: each public item that `metrics` and `metrics_util` export, with its signature and its docs.
-
-    docs/api.py          writes the page
-    docs/api.py check    ends with status 1 if the page differs from what it would write
-
-Bodies, clauses and ghost items are left out."""
+"""Reads the items of `.rt` files: their docs, their signatures, and their clauses."""
 import os
 import re
-import sys
 
-HERE = os.path.dirname(os.path.abspath(__file__))
-CRATES = os.path.join(os.path.dirname(HERE), "crates")
-PAGE = os.path.join(HERE, "API.md")
-ITEM = re.compile(r"(?:pub )?(?:unsafe )?(struct|enum|trait|fn|type|const)\s+(\w+)")
-HEAD = """# Public items
+from definitions import CRATES, imports_of
 
-Each public item with its signature and its docs, by the modules of `metrics_util`. `docs/api.py` writes this page from the sources.
-"""
+ITEM = re.compile(r"(?:pub(?:\([\w:]+\))? )?(?:unsafe )?(struct|enum|trait|fn|type|const)\s+(\w+)")
 
 
 def skip(text, at):
@@ -53,11 +41,16 @@ def end_of_item(text, at):
     return (at, at + 1) if text[at] == ";" else (at, behind(text, at))
 
 
+def len_of_head(text):
+    at = 0
+    while at < len(text) and text[at] not in "{;" and not re.match(r"(requires|ensures)\b|//", text[at:at + 9]):
+        at = behind(text, at) if text[at] in "([" else skip(text, at)
+    return at
+
+
 def head_of(text):
     """Returns an item's text up to its clauses, body or semicolon."""
-    at = 0
-    while at < len(text) and text[at] not in "{;" and not re.match(r"(requires|ensures)\b", text[at:]):
-        at = behind(text, at) if text[at] in "([" else skip(text, at)
+    at = len_of_head(text)
     return " ".join(text[:at].split()).replace("( ", "(").replace(", )", ")").rstrip(",")
 
 
@@ -151,50 +144,93 @@ def shown_type(kind, text):
     return [head + " {", *indented(lines), "}"] if lines else [head + " { .. }"]
 
 
+def skip_space(text, at):
+    while at < len(text) and text[at].isspace():
+        at += 1
+    return at
+
+
+def clauses_of(text):
+    """Returns the clauses of a function, in order, each with the comments before it: (comments, words, fact)."""
+    at, found, comments = len_of_head(text), [], []
+    while at < len(text) and text[at] not in "{;":
+        clause = CLAUSE.match(text, at)
+        if text.startswith("//", at):
+            comments.append(text[at:skip(text, at)].lstrip("/ "))
+            at = skip(text, at)
+        elif clause and clause[1] != "where":
+            begin = text.index("{", at)
+            end = behind(text, begin)
+            found.append((comments, " ".join(text[at:begin].split()), text[begin + 1:end - 1].strip()))
+            at, comments = end, []
+        elif clause or not text[at].isspace():
+            at = behind(text, at) if text[at] in "([" else skip(text, at)
+        else:
+            at = skip_space(text, at)
+    return found
+
+
+def ghosts_of(block):
+    """Returns the ghost members of a trait or an impl: a name, and what is said of it."""
+    found = []
+    for _, _, text in pieces(block):
+        member = re.match(r"ghost (?!use\b)(\w+)\s*([=:])\s*\{(.*)\}\s*;$", text, re.S)
+        if member:
+            found.append((member[1], member[2], member[3].strip()))
+    return found
+
+
+def shown_part(part):
+    """Returns the docs of a field or a variant, and its text; None for a ghost one."""
+    docs = [line.strip() for line in part.splitlines() if line.strip().startswith("///")]
+    rest = " ".join(line.strip() for line in part.splitlines() if not line.strip().startswith(("///", "//", "#")))
+    rest = " ".join(rest.split())
+    return None if not rest or rest.startswith("ghost") else (docs, rest)
+
+
+def indented(lines):
+    return [f"    {line}" if line else "" for line in lines]
+
+
+def shown_type(kind, text, is_whole=False):
+    """Returns a struct with its public fields, or with all of them, or an enum with its variants."""
+    head, block = head_of(text), block_of(text)
+    if block is None:
+        return [head + ";"] if "(" not in head else [re.sub(r"\(.*\)", "(..)", head) + ";"]
+    lines = []
+    for docs, rest in filter(None, map(shown_part, parts(block))):
+        if is_whole or kind == "enum" or rest.startswith("pub "):
+            lines += [*docs, rest + ","]
+    return [head + " {", *indented(lines), "}"] if lines else [head + " { .. }"]
+
+
 class Crate:
-    """The items of a crate's sources by name, and the impls of its types."""
+    """The items of a crate's sources by name, the impls of its types, and what its files import for clauses."""
 
     def __init__(self, name):
-        self.items, self.impls, self.exports = {}, {}, {}
+        self.name, self.items, self.impls, self.exports, self.types = name, {}, {}, {}, {}
         for folder, _, files in sorted(os.walk(os.path.join(CRATES, name, "src"))):
             for file in sorted(files):
                 with open(os.path.join(folder, file), encoding="utf-8") as source:
                     self.read(source.read())
 
     def read(self, text):
+        imports = imports_of(text)
         for docs, attributes, item in pieces(text):
             found = ITEM.match(item)
+            if found and found[1] in ("struct", "enum"):
+                self.types.setdefault(found[2], (found[1], docs, item))
             if found and item.startswith("pub ") and not item.startswith("pub("):
-                self.items.setdefault(found[2], (found[1], docs, attributes, item))
+                self.items.setdefault(found[2], (found[1], docs, attributes, item, imports))
             elif item.startswith("impl"):
                 head = head_of(item)
                 named = without_generics(head[len("impl"):]).strip()
                 name = re.match(r"&?(?:mut )?([\w:]+)", named.rpartition(" for ")[2])
                 if name:
-                    self.impls.setdefault(name[1].split("::")[-1], []).append((head, item))
+                    self.impls.setdefault(name[1].split("::")[-1], []).append((head, item, imports))
             elif item.startswith("pub use "):
                 for path in exported(item):
                     self.exports[path[-1]] = path
-
-    def shown(self, name):
-        """Returns what the page shows of an item."""
-        kind, docs, attributes, text = self.items[name]
-        lines = [*docs]
-        derived = [it for it in attributes if it.startswith("#[derive(")]
-        if kind in ("struct", "enum"):
-            lines += [" ".join(it.split()) for it in derived] + shown_type(kind, text)
-        elif kind == "trait":
-            lines += [head_of(text) + " {", *indented(members(block_of(text), False)), "}"]
-        else:
-            lines += [head_of(text) + ";"]
-        for head, item in self.impls.get(name, []) if kind != "trait" else []:
-            if " for " in head:
-                lines += ["", head + " { .. }"]
-                continue
-            inside = members(block_of(item), True)
-            if inside:
-                lines += ["", head + " {", *indented(inside), "}"]
-        return lines
 
 
 def exported(item):
@@ -206,61 +242,42 @@ def exported(item):
     return [(*front.split("::"), name) for name in names]
 
 
-class Page:
-    def __init__(self):
-        self.crates, self.shown, self.lines = {}, set(), [HEAD]
+class Contract:
+    """What a function promises, or a ghost member: its signature, its docs, its clauses as lines, and what they import."""
 
-    def crate(self, name):
-        if name not in self.crates:
-            self.crates[name] = Crate(name)
-        return self.crates[name]
-
-    def find(self, within, path):
-        """Returns the crate that defines what a path of another crate exports."""
-        crate = path[0] if os.path.isdir(os.path.join(CRATES, path[0])) else within
-        while path[-1] not in self.crate(crate).items:
-            crate = self.crate(crate).exports[path[-1]][0]
-        return crate
-
-    def add(self, within, path):
-        crate = self.find(within, path)
-        if (crate, path[-1]) in self.shown:
-            self.lines.append(f"`{path[-1]}`: as above.\n")
-            return
-        self.shown.add((crate, path[-1]))
-        self.lines.append(f"### `{path[-1]}`\n\n```rust\n" + "\n".join(self.crate(crate).shown(path[-1])) + "\n```\n")
-
-    def add_module(self, name, docs, text):
-        said = " ".join(line.lstrip("/! ") for line in docs)
-        self.lines.append(f"## `{name}`\n\n{said}\n" if said else f"## `{name}`\n")
-        inner = []
-        for docs, _, item in pieces(text):
-            module = re.match(r"pub mod (\w+)", item)
-            if module and "{" in item:
-                inner.append((f"{name}::{module[1]}", docs, block_of(item)))
-            elif item.startswith("pub use "):
-                for path in exported(item):
-                    self.add(name.split("::")[0], path)
-        for module in inner:
-            self.add_module(*module)
+    def __init__(self, docs, head, lines, imports):
+        self.docs, self.head, self.lines, self.imports = docs, head, lines, imports
 
 
-def page():
-    made = Page()
-    for crate in ("metrics", "metrics_util"):
-        with open(os.path.join(CRATES, crate, "src", "lib.rt"), encoding="utf-8") as source:
-            text = source.read()
-        made.add_module(crate, re.findall(r"(?m)^//!.*", text), re.sub(r"(?m)^(//!|#!\[).*", "", text))
-    return "\n".join(made.lines)
+def lines_of_clauses(text):
+    lines = []
+    for comments, words, fact in clauses_of(text):
+        lines += [f"    // {it}" for it in comments]
+        lines.append("    " + words + " { " + "\n".join(fact.splitlines()) + " }")
+    return lines
 
 
-if __name__ == "__main__":
-    text = page()
-    if sys.argv[1:] == ["check"]:
-        with open(PAGE, encoding="utf-8") as written:
-            if written.read() != text:
-                print("docs/API.md is not what docs/api.py writes")
-                sys.exit(1)
-    else:
-        with open(PAGE, "w", encoding="utf-8") as to:
-            to.write(text)
+def contracts_of_block(head, block, is_public, imports):
+    """Returns the contracts of an impl's or a trait's members: one for its ghost members, and one for each function with clauses."""
+    found = []
+    ghosts = [f"    ghost {name}{' =' if sign == '=' else ':'} {{ {said} }}" for name, sign, said in ghosts_of(block)]
+    if ghosts:
+        found.append(Contract([], head, ghosts, imports))
+    for docs, _, text in pieces(block):
+        item = ITEM.match(text)
+        if item and item[1] == "fn" and (text.startswith("pub ") or not is_public):
+            lines = lines_of_clauses(text)
+            if lines:
+                found.append(Contract(docs, head_of(text), lines, imports))
+    return found
+
+
+def contracts_of(crate, name):
+    """Returns the contracts of a public item: of a function its own, of a type or a trait those of its members."""
+    kind, docs, _, text, imports = crate.items[name]
+    if kind == "fn":
+        return [Contract(docs, head_of(text), lines_of_clauses(text), imports)]
+    found = contracts_of_block(head_of(text), block_of(text), False, imports) if kind == "trait" else []
+    for head, item, there in crate.impls.get(name, []) if kind != "trait" else []:
+        found += contracts_of_block(head, block_of(item), " for " not in head, there)
+    return found
