@@ -65,7 +65,9 @@ def bad_lines(form):
         changed = lambda text: b" ".join([*texts[:at], text, *texts[at + 1:]])
         name = f"_{at + 1}" if at else ""
         if at and word.kind != "text":
-            yield "double_space" + name, changed(b" " + texts[at]), ("number" if word.is_number() else "empty", word, "")
+            # What may be left out is the rest of its line.
+            empty = " " + word.text if word.is_optional else ""
+            yield "double_space" + name, changed(b" " + texts[at]), ("number" if word.is_number() else "empty", word, empty)
         yield "not_utf8" + name, changed(texts[at] + NOT_UTF8), ("bytes" if at else "first_bytes", word, "")
         for kind, text in other_numbers(word) if word.is_number() else ():
             yield kind + name, changed(text.encode()), ("number", word, text)
@@ -76,6 +78,13 @@ def number_reason(word, text):
     if not re.fullmatch("-?[0-9]+", text):
         return "is not a whole number"
     return f"is not from {LEAST[word.kind]} to {GREATEST[word.kind]}, without needless zeros"
+
+
+def bytes_reason(word):
+    """What a line says of a word with a byte that isn't UTF-8: it can't show the word. One of a few words has a table's row."""
+    if word.is_number():
+        return "a word is not a whole number"
+    return "a word is not UTF-8" if word.kind in ("name", "text") else None
 
 
 def message_of(flaw, usage):
@@ -90,6 +99,6 @@ def message_of(flaw, usage):
         "more": f'"{text}" is not LABEL=VALUE' if word == "labels" else None,
         "number": f'"{text}" {number_reason(word, text)}' if kind == "number" else None,
         "empty": "a word is empty: one space stands between two words" if kind == "empty" and word.kind == "name" else None,
-        "bytes": "a word is not UTF-8",
+        "bytes": bytes_reason(word) if kind == "bytes" else None,
     }.get(kind)
     return said and f"{said} ({usage})"
