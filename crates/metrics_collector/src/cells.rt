@@ -7,13 +7,12 @@ ghost use Rattle.metrics_names.specs.declared.kind.MetricKind.TheVariants.{Histo
 use crate::gathered::Value;
 use crate::parts::Parts;
 use metrics::{Error, Key, MetricKind};
-use metrics_cells::{CounterFn, HistogramFn, counter_value, gauge_value};
+use metrics_cells::{CounterFn, GaugeFn, HistogramFn, counter_value, gauge_value};
 use metrics_exporter::Bounds;
 use metrics_registry::{Generation, Storage};
-use metrics_shared_registry::Generational;
 use metrics_storage::Histogram;
 use std::alloc::{AllocError, Global};
-use std::sync::atomic::{AtomicU64, AtomicUsize, Ordering};
+use std::sync::atomic::{AtomicBool, AtomicU64, AtomicUsize, Ordering};
 use std::sync::{Arc, Wait};
 
 /// A counter's cell, which any thread may keep and change (`CounterFn`).
@@ -47,14 +46,68 @@ impl CounterFn for CounterHandle {
     }
 }
 
+/// What the handles of a gauge share.
+#[derive(Drop)]
+struct GaugeCell {
+    value: AtomicU64,
+    /// Whether it was updated since a reading last looked.
+    is_changed: AtomicBool,
+    /// How many readings found it updated, modulo 2^64. Only readings change it, one at a time.
+    changes: AtomicU64,
+}
+
+impl GaugeCell {
+    /// Notes an update that was made. Who finds it noted has made the update before the next reading looks.
+    fn note(&self) {
+        if !self.is_changed.load(Ordering::SeqCst) {
+            self.is_changed.store(true, Ordering::SeqCst);
+        }
+    }
+
+    /// Returns how many readings found it updated, this one among them.
+    fn changes(&self) -> u64 {
+        if self.is_changed.swap(false, Ordering::SeqCst) {
+            self.changes.fetch_add(1, Ordering::SeqCst);
+        }
+        self.changes.load(Ordering::SeqCst)
+    }
+}
+
 /// A gauge's cell, which any thread may keep and change (`GaugeFn`).
 ///
-/// An update is two atomic instructions: one of the value, and one of a number of changes, since setting a gauge to the value
-/// that it has is activity too.
+/// Setting a gauge to the value that it has is activity too. So an update notes that there was one, which costs no atomic
+/// change unless a reading was made since the last update.
 ///
-/// A handle has 16 bytes. It keeps its series in the collector: one that is kept for ever keeps some 250 bytes, and the key's
+/// A handle has 8 bytes. It keeps its series in the collector: one that is kept for ever keeps some 250 bytes, and the key's
 /// texts.
-pub type GaugeHandle = Generational<Arc<AtomicU64>>;
+#[derive(Clone, Drop)]
+pub struct GaugeHandle {
+    cell: Arc<GaugeCell>,
+}
+
+impl GaugeHandle {
+    /// Returns the value at the moment.
+    pub fn value(&self) -> i64 {
+        gauge_value(&self.cell.value)
+    }
+}
+
+impl GaugeFn for GaugeHandle {
+    fn increment<W: Wait>(&self, rt: &W, value: i64) {
+        GaugeFn::increment(&self.cell.value, rt, value);
+        self.cell.note();
+    }
+
+    fn decrement<W: Wait>(&self, rt: &W, value: i64) {
+        GaugeFn::decrement(&self.cell.value, rt, value);
+        self.cell.note();
+    }
+
+    fn set(&self, value: i64) {
+        GaugeFn::set(&self.cell.value, value);
+        self.cell.note();
+    }
+}
 
 /// A histogram's cell, which any thread may keep and record into (`HistogramFn`).
 ///
@@ -108,19 +161,27 @@ pub(crate) struct Seen {
 }
 
 /// A cell that a reading looks at.
-pub(crate) trait Watched {
+pub(crate) trait Watched: Drop {
+    ghost use Rattle.std.specs.Prelude.{ℕ, IfSome};
     ghost use Rattle.metrics_collector.specs.Gathering.{kind_of, IsGenerationOf};
     ghost use Rattle.metrics_names.specs.declared.kind.MetricKind.{MetricKind as AnyKind};
 
     /// The kind of its series.
     ghost kind_held: { AnyKind };
 
+    /// The cell has no clone, and this generation.
+    ghost is_alone: { Self → ℕ → Type 0 };
+
     fn kind() -> MetricKind
         ensures { result ≡ kind_held };
 
-    /// Returns whether a clone exists at the moment. If none does, and no other thread can reach this cell, it stays as it is,
-    /// and each change that was made through a clone is seen.
-    fn is_shared(&self) -> bool;
+    /// Returns whether it seemed to have a clone.
+    fn seems_shared(&self) -> bool;
+
+    /// Returns the generation if there is no clone. Then nobody else can change the cell, and each change that was made through
+    /// a clone is seen.
+    fn alone<W: Wait>(&mut self, rt: &W) -> Option<Generation>
+        ensures { IfSome result (is_alone self.old) };
 
     /// Returns a number that each activity changes. It takes no memory.
     fn generation<W: Wait>(&self, rt: &W) -> Generation;
@@ -134,12 +195,19 @@ pub(crate) trait Watched {
 impl Watched for CounterHandle {
     ghost kind_held = { CounterKind };
 
+    ghost is_alone = { λ cell generation. Unit {0} };
+
     fn kind() -> MetricKind {
         MetricKind::Counter
     }
 
-    fn is_shared(&self) -> bool {
+    fn seems_shared(&self) -> bool {
         Arc::strong_count(&self.count) > 1
+    }
+
+    fn alone<W: Wait>(&mut self, _rt: &W) -> Option<Generation> {
+        let count = Arc::get_mut(&mut self.count)?;
+        Some(Generation::new(counter_value(count)))
     }
 
     fn generation<W: Wait>(&self, _rt: &W) -> Generation {
@@ -158,23 +226,30 @@ impl Watched for CounterHandle {
 impl Watched for GaugeHandle {
     ghost kind_held = { GaugeKind };
 
+    ghost is_alone = { λ cell generation. Unit {0} };
+
     fn kind() -> MetricKind {
         MetricKind::Gauge
     }
 
-    fn is_shared(&self) -> bool {
-        self.has_clones()
+    fn seems_shared(&self) -> bool {
+        Arc::strong_count(&self.cell) > 1
+    }
+
+    fn alone<W: Wait>(&mut self, _rt: &W) -> Option<Generation> {
+        let cell = Arc::get_mut(&mut self.cell)?;
+        Some(Generation::new(cell.changes()))
     }
 
     fn generation<W: Wait>(&self, _rt: &W) -> Generation {
-        self.get_generation()
+        Generation::new(self.cell.changes())
     }
 
-    /// An update changes the value and then the generation. They are read in the other order: an update between the two reads
-    /// is shown at once, and again by the next reading.
+    /// An update changes the value and then notes it. They are read in the other order: an update between the two reads is
+    /// shown at once, and again by the next reading.
     fn held<W: Wait>(&self, _rt: &W) -> Result<Seen, Error> {
-        let generation = self.get_generation();
-        let value = Value::Level(gauge_value(self.get_inner()));
+        let generation = Generation::new(self.cell.changes());
+        let value = Value::Level(self.value());
         Ok(Seen { generation, value })
     }
 }
@@ -182,12 +257,19 @@ impl Watched for GaugeHandle {
 impl Watched for HistogramHandle {
     ghost kind_held = { HistogramKind };
 
+    ghost is_alone = { λ cell generation. Unit {0} };
+
     fn kind() -> MetricKind {
         MetricKind::Histogram
     }
 
-    fn is_shared(&self) -> bool {
+    fn seems_shared(&self) -> bool {
         Arc::strong_count(&self.parts) > 1
+    }
+
+    fn alone<W: Wait>(&mut self, rt: &W) -> Option<Generation> {
+        let parts = Arc::get_mut(&mut self.parts)?;
+        Some(Generation::new(parts.count(rt)))
     }
 
     fn generation<W: Wait>(&self, rt: &W) -> Generation {
@@ -253,7 +335,14 @@ impl Storage<Key> for CollectorCells {
     }
 
     fn gauge(&self, _key: &Key) -> Result<GaugeHandle, Error> {
-        Generational::new(self.alloc, Arc::new(self.alloc, AtomicU64::new(0))?)
+        let cell = GaugeCell {
+            value: AtomicU64::new(0),
+            is_changed: AtomicBool::new(false),
+            changes: AtomicU64::new(0),
+        };
+        Ok(GaugeHandle {
+            cell: Arc::new(self.alloc, cell)?,
+        })
     }
 
     fn histogram(&self, key: &Key) -> Result<HistogramHandle, Error> {

@@ -10,19 +10,14 @@ ghost use Rattle.metrics_prometheus.specs.Reading.{AreOfKinds};
 ghost use Rattle.metrics_collector.specs.Gathering.{all_gathered, IsUnread};
 ghost use Rattle.metrics_collector.specs.declared.gathered.Gathered.{Gathered as GatheredParts};
 
-use crate::cells::{CollectorCells, CounterHandle, GaugeHandle, HistogramHandle};
+use crate::cells::{CounterHandle, GaugeHandle, HistogramHandle};
 use crate::gathered::{Gathered, GatheredSeries};
 use crate::keys::kept_key;
-use crate::rows::Rows;
-use crate::walk::{Walk, forget_all};
-use metrics::{Error, Key, Label, MetricKind, MetricKindMask, PerKind, Unit};
-use metrics_cells::CounterFn;
+use crate::readings::Series;
+use metrics::{Error, Key, Label, MetricKind, MetricKindMask, Unit};
 use metrics_exporter::Bounds;
 use metrics_prometheus::{Descriptions, Naming};
-use metrics_registry::OwnedRecency;
-use metrics_shared_registry::Registry;
 use std::alloc::Global;
-use std::collections::HashSet;
 use std::mem;
 use std::sync::{Mutex, RwLock, Wait};
 
@@ -36,10 +31,7 @@ pub struct Collector {
     alloc: Global,
     labels: Vec<Label>,
     naming: Naming,
-    mask: MetricKindMask,
-    idle_timeout: Option<u64>,
-    registry: Registry<Key, CollectorCells>,
-    recency: Mutex<OwnedRecency<Key>>,
+    series: Series,
     /// The rows of the last text.
     rows: Mutex<Vec<GatheredSeries>>,
     descriptions: RwLock<Descriptions>,
@@ -57,18 +49,15 @@ impl Collector {
         idle_timeout: Option<u64>,
         bounds: Bounds,
     ) -> Result<Collector, Error>
-        ensures ok { IfOk result (λ c. (c.registry.storage.bounds ≡ bounds) × (c.naming ≡ NamesAsGiven)) }
+        ensures ok { IfOk result (λ c. (c.series.registry.storage.bounds ≡ bounds) × (c.naming ≡ NamesAsGiven)) }
         ensures err { IfErr result (λ e. e ≡ (if is_count shards then OutOfMemory else NotShards)) }
     {
-        let registry = Registry::new(alloc, CollectorCells::new(alloc, bounds), shards)?;
+        let series = Series::new(alloc, shards, mask, idle_timeout, bounds)?;
         Ok(Collector {
             alloc,
             labels: Vec::new(alloc),
             naming: Naming::AsGiven,
-            mask,
-            idle_timeout,
-            registry,
-            recency: Mutex::new(OwnedRecency::new(alloc, mask, idle_timeout)),
+            series,
             rows: Mutex::new(Vec::new(alloc)),
             descriptions: RwLock::new(Descriptions::new(alloc)),
         })
@@ -100,7 +89,7 @@ impl Collector {
     pub fn with_stripes(self, stripes: usize) -> Collector
         ensures { result ≡ self }
     {
-        self.registry.storage().set_stripes(stripes);
+        self.series.set_stripes(stripes);
         self
     }
 
@@ -127,9 +116,7 @@ impl Collector {
     /// some 200 bytes and the key's texts.
     pub fn counter<W: Wait>(&self, rt: &W, key: &Key) -> Result<CounterHandle, Error> {
         let kept = kept_key(self.alloc, key, &self.labels)?;
-        let key = kept.as_ref().unwrap_or(key);
-        let registry = &self.registry;
-        Ok(registry.get_or_create_counter(rt, key, |cell: &CounterHandle| cell.clone())??)
+        self.series.counter(rt, kept.as_ref().unwrap_or(key))
     }
 
     /// Adds to a counter without keeping a handle. A new counter begins at 0.
@@ -138,17 +125,11 @@ impl Collector {
     /// the key's labels aren't in order.
     pub fn increment<W: Wait>(&self, rt: &W, key: &Key, value: u64) -> Result<(), Error> {
         if self.labels.is_empty() && key.labels().len() < 2 {
-            return self.increment_kept(rt, key, value);
+            return self.series.increment(rt, key, value);
         }
         let kept = kept_key(self.alloc, key, &self.labels)?;
-        self.increment_kept(rt, kept.as_ref().unwrap_or(key), value)
-    }
-
-    fn increment_kept<W: Wait>(&self, rt: &W, key: &Key, value: u64) -> Result<(), Error> {
-        let registry = &self.registry;
-        registry.get_or_create_counter(rt, key, |cell: &CounterHandle| {
-            CounterFn::increment(cell, value)
-        })
+        let key = kept.as_ref().unwrap_or(key);
+        self.series.increment(rt, key, value)
     }
 
     /// Returns a handle of a gauge, which begins at 0 if it is new. Labels in another order name the same series.
@@ -157,9 +138,7 @@ impl Collector {
     /// some 250 bytes and the key's texts.
     pub fn gauge<W: Wait>(&self, rt: &W, key: &Key) -> Result<GaugeHandle, Error> {
         let kept = kept_key(self.alloc, key, &self.labels)?;
-        let key = kept.as_ref().unwrap_or(key);
-        let registry = &self.registry;
-        Ok(registry.get_or_create_gauge(rt, key, |cell: &GaugeHandle| cell.clone())??)
+        self.series.gauge(rt, kept.as_ref().unwrap_or(key))
     }
 
     /// Returns a handle of a histogram, which begins without samples if it is new. Labels in another order name the same
@@ -169,31 +148,12 @@ impl Collector {
     /// keeps its series, as long as it is kept: some 550 bytes, 32 for each bound, and the key's texts.
     pub fn histogram<W: Wait>(&self, rt: &W, key: &Key) -> Result<HistogramHandle, Error> {
         let kept = kept_key(self.alloc, key, &self.labels)?;
-        let key = kept.as_ref().unwrap_or(key);
-        let registry = &self.registry;
-        Ok(registry.get_or_create_histogram(rt, key, |cell: &HistogramHandle| cell.clone())??)
-    }
-
-    /// Walks over the cells of each kind.
-    fn walk<W: Wait>(&self, rt: &W, walk: &mut Walk) {
-        let registry = &self.registry;
-        registry.visit_counters(rt, |key, cell| walk.gather(rt, key, cell));
-        registry.visit_gauges(rt, |key, cell| walk.gather(rt, key, cell));
-        registry.visit_histograms(rt, |key, cell| walk.gather(rt, key, cell));
-        if !walk.gone.counter.is_empty() {
-            registry.retain_counters(rt, |key, cell| walk.stays(rt, key, cell));
-        }
-        if !walk.gone.gauge.is_empty() {
-            registry.retain_gauges(rt, |key, cell| walk.stays(rt, key, cell));
-        }
-        if !walk.gone.histogram.is_empty() {
-            registry.retain_histograms(rt, |key, cell| walk.stays(rt, key, cell));
-        }
+        self.series.histogram(rt, kept.as_ref().unwrap_or(key))
     }
 
     /// Reads each cell once, and returns the series in use. An idle series is removed if no thread has a handle.
     ///
-    /// Shards are read while other threads ask for handles. Only if an idle series is removed is each shard locked for a
+    /// Shards are read while other threads ask for handles. Only to remove an idle series is its shard locked for a
     /// moment. Threads with handles never wait for it, except one that records into the part of a histogram that is being
     /// read.
     ///
@@ -203,50 +163,7 @@ impl Collector {
     pub fn gather<W: Wait>(&self, rt: &W, alloc: Global, now: u64) -> Result<Gathered, Error>
         ensures { IfErr result IsUnread }
     {
-        self.gather_into(rt, alloc, now, Vec::new(alloc))
-    }
-
-    /// Gathers into the memory of these rows.
-    fn gather_into<W: Wait>(
-        &self,
-        rt: &W,
-        alloc: Global,
-        now: u64,
-        rows: Vec<GatheredSeries>,
-    ) -> Result<Gathered, Error>
-        ensures { IfErr result IsUnread }
-    {
-        let mut recency = self.recency.lock(rt);
-        let none = OwnedRecency::new(alloc, self.mask, self.idle_timeout);
-        let mut walk = Walk {
-            now,
-            recency: mem::replace(&mut *recency, none),
-            rows: Rows::reusing(rows),
-            refused: None,
-            gone: PerKind {
-                counter: HashSet::new(alloc),
-                gauge: HashSet::new(alloc),
-                histogram: HashSet::new(alloc),
-            },
-        };
-        self.walk(rt, &mut walk);
-        let Walk {
-            now: _,
-            recency: mut noted,
-            rows,
-            refused,
-            gone: _,
-        } = walk;
-        let series = rows.into_vec();
-        if refused.is_some() {
-            forget_all(&mut noted, &series);
-        }
-        *recency = noted;
-        match refused {
-            None => Ok(Gathered { series }),
-            Some(Error::CountFull) => Err(Error::CountFull),
-            Some(_) => Err(Error::Memory),
-        }
+        self.series.read(rt, now, Vec::new(alloc))
     }
 
     /// Reads each cell once, and returns the text of the series that are in use.
@@ -266,10 +183,10 @@ impl Collector {
         ensures err { IfErr result IsUnread }
     {
         let rows = mem::replace(&mut *self.rows.lock(rt), Vec::new(alloc));
-        let gathered = self.gather_into(rt, alloc, now, rows)?;
+        let gathered = self.series.read(rt, now, rows)?;
         let text = gathered.text(alloc, self.naming, &self.descriptions.read(rt));
         if text.is_err() {
-            forget_all(&mut *self.recency.lock(rt), &gathered.series);
+            self.series.forget_all(rt, &gathered);
         }
         let Gathered { series } = gathered;
         *self.rows.lock(rt) = series;

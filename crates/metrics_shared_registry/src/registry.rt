@@ -1,13 +1,16 @@
 //! Shards, each under a lock of its own.
-ghost use Rattle.std.specs.Prelude.{◌≡◌, true, IfOk, IfErr, if◌then◌else◌, vec_len};
-ghost use Rattle.std.specs.Fn.{FnOnceReturnsAt};
+ghost use Rattle.std.specs.Prelude.{◌≡◌, true, false, None, Some, IfOk, IfErr, if◌then◌else◌, vec_len};
+ghost use Rattle.std.specs.Fn.{FnOnceReturnsAt, FnOnceReturnsAtMut};
+ghost use Rattle.std.specs.Map.{keys_of};
 ghost use Rattle.std.specs.Int.{is_power_of_two};
 ghost use Rattle.metrics.specs.declared.error.Error.TheVariants.{Memory as OutOfMemory, BadShards as NotShards};
-ghost use Rattle.metrics_registry.specs.Held.{is_shard_count as is_count};
+ghost use Rattle.metrics_registry.specs.Held.{held, is_shard_count as is_count};
 
 use crate::storage::AtomicStorage;
 use metrics::{Error, Key};
-use metrics_registry::{EqualClone, Hashable, Kinds, Storage, is_shard_count, shard_by_mask};
+use metrics_registry::{
+    Cells, EqualClone, Hashable, Kinds, Storage, is_shard_count, shard_by_mask,
+};
 use std::alloc::Global;
 use std::collections::HashMap;
 use std::sync::{RwLock, RwLockReadGuard, Wait};
@@ -152,6 +155,19 @@ where
         }
     }
 
+    /// Removes a counter if `f` returns true for its cell, and returns whether it did. It locks one shard, for `f` alone.
+    pub fn remove_counter_if<W: Wait, F: FnOnce(&mut S::Counter) -> bool + Drop>(
+        &self,
+        rt: &W,
+        key: &K,
+        f: F,
+    ) -> bool
+        requires { F.IsAlwaysCallable f }
+        ensures { result ≡ true → (cell : S.Counter) × (left : S.Counter) × FnOnceReturnsAtMut F.FnOnce f cell true left }
+    {
+        remove_if(&mut self.shard(key).write(rt).counters, key, f)
+    }
+
     /// Removes a counter, and returns whether it was held.
     pub fn delete_counter<W: Wait>(&self, rt: &W, key: &K) -> bool {
         self.shard(key).write(rt).counters.remove(key)
@@ -234,6 +250,19 @@ where
         for shard in &self.shards {
             f = shard.write(rt).gauges.retain(f);
         }
+    }
+
+    /// Removes a gauge if `f` returns true for its cell, and returns whether it did. It locks one shard, for `f` alone.
+    pub fn remove_gauge_if<W: Wait, F: FnOnce(&mut S::Gauge) -> bool + Drop>(
+        &self,
+        rt: &W,
+        key: &K,
+        f: F,
+    ) -> bool
+        requires { F.IsAlwaysCallable f }
+        ensures { result ≡ true → (cell : S.Gauge) × (left : S.Gauge) × FnOnceReturnsAtMut F.FnOnce f cell true left }
+    {
+        remove_if(&mut self.shard(key).write(rt).gauges, key, f)
     }
 
     /// Removes a gauge, and returns whether it was held.
@@ -327,6 +356,19 @@ where
         }
     }
 
+    /// Removes a histogram if `f` returns true for its cell, and returns whether it did. It locks one shard, for `f` alone.
+    pub fn remove_histogram_if<W: Wait, F: FnOnce(&mut S::Histogram) -> bool + Drop>(
+        &self,
+        rt: &W,
+        key: &K,
+        f: F,
+    ) -> bool
+        requires { F.IsAlwaysCallable f }
+        ensures { result ≡ true → (cell : S.Histogram) × (left : S.Histogram) × FnOnceReturnsAtMut F.FnOnce f cell true left }
+    {
+        remove_if(&mut self.shard(key).write(rt).histograms, key, f)
+    }
+
     /// Removes a histogram, and returns whether it was held.
     pub fn delete_histogram<W: Wait>(&self, rt: &W, key: &K) -> bool {
         self.shard(key).write(rt).histograms.remove(key)
@@ -344,6 +386,26 @@ impl Registry<Key, AtomicStorage> {
     {
         Registry::new(alloc, AtomicStorage::new(alloc), shards)
     }
+}
+
+/// Removes a key if `f` returns true for its cell, and returns whether it did.
+fn remove_if<K: Hashable + EqualClone + Drop, C: Drop, F: FnOnce(&mut C) -> bool + Drop>(
+    cells: &mut Cells<K, C>,
+    key: &K,
+    f: F,
+) -> bool
+    requires { F.IsAlwaysCallable f }
+    ensures removed { result ≡ true → (cell : C) × (left : C) × (held K.eq cells.old key.now ≡ Some cell)
+        × FnOnceReturnsAtMut F.FnOnce f cell true left × (held K.eq cells.new key.now ≡ None) }
+    ensures kept { result ≡ false → keys_of cells.new ≡ keys_of cells.old }
+{
+    let Ok(leaves) = cells.change(key, f) else {
+        return false;
+    };
+    if leaves {
+        cells.remove(key);
+    }
+    leaves
 }
 
 /// Makes shards with nothing in them.
