@@ -15,8 +15,8 @@ from pathlib import Path
 sys.dont_write_bytecode = True
 import walk
 
-# Of the cases every so manyth, and the requests that fail in turn.
-STEP = 4
+# Every so manyth case is tried, and the requests that fail in turn.
+STEP = 2
 REQUESTS = (1, 2, 3, 5, 8, 13, 21, 34, 55)
 LEAST_SHARE = 0.99
 
@@ -49,9 +49,9 @@ def broken(run):
     yield "a message is another", run._replace(errors=run.errors + b"memory\n")
 
 
-def may_be_shorter(run, kind):
-    """A run that was out of memory may end after any whole answer."""
-    return run.status == 1 and kind == "a line is missing"
+def is_right_too(run, plain):
+    """A run that was out of memory may end after any whole answer, so the beginning of the plain output is no damage."""
+    return run.status == 1 and plain.startswith(run.out) and (not run.out or run.out.endswith(b"\n"))
 
 
 def tried(case):
@@ -60,6 +60,7 @@ def tried(case):
     with tempfile.TemporaryDirectory() as folder:
         room = Path(folder)
         (room / "refuse.so").symlink_to(os.environ["REFUSE_LIBRARY"])
+        plain = case.run(room, "none", 0).out
         for how in ("once", "on"):
             for at in REQUESTS:
                 run = case.run(room, how, at)
@@ -71,7 +72,7 @@ def tried(case):
                 if case.judge(run, how):
                     wrong.append(f"{case.name} at request {at} ({how})")
                 for kind, other in broken(run):
-                    if may_be_shorter(run, kind) or (how, other.out, other.errors, other.status) in seen:
+                    if (other.errors == run.errors and is_right_too(other, plain)) or (how, other.out, other.errors, other.status) in seen:
                         continue
                     accepted, total = counts.get(kind, (0, 0))
                     counts[kind] = accepted + (case.judge(other, how) is None), total + 1
