@@ -4,6 +4,8 @@
 #![tactic(auto)]
 
 #[cfg(test)]
+mod activity;
+#[cfg(test)]
 mod books;
 #[cfg(test)]
 mod builders;
