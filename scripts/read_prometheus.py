@@ -111,18 +111,20 @@ def base_of(exporter, kind, name):
 
 def shown_name(exporter, kind, name):
     end, _ = base_of(exporter, kind, name)
-    shown = spelled(name, "A-Za-z_:")
-    total = "_total" if exporter.is_recommended and kind == 0 else ""
-    if total:
-        shown = shown.removesuffix(total)
-    return shown.removesuffix(end) + end + total
+    ends = (end, "_total" if exporter.is_recommended and kind == 0 else "")
+    bare = spelled(name, "A-Za-z_:")
+    while any(end and bare.endswith(end) for end in ends):
+        for end in ends:
+            bare = bare.removesuffix(end)
+    return bare + "".join(ends)
 
 
 def pointed(number, places):
-    """Returns a number with so many digits after the point."""
+    """Returns the shortest text of a number whose last so many digits follow the point."""
     digits = str(abs(number)).rjust(places + 1, "0")
     at = len(digits) - places
-    return ("-" if number < 0 else "") + digits[:at] + ("." + digits[at:] if places else "")
+    decimals = digits[at:].rstrip("0")
+    return ("-" if number < 0 else "") + digits[:at] + ("." + decimals if decimals else "")
 
 
 def rows_of(exporter):
@@ -153,9 +155,21 @@ def labels_reason(kind, labels):
     return next((f"label {key}" for key in keys if is_reserved(kind, key)), None)
 
 
+def whole_of(name, histograms):
+    """Returns the histogram of which the name is that of a part, or None."""
+    wholes = (name[: -len(end)] for end in ("_bucket", "_sum", "_count") if name.endswith(end))
+    return next((whole for whole in wholes if whole in histograms), None)
+
+
 def histograms_of(rows):
-    """Returns the names of the histograms whose labels can be shown."""
-    return {name for name, kind, labels, _ in rows if kind == 2 and labels_reason(kind, labels) is None}
+    """Returns the names of the histograms that are shown. Rows are in order, so a histogram comes before its parts."""
+    fit = [(name, kind) for name, kind, labels, _ in rows if labels_reason(kind, labels) is None]
+    others = {name for name, kind in fit if kind != 2}
+    names = set()
+    for name, kind in fit:
+        if kind == 2 and name not in others and whole_of(name, names) is None:
+            names.add(name)
+    return names
 
 
 def reason_of(row, last, histograms):
@@ -164,9 +178,9 @@ def reason_of(row, last, histograms):
     reason = labels_reason(kind, labels)
     if reason is not None:
         return reason
-    for end in ("_bucket", "_sum", "_count"):
-        if name.endswith(end) and name[: -len(end)] in histograms:
-            return "name of a part of histogram " + name[: -len(end)]
+    whole = whole_of(name, histograms)
+    if whole is not None:
+        return "name of a part of histogram " + whole
     if last is None or last[0] != name:
         return None
     if last[1] != kind:
