@@ -1,4 +1,4 @@
-"""Bad lines that follow from the form of a line: a row of cases/generated.txt describes a line, and gives some twenty cases.
+"""Bad lines that follow from the form of a line: a row of cases/tool_generated.txt describes a line, and gives some twenty cases.
 
 A form is the line's words. `u64:1` and `i64:1` are numbers, for which 1 stands; `name:a`, a name; `word:counter`, one of a few
 words; `text:t`, all the rest of the line; `..` says that labels may follow, and `...` that any words may. What is in
