@@ -1,8 +1,9 @@
 #!/usr/bin/env python3
 """The text cases of cases/: inputs of the two programs, and what they print.
 
-    cases.py run         runs all cases on the two programs, which `rt try` builds without proof, and judges them. It prints a
+    cases.py run all     runs all cases on the two programs, which `rt try` builds without proof, and judges them. It prints a
                          line for each case that failed and for each group as it ends, and at last 'cases: N passed, M failed'
+    cases.py run written the same without those that a rule generates
     cases.py list        prints the group and the name of each case
     cases.py of GROUP    lays out the inputs of a group in the present folder, as NAME and NAME.args
 
@@ -17,6 +18,7 @@ import subprocess
 import sys
 import tempfile
 from concurrent.futures import ThreadPoolExecutor
+from itertools import groupby
 from pathlib import Path
 from typing import NamedTuple
 
@@ -265,14 +267,22 @@ def stop(number, _):
     os._exit(128 + number)
 
 
-def run():
-    """Runs the cases of both programs in parallel."""
+def halves(cases):
+    """Cuts many cases into two parts of whole groups, which are built and run in parallel."""
+    parts = [[], []] if len(cases) > 500 and (os.cpu_count() or 1) >= 4 else [[]]
+    for _, group in groupby(cases, lambda case: case.group):
+        min(parts, key=len).extend(group)
+    return parts
+
+
+def run(is_whole):
+    """Runs the cases of both programs in parallel: all, or those that aren't generated."""
     for number in (signal.SIGTERM, signal.SIGHUP, signal.SIGINT):
         signal.signal(number, stop)
-    cases = every_case()
+    cases = [case for case in every_case() if is_whole or not case.group.endswith("_generated")]
+    parts = [(program, part) for program in PROGRAMS for part in halves([it for it in cases if it.program == program])]
     with tempfile.TemporaryDirectory() as room, ThreadPoolExecutor() as pool:
-        of = [[case for case in cases if case.program == program] for program in PROGRAMS]
-        ran = [pool.submit(run_program, program, found, Path(room)) for program, found in zip(PROGRAMS, of)]
+        ran = [pool.submit(run_program, program, part, Path(room, str(at))) for at, (program, part) in enumerate(parts)]
         counts = [count for it in ran for count in it.result()]
     passed, failed = (sum(count[at] for count in counts) for at in (0, 1))
     print(f"cases: {passed} passed, {failed} failed")
@@ -282,8 +292,8 @@ def run():
 def main(words):
     try:
         match words:
-            case ["run"]:
-                return run()
+            case ["run", "all" | "written" as which]:
+                return run(which == "all")
             case ["list"]:
                 for it in every_case():
                     print(it.group, it.name)

@@ -104,8 +104,9 @@ class Case(NamedTuple):
         return run_once([program_of(self), *self.words], self.given, room, how, at, True)
 
     def judge(self, run, how):
-        if how == "none" and self.wanted not in (None, run.out):
-            return "another output with memory at hand"
+        if how == "none" and self.wanted is not None:
+            is_right = (run.out, run.errors, run.status) == (self.wanted, self.fault, self.code)
+            return None if is_right else f"status {run.status} with {run.errors!r} and another output with memory at hand"
         try:
             judge.judge(self.program, self.words, self.given, self.fault, self.code, how, run.status, run.out, run.errors)
         except judge.Wrong as wrong:
