@@ -55,7 +55,8 @@ def is_right_too(run, plain):
 
 
 def tried(case):
-    """Returns how many runs of a case were judged, those that were rejected, and by kind how many broken ones were accepted."""
+    """Returns how many runs of a case were judged, those that were rejected, and by kind how many broken ones were accepted,
+    of how many."""
     seen, wrong, counts = set(), [], {}
     with tempfile.TemporaryDirectory() as folder:
         room = Path(folder)
