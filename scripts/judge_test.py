@@ -73,7 +73,9 @@ def tried(case):
                 if case.judge(run, how):
                     wrong.append(f"{case.name} at request {at} ({how})")
                 for kind, other in broken(run):
-                    if (other.errors == run.errors and is_right_too(other, plain)) or (how, other.out, other.errors, other.status) in seen:
+                    if other.errors == run.errors and is_right_too(other, plain):
+                        continue
+                    if (how, other.out, other.errors, other.status) in seen:
                         continue
                     accepted, total = counts.get(kind, (0, 0))
                     counts[kind] = accepted + (case.judge(other, how) is None), total + 1
