@@ -11,7 +11,7 @@ import re
 import sys
 
 from definitions import CRATES, TOP, Specs
-from laws import FOLDER, Laws, files, held, write
+from laws import Laws, files, held, write
 from sources import ITEM, block_of, contracts_of, exported, head_of, indented, pieces, shown_type
 
 PAGE = os.path.join(TOP, "docs", "API.md")

@@ -105,43 +105,9 @@ def parts(block):
     yield block[start:]
 
 
-def shown_part(part):
-    """Returns the docs of a field or a variant, and its text; None for a ghost one."""
-    docs = [line.strip() for line in part.splitlines() if line.strip().startswith("///")]
-    rest = " ".join(line.strip() for line in part.splitlines() if not line.strip().startswith(("///", "//", "#")))
-    rest = " ".join(rest.split())
-    return None if not rest or rest.startswith("ghost") else (docs, rest)
-
-
 def block_of(text):
     begin, end = end_of_item(text, 0)
     return text[begin + 1:end - 1] if text[begin] == "{" else None
-
-
-def members(block, is_public):
-    """Returns the functions, types and constants of an impl or a trait."""
-    lines = []
-    for docs, _, text in pieces(block):
-        if text.startswith("ghost") or not ITEM.match(text) or (is_public and not text.startswith("pub ")):
-            continue
-        lines += ["", *docs, head_of(text) + ";"]
-    return lines[1:]
-
-
-def indented(lines):
-    return [f"    {line}" if line else "" for line in lines]
-
-
-def shown_type(kind, text):
-    """Returns a struct with its public fields, or an enum with its variants."""
-    head, block = head_of(text), block_of(text)
-    if block is None:
-        return [head + ";"] if "(" not in head else [re.sub(r"\(.*\)", "(..)", head) + ";"]
-    lines = []
-    for docs, rest in filter(None, map(shown_part, parts(block))):
-        if kind == "enum" or rest.startswith("pub "):
-            lines += [*docs, rest + ","]
-    return [head + " {", *indented(lines), "}"] if lines else [head + " { .. }"]
 
 
 def skip_space(text, at):
