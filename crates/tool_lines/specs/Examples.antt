@@ -1,4 +1,4 @@
--- A first run, as examples/first.txt has it.
+-- A first run, as cases/run/rules/first has it.
 use Rattle.std.specs.Prelude.{ℕ, List, ◌++◌, codes}
 
 -- what is read
