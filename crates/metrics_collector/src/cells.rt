@@ -12,8 +12,16 @@ use metrics_exporter::Bounds;
 use metrics_registry::{Generation, Storage};
 use metrics_storage::Histogram;
 use std::alloc::{AllocError, Global};
+use std::snapshot::Snapshot;
 use std::sync::atomic::{AtomicBool, AtomicU64, AtomicUsize, Ordering};
 use std::sync::{Arc, Wait};
+
+/// What the handles of a counter share.
+#[derive(Drop)]
+struct CounterCell {
+    count: AtomicU64,
+    key: Snapshot<Key>,
+}
 
 /// A counter's cell, which any thread may keep and change (`CounterFn`).
 ///
@@ -24,40 +32,46 @@ use std::sync::{Arc, Wait};
 /// texts.
 #[derive(Clone, Drop)]
 pub struct CounterHandle {
-    count: Arc<AtomicU64>,
+    cell: Arc<CounterCell>,
 }
 
 impl CounterHandle {
     /// Returns the count at the moment.
     pub fn value(&self) -> u64 {
-        counter_value(&self.count)
+        counter_value(&self.cell.count)
     }
 }
 
 impl CounterFn for CounterHandle {
     /// Adds to the count, modulo 2^64. An increment by 0 is no activity: it keeps no series from being idle.
     fn increment(&self, value: u64) {
-        CounterFn::increment(&*self.count, value);
+        CounterFn::increment(&self.cell.count, value);
     }
 
     /// Raises the count to the value, if it is below that. Otherwise it is no activity.
     fn absolute(&self, value: u64) {
-        CounterFn::absolute(&*self.count, value);
+        CounterFn::absolute(&self.cell.count, value);
     }
 }
 
 /// What the handles of a gauge share.
+///
+/// No update is missed. An update changes the value, and then sets the flag unless it finds it set. A reading takes the flag
+/// away, and then reads the value. All these steps have one order. So the reading that takes the flag which an update set or
+/// found comes after that update's change: it counts a change, and reads that value or a later one. In another order of the
+/// two steps, on either side, a change could fall between them.
 #[derive(Drop)]
 struct GaugeCell {
+    key: Snapshot<Key>,
     value: AtomicU64,
-    /// Whether it was updated since a reading last looked.
+    /// Whether it was updated since a reading last took this away.
     is_changed: AtomicBool,
     /// How many readings found it updated, modulo 2^64. Only readings change it, one at a time.
     changes: AtomicU64,
 }
 
 impl GaugeCell {
-    /// Notes an update that was made. Who finds it noted has made the update before the next reading looks.
+    /// Notes an update that was made.
     fn note(&self) {
         if !self.is_changed.load(Ordering::SeqCst) {
             self.is_changed.store(true, Ordering::SeqCst);
@@ -109,6 +123,13 @@ impl GaugeFn for GaugeHandle {
     }
 }
 
+/// What the handles of a histogram share.
+#[derive(Drop)]
+struct HistogramCell {
+    parts: Parts,
+    key: Snapshot<Key>,
+}
+
 /// A histogram's cell, which any thread may keep and record into (`HistogramFn`).
 ///
 /// No sample is lost: the cell has no room to run out of, and nothing has to drain it. The number of samples shows activity.
@@ -121,7 +142,7 @@ impl GaugeFn for GaugeHandle {
 /// bound from its first sample on.
 #[derive(Drop)]
 pub struct HistogramHandle {
-    parts: Arc<Parts>,
+    cell: Arc<HistogramCell>,
     place: usize,
 }
 
@@ -129,18 +150,18 @@ impl HistogramHandle {
     /// Returns what the cell holds. Fails with `Error::Memory`, or with `Error::CountFull` if there are more than 2^64 - 1
     /// samples.
     pub fn read<W: Wait>(&self, rt: &W) -> Result<Histogram, Error> {
-        self.parts.read(rt)
+        self.cell.parts.read(rt)
     }
 }
 
 /// A clone records into the next part.
 impl Clone for HistogramHandle {
-    ghost is_clone = { λ x y. arc_value y.parts ≡ arc_value x.parts };
+    ghost is_clone = { λ x y. arc_value y.cell ≡ arc_value x.cell };
 
     fn clone(&self) -> Result<HistogramHandle, AllocError> {
-        let parts = self.parts.clone()?;
-        let place = parts.next_place();
-        Ok(HistogramHandle { parts, place })
+        let cell = self.cell.clone()?;
+        let place = cell.parts.next_place();
+        Ok(HistogramHandle { cell, place })
     }
 }
 
@@ -149,7 +170,7 @@ impl HistogramFn for HistogramHandle {
     type Error = Error;
 
     fn record<W: Wait>(&self, rt: &W, value: i64) -> Result<(), Error> {
-        self.parts.record(rt, self.place, value)
+        self.cell.parts.record(rt, self.place, value)
     }
 }
 
@@ -162,7 +183,7 @@ pub(crate) struct Seen {
 
 /// A cell that a reading looks at.
 pub(crate) trait Watched: Drop {
-    ghost use Rattle.std.specs.Prelude.{ℕ, IfSome};
+    ghost use Rattle.std.specs.Prelude.{◌≡◌, ℕ, IfSome};
     ghost use Rattle.metrics_collector.specs.Gathering.{kind_of, IsGenerationOf};
     ghost use Rattle.metrics_names.specs.declared.kind.MetricKind.{MetricKind as AnyKind};
 
@@ -181,7 +202,8 @@ pub(crate) trait Watched: Drop {
     /// Returns the generation if there is no clone. Then nobody else can change the cell, and each change that was made through
     /// a clone is seen.
     fn alone<W: Wait>(&mut self, rt: &W) -> Option<Generation>
-        ensures { IfSome result (is_alone self.old) };
+        ensures alone { IfSome result (is_alone self.old) }
+        ensures same { self.new ≡ self.old };
 
     /// Returns a number that each activity changes. It takes no memory.
     fn generation<W: Wait>(&self, rt: &W) -> Generation;
@@ -202,12 +224,12 @@ impl Watched for CounterHandle {
     }
 
     fn seems_shared(&self) -> bool {
-        Arc::strong_count(&self.count) > 1
+        Arc::strong_count(&self.cell) > 1
     }
 
     fn alone<W: Wait>(&mut self, _rt: &W) -> Option<Generation> {
-        let count = Arc::get_mut(&mut self.count)?;
-        Some(Generation::new(counter_value(count)))
+        let cell = Arc::get_mut(&mut self.cell)?;
+        Some(Generation::new(counter_value(&cell.count)))
     }
 
     fn generation<W: Wait>(&self, _rt: &W) -> Generation {
@@ -264,22 +286,22 @@ impl Watched for HistogramHandle {
     }
 
     fn seems_shared(&self) -> bool {
-        Arc::strong_count(&self.parts) > 1
+        Arc::strong_count(&self.cell) > 1
     }
 
     fn alone<W: Wait>(&mut self, rt: &W) -> Option<Generation> {
-        let parts = Arc::get_mut(&mut self.parts)?;
-        Some(Generation::new(parts.count(rt)))
+        let cell = Arc::get_mut(&mut self.cell)?;
+        Some(Generation::new(cell.parts.count(rt)))
     }
 
     fn generation<W: Wait>(&self, rt: &W) -> Generation {
-        Generation::new(self.parts.count(rt))
+        Generation::new(self.cell.parts.count(rt))
     }
 
     fn held<W: Wait>(&self, rt: &W) -> Result<Seen, Error> {
         let samples = self.read(rt)?;
         let generation = Generation::new(samples.count());
-        let value = Value::Samples(Box::new(self.parts.allocator(), samples)?);
+        let value = Value::Samples(Box::new(self.cell.parts.allocator(), samples)?);
         Ok(Seen { generation, value })
     }
 }
@@ -315,27 +337,35 @@ impl CollectorCells {
     }
 }
 
-/// No contract says what a cell holds.
+/// A cell is one of its key. No contract says what it holds.
 impl Storage<Key> for CollectorCells {
+    ghost use Rattle.metrics_collector.specs.Series.{counter_key, gauge_key, histogram_key};
+
     type Counter = CounterHandle;
 
     type Gauge = GaugeHandle;
 
     type Histogram = HistogramHandle;
 
-    ghost makes_counter = { λ storage key cell. Unit {0} };
+    ghost makes_counter = { λ storage key cell. counter_key cell ≡ key };
 
-    ghost makes_gauge = { λ storage key cell. Unit {0} };
+    ghost makes_gauge = { λ storage key cell. gauge_key cell ≡ key };
 
-    ghost makes_histogram = { λ storage key cell. Unit {0} };
+    ghost makes_histogram = { λ storage key cell. histogram_key cell ≡ key };
 
-    fn counter(&self, _key: &Key) -> Result<CounterHandle, Error> {
-        let count = Arc::new(self.alloc, AtomicU64::new(0))?;
-        Ok(CounterHandle { count })
+    fn counter(&self, key: &Key) -> Result<CounterHandle, Error> {
+        let cell = CounterCell {
+            count: AtomicU64::new(0),
+            key: Snapshot::of(key),
+        };
+        Ok(CounterHandle {
+            cell: Arc::new(self.alloc, cell)?,
+        })
     }
 
-    fn gauge(&self, _key: &Key) -> Result<GaugeHandle, Error> {
+    fn gauge(&self, key: &Key) -> Result<GaugeHandle, Error> {
         let cell = GaugeCell {
+            key: Snapshot::of(key),
             value: AtomicU64::new(0),
             is_changed: AtomicBool::new(false),
             changes: AtomicU64::new(0),
@@ -348,9 +378,12 @@ impl Storage<Key> for CollectorCells {
     fn histogram(&self, key: &Key) -> Result<HistogramHandle, Error> {
         let empty = self.bounds.of(key.name()).clone()?;
         let others = self.others.load(Ordering::SeqCst);
-        let parts = Arc::new(self.alloc, Parts::new(self.alloc, empty, others)?)?;
+        let cell = HistogramCell {
+            parts: Parts::new(self.alloc, empty, others)?,
+            key: Snapshot::of(key),
+        };
         Ok(HistogramHandle {
-            parts,
+            cell: Arc::new(self.alloc, cell)?,
             place: others,
         })
     }

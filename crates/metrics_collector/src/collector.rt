@@ -1,5 +1,6 @@
 //! A collector.
-ghost use Rattle.std.specs.Prelude.{◌≡◌, List, if◌then◌else◌, IfOk, IfErr, string_bytes};
+ghost use Rattle.std.specs.Prelude.{◌≡◌, List, if◌then◌else◌, IfOk, IfErr, OnOk, string_bytes};
+ghost use Rattle.std.specs.Fn.{FnOnceReturnsAt};
 ghost use Rattle.metrics.specs.declared.error.Error.TheVariants.{Memory as OutOfMemory, BadShards as NotShards};
 ghost use Rattle.metrics_registry.specs.Held.{is_shard_count as is_count};
 ghost use Rattle.metrics_exporter.specs.Readings.{Told, AreOnce, cells_told};
@@ -12,12 +13,13 @@ ghost use Rattle.metrics_collector.specs.declared.gathered.Gathered.{Gathered as
 
 use crate::cells::{CounterHandle, GaugeHandle, HistogramHandle};
 use crate::gathered::{Gathered, GatheredSeries};
-use crate::keys::kept_key;
+use crate::keys::{is_kept, kept_key};
 use crate::readings::Series;
 use metrics::{Error, Key, Label, MetricKind, MetricKindMask, Unit};
+use metrics_cells::CounterFn;
 use metrics_exporter::Bounds;
 use metrics_prometheus::{Descriptions, Naming};
-use std::alloc::Global;
+use std::alloc::{AllocError, Global};
 use std::mem;
 use std::sync::{Mutex, RwLock, Wait};
 
@@ -38,6 +40,9 @@ pub struct Collector {
 }
 
 impl Collector {
+    ghost use Rattle.metrics_collector.specs.Labelling.{IsKept};
+    ghost use Rattle.metrics_collector.specs.Series.{counter_key, gauge_key, histogram_key};
+
     /// Makes a collector without series, in this many shards, a power of two from 1 to 1,024.
     ///
     /// A series of a kind in the mask is idle if it kept its generation over readings further apart than the timeout. Without
@@ -94,6 +99,8 @@ impl Collector {
     }
 
     /// Replaces the text of a name of this kind, and the unit if there is a new one. A call that fails changes nothing.
+    ///
+    /// It waits while a text is written.
     pub fn describe<W: Wait>(
         &self,
         rt: &W,
@@ -110,35 +117,102 @@ impl Collector {
             .describe(alloc, kind, name, unit, text)
     }
 
+    /// Calls `op` once on the cell of the counter that a key names.
+    fn on_counter<W: Wait, V, F: FnOnce(&CounterHandle) -> V + Drop>(
+        &self,
+        rt: &W,
+        key: &Key,
+        op: F,
+    ) -> Result<V, Error>
+        requires { F.IsAlwaysCallable op }
+        ensures called { IfOk result (λ v. (h : CounterHandle) × IsKept self.now.labels.items key.now (counter_key h)
+            × FnOnceReturnsAt F.FnOnce op h v) }
+        ensures err { IfErr result (λ e. e ≡ OutOfMemory) }
+    {
+        if is_kept(key, &self.labels) {
+            return self.series.on_counter(rt, key, op);
+        }
+        let kept = kept_key(self.alloc, key, &self.labels)?;
+        self.series.on_counter(rt, &kept, op)
+    }
+
     /// Returns a handle of a counter, which begins at 0 if it is new. Labels in another order name the same series.
     ///
     /// An update is one atomic instruction. An increment by 0 is no activity. A handle keeps its series, as long as it is kept:
     /// some 200 bytes and the key's texts.
-    pub fn counter<W: Wait>(&self, rt: &W, key: &Key) -> Result<CounterHandle, Error> {
-        let kept = kept_key(self.alloc, key, &self.labels)?;
-        self.series.counter(rt, kept.as_ref().unwrap_or(key))
+    pub fn counter<W: Wait>(&self, rt: &W, key: &Key) -> Result<CounterHandle, Error>
+        ensures key { IfOk result (λ h. IsKept self.now.labels.items key.now (counter_key h)) }
+        ensures err { IfErr result (λ e. e ≡ OutOfMemory) }
+    {
+        let handle = |cell: &CounterHandle| -> Result<CounterHandle, AllocError>
+            ensures { IfOk result (λ h. counter_key h ≡ counter_key cell.now) }
+        { cell.clone() };
+        Ok(self.on_counter(rt, key, handle)??)
     }
 
     /// Adds to a counter without keeping a handle. A new counter begins at 0.
     ///
     /// It looks the key up, which a handle's update doesn't. It fails with `Error::Memory` only if the series is new, or if
     /// the key's labels aren't in order.
-    pub fn increment<W: Wait>(&self, rt: &W, key: &Key, value: u64) -> Result<(), Error> {
-        if self.labels.is_empty() && key.labels().len() < 2 {
-            return self.series.increment(rt, key, value);
+    pub fn increment<W: Wait>(&self, rt: &W, key: &Key, value: u64) -> Result<(), Error>
+        ensures key { OnOk result ((h : CounterHandle) × IsKept self.now.labels.items key.now (counter_key h)) }
+        ensures err { IfErr result (λ e. e ≡ OutOfMemory) }
+    {
+        self.on_counter(rt, key, |cell: &CounterHandle| {
+            CounterFn::increment(cell, value)
+        })
+    }
+
+    /// Calls `op` once on the cell of the gauge that a key names.
+    fn on_gauge<W: Wait, V, F: FnOnce(&GaugeHandle) -> V + Drop>(
+        &self,
+        rt: &W,
+        key: &Key,
+        op: F,
+    ) -> Result<V, Error>
+        requires { F.IsAlwaysCallable op }
+        ensures called { IfOk result (λ v. (h : GaugeHandle) × IsKept self.now.labels.items key.now (gauge_key h)
+            × FnOnceReturnsAt F.FnOnce op h v) }
+        ensures err { IfErr result (λ e. e ≡ OutOfMemory) }
+    {
+        if is_kept(key, &self.labels) {
+            return self.series.on_gauge(rt, key, op);
         }
         let kept = kept_key(self.alloc, key, &self.labels)?;
-        let key = kept.as_ref().unwrap_or(key);
-        self.series.increment(rt, key, value)
+        self.series.on_gauge(rt, &kept, op)
     }
 
     /// Returns a handle of a gauge, which begins at 0 if it is new. Labels in another order name the same series.
     ///
     /// Each update is activity, even one that leaves the value as it is. A handle keeps its series, as long as it is kept:
     /// some 250 bytes and the key's texts.
-    pub fn gauge<W: Wait>(&self, rt: &W, key: &Key) -> Result<GaugeHandle, Error> {
+    pub fn gauge<W: Wait>(&self, rt: &W, key: &Key) -> Result<GaugeHandle, Error>
+        ensures key { IfOk result (λ h. IsKept self.now.labels.items key.now (gauge_key h)) }
+        ensures err { IfErr result (λ e. e ≡ OutOfMemory) }
+    {
+        let handle = |cell: &GaugeHandle| -> Result<GaugeHandle, AllocError>
+            ensures { IfOk result (λ h. gauge_key h ≡ gauge_key cell.now) }
+        { cell.clone() };
+        Ok(self.on_gauge(rt, key, handle)??)
+    }
+
+    /// Calls `op` once on the cell of the histogram that a key names.
+    fn on_histogram<W: Wait, V, F: FnOnce(&HistogramHandle) -> V + Drop>(
+        &self,
+        rt: &W,
+        key: &Key,
+        op: F,
+    ) -> Result<V, Error>
+        requires { F.IsAlwaysCallable op }
+        ensures called { IfOk result (λ v. (h : HistogramHandle) × IsKept self.now.labels.items key.now (histogram_key h)
+            × FnOnceReturnsAt F.FnOnce op h v) }
+        ensures err { IfErr result (λ e. e ≡ OutOfMemory) }
+    {
+        if is_kept(key, &self.labels) {
+            return self.series.on_histogram(rt, key, op);
+        }
         let kept = kept_key(self.alloc, key, &self.labels)?;
-        self.series.gauge(rt, kept.as_ref().unwrap_or(key))
+        self.series.on_histogram(rt, &kept, op)
     }
 
     /// Returns a handle of a histogram, which begins without samples if it is new. Labels in another order name the same
@@ -146,16 +220,23 @@ impl Collector {
     ///
     /// Each sample is activity. Ask for a handle in each thread: those of one histogram seldom wait for each other. A handle
     /// keeps its series, as long as it is kept: some 550 bytes, 32 for each bound, and the key's texts.
-    pub fn histogram<W: Wait>(&self, rt: &W, key: &Key) -> Result<HistogramHandle, Error> {
-        let kept = kept_key(self.alloc, key, &self.labels)?;
-        self.series.histogram(rt, kept.as_ref().unwrap_or(key))
+    pub fn histogram<W: Wait>(&self, rt: &W, key: &Key) -> Result<HistogramHandle, Error>
+        ensures key { IfOk result (λ h. IsKept self.now.labels.items key.now (histogram_key h)) }
+        ensures err { IfErr result (λ e. e ≡ OutOfMemory) }
+    {
+        let handle = |cell: &HistogramHandle| -> Result<HistogramHandle, AllocError>
+            ensures { IfOk result (λ h. histogram_key h ≡ histogram_key cell.now) }
+        { cell.clone() };
+        Ok(self.on_histogram(rt, key, handle)??)
     }
 
     /// Reads each cell once, and returns the series in use. An idle series is removed if no thread has a handle.
     ///
-    /// Shards are read while other threads ask for handles. Only to remove an idle series is its shard locked for a
-    /// moment. Threads with handles never wait for it, except one that records into the part of a histogram that is being
-    /// read.
+    /// # Waiting
+    ///
+    /// Readings go one after another. A thread with a handle waits for none, except to record into a histogram's part that is
+    /// being read. Nor does a look-up of a series that is there. A new series waits until the reading has left its shard, and
+    /// meanwhile look-ups in that shard wait behind it. To remove an idle series its shard is locked for this one alone.
     ///
     /// # Errors
     ///

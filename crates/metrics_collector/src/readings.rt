@@ -1,5 +1,6 @@
 //! The series of a collector, and their readings: which series are shown, and which leave.
 ghost use Rattle.std.specs.Prelude.{◌≡◌, ◌⊎◌, ℕ, true, false, None, IfOk, IfErr, if◌then◌else◌};
+ghost use Rattle.std.specs.Fn.{FnOnceReturnsAt};
 ghost use Rattle.metrics.specs.declared.error.Error.TheVariants.{Memory as OutOfMemory, BadShards as NotShards};
 ghost use Rattle.metrics_names.specs.Names.{KeyParts, key_eq};
 ghost use Rattle.metrics_names.specs.declared.kind.MetricKind.{MetricKind as AnyKind};
@@ -12,7 +13,6 @@ use crate::cells::{CollectorCells, CounterHandle, GaugeHandle, HistogramHandle, 
 use crate::gathered::{Gathered, GatheredSeries};
 use crate::rows::Rows;
 use metrics::{Error, Key, MetricKind, MetricKindMask};
-use metrics_cells::CounterFn;
 use metrics_exporter::Bounds;
 use metrics_prometheus::ReadSeries;
 use metrics_registry::{Generation, OwnedRecency};
@@ -100,6 +100,7 @@ fn leaves<W: Wait, C: Watched>(
     ensures notes { (k : AnyKind) (q : KeyParts)
         → IsKeptOrGone (table_of key_eq recency.old k q) (table_of key_eq recency.new k q) }
     ensures forgotten { result ≡ true → table_of key_eq recency.new C.kind_held idle.now.key ≡ None }
+    ensures same { cell.new ≡ cell.old }
 {
     match cell.alone(rt) {
         Some(generation) => is_idle(recency, C::kind(), &idle.key, generation, now),
@@ -151,7 +152,10 @@ impl Kind for CounterHandle {
         idle: &Idle<CounterHandle>,
         now: u64,
     ) {
-        registry.remove_counter_if(rt, &idle.key, |cell| leaves(rt, recency, idle, cell, now));
+        let leaves = |cell: &mut CounterHandle| -> bool
+            ensures { cell.new ≡ cell.old }
+        { leaves(rt, recency, idle, cell, now) };
+        registry.remove_counter_if(rt, &idle.key, leaves);
     }
 }
 
@@ -176,7 +180,10 @@ impl Kind for GaugeHandle {
         idle: &Idle<GaugeHandle>,
         now: u64,
     ) {
-        registry.remove_gauge_if(rt, &idle.key, |cell| leaves(rt, recency, idle, cell, now));
+        let leaves = |cell: &mut GaugeHandle| -> bool
+            ensures { cell.new ≡ cell.old }
+        { leaves(rt, recency, idle, cell, now) };
+        registry.remove_gauge_if(rt, &idle.key, leaves);
     }
 }
 
@@ -201,7 +208,10 @@ impl Kind for HistogramHandle {
         idle: &Idle<HistogramHandle>,
         now: u64,
     ) {
-        registry.remove_histogram_if(rt, &idle.key, |cell| leaves(rt, recency, idle, cell, now));
+        let leaves = |cell: &mut HistogramHandle| -> bool
+            ensures { cell.new ≡ cell.old }
+        { leaves(rt, recency, idle, cell, now) };
+        registry.remove_histogram_if(rt, &idle.key, leaves);
     }
 }
 
@@ -368,6 +378,8 @@ pub(crate) struct Series {
 }
 
 impl Series {
+    ghost use Rattle.metrics_collector.specs.Series.{counter_key, gauge_key, histogram_key};
+
     /// Begins without series, in this many shards, a power of two from 1 to 1,024.
     pub fn new(
         alloc: Global,
@@ -391,30 +403,49 @@ impl Series {
         self.registry.storage().set_stripes(stripes);
     }
 
-    /// Returns a handle of a counter.
-    pub fn counter<W: Wait>(&self, rt: &W, key: &Key) -> Result<CounterHandle, Error> {
-        let registry = &self.registry;
-        Ok(registry.get_or_create_counter(rt, key, |cell: &CounterHandle| cell.clone())??)
+    /// Calls `op` once on the cell of a counter, and returns its result. The cell is made if the key isn't held.
+    pub fn on_counter<W: Wait, V, F: FnOnce(&CounterHandle) -> V + Drop>(
+        &self,
+        rt: &W,
+        key: &Key,
+        op: F,
+    ) -> Result<V, Error>
+        requires { F.IsAlwaysCallable op }
+        ensures called { IfOk result (λ v. (h : CounterHandle) × (counter_key h ≡ key.now)
+            × FnOnceReturnsAt F.FnOnce op h v) }
+        ensures err { IfErr result (λ e. e ≡ OutOfMemory) }
+    {
+        self.registry.get_or_create_counter(rt, key, op)
     }
 
-    /// Adds to a counter.
-    pub fn increment<W: Wait>(&self, rt: &W, key: &Key, value: u64) -> Result<(), Error> {
-        let registry = &self.registry;
-        registry.get_or_create_counter(rt, key, |cell: &CounterHandle| {
-            CounterFn::increment(cell, value)
-        })
+    /// Calls `op` once on the cell of a gauge, and returns its result. The cell is made if the key isn't held.
+    pub fn on_gauge<W: Wait, V, F: FnOnce(&GaugeHandle) -> V + Drop>(
+        &self,
+        rt: &W,
+        key: &Key,
+        op: F,
+    ) -> Result<V, Error>
+        requires { F.IsAlwaysCallable op }
+        ensures called { IfOk result (λ v. (h : GaugeHandle) × (gauge_key h ≡ key.now)
+            × FnOnceReturnsAt F.FnOnce op h v) }
+        ensures err { IfErr result (λ e. e ≡ OutOfMemory) }
+    {
+        self.registry.get_or_create_gauge(rt, key, op)
     }
 
-    /// Returns a handle of a gauge.
-    pub fn gauge<W: Wait>(&self, rt: &W, key: &Key) -> Result<GaugeHandle, Error> {
-        let registry = &self.registry;
-        Ok(registry.get_or_create_gauge(rt, key, |cell: &GaugeHandle| cell.clone())??)
-    }
-
-    /// Returns a handle of a histogram.
-    pub fn histogram<W: Wait>(&self, rt: &W, key: &Key) -> Result<HistogramHandle, Error> {
-        let registry = &self.registry;
-        Ok(registry.get_or_create_histogram(rt, key, |cell: &HistogramHandle| cell.clone())??)
+    /// Calls `op` once on the cell of a histogram, and returns its result. The cell is made if the key isn't held.
+    pub fn on_histogram<W: Wait, V, F: FnOnce(&HistogramHandle) -> V + Drop>(
+        &self,
+        rt: &W,
+        key: &Key,
+        op: F,
+    ) -> Result<V, Error>
+        requires { F.IsAlwaysCallable op }
+        ensures called { IfOk result (λ v. (h : HistogramHandle) × (histogram_key h ≡ key.now)
+            × FnOnceReturnsAt F.FnOnce op h v) }
+        ensures err { IfErr result (λ e. e ≡ OutOfMemory) }
+    {
+        self.registry.get_or_create_histogram(rt, key, op)
     }
 
     /// Reads each cell once, into the memory of these rows, and removes idle series that nobody holds.

@@ -1,0 +1,12 @@
+use Rattle.std.proofs.Common.{ap}
+use Rattle.std.specs.Arc.{arc_with_value}
+use Rattle.metrics_collector.specs.declared.cells.CounterCell.{CounterCell}
+use Rattle.metrics_collector.specs.declared.cells.CounterHandle.{CounterHandle}
+use Rattle.metrics_collector.proofs.cells.CounterHandleWatched.alone.Goals as goal
+
+-- what is written back is the cell that was borrowed
+pub returns-clause-same : goal.returns-clause-same
+returns-clause-same g c =
+    let old = c.args.self.now in
+    let holding : CounterCell → CounterHandle = λ cell. record { cell = arc_with_value old.cell cell } in
+    ap holding c.in_ok-cell.ensures.value
