@@ -24,7 +24,7 @@ def theorems():
 
 def carriers(text):
     crate, _, items = text.partition(":")
-    return crate.strip(" `"), re.findall(r"`(\w+)`", items)
+    return crate.strip(" `"), re.findall(r"`([\w:]+)`", items)
 
 
 class Laws:
@@ -41,7 +41,7 @@ class Laws:
         return self.crates[name]
 
     def add(self, said, rows):
-        carried = [(crate, item) for crate, items in rows for item in items if item in self.crate(crate).items]
+        carried = [(crate, item) for crate, items in rows for item in self.named(crate, items)]
         if not carried:
             return
         contracts = [(crate, item, contracts_of(self.crate(crate), item)) for crate, item in carried]
@@ -67,6 +67,19 @@ class Laws:
                     lines += ["", f"### `{found[2]}`, of `{found[1]}`", "", "```rust", *docs, *shown_type(kind, text, True), "```"]
         return "\n".join(lines) + "\n" if seen else ""
 
+    def named(self, crate, items):
+        """Returns the items that a crate has; a method after one of its type, as in `Type::first`, `second`, belongs to that type."""
+        made, owner = self.crate(crate), None
+        for item in items:
+            first = item.partition("::")[0]
+            if "::" in item and first in made.items:
+                owner = first
+                yield item
+            elif item in made.items or item in made.functions:
+                yield item
+            elif owner and contracts_of(made, f"{owner}::{item}"):
+                yield f"{owner}::{item}"
+
     def link(self, there, up=""):
         """Returns a link to a definition; what no theorem cites goes on the page of the rest."""
         if there not in self.specs.found:
@@ -91,7 +104,7 @@ class Laws:
 
 
 def page_name(carried):
-    return f"{carried[0][0]}-{carried[0][1]}".lower()
+    return f"{carried[0][0]}-{carried[0][1]}".lower().replace("::", "-")
 
 
 def heading(it, name, beside):

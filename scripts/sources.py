@@ -174,7 +174,9 @@ class Crate:
     """The items of a crate's sources by name, the impls of its types, and what its files import for clauses."""
 
     def __init__(self, name):
-        self.name, self.items, self.impls, self.exports, self.types = name, {}, {}, {}, {}
+        self.name, self.items, self.impls, self.exports = name, {}, {}, {}
+        # Private ones too.
+        self.types, self.functions = {}, {}
         for folder, _, files in sorted(os.walk(os.path.join(CRATES, name, "src"))):
             for file in sorted(files):
                 with open(os.path.join(folder, file), encoding="utf-8") as source:
@@ -186,6 +188,8 @@ class Crate:
             found = ITEM.match(item)
             if found and found[1] in ("struct", "enum"):
                 self.types.setdefault(found[2], (found[1], docs, item))
+            if found and found[1] == "fn":
+                self.functions.setdefault(found[2], ("fn", docs, attributes, item, imports))
             if found and item.startswith("pub ") and not item.startswith("pub("):
                 self.items.setdefault(found[2], (found[1], docs, attributes, item, imports))
             elif item.startswith("impl"):
@@ -239,8 +243,11 @@ def contracts_of_block(head, block, is_public, imports):
 
 
 def contracts_of(crate, name):
-    """Returns the contracts of a public item: of a function its own, of a type or a trait those of its members."""
-    kind, docs, _, text, imports = crate.items[name]
+    """Returns the contracts of an item: of a function its own, of a type or a trait those of its members. `Type::method` has one."""
+    owner, _, method = name.partition("::")
+    if method:
+        return [it for it in contracts_of(crate, owner) if re.search(rf"\bfn {method}\b", it.head)]
+    kind, docs, _, text, imports = crate.items.get(name) or crate.functions[name]
     if kind == "fn":
         return [Contract(docs, head_of(text), lines_of_clauses(text), imports)]
     found = contracts_of_block(head_of(text), block_of(text), False, imports) if kind == "trait" else []
