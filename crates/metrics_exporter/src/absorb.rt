@@ -43,9 +43,9 @@ impl Exporter {
     /// series was active, a count is added, even 0, and a gauge is set, even to the value that it has. If it was idle, only a
     /// count other than 0 is added. Each sample is recorded.
     ///
-    /// So a counter or a gauge stays for as long as it is registered or updated between snapshots, with any value, and a histogram
-    /// for as long as it is recorded: one that is only registered has no sample, so that its row means no update, and `expire`
-    /// removes it. An idle series is removed once.
+    /// So a counter or a gauge stays for as long as it is registered or updated between snapshots, with any value, and a
+    /// histogram for as long as it is recorded: one that is only registered has no sample, so that its row means no update, and
+    /// `expire` removes it. An idle series is removed once.
     ///
     /// Each book needs one reader: take its snapshots by `snapshot_with` and `Reset::KeepGauges`, and absorb each of them.
     /// `snapshot` resets gauges too, so that `absorb` sees a change and no level: a gauge that counts 5, 6, 7 is set to 5, 1,
