@@ -94,6 +94,50 @@ fn a_push_takes_the_first_segment_that_has_room(rt: HostRuntime) {
     assert!(rt; chunks.as_slice() == wanted.as_slice());
 }
 
+/// Pushes 65 values with a pen, and clears them with another, which shows 64 of the first segment and one of the second.
+fn push_and_clear_apart<R: Abort + Wait>(
+    rt: &R,
+    alloc: Global,
+    bucket: &GrowingBucket<u64>,
+    pen: &mut GrowPen,
+    other: &mut GrowPen,
+)
+    requires pen { IsOf bucket.now pen.old }
+    requires other { IsOf bucket.now other.old }
+    ensures pen { IsOf bucket.now pen.new }
+    ensures other { IsOf bucket.now other.new }
+{
+    push_below(rt, bucket, pen, 65);
+    let chunks = cleared_chunks(rt, alloc, bucket, other);
+    assert!(rt; chunks.as_slice() == [(0, 64), (64, 1)].as_slice());
+}
+
+/// Only by looking anew can the pen know that there is room in the first segment.
+#[test]
+fn a_push_takes_the_room_that_another_pen_made(rt: HostRuntime) {
+    let (bucket, mut pen) = bucket_of_one(&rt, rt.alloc());
+    let mut other = split_off(&rt, &bucket, &mut pen);
+    push_and_clear_apart(&rt, rt.alloc(), &bucket, &mut pen, &mut other);
+    push_and_clear_apart(&rt, rt.alloc(), &bucket, &mut pen, &mut other);
+    push_and_clear_apart(&rt, rt.alloc(), &bucket, &mut pen, &mut other);
+}
+
+/// The pen isn't whole, and nothing else is under way.
+#[test]
+fn a_part_pen_clears_one_two_and_three_segments(rt: HostRuntime) {
+    let (bucket, mut pen) = bucket_of_one(&rt, rt.alloc());
+    let _other = split_off(&rt, &bucket, &mut pen);
+    push_below(&rt, &bucket, &mut pen, 64);
+    let chunks = cleared_chunks(&rt, rt.alloc(), &bucket, &mut pen);
+    assert!(rt; chunks.as_slice() == [(0, 64)].as_slice());
+    push_below(&rt, &bucket, &mut pen, 192);
+    let chunks = cleared_chunks(&rt, rt.alloc(), &bucket, &mut pen);
+    assert!(rt; chunks.as_slice() == [(0, 64), (128, 64), (64, 64)].as_slice());
+    push_below(&rt, &bucket, &mut pen, 193);
+    let chunks = cleared_chunks(&rt, rt.alloc(), &bucket, &mut pen);
+    assert!(rt; chunks.as_slice() == [(0, 64), (128, 64), (64, 64), (192, 1)].as_slice());
+}
+
 /// The error of a call, unless it is out of memory.
 fn refusal<R: Abort, T: Drop>(rt: &R, answer: Result<T, Error>) -> Option<Error> {
     match answer {
