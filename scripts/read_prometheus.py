@@ -317,6 +317,8 @@ UNITS = ("-", "count", "percent", "seconds", "milliseconds", "microseconds", "na
 LABEL = re.compile(r' ([^ =]*)=(?:"((?:[^"\\]|\\["\\n])*)"|((?!")[^ ]*))(?= |\Z)')
 # A byte that isn't UTF-8 is read as one of the last range.
 CONTROL = re.compile("[\x00-\x1f\x7f\udc80-\udcff]")
+# What a name can't have: also the characters of a series that is written with its labels.
+UNFIT = re.compile('[\x00-\x1f\x7f\udc80-\udcff{}",=]')
 
 
 def in_order(labels):
@@ -332,7 +334,7 @@ def labels_of(rest):
     labels, at = {}, 0
     while at < len(rest):
         found = LABEL.match(rest, at)
-        if found is None or CONTROL.search(found[0]) or found[1] in labels:
+        if found is None or CONTROL.search(found[0]) or found[1] in labels or len(labels) == 1000:
             return None
         labels[found[1]] = found[3] if found[2] is None else unescaped(found[2])
         at = found.end()
@@ -341,7 +343,7 @@ def labels_of(rest):
 
 def update_of(word, rest):
     found = re.fullmatch("([^ ]*) ([^ ]+)(.*)", rest, re.DOTALL)
-    if word not in KIND_OF or found is None or not is_number(word, found[1]) or CONTROL.search(found[2]):
+    if word not in KIND_OF or found is None or not is_number(word, found[1]) or UNFIT.search(found[2]):
         return None
     labels = labels_of(found[3])
     return labels if labels is None else ("update", word, int(found[1]), "" if found[2] == "-" else found[2], labels)
@@ -349,9 +351,9 @@ def update_of(word, rest):
 
 def describe_of(rest):
     kind, name, unit, *text = [*rest.split(" ", 3), "", "", ""][: max(3, rest.count(" ") + 1)]
-    if kind not in KINDS or name == "" or CONTROL.search(name) or unit not in UNITS or not text:
+    if kind not in KINDS or name == "" or UNFIT.search(name) or unit not in UNITS or not text:
         return None
-    if re.search("[\udc80-\udcff]", text[0]):
+    if CONTROL.search(text[0]):
         return None
     return "describe", KINDS.index(kind), "" if name == "-" else name, unit, text[0]
 
@@ -385,8 +387,8 @@ def options_of(words):
     parser.add_argument("--bounds", default="5,10,25,50,100,250,500,1000,2500,5000,10000")
     parser.add_argument("--bounds-of", action="append", default=[])
     parser.add_argument("--label", action="append", default=[])
-    parser.add_argument("--shards")
     parser.add_argument("--textfile")
+    parser.add_argument("--at-scrapes-only", action="store_true")
     parser.add_argument("--skip-bad", action="store_true")
     parser.add_argument("--recommended-names", action="store_true")
     return parser.parse_args(words)
@@ -407,6 +409,7 @@ def exporter_of(options, made=Exporter):
     exporter.is_recommended = options.recommended_names
     exporter.prefixes = prefix_bounds(options)
     exporter.labels = common_labels(options)
+    exporter.at_scrapes_only = options.at_scrapes_only
     return exporter
 
 
@@ -435,7 +438,7 @@ def check(lines, output, exporter, skips_bad):
                 exporter.expire(moment or 0)
                 count += shown()
                 is_changed = False
-    if is_changed:
+    if is_changed and not exporter.at_scrapes_only:
         count += shown()
     if next(texts, None) is not None:
         raise Wrong("more expositions than scrapes")
