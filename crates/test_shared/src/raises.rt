@@ -8,7 +8,7 @@ use std::sync::atomic::{AtomicU64, Ordering};
 use std::thread::{Threads, join};
 
 /// How often a count is raised.
-const TIMES: u64 = 20_000;
+const TIMES: u64 = 1_000_000;
 
 /// How often a thread increments at most, for each raise.
 const MOST: u64 = 100_000;
