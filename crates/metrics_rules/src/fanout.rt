@@ -27,8 +27,9 @@ impl FanoutBuilder {
         }
     }
 
-    /// Adds rules at the end, whose leaves are numbered after those of the rules before. If that fails it returns them, and changes
-    /// nothing.
+    /// Adds rules at the end, whose leaves are numbered after those of the rules before.
+    ///
+    /// If that fails it returns them, and changes nothing.
     ///
     /// # Errors
     ///

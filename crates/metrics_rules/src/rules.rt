@@ -118,7 +118,7 @@ impl Rules {
     ///
     /// # Errors
     ///
-    /// The first target that the visitor refuses ends the visit. So does a name that finds no memory, with `Memory` and `acted` 0.
+    /// The first target that the visitor refuses ends the visit. So does a name that finds no memory: `Memory` with `acted` 0.
     #[inline(always)]
     pub fn visit<V: Visitor>(
         &self,
