@@ -110,7 +110,7 @@ def links_in_a_circle(folder):
 def folder_missing(folder):
     """Each scrape fails, says what it could not make, and the program goes on."""
     status, out, errors = run(folder, "none/a.prom", b"increment 1 a\nscrape 1\nscrape 2\n")
-    return (status, out) == (1, b"") and errors == "can't make none/a.prom.0.tmp: No such file or directory\n" * 2
+    return (status, out) == (1, b"") and errors == "can't make none/a.prom.0.tmp: No such file or directory (os error 2)\n" * 2
 
 
 def disk_full(folder):
@@ -120,7 +120,7 @@ def disk_full(folder):
         resource.setrlimit(resource.RLIMIT_FSIZE, (4096, 4096))
     (folder / "a.prom").write_text("old\n")
     status, out, errors = run(folder, "a.prom", series(b"x", 1000, 1), limited)
-    return ((status, out) == (1, b"") and errors == "can't write a.prom.0.tmp: File too large\n"
+    return ((status, out) == (1, b"") and errors == "can't write a.prom.0.tmp: File too large (os error 27)\n"
             and (folder / "a.prom").read_text() == "old\n" and not beside(folder, ["a.prom"]))
 
 
