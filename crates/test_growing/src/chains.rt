@@ -212,6 +212,38 @@ fn spare_pens_are_used_up_and_gathered(rt: HostRuntime) {
     assert!(rt; values.len() == 192);
 }
 
+/// Clears an empty bucket so many times.
+fn clear_often<R: Abort + Wait>(rt: &R, bucket: &GrowingBucket<u64>, pen: &mut GrowPen, times: u64)
+    requires { IsOf bucket.now pen.old }
+    ensures { IsOf bucket.now pen.new }
+{
+    for _ in 0..times {
+        assert!(rt;
+            bucket
+                .clear_with(rt, pen, |_| {})
+                .expect(rt, "out of memory")
+                == 0
+        );
+    }
+}
+
+/// Who makes a segment has one of its 128 pens. So if clears or a settling had made one, the last of 128 other pens would find
+/// no pen of it.
+#[test]
+fn clears_and_settlings_make_no_segment(rt: HostRuntime) {
+    let (bucket, mut pen) = bucket_of_one(&rt, rt.alloc());
+    let mut clearer = split_off(&rt, &bucket, &mut pen);
+    clear_often(&rt, &bucket, &mut clearer, 3);
+    let settled = bucket.settle(&rt, rt.alloc(), &mut clearer);
+    assert!(rt; refusal(&rt, settled) == Some(Error::NoPen));
+    push_below(&rt, &bucket, &mut pen, 64);
+    let pen = push_apart(&rt, &bucket, pen, 7);
+    let mut pen = merged(&rt, &bucket, pen, clearer);
+    let taken = bucket.clear_with(&rt, &mut pen, |_| {});
+    assert!(rt; taken.expect(&rt, "out of memory") == 192);
+    clear_often(&rt, &bucket, &mut pen, 100);
+}
+
 /// A pen with its bucket, as a clear's closure may hold it.
 #[derive(Drop)]
 struct Held<'a> {
