@@ -6,6 +6,8 @@ mod devices;
 #[cfg(test)]
 mod expositions;
 #[cfg(test)]
+mod limits;
+#[cfg(test)]
 mod lines;
 #[cfg(test)]
 mod storms;
