@@ -3,6 +3,7 @@
 #![tactic(auto)]
 
 mod ask;
+mod collecting;
 mod describe;
 mod handles;
 mod layered;
