@@ -27,6 +27,11 @@ pub mod exporter {
     pub use metrics_textfile::{TextfileError, textfile_place, write_textfile};
 }
 
+/// Recorders that threads share, under rules that say where a name goes.
+pub mod layered {
+    pub use metrics_layered::{Handles, Layered, SharedRecorder};
+}
+
 /// Layers over recorders.
 pub mod layers {
     pub use metrics_layers::{Filter, FilterLayer, Layer, Prefix, PrefixLayer, Stack, dotted_name};
