@@ -123,13 +123,6 @@ impl GaugeFn for GaugeHandle {
     }
 }
 
-/// What the handles of a histogram share.
-#[derive(Drop)]
-struct HistogramCell {
-    parts: Parts,
-    key: Snapshot<Key>,
-}
-
 /// A histogram's cell, which any thread may keep and record into (`HistogramFn`).
 ///
 /// No sample is lost: the cell has no room to run out of, and nothing has to drain it. The number of samples shows activity.
@@ -142,7 +135,7 @@ struct HistogramCell {
 /// bound from its first sample on.
 #[derive(Drop)]
 pub struct HistogramHandle {
-    cell: Arc<HistogramCell>,
+    cell: Arc<Parts>,
     place: usize,
 }
 
@@ -150,7 +143,7 @@ impl HistogramHandle {
     /// Returns what the cell holds. Fails with `Error::Memory`, or with `Error::CountFull` if there are more than 2^64 - 1
     /// samples.
     pub fn read<W: Wait>(&self, rt: &W) -> Result<Histogram, Error> {
-        self.cell.parts.read(rt)
+        self.cell.read(rt)
     }
 }
 
@@ -160,7 +153,7 @@ impl Clone for HistogramHandle {
 
     fn clone(&self) -> Result<HistogramHandle, AllocError> {
         let cell = self.cell.clone()?;
-        let place = cell.parts.next_place();
+        let place = cell.next_place();
         Ok(HistogramHandle { cell, place })
     }
 }
@@ -170,7 +163,7 @@ impl HistogramFn for HistogramHandle {
     type Error = Error;
 
     fn record<W: Wait>(&self, rt: &W, value: i64) -> Result<(), Error> {
-        self.cell.parts.record(rt, self.place, value)
+        self.cell.record(rt, self.place, value)
     }
 }
 
@@ -291,17 +284,17 @@ impl Watched for HistogramHandle {
 
     fn alone<W: Wait>(&mut self, rt: &W) -> Option<Generation> {
         let cell = Arc::get_mut(&mut self.cell)?;
-        Some(Generation::new(cell.parts.count(rt)))
+        Some(Generation::new(cell.count(rt)))
     }
 
     fn generation<W: Wait>(&self, rt: &W) -> Generation {
-        Generation::new(self.cell.parts.count(rt))
+        Generation::new(self.cell.count(rt))
     }
 
     fn held<W: Wait>(&self, rt: &W) -> Result<Seen, Error> {
         let samples = self.read(rt)?;
         let generation = Generation::new(samples.count());
-        let value = Value::Samples(Box::new(self.cell.parts.allocator(), samples)?);
+        let value = Value::Samples(Box::new(self.cell.allocator(), samples)?);
         Ok(Seen { generation, value })
     }
 }
@@ -378,10 +371,7 @@ impl Storage<Key> for CollectorCells {
     fn histogram(&self, key: &Key) -> Result<HistogramHandle, Error> {
         let empty = self.bounds.of(key.name()).clone()?;
         let others = self.others.load(Ordering::SeqCst);
-        let cell = HistogramCell {
-            parts: Parts::new(self.alloc, empty, others)?,
-            key: Snapshot::of(key),
-        };
+        let cell = Parts::new(self.alloc, key, empty, others)?;
         Ok(HistogramHandle {
             cell: Arc::new(self.alloc, cell)?,
             place: others,
