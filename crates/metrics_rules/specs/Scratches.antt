@@ -1,5 +1,5 @@
 -- The keys that a visit needs.
-use Rattle.std.specs.Prelude.{ℕ, suc, max, ◌≤◌, List, [], ◌∷◌, length}
+use Rattle.std.specs.Prelude.{ℕ, suc, max, ◌≤◌, length}
 use Rattle.metrics_rules.specs.declared.node.Node.{Node, Leaf, Noop, Prefixed', Filtered', Group', Row_of-Node, end_of-Node, more_of-Node}
 use Rattle.metrics_rules.specs.declared.rules.Rules.{Rules}
 use Rattle.metrics_rules.specs.declared.scratch.Scratch.{Scratch}

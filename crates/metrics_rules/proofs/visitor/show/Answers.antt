@@ -1,5 +1,5 @@
 use Rattle.std.proofs.Common.{refl}
-use Rattle.metrics_rules.proofs.VisitLemmas.{accepts-one, refuses-one}
+use Rattle.metrics_rules.proofs.VisitLemmas.{refuses-one}
 use Rattle.metrics_rules.proofs.visitor.show.Goals as goal
 
 pub returns-in-Err : goal.returns-in-Err

@@ -1,4 +1,4 @@
-use Rattle.std.proofs.Common.{arith, ◌+◌, ◌-◌, ◌<◌, ◌≤◌, ℕ, length, get_or, sym, subst}
+use Rattle.std.proofs.Common.{arith, ◌-◌, ◌<◌, ◌≤◌, length, get_or, sym, subst}
 use Rattle.std.proofs.lemmas.List.{get_or_default}
 use Rattle.std.specs.List.{All}
 use Rattle.metrics_rules.specs.Scratches.{prefixes_of}

@@ -1,4 +1,4 @@
-use Rattle.std.proofs.Common.{rules, arith, ℕ, ◌+◌, ◌<◌, ◌≤◌, List, [], ◌∷◌, length, refl, ap, sym, ◌∙◌, subst}
+use Rattle.std.proofs.Common.{rules, arith, ℕ, ◌+◌, ◌<◌, ◌≤◌, List, length, refl, ap, sym, ◌∙◌, subst}
 use Rattle.std.specs.List.{FoldsTo}
 use Rattle.metrics.specs.Targets.{raise}
 use Rattle.metrics.specs.TargetsLaws.{length-raise}
