@@ -92,7 +92,7 @@ abbrev AllDistinct : (MetricKind → List ℕ → List (ℕ × List ℕ)) → Ty
 AllDistinct ts = (kind : MetricKind) (name : List ℕ) → AreDistinct (ts kind name)
 
 -- branches of the same leaves and targets mean the same
-same_meaning : (a : Meaning) (cs : List Content) (ts : MetricKind → List ℕ → List (ℕ × List ℕ)) → a.contents ≡ cs → a.targets ≡ ts →
+pub same_meaning : (a : Meaning) (cs : List Content) (ts : MetricKind → List ℕ → List (ℕ × List ℕ)) → a.contents ≡ cs → a.targets ≡ ts →
     (b : AreBelow cs ts) (d : AllDistinct ts) → ◌≡◌ {A = Meaning} a (record { contents = cs; targets = ts; below = b; distinct = d })
 same_meaning a cs ts c t b d =
     subst (λ cs. (b : AreBelow cs ts) → ◌≡◌ {A = Meaning} a (record { contents = cs; targets = ts; below = b; distinct = d })) c (with_targets d) b

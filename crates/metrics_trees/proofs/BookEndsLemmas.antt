@@ -6,7 +6,8 @@ use Rattle.std.proofs.Math.ListN.{drop_of_length-le}
 use Rattle.metrics.specs.declared.handles.Address.{Address}
 use Rattle.std.specs.List.Sorted.{IsPartitionedBy, IsPartitionPoint}
 use Rattle.std.proofs.lemmas.Bool.Decides.{nat_tests}
-use Rattle.metrics_trees.specs.BookEnds.{total, ends_from, IsPlace, raised}
+use Rattle.metrics_rules.specs.Ends.{total, ends_from}
+use Rattle.metrics_trees.specs.BookEnds.{IsPlace, raised}
 
 pub length-ends : (k : ℕ) (ns : List ℕ) → length (ends_from k ns) ≡ length ns
 length-ends k [] = refl

@@ -14,12 +14,9 @@ use Rattle.metrics.specs.TargetsLaws.{after_targets-front, after_targets-past, r
 use Rattle.metrics.specs.Book.{Content, RowParts, content_at, kind_at, kind_of, place, rows, update_in, reset_in}
 use Rattle.metrics.specs.Meaning.{Meaning, KeepsTargets, Updates, Snapshots, holds_at, is_kind, addresses, address_in, key_in_book}
 use Rattle.metrics.specs.Layers.{joined_all, targets_of}
-use Rattle.metrics_trees.specs.declared.reach.Reach.{Reach}
-use Rattle.metrics_trees.specs.declared.reach.Reach.TheVariants.{Every, ByRoute}
-use Rattle.metrics_trees.specs.Routing.{target_of, recorder_of}
 use Rattle.metrics_trees.specs.BookEnds.{raised}
-use Rattle.metrics_trees.specs.Nodes.{books_of}
-use Rattle.metrics_trees.specs.Reaches.{group_meaning}
+use Rattle.metrics_trees.specs.Recorders.{books_of, spread}
+use Rattle.metrics_trees.specs.Over.{over}
 
 pub contents-append : (xs ys : List Meaning) → (joined_all (xs ++ ys)).contents ≡ (joined_all xs).contents ++ (joined_all ys).contents
 contents-append [] ys = refl
@@ -44,14 +41,6 @@ books-append xs ys = ap length (contents-append xs ys) ∙ length-append (joined
 
 -- ---- another recorder in one's place, of the same targets and as many books
 
-pub same_targets : (front rest : List Meaning) (x y : Meaning) → KeepsTargets x y → books_of y ≡ books_of x →
-    (joined_all (front ++ y ∷ rest)).targets ≡ (joined_all (front ++ x ∷ rest)).targets
-same_targets [] rest x y k l =
-    ap (λ (ts : MetricKind → List ℕ → List (ℕ × List ℕ)). λ kind name. ts kind name ++ raise (books_of y) ((joined_all rest).targets kind name)) k
-    ∙ ap (λ (n : ℕ). λ kind name. x.targets kind name ++ raise n ((joined_all rest).targets kind name)) l
-same_targets (f ∷ fs) rest x y k l =
-    ap (λ (ts : MetricKind → List ℕ → List (ℕ × List ℕ)). λ kind name. f.targets kind name ++ raise (books_of f) (ts kind name)) (same_targets fs rest x y k l)
-
 same_chosen : (front rest : List Meaning) (x y : Meaning) → KeepsTargets x y → books_of y ≡ books_of x → (w : ℕ) (kind : MetricKind) (name : List ℕ) →
     targets_of w (front ++ y ∷ rest) kind name ≡ targets_of w (front ++ x ∷ rest) kind name
 same_chosen [] rest x y k l zero kind name = ap (λ (ts : MetricKind → List ℕ → List (ℕ × List ℕ)). ts kind name) k
@@ -59,15 +48,16 @@ same_chosen [] rest x y k l (suc w) kind name = ap (λ n. raise n (targets_of w 
 same_chosen (f ∷ fs) rest x y k l zero kind name = refl
 same_chosen (f ∷ fs) rest x y k l (suc w) kind name = ap (raise (books_of f)) (same_chosen fs rest x y k l w kind name)
 
-pub same_group : (c : Reach) (front rest : List Meaning) (x y : Meaning) → KeepsTargets x y → books_of y ≡ books_of x →
-    (group_meaning c (front ++ y ∷ rest)).targets ≡ (group_meaning c (front ++ x ∷ rest)).targets
-same_group Every front rest x y k l = same_targets front rest x y k l
-same_group (ByRoute routes) front rest x y k l = fun_ext (λ kind. fun_ext (λ name. same_chosen front rest x y k l (recorder_of (target_of routes kind name)) kind name))
+pub same_spread : (front rest : List Meaning) (x y : Meaning) → KeepsTargets x y → books_of y ≡ books_of x → (kind : MetricKind) (ts : List (ℕ × List ℕ)) →
+    spread (front ++ y ∷ rest) kind ts ≡ spread (front ++ x ∷ rest) kind ts
+same_spread front rest x y k l kind [] = refl
+same_spread front rest x y k l kind (t ∷ ts) =
+    ap (λ us. us ++ spread (front ++ y ∷ rest) kind ts) (same_chosen front rest x y k l t.0 kind t.1)
+    ∙ ap (λ us. targets_of t.0 (front ++ x ∷ rest) kind t.1 ++ us) (same_spread front rest x y k l kind ts)
 
--- however a name is passed on, the books are those of all
-pub contents-group : (c : Reach) (all : List Meaning) → (group_meaning c all).contents ≡ (joined_all all).contents
-contents-group Every all = refl
-contents-group (ByRoute routes) all = refl
+pub same_over : (R : Meaning) (front rest : List Meaning) (x y : Meaning) → KeepsTargets x y → books_of y ≡ books_of x →
+    (over R (front ++ y ∷ rest)).targets ≡ (over R (front ++ x ∷ rest)).targets
+same_over R front rest x y k l = fun_ext (λ kind. fun_ext (λ name. same_spread front rest x y k l kind (R.targets kind name)))
 
 -- ---- calls on the targets of one
 

@@ -11,12 +11,12 @@ use Rattle.metrics.specs.Targets.{raise, after_targets, AllBelow}
 use Rattle.metrics.specs.Book.{Content, RowParts, kind_of}
 use Rattle.metrics.specs.Meaning.{Meaning, KeepsTargets, Updates, Snapshots, holds_at, addresses}
 use Rattle.metrics.specs.Layers.{joined_all, targets_of}
-use Rattle.metrics_trees.specs.declared.reach.Reach.{Reach}
-use Rattle.metrics_trees.specs.BookEnds.{total, IsPlace, raised, ends_from}
-use Rattle.metrics_trees.specs.Nodes.{books_of}
-use Rattle.metrics_trees.specs.Reaches.{group_meaning}
+use Rattle.metrics_rules.specs.Ends.{total, ends_from}
+use Rattle.metrics_trees.specs.BookEnds.{IsPlace, raised}
+use Rattle.metrics_trees.specs.Recorders.{books_of, spread}
+use Rattle.metrics_trees.specs.Over.{over}
 use Rattle.metrics_trees.proofs.BookEndsLemmas.{length-ends}
-use Rattle.metrics_trees.proofs.JoinedLemmas.{same_group, contents-group, targets_of-middle, acts_within, holds-there, updates-one, snapshots-one, holds-past, addresses-one, books-append}
+use Rattle.metrics_trees.proofs.JoinedLemmas.{same_over, same_spread, targets_of-middle, acts_within, holds-there, updates-one, snapshots-one, holds-past, addresses-one, books-append}
 
 -- the books of several recorders are those of each together
 pub books-total : (all : List Meaning) → books_of (joined_all all) ≡ total (map books_of all)
@@ -84,16 +84,20 @@ module _ {Y : Type 0} (M : Y → Meaning) (ys : List Y) (n : ℕ) (x : Y) (lt : 
         ap (map books_of) (new_is y) ∙ map-append books_of front (M y ∷ rest) ∙ ap (λ k. map books_of front ++ k ∷ map books_of rest) books
         ∙ sym (map-append books_of front (M x ∷ rest)) ∙ ap (map books_of) (sym all_is)
 
-    module _ (c : Reach) where
-      pub keeps-one : KeepsTargets (group_meaning c (map M ys)) (group_meaning c (map M (set ys n y)))
+    pub spread-one : (kind : MetricKind) (ts : List (ℕ × List ℕ)) → spread (map M (set ys n y)) kind ts ≡ spread (map M ys) kind ts
+    spread-one kind ts =
+        ap (λ all. spread all kind ts) (new_is y) ∙ same_spread front rest (M x) (M y) keeps books kind ts ∙ ap (λ all. spread all kind ts) (sym all_is)
+
+    module _ (R : Meaning) where
+      pub keeps-one : KeepsTargets (over R (map M ys)) (over R (map M (set ys n y)))
       keeps-one =
-          ap (λ all. (group_meaning c all).targets) (new_is y) ∙ same_group c front rest (M x) (M y) keeps books ∙ ap (λ all. (group_meaning c all).targets) (sym all_is)
+          ap (λ all. (over R all).targets) (new_is y) ∙ same_over R front rest (M x) (M y) keeps books ∙ ap (λ all. (over R all).targets) (sym all_is)
 
-      old_contents : (group_meaning c (map M ys)).contents ≡ (joined_all (front ++ M x ∷ rest)).contents
-      old_contents = contents-group c (map M ys) ∙ ap (λ all. (joined_all all).contents) all_is
+      old_contents : (over R (map M ys)).contents ≡ (joined_all (front ++ M x ∷ rest)).contents
+      old_contents = ap (λ all. (joined_all all).contents) all_is
 
-      new_contents : (group_meaning c (map M (set ys n y))).contents ≡ (joined_all (front ++ M y ∷ rest)).contents
-      new_contents = contents-group c (map M (set ys n y)) ∙ ap (λ all. (joined_all all).contents) (new_is y)
+      new_contents : (over R (map M (set ys n y))).contents ≡ (joined_all (front ++ M y ∷ rest)).contents
+      new_contents = ap (λ all. (joined_all all).contents) (new_is y)
 
       -- a place among all is the child's, with a number of its own
       module _ (book b : ℕ) (place : IsPlace (map books_of (map M ys)) book (n, b)) where
@@ -108,31 +112,31 @@ module _ {Y : Type 0} (M : Y → Meaning) (ys : List Y) (n : ℕ) (x : Y) (lt : 
         number : before + b ≡ book
         number = ap (λ k. k + b) before-is ∙ place.number
 
-        pub holds-place : (kind : MetricKind) (s : ℕ) → holds_at kind (record { book = b; series = s }) (M x).contents ≡ holds_at kind (record { book = book; series = s }) (group_meaning c (map M ys)).contents
+        pub holds-place : (kind : MetricKind) (s : ℕ) → holds_at kind (record { book = b; series = s }) (M x).contents ≡ holds_at kind (record { book = book; series = s }) (over R (map M ys)).contents
         holds-place kind s =
             sym (holds-there front rest (M x) b below kind s) ∙ ap (λ k. holds_at kind (record { book = k; series = s }) (joined_all (front ++ M x ∷ rest)).contents) number
             ∙ ap (holds_at kind (record { book = book; series = s })) (sym old_contents)
 
         pub updates-place : {A : Type 0} (s : ℕ) (by : Update) (r : Result A Refused) → Updates (M x) (M y) (record { book = b; series = s }) by r →
-            Updates (group_meaning c (map M ys)) (group_meaning c (map M (set ys n y))) (record { book = book; series = s }) by r
+            Updates (over R (map M ys)) (over R (map M (set ys n y))) (record { book = book; series = s }) by r
         updates-place s by r h =
-            subst (λ k. Updates (group_meaning c (map M ys)) (group_meaning c (map M (set ys n y))) (record { book = k; series = s }) by r) number
-            (updates-one front rest (M x) b below (M y) (group_meaning c (map M ys)) (group_meaning c (map M (set ys n y))) s by old_contents new_contents r h)
+            subst (λ k. Updates (over R (map M ys)) (over R (map M (set ys n y))) (record { book = k; series = s }) by r) number
+            (updates-one front rest (M x) b below (M y) (over R (map M ys)) (over R (map M (set ys n y))) s by old_contents new_contents r h)
 
         pub snapshots-place : (reset : Reset) (r : Result (List RowParts) Refused) → Snapshots (M x) (M y) b reset r →
-            Snapshots (group_meaning c (map M ys)) (group_meaning c (map M (set ys n y))) book reset r
+            Snapshots (over R (map M ys)) (over R (map M (set ys n y))) book reset r
         snapshots-place reset r h =
-            subst (λ k. Snapshots (group_meaning c (map M ys)) (group_meaning c (map M (set ys n y))) k reset r) number
-            (snapshots-one front rest (M x) b below (M y) (group_meaning c (map M ys)) (group_meaning c (map M (set ys n y))) old_contents new_contents reset r h)
+            subst (λ k. Snapshots (over R (map M ys)) (over R (map M (set ys n y))) k reset r) number
+            (snapshots-one front rest (M x) b below (M y) (over R (map M ys)) (over R (map M (set ys n y))) old_contents new_contents reset r h)
 
 -- ---- numbers that no book has
 
-module _ (c : Reach) (all : List Meaning) (book : ℕ) (past : total (map books_of all) ≤ book) where
+module _ (R : Meaning) (all : List Meaning) (book : ℕ) (past : total (map books_of all) ≤ book) where
   abbrev whole : Meaning
-  whole = group_meaning c all
+  whole = over R all
 
   pub no-more : length whole.contents ≤ book
-  no-more = let a = ap length (contents-group c all) in let b = books-total all in omega (arith, a, b, past)
+  no-more = let b = books-total all in omega (arith, b, past)
 
   pub holds-none : (kind : MetricKind) (s : ℕ) → false ≡ holds_at kind (record { book = book; series = s }) whole.contents
   holds-none kind s = sym (holds-past kind book s whole.contents no-more)

@@ -1,17 +1,26 @@
 //! Trees of layers over leaves of one type.
-ghost use Rattle.std.specs.Prelude.{◌≡◌, None, unwrap_or, IsOk, MatchResult};
+ghost use Rattle.std.specs.Prelude.{◌≡◌, ◌≤◌, None, length, map, unwrap_or, IsOk, MatchResult};
 ghost use Rattle.metrics.specs.Layers.{prefixed, filtered};
 ghost use Rattle.metrics.specs.Meaning.{nothing};
 ghost use Rattle.metrics_layers.specs.Filters.{fault_of};
-ghost use Rattle.metrics_trees.specs.Nodes.{node_meaning, IsTree, IsTree-prop};
+ghost use Rattle.metrics_rules.specs.Nodes.{leaves_of};
+ghost use Rattle.metrics_rules.specs.Meanings.{rules_meaning};
+ghost use Rattle.metrics_trees.specs.Leaves.{recorders_of};
+ghost use Rattle.metrics_trees.specs.Over.{over};
+ghost use Rattle.metrics_trees.specs.Recorders.{books_in, most_books};
 ghost use Rattle.metrics.specs.declared.error.Error.TheVariants.{Memory};
 
-use crate::node::Node;
+use crate::leaves::Leaves;
+use crate::names::Names;
+use crate::row::Row;
+use crate::visits::{Describing, Registering};
 use metrics::{
-    Address, Error, Key, KeyName, MetricKind, Recorder, Refused, Reset, Snapshot, Unit, Update,
+    Address, Error, Key, KeyName, MetricKind, Recorder, Refused, Reset, Snapshot, Text, Unit, Update,
 };
 use metrics_layers::{FilterLayer, PrefixLayer};
+use metrics_rules::Rules;
 use std::alloc::Global;
+use std::mem;
 
 /// A tree of layers over leaves of one type `B`.
 ///
@@ -34,8 +43,10 @@ use std::alloc::Global;
 /// The signature of a function can't name a `Child<Boxed>`.
 #[derive(Drop)]
 pub struct Child<B: Recorder> {
-    pub(crate) node: Node<B>,
-    ghost tree: { IsTree B.meaning node } by { IsTree-prop B.meaning node },
+    pub(crate) names: Names,
+    pub(crate) leaves: Leaves<B>,
+    ghost as_many: { leaves_of (rules_meaning names.rules) ≡ length (recorders_of leaves) },
+    ghost few: { books_in (map B.meaning (recorders_of leaves)) ≤ most_books },
 }
 
 /// Several recorders, each of which gets each name. Made by a `FanoutBuilder`.
@@ -53,7 +64,8 @@ impl<B: Recorder> Child<B> {
         // This call brings in the trait's bound on the number of books.
         let _books = recorder.books();
         Child {
-            node: Node::Leaf(recorder),
+            names: Names::new(Rules::leaf()),
+            leaves: Leaves::One(recorder),
         }
     }
 
@@ -61,7 +73,10 @@ impl<B: Recorder> Child<B> {
     pub fn noop() -> Child<B>
         ensures { ⟦<Child<B> as Recorder>⟧.meaning result ≡ nothing }
     {
-        Child { node: Node::Noop }
+        Child {
+            names: Names::new(Rules::noop()),
+            leaves: Leaves::Empty,
+        }
     }
 
     /// Returns the fanout as a tree.
@@ -89,14 +104,11 @@ impl<B: Recorder> Child<B> {
             prefixed layer.now (⟦<Child<B> as Recorder>⟧.meaning self))
             (λ e. (e.0 ≡ Memory) × (e.1 ≡ self)) }
     {
-        let Ok(prefix) = layer.prefix() else {
-            return Err((Error::Memory, self));
-        };
-        let there = Key::from(KeyName::from(String::new(alloc)));
-        let inner = self.boxed(alloc)?;
-        Ok(Child {
-            node: Node::Prefixed(prefix, there, inner),
-        })
+        let Child { names, leaves } = self;
+        match names.prefix(alloc, layer) {
+            Ok(names) => Ok(Child { names, leaves }),
+            Err((error, names)) => Err((error, Child { names, leaves })),
+        }
     }
 
     /// Wraps the tree in a filter layer. Returns the tree if that fails.
@@ -112,39 +124,19 @@ impl<B: Recorder> Child<B> {
             (⟦<Child<B> as Recorder>⟧.meaning self)))
             (λ e. (e.0 ≡ unwrap_or (fault_of layer.now) Memory) × (e.1 ≡ self)) }
     {
-        let automaton = match layer.automaton(alloc) {
-            Ok(automaton) => automaton,
-            Err(error) => return Err((error, self)),
-        };
-        let inner = self.boxed(alloc)?;
-        Ok(Child {
-            node: Node::Filtered(automaton, inner),
-        })
-    }
-
-    /// The tree's node in a box. Returns the tree when out of memory.
-    fn boxed(self, alloc: Global) -> Result<Box<Node<B>>, (Error, Child<B>)>
-        ensures { MatchResult result
-            (λ inner. inner.value ≡ self.node)
-            (λ e. (e.0 ≡ Memory) × (e.1 ≡ self)) }
-    {
-        match Box::new(alloc, self.node) {
-            Ok(inner) => Ok(inner),
-            Err(refused) => Err((
-                Error::Memory,
-                Child {
-                    node: refused.value,
-                },
-            )),
+        let Child { names, leaves } = self;
+        match names.filter(alloc, layer) {
+            Ok(names) => Ok(Child { names, leaves }),
+            Err((error, names)) => Err((error, Child { names, leaves })),
         }
     }
 }
 
 impl<B: Recorder> Recorder for Child<B> {
-    ghost meaning = { λ c. node_meaning B.meaning c.node };
+    ghost meaning = { λ c. over (rules_meaning c.names.rules) (map B.meaning (recorders_of c.leaves)) };
 
     fn books(&self) -> usize {
-        self.node.books()
+        self.leaves.books()
     }
 
     fn describe(
@@ -155,7 +147,31 @@ impl<B: Recorder> Recorder for Child<B> {
         unit: Option<Unit>,
         text: &str,
     ) -> Result<usize, Refused> {
-        self.node.describe(alloc, kind, name, unit, text)
+        let key = Key::from(name.clone()?);
+        let text = Text::new(alloc, text)?;
+        let leaves = mem::replace(&mut self.leaves, Leaves::Empty);
+        let mut visitor = Describing {
+            alloc,
+            kind,
+            unit,
+            text,
+            leaves,
+            acted: 0,
+        };
+        let visited = self.names.visit(alloc, kind, &key, &mut visitor);
+        let Describing {
+            alloc: _,
+            kind: _,
+            unit: _,
+            text: _,
+            leaves,
+            acted,
+        } = visitor;
+        self.leaves = leaves;
+        match visited {
+            Ok(_count) => Ok(acted),
+            Err(stopped) => Err(stopped.refused.after(acted)),
+        }
     }
 
     fn register(
@@ -164,15 +180,33 @@ impl<B: Recorder> Recorder for Child<B> {
         kind: MetricKind,
         key: &Key,
     ) -> Result<Vec<Address>, Refused> {
-        self.node.register(alloc, kind, key)
+        let leaves = mem::replace(&mut self.leaves, Leaves::Empty);
+        let mut visitor = Registering {
+            alloc,
+            kind,
+            leaves,
+            found: Vec::new(alloc),
+        };
+        let visited = self.names.visit(alloc, kind, key, &mut visitor);
+        let Registering {
+            alloc: _,
+            kind: _,
+            leaves,
+            found,
+        } = visitor;
+        self.leaves = leaves;
+        match visited {
+            Ok(_count) => Ok(found),
+            Err(stopped) => Err(stopped.refused.after(found.len())),
+        }
     }
 
     fn holds(&self, kind: MetricKind, at: Address) -> bool {
-        self.node.holds(kind, at)
+        self.leaves.holds(kind, at)
     }
 
     fn update(&mut self, at: Address, by: Update) -> Result<(), Refused> {
-        self.node.update(at, by)
+        self.leaves.update(at, by)
     }
 
     fn snapshot_with(
@@ -181,6 +215,6 @@ impl<B: Recorder> Recorder for Child<B> {
         book: usize,
         reset: Reset,
     ) -> Result<Snapshot, Refused> {
-        self.node.snapshot_with(alloc, book, reset)
+        self.leaves.snapshot_with(alloc, book, reset)
     }
 }

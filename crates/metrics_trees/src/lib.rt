@@ -3,13 +3,9 @@
 
 mod book_ends;
 mod child;
-mod fanout;
-mod node;
-mod reach;
-mod recorders;
-mod router;
-mod routes;
+mod leaves;
+mod names;
+mod row;
+mod visits;
 
 pub use child::{Child, Fanout, Router};
-pub use fanout::FanoutBuilder;
-pub use router::RouterBuilder;

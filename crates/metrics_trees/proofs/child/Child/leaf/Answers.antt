@@ -1,0 +1,10 @@
+use Rattle.std.proofs.Common.{◌∷◌, [], ap, ◌∙◌}
+use Rattle.metrics_rules.specs.Meanings.{rules_meaning}
+use Rattle.metrics_trees.specs.Over.{over}
+use Rattle.metrics_trees.proofs.OverLemmas.{over-leaf}
+use Rattle.metrics_trees.proofs.child.Child.leaf.Goals as goal
+
+pub returns : goal.returns
+returns g c =
+    let one = g.B.Recorder.meaning c.args.recorder in
+    ap (λ r. over (rules_meaning r) (one ∷ [])) c.new.ensures ∙ ap (λ r. over r (one ∷ [])) c.leaf.ensures ∙ over-leaf one

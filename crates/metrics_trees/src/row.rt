@@ -1,0 +1,173 @@
+//! Recorders by number.
+ghost use Rattle.std.specs.Prelude.{◌≡◌, ◌≤◌, ◌<◌, [], length, map, IfOk, MatchResult};
+ghost use Rattle.std.specs.Result.{result_map_both};
+ghost use Rattle.metrics.specs.Meaning.{Meaning, KeepsTargets, Describes, Registers, Updates, Snapshots, holds_at};
+ghost use Rattle.metrics_trees.specs.Recorders.{AreEnds, books_in, most_books};
+ghost use Rattle.metrics_trees.specs.Over.{over, start};
+ghost use Rattle.metrics_trees.specs.Calls.{Calls};
+
+use crate::book_ends::place_of;
+use metrics::{
+    Address, Error, Key, KeyName, MetricKind, Recorder, Refused, Reset, Snapshot, Unit, Update,
+};
+use metrics_rules::{end_of_all, start_of};
+use std::alloc::Global;
+
+/// How many books there may be in all.
+const MOST_BOOKS: usize = 65_536;
+
+/// Recorders by number, and the number of books up to the end of each.
+#[derive(Drop)]
+pub struct Row<B: Recorder> {
+    pub(crate) recorders: Vec<B>,
+    pub(crate) ends: Vec<usize>,
+    ghost ends_are: { AreEnds ends.items (map B.meaning recorders.items) },
+    ghost most: { books_in (map B.meaning recorders.items) ≤ most_books },
+}
+
+impl<B: Recorder> Row<B> {
+    /// These recorders, if they have at most 65,536 books. Otherwise it returns them.
+    pub(crate) fn new(alloc: Global, recorders: Vec<B>) -> Result<Row<B>, (Error, Vec<B>)>
+        ensures { MatchResult result
+            (λ row. row.recorders.items ≡ recorders.items)
+            (λ e. e.1 ≡ recorders) }
+    {
+        match ends_of(alloc, &recorders) {
+            Ok(ends) => Ok(Row { recorders, ends }),
+            Err(error) => Err((error, recorders)),
+        }
+    }
+
+    /// The number of recorders.
+    pub(crate) fn len(&self) -> usize
+        ensures { result ≡ length self.now.recorders.items }
+    {
+        self.recorders.len()
+    }
+
+    /// The number of books of all.
+    pub(crate) fn books(&self) -> usize
+        ensures { result ≡ books_in (map B.meaning self.now.recorders.items) }
+    {
+        end_of_all(&self.ends)
+    }
+
+    /// The number of books before a recorder.
+    pub(crate) fn before(&self, leaf: usize) -> usize
+        requires { leaf < length self.now.recorders.items }
+        ensures { result ≡ start leaf (map B.meaning self.now.recorders.items) }
+    {
+        start_of(&self.ends, leaf)
+    }
+
+    /// Registers a key in one recorder.
+    pub(crate) fn register(
+        &mut self,
+        alloc: Global,
+        kind: MetricKind,
+        leaf: usize,
+        key: &Key,
+    ) -> Result<Vec<Address>, Refused>
+        requires { leaf < length self.old.recorders.items }
+        ensures { Calls B.meaning leaf self.old.recorders.items self.new.recorders.items
+            (λ a c. Registers a c kind key.now (result_map_both (λ v. v.items) (λ e. e) result)) }
+    {
+        self.recorders[leaf].register(alloc, kind, key)
+    }
+
+    /// Describes a name in one recorder.
+    pub(crate) fn describe(
+        &mut self,
+        alloc: Global,
+        kind: MetricKind,
+        leaf: usize,
+        name: &KeyName,
+        unit: Option<Unit>,
+        text: &str,
+    ) -> Result<usize, Refused>
+        requires { leaf < length self.old.recorders.items }
+        ensures { Calls B.meaning leaf self.old.recorders.items self.new.recorders.items
+            (λ a c. Describes a c kind name.now unit text.now result) }
+    {
+        self.recorders[leaf].describe(alloc, kind, name, unit, text)
+    }
+
+    pub(crate) fn holds(&self, kind: MetricKind, at: Address) -> bool
+        ensures { (rules : Meaning) → result
+            ≡ holds_at kind at (over rules (map B.meaning self.now.recorders.items)).contents }
+    {
+        match place_of(&self.ends, at.book) {
+            None => false,
+            Some((number, book)) => self.recorders[number].holds(
+                kind,
+                Address {
+                    book,
+                    series: at.series,
+                },
+            ),
+        }
+    }
+
+    pub(crate) fn update(&mut self, at: Address, by: Update) -> Result<(), Refused>
+        ensures keeps { (rules : Meaning) → KeepsTargets
+            (over rules (map B.meaning self.old.recorders.items))
+            (over rules (map B.meaning self.new.recorders.items)) }
+        ensures updates { (rules : Meaning) → Updates
+            (over rules (map B.meaning self.old.recorders.items))
+            (over rules (map B.meaning self.new.recorders.items)) at by result }
+        ensures count { length self.new.recorders.items ≡ length self.old.recorders.items }
+    {
+        match place_of(&self.ends, at.book) {
+            None => Err(Refused::NoSuchAddress),
+            Some((number, book)) => self.recorders[number].update(
+                Address {
+                    book,
+                    series: at.series,
+                },
+                by,
+            ),
+        }
+    }
+
+    pub(crate) fn snapshot_with(
+        &mut self,
+        alloc: Global,
+        book: usize,
+        reset: Reset,
+    ) -> Result<Snapshot, Refused>
+        ensures keeps { (rules : Meaning) → KeepsTargets
+            (over rules (map B.meaning self.old.recorders.items))
+            (over rules (map B.meaning self.new.recorders.items)) }
+        ensures snapshots { (rules : Meaning) → Snapshots
+            (over rules (map B.meaning self.old.recorders.items))
+            (over rules (map B.meaning self.new.recorders.items)) book reset result }
+        ensures count { length self.new.recorders.items ≡ length self.old.recorders.items }
+    {
+        match place_of(&self.ends, book) {
+            None => Err(Refused::NoSuchBook),
+            Some((number, there)) => self.recorders[number].snapshot_with(alloc, there, reset),
+        }
+    }
+}
+
+/// The number of books up to the end of each recorder.
+///
+/// # Errors
+///
+/// `TooManyBooks` if they have more than 65,536, and else `Memory`.
+fn ends_of<B: Recorder>(alloc: Global, recorders: &[B]) -> Result<Vec<usize>, Error>
+    ensures { IfOk result (λ ends. AreEnds ends.items (map B.meaning recorders.now)
+        × (books_in (map B.meaning recorders.now) ≤ most_books)) }
+{
+    let mut ends = Vec::new(alloc);
+    let mut end: usize = 0;
+    for recorder in recorders {
+        let books = recorder.books();
+        if books > MOST_BOOKS - end {
+            return Err(Error::TooManyBooks);
+        }
+        end += books;
+        ends.push(end)?;
+    }
+    Ok(ends)
+}
