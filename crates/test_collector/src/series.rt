@@ -204,7 +204,7 @@ fn handles_made_twice_share_a_cell(rt: HostRuntime) {
 }
 
 /// The counts, values of gauges and samples of all series, added up.
-fn sums_of(gathered: &Gathered) -> (u64, i64, u64) {
+pub fn sums_of(gathered: &Gathered) -> (u64, i64, u64) {
     let mut sums = (0u64, 0i64, 0u64);
     for series in &gathered.series {
         match &series.value {
