@@ -47,23 +47,29 @@ fn no_raise_is_lost_beside_increments(rt: HostRuntime) {
     assert!(rt; is_raised);
 }
 
-/// Raises a count to 1, 2, 3 and so on. Whether it always was no less then.
-fn raise_by_one(count: &AtomicU64) -> bool {
-    let mut is_raised = true;
-    for wanted in 1..=TIMES {
+/// Raises a count to the next multiple above it, each time. Whether it was no less then, and a multiple of 3 or 5.
+fn raise_to_multiples(count: &AtomicU64, of: u64) -> bool {
+    let mut is_right = true;
+    let mut value = counter_value(count);
+    for _ in 0..TIMES {
+        let wanted = value.wrapping_sub(value % of.max(1)).wrapping_add(of);
         count.absolute(wanted);
-        is_raised &= counter_value(count) >= wanted;
+        value = counter_value(count);
+        is_right &= value >= wanted && (value % 3 == 0 || value % 5 == 0);
     }
-    is_raised
+    is_right
 }
 
-/// Two threads raise a count to the same values.
+/// One thread raises a count to multiples of 3, and the other to multiples of 5.
 #[test]
 fn a_count_is_raised_to_no_more_than_the_value(rt: HostRuntime) {
     let count = AtomicU64::new(0);
-    let (one, other) = join(&rt, || raise_by_one(&count), || raise_by_one(&count));
+    let (one, other) = join(
+        &rt,
+        || raise_to_multiples(&count, 3),
+        || raise_to_multiples(&count, 5),
+    );
     assert!(rt; one && other);
-    assert_eq!(&rt; counter_value(&count), TIMES);
 }
 
 /// How often each of two threads raises a generation.
