@@ -16,11 +16,10 @@ fn work<R: AllocGlobal + Wait>(rt: &R, on: &Collector) -> Result<(), Error> {
     let open = on.gauge(rt, &Key::from_name(rt.alloc(), "http.open")?)?;
     let took = on.histogram(rt, &Key::from_name(rt.alloc(), "http.ms")?)?;
     for request in 0..1000 {
-        open.increment(rt, 1);
-        requests.increment(1);
-        let recorded = took.record(rt, request % 100);
-        open.decrement(rt, 1);
-        recorded?;
+        GaugeFn::increment(&open, rt, 1);
+        CounterFn::increment(&requests, 1);
+        took.record(rt, request % 100)?;
+        GaugeFn::decrement(&open, rt, 1);
     }
     Ok(())
 }

@@ -1,6 +1,5 @@
 pub mod RowsLemmas
 pub mod EventsLemmas
-pub mod ActivityLemmas
 pub mod ContentLemmas
 pub mod StayingLemmas
 pub mod AddressLemmas

@@ -12,7 +12,7 @@ use Rattle.metrics.specs.declared.calls.Call.{Call}
 use Rattle.metrics.specs.declared.calls.Answer.{Answer}
 use Rattle.metrics_names.specs.Names.{KeyParts, SeriesKey, kind_eq, series_key_eq}
 use Rattle.metrics.specs.Targets.{in_book}
-use Rattle.metrics.specs.Book.{Content, Series, Description, kind_of, new_value, value_from, snapshot_of, resets}
+use Rattle.metrics.specs.Book.{Content, Series, Description, kind_of, new_value, value_from, rows, resets}
 use Rattle.metrics.specs.Rows.{last}
 use Rattle.metrics.specs.Meaning.{Targets, key_in_book, TakesMemory}
 
@@ -117,14 +117,11 @@ abbrev pub is_reset_of : MetricKind → Event → Bool
 is_reset_of kind (snapshots reset) = resets reset kind
 is_reset_of kind e = false
 
--- the events after the last one of some sort
-abbrev pub after_last : (Event → Bool) → List Event → List Event
-after_last sort [] = []
-after_last sort (e ∷ events) = if list_any sort events then after_last sort events else if sort e then events else e ∷ events
-
 -- the events after the last snapshot that reset a kind
 abbrev pub after_snapshot : MetricKind → List Event → List Event
-after_snapshot kind events = after_last (is_reset_of kind) events
+after_snapshot kind [] = []
+after_snapshot kind (e ∷ events) =
+    if list_any (is_reset_of kind) events then after_snapshot kind events else if is_reset_of kind e then events else e ∷ events
 
 abbrev pub update_of : SeriesKey → Event → Option Update
 update_of s (updates k u) = if series_key_eq k s then Some u else None
@@ -134,22 +131,6 @@ update_of s e = None
 abbrev pub since : List Event → SeriesKey → List Update
 since events s = filter_map (update_of s) (after_snapshot s.kind events)
 
--- ---- the activity since the last snapshot
-
-abbrev pub is_snapshot : Event → Bool
-is_snapshot (snapshots reset) = true
-is_snapshot e = false
-
--- whether an event is a registration or an update of a series
-abbrev pub touches : SeriesKey → Event → Bool
-touches s (registers k) = series_key_eq k s
-touches s (updates k u) = series_key_eq k s
-touches s e = false
-
--- whether a series was registered or updated after the book's last successful snapshot
-abbrev pub was_active : List Event → SeriesKey → Bool
-was_active events s = list_any (touches s) (after_last is_snapshot events)
-
 -- ---- contents and expected answers
 
 -- a series with the value of its updates since the last snapshot that reset its kind
@@ -158,11 +139,7 @@ series_now events k = record { key = k; value = value_from (new_value k.kind) (s
 
 -- the content of a book after all that reached it
 abbrev pub content_after : List Event → Content
-content_after events = record {
-  series = map (series_now events) (series_after events);
-  active = map (was_active events) (series_after events);
-  described = description events;
-}
+content_after events = record { series = map (series_now events) (series_after events); described = description events }
 
 -- the address of a name's series in a target: the book, and the place in the list of its series
 abbrev pub plain_address : Targets → Log → MetricKind → KeyParts → ℕ × List ℕ → Address
@@ -182,7 +159,7 @@ plain_update targets u None = Answer.Refused BadHandle
 plain_update targets u (Some r) = if is_handle u r then Answer.Updated (length (targets r.kind r.key.name)) else Answer.Refused BadHandle
 
 abbrev pub plain_snapshot : Targets → ℕ → Log → ℕ → Answer
-plain_snapshot targets books before b = if nat_lt b books then Answer.Snapshot (snapshot_of (content_after (reached targets b before))) else Answer.Refused NoSuchBook
+plain_snapshot targets books before b = if nat_lt b books then Answer.Snapshot (rows (content_after (reached targets b before))) else Answer.Refused NoSuchBook
 
 -- the expected answer of a call after these calls, of a recorder with this many books
 abbrev pub plain_answer : Targets → ℕ → Log → Call → Answer

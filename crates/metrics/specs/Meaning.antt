@@ -12,7 +12,7 @@ use Rattle.metrics_names.specs.Refusals.{IfMemory}
 use Rattle.metrics_names.specs.Names.{KeyParts, SeriesKey, kind_eq}
 use Rattle.metrics.specs.Targets.{after_targets, change_at, AllBelow, AreDistinct}
 use Rattle.metrics.specs.TargetsLaws.{zero_below_one}
-use Rattle.metrics.specs.Book.{Content, SnapshotParts, new_book, reset_in, describe_in, register_in, update_in, place, content_at, kind_at, kind_of, snapshot_of}
+use Rattle.metrics.specs.Book.{Content, RowParts, new_book, reset_in, describe_in, register_in, update_in, place, content_at, kind_at, kind_of, rows}
 
 -- the targets of each kind and name: where a metric of that name goes, and its name there
 abbrev pub Targets : Type 0
@@ -89,9 +89,9 @@ Updates old new at by (Err (Memory acted)) = (holds_at (kind_of by) at old.conte
 Updates old new at by (Err NoSuchAddress) = (holds_at (kind_of by) at old.contents ≡ false) × (new.contents ≡ old.contents)
 Updates old new at by (Err e) = ⊥
 
--- a snapshot returns the rows of the book and which of its series were active, and resets its series of the kinds to reset
-abbrev pub Snapshots : Meaning → Meaning → ℕ → Reset → Result SnapshotParts Refused → Type 0
-Snapshots old new book reset (Ok found) = (book < length old.contents) × (found ≡ snapshot_of (content_at book old.contents)) × (new.contents ≡ change_at book (reset_in reset) old.contents)
+-- a snapshot returns the rows of the book, and resets its series of the kinds to reset
+abbrev pub Snapshots : Meaning → Meaning → ℕ → Reset → Result (List RowParts) Refused → Type 0
+Snapshots old new book reset (Ok found) = (book < length old.contents) × (found ≡ rows (content_at book old.contents)) × (new.contents ≡ change_at book (reset_in reset) old.contents)
 Snapshots old new book reset (Err (Memory acted)) = (book < length old.contents) × (acted ≡ 0) × (new.contents ≡ old.contents)
 Snapshots old new book reset (Err NoSuchBook) = (length old.contents ≤ book) × (new.contents ≡ old.contents)
 Snapshots old new book reset (Err e) = ⊥

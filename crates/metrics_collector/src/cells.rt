@@ -7,21 +7,14 @@ ghost use Rattle.metrics_names.specs.declared.kind.MetricKind.TheVariants.{Histo
 use crate::gathered::Value;
 use crate::parts::Parts;
 use metrics::{Error, Key, MetricKind};
-use metrics_cells::{CounterFn, GaugeFn, HistogramFn, counter_value, gauge_value};
+use metrics_cells::{CounterFn, HistogramFn, counter_value, gauge_value};
 use metrics_exporter::Bounds;
 use metrics_registry::{Generation, Storage};
+use metrics_shared_registry::Generational;
 use metrics_storage::Histogram;
 use std::alloc::{AllocError, Global};
-use std::snapshot::Snapshot;
-use std::sync::atomic::{AtomicBool, AtomicU64, AtomicUsize, Ordering};
+use std::sync::atomic::{AtomicU64, AtomicUsize, Ordering};
 use std::sync::{Arc, Wait};
-
-/// What the handles of a counter share.
-#[derive(Drop)]
-struct CounterCell {
-    count: AtomicU64,
-    key: Snapshot<Key>,
-}
 
 /// A counter's cell, which any thread may keep and change (`CounterFn`).
 ///
@@ -32,96 +25,36 @@ struct CounterCell {
 /// texts.
 #[derive(Clone, Drop)]
 pub struct CounterHandle {
-    cell: Arc<CounterCell>,
+    count: Arc<AtomicU64>,
 }
 
 impl CounterHandle {
     /// Returns the count at the moment.
     pub fn value(&self) -> u64 {
-        counter_value(&self.cell.count)
+        counter_value(&self.count)
     }
 }
 
 impl CounterFn for CounterHandle {
     /// Adds to the count, modulo 2^64. An increment by 0 is no activity: it keeps no series from being idle.
     fn increment(&self, value: u64) {
-        CounterFn::increment(&self.cell.count, value);
+        CounterFn::increment(&*self.count, value);
     }
 
     /// Raises the count to the value, if it is below that. Otherwise it is no activity.
     fn absolute(&self, value: u64) {
-        CounterFn::absolute(&self.cell.count, value);
-    }
-}
-
-/// What the handles of a gauge share.
-///
-/// No update is missed. An update changes the value, and then sets the flag unless it finds it set. A reading takes the flag
-/// away, and then reads the value. All these steps have one order. So the reading that takes the flag which an update set or
-/// found comes after that update's change: it counts a change, and reads that value or a later one. In another order of the
-/// two steps, on either side, a change could fall between them.
-#[derive(Drop)]
-struct GaugeCell {
-    key: Snapshot<Key>,
-    value: AtomicU64,
-    /// Whether it was updated since a reading last took this away.
-    is_changed: AtomicBool,
-    /// How many readings found it updated, modulo 2^64. Only readings change it, one at a time.
-    changes: AtomicU64,
-}
-
-impl GaugeCell {
-    /// Notes an update that was made.
-    fn note(&self) {
-        if !self.is_changed.load(Ordering::SeqCst) {
-            self.is_changed.store(true, Ordering::SeqCst);
-        }
-    }
-
-    /// Returns how many readings found it updated, this one among them.
-    fn changes(&self) -> u64 {
-        if self.is_changed.swap(false, Ordering::SeqCst) {
-            self.changes.fetch_add(1, Ordering::SeqCst);
-        }
-        self.changes.load(Ordering::SeqCst)
+        CounterFn::absolute(&*self.count, value);
     }
 }
 
 /// A gauge's cell, which any thread may keep and change (`GaugeFn`).
 ///
-/// Setting a gauge to the value that it has is activity too. So an update notes that there was one, which costs no atomic
-/// change unless a reading was made since the last update.
+/// An update is two atomic instructions: one of the value, and one of a number of changes, since setting a gauge to the value
+/// that it has is activity too.
 ///
-/// A handle has 8 bytes. It keeps its series in the collector: one that is kept for ever keeps some 250 bytes, and the key's
+/// A handle has 16 bytes. It keeps its series in the collector: one that is kept for ever keeps some 250 bytes, and the key's
 /// texts.
-#[derive(Clone, Drop)]
-pub struct GaugeHandle {
-    cell: Arc<GaugeCell>,
-}
-
-impl GaugeHandle {
-    /// Returns the value at the moment.
-    pub fn value(&self) -> i64 {
-        gauge_value(&self.cell.value)
-    }
-}
-
-impl GaugeFn for GaugeHandle {
-    fn increment<W: Wait>(&self, rt: &W, value: i64) {
-        GaugeFn::increment(&self.cell.value, rt, value);
-        self.cell.note();
-    }
-
-    fn decrement<W: Wait>(&self, rt: &W, value: i64) {
-        GaugeFn::decrement(&self.cell.value, rt, value);
-        self.cell.note();
-    }
-
-    fn set(&self, value: i64) {
-        GaugeFn::set(&self.cell.value, value);
-        self.cell.note();
-    }
-}
+pub type GaugeHandle = Generational<Arc<AtomicU64>>;
 
 /// A histogram's cell, which any thread may keep and record into (`HistogramFn`).
 ///
@@ -135,7 +68,7 @@ impl GaugeFn for GaugeHandle {
 /// bound from its first sample on.
 #[derive(Drop)]
 pub struct HistogramHandle {
-    cell: Arc<Parts>,
+    parts: Arc<Parts>,
     place: usize,
 }
 
@@ -143,18 +76,18 @@ impl HistogramHandle {
     /// Returns what the cell holds. Fails with `Error::Memory`, or with `Error::CountFull` if there are more than 2^64 - 1
     /// samples.
     pub fn read<W: Wait>(&self, rt: &W) -> Result<Histogram, Error> {
-        self.cell.read(rt)
+        self.parts.read(rt)
     }
 }
 
 /// A clone records into the next part.
 impl Clone for HistogramHandle {
-    ghost is_clone = { λ x y. arc_value y.cell ≡ arc_value x.cell };
+    ghost is_clone = { λ x y. arc_value y.parts ≡ arc_value x.parts };
 
     fn clone(&self) -> Result<HistogramHandle, AllocError> {
-        let cell = self.cell.clone()?;
-        let place = cell.next_place();
-        Ok(HistogramHandle { cell, place })
+        let parts = self.parts.clone()?;
+        let place = parts.next_place();
+        Ok(HistogramHandle { parts, place })
     }
 }
 
@@ -163,7 +96,7 @@ impl HistogramFn for HistogramHandle {
     type Error = Error;
 
     fn record<W: Wait>(&self, rt: &W, value: i64) -> Result<(), Error> {
-        self.cell.record(rt, self.place, value)
+        self.parts.record(rt, self.place, value)
     }
 }
 
@@ -175,28 +108,19 @@ pub(crate) struct Seen {
 }
 
 /// A cell that a reading looks at.
-pub(crate) trait Watched: Drop {
-    ghost use Rattle.std.specs.Prelude.{◌≡◌, ℕ, IfSome};
+pub(crate) trait Watched {
     ghost use Rattle.metrics_collector.specs.Gathering.{kind_of, IsGenerationOf};
     ghost use Rattle.metrics_names.specs.declared.kind.MetricKind.{MetricKind as AnyKind};
 
     /// The kind of its series.
     ghost kind_held: { AnyKind };
 
-    /// The cell has no clone, and this generation.
-    ghost is_alone: { Self → ℕ → Type 0 };
-
     fn kind() -> MetricKind
         ensures { result ≡ kind_held };
 
-    /// Returns whether it seemed to have a clone.
-    fn seems_shared(&self) -> bool;
-
-    /// Returns the generation if there is no clone. Then nobody else can change the cell, and each change that was made through
-    /// a clone is seen.
-    fn alone<W: Wait>(&mut self, rt: &W) -> Option<Generation>
-        ensures alone { IfSome result (is_alone self.old) }
-        ensures same { self.new ≡ self.old };
+    /// Returns whether a clone exists at the moment. If none does, and no other thread can reach this cell, it stays as it is,
+    /// and each change that was made through a clone is seen.
+    fn is_shared(&self) -> bool;
 
     /// Returns a number that each activity changes. It takes no memory.
     fn generation<W: Wait>(&self, rt: &W) -> Generation;
@@ -210,19 +134,12 @@ pub(crate) trait Watched: Drop {
 impl Watched for CounterHandle {
     ghost kind_held = { CounterKind };
 
-    ghost is_alone = { λ cell generation. Unit {0} };
-
     fn kind() -> MetricKind {
         MetricKind::Counter
     }
 
-    fn seems_shared(&self) -> bool {
-        Arc::strong_count(&self.cell) > 1
-    }
-
-    fn alone<W: Wait>(&mut self, _rt: &W) -> Option<Generation> {
-        let cell = Arc::get_mut(&mut self.cell)?;
-        Some(Generation::new(counter_value(&cell.count)))
+    fn is_shared(&self) -> bool {
+        Arc::strong_count(&self.count) > 1
     }
 
     fn generation<W: Wait>(&self, _rt: &W) -> Generation {
@@ -241,30 +158,23 @@ impl Watched for CounterHandle {
 impl Watched for GaugeHandle {
     ghost kind_held = { GaugeKind };
 
-    ghost is_alone = { λ cell generation. Unit {0} };
-
     fn kind() -> MetricKind {
         MetricKind::Gauge
     }
 
-    fn seems_shared(&self) -> bool {
-        Arc::strong_count(&self.cell) > 1
-    }
-
-    fn alone<W: Wait>(&mut self, _rt: &W) -> Option<Generation> {
-        let cell = Arc::get_mut(&mut self.cell)?;
-        Some(Generation::new(cell.changes()))
+    fn is_shared(&self) -> bool {
+        self.has_clones()
     }
 
     fn generation<W: Wait>(&self, _rt: &W) -> Generation {
-        Generation::new(self.cell.changes())
+        self.get_generation()
     }
 
-    /// An update changes the value and then notes it. They are read in the other order: an update between the two reads is
-    /// shown at once, and again by the next reading.
+    /// An update changes the value and then the generation. They are read in the other order: an update between the two reads
+    /// is shown at once, and again by the next reading.
     fn held<W: Wait>(&self, _rt: &W) -> Result<Seen, Error> {
-        let generation = Generation::new(self.cell.changes());
-        let value = Value::Level(self.value());
+        let generation = self.get_generation();
+        let value = Value::Level(gauge_value(self.get_inner()));
         Ok(Seen { generation, value })
     }
 }
@@ -272,29 +182,22 @@ impl Watched for GaugeHandle {
 impl Watched for HistogramHandle {
     ghost kind_held = { HistogramKind };
 
-    ghost is_alone = { λ cell generation. Unit {0} };
-
     fn kind() -> MetricKind {
         MetricKind::Histogram
     }
 
-    fn seems_shared(&self) -> bool {
-        Arc::strong_count(&self.cell) > 1
-    }
-
-    fn alone<W: Wait>(&mut self, rt: &W) -> Option<Generation> {
-        let cell = Arc::get_mut(&mut self.cell)?;
-        Some(Generation::new(cell.count(rt)))
+    fn is_shared(&self) -> bool {
+        Arc::strong_count(&self.parts) > 1
     }
 
     fn generation<W: Wait>(&self, rt: &W) -> Generation {
-        Generation::new(self.cell.count(rt))
+        Generation::new(self.parts.count(rt))
     }
 
     fn held<W: Wait>(&self, rt: &W) -> Result<Seen, Error> {
         let samples = self.read(rt)?;
         let generation = Generation::new(samples.count());
-        let value = Value::Samples(Box::new(self.cell.allocator(), samples)?);
+        let value = Value::Samples(Box::new(self.parts.allocator(), samples)?);
         Ok(Seen { generation, value })
     }
 }
@@ -330,50 +233,35 @@ impl CollectorCells {
     }
 }
 
-/// A cell is one of its key. No contract says what it holds.
+/// No contract says what a cell holds.
 impl Storage<Key> for CollectorCells {
-    ghost use Rattle.metrics_collector.specs.Series.{counter_key, gauge_key, histogram_key};
-
     type Counter = CounterHandle;
 
     type Gauge = GaugeHandle;
 
     type Histogram = HistogramHandle;
 
-    ghost makes_counter = { λ storage key cell. counter_key cell ≡ key };
+    ghost makes_counter = { λ storage key cell. Unit {0} };
 
-    ghost makes_gauge = { λ storage key cell. gauge_key cell ≡ key };
+    ghost makes_gauge = { λ storage key cell. Unit {0} };
 
-    ghost makes_histogram = { λ storage key cell. histogram_key cell ≡ key };
+    ghost makes_histogram = { λ storage key cell. Unit {0} };
 
-    fn counter(&self, key: &Key) -> Result<CounterHandle, Error> {
-        let cell = CounterCell {
-            count: AtomicU64::new(0),
-            key: Snapshot::of(key),
-        };
-        Ok(CounterHandle {
-            cell: Arc::new(self.alloc, cell)?,
-        })
+    fn counter(&self, _key: &Key) -> Result<CounterHandle, Error> {
+        let count = Arc::new(self.alloc, AtomicU64::new(0))?;
+        Ok(CounterHandle { count })
     }
 
-    fn gauge(&self, key: &Key) -> Result<GaugeHandle, Error> {
-        let cell = GaugeCell {
-            key: Snapshot::of(key),
-            value: AtomicU64::new(0),
-            is_changed: AtomicBool::new(false),
-            changes: AtomicU64::new(0),
-        };
-        Ok(GaugeHandle {
-            cell: Arc::new(self.alloc, cell)?,
-        })
+    fn gauge(&self, _key: &Key) -> Result<GaugeHandle, Error> {
+        Generational::new(self.alloc, Arc::new(self.alloc, AtomicU64::new(0))?)
     }
 
     fn histogram(&self, key: &Key) -> Result<HistogramHandle, Error> {
         let empty = self.bounds.of(key.name()).clone()?;
         let others = self.others.load(Ordering::SeqCst);
-        let cell = Parts::new(self.alloc, key, empty, others)?;
+        let parts = Arc::new(self.alloc, Parts::new(self.alloc, empty, others)?)?;
         Ok(HistogramHandle {
-            cell: Arc::new(self.alloc, cell)?,
+            parts,
             place: others,
         })
     }

@@ -1,6 +1,5 @@
 //! A collector.
-ghost use Rattle.std.specs.Prelude.{◌≡◌, List, if◌then◌else◌, IfOk, IfErr, OnOk, string_bytes};
-ghost use Rattle.std.specs.Fn.{FnOnceReturnsAt};
+ghost use Rattle.std.specs.Prelude.{◌≡◌, List, if◌then◌else◌, IfOk, IfErr, string_bytes};
 ghost use Rattle.metrics.specs.declared.error.Error.TheVariants.{Memory as OutOfMemory, BadShards as NotShards};
 ghost use Rattle.metrics_registry.specs.Held.{is_shard_count as is_count};
 ghost use Rattle.metrics_exporter.specs.Readings.{Told, AreOnce, cells_told};
@@ -11,15 +10,19 @@ ghost use Rattle.metrics_prometheus.specs.Reading.{AreOfKinds};
 ghost use Rattle.metrics_collector.specs.Gathering.{all_gathered, IsUnread};
 ghost use Rattle.metrics_collector.specs.declared.gathered.Gathered.{Gathered as GatheredParts};
 
-use crate::cells::{CounterHandle, GaugeHandle, HistogramHandle};
+use crate::cells::{CollectorCells, CounterHandle, GaugeHandle, HistogramHandle};
 use crate::gathered::{Gathered, GatheredSeries};
-use crate::keys::{is_kept, kept_key};
-use crate::readings::Series;
-use metrics::{Error, Key, Label, MetricKind, MetricKindMask, Unit};
+use crate::keys::kept_key;
+use crate::rows::Rows;
+use crate::walk::{Walk, forget_all};
+use metrics::{Error, Key, Label, MetricKind, MetricKindMask, PerKind, Unit};
 use metrics_cells::CounterFn;
 use metrics_exporter::Bounds;
 use metrics_prometheus::{Descriptions, Naming};
-use std::alloc::{AllocError, Global};
+use metrics_registry::OwnedRecency;
+use metrics_shared_registry::Registry;
+use std::alloc::Global;
+use std::collections::HashSet;
 use std::mem;
 use std::sync::{Mutex, RwLock, Wait};
 
@@ -33,16 +36,16 @@ pub struct Collector {
     alloc: Global,
     labels: Vec<Label>,
     naming: Naming,
-    series: Series,
+    mask: MetricKindMask,
+    idle_timeout: Option<u64>,
+    registry: Registry<Key, CollectorCells>,
+    recency: Mutex<OwnedRecency<Key>>,
     /// The rows of the last text.
     rows: Mutex<Vec<GatheredSeries>>,
     descriptions: RwLock<Descriptions>,
 }
 
 impl Collector {
-    ghost use Rattle.metrics_collector.specs.Labelling.{IsKept};
-    ghost use Rattle.metrics_collector.specs.Series.{counter_key, gauge_key, histogram_key};
-
     /// Makes a collector without series, in this many shards, a power of two from 1 to 1,024.
     ///
     /// A series of a kind in the mask is idle if it kept its generation over readings further apart than the timeout. Without
@@ -54,15 +57,18 @@ impl Collector {
         idle_timeout: Option<u64>,
         bounds: Bounds,
     ) -> Result<Collector, Error>
-        ensures ok { IfOk result (λ c. (c.series.registry.storage.bounds ≡ bounds) × (c.naming ≡ NamesAsGiven)) }
+        ensures ok { IfOk result (λ c. (c.registry.storage.bounds ≡ bounds) × (c.naming ≡ NamesAsGiven)) }
         ensures err { IfErr result (λ e. e ≡ (if is_count shards then OutOfMemory else NotShards)) }
     {
-        let series = Series::new(alloc, shards, mask, idle_timeout, bounds)?;
+        let registry = Registry::new(alloc, CollectorCells::new(alloc, bounds), shards)?;
         Ok(Collector {
             alloc,
             labels: Vec::new(alloc),
             naming: Naming::AsGiven,
-            series,
+            mask,
+            idle_timeout,
+            registry,
+            recency: Mutex::new(OwnedRecency::new(alloc, mask, idle_timeout)),
             rows: Mutex::new(Vec::new(alloc)),
             descriptions: RwLock::new(Descriptions::new(alloc)),
         })
@@ -94,13 +100,11 @@ impl Collector {
     pub fn with_stripes(self, stripes: usize) -> Collector
         ensures { result ≡ self }
     {
-        self.series.set_stripes(stripes);
+        self.registry.storage().set_stripes(stripes);
         self
     }
 
     /// Replaces the text of a name of this kind, and the unit if there is a new one. A call that fails changes nothing.
-    ///
-    /// It waits while a text is written.
     pub fn describe<W: Wait>(
         &self,
         rt: &W,
@@ -117,102 +121,45 @@ impl Collector {
             .describe(alloc, kind, name, unit, text)
     }
 
-    /// Calls `op` once on the cell of the counter that a key names.
-    fn on_counter<W: Wait, V, F: FnOnce(&CounterHandle) -> V + Drop>(
-        &self,
-        rt: &W,
-        key: &Key,
-        op: F,
-    ) -> Result<V, Error>
-        requires { F.IsAlwaysCallable op }
-        ensures called { IfOk result (λ v. (h : CounterHandle) × IsKept self.now.labels.items key.now (counter_key h)
-            × FnOnceReturnsAt F.FnOnce op h v) }
-        ensures err { IfErr result (λ e. e ≡ OutOfMemory) }
-    {
-        if is_kept(key, &self.labels) {
-            return self.series.on_counter(rt, key, op);
-        }
-        let kept = kept_key(self.alloc, key, &self.labels)?;
-        self.series.on_counter(rt, &kept, op)
-    }
-
     /// Returns a handle of a counter, which begins at 0 if it is new. Labels in another order name the same series.
     ///
     /// An update is one atomic instruction. An increment by 0 is no activity. A handle keeps its series, as long as it is kept:
     /// some 200 bytes and the key's texts.
-    pub fn counter<W: Wait>(&self, rt: &W, key: &Key) -> Result<CounterHandle, Error>
-        ensures key { IfOk result (λ h. IsKept self.now.labels.items key.now (counter_key h)) }
-        ensures err { IfErr result (λ e. e ≡ OutOfMemory) }
-    {
-        let handle = |cell: &CounterHandle| -> Result<CounterHandle, AllocError>
-            ensures { IfOk result (λ h. counter_key h ≡ counter_key cell.now) }
-        { cell.clone() };
-        Ok(self.on_counter(rt, key, handle)??)
+    pub fn counter<W: Wait>(&self, rt: &W, key: &Key) -> Result<CounterHandle, Error> {
+        let kept = kept_key(self.alloc, key, &self.labels)?;
+        let key = kept.as_ref().unwrap_or(key);
+        let registry = &self.registry;
+        Ok(registry.get_or_create_counter(rt, key, |cell: &CounterHandle| cell.clone())??)
     }
 
     /// Adds to a counter without keeping a handle. A new counter begins at 0.
     ///
     /// It looks the key up, which a handle's update doesn't. It fails with `Error::Memory` only if the series is new, or if
     /// the key's labels aren't in order.
-    pub fn increment<W: Wait>(&self, rt: &W, key: &Key, value: u64) -> Result<(), Error>
-        ensures key { OnOk result ((h : CounterHandle) × IsKept self.now.labels.items key.now (counter_key h)) }
-        ensures err { IfErr result (λ e. e ≡ OutOfMemory) }
-    {
-        self.on_counter(rt, key, |cell: &CounterHandle| {
-            CounterFn::increment(cell, value)
-        })
-    }
-
-    /// Calls `op` once on the cell of the gauge that a key names.
-    fn on_gauge<W: Wait, V, F: FnOnce(&GaugeHandle) -> V + Drop>(
-        &self,
-        rt: &W,
-        key: &Key,
-        op: F,
-    ) -> Result<V, Error>
-        requires { F.IsAlwaysCallable op }
-        ensures called { IfOk result (λ v. (h : GaugeHandle) × IsKept self.now.labels.items key.now (gauge_key h)
-            × FnOnceReturnsAt F.FnOnce op h v) }
-        ensures err { IfErr result (λ e. e ≡ OutOfMemory) }
-    {
-        if is_kept(key, &self.labels) {
-            return self.series.on_gauge(rt, key, op);
+    pub fn increment<W: Wait>(&self, rt: &W, key: &Key, value: u64) -> Result<(), Error> {
+        if self.labels.is_empty() && key.labels().len() < 2 {
+            return self.increment_kept(rt, key, value);
         }
         let kept = kept_key(self.alloc, key, &self.labels)?;
-        self.series.on_gauge(rt, &kept, op)
+        self.increment_kept(rt, kept.as_ref().unwrap_or(key), value)
+    }
+
+    fn increment_kept<W: Wait>(&self, rt: &W, key: &Key, value: u64) -> Result<(), Error> {
+        let registry = &self.registry;
+        registry.get_or_create_counter(rt, key, |cell: &CounterHandle| {
+            CounterFn::increment(cell, value)
+        })
     }
 
     /// Returns a handle of a gauge, which begins at 0 if it is new. Labels in another order name the same series.
     ///
     /// Each update is activity, even one that leaves the value as it is. A handle keeps its series, as long as it is kept:
     /// some 250 bytes and the key's texts.
-    pub fn gauge<W: Wait>(&self, rt: &W, key: &Key) -> Result<GaugeHandle, Error>
-        ensures key { IfOk result (λ h. IsKept self.now.labels.items key.now (gauge_key h)) }
-        ensures err { IfErr result (λ e. e ≡ OutOfMemory) }
-    {
-        let handle = |cell: &GaugeHandle| -> Result<GaugeHandle, AllocError>
-            ensures { IfOk result (λ h. gauge_key h ≡ gauge_key cell.now) }
-        { cell.clone() };
-        Ok(self.on_gauge(rt, key, handle)??)
-    }
-
-    /// Calls `op` once on the cell of the histogram that a key names.
-    fn on_histogram<W: Wait, V, F: FnOnce(&HistogramHandle) -> V + Drop>(
-        &self,
-        rt: &W,
-        key: &Key,
-        op: F,
-    ) -> Result<V, Error>
-        requires { F.IsAlwaysCallable op }
-        ensures called { IfOk result (λ v. (h : HistogramHandle) × IsKept self.now.labels.items key.now (histogram_key h)
-            × FnOnceReturnsAt F.FnOnce op h v) }
-        ensures err { IfErr result (λ e. e ≡ OutOfMemory) }
-    {
-        if is_kept(key, &self.labels) {
-            return self.series.on_histogram(rt, key, op);
-        }
+    pub fn gauge<W: Wait>(&self, rt: &W, key: &Key) -> Result<GaugeHandle, Error> {
         let kept = kept_key(self.alloc, key, &self.labels)?;
-        self.series.on_histogram(rt, &kept, op)
+        let key = kept.as_ref().unwrap_or(key);
+        let registry = &self.registry;
+        Ok(registry.get_or_create_gauge(rt, key, |cell: &GaugeHandle| cell.clone())??)
     }
 
     /// Returns a handle of a histogram, which begins without samples if it is new. Labels in another order name the same
@@ -220,23 +167,35 @@ impl Collector {
     ///
     /// Each sample is activity. Ask for a handle in each thread: those of one histogram seldom wait for each other. A handle
     /// keeps its series, as long as it is kept: some 550 bytes, 32 for each bound, and the key's texts.
-    pub fn histogram<W: Wait>(&self, rt: &W, key: &Key) -> Result<HistogramHandle, Error>
-        ensures key { IfOk result (λ h. IsKept self.now.labels.items key.now (histogram_key h)) }
-        ensures err { IfErr result (λ e. e ≡ OutOfMemory) }
-    {
-        let handle = |cell: &HistogramHandle| -> Result<HistogramHandle, AllocError>
-            ensures { IfOk result (λ h. histogram_key h ≡ histogram_key cell.now) }
-        { cell.clone() };
-        Ok(self.on_histogram(rt, key, handle)??)
+    pub fn histogram<W: Wait>(&self, rt: &W, key: &Key) -> Result<HistogramHandle, Error> {
+        let kept = kept_key(self.alloc, key, &self.labels)?;
+        let key = kept.as_ref().unwrap_or(key);
+        let registry = &self.registry;
+        Ok(registry.get_or_create_histogram(rt, key, |cell: &HistogramHandle| cell.clone())??)
+    }
+
+    /// Walks over the cells of each kind.
+    fn walk<W: Wait>(&self, rt: &W, walk: &mut Walk) {
+        let registry = &self.registry;
+        registry.visit_counters(rt, |key, cell| walk.gather(rt, key, cell));
+        registry.visit_gauges(rt, |key, cell| walk.gather(rt, key, cell));
+        registry.visit_histograms(rt, |key, cell| walk.gather(rt, key, cell));
+        if !walk.gone.counter.is_empty() {
+            registry.retain_counters(rt, |key, cell| walk.stays(rt, key, cell));
+        }
+        if !walk.gone.gauge.is_empty() {
+            registry.retain_gauges(rt, |key, cell| walk.stays(rt, key, cell));
+        }
+        if !walk.gone.histogram.is_empty() {
+            registry.retain_histograms(rt, |key, cell| walk.stays(rt, key, cell));
+        }
     }
 
     /// Reads each cell once, and returns the series in use. An idle series is removed if no thread has a handle.
     ///
-    /// # Waiting
-    ///
-    /// Readings go one after another. A thread with a handle waits for none, except to record into a histogram's part that is
-    /// being read. Nor does a look-up of a series that is there. A new series waits until the reading has left its shard, and
-    /// meanwhile look-ups in that shard wait behind it. To remove an idle series its shard is locked for this one alone.
+    /// Shards are read while other threads ask for handles. Only if an idle series is removed is each shard locked for a
+    /// moment. Threads with handles never wait for it, except one that records into the part of a histogram that is being
+    /// read.
     ///
     /// # Errors
     ///
@@ -244,7 +203,50 @@ impl Collector {
     pub fn gather<W: Wait>(&self, rt: &W, alloc: Global, now: u64) -> Result<Gathered, Error>
         ensures { IfErr result IsUnread }
     {
-        self.series.read(rt, now, Vec::new(alloc))
+        self.gather_into(rt, alloc, now, Vec::new(alloc))
+    }
+
+    /// Gathers into the memory of these rows.
+    fn gather_into<W: Wait>(
+        &self,
+        rt: &W,
+        alloc: Global,
+        now: u64,
+        rows: Vec<GatheredSeries>,
+    ) -> Result<Gathered, Error>
+        ensures { IfErr result IsUnread }
+    {
+        let mut recency = self.recency.lock(rt);
+        let none = OwnedRecency::new(alloc, self.mask, self.idle_timeout);
+        let mut walk = Walk {
+            now,
+            recency: mem::replace(&mut *recency, none),
+            rows: Rows::reusing(rows),
+            refused: None,
+            gone: PerKind {
+                counter: HashSet::new(alloc),
+                gauge: HashSet::new(alloc),
+                histogram: HashSet::new(alloc),
+            },
+        };
+        self.walk(rt, &mut walk);
+        let Walk {
+            now: _,
+            recency: mut noted,
+            rows,
+            refused,
+            gone: _,
+        } = walk;
+        let series = rows.into_vec();
+        if refused.is_some() {
+            forget_all(&mut noted, &series);
+        }
+        *recency = noted;
+        match refused {
+            None => Ok(Gathered { series }),
+            Some(Error::CountFull) => Err(Error::CountFull),
+            Some(_) => Err(Error::Memory),
+        }
     }
 
     /// Reads each cell once, and returns the text of the series that are in use.
@@ -264,10 +266,10 @@ impl Collector {
         ensures err { IfErr result IsUnread }
     {
         let rows = mem::replace(&mut *self.rows.lock(rt), Vec::new(alloc));
-        let gathered = self.series.read(rt, now, rows)?;
+        let gathered = self.gather_into(rt, alloc, now, rows)?;
         let text = gathered.text(alloc, self.naming, &self.descriptions.read(rt));
         if text.is_err() {
-            self.series.forget_all(rt, &gathered);
+            forget_all(&mut *self.recency.lock(rt), &gathered.series);
         }
         let Gathered { series } = gathered;
         *self.rows.lock(rt) = series;

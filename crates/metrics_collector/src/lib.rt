@@ -6,8 +6,8 @@ mod collector;
 mod gathered;
 mod keys;
 mod parts;
-mod readings;
 mod rows;
+mod walk;
 
 pub use cells::{CollectorCells, CounterHandle, GaugeHandle, HistogramHandle};
 pub use collector::Collector;

@@ -8,7 +8,6 @@ pub mod WrittenLemmas
 pub mod NumeralLemmas
 pub mod SampleLemmas
 pub mod ReadingLemmas
-pub mod UsingLemmas
 pub mod DistinctLemmas
 pub mod ToldLemmas
 pub mod TextLineLemmas
@@ -29,6 +28,5 @@ pub mod OnceLemmas
 pub mod SearchLemmas
 pub mod OneTextLemmas
 pub mod TypeLemmas
-pub mod HelpLemmas
 pub mod PlaceLemmas
 pub mod KindLemmas

@@ -137,7 +137,7 @@ pub(crate) fn shown_labels<'a>(
 }
 
 /// Returns whether a name is the one before.
-pub(crate) fn is_last(last: Option<&str>, name: &str) -> bool
+fn is_last(last: Option<&str>, name: &str) -> bool
     ensures { result ≡ is_last (option_map (λ l. l.now) last.entry) name.now }
 {
     match last {

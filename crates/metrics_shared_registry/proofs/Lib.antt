@@ -1,2 +1,1 @@
-pub mod MadeLemmas
 pub mod ResultLemmas

@@ -4,7 +4,6 @@
 mod generational;
 mod recency;
 mod registry;
-mod shard;
 mod storage;
 
 pub use generational::Generational;

@@ -1,4 +1,3 @@
-pub mod Ascending
 pub mod Counting
 pub mod Crossing
 pub mod Cuts

@@ -11,7 +11,7 @@ use Rattle.metrics_names.specs.declared.refused.Refused.{Refused}
 use Rattle.metrics_names.specs.declared.refused.Refused.TheVariants.{Memory, NoSuchAddress, NoSuchBook, BadHandle}
 use Rattle.metrics.specs.Targets.{raise, after_targets, change_at, AllBelow}
 use Rattle.metrics.specs.TargetsLaws.{after_targets-front, after_targets-past, raise-append, raise-raise, raise-zero, change_at-front, change_at-past}
-use Rattle.metrics.specs.Book.{Content, SnapshotParts, content_at, kind_at, kind_of, place, snapshot_of, update_in, reset_in}
+use Rattle.metrics.specs.Book.{Content, RowParts, content_at, kind_at, kind_of, place, rows, update_in, reset_in}
 use Rattle.metrics.specs.Meaning.{Meaning, KeepsTargets, Updates, Snapshots, holds_at, is_kind, addresses, address_in, key_in_book}
 use Rattle.metrics.specs.Layers.{joined_all, targets_of}
 use Rattle.metrics_trees.specs.declared.reach.Reach.{Reach}
@@ -155,11 +155,11 @@ module _ (front rest : List Meaning) (x : Meaning) (b : ℕ) (lt : b < books_of 
   updates-one y old new s by o n (Err BadHandle) h = absurd h
 
   -- and so is a snapshot
-  pub snapshots-one : (y old new : Meaning) → old.contents ≡ all_with x → new.contents ≡ all_with y → (reset : Reset) (r : Result SnapshotParts Refused) →
+  pub snapshots-one : (y old new : Meaning) → old.contents ≡ all_with x → new.contents ≡ all_with y → (reset : Reset) (r : Result (List RowParts) Refused) →
       Snapshots x y b reset r → Snapshots old new there reset r
   snapshots-one y old new o n reset (Ok found) h = (
     subst (λ k. there < k) (sym (ap length o)) within-there,
-    h.1 ∙ ap snapshot_of (sym content-there ∙ ap (content_at there) (sym o)),
+    h.1 ∙ ap rows (sym content-there ∙ ap (content_at there) (sym o)),
     n ∙ change_at-there (reset_in reset) y h.2 ∙ ap (change_at there (reset_in reset)) (sym o),
   )
   snapshots-one y old new o n reset (Err (Memory a)) h =

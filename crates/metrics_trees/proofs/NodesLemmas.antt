@@ -12,7 +12,7 @@ use Rattle.metrics.specs.declared.debugging.Reset.{Reset}
 use Rattle.metrics.specs.declared.handles.Address.{Address}
 use Rattle.metrics.specs.declared.handles.Update.{Update}
 use Rattle.metrics_names.specs.Names.{KeyParts}
-use Rattle.metrics.specs.Book.{SnapshotParts}
+use Rattle.metrics.specs.Book.{RowParts}
 use Rattle.metrics.specs.Meaning.{Meaning, KeepsTargets, Registers, Updates, Snapshots, holds_at}
 use Rattle.metrics.specs.Layers.{joined_all, dotted, prefixed}
 use Rattle.metrics_trees.specs.BookEnds.{total, ends_from, IsPlace}
@@ -176,7 +176,7 @@ module _ {B : Type 0} {m : B → Meaning} {v : Vec (Node B) Global} {ends : Vec 
         by-rows has.group (λ a c. Updates a c (record { book = book; series = s }) by r) (with_item v k y)
         (updates-place (node_meaning m) v.items k x at.within at.same y keeps books reach book b has.place s by r h)
 
-    pub child-snapshots : (reset : Reset) (r : Result SnapshotParts Refused) → Snapshots (node_meaning m x) (node_meaning m y) b reset r →
+    pub child-snapshots : (reset : Reset) (r : Result (List RowParts) Refused) → Snapshots (node_meaning m x) (node_meaning m y) b reset r →
         Snapshots (node_meaning m old) (node_meaning m (Group (with_item v k y) ends reach)) book reset r
     child-snapshots reset r h =
         by-rows has.group (λ a c. Snapshots a c book reset r) (with_item v k y)

@@ -8,7 +8,7 @@ use Rattle.metrics.specs.declared.handles.Update.{Update}
 use Rattle.metrics_names.specs.declared.refused.Refused.{Refused}
 use Rattle.metrics_names.specs.declared.refused.Refused.TheVariants.{NoSuchAddress, NoSuchBook}
 use Rattle.metrics.specs.Targets.{raise, after_targets, AllBelow}
-use Rattle.metrics.specs.Book.{Content, SnapshotParts, kind_of}
+use Rattle.metrics.specs.Book.{Content, RowParts, kind_of}
 use Rattle.metrics.specs.Meaning.{Meaning, KeepsTargets, Updates, Snapshots, holds_at, addresses}
 use Rattle.metrics.specs.Layers.{joined_all, targets_of}
 use Rattle.metrics_trees.specs.declared.reach.Reach.{Reach}
@@ -119,7 +119,7 @@ module _ {Y : Type 0} (M : Y → Meaning) (ys : List Y) (n : ℕ) (x : Y) (lt : 
             subst (λ k. Updates (group_meaning c (map M ys)) (group_meaning c (map M (set ys n y))) (record { book = k; series = s }) by r) number
             (updates-one front rest (M x) b below (M y) (group_meaning c (map M ys)) (group_meaning c (map M (set ys n y))) s by old_contents new_contents r h)
 
-        pub snapshots-place : (reset : Reset) (r : Result SnapshotParts Refused) → Snapshots (M x) (M y) b reset r →
+        pub snapshots-place : (reset : Reset) (r : Result (List RowParts) Refused) → Snapshots (M x) (M y) b reset r →
             Snapshots (group_meaning c (map M ys)) (group_meaning c (map M (set ys n y))) book reset r
         snapshots-place reset r h =
             subst (λ k. Snapshots (group_meaning c (map M ys)) (group_meaning c (map M (set ys n y))) k reset r) number

@@ -24,12 +24,6 @@ pub mod exporter {
         Naming, ReadSeries, exposition, exposition_law, exposition_named, exposition_of,
         exposition_text_law, left_out,
     };
-    pub use metrics_textfile::{TextfileError, textfile_place, write_textfile};
-}
-
-/// Recorders that threads share, under rules that say where a name goes.
-pub mod layered {
-    pub use metrics_layered::{Handles, Layered, SharedRecorder};
 }
 
 /// Layers over recorders.
@@ -49,11 +43,6 @@ pub mod registry {
         AtomicStorage, Generational, GenerationalAtomicStorage, GenerationalStorage, Recency,
         Registry,
     };
-}
-
-/// Where names go, apart from what is kept there.
-pub mod rules {
-    pub use metrics_rules::{FanoutBuilder, RouterBuilder, Rules, Scratch, Stopped, Visitor};
 }
 
 /// Storage of samples.

@@ -17,7 +17,6 @@ pub mod exporter {
         Naming, ReadSeries, exposition, exposition_law, exposition_named, exposition_of,
         exposition_text_law, left_out,
     };
-    pub use metrics_textfile::{TextfileError, textfile_place, write_textfile};
 }
 
 /// Layers over recorders.
@@ -32,11 +31,6 @@ pub mod registry {
         Cells, Counted, Generation, Kinds, OwnedRecency, OwnedRegistry, PlainStorage, Storage,
         recency_law,
     };
-}
-
-/// Where names go, apart from what is kept there.
-pub mod rules {
-    pub use metrics_rules::{FanoutBuilder, RouterBuilder, Rules, Scratch, Stopped, Visitor};
 }
 
 /// Storage of samples.

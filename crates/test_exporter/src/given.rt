@@ -1,7 +1,7 @@
 //! Updates that tests make, and what they ask of an exporter.
 
 use metrics::{Error, Key, Label, MetricKind, MetricKindMask, Snapshot, Unit, Update};
-use metrics_exporter::{Exporter, PartlyAbsorbed};
+use metrics_exporter::Exporter;
 use metrics_prometheus::exposition;
 use std::alloc::Global;
 use std::process::Abort;
@@ -22,9 +22,7 @@ pub trait Exports: Drop {
 
     fn describe(&mut self, kind: MetricKind, name: &str, text: &str) -> Result<(), Error>;
 
-    fn absorb(&mut self, rows: &Snapshot) -> Result<(), PartlyAbsorbed>;
-
-    fn absorb_from(&mut self, rows: &Snapshot, part: PartlyAbsorbed) -> Result<(), PartlyAbsorbed>;
+    fn absorb(&mut self, rows: &Snapshot) -> Result<(), Error>;
 
     fn expire(&mut self, now: u64) -> Result<usize, Error>;
 
@@ -46,12 +44,11 @@ impl Exports for Exporter {
         Exporter::describe(self, kind, name, None, text)
     }
 
-    fn absorb(&mut self, rows: &Snapshot) -> Result<(), PartlyAbsorbed> {
-        Exporter::absorb(self, rows)
-    }
-
-    fn absorb_from(&mut self, rows: &Snapshot, part: PartlyAbsorbed) -> Result<(), PartlyAbsorbed> {
-        Exporter::absorb_from(self, rows, part)
+    fn absorb(&mut self, rows: &Snapshot) -> Result<(), Error> {
+        match Exporter::absorb(self, rows) {
+            Ok(()) => Ok(()),
+            Err(stop) => Err(stop.error),
+        }
     }
 
     fn expire(&mut self, now: u64) -> Result<usize, Error> {

@@ -4,8 +4,6 @@
 #[cfg(test)]
 mod activity;
 #[cfg(test)]
-mod books;
-#[cfg(test)]
 mod expositions;
 #[cfg(test)]
 mod given;

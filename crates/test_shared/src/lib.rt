@@ -16,8 +16,6 @@ mod installs;
 #[cfg(test)]
 mod own;
 #[cfg(test)]
-mod raises;
-#[cfg(test)]
 mod reservoirs;
 #[cfg(test)]
 mod scarce;
@@ -25,7 +23,3 @@ mod scarce;
 mod shared;
 #[cfg(test)]
 mod slots;
-#[cfg(test)]
-mod steps;
-#[cfg(test)]
-mod waits;

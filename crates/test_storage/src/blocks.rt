@@ -103,19 +103,6 @@ fn read<R: Abort, T: Numbered + Clone>(rt: &R, trial: &mut Trial, on: &OwnedBuck
     assert_eq!(rt; told, 128_064_000);
 }
 
-/// A closure that the caller keeps is shown the numbers 128 and 129, 64 to 127, and 0 to 63.
-#[test]
-fn a_kept_closure_is_shown_each_block(rt: HostRuntime) {
-    let mut bucket = OwnedBucket::<i64>::new(rt.alloc());
-    for number in 0..130i64 {
-        bucket.record(number).expect(&rt, "out of memory");
-    }
-    let mut told = 0;
-    let mut note = |chunk: &[i64]| told = firsts(told, chunk);
-    bucket.data_to(&mut note);
-    assert_eq!(rt; told, 128_064_000);
-}
-
 #[test]
 fn numbers_come_newest_block_first(rt: HostRuntime) {
     let mut trial = Trial::new(rt.alloc());

@@ -7,8 +7,6 @@
 #[cfg(test)]
 mod blocks;
 #[cfg(test)]
-mod cells;
-#[cfg(test)]
 mod histograms;
 #[cfg(test)]
 mod names;

@@ -1,6 +1,6 @@
-//! Quantiles and their labels, and composite keys.
+//! Labels of quantiles, and kinds.
 
-use metrics::{CompositeKey, Key, MetricKind};
+use metrics::{CompositeKey, Key, MetricKind, MetricKindMask};
 use metrics_registry::{Quantile, parse_quantiles};
 use std::cmp::Ordering;
 use std::process::Abort;
@@ -48,21 +48,18 @@ fn quantiles_are_parsed_in_order(rt: HostRuntime) {
     }
 }
 
-/// Parts of 1,000,000,000, and the value of that rank among 10, 20, 30 and 40: the rank is rounded up.
-const RANKED: [(i64, i64); 5] = [
-    (0, 10),
-    (250_000_000, 10),
-    (250_000_001, 20),
-    (750_000_001, 40),
-    (1_000_000_000, 40),
-];
-
 #[test]
-fn quantiles_of_sorted_values(rt: HostRuntime) {
-    for (value, wanted) in RANKED {
-        let quantile = Quantile::new(rt.alloc(), value).expect(&rt, "out of memory");
-        assert_eq!(rt; quantile.of_sorted(&[10, 20, 30, 40]), Some(wanted));
-        assert_eq!(rt; quantile.of_sorted(&[]), None);
+fn kinds_of_a_mask(rt: HostRuntime) {
+    let two = MetricKindMask::COUNTER | MetricKindMask::HISTOGRAM;
+    for (mask, wanted) in [
+        (two, (true, false, true)),
+        (MetricKindMask::NONE, (false, false, false)),
+        (MetricKindMask::ALL, (true, true, true)),
+    ] {
+        let has_counters = mask.matches(MetricKind::Counter);
+        let has_gauges = mask.matches(MetricKind::Gauge);
+        let has_histograms = mask.matches(MetricKind::Histogram);
+        assert_eq!(rt; (has_counters, has_gauges, has_histograms), wanted);
     }
 }
 
@@ -73,11 +70,4 @@ fn a_counter_comes_before_a_gauge_of_its_key(rt: HostRuntime) {
     let gauge = CompositeKey::new(MetricKind::Gauge, key());
     assert!(rt; counter != gauge);
     assert_eq!(rt; counter.cmp(&gauge), Ordering::Less);
-}
-
-#[test]
-fn a_composite_key_comes_apart(rt: HostRuntime) {
-    let key = Key::from_name(rt.alloc(), "a").expect(&rt, "out of memory");
-    let (kind, key) = CompositeKey::new(MetricKind::Gauge, key).into_parts();
-    assert_eq!(rt; (kind, key.name()), (MetricKind::Gauge, "a"));
 }

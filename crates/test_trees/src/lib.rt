@@ -4,8 +4,6 @@
 #![tactic(auto)]
 
 #[cfg(test)]
-mod activity;
-#[cfg(test)]
 mod books;
 #[cfg(test)]
 mod builders;

@@ -11,4 +11,3 @@ pub mod OneLemmas
 pub mod ReadLemmas
 pub mod OutputLemmas
 pub mod RunLemmas
-pub mod AskedLemmas

@@ -1,4 +1,3 @@
-pub mod Asked
 pub mod Lines
 pub mod Exposed
 pub mod Making

@@ -1,9 +1,8 @@
 //! The whole program, for a parsed command line.
-ghost use Rattle.std.specs.Prelude.{◌≡◌, ℕ, List, [], OnSome};
+ghost use Rattle.std.specs.Prelude.{ℕ, List, [], OnSome};
 ghost use Rattle.std.specs.Io.KnownBytes.{Consumes, Appends, IsAtEnd};
 ghost use Rattle.metrics_exporter.specs.Kept.{IsAfter, described};
 ghost use Rattle.metrics_exporter.specs.Describing.{SameLegend, no_legend};
-ghost use Rattle.tool_prometheus.specs.Asked.{Asked, Asks, nothing_asked};
 ghost use Rattle.tool_prometheus.specs.Making.{setup_for};
 ghost use Rattle.tool_prometheus.specs.Serving.{Ends, IsStatus, IsPrometheusRun};
 
@@ -35,26 +34,15 @@ pub struct Options {
     pub skips_bad: bool,
     /// Scrapes go to a file, and not to the output.
     pub has_file: bool,
-    /// The end of the input shows nothing.
-    pub at_scrapes_only: bool,
 }
 
 /// Reports why a run stopped, and returns the status at its end.
-fn told<S: Surroundings>(
-    around: &mut S,
-    watch: &mut Watch,
-    answered: Result<u64, RunError>,
-    has_bad: bool,
-    has_failed: bool,
-) -> u8
-    ensures status { IsStatus answered has_bad has_failed result }
-    ensures asked { Asks (S.asked around.old) (S.asked around.new) nothing_asked }
+fn told<S: Surroundings>(watch: &mut Watch<S>, answered: Result<u64, RunError>, has_bad: bool) -> u8
+    ensures { IsStatus answered has_bad result }
 {
-    watch.tell_end(around, answered);
-    if has_failed {
-        return 1;
-    }
+    watch.tell_end(answered);
     match answered {
+        Ok(_) if watch.has_failed() => 1,
         Ok(_) => { if has_bad { 3 } else { 0 } }
         Err(e) => status_of(e),
     }
@@ -64,16 +52,15 @@ fn told<S: Surroundings>(
 fn serve<S: Surroundings, I: BufRead, O: Write>(
     alloc: Global,
     skips_bad: bool,
-    on: &mut (Served, S),
-    watch: &mut Watch,
+    on: &mut Served,
+    watch: &mut Watch<S>,
     input: &mut I,
     output: &mut O,
 ) -> Result<u64, RunError>
-    ensures { (read text : List ℕ) × (more : Asked) × Consumes (I.remaining input.old) (I.remaining input.new) read
+    ensures { (read text : List ℕ) × Consumes (I.remaining input.old) (I.remaining input.new) read
         × Appends (O.contents output.old) (O.contents output.new) text
-        × Asks (S.asked on.old.1) (S.asked on.new.1) more
         × IsPrometheusRun skips_bad (OnSome (I.remaining input.old) (IsAtEnd (I.remaining input.new)))
-        on.old.0 read text more result on.new.0 }
+        on.old read text result on.new.has_bad }
 {
     if skips_bad {
         prometheus::<true, S, I, O>(alloc, on, watch, input, output)
@@ -87,71 +74,54 @@ fn serve_new<S: Surroundings, I: BufRead, O: Write>(
     alloc: Global,
     options: Options,
     exporter: Exporter,
-    around: S,
-    watch: &mut Watch,
+    watch: &mut Watch<S>,
     input: &mut I,
     output: &mut O,
-) -> (u8, S)
+) -> u8
     requires after { IsAfter (setup_for options) [] exporter }
     requires undescribed { SameLegend (described exporter) no_legend }
     ensures { Ends options (OnSome (I.remaining input.old) (IsAtEnd (I.remaining input.new)))
         (Consumes (I.remaining input.old) (I.remaining input.new))
-        (Appends (O.contents output.old) (O.contents output.new))
-        (Asks (S.asked around) (S.asked result.1)) result.0 }
+        (Appends (O.contents output.old) (O.contents output.new)) result }
 {
     let Options {
         naming,
         labels,
         skips_bad,
         has_file,
-        at_scrapes_only,
         ..
     } = options;
-    let served = Served {
+    let mut on = Served {
         exporter,
         naming,
         labels,
         has_file,
-        at_scrapes_only,
         is_changed: false,
         has_bad: false,
-        has_failed: false,
     };
-    let mut on = (served, around);
     let answered = serve(alloc, skips_bad, &mut on, watch, input, output);
-    let (served, mut around) = on;
-    let status = told(
-        &mut around,
-        watch,
-        answered,
-        served.has_bad,
-        served.has_failed,
-    );
-    (status, around)
+    told(watch, answered, on.has_bad)
 }
 
 /// Makes an exporter, and answers each line of the reader, from line 1 on. Reports why it stopped, and returns the
-/// program's status and the surroundings.
+/// program's status.
 pub fn command<S: Surroundings, I: BufRead, O: Write>(
     alloc: Global,
     options: Options,
     around: S,
     input: &mut I,
     output: &mut O,
-) -> (u8, S)
+) -> u8
     ensures { Ends options (OnSome (I.remaining input.old) (IsAtEnd (I.remaining input.new)))
         (Consumes (I.remaining input.old) (I.remaining input.new))
-        (Appends (O.contents output.old) (O.contents output.new))
-        (Asks (S.asked around) (S.asked result.1)) result.0 }
+        (Appends (O.contents output.old) (O.contents output.new)) result }
 {
-    let mut watch = Watch::new(alloc);
+    let mut watch = Watch::new(alloc, around);
     match exporter_for(alloc, &options) {
-        Ok(exporter) => serve_new(alloc, options, exporter, around, &mut watch, input, output),
+        Ok(exporter) => serve_new(alloc, options, exporter, &mut watch, input, output),
         Err(_) => {
             let answered = flush(output, Err(RunError::Memory(None)));
-            let mut around = around;
-            let status = told(&mut around, &mut watch, answered, false, false);
-            (status, around)
+            told(&mut watch, answered, false)
         }
     }
 }

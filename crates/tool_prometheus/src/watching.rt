@@ -1,5 +1,4 @@
 //! What is noted while lines are read.
-ghost use Rattle.tool_prometheus.specs.Asked.{Asks, nothing_asked};
 
 use crate::flaws::{Cause, Message};
 use crate::surroundings::Surroundings;
@@ -12,51 +11,33 @@ use tool_grammar::RunError;
 /// How many bad lines are reported one by one.
 const TOLD: u64 = 10;
 
-/// What a line asks for that may be refused.
-#[derive(Clone, Copy, Debug, PartialEq, Eq)]
-pub enum Call {
-    Update,
-    Description,
-    Scrape,
-}
-
-/// How many calls were refused.
-#[derive(Clone, Copy, Drop)]
-struct Refusals {
-    updates: u64,
-    descriptions: u64,
-    scrapes: u64,
-}
-
-/// What is noted of a run.
+/// What is noted of a run, beside its surroundings.
 #[derive(Drop)]
-pub struct Watch {
+pub struct Watch<S: Surroundings> {
     alloc: Global,
+    around: S,
     /// How many lines were read.
     lines: u64,
     /// How many of them were bad.
     bad: u64,
     /// The message for the bad line that ended the run.
     message: Option<String>,
-    /// How many calls were refused.
-    refused: Refusals,
+    /// A scrape could not be put into the file.
+    has_failed: bool,
     /// What was reported of series that are left out.
     left_out: HashSet<String>,
 }
 
-impl Watch {
+impl<S: Surroundings> Watch<S> {
     /// Begins to watch a run.
-    pub fn new(alloc: Global) -> Watch {
+    pub fn new(alloc: Global, around: S) -> Watch<S> {
         Watch {
             alloc,
+            around,
             lines: 0,
             bad: 0,
             message: None,
-            refused: Refusals {
-                updates: 0,
-                descriptions: 0,
-                scrapes: 0,
-            },
+            has_failed: false,
             left_out: HashSet::new(alloc),
         }
     }
@@ -66,41 +47,36 @@ impl Watch {
         self.lines = self.lines.saturating_add(1);
     }
 
-    /// Counts a call that was refused.
-    pub(crate) fn refuse(&mut self, call: Call) {
-        let refused = &mut self.refused;
-        let count = match call {
-            Call::Update => &mut refused.updates,
-            Call::Description => &mut refused.descriptions,
-            Call::Scrape => &mut refused.scrapes,
-        };
-        *count = count.saturating_add(1);
+    /// Returns the clock's seconds.
+    pub(crate) fn seconds(&mut self) -> u64 {
+        self.around.seconds()
+    }
+
+    /// Puts a scrape's text into the file.
+    pub(crate) fn publish(&mut self, text: &str) {
+        if !self.around.publish(text) {
+            self.has_failed = true;
+        }
     }
 
     /// Reports a series that is left out, unless it was reported before. Out of memory, it is reported again later.
-    #[tactic(auto, using(crate::proofs::AskedLemmas::asks_none, crate::proofs::AskedLemmas::asks_later))]
-    fn tell_once<S: Surroundings>(&mut self, around: &mut S, words: &str)
-        ensures { Asks (S.asked around.old) (S.asked around.new) nothing_asked }
-    {
+    fn tell_once(&mut self, words: &str) {
         if self.left_out.contains(words) {
             return;
         }
-        around.tell(LeftOut(words));
+        self.around.tell(LeftOut(words));
         if let Ok(words) = String::from_str(self.alloc, words) {
             let _ = self.left_out.insert(words);
         }
     }
 
     /// Reports each series that a text leaves out, and why, once. Out of memory, a later text's report has them.
-    #[tactic(auto, using(crate::proofs::AskedLemmas::asks_none, crate::proofs::AskedLemmas::asks_later))]
-    pub(crate) fn tell_left_out<S: Surroundings>(&mut self, around: &mut S, text: &str)
-        ensures { Asks (S.asked around.old) (S.asked around.new) nothing_asked }
-    {
+    pub(crate) fn tell_left_out(&mut self, text: &str) {
         let Ok(found) = left_out(self.alloc, text) else {
             return;
         };
         for words in &found {
-            self.tell_once(around, words);
+            self.tell_once(words);
         }
     }
 
@@ -116,19 +92,10 @@ impl Watch {
     }
 
     /// Reports a bad line that is skipped, if it is one of the first.
-    #[tactic(auto, using(crate::proofs::AskedLemmas::asks_none))]
-    pub(crate) fn pass_over<S: Surroundings>(
-        &mut self,
-        around: &mut S,
-        line: &[u8],
-        cause: Cause,
-        word: &[u8],
-    )
-        ensures { Asks (S.asked around.old) (S.asked around.new) nothing_asked }
-    {
+    pub(crate) fn pass_over(&mut self, line: &[u8], cause: Cause, word: &[u8]) {
         self.bad = self.bad.saturating_add(1);
         if self.bad <= TOLD {
-            around.tell(Message {
+            self.around.tell(Message {
                 number: self.lines,
                 line,
                 cause,
@@ -137,60 +104,24 @@ impl Watch {
         }
     }
 
-    /// Reports why the run stopped.
-    #[tactic(auto, using(crate::proofs::AskedLemmas::asks_none))]
-    fn tell_stop<S: Surroundings>(&mut self, around: &mut S, answered: Result<u64, RunError>)
-        ensures { Asks (S.asked around.old) (S.asked around.new) nothing_asked }
-    {
+    /// Returns whether a scrape could not be put into the file.
+    pub(crate) fn has_failed(&self) -> bool {
+        self.has_failed
+    }
+
+    /// Reports how many bad lines were skipped, unless each was reported, and why the run stopped.
+    pub(crate) fn tell_end(&mut self, answered: Result<u64, RunError>) {
+        if self.bad > TOLD {
+            self.around.tell(Passed(self.bad));
+        }
         match answered {
             Ok(_) => {}
             Err(RunError::BadLine(number)) => match mem::replace(&mut self.message, None) {
-                Some(message) => around.tell(message),
-                None => around.tell(RunError::BadLine(number)),
+                Some(message) => self.around.tell(message),
+                None => self.around.tell(RunError::BadLine(number)),
             },
-            Err(RunError::Device) => around.tell_device(),
-            Err(e) => around.tell(e),
+            Err(e) => self.around.tell(e),
         }
-    }
-
-    /// Reports how many calls were refused, if some were.
-    #[tactic(auto, using(crate::proofs::AskedLemmas::asks_none))]
-    fn tell_refusals<S: Surroundings>(&self, around: &mut S)
-        ensures { Asks (S.asked around.old) (S.asked around.new) nothing_asked }
-    {
-        let Refusals {
-            updates,
-            descriptions,
-            scrapes,
-        } = self.refused;
-        if updates > 0 || descriptions > 0 || scrapes > 0 {
-            around.tell(Refused(self.refused));
-        }
-    }
-
-    /// Reports how many bad lines were skipped, unless each was reported.
-    #[tactic(auto, using(crate::proofs::AskedLemmas::asks_none))]
-    fn tell_skipped<S: Surroundings>(&self, around: &mut S)
-        ensures { Asks (S.asked around.old) (S.asked around.new) nothing_asked }
-    {
-        if self.bad > TOLD {
-            around.tell(Skipped(self.bad));
-        }
-    }
-
-    /// Reports how many calls were refused, how many bad lines were skipped, unless each was reported, and why the run
-    /// stopped.
-    #[tactic(auto, using(crate::proofs::AskedLemmas::asks_later))]
-    pub(crate) fn tell_end<S: Surroundings>(
-        &mut self,
-        around: &mut S,
-        answered: Result<u64, RunError>,
-    )
-        ensures { Asks (S.asked around.old) (S.asked around.new) nothing_asked }
-    {
-        self.tell_refusals(around);
-        self.tell_skipped(around);
-        self.tell_stop(around, answered);
     }
 }
 
@@ -207,29 +138,11 @@ impl fmt::Display for LeftOut<'_> {
 
 /// How many lines were skipped.
 #[derive(Drop)]
-struct Skipped(u64);
+struct Passed(u64);
 
-impl fmt::Display for Skipped {
+impl fmt::Display for Passed {
     fn fmt<W: fmt::Write>(&self, f: &mut fmt::Formatter<W>) -> fmt::Result {
         let count = self.0;
-        write!(f, "{count} bad lines were skipped")
-    }
-}
-
-/// How many calls were refused.
-#[derive(Drop)]
-struct Refused(Refusals);
-
-impl fmt::Display for Refused {
-    fn fmt<W: fmt::Write>(&self, f: &mut fmt::Formatter<W>) -> fmt::Result {
-        let Refusals {
-            updates,
-            descriptions,
-            scrapes,
-        } = self.0;
-        write!(
-            f,
-            "refused: {updates} updates, {descriptions} descriptions, {scrapes} scrapes"
-        )
+        write!(f, "{count} bad lines were passed over")
     }
 }

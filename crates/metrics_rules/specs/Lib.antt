@@ -1,9 +1,0 @@
-pub mod Routing
-pub mod Reaches
-pub mod Ends
-pub mod Nodes
-pub mod Branches
-pub mod Builders
-pub mod Meanings
-pub mod Scratches
-pub mod Visits

@@ -1,5 +1,0 @@
-//! Tests of rules.
-#![tactic(auto)]
-
-#[cfg(test)]
-mod visits;
