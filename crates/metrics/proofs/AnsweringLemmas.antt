@@ -15,7 +15,7 @@ use Rattle.metrics.specs.declared.calls.Answer.{Answer}
 use Rattle.metrics_names.specs.Names.{KeyParts, kind_eq}
 use Rattle.metrics.specs.Targets.{after_targets, in_book}
 use Rattle.metrics.specs.TargetsLaws.{length-after_targets, length-change_at}
-use Rattle.metrics.specs.Book.{Content, rows, describe_in, register_in, update_in, reset_in, kind_of}
+use Rattle.metrics.specs.Book.{Content, snapshot_of, describe_in, register_in, update_in, reset_in, kind_of}
 use Rattle.metrics.specs.Meaning.{Meaning, Targets, AreNew, key_in_book}
 use Rattle.metrics.specs.History.{Log, registration_of, registration, Event, snapshots, snapshots_by, reached_by, reached, content_after, acted, plain_snapshot, IsOrMeets, IsPlain}
 use Rattle.metrics.specs.Answering.{Handle, handle_given, handle_of, handle, handle_named, AllHeld, IsHeld, places, UpdatesHeld, IsBadHandle, SnapshotsCall, Answers}
@@ -71,7 +71,7 @@ snapshot_kept {New = New} old new log b reset c takes (Answer.Snapshot found) h 
       (λ k. takes.reaches old.targets log k (Answer.Snapshot found) ∙ take_bool reset (nat_eq b k))
       (λ w k lt. reaches_snapshots reset (reached old.targets k log) (in_book k ((b, tt) ∷ []))) (stays-reset reset) h
       (no_lead old c takes.quiet (Answer.Snapshot found) (after_targets (λ (x : Prim.Unit {0}). reset_in reset) ((b, tt) ∷ []) old.contents))),
-  λ w. ap Answer.Snapshot (r.1 ∙ ap rows (h.each w b r.0)) ∙ ap (λ q. cond q (Answer.Snapshot (rows (content_after (reached old.targets b log)))) (Answer.Refused NoSuchBook)) (sym (lt-ltb b (length old.contents) r.0)),
+  λ w. ap Answer.Snapshot (r.1 ∙ ap snapshot_of (h.each w b r.0)) ∙ ap (λ q. cond q (Answer.Snapshot (snapshot_of (content_after (reached old.targets b log)))) (Answer.Refused NoSuchBook)) (sym (lt-ltb b (length old.contents) r.0)),
 )
 snapshot_kept {New = New} old new log b reset c takes (Answer.Refused (Memory n)) h r = (
   subst (λ cs. Kept New old.targets (log ++ (c, Answer.Refused (Memory n)) ∷ []) cs) (sym r.2) (unseen old log b reset c takes (Memory n) h),
@@ -80,7 +80,7 @@ snapshot_kept {New = New} old new log b reset c takes (Answer.Refused (Memory n)
 snapshot_kept {New = New} old new log b reset c takes (Answer.Refused NoSuchBook) h r =
     let past : nat_lt b (length old.contents) ≡ false = not_below b (length old.contents) r.0 in (
       subst (λ cs. Kept New old.targets (log ++ (c, Answer.Refused NoSuchBook) ∷ []) cs) (sym r.1) (unseen old log b reset c takes NoSuchBook h),
-      λ w. ap (λ q. cond q (Answer.Snapshot (rows (content_after (reached old.targets b log)))) (Answer.Refused NoSuchBook)) (sym past),
+      λ w. ap (λ q. cond q (Answer.Snapshot (snapshot_of (content_after (reached old.targets b log)))) (Answer.Refused NoSuchBook)) (sym past),
     )
   where
     not_below : (a k : ℕ) → k ≤ a → nat_lt a k ≡ false

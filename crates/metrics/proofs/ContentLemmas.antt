@@ -12,12 +12,13 @@ use Rattle.metrics.specs.declared.debugging.DebugValue.{DebugValue}
 use Rattle.metrics.specs.declared.debugging.Reset.{Reset}
 use Rattle.metrics_names.specs.Names.{SeriesKey, kind_eq, series_key_eq}
 use Rattle.metrics.specs.Targets.{change_at}
-use Rattle.metrics.specs.Book.{Content, Series, Description, new_value, new_series, updated, value_from, with_update, is_of, resets, after_reset, described_again, describe_in, register_in, update_in, reset_in, place}
+use Rattle.metrics.specs.Book.{Content, Series, Description, new_value, new_series, updated, value_from, with_update, is_of, resets, after_reset, described_again, describe_in, register_in, update_in, reset_in, registered_at, active_at, place}
 use Rattle.metrics.specs.Rows.{last}
-use Rattle.metrics.specs.History.{Event, describes, registers, updates, snapshots, key_of, series_after, description_of, description, since, series_now, content_after}
+use Rattle.metrics.specs.History.{Event, describes, registers, updates, snapshots, key_of, series_after, description_of, description, since, series_now, was_active, content_after}
 use Rattle.metrics.proofs.RowsLemmas.{last-push}
 use Rattle.metrics_names.specs.Equality.{key_exact, key_same}
-use Rattle.metrics.proofs.EventsLemmas.{or_false, since-reset, since-quiet, since-kept, since-update, series-register, series-other, AllNew, AreUnique, or_none, firsts_new}
+use Rattle.metrics.proofs.EventsLemmas.{or_false, since-reset, since-quiet, since-kept, since-update, series-register, series-other, AllNew, AreUnique, or_none, firsts_new, flip-other}
+use Rattle.metrics.proofs.ActivityLemmas.{active-quiet, active-register, active-update, active-snapshot}
 
 value-push : (v : DebugValue) (us : List Update) (u : Update) → value_from v (us ++ u ∷ []) ≡ updated u (value_from v us)
 value-push v [] u = refl
@@ -42,16 +43,10 @@ changed-past : (es : List Event) (k : SeriesKey) (u : Update) (ks : List SeriesK
     map (series_now (es ++ updates k u ∷ [])) ks ≡ map (series_now es) ks
 changed-past es k u [] h = refl
 changed-past es k u (q ∷ ks) h =
-    let other : series_key_eq k q ≡ false = flip k q (sym (or_false (series_key_eq q k)) ∙ h.0) in
+    let other : series_key_eq k q ≡ false = flip-other k q (sym (or_false (series_key_eq q k)) ∙ h.0) in
     let same : since (es ++ updates k u ∷ []) q ≡ since es q = since-update es k u q ∙ ap (λ b. since es q ++ cond b (u ∷ []) []) other ∙ append-nil (since es q) in
     ap (λ s. s ∷ map (series_now (es ++ updates k u ∷ [])) ks) (now-same es (es ++ updates k u ∷ []) q same)
     ∙ ap (λ ss. series_now es q ∷ ss) (changed-past es k u ks h.1)
-  where
-    flip : (k q : SeriesKey) → series_key_eq q k ≡ false → series_key_eq k q ≡ false
-    flip k q n = elim (series_key_eq k q) as (λ b. series_key_eq k q ≡ b → b ≡ false) [
-      | true ↦ λ e. sym (key_same k) ∙ ap (λ x. series_key_eq x k) (key_exact k q e) ∙ n
-      | false ↦ λ e. refl
-    ] refl
 
 changed-at : (es : List Event) (k : SeriesKey) (u : Update) (ks : List SeriesKey) → AreUnique ks →
     map (series_now (es ++ updates k u ∷ [])) ks ≡ change_at (position_or_len (is_of k) (map (series_now es) ks)) (with_update u) (map (series_now es) ks)
@@ -146,8 +141,8 @@ Reaches es (describes kind unit text name) = Unit {0}
 Reaches es (registers k) = Unit {0}
 Reaches es (snapshots reset) = Unit {0}
 
-abbrev made : List Series → (MetricKind → List ℕ → Description) → Content
-made ss d = record { series = ss; described = d }
+abbrev made : List Series → List Bool → (MetricKind → List ℕ → Description) → Content
+made ss marks d = record { series = ss; active = marks; described = d }
 
 series_added : (es : List Event) (k : SeriesKey) → IsSound es → (b : Bool) → list_any (series_key_eq k) (series_after es) ≡ b →
     map (series_now es) (series_after es ++ cond b [] (k ∷ [])) ≡ cond b (map (series_now es) (series_after es)) (map (series_now es) (series_after es) ++ new_series k ∷ [])
@@ -156,33 +151,46 @@ series_added es k sound false e =
     map-push (series_now es) (series_after es) k
     ∙ ap (λ us. map (series_now es) (series_after es) ++ of_updates k us ∷ []) (sound k e)
 
+made-same : (ss ts : List Series) (ms ns : List Bool) (d e : MetricKind → List ℕ → Description) → ss ≡ ts → ms ≡ ns → d ≡ e → made ss ms d ≡ made ts ns e
+made-same ss ts ms ns d e p q r = ap (λ x. made x ms d) p ∙ ap (λ x. made ts x d) q ∙ ap (made ts ns) r
+
 -- THE STEP: the content after one more event
 pub content-push : (es : List Event) (e : Event) → IsSound es → content_after (es ++ e ∷ []) ≡ step e (content_after es)
 content-push es (describes kind unit text name) sound =
     let e = describes kind unit text name in
-    ap (λ ss. made ss (description (es ++ e ∷ [])))
+    made-same _ _ _ _ _ _
     (ap (map (series_now (es ++ e ∷ []))) (series-other es e refl) ∙ map-same _ _ (series_after es) (λ k. now-same es (es ++ e ∷ []) k (since-quiet es e k refl refl)))
-    ∙ ap (made (map (series_now es) (series_after es))) (fun_ext (λ k. fun_ext (λ n. description-push es kind unit text name k n)))
+    (ap (map (was_active (es ++ e ∷ []))) (series-other es e refl) ∙ active-quiet es e refl (λ k. refl) (series_after es))
+    (fun_ext (λ k. fun_ext (λ n. description-push es kind unit text name k n)))
 content-push es (registers k) sound =
     let e = registers k in
-    let ss = map (series_now es) (series_after es) in
-    ap (λ ss. made ss (description (es ++ e ∷ [])))
+    let ks = series_after es in
+    let ss = map (series_now es) ks in
+    made-same _ _ _ _ _ _
     (ap (map (series_now (es ++ e ∷ []))) (series-register es k)
-    ∙ map-same _ _ (series_after es ++ cond (list_any (series_key_eq k) (series_after es)) [] (k ∷ [])) (λ q. now-same es (es ++ e ∷ []) q (since-quiet es e q refl refl))
-    ∙ series_added es k sound (list_any (series_key_eq k) (series_after es)) refl
-    ∙ ap (λ b. cond b ss (ss ++ new_series k ∷ [])) (sym (any-now es k (series_after es))))
-    ∙ ap (made (cond (list_any (is_of k) ss) ss (ss ++ new_series k ∷ []))) (description-other es e (λ k n. refl))
+    ∙ map-same _ _ (ks ++ cond (list_any (series_key_eq k) ks) [] (k ∷ [])) (λ q. now-same es (es ++ e ∷ []) q (since-quiet es e q refl refl))
+    ∙ series_added es k sound (list_any (series_key_eq k) ks) refl
+    ∙ ap (λ b. cond b ss (ss ++ new_series k ∷ [])) (sym (any-now es k ks)))
+    (ap (map (was_active (es ++ e ∷ []))) (series-register es k)
+    ∙ active-register es k ks (firsts_new [] (filter_map key_of es)).1
+    ∙ ap (λ p. registered_at p (map (was_active es) ks)) (sym (place-now es k ks)))
+    (description-other es e (λ k n. refl))
 content-push es (updates k u) sound =
     let e = updates k u in
-    let ss = map (series_now es) (series_after es) in
-    ap (λ ss. made ss (description (es ++ e ∷ [])))
-    (ap (map (series_now (es ++ e ∷ []))) (series-other es e refl) ∙ changed-at es k u (series_after es) (firsts_new [] (filter_map key_of es)).1)
-    ∙ ap (made (change_at (position_or_len (is_of k) ss) (with_update u) ss)) (description-other es e (λ k n. refl))
+    let ks = series_after es in
+    let unique = (firsts_new [] (filter_map key_of es)).1 in
+    made-same _ _ _ _ _ _
+    (ap (map (series_now (es ++ e ∷ []))) (series-other es e refl) ∙ changed-at es k u ks unique)
+    (ap (map (was_active (es ++ e ∷ []))) (series-other es e refl)
+    ∙ active-update es k u ks unique
+    ∙ ap (λ p. active_at p (map (was_active es) ks)) (sym (place-now es k ks)))
+    (description-other es e (λ k n. refl))
 content-push es (snapshots reset) sound =
     let e = snapshots reset in
-    let ss = map (series_now es) (series_after es) in
-    ap (λ ss. made ss (description (es ++ e ∷ []))) (ap (map (series_now (es ++ e ∷ []))) (series-other es e refl) ∙ now-reset reset es (series_after es))
-    ∙ ap (made (map (after_reset reset) ss)) (description-other es e (λ k n. refl))
+    made-same _ _ _ _ _ _
+    (ap (map (series_now (es ++ e ∷ []))) (series-other es e refl) ∙ now-reset reset es (series_after es))
+    (ap (map (was_active (es ++ e ∷ []))) (series-other es e refl) ∙ active-snapshot es reset (series_after es))
+    (description-other es e (λ k n. refl))
 
 pub sound-push : (es : List Event) (e : Event) → IsSound es → Reaches es e → IsSound (es ++ e ∷ [])
 sound-push es (describes kind unit text name) sound r k n =

@@ -3,12 +3,12 @@ use Rattle.std.proofs.Common.{◌≡◌, Bool, true, false, cond, ◌||◌, List
 use Rattle.std.proofs.lemmas.List.Folds.{list_any-append}
 use Rattle.std.proofs.lemmas.List.Elements.{filter_map-append}
 use Rattle.std.specs.List.{list_any, filter_map, cons_option}
-use Rattle.metrics_names.specs.declared.kind.MetricKind.{MetricKind}
 use Rattle.metrics.specs.declared.handles.Update.{Update}
 use Rattle.metrics.specs.declared.debugging.Reset.{Reset}
 use Rattle.metrics_names.specs.Names.{SeriesKey, series_key_eq}
+use Rattle.metrics_names.specs.Equality.{key_exact, key_same}
 use Rattle.metrics.specs.Book.{resets}
-use Rattle.metrics.specs.History.{Event, registers, updates, snapshots, key_of, firsts_from, series_after, is_reset_of, after_snapshot, update_of, since}
+use Rattle.metrics.specs.History.{Event, registers, updates, snapshots, key_of, firsts_from, series_after, is_reset_of, after_last, after_snapshot, update_of, since}
 
 pub or_true : (b : Bool) → (b || true) ≡ true
 or_true true = refl
@@ -24,29 +24,29 @@ cond-push false xs ys zs = refl
 
 -- ---- the updates since the last snapshot that reset their kind
 
-after-snapshot : (kind : MetricKind) (es : List Event) (e : Event) → is_reset_of kind e ≡ true → after_snapshot kind (es ++ e ∷ []) ≡ []
-after-snapshot kind [] e t = ap (λ b. cond b [] (e ∷ [])) t
-after-snapshot kind (x ∷ es) e t =
-    let test = is_reset_of kind in
-    let b : list_any test (es ++ e ∷ []) ≡ true = list_any-append test es (e ∷ []) ∙ ap (λ c. list_any test es || (c || false)) t ∙ or_true (list_any test es) in
-    ap (λ c. cond c (after_snapshot kind (es ++ e ∷ [])) (cond (test x) (es ++ e ∷ []) (x ∷ (es ++ e ∷ [])))) b ∙ after-snapshot kind es e t
+-- nothing comes after the last event
+pub after-last : (sort : Event → Bool) (es : List Event) (e : Event) → sort e ≡ true → after_last sort (es ++ e ∷ []) ≡ []
+after-last sort [] e t = ap (λ b. cond b [] (e ∷ [])) t
+after-last sort (x ∷ es) e t =
+    let b : list_any sort (es ++ e ∷ []) ≡ true = list_any-append sort es (e ∷ []) ∙ ap (λ c. list_any sort es || (c || false)) t ∙ or_true (list_any sort es) in
+    ap (λ c. cond c (after_last sort (es ++ e ∷ [])) (cond (sort x) (es ++ e ∷ []) (x ∷ (es ++ e ∷ [])))) b ∙ after-last sort es e t
 
-after-other : (kind : MetricKind) (es : List Event) (e : Event) → is_reset_of kind e ≡ false → after_snapshot kind (es ++ e ∷ []) ≡ after_snapshot kind es ++ e ∷ []
-after-other kind [] e t = ap (λ b. cond b [] (e ∷ [])) t
-after-other kind (x ∷ es) e t =
-    let test = is_reset_of kind in
-    let la = list_any test es in
-    let b : list_any test (es ++ e ∷ []) ≡ la = list_any-append test es (e ∷ []) ∙ ap (λ c. la || (c || false)) t ∙ or_false la in
-    ap (λ c. cond c (after_snapshot kind (es ++ e ∷ [])) (cond (test x) (es ++ e ∷ []) (x ∷ (es ++ e ∷ [])))) b
-    ∙ ap (λ a. cond la a (cond (test x) (es ++ e ∷ []) (x ∷ (es ++ e ∷ [])))) (after-other kind es e t)
-    ∙ ap (λ d. cond la (after_snapshot kind es ++ e ∷ []) d) (cond-push (test x) es (x ∷ es) (e ∷ []))
-    ∙ cond-push la (after_snapshot kind es) (cond (test x) es (x ∷ es)) (e ∷ [])
+-- an event of another sort comes after those that came after the last one
+pub after-other : (sort : Event → Bool) (es : List Event) (e : Event) → sort e ≡ false → after_last sort (es ++ e ∷ []) ≡ after_last sort es ++ e ∷ []
+after-other sort [] e t = ap (λ b. cond b [] (e ∷ [])) t
+after-other sort (x ∷ es) e t =
+    let la = list_any sort es in
+    let b : list_any sort (es ++ e ∷ []) ≡ la = list_any-append sort es (e ∷ []) ∙ ap (λ c. la || (c || false)) t ∙ or_false la in
+    ap (λ c. cond c (after_last sort (es ++ e ∷ [])) (cond (sort x) (es ++ e ∷ []) (x ∷ (es ++ e ∷ [])))) b
+    ∙ ap (λ a. cond la a (cond (sort x) (es ++ e ∷ []) (x ∷ (es ++ e ∷ [])))) (after-other sort es e t)
+    ∙ ap (λ d. cond la (after_last sort es ++ e ∷ []) d) (cond-push (sort x) es (x ∷ es) (e ∷ []))
+    ∙ cond-push la (after_last sort es) (cond (sort x) es (x ∷ es)) (e ∷ [])
 
 pub since-reset : (reset : Reset) (es : List Event) (s : SeriesKey) → resets reset s.kind ≡ true → since (es ++ snapshots reset ∷ []) s ≡ []
-since-reset reset es s t = ap (filter_map (update_of s)) (after-snapshot s.kind es (snapshots reset) t)
+since-reset reset es s t = ap (filter_map (update_of s)) (after-last (is_reset_of s.kind) es (snapshots reset) t)
 
 since-other : (es : List Event) (e : Event) (s : SeriesKey) → is_reset_of s.kind e ≡ false → since (es ++ e ∷ []) s ≡ since es s ++ filter_map (update_of s) (e ∷ [])
-since-other es e s t = ap (filter_map (update_of s)) (after-other s.kind es e t) ∙ filter_map-append (update_of s) (after_snapshot s.kind es) (e ∷ [])
+since-other es e s t = ap (filter_map (update_of s)) (after-other (is_reset_of s.kind) es e t) ∙ filter_map-append (update_of s) (after_snapshot s.kind es) (e ∷ [])
 
 pub since-quiet : (es : List Event) (e : Event) (s : SeriesKey) → is_reset_of s.kind e ≡ false → update_of s e ≡ None → since (es ++ e ∷ []) s ≡ since es s
 since-quiet es e s t n = since-other es e s t ∙ ap (λ o. since es s ++ cons_option o []) n ∙ append-nil (since es s)
@@ -115,3 +115,10 @@ firsts_new seen (k ∷ ks) =
           let fewer = new-fewer seen (k ∷ []) D rest.0 in
           ((e, fewer.0), (fewer.1, rest.1))
     ] refl
+
+-- the test of keys is symmetric where it fails
+pub flip-other : (k q : SeriesKey) → series_key_eq q k ≡ false → series_key_eq k q ≡ false
+flip-other k q n = elim (series_key_eq k q) as (λ b. series_key_eq k q ≡ b → b ≡ false) [
+  | true ↦ λ e. sym (key_same k) ∙ ap (λ x. series_key_eq x k) (key_exact k q e) ∙ n
+  | false ↦ λ e. refl
+] refl

@@ -1,5 +1,6 @@
 pub mod RowsLemmas
 pub mod EventsLemmas
+pub mod ActivityLemmas
 pub mod ContentLemmas
 pub mod StayingLemmas
 pub mod AddressLemmas

@@ -9,7 +9,7 @@ use Rattle.metrics_names.specs.declared.refused.Refused.{Refused}
 use Rattle.metrics_names.specs.declared.refused.Refused.TheVariants.{Memory, NoSuchAddress, NoSuchBook, BadHandle}
 use Rattle.metrics_names.specs.Names.{KeyParts}
 use Rattle.metrics.specs.TargetsLaws.{length-after_targets, length-change_at}
-use Rattle.metrics.specs.Book.{Content, RowParts, describe_in, register_in, update_in, reset_in}
+use Rattle.metrics.specs.Book.{Content, SnapshotParts, describe_in, register_in, update_in, reset_in}
 use Rattle.metrics.specs.Meaning.{Meaning, Acts, Describes, Registers, Updates, Snapshots, key_in_book}
 
 pub length-acts : {X A : Type 0} (f : X → Content → Content) (ts : List (ℕ × X)) (old new : Meaning) (r : Result A Refused) (P : A → Type 0) → Acts f ts old new r P → length new.contents ≡ length old.contents
@@ -32,7 +32,7 @@ length-updates old new at by (Err NoSuchAddress) h = ap length h.1
 length-updates old new at by (Err NoSuchBook) h = absurd h
 length-updates old new at by (Err BadHandle) h = absurd h
 
-pub length-snapshots : (old new : Meaning) (book : ℕ) (reset : Reset) (r : Result (List RowParts) Refused) → Snapshots old new book reset r → length new.contents ≡ length old.contents
+pub length-snapshots : (old new : Meaning) (book : ℕ) (reset : Reset) (r : Result SnapshotParts Refused) → Snapshots old new book reset r → length new.contents ≡ length old.contents
 length-snapshots old new book reset (Ok found) h = ap length h.2 ∙ length-change_at book (reset_in reset) old.contents
 length-snapshots old new book reset (Err (Memory n)) h = ap length h.2
 length-snapshots old new book reset (Err NoSuchBook) h = ap length h.1

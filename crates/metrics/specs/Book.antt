@@ -78,22 +78,26 @@ pub record Description : Type 0 where
   pub unit : Option Measure
   pub text : Option (List ℕ)
 
--- a book: its series in order of first registration, and the description of each kind and name
+-- a book: its series in order of first registration; for each of them whether it was active, that is registered or updated after the
+-- book's last successful snapshot; and the description of each kind and name
 pub record Content : Type 0 where
   pub series : List Series
+  pub active : List Bool
   pub described : MetricKind → List ℕ → Description
 
+-- neither unit nor text
 abbrev pub no_description : Description
 no_description = record { unit = None; text = None }
 
 -- the content of a new book
 abbrev pub new_book : Content
-new_book = record { series = []; described = λ _ _. no_description }
+new_book = record { series = []; active = []; described = λ _ _. no_description }
 
 -- the content of a book by its number
 abbrev pub content_at : ℕ → List Content → Content
 content_at b cs = get_or cs b new_book
 
+-- whether a series has this key
 abbrev pub is_of : SeriesKey → Series → Bool
 is_of k s = series_key_eq k s.key
 
@@ -124,6 +128,30 @@ row_of c s = let d = c.described s.key.kind s.key.key.name in (s.key, d.unit, d.
 abbrev pub rows : Content → List RowParts
 rows c = map (row_of c) c.series
 
+-- a snapshot: its rows, and for each, in order, whether its series was active. A book's has as many marks as rows; in another, rows
+-- past the last mark are active
+pub record SnapshotParts : Type 0 where
+  pub rows : List RowParts
+  pub active : List Bool
+
+-- what a snapshot of a book has
+abbrev pub snapshot_of : Content → SnapshotParts
+snapshot_of c = record { rows = rows c; active = c.active }
+
+-- ---- activity
+
+-- a series that is registered is active, also a new one at the end
+abbrev pub registered_at : ℕ → List Bool → List Bool
+registered_at place marks = take place marks ++ true ∷ drop (suc place) marks
+
+-- a series that is updated is active, and the others are as they were
+abbrev pub active_at : ℕ → List Bool → List Bool
+active_at place marks = change_at place (λ _. true) marks
+
+-- what a snapshot leaves of a series' activity
+abbrev pub idle : Bool → Bool
+idle active = false
+
 -- ---- one step of each call
 
 -- a text always replaces the old one, and a unit only if there is a new one
@@ -140,16 +168,19 @@ describe_in kind unit text name c = record c {
 abbrev pub new_series : SeriesKey → Series
 new_series k = record { key = k; value = new_value k.kind }
 
--- a register call in a book: a key is added at the end, if it isn't there
+-- a register call in a book: a key is added at the end, if it isn't there, and is active
 abbrev pub register_in : SeriesKey → Content → Content
-register_in k c = record c { series = if list_any (is_of k) c.series then c.series else c.series ++ new_series k ∷ [] }
+register_in k c = record c {
+  series = if list_any (is_of k) c.series then c.series else c.series ++ new_series k ∷ [];
+  active = registered_at (place k c) c.active;
+}
 
 abbrev pub with_update : Update → Series → Series
 with_update u s = record s { value = updated u s.value }
 
--- an update in a book, of the series at a place
+-- an update in a book, of the series at a place, which is active then
 abbrev pub update_in : Update → ℕ → Content → Content
-update_in u s c = record c { series = change_at s (with_update u) c.series }
+update_in u s c = record c { series = change_at s (with_update u) c.series; active = active_at s c.active }
 
 -- whether a snapshot resets the series of a kind: gauges may be kept
 abbrev pub resets : Reset → MetricKind → Bool
@@ -161,6 +192,6 @@ resets KeepGauges Histogram = true
 abbrev pub after_reset : Reset → Series → Series
 after_reset reset s = if resets reset s.key.kind then new_series s.key else s
 
--- what a snapshot leaves: series, order and descriptions stay
+-- what a snapshot leaves: series, order and descriptions stay, and each series is idle
 abbrev pub reset_in : Reset → Content → Content
-reset_in reset c = record c { series = map (after_reset reset) c.series }
+reset_in reset c = record c { series = map (after_reset reset) c.series; active = map idle c.active }

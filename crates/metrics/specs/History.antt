@@ -12,11 +12,11 @@ use Rattle.metrics.specs.declared.calls.Call.{Call}
 use Rattle.metrics.specs.declared.calls.Answer.{Answer}
 use Rattle.metrics_names.specs.Names.{KeyParts, SeriesKey, kind_eq, series_key_eq}
 use Rattle.metrics.specs.Targets.{in_book}
-use Rattle.metrics.specs.Book.{Content, Series, Description, kind_of, new_value, value_from, rows, resets}
+use Rattle.metrics.specs.Book.{Content, Series, Description, kind_of, new_value, value_from, snapshot_of, resets}
 use Rattle.metrics.specs.Rows.{last}
 use Rattle.metrics.specs.Meaning.{Targets, key_in_book, TakesMemory}
 
--- the calls with their answers, in order
+-- the calls with their answers, in order, one answer for each call
 abbrev pub Log : Type 0
 Log = List (Call × Answer)
 
@@ -36,6 +36,7 @@ pub record Registration : Type 0 where
   pub key : KeyParts
   pub answer : Answer
 
+-- a register call with its answer, if this is one
 abbrev pub registration_of : Call × Answer → Option Registration
 registration_of (Call.Register kind key, a) = Some (record { kind = kind; key = key; answer = a })
 registration_of e = None
@@ -46,7 +47,7 @@ registration n log = slice_get (filter_map registration_of log) n
 
 -- ---- what reached a book
 
--- what a call means in a book that it reached
+-- what a call means in a book that it reached. `describes kind unit text name`: the last two are the bytes of text and name
 pub data Event : Type 0 where
   describes : MetricKind → Option Measure → List ℕ → List ℕ → Event
   registers : SeriesKey → Event
@@ -62,12 +63,12 @@ abbrev pub updates_by : Targets → ℕ → Update → Answer → Option Registr
 updates_by targets b u a None = []
 updates_by targets b u a (Some r) = map (λ n. updates (key_in_book (kind_of u) r.key.labels n) u) (names_in_book b a (targets r.kind r.key.name))
 
--- a snapshot that succeeded
+-- a snapshot that succeeded; one that failed is no event, so it reset nothing, also no mark of activity
 abbrev pub snapshots_by : Reset → Answer → List Event
 snapshots_by reset (Answer.Snapshot found) = snapshots reset ∷ []
 snapshots_by reset a = []
 
--- what of one call reached a book
+-- the events of one call in a book: one for each of its targets there, among those that it acted on
 abbrev pub reached_by : Targets → Log → ℕ → Call × Answer → List Event
 reached_by targets before b (Call.Describe kind name unit text, a) = map (describes kind unit text) (names_in_book b a (targets kind name))
 reached_by targets before b (Call.Register kind key, a) = map (λ n. registers (key_in_book kind key.labels n)) (names_in_book b a (targets kind key.name))
@@ -75,6 +76,7 @@ reached_by targets before b (Call.Update n u, a) = updates_by targets b u a (reg
 reached_by targets before b (Call.Snapshot k, a) = if nat_eq k b then snapshots_by All a else []
 reached_by targets before b (Call.SnapshotWith k reset, a) = if nat_eq k b then snapshots_by reset a else []
 
+-- what reached a book by the calls of this log, after those before it
 abbrev pub reached_from : Targets → Log → ℕ → Log → List Event
 reached_from targets before b [] = []
 reached_from targets before b (e ∷ log) = reached_by targets before b e ++ reached_from targets (before ++ e ∷ []) b log
@@ -85,6 +87,7 @@ reached targets b log = reached_from targets [] b log
 
 -- ---- the series of a book
 
+-- the key that an event registers, if it does
 abbrev pub key_of : Event → Option SeriesKey
 key_of (registers k) = Some k
 key_of e = None
@@ -100,6 +103,7 @@ series_after events = firsts_from [] (filter_map key_of events)
 
 -- ---- the description of a name
 
+-- what an event says of a name of a kind, if it describes it
 abbrev pub description_of : MetricKind → List ℕ → Event → Option (Option Measure × List ℕ)
 description_of kind name (describes k unit text n) = if kind_eq k kind && bytes_eq n name then Some (unit, text) else None
 description_of kind name e = None
@@ -117,12 +121,16 @@ abbrev pub is_reset_of : MetricKind → Event → Bool
 is_reset_of kind (snapshots reset) = resets reset kind
 is_reset_of kind e = false
 
--- the events after the last snapshot that reset a kind
-abbrev pub after_snapshot : MetricKind → List Event → List Event
-after_snapshot kind [] = []
-after_snapshot kind (e ∷ events) =
-    if list_any (is_reset_of kind) events then after_snapshot kind events else if is_reset_of kind e then events else e ∷ events
+-- the events after the last one of some sort; all of them if there is none
+abbrev pub after_last : (Event → Bool) → List Event → List Event
+after_last sort [] = []
+after_last sort (e ∷ events) = if list_any sort events then after_last sort events else if sort e then events else e ∷ events
 
+-- the events after the last snapshot that reset a kind; all of them if there is none
+abbrev pub after_snapshot : MetricKind → List Event → List Event
+after_snapshot kind events = after_last (is_reset_of kind) events
+
+-- the update that an event makes to a series, if it does
 abbrev pub update_of : SeriesKey → Event → Option Update
 update_of s (updates k u) = if series_key_eq k s then Some u else None
 update_of s e = None
@@ -130,6 +138,23 @@ update_of s e = None
 -- the updates of a series after the book's last successful snapshot that reset its kind
 abbrev pub since : List Event → SeriesKey → List Update
 since events s = filter_map (update_of s) (after_snapshot s.kind events)
+
+-- ---- the activity since the last snapshot
+
+-- whether an event is a snapshot
+abbrev pub is_snapshot : Event → Bool
+is_snapshot (snapshots reset) = true
+is_snapshot e = false
+
+-- whether an event is a registration or an update of a series
+abbrev pub touches : SeriesKey → Event → Bool
+touches s (registers k) = series_key_eq k s
+touches s (updates k u) = series_key_eq k s
+touches s e = false
+
+-- whether a series was registered or updated after the book's last successful snapshot
+abbrev pub was_active : List Event → SeriesKey → Bool
+was_active events s = list_any (touches s) (after_last is_snapshot events)
 
 -- ---- contents and expected answers
 
@@ -139,13 +164,18 @@ series_now events k = record { key = k; value = value_from (new_value k.kind) (s
 
 -- the content of a book after all that reached it
 abbrev pub content_after : List Event → Content
-content_after events = record { series = map (series_now events) (series_after events); described = description events }
+content_after events = record {
+  series = map (series_now events) (series_after events);
+  active = map (was_active events) (series_after events);
+  described = description events;
+}
 
--- the address of a name's series in a target: the book, and the place in the list of its series
+-- the address of a name's series in a target: the book, and the place in the list of its series. A new series comes at its end
 abbrev pub plain_address : Targets → Log → MetricKind → KeyParts → ℕ × List ℕ → Address
 plain_address targets before kind key t =
     record { book = t.0; series = position_or_len (series_key_eq (key_in_book kind key.labels t.1)) (series_after (reached targets t.0 before)) }
 
+-- whether a register call succeeded
 abbrev pub is_registered : Answer → Bool
 is_registered (Answer.Registered found) = true
 is_registered a = false
@@ -154,12 +184,14 @@ is_registered a = false
 abbrev pub is_handle : Update → Registration → Bool
 is_handle u r = is_registered r.answer && kind_eq (kind_of u) r.kind
 
+-- an update by a number that is no handle of its kind is rejected; another acts on all targets of that register call
 abbrev pub plain_update : Targets → Update → Option Registration → Answer
 plain_update targets u None = Answer.Refused BadHandle
 plain_update targets u (Some r) = if is_handle u r then Answer.Updated (length (targets r.kind r.key.name)) else Answer.Refused BadHandle
 
+-- a snapshot of a book shows what reached it; a number that isn't below the number of books is rejected
 abbrev pub plain_snapshot : Targets → ℕ → Log → ℕ → Answer
-plain_snapshot targets books before b = if nat_lt b books then Answer.Snapshot (rows (content_after (reached targets b before))) else Answer.Refused NoSuchBook
+plain_snapshot targets books before b = if nat_lt b books then Answer.Snapshot (snapshot_of (content_after (reached targets b before))) else Answer.Refused NoSuchBook
 
 -- the expected answer of a call after these calls, of a recorder with this many books
 abbrev pub plain_answer : Targets → ℕ → Log → Call → Answer
@@ -169,12 +201,13 @@ plain_answer targets books before (Call.Update n u) = plain_update targets u (re
 plain_answer targets books before (Call.Snapshot b) = plain_snapshot targets books before b
 plain_answer targets books before (Call.SnapshotWith b reset) = plain_snapshot targets books before b
 
+-- an update may run out of memory only if its number is a handle, and it records a sample
 abbrev pub UpdateMayMeet : Targets → Update → ℕ → Option Registration → Type 0
 UpdateMayMeet targets u n None = ⊥
 UpdateMayMeet targets u n (Some r) = (is_handle u r ≡ true) × TakesMemory u × (n ≤ length (targets r.kind r.key.name))
 
--- a call may run out of memory after the first n of its targets, if its expected answer is no error; updates of counters and
--- gauges never do
+-- a call may run out of memory after the first n of its targets, if its expected answer is no error; n may be all of them, where
+-- the list of addresses can't grow. Updates of counters and gauges never do. A snapshot that does has reset nothing
 abbrev pub MayMeetMemory : Targets → ℕ → Log → Call → ℕ → Type 0
 MayMeetMemory targets books before (Call.Describe kind name unit text) n = n ≤ length (targets kind name)
 MayMeetMemory targets books before (Call.Register kind key) n = n ≤ length (targets kind key.name)
@@ -182,7 +215,7 @@ MayMeetMemory targets books before (Call.Update m u) n = UpdateMayMeet targets u
 MayMeetMemory targets books before (Call.Snapshot b) n = (b < books) × (n ≡ 0)
 MayMeetMemory targets books before (Call.SnapshotWith b reset) n = (b < books) × (n ≡ 0)
 
--- this answer, or out of memory where that may happen
+-- this answer, or out of memory where that may happen. No expected answer is NoSuchAddress, so none is answered
 abbrev pub IsOrMeets : Answer → (ℕ → Type 0) → Answer → Type 0
 IsOrMeets plain MayMeet (Answer.Refused (Memory n)) = MayMeet n
 IsOrMeets plain MayMeet (Answer.Refused NoSuchAddress) = Answer.Refused NoSuchAddress ≡ plain
@@ -197,16 +230,18 @@ IsOrMeets plain MayMeet (Answer.Snapshot found) = Answer.Snapshot found ≡ plai
 abbrev pub IsPlain : Targets → ℕ → Log → Call → Answer → Type 0
 IsPlain targets books before c a = IsOrMeets (plain_answer targets books before c) (MayMeetMemory targets books before c) a
 
+-- each answer of this log is the expected one after the calls before it, or out of memory where that may happen
 abbrev pub ArePlainFrom : Targets → ℕ → Log → Log → Type 0
 ArePlainFrom targets books before [] = Unit {0}
 ArePlainFrom targets books before (e ∷ log) = IsPlain targets books before e.0 e.1 × ArePlainFrom targets books (before ++ e ∷ []) log
 
--- each answer is the expected one after the calls before it
+-- each answer is the expected one after the calls before it, or out of memory where that may happen
 abbrev pub ArePlain : Targets → ℕ → Log → Type 0
 ArePlain targets books log = ArePlainFrom targets books [] log
 
 -- ---- all answers, with ample memory
 
+-- the calls before, and then these with their expected answers
 abbrev pub plain_log_from : Targets → ℕ → Log → List Call → Log
 plain_log_from targets books before [] = before
 plain_log_from targets books before (c ∷ calls) = plain_log_from targets books (before ++ (c, plain_answer targets books before c) ∷ []) calls

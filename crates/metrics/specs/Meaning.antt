@@ -12,9 +12,10 @@ use Rattle.metrics_names.specs.Refusals.{IfMemory}
 use Rattle.metrics_names.specs.Names.{KeyParts, SeriesKey, kind_eq}
 use Rattle.metrics.specs.Targets.{after_targets, change_at, AllBelow, AreDistinct}
 use Rattle.metrics.specs.TargetsLaws.{zero_below_one}
-use Rattle.metrics.specs.Book.{Content, RowParts, new_book, reset_in, describe_in, register_in, update_in, place, content_at, kind_at, kind_of, rows}
+use Rattle.metrics.specs.Book.{Content, SnapshotParts, new_book, reset_in, describe_in, register_in, update_in, place, content_at, kind_at, kind_of, snapshot_of}
 
--- the targets of each kind and name: where a metric of that name goes, and its name there
+-- the targets of each kind and name: where a metric of that name goes, and its name there. A target is the number of a book and the
+-- bytes of the name there
 abbrev pub Targets : Type 0
 Targets = MetricKind → List ℕ → List (ℕ × List ℕ)
 
@@ -39,7 +40,7 @@ AreNew cs = (b : ℕ) → b < length cs → content_at b cs ≡ new_book
 
 -- ---- what each call does
 
--- a call changed contents and nothing else
+-- the targets of each name are the same
 abbrev pub KeepsTargets : Meaning → Meaning → Type 0
 KeepsTargets old new = new.targets ≡ old.targets
 
@@ -75,10 +76,11 @@ is_kind k None = false
 is_kind k (Some j) = kind_eq k j
 
 -- whether a series of the kind is at the address
+-- whether a series of a kind is at an address
 abbrev pub holds_at : MetricKind → Address → List Content → Bool
 holds_at kind at cs = is_kind kind (kind_at at.series (content_at at.book cs)) && nat_lt at.book (length cs)
 
--- an update of counters and gauges allocates nothing
+-- only a histogram's update may allocate
 abbrev pub TakesMemory : Update → Type 0
 TakesMemory by = kind_of by ≡ Histogram
 
@@ -89,9 +91,9 @@ Updates old new at by (Err (Memory acted)) = (holds_at (kind_of by) at old.conte
 Updates old new at by (Err NoSuchAddress) = (holds_at (kind_of by) at old.contents ≡ false) × (new.contents ≡ old.contents)
 Updates old new at by (Err e) = ⊥
 
--- a snapshot returns the rows of the book, and resets its series of the kinds to reset
-abbrev pub Snapshots : Meaning → Meaning → ℕ → Reset → Result (List RowParts) Refused → Type 0
-Snapshots old new book reset (Ok found) = (book < length old.contents) × (found ≡ rows (content_at book old.contents)) × (new.contents ≡ change_at book (reset_in reset) old.contents)
+-- a snapshot returns the rows of the book and which of its series were active, and resets its series of the kinds to reset
+abbrev pub Snapshots : Meaning → Meaning → ℕ → Reset → Result SnapshotParts Refused → Type 0
+Snapshots old new book reset (Ok found) = (book < length old.contents) × (found ≡ snapshot_of (content_at book old.contents)) × (new.contents ≡ change_at book (reset_in reset) old.contents)
 Snapshots old new book reset (Err (Memory acted)) = (book < length old.contents) × (acted ≡ 0) × (new.contents ≡ old.contents)
 Snapshots old new book reset (Err NoSuchBook) = (length old.contents ≤ book) × (new.contents ≡ old.contents)
 Snapshots old new book reset (Err e) = ⊥

@@ -1,5 +1,5 @@
 //! Values and rows of a snapshot.
-ghost use Rattle.std.specs.Prelude.{◌≡◌, ◌≤◌, ◌<◌, ◌+◌, IfOk, IfErr, Some, cond};
+ghost use Rattle.std.specs.Prelude.{◌≡◌, ◌≤◌, ◌<◌, ◌+◌, [], IfOk, IfErr, Some, cond};
 ghost use Rattle.std.specs.HashMap.{get, spare};
 ghost use Rattle.metrics_names.specs.Names.{SeriesKey, series_key_eq};
 ghost use Rattle.metrics.specs.Book.{resets};
@@ -53,56 +53,52 @@ impl Reset {
 #[derive(Debug, Drop)]
 pub struct Snapshot {
     rows: Vec<Row>,
-    active: Option<Vec<bool>>,
+    active: Vec<bool>,
 }
 
 impl Model for Snapshot {
-    ghost use Rattle.std.specs.Prelude.{List};
-    ghost use Rattle.metrics.specs.Book.{RowParts};
+    ghost use Rattle.metrics.specs.Book.{SnapshotParts};
 
-    ghost Value = { List RowParts };
+    ghost Value = { SnapshotParts };
 
-    ghost view = { λ a. a.rows.items };
+    ghost view = { λ a. record { rows = a.rows.items; active = a.active.items } };
 }
 
 impl From<Vec<Row>> for Snapshot {
-    ghost from_gives = { λ v s. s ≡ v.items };
+    ghost from_gives = { λ v s. s ≡ record { rows = v.items; active = [] } };
 
     fn from(rows: Vec<Row>) -> Snapshot {
-        Snapshot { rows, active: None }
+        let active = Vec::new(*rows.allocator());
+        Snapshot { rows, active }
     }
 }
 
 impl Snapshot {
     /// Makes a snapshot of these rows, with, for each in order, whether its series was active.
     pub fn with_activity(rows: Vec<Row>, active: Vec<bool>) -> Snapshot
-        ensures { result ≡ rows.items }
+        ensures { result ≡ record { rows = rows.items; active = active.items } }
     {
-        Snapshot {
-            rows,
-            active: Some(active),
-        }
+        Snapshot { rows, active }
     }
 
     /// Returns for each row, in order, whether its series was active. Rows past the end are active, so all of them are if the
     /// snapshot was made from rows alone.
-    pub fn activity(&self) -> &[bool] {
-        match &self.active {
-            Some(active) => active.as_slice(),
-            None => &[],
-        }
+    pub fn activity(&self) -> &[bool]
+        ensures { result.now ≡ self.now.active }
+    {
+        self.active.as_slice()
     }
 
     /// Returns the rows.
     pub fn as_slice(&self) -> &[Row]
-        ensures { result.now ≡ self.now }
+        ensures { result.now ≡ self.now.rows }
     {
         self.rows.as_slice()
     }
 
     /// Returns the rows as a `Vec`, without allocating.
     pub fn into_vec(self) -> Vec<Row>
-        ensures { result.items ≡ self }
+        ensures { result.items ≡ self.rows }
     {
         let Snapshot { rows, active: _ } = self;
         rows
@@ -113,7 +109,7 @@ impl Snapshot {
     /// If rows share a key, the last one stays; no snapshot of a recorder has such rows.
     /// Returns the snapshot when out of memory.
     pub fn into_hashmap(self, alloc: Global) -> Result<HashMap<CompositeKey, RowValue>, Snapshot>
-        ensures ok { IfOk result (λ m. (k : SeriesKey) → get series_key_eq m k ≡ last_row k self) }
+        ensures ok { IfOk result (λ m. (k : SeriesKey) → get series_key_eq m k ≡ last_row k self.rows) }
         ensures err { IfErr result (λ s. s ≡ self) }
     {
         let Ok(mut map) = HashMap::with_capacity(alloc, self.rows.len()) else {

@@ -12,7 +12,7 @@ use Rattle.metrics_bucket.specs.declared.view.Turn.{Turn}
 use Rattle.metrics_bucket.specs.declared.view.Hold.{Hold}
 use Rattle.metrics_bucket.specs.declared.view.Hold.TheVariants.{Nothing, Claimed, SideKnown, Reading, Clearing}
 use Rattle.metrics_bucket.specs.declared.view.Visit.TheVariants.{Unseen}
-use Rattle.metrics_bucket.specs.BucketState.{BucketState, other, words_of, walks_of, walks_made, holding, holding_at, claiming, finding, Act, claim, look_at_turn, look_to_read, look_to_clear, takes, state_after}
+use Rattle.metrics_bucket.specs.BucketState.{BucketState, other, words_of, walks_of, walks_made, holding, holding_at, claiming, finding_held, Act, claim, look_at_turn, look_to_read, look_to_clear, takes, state_after}
 use Rattle.metrics_bucket.specs.Facts.{took_in, HoldFits}
 use Rattle.metrics_bucket.specs.Steps.{Seated}
 use Rattle.metrics_bucket.specs.History.{May, IsPlain, turn_at, at_home, FollowsHistory}
@@ -64,12 +64,12 @@ module _ (places : ℕ) (many : Bool) where
       ))
       (λ miss.
       let one : x ≡ 1 = held x (let a = (facts places many s k).one_turn in omega arith) miss in (
-        finding me.0 x,
+        finding_held me.0,
         keeps,
         tt,
-        subst (λ b. FollowsHistory places many (stepped s 1 (either b 1 x) id me.1 (finding me.0 x) keeps)) (sym (ne_eqb x 0 miss))
-            (subst (λ (n : ℕ). FollowsHistory places many (stepped s 1 x id me.1 (finding me.0 n) keeps)) (sym t) (same_words s k 1 id me.1 me.0 (finding me.0 w.turn) look_at_turn there has tt refl refl refl refl (λ _. tt))),
-        ((λ hit. absurd (miss hit)), (λ _. (one, refl)), sole),
+        subst (λ b. FollowsHistory places many (stepped s 1 (either b 1 x) id me.1 (finding_held me.0) keeps)) (sym (ne_eqb x 0 miss))
+            (same_words s k 1 id me.1 me.0 (finding_held me.0) look_at_turn there has (sym t ∙ one) refl refl refl refl (λ _. tt)),
+        ((λ hit. absurd (miss hit)), (λ _. refl), sole),
       ))
 
   pub surveys_side : (slots id : ℕ) (me : Seated) → 0 < me.0.weight → me.0.hold ≡ Claimed → Allows (FollowsHistory places many) slots id me 0 (λ n. n) (reading_looked (step slots 0 0 0 none) me)

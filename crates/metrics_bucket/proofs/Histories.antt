@@ -9,7 +9,7 @@ use Rattle.metrics_bucket.specs.declared.view.Turn.{Turn}
 use Rattle.metrics_bucket.specs.declared.view.Hold.{Hold}
 use Rattle.metrics_bucket.specs.declared.view.Hold.TheVariants.{Nothing, Ticket, Written, Claimed, SideKnown, Reading, Clearing, Settling}
 use Rattle.metrics_bucket.specs.declared.view.Visit.TheVariants.{Unseen, Marked, Read, Wiped}
-use Rattle.metrics_bucket.specs.BucketState.{total, BucketState, Act, look, look_to_settle, ticket, write, finish, claim, look_at_turn, look_to_read, look_to_clear, takes, see, read, wipe, leave, quit, split, join, both_parts, place_index, side_of, put_visit, new_view, holding, seeing, finding, left_from, state_after}
+use Rattle.metrics_bucket.specs.BucketState.{total, BucketState, Act, look, look_to_settle, ticket, write, finish, claim, look_at_turn, look_to_read, look_to_clear, takes, see, read, wipe, leave, quit, split, join, both_parts, place_index, side_of, put_visit, new_view, holding, seeing, finding_held, left_from, state_after}
 use Rattle.metrics_bucket.specs.Facts.{ticket_in, owed_in, turn_in, took_in, wiped, weight_of, is_open, HoldFits, Facts}
 use Rattle.metrics_bucket.specs.History.{HasVisit, CanLeave, CanQuit, May, Event, Runs, begins, FollowsHistory}
 use Rattle.metrics_bucket.proofs.Pushes.{tickets, writes, finishes}
@@ -89,7 +89,7 @@ module _ (places all : ℕ) (w : BucketState) (id : ℕ) (v : View) (f : Facts p
   step_facts claim m = claims places all w id v f at has m.0 m.1
   step_facts look_at_turn m =
       let w' : BucketState = state_after places w id v look_at_turn in
-      facts_beside places all w w' id v (finding v w.turn) f at has refl refl refl refl refl refl refl refl (λ s i. refl) refl f.one_turn (λ h. refl) (λ h. omega arith)
+      facts_beside places all w w' id v (finding_held v) f at has refl refl refl refl refl refl refl refl (λ s i. refl) refl f.one_turn (λ h. refl) (λ h. omega arith)
       (same_hold w'.views v.hold (f.each id v at).hold) (f.each id v at).reads
   step_facts look_to_read m = surveys places all w id v f at has m
   step_facts look_to_clear m = aims places all w id v f at has m

@@ -173,14 +173,14 @@ module _ (places all : ℕ) (w : BucketState) (id : ℕ) (v : View) (f : Facts p
   visit_reading : (s i : ℕ) (visits : List Visit) (d : Visit) → v.hold ≡ Reading s visits → VisitFinds w v.epoch i d → Placed places record w { views = set w.views id (holding v (Reading s (set visits i d))) }
   visit_reading s i visits d e new =
       let placed : HoldPlaced w v.epoch (Reading s visits) = subst (HoldPlaced w v.epoch) e (p.each id v at).hold in
-      keeps_places places all w id v f p at has w.turn v.epoch v.turn v.seen (Reading s (set visits i d))
+      keeps_places places all w id v f p at has w.turn v.epoch v.turn v.seen v.looks (Reading s (set visits i d))
       (λ k j. sym (ap (held_in k j v.epoch) e)) (λ k. sym (ap (clearing_of k v.epoch) e)) (λ k j. sym (ap (wiped_hold k j v.epoch) e)) (sym (ap took_in e)) (λ k. ap (λ (n : ℕ). cond (eqb k v.epoch) n 0) (sym (ap took_in e)))
       (placed.0, visits_find w v.epoch i visits d placed.1 new) (λ _. (p.each id v at).turn (ap turn_in e))
 
   visit_clearing : (s i : ℕ) (visits : List Visit) (c d : Visit) → v.hold ≡ Clearing s visits → get_elem? visits i ≡ some c → is_wiped d ≡ is_wiped c → VisitFinds w v.epoch i d → Placed places record w { views = set w.views id (holding v (Clearing s (set visits i d))) }
   visit_clearing s i visits c d e there same_wiped new =
       let placed : HoldPlaced w v.epoch (Clearing s visits) = subst (HoldPlaced w v.epoch) e (p.each id v at).hold in
-      keeps_places places all w id v f p at has w.turn v.epoch v.turn v.seen (Clearing s (set visits i d))
+      keeps_places places all w id v f p at has w.turn v.epoch v.turn v.seen v.looks (Clearing s (set visits i d))
       (λ k j. sym (ap (held_in k j v.epoch) e))
       (λ k. ap (λ (n : ℕ). cond (eqb k v.epoch) n 0) (length-set visits i d) ∙ sym (ap (clearing_of k v.epoch) e))
       (λ k j. ap (λ (n : ℕ). cond (eqb k v.epoch) n 0) (wiped_same visits i j c d there same_wiped) ∙ sym (ap (wiped_hold k j v.epoch) e)) (sym (ap took_in e)) (λ k. ap (λ (n : ℕ). cond (eqb k v.epoch) n 0) (sym (ap took_in e)))
@@ -231,7 +231,7 @@ module _ (places all : ℕ) (w : BucketState) (id : ℕ) (v : View) (f : Facts p
       → ((k i : ℕ) → held_in k i e' hold ≡ 0) → ((k : ℕ) → clearing_of k e' hold ≡ 0) → ((k i : ℕ) → wiped_hold k i e' hold ≡ 0) → took_in hold ≡ 0
       → HoldPlaced w e' hold → (turn_in hold ≡ 1 → t' ≡ walks_made w) → Placed places record w { turn = turn; views = set w.views id (holds_as v e' t' hold) }
   quiet turn e' t' hold a b c d a' b' c' d' placed knows =
-      keeps_places places all w id v f p at has turn e' t' v.seen hold (λ k i. a' k i ∙ sym (a k i)) (λ k. b' k ∙ sym (b k)) (λ k i. c' k i ∙ sym (c k i)) (d' ∙ sym d)
+      keeps_places places all w id v f p at has turn e' t' v.seen v.looks hold (λ k i. a' k i ∙ sym (a k i)) (λ k. b' k ∙ sym (b k)) (λ k i. c' k i ∙ sym (c k i)) (d' ∙ sym d)
       (λ k. ap (λ (n : ℕ). cond (eqb k e') n 0) d' ∙ (cond_same k e' 0 ∙ sym (ap (λ (n : ℕ). cond (eqb k v.epoch) n 0) d ∙ cond_same k v.epoch 0))) placed knows
 
   quits : (hold : Hold) → v.hold ≡ hold → CanQuit hold → Placed places record w { turn = 0; views = set w.views id (holding v Nothing) }
@@ -245,7 +245,7 @@ module _ (places all : ℕ) (w : BucketState) (id : ℕ) (v : View) (f : Facts p
   quits (Settling s xs) e c = absurd c
 
   pub step_placed : (act : Act) → May places all w id v act → Placed places (state_after places w id v act)
-  step_placed look m = keeps_places places all w id v f p at has w.turn v.epoch v.turn (2 * w.given + w.live) v.hold (λ _ _. refl) (λ _. refl) (λ _ _. refl) refl (λ _. refl) (p.each id v at).hold (p.each id v at).turn
+  step_placed look m = keeps_places places all w id v f p at has w.turn v.epoch v.turn (2 * w.given + w.live) (v.looks + 1) v.hold (λ _ _. refl) (λ _. refl) (λ _ _. refl) refl (λ _. refl) (p.each id v at).hold (p.each id v at).turn
   step_placed look_to_settle m =
       let e = m.0 in
       quiet w.turn v.epoch v.turn (Settling w.live (live_values places w)) (λ k i. ap (held_in k i v.epoch) e) (λ k. ap (clearing_of k v.epoch) e) (λ k i. ap (wiped_hold k i v.epoch) e) (ap took_in e) (λ _ _. refl) (λ _. refl) (λ _ _. refl) refl tt (λ t. absurd (omega arith))
@@ -255,7 +255,7 @@ module _ (places all : ℕ) (w : BucketState) (id : ℕ) (v : View) (f : Facts p
   step_placed claim m =
       let e = m.0 in
       quiet 1 v.epoch (walks_made w) Claimed (λ k i. ap (held_in k i v.epoch) e) (λ k. ap (clearing_of k v.epoch) e) (λ k i. ap (wiped_hold k i v.epoch) e) (ap took_in e) (λ _ _. refl) (λ _. refl) (λ _ _. refl) refl tt (λ _. refl)
-  step_placed look_at_turn m = keeps_found places all w id v f p at has w.turn
+  step_placed look_at_turn m = keeps_found places all w id v f p at has
   step_placed look_to_read e = quiet w.turn w.epoch v.turn (Reading w.live (replicate w.given Unseen)) (λ k i. ap (held_in k i v.epoch) e) (λ k. ap (clearing_of k v.epoch) e) (λ k i. ap (wiped_hold k i v.epoch) e) (ap took_in e) (λ _ _. refl) (λ _. refl) (λ _ _. refl) refl
       (refl, λ i c there. subst (VisitFinds w w.epoch i) (new_visit w.given i c there) tt) (λ _. (p.each id v at).turn (ap turn_in e))
   step_placed look_to_clear e = quiet w.turn v.epoch v.turn (SideKnown w.live) (λ k i. ap (held_in k i v.epoch) e) (λ k. ap (clearing_of k v.epoch) e) (λ k i. ap (wiped_hold k i v.epoch) e) (ap took_in e) (λ _ _. refl) (λ _. refl) (λ _ _. refl) refl tt (λ _. (p.each id v at).turn (ap turn_in e))

@@ -4,7 +4,7 @@ use mathlib.Core.Option.{some}
 use lib.ListN.{get_elem?}
 use Rattle.metrics_bucket.specs.declared.view.View.{View}
 use Rattle.metrics_bucket.specs.declared.view.Hold.{Hold}
-use Rattle.metrics_bucket.specs.BucketState.{BucketState, total, walks_of, walks_made, place_index, knows_as, finding}
+use Rattle.metrics_bucket.specs.BucketState.{BucketState, total, walks_of, walks_made, place_index, knows_as, finding_held}
 use Rattle.metrics_bucket.specs.Facts.{below, turn_in, took_in, took_of, Facts}
 use Rattle.metrics_bucket.specs.Places.{pushed_at, held_in, tickets_at, clearing_of, told_of, takes_in, given_of, wiped_hold, wipes_at, mark_of, IsPush, IsEpochOf, HoldPlaced, ViewPlaced, Placed}
 use Rattle.metrics_bucket.proofs.Sums.{total_set}
@@ -45,11 +45,11 @@ module _ (places : ℕ) (w w' : BucketState) (id : ℕ) (v u : View) (p : Placed
 
 module _ (places all : ℕ) (w : BucketState) (id : ℕ) (v : View) (f : Facts places all w) (p : Placed places w) (at : get_elem? w.views id ≡ some v) (has : 0 < v.weight) where
   -- a step that changes no place, and nothing that is counted in what the thread holds
-  pub keeps_places : (turn e' t' s' : ℕ) (hold : Hold) → ((e i : ℕ) → held_in e i e' hold ≡ held_in e i v.epoch v.hold) → ((e : ℕ) → clearing_of e e' hold ≡ clearing_of e v.epoch v.hold)
+  pub keeps_places : (turn e' t' s' n' : ℕ) (hold : Hold) → ((e i : ℕ) → held_in e i e' hold ≡ held_in e i v.epoch v.hold) → ((e : ℕ) → clearing_of e e' hold ≡ clearing_of e v.epoch v.hold)
       → ((e i : ℕ) → wiped_hold e i e' hold ≡ wiped_hold e i v.epoch v.hold) → took_in hold ≡ took_in v.hold → ((e : ℕ) → cond (eqb e e') (took_in hold) 0 ≡ cond (eqb e v.epoch) (took_in v.hold) 0) → HoldPlaced w e' hold → (turn_in hold ≡ 1 → t' ≡ walks_made w)
-      → Placed places record w { turn = turn; views = set w.views id (knows_as v e' t' s' hold) }
-  keeps_places turn e' t' s' hold held clearing wiped took same_takes placed knows =
-      let u : View = knows_as v e' t' s' hold in
+      → Placed places record w { turn = turn; views = set w.views id (knows_as v e' t' s' n' hold) }
+  keeps_places turn e' t' s' n' hold held clearing wiped took same_takes placed knows =
+      let u : View = knows_as v e' t' s' n' hold in
       let w' : BucketState = record w { turn = turn; views = set w.views id u } in
       let walks : walks_made w' ≡ walks_made w = (let t = total_set walks_of w.views id v u at in omega arith) in
       let pushes : (e i x : ℕ) → IsPush w e i x → IsPush w' e i x = push_kept w w' id v u at refl refl in
@@ -60,9 +60,9 @@ module _ (places all : ℕ) (w : BucketState) (id : ℕ) (v : View) (f : Facts p
       (λ _ _ _ _ _. walks)
 
   -- a look at the turn changes nothing that is counted
-  pub keeps_found : (n : ℕ) → Placed places record w { views = set w.views id (finding v n) }
-  keeps_found n =
-      let u : View = finding v n in
+  pub keeps_found : Placed places record w { views = set w.views id (finding_held v) }
+  keeps_found =
+      let u : View = finding_held v in
       let w' : BucketState = record w { views = set w.views id u } in
       let walks : walks_made w' ≡ walks_made w = (let t = total_set walks_of w.views id v u at in omega arith) in
       let pushes : (e i x : ℕ) → IsPush w e i x → IsPush w' e i x = push_kept w w' id v u at refl refl in

@@ -224,7 +224,7 @@ reads_seven =
     let u5 : View = leaving u4 in
     let w9 : BucketState = then_by 1 w8 u4 leave in (
       w9,
-      (v0, refl, omega arith, (refl, omega arith), (u0, refl, omega arith, (refl, refl), (u1, refl, omega arith, refl, (v1, refl, omega arith, refl, (v2, refl, omega arith, refl, (u2, refl, omega arith, (refl, refl), (u3, refl, omega arith, refl, (v3, refl, omega arith, tt, (u4, refl, omega arith, seven_leaves, refl))))))))),
+      (v0, refl, omega arith, (refl, omega arith), (u0, refl, omega arith, (refl, refl), (u1, refl, omega arith, refl, (v1, refl, omega arith, refl, (v2, refl, omega arith, refl, (u2, refl, omega arith, (refl, refl), (u3, refl, omega arith, refl, (v3, refl, omega arith, refl, (u4, refl, omega arith, seven_leaves, refl))))))))),
       v4,
       u5,
       refl,

@@ -1,5 +1,5 @@
 -- What callers see of a pen and of a bucket.
-use Rattle.std.specs.Prelude.{◌≡◌, ℕ, ◌+◌, ◌-◌, ◌/◌, ◌<◌, Bool, true, false, List, [], ◌∷◌, ◌++◌, length, refl, Option, Some, None}
+use Rattle.std.specs.Prelude.{◌≡◌, ℕ, ◌+◌, ◌-◌, ◌/◌, ◌<◌, ◌≤◌, Bool, true, false, List, [], ◌∷◌, ◌++◌, length, refl, Option, Some, None}
 use Rattle.std.specs.Coded.{Coded, code_by, coded×, coded_ℕ, coded_bool, coded_list}
 use Rattle.atomic_table.specs.Seated.{TableId, table_id_coded}
 use Rattle.metrics_bucket.specs.declared.view.Push.{Push}
@@ -19,8 +19,8 @@ abbrev pub home_code : Coded Home
 home_code = code_by (TableId × ℕ) (coded× table_id_coded coded_ℕ) (λ e. (e.table, e.places)) (λ p. record { table = p.0; places = p.1 }) (λ _. refl)
 
 -- A pen's account: what it pushed, the walks that took and those that only read, its weight, and whether it has a ticket. Then
--- the control word that it saw last, which is twice the number of tickets given plus the live side, and the turn's word that
--- its last failed claim found
+-- the control word that it saw last, which is twice the number of tickets given plus the live side, how often it looked at that
+-- word, and how many of its claims found the turn held
 pub record Account : Type 0 where
   pub home : Home
   pub weight : ℕ
@@ -29,7 +29,8 @@ pub record Account : Type 0 where
   pub read : List Walk
   pub ticket : Bool
   pub seen : ℕ
-  pub turn_seen : ℕ
+  pub looks : ℕ
+  pub refused : ℕ
 
 abbrev push_code : Coded Push
 push_code = code_by (ℕ × (ℕ × ℕ)) (coded× coded_ℕ (coded× coded_ℕ coded_ℕ)) (λ e. (e.epoch, (e.place, e.value))) (λ p. record { epoch = p.0; place = p.1.0; value = p.1.1 }) (λ _. refl)
@@ -39,10 +40,10 @@ walk_code = code_by (ℕ × List ℕ) (coded× coded_ℕ (coded_list coded_ℕ))
 
 abbrev pub account_code : Coded Account
 account_code =
-    code_by (Home × (ℕ × (List Push × (List Walk × (List Walk × (Bool × (ℕ × ℕ)))))))
-    (coded× home_code (coded× coded_ℕ (coded× (coded_list push_code) (coded× (coded_list walk_code) (coded× (coded_list walk_code) (coded× coded_bool (coded× coded_ℕ coded_ℕ)))))))
-    (λ e. (e.home, (e.weight, (e.pushed, (e.taken, (e.read, (e.ticket, (e.seen, e.turn_seen))))))))
-    (λ p. record { home = p.0; weight = p.1.0; pushed = p.1.1.0; taken = p.1.1.1.0; read = p.1.1.1.1.0; ticket = p.1.1.1.1.1.0; seen = p.1.1.1.1.1.1.0; turn_seen = p.1.1.1.1.1.1.1 })
+    code_by (Home × (ℕ × (List Push × (List Walk × (List Walk × (Bool × (ℕ × (ℕ × ℕ))))))))
+    (coded× home_code (coded× coded_ℕ (coded× (coded_list push_code) (coded× (coded_list walk_code) (coded× (coded_list walk_code) (coded× coded_bool (coded× coded_ℕ (coded× coded_ℕ coded_ℕ))))))))
+    (λ e. (e.home, (e.weight, (e.pushed, (e.taken, (e.read, (e.ticket, (e.seen, (e.looks, e.refused)))))))))
+    (λ p. record { home = p.0; weight = p.1.0; pushed = p.1.1.0; taken = p.1.1.1.0; read = p.1.1.1.1.0; ticket = p.1.1.1.1.1.0; seen = p.1.1.1.1.1.1.0; looks = p.1.1.1.1.1.1.1.0; refused = p.1.1.1.1.1.1.1.1 })
     (λ _. refl)
 
 abbrev pub hold_of : Option (ℕ × ℕ) → Hold
@@ -60,38 +61,49 @@ TicketFits (Some t) places = (t.0 < 2) × (t.1 < places)
 
 -- the first pen of a bucket
 abbrev pub first_account : Home → Account
-first_account home = record { home = home; weight = 1024; pushed = []; taken = []; read = []; ticket = false; seen = 0; turn_seen = 0 }
+first_account home = record { home = home; weight = 1024; pushed = []; taken = []; read = []; ticket = false; seen = 0; looks = 0; refused = 0 }
 
+-- the account with or without a ticket
 abbrev pub with_ticket : Account → Bool → Account
 with_ticket a ticket = record a { ticket = ticket }
 
-abbrev pub looked_at : Account → ℕ → Account
-looked_at a seen = record a { seen = seen }
+-- the account with the control word that was seen last, and how often it looked
+abbrev pub looked_at : Account → ℕ → ℕ → Account
+looked_at a seen looks = record a { seen = seen; looks = looks }
 
--- nothing changed but the control word that it saw last
+-- nothing changed but how often it looked, and the control word that it saw last
 abbrev pub IsLooked : Account → Account → Type 0
-IsLooked old new = new ≡ looked_at old new.seen
+IsLooked old new = (new ≡ looked_at old new.seen new.looks) × (old.looks ≤ new.looks)
 
--- a claim found the turn held, and nothing else changed
+-- nothing changed but the control word that it saw last, and it looked at least once more
+abbrev pub IsLookedAnew : Account → Account → Type 0
+IsLookedAnew old new = IsLooked old new × (old.looks < new.looks)
+
+-- so many claims more found the turn held, and nothing else changed
+abbrev pub refused_more : Account → ℕ → Account
+refused_more a n = record a { refused = a.refused + n }
+
+-- one claim found the turn held, and nothing else changed
 abbrev pub IsBusy : Account → Account → Type 0
-IsBusy old new = new ≡ record old { turn_seen = 1 }
+IsBusy old new = new ≡ refused_more old 1
 
 abbrev pub with_push : Account → Push → Account
 with_push a p = record a { pushed = a.pushed ++ p ∷ []; ticket = false }
 
--- the account after a push of this value, with no other change but the control word that it saw last
+-- the account after a push of this value, with no other change but the looks
 abbrev pub IsPushed : Account → ℕ → Account → Type 0
-IsPushed old x new = (e i : ℕ) × (i < old.home.places) × (new ≡ with_push (looked_at old new.seen) (push e i x))
+IsPushed old x new = (e i : ℕ) × (i < old.home.places) × (new ≡ with_push (looked_at old new.seen new.looks) (push e i x))
 
 abbrev pub left_account : Account → Account
 left_account a = record a { weight = a.weight - a.weight / 2 }
 
 abbrev pub right_account : Account → Account
-right_account a = record { home = a.home; weight = a.weight / 2; pushed = []; taken = []; read = []; ticket = false; seen = 0; turn_seen = 0 }
+right_account a = record { home = a.home; weight = a.weight / 2; pushed = []; taken = []; read = []; ticket = false; seen = 0; looks = 0; refused = 0 }
 
 abbrev pub joined_account : Account → Account → Account
 joined_account a b = record a { weight = a.weight + b.weight; pushed = a.pushed ++ b.pushed; taken = a.taken ++ b.taken; read = a.read ++ b.read }
 
+-- the account with one walk more that took
 abbrev pub took_account : Account → Walk → Account
 took_account a walk = record a { taken = a.taken ++ walk ∷ [] }
 

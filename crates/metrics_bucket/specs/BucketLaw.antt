@@ -119,7 +119,7 @@ push_and_read = event 0 ticket ∷ event 1 claim ∷ event 1 look_to_read ∷ ev
 
 -- a claim of the first found the turn held, and the second read 7
 abbrev pub FoundAndRead : View → View → Type 0
-FoundAndRead v u = (v.turn_seen ≡ 1) × (u.read ≡ walk 0 (7 ∷ []) ∷ [])
+FoundAndRead v u = (v.refused ≡ 1) × (u.read ≡ walk 0 (7 ∷ []) ∷ [])
 
 -- a history of two threads with a reading that waits for a push
 abbrev pub ReadsSeven : Type 0

@@ -48,7 +48,7 @@ abbrev pub walks_made : BucketState → ℕ
 walks_made w = total walks_of w.views
 
 abbrev pub new_view : ℕ → ℕ → View
-new_view places weight = record { places = places; weight = weight; pushed = []; taken = []; read = []; hold = Nothing; epoch = 0; turn = 0; seen = 0; turn_seen = 0 }
+new_view places weight = record { places = places; weight = weight; pushed = []; taken = []; read = []; hold = Nothing; epoch = 0; turn = 0; seen = 0; looks = 0; refused = 0 }
 
 abbrev pub whole_view : ℕ → View
 whole_view places = new_view places 1024
@@ -58,20 +58,26 @@ abbrev pub first_view : Bool → ℕ → View
 first_view false places = new_view places 1024
 first_view true places = new_view places 1
 
--- it holds something, of this epoch, knows this many walks, and saw this control word
-abbrev pub knows_as : View → ℕ → ℕ → ℕ → Hold → View
-knows_as v epoch turn seen hold = record { places = v.places; weight = v.weight; pushed = v.pushed; taken = v.taken; read = v.read; hold = hold; epoch = epoch; turn = turn; seen = seen; turn_seen = v.turn_seen }
+-- it holds something, of this epoch, knows this many walks, and saw this control word with the last of so many looks
+abbrev pub knows_as : View → ℕ → ℕ → ℕ → ℕ → Hold → View
+knows_as v epoch turn seen looks hold =
+    record { places = v.places; weight = v.weight; pushed = v.pushed; taken = v.taken; read = v.read; hold = hold; epoch = epoch; turn = turn; seen = seen; looks = looks; refused = v.refused }
 
 abbrev pub holds_as : View → ℕ → ℕ → Hold → View
-holds_as v epoch turn hold = knows_as v epoch turn v.seen hold
+holds_as v epoch turn hold = knows_as v epoch turn v.seen v.looks hold
 
--- it saw this control word, and nothing else changed
+-- it has made so many looks, and saw this control word with the last of them; nothing else changed
+abbrev pub having_seen : View → ℕ → ℕ → View
+having_seen v seen looks = knows_as v v.epoch v.turn seen looks v.hold
+
+-- one look more saw this control word
 abbrev pub seeing : View → ℕ → View
-seeing v seen = knows_as v v.epoch v.turn seen v.hold
+seeing v seen = having_seen v seen (v.looks + 1)
 
--- a claim found this word of the turn, and nothing else changed
-abbrev pub finding : View → ℕ → View
-finding v found = record { places = v.places; weight = v.weight; pushed = v.pushed; taken = v.taken; read = v.read; hold = v.hold; epoch = v.epoch; turn = v.turn; seen = v.seen; turn_seen = found }
+-- one claim more found the turn held, and nothing else changed
+abbrev pub finding_held : View → View
+finding_held v =
+    record { places = v.places; weight = v.weight; pushed = v.pushed; taken = v.taken; read = v.read; hold = v.hold; epoch = v.epoch; turn = v.turn; seen = v.seen; looks = v.looks; refused = v.refused + 1 }
 
 abbrev pub holding : View → Hold → View
 holding v hold = holds_as v v.epoch v.turn hold
@@ -89,7 +95,7 @@ abbrev pub walk : ℕ → List ℕ → Walk
 walk epoch values = record { epoch = epoch; values = values }
 
 abbrev pub pushing : View → ℕ → ℕ → View
-pushing v i x = record { places = v.places; weight = v.weight; pushed = v.pushed ++ push v.epoch i x ∷ []; taken = v.taken; read = v.read; hold = Nothing; epoch = v.epoch; turn = v.turn; seen = v.seen; turn_seen = v.turn_seen }
+pushing v i x = record { places = v.places; weight = v.weight; pushed = v.pushed ++ push v.epoch i x ∷ []; taken = v.taken; read = v.read; hold = Nothing; epoch = v.epoch; turn = v.turn; seen = v.seen; looks = v.looks; refused = v.refused }
 
 -- a walk's visits, at another place of it
 abbrev pub visits_of : Hold → List Visit
@@ -118,10 +124,10 @@ values_in (c ∷ cs) = value_in c ∷ values_in cs
 
 -- with one more list taken or read, and nothing held
 abbrev pub with_taken : View → Walk → View
-with_taken v xs = record { places = v.places; weight = v.weight; pushed = v.pushed; taken = v.taken ++ xs ∷ []; read = v.read; hold = Nothing; epoch = v.epoch; turn = v.turn; seen = v.seen; turn_seen = v.turn_seen }
+with_taken v xs = record { places = v.places; weight = v.weight; pushed = v.pushed; taken = v.taken ++ xs ∷ []; read = v.read; hold = Nothing; epoch = v.epoch; turn = v.turn; seen = v.seen; looks = v.looks; refused = v.refused }
 
 abbrev pub with_read : View → Walk → View
-with_read v xs = record { places = v.places; weight = v.weight; pushed = v.pushed; taken = v.taken; read = v.read ++ xs ∷ []; hold = Nothing; epoch = v.epoch; turn = v.turn; seen = v.seen; turn_seen = v.turn_seen }
+with_read v xs = record { places = v.places; weight = v.weight; pushed = v.pushed; taken = v.taken; read = v.read ++ xs ∷ []; hold = Nothing; epoch = v.epoch; turn = v.turn; seen = v.seen; looks = v.looks; refused = v.refused }
 
 -- a walk that leaves adds its list
 abbrev pub left_from : View → Hold → View
@@ -138,14 +144,14 @@ live_values places w = take w.given (drop (base places w.live) w.values)
 
 -- what a thread that splits gives away, and what is left to it
 abbrev pub left_part : View → View
-left_part v = record { places = v.places; weight = v.weight - v.weight / 2; pushed = v.pushed; taken = v.taken; read = v.read; hold = v.hold; epoch = v.epoch; turn = v.turn; seen = v.seen; turn_seen = v.turn_seen }
+left_part v = record { places = v.places; weight = v.weight - v.weight / 2; pushed = v.pushed; taken = v.taken; read = v.read; hold = v.hold; epoch = v.epoch; turn = v.turn; seen = v.seen; looks = v.looks; refused = v.refused }
 
 abbrev pub right_part : View → View
 right_part v = new_view v.places (v.weight / 2)
 
 -- what a thread has after it joined another
 abbrev pub both_parts : View → View → View
-both_parts v x = record { places = v.places; weight = v.weight + x.weight; pushed = v.pushed ++ x.pushed; taken = v.taken ++ x.taken; read = v.read ++ x.read; hold = v.hold; epoch = v.epoch; turn = v.turn; seen = v.seen; turn_seen = v.turn_seen }
+both_parts v x = record { places = v.places; weight = v.weight + x.weight; pushed = v.pushed ++ x.pushed; taken = v.taken ++ x.taken; read = v.read ++ x.read; hold = v.hold; epoch = v.epoch; turn = v.turn; seen = v.seen; looks = v.looks; refused = v.refused }
 
 -- One step of a thread. A look is at the control word, and a look at the turn is a claim that finds it held. A compare-exchange of the control word that finds another word is no step
 pub data Act : Type 0 where
@@ -174,7 +180,7 @@ view_after places w v ticket = holding_at v w.epoch (Ticket w.live w.given)
 view_after places w v (write s i x) = holding v (Written s i x)
 view_after places w v (finish s i x) = pushing v i x
 view_after places w v claim = claiming v (walks_made w)
-view_after places w v look_at_turn = finding v w.turn
+view_after places w v look_at_turn = finding_held v
 view_after places w v look_to_read = holding_at v w.epoch (Reading w.live (replicate w.given Unseen))
 view_after places w v look_to_clear = holding v (SideKnown w.live)
 view_after places w v takes = holding_at v w.epoch (Clearing w.live (replicate w.given Unseen))

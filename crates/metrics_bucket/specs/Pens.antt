@@ -13,7 +13,8 @@ account_of p = record {
   read = p.seat.me.0.read;
   ticket = has_ticket p.ticket;
   seen = p.seat.me.0.seen;
-  turn_seen = p.seat.me.0.turn_seen;
+  looks = p.seat.me.0.looks;
+  refused = p.seat.me.0.refused;
 }
 
 pub record IsPen (p : Inside) : Type 0 where

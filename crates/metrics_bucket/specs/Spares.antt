@@ -12,7 +12,7 @@ use Rattle.metrics_bucket.specs.BucketState.{holds_as, new_view}
 
 -- a pen of this weight that has done nothing
 abbrev pub fresh_account : Home → ℕ → Account
-fresh_account home weight = record { home = home; weight = weight; pushed = []; taken = []; read = []; ticket = false; seen = 0; turn_seen = 0 }
+fresh_account home weight = record { home = home; weight = weight; pushed = []; taken = []; read = []; ticket = false; seen = 0; looks = 0; refused = 0 }
 
 -- one of the 128 pens of equal weight
 abbrev pub spare_account : Home → Account

@@ -9,7 +9,7 @@ use Rattle.metrics_bucket.specs.declared.view.Push.{Push}
 use Rattle.metrics_bucket.specs.declared.view.Walk.{Walk}
 use Rattle.metrics_bucket.specs.declared.view.Hold.{Hold}
 use Rattle.metrics_bucket.specs.declared.view.Hold.TheVariants.{Nothing, Ticket, Written, Settling}
-use Rattle.metrics_bucket.specs.BucketState.{place_index, holding, holding_at, seeing, finding, walk, pushing}
+use Rattle.metrics_bucket.specs.BucketState.{place_index, holding, holding_at, having_seen, seeing, finding_held, walk, pushing}
 use Rattle.metrics_bucket.specs.Facts.{weigh, weigh_pushes, weigh_walks}
 use Rattle.metrics_bucket.specs.Places.{Covers}
 
@@ -30,13 +30,17 @@ control_looked st m r m' = (m' ≡ (seeing m.0 r, m.1)) × (m.0.weight ≤ 1024)
 abbrev pub weight_looked : Step Turn → Seated → ℕ → Seated → Type 0
 weight_looked st m r m' = (m' ≡ m) × (m.0.weight ≤ 1024)
 
--- nothing changed but the control word that it saw last
+-- nothing changed but how often it looked, and the control word that it saw last
 abbrev pub HasLooked : Seated → Seated → Type 0
-HasLooked m m' = m' ≡ (seeing m.0 m'.0.seen, m.1)
+HasLooked m m' = (m' ≡ (having_seen m.0 m'.0.seen m'.0.looks, m.1)) × (m.0.looks ≤ m'.0.looks)
+
+-- nothing changed but the control word that it saw last, and it looked at least once more
+abbrev pub HasLookedAnew : Seated → Seated → Type 0
+HasLookedAnew m m' = HasLooked m m' × (m.0.looks < m'.0.looks)
 
 -- a claim found the turn held, and nothing else changed
 abbrev pub WasBusy : Seated → Seated → Type 0
-WasBusy m m' = m' ≡ (finding m.0 1, m.1)
+WasBusy m m' = m' ≡ (finding_held m.0, m.1)
 
 -- what a failure says to a thread with the whole weight: the side is full
 abbrev pub IsFullFor : ℕ → List Push → List Walk → Type 0
@@ -51,9 +55,9 @@ value_written st m r m' = (s i : ℕ) → m.0.hold ≡ Ticket s i → m' ≡ (ho
 abbrev pub push_finished : Step Turn → Seated → ℕ → Seated → Type 0
 push_finished st m r m' = (s i x : ℕ) → m.0.hold ≡ Written s i x → m' ≡ (pushing m.0 i x, m.1)
 
--- this value was pushed at one epoch and place, and nothing else changed but the control word that it saw last
+-- this value was pushed at one epoch and place, and nothing else changed but the looks
 abbrev pub HasPushed : Seated → ℕ → Seated → Type 0
-HasPushed m x m' = (e i : ℕ) × (i < m.0.places) × (m' ≡ (pushing (holding_at (seeing m.0 m'.0.seen) e Nothing) i x, m.1))
+HasPushed m x m' = (e i : ℕ) × (i < m.0.places) × (m' ≡ (pushing (holding_at (having_seen m.0 m'.0.seen m'.0.looks) e Nothing) i x, m.1))
 
 -- the values that a thread knows to be the live side's
 abbrev pub values_known : Hold → List ℕ

@@ -7,7 +7,7 @@ use Rattle.metrics_bucket.specs.declared.view.Hold.{Hold}
 use Rattle.metrics_bucket.specs.declared.view.Hold.TheVariants.{Nothing, SideKnown, Reading, Clearing}
 use Rattle.metrics_bucket.specs.declared.view.Visit.{Visit}
 use Rattle.metrics_bucket.specs.declared.view.Visit.TheVariants.{Unseen, Marked, Read, Wiped}
-use Rattle.metrics_bucket.specs.BucketState.{place_index, walk, holding, holding_at, claiming, finding, visits_of, leaving, put_visit, side_of, values_in}
+use Rattle.metrics_bucket.specs.BucketState.{place_index, walk, holding, holding_at, claiming, finding_held, visits_of, leaving, put_visit, side_of, values_in}
 use Rattle.metrics_bucket.specs.Steps.{Seated}
 use Rattle.metrics_bucket.specs.Facts.{weigh, weigh_pushes, weigh_walks}
 use Rattle.metrics_bucket.specs.History.{HasVisit, turn_at}
@@ -21,7 +21,7 @@ abbrev pub IsMarkOf : View → ℕ → ℕ → Type 0
 IsMarkOf v word i = word ≡ 2 + (v.places + v.places) + place_index v.places (side_of v.hold) i
 
 abbrev pub turn_claimed : Step Turn → Seated → ℕ → Seated → Type 0
-turn_claimed st m r m' = (r ≡ 0 → (n : ℕ) × (m' ≡ (claiming m.0 n, (0, turn_at n) ∷ []))) × (r ≢ 0 → (r ≡ 1) × (m' ≡ (finding m.0 r, m.1))) × (m.0.weight ≡ 1024 → r ≡ 0)
+turn_claimed st m r m' = (r ≡ 0 → (n : ℕ) × (m' ≡ (claiming m.0 n, (0, turn_at n) ∷ []))) × (r ≢ 0 → m' ≡ (finding_held m.0, m.1)) × (m.0.weight ≡ 1024 → r ≡ 0)
 
 abbrev pub reading_looked : Step Turn → Seated → ℕ → Seated → Type 0
 reading_looked st m r m' = (e : ℕ) × (m' ≡ (holding_at m.0 e (Reading (r % 2) (replicate (r / 2) Unseen)), m.1)) × (r / 2 ≤ m.0.places) × Reaches m.0.pushed e (r / 2) × (m.0.weight ≡ 1024 → e ≡ length m.0.taken)

@@ -2,12 +2,13 @@
 ghost use Rattle.std.specs.Prelude.{◌≡◌, ℕ, ◌+◌, ◌*◌, ◌^◌, ◌<◌, ◌≤◌, ◌↔◌, ◌⊎◌, true};
 ghost use Rattle.std.specs.Prelude.{false, IsTrue, IfOk, OnOk, IfErr, MatchResult, length, take, drop, map, [], ◌++◌};
 ghost use Rattle.std.specs.Prelude.{◌-◌, ◌/◌, vec_capacity};
-ghost use Rattle.metrics_bucket.specs.Account.{first_account, with_ticket, looked_at, IsLooked, IsPushed};
+ghost use Rattle.metrics_bucket.specs.Account.{first_account, with_ticket, looked_at, IsLookedAnew, IsPushed};
 ghost use Rattle.std.specs.Arc.{arc_value};
-ghost use Rattle.metrics_bucket.specs.BucketState.{place_index, first_view, holding_at, seeing, pushing};
+ghost use Rattle.metrics_bucket.specs.BucketState.{place_index, first_view, holding_at, having_seen, pushing};
 ghost use Rattle.metrics_bucket.specs.Blocks.{Settled};
 ghost use Rattle.metrics_bucket.specs.declared.view.Hold.TheVariants.{Nothing, Ticket, Settling};
-ghost use Rattle.metrics_bucket.specs.Steps.{count_all, HasLooked, HasPushed, IsControl, IsFullFor, values_known, ArePartsOf};
+ghost use Rattle.metrics_bucket.specs.Steps.{count_all, HasLooked, HasLookedAnew, HasPushed, IsControl, IsFullFor};
+ghost use Rattle.metrics_bucket.specs.Steps.{values_known, ArePartsOf};
 
 use crate::pen::{Pen, Words};
 use crate::sample::Sample;
@@ -174,7 +175,7 @@ impl<T: Sample> RuledBucket<T> {
     pub fn is_empty_as(&self, pen: &mut Pen) -> bool
         requires own { pen.old.home ≡ self.now }
         requires free { pen.old.ticket ≡ false }
-        ensures looked { IsLooked pen.old pen.new }
+        ensures looked { IsLookedAnew pen.old pen.new }
         ensures seen { IsTrue result ↔ (pen.new.seen / 2 ≡ 0) }
         ensures whole { pen.old.weight ≡ 1024 → (IsTrue result ↔ (length pen.old.pushed ≡ count_all pen.old.taken)) }
     {
@@ -189,9 +190,9 @@ impl<T: Sample> RuledBucket<T> {
     pub fn begin_as(&self, pen: &mut Pen) -> Result<(), Error>
         requires own { pen.old.home ≡ self.now }
         requires free { pen.old.ticket ≡ false }
-        ensures ok { OnOk result ((pen.new ≡ with_ticket (looked_at pen.old pen.new.seen) true)
+        ensures ok { OnOk result ((pen.new ≡ with_ticket (looked_at pen.old pen.new.seen pen.new.looks) true)
             × (pen.new.seen / 2 < self.now.places)) }
-        ensures err { IfErr result (λ e. IsLooked pen.old pen.new
+        ensures err { IfErr result (λ e. IsLookedAnew pen.old pen.new
             × (((e ≡ Error.Full) × (self.now.places ≤ pen.new.seen / 2))
             ⊎ ((e ≡ Error.Raced) × (pen.new.seen / 2 < self.now.places)))) }
         ensures whole { pen.old.weight ≡ 1024
@@ -209,9 +210,12 @@ impl<T: Sample> RuledBucket<T> {
         requires hold { seat.old.me.0.hold ≡ Nothing }
         ensures table { seat.new.table_id ≡ seat.old.table_id }
         ensures ok { IfOk result (λ t. (e : ℕ) × (t.0 < 2) × (t.1 < self.now.places)
-            × (seat.new.me ≡ (holding_at (seeing seat.old.me.0 seat.new.me.0.seen) e (Ticket t.0 t.1), seat.old.me.1))
-            × (seat.new.me.0.seen / 2 < self.now.places)) }
-        ensures err { IfErr result (λ e. HasLooked seat.old.me seat.new.me
+            × (seat.new.me ≡ (
+              holding_at (having_seen seat.old.me.0 seat.new.me.0.seen seat.new.me.0.looks) e
+                  (Ticket t.0 t.1),
+              seat.old.me.1,
+            )) × (seat.new.me.0.seen / 2 < self.now.places)) }
+        ensures err { IfErr result (λ e. HasLookedAnew seat.old.me seat.new.me
             × (((e ≡ Error.Full) × (self.now.places ≤ seat.new.me.0.seen / 2))
             ⊎ ((e ≡ Error.Raced) × (seat.new.me.0.seen / 2 < self.now.places)))) }
         ensures whole { seat.old.me.0.weight ≡ 1024
@@ -283,7 +287,7 @@ impl<T: Sample> RuledBucket<T> {
         requires own { pen.old.home ≡ self.now }
         requires free { pen.old.ticket ≡ false }
         ensures ok { OnOk result (IsPushed pen.old (T.word value) pen.new × (pen.new.seen / 2 < self.now.places)) }
-        ensures err { IfErr result (λ e. IsLooked pen.old pen.new
+        ensures err { IfErr result (λ e. IsLookedAnew pen.old pen.new
             × (((e.0 ≡ Error.Full) × (self.now.places ≤ pen.new.seen / 2))
             ⊎ ((e.0 ≡ Error.Raced) × (pen.new.seen / 2 < self.now.places))) × (e.1 ≡ value)) }
         ensures whole { pen.old.weight ≡ 1024
@@ -306,7 +310,7 @@ impl<T: Sample> RuledBucket<T> {
         requires own { pen.old.home ≡ self.now }
         requires free { pen.old.ticket ≡ false }
         ensures ok { OnOk result (IsPushed pen.old (T.word value) pen.new × (pen.new.seen / 2 < self.now.places)) }
-        ensures err { IfErr result (λ e. IsLooked pen.old pen.new
+        ensures err { IfErr result (λ e. IsLookedAnew pen.old pen.new
             × (self.now.places ≤ pen.new.seen / 2) × (e.0 ≡ Error.Full)
             × (e.1 ≡ value)) }
         ensures whole { pen.old.weight ≡ 1024
@@ -329,7 +333,7 @@ impl<T: Sample> RuledBucket<T> {
         ensures table { seat.new.table_id ≡ seat.old.table_id }
         ensures ok { OnOk result (HasPushed seat.old.me (T.word value) seat.new.me
             × (seat.new.me.0.seen / 2 < self.now.places)) }
-        ensures err { IfErr result (λ e. HasLooked seat.old.me seat.new.me × (self.now.places ≤ seat.new.me.0.seen / 2)
+        ensures err { IfErr result (λ e. HasLookedAnew seat.old.me seat.new.me × (self.now.places ≤ seat.new.me.0.seen / 2)
             × (e.0 ≡ Error.Full) × (e.1 ≡ value)) }
         ensures whole { seat.old.me.0.weight ≡ 1024
             → MatchResult result (λ _. length seat.old.me.0.pushed < count_all seat.old.me.0.taken + self.now.places)

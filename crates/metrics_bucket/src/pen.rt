@@ -22,7 +22,7 @@ pub(crate) type SharedWords = Shared<Turn, View, (usize, bool), BucketRule>;
 /// whole bucket.
 ///
 /// Contracts see it as its account: what it pushed, took and read, its weight, whether it has a ticket, the control word
-/// that it saw last, and the turn's word that its last failed claim found.
+/// that it saw last, how often it looked, and how many of its claims found the turn held.
 #[derive(Drop)]
 pub struct Pen {
     pub(crate) table: Arc<Words, Global>,

@@ -1,6 +1,6 @@
 //! Spare pens of a bucket, for threads that come to know it.
 ghost use Rattle.std.specs.Prelude.{◌≡◌, ◌*◌, ◌^◌, ◌⊎◌, true, false, All, IfOk, OnOk, IfErr};
-ghost use Rattle.metrics_bucket.specs.Account.{first_account, looked_at, IsLooked};
+ghost use Rattle.metrics_bucket.specs.Account.{first_account, looked_at};
 ghost use Rattle.metrics_bucket.specs.Spares.{fresh_account, spare_account, IsSpareOf, WithSpares};
 
 use crate::pen::{Pen, Words};
@@ -73,10 +73,10 @@ impl Spares {
     ///
     /// Fails only when out of memory.
     pub fn new(alloc: Global, places: usize, pen: &mut Pen) -> Result<Spares, Error>
-        requires first { IsLooked (first_account pen.old.home) pen.old }
+        requires first { pen.old ≡ looked_at (first_account pen.old.home) pen.old.seen pen.old.looks }
         requires places { pen.old.home.places ≡ places }
         ensures ok { IfOk result (λ s. (s ≡ pen.old.home)
-            × (pen.new ≡ looked_at (spare_account pen.old.home) pen.old.seen)) }
+            × (pen.new ≡ looked_at (spare_account pen.old.home) pen.old.seen pen.old.looks)) }
         ensures err { IfErr result (λ e. e ≡ Error.Memory) }
     {
         let Ok(mut posts) = Vec::with_capacity(alloc, SPARES) else {
@@ -173,9 +173,9 @@ impl Spares {
 
 // Puts all parts of weight 8 but one on perches, and leaves that one to the pen.
 fn divide(pen: &mut Pen, depth: usize, posts: &mut Vec<Post>) -> Result<(), Error>
-    requires fresh { IsLooked (fresh_account pen.old.home (8 * 2 ^ depth)) pen.old }
+    requires fresh { pen.old ≡ looked_at (fresh_account pen.old.home (8 * 2 ^ depth)) pen.old.seen pen.old.looks }
     requires spares { All (IsSpareOf pen.old.home) posts.old.items }
-    ensures ok { OnOk result ((pen.new ≡ looked_at (spare_account pen.old.home) pen.old.seen)
+    ensures ok { OnOk result ((pen.new ≡ looked_at (spare_account pen.old.home) pen.old.seen pen.old.looks)
         × All (IsSpareOf pen.old.home) posts.new.items) }
     ensures err { IfErr result (λ e. e ≡ Error.Memory) }
 {

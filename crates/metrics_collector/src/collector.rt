@@ -1,30 +1,33 @@
 //! A collector.
-ghost use Rattle.std.specs.Prelude.{◌≡◌, List, if◌then◌else◌, IfOk, IfErr, string_bytes};
+ghost use Rattle.std.specs.Prelude.{◌≡◌, List, [], true, None, Some, if◌then◌else◌, string_bytes};
+ghost use Rattle.std.specs.Prelude.{IfOk, IfErr, OnOk, MatchResult};
+ghost use Rattle.std.specs.Fn.{FnOnceReturnsAt};
 ghost use Rattle.metrics.specs.declared.error.Error.TheVariants.{Memory as OutOfMemory, BadShards as NotShards};
 ghost use Rattle.metrics_registry.specs.Held.{is_shard_count as is_count};
 ghost use Rattle.metrics_exporter.specs.Readings.{Told, AreOnce, cells_told};
 ghost use Rattle.metrics_exporter.specs.Describing.{Legend};
 ghost use Rattle.metrics_prometheus.specs.declared.naming.Naming.TheVariants.{AsGiven as NamesAsGiven};
+ghost use Rattle.metrics_prometheus.specs.Common.{first_bad_label};
 ghost use Rattle.metrics_prometheus.specs.Exposition.{IsDescribed};
 ghost use Rattle.metrics_prometheus.specs.Reading.{AreOfKinds};
 ghost use Rattle.metrics_collector.specs.Gathering.{all_gathered, IsUnread};
+ghost use Rattle.metrics_collector.specs.LeftOut.{IsEnded, IsScraped, IsScrapedOf};
 ghost use Rattle.metrics_collector.specs.declared.gathered.Gathered.{Gathered as GatheredParts};
 
-use crate::cells::{CollectorCells, CounterHandle, GaugeHandle, HistogramHandle};
+use crate::cells::{CounterHandle, GaugeHandle, HistogramHandle};
+use crate::counted::with_number;
 use crate::gathered::{Gathered, GatheredSeries};
-use crate::keys::kept_key;
-use crate::rows::Rows;
-use crate::walk::{Walk, forget_all};
-use metrics::{Error, Key, Label, MetricKind, MetricKindMask, PerKind, Unit};
+use crate::keys::{is_kept, kept_key};
+use crate::readings::Series;
+use crate::repeats::with_repeated;
+use metrics::{Error, Key, Label, MetricKind, MetricKindMask, Unit};
 use metrics_cells::CounterFn;
 use metrics_exporter::Bounds;
-use metrics_prometheus::{Descriptions, Naming};
-use metrics_registry::OwnedRecency;
-use metrics_shared_registry::Registry;
-use std::alloc::Global;
-use std::collections::HashSet;
+use metrics_prometheus::{BadLabel, Descriptions, Naming, first_bad_label};
+use std::alloc::{AllocError, Global};
 use std::mem;
 use std::sync::{Mutex, RwLock, Wait};
+use std::time::Duration;
 
 /// Metrics that threads share by reference, and their text for Prometheus.
 ///
@@ -36,20 +39,23 @@ pub struct Collector {
     alloc: Global,
     labels: Vec<Label>,
     naming: Naming,
-    mask: MetricKindMask,
-    idle_timeout: Option<u64>,
-    registry: Registry<Key, CollectorCells>,
-    recency: Mutex<OwnedRecency<Key>>,
+    series: Series,
     /// The rows of the last text.
     rows: Mutex<Vec<GatheredSeries>>,
     descriptions: RwLock<Descriptions>,
+    /// Whether each text has a gauge with the number of series that it leaves out.
+    has_left_out_gauge: bool,
 }
 
 impl Collector {
+    ghost use Rattle.metrics_collector.specs.Labelling.{IsKept};
+    ghost use Rattle.metrics_collector.specs.Series.{counter_key, gauge_key, histogram_key};
+
     /// Makes a collector without series, in this many shards, a power of two from 1 to 1,024.
     ///
     /// A series of a kind in the mask is idle if it kept its generation over readings further apart than the timeout. Without
-    /// a timeout none is. The timeout and the moments are in one unit of the caller's choice.
+    /// a timeout none is. The timeout and the moments of `gather` and `render` are in one unit of the caller's choice: seconds
+    /// for `render_after`.
     pub fn new(
         alloc: Global,
         shards: usize,
@@ -57,29 +63,51 @@ impl Collector {
         idle_timeout: Option<u64>,
         bounds: Bounds,
     ) -> Result<Collector, Error>
-        ensures ok { IfOk result (λ c. (c.registry.storage.bounds ≡ bounds) × (c.naming ≡ NamesAsGiven)) }
+        ensures ok { IfOk result (λ c. (c.series.registry.storage.bounds ≡ bounds) × (c.naming ≡ NamesAsGiven)) }
         ensures err { IfErr result (λ e. e ≡ (if is_count shards then OutOfMemory else NotShards)) }
     {
-        let registry = Registry::new(alloc, CollectorCells::new(alloc, bounds), shards)?;
+        let series = Series::new(alloc, shards, mask, idle_timeout, bounds)?;
         Ok(Collector {
             alloc,
             labels: Vec::new(alloc),
             naming: Naming::AsGiven,
-            mask,
-            idle_timeout,
-            registry,
-            recency: Mutex::new(OwnedRecency::new(alloc, mask, idle_timeout)),
+            series,
             rows: Mutex::new(Vec::new(alloc)),
             descriptions: RwLock::new(Descriptions::new(alloc)),
+            has_left_out_gauge: false,
         })
     }
 
     /// Adds these labels to all series from then on. A series' own label wins over one of the same name.
-    pub fn with_labels(self, labels: Vec<Label>) -> Collector
-        ensures { result.labels.items ≡ labels.items }
+    ///
+    /// # Errors
+    ///
+    /// `BadLabel`, with the collector as it was, if a name isn't one of a label, is reserved by Prometheus (`le`, or with two
+    /// underscores at its start), or comes twice (`first_bad_label`).
+    pub fn with_labels(self, labels: Vec<Label>) -> Result<Collector, (BadLabel, Collector)>
+        ensures { MatchResult result
+            (λ c. (first_bad_label [] labels.items ≡ None) × (c ≡ record self { labels = labels }))
+            (λ e. (first_bad_label [] labels.items ≡ Some e.0) × (e.1 ≡ self)) }
+    {
+        match first_bad_label(&labels) {
+            Some(bad) => Err((bad, self)),
+            None => {
+                let mut collector = self;
+                collector.labels = labels;
+                Ok(collector)
+            }
+        }
+    }
+
+    /// Ends each text with the gauge `metrics_left_out_series`, which has the collector's labels: the number of series that
+    /// this text leaves out, also 0. Each has a line `# left out: ..` there, which Prometheus doesn't read (`left_out`).
+    ///
+    /// Give no series of your own this name: Prometheus would reject the text.
+    pub fn with_left_out_gauge(self) -> Collector
+        ensures { result ≡ record self { has_left_out_gauge = true } }
     {
         let mut collector = self;
-        collector.labels = labels;
+        collector.has_left_out_gauge = true;
         collector
     }
 
@@ -100,11 +128,13 @@ impl Collector {
     pub fn with_stripes(self, stripes: usize) -> Collector
         ensures { result ≡ self }
     {
-        self.registry.storage().set_stripes(stripes);
+        self.series.set_stripes(stripes);
         self
     }
 
     /// Replaces the text of a name of this kind, and the unit if there is a new one. A call that fails changes nothing.
+    ///
+    /// It waits while a text is written.
     pub fn describe<W: Wait>(
         &self,
         rt: &W,
@@ -121,45 +151,102 @@ impl Collector {
             .describe(alloc, kind, name, unit, text)
     }
 
+    /// Calls `op` once on the cell of the counter that a key names.
+    fn on_counter<W: Wait, V, F: FnOnce(&CounterHandle) -> V + Drop>(
+        &self,
+        rt: &W,
+        key: &Key,
+        op: F,
+    ) -> Result<V, Error>
+        requires { F.IsAlwaysCallable op }
+        ensures called { IfOk result (λ v. (h : CounterHandle) × IsKept self.now.labels.items key.now (counter_key h)
+            × FnOnceReturnsAt F.FnOnce op h v) }
+        ensures err { IfErr result (λ e. e ≡ OutOfMemory) }
+    {
+        if is_kept(key, &self.labels) {
+            return self.series.on_counter(rt, key, op);
+        }
+        let kept = kept_key(self.alloc, key, &self.labels)?;
+        self.series.on_counter(rt, &kept, op)
+    }
+
     /// Returns a handle of a counter, which begins at 0 if it is new. Labels in another order name the same series.
     ///
-    /// An update is one atomic instruction. An increment by 0 is no activity. A handle keeps its series, as long as it is kept:
-    /// some 200 bytes and the key's texts.
-    pub fn counter<W: Wait>(&self, rt: &W, key: &Key) -> Result<CounterHandle, Error> {
-        let kept = kept_key(self.alloc, key, &self.labels)?;
-        let key = kept.as_ref().unwrap_or(key);
-        let registry = &self.registry;
-        Ok(registry.get_or_create_counter(rt, key, |cell: &CounterHandle| cell.clone())??)
+    /// An update is one load and one locked instruction. An increment by 0 is no activity. A handle keeps its series, as long as
+    /// it is kept: some 360 bytes and the key's texts.
+    pub fn counter<W: Wait>(&self, rt: &W, key: &Key) -> Result<CounterHandle, Error>
+        ensures key { IfOk result (λ h. IsKept self.now.labels.items key.now (counter_key h)) }
+        ensures err { IfErr result (λ e. e ≡ OutOfMemory) }
+    {
+        let handle = |cell: &CounterHandle| -> Result<CounterHandle, AllocError>
+            ensures { IfOk result (λ h. counter_key h ≡ counter_key cell.now) }
+        { cell.clone() };
+        Ok(self.on_counter(rt, key, handle)??)
     }
 
     /// Adds to a counter without keeping a handle. A new counter begins at 0.
     ///
     /// It looks the key up, which a handle's update doesn't. It fails with `Error::Memory` only if the series is new, or if
     /// the key's labels aren't in order.
-    pub fn increment<W: Wait>(&self, rt: &W, key: &Key, value: u64) -> Result<(), Error> {
-        if self.labels.is_empty() && key.labels().len() < 2 {
-            return self.increment_kept(rt, key, value);
-        }
-        let kept = kept_key(self.alloc, key, &self.labels)?;
-        self.increment_kept(rt, kept.as_ref().unwrap_or(key), value)
-    }
-
-    fn increment_kept<W: Wait>(&self, rt: &W, key: &Key, value: u64) -> Result<(), Error> {
-        let registry = &self.registry;
-        registry.get_or_create_counter(rt, key, |cell: &CounterHandle| {
+    pub fn increment<W: Wait>(&self, rt: &W, key: &Key, value: u64) -> Result<(), Error>
+        ensures key { OnOk result ((h : CounterHandle) × IsKept self.now.labels.items key.now (counter_key h)) }
+        ensures err { IfErr result (λ e. e ≡ OutOfMemory) }
+    {
+        self.on_counter(rt, key, |cell: &CounterHandle| {
             CounterFn::increment(cell, value)
         })
+    }
+
+    /// Calls `op` once on the cell of the gauge that a key names.
+    fn on_gauge<W: Wait, V, F: FnOnce(&GaugeHandle) -> V + Drop>(
+        &self,
+        rt: &W,
+        key: &Key,
+        op: F,
+    ) -> Result<V, Error>
+        requires { F.IsAlwaysCallable op }
+        ensures called { IfOk result (λ v. (h : GaugeHandle) × IsKept self.now.labels.items key.now (gauge_key h)
+            × FnOnceReturnsAt F.FnOnce op h v) }
+        ensures err { IfErr result (λ e. e ≡ OutOfMemory) }
+    {
+        if is_kept(key, &self.labels) {
+            return self.series.on_gauge(rt, key, op);
+        }
+        let kept = kept_key(self.alloc, key, &self.labels)?;
+        self.series.on_gauge(rt, &kept, op)
     }
 
     /// Returns a handle of a gauge, which begins at 0 if it is new. Labels in another order name the same series.
     ///
     /// Each update is activity, even one that leaves the value as it is. A handle keeps its series, as long as it is kept:
     /// some 250 bytes and the key's texts.
-    pub fn gauge<W: Wait>(&self, rt: &W, key: &Key) -> Result<GaugeHandle, Error> {
+    pub fn gauge<W: Wait>(&self, rt: &W, key: &Key) -> Result<GaugeHandle, Error>
+        ensures key { IfOk result (λ h. IsKept self.now.labels.items key.now (gauge_key h)) }
+        ensures err { IfErr result (λ e. e ≡ OutOfMemory) }
+    {
+        let handle = |cell: &GaugeHandle| -> Result<GaugeHandle, AllocError>
+            ensures { IfOk result (λ h. gauge_key h ≡ gauge_key cell.now) }
+        { cell.clone() };
+        Ok(self.on_gauge(rt, key, handle)??)
+    }
+
+    /// Calls `op` once on the cell of the histogram that a key names.
+    fn on_histogram<W: Wait, V, F: FnOnce(&HistogramHandle) -> V + Drop>(
+        &self,
+        rt: &W,
+        key: &Key,
+        op: F,
+    ) -> Result<V, Error>
+        requires { F.IsAlwaysCallable op }
+        ensures called { IfOk result (λ v. (h : HistogramHandle) × IsKept self.now.labels.items key.now (histogram_key h)
+            × FnOnceReturnsAt F.FnOnce op h v) }
+        ensures err { IfErr result (λ e. e ≡ OutOfMemory) }
+    {
+        if is_kept(key, &self.labels) {
+            return self.series.on_histogram(rt, key, op);
+        }
         let kept = kept_key(self.alloc, key, &self.labels)?;
-        let key = kept.as_ref().unwrap_or(key);
-        let registry = &self.registry;
-        Ok(registry.get_or_create_gauge(rt, key, |cell: &GaugeHandle| cell.clone())??)
+        self.series.on_histogram(rt, &kept, op)
     }
 
     /// Returns a handle of a histogram, which begins without samples if it is new. Labels in another order name the same
@@ -167,35 +254,23 @@ impl Collector {
     ///
     /// Each sample is activity. Ask for a handle in each thread: those of one histogram seldom wait for each other. A handle
     /// keeps its series, as long as it is kept: some 550 bytes, 32 for each bound, and the key's texts.
-    pub fn histogram<W: Wait>(&self, rt: &W, key: &Key) -> Result<HistogramHandle, Error> {
-        let kept = kept_key(self.alloc, key, &self.labels)?;
-        let key = kept.as_ref().unwrap_or(key);
-        let registry = &self.registry;
-        Ok(registry.get_or_create_histogram(rt, key, |cell: &HistogramHandle| cell.clone())??)
-    }
-
-    /// Walks over the cells of each kind.
-    fn walk<W: Wait>(&self, rt: &W, walk: &mut Walk) {
-        let registry = &self.registry;
-        registry.visit_counters(rt, |key, cell| walk.gather(rt, key, cell));
-        registry.visit_gauges(rt, |key, cell| walk.gather(rt, key, cell));
-        registry.visit_histograms(rt, |key, cell| walk.gather(rt, key, cell));
-        if !walk.gone.counter.is_empty() {
-            registry.retain_counters(rt, |key, cell| walk.stays(rt, key, cell));
-        }
-        if !walk.gone.gauge.is_empty() {
-            registry.retain_gauges(rt, |key, cell| walk.stays(rt, key, cell));
-        }
-        if !walk.gone.histogram.is_empty() {
-            registry.retain_histograms(rt, |key, cell| walk.stays(rt, key, cell));
-        }
+    pub fn histogram<W: Wait>(&self, rt: &W, key: &Key) -> Result<HistogramHandle, Error>
+        ensures key { IfOk result (λ h. IsKept self.now.labels.items key.now (histogram_key h)) }
+        ensures err { IfErr result (λ e. e ≡ OutOfMemory) }
+    {
+        let handle = |cell: &HistogramHandle| -> Result<HistogramHandle, AllocError>
+            ensures { IfOk result (λ h. histogram_key h ≡ histogram_key cell.now) }
+        { cell.clone() };
+        Ok(self.on_histogram(rt, key, handle)??)
     }
 
     /// Reads each cell once, and returns the series in use. An idle series is removed if no thread has a handle.
     ///
-    /// Shards are read while other threads ask for handles. Only if an idle series is removed is each shard locked for a
-    /// moment. Threads with handles never wait for it, except one that records into the part of a histogram that is being
-    /// read.
+    /// # Waiting
+    ///
+    /// Readings go one after another. A thread with a handle waits for none, except to record into a histogram's part that is
+    /// being read. Nor does a look-up of a series that is there. A new series waits until the reading has left its shard, and
+    /// meanwhile look-ups in that shard wait behind it. To remove an idle series its shard is locked for this one alone.
     ///
     /// # Errors
     ///
@@ -203,53 +278,91 @@ impl Collector {
     pub fn gather<W: Wait>(&self, rt: &W, alloc: Global, now: u64) -> Result<Gathered, Error>
         ensures { IfErr result IsUnread }
     {
-        self.gather_into(rt, alloc, now, Vec::new(alloc))
+        self.series.read(rt, now, Vec::new(alloc))
     }
 
-    /// Gathers into the memory of these rows.
-    fn gather_into<W: Wait>(
+    /// Adds the gauge of what a text leaves out, if there is to be one.
+    fn ended(&self, alloc: Global, text: String) -> Result<String, Error>
+        ensures ok { IfOk result (λ all. IsEnded self.now.has_left_out_gauge self.now.labels.items (string_bytes text)
+            (string_bytes all)) }
+        ensures err { IfErr result (λ e. e ≡ OutOfMemory) }
+    {
+        if self.has_left_out_gauge {
+            return with_number(alloc, text, &self.labels);
+        }
+        Ok(text)
+    }
+
+    /// Writes series with this collector's descriptions and naming.
+    fn described<W: Wait>(
         &self,
         rt: &W,
         alloc: Global,
-        now: u64,
-        rows: Vec<GatheredSeries>,
-    ) -> Result<Gathered, Error>
-        ensures { IfErr result IsUnread }
+        gathered: &Gathered,
+    ) -> Result<String, Error>
+        ensures text { IfOk result (λ text. (legend : Legend) × (kept : List Told)
+            × AreOnce (all_gathered gathered.now) kept × AreOfKinds (cells_told kept)
+            × IsDescribed self.now.naming legend (cells_told kept) (string_bytes text)) }
+        ensures err { IfErr result (λ e. e ≡ OutOfMemory) }
     {
-        let mut recency = self.recency.lock(rt);
-        let none = OwnedRecency::new(alloc, self.mask, self.idle_timeout);
-        let mut walk = Walk {
-            now,
-            recency: mem::replace(&mut *recency, none),
-            rows: Rows::reusing(rows),
-            refused: None,
-            gone: PerKind {
-                counter: HashSet::new(alloc),
-                gauge: HashSet::new(alloc),
-                histogram: HashSet::new(alloc),
-            },
-        };
-        self.walk(rt, &mut walk);
-        let Walk {
-            now: _,
-            recency: mut noted,
-            rows,
-            refused,
-            gone: _,
-        } = walk;
-        let series = rows.into_vec();
-        if refused.is_some() {
-            forget_all(&mut noted, &series);
-        }
-        *recency = noted;
-        match refused {
-            None => Ok(Gathered { series }),
-            Some(Error::CountFull) => Err(Error::CountFull),
-            Some(_) => Err(Error::Memory),
-        }
+        gathered.text(alloc, self.naming, &self.descriptions.read(rt))
     }
 
-    /// Reads each cell once, and returns the text of the series that are in use.
+    /// Writes what a reading gathered.
+    fn text_once<W: Wait>(
+        &self,
+        rt: &W,
+        alloc: Global,
+        gathered: &Gathered,
+    ) -> Result<String, Error>
+        ensures text { IfOk result (λ text. (legend : Legend) × (kept : List Told)
+            × AreOnce (all_gathered gathered.now) kept × AreOfKinds (cells_told kept)
+            × IsScraped self.now.naming legend self.now.has_left_out_gauge self.now.labels.items (cells_told kept)
+            (string_bytes text)) }
+        ensures err { IfErr result (λ e. e ≡ OutOfMemory) }
+    {
+        let text = self.described(rt, alloc, gathered)?;
+        self.ended(alloc, text)
+    }
+
+    /// Writes series that were gathered, of this collector or of several, or a part of them: with this collector's descriptions,
+    /// naming, and gauge of what is left out. Its labels are in the keys of what it gathered.
+    ///
+    /// A series that comes again, such as one that was pushed beside a gathered one, is left out, and has a line that says so.
+    /// Each row is looked for among those before it.
+    pub fn text_of<W: Wait>(
+        &self,
+        rt: &W,
+        alloc: Global,
+        gathered: &Gathered,
+    ) -> Result<String, Error>
+        ensures text { IfOk result (λ text. (legend : Legend) × (kept : List Told)
+            × AreOnce (all_gathered gathered.now) kept × AreOfKinds (cells_told kept)
+            × IsScrapedOf self.now.naming legend self.now.has_left_out_gauge self.now.labels.items (cells_told kept)
+            gathered.now.series.items (string_bytes text)) }
+        ensures err { IfErr result (λ e. e ≡ OutOfMemory) }
+    {
+        let text = self.described(rt, alloc, gathered)?;
+        let all = with_repeated(alloc, text, &gathered.series)?;
+        self.ended(alloc, all)
+    }
+
+    /// Removes a series of a kind, and returns whether it was there.
+    ///
+    /// A handle that is kept then counts into nothing, until it is asked for anew: that makes a new series, which begins at 0.
+    /// The call waits for a reading to end. It fails with `Error::Memory` only if the key's labels aren't in order, or the
+    /// collector has labels.
+    pub fn remove<W: Wait>(&self, rt: &W, kind: MetricKind, key: &Key) -> Result<bool, Error>
+        ensures { IfErr result (λ e. e ≡ OutOfMemory) }
+    {
+        if is_kept(key, &self.labels) {
+            return Ok(self.series.remove(rt, kind, key));
+        }
+        let kept = kept_key(self.alloc, key, &self.labels)?;
+        Ok(self.series.remove(rt, kind, &kept))
+    }
+
+    /// Reads each cell once, and returns the text of the series that are in use. The moment is in the unit of the idle timeout.
     ///
     /// # Errors
     ///
@@ -262,17 +375,34 @@ impl Collector {
     pub fn render<W: Wait>(&self, rt: &W, alloc: Global, now: u64) -> Result<String, Error>
         ensures text { IfOk result (λ text. (legend : Legend) × (gathered : GatheredParts) × (kept : List Told)
             × AreOnce (all_gathered gathered) kept × AreOfKinds (cells_told kept)
-            × IsDescribed self.now.naming legend (cells_told kept) (string_bytes text)) }
+            × IsScraped self.now.naming legend self.now.has_left_out_gauge self.now.labels.items (cells_told kept)
+            (string_bytes text)) }
         ensures err { IfErr result IsUnread }
     {
         let rows = mem::replace(&mut *self.rows.lock(rt), Vec::new(alloc));
-        let gathered = self.gather_into(rt, alloc, now, rows)?;
-        let text = gathered.text(alloc, self.naming, &self.descriptions.read(rt));
+        let gathered = self.series.read(rt, now, rows)?;
+        let text = self.text_once(rt, alloc, &gathered);
         if text.is_err() {
-            forget_all(&mut *self.recency.lock(rt), &gathered.series);
+            self.series.forget_all(rt, &gathered);
         }
         let Gathered { series } = gathered;
         *self.rows.lock(rt) = series;
         text
+    }
+    /// Renders as `render` does, at a moment in whole seconds: those of a duration since the caller's start. So the idle timeout
+    /// is in seconds too.
+    pub fn render_after<W: Wait>(
+        &self,
+        rt: &W,
+        alloc: Global,
+        since_start: Duration,
+    ) -> Result<String, Error>
+        ensures text { IfOk result (λ text. (legend : Legend) × (gathered : GatheredParts) × (kept : List Told)
+            × AreOnce (all_gathered gathered) kept × AreOfKinds (cells_told kept)
+            × IsScraped self.now.naming legend self.now.has_left_out_gauge self.now.labels.items (cells_told kept)
+            (string_bytes text)) }
+        ensures err { IfErr result IsUnread }
+    {
+        self.render(rt, alloc, since_start.as_secs())
     }
 }

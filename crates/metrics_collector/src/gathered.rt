@@ -7,7 +7,7 @@ ghost use Rattle.metrics_exporter.specs.Describing.{described_by};
 ghost use Rattle.metrics_prometheus.specs.Exposition.{IsDescribed};
 ghost use Rattle.metrics_prometheus.specs.Reading.{AreOfKinds};
 
-use metrics::{Error, Key};
+use metrics::{Error, Key, MetricKind};
 use metrics_prometheus::{
     Descriptions, Naming, ReadSeries, ReadingRef, SeriesReading, exposition_of,
 };
@@ -35,7 +35,20 @@ pub struct Gathered {
     pub series: Vec<GatheredSeries>,
 }
 
-ghost use Rattle.metrics_collector.specs.Gathering.{told_of_gathered, all_gathered};
+ghost use Rattle.metrics_collector.specs.Gathering.{told_of_gathered, all_gathered, kind_of};
+
+impl GatheredSeries {
+    /// Returns the kind of the series, which is that of its value.
+    pub fn kind(&self) -> MetricKind
+        ensures { result ≡ kind_of self.now.value }
+    {
+        match &self.value {
+            Value::Count(_) => MetricKind::Counter,
+            Value::Level(_) => MetricKind::Gauge,
+            Value::Samples(_) => MetricKind::Histogram,
+        }
+    }
+}
 
 impl ReadSeries for GatheredSeries {
     ghost told = { told_of_gathered };
@@ -55,7 +68,7 @@ impl ReadSeries for GatheredSeries {
 
 impl Gathered {
     /// Writes the series in Prometheus's text exposition format, each name after its description. The naming decides names and
-    /// units.
+    /// units. A series that comes again is written once; `Collector::text_of` says so in a line.
     pub fn text(
         &self,
         alloc: Global,

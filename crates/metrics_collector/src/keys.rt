@@ -1,5 +1,5 @@
 //! The keys under which series are kept: with the labels that all series have, in order.
-ghost use Rattle.std.specs.Prelude.{◌≡◌, ◌++◌, ◌∷◌, [], bytes_eq, IfErr, IfOk, OnOk, IsTrue, MatchOption};
+ghost use Rattle.std.specs.Prelude.{◌≡◌, ◌++◌, ◌∷◌, [], bytes_eq, IfErr, IfOk, OnOk, IsTrue};
 ghost use Rattle.std.specs.List.{list_any};
 ghost use Rattle.std.specs.List.Sorted.{IsSorted};
 ghost use Rattle.std.specs.Ordering.{is_lt};
@@ -52,7 +52,7 @@ fn add_new(
 }
 
 /// Returns copies of labels.
-fn copies(alloc: Global, labels: &[Label]) -> Result<Vec<Label>, Error>
+pub(crate) fn copies(alloc: Global, labels: &[Label]) -> Result<Vec<Label>, Error>
     ensures ok { IfOk result (λ all. all.items ≡ labels.now) }
     ensures err { IfErr result (λ e. e ≡ OutOfMemory) }
 {
@@ -96,17 +96,20 @@ fn sort_labels(labels: &mut Vec<Label>)
     labels.sort_unstable();
 }
 
-/// Returns the key under which a collector with these labels keeps the series, or `None` if it is the key itself. `None` needs
-/// no memory.
-pub(crate) fn kept_key(alloc: Global, key: &Key, more: &[Label]) -> Result<Option<Key>, Error>
-    ensures ok { IfOk result (λ found. MatchOption found (IsKept more.now key.now key.now) (IsKept more.now key.now)) }
+/// Returns whether a collector with these labels keeps the series under the key itself.
+pub(crate) fn is_kept(key: &Key, more: &[Label]) -> bool
+    ensures { IsTrue result → IsKept more.now key.now key.now }
+{
+    more.is_empty() && are_sorted(key.labels())
+}
+
+/// Returns the key under which a collector with these labels keeps the series.
+pub(crate) fn kept_key(alloc: Global, key: &Key, more: &[Label]) -> Result<Key, Error>
+    ensures ok { IfOk result (IsKept more.now key.now) }
     ensures err { IfErr result (λ e. e ≡ OutOfMemory) }
 {
-    if more.is_empty() && are_sorted(key.labels()) {
-        return Ok(None);
-    }
     let labels = copies(alloc, key.labels())?;
     let mut all = add_new(alloc, labels, key.labels(), more)?;
     sort_labels(&mut all);
-    Ok(Some(Key::from_parts(alloc, key.name(), all)?))
+    Ok(Key::from_parts(alloc, key.name(), all)?)
 }

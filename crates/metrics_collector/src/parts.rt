@@ -1,10 +1,11 @@
 //! The samples of a histogram in parts, so that threads that record at one time seldom wait for each other.
-ghost use Rattle.std.specs.Prelude.{◌≡◌, MatchResult};
+ghost use Rattle.std.specs.Prelude.{◌≡◌, IfOk, MatchResult};
 ghost use Rattle.metrics_storage.specs.Histogram.{bounds_of, merged};
 ghost use Rattle.metrics.specs.declared.error.Error.TheVariants.{CountFull};
 
+use crate::note::KeyNote;
 use crossbeam_utils::CachePadded;
-use metrics::Error;
+use metrics::{Error, Key};
 use metrics_storage::Histogram;
 use once_cell::race::OnceBox;
 use std::alloc::{AllocError, Global};
@@ -18,6 +19,8 @@ type Part = CachePadded<Mutex<Histogram>>;
 #[derive(Drop)]
 pub(crate) struct Parts {
     alloc: Global,
+    /// The key of the series.
+    pub key: KeyNote,
     /// How many handles were given out, modulo 2^64.
     given: AtomicUsize,
     first: Part,
@@ -47,10 +50,18 @@ fn add(total: &mut Histogram, part: &Histogram) -> Result<(), Error>
 
 impl Parts {
     /// Makes a histogram of a first part, which is there at once, and up to `others` further ones.
-    pub fn new(alloc: Global, empty: Histogram, others: usize) -> Result<Parts, AllocError> {
+    pub fn new(
+        alloc: Global,
+        key: &Key,
+        empty: Histogram,
+        others: usize,
+    ) -> Result<Parts, AllocError>
+        ensures { IfOk result (λ p. p.key.key ≡ key.now) }
+    {
         let others = places(alloc, others)?;
         Ok(Parts {
             alloc,
+            key: KeyNote::of(key),
             given: AtomicUsize::new(0),
             first: CachePadded::new(Mutex::new(empty)),
             others,

@@ -8,14 +8,13 @@ use Rattle.metrics_names.specs.Names.{kind_eq}
 use Rattle.metrics.specs.declared.debugging.DebugValue.{DebugValue}
 use Rattle.metrics.specs.declared.debugging.Reset.{Reset}
 use Rattle.metrics.specs.declared.handles.Update.{Update}
-use Rattle.metrics.specs.Book.{Series, new_series, new_value, kind_of, with_update, resets, after_reset}
+use Rattle.metrics.specs.Book.{Series, new_series, new_value, kind_of, with_update, resets, after_reset, active_at}
 use Rattle.metrics.specs.Meaning.{is_kind}
 use Rattle.metrics.specs.Targets.{change_at}
 use Rattle.metrics_debugging.specs.declared.debugging.cells.Cell.{Cell}
 use Rattle.metrics_debugging.specs.declared.debugging.series.Stored.{Stored}
 use Rattle.metrics_debugging.specs.DebuggingCells.{value_of, kind_of_value, UpdatesValue}
 use Rattle.metrics_debugging.specs.DebuggingSeries.{Numbers, spot, key_at, series_at, all_series, is_active, Agrees}
-use Rattle.metrics_debugging.specs.DebuggingOrder.{active_at, registered_at}
 use Rattle.metrics_debugging.specs.DebuggingUpdates.{UpdatesAt, is_held}
 use Rattle.metrics_debugging.proofs.AgreesLemmas.{by_test, kind-new, kinds-order}
 
@@ -67,22 +66,11 @@ module _ (stored : List Stored) (s : ℕ) (x y : Stored) (at : slice_get stored 
   activity-step (Ok done) e = activity-changed (λ _. true) e
   activity-step (Err refused) e = activity-changed (λ b. b) e ∙ change-same s (map is_active stored)
 
--- a series that is registered again, and a new one
-pub there-active : (xs : List Bool) (n : ℕ) → n < length xs → active_at n xs ≡ registered_at n xs
-there-active [] n small = absurd (omega (arith, small))
-there-active (x ∷ xs) zero small = refl
-there-active (x ∷ xs) (suc n) small = ap (λ ys. x ∷ ys) (there-active xs n (omega (arith, small)))
-
+-- a place past the end
 pub past-active : (xs : List Bool) (n : ℕ) → length xs ≤ n → xs ≡ active_at n xs
 past-active [] n past = refl
 past-active (x ∷ xs) zero past = absurd (omega (arith, past))
 past-active (x ∷ xs) (suc n) past = ap (λ ys. x ∷ ys) (past-active xs n (omega (arith, past)))
-
-pub new-active : (xs : List Bool) (n : ℕ) → n ≡ length xs → xs ++ true ∷ [] ≡ registered_at n xs
-new-active [] zero e = refl
-new-active [] (suc n) e = absurd (omega (arith, e))
-new-active (x ∷ xs) zero e = absurd (omega (arith, e))
-new-active (x ∷ xs) (suc n) e = ap (λ ys. x ∷ ys) (new-active xs n (omega (arith, e)))
 
 -- ---- a change of one cell
 

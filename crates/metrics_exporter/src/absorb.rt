@@ -1,6 +1,6 @@
 //! Snapshots of a recorder's books as updates of series.
-ghost use Rattle.std.specs.Prelude.{◌≡◌, ◌+◌, ◌<◌, ◌≤◌, ◌∷◌, [], Bool, true, IsSome, OnOk, IfErr};
-ghost use Rattle.std.specs.Prelude.{List, map, length, drop, get_or};
+ghost use Rattle.std.specs.Prelude.{◌≡◌, ◌+◌, ◌<◌, ◌≤◌, ◌∷◌, [], true, IsSome, OnOk, IfErr};
+ghost use Rattle.std.specs.Prelude.{map, length, drop, get_or};
 ghost use Rattle.metrics.specs.declared.error.Error.TheVariants.{Memory as OutOfMemory};
 ghost use Rattle.metrics.specs.declared.handles.Update.TheVariants.{Record as RecordUpdate};
 ghost use Rattle.metrics_exporter.specs.Exporting.{Setup, Log};
@@ -43,8 +43,9 @@ impl Exporter {
     /// series was active, a count is added, even 0, and a gauge is set, even to the value that it has. If it was idle, only a
     /// count other than 0 is added. Each sample is recorded.
     ///
-    /// So a series stays for as long as it is registered or updated between snapshots, with any value, and `expire` removes an
-    /// idle one once.
+    /// So a counter or a gauge stays for as long as it is registered or updated between snapshots, with any value, and a
+    /// histogram for as long as it is recorded: one that is only registered has no sample, so that its row means no update, and
+    /// `expire` removes it. An idle series is removed once.
     ///
     /// Each book needs one reader: take its snapshots by `snapshot_with` and `Reset::KeepGauges`, and absorb each of them.
     /// `snapshot` resets gauges too, so that `absorb` sees a change and no level: a gauge that counts 5, 6, 7 is set to 5, 1,
@@ -52,9 +53,10 @@ impl Exporter {
     ///
     /// An error says which part was absorbed; `absorb_from` goes on from there.
     pub fn absorb(&mut self, snapshot: &Snapshot) -> Result<(), PartlyAbsorbed>
-        ensures absorbs { (active : List Bool) × ((setup : Setup) (log : Log) → IsAfter setup log self.old
-            → Absorbs setup log (marked snapshot.now active) result self.new) }
-        ensures tells { OnOk result (SameLegend (described self.new) (told_by_all snapshot.now (described self.old))) }
+        ensures absorbs { (setup : Setup) (log : Log) → IsAfter setup log self.old
+            → Absorbs setup log (marked snapshot.now.rows snapshot.now.active) result self.new }
+        ensures tells { OnOk result (SameLegend (described self.new)
+            (told_by_all snapshot.now.rows (described self.old))) }
         ensures shards { self.new.registry.count ≡ self.old.registry.count }
     {
         absorb_rows(self, snapshot.as_slice(), snapshot.activity())
@@ -69,10 +71,10 @@ impl Exporter {
         snapshot: &Snapshot,
         part: PartlyAbsorbed,
     ) -> Result<(), PartlyAbsorbed>
-        ensures absorbs { (active : List Bool) × ((setup : Setup) (log : Log) → IsAfter setup log self.old
-            → AbsorbsBehind setup log part (marked snapshot.now active) result self.new) }
+        ensures absorbs { (setup : Setup) (log : Log) → IsAfter setup log self.old
+            → AbsorbsBehind setup log part (marked snapshot.now.rows snapshot.now.active) result self.new }
         ensures tells { OnOk result (SameLegend (described self.new)
-            (told_by_all (drop part.rows snapshot.now) (described self.old))) }
+            (told_by_all (drop part.rows snapshot.now.rows) (described self.old))) }
         ensures shards { self.new.registry.count ≡ self.old.registry.count }
     {
         absorb_behind(self, snapshot.as_slice(), snapshot.activity(), part)

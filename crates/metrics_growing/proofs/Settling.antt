@@ -7,7 +7,7 @@ use Rattle.std.proofs.lemmas.List.Elements.{All-nil, All-cons, All-head, All-tai
 use mathlib.Core.List.{map-append}
 use Rattle.metrics.specs.Book.{joined_lists, blocks}
 use Rattle.metrics_bucket.specs.declared.view.Walk.{Walk}
-use Rattle.metrics_bucket.specs.Account.{Account}
+use Rattle.metrics_bucket.specs.Account.{Account, refused_more, took_account}
 use Rattle.metrics_bucket.specs.Blocks.{newest_first, valued}
 use Rattle.metrics_bucket.specs.Facts.{weigh, weigh_pushes, weigh_walks}
 use Rattle.metrics_bucket.specs.Gathers.{Gathers}
@@ -17,7 +17,7 @@ use Rattle.metrics_bucket.proofs.Blocks.{weigh_blocks, length_map}
 use Rattle.metrics_bucket.proofs.Gathers.{gathers_fold}
 use Rattle.metrics_bucket.proofs.Shares.{weigh_walks-both}
 use Rattle.metrics_bucket.proofs.Sums.{weigh-append}
-use Rattle.metrics_growing.specs.Parts.{Part, IsNew, IsWhole, Keeps, EachOf, ChangedAt, SpareIn, Took, Gathered, all_chunks, all_blocks}
+use Rattle.metrics_growing.specs.Parts.{Part, IsNew, IsWhole, Keeps, EachOf, ChangedAt, SpareIn, WaitedAndTakenIn, Took, Gathered, all_chunks, all_blocks}
 use Rattle.metrics_growing.specs.Bags.{sum_of, places_in, pushed_by, taken_by, first_weight, IsBalanced, Settled}
 use Rattle.metrics_growing.proofs.Chains.{weigh_one}
 
@@ -45,7 +45,7 @@ pub each_changed : (ps qs rs : List Part) (at : ℕ) → EachOf SpareIn ps qs �
 each_changed ps qs rs at a (q, r, e, s, is) = subst (EachOf SpareIn ps) (sym is) (each_set ps qs at q r a e s)
 
 -- numbers that stay
-sum_both : (f : Part → ℕ) (ps qs : List Part) → sum_of f (ps ++ qs) ≡ sum_of f ps + sum_of f qs
+pub sum_both : (f : Part → ℕ) (ps qs : List Part) → sum_of f (ps ++ qs) ≡ sum_of f ps + sum_of f qs
 sum_both f [] qs = omega arith
 sum_both f (p ∷ ps) qs = let r = sum_both f ps qs in omega arith
 
@@ -73,17 +73,22 @@ gathered_sums h ps rs (qs, k, a) = (
   each_sum (λ a. weigh_walks h a.taken) (λ a b s. ap (λ (x : Account). weigh_walks h x.taken) s.1) qs rs a ∙ keeps_sum (λ a. weigh_walks h a.taken) ps qs (λ p new. ap (λ (x : Account). weigh_walks h x.taken) new) k,
 )
 
+-- the account after some claims that found the turn held, and a walk
+account_took : (p r : Part) (walk : Walk) → WaitedAndTakenIn walk p r → (n : ℕ) × (r.account ≡ took_account (refused_more p.account n) walk)
+account_took p r walk (w, (link, n, waited), taken) = (n, taken.1.0 ∙ ap (λ (a : Account). took_account a walk) waited)
+
 pub took_sums : (h : ℕ → ℕ) (ps : List Part) (walks : List Walk) (rs : List Part) → Took ps walks rs → (pushed_by h rs ≡ pushed_by h ps) × (taken_by h rs ≡ taken_by h ps + weigh_walks h walks)
 took_sums h ps [] rs t = (ap (pushed_by h) (sym t), (let e = ap (taken_by h) (sym t) in omega arith))
 took_sums h [] (w ∷ walks) rs t = absurd t
 took_sums h (p ∷ ps) (w ∷ walks) [] t = absurd t
 took_sums h (p ∷ ps) (w ∷ walks) (r ∷ rs) t =
-    let a = ap (λ (x : Account). weigh_pushes h x.pushed) t.0.1.0 in
-    let b = ap (λ (x : Account). weigh_walks h x.taken) t.0.1.0 in
+    let e = account_took p r w t.0 in
+    let a = ap (λ (x : Account). weigh_pushes h x.pushed) e.1 in
+    let b = ap (λ (x : Account). weigh_walks h x.taken) e.1 in
     let c = weigh_walks-both h p.account.taken (w ∷ []) in
     let s = took_sums h ps walks rs t.1 in
     let d = s.0 in
-    let e = s.1 in
+    let f = s.1 in
     (omega arith, omega arith)
 
 -- a clear leaves the segments as large as they were
@@ -92,7 +97,7 @@ took_places ps [] rs t = ap (sum_of places_in) (sym t)
 took_places [] (w ∷ walks) rs t = absurd t
 took_places (p ∷ ps) (w ∷ walks) [] t = absurd t
 took_places (p ∷ ps) (w ∷ walks) (r ∷ rs) t =
-    let a = ap (λ (x : Account). x.home.places) t.0.1.0 in
+    let a = ap (λ (x : Account). x.home.places) (account_took p r w t.0).1 in
     let s = took_places ps walks rs t.1 in
     omega arith
 
@@ -104,7 +109,9 @@ took_whole (p ∷ ps) (w ∷ walks) [] t n a = absurd t
 took_whole (p ∷ ps) (w ∷ walks) (r ∷ rs) t n a =
     let heavy : p.account.weight ≡ 1024 = All-head IsWhole p ps a in
     let rest = took_whole ps walks rs t.1 (omega arith) (All-tail IsWhole p ps a) in
-    (All-cons IsWhole r rs (ap (λ (x : Account). x.weight) t.0.1.0 ∙ heavy) rest.0, All-cons IsBalanced r rs (t.0.1.2 heavy) rest.1)
+    let e = account_took p r w t.0 in
+    let waited = ap (λ (x : Account). x.weight) t.0.1.2 in
+    (All-cons IsWhole r rs (ap (λ (x : Account). x.weight) e.1 ∙ heavy) rest.0, All-cons IsBalanced r rs (t.0.2.1.2 (waited ∙ heavy)) rest.1)
 
 pub first_whole : (ps : List Part) → 0 < length ps → All IsWhole ps → first_weight ps ≡ 1024
 first_whole [] l a = absurd (omega arith)

@@ -3,16 +3,12 @@ use Rattle.std.specs.Prelude.{◌≡◌, ◌⊎◌, ◌<◌, ◌≤◌, ◌/◌,
 use Rattle.std.specs.Coded.{Coded, code_by, coded×, coded_ℕ}
 use Rattle.metrics.specs.Book.{blocks}
 use Rattle.metrics_bucket.specs.declared.view.Walk.{Walk}
-use Rattle.metrics_bucket.specs.Account.{Home, Account, account_code, left_account, right_account, joined_account, IsLooked, IsPushed, IsTaken}
+use Rattle.metrics_bucket.specs.Account.{Home, Account, account_code, left_account, right_account, joined_account, refused_more, IsLooked, IsLookedAnew, IsBusy, IsPushed, IsTaken}
 use Rattle.metrics_bucket.specs.Blocks.{newest_first}
 use Rattle.metrics_bucket.specs.Steps.{IsFullFor}
 use Rattle.metrics_bucket.specs.Spares.{spare_account, WithSpares}
 
--- an account without what its last failed claim found
-abbrev pub unclaimed : Account → Account
-unclaimed a = record a { turn_seen = 0 }
-
--- the link by which the segment is found, and the account of the pen that is used there, without what its claims found
+-- the link by which the segment is found, and the account of the pen that is used there
 pub record Part : Type 0 where
   pub link : ℕ
   pub account : Account
@@ -55,13 +51,17 @@ IsFilled p = IsFullFor p.account.home.places p.account.pushed p.account.taken
 abbrev pub IsPassed : Part → Type 0
 IsPassed p = (p.account.home.places ≤ p.account.seen / 2) × (IsWhole p → IsFilled p)
 
--- the pen looked at the control word there, and nothing else changed
+-- the pen may have looked at the control word there, and nothing else changed
 abbrev pub LookedIn : Part → Part → Type 0
 LookedIn p q = (q.link ≡ p.link) × IsLooked p.account q.account
 
--- the pen looked there, and may go on
+-- the pen looked at the control word there at least once more, and nothing else changed
+abbrev pub LookedAnewIn : Part → Part → Type 0
+LookedAnewIn p q = (q.link ≡ p.link) × IsLookedAnew p.account q.account
+
+-- the pen looked there anew, and may go on
 abbrev pub PassedIn : Part → Part → Type 0
-PassedIn p q = LookedIn p q × IsPassed q
+PassedIn p q = LookedAnewIn p q × IsPassed q
 
 -- a part that has done nothing but look, and has the weight of a spare pen
 abbrev pub HasOnlyLooked : Part → Type 0
@@ -73,6 +73,16 @@ OnlyLooks [] qs = All HasOnlyLooked qs
 OnlyLooks (p ∷ ps) [] = ⊥
 OnlyLooks (p ∷ ps) (q ∷ qs) = LookedIn p q × OnlyLooks ps qs
 
+-- a part that is met is passed: the pen has looked there since, and may go on
+abbrev pub IsMetAndPassed : Part → Type 0
+IsMetAndPassed p = HasOnlyLooked p × IsPassed p
+
+-- all parts are passed, also those of segments that are met
+abbrev pub PassedAll : List Part → List Part → Type 0
+PassedAll [] qs = All IsMetAndPassed qs
+PassedAll (p ∷ ps) [] = ⊥
+PassedAll (p ∷ ps) (q ∷ qs) = PassedIn p q × PassedAll ps qs
+
 -- one part changed so, those before it are passed, and the others stayed
 abbrev pub OneOf : (Part → Part → Type 0) → List Part → List Part → Type 0
 OneOf R [] qs = ⊥
@@ -81,7 +91,7 @@ OneOf R (p ∷ ps) (q ∷ qs) = (R p q × (ps ≡ qs)) ⊎ (PassedIn p q × OneO
 
 -- all parts are passed, and the last of those that the pen came to know changed so
 abbrev pub LastMet : (Part → Part → Type 0) → List Part → List Part → Type 0
-LastMet R ps rs = (qs : List Part) × (p q : Part) × OnlyLooks ps qs × All IsPassed qs × IsNew p × R p q × (rs ≡ qs ++ q ∷ [])
+LastMet R ps rs = (qs : List Part) × (p q : Part) × PassedAll ps qs × IsNew p × R p q × (rs ≡ qs ++ q ∷ [])
 
 -- a part that was known changed so, and no segment is met, or the last one that is met did
 abbrev pub FirstOf : (Part → Part → Type 0) → List Part → List Part → Type 0
@@ -101,13 +111,25 @@ PushedIn x p q = (q.link ≡ p.link) × IsPushed p.account x q.account
 abbrev pub TakenIn : Walk → Part → Part → Type 0
 TakenIn walk p q = (q.link ≡ p.link) × IsTaken p.account walk q.account
 
+-- a claim found the turn held there, and nothing else changed
+abbrev pub HeldIn : Part → Part → Type 0
+HeldIn p q = (q.link ≡ p.link) × IsBusy p.account q.account
+
+-- some claims, or none, found the turn held there, and nothing else changed
+abbrev pub WaitedIn : Part → Part → Type 0
+WaitedIn p q = (q.link ≡ p.link) × (n : ℕ) × (q.account ≡ refused_more p.account n)
+
+-- a clear took this walk's values there, after some claims that found the turn held, or none
+abbrev pub WaitedAndTakenIn : Walk → Part → Part → Type 0
+WaitedAndTakenIn walk p q = (w : Part) × WaitedIn p w × TakenIn walk w q
+
 -- spare pens were joined there, and nothing else changed
 abbrev pub SpareIn : Part → Part → Type 0
 SpareIn p q = (q.link ≡ p.link) × WithSpares p.account q.account
 
--- a ticket was lost to another pen there: the pen looked, and saw a free place, and nothing else changed
+-- a ticket was lost to another pen there: the pen looked anew, and saw a free place, and nothing else changed
 abbrev pub LostIn : Part → Part → Type 0
-LostIn p q = (IsWhole p → ⊥) × LookedIn p q × (q.account.seen / 2 < q.account.home.places)
+LostIn p q = (IsWhole p → ⊥) × LookedAnewIn p q × (q.account.seen / 2 < q.account.home.places)
 
 -- the value is pushed in the first segment that isn't passed, and nothing else is done
 abbrev pub Pushed : ℕ → List Part → List Part → Type 0
@@ -129,12 +151,22 @@ PushedByTries x ps rs = (n : ℕ) × (qs : List Part) × LosesRaces n ps qs × P
 -- one of these walks was taken in each part, from the first on, until the walks end; the parts after them stayed
 abbrev pub Took : List Part → List Walk → List Part → Type 0
 Took ps [] rs = ps ≡ rs
-Took (p ∷ ps) (walk ∷ walks) (r ∷ rs) = TakenIn walk p r × Took ps walks rs
+Took (p ∷ ps) (walk ∷ walks) (r ∷ rs) = WaitedAndTakenIn walk p r × Took ps walks rs
 Took _ _ _ = ⊥
 
 -- a walk was taken in each part, and nothing else is done
 abbrev pub TookAll : List Part → List Walk → List Part → Type 0
 TookAll ps walks rs = (qs : List Part) × Keeps ps qs × (length walks ≡ length qs) × Took qs walks rs
+
+-- one claim found the turn of the first segment held, and nothing else is done
+abbrev pub FirstHeld : List Part → List Part → Type 0
+FirstHeld [] qs = ⊥
+FirstHeld (p ∷ ps) [] = ⊥
+FirstHeld (p ∷ ps) (q ∷ qs) = HeldIn p q × (qs ≡ ps)
+
+-- more segments may be known; then one claim found the turn of the first segment held, and nothing else is done
+abbrev pub FoundHeld : List Part → List Part → Type 0
+FoundHeld ps rs = (qs : List Part) × Keeps ps qs × FirstHeld qs rs
 
 -- nothing is done, but that more segments may be known, and that spare pens were joined
 abbrev pub Gathered : List Part → List Part → Type 0

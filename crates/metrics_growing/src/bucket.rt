@@ -1,15 +1,15 @@
 //! The growing bucket, and the calls that push.
-ghost use Rattle.std.specs.Prelude.{◌≡◌, ℕ, ◌+◌, ◌*◌, ◌<◌, ◌≤◌, ◌^◌, ◌⊎◌, IfOk, OnOk, IfErr};
-ghost use Rattle.std.specs.Prelude.{Some, All, length, [], ◌∷◌, ◌++◌};
+ghost use Rattle.std.specs.Prelude.{◌≡◌, ℕ, ◌+◌, ◌*◌, ◌<◌, ◌≤◌, ◌⊎◌, IfOk, OnOk, IfErr};
+ghost use Rattle.std.specs.Prelude.{MatchBool, Some, All, length, [], ◌∷◌, ◌++◌};
 ghost use Rattle.once_cell.specs.Once.{cell_name};
 ghost use Rattle.metrics_bucket.specs.Account.{first_account};
 ghost use Rattle.metrics_bucket.specs.Spares.{spare_account};
-ghost use Rattle.metrics_growing.specs.Parts.{Part, IsOf, IsPassed, OnlyLooks, ChangedAt, MetOne, Reached};
+ghost use Rattle.metrics_growing.specs.Parts.{Part, IsOf, IsPassed, OnlyLooks, PassedAll, ChangedAt, MetOne, Reached};
 ghost use Rattle.metrics_growing.specs.Parts.{PushedIn, PassedIn, LostIn, Pushed, PushedByTries, LosesRace};
 
 use crate::known::Known;
 use crate::pen::GrowPen;
-use crate::segment::Segment;
+use crate::segment::{BLOCK_SIZE, Segment};
 use metrics::Error;
 use metrics_bucket::{Pen, Sample};
 use metrics_cells::Pause;
@@ -17,9 +17,6 @@ use once_cell::race::{Note, OnceBox};
 use std::alloc::Global;
 use std::marker::{Model, PhantomData};
 use std::sync::Wait;
-
-/// How many places a block has.
-const BLOCK_SIZE: usize = 64;
 
 /// How many segments there may be.
 pub(crate) const LINKS: usize = 64;
@@ -66,22 +63,6 @@ fn fill(alloc: Global, count: usize, links: &mut Vec<OnceBox<Segment>>) -> Resul
     Ok(())
 }
 
-// Returns how many places a side of this segment has, if the first one has this many blocks.
-fn places_of(blocks: usize, at: usize) -> Result<usize, Error>
-    requires blocks { (0 < blocks) × (blocks ≤ 1024) }
-    requires at { at < 64 }
-    ensures ok { IfOk result (λ n. (n ≡ 64 * blocks * 2 ^ at) × (0 < n) × (n < 2 ^ 58)) }
-    ensures err { IfErr result (λ e. (e ≡ Error.Memory) × (2 ^ 58 ≤ 64 * blocks * 2 ^ at)) }
-{
-    let Some(places) = (BLOCK_SIZE * blocks).checked_mul(1 << at) else {
-        return Err(Error::Memory);
-    };
-    if places >= 1 << 58 {
-        return Err(Error::Memory);
-    }
-    Ok(places)
-}
-
 impl<T: Sample> GrowingBucket<T> {
     /// Makes a bucket whose first segment has 1 to 1,024 blocks on each side, and its first pen, which is whole.
     ///
@@ -124,21 +105,46 @@ impl<T: Sample> GrowingBucket<T> {
         Ok((bucket, GrowPen { alloc, known }))
     }
 
-    // Makes a segment for an empty link. If another thread was first, it drops its own and takes a spare pen of the other's.
+    // Takes a spare pen of the next link's segment, if there is one. It makes none, and returns whether it met one.
+    pub(crate) fn meet(&self, known: &mut Vec<Known>) -> Result<bool, Error>
+        requires own { IsOf self.now known.old.items }
+        ensures own { IsOf self.now known.new.items }
+        ensures ok { IfOk result (λ met. MatchBool met (MetOne known.old.items known.new.items)
+            (known.new.items ≡ known.old.items)) }
+        ensures err { IfErr result (λ e. (known.new.items ≡ known.old.items)
+            × ((e ≡ Error.Memory) ⊎ ((e ≡ Error.NoPen) × (length known.old.items < length self.now)))) }
+    {
+        let Some(link) = self.links.get(known.len()) else {
+            return Ok(false);
+        };
+        let mut note = link.note();
+        let Some(segment) = link.get_as(&mut note) else {
+            return Ok(false);
+        };
+        let Ok(()) = known.reserve(1) else {
+            return Err(Error::Memory);
+        };
+        let pen = segment.spares.take()?;
+        known.push_reserved(Known { pen, note });
+        Ok(true)
+    }
+
+    // Makes a segment for the next link, which is empty. If another thread was first, it drops its own and takes a spare pen of
+    // the other's.
     fn make(
         &self,
+        known: &[Known],
         link: &OnceBox<Segment>,
-        at: usize,
         note: &mut Note<Segment>,
     ) -> Result<Pen, Error>
         requires cell { note.old.cell ≡ cell_name link.now }
-        requires at { at < 64 }
+        requires few { length known.now < 64 }
+        requires full { All IsPassed known.now }
         ensures cell { note.new.cell ≡ note.old.cell }
         ensures ok { IfOk result (λ p. (p ≡ spare_account p.home) × (note.new.known ≡ Some p.home)) }
         ensures err { IfErr result (λ e. (e ≡ Error.Memory) ⊎ (e ≡ Error.NoPen)) }
     {
-        let places = places_of(self.blocks, at)?;
-        let (segment, pen) = Segment::new(self.alloc, places)?;
+        let (segment, pen) = Segment::after(self.alloc, self.blocks, known)?;
         let Ok(segment) = Box::new(self.alloc, segment) else {
             return Err(Error::Memory);
         };
@@ -153,26 +159,23 @@ impl<T: Sample> GrowingBucket<T> {
         }
     }
 
-    // Meets the segment of the next link, and makes it if there is none.
-    pub(crate) fn meet(&self, known: &mut Vec<Known>) -> Result<(), Error>
+    // Makes the next segment, and meets it. The pen saw all segments full that it knows.
+    fn extend(&self, known: &mut Vec<Known>) -> Result<(), Error>
         requires own { IsOf self.now known.old.items }
+        requires full { All IsPassed known.old.items }
         ensures own { IsOf self.now known.new.items }
         ensures ok { OnOk result (MetOne known.old.items known.new.items) }
         ensures err { IfErr result (λ e. (known.new.items ≡ known.old.items)
             × ((e ≡ Error.Memory) ⊎ ((e ≡ Error.NoPen) × (length known.old.items < length self.now)))) }
     {
-        let at = known.len();
-        let Some(link) = self.links.get(at) else {
+        let Some(link) = self.links.get(known.len()) else {
             return Err(Error::Memory);
         };
         let Ok(()) = known.reserve(1) else {
             return Err(Error::Memory);
         };
         let mut note = link.note();
-        let pen = match link.get_as(&mut note) {
-            Some(segment) => segment.spares.take()?,
-            None => self.make(link, at, &mut note)?,
-        };
+        let pen = self.make(known.as_slice(), link, &mut note)?;
         known.push_reserved(Known { pen, note });
         Ok(())
     }
@@ -195,10 +198,11 @@ impl<T: Sample> GrowingBucket<T> {
         part.push(link, word)
     }
 
-    // Meets the next segment if this one isn't known.
+    // Meets the next segment if this one isn't known, and makes it if there is none.
     fn reach(&self, known: &mut Vec<Known>, at: usize) -> Result<(), Error>
         requires own { IsOf self.now known.old.items }
         requires at { at ≤ length known.old.items }
+        requires full { at ≡ length known.old.items → All IsPassed known.old.items }
         ensures own { IsOf self.now known.new.items }
         ensures ok { OnOk result (Reached at known.old.items known.new.items) }
         ensures err { IfErr result (λ e. (at ≡ length known.old.items) × (known.new.items ≡ known.old.items)
@@ -207,7 +211,10 @@ impl<T: Sample> GrowingBucket<T> {
         if at < known.len() {
             return Ok(());
         }
-        self.meet(known)
+        if self.meet(known)? {
+            return Ok(());
+        }
+        self.extend(known)
     }
 
     // Pushes a word into the first segment that has a free place, and makes the next one if none has.
@@ -217,7 +224,7 @@ impl<T: Sample> GrowingBucket<T> {
         ensures ok { OnOk result (Pushed word known.old.items known.new.items) }
         ensures err { IfErr result (λ e. OnlyLooks known.old.items known.new.items
             × ((((e ≡ Error.Memory) ⊎ ((e ≡ Error.NoPen) × (length known.new.items < length self.now)))
-            × All IsPassed known.new.items)
+            × PassedAll known.old.items known.new.items)
             ⊎ ((e ≡ Error.Raced) × LosesRace known.old.items known.new.items))) }
     {
         // The loop's facts are of the links.
@@ -245,7 +252,7 @@ impl<T: Sample> GrowingBucket<T> {
         ensures ok { OnOk result (Pushed (T.word value) pen.old pen.new) }
         ensures err { IfErr result (λ e. OnlyLooks pen.old pen.new
             × ((((e.0 ≡ Error.Memory) ⊎ ((e.0 ≡ Error.NoPen) × (length pen.new < length self.now)))
-            × All IsPassed pen.new) ⊎ ((e.0 ≡ Error.Raced) × LosesRace pen.old pen.new)) × (e.1 ≡ value)) }
+            × PassedAll pen.old pen.new) ⊎ ((e.0 ≡ Error.Raced) × LosesRace pen.old pen.new)) × (e.1 ≡ value)) }
     {
         match self.try_word(&mut pen.known, value.to_word()) {
             Ok(()) => Ok(()),
@@ -260,7 +267,7 @@ impl<T: Sample> GrowingBucket<T> {
         ensures ok { OnOk result (PushedByTries (T.word value) pen.old pen.new) }
         ensures err { IfErr result (λ e. OnlyLooks pen.old pen.new
             × ((e.0 ≡ Error.Memory) ⊎ ((e.0 ≡ Error.NoPen) × (length pen.new < length self.now)))
-            × All IsPassed pen.new × (e.1 ≡ value)) }
+            × PassedAll pen.old pen.new × (e.1 ≡ value)) }
     {
         let pause = Pause::new();
         for _ in rt.forever() {

@@ -6,10 +6,11 @@ ghost use Rattle.std.specs.List.{FoldsTo};
 ghost use Rattle.metrics_bucket.specs.declared.view.Walk.{Walk};
 ghost use Rattle.metrics_bucket.specs.Blocks.{valued, newest_first};
 ghost use Rattle.metrics_bucket.specs.Steps.{count_all};
-ghost use Rattle.metrics_growing.specs.Parts.{Part, IsOf, Keeps, home_of, ChangedAt, TakenIn, Took, TookAll, all_chunks};
+ghost use Rattle.metrics_growing.specs.Parts.{Part, IsOf, Keeps, home_of, ChangedAt, TakenIn, HeldIn};
+ghost use Rattle.metrics_growing.specs.Parts.{WaitedAndTakenIn, FirstHeld, FoundHeld, Took, TookAll, all_chunks};
 ghost use Rattle.metrics_growing.specs.Bags.{sum_of, places_in, first_weight};
 
-use crate::bucket::GrowingBucket;
+use crate::bucket::{GrowingBucket, LINKS};
 use crate::known::Known;
 use crate::pen::GrowPen;
 use crossbeam_utils::Backoff;
@@ -18,7 +19,7 @@ use metrics_bucket::{RuledBucket, Sample, Shown, Visitor};
 use std::sync::Wait;
 
 impl<T: Sample> GrowingBucket<T> {
-    // Meets all segments that are linked.
+    // Meets all segments that are linked, and makes none.
     pub(crate) fn meet_all(&self, known: &mut Vec<Known>) -> Result<(), Error>
         requires own { IsOf self.now known.old.items }
         ensures own { IsOf self.now known.new.items }
@@ -26,14 +27,10 @@ impl<T: Sample> GrowingBucket<T> {
         ensures err { IfErr result (λ e. (e ≡ Error.Memory)
             ⊎ ((e ≡ Error.NoPen) × (length known.new.items < length self.now))) }
     {
-        for _ in 0..64 {
-            let Some(link) = self.links.get(known.len()) else {
-                return Ok(());
-            };
-            if link.get().is_none() {
+        for _ in 0..LINKS {
+            if !self.meet(known)? {
                 return Ok(());
             }
-            self.meet(known)?;
         }
         Ok(())
     }
@@ -103,8 +100,8 @@ impl<T: Sample> GrowingBucket<T> {
         ensures count { IfOk result (λ n. (n < 2 ^ 58)
             × ((d : Part) → n ≤ places_in (slice_index_or known.old.items at d))) }
         ensures ready { V.ready visitor.new }
-        ensures err { IfErr result (λ e. (known.new.items ≡ known.old.items) × (visitor.new ≡ visitor.old)
-            × (e ≡ Error.Busy) × (at ≡ 0 → first_weight known.old.items ≢ 1024)) }
+        ensures err { IfErr result (λ e. ChangedAt HeldIn at known.old.items known.new.items
+            × (visitor.new ≡ visitor.old) × (e ≡ Error.Busy) × (at ≡ 0 → first_weight known.old.items ≢ 1024)) }
     {
         let Some(link) = self.links.get(at) else {
             unreachable!()
@@ -132,13 +129,13 @@ impl<T: Sample> GrowingBucket<T> {
         ensures homes { map home_of known.new.items ≡ map home_of known.old.items }
         ensures size { length known.new.items ≡ length known.old.items }
         ensures ok { IfOk result (λ n. (walk : Walk) × (length walk.values ≡ n)
-            × ChangedAt (TakenIn walk) at known.old.items known.new.items
+            × ChangedAt (WaitedAndTakenIn walk) at known.old.items known.new.items
             × FoldsTo V.saw visitor.old (valued T.value (newest_first walk.values)) visitor.new) }
         ensures count { IfOk result (λ n. (n < 2 ^ 58)
             × ((d : Part) → n ≤ places_in (slice_index_or known.old.items at d))) }
         ensures ready { V.ready visitor.new }
-        ensures err { IfErr result (λ e. (known.new.items ≡ known.old.items) × (visitor.new ≡ visitor.old) × (at ≡ 0)
-            × (e ≡ Error.Busy) × (first_weight known.old.items ≢ 1024)) }
+        ensures err { IfErr result (λ e. FirstHeld known.old.items known.new.items × (visitor.new ≡ visitor.old)
+            × (at ≡ 0) × (e ≡ Error.Busy) × (first_weight known.old.items ≢ 1024)) }
     {
         let pause = Backoff::new();
         for _ in rt.forever() {
@@ -168,7 +165,7 @@ impl<T: Sample> GrowingBucket<T> {
             × FoldsTo V.saw visitor.old (valued T.value (all_chunks walks)) visitor.new) }
         ensures count { IfOk result (λ n. n ≤ sum_of places_in known.old.items) }
         ensures ready { V.ready visitor.new }
-        ensures err { IfErr result (λ e. (known.new.items ≡ known.old.items) × (visitor.new ≡ visitor.old)
+        ensures err { IfErr result (λ e. FirstHeld known.old.items known.new.items × (visitor.new ≡ visitor.old)
             × (e ≡ Error.Busy) × (0 < length known.old.items) × (first_weight known.old.items ≢ 1024)) }
     {
         let mut count = 0usize;
@@ -184,7 +181,9 @@ impl<T: Sample> GrowingBucket<T> {
     /// It goes from segment to segment, and shows each segment's values in chunks of 64, the newest chunk first. It waits for
     /// pushes that drew a ticket before it took their segment's side.
     /// `Busy`: another walk is under way in the first segment. It waits for one in a later segment.
-    /// `NoPen`: a segment that the pen doesn't know has no spare pen left.
+    /// `NoPen`: a segment that the pen doesn't know has no spare pen left. A pen that knows all 64 never meets it.
+    /// `Memory`: out of memory for a pen of a segment.
+    /// After each of them no value was taken or shown; the pen may know more segments.
     pub fn clear_to<R: Wait, V: Visitor<T>>(
         &self,
         rt: &R,
@@ -198,9 +197,9 @@ impl<T: Sample> GrowingBucket<T> {
         ensures ok { IfOk result (λ n. (walks : List Walk) × (count_all walks ≡ n) × TookAll pen.old walks pen.new
             × FoldsTo V.saw visitor.old (valued T.value (all_chunks walks)) visitor.new) }
         ensures count { IfOk result (λ n. n ≤ sum_of places_in pen.new) }
-        ensures err { IfErr result (λ e. Keeps pen.old pen.new × (visitor.new ≡ visitor.old)
-            × (((e ≡ Error.Busy) × (first_weight pen.new ≢ 1024))
-            ⊎ ((e ≡ Error.NoPen) × (length pen.new < length self.now)) ⊎ (e ≡ Error.Memory))) }
+        ensures err { IfErr result (λ e. (visitor.new ≡ visitor.old)
+            × (((e ≡ Error.Busy) × FoundHeld pen.old pen.new × (first_weight pen.new ≢ 1024)) ⊎ (Keeps pen.old pen.new
+            × (((e ≡ Error.NoPen) × (length pen.new < length self.now)) ⊎ (e ≡ Error.Memory))))) }
     {
         let known = &mut pen.known;
         self.meet_all(known)?;
@@ -223,9 +222,9 @@ impl<T: Sample> GrowingBucket<T> {
         ensures ok { IfOk result (λ n. (walks : List Walk) × (count_all walks ≡ n) × TookAll pen.old walks pen.new
             × ((last : F) × FoldsTo (λ p x q. CalledAt F.FnMut p x tt q) f (valued T.value (all_chunks walks)) last)) }
         ensures count { IfOk result (λ n. n ≤ sum_of places_in pen.new) }
-        ensures err { IfErr result (λ e. Keeps pen.old pen.new
-            × (((e ≡ Error.Busy) × (first_weight pen.new ≢ 1024))
-            ⊎ ((e ≡ Error.NoPen) × (length pen.new < length self.now)) ⊎ (e ≡ Error.Memory))) }
+        ensures err { IfErr result (λ e.
+            ((e ≡ Error.Busy) × FoundHeld pen.old pen.new × (first_weight pen.new ≢ 1024)) ⊎ (Keeps pen.old pen.new
+            × (((e ≡ Error.NoPen) × (length pen.new < length self.now)) ⊎ (e ≡ Error.Memory)))) }
     {
         let mut shown = Shown { f };
         self.clear_to(rt, pen, &mut shown)

@@ -6,7 +6,7 @@ ghost use Rattle.std.specs.List.{FoldsTo};
 ghost use Rattle.metrics_bucket.specs.declared.view.Walk.{Walk};
 ghost use Rattle.metrics_bucket.specs.Blocks.{valued, newest_first};
 ghost use Rattle.metrics_growing.specs.Parts.{IsWhole, left_part, right_part, joined_part, PushedIn};
-ghost use Rattle.metrics_growing.specs.Parts.{PassedIn, LostIn, TakenIn, SpareIn};
+ghost use Rattle.metrics_growing.specs.Parts.{PassedIn, LostIn, TakenIn, HeldIn, SpareIn};
 
 use crate::segment::Segment;
 use metrics::Error;
@@ -97,7 +97,7 @@ impl Known {
             × FoldsTo V.saw visitor.old (valued T.value (newest_first walk.values)) visitor.new) }
         ensures count { IfOk result (λ n. (n ≤ self.old.account.home.places) × (n < 2 ^ 58)) }
         ensures ready { V.ready visitor.new }
-        ensures err { IfErr result (λ e. (self.new ≡ self.old) × (visitor.new ≡ visitor.old) × (e ≡ Error.Busy)
+        ensures err { IfErr result (λ e. HeldIn self.old self.new × (visitor.new ≡ visitor.old) × (e ≡ Error.Busy)
             × (self.old.account.weight ≢ 1024)) }
     {
         // It says that the segment has few places, so that counts of several add up.

@@ -1,5 +1,5 @@
 -- Examples of the definitions, with the expected values written out.
-use Rattle.std.specs.Prelude.{◌≡◌, ℕ, zero, suc, ◌+◌, true, false, List, [], ◌∷◌, ◌++◌, map, length, None, Some, ℤ, pos, negsuc, codes}
+use Rattle.std.specs.Prelude.{◌≡◌, ℕ, zero, suc, ◌+◌, Bool, true, false, List, [], ◌∷◌, ◌++◌, map, length, None, Some, ℤ, pos, negsuc, codes}
 use Rattle.metrics_names.specs.declared.kind.MetricKind.{MetricKind}
 use Rattle.metrics_names.specs.declared.kind.MetricKind.TheVariants.{Counter, Gauge, Histogram}
 use Rattle.metrics_names.specs.declared.common.Unit.TheVariants.{Bytes}
@@ -41,6 +41,10 @@ at book series = record { book = book; series = series }
 abbrev pub row : MetricKind → List ℕ → List (List ℕ × List ℕ) → DebugValue → RowParts
 row kind name labels value = (record { kind = kind; key = key name labels }, None, None, value)
 
+-- the answer of a snapshot with these rows, and for each whether its series was active
+abbrev pub taken : List RowParts → List Bool → Answer
+taken rows marks = Answer.Snapshot (record { rows = rows; active = marks })
+
 -- the numbers from a on, n of them
 abbrev pub counting : ℕ → ℕ → List ℤ
 counting zero a = []
@@ -65,11 +69,12 @@ round_answers =
     ∷ Answer.Registered (at 0 1 ∷ []) ∷ Answer.Updated 1
     ∷ Answer.Registered (at 0 2 ∷ []) ∷ Answer.Updated 1
     ∷ Answer.Registered (at 0 3 ∷ []) ∷ Answer.Updated 1
-    ∷ Answer.Snapshot (
-    row Counter (codes "test.counter") round_labels (CounterValue 123)
+    ∷ taken
+    (row Counter (codes "test.counter") round_labels (CounterValue 123)
     ∷ row Gauge (codes "test.gauge.incr") [] (GaugeValue (pos 456))
     ∷ row Gauge (codes "test.gauge.set") [] (GaugeValue (pos 654))
-    ∷ row Histogram (codes "test.histogram") [] (HistogramValue (pos 789 ∷ [])) ∷ []) ∷ []
+    ∷ row Histogram (codes "test.histogram") [] (HistogramValue (pos 789 ∷ [])) ∷ [])
+    (true ∷ true ∷ true ∷ true ∷ []) ∷ []
 
 abbrev pub TwoRounds : Type 0
 TwoRounds = answers book (round ++ round) ≡ round_answers ++ round_answers
@@ -79,10 +84,10 @@ TwoRounds = answers book (round ++ round) ≡ round_answers ++ round_answers
 abbrev pub DescriptionKeepsUnit : Type 0
 DescriptionKeepsUnit =
     answers book (Call.Describe Counter (codes "c") (Some Bytes) (codes "one") ∷ Call.Describe Counter (codes "c") None (codes "two") ∷ Call.Snapshot 0 ∷ Call.Register Counter (key (codes "c") []) ∷ Call.Snapshot 0 ∷ [])
-    ≡ Answer.Described 1 ∷ Answer.Described 1 ∷ Answer.Snapshot [] ∷ Answer.Registered (at 0 0 ∷ [])
-    ∷ Answer.Snapshot ((record { kind = Counter; key = key (codes "c") [] }, Some Bytes, Some (codes "two"), CounterValue 0) ∷ []) ∷ []
+    ≡ Answer.Described 1 ∷ Answer.Described 1 ∷ taken [] [] ∷ Answer.Registered (at 0 0 ∷ [])
+    ∷ taken ((record { kind = Counter; key = key (codes "c") [] }, Some Bytes, Some (codes "two"), CounterValue 0) ∷ []) (true ∷ []) ∷ []
 
--- ---- gauges that a snapshot keeps
+-- ---- gauges that a snapshot keeps, and which series were active
 
 -- a gauge, a counter and a histogram; a gauge is described
 abbrev pub three_kinds : List Call
@@ -91,34 +96,35 @@ three_kinds =
     ∷ Call.Register Gauge (key (codes "g") []) ∷ Call.Register Counter (key (codes "c") []) ∷ Call.Register Histogram (key (codes "h") [])
     ∷ Call.Update 0 (Add (pos 5)) ∷ Call.Update 1 (Increment 3) ∷ Call.Update 2 (Record (pos 7)) ∷ []
 
--- their rows, with these values
-abbrev pub three_rows : ℤ → ℕ → List ℤ → Answer
-three_rows gauge counter samples = Answer.Snapshot (
-    (record { kind = Gauge; key = key (codes "g") [] }, Some Bytes, Some (codes "size"), GaugeValue gauge)
-    ∷ row Counter (codes "c") [] (CounterValue counter) ∷ row Histogram (codes "h") [] (HistogramValue samples) ∷ [])
+-- their rows, each with a value and whether it was active
+abbrev pub three_rows : ℤ × Bool → ℕ × Bool → List ℤ × Bool → Answer
+three_rows gauge counter samples = taken
+    ((record { kind = Gauge; key = key (codes "g") [] }, Some Bytes, Some (codes "size"), GaugeValue gauge.0)
+    ∷ row Counter (codes "c") [] (CounterValue counter.0) ∷ row Histogram (codes "h") [] (HistogramValue samples.0) ∷ [])
+    (gauge.1 ∷ counter.1 ∷ samples.1 ∷ [])
 
 abbrev pub KeptGauges : Type 0
 KeptGauges =
     answers book (three_kinds ++ Call.SnapshotWith 0 KeepGauges ∷ Call.Update 0 (Add (pos 2)) ∷ Call.Update 2 (Record (pos 8)) ∷ Call.SnapshotWith 0 KeepGauges
     ∷ Call.Snapshot 0 ∷ Call.Update 1 (Increment 1) ∷ Call.SnapshotWith 0 KeepGauges ∷ Call.SnapshotWith 0 All ∷ Call.SnapshotWith 1 KeepGauges ∷ [])
     ≡ Answer.Described 1 ∷ Answer.Registered (at 0 0 ∷ []) ∷ Answer.Registered (at 0 1 ∷ []) ∷ Answer.Registered (at 0 2 ∷ []) ∷ Answer.Updated 1 ∷ Answer.Updated 1 ∷ Answer.Updated 1
-    ∷ three_rows (pos 5) 3 (pos 7 ∷ []) ∷ Answer.Updated 1 ∷ Answer.Updated 1 ∷ three_rows (pos 7) 0 (pos 8 ∷ [])
-    ∷ three_rows (pos 7) 0 [] ∷ Answer.Updated 1 ∷ three_rows (pos 0) 1 [] ∷ three_rows (pos 0) 0 [] ∷ Answer.Refused NoSuchBook ∷ []
+    ∷ three_rows (pos 5, true) (3, true) (pos 7 ∷ [], true) ∷ Answer.Updated 1 ∷ Answer.Updated 1 ∷ three_rows (pos 7, true) (0, false) (pos 8 ∷ [], true)
+    ∷ three_rows (pos 7, false) (0, false) ([], false) ∷ Answer.Updated 1 ∷ three_rows (pos 0, false) (1, true) ([], false) ∷ three_rows (pos 0, false) (0, false) ([], false) ∷ Answer.Refused NoSuchBook ∷ []
 
 -- ---- counters wrap, gauges stop
 
 abbrev pub CountersWrap : Type 0
 CountersWrap =
     answers book (Call.Register Counter (key (codes "c") []) ∷ Call.Update 0 (Increment 18446744073709551615) ∷ Call.Update 0 (Increment 2) ∷ Call.Snapshot 0 ∷ Call.Update 0 (Absolute 7) ∷ Call.Update 0 (Absolute 5) ∷ Call.Snapshot 0 ∷ [])
-    ≡ Answer.Registered (at 0 0 ∷ []) ∷ Answer.Updated 1 ∷ Answer.Updated 1 ∷ Answer.Snapshot (row Counter (codes "c") [] (CounterValue 1) ∷ []) ∷ Answer.Updated 1 ∷ Answer.Updated 1
-    ∷ Answer.Snapshot (row Counter (codes "c") [] (CounterValue 7) ∷ []) ∷ []
+    ≡ Answer.Registered (at 0 0 ∷ []) ∷ Answer.Updated 1 ∷ Answer.Updated 1 ∷ taken (row Counter (codes "c") [] (CounterValue 1) ∷ []) (true ∷ []) ∷ Answer.Updated 1 ∷ Answer.Updated 1
+    ∷ taken (row Counter (codes "c") [] (CounterValue 7) ∷ []) (true ∷ []) ∷ []
 
 abbrev pub GaugesStop : Type 0
 GaugesStop =
     answers book (Call.Register Gauge (key (codes "g") []) ∷ Call.Update 0 (Set (pos 9223372036854775807)) ∷ Call.Update 0 (Add (pos 1)) ∷ Call.Snapshot 0
     ∷ Call.Update 0 (Subtract (pos 1)) ∷ Call.Update 0 (Subtract (negsuc 9223372036854775807)) ∷ Call.Snapshot 0 ∷ [])
-    ≡ Answer.Registered (at 0 0 ∷ []) ∷ Answer.Updated 1 ∷ Answer.Updated 1 ∷ Answer.Snapshot (row Gauge (codes "g") [] (GaugeValue (pos 9223372036854775807)) ∷ []) ∷ Answer.Updated 1 ∷ Answer.Updated 1
-    ∷ Answer.Snapshot (row Gauge (codes "g") [] (GaugeValue (pos 9223372036854775807)) ∷ []) ∷ []
+    ≡ Answer.Registered (at 0 0 ∷ []) ∷ Answer.Updated 1 ∷ Answer.Updated 1 ∷ taken (row Gauge (codes "g") [] (GaugeValue (pos 9223372036854775807)) ∷ []) (true ∷ []) ∷ Answer.Updated 1 ∷ Answer.Updated 1
+    ∷ taken (row Gauge (codes "g") [] (GaugeValue (pos 9223372036854775807)) ∷ []) (true ∷ []) ∷ []
 
 -- ---- samples in bucket order
 

@@ -44,26 +44,30 @@ label_word l = 32 ∷ (l.0 ++ 61 ∷ l.1)
 abbrev pub label_words : List (List ℕ × List ℕ) → List ℕ
 label_words ls = flat_map label_word ls
 
--- equality is that of all parts
+-- the kinds are the same
 abbrev pub kind_eq : MetricKind → MetricKind → Bool
 kind_eq a b = nat_eq (kind_number a) (kind_number b)
 
+-- labels are equal in key and value
 abbrev pub label_eq : List ℕ × List ℕ → List ℕ × List ℕ → Bool
 label_eq a b = bytes_eq a.0 b.0 && bytes_eq a.1 b.1
 
+-- keys are equal in name and labels, in order
 abbrev pub key_eq : KeyParts → KeyParts → Bool
 key_eq a b = bytes_eq a.name b.name && pointwise label_eq a.labels b.labels
 
+-- composite keys are equal in kind and key
 abbrev pub series_key_eq : SeriesKey → SeriesKey → Bool
 series_key_eq a b = kind_eq a.kind b.kind && key_eq a.key b.key
 
--- the order of composite keys: the kind, then the name's bytes, then the labels, one after another by key and value; a list
--- is less than each longer one that begins with it
+-- the order of labels: the key's bytes, then the value's
 abbrev pub label_cmp : List ℕ × List ℕ → List ℕ × List ℕ → Ordering
 label_cmp = then_cmp (on (λ l. l.0) (slice_cmp nat_cmp)) (on (λ l. l.1) (slice_cmp nat_cmp))
 
+-- the order of keys: the name's bytes, then the labels, one after another; a list is less than each longer one that begins with it
 abbrev pub key_cmp : KeyParts → KeyParts → Ordering
 key_cmp = then_cmp (on (λ k. k.name) (slice_cmp nat_cmp)) (on (λ k. k.labels) (slice_cmp label_cmp))
 
+-- the order of composite keys: the kind, then the key
 abbrev pub series_key_cmp : SeriesKey → SeriesKey → Ordering
 series_key_cmp = then_cmp (on (λ k. kind_number k.kind) nat_cmp) (on (λ k. k.key) key_cmp)

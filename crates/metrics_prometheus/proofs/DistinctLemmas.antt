@@ -1,50 +1,24 @@
 -- No two samples of a text are of one series.
 use Rattle.std.proofs.Common.{◌≡◌, ◌∙◌, Bool, true, false, cond, List, [], ◌∷◌, ◌++◌, ℕ, None, refl, ap}
 use Rattle.std.specs.Prelude.{bytes_eq}
-use Rattle.std.specs.List.{AllByRecursion, IsDistinct, list_any}
+use Rattle.std.specs.List.{AllByRecursion, IsDistinct}
 use Rattle.std.specs.List.Sorted.{IsSorted}
 use Rattle.std.specs.Cmp.Lexicographic.{pointwise}
-use Rattle.metrics_names.specs.declared.kind.MetricKind.TheVariants.{Histogram}
-use Rattle.metrics_names.specs.Names.{label_eq, kind_eq}
+use Rattle.metrics_names.specs.Names.{label_eq}
 use Rattle.metrics_exporter.specs.Exporting.{Cells}
-use Rattle.metrics_prometheus.specs.Labels.{are_fit}
 use Rattle.metrics_prometheus.specs.Samples.{Sample, series_text}
 use Rattle.metrics_prometheus.specs.declared.naming.Naming.{Naming}
 use Rattle.metrics_exporter.specs.Describing.{Legend}
-use Rattle.metrics_prometheus.specs.Exposition.{Row, row_cmp, is_fit_histogram, histogram_names, is_taken, samples_of, reading_at, IsDescribed}
+use Rattle.metrics_prometheus.specs.Exposition.{Row, row_cmp, is_taken, samples_of, reading_at, IsDescribed}
 use Rattle.metrics_prometheus.specs.Written.{written, samples_written, is_same_series}
 use Rattle.metrics_prometheus.specs.Reading.{CanBeRead, is_same_text, ReadsAs}
 use Rattle.metrics_prometheus.proofs.BackLemmas.{read-back}
 use Rattle.metrics_prometheus.proofs.SampleLabelLemmas.{samples-read}
 use Rattle.metrics_prometheus.proofs.PairLemmas.{each-map, each-all, each-both, Pairs, pairs-with, pairs-flat}
 use Rattle.metrics_prometheus.proofs.SameLemmas.{both-true, bytes-same, same-bytes, same-labels}
-use Rattle.metrics_prometheus.proofs.SampleLemmas.{Differ, IsAmong, IsFree, row-differs, rows-differ, or-first, or-second, both}
-use Rattle.metrics_prometheus.proofs.WrittenLemmas.{IsBefore, before-apart, written-ascend, written-each, written-fit, written-free}
-
-abbrev IsFit : Row → Type 0
-IsFit r = are_fit r.kind r.labels ≡ true
-
--- what is among names is so also with one more of them
-one-more : (name n : List ℕ) (hs : List (List ℕ)) (b : Bool) → list_any (bytes_eq name) hs ≡ true → list_any (bytes_eq name) (cond b (n ∷ hs) hs) ≡ true
-one-more name n hs true h = or-second (bytes_eq name n) (list_any (bytes_eq name) hs) h
-one-more name n hs false h = h
-
-among : (rows : List Row) → AllByRecursion (λ r. IsFit r → IsAmong rows r) rows
-among [] = tt
-among (x ∷ xs) = (
-  (λ fit h.
-      let is : is_fit_histogram x ≡ true = both (kind_eq x.kind Histogram) (are_fit x.kind x.labels) h fit in
-      ap (λ b. list_any (bytes_eq x.name) (cond b (x.name ∷ histogram_names xs) (histogram_names xs))) is
-      ∙ or-first (bytes_eq x.name x.name) (list_any (bytes_eq x.name) (histogram_names xs)) (bytes-same x.name x.name refl)),
-  each-map (λ r. IsFit r → IsAmong xs r) (λ r. IsFit r → IsAmong (x ∷ xs) r) (λ q f fit h. one-more q.name x.name (histogram_names xs) (is_fit_histogram x) (f fit h)) xs (among xs),
-)
-
--- rows that are written are among all
-written-among : (rows : List Row) → AllByRecursion (IsAmong rows) (written rows None rows)
-written-among rows =
-    let done = written rows None rows in
-    each-map (λ r. IsFit r × (IsFit r → IsAmong rows r)) (IsAmong rows) (λ r h. h.1 h.0) done
-    (each-both IsFit (λ r. IsFit r → IsAmong rows r) done (written-fit rows None rows) (written-each (λ r. IsFit r → IsAmong rows r) rows None rows (among rows)))
+use Rattle.metrics_prometheus.proofs.SampleLemmas.{Differ, IsAmong, IsFree, row-differs, rows-differ}
+use Rattle.metrics_prometheus.proofs.UsingLemmas.{written-among}
+use Rattle.metrics_prometheus.proofs.WrittenLemmas.{IsBefore, before-apart, written-ascend, written-free}
 
 none-true : (b : Bool) → (b ≡ true → ⊥) → b ≡ false
 none-true true h = absurd (h refl)
@@ -68,7 +42,7 @@ AreAcross cells a b = AllByRecursion (λ s. AllByRecursion (Differ s) (samples_o
 pub rows-across : (cells : Cells) (rows : List Row) → IsSorted row_cmp rows → ((r : Row) → ReadsAs r.kind (reading_at cells r)) → Pairs (AreAcross cells) (written rows None rows)
 rows-across cells rows up reads =
     let done = written rows None rows in
-    let free : AllByRecursion (IsFree rows) done = each-both (λ r. is_taken rows r.name ≡ false) (IsAmong rows) done (written-free rows None rows) (written-among rows) in
+    let free : AllByRecursion (IsFree rows) done = each-both (λ r. is_taken rows r.name ≡ false) (IsAmong rows) done (written-free rows None rows) (written-among rows up) in
     pairs-with (IsFree rows) IsBefore (AreAcross cells) (λ a b fa fb before. rows-differ rows a b (reading_at cells a) (reading_at cells b) (reads a) (reads b) fa fb (before-apart a b before)) done free (written-ascend rows up)
 
 pub samples-differ : (cells : Cells) (rows : List Row) → IsSorted row_cmp rows → ((r : Row) → ReadsAs r.kind (reading_at cells r)) → Pairs Differ (samples_written cells rows)

@@ -112,7 +112,8 @@ pointed-plain (suc places) n = join (pointed places (n / 10)) ((48 + n % 10) ∷
 
 pub unsigned-plain : (places n : ℕ) → HasNoFeed (unsigned places n)
 unsigned-plain zero n = decimal-plain n
-unsigned-plain (suc places) n = pointed-plain (suc places) n
+unsigned-plain (suc places) n =
+    cond_both (nat_eq (n % 10) 0) (unsigned places (n / 10)) (pointed (suc places) n) HasNoFeed (λ _. unsigned-plain places (n / 10)) (λ _. pointed-plain (suc places) n)
 
 pub number-plain : (places : ℕ) (z : ℤ) → HasNoFeed (number places z)
 number-plain places (pos n) = unsigned-plain places n

@@ -8,6 +8,7 @@ pub mod WrittenLemmas
 pub mod NumeralLemmas
 pub mod SampleLemmas
 pub mod ReadingLemmas
+pub mod UsingLemmas
 pub mod DistinctLemmas
 pub mod ToldLemmas
 pub mod TextLineLemmas
@@ -28,5 +29,6 @@ pub mod OnceLemmas
 pub mod SearchLemmas
 pub mod OneTextLemmas
 pub mod TypeLemmas
+pub mod HelpLemmas
 pub mod PlaceLemmas
 pub mod KindLemmas

@@ -1,11 +1,15 @@
 -- Numbers as they are written: what a reader makes of them, and that none is written as `+Inf`.
-use Rattle.std.proofs.Common.{◌≡◌, ◌∙◌, ◌≤◌, ◌<◌, ◌+◌, ◌-◌, ◌*◌, ◌/◌, ◌%◌, ◌^◌, ℕ, zero, suc, ℤ, pos, negsuc, Bool, true, false, cond, nat_eq, List, [], ◌∷◌, ◌++◌, length, codes, get_or, append_assoc, append-nil, refl, ap, sym, subst, arith, lit<}
-use Rattle.std.specs.Prelude.{neg_ℤ}
+use Rattle.std.proofs.Common.{◌≡◌, ◌∙◌, ◌≤◌, ◌<◌, ◌+◌, ◌-◌, ◌*◌, ◌/◌, ◌%◌, ◌^◌, ◌⊎◌, inl, inr, ℕ, zero, suc, ℤ, pos, negsuc, Bool, true, false, cond, nat_eq, List, [], ◌∷◌, ◌++◌, length, codes, get_or, append_assoc, append-nil, refl, ap, sym, subst, arith, lit<}
+use Rattle.std.specs.Prelude.{neg_ℤ, int_lt}
 use Rattle.std.specs.Fmt.{decimal}
 use Rattle.std.specs.List.{AllByRecursion}
 use Rattle.std.specs.Int.Signed.{mag}
+use Rattle.std.proofs.Math.Nat.{pow-suc, mul_assoc}
+use Rattle.std.proofs.lemmas.Int.{ints}
+use Rattle.std.proofs.lemmas.Bool.{cond_both}
+use Rattle.std.proofs.lemmas.Bool.Decides.{nat_tests}
 use Rattle.std.proofs.lemmas.Fmt.{decimal_by_steps_wide}
-use Rattle.metrics_prometheus.specs.Numbers.{pointed, unsigned, number, spelled_behind, whole_in, places_in, IsShifted}
+use Rattle.metrics_prometheus.specs.Numbers.{pointed, unsigned, number, spelled_behind, whole_in, places_in, size, IsShifted}
 use Rattle.metrics_prometheus.proofs.PairLemmas.{each-map, each-append}
 
 -- ---- digits
@@ -107,17 +111,78 @@ pointed-are (suc places) n small =
 record AreUnits (places n : ℕ) (ds : List ℕ) : Type 0 where
   all : AllByRecursion IsPart ds
   begin : BeginsDigit ds
-  spell : spelled_behind 0 ds ≡ n
-  behind : places_in ds ≡ places
+  without : ℕ
+  spell : spelled_behind 0 ds * 10 ^ without ≡ n
+  behind : places_in ds + without ≡ places
+  shortest : (places_in ds ≡ 0) ⊎ (0 < spelled_behind 0 ds % 10)
+
+times-one : (m : ℕ) → m * 10 ^ 0 ≡ m
+times-one m = let e : 10 ^ 0 ≡ 1 = refl in ap (λ p. m * p) e ∙ omega arith
+
+once-more : (m d n : ℕ) → m * 10 ^ d ≡ n / 10 → n % 10 ≡ 0 → m * 10 ^ suc d ≡ n
+once-more m d n e none =
+    let power : 10 ^ suc d ≡ 10 ^ d * 10 = pow-suc 10 d in
+    ap (λ p. m * p) power ∙ times m (10 ^ d) ∙ ap (λ k. k * 10) e ∙ omega (arith, none)
+  where
+    times : (a p : ℕ) → a * (p * 10) ≡ (a * p) * 10
+    times a p = sym (mul_assoc a p 10)
+
+some-left : (n : ℕ) → nat_eq (n % 10) 0 ≡ false → 0 < n % 10
+some-left n e = grind (arith, nat_tests, e)
+
+none-left : (n : ℕ) → nat_eq (n % 10) 0 ≡ true → n % 10 ≡ 0
+none-left n e = grind (arith, nat_tests, e)
 
 unsigned-are : (places n : ℕ) → n < 10 ^ 64 → AreUnits places n (unsigned places n)
 unsigned-are zero n small =
     let h = decimal-digits n small in
-    record { all = each-map IsDigit IsPart is-part (decimal n) h.all; begin = h.begin; spell = h.spell; behind = digits-none (decimal n) h.all }
+    let none = digits-none (decimal n) h.all in
+    record {
+      all = each-map IsDigit IsPart is-part (decimal n) h.all;
+      begin = h.begin;
+      without = 0;
+      spell = times-one (spelled_behind 0 (decimal n)) ∙ h.spell;
+      behind = omega (arith, none);
+      shortest = inl none;
+    }
 unsigned-are (suc places) n small =
+    cond_both (nat_eq (n % 10) 0) (unsigned places (n / 10)) (pointed (suc places) n) (AreUnits (suc places) n)
+    (λ zero_last.
+    let h = unsigned-are places (n / 10) (omega (arith, small)) in
+    record {
+      all = h.all;
+      begin = h.begin;
+      without = suc h.without;
+      spell = once-more (spelled_behind 0 (unsigned places (n / 10))) h.without n h.spell (none-left n zero_last);
+      behind = omega (arith, h.behind);
+      shortest = h.shortest;
+    })
+    (λ other.
     let ds = pointed (suc places) n in
     let h = pointed-are (suc places) n small in
-    record { all = h.all; begin = h.begin; spell = h.spell; behind = ap places_in (sym (append-nil ds)) ∙ h.behind [] ∙ omega arith }
+    let behind : places_in ds ≡ suc places = ap places_in (sym (append-nil ds)) ∙ h.behind [] ∙ omega arith in
+    record {
+      all = h.all;
+      begin = h.begin;
+      without = 0;
+      spell = times-one (spelled_behind 0 ds) ∙ h.spell;
+      behind = omega (arith, behind);
+      shortest = inr (subst (λ m. 0 < m % 10) (sym h.spell) (some-left n other));
+    })
+
+-- zeros at the end change nothing
+pub unsigned-same : (places k n : ℕ) → unsigned (k + places) (n * 10 ^ k) ≡ unsigned places n
+unsigned-same places zero n = let none : 0 + places ≡ places = omega arith in ap (λ l. unsigned l (n * 10 ^ 0)) none ∙ ap (unsigned places) (times-one n)
+unsigned-same places (suc k) n =
+    let p = 10 ^ k in
+    let m = n * p in
+    let ten : n * 10 ^ suc k ≡ m * 10 = ap (λ q. n * q) (pow-suc 10 k) ∙ sym (mul_assoc n p 10) in
+    let more : suc k + places ≡ suc (k + places) = omega arith in
+    let last : nat_eq ((m * 10) % 10) 0 ≡ true = ap (λ d. nat_eq d 0) (let e : (m * 10) % 10 ≡ 0 = omega arith in e) in
+    let rest : (m * 10) / 10 ≡ m = omega arith in
+    ap (λ q. unsigned (suc k + places) q) ten ∙ ap (λ l. unsigned l (m * 10)) more
+    ∙ ap (λ b. cond b (unsigned (k + places) ((m * 10) / 10)) (pointed (suc (k + places)) (m * 10))) last
+    ∙ ap (unsigned (k + places)) rest ∙ unsigned-same places k n
 
 -- ---- numbers
 
@@ -135,17 +200,60 @@ fits n small = let bits : 2 ^ 128 < 10 ^ 64 = lit< tt in omega (arith, small, bi
 pub number-shifted : (places : ℕ) (z : ℤ) → mag z < 2 ^ 128 → IsShifted places z (number places z)
 number-shifted places (pos n) small =
     let h = unsigned-are places n (fits n (omega (arith, small))) in
-    record { digits = whole-digits (unsigned places n) h.begin ∙ ap pos h.spell; behind = h.behind }
+    let is = whole-digits (unsigned places n) h.begin in
+    record {
+      without = h.without;
+      digits = ap (λ w. size w * 10 ^ h.without) is ∙ h.spell;
+      sign = ap (λ w. int_lt w (pos 0)) is ∙ not-below (spelled_behind 0 (unsigned places n)) ∙ sym (not-below n);
+      behind = h.behind;
+      shortest = subst (λ w. (places_in (unsigned places n) ≡ 0) ⊎ (0 < size w % 10)) (sym is) h.shortest;
+    }
+  where
+    not-below : (m : ℕ) → int_lt (pos m) (pos 0) ≡ false
+    not-below m = grind (arith, ints)
 number-shifted places (negsuc n) small =
     let h = unsigned-are places (suc n) (fits (suc n) (omega (arith, small))) in
-    record { digits = ap (λ m. neg_ℤ (pos m)) h.spell; behind = h.behind }
+    let m = spelled_behind 0 (unsigned places (suc n)) in
+    record {
+      without = h.without;
+      digits = ap (λ w. w * 10 ^ h.without) (size-neg m) ∙ h.spell;
+      sign = below m (some m h.without h.spell) ∙ sym (grind (arith, ints));
+      behind = h.behind;
+      shortest = subst (λ w. (places_in (unsigned places (suc n)) ≡ 0) ⊎ (0 < w % 10)) (sym (size-neg m)) h.shortest;
+    }
+  where
+    size-neg : (m : ℕ) → size (neg_ℤ (pos m)) ≡ m
+    size-neg zero = refl
+    size-neg (suc m) = refl
+
+    below : (m : ℕ) → 0 < m → int_lt (neg_ℤ (pos m)) (pos 0) ≡ true
+    below zero h = absurd (omega (arith, h))
+    below (suc m) h = refl
+
+    some : (m d : ℕ) → m * 10 ^ d ≡ suc n → 0 < m
+    some zero d e = absurd (let g : 0 * 10 ^ d ≡ 0 = omega arith in omega (arith, e, g))
+    some (suc m) d e = omega arith
 
 wide : (z : ℤ) → mag z < 2 ^ 63 → mag z < 2 ^ 128
 wide z small = let bits : 2 ^ 63 < 2 ^ 128 = lit< tt in omega (arith, small, bits)
 
+same-sign : (y z : ℤ) → size y ≡ size z → int_lt y (pos 0) ≡ int_lt z (pos 0) → y ≡ z
+same-sign (pos n) (pos m) e s = ap pos e
+same-sign (negsuc n) (negsuc m) e s = let same : n ≡ m = omega (arith, e) in ap negsuc same
+same-sign (pos n) (negsuc m) e s = absurd (grind (arith, ints, s))
+same-sign (negsuc n) (pos m) e s = absurd (grind (arith, ints, s))
+
 -- so it determines the number
 pub number-injective : (places : ℕ) (y z : ℤ) → mag y < 2 ^ 63 → mag z < 2 ^ 63 → number places y ≡ number places z → y ≡ z
-number-injective places y z hy hz e = sym (number-shifted places y (wide y hy)).digits ∙ ap whole_in e ∙ (number-shifted places z (wide z hz)).digits
+number-injective places y z hy hz e =
+    let a = number-shifted places y (wide y hy) in
+    let b = number-shifted places z (wide z hz) in
+    let whole : whole_in (number places y) ≡ whole_in (number places z) = ap whole_in e in
+    let points : places_in (number places y) ≡ places_in (number places z) = ap places_in e in
+    let less : a.without ≡ b.without = omega (arith, a.behind, b.behind, points) in
+    same-sign y z
+    (sym a.digits ∙ ap (λ w. size w * 10 ^ a.without) whole ∙ ap (λ d. size (whole_in (number places z)) * 10 ^ d) less ∙ b.digits)
+    (sym a.sign ∙ ap (λ w. int_lt w (pos 0)) whole ∙ b.sign)
 
 -- and consists of ASCII characters
 pub number-ascii : (places : ℕ) (z : ℤ) → mag z < 2 ^ 63 → AllByRecursion (λ b. b < 128) (number places z)

@@ -1,17 +1,21 @@
 -- The names of histograms: those of rows in order are in order, and a search finds what is among them.
-use Rattle.std.proofs.Common.{◌≡◌, ◌∙◌, ◌+◌, ◌<◌, inl, inr, ℕ, zero, suc, Bool, true, false, cond, ◌||◌, List, [], ◌∷◌, length, get_or, map, Err, Some, None, refl, ap, sym, subst, arith}
+use Rattle.std.proofs.Common.{◌≡◌, ◌∙◌, ◌+◌, ◌<◌, inl, inr, ℕ, zero, suc, Bool, true, false, cond, ◌||◌, List, [], ◌∷◌, ◌++◌, drop, length, get_or, map, Err, Option, Some, None, refl, ap, sym, subst, arith}
 use Rattle.std.specs.Prelude.{bytes_eq}
+use Rattle.std.specs.Borrow.{Bor}
 use Rattle.std.specs.List.{list_any, AllByRecursion}
 use Rattle.std.specs.List.Sorted.{IsSorted, IsSortedBy, IsBinarySearchResult}
 use Rattle.std.specs.Ordering.{is_lt}
 use Rattle.std.specs.declared.cmp.Ordering.TheVariants.{Less, Equal, Greater}
-use Rattle.std.proofs.lemmas.Bool.{cases_lt, cond_both}
+use Rattle.std.proofs.lemmas.Bool.{cases_lt}
 use Rattle.std.proofs.lemmas.Cmp.{nat_list_cmp_total, tied_itself}
-use Rattle.std.proofs.lemmas.List.{get_or_default}
+use Rattle.std.proofs.lemmas.List.{get_or_default, drop_more, map-append}
 use Rattle.std.proofs.lemmas.List.Sorted.{searchable_from_sorted}
 use Rattle.std.proofs.lemmas.Map.Lookups.{exact_bytes}
-use Rattle.metrics_prometheus.specs.Exposition.{Row, row_cmp, is_fit_histogram, histogram_names, found_in}
-use Rattle.metrics_prometheus.proofs.PairLemmas.{Pairs, pairs-places}
+use Rattle.metrics_prometheus.specs.declared.rows.Place.{Place}
+use Rattle.metrics_prometheus.specs.Places.{rows_placed}
+use Rattle.metrics_prometheus.specs.Rows.{row_shown, rows_shown, names_shown}
+use Rattle.metrics_prometheus.specs.Exposition.{Row, row_cmp, last_number, uses_name, names_used, histogram_names, found_in}
+use Rattle.metrics_prometheus.proofs.PairLemmas.{each-map, each-append, Pairs, pairs-append, pairs-places}
 use Rattle.metrics_prometheus.proofs.RowLemmas.{map-length, map-get}
 use Rattle.metrics_prometheus.proofs.SameLemmas.{bytes-same, same-bytes}
 use Rattle.metrics_prometheus.proofs.SampleLemmas.{or-first, or-second}
@@ -20,25 +24,66 @@ use Rattle.metrics_prometheus.proofs.WrittenLemmas.{names, first-part, IsUp, row
 -- ---- the names are in order
 
 -- one name is not above another
-abbrev NotAbove : List ℕ → List ℕ → Type 0
+abbrev pub NotAbove : List ℕ → List ℕ → Type 0
 NotAbove a b = is_lt (names b a) ≡ false
 
-below-names : (x : Row) (rs : List Row) → AllByRecursion (IsUp x) rs → AllByRecursion (NotAbove x.name) (histogram_names rs)
-below-names x [] h = tt
-below-names x (r ∷ rs) h =
-    cond_both (is_fit_histogram r) (r.name ∷ histogram_names rs) (histogram_names rs) (AllByRecursion (NotAbove x.name))
-    (λ _. (first-part (names r.name x.name) _ h.0, below-names x rs h.1))
-    (λ _. below-names x rs h.1)
+-- names in order, of which none is above a row's, and rows in order
+pub record AreUp (done : List (List ℕ)) (rs : List Row) : Type 0 where
+  pub own : Pairs NotAbove done
+  pub below : AllByRecursion (λ n. AllByRecursion (λ r. NotAbove n r.name) rs) done
+  pub rows : Pairs IsUp rs
 
-names-pairs : (rs : List Row) → Pairs IsUp rs → Pairs NotAbove (histogram_names rs)
-names-pairs [] h = tt
-names-pairs (r ∷ rs) h =
-    cond_both (is_fit_histogram r) (r.name ∷ histogram_names rs) (histogram_names rs) (Pairs NotAbove)
-    (λ _. (below-names r rs h.0, names-pairs rs h.1))
-    (λ _. names-pairs rs h.1)
+pub up-start : (rows : List Row) → IsSorted row_cmp rows → AreUp [] rows
+up-start rows up = record { own = tt; below = tt; rows = rows-up row_total rows up }
+
+-- with the first row's name or without it
+pub up-more : (b : Bool) (done : List (List ℕ)) (r : Row) (rs : List Row) → AreUp done (r ∷ rs) → AreUp (cond b (done ++ r.name ∷ []) done) rs
+up-more true done r rs up = record {
+  own = pairs-append NotAbove done (r.name ∷ []) up.own (tt, tt)
+      (each-map (λ n. AllByRecursion (λ q. NotAbove n q.name) (r ∷ rs)) (λ n. AllByRecursion (NotAbove n) (r.name ∷ [])) (λ n h. (h.0, tt)) done up.below);
+  below = each-append (λ n. AllByRecursion (λ q. NotAbove n q.name) rs) done (r.name ∷ [])
+      (each-map (λ n. AllByRecursion (λ q. NotAbove n q.name) (r ∷ rs)) (λ n. AllByRecursion (λ q. NotAbove n q.name) rs) (λ n h. h.1) done up.below)
+      (each-map (IsUp r) (λ q. NotAbove r.name q.name) (λ q h. first-part (names q.name r.name) _ h) rs up.rows.0, tt);
+  rows = up.rows.1;
+}
+up-more false done r rs up = record {
+  own = up.own;
+  below = each-map (λ n. AllByRecursion (λ q. NotAbove n q.name) (r ∷ rs)) (λ n. AllByRecursion (λ q. NotAbove n q.name) rs) (λ n h. h.1) done up.below;
+  rows = up.rows.1;
+}
+
+pub up-sorted : (done : List (List ℕ)) (rs : List Row) → AreUp done rs → IsSorted names done
+up-sorted done rs up k d first small = pairs-places NotAbove done up.own k (k + 1) d (omega arith) small
+
+used-up : (rs : List Row) (done : List (List ℕ)) (last : Option (List ℕ)) → AreUp done rs → IsSorted names (names_used done last rs)
+used-up [] done last up = up-sorted done [] up
+used-up (r ∷ rs) done last up = used-up rs (cond (uses_name done last r) (done ++ r.name ∷ []) done) (last_number last r) (up-more (uses_name done last r) done r rs up)
 
 pub names-up : (rows : List Row) → IsSorted row_cmp rows → IsSorted names (histogram_names rows)
-names-up rows up k d first small = pairs-places NotAbove (histogram_names rows) (names-pairs rows (rows-up row_total rows up)) k (k + 1) d (omega arith) small
+names-up rows up = used-up rows [] None (up-start rows up)
+
+-- what these names and the rows to come use together
+abbrev pub Uses : List (List ℕ) → Option (List ℕ) → List (List ℕ) → List Place → Type 0
+Uses done last whole places = (names_used done last (rows_shown (rows_placed places)) ≡ whole) × AreUp done (rows_shown (rows_placed places))
+
+-- with one more place
+pub uses-more : (xs : List Place) (i : ℕ) (x : Place) (done after whole : List (List ℕ)) (last next : Option (List ℕ)) → i < length xs → x ≡ get_or xs i x
+    → after ≡ cond (uses_name done last (row_shown x.row.now)) (done ++ (row_shown x.row.now).name ∷ []) done → next ≡ last_number last (row_shown x.row.now)
+    → Uses done last whole (drop i xs) → Uses after next whole (drop (i + 1) xs)
+uses-more xs i x done after whole last next small at is-after is-next h =
+    let rest = drop (i + 1) xs in
+    let r = row_shown x.row.now in
+    let g = subst (Uses done last whole) (drop_more xs i x small ∙ ap (λ y. y ∷ rest) (sym at)) h in
+    let b = uses_name done last r in
+    subst (λ d. Uses d next whole rest) (sym is-after)
+    (subst (λ l. Uses (cond b (done ++ r.name ∷ []) done) l whole rest) (sym is-next) (g.0, up-more b done r (rows_shown (rows_placed rest)) g.1))
+
+-- a name was added
+pub used-then : (items after : List (Bor (List ℕ))) (n : Bor (List ℕ)) (b : Bool) (name : List ℕ) → after ≡ items ++ n ∷ [] → n.now ≡ name → b ≡ true
+    → names_shown after ≡ cond b (names_shown items ++ name ∷ []) (names_shown items)
+used-then items after n b name added is used =
+    ap names_shown added ∙ map-append (λ (m : Bor (List ℕ)). m.now) items (n ∷ []) ∙ ap (λ m. names_shown items ++ m ∷ []) is
+    ∙ sym (ap (λ c. cond c (names_shown items ++ name ∷ []) (names_shown items)) used)
 
 -- ---- a search among names in order
 

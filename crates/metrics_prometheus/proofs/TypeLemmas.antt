@@ -25,21 +25,21 @@ use Rattle.metrics_prometheus.proofs.TextLineLemmas.{help_at, begin_at, name_at,
 -- ---- names that are after another
 
 -- one name is another, or comes before it
-abbrev IsPast : List ℕ → List ℕ → Type 0
+abbrev pub IsPast : List ℕ → List ℕ → Type 0
 IsPast n m = (n ≡ m) ⊎ (names n m ≡ Less)
 
 past-below : (n m k : List ℕ) → IsPast n m → names m k ≡ Less → names n k ≡ Less
 past-below n m k (inl e) less = ap (λ a. names a k) e ∙ less
 past-below n m k (inr below) less = nat_list_cmp_total.trans n m k below less
 
-past-next : (n m k : List ℕ) → IsPast n m → is_lt (names k m) ≡ false → IsPast n k
+pub past-next : (n m k : List ℕ) → IsPast n m → is_lt (names k m) ≡ false → IsPast n k
 past-next n m k past up = elim (turn (names m k) (names k m) (nat_list_cmp_total.antisymm m k) up) [
   | inl less ↦ inr (past-below n m k past less)
   | inr equal ↦ subst (IsPast n) (sym (exact_bytes k m equal)) past
 ]
 
 -- the name after another one is none of those before that
-past-other : (n m k : List ℕ) → IsPast n m → is_lt (names k m) ≡ false → bytes_eq m k ≡ false → bytes_eq k n ≡ false
+pub past-other : (n m k : List ℕ) → IsPast n m → is_lt (names k m) ≡ false → bytes_eq m k ≡ false → bytes_eq k n ≡ false
 past-other n m k past up other = go (bytes_eq k n) refl past
   where
     go : (b : Bool) → bytes_eq k n ≡ b → IsPast n m → bytes_eq k n ≡ false
@@ -89,7 +89,7 @@ samples-all : (ss : List Sample) → filter_map sample_in (map has ss) ≡ ss
 samples-all [] = refl
 samples-all (s ∷ ss) = ap (λ l. s ∷ l) (samples-all ss)
 
-row-all : (last : Option Row) (r : Row) (ss : List Sample) → filter_map sample_in (name_at last r ++ map has ss) ≡ ss
+pub row-all : (last : Option Row) (r : Row) (ss : List Sample) → filter_map sample_in (name_at last r ++ map has ss) ≡ ss
 row-all last r ss = filter_map-append sample_in (name_at last r) (map has ss) ∙ ap (λ l. l ++ filter_map sample_in (map has ss)) (name-none last r) ∙ samples-all ss
 
 -- ---- the line that reports a kind
@@ -113,11 +113,11 @@ in-front front all w ss others none t = record {
 }
 
 -- the row that was written last has another name
-abbrev IsNew : Option Row → List ℕ → Type 0
+abbrev pub IsNew : Option Row → List ℕ → Type 0
 IsNew None n = Unit {0}
 IsNew (Some v) n = bytes_eq v.name n ≡ false
 
-new-name : (last : Option Row) (x : Row) → IsNew last x.name → name_at last x ≡ begin_at x
+pub new-name : (last : Option Row) (x : Row) → IsNew last x.name → name_at last x ≡ begin_at x
 new-name None x new = refl
 new-name (Some v) x new = ap (λ b. cond b [] (begin_at x)) new
 
@@ -170,7 +170,7 @@ module _ (cells : Cells) (all : List Row) where
       }
 
   -- the samples of two rows differ
-  no-sample : (x w : Row) → AreAcross cells x w → (s : Sample) → Contains (own_samples w) s → Contains (own_samples x) s → ⊥
+  pub no-sample : (x w : Row) → AreAcross cells x w → (s : Sample) → Contains (own_samples w) s → Contains (own_samples x) s → ⊥
   no-sample x w across s its there = each-in _ (own_samples w) s (each-in _ (own_samples x) s across there) its refl refl
 
   -- a row that is written, and those after it

@@ -63,7 +63,7 @@ first-part Less p up = up
 first-part Equal p up = refl
 first-part Greater p up = refl
 
-second-part : (o p : Ordering) → o ≡ Equal → is_lt (ordering_then o p) ≡ false → is_lt p ≡ false
+pub second-part : (o p : Ordering) → o ≡ Equal → is_lt (ordering_then o p) ≡ false → is_lt p ≡ false
 second-part Less p e up = absurd (let g : Less ≡ Equal = e in cc)
 second-part Equal p e up = up
 second-part Greater p e up = absurd (let g : Greater ≡ Equal = e in cc)
@@ -89,7 +89,7 @@ some-map : {A B : Type 0} (f : A → B) (o : Option A) → is_some (option_map f
 some-map f None = refl
 some-map f (Some a) = refl
 
-some-or : {A : Type 0} (o p : Option A) → is_some (option_or o p) ≡ (is_some o || is_some p)
+pub some-or : {A : Type 0} (o p : Option A) → is_some (option_or o p) ≡ (is_some o || is_some p)
 some-or None p = refl
 some-or (Some a) p = refl
 
@@ -111,7 +111,7 @@ left-is all last r =
     ∙ ap (λ b. is_taken all r.name || b) (clash-is last r))
 
 -- two rows in order are before one another, or clash
-in-order : (a b : Row) → is_lt (row_cmp b a) ≡ false → clashes (Some a) b ≡ false → IsBefore a b
+pub in-order : (a b : Row) → is_lt (row_cmp b a) ≡ false → clashes (Some a) b ≡ false → IsBefore a b
 in-order a b up free =
     elim (turn (names a.name b.name) (names b.name a.name) (nat_list_cmp_total.antisymm a.name b.name) (first-part (names b.name a.name) _ up)) [
       | inl less ↦ inl less

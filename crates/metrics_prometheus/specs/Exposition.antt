@@ -1,5 +1,5 @@
 -- Prometheus's text exposition format, version 0.0.4, of the series that are held.
-use Rattle.std.specs.Prelude.{if◌then◌else◌, ◌≡◌, ℕ, ◌-◌, Bool, ◌&&◌, nat_eq, bytes_eq, List, [], ◌∷◌, ◌++◌, map, length, take, codes, IsPermutation, IsSorted, Option, None, Some, is_some, option_map, Contains, ◌↔◌}
+use Rattle.std.specs.Prelude.{if◌then◌else◌, ◌≡◌, ℕ, ◌-◌, Bool, not, ◌&&◌, nat_eq, bytes_eq, List, [], ◌∷◌, ◌++◌, map, length, take, codes, IsPermutation, IsSorted, Option, None, Some, is_some, option_map, Contains, ◌↔◌}
 use Rattle.std.specs.Option.{option_or}
 use Rattle.std.specs.List.{list_any, ends_with, IsDistinct}
 use Rattle.std.specs.Cmp.Lexicographic.{pointwise, slice_cmp}
@@ -16,7 +16,7 @@ use Rattle.metrics_prometheus.specs.declared.naming.Naming.TheVariants.{AsGiven}
 use Rattle.metrics_prometheus.specs.Naming.{Display, display_of}
 use Rattle.metrics_prometheus.specs.Names.{help_escaped}
 use Rattle.metrics_prometheus.specs.Numbers.{unsigned, number}
-use Rattle.metrics_prometheus.specs.Labels.{shown_labels, repeats, reserved_of, are_fit, AreTexts}
+use Rattle.metrics_prometheus.specs.Labels.{shown_labels, repeats, reserved_of, are_fit, is_last, AreTexts}
 use Rattle.metrics_prometheus.specs.Samples.{Sample, lines, labels_text, histogram_samples}
 
 -- a series as Prometheus is shown it, next to its own key: with the description of its own name, and the number of decimal
@@ -49,10 +49,9 @@ row_cmp = then_cmp (on (λ r. r.name) (slice_cmp nat_cmp)) (then_cmp (on (λ r. 
 abbrev pub is_fit_histogram : Row → Bool
 is_fit_histogram r = kind_eq r.kind Histogram && are_fit r.kind r.labels
 
--- the names of these: a histogram that its labels keep from the text uses no name
-abbrev pub histogram_names : List Row → List (List ℕ)
-histogram_names [] = []
-histogram_names (r ∷ rs) = if is_fit_histogram r then r.name ∷ histogram_names rs else histogram_names rs
+-- a counter or a gauge whose labels are fit
+abbrev pub is_fit_number : Row → Bool
+is_fit_number r = not (kind_eq r.kind Histogram) && are_fit r.kind r.labels
 
 -- a name, if it is one of these
 abbrev pub found_in : List (List ℕ) → List ℕ → Option (List ℕ)
@@ -65,6 +64,23 @@ part_of names name end = if ends_with nat_eq name end then found_in names (take 
 -- the one of these that is the name without the end of a histogram's samples
 abbrev pub whole_of : List (List ℕ) → List ℕ → Option (List ℕ)
 whole_of names name = option_or (part_of names name (codes "_bucket")) (option_or (part_of names name (codes "_sum")) (part_of names name (codes "_count")))
+
+-- the name of the fit counter or gauge that came last
+abbrev pub last_number : Option (List ℕ) → Row → Option (List ℕ)
+last_number last r = if is_fit_number r then Some r.name else last
+
+-- a fit histogram uses its name, unless a counter or a gauge has that, or it is a part of one of these
+abbrev pub uses_name : List (List ℕ) → Option (List ℕ) → Row → Bool
+uses_name names last r = is_fit_histogram r && (not (is_last last r.name) && not (is_some (whole_of names r.name)))
+
+-- these names, and those that the histograms of rows in order use
+abbrev pub names_used : List (List ℕ) → Option (List ℕ) → List Row → List (List ℕ)
+names_used names last [] = names
+names_used names last (r ∷ rs) = names_used (if uses_name names last r then names ++ r.name ∷ [] else names) (last_number last r) rs
+
+-- the names that histograms use, of rows in order: those of the histograms that are written
+abbrev pub histogram_names : List Row → List (List ℕ)
+histogram_names rows = names_used [] None rows
 
 -- a name is that of a histogram's samples
 abbrev pub is_taken : List Row → List ℕ → Bool

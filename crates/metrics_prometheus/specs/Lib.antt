@@ -1,3 +1,4 @@
+pub mod Common
 pub mod Names
 pub mod Numbers
 pub mod Naming
@@ -5,6 +6,7 @@ pub mod Labels
 pub mod Shown
 pub mod Samples
 pub mod Exposition
+pub mod Repeated
 pub mod Rows
 pub mod Places
 pub mod Heads

@@ -1,6 +1,6 @@
 -- The names and the numbers that series are shown with.
-use Rattle.std.specs.Prelude.{if◌then◌else◌, ℕ, ◌-◌, List, [], ◌++◌, take, length, codes, nat_eq, Option, None, Some}
-use Rattle.std.specs.List.{ends_with}
+use Rattle.std.specs.Prelude.{if◌then◌else◌, ◌≡◌, ◌⊎◌, ℕ, zero, suc, ◌-◌, false, List, [], ◌++◌, take, length, codes, nat_eq, flat_map, Contains, Option, None, Some}
+use Rattle.std.specs.List.{ends_with, AllByRecursion}
 use Rattle.metrics_names.specs.declared.common.Unit.{Unit as Measure}
 use Rattle.metrics_names.specs.declared.common.Unit.TheVariants.{Count, Percent, Seconds, Milliseconds, Microseconds, Nanoseconds, Bytes}
 use Rattle.metrics_names.specs.declared.kind.MetricKind.{MetricKind}
@@ -45,19 +45,38 @@ unit_places (Some Bytes) = 0
 
 -- ---- names
 
--- the name with that end, which doesn't come twice
-abbrev pub with_end : List ℕ → List ℕ → List ℕ
-with_end name end = if ends_with nat_eq name end then name else name ++ end
+-- the end of a counter's name
+abbrev pub total_end : MetricKind → List ℕ
+total_end Counter = codes "_total"
+total_end Gauge = []
+total_end Histogram = []
 
 -- the name without that end
 abbrev pub without_end : List ℕ → List ℕ → List ℕ
 without_end name end = if ends_with nat_eq name end then take (length name - length end) name else name
 
--- the name ends in its unit, and a counter's in `_total` after that
+-- the name without these ends of its unit and kind, taken off so many times at most
+abbrev pub bare_within : ℕ → List ℕ → List ℕ → List ℕ → List ℕ
+bare_within zero unit total name = name
+bare_within (suc n) unit total name = bare_within n unit total (without_end (without_end name total) unit)
+
+-- the name without any of them
+abbrev pub bare_name : List ℕ → List ℕ → List ℕ → List ℕ
+bare_name unit total name = bare_within (length name) unit total name
+
+-- the name without the ends of its unit and kind, and then each of them once
 abbrev pub recommended_name : MetricKind → Option Measure → List ℕ → List ℕ
-recommended_name Counter unit name = with_end (without_end name (codes "_total")) (unit_end unit) ++ codes "_total"
-recommended_name Gauge unit name = with_end name (unit_end unit)
-recommended_name Histogram unit name = with_end name (unit_end unit)
+recommended_name kind unit name = bare_name (unit_end unit) (total_end kind) name ++ (unit_end unit ++ total_end kind)
+
+-- a shown name has these ends once: the name is another, which has none of them at its end, and then some of them; shown are that
+-- and each of these
+pub record HasEndsOnce (ends : List (List ℕ)) (name shown : List ℕ) : Type 0 where
+  pub bare : List ℕ
+  pub more : List (List ℕ)
+  pub name_is : name ≡ bare ++ flat_map (λ e. e) more
+  pub more_are : AllByRecursion (Contains ends) more
+  pub none : AllByRecursion (λ e. (e ≡ []) ⊎ (ends_with nat_eq bare e ≡ false)) ends
+  pub shown_is : shown ≡ bare ++ flat_map (λ e. e) ends
 
 abbrev pub shown_name : Naming → MetricKind → Option Measure → List ℕ → List ℕ
 shown_name AsGiven kind unit name = metric_name name

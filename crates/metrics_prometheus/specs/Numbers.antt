@@ -1,15 +1,15 @@
--- Numbers as they are written: whole numbers of so many decimal places.
-use Rattle.std.specs.Prelude.{if◌then◌else◌, ◌≡◌, ℕ, zero, suc, ◌+◌, ◌-◌, ◌*◌, ◌/◌, ◌%◌, ℤ, pos, negsuc, neg_ℤ, nat_eq, List, [], ◌∷◌, ◌++◌, length, decimal}
+-- Numbers as they are written: whole numbers over a power of ten, as short as they can be.
+use Rattle.std.specs.Prelude.{if◌then◌else◌, ◌≡◌, ◌<◌, ◌⊎◌, ℕ, zero, suc, ◌+◌, ◌-◌, ◌*◌, ◌/◌, ◌%◌, ◌^◌, ℤ, pos, negsuc, neg_ℤ, int_lt, nat_eq, List, [], ◌∷◌, ◌++◌, length, decimal}
 
 -- a number of units of the last of so many decimal places: its last digit comes last
 abbrev pub pointed : ℕ → ℕ → List ℕ
 pointed zero n = decimal n ++ 46 ∷ []
 pointed (suc places) n = pointed places (n / 10) ++ (48 + n % 10) ∷ []
 
--- a whole number has no point
+-- the same without zeros at the end; a whole number has no point
 abbrev pub unsigned : ℕ → ℕ → List ℕ
 unsigned zero n = decimal n
-unsigned (suc places) n = pointed (suc places) n
+unsigned (suc places) n = if nat_eq (n % 10) 0 then unsigned places (n / 10) else pointed (suc places) n
 
 -- a minus comes before a number below zero
 abbrev pub number : ℕ → ℤ → List ℕ
@@ -33,7 +33,16 @@ abbrev pub places_in : List ℕ → ℕ
 places_in [] = 0
 places_in (c ∷ cs) = if nat_eq c 46 then length cs else places_in cs
 
--- a text is that of z over this power of ten: its digits are those of z, and so many of them follow the point
+-- a number without its sign
+abbrev pub size : ℤ → ℕ
+size (pos n) = n
+size (negsuc n) = suc n
+
+-- a text is the shortest one of z over this power of ten: its digits, with zeros for the decimal places that it does without, are
+-- those of z; so many of them follow the point; and the last one that does isn't 0
 pub record IsShifted (places : ℕ) (z : ℤ) (text : List ℕ) : Type 0 where
-  pub digits : whole_in text ≡ z
-  pub behind : places_in text ≡ places
+  pub without : ℕ
+  pub digits : size (whole_in text) * 10 ^ without ≡ size z
+  pub sign : int_lt (whole_in text) (pos 0) ≡ int_lt z (pos 0)
+  pub behind : places_in text + without ≡ places
+  pub shortest : (places_in text ≡ 0) ⊎ (0 < size (whole_in text) % 10)

@@ -2,6 +2,7 @@
 use Rattle.std.specs.Prelude.{if◌then◌else◌, ◌≡◌, ◌≢◌, ◌⊎◌, ℕ, Bool, true, false, not, ◌&&◌, bytes_eq, nat_eq, List, [], ◌∷◌, ◌++◌, Option, None, Some, is_some, Contains}
 use Rattle.std.specs.List.{flat_map, filter_map, AllByRecursion}
 use Rattle.std.specs.Cmp.Lexicographic.{pointwise}
+use Rattle.metrics_names.specs.declared.kind.MetricKind.TheVariants.{Histogram}
 use Rattle.metrics_names.specs.Names.{label_eq}
 use Rattle.metrics_exporter.specs.Exporting.{Cells}
 use Rattle.metrics_prometheus.specs.Samples.{Sample, sample_line, lines}
@@ -24,6 +25,10 @@ is_same_series a b = bytes_eq a.name b.name && pointwise label_eq a.labels b.lab
 -- rows of one name are of one kind, and have other labels
 abbrev pub AreApart : Row → Row → Type 0
 AreApart a b = a.name ≡ b.name → (a.kind ≡ b.kind) × (a.labels ≡ b.labels → ⊥)
+
+-- one of these rows is a histogram of that name
+abbrev pub HasHistogram : List Row → List ℕ → Type 0
+HasHistogram rows name = (r : Row) × Contains rows r × (r.kind ≡ Histogram) × (r.name ≡ name)
 
 -- nothing keeps a row from the text: its labels are fit, its name is none of a histogram's samples, and it is apart from each
 -- other row that is written
@@ -118,3 +123,41 @@ pub record TellsKindOnce (all : List Line) (w : Row) (samples : List Sample) : T
 pub record TellsKinds (cells : Cells) (rows : List Row) (text : List ℕ) : Type 0 where
   pub lines : HasSamples text (samples_written cells rows)
   pub once : (w : Row) → Contains (written rows None rows) w → TellsKindOnce lines.all w (samples_of w (reading_at cells w))
+
+-- ---- the descriptions of names
+
+-- a line describes that name
+abbrev pub is_help_of : List ℕ → Line → Bool
+is_help_of name (has s) = false
+is_help_of name (describes n text) = bytes_eq n name
+is_help_of name (tells_kind r) = false
+is_help_of name (leaves_out r why) = false
+
+-- the first of these rows that has the name
+pub record IsFirstNamed (rows : List Row) (n : List ℕ) (first : Row) : Type 0 where
+  pub before : List Row
+  pub after : List Row
+  pub rows_are : rows ≡ before ++ first ∷ after
+  pub name : first.name ≡ n
+  pub none_before : AllByRecursion (λ r. bytes_eq r.name n ≡ false) before
+
+-- one of these lines describes the name, by this text, and none of these samples comes before it
+pub record DescribesOnce (all : List Line) (name text : List ℕ) (samples : List Sample) : Type 0 where
+  pub before : List Line
+  pub after : List Line
+  pub all_are : all ≡ before ++ describes name text ∷ after
+  pub none_before : AllByRecursion (λ l. is_help_of name l ≡ false) before
+  pub none_after : AllByRecursion (λ l. is_help_of name l ≡ false) after
+  pub behind : (s : Sample) → Contains samples s → Contains (filter_map sample_in before) s → ⊥
+
+-- so it is if there is a description, and otherwise none of these lines describes the name
+abbrev pub DescribesAs : List Line → List ℕ → Option (List ℕ) → List Sample → Type 0
+DescribesAs all name None samples = AllByRecursion (λ l. is_help_of name l ≡ false) all
+DescribesAs all name (Some text) samples = DescribesOnce all name text samples
+
+-- a text of lines that can be told apart; they describe each row's name as the first row that is written under it is described,
+-- once, before the row's samples
+pub record DescribesNames (cells : Cells) (rows : List Row) (text : List ℕ) : Type 0 where
+  pub lines : HasSamples text (samples_written cells rows)
+  pub once : (w : Row) → Contains (written rows None rows) w
+      → (first : Row) × IsFirstNamed (written rows None rows) w.name first × DescribesAs lines.all w.name first.help (samples_of w (reading_at cells w))

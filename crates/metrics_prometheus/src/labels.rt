@@ -137,7 +137,7 @@ pub(crate) fn shown_labels<'a>(
 }
 
 /// Returns whether a name is the one before.
-fn is_last(last: Option<&str>, name: &str) -> bool
+pub(crate) fn is_last(last: Option<&str>, name: &str) -> bool
     ensures { result ≡ is_last (option_map (λ l. l.now) last.entry) name.now }
 {
     match last {
@@ -162,7 +162,7 @@ pub(crate) fn repeats(labels: &[Label]) -> bool
 }
 
 /// Whether Prometheus keeps a label of that name for itself.
-fn is_reserved(kind: MetricKind, name: &str) -> bool
+pub(crate) fn is_reserved(kind: MetricKind, name: &str) -> bool
     ensures { result ≡ is_reserved kind name.now }
 {
     name.as_bytes().starts_with(b"__") || (kind == MetricKind::Histogram && name == "le")

@@ -1,5 +1,5 @@
 //! Laws of the exposition.
-ghost use Rattle.std.specs.Prelude.{◌≡◌, ◌↔◌, ◌∷◌, ◌++◌, ◌<◌, ◌^◌, ℕ, ℤ, List, None, Some};
+ghost use Rattle.std.specs.Prelude.{◌≡◌, ◌↔◌, ◌∷◌, ◌++◌, ◌<◌, ◌^◌, ◌+◌, ◌*◌, ℕ, ℤ, List, [], Option, None, Some};
 ghost use Rattle.std.specs.Int.Signed.{mag};
 ghost use Rattle.std.specs.Prelude.{All, AllPairs, Contains, FitsSigned};
 ghost use Rattle.std.specs.Int.{w64};
@@ -9,13 +9,15 @@ ghost use Rattle.metrics_storage.specs.Histogram.{Distribution};
 ghost use Rattle.metrics_exporter.specs.Exporting.{samples, Cells, Setup, Step, IsHeld, cells_after};
 ghost use Rattle.metrics_exporter.specs.Describing.{Legend};
 ghost use Rattle.metrics_prometheus.specs.declared.naming.Naming.{Naming};
-ghost use Rattle.metrics_prometheus.specs.Naming.{display_of};
-ghost use Rattle.metrics_prometheus.specs.Exposition.{IsDescribed, Row, row_of, reading_at, samples_of};
+ghost use Rattle.metrics_prometheus.specs.Naming.{display_of, unit_end, total_end, recommended_name, HasEndsOnce};
+ghost use Rattle.metrics_names.specs.declared.common.Unit.{Unit as Measure};
+ghost use Rattle.metrics_names.specs.declared.kind.MetricKind.{MetricKind};
+ghost use Rattle.metrics_prometheus.specs.Exposition.{IsDescribed, Row, row_of, histogram_names, reading_at, samples_of};
 ghost use Rattle.metrics_prometheus.specs.Written.{written, samples_written, is_same_series};
-ghost use Rattle.metrics_prometheus.specs.Numbers.{number, IsShifted};
+ghost use Rattle.metrics_prometheus.specs.Numbers.{unsigned, number, IsShifted};
 ghost use Rattle.metrics_prometheus.specs.Samples.{Sample, series_text};
 ghost use Rattle.metrics_prometheus.specs.Reading.{AreOfKinds, AreBuckets, HasNames, CanBeRead, is_same_text, Ascend, NamesOnce};
-ghost use Rattle.metrics_prometheus.specs.Written.{AreApart, HasSamples, TellsKinds, MayStand, IsTold};
+ghost use Rattle.metrics_prometheus.specs.Written.{AreApart, HasSamples, TellsKinds, DescribesNames, HasHistogram, MayStand, IsTold};
 
 use crate::rows::row_order;
 
@@ -46,6 +48,14 @@ pub fn exposition_law()
     // Each name that is written has one line for its kind, the kind of its rows, before its samples.
     ensures types { (naming : Naming) (legend : Legend) (cells : Cells) (text : List ℕ) → AreOfKinds cells
         → (e : IsDescribed naming legend cells text) → TellsKinds cells e.rows text }
+    // Each name that is written has the description of its first row that is written, once, before its samples. If that row has
+    // none, nothing describes the name.
+    ensures helps { (naming : Naming) (legend : Legend) (cells : Cells) (text : List ℕ) → AreOfKinds cells
+        → (e : IsDescribed naming legend cells text) → DescribesNames cells e.rows text }
+    // The names whose parts no other series may have are those of the histograms that are written.
+    ensures used { (naming : Naming) (legend : Legend) (cells : Cells) (text : List ℕ)
+        (e : IsDescribed naming legend cells text) (name : List ℕ) → Contains (histogram_names e.rows) name
+        ↔ HasHistogram (written e.rows None e.rows) name }
     // What is held has one text: no two texts are expositions of the same cells, under one naming and the same descriptions.
     ensures one { (naming : Naming) (legend : Legend) (cells : Cells) (a b : List ℕ)
         → IsDescribed naming legend cells a → IsDescribed naming legend cells b → a ≡ b }
@@ -71,8 +81,16 @@ pub fn exposition_text_law()
     // A text has one list of samples that can be read at most.
     ensures one_reading { (text : List ℕ) (ss ts : List Sample) → HasSamples text ss → HasSamples text ts
         → All CanBeRead ss → All CanBeRead ts → ss ≡ ts }
-    // A number's text is that number over a power of ten: its digits, with so many of them after the point.
+    // A number's text is the shortest one of that number over a power of ten: its digits, with so many of them after the point,
+    // and no 0 after the last other one.
     ensures numbers { (places : ℕ) (z : ℤ) → mag z < 2 ^ 128 → IsShifted places z (number places z) }
+    // A number has one text: with more decimal places, and as many zeros more, it is the same.
+    ensures one_number { (places k n : ℕ) → unsigned (k + places) (n * 10 ^ k) ≡ unsigned places n }
+    // Different numbers of 64 bits have different texts.
+    ensures other_numbers { (places : ℕ) (y z : ℤ) → mag y < 2 ^ 63 → mag z < 2 ^ 63 → number places y ≡ number places z → y ≡ z }
+    // A recommended name has the end of its unit, and a counter's `_total` after that, once, however many the name given has.
+    ensures ends { (kind : MetricKind) (unit : Option Measure) (name : List ℕ)
+        → HasEndsOnce (unit_end unit ∷ total_end kind ∷ []) name (recommended_name kind unit name) }
     // No two samples have the same text before their values.
     ensures distinct { (naming : Naming) (legend : Legend) (cells : Cells) (text : List ℕ) → AreOfKinds cells
         → (e : IsDescribed naming legend cells text) → IsDistinct is_same_text (samples_written cells e.rows) }

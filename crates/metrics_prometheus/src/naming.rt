@@ -9,13 +9,14 @@ pub enum Naming {
     /// Names and units are those that Prometheus recommends.
     ///
     /// A described unit adds the suffix `_seconds`, `_ratio` or `_bytes` to the name, and a decimal point to the numbers.
-    /// Milliseconds, microseconds and nanoseconds are seconds with 3, 6 and 9 decimal places, and percent a ratio with 2. A
-    /// counter's name ends in `_total`. No suffix comes twice.
+    /// Milliseconds, microseconds and nanoseconds are seconds with up to 3, 6 and 9 decimal places, and percent a ratio with up
+    /// to 2. A number has no zeros at its end. A counter's name ends in `_total`. Each of these suffixes comes once, however
+    /// often it ends the name given.
     Recommended,
 }
 
-ghost use Rattle.std.specs.Prelude.{◌≡◌, ◌++◌, codes, IfOk, string_bytes};
-ghost use Rattle.metrics_prometheus.specs.Naming.{unit_end, unit_places, with_end, without_end};
+ghost use Rattle.std.specs.Prelude.{◌≡◌, IfOk, string_bytes};
+ghost use Rattle.metrics_prometheus.specs.Naming.{unit_end, unit_places, total_end, without_end, bare_name};
 ghost use Rattle.metrics_prometheus.specs.Naming.{recommended_name, shown_name, shown_places};
 
 use crate::names::{allowed_name, metric_name};
@@ -65,36 +66,40 @@ pub(crate) fn shown_places(naming: Naming, unit: Option<Unit>) -> u8
     }
 }
 
-/// The name with that end, which doesn't come twice.
-fn with_end(name: String, end: &str) -> Result<String, AllocError>
-    ensures { IfOk result (λ s. string_bytes s ≡ with_end (string_bytes name) end.now) }
+/// The end of a counter's name.
+fn total_end(kind: MetricKind) -> &'static str
+    ensures { result.now ≡ total_end kind }
 {
-    let mut name = name;
-    if !name.as_str().as_bytes().ends_with(end.as_bytes()) {
-        name.push_str(end)?;
+    match kind {
+        MetricKind::Counter => "_total",
+        MetricKind::Gauge => "",
+        MetricKind::Histogram => "",
     }
-    Ok(name)
 }
 
-/// The name without the end of a counter's.
-fn without_total(name: &str) -> &str
-    ensures { result.now ≡ without_end name.now (codes "_total") }
+/// The name without that end, if it has it.
+fn without_end<'a>(name: &'a str, end: &str) -> &'a str
+    ensures { result.now ≡ without_end name.now end.now }
 {
-    match name.strip_suffix("_total") {
+    match name.strip_suffix(end) {
         Some(front) => front,
         None => name,
     }
 }
 
-/// The name of a counter as Prometheus recommends it.
-fn counter_name(alloc: Global, unit: Option<Unit>, name: &str) -> Result<String, AllocError>
-    ensures { IfOk result (λ s. string_bytes s
-        ≡ with_end (without_end name.now (codes "_total")) (unit_end unit) ++ codes "_total") }
+/// The name without any of these ends.
+fn bare_name<'a>(name: &'a str, unit: &str, total: &str) -> &'a str
+    ensures { result.now ≡ bare_name unit.now total.now name.now }
 {
-    let front = String::from_str(alloc, without_total(name))?;
-    let mut counter = with_end(front, unit_end(unit))?;
-    counter.push_str("_total")?;
-    Ok(counter)
+    let mut bare = name;
+    for _step in 0..name.len() {
+        let shorter = without_end(without_end(bare, total), unit);
+        if shorter.len() == bare.len() {
+            return bare;
+        }
+        bare = shorter;
+    }
+    bare
 }
 
 /// The name as Prometheus recommends it.
@@ -102,15 +107,16 @@ fn recommended_name(
     alloc: Global,
     kind: MetricKind,
     unit: Option<Unit>,
-    name: String,
+    name: &str,
 ) -> Result<String, AllocError>
-    ensures { IfOk result (λ s. string_bytes s ≡ recommended_name kind unit (string_bytes name)) }
+    ensures { IfOk result (λ s. string_bytes s ≡ recommended_name kind unit name.now) }
 {
-    match kind {
-        MetricKind::Counter => counter_name(alloc, unit, name.as_str()),
-        MetricKind::Gauge => with_end(name, unit_end(unit)),
-        MetricKind::Histogram => with_end(name, unit_end(unit)),
-    }
+    let unit = unit_end(unit);
+    let total = total_end(kind);
+    let mut recommended = String::from_str(alloc, bare_name(name, unit, total))?;
+    recommended.push_str(unit)?;
+    recommended.push_str(total)?;
+    Ok(recommended)
 }
 
 /// The name that is shown.
@@ -127,7 +133,7 @@ pub(crate) fn shown_name<'a>(
         Naming::AsGiven => allowed_name(alloc, key),
         Naming::Recommended => {
             let allowed = metric_name(alloc, key.name())?;
-            let recommended = recommended_name(alloc, kind, unit, allowed)?;
+            let recommended = recommended_name(alloc, kind, unit, allowed.as_str())?;
             ShownName::made(alloc, recommended)
         }
     }

@@ -1,6 +1,6 @@
 //! Numbers as they are written.
 ghost use Rattle.std.specs.Prelude.{◌≡◌, ◌++◌, OnOk, string_bytes, decimal};
-ghost use Rattle.metrics_prometheus.specs.Numbers.{pointed, number};
+ghost use Rattle.metrics_prometheus.specs.Numbers.{pointed, unsigned, number};
 
 use itoa::Buffer;
 use std::alloc::AllocError;
@@ -18,6 +18,20 @@ fn write_pointed(text: &mut String, places: u8, units: u128) -> Result<(), Alloc
     text.push(char::from(b'0' + digit))
 }
 
+/// Writes a number of units of the last of so many decimal places, without zeros at its end.
+fn write_unsigned(text: &mut String, places: u8, units: u128) -> Result<(), AllocError>
+    ensures { OnOk result (string_bytes text.new ≡ string_bytes text.old ++ unsigned places units) }
+{
+    if places == 0 {
+        write!(text, "{units}")?;
+        return Ok(());
+    }
+    if units % 10 == 0 {
+        return write_unsigned(text, places - 1, units / 10);
+    }
+    write_pointed(text, places, units)
+}
+
 /// Writes a number of samples.
 pub(crate) fn write_count(text: &mut String, count: u64) -> Result<(), AllocError>
     ensures { OnOk result (string_bytes text.new ≡ string_bytes text.old ++ decimal count) }
@@ -26,7 +40,7 @@ pub(crate) fn write_count(text: &mut String, count: u64) -> Result<(), AllocErro
     text.push_str(digits.format(count))
 }
 
-/// Writes a number of units of the last of so many decimal places, or a whole number if there are none.
+/// Writes a number of units of the last of so many decimal places: its shortest text.
 pub(crate) fn write_number(text: &mut String, places: u8, units: i128) -> Result<(), AllocError>
     ensures { OnOk result (string_bytes text.new ≡ string_bytes text.old ++ number places units) }
 {
@@ -37,5 +51,5 @@ pub(crate) fn write_number(text: &mut String, places: u8, units: i128) -> Result
     if units < 0 {
         text.push_str("-")?;
     }
-    write_pointed(text, places, units.unsigned_abs())
+    write_unsigned(text, places, units.unsigned_abs())
 }

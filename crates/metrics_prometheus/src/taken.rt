@@ -1,20 +1,42 @@
 //! The names that histograms use for their samples.
-ghost use Rattle.std.specs.Prelude.{◌≡◌, IfOk, option_map};
+ghost use Rattle.std.specs.Prelude.{◌≡◌, IfOk, is_some, option_map};
 ghost use Rattle.std.specs.List.{AllByRecursion};
 ghost use Rattle.std.specs.List.Sorted.{IsSorted};
 ghost use Rattle.std.specs.Cmp.Lexicographic.{slice_cmp};
 ghost use Rattle.std.specs.Ordering.{nat_cmp};
 ghost use Rattle.metrics_names.specs.Names.{label_cmp};
-ghost use Rattle.metrics_prometheus.specs.Exposition.{row_cmp, is_fit_histogram, histogram_names, found_in, part_of, whole_of};
+ghost use Rattle.metrics_prometheus.specs.Exposition.{row_cmp, is_fit_histogram, is_fit_number, last_number, uses_name};
+ghost use Rattle.metrics_prometheus.specs.Exposition.{histogram_names, found_in, part_of, whole_of};
 ghost use Rattle.metrics_prometheus.specs.Places.{rows_placed};
 ghost use Rattle.metrics_prometheus.specs.Rows.{row_shown, rows_shown, names_shown};
 
-use crate::labels::are_fit;
+use crate::labels::{are_fit, is_last};
 use crate::rows::{Place, ShownRow};
 use metrics::MetricKind;
 use std::alloc::{AllocError, Global};
 use std::cmp::Ordering;
 
+/// Returns whether a row is a counter or a gauge whose labels are fit.
+fn is_fit_number(row: &ShownRow<'_>) -> bool
+    requires { IsSorted label_cmp row.now.labels }
+    ensures { result ≡ is_fit_number (row_shown row.now) }
+{
+    row.kind != MetricKind::Histogram && are_fit(row.kind, row.labels.as_slice())
+}
+
+/// The name of the fit counter or gauge that came last.
+fn last_number<'r>(last: Option<&'r str>, row: &'r ShownRow<'_>) -> Option<&'r str>
+    requires { IsSorted label_cmp row.now.labels }
+    ensures { option_map (λ n. n.now) result ≡ last_number (option_map (λ n. n.now) last.entry) (row_shown row.now) }
+{
+    if is_fit_number(row) {
+        Some(row.name.as_str())
+    } else {
+        last
+    }
+}
+
+/// Returns whether a row is a histogram whose labels are fit.
 fn is_fit_histogram(row: &ShownRow<'_>) -> bool
     requires { IsSorted label_cmp row.now.labels }
     ensures { result ≡ is_fit_histogram (row_shown row.now) }
@@ -22,7 +44,28 @@ fn is_fit_histogram(row: &ShownRow<'_>) -> bool
     row.kind == MetricKind::Histogram && are_fit(row.kind, row.labels.as_slice())
 }
 
-/// The names of the histograms whose labels are fit, in order.
+/// Returns whether a name is a part of a histogram of these names.
+fn is_part(histograms: &[&str], name: &[u8]) -> bool
+    requires { IsSorted (slice_cmp nat_cmp) (names_shown histograms.now) }
+    ensures { result ≡ is_some (whole_of (names_shown histograms.now) name.now) }
+{
+    match whole_of(histograms, name) {
+        Some(_) => true,
+        None => false,
+    }
+}
+
+/// Returns whether a row is a histogram that uses its name, after histograms of these names and a counter or gauge of that one.
+fn uses_name(histograms: &[&str], last: Option<&str>, row: &ShownRow<'_>) -> bool
+    requires sorted { IsSorted (slice_cmp nat_cmp) (names_shown histograms.now) }
+    requires labels { IsSorted label_cmp row.now.labels }
+    ensures { result ≡ uses_name (names_shown histograms.now) (option_map (λ n. n.now) last.entry) (row_shown row.now) }
+{
+    is_fit_histogram(row)
+        && (!is_last(last, row.name.as_str()) && !is_part(histograms, row.name.as_str().as_bytes()))
+}
+
+/// The names that histograms use for their samples, in order: those of the histograms that are written.
 pub(crate) fn histogram_names<'r>(
     alloc: Global,
     places: &[Place<'r, '_>],
@@ -33,10 +76,12 @@ pub(crate) fn histogram_names<'r>(
     ensures sorted { IfOk result (λ names. IsSorted (slice_cmp nat_cmp) (names_shown names.items)) }
 {
     let mut names = Vec::new(alloc);
+    let mut last = None;
     for place in places {
-        if is_fit_histogram(place.row) {
+        if uses_name(&names, last, place.row) {
             names.push(place.row.name.as_str())?;
         }
+        last = last_number(last, place.row);
     }
     Ok(names)
 }

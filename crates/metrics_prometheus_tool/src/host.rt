@@ -1,9 +1,10 @@
 //! The surroundings of the program: the clock, standard error, and the file for scrapes.
 
+use crate::devices::Failure;
+use metrics_textfile::write_textfile;
 use std::fmt::Display;
 use std::rt::{Clock, Files};
 use std::time::{SystemTime, UNIX_EPOCH};
-use std::{fs, io};
 use tool_prometheus::Surroundings;
 
 /// The runtime, and the path of the file for scrapes.
@@ -13,16 +14,15 @@ pub struct Host<'a, R> {
     pub rt: &'a R,
     /// The path of the file for scrapes, if there is one.
     pub path: Option<&'a str>,
-}
-
-/// Writes the text beside the file and renames it, so that readers see all of it or nothing.
-fn replace<R: AllocGlobal + Files>(rt: &R, path: &str, text: &str) -> io::Result<()> {
-    let beside = format!(in rt.alloc(); "{path}.tmp")?;
-    fs::write(rt, beside.as_str(), text)?;
-    fs::rename(rt, beside.as_str(), path)
+    /// What failed of standard input and standard output.
+    pub failure: &'a Failure,
 }
 
 impl<R: AllocGlobal + Clock + Eprint + Files> Surroundings for Host<'_, R> {
+    ghost use Rattle.std.specs.Prelude.{None as Unknown};
+
+    ghost asked = { λ _. Unknown };
+
     fn seconds(&mut self) -> u64 {
         match SystemTime::now(self.rt) {
             Ok(now) => match now.duration_since(UNIX_EPOCH) {
@@ -37,14 +37,20 @@ impl<R: AllocGlobal + Clock + Eprint + Files> Surroundings for Host<'_, R> {
         let _ = eprintln!(self.rt; "{message}");
     }
 
+    fn tell_device(&mut self) {
+        if !self.failure.is_reader_gone() {
+            let _ = eprintln!(self.rt; "{}", self.failure);
+        }
+    }
+
     fn publish(&mut self, text: &str) -> bool {
         let Some(path) = self.path else {
             return false;
         };
-        match replace(self.rt, path, text) {
+        match write_textfile(self.rt, self.rt.alloc(), path, text) {
             Ok(()) => true,
             Err(e) => {
-                let _ = eprintln!(self.rt; "{path}: {e}");
+                let _ = eprintln!(self.rt; "{e}");
                 false
             }
         }

@@ -10,10 +10,6 @@ use tool_prometheus::{Naming, Options};
 
 const KINDS: &[&str] = &["counter", "gauge", "histogram"];
 
-const SHARDS: &[&str] = &[
-    "1", "2", "4", "8", "16", "32", "64", "128", "256", "512", "1024",
-];
-
 const LINES: &str = "\
 A line of the input is one of
   increment N NAME LABEL=VALUE ..   adds N to a counter
@@ -30,13 +26,15 @@ A line of the input is one of
 One space is between two words. N is a whole number, for gauges and samples also a negative one.
 The first update of a series makes it. A VALUE with spaces is in double quotes; there \\\", \\\\ and \\n
 are a quote, a backslash and a line feed.
-The end of the input writes all series, unless nothing changed since the last scrape.
+The end of the input writes all series, unless nothing changed since the last scrape. A last line
+without a line feed is not counted.
 
-A call that fails writes a line '# refused ..' to standard output. Standard error has what is wrong
-with bad lines, and which series are left out.
+A refused call writes a line '# refused ..' to standard output, unless there is a file. Standard
+error has what is wrong with bad lines, how many calls were refused, which series are left out, and
+which names and labels the text spells otherwise.
 
-Status: 0 at the end of the input, 1 if memory, a device or the file failed, 2 at a bad line or
-wrong words, 3 if bad lines were skipped.";
+Status: 0 at the end of the input, 1 if memory, a device or the file failed or a call was refused,
+2 at a bad line or wrong words, 3 if bad lines were skipped or the last line is not counted.";
 
 /// An option with a value.
 fn option<'a>(alloc: Global, name: &'a str, value: &'a str, help: &'a str) -> Arg<'a> {
@@ -61,8 +59,11 @@ fn with_plan<'a>(alloc: Global, command: Command<'a>) -> Result<Command<'a>, All
         alloc,
         "bounds",
         "N,..",
-        "Upper bounds of the buckets of histograms (--bounds=-5,0 if the first is negative)",
+        "Upper bounds of the buckets of histograms\n\
+        (--bounds=-5,0 if the first is negative)\n\
+        [default: 5,10,25,50,100,250,500,1000,2500,5000,10000]",
     )
+    .hide_default_value(true)
     .value_delimiter(',')
     .allow_negative_numbers(true)
     .default_value("5,10,25,50,100,250,500,1000,2500,5000,10000");
@@ -70,31 +71,37 @@ fn with_plan<'a>(alloc: Global, command: Command<'a>) -> Result<Command<'a>, All
         alloc,
         "bounds-of",
         "PREFIX=N,..",
-        "Bounds of histograms whose names begin with PREFIX; the longest wins. May be repeated",
+        "Bounds of histograms whose names begin with PREFIX;\n\
+        the longest wins. May be repeated",
     )
     .action(ArgAction::Append);
     let label = option(
         alloc,
         "label",
         "LABEL=VALUE",
-        "Adds a label to each series; a series' own label of that name wins. May be repeated",
+        "Adds a label to each series; a series' own label of that name wins.\n\
+        May be repeated",
     )
     .action(ArgAction::Append);
     let idle = option(
         alloc,
         "idle",
         "N",
-        "Removes each series that had no update over scrapes more than N apart, in the unit of NOW",
-    );
+        "Removes each series that had no update over scrapes more than N\n\
+        apart: seconds, or the unit of each NOW",
+    )
+    .allow_negative_numbers(true);
     let kinds = option(
         alloc,
         "idle-kinds",
         "KIND,..",
-        "Kinds of series that --idle removes",
+        "Kinds of series that --idle removes: counter, gauge, histogram\n\
+        [default: all]",
     )
     .value_delimiter(',')
     .value_parser(KINDS)
-    .default_value("counter,gauge,histogram");
+    .hide_possible_values(true)
+    .requires_arg("idle")?;
     command
         .arg(bounds)?
         .arg(prefixes)?
@@ -108,37 +115,46 @@ fn with_output<'a>(alloc: Global, command: Command<'a>) -> Result<Command<'a>, A
     let recommended = flag(
         alloc,
         "recommended-names",
-        "Shows names and units as Prometheus recommends: _seconds, _bytes, _ratio, _total",
+        "Shows names as Prometheus recommends:\n\
+        _seconds, _bytes, _ratio, _total",
     );
     let file = option(
         alloc,
         "textfile",
         "PATH",
-        "Writes each scrape to PATH.tmp and renames it to PATH, not to standard output",
+        "Puts each scrape into the file PATH, whole or not at all,\n\
+        and nothing on standard output",
+    );
+    let ends = flag(
+        alloc,
+        "at-scrapes-only",
+        "Writes nothing at the end of the input, only at scrapes",
+    );
+    let partial = flag(
+        alloc,
+        "accept-partial",
+        "Counts a last line without a line feed, instead of reporting it",
     );
     let skips = flag(
         alloc,
         "skip-bad",
         "Reports and skips bad lines, instead of ending at the first one",
     );
-    let shards = option(
-        alloc,
-        "shards",
-        "N",
-        "Shards of the map that holds the series",
-    )
-    .value_parser(SHARDS)
-    .default_value("1");
-    command.arg(recommended)?.arg(file)?.arg(skips)?.arg(shards)
+    command
+        .arg(recommended)?
+        .arg(file)?
+        .arg(ends)?
+        .arg(partial)?
+        .arg(skips)
 }
 
 /// The command line.
 fn command_line<'a>(alloc: Global) -> Result<Command<'a>, AllocError> {
     let command = Command::new(alloc, "metrics_prometheus_tool")
         .bin_name("metrics_prometheus_tool")?
-        .version("0.9.0")
+        .version("0.10.0")
         .about(
-            "Reads updates of series from standard input, and writes the series in Prometheus's text \
+            "Reads updates of series from standard input, and writes the series in Prometheus's text\n\
             format at each scrape.",
         )
         .after_help(LINES);
@@ -169,7 +185,7 @@ fn watched_of(matches: &ArgMatches<'_>) -> MetricKindMask {
 /// How an exporter is to be made.
 fn plan_of<'a>(alloc: Global, matches: &ArgMatches<'a>) -> Result<ExportPlan, Unfit<'a>> {
     Ok(ExportPlan {
-        shards: matches.get_one::<usize>("shards").unwrap_or(1),
+        shards: 1,
         watched: watched_of(matches),
         idle_timeout: idle_of(matches.get_str("idle"))?,
         bounds: bounds_of(alloc, matches.get_strs("bounds"))?,
@@ -194,6 +210,8 @@ fn asked<'a>(alloc: Global, matches: &ArgMatches<'a>) -> Result<Options, Unfit<'
         labels: labels_of(alloc, matches.get_strs("label"))?,
         skips_bad: matches.get_flag("skip-bad"),
         has_file: matches.contains_id("textfile"),
+        at_scrapes_only: matches.get_flag("at-scrapes-only"),
+        accepts_partial: matches.get_flag("accept-partial"),
     })
 }
 

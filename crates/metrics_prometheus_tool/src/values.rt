@@ -3,7 +3,7 @@
 use metrics::{Items, Label, Text};
 use std::alloc::{AllocError, AllocFailed, Global};
 use std::fmt;
-use tool_prometheus::PrefixBounds;
+use tool_prometheus::{BadLabel, PrefixBounds, bad_label};
 
 /// What a bound is.
 const BOUND: &str = "N is a whole number from -9223372036854775808 to 9223372036854775807";
@@ -119,16 +119,14 @@ pub fn prefixes_of<'a>(
     Ok(Items::from(prefixes))
 }
 
-/// Whether Prometheus allows a label of this name, and doesn't keep it for itself.
-fn is_label_name(name: &str) -> bool {
-    let is_first = |byte: &u8| byte.is_ascii_alphabetic() || *byte == b'_';
-    let bytes = name.as_bytes();
-    bytes.first().is_some_and(is_first)
-        && bytes
-            .iter()
-            .all(|byte| is_first(byte) || byte.is_ascii_digit())
-        && !name.starts_with("__")
-        && name != "le"
+/// What is wrong with the name of a label that would stand beside others.
+fn flaw_of(labels: &[Label], name: &str) -> Option<&'static str> {
+    match bad_label(labels, name)? {
+        BadLabel::Repeated => Some("each LABEL is given once"),
+        _ => Some(
+            "LABEL has letters, digits and _, begins with neither a digit nor __, and is not le",
+        ),
+    }
 }
 
 /// The label that a value of the option adds to the others, or what is wrong with it.
@@ -136,16 +134,11 @@ fn label_of<'a>(labels: &[Label], given: &'a str) -> Result<(&'a str, &'a str), 
     let Some((name, value)) = given.split_once('=') else {
         return Err("it has no '='");
     };
-    if !is_label_name(name) {
-        return Err(
-            "LABEL has letters, digits and _, begins with neither a digit nor __, and is not le",
-        );
+    if let Some(flaw) = flaw_of(labels, name) {
+        return Err(flaw);
     }
     if value.bytes().any(|byte| byte.is_ascii_control()) {
         return Err("VALUE has no control characters");
-    }
-    if labels.iter().any(|label| label.key() == name) {
-        return Err("each LABEL is given once");
     }
     Ok((name, value))
 }

@@ -176,8 +176,8 @@ pub(crate) fn note_register(registers: &mut Vec<usize>, call: &Call, place: usiz
 
 /// Makes the calls in order, and returns the result of each of them.
 ///
-/// It makes room first: for a result of each call, and for as many numbers, the places of the register calls. `Err` comes only
-/// if that fails, and never for an empty list. Then nothing was called, and the recorder is unchanged.
+/// It makes room first: for a result of each call, and for a list of where the register calls are. `Err` comes only if that
+/// fails, and never for an empty list. Then nothing was called, and the recorder is unchanged.
 pub fn replay<R: Recorder>(
     alloc: Global,
     on: &mut R,
@@ -185,7 +185,8 @@ pub fn replay<R: Recorder>(
 ) -> Result<Vec<Answer>, Refused>
     ensures number { IfOk result (λ answers. length answers.items ≡ length calls.now) }
 
-    // If the books are new, each result is the expected one, and the books hold what the calls and results say.
+    // If all books were new, each result is the expected one, or out of memory where that may happen, and the books hold what the
+    // calls and results say. The other clauses hold of any books.
     ensures answers { AreNew (R.meaning on.old).contents → IfOk result (λ answers.
         ArePlain (R.meaning on.old).targets (length (R.meaning on.old).contents) (log_of calls.now answers.items)) }
     ensures contents { AreNew (R.meaning on.old).contents
@@ -193,7 +194,7 @@ pub fn replay<R: Recorder>(
         content_at b (R.meaning on.new).contents
         ≡ content_after (reached (R.meaning on.old).targets b (log_of calls.now answers.items))) }
 
-    // Books and targets stay.
+    // There are as many books, and each name has the same targets.
     ensures books { length (R.meaning on.new).contents ≡ length (R.meaning on.old).contents }
     ensures keeps { KeepsTargets (R.meaning on.old) (R.meaning on.new) }
     ensures err { IfErr result (λ e. (e ≡ Memory 0) × (on.new ≡ on.old)) }

@@ -4,6 +4,7 @@
 mod generational;
 mod recency;
 mod registry;
+mod shard;
 mod storage;
 
 pub use generational::Generational;

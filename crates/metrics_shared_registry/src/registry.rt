@@ -1,13 +1,15 @@
 //! Shards, each under a lock of its own.
-ghost use Rattle.std.specs.Prelude.{◌≡◌, true, IfOk, IfErr, if◌then◌else◌, vec_len};
-ghost use Rattle.std.specs.Fn.{FnOnceReturnsAt};
+ghost use Rattle.std.specs.Prelude.{◌≡◌, true, false, List, IfOk, IfErr, IfSome, if◌then◌else◌, vec_len};
+ghost use Rattle.std.specs.Fn.{FnOnceReturnsAt, FnOnceReturnsAtMut};
 ghost use Rattle.std.specs.Int.{is_power_of_two};
 ghost use Rattle.metrics.specs.declared.error.Error.TheVariants.{Memory as OutOfMemory, BadShards as NotShards};
-ghost use Rattle.metrics_registry.specs.Held.{is_shard_count as is_count};
+ghost use Rattle.metrics_registry.specs.Held.{CallsEach, is_shard_count as is_count};
+ghost use Rattle.metrics_shared_registry.specs.Made.{FitsKey, EachFits};
 
+use crate::shard::Shard;
 use crate::storage::AtomicStorage;
 use metrics::{Error, Key};
-use metrics_registry::{EqualClone, Hashable, Kinds, Storage, is_shard_count, shard_by_mask};
+use metrics_registry::{EqualClone, Hashable, Storage, is_shard_count, shard_by_mask};
 use std::alloc::Global;
 use std::collections::HashMap;
 use std::sync::{RwLock, RwLockReadGuard, Wait};
@@ -32,7 +34,7 @@ fn reading<'a, T, R: Wait>(rt: &R, shard: &'a RwLock<T>) -> RwLockReadGuard<'a, 
 #[derive(Drop)]
 pub struct Registry<K: Hashable, S: Storage<K>> {
     storage: S,
-    shards: Vec<RwLock<Kinds<K, S>>>,
+    shards: Vec<RwLock<Shard<K, S>>>,
     ghost power: { is_power_of_two (vec_len shards) ≡ true },
 }
 
@@ -62,7 +64,7 @@ where
     }
 
     /// Returns the shard of a key.
-    fn shard(&self, key: &K) -> &RwLock<Kinds<K, S>> {
+    fn shard(&self, key: &K) -> &RwLock<Shard<K, S>> {
         &self.shards[shard_by_mask(key, self.shards.len())]
     }
 
@@ -79,7 +81,9 @@ where
     pub fn get_counter<W: Wait>(&self, rt: &W, key: &K) -> Result<Option<S::Counter>, Error>
     where
         S::Counter: Clone,
-        ensures { IfErr result (λ e. e ≡ OutOfMemory) }
+        ensures ok { IfOk result
+            (λ found. IfSome found (λ h. (c : S.Counter) × FitsKey K.eq S.makes_counter key.now c × S.Counter.is_clone c h)) }
+        ensures err { IfErr result (λ e. e ≡ OutOfMemory) }
     {
         match reading(rt, self.shard(key)).counters.get(key) {
             Some(cell) => Ok(Some(cell.clone()?)),
@@ -98,7 +102,8 @@ where
         op: F,
     ) -> Result<V, Error>
         requires { F.IsAlwaysCallable op }
-        ensures called { IfOk result (λ v. (c : S.Counter) × FnOnceReturnsAt F.FnOnce op c v) }
+        ensures called { IfOk result (λ v. (c : S.Counter) × FitsKey K.eq S.makes_counter key.now c
+            × FnOnceReturnsAt F.FnOnce op c v) }
         ensures err { IfErr result (λ e. e ≡ OutOfMemory) }
     {
         let shard = self.shard(key);
@@ -106,16 +111,14 @@ where
             return Ok(op(cell));
         }
         let cell = self.storage.counter(key)?;
-        let create = |cell: &mut S::Counter| -> V
-            requires { F.IsAlwaysCallable op }
-            ensures { FnOnceReturnsAt F.FnOnce op cell.old result }
-        { op(cell) };
-        shard.write(rt).counters.change_or_create(key, cell, create)
+        shard.write(rt).counters.get_or_insert(key, cell, op)
     }
 
     /// Calls `f` once for each counter, in some order.
     pub fn visit_counters<W: Wait, F: FnMut(&K, &S::Counter) + Drop>(&self, rt: &W, f: F)
         requires { F.IsAlwaysCallable f }
+        ensures { (es : List (K × S.Counter)) × (last : F) × EachFits K.eq S.makes_counter es
+            × CallsEach F.FnMut f es last }
     {
         let mut f = f;
         for shard in &self.shards {
@@ -152,6 +155,24 @@ where
         }
     }
 
+    /// Removes a counter if `f` returns true for its cell, and returns whether it did. Otherwise `f` leaves the cell as it was.
+    ///
+    /// It locks one shard, for `f` alone.
+    pub fn remove_counter_if<W: Wait, F: FnOnce(&mut S::Counter) -> bool + Drop>(
+        &self,
+        rt: &W,
+        key: &K,
+        f: F,
+    ) -> bool
+        requires call { F.IsAlwaysCallable f }
+        requires keeps { (cell : S.Counter) (left : S.Counter) → FnOnceReturnsAtMut F.FnOnce f cell false left
+            → left ≡ cell }
+        ensures { result ≡ true → (cell : S.Counter) × (left : S.Counter)
+            × FitsKey K.eq S.makes_counter key.now cell × FnOnceReturnsAtMut F.FnOnce f cell true left }
+    {
+        self.shard(key).write(rt).counters.remove_if(key, f)
+    }
+
     /// Removes a counter, and returns whether it was held.
     pub fn delete_counter<W: Wait>(&self, rt: &W, key: &K) -> bool {
         self.shard(key).write(rt).counters.remove(key)
@@ -163,7 +184,9 @@ where
     pub fn get_gauge<W: Wait>(&self, rt: &W, key: &K) -> Result<Option<S::Gauge>, Error>
     where
         S::Gauge: Clone,
-        ensures { IfErr result (λ e. e ≡ OutOfMemory) }
+        ensures ok { IfOk result
+            (λ found. IfSome found (λ h. (c : S.Gauge) × FitsKey K.eq S.makes_gauge key.now c × S.Gauge.is_clone c h)) }
+        ensures err { IfErr result (λ e. e ≡ OutOfMemory) }
     {
         match reading(rt, self.shard(key)).gauges.get(key) {
             Some(cell) => Ok(Some(cell.clone()?)),
@@ -182,7 +205,8 @@ where
         op: F,
     ) -> Result<V, Error>
         requires { F.IsAlwaysCallable op }
-        ensures called { IfOk result (λ v. (c : S.Gauge) × FnOnceReturnsAt F.FnOnce op c v) }
+        ensures called { IfOk result (λ v. (c : S.Gauge) × FitsKey K.eq S.makes_gauge key.now c
+            × FnOnceReturnsAt F.FnOnce op c v) }
         ensures err { IfErr result (λ e. e ≡ OutOfMemory) }
     {
         let shard = self.shard(key);
@@ -190,16 +214,14 @@ where
             return Ok(op(cell));
         }
         let cell = self.storage.gauge(key)?;
-        let create = |cell: &mut S::Gauge| -> V
-            requires { F.IsAlwaysCallable op }
-            ensures { FnOnceReturnsAt F.FnOnce op cell.old result }
-        { op(cell) };
-        shard.write(rt).gauges.change_or_create(key, cell, create)
+        shard.write(rt).gauges.get_or_insert(key, cell, op)
     }
 
     /// Calls `f` once for each gauge, in some order.
     pub fn visit_gauges<W: Wait, F: FnMut(&K, &S::Gauge) + Drop>(&self, rt: &W, f: F)
         requires { F.IsAlwaysCallable f }
+        ensures { (es : List (K × S.Gauge)) × (last : F) × EachFits K.eq S.makes_gauge es
+            × CallsEach F.FnMut f es last }
     {
         let mut f = f;
         for shard in &self.shards {
@@ -236,6 +258,24 @@ where
         }
     }
 
+    /// Removes a gauge if `f` returns true for its cell, and returns whether it did. Otherwise `f` leaves the cell as it was.
+    ///
+    /// It locks one shard, for `f` alone.
+    pub fn remove_gauge_if<W: Wait, F: FnOnce(&mut S::Gauge) -> bool + Drop>(
+        &self,
+        rt: &W,
+        key: &K,
+        f: F,
+    ) -> bool
+        requires call { F.IsAlwaysCallable f }
+        requires keeps { (cell : S.Gauge) (left : S.Gauge) → FnOnceReturnsAtMut F.FnOnce f cell false left
+            → left ≡ cell }
+        ensures { result ≡ true → (cell : S.Gauge) × (left : S.Gauge)
+            × FitsKey K.eq S.makes_gauge key.now cell × FnOnceReturnsAtMut F.FnOnce f cell true left }
+    {
+        self.shard(key).write(rt).gauges.remove_if(key, f)
+    }
+
     /// Removes a gauge, and returns whether it was held.
     pub fn delete_gauge<W: Wait>(&self, rt: &W, key: &K) -> bool {
         self.shard(key).write(rt).gauges.remove(key)
@@ -247,7 +287,10 @@ where
     pub fn get_histogram<W: Wait>(&self, rt: &W, key: &K) -> Result<Option<S::Histogram>, Error>
     where
         S::Histogram: Clone,
-        ensures { IfErr result (λ e. e ≡ OutOfMemory) }
+        ensures ok { IfOk result
+            (λ found. IfSome found (λ h. (c : S.Histogram) × FitsKey K.eq S.makes_histogram key.now c
+            × S.Histogram.is_clone c h)) }
+        ensures err { IfErr result (λ e. e ≡ OutOfMemory) }
     {
         match reading(rt, self.shard(key)).histograms.get(key) {
             Some(cell) => Ok(Some(cell.clone()?)),
@@ -266,7 +309,8 @@ where
         op: F,
     ) -> Result<V, Error>
         requires { F.IsAlwaysCallable op }
-        ensures called { IfOk result (λ v. (c : S.Histogram) × FnOnceReturnsAt F.FnOnce op c v) }
+        ensures called { IfOk result (λ v. (c : S.Histogram) × FitsKey K.eq S.makes_histogram key.now c
+            × FnOnceReturnsAt F.FnOnce op c v) }
         ensures err { IfErr result (λ e. e ≡ OutOfMemory) }
     {
         let shard = self.shard(key);
@@ -274,19 +318,14 @@ where
             return Ok(op(cell));
         }
         let cell = self.storage.histogram(key)?;
-        let create = |cell: &mut S::Histogram| -> V
-            requires { F.IsAlwaysCallable op }
-            ensures { FnOnceReturnsAt F.FnOnce op cell.old result }
-        { op(cell) };
-        shard
-            .write(rt)
-            .histograms
-            .change_or_create(key, cell, create)
+        shard.write(rt).histograms.get_or_insert(key, cell, op)
     }
 
     /// Calls `f` once for each histogram, in some order.
     pub fn visit_histograms<W: Wait, F: FnMut(&K, &S::Histogram) + Drop>(&self, rt: &W, f: F)
         requires { F.IsAlwaysCallable f }
+        ensures { (es : List (K × S.Histogram)) × (last : F) × EachFits K.eq S.makes_histogram es
+            × CallsEach F.FnMut f es last }
     {
         let mut f = f;
         for shard in &self.shards {
@@ -327,6 +366,24 @@ where
         }
     }
 
+    /// Removes a histogram if `f` returns true for its cell, and returns whether it did. Otherwise `f` leaves the cell as it was.
+    ///
+    /// It locks one shard, for `f` alone.
+    pub fn remove_histogram_if<W: Wait, F: FnOnce(&mut S::Histogram) -> bool + Drop>(
+        &self,
+        rt: &W,
+        key: &K,
+        f: F,
+    ) -> bool
+        requires call { F.IsAlwaysCallable f }
+        requires keeps { (cell : S.Histogram) (left : S.Histogram) → FnOnceReturnsAtMut F.FnOnce f cell false left
+            → left ≡ cell }
+        ensures { result ≡ true → (cell : S.Histogram) × (left : S.Histogram)
+            × FitsKey K.eq S.makes_histogram key.now cell × FnOnceReturnsAtMut F.FnOnce f cell true left }
+    {
+        self.shard(key).write(rt).histograms.remove_if(key, f)
+    }
+
     /// Removes a histogram, and returns whether it was held.
     pub fn delete_histogram<W: Wait>(&self, rt: &W, key: &K) -> bool {
         self.shard(key).write(rt).histograms.remove(key)
@@ -350,7 +407,7 @@ impl Registry<Key, AtomicStorage> {
 fn new_shards<K: Hashable + EqualClone + Drop, S: Storage<K>>(
     alloc: Global,
     count: usize,
-) -> Result<Vec<RwLock<Kinds<K, S>>>, Error>
+) -> Result<Vec<RwLock<Shard<K, S>>>, Error>
 where
     S::Counter: Drop,
     S::Gauge: Drop,
@@ -361,7 +418,7 @@ where
     let mut shards = Vec::new(alloc);
     shards.reserve(count)?;
     for _ in 0..count {
-        shards.push_reserved(RwLock::new(Kinds::new(alloc)));
+        shards.push_reserved(RwLock::new(Shard::new(alloc)));
     }
     Ok(shards)
 }

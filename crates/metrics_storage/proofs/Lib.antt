@@ -1,3 +1,4 @@
+pub mod Ascending
 pub mod Counting
 pub mod Crossing
 pub mod Cuts

@@ -1,6 +1,6 @@
 -- A histogram over bounds, and what samples add to it.
 use Rattle.std.specs.Prelude.{ℕ, zero, suc, ◌+◌, ◌*◌, ◌^◌, ℤ, pos, neg_ℤ, ◌+ℤ◌, ◌≤ℤ◌, int_le, int_lt, List, [], ◌∷◌, map, length, fold, slice_set, slice_index}
-use Rattle.std.specs.Prelude.{◌≡◌, ◌++◌, if◌then◌else◌, slice_index_or}
+use Rattle.std.specs.Prelude.{◌≡◌, ◌↔◌, ◌++◌, ◌<ℤ◌, if◌then◌else◌, slice_index_or, Contains, AllPairs}
 use Rattle.std.specs.List.{count_by, zip, FoldsTo}
 use Rattle.std.specs.Fn.{Mut, Called, Takes}
 
@@ -65,6 +65,20 @@ with_buckets done (b ∷ bs) = with_buckets (bucket_placed b done) bs
 -- each bound once, in ascending order, with the number of samples at most it
 abbrev pub ascending : List (ℤ × ℕ) → List (ℤ × ℕ)
 ascending buckets = with_buckets [] buckets
+
+-- a bucket has the bound
+abbrev pub HasBound : List (ℤ × ℕ) → ℤ → Type 0
+HasBound buckets bound = (b : ℤ × ℕ) × Contains buckets b × (b.0 ≡ bound)
+
+-- they ascend by their bounds, have each bound of the others and no more, and are among them
+pub record IsAscendingOf (buckets shown : List (ℤ × ℕ)) : Type 0 where
+  pub ascend : AllPairs (λ a b. a.0 <ℤ b.0) shown
+  pub bounds : (bound : ℤ) → HasBound buckets bound ↔ HasBound shown bound
+  pub among : (b : ℤ × ℕ) → Contains shown b → Contains buckets b
+
+-- buckets in ascending order are those
+abbrev pub AscendingIsInOrder : Type 0
+AscendingIsInOrder = (buckets : List (ℤ × ℕ)) → IsAscendingOf buckets (ascending buckets)
 
 -- ---- the fields
 

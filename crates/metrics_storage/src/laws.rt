@@ -1,6 +1,6 @@
 //! Laws of the definitions.
 ghost use Rattle.std.specs.Prelude.{◌≡◌};
-ghost use Rattle.metrics_storage.specs.Histogram.{MergingAddsSamples};
+ghost use Rattle.metrics_storage.specs.Histogram.{MergingAddsSamples, AscendingIsInOrder};
 ghost use Rattle.metrics_storage.specs.Reservoir.{ItemsCameLast, StepsHoldLast};
 ghost use Rattle.metrics_storage.specs.Sample.{PushesAddUp};
 ghost use Rattle.metrics_storage.specs.Fairness.{KeptHasPlace, IsFair, all, kept};
@@ -27,8 +27,10 @@ pub fn reservoir_law()
     ensures none { kept 0 1 3 ≡ 0 }
 {}
 
-/// Does nothing. Its contract has the law of merged histograms.
+/// Does nothing. Its contract has the laws of histograms.
 pub fn histogram_law()
     // A histogram, merged with one that has other samples, is the one of the samples of both.
-    ensures { MergingAddsSamples }
+    ensures merging { MergingAddsSamples }
+    // Buckets in ascending order have each bound once, with the number that it has in a bucket given.
+    ensures ascending { AscendingIsInOrder }
 {}

@@ -1,187 +1,68 @@
 -- The builders, as recorders are added.
-use Rattle.std.proofs.Common.{◌≡◌, ℕ, zero, suc, ◌+◌, ◌-◌, ◌<◌, ◌≤◌, true, false, List, [], ◌∷◌, ◌++◌, length, map, Option, None, Some, Vec, Global, refl, ap, sym, ◌∙◌, subst, arith, append-nil, length-append}
-use Rattle.metrics_trees.specs.Nodes.{node_meaning, books_of, most_books, AreEnds, IsSound, IsTree}
-use Rattle.metrics_trees.specs.Reaches.{group_meaning, IsWithin}
+use Rattle.std.proofs.Common.{◌≡◌, ℕ, suc, ◌+◌, ◌<◌, ◌≤◌, false, List, [], ◌∷◌, ◌++◌, length, map, drop, refl, ap, sym, ◌∙◌, subst, arith, append-nil, length-append, nat_lt, nat_eq, cond}
 use Rattle.std.proofs.lemmas.List.{map-append, length-map}
-use Rattle.std.proofs.lemmas.List.Elements.{All-push}
-use Rattle.metrics.specs.Meaning.{Meaning}
-use Rattle.metrics_trees.specs.BookEnds.{total, ends_from}
-use Rattle.metrics_trees.specs.Recorders.{meanings, books_in, AreSound, BooksFit}
-use Rattle.metrics_trees.specs.declared.reach.Reach.{Reach}
-use Rattle.metrics_trees.specs.declared.node.Node.{Node, Group}
-use Rattle.metrics_trees.proofs.JoinedLemmas.{books-append, contents-group}
-use Rattle.metrics_trees.proofs.NodesLemmas.{meaning-Group, sound-of-row}
-use Rattle.metrics_trees.proofs.OneChildLemmas.{books-total}
-use Rattle.std.specs.Prelude.{is_some, nat_eq}
-use Rattle.std.specs.Option.{option_map}
-use Rattle.std.specs.Coded.{le_prop}
 use Rattle.std.proofs.lemmas.Bool.Decides.{nat_tests}
-use mathlib.Core.Path.{fun_ext}
-use Rattle.metrics_names.specs.declared.kind.MetricKind.{MetricKind}
-use Rattle.metrics.specs.Targets.{AllBelow, AreDistinct, IsNot}
-use Rattle.metrics.specs.Book.{Content}
-use Rattle.metrics.specs.Layers.{Route, winner, chosen, choosing, routed, targets_of}
-use Rattle.metrics_trees.specs.Routing.{RouteTables, AreTablesOf, TargetsBelow, AddsRoute, target_of, recorder_of}
-use Rattle.metrics_trees.specs.Recorders.{all_meanings}
-use Rattle.metrics_trees.specs.declared.reach.Reach.TheVariants.{ByRoute}
-use Rattle.metrics_trees.proofs.RoutingLemmas.{winner-target, target-below, below-more}
+use Rattle.metrics.specs.Meaning.{Meaning}
+use Rattle.metrics.specs.declared.error.Error.{Error}
+use Rattle.metrics.specs.declared.error.Error.TheVariants.{Memory, EmptyMask, TooManyBooks}
+use Rattle.metrics_rules.specs.Nodes.{leaves_of}
+use Rattle.metrics_rules.specs.Branches.{leaves_in}
+use Rattle.metrics_trees.specs.Recorders.{books_of, books_in, most_books, BooksFit, refusal}
+use Rattle.metrics_trees.specs.Over.{over, overs}
+use Rattle.metrics_rules.proofs.JoinedLemmas.{leaves-append}
+use Rattle.metrics_trees.proofs.OverLemmas.{overs-more, books-over}
 
-ends-more : (k : ℕ) (ns : List ℕ) (n : ℕ) → ends_from k (ns ++ n ∷ []) ≡ ends_from k ns ++ (k + (total ns + n)) ∷ []
-ends-more k [] n = ap (λ e. e ∷ []) (let e : k + n ≡ k + (0 + n) = omega arith in e)
-ends-more k (x ∷ ns) n =
-    let e : k + x + (total ns + n) ≡ k + (x + total ns + n) = omega arith in
-    ap (λ es. (k + x) ∷ es) (ends-more (k + x) ns n ∙ ap (λ z. ends_from (k + x) ns ++ z ∷ []) e)
+pub length-overs : (rs ms : List Meaning) → length (overs rs ms) ≡ length rs
+length-overs [] ms = refl
+length-overs (r ∷ rs) ms = ap suc (length-overs rs (drop (length r.contents) ms))
 
--- the last end is the number of all books
-pub books-are : (ends : List ℕ) (all : List Meaning) (n : ℕ) → AreEnds ends all → ((sizes : List ℕ) → ends ≡ ends_from 0 sizes → n ≡ total sizes) → n ≡ books_in all
-books-are ends all n e h = h (map books_of all) e ∙ sym (books-total all)
+leaves-more : (rs : List Meaning) (r : Meaning) → leaves_in (rs ++ r ∷ []) ≡ leaves_in rs + leaves_of r
+leaves-more rs r = leaves-append rs (r ∷ []) ∙ ap (λ k. leaves_in rs + k) (ap length (append-nil r.contents))
 
--- ---- one recorder more
+-- why a number of books is rejected
+refused-many : (n : ℕ) → most_books < n → TooManyBooks ≡ cond (nat_lt most_books n) TooManyBooks Memory
+refused-many n h = grind (arith, nat_tests)
 
-module _ {B : Type 0} (m : B → Meaning) (nodes : List (Node B)) (node : Node B) where
-  pub meanings-more : meanings m (nodes ++ node ∷ []) ≡ meanings m nodes ++ node_meaning m node ∷ []
-  meanings-more = map-append (node_meaning m) nodes (node ∷ [])
+refused-few : (n : ℕ) → n ≤ most_books → Memory ≡ cond (nat_lt most_books n) TooManyBooks Memory
+refused-few n h = grind (arith, nat_tests)
 
-  pub ends-pushed : (ends : List ℕ) (end : ℕ) → AreEnds ends (meanings m nodes) → end ≡ books_in (meanings m nodes) + books_of (node_meaning m node) →
-      AreEnds (ends ++ end ∷ []) (meanings m (nodes ++ node ∷ []))
-  ends-pushed ends end e h =
-      let sizes = map books_of (meanings m nodes) in
-      let n = books_of (node_meaning m node) in
-      let b = books-total (meanings m nodes) in
-      let at : end ≡ 0 + (total sizes + n) = omega (arith, h, b) in
-      ap (λ es. es ++ end ∷ []) e ∙ ap (λ z. ends_from 0 sizes ++ z ∷ []) at ∙ sym (ends-more 0 sizes n)
-      ∙ ap (ends_from 0) (sym (map-append books_of (meanings m nodes) (node_meaning m node ∷ []))) ∙ ap (λ all. ends_from 0 (map books_of all)) (sym meanings-more)
+module _ {B : Type 0} (m : B → Meaning) (rs : List Meaning) (r : Meaning) (bs cs : List B) (many : leaves_in rs ≡ length bs) where
+  abbrev all : List Meaning
+  all = overs rs (map m bs)
 
-  pub sound-pushed : AreSound m nodes → IsSound m node → AreSound m (nodes ++ node ∷ [])
-  sound-pushed h s = All-push (IsSound m) nodes node h s
+  abbrev one : Meaning
+  one = over r (map m cs)
 
-  pub most-pushed : BooksFit (meanings m nodes) (node_meaning m node) → books_in (meanings m (nodes ++ node ∷ [])) ≤ most_books
-  most-pushed f =
-      let a = ap books_in meanings-more ∙ books-append (meanings m nodes) (node_meaning m node ∷ []) in
-      let b = ap length (append-nil (node_meaning m node).contents) in
-      omega (arith, a, b, f)
+  same-books : books_in all ≡ books_in (map m bs)
+  same-books = books-over rs (map m bs) (length-map bs m ∙ sym many)
 
--- ---- all as one
+  pub fits-one : books_in (map m bs) + books_in (map m cs) ≤ most_books → BooksFit all one
+  fits-one h = subst (λ k. k + books_in (map m cs) ≤ most_books) (sym same-books) h
 
-module _ {B : Type 0} (m : B → Meaning) (children : Vec (Node B) Global) (ends : Vec ℕ Global) (reach : Reach) where
-  pub tree-of-all : AreEnds ends.items (meanings m children.items) → IsWithin reach (length children.items) → AreSound m children.items →
-      books_in (meanings m children.items) ≤ most_books → IsTree m (Group children ends reach)
-  tree-of-all e w s h = (
-    sound-of-row m children ends reach (record { ends_are = e; within = w; sound = s }),
-    (let b = ap books_of (meaning-Group m children ends reach) ∙ ap length (contents-group reach (meanings m children.items)) in omega (arith, b, h)),
-  )
+  pub too-many : most_books < books_in (map m bs) + books_in (map m cs) → TooManyBooks ≡ refusal all one
+  too-many h = refused-many (books_in all + books_of one) (subst (λ k. most_books < k + books_in (map m cs)) (sym same-books) h)
 
--- ---- one meaning
+  pub out-of-memory : books_in (map m bs) + books_in (map m cs) ≤ most_books → Memory ≡ refusal all one
+  out-of-memory h = refused-few (books_in all + books_of one) (fits-one h)
 
-below_prop : {X : Type 0} (k : ℕ) (ts : List (ℕ × X)) → IsProp (AllBelow k ts)
-below_prop k [] = λ x y. refl
-below_prop k (t ∷ ts) = λ x y i. (le_prop x.0 y.0 i, below_prop k ts x.1 y.1 i)
+  -- one recorder more
+  module _ (count : leaves_of r ≡ length cs) (now : List Meaning) (after : List B) (gained : now ≡ rs ++ r ∷ []) (moved : after ≡ bs ++ cs) where
+    pub one-more : overs now (map m after) ≡ all ++ one ∷ []
+    one-more =
+        ap (λ qs. overs qs (map m after)) gained ∙ ap (λ xs. overs (rs ++ r ∷ []) (map m xs)) moved ∙ ap (overs (rs ++ r ∷ [])) (map-append m bs cs)
+        ∙ overs-more rs r (map m bs) (map m cs) (length-map bs m ∙ sym many) (length-map cs m ∙ sym count)
 
-is_not_prop : {X : Type 0} (b : ℕ) (ts : List (ℕ × X)) → IsProp (IsNot b ts)
-is_not_prop b [] = λ x y. refl
-is_not_prop b (t ∷ ts) = λ x y i. (fun_ext {f = x.0} {g = y.0} (λ e. absurd (x.0 e)) i, is_not_prop b ts x.1 y.1 i)
+    pub many-more : leaves_in now ≡ length after
+    many-more =
+        let g = ap leaves_in gained ∙ leaves-more rs r in
+        let a = ap length moved ∙ length-append bs cs in
+        omega (arith, g, a, many, count)
 
-distinct_prop : {X : Type 0} (ts : List (ℕ × X)) → IsProp (AreDistinct ts)
-distinct_prop [] = λ x y. refl
-distinct_prop (t ∷ ts) = λ x y i. (is_not_prop t.0 ts x.0 y.0 i, distinct_prop ts x.1 y.1 i)
+    pub few-more : books_in (map m bs) + books_in (map m cs) ≤ most_books → books_in (map m after) ≤ most_books
+    few-more h =
+        let a = ap (λ xs. books_in (map m xs)) moved ∙ ap books_in (map-append m bs cs) ∙ leaves-append (map m bs) (map m cs) in
+        omega (arith, a, h)
 
-abbrev AreBelow : List Content → (MetricKind → List ℕ → List (ℕ × List ℕ)) → Type 0
-AreBelow cs ts = (kind : MetricKind) (name : List ℕ) → AllBelow (length cs) (ts kind name)
-
-abbrev AllDistinct : (MetricKind → List ℕ → List (ℕ × List ℕ)) → Type 0
-AllDistinct ts = (kind : MetricKind) (name : List ℕ) → AreDistinct (ts kind name)
-
--- recorders of the same books and targets mean the same
-same_meaning : (a : Meaning) (cs : List Content) (ts : MetricKind → List ℕ → List (ℕ × List ℕ)) → a.contents ≡ cs → a.targets ≡ ts →
-    (b : AreBelow cs ts) (d : AllDistinct ts) → ◌≡◌ {A = Meaning} a (record { contents = cs; targets = ts; below = b; distinct = d })
-same_meaning a cs ts c t b d =
-    subst (λ cs. (b : AreBelow cs ts) → ◌≡◌ {A = Meaning} a (record { contents = cs; targets = ts; below = b; distinct = d })) c (with_targets d) b
-  where
-    plain : (b : AreBelow a.contents a.targets) (d : AllDistinct a.targets) → ◌≡◌ {A = Meaning} a (record { contents = a.contents; targets = a.targets; below = b; distinct = d })
-    plain b d =
-        let p : a.below ≡ b = fun_ext (λ kind. fun_ext (λ name. below_prop (length a.contents) (a.targets kind name) (a.below kind name) (b kind name))) in
-        let q : a.distinct ≡ d = fun_ext (λ kind. fun_ext (λ name. distinct_prop (a.targets kind name) (a.distinct kind name) (d kind name))) in
-        ap {B = Meaning} (λ x. record { contents = a.contents; targets = a.targets; below = x; distinct = a.distinct }) p
-        ∙ ap {B = Meaning} (λ x. record { contents = a.contents; targets = a.targets; below = b; distinct = x }) q
-
-    with_targets : (d : AllDistinct ts) (b : AreBelow a.contents ts) → ◌≡◌ {A = Meaning} a (record { contents = a.contents; targets = ts; below = b; distinct = d })
-    with_targets = subst (λ ts. (d : AllDistinct ts) (b : AreBelow a.contents ts) → ◌≡◌ {A = Meaning} a (record { contents = a.contents; targets = ts; below = b; distinct = d })) t (λ d b. plain b d)
-
--- ---- a router
-
-of_target : (w : Option Route) → recorder_of (option_map (λ (r : Route). r.target) w) ≡ chosen w
-of_target None = refl
-of_target (Some r) = refl
-
-module _ (s : RouteTables) (rs : List Route) (h : AreTablesOf s rs) where
-  same_choice : (kind : MetricKind) (name : List ℕ) → recorder_of (target_of s kind name) ≡ chosen (winner rs kind name)
-  same_choice kind name = ap recorder_of (winner-target s rs h kind name) ∙ of_target (winner rs kind name)
-
-  -- what is stored chooses as the list of routes does
-  pub winner-routed : (all : List Meaning) → group_meaning (ByRoute s) all ≡ routed rs all
-  winner-routed all =
-      ap (λ (f : MetricKind → List ℕ → ℕ). choosing f all) (fun_ext (λ kind. fun_ext (λ name. same_choice kind name)))
-
-  -- if there is no target no route wins, and the default has all names
-  pub alone-routed : TargetsBelow s 0 → (d : Meaning) → d ≡ routed rs (d ∷ [])
-  alone-routed b d =
-      let all = routed rs (d ∷ []) in
-      same_meaning d all.contents all.targets (sym (append-nil d.contents))
-      (fun_ext (λ kind. fun_ext (λ name. ap (λ k. targets_of k (d ∷ []) kind name) (sym (no_target (target_of s kind name) (λ t e. target-below s 0 kind name t b e)) ∙ same_choice kind name))))
-      all.below all.distinct
-    where
-      no_target : (o : Option ℕ) → ((t : ℕ) → o ≡ Some t → t < 0) → recorder_of o ≡ 0
-      no_target None h = refl
-      no_target (Some t) h = absurd (let l = h t refl in omega (arith, l))
-
--- the default is one of the recorders, and so is each target
-pub choice-within : (s : RouteTables) (n : ℕ) → TargetsBelow s (n - 1) → 0 < n → IsWithin (ByRoute s) n
-choice-within s n b p = λ kind name. within (target_of s kind name) (λ t e. target-below s (n - 1) kind name t b e)
-  where
-    within : (o : Option ℕ) → ((t : ℕ) → o ≡ Some t → t < n - 1) → recorder_of o < n
-    within None h = p
-    within (Some t) h = let l = h t refl in omega (arith, l)
-
-is_zero : (n : ℕ) → true ≡ nat_eq n 0 → n ≡ 0
-is_zero n h = grind (arith, nat_tests)
-
--- the targets are all recorders but the default
-pub count-all : {B C : Type 0} (m : B → Meaning) (node : C → Node B) (d : Option C) (children : List (Node B)) → is_some d ≡ nat_eq (length children) 0 →
-    suc (length children - 1) ≡ length (all_meanings m (option_map node d) children)
-count-all m node (Some c) children h = some (length children) h
-  where
-    some : (n : ℕ) → true ≡ nat_eq n 0 → suc (n - 1) ≡ 1
-    some n h = let e = is_zero n h in omega (arith, e)
-count-all m node None children h = none (length children) h ∙ sym (length-map children (node_meaning m))
-  where
-    none : (n : ℕ) → false ≡ nat_eq n 0 → suc (n - 1) ≡ n
-    none zero h = absurd (cc)
-    none (suc n) h = omega arith
-
-pub no-children : (n : ℕ) → true ≡ nat_eq n 0 → n - 1 ≡ 0
-no-children n h = let e = is_zero n h in omega (arith, e)
-
-pub some-children : (n : ℕ) → false ≡ nat_eq n 0 → 0 < n
-some-children zero h = absurd (cc)
-some-children (suc n) h = omega arith
-
-module _ {B C : Type 0} (m : B → Meaning) (node : C → Node B) (d : Option C) (children now : List (Node B)) (a : Meaning) (h : is_some d ≡ nat_eq (length children) 0)
-    (e : meanings m now ≡ all_meanings m (option_map node d) children ++ a ∷ []) where
-  -- one target more
-  pub count-more : length now ≡ suc (suc (length children - 1))
-  count-more =
-      let l = sym (length-map now (node_meaning m)) ∙ ap length e ∙ length-append (all_meanings m (option_map node d) children) (a ∷ []) in
-      let c = count-all m node d children h in
-      omega (arith, l, c)
-
-  pub none-alone : false ≡ nat_eq (length now) 0
-  none-alone = some (length now) count-more
-    where
-      some : (n : ℕ) → n ≡ suc (suc (length children - 1)) → false ≡ nat_eq n 0
-      some n e = grind (arith, nat_tests)
-
-  pub targets-more : (was is : RouteTables) (mask : ℕ) (pattern : List ℕ) (target : ℕ) → TargetsBelow was (length children - 1) → AddsRoute was is mask pattern target → target ≡ length children - 1 →
-      TargetsBelow is (length now - 1)
-  targets-more was is mask pattern target b adds t =
-      let l = count-more in
-      below-more was is mask pattern target (length children - 1) (length now - 1) b adds (omega (arith, l, t)) (omega (arith, l))
+-- a mask with a kind is no reason
+pub if-any-kind : (mask : ℕ) (e : Error) {f : Error} → nat_eq mask 0 ≡ false → e ≡ f → e ≡ cond (nat_eq mask 0) EmptyMask f
+if-any-kind mask e {f} h same = same ∙ ap (λ b. cond b EmptyMask f) (sym h)

@@ -1,5 +1,5 @@
 -- Recorders side by side: what one of them does, seen among all.
-use Rattle.std.proofs.Common.{◌≡◌, ℕ, zero, suc, ◌+◌, ◌<◌, ◌≤◌, Bool, true, false, ◌&&◌, List, [], ◌∷◌, ◌++◌, length, Result, Ok, Err, refl, ap, sym, ◌∙◌, subst, arith, length-append, append_assoc, zero-add, nat_lt}
+use Rattle.std.proofs.Common.{◌≡◌, ℕ, zero, suc, ◌+◌, ◌<◌, ◌≤◌, Bool, true, false, ◌&&◌, List, [], ◌∷◌, ◌++◌, length, Result, Ok, Err, refl, ap, sym, ◌∙◌, subst, arith, length-append, zero-add, nat_lt}
 use Rattle.std.specs.List.{All}
 use Rattle.std.proofs.lemmas.List.Elements.{All-nil, All-cons}
 use Rattle.std.proofs.lemmas.Bool.Decides.{nat_tests}
@@ -10,47 +10,19 @@ use Rattle.metrics.specs.declared.handles.Update.{Update}
 use Rattle.metrics_names.specs.declared.refused.Refused.{Refused}
 use Rattle.metrics_names.specs.declared.refused.Refused.TheVariants.{Memory, NoSuchAddress, NoSuchBook, BadHandle}
 use Rattle.metrics.specs.Targets.{raise, after_targets, change_at, AllBelow}
-use Rattle.metrics.specs.TargetsLaws.{after_targets-front, after_targets-past, raise-append, raise-raise, raise-zero, change_at-front, change_at-past}
-use Rattle.metrics.specs.Book.{Content, RowParts, content_at, kind_at, kind_of, place, rows, update_in, reset_in}
+use Rattle.metrics.specs.TargetsLaws.{after_targets-front, after_targets-past, change_at-front, change_at-past}
+use Rattle.metrics.specs.Book.{Content, SnapshotParts, content_at, kind_at, kind_of, place, snapshot_of, update_in, reset_in}
 use Rattle.metrics.specs.Meaning.{Meaning, KeepsTargets, Updates, Snapshots, holds_at, is_kind, addresses, address_in, key_in_book}
 use Rattle.metrics.specs.Layers.{joined_all, targets_of}
-use Rattle.metrics_trees.specs.declared.reach.Reach.{Reach}
-use Rattle.metrics_trees.specs.declared.reach.Reach.TheVariants.{Every, ByRoute}
-use Rattle.metrics_trees.specs.Routing.{target_of, recorder_of}
+use Rattle.metrics_rules.proofs.JoinedLemmas.{contents-append, leaves-append}
 use Rattle.metrics_trees.specs.BookEnds.{raised}
-use Rattle.metrics_trees.specs.Nodes.{books_of}
-use Rattle.metrics_trees.specs.Reaches.{group_meaning}
-
-pub contents-append : (xs ys : List Meaning) → (joined_all (xs ++ ys)).contents ≡ (joined_all xs).contents ++ (joined_all ys).contents
-contents-append [] ys = refl
-contents-append (x ∷ xs) ys = ap (λ cs. x.contents ++ cs) (contents-append xs ys) ∙ sym (append_assoc x.contents (joined_all xs).contents (joined_all ys).contents)
-
-pub targets-append : (xs ys : List Meaning) (kind : MetricKind) (name : List ℕ) →
-    (joined_all (xs ++ ys)).targets kind name ≡ (joined_all xs).targets kind name ++ raise (books_of (joined_all xs)) ((joined_all ys).targets kind name)
-targets-append [] ys kind name = sym (raise-zero ((joined_all ys).targets kind name))
-targets-append (x ∷ xs) ys kind name =
-    let tx = x.targets kind name in
-    let ts = (joined_all xs).targets kind name in
-    let us = (joined_all ys).targets kind name in
-    let n = books_of x in
-    let m = books_of (joined_all xs) in
-    ap (λ vs. tx ++ raise n vs) (targets-append xs ys kind name)
-    ∙ ap (λ vs. tx ++ vs) (raise-append n ts (raise m us) ∙ ap (λ vs. raise n ts ++ vs) (raise-raise n m us))
-    ∙ sym (append_assoc tx (raise n ts) (raise (n + m) us))
-    ∙ ap (λ k. (tx ++ raise n ts) ++ raise k us) (sym (length-append x.contents (joined_all xs).contents))
+use Rattle.metrics_trees.specs.Recorders.{books_of, spread}
+use Rattle.metrics_trees.specs.Over.{over}
 
 pub books-append : (xs ys : List Meaning) → books_of (joined_all (xs ++ ys)) ≡ books_of (joined_all xs) + books_of (joined_all ys)
-books-append xs ys = ap length (contents-append xs ys) ∙ length-append (joined_all xs).contents (joined_all ys).contents
+books-append = leaves-append
 
 -- ---- another recorder in one's place, of the same targets and as many books
-
-pub same_targets : (front rest : List Meaning) (x y : Meaning) → KeepsTargets x y → books_of y ≡ books_of x →
-    (joined_all (front ++ y ∷ rest)).targets ≡ (joined_all (front ++ x ∷ rest)).targets
-same_targets [] rest x y k l =
-    ap (λ (ts : MetricKind → List ℕ → List (ℕ × List ℕ)). λ kind name. ts kind name ++ raise (books_of y) ((joined_all rest).targets kind name)) k
-    ∙ ap (λ (n : ℕ). λ kind name. x.targets kind name ++ raise n ((joined_all rest).targets kind name)) l
-same_targets (f ∷ fs) rest x y k l =
-    ap (λ (ts : MetricKind → List ℕ → List (ℕ × List ℕ)). λ kind name. f.targets kind name ++ raise (books_of f) (ts kind name)) (same_targets fs rest x y k l)
 
 same_chosen : (front rest : List Meaning) (x y : Meaning) → KeepsTargets x y → books_of y ≡ books_of x → (w : ℕ) (kind : MetricKind) (name : List ℕ) →
     targets_of w (front ++ y ∷ rest) kind name ≡ targets_of w (front ++ x ∷ rest) kind name
@@ -59,15 +31,16 @@ same_chosen [] rest x y k l (suc w) kind name = ap (λ n. raise n (targets_of w 
 same_chosen (f ∷ fs) rest x y k l zero kind name = refl
 same_chosen (f ∷ fs) rest x y k l (suc w) kind name = ap (raise (books_of f)) (same_chosen fs rest x y k l w kind name)
 
-pub same_group : (c : Reach) (front rest : List Meaning) (x y : Meaning) → KeepsTargets x y → books_of y ≡ books_of x →
-    (group_meaning c (front ++ y ∷ rest)).targets ≡ (group_meaning c (front ++ x ∷ rest)).targets
-same_group Every front rest x y k l = same_targets front rest x y k l
-same_group (ByRoute routes) front rest x y k l = fun_ext (λ kind. fun_ext (λ name. same_chosen front rest x y k l (recorder_of (target_of routes kind name)) kind name))
+pub same_spread : (front rest : List Meaning) (x y : Meaning) → KeepsTargets x y → books_of y ≡ books_of x → (kind : MetricKind) (ts : List (ℕ × List ℕ)) →
+    spread (front ++ y ∷ rest) kind ts ≡ spread (front ++ x ∷ rest) kind ts
+same_spread front rest x y k l kind [] = refl
+same_spread front rest x y k l kind (t ∷ ts) =
+    ap (λ us. us ++ spread (front ++ y ∷ rest) kind ts) (same_chosen front rest x y k l t.0 kind t.1)
+    ∙ ap (λ us. targets_of t.0 (front ++ x ∷ rest) kind t.1 ++ us) (same_spread front rest x y k l kind ts)
 
--- however a name is passed on, the books are those of all
-pub contents-group : (c : Reach) (all : List Meaning) → (group_meaning c all).contents ≡ (joined_all all).contents
-contents-group Every all = refl
-contents-group (ByRoute routes) all = refl
+pub same_over : (R : Meaning) (front rest : List Meaning) (x y : Meaning) → KeepsTargets x y → books_of y ≡ books_of x →
+    (over R (front ++ y ∷ rest)).targets ≡ (over R (front ++ x ∷ rest)).targets
+same_over R front rest x y k l = fun_ext (λ kind. fun_ext (λ name. same_spread front rest x y k l kind (R.targets kind name)))
 
 -- ---- calls on the targets of one
 
@@ -83,14 +56,6 @@ acts_within f front rest x y ts b h =
     ∙ ap (λ cs. fs ++ cs) (sym (after_targets-front f ts x.contents rs b))
     ∙ sym (after_targets-past f ts fs (x.contents ++ rs))
     ∙ ap (after_targets f (raise (length fs) ts)) (sym (contents-append front (x ∷ rest)))
-
--- the targets of one by its number
-pub targets_of-middle : (front rest : List Meaning) (x : Meaning) (kind : MetricKind) (name : List ℕ) →
-    targets_of (length front) (front ++ x ∷ rest) kind name ≡ raise (books_of (joined_all front)) (x.targets kind name)
-targets_of-middle [] rest x kind name = sym (raise-zero (x.targets kind name))
-targets_of-middle (f ∷ fs) rest x kind name =
-    ap (raise (books_of f)) (targets_of-middle fs rest x kind name) ∙ raise-raise (books_of f) (books_of (joined_all fs)) (x.targets kind name)
-    ∙ ap (λ k. raise k (x.targets kind name)) (sym (length-append f.contents (joined_all fs).contents))
 
 -- ---- books
 
@@ -119,7 +84,7 @@ module _ (front rest : List Meaning) (x : Meaning) (b : ℕ) (lt : b < books_of 
       ∙ content_at-front b x.contents (joined_all rest).contents lt
 
   pub within-there : there < length (all_with x)
-  within-there = let l = books-append front (x ∷ rest) in let m = length-append x.contents (joined_all rest).contents in omega (arith, l, m, lt)
+  within-there = let l = leaves-append front (x ∷ rest) in let m = length-append x.contents (joined_all rest).contents in omega (arith, l, m, lt)
 
   pub change_at-there : (f : Content → Content) (y : Meaning) → y.contents ≡ change_at b f x.contents → all_with y ≡ change_at there f (all_with x)
   change_at-there f y h =
@@ -155,11 +120,11 @@ module _ (front rest : List Meaning) (x : Meaning) (b : ℕ) (lt : b < books_of 
   updates-one y old new s by o n (Err BadHandle) h = absurd h
 
   -- and so is a snapshot
-  pub snapshots-one : (y old new : Meaning) → old.contents ≡ all_with x → new.contents ≡ all_with y → (reset : Reset) (r : Result (List RowParts) Refused) →
+  pub snapshots-one : (y old new : Meaning) → old.contents ≡ all_with x → new.contents ≡ all_with y → (reset : Reset) (r : Result SnapshotParts Refused) →
       Snapshots x y b reset r → Snapshots old new there reset r
   snapshots-one y old new o n reset (Ok found) h = (
     subst (λ k. there < k) (sym (ap length o)) within-there,
-    h.1 ∙ ap rows (sym content-there ∙ ap (content_at there) (sym o)),
+    h.1 ∙ ap snapshot_of (sym content-there ∙ ap (content_at there) (sym o)),
     n ∙ change_at-there (reset_in reset) y h.2 ∙ ap (change_at there (reset_in reset)) (sym o),
   )
   snapshots-one y old new o n reset (Err (Memory a)) h =

@@ -1,8 +1,10 @@
-pub mod BuildersLemmas
-pub mod ChildrenLemmas
-pub mod JoinedLemmas
-pub mod LoopLemmas
-pub mod NodesLemmas
-pub mod OneChildLemmas
 pub mod BookEndsLemmas
-pub mod RoutingLemmas
+pub mod JoinedLemmas
+pub mod OneChildLemmas
+pub mod RowLemmas
+pub mod ActingLemmas
+pub mod RegisterLemmas
+pub mod DescribeLemmas
+pub mod OverLemmas
+pub mod ChildLemmas
+pub mod BuildersLemmas

@@ -1,6 +1,9 @@
-pub mod Routing
-pub mod Reaches
 pub mod BookEnds
-pub mod Nodes
 pub mod Recorders
+pub mod OverLaws
+pub mod Over
+pub mod Calls
+pub mod Visiting
+pub mod Leaves
 pub mod Builders
+pub mod Trees

@@ -1,29 +1,40 @@
--- Recorders side by side, and when adding one fails.
-use Rattle.std.specs.Prelude.{if◌then◌else◌, ℕ, ◌+◌, ◌≤◌, nat_eq, nat_lt, List, [], ◌∷◌, map, Option, None, Some, Vec, slice_index_or}
+-- Recorders by number: their books, their targets, and when adding one fails.
+use Rattle.std.specs.Prelude.{if◌then◌else◌, ◌≡◌, ℕ, ◌+◌, ◌≤◌, nat_eq, nat_lt, nat_le, List, [], ◌∷◌, ◌++◌, length, map, take, Vec}
 use Rattle.std.specs.Global.{Global}
-use Rattle.std.specs.List.{All}
 use Rattle.std.specs.Vec.{vec_len, vec_capacity}
+use Rattle.metrics_names.specs.declared.kind.MetricKind.{MetricKind}
 use Rattle.metrics.specs.Meaning.{Meaning}
-use Rattle.metrics.specs.Layers.{joined_all}
-use Rattle.metrics_trees.specs.Nodes.{node_meaning, books_of, most_books, IsSound, IsSound-prop}
+use Rattle.metrics.specs.Layers.{joined_all, targets_of}
+use Rattle.metrics_rules.specs.Ends.{ends_from, total}
 use Rattle.metrics.specs.declared.error.Error.{Error}
 use Rattle.metrics.specs.declared.error.Error.TheVariants.{Memory, EmptyMask, NoSuchTarget, TooManyBooks}
-use Rattle.metrics_trees.specs.declared.node.Node.{Node}
+use Rattle.metrics_trees.specs.declared.over_error.OverError.{OverError}
+use Rattle.metrics_trees.specs.declared.over_error.OverError.TheVariants.{NotOneEach, TooManyBooks as TooMany, Memory as OutOfMemory}
 
--- the meanings of several nodes
-abbrev pub meanings : {B : Type 0} → (B → Meaning) → List (Node B) → List Meaning
-meanings m nodes = map (node_meaning m) nodes
+-- the number of books of a recorder
+abbrev pub books_of : Meaning → ℕ
+books_of a = length a.contents
 
--- what each of several nodes keeps is true
-abbrev pub AreSound : {B : Type 0} → (B → Meaning) → List (Node B) → Type 0
-AreSound m nodes = All (IsSound m) nodes
-
-pub AreSound-prop : {B : Type 0} (m : B → Meaning) (nodes : List (Node B)) → IsProp (AreSound m nodes)
-AreSound-prop m nodes = λ x y i k d lt. IsSound-prop m (slice_index_or nodes k d) (x k d lt) (y k d lt) i
+-- how many books there may be in all
+abbrev pub most_books : ℕ
+most_books = 65536
 
 -- the number of books of several recorders
 abbrev pub books_in : List Meaning → ℕ
 books_in all = books_of (joined_all all)
+
+-- the number of books up to the end of each of several recorders
+abbrev pub AreEnds : List ℕ → List Meaning → Type 0
+AreEnds ends all = ends ≡ ends_from 0 (map books_of all)
+
+-- the books of a recorder are those from the end of the recorders before it to its own
+abbrev pub start : ℕ → List Meaning → ℕ
+start w all = total (take w (map books_of all))
+
+-- the targets in the recorders at these leaves, each at its name there
+abbrev pub spread : List Meaning → MetricKind → List (ℕ × List ℕ) → List (ℕ × List ℕ)
+spread all kind [] = []
+spread all kind (t ∷ ts) = targets_of t.0 all kind t.1 ++ spread all kind ts
 
 -- with one recorder more there are few enough books
 abbrev pub BooksFit : List Meaning → Meaning → Type 0
@@ -33,17 +44,18 @@ BooksFit all a = books_in all + books_of a ≤ most_books
 abbrev pub refusal : List Meaning → Meaning → Error
 refusal all a = if nat_lt most_books (books_in all + books_of a) then TooManyBooks else Memory
 
+-- why several recorders are rejected: for too many books exactly if they have more, and else for memory
+abbrev pub row_refusal : List Meaning → OverError
+row_refusal all = if nat_le (books_in all) most_books then OutOfMemory else TooMany
+
+-- why recorders are rejected for rules with so many leaves: unless there is one for each, else as they are
+abbrev pub over_refusal : ℕ → List Meaning → OverError
+over_refusal leaves all = if nat_eq leaves (length all) then row_refusal all else NotOneEach
+
 -- room for so many recorders more
-abbrev pub HasSpare : {B : Type 0} → ℕ → Vec (Node B) Global → Vec ℕ Global → Type 0
-HasSpare n children ends =
-    (vec_len children + n ≤ vec_capacity children) × (vec_len ends + n ≤ vec_capacity ends)
-
--- ---- routes
-
--- the recorders of a router: the default alone, or else the default and then the targets
-abbrev pub all_meanings : {B : Type 0} → (B → Meaning) → Option (Node B) → List (Node B) → List Meaning
-all_meanings m (Some default) children = node_meaning m default ∷ []
-all_meanings m None children = meanings m children
+abbrev pub HasSpare : {B : Type 0} → ℕ → Vec B Global → Vec ℕ Global → Type 0
+HasSpare n recorders ends =
+    (vec_len recorders + n ≤ vec_capacity recorders) × (vec_len ends + n ≤ vec_capacity ends)
 
 -- why a route to one recorder more is rejected: for a mask without kinds, else as the recorder is
 abbrev pub route_refusal : ℕ → List Meaning → Meaning → Error

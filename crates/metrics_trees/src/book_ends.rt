@@ -1,29 +1,14 @@
 //! Where the books of several recorders are.
-ghost use Rattle.std.specs.Prelude.{◌≡◌, ◌≤◌, ◌++◌, ℕ, List, length, take, IsTrue, MatchOption, OnOk};
+ghost use Rattle.std.specs.Prelude.{◌≡◌, ◌+◌, ◌^◌, ◌<◌, ◌≤◌, ◌++◌, ℕ, List, length, map, All};
+ghost use Rattle.std.specs.Prelude.{vec_len, IsTrue, MatchOption, OnOk, OnErr};
 ghost use Rattle.std.specs.Result.{result_map_both};
-ghost use Rattle.metrics_trees.specs.BookEnds.{ends_from, total, IsPlace, raised, IsAppended, CanRaise, CanAppend};
+ghost use Rattle.std.specs.Vec.{vec_capacity};
+ghost use Rattle.metrics_rules.specs.Ends.{ends_from, total};
+ghost use Rattle.metrics_trees.specs.BookEnds.{IsPlace, raised, IsAppended, CanRaise, CanAppend};
 
 use metrics::{Address, Refused};
+use metrics_rules::start_of;
 use std::alloc::AllocError;
-
-/// The number of books of all recorders. `ends` has the number of books up to the end of each.
-pub(crate) fn all_books(ends: &[usize]) -> usize
-    ensures { (sizes : List ℕ) → ends.now ≡ ends_from 0 sizes → result ≡ total sizes }
-{
-    match ends.last() {
-        Some(end) => *end,
-        None => 0,
-    }
-}
-
-/// The number of books before a recorder.
-pub(crate) fn books_before(ends: &[usize], recorder: usize) -> usize
-    requires within { recorder ≤ length ends.now }
-    ensures { (sizes : List ℕ) → ends.now ≡ ends_from 0 sizes →
-        result ≡ total (take recorder sizes) }
-{
-    all_books(&ends[..recorder])
-}
 
 /// Whether the recorder of a number begins at the book of that number, as it does if each has one book.
 fn begins_at(ends: &[usize], number: usize) -> bool
@@ -35,7 +20,7 @@ fn begins_at(ends: &[usize], number: usize) -> bool
     if ends[number] <= number {
         return false;
     }
-    books_before(ends, number) == number
+    start_of(ends, number) == number
 }
 
 /// The recorder that has a book, and the book's number there. It looks first at the recorder of the book's number.
@@ -60,7 +45,18 @@ fn searched_place(ends: &[usize], book: usize) -> Option<(usize, usize)>
     if recorder == ends.len() {
         return None;
     }
-    Some((recorder, book - books_before(ends, recorder)))
+    Some((recorder, book - start_of(ends, recorder)))
+}
+
+/// Adds the ends of recorders that come after `front` books, for which there is room.
+pub(crate) fn push_ends(ends: &mut Vec<usize>, front: usize, more: &[usize])
+    requires spare { vec_len ends.old + length more.now ≤ vec_capacity ends.old }
+    requires fits { All (λ end. front + end < 2 ^ 64) more.now }
+    ensures { ends.new.items ≡ ends.old.items ++ map (λ end. front + end) more.now }
+{
+    for end in more {
+        ends.push_reserved(front + *end);
+    }
 }
 
 /// Raises the addresses of a recorder that comes after `front` books.
@@ -81,7 +77,8 @@ fn append_raised(
     mut there: Vec<Address>,
 ) -> Result<(), AllocError>
     requires { CanRaise front there.items }
-    ensures { OnOk result (found.new.items ≡ found.old.items ++ raised front there.items) }
+    ensures ok { OnOk result (found.new.items ≡ found.old.items ++ raised front there.items) }
+    ensures err { OnErr result (found.new.items ≡ found.old.items) }
 {
     if there.is_empty() {
         return Ok(());
@@ -94,22 +91,20 @@ fn append_raised(
     found.extend_from_slice(&there)
 }
 
-/// Adds the result of a recorder that comes after `front` books to the results of those before it.
+/// Adds the result of a recorder that comes after `front` books to the results of those before it. The error of a call says how
+/// many of that recorder's targets it acted on.
 #[inline(always)]
 pub(crate) fn append_answer(
     found: &mut Vec<Address>,
     front: usize,
     answer: Result<Vec<Address>, Refused>,
 ) -> Result<(), Refused>
-    requires { CanAppend found.old.items front (result_map_both (λ v. v.items) (λ e. e) answer) }
+    requires { CanAppend front (result_map_both (λ v. v.items) (λ e. e) answer) }
     ensures { IsAppended found.old.items found.new.items front
         (result_map_both (λ v. v.items) (λ e. e) answer) result }
 {
-    let there = match answer {
-        Ok(there) => there,
-        Err(refused) => return Err(refused.after(found.len())),
-    };
-    let acted = found.len() + there.len();
+    let there = answer?;
+    let acted = there.len();
     match append_raised(found, front, there) {
         Ok(()) => Ok(()),
         Err(_) => Err(Refused::Memory { acted }),

@@ -1,17 +1,25 @@
 //! Trees of layers over leaves of one type.
-ghost use Rattle.std.specs.Prelude.{◌≡◌, None, unwrap_or, IsOk, MatchResult};
+ghost use Rattle.std.specs.Prelude.{◌≡◌, ◌≤◌, None, length, map, unwrap_or, IsOk, MatchResult};
 ghost use Rattle.metrics.specs.Layers.{prefixed, filtered};
 ghost use Rattle.metrics.specs.Meaning.{nothing};
 ghost use Rattle.metrics_layers.specs.Filters.{fault_of};
-ghost use Rattle.metrics_trees.specs.Nodes.{node_meaning, IsTree, IsTree-prop};
+ghost use Rattle.metrics_rules.specs.Nodes.{leaves_of};
+ghost use Rattle.metrics_rules.specs.Meanings.{rules_meaning};
+ghost use Rattle.metrics_trees.specs.Leaves.{recorders_of};
+ghost use Rattle.metrics_trees.specs.Over.{over};
+ghost use Rattle.metrics_trees.specs.Recorders.{books_in, most_books, over_refusal};
 ghost use Rattle.metrics.specs.declared.error.Error.TheVariants.{Memory};
 
-use crate::node::Node;
+use crate::leaves::Leaves;
+use crate::over_error::OverError;
+use crate::visits::{Call, Describing, Registrar};
 use metrics::{
     Address, Error, Key, KeyName, MetricKind, Recorder, Refused, Reset, Snapshot, Unit, Update,
 };
 use metrics_layers::{FilterLayer, PrefixLayer};
+use metrics_rules::{Rules, Scratch};
 use std::alloc::Global;
+use std::mem;
 
 /// A tree of layers over leaves of one type `B`.
 ///
@@ -34,8 +42,11 @@ use std::alloc::Global;
 /// The signature of a function can't name a `Child<Boxed>`.
 #[derive(Drop)]
 pub struct Child<B: Recorder> {
-    pub(crate) node: Node<B>,
-    ghost tree: { IsTree B.meaning node } by { IsTree-prop B.meaning node },
+    pub(crate) rules: Rules,
+    /// The names below prefixes in register calls, the first of which makes it.
+    pub(crate) scratch: Option<Scratch<Key>>,
+    pub(crate) registrar: Registrar<B>,
+    ghost as_many: { leaves_of (rules_meaning rules) ≡ length (recorders_of registrar.leaves) },
 }
 
 /// Several recorders, each of which gets each name. Made by a `FanoutBuilder`.
@@ -46,6 +57,40 @@ pub type Fanout<B> = Child<B>;
 pub type Router<B> = Child<B>;
 
 impl<B: Recorder> Child<B> {
+    ghost use Rattle.metrics_trees.specs.Trees.{rules_of};
+
+    /// Makes a tree of rules and recorders, one for each leaf, in the order of the leaves. Returns both if that fails.
+    ///
+    /// # Errors
+    ///
+    /// `NotOneEach` if there are fewer recorders than leaves or more, else `TooManyBooks` if they have more than 65,536 books,
+    /// and else `Memory`.
+    pub fn over(rules: Rules, leaves: Vec<B>) -> Result<Child<B>, (OverError, Rules, Vec<B>)>
+        ensures { let all = map B.meaning leaves.items in MatchResult result
+            (λ c. (length leaves.items ≡ leaves_of (rules_meaning rules)) × (rules_of c ≡ rules)
+            × (⟦<Child<B> as Recorder>⟧.meaning c ≡ over (rules_meaning rules) all))
+            (λ e. (e.0 ≡ over_refusal (leaves_of (rules_meaning rules)) all) × (e.1 ≡ rules) × (e.2 ≡ leaves)) }
+    {
+        if rules.leaves() != leaves.len() {
+            return Err((OverError::NotOneEach, rules, leaves));
+        }
+        match Leaves::new(leaves) {
+            Ok(leaves) => Ok(Child {
+                rules,
+                scratch: None,
+                registrar: Registrar::new(leaves),
+            }),
+            Err((error, leaves)) => Err((error, rules, leaves)),
+        }
+    }
+
+    /// Returns where its names go: the rules, whose leaves are its recorders.
+    pub fn rules(&self) -> &Rules
+        ensures { result.now ≡ rules_of self.now }
+    {
+        &self.rules
+    }
+
     /// Makes a tree of one recorder.
     pub fn leaf(recorder: B) -> Child<B>
         ensures { ⟦<Child<B> as Recorder>⟧.meaning result ≡ B.meaning recorder }
@@ -53,7 +98,9 @@ impl<B: Recorder> Child<B> {
         // This call brings in the trait's bound on the number of books.
         let _books = recorder.books();
         Child {
-            node: Node::Leaf(recorder),
+            rules: Rules::leaf(),
+            scratch: None,
+            registrar: Registrar::new(Leaves::One(recorder)),
         }
     }
 
@@ -61,7 +108,11 @@ impl<B: Recorder> Child<B> {
     pub fn noop() -> Child<B>
         ensures { ⟦<Child<B> as Recorder>⟧.meaning result ≡ nothing }
     {
-        Child { node: Node::Noop }
+        Child {
+            rules: Rules::noop(),
+            scratch: None,
+            registrar: Registrar::new(Leaves::Empty),
+        }
     }
 
     /// Returns the fanout as a tree.
@@ -89,14 +140,26 @@ impl<B: Recorder> Child<B> {
             prefixed layer.now (⟦<Child<B> as Recorder>⟧.meaning self))
             (λ e. (e.0 ≡ Memory) × (e.1 ≡ self)) }
     {
-        let Ok(prefix) = layer.prefix() else {
-            return Err((Error::Memory, self));
-        };
-        let there = Key::from(KeyName::from(String::new(alloc)));
-        let inner = self.boxed(alloc)?;
-        Ok(Child {
-            node: Node::Prefixed(prefix, there, inner),
-        })
+        let Child {
+            rules,
+            scratch,
+            registrar,
+        } = self;
+        match rules.prefix(alloc, layer) {
+            Ok(rules) => Ok(Child {
+                rules,
+                scratch,
+                registrar,
+            }),
+            Err((error, rules)) => Err((
+                error,
+                Child {
+                    rules,
+                    scratch,
+                    registrar,
+                },
+            )),
+        }
     }
 
     /// Wraps the tree in a filter layer. Returns the tree if that fails.
@@ -112,28 +175,23 @@ impl<B: Recorder> Child<B> {
             (⟦<Child<B> as Recorder>⟧.meaning self)))
             (λ e. (e.0 ≡ unwrap_or (fault_of layer.now) Memory) × (e.1 ≡ self)) }
     {
-        let automaton = match layer.automaton(alloc) {
-            Ok(automaton) => automaton,
-            Err(error) => return Err((error, self)),
-        };
-        let inner = self.boxed(alloc)?;
-        Ok(Child {
-            node: Node::Filtered(automaton, inner),
-        })
-    }
-
-    /// The tree's node in a box. Returns the tree when out of memory.
-    fn boxed(self, alloc: Global) -> Result<Box<Node<B>>, (Error, Child<B>)>
-        ensures { MatchResult result
-            (λ inner. inner.value ≡ self.node)
-            (λ e. (e.0 ≡ Memory) × (e.1 ≡ self)) }
-    {
-        match Box::new(alloc, self.node) {
-            Ok(inner) => Ok(inner),
-            Err(refused) => Err((
-                Error::Memory,
+        let Child {
+            rules,
+            scratch,
+            registrar,
+        } = self;
+        match rules.filter(alloc, layer) {
+            Ok(rules) => Ok(Child {
+                rules,
+                scratch,
+                registrar,
+            }),
+            Err((error, rules)) => Err((
+                error,
                 Child {
-                    node: refused.value,
+                    rules,
+                    scratch,
+                    registrar,
                 },
             )),
         }
@@ -141,10 +199,10 @@ impl<B: Recorder> Child<B> {
 }
 
 impl<B: Recorder> Recorder for Child<B> {
-    ghost meaning = { λ c. node_meaning B.meaning c.node };
+    ghost meaning = { λ c. over (rules_meaning c.rules) (map B.meaning (recorders_of c.registrar.leaves)) };
 
     fn books(&self) -> usize {
-        self.node.books()
+        self.registrar.leaves.books()
     }
 
     fn describe(
@@ -155,7 +213,30 @@ impl<B: Recorder> Recorder for Child<B> {
         unit: Option<Unit>,
         text: &str,
     ) -> Result<usize, Refused> {
-        self.node.describe(alloc, kind, name, unit, text)
+        let leaves = mem::replace(&mut self.registrar.leaves, Leaves::Empty);
+        let mut visitor = Describing {
+            alloc,
+            kind,
+            unit,
+            text,
+            leaves,
+            acted: 0,
+        };
+        let mut scratch = Scratch::new(alloc);
+        let visited = self.rules.visit(kind, name, &mut scratch, &mut visitor);
+        let Describing {
+            alloc: _,
+            kind: _,
+            unit: _,
+            text: _,
+            leaves,
+            acted,
+        } = visitor;
+        self.registrar.leaves = leaves;
+        match visited {
+            Ok(_count) => Ok(acted),
+            Err(stopped) => Err(stopped.refused.after(acted)),
+        }
     }
 
     fn register(
@@ -164,15 +245,26 @@ impl<B: Recorder> Recorder for Child<B> {
         kind: MetricKind,
         key: &Key,
     ) -> Result<Vec<Address>, Refused> {
-        self.node.register(alloc, kind, key)
+        self.registrar.call = Some(Call {
+            alloc,
+            kind,
+            found: Vec::new(alloc),
+        });
+        let scratch = self.scratch.get_or_insert_with(|| Scratch::new(alloc));
+        let visited = self.rules.visit(kind, key, scratch, &mut self.registrar);
+        let found = self.registrar.finish(alloc);
+        match visited {
+            Ok(_count) => Ok(found),
+            Err(stopped) => Err(stopped.refused.after(found.len())),
+        }
     }
 
     fn holds(&self, kind: MetricKind, at: Address) -> bool {
-        self.node.holds(kind, at)
+        self.registrar.leaves.holds(kind, at)
     }
 
     fn update(&mut self, at: Address, by: Update) -> Result<(), Refused> {
-        self.node.update(at, by)
+        self.registrar.leaves.update(at, by)
     }
 
     fn snapshot_with(
@@ -181,6 +273,6 @@ impl<B: Recorder> Recorder for Child<B> {
         book: usize,
         reset: Reset,
     ) -> Result<Snapshot, Refused> {
-        self.node.snapshot_with(alloc, book, reset)
+        self.registrar.leaves.snapshot_with(alloc, book, reset)
     }
 }

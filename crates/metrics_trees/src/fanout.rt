@@ -1,28 +1,40 @@
 //! Recorders that each get each name.
-ghost use Rattle.std.specs.Prelude.{◌≡◌, ◌++◌, ◌∷◌, [], MatchResult};
+ghost use Rattle.std.specs.Prelude.{◌≡◌, ◌≤◌, ◌++◌, ◌∷◌, [], length, map, MatchResult};
 ghost use Rattle.metrics.specs.Layers.{joined_all};
-ghost use Rattle.metrics_trees.specs.Recorders.{BooksFit, refusal};
-ghost use Rattle.metrics_trees.specs.Builders.{fanout_recorders};
+ghost use Rattle.metrics_rules.specs.Branches.{leaves_in};
+ghost use Rattle.metrics_rules.specs.Builders.{fanout_branches};
+ghost use Rattle.metrics_trees.specs.Leaves.{recorders_of};
+ghost use Rattle.metrics_trees.specs.Recorders.{BooksFit, books_in, most_books, refusal};
 
 use crate::child::{Child, Fanout};
-use crate::reach::Reach;
-use crate::recorders::{MOST_BOOKS, Recorders};
+use crate::leaves::Leaves;
+use crate::row::MOST_BOOKS;
+use crate::visits::Registrar;
 use metrics::{Error, Recorder};
+use metrics_rules::FanoutBuilder as RulesBuilder;
 use std::alloc::Global;
 
 /// Combines recorders into a `Fanout`, in the order in which they are added.
 #[derive(Drop)]
 pub struct FanoutBuilder<B: Recorder> {
-    recorders: Recorders<B>,
+    alloc: Global,
+    rules: RulesBuilder,
+    leaves: Leaves<B>,
+    ghost as_many: { leaves_in (fanout_branches rules) ≡ length (recorders_of leaves) },
+    ghost few: { books_in (map B.meaning (recorders_of leaves)) ≤ most_books },
 }
 
 impl<B: Recorder> FanoutBuilder<B> {
+    ghost use Rattle.metrics_trees.specs.Builders.{fanout_recorders};
+
     /// Makes a builder without recorders.
     pub fn default(alloc: Global) -> FanoutBuilder<B>
         ensures { fanout_recorders result ≡ [] }
     {
         FanoutBuilder {
-            recorders: Recorders::new(alloc),
+            alloc,
+            rules: RulesBuilder::default(alloc),
+            leaves: Leaves::Empty,
         }
     }
 
@@ -30,7 +42,8 @@ impl<B: Recorder> FanoutBuilder<B> {
     ///
     /// # Errors
     ///
-    /// `TooManyBooks` if there would be more than 65,536 books, and else `Memory`.
+    /// `TooManyBooks` if there would be more than 65,536 books, and else `Memory`, also if there would be more than 65,536
+    /// leaves.
     pub fn add_recorder(&mut self, child: Child<B>) -> Result<(), (Error, Child<B>)>
         ensures { let one = ⟦<Child<B> as Recorder>⟧.meaning child in MatchResult result
             (λ done. BooksFit (fanout_recorders self.old) one
@@ -38,20 +51,47 @@ impl<B: Recorder> FanoutBuilder<B> {
             (λ e. (e.0 ≡ refusal (fanout_recorders self.old) one) × (e.1 ≡ child)
             × (fanout_recorders self.new ≡ fanout_recorders self.old)) }
     {
-        if child.books() > MOST_BOOKS - self.recorders.books() {
+        if child.registrar.leaves.books() > MOST_BOOKS - self.leaves.books() {
             return Err((Error::TooManyBooks, child));
         }
-        if self.recorders.reserve(1).is_err() {
+        if self
+            .leaves
+            .reserve(self.alloc, child.rules().leaves())
+            .is_err()
+        {
             return Err((Error::Memory, child));
         }
-        self.recorders.push_reserved(child);
-        Ok(())
+        let Child {
+            rules,
+            scratch,
+            registrar,
+        } = child;
+        match self.rules.add_child(rules) {
+            Ok(()) => {
+                self.leaves.append_reserved(registrar.leaves);
+                Ok(())
+            }
+            Err((_error, rules)) => {
+                Err((
+                    Error::Memory,
+                    Child {
+                        rules,
+                        scratch,
+                        registrar,
+                    },
+                ))
+            }
+        }
     }
 
     /// Returns all that were added, as one recorder.
     pub fn build(self) -> Fanout<B>
         ensures { ⟦<Fanout<B> as Recorder>⟧.meaning result ≡ joined_all (fanout_recorders self) }
     {
-        self.recorders.into_child(Reach::Every)
+        Child {
+            rules: self.rules.build(),
+            scratch: None,
+            registrar: Registrar::new(self.leaves),
+        }
     }
 }

@@ -4,12 +4,13 @@
 mod book_ends;
 mod child;
 mod fanout;
-mod node;
-mod reach;
-mod recorders;
+mod leaves;
+mod over_error;
 mod router;
-mod routes;
+mod row;
+mod visits;
 
 pub use child::{Child, Fanout, Router};
 pub use fanout::FanoutBuilder;
+pub use over_error::OverError;
 pub use router::RouterBuilder;

@@ -1,30 +1,29 @@
 //! Recorders. Each name goes to one of them.
-ghost use Rattle.std.specs.Prelude.{◌≡◌, ◌≤◌, ◌<◌, ◌-◌, ◌++◌, ◌∷◌, [], List, suc, false, None};
-ghost use Rattle.std.specs.Prelude.{is_some, nat_eq, length, MatchResult};
-ghost use Rattle.std.specs.Option.{option_map};
+ghost use Rattle.std.specs.Prelude.{◌≡◌, ◌≤◌, ◌<◌, ◌-◌, ◌++◌, ◌∷◌, [], List, suc, false};
+ghost use Rattle.std.specs.Prelude.{nat_eq, length, map, MatchResult};
 ghost use Rattle.metrics.specs.Layers.{Route, routed, joined_all};
-ghost use Rattle.metrics_trees.specs.Nodes.{node_meaning, most_books};
-ghost use Rattle.metrics_trees.specs.Routing.{TargetsBelow};
-ghost use Rattle.metrics_trees.specs.Recorders.{meanings, all_meanings, books_in, BooksFit, HasSpare, route_refusal};
-ghost use Rattle.metrics_trees.specs.Recorders.{target_refusal};
+ghost use Rattle.metrics_rules.specs.Branches.{leaves_in};
+ghost use Rattle.metrics_rules.specs.Builders.{router_branches};
+ghost use Rattle.metrics_trees.specs.Leaves.{recorders_of};
+ghost use Rattle.metrics_trees.specs.Recorders.{BooksFit, books_in, most_books, route_refusal, target_refusal};
 
 use crate::child::{Child, Router};
-use crate::reach::Reach;
-use crate::recorders::{MOST_BOOKS, Recorders};
-use crate::routes::Routes;
+use crate::leaves::Leaves;
+use crate::row::MOST_BOOKS;
+use crate::visits::Registrar;
 use metrics::{Error, MetricKindMask, Recorder};
+use metrics_rules::RouterBuilder as RulesBuilder;
 use std::alloc::Global;
 
 /// Combines a default, targets and the routes to them into a `Router`.
 #[derive(Drop)]
 pub struct RouterBuilder<B: Recorder> {
-    /// The default, while there is no target.
-    default: Option<Child<B>>,
-    /// The default and then the targets, once there is one.
-    recorders: Recorders<B>,
-    routes: Routes,
-    ghost alone: { is_some default ≡ nat_eq (length recorders.children.items) 0 },
-    ghost below: { TargetsBelow routes (length recorders.children.items - 1) },
+    alloc: Global,
+    rules: RulesBuilder,
+    /// The leaves of the default, and then those of the targets.
+    leaves: Leaves<B>,
+    ghost as_many: { leaves_in (router_branches rules) ≡ length (recorders_of leaves) },
+    ghost few: { books_in (map B.meaning (recorders_of leaves)) ≤ most_books },
 }
 
 impl<B: Recorder> RouterBuilder<B> {
@@ -35,10 +34,15 @@ impl<B: Recorder> RouterBuilder<B> {
         ensures recorders { router_recorders result ≡ ⟦<Child<B> as Recorder>⟧.meaning default ∷ [] }
         ensures routes { HasRoutes result [] }
     {
+        let Child {
+            rules,
+            scratch: _,
+            registrar,
+        } = default;
         RouterBuilder {
-            default: Some(default),
-            recorders: Recorders::new(alloc),
-            routes: Routes::new(alloc),
+            alloc,
+            rules: RulesBuilder::new(alloc, rules),
+            leaves: registrar.leaves,
         }
     }
 
@@ -48,7 +52,8 @@ impl<B: Recorder> RouterBuilder<B> {
     ///
     /// # Errors
     ///
-    /// `EmptyMask` for a mask without kinds, else `TooManyBooks` if there would be more than 65,536 books, and else `Memory`.
+    /// `EmptyMask` for a mask without kinds, else `TooManyBooks` if there would be more than 65,536 books, and else
+    /// `Memory`, also if there would be more than 65,536 leaves.
     pub fn add_route(
         &mut self,
         mask: MetricKindMask,
@@ -66,18 +71,37 @@ impl<B: Recorder> RouterBuilder<B> {
         if mask.is_empty() {
             return Err((Error::EmptyMask, target));
         }
-        if target.books() > MOST_BOOKS - self.books() {
+        if target.registrar.leaves.books() > MOST_BOOKS - self.leaves.books() {
             return Err((Error::TooManyBooks, target));
         }
-        let number = self.targets();
-        if self.recorders.reserve(2).is_err() {
+        if self
+            .leaves
+            .reserve(self.alloc, target.rules().leaves())
+            .is_err()
+        {
             return Err((Error::Memory, target));
         }
-        if self.routes.add(mask, pattern, number).is_err() {
-            return Err((Error::Memory, target));
+        let Child {
+            rules,
+            scratch,
+            registrar,
+        } = target;
+        match self.rules.add_route(mask, pattern, rules) {
+            Ok(number) => {
+                self.leaves.append_reserved(registrar.leaves);
+                Ok(number)
+            }
+            Err((_error, rules)) => {
+                Err((
+                    Error::Memory,
+                    Child {
+                        rules,
+                        scratch,
+                        registrar,
+                    },
+                ))
+            }
         }
-        push_target(&mut self.default, &mut self.recorders, target);
-        Ok(number)
     }
 
     /// Adds a route to the target of an earlier route, by its number. A call that fails changes nothing.
@@ -98,16 +122,7 @@ impl<B: Recorder> RouterBuilder<B> {
             (λ e. (e ≡ target_refusal mask target (length (router_recorders self.old) - 1))
             × IsUnchanged self.old self.new) }
     {
-        if mask.is_empty() {
-            return Err(Error::EmptyMask);
-        }
-        if target >= self.targets() {
-            return Err(Error::NoSuchTarget);
-        }
-        if self.routes.add(mask, pattern, target).is_err() {
-            return Err(Error::Memory);
-        }
-        Ok(())
+        self.rules.add_route_to(mask, pattern, target)
     }
 
     /// Returns the default, the targets and the routes as one recorder.
@@ -117,59 +132,10 @@ impl<B: Recorder> RouterBuilder<B> {
         ensures contents { (⟦<Router<B> as Recorder>⟧.meaning result).contents
             ≡ (joined_all (router_recorders self)).contents }
     {
-        let RouterBuilder {
-            default,
-            recorders,
-            routes,
-        } = self;
-        match default {
-            Some(default) => default,
-            None => recorders.into_child(Reach::ByRoute(routes)),
+        Child {
+            rules: self.rules.build(),
+            scratch: None,
+            registrar: Registrar::new(self.leaves),
         }
     }
-
-    /// The number of books of all, at most 65,536.
-    fn books(&self) -> usize
-        ensures all { result ≡ books_in (router_recorders self.now) }
-        ensures most { result ≤ most_books }
-    {
-        match &self.default {
-            Some(default) => default.books(),
-            None => self.recorders.books(),
-        }
-    }
-
-    /// The number of targets.
-    fn targets(&self) -> usize
-        ensures { result ≡ length self.now.recorders.children.items - 1 }
-    {
-        let recorders = self.recorders.len();
-        if recorders == 0 {
-            return 0;
-        }
-        recorders - 1
-    }
-}
-
-/// Adds a target at the end. A default that was alone moves before it.
-fn push_target<B: Recorder>(
-    default: &mut Option<Child<B>>,
-    recorders: &mut Recorders<B>,
-    target: Child<B>,
-)
-    requires alone { is_some default.old ≡ nat_eq (length recorders.old.children.items) 0 }
-    requires spare { HasSpare 2 recorders.old.children recorders.old.ends }
-    requires few { let alone = option_map (λ c. c.node) default.old in
-        let all = all_meanings B.meaning alone recorders.old.children.items in
-        BooksFit all (node_meaning B.meaning target.node) }
-    ensures default { default.new ≡ None }
-    ensures recorders { let alone = option_map (λ c. c.node) default.old in
-        let all = all_meanings B.meaning alone recorders.old.children.items in
-        meanings B.meaning recorders.new.children.items
-        ≡ all ++ node_meaning B.meaning target.node ∷ [] }
-{
-    if let Some(default) = default.take() {
-        recorders.push_reserved(default);
-    }
-    recorders.push_reserved(target);
 }

@@ -4,8 +4,9 @@
 /// Metrics that the threads of a program share, and their text for Prometheus.
 pub mod collector {
     pub use metrics_collector::{
-        Bounds, Collector, CounterHandle, Descriptions, Gathered, GatheredSeries, GaugeHandle,
-        HistogramHandle, Naming, Value,
+        AbsorbError, BadLabel, Bounds, Collector, CounterHandle, Descriptions, Gathered,
+        GatheredSeries, GaugeHandle, HistogramHandle, LEFT_OUT_NAME, LabelList, Naming, Value,
+        left_out, quantile_bound,
     };
 }
 
@@ -24,12 +25,20 @@ pub mod exporter {
         Naming, ReadSeries, exposition, exposition_law, exposition_named, exposition_of,
         exposition_text_law, left_out,
     };
+    pub use metrics_textfile::{TextfileError, textfile_place, write_textfile};
+}
+
+/// Recorders that threads share, under rules that say where a name goes.
+pub mod layered {
+    pub use metrics_layered::{
+        CounterHandles, GaugeHandles, Handles, HistogramHandles, Layered, SharedRecorder,
+    };
 }
 
 /// Layers over recorders.
 pub mod layers {
     pub use metrics_layers::{Filter, FilterLayer, Layer, Prefix, PrefixLayer, Stack, dotted_name};
-    pub use metrics_trees::{Child, Fanout, FanoutBuilder, Router, RouterBuilder};
+    pub use metrics_trees::{Child, Fanout, FanoutBuilder, OverError, Router, RouterBuilder};
 }
 
 /// Cells by kind and key, and which of them are still in use.
@@ -42,6 +51,13 @@ pub mod registry {
     pub use metrics_shared_registry::{
         AtomicStorage, Generational, GenerationalAtomicStorage, GenerationalStorage, Recency,
         Registry,
+    };
+}
+
+/// Where names go, apart from what is kept there.
+pub mod rules {
+    pub use metrics_rules::{
+        FanoutBuilder, Named, RouterBuilder, Rules, Scratch, Stopped, Visitor,
     };
 }
 

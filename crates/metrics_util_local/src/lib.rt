@@ -17,12 +17,13 @@ pub mod exporter {
         Naming, ReadSeries, exposition, exposition_law, exposition_named, exposition_of,
         exposition_text_law, left_out,
     };
+    pub use metrics_textfile::{TextfileError, textfile_place, write_textfile};
 }
 
 /// Layers over recorders.
 pub mod layers {
     pub use metrics_layers::{Filter, FilterLayer, Layer, Prefix, PrefixLayer, Stack, dotted_name};
-    pub use metrics_trees::{Child, Fanout, FanoutBuilder, Router, RouterBuilder};
+    pub use metrics_trees::{Child, Fanout, FanoutBuilder, OverError, Router, RouterBuilder};
 }
 
 /// Cells by kind and key, and which of them are still in use.
@@ -30,6 +31,13 @@ pub mod registry {
     pub use metrics_registry::{
         Cells, Counted, Generation, Kinds, OwnedRecency, OwnedRegistry, PlainStorage, Storage,
         recency_law,
+    };
+}
+
+/// Where names go, apart from what is kept there.
+pub mod rules {
+    pub use metrics_rules::{
+        FanoutBuilder, Named, RouterBuilder, Rules, Scratch, Stopped, Visitor,
     };
 }
 

@@ -3,7 +3,7 @@ ghost use Rattle.std.specs.Prelude.{◌≡◌, ◌∷◌, [], ◌++◌, ◌<◌,
 ghost use Rattle.std.specs.Prelude.{MatchResult, if◌then◌else◌};
 ghost use Rattle.std.specs.Prelude.{None, true, false, length, map, option_map, slice_get, position};
 ghost use Rattle.metrics_names.specs.declared.refused.Refused.TheVariants.{Memory};
-ghost use Rattle.metrics.specs.Book.{is_of, new_series, new_value, resets, after_reset, row_of};
+ghost use Rattle.metrics.specs.Book.{is_of, new_series, new_value, resets, after_reset, row_of, active_at, idle};
 ghost use Rattle.metrics_debugging.specs.Debugging.{content_of};
 ghost use Rattle.metrics_debugging.specs.DebuggingCells.{value_of, kind_of_value, UpdatesValue};
 ghost use Rattle.metrics_debugging.specs.DebuggingSeries.{Agrees, IsWithin, series_at, series_key, spot};
@@ -62,7 +62,7 @@ pub(crate) struct SeriesList {
 }
 
 impl SeriesList {
-    ghost use Rattle.metrics_debugging.specs.DebuggingOrder.{series_of, activity_of, active_at, idle};
+    ghost use Rattle.metrics_debugging.specs.DebuggingOrder.{series_of, activity_of};
 
     /// Makes a list without series. It allocates nothing yet.
     pub fn new(alloc: Global) -> SeriesList
@@ -155,7 +155,7 @@ impl SeriesList {
     /// The row of a series of this book.
     fn row(&self, stored: &Stored, descriptions: &Descriptions) -> Result<Row, Refused>
         requires { IsWithin self.now.numbers (spot stored.now) }
-        ensures ok { IfOk result (λ r. r ≡ row_of (content_of [] descriptions.now) (series_at self.now.numbers stored.now)) }
+        ensures ok { IfOk result (λ r. r ≡ row_of (content_of [] [] descriptions.now) (series_at self.now.numbers stored.now)) }
         ensures memory { IfErr result (λ e. e ≡ Memory 0) }
     {
         let kind = stored.cell.kind();
@@ -170,7 +170,7 @@ impl SeriesList {
 
     /// Returns the rows of the book.
     pub fn rows(&self, alloc: Global, descriptions: &Descriptions) -> Result<Vec<Row>, Refused>
-        ensures ok { IfOk result (λ v. v.items ≡ map (row_of (content_of [] descriptions.now)) (series_of self.now)) }
+        ensures ok { IfOk result (λ v. v.items ≡ map (row_of (content_of [] [] descriptions.now)) (series_of self.now)) }
         ensures memory { IfErr result (λ e. e ≡ Memory 0) }
     {
         let mut rows = Vec::with_capacity(alloc, self.series.len())?;

@@ -23,6 +23,6 @@ returns-clause-ok c =
     let free : has_ticket p.ticket ≡ false = ap (λ (a : Account). a.ticket) e in
     let one : IsSpareOf c.args.pen.home c.new-post.result.0 =
     is_spare c.args.pen.home p.seat.table_id v c.new-post.result.0 (ap (λ (a : Account). a.home.table) e) c.pen.invariant.some_word (ap (λ (a : Account). a.home.places) e) (ap (λ (a : Account). a.weight) e)
-    (ap (λ (a : Account). a.pushed) e) (ap (λ (a : Account). a.taken) e) (ap (λ (a : Account). a.read) e) (c.pen.invariant.holds ∙ free_hold _ free) (ap (λ (a : Account). a.seen) e) (ap (λ (a : Account). a.turn_seen) e) c.new-post.ensures.perch.0 c.new-post.ensures.perch.1 in
+    (ap (λ (a : Account). a.pushed) e) (ap (λ (a : Account). a.taken) e) (ap (λ (a : Account). a.read) e) (c.pen.invariant.holds ∙ free_hold _ free) (ap (λ (a : Account). a.seen) e) (ap (λ (a : Account). a.looks) e) (ap (λ (a : Account). a.refused) e) c.new-post.ensures.perch.0 c.new-post.ensures.perch.1 in
     let is : c.push.new.self.items ≡ c.args.posts.now.items ++ c.new-post.result.0 ∷ [] = search rules in
     subst (λ (ps : List (Post View)). All (IsSpareOf c.args.pen.home) ps) (sym is) (All-push (IsSpareOf c.args.pen.home) c.args.posts.now.items c.new-post.result.0 c.requires.spares one)

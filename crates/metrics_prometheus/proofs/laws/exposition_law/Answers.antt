@@ -8,6 +8,8 @@ use Rattle.metrics_prometheus.proofs.ToldLemmas.{series-told, series-written}
 use Rattle.metrics_prometheus.proofs.TextLineLemmas.{text-has}
 use Rattle.metrics_prometheus.proofs.OneTextLemmas.{one-text}
 use Rattle.metrics_prometheus.proofs.TypeLemmas.{text-tells}
+use Rattle.metrics_prometheus.proofs.HelpLemmas.{text-describes}
+use Rattle.metrics_prometheus.proofs.UsingLemmas.{names-written}
 use Rattle.metrics_prometheus.proofs.laws.exposition_law.Goals as goal
 
 pub returns-clause-distinct : goal.returns-clause-distinct
@@ -38,3 +40,9 @@ returns-clause-types c = λ naming legend cells text kinds e. text-tells cells t
 
 pub returns-clause-one : goal.returns-clause-one
 returns-clause-one c = λ naming legend cells a b e f. one-text cells a b e f
+
+pub returns-clause-helps : goal.returns-clause-helps
+returns-clause-helps c = λ naming legend cells text kinds e. text-describes cells text kinds e
+
+pub returns-clause-used : goal.returns-clause-used
+returns-clause-used c = λ naming legend cells text e name. names-written e.rows e.all.ordered name

@@ -7,7 +7,9 @@ use Rattle.metrics_prometheus.proofs.OneReadingLemmas.{one-reading}
 use Rattle.metrics_prometheus.proofs.ReadingLemmas.{rows-read, rows-of-kind}
 use Rattle.metrics_prometheus.proofs.DistinctLemmas.{texts-distinct}
 use Rattle.metrics_prometheus.proofs.SampleLabelLemmas.{samples-named, samples-read, labels-ascend, samples-once}
-use Rattle.metrics_prometheus.proofs.NumeralLemmas.{number-shifted}
+use Rattle.metrics_prometheus.proofs.NumeralLemmas.{number-shifted, number-injective, unsigned-same}
+use Rattle.metrics_prometheus.specs.Naming.{unit_end, total_end}
+use Rattle.metrics_prometheus.proofs.NamingLemmas.{ends-once}
 use Rattle.metrics_prometheus.proofs.laws.exposition_text_law.Goals as goal
 
 pub returns-clause-names : goal.returns-clause-names
@@ -33,3 +35,12 @@ returns-clause-labels c = λ naming legend cells text e. All-from_recursion (λ 
 
 pub returns-clause-once : goal.returns-clause-once
 returns-clause-once c = λ naming legend cells text kinds e. All-from_recursion NamesOnce (samples_written cells e.rows) (samples-once cells (rows-of-kind cells kinds) text e)
+
+pub returns-clause-ends : goal.returns-clause-ends
+returns-clause-ends c = λ kind unit name. ends-once (unit_end unit) (total_end kind) name
+
+pub returns-clause-one_number : goal.returns-clause-one_number
+returns-clause-one_number c = unsigned-same
+
+pub returns-clause-other_numbers : goal.returns-clause-other_numbers
+returns-clause-other_numbers c = number-injective

@@ -14,10 +14,10 @@ overflow_sub-result c =
     let e = c.requires.ends.1 in
     let b = before-le c.args.ends.now c.requires.ends.0 c.args.book c.partition_point-recorder.result e
     (c.partition_point-recorder.ensures.partitioned (λ y. nat_le y c.args.book) (always_returns_same _ _ _ (λ a r f k. search (rules, of_calls))) (partitioned c.args.ends.now c.requires.ends.0 c.args.book e)) c.partition_point-recorder.ensures.bound in
-    omega (arith, b, c.books_before.ensures c.requires.ends.0 e)
+    omega (arith, b, c.start_of.ensures c.requires.ends.0 e)
 
 pub returns : goal.returns
 returns c sizes e =
     place-is c.args.ends.now sizes c.args.book c.partition_point-recorder.result e
     (c.partition_point-recorder.ensures.partitioned (λ y. nat_le y c.args.book) (always_returns_same _ _ _ (λ a r f k. search (rules, of_calls))) (partitioned c.args.ends.now sizes c.args.book e))
-    c.books_before.result c.partition_point-recorder.ensures.bound c.if-recorder-ends.false (c.books_before.ensures sizes e)
+    c.start_of.result c.partition_point-recorder.ensures.bound c.if-recorder-ends.false (c.start_of.ensures sizes e)

@@ -9,6 +9,6 @@ abbrev pub invariant-loop-key : goal.invariant-loop-key
 invariant-loop-key l = record {
   ready : (goal.iterator-loop-key).can_next l.key-iterator × (goal.iterator-loop-key).is_finite l.key-iterator;
   room : length (into_iter_items l.key-iterator) ≤ spare l.map;
-  all : l.fn.self ≡ l.yielded ++ into_iter_items l.key-iterator;
+  all : l.fn.self.rows ≡ l.yielded ++ into_iter_items l.key-iterator;
   rows : (k : SeriesKey) → get series_key_eq l.map k ≡ last_row k l.yielded;
 }

@@ -1,4 +1,4 @@
-use Rattle.std.proofs.Common.{List, subst}
+use Rattle.std.proofs.Common.{Bool, List, subst}
 use Rattle.metrics.specs.Book.{RowParts}
 use Rattle.metrics_exporter.specs.Exporting.{Setup, Log}
 use Rattle.metrics_exporter.specs.Kept.{IsAfter}
@@ -7,5 +7,5 @@ use Rattle.metrics_exporter.proofs.exporter.Exporter.absorb_from.Goals as goal
 
 pub returns-clause-absorbs : goal.returns-clause-absorbs
 returns-clause-absorbs c =
-    let P : List RowParts → Type 0 = λ rows. (setup : Setup) (log : Log) → IsAfter setup log c.args.self.now → AbsorbsBehind setup log c.args.part (marked rows c.activity.result.now) c.absorb_behind.result c.absorb_behind.new.on in
-    (c.activity.result.now, subst P c.as_slice.ensures c.absorb_behind.ensures.absorbs)
+    let P : List RowParts → List Bool → Type 0 = λ rows marks. (setup : Setup) (log : Log) → IsAfter setup log c.args.self.now → AbsorbsBehind setup log c.args.part (marked rows marks) c.absorb_behind.result c.absorb_behind.new.on in
+    subst (λ marks. P c.args.snapshot.now.rows marks) c.activity.ensures (subst (λ rows. P rows c.activity.result.now) c.as_slice.ensures c.absorb_behind.ensures.absorbs)

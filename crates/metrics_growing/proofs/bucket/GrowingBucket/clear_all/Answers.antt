@@ -1,11 +1,15 @@
-use Rattle.std.proofs.Common.{rules, ◌≡◌, ◌<◌, ◌+◌, ◌++◌, ◌∷◌, [], suc, length, slice_index_or, List, ℕ, map, take, refl, ap, subst, sym, ◌∙◌, arith}
+use Rattle.std.proofs.Common.{rules, ◌≡◌, ◌≢◌, ◌<◌, ◌+◌, ◌++◌, ◌∷◌, [], suc, length, slice_index_or, List, ℕ, map, take, refl, ap, subst, sym, ◌∙◌, arith}
 use Rattle.std.proofs.lemmas.List.{map-append, length_push}
 use Rattle.std.specs.List.{FoldsTo}
+use Rattle.std.specs.Result.{IfErr}
+use Rattle.std.proofs.lemmas.Result.{IfErr-weaker}
+use Rattle.metrics.specs.declared.error.Error.TheVariants.{Busy}
+use Rattle.metrics_bucket.specs.declared.view.Walk.{Walk}
 use Rattle.metrics_bucket.specs.Blocks.{valued, newest_first}
 use Rattle.metrics_bucket.specs.Account.{Home}
-use Rattle.metrics_growing.specs.Parts.{home_of, Took, all_chunks}
-use Rattle.metrics_growing.specs.Bags.{sum_of, places_in}
-use Rattle.metrics_growing.proofs.Chains.{took_more, count_more, chunks_more, folds_both, pick, home_get, places_more}
+use Rattle.metrics_growing.specs.Parts.{Part, home_of, FirstHeld, Took, all_chunks}
+use Rattle.metrics_growing.specs.Bags.{sum_of, places_in, first_weight}
+use Rattle.metrics_growing.proofs.Chains.{took_none, no_walk, took_more, count_more, chunks_more, folds_both, pick, home_get, places_more}
 use Rattle.metrics_growing.proofs.bucket.GrowingBucket.clear_all.Goals as goal
 
 pub loop-at-preserved : goal.loop-at-preserved
@@ -56,3 +60,19 @@ returns-clause-ok g c =
     let n = i.5.1 in
     let all = c.count_known-at-end.ensures in
     (i.5.0, omega arith, i.5.2, i.5.3, i.5.4)
+
+pub returns-in_err-more-clause-err : goal.returns-in_err-more-clause-err
+returns-in_err-more-clause-err g c =
+    let old = c.args.known.now.items in
+    let here = c.loop-at.known.items in
+    let new = c.clear_one.new.known.items in
+    let i = c.loop-at.invariant in
+    let l : c.loop-at.at < length old = search rules in
+    let told : IfErr c.from_residual.result (λ e. FirstHeld here new × (c.clear_one.new.visitor ≡ c.loop-at.visitor) × (c.loop-at.at ≡ 0) × (e ≡ Busy) × (first_weight here ≢ 1024)) = search rules in
+    IfErr-weaker c.from_residual.result _ _
+    (λ e t.
+    let none = i.5.1 ∙ t.2 in
+    let same = took_none old i.5.0 here i.5.3 none in
+    let folds = subst (λ (walks : List Walk). FoldsTo g.V.Visitor.saw c.args.visitor.now (valued g.T.Sample.value (all_chunks walks)) c.loop-at.visitor) (no_walk i.5.0 none) i.5.4 in
+    (subst (λ (ps : List Part). FirstHeld ps new) same t.0, t.1 ∙ sym folds, t.3, omega arith, subst (λ (ps : List Part). first_weight ps ≢ 1024) same t.4))
+    told

@@ -1,6 +1,6 @@
 use Rattle.std.proofs.Common.{rules, suc, refl}
-use Rattle.metrics_growing.specs.Parts.{OnlyLooks, Pushed, LosesRace}
-use Rattle.metrics_growing.proofs.Chains.{looks_trans, races_look}
+use Rattle.metrics_growing.specs.Parts.{OnlyLooks, PassedAll, Pushed, LosesRace}
+use Rattle.metrics_growing.proofs.Chains.{looks_trans, races_look, passed_trans}
 use Rattle.metrics_growing.proofs.bucket.GrowingBucket.push.Goals as goal
 
 pub loop-init : goal.loop-init
@@ -23,4 +23,5 @@ returns-in-Err g c =
     let lost = c.loop.invariant.3 in
     let k = races_look lost.0 c.args.pen.now c.loop.pen lost.1 in
     let m : OnlyLooks c.loop.pen c.try_push.new.pen = search rules in
-    record { own = search rules; ok = tt; err = (looks_trans c.args.pen.now c.loop.pen c.try_push.new.pen k m, search rules, search rules, search rules) }
+    let all : PassedAll c.loop.pen c.try_push.new.pen = search rules in
+    record { own = search rules; ok = tt; err = (looks_trans c.args.pen.now c.loop.pen c.try_push.new.pen k m, search rules, passed_trans c.args.pen.now c.loop.pen c.try_push.new.pen k all, search rules) }

@@ -5,8 +5,13 @@ use Rattle.once_cell.specs.Once.{cell_name}
 use Rattle.metrics.specs.declared.error.Error.TheVariants.{Memory, NoPen}
 use Rattle.std.proofs.lemmas.List.{length-set}
 use Rattle.metrics_growing.specs.Parts.{Part, PushedIn, PassedIn, LostIn, LosesRace, ChangedAt, Reached}
-use Rattle.metrics_growing.proofs.Chains.{few_parts, length_names, reached_in, came_next, first_changed, race_looks, stopped, was_full, was_raced}
+use Rattle.metrics_growing.proofs.Chains.{few_parts, length_names, reached_in, came_next, came_passed, first_changed, race_looks, stopped, was_full, was_raced}
 use Rattle.metrics_growing.proofs.bucket.GrowingBucket.try_word.Goals as goal
+
+pub reach-requires : goal.reach-requires
+reach-requires g c =
+    let i = c.loop-at.invariant in
+    record { own = i.0; at = i.1; full = λ n. came_passed c.loop-at.at c.args.known.now.items c.loop-at.known.items i.2 (omega arith) }
 
 pub push_at-requires : goal.push_at-requires
 push_at-requires g c =

@@ -1,5 +1,14 @@
-use Rattle.metrics_registry.proofs.WalkLemmas.{always-takes}
+use Rattle.std.proofs.Common.{[], refl}
+use Rattle.metrics_registry.specs.Held.{CallsAtEntry}
+use Rattle.metrics_shared_registry.specs.Made.{MadeBySome}
+use Rattle.metrics_shared_registry.proofs.MadeLemmas.{walked-more}
 use Rattle.metrics_shared_registry.proofs.registry.Registry.visit_histograms.Goals as goal
 
-pub visit-f-requires : goal.visit-f-requires
-visit-f-requires g c = always-takes g.F.FnMut c.loop-shard.f _ c.loop-shard.invariant
+pub loop-shard-init : goal.loop-shard-init
+loop-shard-init g c = (([], tt, refl), c.requires)
+
+pub loop-shard-preserved : goal.loop-shard-preserved
+loop-shard-preserved g c = (
+  walked-more (λ p e q. CallsAtEntry g.F.FnMut p e tt q) g.K.PartialEq.eq (MadeBySome g.S.Storage.makes_histogram) _ c.loop-shard.f c.visit-f.result _ c.loop-shard.invariant.0 c.visit-f.ensures.made c.visit-f.ensures.calls,
+  c.visit-f.ensures.callable,
+)

@@ -1,29 +1,95 @@
-use Rattle.std.proofs.Common.{rules, arith, ◌∙◌, ap, suc}
-use Rattle.metrics_trees.specs.Routing.{AddsRoute}
-use Rattle.metrics_trees.proofs.RoutingLemmas.{tables-more}
-use Rattle.metrics_trees.proofs.BuildersLemmas.{count-all, none-alone, targets-more}
+use Rattle.std.proofs.Common.{rules, ◌+◌, ◌<◌, ◌≤◌, ◌++◌, map, refl, ap, sym, ◌∙◌, arith}
+use Rattle.metrics_rules.specs.Builders.{router_branches}
+use Rattle.metrics_rules.specs.Meanings.{rules_meaning}
+use Rattle.metrics_trees.specs.Leaves.{recorders_of}
+use Rattle.metrics_trees.specs.Over.{overs}
+use Rattle.metrics_trees.specs.Recorders.{books_in, most_books}
+use Rattle.metrics_trees.proofs.ChildLemmas.{same-child}
+use Rattle.metrics_trees.proofs.BuildersLemmas.{fits-one, too-many, out-of-memory, one-more, many-more, few-more, length-overs, if-any-kind}
 use Rattle.metrics_trees.proofs.router.RouterBuilder.add_route.Goals as goal
 
-pub returns : goal.returns
-returns g c =
-    let s = c.args.self.now in
-    let n = count-all g.B.Recorder.meaning (λ t. t.node) s.default s.recorders.children.items s.alone in
-    let adds : AddsRoute s.routes c.add.new.self c.args.mask c.args.pattern.now c.targets-number.result = search rules in (
-      ap suc c.targets-number.ensures ∙ n,
-      search rules,
-      (let l = c.if-books.false in let a = c.books.ensures.count in let b = c.books-2.ensures.all in omega (arith, l, a, b)),
-      rw c.push_target.ensures.default (rw c.reserve.ensures.items at c.push_target.ensures.recorders),
-      λ rs h. tables-more s.routes c.add.new.self rs c.args.mask c.args.pattern.now c.targets-number.result h adds,
-    )
-
-pub invariant_of-self-2 : goal.invariant_of-self-2
-invariant_of-self-2 g c =
+pub returns-then-books : goal.returns-then-books
+returns-then-books g c =
     let m = g.B.Recorder.meaning in
     let s = c.args.self.now in
-    let now = c.push_target.new.recorders.children.items in
-    let e = rw c.reserve.ensures.items at c.push_target.ensures.recorders in
-    let adds : AddsRoute s.routes c.add.new.self c.args.mask c.args.pattern.now c.targets-number.result = search rules in
+    let given = c.args.target in
+    let bs = recorders_of s.leaves in
+    let cs = recorders_of given.registrar.leaves in
+    let rs = router_branches s.rules in
+    let r = rules_meaning given.rules in
+    let test = c.if-books.true in
+    let of_one = c.books.ensures in
+    let of_all = c.books-2.ensures in
+    let over : most_books < books_in (map m bs) + books_in (map m cs) = omega (arith, test, of_one, of_all) in
+    (if-any-kind c.args.mask _ (search rules) (too-many m rs r bs cs s.as_many over), refl, (refl, refl))
+
+pub returns-then-is_err : goal.returns-then-is_err
+returns-then-is_err g c =
+    let m = g.B.Recorder.meaning in
+    let s = c.args.self.now in
+    let given = c.args.target in
+    let bs = recorders_of s.leaves in
+    let cs = recorders_of given.registrar.leaves in
+    let rs = router_branches s.rules in
+    let r = rules_meaning given.rules in
+    let test = c.if-books.false in
+    let of_one = c.books.ensures in
+    let of_all = c.books-2.ensures in
+    let le : books_in (map m bs) + books_in (map m cs) ≤ most_books = omega (arith, test, of_one, of_all) in
+    let same = ap (λ xs. overs rs (map m xs)) c.reserve.ensures.recorders in
+    (if-any-kind c.args.mask _ (search rules) (out-of-memory m rs r bs cs s.as_many le), refl, (same, refl))
+
+pub invariant_of-self-in-Ok : goal.invariant_of-self-in-Ok
+invariant_of-self-in-Ok g c =
+    let m = g.B.Recorder.meaning in
+    let s = c.args.self.now in
+    let given = c.args.target in
+    let bs = recorders_of s.leaves in
+    let cs = recorders_of given.registrar.leaves in
+    let rs = router_branches s.rules in
+    let r = rules_meaning given.rules in
+    let test = c.if-books.false in
+    let of_one = c.books.ensures in
+    let of_all = c.books-2.ensures in
+    let le : books_in (map m bs) + books_in (map m cs) ≤ most_books = omega (arith, test, of_one, of_all) in
+    let made = c.in-Ok.ensures {u = tt} in
+    let moved = c.append_reserved.ensures ∙ ap (λ xs. xs ++ cs) c.reserve.ensures.recorders in
     record {
-      alone = rw c.push_target.ensures.default (none-alone m (λ t. t.node) s.default s.recorders.children.items now _ s.alone e);
-      below = targets-more m (λ t. t.node) s.default s.recorders.children.items now _ s.alone e s.routes c.add.new.self c.args.mask c.args.pattern.now c.targets-number.result s.below adds c.targets-number.ensures;
+      as_many = many-more m rs r bs cs s.as_many given.as_many _ _ made.3 moved;
+      few = few-more m rs r bs cs s.as_many given.as_many _ _ made.3 moved le;
     }
+
+pub returns-in-Ok : goal.returns-in-Ok
+returns-in-Ok g c =
+    let m = g.B.Recorder.meaning in
+    let s = c.args.self.now in
+    let given = c.args.target in
+    let bs = recorders_of s.leaves in
+    let cs = recorders_of given.registrar.leaves in
+    let rs = router_branches s.rules in
+    let r = rules_meaning given.rules in
+    let test = c.if-books.false in
+    let of_one = c.books.ensures in
+    let of_all = c.books-2.ensures in
+    let le : books_in (map m bs) + books_in (map m cs) ≤ most_books = omega (arith, test, of_one, of_all) in
+    let made = c.in-Ok.ensures {u = tt} in
+    let moved = c.append_reserved.ensures ∙ ap (λ xs. xs ++ cs) c.reserve.ensures.recorders in
+    (made.0 ∙ sym (length-overs rs (map m bs)), made.1, fits-one m rs r bs cs s.as_many le, one-more m rs r bs cs s.as_many given.as_many _ _ made.3 moved, made.4)
+
+pub returns-in-Err : goal.returns-in-Err
+returns-in-Err g c =
+    let m = g.B.Recorder.meaning in
+    let s = c.args.self.now in
+    let given = c.args.target in
+    let bs = recorders_of s.leaves in
+    let cs = recorders_of given.registrar.leaves in
+    let rs = router_branches s.rules in
+    let r = rules_meaning given.rules in
+    let test = c.if-books.false in
+    let of_one = c.books.ensures in
+    let of_all = c.books-2.ensures in
+    let le : books_in (map m bs) + books_in (map m cs) ≤ most_books = omega (arith, test, of_one, of_all) in
+    let e = c.in-Err.ensures {u = tt} in
+    let back = same-child e.1 given.scratch given.registrar _ given.as_many in
+    let same = ap (λ qs. overs qs (map m (recorders_of c.reserve.new.self))) e.2.0 ∙ ap (λ xs. overs rs (map m xs)) c.reserve.ensures.recorders in
+    (if-any-kind c.args.mask _ (search rules) (out-of-memory m rs r bs cs s.as_many le), back, (same, e.2.1))

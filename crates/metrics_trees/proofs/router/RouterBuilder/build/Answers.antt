@@ -1,22 +1,26 @@
-use Rattle.std.proofs.Common.{subst, ◌∙◌, length}
-use Rattle.metrics_trees.specs.Nodes.{node_meaning}
-use Rattle.metrics_trees.specs.Routing.{TargetsBelow}
-use Rattle.metrics_trees.specs.Recorders.{meanings}
-use Rattle.metrics_trees.proofs.BuildersLemmas.{winner-routed, alone-routed, choice-within, some-children, no-children}
+use Rattle.std.proofs.Common.{map, ap, sym, ◌∙◌}
+use Rattle.std.proofs.lemmas.List.{length-map}
+use Rattle.metrics.specs.Meaning.{Meaning}
+use Rattle.metrics.specs.Layers.{joined_all, winner, chosen}
+use Rattle.metrics_rules.specs.Builders.{router_branches}
+use Rattle.metrics_rules.specs.Meanings.{rules_meaning}
+use Rattle.metrics_trees.specs.Leaves.{recorders_of}
+use Rattle.metrics_trees.specs.Over.{over}
+use Rattle.metrics_trees.proofs.OverLemmas.{over-all, over-chosen}
 use Rattle.metrics_trees.proofs.router.RouterBuilder.build.Goals as goal
 
-pub into_child-requires : goal.into_child-requires
-into_child-requires g c =
+pub returns-clause-routed : goal.returns-clause-routed
+returns-clause-routed g c rs h =
+    let m = g.B.Recorder.meaning in
     let s = c.args.self in
-    choice-within s.routes (length s.recorders.children.items) s.below (some-children (length s.recorders.children.items) (rw c.in-None.is at s.alone))
+    let ms = map m (recorders_of s.leaves) in
+    ap (λ l. over (rules_meaning c.build.result) (map m (recorders_of l))) c.new.ensures ∙ ap (λ r. over r ms) (c.build.ensures.routed rs h)
+    ∙ over-chosen (λ kind name. chosen (winner rs kind name)) (router_branches s.rules) ms (length-map (recorders_of s.leaves) m ∙ sym s.as_many)
 
-pub returns-in-Some-clause-routed : goal.returns-in-Some-clause-routed
-returns-in-Some-clause-routed g c rs h =
+pub returns-clause-contents : goal.returns-clause-contents
+returns-clause-contents g c =
+    let m = g.B.Recorder.meaning in
     let s = c.args.self in
-    let below = subst (TargetsBelow s.routes) (no-children (length s.recorders.children.items) (rw c.in-Some.is at s.alone)) s.below in
-    rw c.in-Some.is (alone-routed s.routes rs h below (node_meaning g.B.Recorder.meaning c.in-Some.default.node))
-
-pub returns-in-None-clause-routed : goal.returns-in-None-clause-routed
-returns-in-None-clause-routed g c rs h =
-    let s = c.args.self in
-    rw c.in-None.is (c.into_child.ensures ∙ winner-routed s.routes rs h (meanings g.B.Recorder.meaning s.recorders.children.items))
+    let ms = map m (recorders_of s.leaves) in
+    ap (λ l. (joined_all (map m (recorders_of l))).contents) c.new.ensures
+    ∙ ap (λ (a : Meaning). a.contents) (over-all (router_branches s.rules) ms (length-map (recorders_of s.leaves) m ∙ sym s.as_many))

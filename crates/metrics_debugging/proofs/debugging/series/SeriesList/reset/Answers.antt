@@ -1,10 +1,10 @@
 use Rattle.std.proofs.Common.{◌≡◌, ◌<◌, ◌≤◌, ◌∙◌, length, length-set, arith, ap, refl, Some, slice_get}
 use Rattle.std.proofs.lemmas.Option.{slice_get_read}
 use Rattle.std.proofs.lemmas.List.{length-map}
-use Rattle.metrics.specs.Book.{after_reset}
+use Rattle.metrics.specs.Book.{after_reset, idle}
 use Rattle.metrics.specs.Targets.{change_at}
 use Rattle.metrics_debugging.specs.declared.debugging.series.Stored.{Stored}
-use Rattle.metrics_debugging.specs.DebuggingOrder.{series_of, activity_of, idle}
+use Rattle.metrics_debugging.specs.DebuggingOrder.{series_of, activity_of}
 use Rattle.metrics_debugging.specs.DebuggingSeries.{series_at, is_active}
 use Rattle.metrics_debugging.proofs.ChangedLemmas.{reset-step, activity-changed, agree-changed, first-more, first-all}
 use Rattle.metrics_debugging.proofs.debugging.series.SeriesList.reset.Goals as goal

@@ -1,6 +1,6 @@
 use Rattle.std.proofs.Common.{◌≡◌, length}
-use Rattle.metrics.specs.Book.{after_reset}
-use Rattle.metrics_debugging.specs.DebuggingOrder.{series_of, activity_of, idle}
+use Rattle.metrics.specs.Book.{after_reset, idle}
+use Rattle.metrics_debugging.specs.DebuggingOrder.{series_of, activity_of}
 use Rattle.metrics_debugging.proofs.ChangedLemmas.{first-changed}
 use Rattle.metrics_debugging.proofs.debugging.series.SeriesList.reset.Given as goal
 

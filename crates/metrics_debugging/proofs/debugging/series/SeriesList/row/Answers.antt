@@ -38,4 +38,4 @@ returns-clause-ok c =
     ap (λ k. (k, c.in_ok-unit.unit, c.in_ok-unit.text, value)) (c.new-key.ensures ∙ (ap (series_key c.kind-kind.result) same ∙ ap (λ k. series_key k key) c.kind-kind.ensures))
     ∙ (ap (λ (d : Description). (series_key own key, d.unit, d.text, value)) told
     ∙ (ap (λ v. (series_key own key, (described_by ds own key.name).unit, (described_by ds own key.name).text, v)) (c.in_ok-value.ensures {u = tt}).ok
-    ∙ ap (λ (e : KeyParts × _). row_of (content_of [] ds) (record { key = series_key own e.0; value = value_of c.args.stored.now.cell })) (sym (get_or_from_slice_get es place (key, c.in-Some._number.now) no_key there))))
+    ∙ ap (λ (e : KeyParts × _). row_of (content_of [] [] ds) (record { key = series_key own e.0; value = value_of c.args.stored.now.cell })) (sym (get_or_from_slice_get es place (key, c.in-Some._number.now) no_key there))))

@@ -1,0 +1,190 @@
+-- What rows are once others were joined with them.
+use Rattle.std.proofs.Common.{◌≡◌, ◌∙◌, ℕ, zero, suc, ◌<◌, ◌≤◌, ◌%◌, ◌^◌, Bool, true, false, cond, List, [], ◌∷◌, ◌++◌, map, length, get_or, set, Option, None, Some, refl, ap, sym, subst, add_comm, arith}
+use Rattle.std.specs.List.{cons_option, AllByRecursion, IsDistinct, position_or_len}
+use Rattle.std.proofs.lemmas.List.{get_or-map, length-map, map-append, map-set}
+use Rattle.std.proofs.lemmas.List.Sums.{fails_before_first, passes_at_first}
+use Rattle.std.proofs.lemmas.Bool.{false≢true}
+use Rattle.std.proofs.lemmas.Map.Keys.{IsDistinct-head, IsDistinct-tail}
+use Rattle.metrics_names.specs.Names.{SeriesKey, series_key_eq}
+use Rattle.metrics_names.specs.Equality.{key_exact, key_same}
+use Rattle.metrics_exporter.specs.Exporting.{Reading, count, level, samples}
+use Rattle.metrics_exporter.specs.Gathering.{series_at}
+use Rattle.metrics_exporter.specs.Readings.{Told}
+use Rattle.metrics_collector.specs.declared.gathered.Value.{Value}
+use Rattle.metrics_collector.specs.declared.gathered.GatheredSeries.{GatheredSeries}
+use Rattle.metrics_collector.specs.Gathering.{kind_of, reading_of, told_of_gathered}
+use Rattle.metrics_collector.specs.Merging.{are_same, joined, joined_with, joined_all, readings_of, reading_of_series, with_told, with_all, AreJoined, IsCount, AreCounters}
+
+-- ---- by places
+
+-- the first row of its series is joined with it
+pub with-at : (t d : Told) (xs : List Told) (i : ℕ) → i < length xs → ((k : ℕ) → k < i → series_key_eq t.0 (get_or xs k d).0 ≡ false) → series_key_eq t.0 (get_or xs i d).0 ≡ true
+    → set xs i ((get_or xs i d).0, joined (get_or xs i d).1 t.1) ≡ with_told t xs
+with-at t d [] i small none here = absurd (omega (arith, small))
+with-at t d (x ∷ xs) zero small none here = sym (ap (λ b. cond b ((x.0, joined x.1 t.1) ∷ xs) (x ∷ with_told t xs)) here)
+with-at t d (x ∷ xs) (suc i) small none here =
+    ap (λ l. x ∷ l) (with-at t d xs i (omega (arith, small)) (λ k less. none (suc k) (omega (arith, less))) here)
+    ∙ sym (ap (λ b. cond b ((x.0, joined x.1 t.1) ∷ xs) (x ∷ with_told t xs)) (none 0 (omega arith)))
+
+-- none is of its series
+pub with-none : (t d : Told) (xs : List Told) → ((k : ℕ) → k < length xs → series_key_eq t.0 (get_or xs k d).0 ≡ false) → xs ++ t ∷ [] ≡ with_told t xs
+with-none t d [] none = refl
+with-none t d (x ∷ xs) none =
+    ap (λ l. x ∷ l) (with-none t d xs (λ k less. none (suc k) (omega (arith, less))))
+    ∙ sym (ap (λ b. cond b ((x.0, joined x.1 t.1) ∷ xs) (x ∷ with_told t xs)) (none 0 (omega arith)))
+
+-- a copy of a row is added
+pub pushed : (xs : List GatheredSeries) (row y : GatheredSeries) → y.key ≡ row.key → kind_of y.value ≡ kind_of row.value → reading_of y.value ≡ reading_of row.value
+    → map told_of_gathered (xs ++ y ∷ []) ≡ map told_of_gathered xs ++ told_of_gathered row ∷ []
+pushed xs row y key kind reading =
+    map-append told_of_gathered xs (y ∷ []) ∙ (λ i. map told_of_gathered xs ++ (series_at (kind i) (key i), reading i) ∷ [])
+
+-- the same of rows, where none is of the series
+pub put-none : (row : GatheredSeries) (xs : List GatheredSeries) → length xs ≤ position_or_len (are_same row) xs
+    → map told_of_gathered xs ++ told_of_gathered row ∷ [] ≡ with_told (told_of_gathered row) (map told_of_gathered xs)
+put-none row xs far =
+    let t = told_of_gathered row in
+    with-none t t (map told_of_gathered xs) (λ k less.
+    let small : k < length xs = subst (λ n. k < n) (length-map xs told_of_gathered) less in
+    ap (λ (r : Told). series_key_eq t.0 r.0) (get_or-map told_of_gathered xs k row t small) ∙ fails_before_first (are_same row) xs k row (omega (arith, small, far)))
+
+-- and where one is
+pub put-at : (row y : GatheredSeries) (xs : List GatheredSeries) → position_or_len (are_same row) xs < length xs
+    → told_of_gathered y ≡ ((told_of_gathered (get_or xs (position_or_len (are_same row) xs) row)).0, joined (told_of_gathered (get_or xs (position_or_len (are_same row) xs) row)).1 (told_of_gathered row).1)
+    → map told_of_gathered (set xs (position_or_len (are_same row) xs) y) ≡ with_told (told_of_gathered row) (map told_of_gathered xs)
+put-at row y xs small is =
+    let t = told_of_gathered row in
+    let i = position_or_len (are_same row) xs in
+    let told = map told_of_gathered xs in
+    let at : get_or told i t ≡ told_of_gathered (get_or xs i row) = get_or-map told_of_gathered xs i row t small in
+    map-set told_of_gathered xs i y
+    ∙ ap (λ (r : Told). set told i r) (is ∙ ap (λ (r : Told). (r.0, joined r.1 t.1)) (sym at))
+    ∙ with-at t t told i (subst (λ n. i < n) (sym (length-map xs told_of_gathered)) small)
+    (λ k less. ap (λ (r : Told). series_key_eq t.0 r.0) (get_or-map told_of_gathered xs k row t (omega (arith, small, less))) ∙ fails_before_first (are_same row) xs k row less)
+    (ap (λ (r : Told). series_key_eq t.0 r.0) at ∙ passes_at_first (are_same row) xs row small)
+
+-- a row with the joined value
+pub joined-told : (row old : GatheredSeries) (v : Value) → are_same row old ≡ true → kind_of v ≡ kind_of row.value → reading_of v ≡ joined (reading_of old.value) (reading_of row.value)
+    → told_of_gathered (record old { value = v }) ≡ ((told_of_gathered old).0, joined (told_of_gathered old).1 (told_of_gathered row).1)
+joined-told row old v same kind is =
+    let kinds : kind_of v ≡ kind_of old.value = kind ∙ ap (λ (s : SeriesKey). s.kind) (key_exact (told_of_gathered row).0 (told_of_gathered old).0 same) in
+    λ i. (series_at (kinds i) old.key, is i)
+
+-- the value of the first row of the series is replaced
+pub put-place : (row seen old : GatheredSeries) (v : Value) (xs : List GatheredSeries) (place : ℕ) → place ≡ position_or_len (are_same row) xs → place < length xs
+    → seen ≡ get_or xs place row → old ≡ get_or xs place row → kind_of v ≡ kind_of row.value → reading_of v ≡ joined (reading_of seen.value) (reading_of row.value)
+    → map told_of_gathered (set xs place (record { key = old.key; value = v })) ≡ with_told (told_of_gathered row) (map told_of_gathered xs)
+put-place row seen old v xs place is small seen-is old-is kind reading =
+    let i = position_or_len (are_same row) xs in
+    let first : GatheredSeries = get_or xs i row in
+    let within : i < length xs = subst (λ n. n < length xs) is small in
+    let seen-first : seen ≡ first = seen-is ∙ ap (λ k. get_or xs k row) is in
+    let old-first : old ≡ first = old-is ∙ ap (λ k. get_or xs k row) is in
+    let value = joined-told row first v (passes_at_first (are_same row) xs row within) kind (reading ∙ ap (λ (o : GatheredSeries). joined (reading_of o.value) (reading_of row.value)) seen-first) in
+    (λ j. map told_of_gathered (set xs (is j) (record { key = (old-first j).key; value = v })))
+    ∙ put-at row (record { key = first.key; value = v }) xs within value
+
+-- ---- by series
+
+turned : (a b : SeriesKey) → series_key_eq a b ≡ false → series_key_eq b a ≡ false
+turned a b h = go (series_key_eq b a) refl
+  where
+    go : (q : Bool) → series_key_eq b a ≡ q → series_key_eq b a ≡ false
+    go false e = e
+    go true e = absurd (false≢true (sym h ∙ ap (series_key_eq a) (key_exact b a e) ∙ key_same a))
+
+-- only its own series changes
+pub reading-with : (s : SeriesKey) (t : Told) (xs : List Told)
+    → reading_of_series s (with_told t xs) ≡ cond (series_key_eq s t.0) (Some (joined_with (reading_of_series s xs) t.1)) (reading_of_series s xs)
+reading-with s t [] = refl
+reading-with s t (x ∷ xs) = go (reading-with s t xs) (series_key_eq t.0 x.0) refl
+  where
+    R : List Told → Option Reading
+    R l = reading_of_series s l
+
+    both : (p : Bool) → cond p (Some (joined x.1 t.1)) (R xs) ≡ cond p (Some (joined_with (cond p (Some x.1) (R xs)) t.1)) (cond p (Some x.1) (R xs))
+    both true = refl
+    both false = refl
+
+    later : R (with_told t xs) ≡ cond (series_key_eq s t.0) (Some (joined_with (R xs) t.1)) (R xs) → (q : Bool) → series_key_eq t.0 x.0 ≡ false → series_key_eq s x.0 ≡ q
+        → cond q (Some x.1) (R (with_told t xs)) ≡ cond (series_key_eq s t.0) (Some (joined_with (cond q (Some x.1) (R xs)) t.1)) (cond q (Some x.1) (R xs))
+    later ih false apart e = ih
+    later ih true apart e =
+        let other : series_key_eq s t.0 ≡ false = ap (λ k. series_key_eq k t.0) (key_exact s x.0 e) ∙ turned t.0 x.0 apart in
+        sym (ap (λ p. cond p (Some (joined x.1 t.1)) (Some x.1)) other)
+
+    go : R (with_told t xs) ≡ cond (series_key_eq s t.0) (Some (joined_with (R xs) t.1)) (R xs) → (b : Bool) → series_key_eq t.0 x.0 ≡ b
+        → R (cond b ((x.0, joined x.1 t.1) ∷ xs) (x ∷ with_told t xs)) ≡ cond (series_key_eq s t.0) (Some (joined_with (R (x ∷ xs)) t.1)) (R (x ∷ xs))
+    go ih true e =
+        both (series_key_eq s x.0)
+        ∙ ap (λ p. cond p (Some (joined_with (R (x ∷ xs)) t.1)) (R (x ∷ xs))) (sym (ap (series_key_eq s) (key_exact t.0 x.0 e)))
+    go ih false e = later ih (series_key_eq s x.0) e refl
+
+-- each series is what it was, joined with all that the others report of it
+pub reading-with-all : (s : SeriesKey) (ts xs : List Told) → reading_of_series s (with_all ts xs) ≡ joined_all (reading_of_series s xs) (readings_of s ts)
+reading-with-all s [] xs = refl
+reading-with-all s (t ∷ ts) xs =
+    reading-with-all s ts (with_told t xs) ∙ ap (λ o. joined_all o (readings_of s ts)) (reading-with s t xs) ∙ step (series_key_eq s t.0)
+  where
+    o : Option Reading
+    o = reading_of_series s xs
+
+    step : (p : Bool) → joined_all (cond p (Some (joined_with o t.1)) o) (readings_of s ts) ≡ joined_all o (cons_option (cond p (Some t.1) None) (readings_of s ts))
+    step true = refl
+    step false = refl
+
+-- so the rows that are put together are joined
+pub are-joined : (old other new : List Told) → new ≡ with_all other old → AreJoined old other new
+are-joined old other new is s = ap (reading_of_series s) is ∙ reading-with-all s other old
+
+-- ---- in either order
+
+-- a series that comes once is joined with that
+abbrev joined_once : Option Reading → Option Reading → Option Reading
+joined_once old None = old
+joined_once old (Some new) = Some (joined_with old new)
+
+none-later : (s : SeriesKey) (ts : List Told) → AllByRecursion (λ k. series_key_eq s k ≡ false) (map (λ t. t.0) ts) → readings_of s ts ≡ []
+none-later s [] none = refl
+none-later s (t ∷ ts) none = ap (λ p. cons_option (cond p (Some t.1) None) (readings_of s ts)) none.0 ∙ none-later s ts none.1
+
+joined-once : (s : SeriesKey) (o : Option Reading) (ts : List Told) → IsDistinct series_key_eq (map (λ t. t.0) ts) → joined_all o (readings_of s ts) ≡ joined_once o (reading_of_series s ts)
+joined-once s o [] once = refl
+joined-once s o (t ∷ ts) once = go (joined-once s o ts (IsDistinct-tail series_key_eq t.0 (map (λ t. t.0) ts) once)) (series_key_eq s t.0) refl
+  where
+    go : joined_all o (readings_of s ts) ≡ joined_once o (reading_of_series s ts) → (p : Bool) → series_key_eq s t.0 ≡ p → joined_all o (cons_option (cond p (Some t.1) None) (readings_of s ts)) ≡ joined_once o (cond p (Some t.1) (reading_of_series s ts))
+    go ih false e = ih
+    go ih true e =
+        let own : AllByRecursion (λ k. series_key_eq t.0 k ≡ false) (map (λ t. t.0) ts) = IsDistinct-head series_key_eq t.0 (map (λ t. t.0) ts) once in
+        let none : AllByRecursion (λ k. series_key_eq s k ≡ false) (map (λ t. t.0) ts) =
+        subst (λ (q : SeriesKey). AllByRecursion (λ k. series_key_eq q k ≡ false) (map (λ t. t.0) ts)) (sym (key_exact s t.0 e)) own in
+        ap (λ l. joined_all (Some (joined_with o t.1)) l) (none-later s ts none)
+
+abbrev IsCountIf : Option Reading → Type 0
+IsCountIf None = Unit {0}
+IsCountIf (Some r) = IsCount r
+
+count-found : (s : SeriesKey) (ts : List Told) → AllByRecursion (λ t. IsCount t.1) ts → IsCountIf (reading_of_series s ts)
+count-found s [] counts = tt
+count-found s (t ∷ ts) counts = go (count-found s ts counts.1) (series_key_eq s t.0)
+  where
+    go : IsCountIf (reading_of_series s ts) → (p : Bool) → IsCountIf (cond p (Some t.1) (reading_of_series s ts))
+    go ih true = counts.0
+    go ih false = ih
+
+turns : (a b : Option Reading) → IsCountIf a → IsCountIf b → joined_once a b ≡ joined_once b a
+turns None None p q = refl
+turns None (Some r) p q = refl
+turns (Some r) None p q = refl
+turns (Some (level m)) (Some r) p q = absurd p
+turns (Some (samples d)) (Some r) p q = absurd p
+turns (Some (count m)) (Some (level n)) p q = absurd q
+turns (Some (count m)) (Some (samples d)) p q = absurd q
+turns (Some (count m)) (Some (count n)) p q = ap (λ k. Some (count (k % 2 ^ 64))) (add_comm m n)
+
+-- counters that are joined in either order have one count each
+pub either-order : (a b ab ba : List Told) → AreCounters a → AreCounters b → AreJoined a b ab → AreJoined b a ba → (s : SeriesKey) → reading_of_series s ab ≡ reading_of_series s ba
+either-order a b ab ba of-a of-b one other s =
+    one s ∙ joined-once s (reading_of_series s a) b of-b.once
+    ∙ turns (reading_of_series s a) (reading_of_series s b) (count-found s a of-a.counts) (count-found s b of-b.counts)
+    ∙ sym (joined-once s (reading_of_series s b) a of-a.once) ∙ sym (other s)

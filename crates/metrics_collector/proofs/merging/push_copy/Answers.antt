@@ -1,0 +1,12 @@
+use Rattle.std.proofs.Common.{◌≡◌, ◌∙◌, List, map, ap, rules}
+use Rattle.metrics_collector.specs.declared.gathered.GatheredSeries.{GatheredSeries}
+use Rattle.metrics_collector.specs.Gathering.{told_of_gathered}
+use Rattle.metrics_collector.proofs.MergingLemmas.{pushed}
+use Rattle.metrics_collector.proofs.merging.push_copy.Goals as goal
+
+pub returns : goal.returns
+returns c =
+    let row = c.args.row.now in
+    let key : c.in_ok-key.key ≡ row.key = search rules in
+    ap (λ (xs : List GatheredSeries). map told_of_gathered xs) c.in_ok-push.ensures.items
+    ∙ pushed c.args.rows.now.items row (record { key = c.in_ok-key.key; value = c.in_ok-value.value }) key c.in_ok-value.ensures.kind c.in_ok-value.ensures.value

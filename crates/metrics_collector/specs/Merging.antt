@@ -1,0 +1,66 @@
+-- What two readings have together.
+use Rattle.std.specs.Prelude.{if◌then◌else◌, ◌≡◌, Bool, ◌+◌, ◌%◌, ◌^◌, List, [], ◌∷◌, map, Option, None, Some}
+use Rattle.std.specs.List.{filter_map, AllByRecursion, IsDistinct}
+use Rattle.std.specs.Map.{lookup}
+use Rattle.metrics_names.specs.Names.{SeriesKey, series_key_eq}
+use Rattle.metrics_storage.specs.Histogram.{merged}
+use Rattle.metrics_exporter.specs.Exporting.{Reading, count, level, samples}
+use Rattle.metrics_exporter.specs.Readings.{Told}
+use Rattle.metrics_collector.specs.declared.gathered.GatheredSeries.{GatheredSeries}
+use Rattle.metrics_collector.specs.Gathering.{told_of_gathered}
+
+-- counts are added modulo 2^64, samples are put together, and of a gauge the later value stays
+abbrev pub joined : Reading → Reading → Reading
+joined (count m) (count n) = count ((m + n) % 2 ^ 64)
+joined (samples d) (samples e) = samples (merged d e)
+joined old new = new
+
+-- the same if there was something before
+abbrev pub joined_with : Option Reading → Reading → Reading
+joined_with None new = new
+joined_with (Some old) new = joined old new
+
+-- what a series has after all of these, in order
+abbrev pub joined_all : Option Reading → List Reading → Option Reading
+joined_all old [] = old
+joined_all old (new ∷ more) = joined_all (Some (joined_with old new)) more
+
+-- what rows report of a series, in order
+abbrev pub readings_of : SeriesKey → List Told → List Reading
+readings_of s told = filter_map (λ t. if series_key_eq s t.0 then Some t.1 else None) told
+
+-- what a series has; the first if it comes again
+abbrev pub reading_of_series : SeriesKey → List Told → Option Reading
+reading_of_series s told = lookup (series_key_eq s) told
+
+-- each series has what it had, and what the other rows report of it
+abbrev pub AreJoined : List Told → List Told → List Told → Type 0
+AreJoined old other new = (s : SeriesKey) → reading_of_series s new ≡ joined_all (reading_of_series s old) (readings_of s other)
+
+-- ---- row by row
+
+-- two rows are of one series
+abbrev pub are_same : GatheredSeries → GatheredSeries → Bool
+are_same row other = series_key_eq (told_of_gathered row).0 (told_of_gathered other).0
+
+-- rows with one more: the first of its series is joined with it, or else it comes last
+abbrev pub with_told : Told → List Told → List Told
+with_told t [] = t ∷ []
+with_told t (x ∷ xs) = if series_key_eq t.0 x.0 then (x.0, joined x.1 t.1) ∷ xs else x ∷ with_told t xs
+
+-- the same with all of these, in order
+abbrev pub with_all : List Told → List Told → List Told
+with_all [] told = told
+with_all (t ∷ ts) told = with_all ts (with_told t told)
+
+-- ---- in either order
+
+abbrev pub IsCount : Reading → Type 0
+IsCount (count n) = Unit {0}
+IsCount (level n) = ⊥
+IsCount (samples d) = ⊥
+
+-- each series once, and each a counter
+pub record AreCounters (told : List Told) : Type 0 where
+  pub once : IsDistinct series_key_eq (map (λ t. t.0) told)
+  pub counts : AllByRecursion (λ t. IsCount t.1) told

@@ -1,0 +1,137 @@
+-- Recorders under rules, by what the rules were made of.
+use Rattle.std.proofs.Common.{if◌then◌else◌, ◌≡◌, ℕ, zero, suc, ◌+◌, ◌<◌, ◌≤◌, Bool, true, false, List, [], ◌∷◌, ◌++◌, length, take, drop, refl, ap, sym, ◌∙◌, subst, arith, append-nil, length-append}
+use Rattle.std.proofs.lemmas.List.{take-append-drop, take-append-le, drop-append-le, length-take-le}
+use Rattle.std.proofs.Math.Seq.{take-length}
+use mathlib.Core.Path.{fun_ext}
+use Rattle.metrics_names.specs.declared.kind.MetricKind.{MetricKind}
+use Rattle.metrics.specs.Targets.{raise, AllBelow}
+use Rattle.metrics.specs.TargetsLaws.{raise-raise, raise-zero}
+use Rattle.metrics.specs.Book.{new_book}
+use Rattle.metrics.specs.Meaning.{Meaning, nothing, one_book}
+use Rattle.metrics.specs.Layers.{joined, joined_all, choosing, targets_of, filtered, matches}
+use Rattle.metrics_rules.specs.Nodes.{leaves_of}
+use Rattle.metrics_rules.specs.Branches.{leaves_in}
+use Rattle.metrics_rules.proofs.BuildersLemmas.{same_meaning}
+use Rattle.metrics_trees.specs.Recorders.{books_in, spread}
+use Rattle.metrics_trees.specs.Over.{over, overs}
+use Rattle.metrics_rules.proofs.JoinedLemmas.{contents-append}
+use Rattle.metrics_trees.proofs.ActingLemmas.{spread-append}
+
+-- one leaf means its recorder
+pub over-leaf : (a : Meaning) → over (one_book new_book) (a ∷ []) ≡ a
+over-leaf a =
+    let o = over (one_book new_book) (a ∷ []) in
+    sym (same_meaning a o.contents o.targets (sym (append-nil a.contents)) (fun_ext (λ kind. fun_ext (λ name. sym (append-nil (a.targets kind name))))) o.below o.distinct)
+
+spread-unless : (all : List Meaning) (kind : MetricKind) (b : Bool) (ts : List (ℕ × List ℕ)) → spread all kind (if b then [] else ts) ≡ (if b then [] else spread all kind ts)
+spread-unless all kind true ts = refl
+spread-unless all kind false ts = refl
+
+pub over-filtered : (fold : Bool) (patterns : List (List ℕ)) (rules : Meaning) (all : List Meaning) → over (filtered fold patterns rules) all ≡ filtered fold patterns (over rules all)
+over-filtered fold patterns rules all =
+    let f = filtered fold patterns (over rules all) in
+    same_meaning (over (filtered fold patterns rules) all) f.contents f.targets refl
+    (fun_ext (λ kind. fun_ext (λ name. spread-unless all kind (matches fold patterns name) (rules.targets kind name)))) f.below f.distinct
+
+-- ---- rules side by side
+
+targets_of-front : (xs ys : List Meaning) (kind : MetricKind) (w : ℕ) (name : List ℕ) → w < length xs → targets_of w (xs ++ ys) kind name ≡ targets_of w xs kind name
+targets_of-front [] ys kind w name lt = absurd (omega (arith, lt))
+targets_of-front (x ∷ xs) ys kind zero name lt = refl
+targets_of-front (x ∷ xs) ys kind (suc w) name lt = ap (raise (length x.contents)) (targets_of-front xs ys kind w name (omega (arith, lt)))
+
+targets_of-past : (xs ys : List Meaning) (kind : MetricKind) (w : ℕ) (name : List ℕ) → targets_of (length xs + w) (xs ++ ys) kind name ≡ raise (books_in xs) (targets_of w ys kind name)
+targets_of-past [] ys kind w name =
+    let z : 0 + w ≡ w = omega arith in
+    ap (λ k. targets_of k ys kind name) z ∙ sym (raise-zero (targets_of w ys kind name))
+targets_of-past (x ∷ xs) ys kind w name =
+    let s : suc (length xs) + w ≡ suc (length xs + w) = omega arith in
+    ap (λ k. targets_of k (x ∷ (xs ++ ys)) kind name) s
+    ∙ ap (raise (length x.contents)) (targets_of-past xs ys kind w name) ∙ raise-raise (length x.contents) (books_in xs) (targets_of w ys kind name)
+    ∙ ap (λ k. raise k (targets_of w ys kind name)) (sym (length-append x.contents (joined_all xs).contents))
+
+spread-front : (xs ys : List Meaning) (kind : MetricKind) (ts : List (ℕ × List ℕ)) → AllBelow (length xs) ts → spread (xs ++ ys) kind ts ≡ spread xs kind ts
+spread-front xs ys kind [] b = refl
+spread-front xs ys kind (t ∷ ts) b =
+    ap (λ us. us ++ spread (xs ++ ys) kind ts) (targets_of-front xs ys kind t.0 t.1 b.0) ∙ ap (λ us. targets_of t.0 xs kind t.1 ++ us) (spread-front xs ys kind ts b.1)
+
+raise-join : {X : Type 0} (k : ℕ) (ts us : List (ℕ × X)) → raise k ts ++ raise k us ≡ raise k (ts ++ us)
+raise-join k [] us = refl
+raise-join k (t ∷ ts) us = ap (λ vs. (k + t.0, t.1) ∷ vs) (raise-join k ts us)
+
+spread-past : (xs ys : List Meaning) (kind : MetricKind) (ts : List (ℕ × List ℕ)) → spread (xs ++ ys) kind (raise (length xs) ts) ≡ raise (books_in xs) (spread ys kind ts)
+spread-past xs ys kind [] = refl
+spread-past xs ys kind (t ∷ ts) =
+    ap (λ us. us ++ spread (xs ++ ys) kind (raise (length xs) ts)) (targets_of-past xs ys kind t.0 t.1)
+    ∙ ap (λ us. raise (books_in xs) (targets_of t.0 ys kind t.1) ++ us) (spread-past xs ys kind ts) ∙ raise-join (books_in xs) (targets_of t.0 ys kind t.1) (spread ys kind ts)
+
+over-joined : (a b : Meaning) (xs ys : List Meaning) → length xs ≡ leaves_of a → over (joined a b) (xs ++ ys) ≡ joined (over a xs) (over b ys)
+over-joined a b xs ys l =
+    let j = joined (over a xs) (over b ys) in
+    same_meaning (over (joined a b) (xs ++ ys)) j.contents j.targets (contents-append xs ys)
+    (fun_ext (λ kind. fun_ext (λ name.
+    spread-append (xs ++ ys) kind (a.targets kind name) (raise (leaves_of a) (b.targets kind name))
+    ∙ ap (λ us. us ++ spread (xs ++ ys) kind (raise (leaves_of a) (b.targets kind name))) (spread-front xs ys kind (a.targets kind name) (subst (λ k. AllBelow k (a.targets kind name)) (sym l) (a.below kind name)))
+    ∙ ap (λ us. spread xs kind (a.targets kind name) ++ us) (ap (λ k. spread (xs ++ ys) kind (raise k (b.targets kind name))) (sym l) ∙ spread-past xs ys kind (b.targets kind name))))) j.below j.distinct
+
+-- the number of leaves of the first rules, and of the others
+leaves-first : (r : Meaning) (rs ms : List Meaning) → length ms ≡ leaves_in (r ∷ rs) → (leaves_of r ≤ length ms) × (length (take (leaves_of r) ms) ≡ leaves_of r) × (length (drop (leaves_of r) ms) ≡ leaves_in rs)
+leaves-first r rs ms l =
+    let s = length-append r.contents (joined_all rs).contents in
+    let le : leaves_of r ≤ length ms = omega (arith, l, s) in
+    let t = length-take-le (leaves_of r) ms le in
+    let d = ap length (sym (take-append-drop (leaves_of r) ms)) ∙ length-append (take (leaves_of r) ms) (drop (leaves_of r) ms) in
+    (le, t, omega (arith, l, s, t, d))
+
+pub over-nothing : over nothing [] ≡ nothing
+over-nothing = same_meaning (over nothing []) [] (λ kind name. []) refl refl (λ kind name. tt) (λ kind name. tt)
+
+none-left : (ms : List Meaning) → length ms ≡ 0 → over nothing ms ≡ nothing
+none-left [] l = over-nothing
+none-left (m ∷ ms) l = absurd (omega (arith, l))
+
+pub over-all : (rs ms : List Meaning) → length ms ≡ leaves_in rs → over (joined_all rs) ms ≡ joined_all (overs rs ms)
+over-all [] ms l = none-left ms l
+over-all (r ∷ rs) ms l =
+    let n = leaves_of r in
+    let f = leaves-first r rs ms l in
+    ap (over (joined r (joined_all rs))) (sym (take-append-drop n ms)) ∙ over-joined r (joined_all rs) (take n ms) (drop n ms) f.1
+    ∙ ap (joined (over r (take n ms))) (over-all rs (drop n ms) f.2)
+
+pub books-over : (rs ms : List Meaning) → length ms ≡ leaves_in rs → books_in (overs rs ms) ≡ books_in ms
+books-over rs ms l = ap (λ (a : Meaning). length a.contents) (sym (over-all rs ms l))
+
+spread-chosen : (rs ms : List Meaning) → length ms ≡ leaves_in rs → (kind : MetricKind) (name : List ℕ) (w : ℕ) → spread ms kind (targets_of w rs kind name) ≡ targets_of w (overs rs ms) kind name
+spread-chosen [] ms l kind name w = refl
+spread-chosen (r ∷ rs) ms l kind name zero =
+    let n = leaves_of r in
+    let f = leaves-first r rs ms l in
+    ap (λ all. spread all kind (r.targets kind name)) (sym (take-append-drop n ms))
+    ∙ spread-front (take n ms) (drop n ms) kind (r.targets kind name) (subst (λ k. AllBelow k (r.targets kind name)) (sym f.1) (r.below kind name))
+spread-chosen (r ∷ rs) ms l kind name (suc w) =
+    let n = leaves_of r in
+    let f = leaves-first r rs ms l in
+    ap (λ all. spread all kind (raise n (targets_of w rs kind name))) (sym (take-append-drop n ms))
+    ∙ ap (λ k. spread (take n ms ++ drop n ms) kind (raise k (targets_of w rs kind name))) (sym f.1)
+    ∙ spread-past (take n ms) (drop n ms) kind (targets_of w rs kind name)
+    ∙ ap (raise (books_in (take n ms))) (spread-chosen rs (drop n ms) f.2 kind name w)
+
+pub over-chosen : (number : MetricKind → List ℕ → ℕ) (rs ms : List Meaning) → length ms ≡ leaves_in rs → over (choosing number rs) ms ≡ choosing number (overs rs ms)
+over-chosen number rs ms l =
+    let c = choosing number (overs rs ms) in
+    same_meaning (over (choosing number rs) ms) c.contents c.targets (ap (λ (a : Meaning). a.contents) (over-all rs ms l))
+    (fun_ext (λ kind. fun_ext (λ name. spread-chosen rs ms l kind name (number kind name)))) c.below c.distinct
+
+-- one more
+pub overs-more : (rs : List Meaning) (r : Meaning) (ms ns : List Meaning) → length ms ≡ leaves_in rs → length ns ≡ leaves_of r → overs (rs ++ r ∷ []) (ms ++ ns) ≡ overs rs ms ++ over r ns ∷ []
+overs-more [] r ms ns l k = ap (λ xs. overs (r ∷ []) (xs ++ ns)) (none ms l) ∙ ap (λ xs. over r xs ∷ []) (ap (λ i. take i ns) (sym k) ∙ take-length ns)
+  where
+    none : (ms : List Meaning) → length ms ≡ 0 → ms ≡ []
+    none [] l = refl
+    none (m ∷ ms) l = absurd (omega (arith, l))
+overs-more (q ∷ rs) r ms ns l k =
+    let n = leaves_of q in
+    let f = leaves-first q rs ms l in
+    ap (λ xs. over q xs ∷ overs (rs ++ r ∷ []) (drop n (ms ++ ns))) (take-append-le n ms ns f.0)
+    ∙ ap (λ xs. over q (take n ms) ∷ overs (rs ++ r ∷ []) xs) (drop-append-le n ms ns f.0)
+    ∙ ap (λ xs. over q (take n ms) ∷ xs) (overs-more rs r (drop n ms) ns f.2 k)

@@ -1,0 +1,207 @@
+//! The recorders at the leaves of a tree.
+ghost use Rattle.std.specs.Prelude.{◌≡◌, ◌+◌, ◌<◌, ◌≤◌, ◌++◌, length, map, MatchResult, OnOk};
+ghost use Rattle.std.specs.Result.{result_map_both};
+ghost use Rattle.metrics.specs.Meaning.{Meaning, KeepsTargets, Describes, Registers, Updates, Snapshots, holds_at};
+ghost use Rattle.metrics_trees.specs.Calls.{Calls};
+ghost use Rattle.metrics_trees.specs.Leaves.{recorders_of, HasRoom};
+ghost use Rattle.metrics_trees.specs.Over.{over};
+ghost use Rattle.metrics_trees.specs.Recorders.{start};
+ghost use Rattle.metrics_trees.specs.Recorders.{books_in, most_books, row_refusal};
+ghost use Rattle.metrics_rules.specs.Nodes.{most_leaves};
+
+use crate::over_error::OverError;
+use crate::row::Row;
+use metrics::{
+    Address, Key, KeyName, MetricKind, Recorder, Refused, Reset, Snapshot, Unit, Update,
+};
+use std::alloc::{AllocError, Global};
+use std::mem;
+
+/// The recorders at the leaves of a tree, by number. One alone takes no memory of its own.
+#[derive(Drop)]
+pub enum Leaves<B: Recorder> {
+    Empty,
+    One(B),
+    Several(Row<B>),
+}
+
+impl<B: Recorder> Leaves<B> {
+    /// These recorders, if they have at most 65,536 books. If that fails it returns them.
+    ///
+    /// # Errors
+    ///
+    /// `TooManyBooks` if they have more, and else `Memory`.
+    pub(crate) fn new(recorders: Vec<B>) -> Result<Leaves<B>, (OverError, Vec<B>)>
+        ensures { MatchResult result
+            (λ leaves. (recorders_of leaves ≡ recorders.items)
+            × (books_in (map B.meaning recorders.items) ≤ most_books))
+            (λ e. (e.0 ≡ row_refusal (map B.meaning recorders.items)) × (e.1 ≡ recorders)) }
+    {
+        match Row::new(recorders) {
+            Ok(row) => Ok(Leaves::Several(row)),
+            Err(refused) => Err(refused),
+        }
+    }
+
+    /// Makes room for so many recorders more at the end. The recorders stay, whatever the result.
+    pub(crate) fn reserve(&mut self, alloc: Global, additional: usize) -> Result<(), AllocError>
+        requires additional { additional ≤ most_leaves }
+        requires few { books_in (map B.meaning (recorders_of self.old)) ≤ most_books }
+        ensures recorders { recorders_of self.new ≡ recorders_of self.old }
+        ensures room { OnOk result (HasRoom additional self.new) }
+    {
+        match self {
+            Leaves::Empty => Ok(()),
+            Leaves::One(_) => {
+                let mut row = Row::with_room(alloc, additional + 1)?;
+                let Leaves::One(recorder) = mem::replace(self, Leaves::Empty) else {
+                    unreachable!()
+                };
+                row.push_reserved(recorder);
+                *self = Leaves::Several(row);
+                Ok(())
+            }
+            Leaves::Several(row) => row.reserve(additional),
+        }
+    }
+
+    /// Moves the recorders of others to the end, where there is room for them.
+    pub(crate) fn append_reserved(&mut self, others: Leaves<B>)
+        requires room { HasRoom (length (recorders_of others)) self.old }
+        requires few { books_in (map B.meaning (recorders_of self.old))
+            + books_in (map B.meaning (recorders_of others)) ≤ most_books }
+        ensures { recorders_of self.new ≡ recorders_of self.old ++ recorders_of others }
+    {
+        match self {
+            Leaves::Empty => *self = others,
+            Leaves::One(_) => unreachable!(),
+            Leaves::Several(row) => match others {
+                Leaves::Empty => {}
+                Leaves::One(recorder) => row.push_reserved(recorder),
+                Leaves::Several(other) => row.append_reserved(other),
+            },
+        }
+    }
+
+    /// The number of recorders.
+    pub(crate) fn len(&self) -> usize
+        ensures { result ≡ length (recorders_of self.now) }
+    {
+        match self {
+            Leaves::Empty => 0,
+            Leaves::One(_) => 1,
+            Leaves::Several(row) => row.len(),
+        }
+    }
+
+    /// The number of books of all.
+    pub(crate) fn books(&self) -> usize
+        ensures { result ≡ books_in (map B.meaning (recorders_of self.now)) }
+    {
+        match self {
+            Leaves::Empty => 0,
+            Leaves::One(recorder) => recorder.books(),
+            Leaves::Several(row) => row.books(),
+        }
+    }
+
+    /// The number of books before a recorder.
+    pub(crate) fn before(&self, leaf: usize) -> usize
+        requires { leaf < length (recorders_of self.now) }
+        ensures { result ≡ start leaf (map B.meaning (recorders_of self.now)) }
+    {
+        match self {
+            Leaves::Empty => 0,
+            Leaves::One(_) => 0,
+            Leaves::Several(row) => row.before(leaf),
+        }
+    }
+
+    /// Describes a name in one recorder.
+    pub(crate) fn describe(
+        &mut self,
+        alloc: Global,
+        kind: MetricKind,
+        leaf: usize,
+        name: &KeyName,
+        unit: Option<Unit>,
+        text: &str,
+    ) -> Result<usize, Refused>
+        requires { leaf < length (recorders_of self.old) }
+        ensures { Calls B.meaning leaf (recorders_of self.old) (recorders_of self.new)
+            (λ a c. Describes a c kind name.now unit text.now result) }
+    {
+        match self {
+            Leaves::Empty => Ok(0),
+            Leaves::One(recorder) => recorder.describe(alloc, kind, name, unit, text),
+            Leaves::Several(row) => row.describe(alloc, kind, leaf, name, unit, text),
+        }
+    }
+
+    /// Registers a key in one recorder.
+    pub(crate) fn register(
+        &mut self,
+        alloc: Global,
+        kind: MetricKind,
+        leaf: usize,
+        key: &Key,
+    ) -> Result<Vec<Address>, Refused>
+        requires { leaf < length (recorders_of self.old) }
+        ensures { Calls B.meaning leaf (recorders_of self.old) (recorders_of self.new)
+            (λ a c. Registers a c kind key.now (result_map_both (λ v. v.items) (λ e. e) result)) }
+    {
+        match self {
+            Leaves::Empty => Ok(Vec::new(alloc)),
+            Leaves::One(recorder) => recorder.register(alloc, kind, key),
+            Leaves::Several(row) => row.register(alloc, kind, leaf, key),
+        }
+    }
+
+    pub(crate) fn holds(&self, kind: MetricKind, at: Address) -> bool
+        ensures { (rules : Meaning) → result
+            ≡ holds_at kind at (over rules (map B.meaning (recorders_of self.now))).contents }
+    {
+        match self {
+            Leaves::Empty => false,
+            Leaves::One(recorder) => recorder.holds(kind, at),
+            Leaves::Several(row) => row.holds(kind, at),
+        }
+    }
+
+    pub(crate) fn update(&mut self, at: Address, by: Update) -> Result<(), Refused>
+        ensures keeps { (rules : Meaning) → KeepsTargets
+            (over rules (map B.meaning (recorders_of self.old)))
+            (over rules (map B.meaning (recorders_of self.new))) }
+        ensures updates { (rules : Meaning) → Updates
+            (over rules (map B.meaning (recorders_of self.old)))
+            (over rules (map B.meaning (recorders_of self.new))) at by result }
+        ensures count { length (recorders_of self.new) ≡ length (recorders_of self.old) }
+    {
+        match self {
+            Leaves::Empty => Err(Refused::NoSuchAddress),
+            Leaves::One(recorder) => recorder.update(at, by),
+            Leaves::Several(row) => row.update(at, by),
+        }
+    }
+
+    pub(crate) fn snapshot_with(
+        &mut self,
+        alloc: Global,
+        book: usize,
+        reset: Reset,
+    ) -> Result<Snapshot, Refused>
+        ensures keeps { (rules : Meaning) → KeepsTargets
+            (over rules (map B.meaning (recorders_of self.old)))
+            (over rules (map B.meaning (recorders_of self.new))) }
+        ensures snapshots { (rules : Meaning) → Snapshots
+            (over rules (map B.meaning (recorders_of self.old)))
+            (over rules (map B.meaning (recorders_of self.new))) book reset result }
+        ensures count { length (recorders_of self.new) ≡ length (recorders_of self.old) }
+    {
+        match self {
+            Leaves::Empty => Err(Refused::NoSuchBook),
+            Leaves::One(recorder) => recorder.snapshot_with(alloc, book, reset),
+            Leaves::Several(row) => row.snapshot_with(alloc, book, reset),
+        }
+    }
+}

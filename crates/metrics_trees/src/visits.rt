@@ -1,0 +1,137 @@
+//! What the recorders do at each target.
+ghost use Rattle.std.specs.Prelude.{◌≡◌, ◌≤◌, None, map, IsSome};
+ghost use Rattle.std.specs.Result.{result_map_both};
+ghost use Rattle.metrics_trees.specs.BookEnds.{IsAppended, CanAppend};
+ghost use Rattle.metrics_trees.specs.Leaves.{recorders_of};
+ghost use Rattle.metrics_trees.specs.Recorders.{books_in, most_books};
+ghost use Rattle.metrics_trees.specs.Visiting.{kind_of, found_by};
+
+use crate::book_ends::append_answer;
+use crate::leaves::Leaves;
+use metrics::{Address, Key, KeyName, MetricKind, Recorder, Refused, Unit};
+use metrics_rules::Visitor;
+use std::alloc::Global;
+
+/// A register call: its kind, and the addresses so far.
+#[derive(Drop)]
+pub struct Call {
+    pub alloc: Global,
+    pub kind: MetricKind,
+    pub found: Vec<Address>,
+}
+
+/// The recorders at the leaves, and the register call at hand, which registers each key that it is shown. They stay here, since
+/// a contract can't follow a `&mut` in a visitor.
+#[derive(Drop)]
+pub struct Registrar<B: Recorder> {
+    pub leaves: Leaves<B>,
+    pub call: Option<Call>,
+    ghost few: { books_in (map B.meaning (recorders_of leaves)) ≤ most_books },
+}
+
+impl<B: Recorder> Registrar<B> {
+    pub(crate) fn new(leaves: Leaves<B>) -> Registrar<B>
+        requires { books_in (map B.meaning (recorders_of leaves)) ≤ most_books }
+        ensures { result.leaves ≡ leaves }
+    {
+        Registrar { leaves, call: None }
+    }
+
+    /// Ends the call, and returns the addresses.
+    pub(crate) fn finish(&mut self, alloc: Global) -> Vec<Address>
+        ensures found { result.items ≡ found_by self.old.call }
+        ensures leaves { self.new.leaves ≡ self.old.leaves }
+    {
+        match self.call.take() {
+            Some(call) => call.found,
+            None => Vec::new(alloc),
+        }
+    }
+}
+
+impl<B: Recorder> Visitor<Key> for Registrar<B> {
+    ghost use Rattle.std.specs.Prelude.{◌≡◌, ◌≤◌, ◌⊎◌, length, Ok, Err};
+    ghost use Rattle.metrics_names.specs.declared.refused.Refused.TheVariants.{Memory, NoSuchBook};
+    ghost use Rattle.metrics_trees.specs.Visiting.{Asks, kind_of, found_by};
+
+    ghost accepts = { λ v leaf key w. (kind_of w.call ≡ kind_of v.call)
+        × Asks B.meaning (kind_of v.call) leaf key (recorders_of v.leaves) (recorders_of w.leaves)
+        (found_by v.call) (found_by w.call) (Ok tt) };
+
+    ghost refuses = { λ v leaf key e w.
+        ((length (recorders_of v.leaves) ≤ leaf) × (e ≡ NoSuchBook))
+        ⊎ (((w ≡ v) × (e ≡ Memory 0))
+        ⊎ Asks B.meaning (kind_of v.call) leaf key (recorders_of v.leaves) (recorders_of w.leaves)
+        (found_by v.call) (found_by w.call) (Err e)) };
+
+    /// Registers the key in the recorder of the leaf. Nobody is asked outside of a call.
+    fn visit(&mut self, leaf: usize, key: &Key) -> Result<(), Refused> {
+        let Some(call) = &self.call else {
+            return Err(Refused::Memory { acted: 0 });
+        };
+        if leaf >= self.leaves.len() {
+            return Err(Refused::NoSuchBook);
+        }
+        let front = self.leaves.before(leaf);
+        let answer = self.leaves.register(call.alloc, call.kind, leaf, key);
+        add_answer(&mut self.call, front, answer)
+    }
+}
+
+/// Adds the result of a recorder that comes after `front` books to the addresses of a call.
+#[inline(always)]
+fn add_answer(
+    call: &mut Option<Call>,
+    front: usize,
+    answer: Result<Vec<Address>, Refused>,
+) -> Result<(), Refused>
+    requires call { IsSome call.old }
+    requires fits { CanAppend front (result_map_both (λ v. v.items) (λ e. e) answer) }
+    ensures kind { kind_of call.new ≡ kind_of call.old }
+    ensures appended { IsAppended (found_by call.old) (found_by call.new) front
+        (result_map_both (λ v. v.items) (λ e. e) answer) result }
+{
+    match call {
+        Some(call) => append_answer(&mut call.found, front, answer),
+        None => unreachable!(),
+    }
+}
+
+/// Describes each name that it is shown, and counts the targets. No tree has more of them than fit.
+#[derive(Drop)]
+pub struct Describing<'a, B: Recorder> {
+    pub alloc: Global,
+    pub kind: MetricKind,
+    pub unit: Option<Unit>,
+    pub text: &'a str,
+    pub leaves: Leaves<B>,
+    pub acted: usize,
+    ghost few: { books_in (map B.meaning (recorders_of leaves)) ≤ most_books },
+}
+
+impl<B: Recorder> Visitor<KeyName> for Describing<'_, B> {
+    ghost use Rattle.std.specs.Prelude.{◌≡◌, ◌≤◌, ◌⊎◌, length, Ok, Err};
+    ghost use Rattle.metrics_names.specs.declared.refused.Refused.TheVariants.{Memory, NoSuchBook};
+    ghost use Rattle.metrics_trees.specs.Visiting.{Tells};
+
+    ghost accepts = { λ v leaf key w. (w.kind ≡ v.kind) × (w.unit ≡ v.unit) × (w.text.now ≡ v.text.now)
+        × Tells B.meaning v.kind v.unit v.text.now leaf key.name (recorders_of v.leaves) (recorders_of w.leaves)
+        v.acted w.acted (Ok tt) };
+
+    ghost refuses = { λ v leaf key e w.
+        ((length (recorders_of v.leaves) ≤ leaf) × (e ≡ NoSuchBook))
+        ⊎ (((w ≡ v) × (e ≡ Memory 0))
+        ⊎ Tells B.meaning v.kind v.unit v.text.now leaf key.name (recorders_of v.leaves) (recorders_of w.leaves)
+        v.acted w.acted (Err e)) };
+
+    fn visit(&mut self, leaf: usize, name: &KeyName) -> Result<(), Refused> {
+        if leaf >= self.leaves.len() {
+            return Err(Refused::NoSuchBook);
+        }
+        let count = self
+            .leaves
+            .describe(self.alloc, self.kind, leaf, name, self.unit, self.text)?;
+        self.acted = self.acted.saturating_add(count);
+        Ok(())
+    }
+}
