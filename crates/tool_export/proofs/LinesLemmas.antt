@@ -1,9 +1,9 @@
 -- The lines of a text that begins with a line.
-use Rattle.std.proofs.Common.{◌≡◌, ◌≢◌, ℕ, ◌<◌, List, [], ◌∷◌, ◌++◌, length, refl, ap, ◌∙◌, arith, append_assoc, sym, Bool, true, false}
+use Rattle.std.proofs.Common.{◌≡◌, ◌≢◌, ℕ, ◌<◌, List, [], ◌∷◌, ◌++◌, ◌⊎◌, inl, inr, length, refl, ap, ◌∙◌, arith, append_assoc, append-nil, sym, Bool, true, false, not}
 use Rattle.std.specs.Bool.{◌==◌, if◌then◌else◌}
 use Rattle.std.specs.List.{AllByRecursion}
 use Rattle.std.proofs.lemmas.List.Elements.{recursion_from_All}
-use Rattle.tool_export.specs.Lines.{onto, lines_of, ended, unlines, IsLine}
+use Rattle.tool_export.specs.Lines.{onto, lines_of, ended, unlines, IsLine, IsEnded, onto_first, ended_lines, is_begun, is_cut}
 
 is_not : (x : ℕ) → x ≢ 10 → (x == 10) ≡ false
 is_not x ne = grind arith
@@ -96,3 +96,59 @@ pub lines-front : (front ys : List ℕ) → AllByRecursion (λ x. x ≢ 10) fron
 lines-front [] ys h p = absurd (omega arith)
 lines-front (x ∷ []) ys h p = let (l, ls, e) = one_first x (lines_of ys) in (l, ls, rw (is_not x h.0) e)
 lines-front (x ∷ (y ∷ front)) ys h p = let (l, ls, e) = lines-front (y ∷ front) ys h.1 (omega arith) in (l, ls, rw (is_not x h.0) (ap (onto x) e))
+
+-- ---- the lines of a text whose last one may lack its line feed
+
+-- those before a line feed, and those after it
+pub ended-cut : (xs ys : List ℕ) → ended_lines (xs ++ 10 ∷ ys) ≡ lines_of (xs ++ 10 ∷ []) ++ ended_lines ys
+ended-cut [] ys = refl
+ended-cut (x ∷ xs) ys = tested (x == 10) refl (ended-cut xs ys)
+  where
+    tested : (b : Bool) → (x == 10) ≡ b → ended_lines (xs ++ 10 ∷ ys) ≡ lines_of (xs ++ 10 ∷ []) ++ ended_lines ys
+        → ended_lines ((x ∷ xs) ++ 10 ∷ ys) ≡ lines_of ((x ∷ xs) ++ 10 ∷ []) ++ ended_lines ys
+    tested true is e = rw is (ap (λ k. [] ∷ k) e)
+    tested false is e =
+        let (l, ls, are, f) = has_cut xs in
+        rw is (ap (onto_first x) (e ∙ ap (λ k. k ++ ended_lines ys) are) ∙ sym (ap (λ k. onto x k ++ ended_lines ys) are))
+
+ended-none : (l : List ℕ) → AllByRecursion (λ x. x ≢ 10) l → ended_lines l ≡ []
+ended-none [] h = refl
+ended-none (x ∷ xs) h = rw (is_not x h.0) (ap (onto_first x) (ended-none xs h.1))
+
+begun-cut : (b : Bool) (xs ys : List ℕ) → is_begun b (xs ++ 10 ∷ ys) ≡ is_begun false ys
+begun-cut b [] ys = refl
+begun-cut b (x ∷ xs) ys = begun-cut (not (x == 10)) xs ys
+
+begun-line : (l : List ℕ) → AllByRecursion (λ x. x ≢ 10) l → is_begun true l ≡ true
+begun-line [] h = refl
+begun-line (x ∷ xs) h = rw (is_not x h.0) (begun-line xs h.1)
+
+-- a last line that lacks its line feed is none of them
+pub ended-left : (read left : List ℕ) → IsEnded read → IsLine left → ended_lines (read ++ left) ≡ lines_of read
+ended-left read left (inl none) h =
+    ap (λ k. ended_lines (k ++ left)) none ∙ ended-none left (recursion_from_All _ left h) ∙ ap lines_of (sym none)
+ended-left read left (inr (front, is)) h =
+    ap (λ k. ended_lines (k ++ left)) is ∙ ap ended_lines (append_assoc front (10 ∷ []) left) ∙ ended-cut front left
+    ∙ ap (λ k. lines_of (ended front) ++ k) (ended-none left (recursion_from_All _ left h)) ∙ append-nil (lines_of (ended front)) ∙ ap lines_of (sym is)
+
+cut-left : (read left : List ℕ) → IsEnded read → is_cut (read ++ left) ≡ is_cut left
+cut-left read left (inl none) = ap (λ k. is_cut (k ++ left)) none
+cut-left read left (inr (front, is)) =
+    ap (λ k. is_cut (k ++ left)) is ∙ ap is_cut (append_assoc front (10 ∷ []) left) ∙ begun-cut false front left
+
+pub cut-none : (read left : List ℕ) → IsEnded read → left ≡ [] → is_cut (read ++ left) ≡ false
+cut-none read left h none = cut-left read left h ∙ ap is_cut none
+
+pub cut-some : (read : List ℕ) (x : ℕ) (left : List ℕ) → IsEnded read → IsLine (x ∷ left) → is_cut (read ++ x ∷ left) ≡ true
+cut-some read x left h line =
+    let others = recursion_from_All _ (x ∷ left) line in
+    cut-left read (x ∷ left) h ∙ ap (λ b. is_begun (not b) left) (is_not x others.0) ∙ begun-line left others.1
+
+-- lines with their line feeds end with one
+pub unlines_ended : (ls : List (List ℕ)) → IsEnded (unlines ls)
+unlines_ended [] = inl refl
+unlines_ended (l ∷ ls) = after (unlines_ended ls)
+  where
+    after : IsEnded (unlines ls) → IsEnded (unlines (l ∷ ls))
+    after (inl none) = inr (l, ap (λ k. ended l ++ k) none ∙ append-nil (ended l))
+    after (inr (front, is)) = inr (ended l ++ front, ap (λ k. ended l ++ k) is ∙ sym (append_assoc (ended l) front (10 ∷ [])))

@@ -1,7 +1,7 @@
 -- What a run over the lines of a stream does and writes, for any machine that answers lines.
-use Rattle.std.specs.Prelude.{◌≡◌, ℕ, ◌+◌, ◌-◌, ◌^◌, min, List, [], ◌∷◌, ◌++◌, map, length, flat_map, ◌⊎◌, Result, Ok, Err, Option, Some, None}
+use Rattle.std.specs.Prelude.{◌≡◌, ℕ, ◌+◌, ◌-◌, ◌^◌, min, Bool, true, false, List, [], ◌∷◌, ◌++◌, map, length, flat_map, ◌⊎◌, Result, Ok, Err, Option, Some, None}
 use Rattle.std.specs.List.{FoldsTo}
-use Rattle.tool_export.specs.Lines.{lines_of, unlines}
+use Rattle.tool_export.specs.Lines.{lines_of, unlines, IsLine, IsEnded}
 use Rattle.tool_export.specs.Waiting.{HandsOn, LosesSome}
 use Rattle.tool_export.specs.declared.stream.Fault.{Fault}
 use Rattle.tool_export.specs.declared.stream.Fault.TheVariants as FaultVariants
@@ -71,6 +71,14 @@ IsRun answers bad at_end first old new read text (Err (Memory (Some k))) = (es :
 -- a beginning
 IsRun answers bad at_end first old new read text (Err (Memory None)) = IsCutShort answers at_end old new read text
 IsRun answers bad at_end first old new read text (Err Device) = IsCutShort answers at_end old new read text
+
+-- What a run leaves after what it read: nothing if it answers a last line that lacks its line feed, and otherwise that line.
+abbrev pub IsLeft : Bool → List ℕ → List ℕ → Result ℕ RunError → Type 0
+IsLeft true read left r = left ≡ []
+IsLeft false read left (Ok n) = IsEnded read × IsLine left
+IsLeft false read left (Err (BadLine k)) = IsEnded read
+IsLeft false read left (Err (Memory at)) = Unit {0}
+IsLeft false read left (Err Device) = Unit {0}
 
 -- ---- one line
 

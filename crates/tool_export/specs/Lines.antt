@@ -1,5 +1,5 @@
 -- Lines of a stream, and what a call that reads or writes did to the known bytes.
-use Rattle.std.specs.Prelude.{◌≡◌, ℕ, List, [], ◌∷◌, ◌++◌, ◌==◌, Bool, true, false, if◌then◌else◌, flat_map, length, ◌<◌, OnSome, Option, Result, Ok, Err}
+use Rattle.std.specs.Prelude.{◌≡◌, ℕ, List, [], ◌∷◌, ◌++◌, ◌==◌, ◌⊎◌, Bool, true, false, not, if◌then◌else◌, flat_map, length, ◌<◌, OnSome, Option, Result, Ok, Err}
 use Rattle.std.specs.Io.KnownBytes.{Consumes, IsAtEnd}
 use Rattle.tool_grammar.specs.Cuts.{Lacks}
 use Rattle.tool_export.specs.declared.stream.Fault.{Fault}
@@ -29,6 +29,29 @@ ended l = l ++ 10 ∷ []
 -- lines, each with its line feed
 abbrev pub unlines : List (List ℕ) → List ℕ
 unlines ls = flat_map ended ls
+
+-- ends with a line feed, or is empty
+abbrev pub IsEnded : List ℕ → Type 0
+IsEnded bytes = (bytes ≡ []) ⊎ ((front : List ℕ) × (bytes ≡ ended front))
+
+-- x put before the first of the lines, if there is one
+abbrev pub onto_first : ℕ → List (List ℕ) → List (List ℕ)
+onto_first x [] = []
+onto_first x (l ∷ ls) = (x ∷ l) ∷ ls
+
+-- the lines of a text that have their line feed, each without it
+abbrev pub ended_lines : List ℕ → List (List ℕ)
+ended_lines [] = []
+ended_lines (x ∷ xs) = if x == 10 then [] ∷ ended_lines xs else onto_first x (ended_lines xs)
+
+-- a line is begun at the end of the text, if one was begun before it
+abbrev pub is_begun : Bool → List ℕ → Bool
+is_begun before [] = before
+is_begun before (x ∷ xs) = is_begun (not (x == 10)) xs
+
+-- the last line lacks its line feed
+abbrev pub is_cut : List ℕ → Bool
+is_cut bytes = is_begun false bytes
 
 -- What a call that reads the next part of a line did: to the known bytes, and to the line.
 abbrev pub TakesPart : Option (List ℕ) → Option (List ℕ) → List ℕ → List ℕ → Result Part Fault → Type 0

@@ -16,7 +16,7 @@ mod waiting;
 pub use answering::{answer_request, report_text};
 pub use exporting::{ExportLines, export, export_new, exporter_of};
 pub use laws::export_law;
-pub use machine::{LineMachine, Unanswered, at_line, flush, run_lines};
+pub use machine::{LineMachine, Unanswered, at_line, flush, run_lines, run_lines_leaving};
 pub use pages::{Page, shown_at};
 pub use plans::{ExportPlan, plan_of};
 pub use requests::{Request, request_of};

@@ -1,7 +1,7 @@
 //! The loop over lines: a line, its answer, and so on.
-ghost use Rattle.std.specs.Prelude.{◌≡◌, ◌++◌, [], ℕ, List, OnSome, string_bytes};
+ghost use Rattle.std.specs.Prelude.{◌≡◌, ◌++◌, [], ℕ, List, OnOk, OnSome, string_bytes};
 ghost use Rattle.std.specs.Io.KnownBytes.{Consumes, Appends, Keeps, IsAtEnd};
-ghost use Rattle.tool_export.specs.Answering.{Replies, AnswersLine, IsRun, IsFlushed, fault_at};
+ghost use Rattle.tool_export.specs.Answering.{Replies, AnswersLine, IsRun, IsLeft, IsFlushed, fault_at};
 
 use crate::stream::{Broken, Fault, Found};
 use crate::waiting::{put, read_line, write_out};
@@ -93,7 +93,8 @@ pub fn at_line(fault: Fault, number: u64) -> RunError
     }
 }
 
-/// Answers the lines, up to the end or the first fault. Texts may still wait then.
+/// Answers the lines, up to the end or the first fault. Texts may still wait then. A last line without a line feed is
+/// answered too if `takes_partial`; otherwise it is left in `line`, which is empty in all other cases without a fault.
 fn answer_lines<M: LineMachine, I: BufRead, O: Write>(
     alloc: Global,
     on: &mut M::On,
@@ -101,28 +102,34 @@ fn answer_lines<M: LineMachine, I: BufRead, O: Write>(
     input: &mut I,
     output: &mut O,
     waiting: &mut Vec<u8>,
+    line: &mut Vec<u8>,
     first: u64,
+    takes_partial: bool,
 ) -> Result<u64, RunError>
     requires { waiting.old.items ≡ [] }
-    ensures { (read text : List ℕ) × Consumes (I.remaining input.old) (I.remaining input.new) read
+    ensures { (read text left : List ℕ) × Consumes (I.remaining input.old) (I.remaining input.new) (read ++ left)
         × Appends (O.contents output.old) (O.contents output.new) text
         × IsRun M.answers M.is_bad (OnSome (I.remaining input.old) (IsAtEnd (I.remaining input.new)))
-        first (on.old, notes.old) on.new read (text ++ waiting.new.items) result }
+        first (on.old, notes.old) on.new read (text ++ waiting.new.items) result
+        × IsLeft takes_partial read left result × OnOk result (line.new.items ≡ left) }
 {
     let mut count: u64 = 0;
     let mut number = first;
     let mut at_hand = 0;
-    let mut line = Vec::new(alloc);
     let mut text = String::new(alloc);
     for _ in 0..u64::MAX {
-        match read_line(input, &mut line, &mut at_hand, output, waiting) {
+        match read_line(input, line, &mut at_hand, output, waiting) {
             Ok(Found::Line) => {
-                answer_line::<M, O>(alloc, on, notes, &line, number, &mut text, output, waiting)?;
+                answer_line::<M, O>(alloc, on, notes, line, number, &mut text, output, waiting)?;
                 count = count.saturating_add(1);
                 number = number.saturating_add(1);
             }
             Ok(Found::Last) => {
-                answer_line::<M, O>(alloc, on, notes, &line, number, &mut text, output, waiting)?;
+                if !takes_partial {
+                    return Ok(count);
+                }
+                answer_line::<M, O>(alloc, on, notes, line, number, &mut text, output, waiting)?;
+                line.clear();
                 return Ok(count.saturating_add(1));
             }
             Ok(Found::End) => return Ok(count),
@@ -146,7 +153,8 @@ pub fn flush<O: Write>(output: &mut O, answered: Result<u64, RunError>) -> Resul
 }
 
 /// Answers each line of the reader, up to the end or the first fault, and flushes the writer. The first line has the
-/// number `first`.
+/// number `first`. A last line without a line feed is answered too if `takes_partial`; otherwise it is left in `left`, which
+/// is empty in all other cases without a fault.
 ///
 /// Texts wait in a buffer of some 8 KiB. They are written before a look at the reader that may wait, at the end, and
 /// before a fault is reported. A look may wait if the bytes last shown are used up, or what is left has no line feed. Interactive
@@ -154,6 +162,41 @@ pub fn flush<O: Write>(output: &mut O, answered: Result<u64, RunError>) -> Resul
 /// one by one.
 ///
 /// Returns how many lines were answered; it and the numbers of lines saturate at `u64::MAX`.
+pub fn run_lines_leaving<M: LineMachine, I: BufRead, O: Write>(
+    alloc: Global,
+    on: &mut M::On,
+    notes: &mut M::Notes,
+    input: &mut I,
+    output: &mut O,
+    left: &mut Vec<u8>,
+    first: u64,
+    takes_partial: bool,
+) -> Result<u64, RunError>
+    ensures { (read text after : List ℕ) × Consumes (I.remaining input.old) (I.remaining input.new) (read ++ after)
+        × Appends (O.contents output.old) (O.contents output.new) text
+        × IsRun M.answers M.is_bad (OnSome (I.remaining input.old) (IsAtEnd (I.remaining input.new)))
+        first (on.old, notes.old) on.new read text result
+        × IsLeft takes_partial read after result × OnOk result (left.new.items ≡ after) }
+{
+    let mut waiting = Vec::new(alloc);
+    let answered = answer_lines::<M, I, O>(
+        alloc,
+        on,
+        notes,
+        input,
+        output,
+        &mut waiting,
+        left,
+        first,
+        takes_partial,
+    );
+    match write_out(output, &mut waiting) {
+        Ok(()) => flush(output, answered),
+        Err(_) => flush(output, Err(RunError::Device)),
+    }
+}
+
+/// Answers each line of the reader, as `run_lines_leaving`, also a last one without a line feed.
 pub fn run_lines<M: LineMachine, I: BufRead, O: Write>(
     alloc: Global,
     on: &mut M::On,
@@ -167,10 +210,6 @@ pub fn run_lines<M: LineMachine, I: BufRead, O: Write>(
         × IsRun M.answers M.is_bad (OnSome (I.remaining input.old) (IsAtEnd (I.remaining input.new)))
         first (on.old, notes.old) on.new read text result }
 {
-    let mut waiting = Vec::new(alloc);
-    let answered = answer_lines::<M, I, O>(alloc, on, notes, input, output, &mut waiting, first);
-    match write_out(output, &mut waiting) {
-        Ok(()) => flush(output, answered),
-        Err(_) => flush(output, Err(RunError::Device)),
-    }
+    let mut left = Vec::new(alloc);
+    run_lines_leaving::<M, I, O>(alloc, on, notes, input, output, &mut left, first, true)
 }

@@ -64,7 +64,7 @@ abbrev pub text_of : ℕ → Call → Answer → List ℕ
 text_of registers c (answer.Described n) = codes "described " ++ (decimal n ++ 10 ∷ [])
 text_of registers c (answer.Registered found) = codes "registered " ++ (decimal registers ++ (32 ∷ (decimal (length found) ++ 10 ∷ [])))
 text_of registers c (answer.Updated n) = codes "updated " ++ (decimal n ++ 10 ∷ [])
-text_of registers c (answer.Snapshot rows) = codes "snapshot " ++ (decimal (book_of c) ++ (32 ∷ (decimal (length rows) ++ (10 ∷ rows_text rows))))
+text_of registers c (answer.Snapshot taken) = codes "snapshot " ++ (decimal (book_of c) ++ (32 ∷ (decimal (length taken.rows) ++ (10 ∷ rows_text taken.rows))))
 text_of registers c (answer.Refused e) = refusal_text_of e
 
 -- the number of register calls, including those that failed

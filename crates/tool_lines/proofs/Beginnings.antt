@@ -7,7 +7,7 @@ use Rattle.metrics.specs.declared.calls.Call.{Call}
 use Rattle.metrics.specs.declared.calls.Call.TheVariants as call
 use Rattle.metrics.specs.declared.calls.Answer.{Answer}
 use Rattle.metrics_names.specs.declared.refused.Refused.TheVariants.{NoSuchBook, BadHandle}
-use Rattle.metrics.specs.Book.{rows}
+use Rattle.metrics.specs.Book.{snapshot_of}
 use Rattle.metrics.specs.Meaning.{Meaning, Targets}
 use Rattle.metrics.specs.History.{Log, Registration, registration, is_handle, reached, content_after, plain_update, plain_snapshot, plain_answer, MayMeetMemory, IsOrMeets, IsPlain, ArePlainFrom}
 use Rattle.tool_grammar.specs.Grammar.{spelling, CanBeSpelled}
@@ -39,7 +39,7 @@ module _ (targets : Targets) (books : ℕ) where
   update_plain u May (Some r) = either_plain (is_handle u r) (Answer.Updated (length (targets r.kind r.key.name))) (Answer.Refused BadHandle) May refl refl
 
   snapshot_plain : (before : Log) (b : ℕ) (May : ℕ → Type 0) → IsOrMeets (plain_snapshot targets books before b) May (plain_snapshot targets books before b)
-  snapshot_plain before b May = either_plain (nat_lt b books) (Answer.Snapshot (rows (content_after (reached targets b before)))) (Answer.Refused NoSuchBook) May refl refl
+  snapshot_plain before b May = either_plain (nat_lt b books) (Answer.Snapshot (snapshot_of (content_after (reached targets b before)))) (Answer.Refused NoSuchBook) May refl refl
 
   -- the expected answer is an expected one
   is_plain : (before : Log) (c : Call) → IsPlain targets books before c (plain_answer targets books before c)

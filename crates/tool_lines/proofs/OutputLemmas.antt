@@ -102,7 +102,7 @@ text_ends : (n : ℕ) (c : Call) (a : Answer) → EndsLine (text_of n c a)
 text_ends n c (answer.Described k) = ends_behind (codes "described ") _ (ends_behind (decimal k) _ ends_feed)
 text_ends n c (answer.Registered found) = ends_behind (codes "registered ") _ (ends_behind (decimal n) _ (ends_more 32 _ (ends_behind (decimal (length found)) _ ends_feed)))
 text_ends n c (answer.Updated k) = ends_behind (codes "updated ") _ (ends_behind (decimal k) _ ends_feed)
-text_ends n c (answer.Snapshot rows) = ends_behind (codes "snapshot ") _ (ends_behind (decimal (book_of c)) _ (ends_more 32 _ (ends_behind (decimal (length rows)) _ (rows_end (10 ∷ []) rows ends_feed))))
+text_ends n c (answer.Snapshot taken) = ends_behind (codes "snapshot ") _ (ends_behind (decimal (book_of c)) _ (ends_more 32 _ (ends_behind (decimal (length taken.rows)) _ (rows_end (10 ∷ []) taken.rows ends_feed))))
 text_ends n c (answer.Refused e) = refusal_ends e
 
 -- ---- texts without out of memory

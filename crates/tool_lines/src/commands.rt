@@ -143,7 +143,7 @@ fn answer_words<R: Threads + Wait + Sync, I: BufRead, O: Write, E: Write>(
 }
 
 /// Returns the status at the end of a run. Writes why it stopped to `errors`, whose faults are ignored.
-fn told<E: Write>(errors: &mut E, answered: Result<u64, RunError>) -> u8
+fn report<E: Write>(errors: &mut E, answered: Result<u64, RunError>) -> u8
     ensures { result ≡ end_status answered }
 {
     match answered {
@@ -168,7 +168,7 @@ fn answer_export<I: BufRead, O: Write, E: Write>(
         (Appends (O.contents output.old) (O.contents output.new)) result }
 {
     let answered = export_new(alloc, plan, input, output);
-    told(errors, answered)
+    report(errors, answered)
 }
 
 /// Runs the program for the words after its name, and returns its status. Writes why it stopped to `errors`, whose
@@ -221,6 +221,6 @@ pub fn command<R: Threads + Wait + Sync, I: BufRead, O: Write, E: Write>(
     match export_of(alloc, words) {
         Ok(Some(plan)) => answer_export(alloc, &plan, input, output, errors),
         Ok(None) => answer_words(rt, alloc, words, input, output, errors),
-        Err(_) => told(errors, Err(RunError::Memory(None))),
+        Err(_) => report(errors, Err(RunError::Memory(None))),
     }
 }

@@ -6,7 +6,7 @@ use Rattle.metrics_prometheus.specs.Labels.{placed}
 use Rattle.tool_grammar.specs.Cuts.{StartsAt}
 use Rattle.tool_grammar.proofs.WordsLemmas.{before_same, first_same}
 use Rattle.tool_prometheus.specs.Lines.{escape, escaped, IsQuotable, StartsElse, CanBeValue, value_word, Written, IsWritten, label_of}
-use Rattle.tool_prometheus.specs.Lines.{label_word, label_words, LacksKey, MayFollow, AreWritten, put_in, in_order}
+use Rattle.tool_prometheus.specs.Lines.{label_word, label_words, LacksKey, HasRoom, MayFollow, AreWritten, put_in, in_order}
 use Rattle.tool_prometheus.proofs.EscapeLemmas.{escape-same, escaped-same, escape-some}
 
 -- ---- quoted values
@@ -103,10 +103,10 @@ pub labels-none : (bytes : List ℕ) → LabelsSoFar bytes bytes []
 labels-none bytes = record { made = λ ws h e. (ws, h, refl, e); left = λ ws h e. (ws, h, e) }
 
 pub labels-more : (bytes rest after : List ℕ) (labels : List LabelParts) (w : Written) → LabelsSoFar bytes rest labels
-    → IsWritten w → LacksKey w.key labels → rest ≡ label_word w ++ after → StartsAt 32 after
+    → IsWritten w → LacksKey w.key labels → HasRoom labels → rest ≡ label_word w ++ after → StartsAt 32 after
     → LabelsSoFar bytes after (placed (label_of w) labels)
-labels-more bytes rest after labels w so hw lacks is starts = record {
-  made = λ ws h e. so.made (w ∷ ws) (hw, lacks, h) (is ∙ ap (λ z. label_word w ++ z) e);
+labels-more bytes rest after labels w so hw lacks room is starts = record {
+  made = λ ws h e. so.made (w ∷ ws) (hw, lacks, room, h) (is ∙ ap (λ z. label_word w ++ z) e);
   left = λ ws h e. let (others, ho, at) = so.left ws h e in step others ho at;
 }
   where
@@ -115,25 +115,25 @@ labels-more bytes rest after labels w so hw lacks is starts = record {
     step [] ho at = let no : label_word w ++ after ≡ [] = sym is ∙ at in absurd (cc)
     step (k ∷ ks) ho at =
         let same = label-same w k after (label_words ks) hw ho.0 starts (starts-words ks) (sym is ∙ at) in
-        (ks, subst (λ l. MayFollow (placed (label_of l) labels) ks) (sym same.0) ho.2, same.1)
+        (ks, subst (λ l. MayFollow (placed (label_of l) labels) ks) (sym same.0) ho.3, same.1)
 
 pub labels-end : (bytes rest : List ℕ) (labels : List LabelParts) → LabelsSoFar bytes rest labels → rest ≡ []
     → (ws : List Written) × AreWritten ws × (labels ≡ in_order ws) × (bytes ≡ label_words ws)
 labels-end bytes rest labels so is = so.made [] tt is
 
 pub labels-fail : (bytes rest : List ℕ) (labels : List LabelParts) → LabelsSoFar bytes rest labels → 0 < length rest
-    → ((w : Written) (r : List ℕ) → IsWritten w → StartsAt 32 r → rest ≡ label_word w ++ r → LacksKey w.key labels → ⊥)
+    → ((w : Written) (r : List ℕ) → IsWritten w → StartsAt 32 r → rest ≡ label_word w ++ r → LacksKey w.key labels → HasRoom labels → ⊥)
     → (ws : List Written) → AreWritten ws → bytes ≡ label_words ws → ⊥
 labels-fail bytes rest labels so some none ws h e = let (others, ho, at) = so.left ws h e in step others ho at
   where
     step : (others : List Written) → MayFollow labels others → rest ≡ label_words others → ⊥
     step [] ho at = absurd (omega (arith, some, ap length at))
-    step (k ∷ ks) ho at = none k (label_words ks) ho.0 (starts-words ks) at ho.1
+    step (k ∷ ks) ho at = none k (label_words ks) ho.0 (starts-words ks) at ho.1 ho.2
 
 -- a label whose key another has can't be read otherwise
 pub label-twice : (bytes rest : List ℕ) (labels : List LabelParts) (w : Written) → IsWritten w → bytes ≡ label_word w ++ rest
     → StartsAt 32 rest → (LacksKey w.key labels → ⊥)
-    → (k : Written) (r : List ℕ) → IsWritten k → StartsAt 32 r → bytes ≡ label_word k ++ r → LacksKey k.key labels → ⊥
-label-twice bytes rest labels w hw is starts has k r hk sr e lacks =
+    → (k : Written) (r : List ℕ) → IsWritten k → StartsAt 32 r → bytes ≡ label_word k ++ r → LacksKey k.key labels → HasRoom labels → ⊥
+label-twice bytes rest labels w hw is starts has k r hk sr e lacks room =
     let same = label-same w k rest r hw hk starts sr (sym is ∙ e) in
     has (subst (λ l. LacksKey l.key labels) (sym same.0) lacks)

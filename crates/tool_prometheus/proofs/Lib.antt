@@ -11,3 +11,4 @@ pub mod OneLemmas
 pub mod ReadLemmas
 pub mod OutputLemmas
 pub mod RunLemmas
+pub mod AskedLemmas

@@ -31,7 +31,7 @@ words-same [] (v ∷ vs) a b h g e = absurd (cc)
 words-same (w ∷ ws) [] a b h g e = absurd (cc)
 words-same (w ∷ ws) (v ∷ vs) a b h g e =
     let same = label-same w v (label_words ws) (label_words vs) h.0 g.0 (starts-words ws) (starts-words vs) e in
-    ap (λ z. z ∷ ws) same.0 ∙ ap (λ zs. v ∷ zs) (words-same ws vs (placed (label_of w) a) (placed (label_of v) b) h.2 g.2 same.1)
+    ap (λ z. z ∷ ws) same.0 ∙ ap (λ zs. v ∷ zs) (words-same ws vs (placed (label_of w) a) (placed (label_of v) b) h.3 g.3 same.1)
 
 -- ---- descriptions
 
@@ -109,7 +109,7 @@ module _ (common : List LabelParts) where
   describe-same kind name unit text (change u n vs) h g (o, w, b) e = absurd (no_describe u w)
   describe-same kind name unit text (describe k n m x) h g (o, w, b) e =
       ap request_of (call_same (call_spelling (call.Describe kind name unit text)) (call.Describe kind name unit text) (call.Describe k n m x)
-      (((h.0.0.1, h.0.1, h.0.2), h.1), refl) (((g.0.0.1, g.0.1, g.0.2), g.1), e))
+      (((h.0.0.1, h.0.1, h.0.2), h.1.1), refl) (((g.0.0.1, g.0.1, g.0.2), g.1.1), e))
   describe-same kind name unit text (scrape now) h g (o, w, b) e = absurd (differs (sym w))
   describe-same kind name unit text scrape_by_clock h g (o, w, b) e = absurd (differs (sym w))
   describe-same kind name unit text (comment more) h g (o, w, b) e = absurd o

@@ -1,6 +1,6 @@
 -- What the parts of a line are read as.
 use Rattle.std.proofs.Common.{◌≡◌, ◌∙◌, ℕ, zero, suc, ◌<◌, ◌≤◌, ◌^◌, Bool, true, false, List, [], ◌∷◌, ◌++◌, codes, decimal, drop, take, get_or, length, append_assoc, refl, ap, sym, subst, arith}
-use Rattle.std.specs.Prelude.{Option, Some, Result, Ok, Err, MatchResult, IsUtf8}
+use Rattle.std.specs.Prelude.{All, Option, Some, Result, Ok, Err, MatchResult, IsUtf8}
 use Rattle.std.specs.List.{AllByRecursion}
 use Rattle.metrics_names.specs.Names.{LabelParts, name_word, kind_word}
 use Rattle.metrics_names.specs.declared.kind.MetricKind.{MetricKind}
@@ -13,8 +13,8 @@ use Rattle.tool_export.proofs.RequestLemmas.{lacks_amount}
 use Rattle.tool_prometheus.specs.declared.flaws.Unread.{Unread}
 use Rattle.tool_prometheus.specs.declared.flaws.Unread.TheVariants.{Memory, Bad}
 use Rattle.tool_prometheus.specs.declared.requests.Request.TheVariants.{Change, Describe, Scrape}
-use Rattle.tool_prometheus.specs.Lines.{escape, escaped, IsQuotable, IsText, IsName, CanBeValue, value_word, Written, IsWritten}
-use Rattle.tool_prometheus.specs.Lines.{label_word, label_words, LacksKey, AreWritten, in_order, with_labels, change, describe, scrape, Reads, Fails}
+use Rattle.tool_prometheus.specs.Lines.{escape, escaped, IsQuotable, IsText, IsOfName, IsName, CanBeValue, value_word, Written, IsWritten}
+use Rattle.tool_prometheus.specs.Lines.{label_word, label_words, LacksKey, HasRoom, AreWritten, in_order, with_labels, change, describe, scrape, Reads, Fails}
 use Rattle.tool_prometheus.proofs.EscapeLemmas.{escaped-same, starts-else}
 use Rattle.tool_prometheus.proofs.LabelLemmas.{QuotedSoFar, quoted-fails, LabelsSoFar, labels-fail, starts-words}
 use Rattle.tool_prometheus.proofs.SentenceLemmas.{lacks_name}
@@ -105,10 +105,29 @@ module _ (bytes others key value : List ℕ) (begins : bytes ≡ 32 ∷ others) 
       h w.quoted w.value rest written.3 starts same.1
 
 pub labels-err : (bytes rest : List ℕ) (labels : List LabelParts) (e : Unread) → LabelsSoFar bytes rest labels → 0 < length rest
-    → Fails ((w : Written) (r : List ℕ) → IsWritten w → StartsAt 32 r → rest ≡ label_word w ++ r → LacksKey w.key labels → ⊥) e
+    → Fails ((w : Written) (r : List ℕ) → IsWritten w → StartsAt 32 r → rest ≡ label_word w ++ r → LacksKey w.key labels → HasRoom labels → ⊥) e
     → Fails ((ws : List Written) → AreWritten ws → bytes ≡ label_words ws → ⊥) e
 labels-err bytes rest labels Memory so some none = tt
 labels-err bytes rest labels (Bad cause at) so some none = labels-fail bytes rest labels so some none
+
+-- ---- the text of a description
+
+pub note-read : {T : Type 0} (bytes word : List ℕ) (now : T → List ℕ) (r : Result T Unread) → bytes ≡ 32 ∷ word
+    → MatchResult r (λ t. IsText word × (now t ≡ word)) (Fails (IsText word → ⊥))
+    → MatchResult r (λ t. IsText (now t) × (bytes ≡ 32 ∷ now t)) (Fails ((text : List ℕ) → IsText text → bytes ≡ 32 ∷ text → ⊥))
+note-read bytes word now (Ok t) is (h, same) = (subst IsText (sym same) h, is ∙ ap (λ z. 32 ∷ z) (sym same))
+note-read bytes word now (Err Memory) is none = tt
+note-read bytes word now (Err (Bad cause at)) is none = λ text h e. none (subst IsText (ap (drop 1) (sym e ∙ is)) h)
+
+-- ---- names
+
+dash-fits : All IsOfName (codes "-")
+dash-fits = λ k d small. (grind arith, grind arith, grind arith, grind arith, grind arith)
+
+-- a text with other characters than a name has spells none
+pub no-other-name : (text name : List ℕ) → (All IsOfName text → ⊥) → IsName name → text ≡ name_word name → ⊥
+no-other-name text [] other h e = other (subst (All IsOfName) (sym e) dash-fits)
+no-other-name text (x ∷ xs) other h e = other (subst (All IsOfName) (sym e) h.3)
 
 -- ---- words after a space
 
@@ -191,7 +210,7 @@ module _ (word bytes : List ℕ) (by : Update) (rest : List ℕ) (range : IsInRa
 -- ---- a description
 
 abbrev pub IsNoDescription : List ℕ → Type 0
-IsNoDescription bytes = (kind : MetricKind) (name : List ℕ) (unit : Option Measure) (text : List ℕ) → IsName name → IsUtf8 text
+IsNoDescription bytes = (kind : MetricKind) (name : List ℕ) (unit : Option Measure) (text : List ℕ) → IsName name → IsText text
     → bytes ≡ 32 ∷ (kind_word kind ++ 32 ∷ (name_word name ++ 32 ∷ (unit_word unit ++ 32 ∷ text))) → ⊥
 
 module _ (bytes : List ℕ) (kind : MetricKind) (rest : List ℕ) (is : bytes ≡ 32 ∷ (kind_word kind ++ rest)) (starts : StartsAt 32 rest) where
@@ -212,14 +231,14 @@ module _ (bytes : List ℕ) (kind : MetricKind) (rest : List ℕ) (is : bytes �
     no-description-unit (Bad cause at) none = λ k n u text h utf8 e. none u (32 ∷ text) refl (behind-named k n _ h e)
 
     module _ (unit : Option Measure) (last : List ℕ) (measured : after ≡ 32 ∷ (unit_word unit ++ last)) (ends : StartsAt 32 last) where
-      pub no-description-text : (e : Unread) → Fails ((text : List ℕ) → IsUtf8 text → last ≡ 32 ∷ text → ⊥) e
+      pub no-description-text : (e : Unread) → Fails ((text : List ℕ) → IsText text → last ≡ 32 ∷ text → ⊥) e
           → Fails (IsNoDescription bytes) e
       no-description-text Memory none = tt
       no-description-text (Bad cause at) none = λ k n u text h utf8 e.
           none text utf8 (before_same 32 (unit_word unit) (unit_word u) last (32 ∷ text) (lacks_unit unit) (lacks_unit u) ends refl
           (ap (drop 1) (sym measured ∙ behind-named k n _ h e))).1
 
-      pub description-read : (common : List LabelParts) (text : List ℕ) → IsUtf8 text → last ≡ 32 ∷ text
+      pub description-read : (common : List LabelParts) (text : List ℕ) → IsText text → last ≡ 32 ∷ text
           → Reads common (codes "describe" ++ bytes) (Describe kind name unit text)
       description-read common text utf8 at = (
         describe kind name unit text,

@@ -1,75 +1,29 @@
 -- A run that neither memory, the device nor the file ended wrote the text of its input.
-use Rattle.std.proofs.Common.{if◌then◌else◌, ◌≡◌, ◌≢◌, ◌∙◌, ℕ, Bool, true, false, List, [], ◌∷◌, ◌++◌, ◌⊎◌, codes, inl, inr, refl, sym, ap, subst}
-use Rattle.std.proofs.Common.{Option, None, Some, Result, Ok, Err, append_assoc, append-nil}
-use Rattle.std.specs.List.{AllByRecursion}
+use Rattle.std.proofs.Common.{if◌then◌else◌, ◌≡◌, ◌≢◌, ◌∙◌, ℕ, Bool, true, false, List, [], ◌∷◌, ◌++◌, ◌⊎◌, inl, inr, refl, sym, ap, subst}
+use Rattle.std.proofs.Common.{None, Some, Result, Ok, Err, OnOk, append_assoc, append-nil}
 use Rattle.std.proofs.lemmas.List.{append_cancel_right}
 use Rattle.std.proofs.lemmas.List.Concat.{flat_map-append}
-use Rattle.metrics.specs.declared.error.Error.TheVariants.{CountFull}
-use Rattle.metrics.specs.declared.handles.Update.{Update}
-use Rattle.metrics_names.specs.Names.{KeyParts}
-use Rattle.metrics_exporter.specs.Exporting.{Setup, Log, updates, expires, steps, steps_of, cells_after, HoldsSome}
+use Rattle.metrics_exporter.specs.Exporting.{Setup, Log, updates, expires, steps, cells_after, HoldsSome}
+use Rattle.metrics.specs.declared.error.Error.TheVariants as error
 use Rattle.metrics_exporter.specs.Describing.{SameLegend}
-use Rattle.metrics_exporter.specs.Kept.{IsAfter, Keeps, described}
+use Rattle.metrics_exporter.specs.Kept.{IsAfter, described}
 use Rattle.metrics_prometheus.specs.Exposition.{IsDescribed}
 use Rattle.tool_grammar.specs.declared.error.RunError.{RunError}
 use Rattle.tool_grammar.specs.declared.error.RunError.TheVariants.{Memory, BadLine, Device}
-use Rattle.tool_export.specs.Lines.{lines_of, unlines, ended}
-use Rattle.tool_export.specs.Answering.{Dialogue, lines_in, texts_in, AreAnswered, AreFirst, IsRun}
-use Rattle.tool_export.proofs.LinesLemmas.{lines-cut}
+use Rattle.tool_export.specs.Lines.{lines_of, ended_lines, unlines, ended, IsEnded, IsLine}
+use Rattle.tool_export.specs.Answering.{Dialogue, lines_in as lines_said, texts_in, AreAnswered, AreFirst, IsRun, IsLeft}
+use Rattle.tool_export.proofs.LinesLemmas.{lines-cut, ended-cut, ended-left, cut-none, cut-some}
 use Rattle.tool_prometheus.specs.Making.{setup_for}
 use Rattle.tool_prometheus.specs.declared.commands.Options.{Options}
 use Rattle.tool_prometheus.specs.declared.answering.Served.{Served}
 use Rattle.tool_prometheus.specs.declared.requests.Request.{Request}
 use Rattle.tool_prometheus.specs.declared.requests.Request.TheVariants.{Change, Describe, Scrape, Nothing}
+use Rattle.tool_prometheus.specs.Asked.{Asked, nothing_asked, then_asked, Asks}
 use Rattle.tool_prometheus.specs.Lines.{Spells}
-use Rattle.tool_prometheus.specs.Exposed.{scrape_text, want_text, KeepsRest, IsMoment, Shows, IsPlain, IsWant, IsAnswer, IsEnd}
-use Rattle.tool_prometheus.specs.Serving.{answers, Stops, EndsLines, IsFresh, IsStatus}
-use Rattle.tool_prometheus.specs.Output.{Done, nothing_done, PrintsExposition, HasMoment, Prints, PrintLines, IsOutput, Runs, HadMemory}
-
--- ---- texts of answers
-
--- a text of whole lines
-abbrev Closed : List ℕ → Type 0
-Closed text = (text ≡ []) ⊎ ((front : List ℕ) × (text ≡ front ++ 10 ∷ []))
-
-closed-scrape : (has_file : Bool) (text shown : List ℕ) → text ≡ scrape_text has_file shown → Closed text
-closed-scrape true text shown e = inl e
-closed-scrape false text shown e = inr (shown, e)
-
-closed-want : (text : List ℕ) → text ≡ want_text → Closed text
-closed-want text e = inr (codes "# refused E1 memory", e)
-
-closed-plain : (setup : Setup) (log : Log) (old : Served) (request : Request) (made : Log) (new : Served) (text : List ℕ)
-    → IsPlain setup log old request made new text → Closed text
-closed-plain setup log old (Change key by) made new text (kept, inl h) = inl h.1
-closed-plain setup log old (Change key by) made new text (kept, inr h) = inr (codes "# refused E8 count full", h.1)
-closed-plain setup log old (Describe kind name unit note) made new text (describes, is, t, changed) = inl t
-closed-plain setup log old (Scrape moment) made new text (kept, (now, at, checks, n, shown, is, ran, shows, t, changed)) =
-    closed-scrape old.has_file text shown t
-closed-plain setup log old Nothing made new text (same, is, t) = inl t
-
-want-is : (setup : Setup) (log : Log) (old : Served) (request : Request) (made : Log) (new : Served) (text : List ℕ)
-    → IsWant setup log old request made new text → text ≡ want_text
-want-is setup log old (Change key by) made new text h = h.2
-want-is setup log old (Describe kind name unit note) made new text h = h.2
-want-is setup log old (Scrape moment) made new text h = h.1
-want-is setup log old Nothing made new text none = absurd none
-
-all-front : {A : Type 0} (P : A → Type 0) (xs ys : List A) → AllByRecursion P (xs ++ ys) → AllByRecursion P xs × AllByRecursion P ys
-all-front P [] ys h = (tt, h)
-all-front P (x ∷ xs) ys (h, more) = let (front, rest) = all-front P xs ys more in ((h, front), rest)
-
--- what holds of a text of whole lines and another, holds of each
-had-both : (text others : List ℕ) → Closed text → HadMemory (text ++ others) → HadMemory text × HadMemory others
-had-both text others (inl e) h = (subst HadMemory (sym e) tt, subst (λ z. HadMemory (z ++ others)) e h)
-had-both text others (inr (front, e)) h =
-    let cut : lines_of (text ++ others) ≡ lines_of text ++ lines_of others =
-    ap (λ z. lines_of (z ++ others)) e ∙ ap lines_of (append_assoc front (10 ∷ []) others) ∙ lines-cut front others
-    ∙ ap (λ z. lines_of z ++ lines_of others) (sym e) in
-    all-front _ (lines_of text) (lines_of others) (subst (AllByRecursion (λ line. line ≢ codes "# refused E1 memory")) cut h)
-
-had-none : (text : List ℕ) → text ≡ want_text → HadMemory text → ⊥
-had-none text e h = (subst HadMemory e h).0 refl
+use Rattle.tool_prometheus.specs.Exposed.{scrape_text, fault_text, KeepsRest, HandsOut, Shows, IsPlain, IsWant, IsAnswer, IsEnd, shows_at_end}
+use Rattle.tool_prometheus.specs.Serving.{answers_since, Stops, EndsLines, IsFresh, own_status, or_left}
+use Rattle.tool_prometheus.specs.Output.{Done, begun, lines_in, loses_line, PrintsExposition, Prints, PrintLines, IsOutput, Runs}
+use Rattle.tool_prometheus.proofs.AskedLemmas.{then-nothing, then-assoc}
 
 -- ---- the lines of an input
 
@@ -93,205 +47,325 @@ first-lines at_end bytes read left ls l ends whole (inl (rest, front, are)) =
           ∙ append_assoc ls (l ∷ []) (lines_of (rest ++ left)),
     )
 
--- a rejected update is no step
-no-step : (log : Log) (key : KeyParts) (by : Update) → steps (log ++ updates key by (Err CountFull) ∷ []) ≡ steps log
-no-step log key by = flat_map-append steps_of log (updates key by (Err CountFull) ∷ []) ∙ append-nil (steps log)
+some-line : (ls : List (List ℕ)) (l : List ℕ) → [] ≡ ls ++ l ∷ [] → ⊥
+some-line [] l e = absurd (cc)
+some-line (k ∷ ls) l e = absurd (cc)
 
-module _ (options : Options) where
+-- the same of a run that may leave a last line
+first-taken : (takes : Bool) (at_end : Type 0) (bytes front half left : List ℕ) (ls : List (List ℕ)) (l : List ℕ) (k : ℕ)
+    → (at_end → left ≡ []) → bytes ≡ (front ++ half) ++ left → IsLeft takes front half (Err (BadLine k))
+    → AreFirst at_end front (ls ++ l ∷ []) → lines_of front ≡ ls ++ l ∷ [] → (more : List (List ℕ)) × (lines_in takes bytes ≡ ls ++ l ∷ more)
+first-taken true at_end bytes front half left ls l k ends whole none first are =
+    first-lines at_end bytes front left ls l ends (whole ∙ ap (λ z. (front ++ z) ++ left) none ∙ ap (λ z. z ++ left) (append-nil front)) first
+first-taken false at_end bytes front half left ls l k ends whole (inl none) first are =
+    absurd (some-line ls l (sym (ap lines_of none) ∙ are))
+first-taken false at_end bytes front half left ls l k ends whole (inr (body, is)) first are =
+    let all : bytes ≡ body ++ 10 ∷ (half ++ left) =
+    whole ∙ ap (λ z. (z ++ half) ++ left) is ∙ append_assoc (ended body) half left ∙ append_assoc body (10 ∷ []) (half ++ left) in (
+      ended_lines (half ++ left),
+      ap ended_lines all ∙ ended-cut body (half ++ left) ∙ ap (λ z. z ++ ended_lines (half ++ left)) (ap lines_of (sym is) ∙ are)
+          ∙ append_assoc ls (l ∷ []) (ended_lines (half ++ left)),
+    )
+
+-- the lines of a run up to the end
+all-taken : (takes : Bool) (bytes front half : List ℕ) (n : ℕ) → bytes ≡ front ++ half → IsLeft takes front half (Ok n)
+    → lines_in takes bytes ≡ lines_of front
+all-taken true bytes front half n whole none = ap lines_of (whole ∙ ap (λ z. front ++ z) none ∙ append-nil front)
+all-taken false bytes front half n whole (ends, line) = ap ended_lines whole ∙ ended-left front half ends line
+
+-- and whether a last line is left
+half-taken : (takes : Bool) (bytes front half : List ℕ) (n : ℕ) (has_bad : Bool) → bytes ≡ front ++ half
+    → IsLeft takes front half (Ok n) → or_left half has_bad ≡ (if loses_line takes bytes then true else has_bad)
+half-taken true bytes front half n has_bad whole none = ap (λ z. or_left z has_bad) none
+half-taken false bytes front [] n has_bad whole (ends, line) =
+    sym (ap (λ b. if b then true else has_bad) (ap (loses_line false) whole ∙ cut-none front [] ends refl))
+half-taken false bytes front (x ∷ xs) n has_bad whole (ends, line) =
+    sym (ap (λ b. if b then true else has_bad) (ap (loses_line false) whole ∙ cut-some front x xs ends line))
+
+-- ---- what failed stays so
+
+failed-plain : (setup : Setup) (log : Log) (old : Served) (request : Request) (made : Log) (new : Served) (asked : Asked) (text : List ℕ)
+    → IsPlain setup log old request made new asked text → old.has_failed ≡ true → new.has_failed ≡ true
+failed-plain setup log old (Change key by) made new asked text (told, none, inl (is, t, free, changed, failed)) f = failed ∙ f
+failed-plain setup log old (Change key by) made new asked text (told, none, inr (is, t, full, changed, failed)) f = failed
+failed-plain setup log old (Describe kind name unit note) made new asked text (told, none, is, t, changed, failed) f = failed ∙ f
+failed-plain setup log old (Scrape moment) made new asked text
+    (told, (now, at, checks, n, shown, true, is, ran, shows, t, out, changed, failed)) f = failed ∙ f
+failed-plain setup log old (Scrape moment) made new asked text
+    (told, (now, at, checks, n, shown, false, is, ran, shows, t, out, changed, failed)) f = failed
+failed-plain setup log old Nothing made new asked text (same, none, is, t) f = ap (λ s. s.has_failed) same ∙ f
+
+failed-want : (setup : Setup) (log : Log) (old : Served) (request : Request) (made : Log) (new : Served) (asked : Asked) (text : List ℕ)
+    → IsWant setup log old request made new asked text → new.has_failed ≡ true
+failed-want setup log old (Change key by) made new asked text (told, none, is, t, changed, failed, absent) = failed
+failed-want setup log old (Describe kind name unit note) made new asked text (told, none, is, t, changed, failed) = failed
+failed-want setup log old (Scrape moment) made new asked text (told, t, changed, failed, ran) = failed
+failed-want setup log old Nothing made new asked text none = absurd none
+
+failed-answer : (setup : Setup) (log : Log) (old : Served) (request : Request) (made : Log) (new : Served) (asked : Asked) (text : List ℕ)
+    → IsAnswer setup log old request made new asked text → old.has_failed ≡ true → new.has_failed ≡ true
+failed-answer setup log old request made new asked text (inl plain) f = failed-plain setup log old request made new asked text plain f
+failed-answer setup log old request made new asked text (inr want) f = failed-want setup log old request made new asked text want
+
+is-false : (b : Bool) → (b ≡ true → ⊥) → b ≡ false
+is-false true h = absurd (h refl)
+is-false false h = refl
+
+or-true : (b : Bool) → (if b then true else true) ≡ true
+or-true true = refl
+or-true false = refl
+
+or-false : (b : Bool) → (if b then true else false) ≡ b
+or-false true = refl
+or-false false = refl
+
+module _ (options : Options) (cut : Bool) where
   abbrev setup : Setup
   setup = setup_for options
 
   -- what is done where a run has come so far
   abbrev done_on : Log → Served → Done
-  done_on log on = record { calls = log; legend = described on.exporter; is_changed = on.is_changed; has_bad = on.has_bad }
+  done_on log on = record { calls = log; legend = described on.exporter; is_changed = on.is_changed; has_bad = (if cut then true else on.has_bad) }
 
   -- what is served is as after these calls, by these options
   abbrev Stands : Log → Served → Type 0
   Stands log on = IsAfter setup log on.exporter × (on.naming ≡ options.naming) × (on.has_file ≡ options.has_file)
-      × (on.labels ≡ options.labels)
+      × (on.labels ≡ options.labels) × (on.at_scrapes_only ≡ options.at_scrapes_only)
 
   done-same : (log : Log) (old : Done) (new : Served) (changed : Bool) → SameLegend (described new.exporter) old.legend
-      → new.is_changed ≡ changed → new.has_bad ≡ old.has_bad
+      → new.is_changed ≡ changed → (if cut then true else new.has_bad) ≡ old.has_bad
       → done_on log new ≡ record old { calls = log; is_changed = changed }
   done-same log old new changed same is bad =
       λ i. record { calls = log; legend = λ kind name. same kind name i; is_changed = is i; has_bad = bad i }
 
-  exposition : (log : Log) (on : Served) (has_file : Bool) (shown text : List ℕ) → Stands log on → has_file ≡ options.has_file
-      → Shows setup log on shown → text ≡ scrape_text has_file shown → PrintsExposition options (done_on log on) text
-  exposition log on has_file shown text (after, naming, file, labels) is shows t = (
+  exposition : (log : Log) (on : Served) (has_file : Bool) (shown text : List ℕ) (files : List (List ℕ)) → Stands log on
+      → has_file ≡ options.has_file → Shows setup log on shown → text ≡ scrape_text has_file shown → HandsOut has_file shown true files
+      → PrintsExposition options (done_on log on) files text
+  exposition log on has_file shown text files stands is shows t out = (
     shown,
-    subst (λ n. IsDescribed n (described on.exporter) (cells_after setup (steps log)) shown) naming shows,
+    subst (λ n. IsDescribed n (described on.exporter) (cells_after setup (steps log)) shown) stands.1 shows,
     t ∙ ap (λ b. scrape_text b shown) is,
+    subst (λ b. HandsOut b shown true files) is out,
   )
 
   -- ---- one request
 
-  -- the request printed this, and stands after some calls
-  abbrev Printed : Log → Served → Request → Served → List ℕ → Type 0
-  Printed log old request new text = (read : List ℕ) × (calls : Log) × Stands calls new
-      × Prints options (done_on log old) request read (done_on calls new) text
+  -- the request asked and printed this, and stands after some calls
+  abbrev Printed : Log → Served → Request → Served → Asked → List ℕ → Type 0
+  Printed log old request new asked text = (calls : Log) × Stands calls new
+      × Prints options (done_on log old) request asked text (done_on calls new)
 
-  moment-of : (moment : Option ℕ) (now : ℕ) → IsMoment moment now → (read : List ℕ) × HasMoment moment read now
-  moment-of (Some m) now at = ([], (refl, at))
-  moment-of None now at = (now ∷ [], refl)
+  keeps-stands : (log : Log) (old new : Served) → Stands log old → KeepsRest old new → (calls : Log)
+      → IsAfter setup calls new.exporter → Stands calls new
+  keeps-stands log old new (was, named, filed, labelled, ended_so) (naming, file, bad, labels, ends) calls after =
+      (after, naming ∙ named, file ∙ filed, labels ∙ labelled, ends ∙ ended_so)
 
-  printed : (log : Log) (old new : Served) (request : Request) (made : Log) (text : List ℕ) → Stands log old → KeepsRest old new
-      → IsAfter setup (log ++ made) new.exporter → IsPlain setup log old request made new text → Printed log old request new text
-  printed log old new (Change key by) made text (was, named, filed, labelled) (naming, file, bad, labels) after (told, inl (is, t, free, changed)) =
+  printed : (log : Log) (old new : Served) (request : Request) (made : Log) (asked : Asked) (text : List ℕ) → Stands log old
+      → KeepsRest old new → IsAfter setup (log ++ made) new.exporter → (new.has_failed ≡ true → ⊥)
+      → IsPlain setup log old request made new asked text → Printed log old request new asked text
+  printed log old new (Change key by) made asked text stands keeps after fine (told, none, inl (is, t, free, changed, failed)) =
       let calls = log ++ updates key by (Ok tt) ∷ [] in (
-        [],
         calls,
-        (subst (λ m. IsAfter setup (log ++ m) new.exporter) is after, naming ∙ named, file ∙ filed, labels ∙ labelled),
-        (refl, inl (free, t, done-same calls (done_on log old) new true told changed bad)),
+        keeps-stands log old new stands keeps calls (subst (λ m. IsAfter setup (log ++ m) new.exporter) is after),
+        (none, free, t, done-same calls (done_on log old) new true told changed (λ i. if cut then true else keeps.2 i)),
       )
-  printed log old new (Change key by) made text (was, named, filed, labelled) (naming, file, bad, labels) after (told, inr (is, t, full, changed)) = (
-    [],
+  printed log old new (Change key by) made asked text stands keeps after fine (told, none, inr (is, t, full, changed, failed)) =
+      absurd (fine failed)
+  printed log old new (Describe kind name unit note) made asked text stands keeps after fine (told, none, is, t, changed, failed) = (
     log,
-    (
-      subst (λ xs. Keeps setup xs new.exporter) (no-step log key by) (subst (λ m. IsAfter setup (log ++ m) new.exporter) is after),
-      naming ∙ named,
-      file ∙ filed,
-      labels ∙ labelled,
-    ),
-    (refl, inr (full, t, done-same log (done_on log old) new old.is_changed told changed bad)),
+    keeps-stands log old new stands keeps log (subst (λ l. IsAfter setup l new.exporter) (ap (λ m. log ++ m) is ∙ append-nil log) after),
+    (none, t, λ i. record { calls = log; legend = λ k n. told k n i; is_changed = changed i; has_bad = (if cut then true else keeps.2 i) }),
   )
-  printed log old new (Describe kind name unit note) made text (was, named, filed, labelled) (naming, file, bad, labels) after (told, is, t, changed) = (
-    [],
-    log,
-    (
-      subst (λ l. IsAfter setup l new.exporter) (ap (λ m. log ++ m) is ∙ append-nil log) after,
-      naming ∙ named,
-      file ∙ filed,
-      labels ∙ labelled,
-    ),
-    (refl, t, λ i. record { calls = log; legend = λ k n. told k n i; is_changed = changed i; has_bad = bad i }),
-  )
-  printed log old new (Scrape moment) made text (was, named, filed, labelled) (naming, file, bad, labels) after
-      (told, (now, at, checks, n, shown, is, ran, shows, t, changed)) =
+  printed log old new (Scrape moment) made asked text stands keeps after fine
+      (told, (now, at, checks, n, shown, true, is, ran, shows, t, out, changed, failed)) =
       let calls = log ++ expires now checks (Ok n) ∷ [] in
-      let (read, has) = moment-of moment now at in
-      let stands : Stands calls new =
-      (subst (λ m. IsAfter setup (log ++ m) new.exporter) is after, naming ∙ named, file ∙ filed, labels ∙ labelled) in (
-        read,
+      let now_stands : Stands calls new =
+      keeps-stands log old new stands keeps calls (subst (λ m. IsAfter setup (log ++ m) new.exporter) is after) in (
         calls,
-        stands,
+        now_stands,
         (
           now,
-          has,
+          at,
           checks,
           n,
           ran,
-          done-same calls (done_on log old) new false told changed bad,
-          exposition calls new old.has_file shown text stands filed (subst (λ m. Shows setup (log ++ m) new shown) is shows) t,
+          done-same calls (done_on log old) new false told changed (λ i. if cut then true else keeps.2 i),
+          exposition calls new old.has_file shown text asked.files now_stands stands.2
+              (subst (λ m. Shows setup (log ++ m) new shown) is shows) t out,
         ),
       )
-  printed log old new Nothing made text (was, named, filed, labelled) (naming, file, bad, labels) after (same, is, t) = (
-    [],
+  printed log old new (Scrape moment) made asked text stands keeps after fine
+      (told, (now, at, checks, n, shown, false, is, ran, shows, t, out, changed, failed)) = absurd (fine failed)
+  printed log old new Nothing made asked text stands keeps after fine (same, none, is, t) = (
     log,
-    (
-      subst (λ l. IsAfter setup l new.exporter) (ap (λ m. log ++ m) is ∙ append-nil log) after,
-      naming ∙ named,
-      file ∙ filed,
-      labels ∙ labelled,
-    ),
-    (refl, t, ap (done_on log) same),
+    keeps-stands log old new stands keeps log (subst (λ l. IsAfter setup l new.exporter) (ap (λ m. log ++ m) is ∙ append-nil log) after),
+    (none, t, ap (done_on log) same),
   )
 
-  answered : (log : Log) (old new : Served) (request : Request) (made : Log) (text others : List ℕ) → Stands log old
-      → KeepsRest old new → IsAfter setup (log ++ made) new.exporter → IsAnswer setup log old request made new text
-      → HadMemory (text ++ others) → Printed log old request new text × HadMemory others
-  answered log old new request made text others stands keeps after (inl plain) had = (
-    printed log old new request made text stands keeps after plain,
-    (had-both text others (closed-plain setup log old request made new text plain) had).1,
-  )
-  answered log old new request made text others stands keeps after (inr want) had =
-      let is = want-is setup log old request made new text want in
-      absurd (had-none text is (had-both text others (closed-want text is) had).0)
+  answered : (log : Log) (old new : Served) (request : Request) (made : Log) (asked : Asked) (text : List ℕ) → Stands log old
+      → KeepsRest old new → IsAfter setup (log ++ made) new.exporter → (new.has_failed ≡ true → ⊥)
+      → IsAnswer setup log old request made new asked text → Printed log old request new asked text
+  answered log old new request made asked text stands keeps after fine (inl plain) =
+      printed log old new request made asked text stands keeps after fine plain
+  answered log old new request made asked text stands keeps after fine (inr want) =
+      absurd (fine (failed-want setup log old request made new asked text want))
 
   -- ---- lines
 
-  -- the lines to come print this, and the run ends with this status
-  abbrev Goes : Log → Served → List (List ℕ) → List ℕ → ℕ → Type 0
-  Goes log on ls text status = (clock : List ℕ) × PrintLines options (done_on log on) ls clock text status
+  -- what is served is after some calls, and what failed stays so
+  stays : (log : Log) (p q : (Served × Asked) × Unit {0}) (es : Dialogue) → IsAfter setup log p.0.0.exporter
+      → AreAnswered (answers_since options.skips_bad) p es q
+      → ((calls : Log) × IsAfter setup calls q.0.0.exporter) × (p.0.0.has_failed ≡ true → q.0.0.has_failed ≡ true)
+  stays log p q [] after h =
+      ((log, subst (λ z. IsAfter setup log z.0.0.exporter) h after), λ f. subst (λ z. z.0.0.has_failed ≡ true) h f)
+  stays log p q (e ∷ es) after (j, (asked, inl (request, spells, (keeps, made_so)), is), h) =
+      let (made, later, answer) = made_so setup log after in
+      let (stands, failed) = stays (log ++ made) j q es later h in
+      (stands, λ f. failed (failed-answer setup log p.0.0 request made j.0.0 asked e.1 answer f))
+  stays log p q (e ∷ es) after (j, (asked, inr (skips, bad, none, (same, nothing)), is), h) =
+      let (stands, failed) = stays log j q es (subst (λ s. IsAfter setup log s.exporter) (sym same) after) h in
+      (stands, λ f. failed (ap (λ s. s.has_failed) same ∙ f))
 
-  dialogue : (log : Log) (p q : Served × Unit {0}) (es : Dialogue) (rest : List (List ℕ)) (last : List ℕ) (s : ℕ) → Stands log p.0
-      → AreAnswered (answers {Notes = Unit {0}} options.skips_bad) p es q → HadMemory (texts_in es ++ last)
-      → ((calls : Log) → Stands calls q.0 → HadMemory last → Goes calls q.0 rest last s)
-      → Goes log p.0 (lines_in es ++ rest) (texts_in es ++ last) s
-  dialogue log p q [] rest last s stands h had goes =
-      subst (λ z. Goes log z.0 rest last s) (sym h) (goes log (subst (λ z. Stands log z.0) h stands) had)
-  dialogue log p q (e ∷ es) rest last s stands (j, inl (request, spells, (keeps, made_so)), h) had goes =
-      let (made, after, is) = made_so setup log stands.0 in
-      let assoc = append_assoc e.1 (texts_in es) last in
-      let ((read, calls, now, prints), others) = answered log p.0 j.0 request made e.1 (texts_in es ++ last) stands keeps after is
-      (subst HadMemory assoc had) in
-      let (later, more) = dialogue calls j q es rest last s now h others goes in
-      (read ++ later, inl (request, subst (λ ls. Spells ls e.0 request) stands.3 spells, read, later, e.1, texts_in es ++ last, done_on calls j.0, prints, more, refl, assoc))
-  dialogue log p q (e ∷ es) rest last s stands (j, inr (skips, bad, (same, none)), h) had goes =
-      let text : (e.1 ++ texts_in es) ++ last ≡ texts_in es ++ last = ap (λ z. (z ++ texts_in es) ++ last) none in
-      let (clock, more) = dialogue log j q es rest last s (subst (Stands log) (sym same) stands) h (subst HadMemory text had) goes in
-      let skipped = done_on log (record p.0 { has_bad = true }) in
-      let here = subst (λ d. PrintLines options d (lines_in es ++ rest) clock (texts_in es ++ last) s) (ap (done_on log) same) more in
-      (clock, inr (bad, inl (skips, subst (λ z. PrintLines options skipped (lines_in es ++ rest) clock z s) (sym text) here)))
+  -- the lines to come ask and print this, and the run ends with this status
+  abbrev Goes : Log → Served → List (List ℕ) → Asked → List ℕ → ℕ → Type 0
+  Goes log on ls asked text status = PrintLines options (done_on log on) ls asked text status
+
+  dialogue : (log : Log) (p q : (Served × Asked) × Unit {0}) (es : Dialogue) (rest : List (List ℕ)) (after : Asked) (last : List ℕ) (s : ℕ)
+      → Stands log p.0.0 → AreAnswered (answers_since options.skips_bad) p es q → (q.0.0.has_failed ≡ true → ⊥)
+      → ((calls : Log) → Stands calls q.0.0 → Goes calls q.0.0 rest after last s)
+      → (asked : Asked) × (q.0.1 ≡ then_asked p.0.1 asked)
+      × Goes log p.0.0 (lines_said es ++ rest) (then_asked asked after) (texts_in es ++ last) s
+  dialogue log p q [] rest after last s stands h fine goes = (
+    nothing_asked,
+    ap (λ z. z.0.1) (sym h) ∙ sym (then-nothing p.0.1),
+    subst (λ z. Goes log z.0.0 rest after last s) (sym h) (goes log (subst (λ z. Stands log z.0.0) h stands)),
+  )
+  dialogue log p q (e ∷ es) rest after last s stands (j, (asked, inl (request, spells, (keeps, made_so)), is), h) fine goes =
+      let (made, stood, answer) = made_so setup log stands.0 in
+      let failed = (stays (log ++ made) j q es stood h).1 in
+      let (calls, now, prints) = answered log p.0.0 j.0.0 request made asked e.1 stands keeps stood (λ f. fine (failed f)) answer in
+      let (later, total, more) = dialogue calls j q es rest after last s now h fine goes in (
+        then_asked asked later,
+        total ∙ ap (λ z. then_asked z later) is ∙ then-assoc p.0.1 asked later,
+        inl (request, subst (λ ls. Spells ls e.0 request) stands.3 spells, asked, then_asked later after, e.1, texts_in es ++ last, done_on calls j.0.0, prints, more, then-assoc asked later after, append_assoc e.1 (texts_in es) last),
+      )
+  dialogue log p q (e ∷ es) rest after last s stands (j, (asked, inr (skips, bad, none, (same, nothing)), is), h) fine goes =
+      let text : (e.1 ++ texts_in es) ++ last ≡ texts_in es ++ last = ap (λ z. (z ++ texts_in es) ++ last) nothing in
+      let (later, total, more) = dialogue log j q es rest after last s (subst (Stands log) (sym same) stands) h fine goes in
+      let here = subst (λ d. PrintLines options d (lines_said es ++ rest) (then_asked later after) (texts_in es ++ last) s) (ap (done_on log) same) more in (
+        later,
+        total ∙ ap (λ z. then_asked z later) (is ∙ ap (then_asked p.0.1) none ∙ then-nothing p.0.1),
+        inr (
+          bad,
+          inl (
+            skips,
+            subst (λ z. PrintLines options (record (done_on log p.0.0) { has_bad = true }) (lines_said es ++ rest) (then_asked later after) z s) (sym text)
+                (subst (λ b. PrintLines options (record (done_on log p.0.0) { has_bad = b }) (lines_said es ++ rest) (then_asked later after) (texts_in es ++ last) s) (or-true cut) here),
+          ),
+        ),
+      )
 
   -- ---- ends
 
-  at-end : (calls : Log) (on : Served) (last : List ℕ) (s : ℕ) → Stands calls on → HadMemory last → IsEnd on last
-      → s ≡ (if on.has_bad then 3 else 0) → Goes calls on [] last s
-  at-end calls on last s stands had (inr (kept, none)) st = ([], (refl, inr (kept, none), st))
-  at-end calls on last s stands had (inl (changed, ends)) st = shown_so (ends setup calls stands.0)
+  end-failed : (calls : Log) (old new : Served) (asked : Asked) (last : List ℕ) → IsAfter setup calls old.exporter
+      → IsEnd old new asked last → old.has_failed ≡ true → new.has_failed ≡ true
+  end-failed calls old new asked last after (clock, inr (kept, none, failed, empty)) f = failed ∙ f
+  end-failed calls old new asked last after (clock, inl (changed, ends)) f = shown_so (ends setup calls after)
     where
-      shown_so : ((shown : List ℕ) × Shows setup calls on shown × (last ≡ scrape_text on.has_file shown))
-          ⊎ ((last ≡ want_text) × HoldsSome (cells_after setup (steps calls))) → Goes calls on [] last s
-      shown_so (inl (shown, shows, t)) =
-          ([], (refl, inl (changed, exposition calls on on.has_file shown last stands stands.2 shows t), st))
-      shown_so (inr (want, held)) = absurd (had-none last want had)
+      shown_so : ((shown : List ℕ) × (done : Bool) × Shows setup calls old shown × (last ≡ scrape_text old.has_file shown)
+          × HandsOut old.has_file shown done asked.files × (new.has_failed ≡ (if done then old.has_failed else true)))
+          ⊎ ((last ≡ fault_text old.has_file error.Memory) × (new.has_failed ≡ true) × HoldsSome (cells_after setup (steps calls)))
+          → new.has_failed ≡ true
+      shown_so (inl (shown, true, shows, t, out, failed)) = failed ∙ f
+      shown_so (inl (shown, false, shows, t, out, failed)) = failed
+      shown_so (inr (want, failed, held)) = failed
 
-  module _ (at_end : Type 0) (bytes read left : List ℕ) (ends : at_end → left ≡ []) (whole : bytes ≡ read ++ left) (start new : Served)
-      (lines last text : List ℕ) (status : ℕ) (prints : text ≡ lines ++ last) (had : HadMemory text) (stands : Stands [] start) where
-    -- what a run over the lines wrote, if they are these and then others
-    over : (es : Dialogue) (rest : List (List ℕ)) → lines_of bytes ≡ lines_in es ++ rest → lines ≡ texts_in es
-        → (notes : Unit {0}) → AreAnswered (answers {Notes = Unit {0}} options.skips_bad) (start, tt) es (new, notes)
-        → ((calls : Log) → Stands calls new → HadMemory last → Goes calls new rest last status)
-        → Goes [] start (lines_of bytes) text status
-    over es rest are is notes h goes =
-        let whole_text : text ≡ texts_in es ++ last = prints ∙ ap (λ z. z ++ last) is in
-        let (clock, more) = dialogue [] (start, tt) (new, notes) es rest last status stands h (subst HadMemory whole_text had) goes in (
+  at-end : (calls : Log) (old new : Served) (asked : Asked) (last : List ℕ) (s : ℕ) → Stands calls old → (new.has_failed ≡ true → ⊥)
+      → IsEnd old new asked last → s ≡ (if (if cut then true else old.has_bad) then 3 else 0) → Goes calls old [] asked last s
+  at-end calls old new asked last s stands fine (clock, inr (kept, none, failed, empty)) st =
+      ((clock, inr (sym (ap (λ b. shows_at_end b old.is_changed) stands.4) ∙ kept, none, empty)), st)
+  at-end calls old new asked last s stands fine (clock, inl (changed, ends)) st = shown_so (ends setup calls stands.0)
+    where
+      shown_so : ((shown : List ℕ) × (done : Bool) × Shows setup calls old shown × (last ≡ scrape_text old.has_file shown)
+          × HandsOut old.has_file shown done asked.files × (new.has_failed ≡ (if done then old.has_failed else true)))
+          ⊎ ((last ≡ fault_text old.has_file error.Memory) × (new.has_failed ≡ true) × HoldsSome (cells_after setup (steps calls)))
+          → Goes calls old [] asked last s
+      shown_so (inl (shown, true, shows, t, out, failed)) = (
+        (
           clock,
-          subst (λ z. PrintLines options (done_on [] start) z clock text status) (sym are)
-              (subst (λ z. PrintLines options (done_on [] start) (lines_in es ++ rest) clock z status) (sym whole_text) more),
-        )
+          inl (sym (ap (λ b. shows_at_end b old.is_changed) stands.4) ∙ changed, exposition calls old old.has_file shown last asked.files stands stands.2 shows t out),
+        ),
+        st,
+      )
+      shown_so (inl (shown, false, shows, t, out, failed)) = absurd (fine failed)
+      shown_so (inr (want, failed, held)) = absurd (fine failed)
 
-    ended_so : (q r : Result ℕ RunError) → status ≢ 1
-        → IsRun (answers {Notes = Unit {0}} options.skips_bad) (Stops options.skips_bad) at_end 1 (start, tt) new read lines q
-        → EndsLines new last q r → IsStatus r new.has_bad status → Goes [] start (lines_of bytes) text status
-    ended_so (Ok n) (Ok m) ok (es, end, are, (notes, h), is, count) (shows, same) (inl one) = absurd (ok one)
-    ended_so (Ok n) (Ok m) ok (es, end, are, (notes, h), is, count) (shows, same) (inr st) =
-        over es [] (ap lines_of (whole ∙ ap (λ z. read ++ z) (ends end) ∙ append-nil read) ∙ are ∙ sym (append-nil (lines_in es))) is
-        notes h (λ calls now had_last. at-end calls new last status now had_last shows st)
-    ended_so (Ok n) (Err (BadLine k)) ok run none st = absurd none
-    ended_so (Ok n) (Err (Memory at)) ok run ending st = absurd (ok st)
-    ended_so (Ok n) (Err Device) ok run ending st = absurd (ok st)
-    ended_so (Err (BadLine k)) r ok (es, line, first, are, (stops, bad), (notes, h), is, count) (none, same) st =
-        let bad_status : status ≡ 2 = subst (λ x. IsStatus x new.has_bad status) same st in
-        let (more, all) = first-lines at_end bytes read left (lines_in es) line ends whole first in
-        over es (line ∷ more) all is notes h
-        (λ calls now had_last. ([], inr (bad, inr (stops, refl, none, bad_status))))
-    ended_so (Err (Memory at)) r ok run (none, same) st = absurd (ok (subst (λ x. IsStatus x new.has_bad status) same st))
-    ended_so (Err Device) r ok run (none, same) st = absurd (ok (subst (λ x. IsStatus x new.has_bad status) same st))
+  module _ (at_end : Type 0) (bytes front half left : List ℕ) (ends : at_end → left ≡ []) (whole : bytes ≡ (front ++ half) ++ left)
+      (is_cut : cut ≡ loses_line options.accepts_partial bytes) (start served new : Served) (before after : Asked) (lines last text : List ℕ) (status : ℕ) (prints : text ≡ lines ++ last)
+      (stands : Stands [] start) where
+    -- what a run over the lines wrote, if they are these and then others
+    over : (es : Dialogue) (rest : List (List ℕ)) → lines_in options.accepts_partial bytes ≡ lines_said es ++ rest → lines ≡ texts_in es
+        → (notes : Unit {0}) → AreAnswered (answers_since options.skips_bad) ((start, nothing_asked), tt) es ((served, before), notes)
+        → (served.has_failed ≡ true → ⊥) → ((calls : Log) → Stands calls served → Goes calls served rest after last status)
+        → Goes [] start (lines_in options.accepts_partial bytes) (then_asked before after) text status
+    over es rest are is notes h fine goes =
+        let whole_text : text ≡ texts_in es ++ last = prints ∙ ap (λ z. z ++ last) is in
+        let (asked, total, more) = dialogue [] ((start, nothing_asked), tt) ((served, before), notes) es rest after last status stands h fine goes in
+        subst (λ z. PrintLines options (done_on [] start) z (then_asked before after) text status) (sym are)
+        (subst (λ z. PrintLines options (done_on [] start) (lines_said es ++ rest) (then_asked before after) z status) (sym whole_text)
+        (subst (λ z. PrintLines options (done_on [] start) (lines_said es ++ rest) (then_asked z after) (texts_in es ++ last) status) (sym total) more))
 
-  fresh : (start : Served) → IsFresh options start → done_on [] start ≡ nothing_done
-  fresh start (after, told, naming, file, changed, bad, labels) =
-      λ i. record { calls = []; legend = λ kind name. told kind name i; is_changed = changed i; has_bad = bad i }
+    ended_so : (q r : Result ℕ RunError) → (new.has_failed ≡ true → ⊥) → status ≡ own_status r new.has_bad → status ≢ 1
+        → IsRun (answers_since options.skips_bad) (Stops options.skips_bad) at_end 1 ((start, nothing_asked), tt) (served, before) front lines q
+        → EndsLines served new after last q r → IsLeft options.accepts_partial front half q → OnOk q (new.has_bad ≡ or_left half served.has_bad)
+        → Goes [] start (lines_in options.accepts_partial bytes) (then_asked before after) text status
+    ended_so (Ok n) (Ok m) fine st ok (es, end, are, (notes, h), is, count) (shows, same) is_left skipped =
+        let all = whole ∙ ap (λ z. (front ++ half) ++ z) (ends end) ∙ append-nil (front ++ half) in
+        let bad : new.has_bad ≡ (if cut then true else served.has_bad) =
+        skipped ∙ half-taken options.accepts_partial bytes front half n served.has_bad all is_left ∙ sym (ap (λ b. if b then true else served.has_bad) is_cut) in
+        let ((calls, stood), failed) = stays [] ((start, nothing_asked), tt) ((served, before), notes) es stands.0 h in
+        over es [] (all-taken options.accepts_partial bytes front half n all is_left ∙ are ∙ sym (append-nil (lines_said es))) is
+        notes h (λ f. fine (end-failed calls served new after last stood shows f))
+        (λ calls now. at-end calls served new after last status now fine shows (st ∙ ap (λ b. if b then 3 else 0) bad))
+    ended_so (Ok n) (Err (BadLine k)) fine st ok run none is_left skipped = absurd none
+    ended_so (Ok n) (Err (Memory at)) fine st ok run ending is_left skipped = absurd (ok st)
+    ended_so (Ok n) (Err Device) fine st ok run ending is_left skipped = absurd (ok st)
+    ended_so (Err (BadLine k)) r fine st ok (es, line, first, are, (stops, bad), (notes, h), is, count) (none, nothing, kept, same) is_left skipped =
+        let bad_status : status ≡ 2 = st ∙ ap (λ x. own_status x new.has_bad) same in
+        let (more, all) = first-taken options.accepts_partial at_end bytes front half left (lines_said es) line k ends whole is_left first are in
+        over es (line ∷ more) all is notes h (λ f. fine (kept ∙ f)) (λ calls now. inr (bad, inr (stops, nothing, none, bad_status)))
+    ended_so (Err (Memory at)) r fine st ok run (none, nothing, kept, same) is_left skipped =
+        absurd (ok (st ∙ ap (λ x. own_status x new.has_bad) same))
+    ended_so (Err Device) r fine st ok run (none, nothing, kept, same) is_left skipped =
+        absurd (ok (st ∙ ap (λ x. own_status x new.has_bad) same))
 
-  pub run-output : (bytes text : List ℕ) (status : ℕ) → Runs options bytes text status → status ≢ 1 → HadMemory text
-      → (clock : List ℕ) × IsOutput options bytes clock text status
-  run-output bytes text status (None, (read, wrote, r, has_bad, took, writes, serves, st)) ok had = absurd took
-  run-output bytes text status (Some left, (read, wrote, r, has_bad, took, writes, inr (nothing, none, same), st)) ok had =
-      absurd (ok (subst (λ x. IsStatus x has_bad status) same st))
-  run-output bytes text status
-      (Some left, (read, wrote, r, has_bad, took, writes, inl (start, is_fresh, (new, lines, last, q, run, ends, prints, skipped)), st)) ok had =
-      let (after, told, naming, file, changed, bad, labels) = is_fresh in
-      let (clock, goes) = ended_so (left ≡ []) bytes read left (λ e. e) took start new lines last text status (writes ∙ prints) had
-      (after, naming, file, labels) q r ok run ends (subst (λ b. IsStatus r b status) skipped st) in
-      (clock, subst (λ d. PrintLines options d (lines_of bytes) clock text status) (fresh start is_fresh) goes)
+  fresh : (start : Served) → IsFresh options start → done_on [] start ≡ begun cut
+  fresh start (after, told, naming, file, changed, bad, labels, ends, failed) =
+      let none : (if cut then true else start.has_bad) ≡ cut = ap (λ b. if cut then true else b) bad ∙ or-false cut in
+      λ i. record { calls = []; legend = λ kind name. told kind name i; is_changed = changed i; has_bad = none i }
+
+  -- what was asked since nothing was
+  since_nothing : (asked all : Asked) → Asks (Some nothing_asked) (Some asked) all → asked ≡ all
+  since_nothing asked all e = cc
+
+  output-cut : (bytes text : List ℕ) (asked : Asked) (status : ℕ) → cut ≡ loses_line options.accepts_partial bytes
+      → Runs options bytes asked text status → status ≢ 1
+      → PrintLines options (begun cut) (lines_in options.accepts_partial bytes) asked text status
+  output-cut bytes text asked status is_cut (None, (read, wrote, all, took, writes, asks, serves)) ok = absurd took
+  output-cut bytes text asked status is_cut (Some left, (read, wrote, all, took, writes, asks, inr (nothing, none, nor, one))) ok =
+      absurd (ok one)
+  output-cut bytes text asked status is_cut
+      (Some left, (read, wrote, all, took, writes, asks, inl (start, end, r, is_fresh, (served, lines, last, before, after, q, front, half, parts, is_left, run, ends, prints, asked_so, skipped), st))) ok =
+      let (stood, told, naming, file, changed, bad, labels, ending, failed) = is_fresh in
+      let fine : (end.has_failed ≡ true → ⊥) = λ f. ok (st ∙ ap (λ b. if b then 1 else own_status r end.has_bad) f) in
+      let own : status ≡ own_status r end.has_bad =
+      st ∙ ap (λ b. if b then 1 else own_status r end.has_bad) (is-false end.has_failed fine) in
+      let goes = ended_so (left ≡ []) bytes front half left (λ e. e) (took ∙ ap (λ z. z ++ left) parts) is_cut start served end before after lines last text status (writes ∙ prints)
+      (stood, naming, file, labels, ending) q r fine own ok run ends is_left skipped in
+      subst (λ a. PrintLines options (begun cut) (lines_in options.accepts_partial bytes) a text status) (sym (since_nothing asked all asks ∙ asked_so))
+      (subst (λ d. PrintLines options d (lines_in options.accepts_partial bytes) (then_asked before after) text status) (fresh start is_fresh) goes)
+
+pub run-output : (options : Options) (bytes text : List ℕ) (asked : Asked) (status : ℕ) → Runs options bytes asked text status → status ≢ 1
+    → IsOutput options bytes asked text status
+run-output options bytes text asked status runs ok =
+    output-cut options (loses_line options.accepts_partial bytes) bytes text asked status refl runs ok

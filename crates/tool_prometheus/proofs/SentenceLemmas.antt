@@ -1,6 +1,6 @@
 -- A line is that of one sentence, or of none.
 use Rattle.std.proofs.Common.{◌≡◌, ◌≢◌, ◌∙◌, ℕ, ◌<◌, ◌^◌, cond, List, [], ◌∷◌, ◌++◌, codes, decimal, refl, ap, sym, subst}
-use Rattle.std.specs.Prelude.{Option, Result, Ok, Err, MatchResult, IsUtf8}
+use Rattle.std.specs.Prelude.{Option, Result, Ok, Err, MatchResult}
 use Rattle.std.proofs.lemmas.Bool.{false≢true, ne_eqb}
 use Rattle.std.proofs.lemmas.Slice.Eq.{bytes_eq-Decides}
 use Rattle.metrics.specs.declared.handles.Update.{Update}
@@ -14,7 +14,7 @@ use Rattle.tool_grammar.proofs.WordsLemmas.{before_same, lacks_literal, lacks_up
 use Rattle.tool_export.proofs.RequestLemmas.{no_scrape}
 use Rattle.tool_prometheus.specs.declared.flaws.Unread.{Unread}
 use Rattle.tool_prometheus.specs.declared.requests.Request.{Request}
-use Rattle.tool_prometheus.specs.Lines.{IsName, Written, AreWritten, label_words, Sentence, change, describe, scrape, scrape_by_clock, comment, empty}
+use Rattle.tool_prometheus.specs.Lines.{IsName, IsText, Written, AreWritten, label_words, Sentence, change, describe, scrape, scrape_by_clock, comment, empty}
 use Rattle.tool_prometheus.specs.Lines.{spelling, CanBeSpelled, Reads, IsNone, IsBegun, Fails, body_of}
 use Rattle.tool_prometheus.specs.declared.flaws.Unread.TheVariants.{Memory, Bad}
 
@@ -98,7 +98,7 @@ module _ (word rest : List ℕ) (lacks : Lacks 32 word) (starts : StartsAt 32 re
 
   pub describe_line : (common : List LabelParts) → word ≡ codes "describe" → (r : Result Request Unread)
       → MatchResult r (Reads common (codes "describe" ++ rest))
-      (Fails ((kind : MetricKind) (name : List ℕ) (unit : Option Measure) (text : List ℕ) → IsName name → IsUtf8 text
+      (Fails ((kind : MetricKind) (name : List ℕ) (unit : Option Measure) (text : List ℕ) → IsName name → IsText text
       → rest ≡ 32 ∷ (kind_word kind ++ 32 ∷ (name_word name ++ 32 ∷ (unit_word unit ++ 32 ∷ text))) → ⊥))
       → MatchResult r (Reads common (word ++ rest)) (Fails (IsNone (word ++ rest)))
   describe_line common is (Ok q) h = subst (λ w. Reads common (w ++ rest) q) (sym is) h
@@ -106,7 +106,7 @@ module _ (word rest : List ℕ) (lacks : Lacks 32 word) (starts : StartsAt 32 re
   describe_line common is (Err (Bad cause at)) h = λ s can is_spelled. no s can (cut s is_spelled) h
     where
       no : (s : Sentence) → CanBeSpelled s → IsOther s × (word ≡ first_word s) × (rest ≡ behind_it s)
-          → ((kind : MetricKind) (name : List ℕ) (unit : Option Measure) (text : List ℕ) → IsName name → IsUtf8 text
+          → ((kind : MetricKind) (name : List ℕ) (unit : Option Measure) (text : List ℕ) → IsName name → IsText text
           → rest ≡ 32 ∷ (kind_word kind ++ 32 ∷ (name_word name ++ 32 ∷ (unit_word unit ++ 32 ∷ text))) → ⊥) → ⊥
       no (change by name ws) can at none = no_describe by (sym is ∙ at.1)
       no (describe kind name unit text) can at none = none kind name unit text can.0 can.1 at.2

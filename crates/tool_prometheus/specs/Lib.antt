@@ -1,3 +1,4 @@
+pub mod Asked
 pub mod Lines
 pub mod Exposed
 pub mod Making

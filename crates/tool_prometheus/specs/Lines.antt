@@ -1,6 +1,6 @@
 -- The lines of this tool: what each spells.
 use Rattle.std.specs.Prelude.{if◌then◌else◌, ◌≡◌, ◌≢◌, ℕ, ◌<◌, ◌≤◌, ◌^◌, Bool, true, false, List, [], ◌∷◌, ◌++◌, ◌⊎◌, All, IsUtf8, nat_eq, bytes_eq}
-use Rattle.std.specs.Prelude.{codes, decimal, flat_map, Option, None, Some}
+use Rattle.std.specs.Prelude.{codes, decimal, flat_map, length, Option, None, Some}
 use Rattle.std.specs.List.{AllByRecursion, list_any}
 use Rattle.metrics_names.specs.Names.{LabelParts, name_word, kind_word}
 use Rattle.metrics_names.specs.declared.kind.MetricKind.{MetricKind}
@@ -28,9 +28,13 @@ IsVisible c = (32 < c) × (c < 127)
 abbrev pub IsText : List ℕ → Type 0
 IsText text = All IsPlain text × IsUtf8 text
 
--- a text in one word, save for the dash
+-- no character of a series as the text format writes it: a brace, a quote, a comma or an equals sign
+abbrev pub IsOfName : ℕ → Type 0
+IsOfName c = (c ≢ 123) × (c ≢ 125) × (c ≢ 34) × (c ≢ 44) × (c ≢ 61)
+
+-- a text in one word, save for the dash, and for a series with its labels
 abbrev pub IsName : List ℕ → Type 0
-IsName name = IsText name × Lacks 32 name × (name ≢ codes "-")
+IsName name = IsText name × Lacks 32 name × (name ≢ codes "-") × All IsOfName name
 
 -- ---- labels
 
@@ -81,10 +85,14 @@ label_of w = (w.key, w.value)
 abbrev pub LacksKey : List ℕ → List LabelParts → Type 0
 LacksKey key labels = All (λ l. l.0 ≢ key) labels
 
--- labels that may follow these: each has a key that none before it has
+-- there may be one more label
+abbrev pub HasRoom : List LabelParts → Type 0
+HasRoom labels = length labels < 1000
+
+-- labels that may follow these: each has a key that none before it has, and there are 1,000 at most
 abbrev pub MayFollow : List LabelParts → List Written → Type 0
 MayFollow labels [] = Unit {0}
-MayFollow labels (w ∷ ws) = IsWritten w × LacksKey w.key labels × MayFollow (placed (label_of w) labels) ws
+MayFollow labels (w ∷ ws) = IsWritten w × LacksKey w.key labels × HasRoom labels × MayFollow (placed (label_of w) labels) ws
 
 abbrev pub AreWritten : List Written → Type 0
 AreWritten ws = MayFollow [] ws
@@ -138,7 +146,7 @@ spelling empty = []
 -- the sentences that have a line
 abbrev pub CanBeSpelled : Sentence → Type 0
 CanBeSpelled (change by name ws) = IsInRange by × IsName name × AreWritten ws
-CanBeSpelled (describe kind name unit text) = IsName name × IsUtf8 text
+CanBeSpelled (describe kind name unit text) = IsName name × IsText text
 CanBeSpelled (scrape now) = now < 2 ^ 64
 CanBeSpelled scrape_by_clock = Unit {0}
 CanBeSpelled (comment text) = Unit {0}

@@ -1,5 +1,5 @@
 -- What a whole run writes, if nothing fails.
-use Rattle.std.specs.Prelude.{if◌then◌else◌, ◌≡◌, ◌≢◌, ℕ, Bool, true, false, List, [], ◌∷◌, ◌++◌, ◌⊎◌, Ok, Option, None, Some, OnSome, codes}
+use Rattle.std.specs.Prelude.{if◌then◌else◌, ◌≡◌, ℕ, Bool, true, false, List, [], ◌∷◌, ◌++◌, ◌⊎◌, Ok, Option, None, Some, OnSome}
 use Rattle.std.specs.List.{AllByRecursion}
 use Rattle.std.specs.Io.KnownBytes.{Consumes, Appends, IsAtEnd}
 use Rattle.metrics_names.specs.Names.{KeyParts}
@@ -7,19 +7,20 @@ use Rattle.metrics_registry.specs.Idleness.{Answered}
 use Rattle.metrics_exporter.specs.Exporting.{Log, updates, expires, steps, cells_after, IsExpiry, IsFull}
 use Rattle.metrics_exporter.specs.Describing.{Legend, no_legend, told_again}
 use Rattle.metrics_prometheus.specs.Exposition.{IsDescribed}
-use Rattle.tool_export.specs.Lines.{lines_of}
+use Rattle.tool_export.specs.Lines.{lines_of, ended_lines, is_cut}
 use Rattle.tool_prometheus.specs.Making.{setup_for}
 use Rattle.tool_prometheus.specs.declared.commands.Options.{Options}
 use Rattle.tool_prometheus.specs.declared.requests.Request.{Request}
 use Rattle.tool_prometheus.specs.declared.requests.Request.TheVariants.{Change, Describe, Scrape, Nothing}
 use Rattle.tool_prometheus.specs.Lines.{Spells, IsBad}
-use Rattle.tool_prometheus.specs.Exposed.{scrape_text, full_text}
+use Rattle.tool_prometheus.specs.Asked.{Asked, Asks, nothing_asked, then_asked}
+use Rattle.tool_prometheus.specs.Exposed.{scrape_text, HasMoment, HandsOut, shows_at_end}
 use Rattle.tool_prometheus.specs.Serving.{Ends}
 
 -- ---- one request
 
 -- what was done so far: the calls in order, the descriptions of names, whether something changed since the last scrape, and
--- whether a bad line was skipped
+-- whether a bad line was skipped, or the last one is not counted
 pub record Done : Type 0 where
   pub calls : Log
   pub legend : Legend
@@ -29,69 +30,68 @@ pub record Done : Type 0 where
 abbrev pub nothing_done : Done
 nothing_done = record { calls = []; legend = no_legend; is_changed = false; has_bad = false }
 
--- an exposition of what is held, unless it goes to a file
-abbrev pub PrintsExposition : Options → Done → List ℕ → Type 0
-PrintsExposition options done text = (shown : List ℕ)
+-- an exposition of what is held, in the file or on the output
+abbrev pub PrintsExposition : Options → Done → List (List ℕ) → List ℕ → Type 0
+PrintsExposition options done files text = (shown : List ℕ)
     × IsDescribed options.naming done.legend (cells_after (setup_for options) (steps done.calls)) shown
-    × (text ≡ scrape_text options.has_file shown)
+    × (text ≡ scrape_text options.has_file shown) × HandsOut options.has_file shown true files
 
--- the moment of a scrape is its own, or else one that the clock showed
-abbrev pub HasMoment : Option ℕ → List ℕ → ℕ → Type 0
-HasMoment (Some now) clock moment = (clock ≡ []) × (moment ≡ now)
-HasMoment None clock moment = clock ≡ moment ∷ []
-
--- What a request prints, and what is done then; the clock showed these moments. An update is made, unless the count of its
--- samples is full. A scrape removes what is idle.
-abbrev pub Prints : Options → Done → Request → List ℕ → Done → List ℕ → Type 0
-Prints options old (Change key by) clock new text = (clock ≡ [])
-    × (((IsFull (steps old.calls) key by → ⊥) × (text ≡ [])
-    × (new ≡ record old { calls = old.calls ++ updates key by (Ok tt) ∷ []; is_changed = true }))
-    ⊎ (IsFull (steps old.calls) key by × (text ≡ full_text) × (new ≡ old)))
-Prints options old (Describe kind name unit note) clock new text = (clock ≡ []) × (text ≡ [])
+-- What a request prints, what it asks of the surroundings, and what is done then. An update is made; it fails only if the count
+-- of its samples is full. A scrape removes what is idle.
+abbrev pub Prints : Options → Done → Request → Asked → List ℕ → Done → Type 0
+Prints options old (Change key by) asked text new = (asked ≡ nothing_asked) × (IsFull (steps old.calls) key by → ⊥) × (text ≡ [])
+    × (new ≡ record old { calls = old.calls ++ updates key by (Ok tt) ∷ []; is_changed = true })
+Prints options old (Describe kind name unit note) asked text new = (asked ≡ nothing_asked) × (text ≡ [])
     × (new ≡ record old { legend = told_again kind name unit note old.legend; is_changed = true })
-Prints options old (Scrape moment) clock new text = (now : ℕ) × HasMoment moment clock now
+Prints options old (Scrape moment) asked text new = (now : ℕ) × HasMoment moment asked.clock now
     × (checks : List (Answered KeyParts)) × (n : ℕ) × IsExpiry (setup_for options) (steps old.calls) now checks (Ok n)
     × (new ≡ record old { calls = old.calls ++ expires now checks (Ok n) ∷ []; is_changed = false })
-    × PrintsExposition options new text
-Prints options old Nothing clock new text = (clock ≡ []) × (text ≡ []) × (new ≡ old)
+    × PrintsExposition options new asked.files text
+Prints options old Nothing asked text new = (asked ≡ nothing_asked) × (text ≡ []) × (new ≡ old)
 
 -- ---- a run
 
--- at the end of the input what is held is shown, if something changed since the last scrape
-abbrev pub PrintsEnd : Options → Done → List ℕ → Type 0
-PrintsEnd options done text =
-    ((done.is_changed ≡ true) × PrintsExposition options done text) ⊎ ((done.is_changed ≡ false) × (text ≡ []))
+-- at the end of the input what is held is shown, if something changed since the last scrape, unless only scrapes show it
+abbrev pub PrintsEnd : Options → Done → Asked → List ℕ → Type 0
+PrintsEnd options done asked text = (asked.clock ≡ [])
+    × (((shows_at_end options.at_scrapes_only done.is_changed ≡ true) × PrintsExposition options done asked.files text)
+    ⊎ ((shows_at_end options.at_scrapes_only done.is_changed ≡ false) × (asked.files ≡ []) × (text ≡ [])))
+
+-- the lines of an input: a last one that lacks its line feed is none, unless it is accepted
+abbrev pub lines_in : Bool → List ℕ → List (List ℕ)
+lines_in accepts_partial bytes = if accepts_partial then lines_of bytes else ended_lines bytes
+
+-- a last line is not counted
+abbrev pub loses_line : Bool → List ℕ → Bool
+loses_line accepts_partial bytes = if accepts_partial then false else is_cut bytes
+
+abbrev pub begun : Bool → Done
+begun loses = record nothing_done { has_bad = loses }
 
 -- Lines print one after another, and then the end of the input does. A bad line is skipped, or ends the run. The status is 2
--- at a bad line, 3 if bad lines were skipped, and otherwise 0.
-abbrev pub PrintLines : Options → Done → List (List ℕ) → List ℕ → List ℕ → ℕ → Type 0
-PrintLines options done [] clock text status =
-    (clock ≡ []) × PrintsEnd options done text × (status ≡ (if done.has_bad then 3 else 0))
-PrintLines options done (l ∷ ls) clock text status =
-    ((request : Request) × Spells options.labels l request × (read later own others : List ℕ) × (new : Done)
-    × Prints options done request read new own × PrintLines options new ls later others status
-    × (clock ≡ read ++ later) × (text ≡ own ++ others))
-    ⊎ (IsBad l × (((options.skips_bad ≡ true) × PrintLines options (record done { has_bad = true }) ls clock text status)
-    ⊎ ((options.skips_bad ≡ false) × (clock ≡ []) × (text ≡ []) × (status ≡ 2))))
+-- at a bad line, 3 if bad lines were skipped or the last one is not counted, and otherwise 0.
+abbrev pub PrintLines : Options → Done → List (List ℕ) → Asked → List ℕ → ℕ → Type 0
+PrintLines options done [] asked text status =
+    PrintsEnd options done asked text × (status ≡ (if done.has_bad then 3 else 0))
+PrintLines options done (l ∷ ls) asked text status =
+    ((request : Request) × Spells options.labels l request × (own later : Asked) × (part others : List ℕ) × (new : Done)
+    × Prints options done request own part new × PrintLines options new ls later others status
+    × (asked ≡ then_asked own later) × (text ≡ part ++ others))
+    ⊎ (IsBad l × (((options.skips_bad ≡ true) × PrintLines options (record done { has_bad = true }) ls asked text status)
+    ⊎ ((options.skips_bad ≡ false) × (asked ≡ nothing_asked) × (text ≡ []) × (status ≡ 2))))
 
--- The text and the status of a run with these options over these bytes. The clock showed these moments: one for each scrape without its own.
-abbrev pub IsOutput : Options → List ℕ → List ℕ → List ℕ → ℕ → Type 0
-IsOutput options bytes clock text status = PrintLines options nothing_done (lines_of bytes) clock text status
+-- The text and the status of a run with these options over these bytes, and what it asks of the surroundings: a moment for each
+-- scrape without its own, and to put each scrape's text into the file.
+abbrev pub IsOutput : Options → List ℕ → Asked → List ℕ → ℕ → Type 0
+IsOutput options bytes asked text status =
+    PrintLines options (begun (loses_line options.accepts_partial bytes)) (lines_in options.accepts_partial bytes) asked text status
 
 -- ---- what `command` says of a run
 
--- A run over these bytes wrote this text and ended with this status, by the contract of `command`.
-abbrev pub Runs : Options → List ℕ → List ℕ → ℕ → Type 0
-Runs options bytes text status = (left : Option (List ℕ)) × Ends options (OnSome (Some bytes) (IsAtEnd left))
-    (Consumes (Some bytes) left) (Appends (Some []) (Some text)) status
-
--- no line of the text says that memory ran out
-abbrev pub HadMemory : List ℕ → Type 0
-HadMemory text = AllByRecursion (λ line. line ≢ codes "# refused E1 memory") (lines_of text)
-
--- neither memory, the device nor the file failed
-abbrev pub NothingFailed : List ℕ → ℕ → Type 0
-NothingFailed text status = (status ≢ 1) × HadMemory text
+-- A run over these bytes asked this, wrote this text and ended with this status, by the contract of `command`.
+abbrev pub Runs : Options → List ℕ → Asked → List ℕ → ℕ → Type 0
+Runs options bytes asked text status = (left : Option (List ℕ)) × Ends options (OnSome (Some bytes) (IsAtEnd left))
+    (Consumes (Some bytes) left) (Appends (Some []) (Some text)) (Asks (Some nothing_asked) (Some asked)) status
 
 -- the same, but for the number of shards
 abbrev pub with_shards : ℕ → Options → Options
@@ -99,4 +99,5 @@ with_shards n options = record options { plan = record options.plan { shards = n
 
 -- each scrape has its own moment
 abbrev pub NamesMoments : Options → List ℕ → Type 0
-NamesMoments options bytes = AllByRecursion (λ line. Spells options.labels line (Scrape None) → ⊥) (lines_of bytes)
+NamesMoments options bytes = AllByRecursion (λ line. Spells options.labels line (Scrape None) → ⊥)
+    (lines_in options.accepts_partial bytes)

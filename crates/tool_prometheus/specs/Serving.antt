@@ -1,56 +1,78 @@
 -- What the program did with the lines that it read.
-use Rattle.std.specs.Prelude.{if◌then◌else◌, ◌≡◌, ℕ, Bool, false, List, [], ◌++◌, ◌⊎◌, Result, Ok, Err, None}
+use Rattle.std.specs.Prelude.{if◌then◌else◌, ◌≡◌, ℕ, Bool, true, false, List, [], ◌∷◌, ◌++◌, ◌⊎◌, Result, Ok, Err, OnOk, Option, None}
 use Rattle.tool_grammar.specs.declared.error.RunError.{RunError}
 use Rattle.tool_grammar.specs.declared.error.RunError.TheVariants.{Memory, BadLine, Device}
-use Rattle.tool_export.specs.Answering.{Answering, IsRun, status_number}
+use Rattle.tool_export.specs.Answering.{Answering, IsRun, IsLeft, status_number}
 use Rattle.metrics_exporter.specs.Kept.{IsAfter, described}
 use Rattle.metrics_exporter.specs.Describing.{SameLegend, no_legend}
 use Rattle.tool_prometheus.specs.Making.{setup_for}
 use Rattle.tool_prometheus.specs.declared.answering.Served.{Served}
 use Rattle.tool_prometheus.specs.declared.commands.Options.{Options}
+use Rattle.tool_prometheus.specs.Asked.{Asked, Asks, nothing_asked, then_asked}
 use Rattle.tool_prometheus.specs.Lines.{IsBad}
 use Rattle.tool_prometheus.specs.Exposed.{AnswersLine, IsEnd}
 
--- what answers lines, whatever is noted of the run
-abbrev pub answers : {Notes : Type 0} → Bool → Answering (Served × Notes)
-answers skips p line text q = AnswersLine skips p.0 line text q.0
+-- what answers lines, by surroundings that say what was asked of them; whatever is noted of the run
+abbrev pub answers : {Around Notes : Type 0} → (Around → Option Asked) → Bool → Answering ((Served × Around) × Notes)
+answers asked_of skips p line text q = (asked : Asked) × AnswersLine skips p.0.0 line asked text q.0.0
+    × Asks (asked_of p.0.1) (asked_of q.0.1) asked
+
+-- the same, by any surroundings, with what was asked of them since the beginning
+abbrev pub answers_since : Bool → Answering ((Served × Asked) × Unit {0})
+answers_since skips p line text q = (asked : Asked) × AnswersLine skips p.0.0 line asked text q.0.0
+    × (q.0.1 ≡ then_asked p.0.1 asked)
 
 -- a bad line ends a run that doesn't skip it
 abbrev pub Stops : Bool → List ℕ → Type 0
 Stops skips line = (skips ≡ false) × IsBad line
 
 -- after the last line what is held may be shown; memory or the device may fail then, and what was shown may be cut short
-abbrev pub EndsLines : Served → List ℕ → Result ℕ RunError → Result ℕ RunError → Type 0
-EndsLines on text (Ok n) (Ok m) = IsEnd on text × (m ≡ n)
-EndsLines on text (Ok n) (Err (BadLine k)) = ⊥
-EndsLines on text (Ok n) (Err (Memory at)) = (at ≡ None) × (text ≡ [])
-EndsLines on text (Ok n) (Err Device) = (whole more : List ℕ) × IsEnd on whole × (whole ≡ text ++ more)
-EndsLines on text (Err e) r = (text ≡ []) × (r ≡ Err e)
+abbrev pub EndsLines : Served → Served → Asked → List ℕ → Result ℕ RunError → Result ℕ RunError → Type 0
+EndsLines old new asked text (Ok n) (Ok m) = IsEnd old new asked text × (m ≡ n)
+EndsLines old new asked text (Ok n) (Err (BadLine k)) = ⊥
+EndsLines old new asked text (Ok n) (Err (Memory at)) = (at ≡ None) × (text ≡ [])
+EndsLines old new asked text (Ok n) (Err Device) = (whole more : List ℕ) × IsEnd old new asked whole × (whole ≡ text ++ more)
+EndsLines old new asked text (Err e) r = (text ≡ []) × (asked ≡ nothing_asked) × (new.has_failed ≡ old.has_failed) × (r ≡ Err e)
 
--- what a run over lines did and wrote, what it wrote at the end, and whether it skipped a bad line
-abbrev pub IsPrometheusRun : Bool → Type 0 → Served → List ℕ → List ℕ → Result ℕ RunError → Bool → Type 0
-IsPrometheusRun skips at_end old read text r has_bad = (new : Served) × (lines last : List ℕ) × (q : Result ℕ RunError)
-    × IsRun (answers {Notes = Unit {0}} skips) (Stops skips) at_end 1 (old, tt) new read lines q
-    × EndsLines new last q r × (text ≡ lines ++ last) × (has_bad ≡ new.has_bad)
+-- a line that was left counts as a bad one
+abbrev pub or_left : List ℕ → Bool → Bool
+or_left [] has_bad = has_bad
+or_left (x ∷ xs) has_bad = true
+
+-- what a run over lines did and wrote, what it asked of the surroundings, which last line it left, and what it did and wrote at the
+-- end
+abbrev pub IsPrometheusRun : Bool → Bool → Type 0 → Served → List ℕ → List ℕ → Asked → Result ℕ RunError → Served → Type 0
+IsPrometheusRun skips takes at_end old read text asked r new = (served : Served) × (lines last : List ℕ) × (before after : Asked)
+    × (q : Result ℕ RunError) × (front left : List ℕ) × (read ≡ front ++ left) × IsLeft takes front left q
+    × IsRun (answers_since skips) (Stops skips) at_end 1 ((old, nothing_asked), tt) (served, before) front lines q
+    × EndsLines served new after last q r × (text ≡ lines ++ last) × (asked ≡ then_asked before after)
+    × OnOk q (new.has_bad ≡ or_left left served.has_bad)
 
 -- an exporter of the options, before its first line: nothing was called or described
 abbrev pub IsFresh : Options → Served → Type 0
 IsFresh options on = IsAfter (setup_for options) [] on.exporter × SameLegend (described on.exporter) no_legend
     × (on.naming ≡ options.naming) × (on.has_file ≡ options.has_file) × (on.is_changed ≡ false) × (on.has_bad ≡ false)
-    × (on.labels ≡ options.labels)
+    × (on.labels ≡ options.labels) × (on.at_scrapes_only ≡ options.at_scrapes_only) × (on.has_failed ≡ false)
 
--- The lines were answered by a new exporter; or none was made, and nothing was read or written.
-abbrev pub Serves : Options → Type 0 → List ℕ → List ℕ → Result ℕ RunError → Bool → Type 0
-Serves options at_end read text r has_bad =
-    ((start : Served) × IsFresh options start × IsPrometheusRun options.skips_bad at_end start read text r has_bad)
-    ⊎ ((read ≡ []) × (text ≡ []) × (r ≡ Err (Memory None)))
+-- the status of a run in which no call was refused, and the file was written
+abbrev pub own_status : Result ℕ RunError → Bool → ℕ
+own_status (Ok n) has_bad = if has_bad then 3 else 0
+own_status (Err e) has_bad = status_number e
 
--- the status at the end: 2 at a bad line, 1 at a fault of memory, the device or the file, 3 if a bad line was skipped, otherwise 0
-abbrev pub IsStatus : Result ℕ RunError → Bool → ℕ → Type 0
-IsStatus (Ok n) has_bad status = (status ≡ 1) ⊎ (status ≡ (if has_bad then 3 else 0))
-IsStatus (Err e) has_bad status = status ≡ status_number e
+-- The status at the end: 1 if memory or the device ended the run, a call was refused, or the file could not be written; otherwise
+-- 2 at a bad line, 3 if bad lines were skipped or a last one was left, and 0.
+abbrev pub IsStatus : Result ℕ RunError → Bool → Bool → ℕ → Type 0
+IsStatus r has_bad has_failed status = status ≡ (if has_failed then 1 else own_status r has_bad)
+
+-- The lines were answered by a new exporter, and the status reports how that ended; or none was made, and nothing was read,
+-- written or asked.
+abbrev pub Serves : Options → Type 0 → List ℕ → List ℕ → Asked → ℕ → Type 0
+Serves options at_end read text asked status =
+    ((start end : Served) × (r : Result ℕ RunError) × IsFresh options start
+    × IsPrometheusRun options.skips_bad options.accepts_partial at_end start read text asked r end × IsStatus r end.has_bad end.has_failed status)
+    ⊎ ((read ≡ []) × (text ≡ []) × (asked ≡ nothing_asked) × (status ≡ 1))
 
 -- the lines were answered, and the status reports how that ended
-abbrev pub Ends : Options → Type 0 → (List ℕ → Type 0) → (List ℕ → Type 0) → ℕ → Type 0
-Ends options at_end Reads Writes status = (read text : List ℕ) × (r : Result ℕ RunError) × (has_bad : Bool)
-    × Reads read × Writes text × Serves options at_end read text r has_bad × IsStatus r has_bad status
+abbrev pub Ends : Options → Type 0 → (List ℕ → Type 0) → (List ℕ → Type 0) → (Asked → Type 0) → ℕ → Type 0
+Ends options at_end Reads Writes Asks status = (read text : List ℕ) × (asked : Asked)
+    × Reads read × Writes text × Asks asked × Serves options at_end read text asked status

@@ -1,11 +1,13 @@
 //! Answers to requests.
-ghost use Rattle.std.specs.Prelude.{◌≡◌, ◌++◌, ℕ, List, OnOk};
-ghost use Rattle.std.specs.Prelude.{string_bytes, is_ok, false, if◌then◌else◌};
-ghost use Rattle.tool_prometheus.specs.Exposed.{Answers, IsExposed, IsMoment, IsEnd, refusal_text, scrape_text, shown_text};
+ghost use Rattle.std.specs.Prelude.{◌≡◌, ◌++◌, ℕ, [], List, OnOk};
+ghost use Rattle.std.specs.Prelude.{string_bytes, is_ok, true, if◌then◌else◌};
+ghost use Rattle.tool_prometheus.specs.Asked.{Asked, Asks, nothing_asked};
+ghost use Rattle.tool_prometheus.specs.Exposed.{Answers, IsExposed, HasMoment, IsEnd, HandsOut, HandsOutShown};
+ghost use Rattle.tool_prometheus.specs.Exposed.{refusal_text, scrape_text, shown_text, shows_at_end as shows_then};
 
 use crate::requests::Request;
 use crate::surroundings::Surroundings;
-use crate::watching::Watch;
+use crate::watching::{Call, Watch};
 use metrics::{Error, Items, Key, Label, MetricKind, Unit, Update};
 use metrics_exporter::Exporter;
 use metrics_prometheus::{Naming, exposition_named};
@@ -23,52 +25,72 @@ pub struct Served {
     pub labels: Items<Label>,
     /// Scrapes go to a file, and not to the output.
     pub has_file: bool,
+    /// The end of the input shows nothing.
+    pub at_scrapes_only: bool,
     /// Something changed since the last scrape that succeeded.
     pub is_changed: bool,
     /// A bad line was skipped.
     pub has_bad: bool,
+    /// A call was refused, or a scrape could not be put into the file.
+    pub has_failed: bool,
 }
 
-/// Appends a comment that reports a failure, or nothing if there was none.
-fn write_refusal(answered: Result<(), Error>, text: &mut String) -> Result<(), AllocError>
-    ensures { OnOk result (string_bytes text.new ≡ string_bytes text.old ++ refusal_text answered) }
+/// Notes a failure, and appends a comment that reports it, unless the output has no texts; or does nothing if there was none.
+fn write_refusal(
+    on: &mut Served,
+    watch: &mut Watch,
+    call: Call,
+    answered: Result<(), Error>,
+    text: &mut String,
+) -> Result<(), AllocError>
+    ensures noted { on.new ≡ record on.old { has_failed = (if is_ok answered then on.old.has_failed else true) } }
+    ensures text { OnOk result (string_bytes text.new ≡ string_bytes text.old ++ refusal_text on.old.has_file answered) }
 {
     match answered {
         Ok(()) => Ok(()),
-        Err(e) => write!(text, "# {}", report_text(Err(e))),
+        Err(e) => {
+            on.has_failed = true;
+            watch.refuse(call);
+            if on.has_file {
+                return Ok(());
+            }
+            write!(text, "# {}", report_text(Err(e)))
+        }
     }
 }
 
 /// Updates a series, and appends the report of a failure.
 fn answer_change(
     on: &mut Served,
+    watch: &mut Watch,
     key: &Key,
     by: Update,
     text: &mut String,
 ) -> Result<(), AllocError>
-    ensures { (whole : List ℕ) × Answers on.old on.new (Request.Change key.now by) whole
+    ensures { (whole : List ℕ) × Answers on.old on.new (Request.Change key.now by) nothing_asked whole
         × OnOk result (string_bytes text.new ≡ string_bytes text.old ++ whole) }
 {
     let answered = on.exporter.update(key, by);
     on.is_changed = answered.is_ok() | on.is_changed;
-    write_refusal(answered, text)
+    write_refusal(on, watch, Call::Update, answered, text)
 }
 
 /// Describes a name, and appends the report of a failure.
 fn answer_describe(
     on: &mut Served,
+    watch: &mut Watch,
     kind: MetricKind,
     name: &str,
     unit: Option<Unit>,
     note: &str,
     text: &mut String,
 ) -> Result<(), AllocError>
-    ensures { (whole : List ℕ) × Answers on.old on.new (Request.Describe kind name.now unit note.now) whole
+    ensures { (whole : List ℕ) × Answers on.old on.new (Request.Describe kind name.now unit note.now) nothing_asked whole
         × OnOk result (string_bytes text.new ≡ string_bytes text.old ++ whole) }
 {
     let answered = on.exporter.describe(kind, name, unit, note);
     on.is_changed = answered.is_ok() | on.is_changed;
-    write_refusal(answered, text)
+    write_refusal(on, watch, Call::Description, answered, text)
 }
 
 /// The page for Prometheus.
@@ -86,68 +108,81 @@ impl Page for Exposition {
     }
 }
 
-/// Puts an exposition into the file, or appends it and an empty line.
-fn hand_out<S: Surroundings>(
-    watch: &mut Watch<S>,
-    has_file: bool,
-    shown: &str,
-    text: &mut String,
-) -> Result<(), AllocError>
-    ensures { OnOk result (string_bytes text.new ≡ string_bytes text.old ++ scrape_text has_file shown.now) }
+/// Puts a text into the file, if there is one. Returns whether that succeeded.
+fn hand_out<S: Surroundings>(around: &mut S, has_file: bool, shown: &str) -> bool
+    ensures { (files : List (List ℕ)) × HandsOut has_file shown.now result files
+        × Asks (S.asked around.old) (S.asked around.new) (record { clock = []; files = files }) }
 {
     if has_file {
-        watch.publish(shown);
-        return Ok(());
+        return around.publish(shown);
     }
-    text.push_str(shown)?;
-    text.push_str("\n")
+    true
 }
 
-/// Writes what a scrape shows, or appends the report of a failure.
+/// Hands out what a scrape shows: into the file, or as text with an empty line. Or appends the report of a failure.
 fn hand_out_shown<S: Surroundings>(
     on: &mut Served,
-    watch: &mut Watch<S>,
+    around: &mut S,
+    watch: &mut Watch,
     shown: Result<String, Error>,
     text: &mut String,
 ) -> Result<(), AllocError>
-    ensures changed { on.new ≡ record on.old { is_changed = (if is_ok shown then false else on.old.is_changed) } }
+    ensures done { (files : List (List ℕ)) × HandsOutShown string_bytes on.old shown on.new files
+        × Asks (S.asked around.old) (S.asked around.new) (record { clock = []; files = files }) }
     ensures text { OnOk result (string_bytes text.new ≡ string_bytes text.old
         ++ shown_text string_bytes on.old.has_file shown) }
 {
     match shown {
         Ok(shown) => {
             on.is_changed = false;
-            watch.tell_left_out(shown.as_str());
-            hand_out(watch, on.has_file, shown.as_str(), text)
+            watch.tell_left_out(around, shown.as_str());
+            if !hand_out(around, on.has_file, shown.as_str()) {
+                on.has_failed = true;
+            }
+            write_shown(on.has_file, shown.as_str(), text)
         }
-        Err(e) => write_refusal(Err(e), text),
+        Err(e) => write_refusal(on, watch, Call::Scrape, Err(e), text),
     }
+}
+
+/// Appends a text and an empty line, unless it went to the file.
+fn write_shown(has_file: bool, shown: &str, text: &mut String) -> Result<(), AllocError>
+    ensures { OnOk result (string_bytes text.new ≡ string_bytes text.old ++ scrape_text has_file shown.now) }
+{
+    if has_file {
+        return Ok(());
+    }
+    text.push_str(shown)?;
+    text.push_str("\n")
 }
 
 /// Answers a scrape at the moment.
 fn answer_scrape<S: Surroundings>(
     alloc: Global,
     on: &mut Served,
-    watch: &mut Watch<S>,
+    around: &mut S,
+    watch: &mut Watch,
     moment: Option<u64>,
     text: &mut String,
 ) -> Result<(), AllocError>
-    ensures { (whole : List ℕ) × Answers on.old on.new (Request.Scrape moment) whole
+    ensures { (more : Asked) × (whole : List ℕ) × Answers on.old on.new (Request.Scrape moment) more whole
+        × Asks (S.asked around.old) (S.asked around.new) more
         × OnOk result (string_bytes text.new ≡ string_bytes text.old ++ whole) }
 {
-    let now = moment_of(watch, moment);
+    let now = moment_of(around, moment);
     let naming = on.naming;
     let shown = shown_at(&Exposition { alloc, naming }, &mut on.exporter, now);
-    hand_out_shown(on, watch, shown, text)
+    hand_out_shown(on, around, watch, shown, text)
 }
 
 /// The moment of a scrape: the clock's if the line has none.
-fn moment_of<S: Surroundings>(watch: &mut Watch<S>, moment: Option<u64>) -> u64
-    ensures { IsMoment moment result }
+fn moment_of<S: Surroundings>(around: &mut S, moment: Option<u64>) -> u64
+    ensures { (clock : List ℕ) × HasMoment moment clock result
+        × Asks (S.asked around.old) (S.asked around.new) (record { clock = clock; files = [] }) }
 {
     match moment {
         Some(now) => now,
-        None => watch.seconds(),
+        None => around.seconds(),
     }
 }
 
@@ -156,20 +191,33 @@ fn moment_of<S: Surroundings>(watch: &mut Watch<S>, moment: Option<u64>) -> u64
 pub fn answer_request<S: Surroundings>(
     alloc: Global,
     on: &mut Served,
-    watch: &mut Watch<S>,
+    around: &mut S,
+    watch: &mut Watch,
     request: &Request,
     text: &mut String,
 ) -> Result<(), AllocError>
-    ensures { (whole : List ℕ) × Answers on.old on.new request.now whole
+    ensures { (more : Asked) × (whole : List ℕ) × Answers on.old on.new request.now more whole
+        × Asks (S.asked around.old) (S.asked around.new) more
         × OnOk result (string_bytes text.new ≡ string_bytes text.old ++ whole) }
 {
     match request {
-        Request::Change(key, by) => answer_change(on, key, *by, text),
+        Request::Change(key, by) => answer_change(on, watch, key, *by, text),
         Request::Describe(kind, name, unit, note) => {
-            answer_describe(on, *kind, name.as_str(), *unit, note.as_str(), text)
+            answer_describe(on, watch, *kind, name.as_str(), *unit, note.as_str(), text)
         }
-        Request::Scrape(moment) => answer_scrape(alloc, on, watch, *moment, text),
+        Request::Scrape(moment) => answer_scrape(alloc, on, around, watch, *moment, text),
         Request::Nothing => Ok(()),
+    }
+}
+
+/// Whether the end of the input shows what is held.
+fn shows_at_end(on: &Served) -> bool
+    ensures { result ≡ shows_then on.now.at_scrapes_only on.now.is_changed }
+{
+    if on.at_scrapes_only {
+        false
+    } else {
+        on.is_changed
     }
 }
 
@@ -177,17 +225,20 @@ pub fn answer_request<S: Surroundings>(
 pub fn answer_end<S: Surroundings>(
     alloc: Global,
     on: &mut Served,
-    watch: &mut Watch<S>,
+    around: &mut S,
+    watch: &mut Watch,
     text: &mut String,
 ) -> Result<(), AllocError>
-    ensures shows { (whole : List ℕ) × IsEnd on.old whole
+    ensures shows { (more : Asked) × (whole : List ℕ) × IsEnd on.old on.new more whole
+        × Asks (S.asked around.old) (S.asked around.new) more
         × OnOk result (string_bytes text.new ≡ string_bytes text.old ++ whole) }
     ensures kept { on.new.has_bad ≡ on.old.has_bad }
 {
-    if !on.is_changed {
-        return Ok(());
+    if shows_at_end(on) {
+        let naming = on.naming;
+        let shown = Exposition { alloc, naming }.text(&on.exporter);
+        hand_out_shown(on, around, watch, shown, text)
+    } else {
+        Ok(())
     }
-    let naming = on.naming;
-    let shown = Exposition { alloc, naming }.text(&on.exporter);
-    hand_out_shown(on, watch, shown, text)
 }

@@ -1,8 +1,9 @@
 //! The whole program, for a parsed command line.
-ghost use Rattle.std.specs.Prelude.{ℕ, List, [], OnSome};
+ghost use Rattle.std.specs.Prelude.{◌≡◌, ℕ, List, [], OnSome};
 ghost use Rattle.std.specs.Io.KnownBytes.{Consumes, Appends, IsAtEnd};
 ghost use Rattle.metrics_exporter.specs.Kept.{IsAfter, described};
 ghost use Rattle.metrics_exporter.specs.Describing.{SameLegend, no_legend};
+ghost use Rattle.tool_prometheus.specs.Asked.{Asked, Asks, nothing_asked};
 ghost use Rattle.tool_prometheus.specs.Making.{setup_for};
 ghost use Rattle.tool_prometheus.specs.Serving.{Ends, IsStatus, IsPrometheusRun};
 
@@ -34,15 +35,28 @@ pub struct Options {
     pub skips_bad: bool,
     /// Scrapes go to a file, and not to the output.
     pub has_file: bool,
+    /// The end of the input shows nothing.
+    pub at_scrapes_only: bool,
+    /// A last line without a line feed counts too.
+    pub accepts_partial: bool,
 }
 
 /// Reports why a run stopped, and returns the status at its end.
-fn told<S: Surroundings>(watch: &mut Watch<S>, answered: Result<u64, RunError>, has_bad: bool) -> u8
-    ensures { IsStatus answered has_bad result }
+fn told<S: Surroundings>(
+    around: &mut S,
+    watch: &mut Watch,
+    answered: Result<u64, RunError>,
+    has_bad: bool,
+    has_failed: bool,
+) -> u8
+    ensures status { IsStatus answered has_bad has_failed result }
+    ensures asked { Asks (S.asked around.old) (S.asked around.new) nothing_asked }
 {
-    watch.tell_end(answered);
+    watch.tell_end(around, answered);
+    if has_failed {
+        return 1;
+    }
     match answered {
-        Ok(_) if watch.has_failed() => 1,
         Ok(_) => { if has_bad { 3 } else { 0 } }
         Err(e) => status_of(e),
     }
@@ -52,20 +66,22 @@ fn told<S: Surroundings>(watch: &mut Watch<S>, answered: Result<u64, RunError>, 
 fn serve<S: Surroundings, I: BufRead, O: Write>(
     alloc: Global,
     skips_bad: bool,
-    on: &mut Served,
-    watch: &mut Watch<S>,
+    accepts_partial: bool,
+    on: &mut (Served, S),
+    watch: &mut Watch,
     input: &mut I,
     output: &mut O,
 ) -> Result<u64, RunError>
-    ensures { (read text : List ℕ) × Consumes (I.remaining input.old) (I.remaining input.new) read
+    ensures { (read text : List ℕ) × (more : Asked) × Consumes (I.remaining input.old) (I.remaining input.new) read
         × Appends (O.contents output.old) (O.contents output.new) text
-        × IsPrometheusRun skips_bad (OnSome (I.remaining input.old) (IsAtEnd (I.remaining input.new)))
-        on.old read text result on.new.has_bad }
+        × Asks (S.asked on.old.1) (S.asked on.new.1) more
+        × IsPrometheusRun skips_bad accepts_partial (OnSome (I.remaining input.old) (IsAtEnd (I.remaining input.new)))
+        on.old.0 read text more result on.new.0 }
 {
     if skips_bad {
-        prometheus::<true, S, I, O>(alloc, on, watch, input, output)
+        prometheus::<true, S, I, O>(alloc, accepts_partial, on, watch, input, output)
     } else {
-        prometheus::<false, S, I, O>(alloc, on, watch, input, output)
+        prometheus::<false, S, I, O>(alloc, accepts_partial, on, watch, input, output)
     }
 }
 
@@ -74,54 +90,80 @@ fn serve_new<S: Surroundings, I: BufRead, O: Write>(
     alloc: Global,
     options: Options,
     exporter: Exporter,
-    watch: &mut Watch<S>,
+    around: S,
+    watch: &mut Watch,
     input: &mut I,
     output: &mut O,
-) -> u8
+) -> (u8, S)
     requires after { IsAfter (setup_for options) [] exporter }
     requires undescribed { SameLegend (described exporter) no_legend }
     ensures { Ends options (OnSome (I.remaining input.old) (IsAtEnd (I.remaining input.new)))
         (Consumes (I.remaining input.old) (I.remaining input.new))
-        (Appends (O.contents output.old) (O.contents output.new)) result }
+        (Appends (O.contents output.old) (O.contents output.new))
+        (Asks (S.asked around) (S.asked result.1)) result.0 }
 {
     let Options {
         naming,
         labels,
         skips_bad,
         has_file,
+        at_scrapes_only,
+        accepts_partial,
         ..
     } = options;
-    let mut on = Served {
+    let served = Served {
         exporter,
         naming,
         labels,
         has_file,
+        at_scrapes_only,
         is_changed: false,
         has_bad: false,
+        has_failed: false,
     };
-    let answered = serve(alloc, skips_bad, &mut on, watch, input, output);
-    told(watch, answered, on.has_bad)
+    let mut on = (served, around);
+    let answered = serve(
+        alloc,
+        skips_bad,
+        accepts_partial,
+        &mut on,
+        watch,
+        input,
+        output,
+    );
+    let (served, mut around) = on;
+    let status = told(
+        &mut around,
+        watch,
+        answered,
+        served.has_bad,
+        served.has_failed,
+    );
+    (status, around)
 }
 
 /// Makes an exporter, and answers each line of the reader, from line 1 on. Reports why it stopped, and returns the
-/// program's status.
+/// program's status and the surroundings.
 pub fn command<S: Surroundings, I: BufRead, O: Write>(
     alloc: Global,
     options: Options,
     around: S,
     input: &mut I,
     output: &mut O,
-) -> u8
+) -> (u8, S)
     ensures { Ends options (OnSome (I.remaining input.old) (IsAtEnd (I.remaining input.new)))
         (Consumes (I.remaining input.old) (I.remaining input.new))
-        (Appends (O.contents output.old) (O.contents output.new)) result }
+        (Appends (O.contents output.old) (O.contents output.new))
+        (Asks (S.asked around) (S.asked result.1)) result.0 }
 {
-    let mut watch = Watch::new(alloc, around);
+    let mut watch = Watch::new(alloc);
     match exporter_for(alloc, &options) {
-        Ok(exporter) => serve_new(alloc, options, exporter, &mut watch, input, output),
+        Ok(exporter) => serve_new(alloc, options, exporter, around, &mut watch, input, output),
         Err(_) => {
             let answered = flush(output, Err(RunError::Memory(None)));
-            told(&mut watch, answered, false)
+            let mut around = around;
+            let status = told(&mut around, &mut watch, answered, false, false);
+            (status, around)
         }
     }
 }

@@ -33,10 +33,16 @@ pub enum Cause {
     Escape,
     /// Something other than a space follows a quoted value.
     Behind,
-    /// A name or a label has a control character.
+    /// A name, a label or a TEXT has a control character.
     Control,
     /// A word isn't UTF-8.
     Bytes,
+    /// A name has braces, a quote, a comma or an equals sign: a series with its labels in one word.
+    Name,
+    /// The line has more than 1,000 labels.
+    Many,
+    /// The last line has no line feed.
+    Partial,
 }
 
 /// Why a line is no request.
@@ -90,22 +96,38 @@ impl fmt::Display for Message<'_> {
         match self.cause {
             Cause::Missing(what) => write!(f, "line {number}: {what} is missing{form}"),
             Cause::Empty => write!(f, "line {number}: {wanted}{form}"),
-            Cause::Twice => write!(f, "line {number}: label {word} {wanted}{form}"),
+            Cause::Partial => write!(f, "line {number}: {word} {wanted}"),
+            Cause::Twice | Cause::Many => {
+                write!(f, "line {number}: label {word} {wanted}{form}")
+            }
             _ => write!(f, "line {number}: {word} {wanted}{form}"),
         }
     }
 }
 
-/// A word in quotes.
+/// How many bytes of a word a message shows.
+pub(crate) const SHOWN: usize = 80;
+
+/// A word in quotes, with its length if only a beginning is shown. Bytes that are no text are in hexadecimal.
 #[derive(Drop)]
-struct Shown<'a>(&'a [u8]);
+pub(crate) struct Shown<'a>(pub &'a [u8]);
 
 impl fmt::Display for Shown<'_> {
     fn fmt<W: fmt::Write>(&self, f: &mut fmt::Formatter<W>) -> fmt::Result {
-        match str::from_utf8(self.0) {
-            Ok(text) => write!(f, "{text:?}"),
-            Err(_) => f.write_str("a word"),
+        let word = self.0;
+        let front = &word[..word.len().min(SHOWN)];
+        f.write_char('"')?;
+        for chunk in front.utf8_chunks() {
+            write!(f, "{}", chunk.valid().escape_debug())?;
+            for byte in chunk.invalid() {
+                write!(f, "\\x{byte:02x}")?;
+            }
         }
+        f.write_char('"')?;
+        if front.len() < word.len() {
+            write!(f, ".. of {} bytes", word.len())?;
+        }
+        Ok(())
     }
 }
 
@@ -118,6 +140,9 @@ fn wanted(cause: Cause, word: &[u8]) -> &'static str {
         Cause::Signed if is_digits(word) => {
             "is not from -9223372036854775808 to 9223372036854775807, without needless zeros"
         }
+        Cause::Whole | Cause::Signed if word.is_empty() => {
+            "is no number: one space stands between two words"
+        }
         Cause::Whole | Cause::Signed => "is not a whole number",
         Cause::Kind => "is not counter, gauge or histogram",
         Cause::Unit => {
@@ -126,9 +151,13 @@ fn wanted(cause: Cause, word: &[u8]) -> &'static str {
         Cause::Label => "is not LABEL=VALUE",
         Cause::Unclosed => "has no quote at its end",
         Cause::Escape => "is not \\\", \\\\ or \\n",
-        Cause::Behind => "stands behind a quote that ends a value",
+        Cause::Behind => "follows a closing quote: put a space between",
         Cause::Control => "has a control character",
         Cause::Bytes => "is not UTF-8",
+        Cause::Name =>
+            "is no NAME: it has {, }, \", a comma or =, and each label is a word of its own",
+        Cause::Many => "is past the 1000th",
+        Cause::Partial => "has no line feed at its end, and is not counted",
         Cause::Twice => "comes twice",
         Cause::Empty => "a word is empty: one space stands between two words",
         Cause::Missing(_) => "is missing",

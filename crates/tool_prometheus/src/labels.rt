@@ -8,7 +8,7 @@ ghost use Rattle.metrics_prometheus.specs.Labels.{placed};
 ghost use Rattle.tool_grammar.specs.Cuts.{Lacks, StartsAt};
 ghost use Rattle.tool_prometheus.specs.Lines.{IsText, escape, escaped, Written, label_word, label_words, StartsElse};
 ghost use Rattle.tool_prometheus.specs.Lines.{CanBeValue, IsWritten, AreWritten, value_word, in_order, Fails};
-ghost use Rattle.tool_prometheus.specs.Lines.{IsQuotable, LacksKey, has_key, with_label, with_labels};
+ghost use Rattle.tool_prometheus.specs.Lines.{IsQuotable, LacksKey, HasRoom, has_key, with_label, with_labels};
 ghost use Rattle.tool_prometheus.specs.declared.flaws.Unread.TheVariants.{Memory as NoMemory};
 
 use crate::flaws::{Cause, Unread};
@@ -283,6 +283,9 @@ fn put_label(labels: &mut Vec<Label>, label: Label) -> Result<(), AllocError>
     Ok(())
 }
 
+/// The most labels of a line.
+const MOST: usize = 1000;
+
 /// Reads the label that begins here, and inserts it at its place among the others. Returns what follows it.
 fn read_label<'a>(
     alloc: Global,
@@ -290,12 +293,15 @@ fn read_label<'a>(
     labels: &mut Vec<Label>,
 ) -> Result<&'a [u8], Unread<'a>>
     ensures { MatchResult result
-        (λ rest. (w : Written) × IsWritten w × LacksKey w.key labels.old.items
+        (λ rest. (w : Written) × IsWritten w × LacksKey w.key labels.old.items × HasRoom labels.old.items
         × (labels.new.items ≡ placed (w.key, w.value) labels.old.items) × (bytes.now ≡ label_word w ++ rest.now)
         × StartsAt 32 rest.now)
         (Fails ((w : Written) (rest : List ℕ) → IsWritten w → StartsAt 32 rest → bytes.now ≡ label_word w ++ rest
-        → LacksKey w.key labels.old.items → ⊥)) }
+        → LacksKey w.key labels.old.items → HasRoom labels.old.items → ⊥)) }
 {
+    if labels.len() >= MOST {
+        return Err(Unread::Bad(Cause::Many, key_in(bytes)));
+    }
     let (label, rest) = next_label(alloc, bytes)?;
     if has_key(labels, label.key()) {
         return Err(Unread::Bad(Cause::Twice, key_in(bytes)));
@@ -312,7 +318,7 @@ fn key_in(bytes: &[u8]) -> &[u8] {
 
 /// The most labels that there can be: each has a space before it.
 fn room_for(bytes: &[u8]) -> usize {
-    bytes.iter().filter(|byte| **byte == b' ').count()
+    bytes.iter().filter(|byte| **byte == b' ').count().min(MOST)
 }
 
 /// The labels of a line, each with a space before it, in the order of their keys.

@@ -1,5 +1,5 @@
 //! The lines of this tool: updates, descriptions, scrapes, and lines that are skipped.
-ghost use Rattle.std.specs.Prelude.{◌≡◌, ℕ, List, [], ◌∷◌, ◌++◌, ◌<◌, ◌^◌, IsUtf8, codes, decimal};
+ghost use Rattle.std.specs.Prelude.{◌≡◌, ℕ, List, [], ◌∷◌, ◌++◌, ◌<◌, ◌^◌, codes, decimal};
 ghost use Rattle.std.specs.Prelude.{MatchResult, Option as Maybe};
 ghost use Rattle.metrics_names.specs.Names.{LabelParts, name_word, kind_word};
 ghost use Rattle.metrics_names.specs.declared.kind.MetricKind.{MetricKind as Kind};
@@ -12,7 +12,7 @@ ghost use Rattle.tool_prometheus.specs.Lines.{IsBad, body_of as body, IsBegun};
 
 use crate::flaws::{Cause, Unread};
 use crate::labels::{labels_of, with_labels};
-use crate::words::text_before;
+use crate::words::{are_of_name, text_before, text_of};
 use metrics::{Key, KeyName, Label, MetricKind, Text, Unit, Update};
 use std::alloc::Global;
 use tool_grammar::{behind, kind_of, number_of, split_before, unit_of, update_of};
@@ -64,6 +64,9 @@ fn name_of(text: &str) -> Result<&str, Unread<'_>>
     }
     if word == b"-".as_slice() {
         return Ok("");
+    }
+    if !are_of_name(word) {
+        return Err(Unread::Bad(Cause::Name, word));
     }
     Ok(text)
 }
@@ -158,24 +161,21 @@ fn unit_and_rest(bytes: &[u8]) -> Result<(Option<Unit>, &[u8]), Unread<'_>>
     }
 }
 
-/// The text of a describe line: all that follows one space.
+/// The text of a describe line: all that follows one space, without control characters.
 fn note_of(bytes: &[u8]) -> Result<&str, Unread<'_>>
-    ensures { MatchResult result (λ text. IsUtf8 text.now × (bytes.now ≡ 32 ∷ text.now))
-        (Fails ((text : List ℕ) → IsUtf8 text → bytes.now ≡ 32 ∷ text → ⊥)) }
+    ensures { MatchResult result (λ text. IsText text.now × (bytes.now ≡ 32 ∷ text.now))
+        (Fails ((text : List ℕ) → IsText text → bytes.now ≡ 32 ∷ text → ⊥)) }
 {
     let Some(text) = behind(bytes, b" ") else {
         return Err(Unread::Bad(Cause::Missing("TEXT"), bytes));
     };
-    match str::from_utf8(text) {
-        Ok(text) => Ok(text),
-        Err(_) => Err(Unread::Bad(Cause::Bytes, text)),
-    }
+    text_of(text)
 }
 
 /// The description of a line, from what follows its first word.
 fn describe_of(alloc: Global, bytes: &[u8]) -> Result<Request, Unread<'_>>
     ensures { (common : List LabelParts) → MatchResult result (Reads common (codes "describe" ++ bytes.now))
-        (Fails ((kind : Kind) (name : List ℕ) (unit : Maybe Measure) (text : List ℕ) → IsName name → IsUtf8 text
+        (Fails ((kind : Kind) (name : List ℕ) (unit : Maybe Measure) (text : List ℕ) → IsName name → IsText text
         → bytes.now ≡ 32 ∷ (kind_word kind ++ 32 ∷ (name_word name ++ 32 ∷ (unit_word unit ++ 32 ∷ text))) → ⊥)) }
 {
     let (kind, rest) = kind_and_rest(bytes)?;

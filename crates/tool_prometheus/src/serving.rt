@@ -1,7 +1,8 @@
 //! The loop over the lines of an exporter.
 ghost use Rattle.std.specs.Prelude.{◌≡◌, ℕ, List, OnSome, Ok as Answered};
 ghost use Rattle.std.specs.Io.KnownBytes.{Consumes, Appends, IsAtEnd};
-ghost use Rattle.tool_prometheus.specs.Serving.{answers as told, Stops, EndsLines, IsPrometheusRun};
+ghost use Rattle.tool_prometheus.specs.Asked.{Asked, Asks, nothing_asked};
+ghost use Rattle.tool_prometheus.specs.Serving.{answers as told, Stops, EndsLines, IsPrometheusRun, or_left};
 
 use crate::answering::{Served, answer_end, answer_request};
 use crate::flaws::Unread;
@@ -11,41 +12,45 @@ use crate::watching::Watch;
 use std::alloc::Global;
 use std::io::{BufRead, Write};
 use std::marker::PhantomData;
-use tool_export::{LineMachine, Unanswered, flush, run_lines, write_text};
+use tool_export::{LineMachine, Unanswered, flush, run_lines_leaving, write_text};
 use tool_grammar::RunError;
 
-/// Answers the lines of an exporter. With `SKIPS` bad lines are skipped.
+/// Answers the lines of an exporter, in its surroundings. With `SKIPS` bad lines are skipped.
 pub struct PrometheusLines<const SKIPS: bool, S> {
     of: PhantomData<S>,
 }
 
 impl<const SKIPS: bool, S: Surroundings> LineMachine for PrometheusLines<SKIPS, S> {
-    type On = Served;
+    type On = (Served, S);
 
-    type Notes = Watch<S>;
+    type Notes = Watch;
 
-    ghost answers = { told SKIPS };
+    ghost answers = { told S.asked SKIPS };
 
     ghost is_bad = { Stops SKIPS };
 
+    #[tactic(auto, using(crate::proofs::AskedLemmas::asks_later))]
     fn answer(
         alloc: Global,
-        on: &mut Served,
-        watch: &mut Watch<S>,
+        on: &mut (Served, S),
+        watch: &mut Watch,
         line: &[u8],
         text: &mut String,
     ) -> Result<(), Unanswered> {
         watch.count();
-        match request_of(alloc, on.labels.as_slice(), line) {
-            Ok(request) => match answer_request(alloc, on, watch, &request, text) {
-                Ok(()) => Ok(()),
-                Err(_) => Err(Unanswered::Lost),
-            },
+        match request_of(alloc, on.0.labels.as_slice(), line) {
+            Ok(request) => {
+                watch.tell_spelled(&mut on.1, &request);
+                match answer_request(alloc, &mut on.0, &mut on.1, watch, &request, text) {
+                    Ok(()) => Ok(()),
+                    Err(_) => Err(Unanswered::Lost),
+                }
+            }
             Err(Unread::Memory) => Err(Unanswered::Memory),
             Err(Unread::Bad(cause, word)) => {
                 if SKIPS {
-                    watch.pass_over(line, cause, word);
-                    on.has_bad = true;
+                    watch.pass_over(&mut on.1, line, cause, word);
+                    on.0.has_bad = true;
                     Ok(())
                 } else {
                     watch.note(line, cause, word);
@@ -59,16 +64,17 @@ impl<const SKIPS: bool, S: Surroundings> LineMachine for PrometheusLines<SKIPS, 
 /// Writes what is held, if something changed since the last scrape.
 fn end<S: Surroundings, O: Write>(
     alloc: Global,
-    on: &mut Served,
-    watch: &mut Watch<S>,
+    on: &mut (Served, S),
+    watch: &mut Watch,
     output: &mut O,
     count: u64,
 ) -> Result<u64, RunError>
-    ensures { (last : List ℕ) × Appends (O.contents output.old) (O.contents output.new) last
-        × EndsLines on.old last (Answered count) result × (on.new.has_bad ≡ on.old.has_bad) }
+    ensures { (more : Asked) × (last : List ℕ) × Appends (O.contents output.old) (O.contents output.new) last
+        × Asks (S.asked on.old.1) (S.asked on.new.1) more
+        × EndsLines on.old.0 on.new.0 more last (Answered count) result × (on.new.0.has_bad ≡ on.old.0.has_bad) }
 {
     let mut text = String::new(alloc);
-    if answer_end(alloc, on, watch, &mut text).is_err() {
+    if answer_end(alloc, &mut on.0, &mut on.1, watch, &mut text).is_err() {
         return flush(output, Err(RunError::Memory(None)));
     }
     match write_text(output, text.as_bytes()) {
@@ -77,21 +83,49 @@ fn end<S: Surroundings, O: Write>(
     }
 }
 
-/// Answers each line of the reader, up to the end or the first fault, and flushes the writer.
+/// Reports a last line that is not counted, if there is one.
+fn note_left<S: Surroundings>(on: &mut (Served, S), watch: &mut Watch, left: &[u8])
+    ensures noted { on.new.0 ≡ record on.old.0 { has_bad = or_left left.now on.old.0.has_bad } }
+    ensures asked { Asks (S.asked on.old.1) (S.asked on.new.1) nothing_asked }
+{
+    if left.is_empty() {
+        return;
+    }
+    watch.tell_left(&mut on.1, left);
+    on.0.has_bad = true;
+}
+
+/// Answers each line of the reader, up to the end or the first fault, and flushes the writer. A last line without a line feed
+/// is answered too if `accepts_partial`; otherwise it is reported, and not counted.
 pub fn prometheus<const SKIPS: bool, S: Surroundings, I: BufRead, O: Write>(
     alloc: Global,
-    on: &mut Served,
-    watch: &mut Watch<S>,
+    accepts_partial: bool,
+    on: &mut (Served, S),
+    watch: &mut Watch,
     input: &mut I,
     output: &mut O,
 ) -> Result<u64, RunError>
-    ensures { (read text : List ℕ) × Consumes (I.remaining input.old) (I.remaining input.new) read
+    ensures { (read text : List ℕ) × (more : Asked) × Consumes (I.remaining input.old) (I.remaining input.new) read
         × Appends (O.contents output.old) (O.contents output.new) text
-        × IsPrometheusRun SKIPS (OnSome (I.remaining input.old) (IsAtEnd (I.remaining input.new))) on.old read text result
-        on.new.has_bad }
+        × Asks (S.asked on.old.1) (S.asked on.new.1) more
+        × IsPrometheusRun SKIPS accepts_partial (OnSome (I.remaining input.old) (IsAtEnd (I.remaining input.new)))
+        on.old.0 read text more result on.new.0 }
 {
-    match run_lines::<PrometheusLines<SKIPS, S>, I, O>(alloc, on, watch, input, output, 1) {
-        Ok(count) => end(alloc, on, watch, output, count),
+    let mut left = Vec::new(alloc);
+    match run_lines_leaving::<PrometheusLines<SKIPS, S>, I, O>(
+        alloc,
+        on,
+        watch,
+        input,
+        output,
+        &mut left,
+        1,
+        accepts_partial,
+    ) {
+        Ok(count) => {
+            note_left(on, watch, &left);
+            end(alloc, on, watch, output, count)
+        }
         Err(e) => Err(e),
     }
 }

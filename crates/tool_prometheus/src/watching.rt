@@ -1,7 +1,11 @@
 //! What is noted while lines are read.
+ghost use Rattle.tool_prometheus.specs.Asked.{Asks, nothing_asked};
 
 use crate::flaws::{Cause, Message};
+use crate::requests::Request;
+use crate::spelled::{Spelled, is_as_given};
 use crate::surroundings::Surroundings;
+use metrics::Label;
 use metrics_prometheus::left_out;
 use std::alloc::Global;
 use std::collections::HashSet;
@@ -11,34 +15,69 @@ use tool_grammar::RunError;
 /// How many bad lines are reported one by one.
 const TOLD: u64 = 10;
 
-/// What is noted of a run, beside its surroundings.
+/// What a line asks for that may be refused.
+#[derive(Clone, Copy, Debug, PartialEq, Eq)]
+pub enum Call {
+    Update,
+    Description,
+    Scrape,
+}
+
+/// How many calls were refused.
+#[derive(Clone, Copy, Drop)]
+struct Refusals {
+    updates: u64,
+    descriptions: u64,
+    scrapes: u64,
+}
+
+/// What is noted of a run.
 #[derive(Drop)]
-pub struct Watch<S: Surroundings> {
+pub struct Watch {
     alloc: Global,
-    around: S,
     /// How many lines were read.
     lines: u64,
     /// How many of them were bad.
     bad: u64,
     /// The message for the bad line that ended the run.
     message: Option<String>,
-    /// A scrape could not be put into the file.
-    has_failed: bool,
+    /// How many calls were refused.
+    refused: Refusals,
     /// What was reported of series that are left out.
     left_out: HashSet<String>,
+    /// The names that were reported, since the text spells them otherwise.
+    names: HashSet<String>,
+    /// The same of labels.
+    labels: HashSet<String>,
 }
 
-impl<S: Surroundings> Watch<S> {
+/// Whether words are new to a set, to which they are added. Out of memory they are not, and are new again later.
+fn is_new(alloc: Global, told: &mut HashSet<String>, words: &str) -> bool {
+    if told.contains(words) {
+        return false;
+    }
+    if let Ok(words) = String::from_str(alloc, words) {
+        let _ = told.insert(words);
+    }
+    true
+}
+
+impl Watch {
     /// Begins to watch a run.
-    pub fn new(alloc: Global, around: S) -> Watch<S> {
+    pub fn new(alloc: Global) -> Watch {
         Watch {
             alloc,
-            around,
             lines: 0,
             bad: 0,
             message: None,
-            has_failed: false,
+            refused: Refusals {
+                updates: 0,
+                descriptions: 0,
+                scrapes: 0,
+            },
             left_out: HashSet::new(alloc),
+            names: HashSet::new(alloc),
+            labels: HashSet::new(alloc),
         }
     }
 
@@ -47,36 +86,96 @@ impl<S: Surroundings> Watch<S> {
         self.lines = self.lines.saturating_add(1);
     }
 
-    /// Returns the clock's seconds.
-    pub(crate) fn seconds(&mut self) -> u64 {
-        self.around.seconds()
-    }
-
-    /// Puts a scrape's text into the file.
-    pub(crate) fn publish(&mut self, text: &str) {
-        if !self.around.publish(text) {
-            self.has_failed = true;
-        }
+    /// Counts a call that was refused.
+    pub(crate) fn refuse(&mut self, call: Call) {
+        let refused = &mut self.refused;
+        let count = match call {
+            Call::Update => &mut refused.updates,
+            Call::Description => &mut refused.descriptions,
+            Call::Scrape => &mut refused.scrapes,
+        };
+        *count = count.saturating_add(1);
     }
 
     /// Reports a series that is left out, unless it was reported before. Out of memory, it is reported again later.
-    fn tell_once(&mut self, words: &str) {
-        if self.left_out.contains(words) {
-            return;
-        }
-        self.around.tell(LeftOut(words));
-        if let Ok(words) = String::from_str(self.alloc, words) {
-            let _ = self.left_out.insert(words);
+    #[tactic(auto, using(crate::proofs::AskedLemmas::asks_none, crate::proofs::AskedLemmas::asks_later))]
+    fn tell_once<S: Surroundings>(&mut self, around: &mut S, words: &str)
+        ensures { Asks (S.asked around.old) (S.asked around.new) nothing_asked }
+    {
+        if is_new(self.alloc, &mut self.left_out, words) {
+            around.tell(LeftOut(words));
         }
     }
 
     /// Reports each series that a text leaves out, and why, once. Out of memory, a later text's report has them.
-    pub(crate) fn tell_left_out(&mut self, text: &str) {
+    #[tactic(auto, using(crate::proofs::AskedLemmas::asks_none, crate::proofs::AskedLemmas::asks_later))]
+    pub(crate) fn tell_left_out<S: Surroundings>(&mut self, around: &mut S, text: &str)
+        ensures { Asks (S.asked around.old) (S.asked around.new) nothing_asked }
+    {
         let Ok(found) = left_out(self.alloc, text) else {
             return;
         };
         for words in &found {
-            self.tell_once(words);
+            self.tell_once(around, words);
+        }
+    }
+
+    /// Reports a name that the text spells otherwise, once.
+    #[tactic(auto, using(crate::proofs::AskedLemmas::asks_none))]
+    fn tell_name<S: Surroundings>(&mut self, around: &mut S, name: &str)
+        ensures { Asks (S.asked around.old) (S.asked around.new) nothing_asked }
+    {
+        if !is_as_given(name, true) && is_new(self.alloc, &mut self.names, name) {
+            around.tell(Spelled {
+                number: self.lines,
+                what: "name",
+                name,
+                colons: true,
+            });
+        }
+    }
+
+    /// Reports a label whose name the text spells otherwise, once. One without a value isn't shown.
+    #[tactic(auto, using(crate::proofs::AskedLemmas::asks_none))]
+    fn tell_label<S: Surroundings>(&mut self, around: &mut S, label: &Label)
+        ensures { Asks (S.asked around.old) (S.asked around.new) nothing_asked }
+    {
+        let name = label.key();
+        if is_as_given(name, false) || label.value().is_empty() {
+            return;
+        }
+        if is_new(self.alloc, &mut self.labels, name) {
+            around.tell(Spelled {
+                number: self.lines,
+                what: "label",
+                name,
+                colons: false,
+            });
+        }
+    }
+
+    /// Reports labels whose names the text spells otherwise, once each.
+    #[tactic(auto, using(crate::proofs::AskedLemmas::asks_none, crate::proofs::AskedLemmas::asks_later))]
+    fn tell_labels<S: Surroundings>(&mut self, around: &mut S, labels: &[Label])
+        ensures { Asks (S.asked around.old) (S.asked around.new) nothing_asked }
+    {
+        for label in labels {
+            self.tell_label(around, label);
+        }
+    }
+
+    /// Reports the names and labels of a request that the text spells otherwise, once each.
+    #[tactic(auto, using(crate::proofs::AskedLemmas::asks_none, crate::proofs::AskedLemmas::asks_later))]
+    pub(crate) fn tell_spelled<S: Surroundings>(&mut self, around: &mut S, request: &Request)
+        ensures { Asks (S.asked around.old) (S.asked around.new) nothing_asked }
+    {
+        match request {
+            Request::Change(key, _) => {
+                self.tell_name(around, key.name());
+                self.tell_labels(around, key.labels());
+            }
+            Request::Describe(_, name, _, _) => self.tell_name(around, name.as_str()),
+            Request::Scrape(_) | Request::Nothing => {}
         }
     }
 
@@ -92,10 +191,19 @@ impl<S: Surroundings> Watch<S> {
     }
 
     /// Reports a bad line that is skipped, if it is one of the first.
-    pub(crate) fn pass_over(&mut self, line: &[u8], cause: Cause, word: &[u8]) {
+    #[tactic(auto, using(crate::proofs::AskedLemmas::asks_none))]
+    pub(crate) fn pass_over<S: Surroundings>(
+        &mut self,
+        around: &mut S,
+        line: &[u8],
+        cause: Cause,
+        word: &[u8],
+    )
+        ensures { Asks (S.asked around.old) (S.asked around.new) nothing_asked }
+    {
         self.bad = self.bad.saturating_add(1);
         if self.bad <= TOLD {
-            self.around.tell(Message {
+            around.tell(Message {
                 number: self.lines,
                 line,
                 cause,
@@ -104,24 +212,74 @@ impl<S: Surroundings> Watch<S> {
         }
     }
 
-    /// Returns whether a scrape could not be put into the file.
-    pub(crate) fn has_failed(&self) -> bool {
-        self.has_failed
+    /// Reports a last line that lacks its line feed, and is not counted.
+    #[tactic(auto, using(crate::proofs::AskedLemmas::asks_none))]
+    pub(crate) fn tell_left<S: Surroundings>(&mut self, around: &mut S, line: &[u8])
+        ensures { Asks (S.asked around.old) (S.asked around.new) nothing_asked }
+    {
+        self.count();
+        around.tell(Message {
+            number: self.lines,
+            line,
+            cause: Cause::Partial,
+            word: line,
+        });
     }
 
-    /// Reports how many bad lines were skipped, unless each was reported, and why the run stopped.
-    pub(crate) fn tell_end(&mut self, answered: Result<u64, RunError>) {
-        if self.bad > TOLD {
-            self.around.tell(Passed(self.bad));
-        }
+    /// Reports why the run stopped.
+    #[tactic(auto, using(crate::proofs::AskedLemmas::asks_none))]
+    fn tell_stop<S: Surroundings>(&mut self, around: &mut S, answered: Result<u64, RunError>)
+        ensures { Asks (S.asked around.old) (S.asked around.new) nothing_asked }
+    {
         match answered {
             Ok(_) => {}
             Err(RunError::BadLine(number)) => match mem::replace(&mut self.message, None) {
-                Some(message) => self.around.tell(message),
-                None => self.around.tell(RunError::BadLine(number)),
+                Some(message) => around.tell(message),
+                None => around.tell(RunError::BadLine(number)),
             },
-            Err(e) => self.around.tell(e),
+            Err(RunError::Device) => around.tell_device(),
+            Err(e) => around.tell(e),
         }
+    }
+
+    /// Reports how many calls were refused, if some were.
+    #[tactic(auto, using(crate::proofs::AskedLemmas::asks_none))]
+    fn tell_refusals<S: Surroundings>(&self, around: &mut S)
+        ensures { Asks (S.asked around.old) (S.asked around.new) nothing_asked }
+    {
+        let Refusals {
+            updates,
+            descriptions,
+            scrapes,
+        } = self.refused;
+        if updates > 0 || descriptions > 0 || scrapes > 0 {
+            around.tell(Refused(self.refused));
+        }
+    }
+
+    /// Reports how many bad lines were skipped, unless each was reported.
+    #[tactic(auto, using(crate::proofs::AskedLemmas::asks_none))]
+    fn tell_skipped<S: Surroundings>(&self, around: &mut S)
+        ensures { Asks (S.asked around.old) (S.asked around.new) nothing_asked }
+    {
+        if self.bad > TOLD {
+            around.tell(Skipped(self.bad));
+        }
+    }
+
+    /// Reports how many calls were refused, how many bad lines were skipped, unless each was reported, and why the run
+    /// stopped.
+    #[tactic(auto, using(crate::proofs::AskedLemmas::asks_later))]
+    pub(crate) fn tell_end<S: Surroundings>(
+        &mut self,
+        around: &mut S,
+        answered: Result<u64, RunError>,
+    )
+        ensures { Asks (S.asked around.old) (S.asked around.new) nothing_asked }
+    {
+        self.tell_refusals(around);
+        self.tell_skipped(around);
+        self.tell_stop(around, answered);
     }
 }
 
@@ -138,11 +296,29 @@ impl fmt::Display for LeftOut<'_> {
 
 /// How many lines were skipped.
 #[derive(Drop)]
-struct Passed(u64);
+struct Skipped(u64);
 
-impl fmt::Display for Passed {
+impl fmt::Display for Skipped {
     fn fmt<W: fmt::Write>(&self, f: &mut fmt::Formatter<W>) -> fmt::Result {
         let count = self.0;
-        write!(f, "{count} bad lines were passed over")
+        write!(f, "{count} bad lines were skipped")
+    }
+}
+
+/// How many calls were refused.
+#[derive(Drop)]
+struct Refused(Refusals);
+
+impl fmt::Display for Refused {
+    fn fmt<W: fmt::Write>(&self, f: &mut fmt::Formatter<W>) -> fmt::Result {
+        let Refusals {
+            updates,
+            descriptions,
+            scrapes,
+        } = self.0;
+        write!(
+            f,
+            "refused: {updates} updates, {descriptions} descriptions, {scrapes} scrapes"
+        )
     }
 }

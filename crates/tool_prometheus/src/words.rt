@@ -2,7 +2,7 @@
 ghost use Rattle.std.specs.Prelude.{◌≡◌, ◌<◌, ◌≤◌, ℕ, List, ◌++◌, All, true, false, take, length, slice_index};
 ghost use Rattle.std.specs.Prelude.{MatchResult, IfSome};
 ghost use Rattle.tool_grammar.specs.Cuts.{Lacks, StartsAt};
-ghost use Rattle.tool_prometheus.specs.Lines.{IsPlain, IsVisible, IsText, Fails};
+ghost use Rattle.tool_prometheus.specs.Lines.{IsPlain, IsVisible, IsText, IsOfName, Fails};
 
 use crate::flaws::{Cause, Unread};
 use tool_grammar::split_before;
@@ -22,6 +22,27 @@ fn are_plain(text: &[u8]) -> bool
 {
     for byte in text {
         if !is_plain(*byte) {
+            return false;
+        }
+    }
+    true
+}
+
+/// Whether a byte is no brace, quote, comma or equals sign.
+fn is_of_name(byte: u8) -> bool
+    ensures yes { result ≡ true → IsOfName byte }
+    ensures no { result ≡ false → IsOfName byte → ⊥ }
+{
+    byte != b'{' && byte != b'}' && byte != b'"' && byte != b',' && byte != b'='
+}
+
+/// Whether a text has no character that a name can't have, where a series is written with its labels.
+pub(crate) fn are_of_name(text: &[u8]) -> bool
+    ensures yes { result ≡ true → All IsOfName text.now }
+    ensures no { result ≡ false → All IsOfName text.now → ⊥ }
+{
+    for byte in text {
+        if !is_of_name(*byte) {
             return false;
         }
     }

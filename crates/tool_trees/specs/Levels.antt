@@ -2,7 +2,7 @@
 use Rattle.std.specs.Prelude.{◌≡◌, ℕ, suc, ◌+◌, ◌<◌, ◌≤◌, ◌⊎◌, max, List, [], ◌∷◌, ◌++◌, length}
 use Rattle.metrics.specs.Meaning.{Meaning}
 use Rattle.metrics_debugging.specs.DebuggingMeaning as book
-use Rattle.metrics_trees.specs.Nodes.{node_meaning}
+use Rattle.metrics_trees.specs.Trees.{tree_meaning}
 use Rattle.tool_trees.specs.Trees.{books_in, NameTargets}
 use Rattle.tool_trees.specs.declared.tree_line.RouteWord.{RouteWord}
 use Rattle.tool_trees.specs.declared.level.Level.{Level}
@@ -13,7 +13,7 @@ backwards [] = []
 backwards (x ∷ xs) = backwards xs ++ x ∷ []
 
 abbrev pub level_meaning : Level → Meaning
-level_meaning l = node_meaning book.meaning_of l.child.node
+level_meaning l = tree_meaning book.meaning_of l.child
 
 abbrev pub level_meanings : List Level → List Meaning
 level_meanings [] = []

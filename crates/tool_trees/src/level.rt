@@ -26,10 +26,11 @@ pub enum LineError {
 
 /// Any failure of the library other than out of memory is the line's fault.
 impl From<Error> for LineError {
+    ghost use Rattle.std.specs.Prelude.{◌↔◌};
     ghost use Rattle.metrics.specs.declared.error.Error.TheVariants.{Memory as Refused};
     ghost use Rattle.tool_trees.specs.declared.level.LineError.TheVariants.{Memory};
 
-    ghost from_gives = { λ e l. e ≡ Refused → l ≡ Memory };
+    ghost from_gives = { λ e l. (e ≡ Refused) ↔ (l ≡ Memory) };
 
     fn from(error: Error) -> LineError {
         match error {
@@ -41,10 +42,11 @@ impl From<Error> for LineError {
 
 /// The recorder in the error is dropped.
 impl<T: Drop> From<(Error, T)> for LineError {
+    ghost use Rattle.std.specs.Prelude.{◌↔◌};
     ghost use Rattle.metrics.specs.declared.error.Error.TheVariants.{Memory as Refused};
     ghost use Rattle.tool_trees.specs.declared.level.LineError.TheVariants.{Memory};
 
-    ghost from_gives = { λ e l. e.0 ≡ Refused → l ≡ Memory };
+    ghost from_gives = { λ e l. (e.0 ≡ Refused) ↔ (l ≡ Memory) };
 
     fn from(refused: (Error, T)) -> LineError {
         LineError::from(refused.0)

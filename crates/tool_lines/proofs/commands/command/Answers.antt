@@ -5,4 +5,4 @@ use Rattle.tool_lines.proofs.commands.command.Goals as goal
 
 pub returns-in-Err-clause-exported : goal.returns-in-Err-clause-exported
 returns-in-Err-clause-exported g c = λ any asks.
-    (any, asks, ([], [], Err (Memory None), Consumes-nil _, Appends-nil _, inr (refl, refl, refl), c.told.ensures))
+    (any, asks, ([], [], Err (Memory None), Consumes-nil _, Appends-nil _, inr (refl, refl, refl), c.report.ensures))

@@ -1,7 +1,7 @@
 use Rattle.std.proofs.Common.{[], subst, Err}
 use Rattle.tool_trees.specs.Doing.{DoesLine}
 use Rattle.metrics_debugging.specs.DebuggingMeaning as book
-use Rattle.metrics_trees.specs.Nodes.{node_meaning}
+use Rattle.metrics_trees.specs.Trees.{tree_meaning}
 use Rattle.tool_lines.proofs.TreesSoFar.{trees_more, result_line, result_last, refuse_line, refuse_last, ended_early, none_left, unread_tree, given_up}
 use Rattle.tool_lines.proofs.trees.tree.Goals as goal
 
@@ -15,7 +15,7 @@ pub returns-in-Ok-true : goal.returns-in-Ok-true
 returns-in-Ok-true g c =
     let found = rw c.in-Ok-Line.field-0-is at c.in-Ok-Line.ensures in
     let does = rw (c.in-Ok-true.field-0-test, c.deref.ensures.value) at c.in-Ok-true.ensures in
-    result_line _ _ _ _ _ c.loop-number.invariant _ (λ f. node_meaning book.meaning_of f.0.node) (λ f. f.1) c.built.result _ c.built.ensures found.0 found.1 does
+    result_line _ _ _ _ _ c.loop-number.invariant _ (λ f. tree_meaning book.meaning_of f.0) (λ f. f.1) c.built.result _ c.built.ensures found.0 found.1 does
 
 pub returns-in-Err-read_line : goal.returns-in-Err-read_line
 returns-in-Err-read_line g c =
@@ -27,7 +27,7 @@ pub returns-in-Ok-true-read_line : goal.returns-in-Ok-true-read_line
 returns-in-Ok-true-read_line g c =
     let found = rw c.in-Ok-Last.field-0-is at c.in-Ok-Last.ensures in
     let does = rw (c.in-Ok-true-read_line.field-0-test, c.deref-in-Ok-Last.ensures.value) at c.in-Ok-true-read_line.ensures in
-    result_last _ _ _ _ _ c.loop-number.invariant _ (λ f. node_meaning book.meaning_of f.0.node) (λ f. f.1) c.built-in-Ok-true-read_line.result _ c.built-in-Ok-true-read_line.ensures found.0 found.1 found.2 found.3 does
+    result_last _ _ _ _ _ c.loop-number.invariant _ (λ f. tree_meaning book.meaning_of f.0) (λ f. f.1) c.built-in-Ok-true-read_line.result _ c.built-in-Ok-true-read_line.ensures found.0 found.1 found.2 found.3 does
 
 pub returns-in-Ok-false-read_line : goal.returns-in-Ok-false-read_line
 returns-in-Ok-false-read_line g c =

@@ -20,8 +20,8 @@ returns-in_err-rest c =
 
 pub loop-rest-preserved : goal.loop-rest-preserved
 loop-rest-preserved c =
-    let (w, written, lacks, puts, at, starts) = c.in_ok-rest.ensures in
-    rw puts (labels-more _ _ _ _ w c.loop-rest.invariant written lacks at starts)
+    let (w, written, lacks, room, puts, at, starts) = c.in_ok-rest.ensures in
+    rw puts (labels-more _ _ _ _ w c.loop-rest.invariant written lacks room at starts)
 
 pub returns : goal.returns
 returns c = labels-end _ _ _ c.loop-rest.invariant (none-left _ _ c.is_empty.ensures c.loop-rest-test.false)

@@ -1,25 +1,53 @@
-use Rattle.std.proofs.Common.{◌++◌, [], Ok, Err, refl, sym, append-nil}
+use Rattle.std.proofs.Common.{◌++◌, [], Ok, Err, refl, sym, ap, ◌∙◌, append-nil}
 use Rattle.std.proofs.KnownBytes.{Appends-trans}
-use Rattle.tool_prometheus.proofs.ServingLemmas.{run-of}
+use Rattle.tool_prometheus.specs.Asked.{nothing_asked, then_asked}
+use Rattle.tool_prometheus.specs.Serving.{or_left}
+use Rattle.tool_prometheus.proofs.AskedLemmas.{then-nothing, asks_then, asks_later}
+use Rattle.tool_prometheus.proofs.ServingLemmas.{run-of, ends-noted}
 use Rattle.tool_prometheus.proofs.serving.prometheus.Goals as goal
 
 pub returns-in-Ok : goal.returns-in-Ok
 returns-in-Ok g c =
-    let (read, text, took, wrote, ran) = c.in-Ok.ensures in
-    let (last, added, ends, kept) = c.end.ensures in (
-      read,
+    let (read, text, left, took, wrote, ran, is_left, is_line) = c.in-Ok.ensures in
+    let ran_so = run-of _ g.S.Surroundings.asked _ 1 c.args.on.now c.args.watch.now c.run_lines_leaving.new.on read text (Ok c.in-Ok.count) ran in
+    let (asked, asks, run) = ran_so in
+    let (more, last, added, given, ends, kept) = c.end.ensures in
+    let noted = c.note_left.ensures.noted in
+    let lines = c.deref.ensures.value ∙ is_line in (
+      read ++ left,
       text ++ last,
+      then_asked asked more,
       took,
       Appends-trans _ _ _ text last wrote added,
-      (c.run_lines.new.on, text, last, Ok c.in-Ok.count, run-of _ _ 1 c.args.on.now c.args.watch.now c.run_lines.new.on read text (Ok c.in-Ok.count) ran, ends, refl, kept),
+      asks_then _ _ _ asked more asks (asks_later _ _ _ more c.note_left.ensures.asked given),
+      (
+        c.run_lines_leaving.new.on.0,
+        text,
+        last,
+        asked,
+        more,
+        Ok c.in-Ok.count,
+        read,
+        left,
+        refl,
+        is_left,
+        run,
+        ends-noted c.run_lines_leaving.new.on.0 c.note_left.new.on.0 c.end.new.on.0 more last c.in-Ok.count c.end.result c.deref.result.now noted ends,
+        refl,
+        refl,
+        kept ∙ ap (λ s. s.has_bad) noted ∙ ap (λ l. or_left l c.run_lines_leaving.new.on.0.has_bad) lines,
+      ),
     )
 
-pub returns-in-Err : goal.returns-in-Err
-returns-in-Err g c =
-    let (read, text, took, wrote, ran) = c.in-Err.ensures in (
-      read,
+pub returns : goal.returns
+returns g c =
+    let (read, text, left, took, wrote, ran, is_left, is_line) = c.in-Err.ensures in
+    let (asked, asks, run) = run-of _ g.S.Surroundings.asked _ 1 c.args.on.now c.args.watch.now c.run_lines_leaving.new.on read text (Err c.in-Err.e) ran in (
+      read ++ left,
       text,
+      asked,
       took,
       wrote,
-      (c.run_lines.new.on, text, [], Err c.in-Err.e, run-of _ _ 1 c.args.on.now c.args.watch.now c.run_lines.new.on read text (Err c.in-Err.e) ran, (refl, refl), sym (append-nil text), refl),
+      asks,
+      (c.run_lines_leaving.new.on.0, text, [], asked, nothing_asked, Err c.in-Err.e, read, left, refl, is_left, run, (refl, refl, refl, refl), sym (append-nil text), sym (then-nothing asked), tt),
     )

@@ -18,7 +18,7 @@ pub returns-in-Err : goal.returns-in-Err
 returns-in-Err c = λ bad.
     let l = c.in-Some.field-0 in
     let items : c.loop-child.taken.items ≡ c.pop.new.self.items ++ l ∷ [] = c.in-Some.ensures.items in
-    too_many_all (fanout_recorders c.loop-child.builder) _ c.loop-child.taken.items c.pop.new.self.items l items c.loop-child.invariant.added (too_many (fanout_recorders c.loop-child.builder) (level_meaning l) _ _ c.in-Err.ensures.0 c.from.ensures bad)
+    too_many_all (fanout_recorders c.loop-child.builder) _ c.loop-child.taken.items c.pop.new.self.items l items c.loop-child.invariant.added (too_many (fanout_recorders c.loop-child.builder) (level_meaning l) _ _ c.in-Err.ensures.0 c.from.ensures.0 bad)
 
 pub returns : goal.returns
 returns c =

@@ -2,7 +2,7 @@ use Rattle.std.proofs.Common.{◌≡◌, ◌≤◌, suc, ◌∙◌, arith}
 use Rattle.std.proofs.lemmas.Result.{err_from_is_err_and}
 use Rattle.metrics.specs.Layers.{joined_all}
 use Rattle.metrics_debugging.specs.DebuggingMeaning as book
-use Rattle.metrics_trees.specs.Nodes.{node_meaning}
+use Rattle.metrics_trees.specs.Trees.{tree_meaning}
 use Rattle.tool_trees.specs.declared.tree_line.TreeLine.TheVariants as line
 use Rattle.tool_trees.specs.Trees.{books_in}
 use Rattle.tool_trees.specs.Levels.{backwards, level_meanings, most_of}
@@ -21,11 +21,11 @@ returns c =
     let front = c.take_top.new.stack.items in
     let all = backwards c.in_ok-taken.taken.items in
     let made = c.in_ok-child.ensures in
-    let mean : node_meaning book.meaning_of c.in_ok-child.child.node ≡ joined_all (level_meanings all) = made.1 in
+    let mean : tree_meaning book.meaning_of c.in_ok-child.child ≡ joined_all (level_meanings all) = made.1 in
     let levels : c.in_ok-child.levels ≡ suc (most_of all) = made.2 in
     does_put (line.Fanout c.args.count) old front all (joined_all (level_meanings all)) (suc (most_of all)) (books_in (level_meanings all) ≤ 65536)
     (gives_fanout c.args.count all (length-backwards c.in_ok-taken.taken.items ∙ c.in_ok-taken.ensures.1)) c.in_ok-taken.ensures.0 new c.put.result c.requires made.0
-    (puts_as (node_meaning book.meaning_of c.in_ok-child.child.node) (joined_all (level_meanings all)) c.in_ok-child.levels (suc (most_of all)) front new c.put.result c.put.ensures mean levels)
+    (puts_as (tree_meaning book.meaning_of c.in_ok-child.child) (joined_all (level_meanings all)) c.in_ok-child.levels (suc (most_of all)) front new c.put.result c.put.ensures mean levels)
 
 pub returns-in_err-child : goal.returns-in_err-child
 returns-in_err-child c =

@@ -3,7 +3,7 @@ use Rattle.std.proofs.lemmas.Result.{err_from_is_err_and}
 use Rattle.std.specs.List.{sum_by}
 use Rattle.metrics.specs.Layers.{filtered}
 use Rattle.metrics_debugging.specs.DebuggingMeaning as book
-use Rattle.metrics_trees.specs.Nodes.{node_meaning}
+use Rattle.metrics_trees.specs.Trees.{tree_meaning}
 use Rattle.tool_trees.specs.declared.tree_line.TreeLine.TheVariants as line
 use Rattle.tool_trees.specs.Levels.{level_meaning}
 use Rattle.tool_trees.proofs.Doing.{does_put, does_refused, does_unfine, gives_filter, puts_as}
@@ -16,11 +16,11 @@ returns c =
     let ps = c.args.patterns.now in
     let l = c.in-Some.field-0 in
     let made = rw c.as_slice.ensures at c.in_ok-child.ensures in
-    let mean : node_meaning book.meaning_of c.in_ok-child.child.node ≡ filtered c.args.fold ps (level_meaning l) = made.1 in
+    let mean : tree_meaning book.meaning_of c.in_ok-child.child ≡ filtered c.args.fold ps (level_meaning l) = made.1 in
     let levels : l.levels + 1 ≡ suc l.levels = omega arith in
     does_put (line.Filter c.args.fold c.args.table ps) old c.pop.new.self.items (l ∷ []) (filtered c.args.fold ps (level_meaning l)) (suc l.levels) (sum_by length ps ≤ 1048576) (gives_filter c.args.fold c.args.table ps l)
     c.in-Some.ensures.items new c.put.result c.requires made.0
-    (puts_as (node_meaning book.meaning_of c.in_ok-child.child.node) (filtered c.args.fold ps (level_meaning l)) (l.levels + 1) (suc l.levels) c.pop.new.self.items new c.put.result c.put.ensures mean levels)
+    (puts_as (tree_meaning book.meaning_of c.in_ok-child.child) (filtered c.args.fold ps (level_meaning l)) (l.levels + 1) (suc l.levels) c.pop.new.self.items new c.put.result c.put.ensures mean levels)
 
 pub returns-in_err-child : goal.returns-in_err-child
 returns-in_err-child c =

@@ -1,7 +1,7 @@
 use Rattle.std.proofs.Common.{◌≡◌, ◌+◌, suc, [], ◌∷◌, arith}
 use Rattle.metrics.specs.Layers.{prefixed}
 use Rattle.metrics_debugging.specs.DebuggingMeaning as book
-use Rattle.metrics_trees.specs.Nodes.{node_meaning}
+use Rattle.metrics_trees.specs.Trees.{tree_meaning}
 use Rattle.tool_trees.specs.declared.tree_line.TreeLine.TheVariants as line
 use Rattle.tool_trees.specs.Levels.{level_meaning}
 use Rattle.tool_trees.proofs.Doing.{does_put, gives_prefix, puts_as}
@@ -13,7 +13,7 @@ returns c =
     let new = c.put.new.stack.items in
     let p = c.args.prefix.now in
     let l = c.in-Some.field-0 in
-    let mean : node_meaning book.meaning_of c.in_ok-child.child.node ≡ prefixed p (level_meaning l) = c.in_ok-child.ensures in
+    let mean : tree_meaning book.meaning_of c.in_ok-child.child ≡ prefixed p (level_meaning l) = c.in_ok-child.ensures in
     let levels : l.levels + 1 ≡ suc l.levels = omega arith in
     does_put (line.Prefix p) old c.pop.new.self.items (l ∷ []) (prefixed p (level_meaning l)) (suc l.levels) (Unit {0}) (gives_prefix p l) c.in-Some.ensures.items new c.put.result c.requires tt
-    (puts_as (node_meaning book.meaning_of c.in_ok-child.child.node) (prefixed p (level_meaning l)) (l.levels + 1) (suc l.levels) c.pop.new.self.items new c.put.result c.put.ensures mean levels)
+    (puts_as (tree_meaning book.meaning_of c.in_ok-child.child) (prefixed p (level_meaning l)) (l.levels + 1) (suc l.levels) c.pop.new.self.items new c.put.result c.put.ensures mean levels)

@@ -2,7 +2,7 @@ use Rattle.std.proofs.Common.{◌≡◌, ◌≤◌, ◌-◌, suc, map, length, �
 use Rattle.std.proofs.lemmas.Result.{err_from_is_err_and}
 use Rattle.metrics.specs.Layers.{routed}
 use Rattle.metrics_debugging.specs.DebuggingMeaning as book
-use Rattle.metrics_trees.specs.Nodes.{node_meaning}
+use Rattle.metrics_trees.specs.Trees.{tree_meaning}
 use Rattle.tool_trees.specs.declared.tree_line.TreeLine.TheVariants as line
 use Rattle.tool_trees.specs.Trees.{books_in, route_of, NameTargets}
 use Rattle.tool_trees.specs.Levels.{backwards, level_meanings, most_of}
@@ -26,7 +26,7 @@ returns c =
     let names : NameTargets n 0 rs = subst (λ k. NameTargets k 0 rs) (let e : length taken - 1 ≡ n = omega (arith, c.in_ok-taken.ensures.1) in e) made.0 in
     does_put (line.Router n rs) old front all (routed (map route_of rs) (level_meanings all)) (suc (most_of all)) (NameTargets n 0 rs × (books_in (level_meanings all) ≤ 65536))
     (gives_routed n rs all number) c.in_ok-taken.ensures.0 new c.put.result c.requires (names, made.1)
-    (puts_as (node_meaning book.meaning_of c.in_ok-child.child.node) (routed (map route_of rs) (level_meanings all)) c.in_ok-child.levels (suc (most_of all)) front new c.put.result c.put.ensures made.2 made.3)
+    (puts_as (tree_meaning book.meaning_of c.in_ok-child.child) (routed (map route_of rs) (level_meanings all)) c.in_ok-child.levels (suc (most_of all)) front new c.put.result c.put.ensures made.2 made.3)
 
 pub returns-in_err-child : goal.returns-in_err-child
 returns-in_err-child c =

@@ -10,7 +10,7 @@ returns-in-Ok-clause-routes c = λ rs h. rw (sym c.pattern_text-pattern.ensures)
 pub returns-in-Err-clause-step : goal.returns-in-Err-clause-step
 returns-in-Err-clause-step c = λ bad.
     let some = not_empty c.args.route.now.kinds c.requires.is_route.0 in
-    absurd (to_earlier _ _ _ _ _ c.in-Err.ensures.0 some (omega (arith, c.requires.named, c.if-route-named.true)) c.from.ensures bad)
+    absurd (to_earlier _ _ _ _ _ c.in-Err.ensures.0 some (omega (arith, c.requires.named, c.if-route-named.true)) c.from.ensures.0 bad)
 
 pub returns-in-Ok-add_route-clause-routes : goal.returns-in-Ok-add_route-clause-routes
 returns-in-Ok-add_route-clause-routes c = λ rs h.
@@ -27,4 +27,4 @@ pub returns-in-Err-add_route-clause-step : goal.returns-in-Err-add_route-clause-
 returns-in-Err-add_route-clause-step c = λ bad.
     let some = not_empty c.args.route.now.kinds c.requires.is_route.0 in
     cant_add _ _ (router_recorders c.args.builder.now) _ c.pop.new.self.items c.in-Some.field-0 (λ lt. absurd (omega (arith, lt, c.if-route-named.false))) c.in-Some.ensures.items
-    (to_next _ (router_recorders c.args.builder.now) (level_meaning c.in-Some.field-0) _ _ c.in-Err-add_route.ensures.0 some c.from-in-Err-add_route.ensures bad)
+    (to_next _ (router_recorders c.args.builder.now) (level_meaning c.in-Some.field-0) _ _ c.in-Err-add_route.ensures.0 some c.from-in-Err-add_route.ensures.0 bad)

@@ -2,7 +2,7 @@ use Rattle.tool_trees.specs.Trees.{route_of}
 use Rattle.std.proofs.lemmas.Result.{err_from_is_err_and}
 use Rattle.std.proofs.Common.{◌≡◌, map, take, length, sym, subst, ◌∙◌, eqb-true, arith}
 use Rattle.metrics_trees.specs.Builders.{router_recorders}
-use Rattle.metrics_trees.specs.Routing.{AreTablesOf}
+use Rattle.metrics_trees.specs.Builders.{HasRoutes}
 use Rattle.tool_trees.proofs.Routes.{added_step, step_more, step_bad, step_end}
 use Rattle.tool_trees.proofs.routing.add_routes.Goals as goal
 
@@ -15,7 +15,7 @@ returns-in_err-next-clause-all c =
 
 pub loop-route-preserved : goal.loop-route-preserved
 loop-route-preserved c = record {
-  added = subst (AreTablesOf c.add_one.new.builder.routes) (added_step c.args.routes.now c.loop-route.route-index c.route-item.result c.loop-route-test.true c.route-item.is) (c.in_ok-next.ensures.routes (map route_of (take c.loop-route.route-index c.args.routes.now)) c.loop-route.invariant.added);
+  added = subst (HasRoutes c.add_one.new.builder) (added_step c.args.routes.now c.loop-route.route-index c.route-item.result c.loop-route-test.true c.route-item.is) (c.in_ok-next.ensures.routes (map route_of (take c.loop-route.route-index c.args.routes.now)) c.loop-route.invariant.added);
   so = step_more (router_recorders c.args.builder.now) (router_recorders c.loop-route.builder) c.args.targets.now.items c.loop-route.targets.items c.args.routes.now c.loop-route.route-index c.route-item.result c.loop-route.named c.args.first c.loop-route.most
       c.loop-route.invariant.so c.loop-route-test.true c.route-item.is (router_recorders c.add_one.new.builder) c.add_one.new.targets.items c.in_ok-next.next c.in_ok-next.ensures.step;
 }

@@ -1,6 +1,6 @@
 use Rattle.std.proofs.Common.{map, sym, ◌∙◌}
 use Rattle.metrics_debugging.specs.DebuggingMeaning as book
-use Rattle.metrics_trees.specs.Nodes.{node_meaning}
+use Rattle.metrics_trees.specs.Trees.{tree_meaning}
 use Rattle.metrics_trees.specs.Builders.{router_recorders}
 use Rattle.tool_trees.specs.Trees.{route_of}
 use Rattle.tool_trees.proofs.Routes.{router_bad, router_good}
@@ -14,4 +14,4 @@ returns-in-Err c = λ bad.
 pub returns : goal.returns
 returns c =
     router_good c.args.taken.items c.pop.new.self.items c.in-Some.field-0 (router_recorders c.from_recorder-builder.result) c.args.routes.now c.in-Some.ensures.items c.from_recorder-builder.ensures.recorders
-    (router_recorders c.add_routes.new.builder) c.in-Ok.most (node_meaning book.meaning_of c.in_ok-router.router.node) c.in-Ok.ensures.all (c.in_ok-router.ensures.meaning ∙ c.build.ensures.routed (map route_of c.args.routes.now) c.in-Ok.ensures.routes)
+    (router_recorders c.add_routes.new.builder) c.in-Ok.most (tree_meaning book.meaning_of c.in_ok-router.router) c.in-Ok.ensures.all (c.in_ok-router.ensures.meaning ∙ c.build.ensures.routed (map route_of c.args.routes.now) c.in-Ok.ensures.routes)

@@ -12,7 +12,7 @@ returns-clause-taken g c =
     let Taken : Type 0 = HasTaken (bags_in old) (bags_in new) in
     either_way c.clear_to.result Taken
     (IfOk-weaker c.clear_to.result _ (λ _. Taken) (λ n p. (parts_took old p.0 new c.args.found.now found p.2 c.requires.found p.3).0) c.clear_to.ensures.ok)
-    (IfErr-weaker c.clear_to.result _ (λ _. Taken) (λ e p. (parts_kept old new c.args.found.now found p.0 c.requires.found p.1).0) c.clear_to.ensures.err)
+    (IfErr-weaker c.clear_to.result _ (λ _. Taken) (λ e p. (parts_kept old new c.args.found.now found _ _ _ p.1 c.requires.found p.0).0) c.clear_to.ensures.err)
 
 pub returns-clause-found : goal.returns-clause-found
 returns-clause-found g c =
@@ -22,4 +22,4 @@ returns-clause-found g c =
     let Told : Type 0 = TellsTaken found (bags_in new) in
     either_way c.clear_to.result Told
     (IfOk-weaker c.clear_to.result _ (λ _. Told) (λ n p. (parts_took old p.0 new c.args.found.now found p.2 c.requires.found p.3).1) c.clear_to.ensures.ok)
-    (IfErr-weaker c.clear_to.result _ (λ _. Told) (λ e p. (parts_kept old new c.args.found.now found p.0 c.requires.found p.1).1) c.clear_to.ensures.err)
+    (IfErr-weaker c.clear_to.result _ (λ _. Told) (λ e p. (parts_kept old new c.args.found.now found _ _ _ p.1 c.requires.found p.0).1) c.clear_to.ensures.err)

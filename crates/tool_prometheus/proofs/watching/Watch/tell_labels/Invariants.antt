@@ -1,0 +1,6 @@
+-- So far nothing was asked.
+use Rattle.tool_prometheus.specs.Asked.{Asks, nothing_asked}
+use Rattle.tool_prometheus.proofs.watching.Watch.tell_labels.Given as goal
+
+abbrev pub invariant-loop-label : goal.invariant-loop-label
+invariant-loop-label g l = Asks (g.S.Surroundings.asked l.initial.around) (g.S.Surroundings.asked l.around) nothing_asked
