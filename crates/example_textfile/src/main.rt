@@ -3,24 +3,22 @@
 
 use anyhow::Result;
 use metrics::{Error, Key, MetricKindMask};
-use metrics_util::CounterFn;
 use metrics_util::collector::{Bounds, Collector};
+use metrics_util::exporter::write_textfile;
 use std::fs;
 use std::rt::Files;
 use std::sync::Wait;
 
-/// Writes the text beside the file and renames it, so that no reader sees a part of it.
+/// Keeps the text in the file, so that no reader sees a part of it.
 fn publish<R: AllocGlobal + Files + Wait>(rt: &R, on: &Collector, path: &str) -> Result<()> {
     let text = on.render(rt, rt.alloc(), 0)?;
-    let beside = format!(in rt.alloc(); "{path}.tmp")?;
-    fs::write(rt, beside.as_str(), text.as_str())?;
-    fs::rename(rt, beside.as_str(), path)?;
+    write_textfile(rt, rt.alloc(), path, text.as_str())?;
     Ok(())
 }
 
 fn count<R: AllocGlobal + Wait>(rt: &R, on: &Collector) -> Result<(), Error> {
     let jobs = on.counter(rt, &Key::from_name(rt.alloc(), "jobs.done")?)?;
-    CounterFn::increment(&jobs, 3);
+    jobs.increment(3);
     Ok(())
 }
 

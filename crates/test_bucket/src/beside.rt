@@ -111,3 +111,48 @@ fn no_push_is_refused_beside_others(rt: HostRuntime) {
     assert!(rt; refused.iter().all(|count| *count == 0));
     assert!(rt; bucket.data_with(&rt, |_| {}) == Ok(64_000));
 }
+
+/// Walks of each kind, one after another, until the pushes ended, and once more. None is `Busy`, since no other walk is under
+/// way.
+fn walk_to_the_end<R: Abort + Wait>(
+    rt: &R,
+    alloc: Global,
+    bucket: &AtomicBucket<u64>,
+    ended: &AtomicUsize,
+) {
+    for _ in rt.forever() {
+        let last = ended.load(Ordering::SeqCst) == 1;
+        assert!(rt; bucket.data_with(rt, |_| {}).is_ok());
+        assert!(rt; bucket.clear(rt).is_ok());
+        assert!(rt; bucket.data(rt, alloc).err() != Some(Error::Busy));
+        assert!(rt; bucket.clear_with(rt, |_| {}).is_ok());
+        if last {
+            break;
+        }
+    }
+}
+
+/// A thread walks while two others push. They wait for it, so the test ends here if it can't be started.
+fn push_and_walk<R: Abort + Threads + Wait + Sync>(
+    rt: &R,
+    alloc: Global,
+    bucket: &AtomicBucket<u64>,
+) {
+    let counter = AtomicUsize::new(0);
+    let ended = &counter;
+    scope(scope_env(), rt, |scope| {
+        let walker = scope
+            .spawn(move || walk_to_the_end(rt, alloc, bucket, ended))
+            .map_err(|_| Error::Memory)
+            .expect(rt, "out of memory");
+        push_in_two(rt, bucket, ended);
+        walker.join(rt)
+    })
+}
+
+#[test]
+fn a_walk_alone_is_never_busy(rt: HostRuntime) {
+    let bucket = bucket_of(&rt, rt.alloc(), 1);
+    push_and_walk(&rt, rt.alloc(), &bucket);
+    assert!(rt; bucket.is_empty(&rt) == Ok(true));
+}

@@ -2,6 +2,7 @@
 ghost use Rattle.std.specs.Thread.{IsSync};
 
 use crate::given::{MEMORY, collector, counter, gauge, histogram};
+use crate::turns::{LOOKS, Turns};
 use metrics::{Error, MetricKindMask};
 use metrics_cells::{CounterFn, GaugeFn, HistogramFn};
 use metrics_collector::{Collector, CounterHandle, Gathered, GaugeHandle, HistogramHandle, Value};
@@ -11,9 +12,6 @@ use std::sync::Wait;
 use std::sync::atomic::{AtomicU64, Ordering};
 use std::thread::{Threads, join};
 use test_trial::Trial;
-
-/// How often the writer looks at most whether there is a new reading, for each of them.
-const LOOKS: u64 = 100_000;
 
 /// Handles of a series of each kind.
 #[derive(Drop)]
@@ -42,22 +40,15 @@ fn change<W: Wait>(rt: &W, handles: &Handles) -> Result<(), Error> {
 
 /// Changes each series once in two readings or more, at another moment of a reading each time.
 fn write<W: Wait>(rt: &W, on: Shared<'_>, handles: &Handles) -> Result<(), Error> {
-    let (mut wanted, mut looks) = (0u64, 0u64);
-    let (mut delay, mut waited) = (0u64, 0u64);
+    let mut turns = Turns::new();
     for _ in 0..on.readings.saturating_mul(LOOKS) {
         let read = on.read.load(Ordering::SeqCst);
         if read == u64::MAX {
             break;
         }
-        if read < wanted {
-            looks = looks.wrapping_add(1);
-        } else if waited < delay {
-            waited = waited.wrapping_add(1);
-        } else {
+        if turns.is_due(read) {
             change(rt, handles)?;
-            wanted = read.saturating_add(2);
-            delay = delay.wrapping_add(97) % looks.max(1);
-            (looks, waited) = (0, 0);
+            turns.made(read);
         }
     }
     Ok(())

@@ -1,9 +1,12 @@
 //! What is left after an allocation failed. Each test then continues with memory available.
 
-use crate::given::{MEMORY, collector, count, counter, expect_text, labels, record, set};
+use crate::given::{
+    MEMORY, collector, count, counter, expect_text, gauge, histogram, labels, record, set,
+};
+use crate::series::sums_of;
 use metrics::{Error, Key, MetricKind, MetricKindMask};
-use metrics_cells::CounterFn;
-use metrics_collector::{Bounds, Collector};
+use metrics_cells::{CounterFn, GaugeFn, HistogramFn};
+use metrics_collector::{Bounds, Collector, Gathered};
 use std::process::Abort;
 use std::sync::Wait;
 use test_trial::Trial;
@@ -49,7 +52,8 @@ fn expect_asked<R: AllocGlobal + Abort + Wait>(
     kind: MetricKind,
     wanted: &str,
 ) {
-    let on = collector(rt, MetricKindMask::ALL).with_labels(labels(rt));
+    let made = collector(rt, MetricKindMask::ALL).with_labels(labels(rt));
+    let on = made.ok().expect(rt, "good labels");
     count(rt, &on, "old", 5);
     ask_twice(rt, trial, &on, (MetricKind::Counter, "old", "e"));
     ask_twice(rt, trial, &on, (kind, "new", "1"));
@@ -220,3 +224,46 @@ fn a_change_that_a_reading_without_memory_met_is_shown(rt: HostRuntime) {
 
 const CHANGED: &str = "# TYPE c counter\nc 2\n# TYPE g gauge\ng 3\n# TYPE h histogram\n\
     h_bucket{le=\"10\"} 2\nh_bucket{le=\"+Inf\"} 2\nh_sum 4\nh_count 2\n";
+
+/// What was gathered is a series of each kind, with so many updates by 1.
+fn expect_updates<R: Abort>(rt: &R, gathered: &Gathered, updates: u64) {
+    assert_eq!(rt; gathered.series.len(), 3);
+    assert_eq!(rt;
+        sums_of(gathered),
+        (updates, updates.cast_signed(), updates)
+    );
+}
+
+/// Updates series by handles that are kept, and reads each time. After a reading without memory the next one shows all
+/// updates, though it is late.
+fn expect_kept<R: AllocGlobal + Abort + Wait>(rt: &R, trial: &mut Trial, on: &Collector) {
+    let (c, g, h) = (
+        counter(rt, on, "c"),
+        gauge(rt, on, "g"),
+        histogram(rt, on, "h"),
+    );
+    for updates in 1..4u64 {
+        CounterFn::increment(&c, 1);
+        GaugeFn::increment(&g, rt, 1);
+        h.record(rt, 1).expect(rt, MEMORY);
+        let now = updates.wrapping_mul(20);
+        trial.begin();
+        let first = on.gather(rt, trial.alloc, now);
+        trial.calm();
+        match first {
+            Ok(gathered) => expect_updates(rt, &gathered, updates),
+            Err(error) => {
+                note(rt, trial, error);
+                let late = on.gather(rt, trial.alloc, now.wrapping_add(10));
+                expect_updates(rt, &late.expect(rt, MEMORY), updates);
+            }
+        }
+    }
+}
+
+#[test]
+fn readings_without_memory_lose_no_update_of_a_kept_handle(rt: HostRuntime) {
+    let mut trial = Trial::new(rt.alloc());
+    let on = collector(&rt, MetricKindMask::ALL);
+    expect_kept(&rt, &mut trial, &on);
+}

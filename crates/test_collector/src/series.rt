@@ -30,7 +30,8 @@ fn labels_in_another_order_name_the_same_series(rt: HostRuntime) {
 
 #[test]
 fn a_series_own_label_wins_over_one_of_the_collector(rt: HostRuntime) {
-    let on = collector(&rt, MetricKindMask::ALL).with_labels(labels(&rt));
+    let made = collector(&rt, MetricKindMask::ALL).with_labels(labels(&rt));
+    let on = made.ok().expect(&rt, "good labels");
     hit(&rt, &on, &[("zone", "own"), ("b", "1")]);
     hit(&rt, &on, &[("b", "1"), ("zone", "own")]);
     hit(&rt, &on, &[]);
@@ -204,7 +205,7 @@ fn handles_made_twice_share_a_cell(rt: HostRuntime) {
 }
 
 /// The counts, values of gauges and samples of all series, added up.
-fn sums_of(gathered: &Gathered) -> (u64, i64, u64) {
+pub fn sums_of(gathered: &Gathered) -> (u64, i64, u64) {
     let mut sums = (0u64, 0i64, 0u64);
     for series in &gathered.series {
         match &series.value {

@@ -1,7 +1,7 @@
 //! Updates that tests make, and what they ask of an exporter.
 
 use metrics::{Error, Key, Label, MetricKind, MetricKindMask, Snapshot, Unit, Update};
-use metrics_exporter::Exporter;
+use metrics_exporter::{Exporter, PartlyAbsorbed};
 use metrics_prometheus::exposition;
 use std::alloc::Global;
 use std::process::Abort;
@@ -22,7 +22,9 @@ pub trait Exports: Drop {
 
     fn describe(&mut self, kind: MetricKind, name: &str, text: &str) -> Result<(), Error>;
 
-    fn absorb(&mut self, rows: &Snapshot) -> Result<(), Error>;
+    fn absorb(&mut self, rows: &Snapshot) -> Result<(), PartlyAbsorbed>;
+
+    fn absorb_from(&mut self, rows: &Snapshot, part: PartlyAbsorbed) -> Result<(), PartlyAbsorbed>;
 
     fn expire(&mut self, now: u64) -> Result<usize, Error>;
 
@@ -44,11 +46,12 @@ impl Exports for Exporter {
         Exporter::describe(self, kind, name, None, text)
     }
 
-    fn absorb(&mut self, rows: &Snapshot) -> Result<(), Error> {
-        match Exporter::absorb(self, rows) {
-            Ok(()) => Ok(()),
-            Err(stop) => Err(stop.error),
-        }
+    fn absorb(&mut self, rows: &Snapshot) -> Result<(), PartlyAbsorbed> {
+        Exporter::absorb(self, rows)
+    }
+
+    fn absorb_from(&mut self, rows: &Snapshot, part: PartlyAbsorbed) -> Result<(), PartlyAbsorbed> {
+        Exporter::absorb_from(self, rows, part)
     }
 
     fn expire(&mut self, now: u64) -> Result<usize, Error> {

@@ -4,6 +4,8 @@
 #[cfg(test)]
 mod activity;
 #[cfg(test)]
+mod books;
+#[cfg(test)]
 mod expositions;
 #[cfg(test)]
 mod given;

@@ -93,10 +93,10 @@ const GIVEN: &str = "# HELP busy_total time at work\n\
 
 const RECOMMENDED: &str = "# HELP busy_seconds_total time at work\n\
     # TYPE busy_seconds_total counter\n\
-    busy_seconds_total 1.250000\n\
+    busy_seconds_total 1.25\n\
     # HELP drift_seconds of the clock\n\
     # TYPE drift_seconds gauge\n\
-    drift_seconds -0.000000250\n\
+    drift_seconds -0.00000025\n\
     # HELP full_ratio of the disk\n\
     # TYPE full_ratio gauge\n\
     full_ratio -0.07\n\
@@ -108,11 +108,11 @@ const RECOMMENDED: &str = "# HELP busy_seconds_total time at work\n\
     jobs 4\n\
     # HELP lat_seconds time to the answer\n\
     # TYPE lat_seconds histogram\n\
-    lat_seconds_bucket{le=\"-0.250\"} 1\n\
+    lat_seconds_bucket{le=\"-0.25\"} 1\n\
     lat_seconds_bucket{le=\"0.005\"} 2\n\
-    lat_seconds_bucket{le=\"5.000\"} 2\n\
+    lat_seconds_bucket{le=\"5\"} 2\n\
     lat_seconds_bucket{le=\"+Inf\"} 2\n\
-    lat_seconds_sum -1.250\n\
+    lat_seconds_sum -1.25\n\
     lat_seconds_count 2\n\
     # HELP sent_bytes_total what was sent\n\
     # TYPE sent_bytes_total counter\n\

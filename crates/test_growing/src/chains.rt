@@ -94,6 +94,50 @@ fn a_push_takes_the_first_segment_that_has_room(rt: HostRuntime) {
     assert!(rt; chunks.as_slice() == wanted.as_slice());
 }
 
+/// Pushes 65 values with a pen, and clears them with another, which shows 64 of the first segment and one of the second.
+fn push_and_clear_apart<R: Abort + Wait>(
+    rt: &R,
+    alloc: Global,
+    bucket: &GrowingBucket<u64>,
+    pen: &mut GrowPen,
+    other: &mut GrowPen,
+)
+    requires pen { IsOf bucket.now pen.old }
+    requires other { IsOf bucket.now other.old }
+    ensures pen { IsOf bucket.now pen.new }
+    ensures other { IsOf bucket.now other.new }
+{
+    push_below(rt, bucket, pen, 65);
+    let chunks = cleared_chunks(rt, alloc, bucket, other);
+    assert!(rt; chunks.as_slice() == [(0, 64), (64, 1)].as_slice());
+}
+
+/// Only by looking anew can the pen know that there is room in the first segment.
+#[test]
+fn a_push_takes_the_room_that_another_pen_made(rt: HostRuntime) {
+    let (bucket, mut pen) = bucket_of_one(&rt, rt.alloc());
+    let mut other = split_off(&rt, &bucket, &mut pen);
+    push_and_clear_apart(&rt, rt.alloc(), &bucket, &mut pen, &mut other);
+    push_and_clear_apart(&rt, rt.alloc(), &bucket, &mut pen, &mut other);
+    push_and_clear_apart(&rt, rt.alloc(), &bucket, &mut pen, &mut other);
+}
+
+/// The pen isn't whole, and nothing else is under way.
+#[test]
+fn a_part_pen_clears_one_two_and_three_segments(rt: HostRuntime) {
+    let (bucket, mut pen) = bucket_of_one(&rt, rt.alloc());
+    let _other = split_off(&rt, &bucket, &mut pen);
+    push_below(&rt, &bucket, &mut pen, 64);
+    let chunks = cleared_chunks(&rt, rt.alloc(), &bucket, &mut pen);
+    assert!(rt; chunks.as_slice() == [(0, 64)].as_slice());
+    push_below(&rt, &bucket, &mut pen, 192);
+    let chunks = cleared_chunks(&rt, rt.alloc(), &bucket, &mut pen);
+    assert!(rt; chunks.as_slice() == [(0, 64), (128, 64), (64, 64)].as_slice());
+    push_below(&rt, &bucket, &mut pen, 193);
+    let chunks = cleared_chunks(&rt, rt.alloc(), &bucket, &mut pen);
+    assert!(rt; chunks.as_slice() == [(0, 64), (128, 64), (64, 64), (192, 1)].as_slice());
+}
+
 /// The error of a call, unless it is out of memory.
 fn refusal<R: Abort, T: Drop>(rt: &R, answer: Result<T, Error>) -> Option<Error> {
     match answer {
@@ -166,6 +210,38 @@ fn spare_pens_are_used_up_and_gathered(rt: HostRuntime) {
         .settle(&rt, rt.alloc(), &mut pen)
         .expect(&rt, "out of memory");
     assert!(rt; values.len() == 192);
+}
+
+/// Clears an empty bucket so many times.
+fn clear_often<R: Abort + Wait>(rt: &R, bucket: &GrowingBucket<u64>, pen: &mut GrowPen, times: u64)
+    requires { IsOf bucket.now pen.old }
+    ensures { IsOf bucket.now pen.new }
+{
+    for _ in 0..times {
+        assert!(rt;
+            bucket
+                .clear_with(rt, pen, |_| {})
+                .expect(rt, "out of memory")
+                == 0
+        );
+    }
+}
+
+/// Who makes a segment has one of its 128 pens. So if clears or a settling had made one, the last of 128 other pens would find
+/// no pen of it.
+#[test]
+fn clears_and_settlings_make_no_segment(rt: HostRuntime) {
+    let (bucket, mut pen) = bucket_of_one(&rt, rt.alloc());
+    let mut clearer = split_off(&rt, &bucket, &mut pen);
+    clear_often(&rt, &bucket, &mut clearer, 3);
+    let settled = bucket.settle(&rt, rt.alloc(), &mut clearer);
+    assert!(rt; refusal(&rt, settled) == Some(Error::NoPen));
+    push_below(&rt, &bucket, &mut pen, 64);
+    let pen = push_apart(&rt, &bucket, pen, 7);
+    let mut pen = merged(&rt, &bucket, pen, clearer);
+    let taken = bucket.clear_with(&rt, &mut pen, |_| {});
+    assert!(rt; taken.expect(&rt, "out of memory") == 192);
+    clear_often(&rt, &bucket, &mut pen, 100);
 }
 
 /// A pen with its bucket, as a clear's closure may hold it.

@@ -128,11 +128,17 @@ fn wrong_words_ask_for_nothing(rt: HostRuntime) {
 struct Alone;
 
 impl Surroundings for Alone {
+    ghost use Rattle.std.specs.Prelude.{None as Unknown};
+
+    ghost asked = { λ _. Unknown };
+
     fn seconds(&mut self) -> u64 {
         0
     }
 
     fn tell<M: Display + Drop>(&mut self, _message: M) {}
+
+    fn tell_device(&mut self) {}
 
     fn publish(&mut self, _text: &str) -> bool {
         false
@@ -149,9 +155,11 @@ fn shown_to(rt: &impl Abort, alloc: Global, given: &[u8], writes: usize) -> (u8,
         labels: Items::from(Vec::new(alloc)),
         skips_bad: false,
         has_file: false,
+        at_scrapes_only: false,
+        accepts_partial: false,
     };
     let (mut input, mut output) = (given, writer(rt, alloc, 1, writes));
-    let status = tool_prometheus::command(alloc, options, Alone, &mut input, &mut output);
+    let (status, _) = tool_prometheus::command(alloc, options, Alone, &mut input, &mut output);
     (status, output.held.len())
 }
 

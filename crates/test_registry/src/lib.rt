@@ -4,6 +4,8 @@
 #[cfg(test)]
 mod cells;
 #[cfg(test)]
+mod checks;
+#[cfg(test)]
 mod copies;
 #[cfg(test)]
 mod entries;
@@ -12,6 +14,12 @@ mod idle;
 #[cfg(test)]
 mod kinds;
 #[cfg(test)]
+mod locks;
+#[cfg(test)]
 mod refused;
+#[cfg(test)]
+mod shards;
+#[cfg(test)]
+mod steps;
 #[cfg(test)]
 mod threads;

@@ -79,10 +79,15 @@ fn two_threads_add_to_one_cell(rt: HostRuntime) {
 }
 
 /// A registry whose keys allocate nothing.
-type Numbers = Registry<DefaultHashable<u64>, AtomicStorage>;
+pub type Numbers = Registry<DefaultHashable<u64>, AtomicStorage>;
 
 /// Adds a one to the cell of each number below the count.
-fn add_to_each<W: Wait>(rt: &W, on: &Numbers, kind: MetricKind, count: u64) -> Result<(), Error> {
+pub fn add_to_each<W: Wait>(
+    rt: &W,
+    on: &Numbers,
+    kind: MetricKind,
+    count: u64,
+) -> Result<(), Error> {
     for number in 0..count {
         let key = DefaultHashable(number);
         of_kind!(kind, on, get_or_create_counter get_or_create_gauge get_or_create_histogram,

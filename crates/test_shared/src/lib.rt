@@ -16,6 +16,8 @@ mod installs;
 #[cfg(test)]
 mod own;
 #[cfg(test)]
+mod raises;
+#[cfg(test)]
 mod reservoirs;
 #[cfg(test)]
 mod scarce;
@@ -23,3 +25,7 @@ mod scarce;
 mod shared;
 #[cfg(test)]
 mod slots;
+#[cfg(test)]
+mod steps;
+#[cfg(test)]
+mod waits;

@@ -1,5 +1,6 @@
 //! A reservoir that threads share, with the values of the Rust crate's tests in whole numbers.
 
+use crate::steps::{is_reached, sleep};
 use metrics_cells::HistogramFn;
 use metrics_shared::reservoir::AtomicSamplingReservoir;
 use rand_core::{Rng, SeedableRng};
@@ -10,7 +11,6 @@ use std::process::Abort;
 use std::sync::Wait;
 use std::sync::atomic::{AtomicU64, Ordering};
 use std::thread::{self, Threads, join};
-use std::time::Duration;
 
 type Shared = AtomicSamplingReservoir<Xoshiro256PlusPlus>;
 
@@ -168,21 +168,8 @@ fn four_threads_push_while_one_consumes(rt: HostRuntime) {
     expect_all(&rt, rt.alloc(), &reservoir);
 }
 
-/// Sleeps for about so many milliseconds.
-fn sleep<R: Wait>(rt: &R, millis: u64) {
-    AtomicU64::new(0).park_timeout(rt, 0, Duration::from_millis(millis));
-}
-
-/// Waits until the step is reached, or for two seconds. Whether it is reached.
-fn is_reached<R: Wait>(rt: &R, step: &AtomicU64, wanted: u64) -> bool {
-    for _ in 0..2000 {
-        if step.load(Ordering::SeqCst) >= wanted {
-            return true;
-        }
-        sleep(rt, 1);
-    }
-    false
-}
+/// How long a thread waits for the other one, in milliseconds.
+const LONG: u64 = 2000;
 
 /// A first thread consumes until a second one has reached its own `consume` and had time for it. Returns the step that
 /// the second one's closure saw, and `None` if the first can't be started.
@@ -195,12 +182,12 @@ fn step_of_the_second<R: Threads + Wait + Sync, G: Rng + Drop + Send>(
         rt,
         || reservoir.consume(rt, |_drain| {
             step.store(1, Ordering::SeqCst);
-            is_reached(rt, step, 2);
+            is_reached(rt, step, 2, LONG);
             sleep(rt, 50);
             step.store(3, Ordering::SeqCst);
         }),
         || {
-            let is_started = is_reached(rt, step, 1);
+            let is_started = is_reached(rt, step, 1, LONG);
             step.store(2, Ordering::SeqCst);
             let mut seen = 0;
             reservoir.consume(rt, |_drain| seen = step.load(Ordering::SeqCst));

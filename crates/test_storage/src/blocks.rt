@@ -17,8 +17,8 @@ fn fill_block<R: Abort, T: Numbered, F: Fn(i64) -> T>(rt: &R, alloc: Global, mak
         assert!(rt; block.push(make(number)).is_ok());
     }
     let back = block.push(make(42)).err().expect(rt, "not full");
-    assert_eq!(rt; back.number(), 42);
-    assert_eq!(rt; (block.len(), firsts(1, block.data())), (64, 1000));
+    assert!(rt; back.number() == 42);
+    assert!(rt; (block.len(), firsts(1, block.data())) == (64, 1000));
 }
 
 #[test]
@@ -28,7 +28,7 @@ fn a_block_of_64(rt: HostRuntime) {
     fill_block(&rt, alloc, &|number: i64| text(&rt, alloc, number));
     let ends = &Cell::new(0u64);
     fill_block(&rt, alloc, &|number: i64| Ending { number, ends });
-    assert_eq!(rt; ends.get(), 65);
+    assert!(rt; ends.get() == 65);
 }
 
 #[test]
@@ -38,7 +38,7 @@ fn a_block_takes_values_without_size(rt: HostRuntime) {
         assert!(rt; block.push(()).is_ok());
     }
     assert!(rt; block.push(()).is_err());
-    assert_eq!(rt; block.data().len(), 64);
+    assert!(rt; block.data().len() == 64);
 }
 
 #[test]
@@ -46,10 +46,16 @@ fn samples_are_recorded(rt: HostRuntime) {
     let mut bucket = OwnedBucket::<i64>::new(rt.alloc());
     bucket.record(7).expect(&rt, "out of memory");
     let samples = bucket.data().expect(&rt, "out of memory");
-    assert_eq!(rt; samples.as_slice(), [7].as_slice());
+    assert!(rt; samples.as_slice() == [7].as_slice());
 }
 
-/// Pushes a value, and again if memory ran out: then the value was returned, and the bucket needs a block.
+/// Pushes a value that was returned when memory ran out: the bucket needs a block.
+fn push_again<R: Abort, T: Numbered>(rt: &R, on: &mut OwnedBucket<T>, back: T, number: i64) {
+    assert!(rt; back.number() == number && number % 64 == 0);
+    assert!(rt; on.push(back).is_ok(), "refused with memory at hand");
+}
+
+/// Pushes a value, and again if memory ran out.
 fn push<R: Abort, T: Numbered>(rt: &R, trial: &mut Trial, on: &mut OwnedBucket<T>, value: T) {
     let number = value.number();
     trial.begin();
@@ -57,8 +63,7 @@ fn push<R: Abort, T: Numbered>(rt: &R, trial: &mut Trial, on: &mut OwnedBucket<T
     trial.calm();
     if let Err(back) = first {
         trial.note(Error::Memory).expect(rt, "refused");
-        assert_eq!(rt; (back.number(), number % 64), (number, 0));
-        assert!(rt; on.push(back).is_ok(), "refused with memory at hand");
+        push_again(rt, on, back, number);
     }
 }
 
@@ -80,7 +85,7 @@ fn fill<R: Abort, T: Numbered, F: Fn(i64) -> T>(
     let mut told = 0;
     on.data_with(|chunk| told = firsts(told, chunk));
     trial.calm();
-    assert_eq!(rt; told, 128_064_000);
+    assert!(rt; told == 128_064_000);
 }
 
 /// Takes the numbers 0 to 129 out, which allocates nothing.
@@ -89,18 +94,35 @@ fn clear<R: Abort, T: Numbered>(rt: &R, trial: &Trial, on: &mut OwnedBucket<T>) 
     let mut told = 0;
     on.clear_with(|chunk| told = firsts(told, chunk));
     trial.calm();
-    assert_eq!(rt; told, 128_064_000);
+    assert!(rt; told == 128_064_000);
     assert!(rt; on.is_empty());
 }
 
-/// Reads the numbers 128 and 129, 64 to 127, and 0 to 63, where the first try may run out of memory.
+/// Whether these are the numbers 128 and 129, 64 to 127, and 0 to 63.
+fn are_newest_first<T: Numbered>(values: &[T]) -> bool {
+    let (newest, older) = values.split_at(values.len().min(2));
+    let (middle, oldest) = older.split_at(older.len().min(64));
+    let told = firsts(firsts(firsts(0, newest), middle), oldest);
+    newest.len() == 2 && middle.len() == 64 && oldest.len() == 64 && told == 128_064_000
+}
+
+/// Reads them, where the first try may run out of memory.
 fn read<R: Abort, T: Numbered + Clone>(rt: &R, trial: &mut Trial, on: &OwnedBucket<T>) {
     let values = made(trial, &|| on.data()).expect(rt, "refused");
-    let (newest, older) = values.as_slice().split_at(values.len().min(2));
-    let (middle, oldest) = older.split_at(older.len().min(64));
-    assert_eq!(rt; (newest.len(), middle.len(), oldest.len()), (2, 64, 64));
-    let told = firsts(firsts(firsts(0, newest), middle), oldest);
-    assert_eq!(rt; told, 128_064_000);
+    assert!(rt; are_newest_first(values.as_slice()));
+}
+
+/// A closure that the caller keeps is shown the numbers 128 and 129, 64 to 127, and 0 to 63.
+#[test]
+fn a_kept_closure_is_shown_each_block(rt: HostRuntime) {
+    let mut bucket = OwnedBucket::<i64>::new(rt.alloc());
+    for number in 0..130i64 {
+        bucket.record(number).expect(&rt, "out of memory");
+    }
+    let mut told = 0;
+    let mut note = |chunk: &[i64]| told = firsts(told, chunk);
+    bucket.data_to(&mut note);
+    assert!(rt; told == 128_064_000);
 }
 
 #[test]
@@ -139,9 +161,9 @@ fn each_value_ends_once(rt: HostRuntime) {
         &mut bucket,
         &|number: i64| Ending { number, ends },
     );
-    assert_eq!(rt; ends.get(), 0);
+    assert!(rt; ends.get() == 0);
     clear(&rt, &trial, &mut bucket);
-    assert_eq!(rt; ends.get(), 130);
+    assert!(rt; ends.get() == 130);
     fill(
         &rt,
         &mut trial,
@@ -149,9 +171,9 @@ fn each_value_ends_once(rt: HostRuntime) {
         &|number: i64| Ending { number, ends },
     );
     bucket.clear();
-    assert_eq!(rt; ends.get(), 260);
+    assert!(rt; ends.get() == 260);
     drop(bucket);
-    assert_eq!(rt; ends.get(), 260);
+    assert!(rt; ends.get() == 260);
 }
 
 #[test]
@@ -166,5 +188,5 @@ fn the_end_of_a_bucket_ends_its_values(rt: HostRuntime) {
         &|number: i64| Ending { number, ends },
     );
     drop(bucket);
-    assert_eq!(rt; ends.get(), 130);
+    assert!(rt; ends.get() == 130);
 }

@@ -46,19 +46,16 @@ fn shown(before: i64, (bound, count): (i64, u64)) -> i64 {
 
 /// Checks that a histogram reports these samples, and shows them too.
 fn expect_told(rt: &impl Abort, histogram: &Histogram, samples: &Samples) {
-    assert_eq!(rt;
-        (histogram.count(), histogram.sum()),
-        (samples.count, samples.sum)
-    );
+    assert!(rt; (histogram.count(), histogram.sum()) == (samples.count, samples.sum));
     let buckets = histogram.buckets().expect(rt, "out of memory");
-    assert_eq!(rt; buckets.as_slice(), samples.buckets);
+    assert!(rt; buckets.as_slice() == samples.buckets);
     let mut found = 0;
     histogram.visit_buckets(|bound, count| found = shown(found, (bound, count)));
     let mut wanted = 0;
     for bucket in samples.buckets {
         wanted = shown(wanted, *bucket);
     }
-    assert_eq!(rt; found, wanted);
+    assert!(rt; found == wanted);
 }
 
 /// Records, which allocates nothing, and copies.
@@ -119,14 +116,11 @@ fn the_greatest_count_refuses_a_sample(rt: HostRuntime) {
     for _ in 0..63 {
         double_and_add(&rt, &mut full, &one);
     }
-    assert_eq!(rt; full.record(3), Err(Error::CountFull));
-    assert_eq!(rt; full.record_many(&[3]), Err(Error::CountFull));
-    assert_eq!(rt;
-        (full.count(), full.sum()),
-        (u64::MAX, 55_340_232_221_128_654_845)
-    );
+    assert!(rt; full.record(3) == Err(Error::CountFull));
+    assert!(rt; full.record_many(&[3]) == Err(Error::CountFull));
+    assert!(rt; (full.count(), full.sum()) == (u64::MAX, 55_340_232_221_128_654_845));
     let buckets = full.buckets().expect(&rt, "out of memory");
-    assert_eq!(rt; buckets.as_slice(), [(10, u64::MAX)].as_slice());
+    assert!(rt; buckets.as_slice() == [(10, u64::MAX)].as_slice());
 }
 
 #[test]
@@ -135,10 +129,10 @@ fn merging_adds_the_samples(rt: HostRuntime) {
     let more = histogram_of(&rt, rt.alloc(), &[10, -5, 10], &[4, 12]);
     let other = histogram_of(&rt, rt.alloc(), &[-5, 10], &[]);
     assert!(rt; !all.same_bounds(&other));
-    assert_eq!(rt; all.bounds(), [10, -5, 10].as_slice());
+    assert!(rt; all.bounds() == [10, -5, 10].as_slice());
     merge(&rt, &mut all, &more);
-    assert_eq!(rt; (all.count(), all.sum()), (4, 17));
+    assert!(rt; (all.count(), all.sum()) == (4, 17));
     let mut found = 0;
     all.visit_ascending(|bound, count| found = shown(found, (bound, count)));
-    assert_eq!(rt; found, -4_988_997);
+    assert!(rt; found == -4_988_997);
 }

@@ -7,6 +7,8 @@
 #[cfg(test)]
 mod blocks;
 #[cfg(test)]
+mod cells;
+#[cfg(test)]
 mod histograms;
 #[cfg(test)]
 mod names;

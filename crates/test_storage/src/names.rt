@@ -1,6 +1,6 @@
-//! Labels of quantiles, and kinds.
+//! Quantiles and their labels, and composite keys.
 
-use metrics::{CompositeKey, Key, MetricKind, MetricKindMask};
+use metrics::{CompositeKey, Key, MetricKind};
 use metrics_registry::{Quantile, parse_quantiles};
 use std::cmp::Ordering;
 use std::process::Abort;
@@ -23,7 +23,7 @@ const LABELS: [(i64, &str); 11] = [
 fn labels_of_quantiles(rt: HostRuntime) {
     for (value, label) in LABELS {
         let quantile = Quantile::new(rt.alloc(), value).expect(&rt, "out of memory");
-        assert_eq!(rt; quantile.label(), label);
+        assert!(rt; quantile.label() == label);
     }
 }
 
@@ -34,9 +34,9 @@ const PARSED: [(&[i64], &[&str]); 2] = [
 ];
 
 fn expect_labels(rt: &impl Abort, quantiles: &[Quantile], labels: &[&str]) {
-    assert_eq!(rt; quantiles.len(), labels.len());
+    assert!(rt; quantiles.len() == labels.len());
     for (quantile, label) in quantiles.iter().zip(labels) {
-        assert_eq!(rt; quantile.label(), *label);
+        assert!(rt; quantile.label() == *label);
     }
 }
 
@@ -48,18 +48,21 @@ fn quantiles_are_parsed_in_order(rt: HostRuntime) {
     }
 }
 
+/// Parts of 1,000,000,000, and the value of that rank among 10, 20, 30 and 40: the rank is rounded up.
+const RANKED: [(i64, i64); 5] = [
+    (0, 10),
+    (250_000_000, 10),
+    (250_000_001, 20),
+    (750_000_001, 40),
+    (1_000_000_000, 40),
+];
+
 #[test]
-fn kinds_of_a_mask(rt: HostRuntime) {
-    let two = MetricKindMask::COUNTER | MetricKindMask::HISTOGRAM;
-    for (mask, wanted) in [
-        (two, (true, false, true)),
-        (MetricKindMask::NONE, (false, false, false)),
-        (MetricKindMask::ALL, (true, true, true)),
-    ] {
-        let has_counters = mask.matches(MetricKind::Counter);
-        let has_gauges = mask.matches(MetricKind::Gauge);
-        let has_histograms = mask.matches(MetricKind::Histogram);
-        assert_eq!(rt; (has_counters, has_gauges, has_histograms), wanted);
+fn quantiles_of_sorted_values(rt: HostRuntime) {
+    for (value, wanted) in RANKED {
+        let quantile = Quantile::new(rt.alloc(), value).expect(&rt, "out of memory");
+        assert!(rt; quantile.of_sorted(&[10, 20, 30, 40]) == Some(wanted));
+        assert!(rt; quantile.of_sorted(&[]) == None);
     }
 }
 
@@ -69,5 +72,12 @@ fn a_counter_comes_before_a_gauge_of_its_key(rt: HostRuntime) {
     let counter = CompositeKey::new(MetricKind::Counter, key());
     let gauge = CompositeKey::new(MetricKind::Gauge, key());
     assert!(rt; counter != gauge);
-    assert_eq!(rt; counter.cmp(&gauge), Ordering::Less);
+    assert!(rt; counter.cmp(&gauge) == Ordering::Less);
+}
+
+#[test]
+fn a_composite_key_comes_apart(rt: HostRuntime) {
+    let key = Key::from_name(rt.alloc(), "a").expect(&rt, "out of memory");
+    let (kind, key) = CompositeKey::new(MetricKind::Gauge, key).into_parts();
+    assert!(rt; (kind, key.name()) == (MetricKind::Gauge, "a"));
 }

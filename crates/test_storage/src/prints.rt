@@ -1,52 +1,56 @@
 //! How texts, lists, calls, answers and errors print.
 
 use metrics::{Answer, Call, Items, Refused, Text, Update};
-use std::alloc::AllocError;
-use std::test::Fail;
+use std::alloc::{AllocError, Global};
+use std::fmt::{Debug, Display};
+use std::process::Abort;
 
-#[test]
-fn texts_print_and_give_their_strings_back(rt: HostRuntime) -> Result<(), Fail> {
-    let alloc = rt.alloc();
-    let text = Text::from(String::from_str(alloc, "é")?);
-    let printed = format!(in alloc; "{text} {text:?}")?;
-    assert_eq!(rt; printed.as_str(), "é \"é\"");
-    assert_eq!(rt; text.into_string().as_str(), "é");
-    Ok(())
+const MEMORY: &str = "out of memory";
+
+fn expect_debugged<T: Debug>(rt: &impl Abort, alloc: Global, value: &T, wanted: &str) {
+    let printed = format!(in alloc; "{value:?}").expect(rt, MEMORY);
+    assert!(rt; printed.as_str() == wanted);
+}
+
+fn expect_printed<T: Display>(rt: &impl Abort, alloc: Global, value: &T, wanted: &str) {
+    let printed = format!(in alloc; "{value}").expect(rt, MEMORY);
+    assert!(rt; printed.as_str() == wanted);
 }
 
 #[test]
-fn lists_print(rt: HostRuntime) -> Result<(), Fail> {
-    let items = Items::from(vec![in rt.alloc(); 3i64, -1]?);
-    let printed = format!(in rt.alloc(); "{items:?}")?;
-    assert_eq!(rt; printed.as_str(), "[3, -1]");
-    Ok(())
+fn texts_print_and_give_their_strings_back(rt: HostRuntime) {
+    let alloc = rt.alloc();
+    let text = Text::from(String::from_str(alloc, "é").expect(&rt, MEMORY));
+    expect_printed(&rt, alloc, &text, "é");
+    expect_debugged(&rt, alloc, &text, "\"é\"");
+    assert!(rt; text.into_string().as_str() == "é");
 }
 
 #[test]
-fn refusals_say_why(rt: HostRuntime) -> Result<(), Fail> {
+fn lists_print(rt: HostRuntime) {
     let alloc = rt.alloc();
-    let texts = [
+    let items = Items::from(Vec::from_array(alloc, [3i64, -1]).expect(&rt, MEMORY));
+    expect_debugged(&rt, alloc, &items, "[3, -1]");
+}
+
+#[test]
+fn refusals_say_why(rt: HostRuntime) {
+    for (refused, text) in [
         (Refused::Memory { acted: 2 }, "memory, acted 2"),
         (Refused::NoSuchAddress, "no such address"),
         (Refused::NoSuchBook, "no such book"),
         (Refused::BadHandle, "bad handle"),
-    ];
-    for (refused, text) in texts {
-        let printed = format!(in alloc; "{refused}")?;
-        assert_eq!(rt; printed.as_str(), text);
+    ] {
+        expect_printed(&rt, rt.alloc(), &refused, text);
     }
-    assert_eq!(rt; Refused::from(AllocError), Refused::Memory { acted: 0 });
-    Ok(())
+    assert!(rt; Refused::from(AllocError) == Refused::Memory { acted: 0 });
 }
 
 #[test]
-fn calls_and_answers_print(rt: HostRuntime) -> Result<(), Fail> {
-    let alloc = rt.alloc();
+fn calls_and_answers_print(rt: HostRuntime) {
     let call = Call::Update(3, Update::Increment(2));
-    let printed = format!(in alloc; "{call:?}")?;
-    assert_eq!(rt; printed.as_str(), "Update(3, Increment(2))");
+    expect_debugged(&rt, rt.alloc(), &call, "Update(3, Increment(2))");
     let answer = Answer::Refused(Refused::Memory { acted: 1 });
-    let printed = format!(in alloc; "{answer:?}")?;
-    assert_eq!(rt; printed.as_str(), "Refused(Memory { acted: 1 })");
-    Ok(())
+    let wanted = "Refused(Memory { acted: 1 })";
+    expect_debugged(&rt, rt.alloc(), &answer, wanted);
 }

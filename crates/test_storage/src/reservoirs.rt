@@ -41,11 +41,11 @@ fn reservoir_of(rt: &impl Abort, alloc: Global, row: &Row) -> Reservoir {
 fn expect_drain(rt: &impl Abort, mut drain: Drain<'_>, told: Told, items: &[i64]) {
     let (count, sum) = (drain.unsampled_len(), drain.unsampled_sum());
     assert!(rt; (count, sum, drain.sample_rate()) == told);
-    assert_eq!(rt; drain.len(), items.len());
+    assert!(rt; drain.len() == items.len());
     for item in items {
-        assert_eq!(rt; drain.next(), Some(*item));
+        assert!(rt; drain.next() == Some(*item));
     }
-    assert_eq!(rt; drain.next(), None);
+    assert!(rt; drain.next() == None);
 }
 
 #[test]
@@ -67,7 +67,7 @@ fn a_consume_empties(rt: HostRuntime) {
         let mut reservoir = reservoir_of(&rt, rt.alloc(), row);
         let mut first = None;
         reservoir.consume(|mut drain| first = drain.next());
-        assert_eq!(rt; first, row.3.first().copied());
+        assert!(rt; first == row.3.first().copied());
         expect_drain(&rt, reservoir.drain(), NOTHING, &[]);
         let mut reservoir = reservoir_of(&rt, rt.alloc(), row);
         reservoir.consume(|drain| mem::forget(drain));

@@ -30,8 +30,8 @@ const ROWS: [Row; 7] = [
 fn expect_moves(rt: &impl Abort, alloc: Global, row: &Row, is_table: bool, moves: (bool, u64)) {
     let made = SubstringSet::new(alloc, row.0, row.1, is_table);
     let set = made.expect(rt, "out of memory");
-    assert_eq!(rt; set.is_match_counted(row.2.as_bytes()), moves);
-    assert_eq!(rt; set.is_match(row.2.as_bytes()), moves.0);
+    assert!(rt; set.is_match_counted(row.2.as_bytes()) == moves);
+    assert!(rt; set.is_match(row.2.as_bytes()) == moves.0);
 }
 
 #[test]
@@ -57,8 +57,8 @@ fn the_limit_is_accepted(rt: HostRuntime) {
     let patterns = [half.as_str(), half.as_str()];
     let made = SubstringSet::new(rt.alloc(), &patterns, true, false);
     let set = made.expect(&rt, "out of memory");
-    assert_eq!(&rt; set.is_match_counted(half.as_bytes()), (true, 524_288));
-    assert_eq!(&rt; set.is_match(b"aaaab"), false);
+    assert!(&rt; set.is_match_counted(half.as_bytes()) == (true, 524_288));
+    assert!(&rt; set.is_match(b"aaaab") == false);
 }
 
 #[test]

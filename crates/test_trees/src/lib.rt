@@ -4,6 +4,8 @@
 #![tactic(auto)]
 
 #[cfg(test)]
+mod activity;
+#[cfg(test)]
 mod books;
 #[cfg(test)]
 mod builders;
@@ -17,6 +19,8 @@ mod handles;
 mod layers;
 #[cfg(test)]
 mod mixed;
+#[cfg(test)]
+mod over;
 #[cfg(test)]
 mod rounds;
 #[cfg(test)]

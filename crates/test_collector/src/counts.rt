@@ -1,0 +1,46 @@
+//! A counter's cell and its watches.
+
+use crate::given::{MEMORY, key};
+use metrics::Key;
+use metrics_counts::{CountCell, Watch};
+use std::process::Abort;
+use std::sync::Arc;
+
+fn cell<R: AllocGlobal + Abort>(rt: &R) -> Arc<CountCell<Key>> {
+    let cell = CountCell::new(rt.alloc(), &key(rt, "hits")).expect(rt, MEMORY);
+    Arc::new(rt.alloc(), cell).expect(rt, MEMORY)
+}
+
+fn watch<R: Abort>(rt: &R, cell: &Arc<CountCell<Key>>) -> Watch<Key> {
+    Watch::new(cell.clone().expect(rt, MEMORY))
+}
+
+#[test]
+fn watches_see_what_others_add(rt: HostRuntime) {
+    let cell = cell(&rt);
+    let mut first = watch(&rt, &cell);
+    let mut second = watch(&rt, &cell);
+    assert!(rt; first.increment(5) == 0);
+    assert!(rt; second.read() == 5);
+    cell.increment(3);
+    assert!(rt; first.read() == 8);
+    assert!(rt; second.absolute(10) == 8);
+    assert!(rt; second.absolute(4) == 10);
+    assert!(rt; first.read() == 10);
+    cell.absolute(12);
+    cell.absolute(11);
+    assert!(rt; first.increment(1) == 12);
+    assert!(rt; cell.value() == 13);
+}
+
+#[test]
+fn a_count_begins_anew_after_the_greatest(rt: HostRuntime) {
+    let cell = cell(&rt);
+    let mut watch = watch(&rt, &cell);
+    cell.absolute(u64::MAX);
+    assert!(rt; watch.read() == u64::MAX);
+    cell.increment(2);
+    assert!(rt; watch.read() == 1);
+    cell.absolute(3);
+    assert!(rt; watch.read() == 3);
+}

@@ -1,0 +1,124 @@
+//! Four threads that record into one histogram, beside one that reads it.
+ghost use Rattle.std.specs.Thread.{IsSync};
+
+use crate::given::{MEMORY, collector, histogram};
+use metrics::MetricKindMask;
+use metrics_cells::HistogramFn;
+use metrics_collector::{Collector, HistogramHandle, Value};
+use std::alloc::Global;
+use std::process::Abort;
+use std::sync::Wait;
+use std::sync::atomic::{AtomicUsize, Ordering};
+use std::thread::{self, Threads};
+use test_trial::Trial;
+
+const WORKERS: usize = 4;
+
+/// A sample in the bucket of 10.
+const LOW: i64 = 7;
+
+/// A sample above it.
+const HIGH: i64 = 11;
+
+/// How many readings there are at most, for each round.
+const READINGS: u64 = 1000;
+
+/// What the threads share.
+#[derive(Clone, Copy)]
+struct Shared<'a> {
+    alloc: Global,
+    collector: &'a Collector,
+    ended: &'a AtomicUsize,
+    rounds: u64,
+}
+
+/// The numbers of low and of high samples.
+#[derive(Clone, Copy)]
+struct Counts {
+    low: u64,
+    high: u64,
+}
+
+fn record<R: Abort + Wait>(rt: &R, on: Shared<'_>, took: &HistogramHandle) {
+    for _ in 0..on.rounds {
+        took.record(rt, LOW).expect(rt, MEMORY);
+        took.record(rt, HIGH).expect(rt, MEMORY);
+    }
+    on.ended.fetch_add(1, Ordering::SeqCst);
+}
+
+/// The counts of a reading. Its count, its sum and its bucket agree.
+fn read_once<R: Abort + Wait>(rt: &R, on: Shared<'_>) -> Counts {
+    let gathered = on.collector.gather(rt, on.alloc, 1).expect(rt, MEMORY);
+    let (mut low, mut high) = (0u64, 0u64);
+    for series in &gathered.series {
+        if let Value::Samples(samples) = &series.value {
+            let buckets = samples.buckets().expect(rt, MEMORY);
+            low = buckets.first().expect(rt, "no bucket").1;
+            high = samples.count().wrapping_sub(low);
+            let sum = i128::from(low) * i128::from(LOW) + i128::from(high) * i128::from(HIGH);
+            assert_eq!(rt;
+                samples.sum(),
+                sum,
+                "{low} low samples and {high} high ones"
+            );
+        }
+    }
+    Counts { low, high }
+}
+
+/// Reads until all workers have ended. No count falls.
+fn read<R: Abort + Wait>(rt: &R, on: Shared<'_>) {
+    let mut last = Counts { low: 0, high: 0 };
+    for _ in 0..on.rounds.saturating_mul(READINGS) {
+        let counts = read_once(rt, on);
+        assert!(rt;
+            last.low <= counts.low && last.high <= counts.high,
+            "a count falls"
+        );
+        last = counts;
+        if on.ended.load(Ordering::SeqCst) >= WORKERS {
+            break;
+        }
+    }
+}
+
+fn take_part<R: AllocGlobal + Abort + Wait>(rt: &R, on: Shared<'_>, thread: usize) {
+    if thread == WORKERS {
+        return read(rt, on);
+    }
+    record(rt, on, &histogram(rt, on.collector, "h"));
+}
+
+/// Runs all threads. The last reading has all samples.
+fn expect_samples<R: AllocGlobal + Abort + Threads + Wait + Sync>(
+    rt: &R,
+    alloc: Global,
+    stripes: usize,
+    rounds: u64,
+)
+    requires { IsSync R.row }
+{
+    let on = Shared {
+        alloc,
+        collector: &collector(rt, MetricKindMask::ALL).with_stripes(stripes),
+        ended: &AtomicUsize::new(0),
+        rounds,
+    };
+    let part = |thread: usize| take_part(rt, on, thread);
+    let done = thread::map_indices(rt, alloc, WORKERS + 1, &part);
+    done.expect(rt, MEMORY);
+    let counts = read_once(rt, on);
+    let wanted = rounds.wrapping_mul(WORKERS as u64);
+    assert_eq!(rt; (counts.low, counts.high), (wanted, wanted));
+}
+
+/// Memory may be refused in a first run of a few samples.
+#[test]
+fn count_sum_and_bucket_of_a_histogram_agree_and_never_fall(rt: HostRuntime) {
+    expect_samples(&rt, rt.alloc(), 2, 1);
+    Trial::new(rt.alloc()).calm();
+    for stripes in [2, 8] {
+        expect_samples(&rt, rt.alloc(), stripes, 10_000);
+    }
+}

@@ -1,0 +1,198 @@
+//! Runs of an exporter for Prometheus: what it asks of its surroundings, and what it tells them.
+
+use crate::devices::{MEMORY, end_if_refused};
+use std::alloc::Global;
+use std::fmt::Display;
+use std::io;
+use std::io::Write;
+use std::process::Abort;
+use test_trial::Trial;
+use tool_export::plan_of;
+use tool_prometheus::{Items, Naming, Options, Surroundings};
+
+/// A clock of these moments, and a file that keeps its texts, but for the one with the number `bad`. Keeps messages too.
+#[derive(Drop)]
+struct Stage<'a, R> {
+    rt: &'a R,
+    alloc: Global,
+    moments: &'a [u64],
+    given: usize,
+    bad: usize,
+    tried: usize,
+    files: Vec<String>,
+    said: Vec<String>,
+}
+
+impl<R: Abort> Surroundings for Stage<'_, R> {
+    ghost use Rattle.std.specs.Prelude.{None as Unknown};
+
+    ghost asked = { λ _. Unknown };
+
+    fn seconds(&mut self) -> u64 {
+        let now = self.moments.get(self.given).copied();
+        self.given = self.given.saturating_add(1);
+        now.unwrap_or(0)
+    }
+
+    fn tell<M: Display + Drop>(&mut self, message: M) {
+        let words = format!(in self.alloc; "{message}").expect(self.rt, MEMORY);
+        end_if_refused(self.rt, self.said.push(words).is_err());
+    }
+
+    fn tell_device(&mut self) {
+        self.tell("device");
+    }
+
+    fn publish(&mut self, text: &str) -> bool {
+        self.tried = self.tried.saturating_add(1);
+        if self.tried == self.bad {
+            return false;
+        }
+        let text = String::from_str(self.alloc, text).expect(self.rt, MEMORY);
+        end_if_refused(self.rt, self.files.push(text).is_err());
+        true
+    }
+}
+
+/// Counts what was written, and how much of it was flushed.
+#[derive(Drop)]
+struct Pipe {
+    written: usize,
+    flushed: usize,
+}
+
+impl Write for Pipe {
+    fn write(&mut self, buf: &[u8]) -> io::Result<usize> {
+        self.written = self.written.saturating_add(buf.len());
+        Ok(buf.len())
+    }
+
+    fn flush(&mut self) -> io::Result<()> {
+        self.flushed = self.written;
+        Ok(())
+    }
+}
+
+/// What a run over the lines did: its status, its surroundings, and its output. No request for memory fails.
+fn ran<'a, R: Abort>(
+    rt: &'a R,
+    alloc: Global,
+    mut lines: &[u8],
+    (moments, bad): (&'a [u64], usize),
+    has_file: bool,
+) -> (u8, Stage<'a, R>, Pipe) {
+    Trial::new(alloc).calm();
+    let plan = plan_of(alloc, "1", "cgh", "60", "5").expect(rt, MEMORY);
+    let options = Options {
+        plan: plan.expect(rt, "a plan"),
+        naming: Naming::AsGiven,
+        prefixes: Items::from(Vec::new(alloc)),
+        labels: Items::from(Vec::new(alloc)),
+        skips_bad: false,
+        has_file,
+        at_scrapes_only: false,
+        accepts_partial: false,
+    };
+    let stage = Stage {
+        rt,
+        alloc,
+        moments,
+        given: 0,
+        bad,
+        tried: 0,
+        files: Vec::new(alloc),
+        said: Vec::new(alloc),
+    };
+    let mut pipe = Pipe {
+        written: 0,
+        flushed: 0,
+    };
+    let (status, stage) = tool_prometheus::command(alloc, options, stage, &mut lines, &mut pipe);
+    (status, stage, pipe)
+}
+
+/// Whether these are the texts.
+fn are(found: &[String], texts: &[&str]) -> bool {
+    found.len() == texts.len()
+        && found
+            .iter()
+            .zip(texts)
+            .all(|(text, same)| text.as_str() == *same)
+}
+
+/// Moments that are as far apart as the timeout, and further.
+const KEPT: &[u64] = &[1000, 1060];
+
+const GONE: &[u64] = &[1000, 1061];
+
+/// A scrape without a moment asks the clock once, in the unit of the timeout: 60 later a series is kept, 61 later it goes.
+#[test]
+fn the_clock_removes_idle_series(rt: HostRuntime) {
+    let lines = b"increment 1 a\nscrape\nincrement 2 b\nscrape\n".as_slice();
+    let (a, b) = ("# TYPE a counter\na 1\n", "# TYPE b counter\nb 2\n");
+    let both = "# TYPE a counter\na 1\n# TYPE b counter\nb 2\n";
+    for (moments, second) in [(KEPT, both), (GONE, b)] {
+        let (status, stage, _) = ran(&rt, rt.alloc(), lines, (moments, 0), true);
+        assert_eq!(rt; (status, stage.given), (0, 2));
+        assert!(rt; are(&stage.files, &[a, second]));
+    }
+}
+
+/// Each scrape's text is put into the file, and the end's, in order. One that fails is lost, and the status is 1.
+#[test]
+fn each_scrape_is_put_into_the_file(rt: HostRuntime) {
+    let lines = b"increment 1 a\nscrape 1\nincrement 1 a\nscrape 2\nincrement 1 a\n".as_slice();
+    let texts = [
+        "# TYPE a counter\na 1\n",
+        "# TYPE a counter\na 2\n",
+        "# TYPE a counter\na 3\n",
+    ];
+    for bad in 0..4 {
+        let (status, stage, pipe) = ran(&rt, rt.alloc(), lines, (&[], bad), true);
+        assert_eq!(rt;
+            (status, stage.tried, pipe.written),
+            (if bad == 0 { 0 } else { 1 }, 3, 0)
+        );
+        let wanted = match bad {
+            1 => are(&stage.files, &[texts[1], texts[2]]),
+            2 => are(&stage.files, &[texts[0], texts[2]]),
+            3 => are(&stage.files, &[texts[0], texts[1]]),
+            _ => are(&stage.files, &texts),
+        };
+        assert!(rt; wanted, "the file without text {bad}");
+    }
+}
+
+/// A series that is left out is reported at the first scrape that leaves it out, and not again.
+#[test]
+fn a_series_left_out_is_reported_once(rt: HostRuntime) {
+    let lines =
+        b"increment 1 a.b\nincrement 1 a-b\nscrape 1\nscrape 2\nset 1 a_b\nscrape 3\nscrape 4\n".as_slice();
+    let (status, stage, _) = ran(&rt, rt.alloc(), lines, (&[], 0), false);
+    assert_eq!(rt; status, 0);
+    assert!(rt;
+        are(
+            &stage.said,
+            &[
+                "line 1: name \"a.b\" is spelled \"a_b\"",
+                "line 2: name \"a-b\" is spelled \"a_b\"",
+                "left out: counter a.b: labels equal those of a-b",
+                "left out: gauge a_b: name taken by a counter",
+            ]
+        )
+    );
+}
+
+/// All that was written is flushed at the end, also what the end of the input writes.
+#[test]
+fn the_end_is_flushed(rt: HostRuntime) {
+    let all = "# TYPE a counter\na 1\n\n".len();
+    for (lines, written) in [
+        (b"increment 1 a\nscrape 1\n".as_slice(), all),
+        (b"increment 1 a\n".as_slice(), all),
+        (b"".as_slice(), 0),
+    ] {
+        let (status, _, pipe) = ran(&rt, rt.alloc(), lines, (&[], 0), false);
+        assert_eq!(rt; (status, pipe.written, pipe.flushed), (0, written, written));
+    }
+}

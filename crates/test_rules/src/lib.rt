@@ -1,0 +1,5 @@
+//! Tests of rules.
+#![tactic(auto)]
+
+#[cfg(test)]
+mod visits;
