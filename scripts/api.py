@@ -10,14 +10,14 @@ import os
 import re
 import sys
 
-from definitions import CRATES, TOP, Specs
-from laws import Laws, files, held, write
+from definitions import CRATES, TOP
+from laws import Laws, anchor, files, held, write
 from sources import ITEM, block_of, contracts_of, exported, head_of, indented, pieces, shown_type
 
 PAGE = os.path.join(TOP, "docs", "API.md")
 HEAD = """# Public items
 
-Each public item with its signature and its docs, by the modules of `metrics_util`. *Contracts* unfolds what a call requires and ensures, with links to the definitions. `scripts/api.py` writes this page from the sources.
+Each public item with its signature and its docs, by the modules of `metrics_util`. *Contracts* unfolds what is proved of it: what a call requires and ensures, with links to the definitions, which [theorems](laws/README.md) shows how to read. What a doc comment says beyond that is tested or neither: the README of the crate says which. `scripts/api.py` writes this page from the sources.
 """
 
 
@@ -58,9 +58,9 @@ def trait_of(head):
 
 
 def is_hidden(crate, head, exported_names):
-    """Returns whether an impl's trait is one of the repository's that no module exports."""
+    """Returns whether an impl's trait is only for contracts, or one of the repository's that no module exports."""
     trait = trait_of(head)
-    return trait in TRAITS and trait not in exported_names
+    return trait == "Model" or (trait in TRAITS and trait not in exported_names)
 
 
 def answered(lines):
@@ -74,8 +74,8 @@ def answered(lines):
 
 class Page:
     def __init__(self, laws):
-        self.laws, self.shown, self.lines, self.answers = laws, set(), [HEAD], []
-        self.names = set()
+        self.laws, self.shown, self.lines, self.answers = laws, set(), [], []
+        self.names, self.headings, self.modules = set(), {}, []
 
     def crate(self, name):
         return self.laws.crate(name)
@@ -89,32 +89,40 @@ class Page:
 
     def add(self, within, path):
         crate = self.find(within, path)
+        heading = self.heading(crate, path[-1])
         if (crate, path[-1]) in self.shown:
-            self.lines.append(f"`{path[-1]}`: as above.\n")
+            self.lines.append(f"`{path[-1]}`: [above](#{anchor(heading)}).\n")
             return
         self.shown.add((crate, path[-1]))
         lines = shown(self.crate(crate), path[-1], self.names)
         self.answers += answered(lines)
-        self.lines.append(f"### `{path[-1]}`\n\n```rust\n" + "\n".join(lines) + "\n```\n")
+        self.lines.append(f"### {heading}\n\n```rust\n" + "\n".join(lines) + "\n```\n")
+        theorems = [f"[{said}](laws/{page}.md)" for page, said in self.laws.carriers.get((crate, path[-1]), {}).items()]
+        self.lines += [f"Theorems: {'; '.join(theorems)}.\n"] if theorems else []
         self.lines += self.contracts(crate, path[-1])
+
+    def heading(self, crate, name):
+        """Returns an item's heading, with its crate where an item of another crate has the name already."""
+        first = self.headings.setdefault(name.lower(), (crate, name))
+        return f"`{name}`" if first == (crate, name) else f"`{name}` of `{crate}`"
 
     def contracts(self, crate, name):
         """Returns the folded contracts of an item, with links to what they cite."""
         found = [it for it in contracts_of(self.crate(crate), name)
-                 if " for " not in it.head or not is_hidden(self.crate(crate), it.head, self.names)]
+                 if " for " not in it.head or trait_of(it.head) == "Model" or not is_hidden(self.crate(crate), it.head, self.names)]
         found = [it for it in found if it.lines]
         if not found:
             return []
         lines = ["<details><summary>Contracts</summary>\n"]
         for it in found:
-            links = [self.laws.link(there, "laws/") for there in Specs.cites("\n".join(it.lines), it.imports)]
-            links = ", ".join(filter(None, links))
-            lines.append("```rust\n" + "\n".join([it.head, *it.lines]) + "\n```\n" + (f"\nDefinitions: {links}.\n" if links else ""))
+            notes = self.laws.notes(self.laws.cited_by(it), "", "laws/", preferred=tuple(self.laws.carriers.get((crate, name), ())))
+            lines += ["```rust", it.head, *it.lines, "```", *notes, ""]
         return [*lines, "</details>\n"]
 
     def add_module(self, name, docs, text):
         said = " ".join(line.lstrip("/! ") for line in docs)
-        self.lines.append(f"## `{name}`\n\n{said}\n" if said else f"## `{name}`\n")
+        self.modules.append(name)
+        self.lines.append(f"## Module `{name}`\n\n{said}\n" if said else f"## Module `{name}`\n")
         inner, names = [], []
         for docs, _, item in pieces(text):
             module = re.match(r"pub mod (\w+)", item)
@@ -123,16 +131,19 @@ class Page:
             elif item.startswith("pub use "):
                 names += exported(item)
         if names:
-            self.lines.append("Items: " + ", ".join(f"[`{it[-1]}`](#{it[-1].lower()})" for it in names) + "\n")
+            self.lines.append("Items: " + ", ".join(self.link(name.split("::")[0], it) for it in names) + "\n")
         for path in names:
             self.add(name.split("::")[0], path)
         for module in inner:
             self.add_module(*module)
 
+    def link(self, within, path):
+        return f"[`{path[-1]}`](#{anchor(self.heading(self.find(within, path), path[-1]))})"
+
     def add_answered(self):
         """Adds the types that signatures answer and no module exports."""
         self.lines.append("## Types that calls return\n\nNo module of `metrics_util` exports them; the crate is named beside each.\n")
-        for name in dict.fromkeys(self.answers):
+        for name in self.answers:
             crates = [it for it in LIBRARIES if name in self.crate(it).items and (it, name) not in self.shown]
             if crates and name not in {it for _, it in self.shown}:
                 self.lines.append(f"From `{crates[0]}`:\n")
@@ -160,18 +171,22 @@ def pages():
         text = lib_of(crate)
         made.add_module(crate, re.findall(r"(?m)^//!.*", text), re.sub(r"(?m)^(//!|#!\[).*", "", text))
     made.add_answered()
-    return "\n".join(made.lines), files(laws)
+    modules = ", ".join(f"[`{it}`](#{anchor(f'Module `{it}`')})" for it in made.modules)
+    text = "\n".join([HEAD, f"Modules: {modules}, and [types that calls return](#types-that-calls-return).\n", *made.lines])
+    return text, files(laws), sorted(laws.unexplained)
 
 
 def main():
-    text, made = pages()
+    text, made, unexplained = pages()
+    for it in unexplained:
+        print(f"scripts/words.txt doesn't explain {it}")
     if sys.argv[1:] == ["check"]:
         with open(PAGE, encoding="utf-8") as page:
             wrong = (["docs/API.md"] if page.read() != text else []) + sorted(
                 f"docs/laws/{it}" for it in {*made, *held()} if made.get(it) != held().get(it))
         for it in wrong:
             print(f"{it} is not what scripts/api.py writes")
-        return 1 if wrong else 0
+        return 1 if wrong or unexplained else 0
     with open(PAGE, "w", encoding="utf-8") as to:
         to.write(text)
     write(made)

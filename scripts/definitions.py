@@ -5,16 +5,21 @@ import re
 TOP = os.path.dirname(os.path.dirname(os.path.abspath(__file__)))
 CRATES = os.path.join(TOP, "crates")
 USE = re.compile(r"(?m)^\s*(?:ghost )?use ([\w.]+)\.\{([^}]*)\}")
-HEADER = re.compile(r"^\s*(?:(?:abbrev|unfoldable) )?pub (?:(record|data) )?([^\s:(]+)")
+ALIAS = re.compile(r"(?m)^\s*(?:ghost )?use ([\w.]+) as (\w+)")
+HEADER = re.compile(r"^(\s*)(?:(?:abbrev|unfoldable) (?:pub )?|pub )(?:(record|data) )?(?!mutual\b)([^\s:({]+)")
+PART = re.compile(r"^(\s+)([^\s:({-][^\s:({]*)[^:]* :")
+LABEL = re.compile(r"([;{]\s*)[^\s{};=]+(?=\s*=[^=])|(?m:^(\s+pub )[^\s:({]+(?= :))")
 WORD = re.compile(r"[^\s(){}\[\],;.=λ→×:∷]+(?:\.[^\s(){}\[\],;.]+)*|\S")
 
 
 class Definition:
-    """A definition of specs/: its comment, its text, and the names that its file imports."""
+    """A definition of specs/: the names that it defines, those of its cases, its comment, and its text.
 
-    def __init__(self, crate, module, names, comment, text):
-        self.crate, self.module, self.names, self.comment, self.text = crate, module, names, comment, text
-        self.cited = []
+    `cited` has what the text names: for each module and name there the name that it has here."""
+
+    def __init__(self, crate, module, names, cases, comment, text):
+        self.crate, self.module, self.names, self.cases, self.comment, self.text = crate, module, names, cases, comment, text
+        self.cited = {}
 
     @property
     def key(self):
@@ -22,18 +27,23 @@ class Definition:
 
     @property
     def is_law(self):
-        """Whether the text is a lemma, whose proof no reader needs."""
-        return self.text.startswith(("pub ", "mutual")) and not re.match(r"pub (record|data)\b", self.text)
+        """Whether the text is lemmas, whose proofs no reader needs."""
+        return re.match(r"(mutual\n(\s*--.*\n)*\s*)?pub (?!record\b|data\b)", self.text)
 
     def shown(self):
         """Returns the text; of a lemma its statement alone."""
         if not self.is_law:
             return self.text
-        lines = self.text.splitlines()
-        kept = [lines[0]]
-        for line in lines[1:]:
-            if not line.startswith("    "):
-                break
+        kept, deep = [], None
+        for line in self.text.splitlines():
+            indent = len(line) - len(line.lstrip())
+            if line.lstrip().startswith("pub "):
+                deep = indent
+            elif line == "mutual" or (deep is not None and indent >= deep + 4):
+                pass
+            else:
+                deep = None
+                continue
             kept.append(line)
         return "\n".join(kept)
 
@@ -45,6 +55,8 @@ def imports_of(text):
         for name in filter(None, (it.strip() for it in names.split(","))):
             there, _, here = name.partition(" as ")
             found[here.strip() or there.strip()] = (module, there.strip())
+    for module, here in ALIAS.findall(text):
+        found[here] = (module, "")
     return found
 
 
@@ -65,8 +77,23 @@ def blocks_of(text):
         yield " ".join(comment), "\n".join(lines)
 
 
+def names_of(block):
+    """Returns the names that a block defines, and the names of the cases of its data types. Fields are none of them."""
+    names, cases, inside = [], [], None
+    for line in block.splitlines():
+        head, part = HEADER.match(line), PART.match(line)
+        if inside and len(line) - len(line.lstrip()) <= inside[0] and line.strip():
+            inside = None
+        if head and not inside:
+            names.append(head[3])
+            inside = (len(head[1]), head[2]) if head[2] else None
+        elif inside and inside[1] == "data" and part:
+            cases.append(part[2])
+    return names, cases
+
+
 class Specs:
-    """All definitions of all crates, by module and name."""
+    """All definitions of all crates, by module and name, those of their cases too."""
 
     def __init__(self):
         self.found = {}
@@ -75,44 +102,61 @@ class Specs:
             for folder, _, files in sorted(os.walk(top)):
                 for file in sorted(files):
                     if file.endswith(".antt") and file != "Lib.antt":
-                        self.read(crate, top, os.path.join(folder, file))
+                        self.read(f"Rattle.{crate}.specs.", top, os.path.join(folder, file))
+        while any([self.read_proofs(module) for module in sorted({module for it in self.found.values() for module, _ in it.cited})]):
+            pass
 
-    def read(self, crate, top, path):
-        module = f"Rattle.{crate}.specs." + os.path.relpath(path, top)[: -len(".antt")].replace(os.sep, ".")
+    def read_proofs(self, module):
+        """Reads a file of proofs/, whose definitions others may cite, once; returns whether it did."""
+        found = re.match(r"Rattle\.(\w+)\.proofs\.([\w.]+)$", module)
+        if not found or not os.path.isdir(os.path.join(CRATES, found[1])) or module in {there for there, _ in self.found}:
+            return False
+        top = os.path.join(CRATES, found[1], "proofs")
+        self.read(f"Rattle.{found[1]}.proofs.", top, os.path.join(top, *found[2].split(".")) + ".antt")
+        return True
+
+    def read(self, prefix, top, path):
+        crate = prefix.split(".")[1]
+        module = prefix + os.path.relpath(path, top)[: -len(".antt")].replace(os.sep, ".")
         with open(path, encoding="utf-8") as it:
             text = it.read()
         imports, made = imports_of(text), []
         for comment, body in blocks_of(text):
-            names = [it[2] for it in map(HEADER.match, body.splitlines()) if it]
+            names, cases = names_of(body)
             if names:
-                made.append(Definition(crate, module, names, comment, body))
-        own = {name: (module, name) for it in made for name in it.names}
+                made.append(Definition(crate, module, names, cases, comment, body))
+        own = {name: (module, name) for it in made for name in (*it.cases, *it.names)}
         for it in made:
-            it.cited = self.cites(it.text, {**imports, **own}, without=it.names)
-            for name in it.names:
+            it.cited = self.cites(it.shown(), {**imports, **own}, without=(*it.names, *it.cases))
+            for name in (*it.cases, *it.names):
                 self.found[module, name] = it
 
     @staticmethod
     def cites(text, imports, without=()):
-        """Returns what a text names of the imports, in order, each once."""
-        text = re.sub(r"--.*", "", text)
-        seen = dict.fromkeys(imports[word] for word in words_of(text) if word in imports and word not in without)
-        return list(seen)
+        """Returns what a text names of the imports, in order: for each module and name there its first name here."""
+        text = LABEL.sub(r"\1\2", re.sub(r"--.*", "", text))
+        found = {}
+        for word in words_of(text):
+            module, name = imports.get(word.split(".")[0], ("", None))
+            if name == "" and "." in word:
+                found.setdefault((module, word.split(".")[1]), word)
+            elif name and word in imports and word not in without:
+                found.setdefault((module, name), word)
+        return found
 
     def below(self, cited):
-        """Returns these definitions and all that they cite, down to the language's own words, each once, before what it cites."""
-        made, todo = {}, [it for it in cited if it in self.found]
+        """Returns these definitions and all that they cite, each once: after a definition come those that it uses first."""
+        made, todo = {}, list(reversed(cited))
         while todo:
-            it = self.found[todo.pop(0)]
-            if it.key not in made:
+            it = self.found.get(todo.pop())
+            if it and it.key not in made:
                 made[it.key] = it
-                todo += [there for there in it.cited if there in self.found]
+                todo += reversed(it.cited)
         return list(made.values())
 
 
 def words_of(text):
-    """Returns the words of a clause or a definition; a field or a member is a word, and so is what stands before it."""
+    """Returns the words of a clause or a definition, each also without the fields or members that follow it."""
     for word in WORD.findall(text):
         yield word
-        for part in word.split("."):
-            yield part
+        yield word.split(".")[0]

@@ -75,16 +75,19 @@ def bad_lines(form):
 
 def number_reason(word, text):
     """Returns why a text is no number: an exporter's message says so."""
+    if not text:
+        return "is no number: one space stands between two words"
     if not re.fullmatch("-?[0-9]+", text):
         return "is not a whole number"
     return f"is not from {LEAST[word.kind]} to {GREATEST[word.kind]}, without needless zeros"
 
 
 def bytes_reason(word):
-    """What a line says of a word with a byte that isn't UTF-8: it can't show the word. One of a few words has a table's row."""
+    """What a line says of a word with a byte that isn't UTF-8. One of a few words has a table's row."""
+    shown = f'"{word.text}\\xff"'
     if word.is_number():
-        return "a word is not a whole number"
-    return "a word is not UTF-8" if word.kind in ("name", "text") else None
+        return f"{shown} is not a whole number"
+    return f"{shown} is not UTF-8" if word.kind in ("name", "text") else None
 
 
 def message_of(flaw, usage):

@@ -322,6 +322,7 @@ class Prometheus(Export):
         self.is_changed, self.is_recommended = False, options.recommended_names
         self.prefixes = model.prefix_bounds(options)
         self.labels = model.common_labels(options)
+        self.at_scrapes_only = options.at_scrapes_only
 
     def copied(self):
         other = super().copied()
@@ -362,10 +363,10 @@ class Prometheus(Export):
             yield self, len(text), False
 
     def owes_end(self):
-        return self.is_changed
+        return self.is_changed and not self.at_scrapes_only
 
     def after_end(self, said):
-        if not self.is_changed:
+        if not self.owes_end():
             yield self, 0, False
         elif said[:1] == [self.refusal] and self.held:
             yield self, 1, True
@@ -496,14 +497,34 @@ def judge(program, words, given, bad, code, how, status, out, errors):
     elif program == "metrics_tool":
         judge_lines(0, lambda: Export(words[1:]), lines, bad, code, most, status, errors, said)
     else:
+        lines = model.without_partial(given.split(b"\n"), model.options_of(words))
+        errors, refused = without_refusals(status, errors)
+        shown = said.count(Prometheus.refusal)
         told, bad = without_text(errors, bad), LEFT_OUT.sub(b"", bad)
         if code == 3:
             told, bad = without_passed_over(told, bad), b""
+        if refused < shown or (told == bad and refused != shown):
+            raise Wrong("%d lines for %d refused calls" % (shown, refused))
+        if refused and told == bad:
+            status = code
         judge_lines(0, lambda: Prometheus(words), lines, bad, code, most, status, told, said)
 
 
-# The message for a series that a text leaves out: a failed scrape prints none.
-LEFT_OUT = re.compile(rb"^left out: .*\n", re.MULTILINE)
+# The message for calls that were refused.
+REFUSED = re.compile(rb"^refused: (\d+) updates, (\d+) descriptions, (\d+) scrapes\n", re.MULTILINE)
+
+
+def without_refusals(status, errors):
+    """Returns the other messages, and how many calls were refused: if some were, the status is 1, and one message counts them."""
+    counts = [sum(map(int, found)) for found in REFUSED.findall(errors)]
+    if len(counts) > 1 or 0 in counts or (counts and status != 1):
+        raise Wrong("status %d with %r" % (status, errors))
+    return REFUSED.sub(b"", errors), sum(counts)
+
+
+# The messages for a series that a text leaves out (a failed scrape prints none), and for a name that it spells otherwise (a line
+# that isn't read has none).
+LEFT_OUT = re.compile(rb"^(?:left out: .*|line \d+: (?:name|label) \".*\"(?:\.\. of \d+ bytes)? is spelled \".*)\n", re.MULTILINE)
 
 
 def without_passed_over(errors, bad):

@@ -111,18 +111,20 @@ def base_of(exporter, kind, name):
 
 def shown_name(exporter, kind, name):
     end, _ = base_of(exporter, kind, name)
-    shown = spelled(name, "A-Za-z_:")
-    total = "_total" if exporter.is_recommended and kind == 0 else ""
-    if total:
-        shown = shown.removesuffix(total)
-    return shown.removesuffix(end) + end + total
+    ends = (end, "_total" if exporter.is_recommended and kind == 0 else "")
+    bare = spelled(name, "A-Za-z_:")
+    while any(end and bare.endswith(end) for end in ends):
+        for end in ends:
+            bare = bare.removesuffix(end)
+    return bare + "".join(ends)
 
 
 def pointed(number, places):
-    """Returns a number with so many digits after the point."""
+    """Returns the shortest text of a number whose last so many digits follow the point."""
     digits = str(abs(number)).rjust(places + 1, "0")
     at = len(digits) - places
-    return ("-" if number < 0 else "") + digits[:at] + ("." + digits[at:] if places else "")
+    decimals = digits[at:].rstrip("0")
+    return ("-" if number < 0 else "") + digits[:at] + ("." + decimals if decimals else "")
 
 
 def rows_of(exporter):
@@ -153,9 +155,21 @@ def labels_reason(kind, labels):
     return next((f"label {key}" for key in keys if is_reserved(kind, key)), None)
 
 
+def whole_of(name, histograms):
+    """Returns the histogram of which the name is that of a part, or None."""
+    wholes = (name[: -len(end)] for end in ("_bucket", "_sum", "_count") if name.endswith(end))
+    return next((whole for whole in wholes if whole in histograms), None)
+
+
 def histograms_of(rows):
-    """Returns the names of the histograms whose labels can be shown."""
-    return {name for name, kind, labels, _ in rows if kind == 2 and labels_reason(kind, labels) is None}
+    """Returns the names of the histograms that are shown. Rows are in order, so a histogram comes before its parts."""
+    fit = [(name, kind) for name, kind, labels, _ in rows if labels_reason(kind, labels) is None]
+    others = {name for name, kind in fit if kind != 2}
+    names = set()
+    for name, kind in fit:
+        if kind == 2 and name not in others and whole_of(name, names) is None:
+            names.add(name)
+    return names
 
 
 def reason_of(row, last, histograms):
@@ -164,9 +178,9 @@ def reason_of(row, last, histograms):
     reason = labels_reason(kind, labels)
     if reason is not None:
         return reason
-    for end in ("_bucket", "_sum", "_count"):
-        if name.endswith(end) and name[: -len(end)] in histograms:
-            return "name of a part of histogram " + name[: -len(end)]
+    whole = whole_of(name, histograms)
+    if whole is not None:
+        return "name of a part of histogram " + whole
     if last is None or last[0] != name:
         return None
     if last[1] != kind:
@@ -303,6 +317,8 @@ UNITS = ("-", "count", "percent", "seconds", "milliseconds", "microseconds", "na
 LABEL = re.compile(r' ([^ =]*)=(?:"((?:[^"\\]|\\["\\n])*)"|((?!")[^ ]*))(?= |\Z)')
 # A byte that isn't UTF-8 is read as one of the last range.
 CONTROL = re.compile("[\x00-\x1f\x7f\udc80-\udcff]")
+# What a name can't have: also the characters of a series that is written with its labels.
+UNFIT = re.compile('[\x00-\x1f\x7f\udc80-\udcff{}",=]')
 
 
 def in_order(labels):
@@ -318,7 +334,7 @@ def labels_of(rest):
     labels, at = {}, 0
     while at < len(rest):
         found = LABEL.match(rest, at)
-        if found is None or CONTROL.search(found[0]) or found[1] in labels:
+        if found is None or CONTROL.search(found[0]) or found[1] in labels or len(labels) == 1000:
             return None
         labels[found[1]] = found[3] if found[2] is None else unescaped(found[2])
         at = found.end()
@@ -327,7 +343,7 @@ def labels_of(rest):
 
 def update_of(word, rest):
     found = re.fullmatch("([^ ]*) ([^ ]+)(.*)", rest, re.DOTALL)
-    if word not in KIND_OF or found is None or not is_number(word, found[1]) or CONTROL.search(found[2]):
+    if word not in KIND_OF or found is None or not is_number(word, found[1]) or UNFIT.search(found[2]):
         return None
     labels = labels_of(found[3])
     return labels if labels is None else ("update", word, int(found[1]), "" if found[2] == "-" else found[2], labels)
@@ -335,9 +351,9 @@ def update_of(word, rest):
 
 def describe_of(rest):
     kind, name, unit, *text = [*rest.split(" ", 3), "", "", ""][: max(3, rest.count(" ") + 1)]
-    if kind not in KINDS or name == "" or CONTROL.search(name) or unit not in UNITS or not text:
+    if kind not in KINDS or name == "" or UNFIT.search(name) or unit not in UNITS or not text:
         return None
-    if re.search("[\udc80-\udcff]", text[0]):
+    if CONTROL.search(text[0]):
         return None
     return "describe", KINDS.index(kind), "" if name == "-" else name, unit, text[0]
 
@@ -371,11 +387,17 @@ def options_of(words):
     parser.add_argument("--bounds", default="5,10,25,50,100,250,500,1000,2500,5000,10000")
     parser.add_argument("--bounds-of", action="append", default=[])
     parser.add_argument("--label", action="append", default=[])
-    parser.add_argument("--shards")
     parser.add_argument("--textfile")
+    parser.add_argument("--at-scrapes-only", action="store_true")
+    parser.add_argument("--accept-partial", action="store_true")
     parser.add_argument("--skip-bad", action="store_true")
     parser.add_argument("--recommended-names", action="store_true")
     return parser.parse_args(words)
+
+
+def without_partial(lines, options):
+    """Returns those of the pieces between line feeds that count as lines: the last one has no line feed."""
+    return lines if lines[-1] and options.accept_partial else lines[:-1]
 
 
 def common_labels(options):
@@ -393,6 +415,7 @@ def exporter_of(options, made=Exporter):
     exporter.is_recommended = options.recommended_names
     exporter.prefixes = prefix_bounds(options)
     exporter.labels = common_labels(options)
+    exporter.at_scrapes_only = options.at_scrapes_only
     return exporter
 
 
@@ -421,7 +444,7 @@ def check(lines, output, exporter, skips_bad):
                 exporter.expire(moment or 0)
                 count += shown()
                 is_changed = False
-    if is_changed:
+    if is_changed and not exporter.at_scrapes_only:
         count += shown()
     if next(texts, None) is not None:
         raise Wrong("more expositions than scrapes")
@@ -473,8 +496,7 @@ def judged(arguments):
     if arguments[0] == "access":
         return access(read(arguments[1]), read(arguments[2]))
     options = options_of(arguments[3:])
-    text = read(arguments[1])
-    lines = text.removesuffix("\n").split("\n") if text else []
+    lines = without_partial(read(arguments[1]).split("\n"), options)
     return check(lines, read(arguments[2]), exporter_of(options), options.skip_bad)
 
 

@@ -175,8 +175,8 @@ class Crate:
 
     def __init__(self, name):
         self.name, self.items, self.impls, self.exports = name, {}, {}, {}
-        # Private ones too.
-        self.types, self.functions = {}, {}
+        # Private ones too; and what the files import, by the names that it has there.
+        self.types, self.functions, self.traits, self.uses = {}, {}, {}, {}
         for folder, _, files in sorted(os.walk(os.path.join(CRATES, name, "src"))):
             for file in sorted(files):
                 with open(os.path.join(folder, file), encoding="utf-8") as source:
@@ -188,6 +188,8 @@ class Crate:
             found = ITEM.match(item)
             if found and found[1] in ("struct", "enum"):
                 self.types.setdefault(found[2], (found[1], docs, item))
+            if found and found[1] == "trait":
+                self.traits.setdefault(found[2], item)
             if found and found[1] == "fn":
                 self.functions.setdefault(found[2], ("fn", docs, attributes, item, imports))
             if found and item.startswith("pub ") and not item.startswith("pub("):
@@ -201,11 +203,43 @@ class Crate:
             elif item.startswith("pub use "):
                 for path in exported(item):
                     self.exports[path[-1]] = path
+            elif item.startswith("use "):
+                for path in exported(item):
+                    *front, name = path
+                    there, _, here = name.partition(" as ")
+                    self.uses.setdefault(here or there, (*front, there))
+
+    def trait_members(self, name, laws):
+        """Returns the ghost members of a trait that this crate's sources name: each with its type, its docs, and what each
+        implementation in this crate has for it, if the trait is of this crate too."""
+        crate = self.uses.get(name, (self.name,))[0]
+        made = laws.crate(crate) if os.path.isdir(os.path.join(CRATES, crate)) else self
+        while name not in made.traits and name in made.exports and os.path.isdir(os.path.join(CRATES, made.exports[name][0])):
+            made = laws.crate(made.exports[name][0])
+        if name not in made.traits:
+            return []
+        found = []
+        for docs, _, text in pieces(block_of(made.traits[name])):
+            for member, sign, said in ghosts_of(text):
+                if sign == ":":
+                    inside = self.members_here(name, member) if made is self else []
+                    found.append((member, " ".join(said.split()), [it.lstrip("/ ") for it in docs], inside))
+        return found
+
+    def members_here(self, trait, member):
+        """Returns the types that implement a trait in this crate, each with what it has for a ghost member, and its imports."""
+        found = []
+        for head, block, imports in (it for impls in self.impls.values() for it in impls):
+            kind = re.search(rf"\b{trait} for (.*?)(?: where .*)?$", head)
+            here = [said for own, sign, said in ghosts_of(block_of(block)) if own == member] if kind else []
+            if here:
+                found.append((kind[1], " ".join(here[0].split()), imports))
+        return found
 
 
 def exported(item):
-    """Returns the paths that a `pub use` exports."""
-    path = " ".join(item[len("pub use "):].rstrip(";").split())
+    """Returns the paths that a `use` or a `pub use` names."""
+    path = " ".join(item.removeprefix("pub ")[len("use "):].rstrip(";").split())
     found = re.match(r"(.*?)::\{(.*)\}$", path)
     names = [it.strip() for it in found[2].split(",") if it.strip()] if found else [path.rpartition("::")[2]]
     front = found[1] if found else path.rpartition("::")[0]
@@ -213,10 +247,12 @@ def exported(item):
 
 
 class Contract:
-    """What a function promises, or a ghost member: its signature, its docs, its clauses as lines, and what they import."""
+    """What a function promises, or a ghost member: its signature, its docs, its clauses as lines, and what they import.
 
-    def __init__(self, docs, head, lines, imports):
-        self.docs, self.head, self.lines, self.imports = docs, head, lines, imports
+    `around` is the head of the impl or the trait that it is in."""
+
+    def __init__(self, docs, head, lines, imports, around=""):
+        self.docs, self.head, self.lines, self.imports, self.around = docs, head, lines, imports, around
 
 
 def lines_of_clauses(text):
@@ -238,7 +274,7 @@ def contracts_of_block(head, block, is_public, imports):
         if item and item[1] == "fn" and (text.startswith("pub ") or not is_public):
             lines = lines_of_clauses(text)
             if lines:
-                found.append(Contract(docs, head_of(text), lines, imports))
+                found.append(Contract(docs, head_of(text), lines, imports, head))
     return found
 
 

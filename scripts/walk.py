@@ -34,7 +34,10 @@ STORMS = ("storm 2 200 4", "storm 2 200 4 grow", "storm 3 100 1", "storm 1 0 1 g
 
 # The last words of a test that was out of memory: by `?`, which ends it with status 101, or by `.expect(&rt, "out of memory")`,
 # which aborts it.
-WANTS = r"Memory( \{ acted: \d+ \})?|\(Memory, -?\d+\)|Memory\(\w+(\(\d+\))?\)|AllocError|AllocFailed( \{.*\})?"
+WANTS = (
+    r"Memory( \{ acted: \d+ \})?|PartlyAbsorbed \{ error: Memory, rows: \d+, samples: \d+ \}"
+    r"|\(Memory, -?\d+\)|Memory\(\w+(\(\d+\))?\)|AllocError|AllocFailed( \{.*\})?"
+)
 NO_THREAD = r"Os \{ code: 1[12], .*\}|Kind\(OutOfMemory\)|SpawnError( \{.*\}|\(.*\))?"
 # What a test's runner adds if the test returns an error.
 ENDED_BY_RESULT = "the test failed: its result gives status 1"

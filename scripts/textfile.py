@@ -1,0 +1,216 @@
+#!/usr/bin/env python3
+"""What `metrics_prometheus_tool --textfile PATH` does to files: no reader sees a torn or an empty text, whatever happens.
+
+    textfile.py PROGRAM
+
+Prints a line for each case that failed, and how many passed. Its status is 0 if all did."""
+
+import os
+import random
+import re
+import resource
+import signal
+import subprocess
+import sys
+import tempfile
+import time
+from pathlib import Path
+
+PROGRAM = Path(sys.argv[1]).resolve()
+SMALL = b"increment 1 a\nscrape 1\n"
+
+
+def run(folder, path, given=SMALL, before=None):
+    ended = subprocess.run([PROGRAM, "--textfile", path], input=given, capture_output=True, cwd=folder, preexec_fn=before, timeout=60)
+    return ended.returncode, ended.stdout, ended.stderr.decode()
+
+
+def series(writer, count, number):
+    """Lines that set all series of a writer to a number, and put them into the file."""
+    return b"".join(b"set %d m%d writer=%s\n" % (number, i, writer) for i in range(count)) + b"scrape %d\n" % number
+
+
+def is_whole(text, counts):
+    """Whether the text has all series of one writer, all with one number."""
+    found = re.findall(rb'^m(\d+)\{writer="(\w)"\} (\d+)$', text, re.MULTILINE)
+    writers = {writer for _, writer, _ in found}
+    return (len(writers) == 1 and len({number for _, _, number in found}) == 1 and len(found) == counts[writers.pop()]
+            and text.endswith(b"\n"))
+
+
+def beside(folder, kept):
+    return sorted(set(os.listdir(folder)) - set(kept))
+
+
+# ---- cases: each has a folder of its own, and returns what is wrong, or nothing
+
+
+def modes(folder):
+    """The file may be read by all, whatever the umask."""
+    ended = run(folder, "a.prom", before=lambda: os.umask(0o077))
+    mode = (folder / "a.prom").stat().st_mode & 0o777
+    return ended == (0, b"", "") and mode == 0o644 and not beside(folder, ["a.prom"])
+
+
+def names_taken(folder):
+    """A folder, a link and a pipe at the names beside the file are left alone."""
+    (folder / "victim").write_text("mine")
+    (folder / "a.prom.0.tmp").mkdir()
+    (folder / "a.prom.1.tmp").symlink_to("victim")
+    (folder / "a.prom.2.tmp").symlink_to("nothing")
+    os.mkfifo(folder / "a.prom.3.tmp")
+    kept = os.listdir(folder) + ["a.prom"]
+    ended = run(folder, "a.prom")
+    return (ended[0] == 0 and (folder / "victim").read_text() == "mine" and "a 1" in (folder / "a.prom").read_text()
+            and not beside(folder, kept) and not (folder / "a.prom").is_symlink())
+
+
+def link_followed(folder):
+    """A link is followed to the file that it names, also over links and to a file that is missing."""
+    (folder / "data").mkdir()
+    (folder / "near.prom").symlink_to("data/step.prom")
+    (folder / "data" / "step.prom").symlink_to(folder / "data" / "far.prom")
+    first = run(folder, "near.prom")
+    second = run(folder, "near.prom", b"increment 5 a\n")
+    return ((first[0], second[0]) == (0, 0) and (folder / "near.prom").is_symlink() and (folder / "data" / "step.prom").is_symlink()
+            and "a 5" in (folder / "data" / "far.prom").read_text() and sorted(os.listdir(folder / "data")) == ["far.prom", "step.prom"])
+
+
+def no_file_at(path):
+    def case(folder):
+        kept = os.listdir(folder)
+        status, out, errors = run(folder, path)
+        return (status, out) == (2, b"") and errors.count("\n") == 1 and not beside(folder, kept)
+    return case
+
+
+def folder_there(folder):
+    (folder / "a.prom").mkdir()
+    return no_file_at("a.prom")(folder)
+
+
+def pipe_there(folder):
+    os.mkfifo(folder / "a.prom")
+    return no_file_at("a.prom")(folder) and (folder / "a.prom").is_fifo()
+
+
+def link_to_pipe(folder):
+    os.mkfifo(folder / "pipe")
+    (folder / "a.prom").symlink_to("pipe")
+    return no_file_at("a.prom")(folder) and (folder / "a.prom").is_symlink()
+
+
+def links_in_a_circle(folder):
+    (folder / "a.prom").symlink_to("b.prom")
+    (folder / "b.prom").symlink_to("a.prom")
+    status, out, errors = run(folder, "a.prom")
+    return (status, out) == (1, b"") and "a.prom" in errors and not beside(folder, ["a.prom", "b.prom"])
+
+
+def folder_missing(folder):
+    """Each scrape fails, says what it could not make, and the program goes on."""
+    status, out, errors = run(folder, "none/a.prom", b"increment 1 a\nscrape 1\nscrape 2\n")
+    return (status, out) == (1, b"") and errors == "can't make none/a.prom.0.tmp: No such file or directory (os error 2)\n" * 2
+
+
+def disk_full(folder):
+    """A file that may not grow past a limit: the old one stays, nothing is left beside it, and the message says what failed."""
+    def limited():
+        signal.signal(signal.SIGXFSZ, signal.SIG_IGN)
+        resource.setrlimit(resource.RLIMIT_FSIZE, (4096, 4096))
+    (folder / "a.prom").write_text("old\n")
+    status, out, errors = run(folder, "a.prom", series(b"x", 1000, 1), limited)
+    return ((status, out) == (1, b"") and errors == "can't write a.prom.0.tmp: File too large (os error 27)\n"
+            and (folder / "a.prom").read_text() == "old\n" and not beside(folder, ["a.prom"]))
+
+
+def memory_short(folder):
+    """Refused calls give status 1 and one message, and the output stays empty."""
+    lines = b"".join(b"increment 1 c%d some=label_%d\n" % (i, i) for i in range(300_000))
+    (folder / "a.prom").write_text("old\n")
+    limit = 120_000 * 1024
+    status, out, errors = run(folder, "a.prom", lines, lambda: resource.setrlimit(resource.RLIMIT_AS, (limit, limit)))
+    return (status, out) == (1, b"") and re.fullmatch(r"(refused: \d+ updates, \d+ descriptions, \d+ scrapes\n)?((line \d+: )?memory\n)?", errors) and errors
+
+
+def two_writers(folder):
+    """3,000 scrapes of each of two writers, and two readers meanwhile."""
+    counts = {b"x": 200, b"y": 50}
+    path = folder / "a.prom"
+    given = {writer: b"".join(series(writer, count, number) for number in range(3000)) for writer, count in counts.items()}
+    for writer in counts:
+        (folder / writer.decode()).write_bytes(given[writer])
+    running = [subprocess.Popen([PROGRAM, "--textfile", path], stdin=open(folder / writer.decode()), stderr=subprocess.PIPE) for writer in counts]
+    readers = [os.fork() for _ in range(2)]
+    if 0 in readers:
+        bad = 0
+        while any(os.path.exists(f"/proc/{one.pid}/fd/0") for one in running):
+            if path.exists():
+                bad += not is_whole(path.read_bytes(), counts)
+        os._exit(1 if bad else 0)
+    told = [one.communicate()[1] for one in running]
+    read = [os.waitpid(reader, 0)[1] for reader in readers]
+    return (told == [b"", b""] and [one.returncode for one in running] == [0, 0] and read == [0, 0]
+            and is_whole(path.read_bytes(), counts) and not beside(folder, ["a.prom", "x", "y"]))
+
+
+def kills(folder):
+    """60 kills at random moments: each time the file has one whole text, and the next run is not hindered."""
+    counts = {b"x": 300}
+    path = folder / "a.prom"
+    (folder / "x").write_bytes(b"".join(series(b"x", 300, number) for number in range(1000)))
+    for _ in range(60):
+        one = subprocess.Popen([PROGRAM, "--textfile", path], stdin=open(folder / "x"))
+        time.sleep(random.uniform(0.005, 0.1))
+        one.kill()
+        one.wait()
+        if path.exists() and not is_whole(path.read_bytes(), counts):
+            return False
+    return run(folder, path, series(b"x", 300, 1))[0] == 0 and is_whole(path.read_bytes(), counts)
+
+
+def clock_in_seconds(folder):
+    """By the clock a series goes 3 seconds after its last update with --idle 1, and stays with --idle 60."""
+    def shown(idle):
+        with subprocess.Popen([PROGRAM, "--idle", idle], stdin=subprocess.PIPE, stdout=subprocess.PIPE) as one:
+            one.stdin.write(b"increment 1 a\nscrape\n")
+            one.stdin.flush()
+            time.sleep(3)
+            out, _ = one.communicate(b"increment 1 b\nscrape\n")
+        return out.count(b"\na 1\n")
+    return (shown("1"), shown("60")) == (1, 2)
+
+
+CASES = {
+    "modes": modes,
+    "names taken": names_taken,
+    "a link": link_followed,
+    "an empty path": no_file_at(""),
+    "a slash at the end": no_file_at("a/"),
+    "standard output": no_file_at("/dev/stdout"),
+    "a device": no_file_at("/dev/null"),
+    "a folder": folder_there,
+    "a pipe": pipe_there,
+    "a link to a pipe": link_to_pipe,
+    "links in a circle": links_in_a_circle,
+    "no folder": folder_missing,
+    "a full disk": disk_full,
+    "little memory": memory_short,
+    "two writers": two_writers,
+    "kills": kills,
+    "seconds": clock_in_seconds,
+}
+
+
+def main():
+    failed = []
+    for name, case in CASES.items():
+        with tempfile.TemporaryDirectory() as folder:
+            if not case(Path(folder)):
+                failed.append(name)
+                print(f"{name}: FAILED")
+    print(f"{len(CASES) - len(failed)} of {len(CASES)} cases")
+    sys.exit(1 if failed else 0)
+
+
+main()
