@@ -199,21 +199,16 @@ def outputs(text):
     return found
 
 
-def last_lines(text, count):
-    lines = text.splitlines(True)
-    return b"".join(lines[len(lines) - count:]) if count else b""
-
-
 def fault_of(case, printed, ended):
     """Returns what is wrong with a run, or None."""
     if ended is None:
         return "it did not run"
-    end, said = ended
+    end, said, is_first = ended
     if end != f"run=ended status={case.status}":
         return f"{end}, wanted status {case.status}"
     if printed != case.prints:
         return f"it printed {printed!r}, wanted {case.prints!r}"
-    if last_lines(said, case.message.count(b"\n")) != case.message:
+    if not said.endswith(case.message) or (said != case.message and not is_first):
         return f"it said {said[-300:]!r}, wanted {case.message!r}"
     return None
 
@@ -246,7 +241,7 @@ def run_program(program, cases, room):
             last, said = (last + line)[-2000:], said + line
             if end:
                 name = end[1].decode()
-                ended[name] = (end[2] + b" " + end[3]).decode(), said.removesuffix(line)
+                ended[name] = (end[2] + b" " + end[3]).decode(), said.removesuffix(line), not ended
                 said = b""
                 group = name.partition(".")[0]
                 if all(label(case) in ended for case in groups.get(group, [])):

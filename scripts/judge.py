@@ -441,12 +441,12 @@ def follow(machine, lines, said, most, is_short, is_ended):
         raise Wrong("other lines than those that the calls answer")
 
 
-def judge_lines(first, machine_of, lines, bad, code, most, status, errors, said):
-    """Judges the answers to the lines from the one with the number `first` on."""
+def judge_lines(first, machine_of, lines, bad, code, most, status, errors, said, partial=0):
+    """Judges the answers to the lines from the one with the number `first` on, after which a `partial` one may be read."""
     is_stopped, number = stop_of(status, errors, bad, code)
     fault = re.match(rb"line (\d+): ", bad) if code == 2 else None
     last = int(fault[1]) - 1 if fault else len(lines)
-    if number is not None and number > min(last + 1, len(lines)):
+    if number is not None and number > min(last + 1, len(lines) + partial):
         raise Wrong("line %d was not reached" % number)
     if said and said.pop():
         raise Wrong("a part of a line")
@@ -497,7 +497,9 @@ def judge(program, words, given, bad, code, how, status, out, errors):
     elif program == "metrics_tool":
         judge_lines(0, lambda: Export(words[1:]), lines, bad, code, most, status, errors, said)
     else:
-        lines = model.without_partial(given.split(b"\n"), model.options_of(words))
+        pieces = given.split(b"\n")
+        lines = model.without_partial(pieces, model.options_of(words))
+        partial = len(pieces) - len(lines) if pieces[-1] else 0
         errors, refused = without_refusals(status, errors)
         shown = said.count(Prometheus.refusal)
         told, bad = without_text(errors, bad), LEFT_OUT.sub(b"", bad)
@@ -507,7 +509,7 @@ def judge(program, words, given, bad, code, how, status, out, errors):
             raise Wrong("%d lines for %d refused calls" % (shown, refused))
         if refused and told == bad:
             status = code
-        judge_lines(0, lambda: Prometheus(words), lines, bad, code, most, status, told, said)
+        judge_lines(0, lambda: Prometheus(words), lines, bad, code, most, status, told, said, partial)
 
 
 # The message for calls that were refused.
