@@ -50,6 +50,11 @@ def section(path, head):
     return found[1].strip() if found else ""
 
 
+def as_written(word):
+    """Returns a word as a clause has it: an operator between its arguments."""
+    return re.sub(r"^◌(.+)◌$", r"x \1 y", word)
+
+
 def in_words(said, crate):
     """Returns what docs/ARCHITECTURE.md says of a theorem in a section of its own, and what the crate's README says of all that
     is proved there."""
@@ -232,7 +237,7 @@ class Laws:
         lines = ["# Theorems", "", "Each page has the contract that carries a theorem, and every definition that it cites: a reader needs no other. `scripts/api.py` writes them.", ""]
         lines += [f"- [{said}]({name}.md)" for name, (said, *_) in self.pages.items()]
         lines += ["", "[Other definitions](definitions.md) has those that only other contracts cite.", "", "## How to read them", "", *notation, ""]
-        lines += [*TABLE_OF_WORDS, *(f"| `{word}` | {said} |" for word, said in self.words.items())]
+        lines += [*TABLE_OF_WORDS, *(f"| `{as_written(word)}` | {said} |" for word, said in self.words.items())]
         return "\n".join(lines) + "\n"
 
     def notes(self, cited, page, up="", types=None, preferred=()):
@@ -265,7 +270,7 @@ class Laws:
         for named in [*(it.cited for it in definitions), *cited]:
             used.update({here: there[1] for there, here in named.items() if not is_ours(there[0])})
         self.unexplained |= {it for it in used.values() if it not in self.words}
-        rows = [f"| `{here}` | {self.words.get(used[here], '')} |" for here in sorted(used, key=lambda it: (it.lower(), it))]
+        rows = [f"| `{as_written(here)}` | {self.words.get(used[here], '')} |" for here in sorted(used, key=lambda it: (it.lower(), it))]
         return ["", "## Words of the language's library", "", *TABLE_OF_WORDS, *rows] if rows else []
 
 
