@@ -137,6 +137,7 @@ class Specs:
         text = LABEL.sub(r"\1\2", re.sub(r"--.*", "", text))
         found = {}
         for word in words_of(text):
+            word = f"◌{word}◌" if f"◌{word}◌" in imports and word.endswith("ℤ") else word
             module, name = imports.get(word.split(".")[0], ("", None))
             if name == "" and "." in word:
                 found.setdefault((module, word.split(".")[1]), word)

@@ -19,10 +19,10 @@ NOTATION = """<details><summary>How to read this page</summary>
 - `result` is what the call returns. `x.now` is what a `&` refers to; `x.old` and `x.new` are what a `&mut` refers to before and after the call.
 - Clauses speak of values: a number is a whole number without end, a text its bytes, a `Vec` the list `.items`. *The types* says how a clause sees each type.
 - `f x y` is a call, `λ x. e` a closure. `A → B` is a function, or "if A then B", or "for every x" in `(x : A) → B`. `A × B` is a pair, or "both", or "there is an x" in `(x : A) × B`; its halves are `.0` and `.1`. `A ⊎ B` is "either".
-- `a ≡ b` says that two values are equal; `⊤` and `Unit {0}` always hold, `⊥` never. `Type 0` is what a statement is, as `Bool` is what a test answers.
+- `a ≡ b` says that two values are equal, `a ≢ b` that they differ, `A ↔ B` that both statements hold or neither. `⊤` and `Unit {0}` always hold, `⊥` never. `Type 0` is what a statement is, as `Bool` is what a test answers.
 - `[]` is the empty list, `x ∷ xs` a first item and the rest, `xs ++ ys` both lists. A definition by several lines is a `match`: the first that fits counts.
 - `record` is a struct, `data` an enum. `record x { f = v }` is `x` with another `f`. `abbrev pub` begins a definition, `{A : Type 0}` is a type parameter, and `tt` is `()`.
-- `F.IsAlwaysCallable f` says that the closure `f` may be called with any argument. `R.name`, with a type parameter `R`, is a ghost member of a trait: what an implementation says of itself, for contracts alone.
+- `F.IsAlwaysCallable f` says that the closure `f` may be called with any argument; `F.FnMut` and the like are how it is called. `R.name`, with a type parameter `R`, is a ghost member of a trait: what an implementation says of itself, for contracts alone.
 - Each definition is followed by links to those that it uses. *Words of the language's library* explains the rest.
 
 </details>"""

@@ -114,7 +114,7 @@ description events kind name =
     let ds = filter_map (description_of kind name) events in
     record { unit = last (filter_map (λ d. d.0) ds); text = last (map (λ d. d.1) ds) }
 
--- ---- the updates since the last snapshot that reset their kind
+-- ---- the updates since the last successful snapshot that reset their kind
 
 -- whether an event is a snapshot that reset the series of a kind
 abbrev pub is_reset_of : MetricKind → Event → Bool
@@ -126,7 +126,7 @@ abbrev pub after_last : (Event → Bool) → List Event → List Event
 after_last sort [] = []
 after_last sort (e ∷ events) = if list_any sort events then after_last sort events else if sort e then events else e ∷ events
 
--- the events after the last snapshot that reset a kind; all of them if there is none
+-- the events after the last successful snapshot that reset a kind; all of them if there is none
 abbrev pub after_snapshot : MetricKind → List Event → List Event
 after_snapshot kind events = after_last (is_reset_of kind) events
 
@@ -139,7 +139,7 @@ update_of s e = None
 abbrev pub since : List Event → SeriesKey → List Update
 since events s = filter_map (update_of s) (after_snapshot s.kind events)
 
--- ---- the activity since the last snapshot
+-- ---- the activity since the last successful snapshot
 
 -- whether an event is a snapshot
 abbrev pub is_snapshot : Event → Bool
@@ -158,7 +158,7 @@ was_active events s = list_any (touches s) (after_last is_snapshot events)
 
 -- ---- contents and expected answers
 
--- a series with the value of its updates since the last snapshot that reset its kind
+-- a series with the value of its updates since the last successful snapshot that reset its kind
 abbrev pub series_now : List Event → SeriesKey → Series
 series_now events k = record { key = k; value = value_from (new_value k.kind) (since events k) }
 

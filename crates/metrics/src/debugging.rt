@@ -49,7 +49,7 @@ impl Reset {
 
 /// The rows of a book, in order of first registration, and which of their series were active.
 ///
-/// A series is active if it was registered or updated, with any value, since the last snapshot of its book.
+/// A series is active if it was registered or updated, with any value, since the last successful snapshot of its book.
 #[derive(Debug, Drop)]
 pub struct Snapshot {
     rows: Vec<Row>,

@@ -11,7 +11,7 @@ use thiserror::Error as ThisError;
 pub enum Error {
     /// Out of memory. Nothing changed, with four exceptions. If the error was made from a `Refused`, the call has acted on the
     /// targets that this reported. An expiry keeps the checks that it made. A copy of cells into a map keeps the first n. A pen
-    /// keeps the spare pens that it joined.
+    /// keeps the spare pens that it joined, and of a growing bucket knows their segments.
     #[error("memory")]
     Memory,
     /// The mask has no kind.
@@ -35,7 +35,7 @@ pub enum Error {
     /// Another thread changed the word between this call's load and its exchange. This call changed nothing.
     #[error("raced")]
     Raced,
-    /// Another walk holds the turn. This call changed nothing.
+    /// Another walk holds the turn. This call changed nothing, but its pen may know more segments of a growing bucket.
     #[error("busy")]
     Busy,
     /// No pen is free, a pen or tally of weight 1 was to be split, or another pen is out where all are wanted. No value has

@@ -98,7 +98,7 @@ impl<T: Sample> RuledBucket<T> {
     ///
     /// They come in ticket order in chunks of 64, the newest chunk first. It waits for pushes that drew a ticket before it
     /// took the side; later ones go to the other side.
-    /// `Busy`: another walk is under way, or this pen's own closure or visitor is inside one.
+    /// `Busy`: another walk is under way, perhaps the one whose closure or visitor made this call.
     pub fn clear_to_as<R: Wait, V: Visitor<T>>(
         &self,
         rt: &R,
@@ -118,7 +118,8 @@ impl<T: Sample> RuledBucket<T> {
         self.claim_and_clear(rt, &mut pen.seat, visitor)
     }
 
-    /// Takes all values as `clear_to_as` does, and shows them to `f`, which may push into this bucket with another pen.
+    /// Takes all values as `clear_to_as` does, and shows them to `f`, which may push into this bucket with another pen. If it is
+    /// `Busy`, `f` was not called.
     pub fn clear_with_as<R: Wait, F: FnMut(&[T])>(
         &self,
         rt: &R,

@@ -7,6 +7,6 @@ use Rattle.metrics_debugging.specs.DebuggingSeries.{all_series, is_active}
 abbrev pub series_of : SeriesList → List Series
 series_of l = all_series l.numbers l.series.items
 
--- for each series whether it was registered or updated since the last snapshot
+-- for each series whether it was registered or updated since the last successful snapshot
 abbrev pub activity_of : SeriesList → List Bool
 activity_of l = map is_active l.series.items

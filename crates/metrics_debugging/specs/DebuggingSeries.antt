@@ -20,7 +20,7 @@ series_key kind key = record { kind = kind; key = key }
 abbrev pub spot : Stored → MetricKind × ℕ
 spot s = (kind_of_value (value_of s.cell), s.place)
 
--- whether a series was registered or updated since the last snapshot
+-- whether a series was registered or updated since the last successful snapshot
 abbrev pub is_active : Stored → Bool
 is_active s = s.active
 

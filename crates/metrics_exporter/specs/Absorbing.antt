@@ -15,7 +15,7 @@ use Rattle.metrics_exporter.specs.Kept.{IsAfter}
 
 -- ---- the updates of a row
 
--- a row of a snapshot, and whether its series was active: registered or updated since the last snapshot of its book
+-- a row of a snapshot, and whether its series was active: registered or updated since the last successful snapshot of its book
 pub record MarkedRow : Type 0 where
   pub row : RowParts
   pub active : Bool

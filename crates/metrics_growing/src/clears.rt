@@ -209,7 +209,8 @@ impl<T: Sample> GrowingBucket<T> {
 
     /// Takes all values as `clear_to` does, and shows them to `f`, which may push into this bucket with another pen.
     ///
-    /// A clear made inside `f` may wait for ever.
+    /// A clear made inside `f` is `Busy` while this one walks the first segment. Later it waits for ever, for the turn of the
+    /// segment that this one walks. After an error `f` was not called.
     pub fn clear_with<R: Wait, F: FnMut(&[T])>(
         &self,
         rt: &R,

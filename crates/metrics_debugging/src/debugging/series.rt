@@ -16,7 +16,7 @@ use metrics_registry::Cells;
 use std::alloc::Global;
 
 /// A series: its cell, which is of its kind, the place of its key among those of the kind, where to look first for the
-/// description of its name, and whether it was registered or updated since the last snapshot.
+/// description of its name, and whether it was registered or updated since the last successful snapshot.
 #[derive(Drop)]
 pub(crate) struct Stored {
     cell: Cell,
@@ -180,7 +180,7 @@ impl SeriesList {
         Ok(rows)
     }
 
-    /// Returns for each series whether it was registered or updated since the last snapshot.
+    /// Returns for each series whether it was registered or updated since the last successful snapshot.
     pub fn activity(&self, alloc: Global) -> Result<Vec<bool>, Refused>
         ensures ok { IfOk result (λ v. v.items ≡ activity_of self.now) }
         ensures memory { IfErr result (λ e. e ≡ Memory 0) }
