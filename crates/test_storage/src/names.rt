@@ -77,7 +77,10 @@ fn a_counter_comes_before_a_gauge_of_its_key(rt: HostRuntime) {
 
 #[test]
 fn a_composite_key_comes_apart(rt: HostRuntime) {
-    let key = Key::from_name(rt.alloc(), "a").expect(&rt, "out of memory");
-    let (kind, key) = CompositeKey::new(MetricKind::Gauge, key).into_parts();
-    assert!(rt; (kind, key.name()) == (MetricKind::Gauge, "a"));
+    let key = || {
+        let key = Key::from_labels(rt.alloc(), "a", &[("x", "1"), ("y", "2")]);
+        key.expect(&rt, "out of memory")
+    };
+    let (kind, parted) = CompositeKey::new(MetricKind::Gauge, key()).into_parts();
+    assert!(rt; kind == MetricKind::Gauge && parted == key());
 }
