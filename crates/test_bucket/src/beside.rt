@@ -21,12 +21,17 @@ fn push_all<R: Wait>(rt: &R, bucket: &AtomicBucket<u64>, from: u64, end: u64) {
     }
 }
 
-/// Two threads push 0 to 1999, and then report that they ended.
-fn push_in_two<R: Threads + Wait + Sync>(rt: &R, bucket: &AtomicBucket<u64>, ended: &AtomicUsize) {
+/// Two threads push the numbers below `end`, and then report that they ended.
+fn push_in_two<R: Threads + Wait + Sync>(
+    rt: &R,
+    bucket: &AtomicBucket<u64>,
+    end: u64,
+    ended: &AtomicUsize,
+) {
     join(
         rt,
-        || push_all(rt, bucket, 0, 1000),
-        || push_all(rt, bucket, 1000, 2000),
+        || push_all(rt, bucket, 0, end / 2),
+        || push_all(rt, bucket, end / 2, end),
     );
     ended.store(1, Ordering::SeqCst);
 }
@@ -64,7 +69,7 @@ fn push_and_clear<R: Abort + Threads + Wait + Sync>(
             .spawn(move || clear_to_the_end(rt, alloc, bucket, ended))
             .map_err(|_| Error::Memory)
             .expect(rt, "out of memory");
-        push_in_two(rt, bucket, ended);
+        push_in_two(rt, bucket, 2000, ended);
         clearer.join(rt)
     })
 }
@@ -113,7 +118,7 @@ fn no_push_is_refused_beside_others(rt: HostRuntime) {
 }
 
 /// Walks of each kind, one after another, until the pushes ended, and once more. None is `Busy`, since no other walk is under
-/// way.
+/// way. Right after a clear a walk finds few values, some of which are still being pushed.
 fn walk_to_the_end<R: Abort + Wait>(
     rt: &R,
     alloc: Global,
@@ -123,7 +128,9 @@ fn walk_to_the_end<R: Abort + Wait>(
     for _ in rt.forever() {
         let last = ended.load(Ordering::SeqCst) == 1;
         assert!(rt; bucket.data_with(rt, |_| {}).is_ok());
-        assert!(rt; bucket.clear(rt).is_ok());
+        for _ in 0..8u32 {
+            assert!(rt; bucket.clear(rt).is_ok());
+        }
         assert!(rt; bucket.data(rt, alloc).err() != Some(Error::Busy));
         assert!(rt; bucket.clear_with(rt, |_| {}).is_ok());
         if last {
@@ -145,7 +152,7 @@ fn push_and_walk<R: Abort + Threads + Wait + Sync>(
             .spawn(move || walk_to_the_end(rt, alloc, bucket, ended))
             .map_err(|_| Error::Memory)
             .expect(rt, "out of memory");
-        push_in_two(rt, bucket, ended);
+        push_in_two(rt, bucket, 20_000, ended);
         walker.join(rt)
     })
 }
