@@ -1,2 +1,4 @@
 pub mod Counting
 pub mod Keys
+pub mod Noted
+pub mod Noting

@@ -2,12 +2,16 @@
 #![tactic(auto)]
 
 mod cell;
+mod note;
+mod notes;
 mod rule;
 mod steps;
 mod view;
 mod watch;
 
 pub use cell::CountCell;
+pub use note::CountNote;
+pub use notes::CountNotes;
 pub use rule::CountRule;
 pub use view::View;
 pub use watch::Watch;
