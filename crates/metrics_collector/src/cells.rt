@@ -2,7 +2,7 @@
 ghost use Rattle.std.specs.Prelude.{◌≡◌, [], IfOk, MatchResult};
 ghost use Rattle.std.specs.Arc.{arc_value};
 ghost use Rattle.metrics.specs.declared.error.Error.TheVariants.{Memory as OutOfMemory};
-ghost use Rattle.metrics_names.specs.declared.kind.MetricKind.TheVariants.{Counter as CounterKind, Gauge as GaugeKind};
+ghost use Rattle.metrics_names.specs.declared.kind.MetricKind.TheVariants.{Gauge as GaugeKind};
 ghost use Rattle.metrics_names.specs.declared.kind.MetricKind.TheVariants.{Histogram as HistogramKind};
 
 use crate::gathered::Value;
@@ -336,28 +336,6 @@ pub(crate) trait Watched: Drop {
     fn held<W: Wait>(&self, rt: &W) -> Result<Seen, Error>
         ensures kind { IfOk result (λ seen. kind_of seen.value ≡ kind_held) }
         ensures generation { IfOk result (λ seen. IsGenerationOf seen.value seen.generation) };
-}
-
-impl Watched for CounterHandle {
-    type Cell = CountCell<Key>;
-
-    ghost kind_held = { CounterKind };
-
-    fn kind() -> MetricKind {
-        MetricKind::Counter
-    }
-
-    fn shared(&self) -> &Arc<CountCell<Key>> {
-        &self.cell
-    }
-
-    fn held<W: Wait>(&self, _rt: &W) -> Result<Seen, Error> {
-        let count = self.value();
-        Ok(Seen {
-            generation: Generation::new(count),
-            value: Value::Count(count),
-        })
-    }
 }
 
 impl Watched for GaugeHandle {

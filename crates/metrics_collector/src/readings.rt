@@ -10,6 +10,7 @@ ghost use Rattle.metrics_registry.specs.Recency.{table_answer};
 ghost use Rattle.metrics_registry.specs.RecencyEntries.{rules_of, table_of, check_of};
 ghost use Rattle.metrics_collector.specs.Gathering.{IsUnread};
 
+mod counters;
 mod removal;
 
 use crate::cells::{
@@ -18,8 +19,8 @@ use crate::cells::{
 use crate::gathered::{Gathered, GatheredSeries};
 use crate::rows::Rows;
 use metrics::{Error, Key, MetricKind, MetricKindMask};
+use metrics_counts::CountNotes;
 use metrics_exporter::Bounds;
-use metrics_prometheus::ReadSeries;
 use metrics_registry::{Generation, OwnedRecency};
 use metrics_shared_registry::Registry;
 use std::alloc::Global;
@@ -122,7 +123,7 @@ fn leaves<W: Wait, C: Watched>(
 /// A kind of series of a registry.
 ///
 /// The type of what is found idle decides which series may be shown to it: those of another kind have another type.
-trait Kind: Watched {
+trait Kind: Drop {
     /// Looks at each series of the kind.
     fn visit<W: Wait>(
         registry: &Registry<Key, CollectorCells>,
@@ -136,38 +137,10 @@ trait Kind: Watched {
     fn remove<W: Wait>(
         registry: &Registry<Key, CollectorCells>,
         rt: &W,
-        recency: &mut OwnedRecency<Key>,
+        readings: &mut Readings,
         idle: &Idle<Self>,
         now: u64,
     );
-}
-
-impl Kind for CounterHandle {
-    fn visit<W: Wait>(
-        registry: &Registry<Key, CollectorCells>,
-        rt: &W,
-        readings: &mut Readings,
-        reading: &mut Reading,
-        found: &mut Vec<Idle<CounterHandle>>,
-    ) {
-        registry.visit_counters(
-            rt,
-            |key, cell| readings.gather(rt, reading, found, key, cell),
-        );
-    }
-
-    fn remove<W: Wait>(
-        registry: &Registry<Key, CollectorCells>,
-        rt: &W,
-        recency: &mut OwnedRecency<Key>,
-        idle: &Idle<CounterHandle>,
-        now: u64,
-    ) {
-        let leaves = |cell: &mut CounterHandle| -> bool
-            ensures { cell.new ≡ cell.old }
-        { leaves(rt, recency, idle, &mut cell.cell, now) };
-        registry.remove_counter_if(rt, &idle.key, leaves);
-    }
 }
 
 impl Kind for GaugeHandle {
@@ -187,10 +160,11 @@ impl Kind for GaugeHandle {
     fn remove<W: Wait>(
         registry: &Registry<Key, CollectorCells>,
         rt: &W,
-        recency: &mut OwnedRecency<Key>,
+        readings: &mut Readings,
         idle: &Idle<GaugeHandle>,
         now: u64,
     ) {
+        let recency = &mut readings.recency;
         let leaves = |cell: &mut GaugeHandle| -> bool
             ensures { cell.new ≡ cell.old }
         { leaves(rt, recency, idle, &mut cell.cell, now) };
@@ -215,10 +189,11 @@ impl Kind for HistogramHandle {
     fn remove<W: Wait>(
         registry: &Registry<Key, CollectorCells>,
         rt: &W,
-        recency: &mut OwnedRecency<Key>,
+        readings: &mut Readings,
         idle: &Idle<HistogramHandle>,
         now: u64,
     ) {
+        let recency = &mut readings.recency;
         let leaves = |cell: &mut HistogramHandle| -> bool
             ensures { cell.new ≡ cell.old }
         { leaves(rt, recency, idle, &mut cell.cell, now) };
@@ -258,14 +233,20 @@ impl Reading {
 #[derive(Drop)]
 struct Readings {
     alloc: Global,
+    /// Of counters.
+    counts: CountNotes<Key>,
+    /// Of gauges and histograms.
     recency: OwnedRecency<Key>,
 }
 
 impl Readings {
     /// Begins without notes. A series of a kind in the mask is idle if it kept its generation for longer than the timeout.
     fn new(alloc: Global, mask: MetricKindMask, idle_timeout: Option<u64>) -> Readings {
+        let is_watched = mask.matches(MetricKind::Counter);
+        let timeout = if is_watched { idle_timeout } else { None };
         Readings {
             alloc,
+            counts: CountNotes::new(alloc, timeout),
             recency: OwnedRecency::new(alloc, mask, idle_timeout),
         }
     }
@@ -341,7 +322,7 @@ impl Readings {
         let mut found = Vec::new(self.alloc);
         C::visit(registry, rt, self, reading, &mut found);
         for idle in &found {
-            C::remove(registry, rt, &mut self.recency, idle, reading.now);
+            C::remove(registry, rt, self, idle, reading.now);
         }
         Walked { of: PhantomData }
     }
@@ -375,7 +356,23 @@ impl Readings {
     /// Forgets series that were gathered for a text that nobody saw, so that the next reading finds them new.
     fn forget_all(&mut self, gathered: &Gathered) {
         for one in &gathered.series {
-            self.recency.forget(one.reading().reading.kind(), &one.key);
+            self.show_again(one.kind(), &one.key);
+        }
+    }
+
+    /// Has the next reading show a series, though it may be as before.
+    fn show_again(&mut self, kind: MetricKind, key: &Key) {
+        match kind {
+            MetricKind::Counter => self.counts.show_again(key),
+            MetricKind::Gauge | MetricKind::Histogram => self.recency.forget(kind, key),
+        }
+    }
+
+    /// Forgets a series that is removed.
+    fn forget(&mut self, kind: MetricKind, key: &Key) {
+        match kind {
+            MetricKind::Counter => self.counts.forget(key),
+            MetricKind::Gauge | MetricKind::Histogram => self.recency.forget(kind, key),
         }
     }
 }

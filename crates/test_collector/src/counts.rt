@@ -2,7 +2,7 @@
 
 use crate::given::{MEMORY, key};
 use metrics::Key;
-use metrics_counts::{CountCell, Watch};
+use metrics_counts::{CountCell, CountNotes, Watch};
 use std::process::Abort;
 use std::sync::Arc;
 
@@ -43,4 +43,34 @@ fn a_count_begins_anew_after_the_greatest(rt: HostRuntime) {
     assert!(rt; watch.read() == 1);
     cell.absolute(3);
     assert!(rt; watch.read() == 3);
+}
+
+/// Looks at a counter, which never fails but for memory.
+fn look<R: Abort>(
+    rt: &R,
+    notes: &mut CountNotes<Key>,
+    of: &Key,
+    cell: &Arc<CountCell<Key>>,
+    now: u64,
+) -> Option<u64> {
+    notes.look(of, cell, now).expect(rt, MEMORY)
+}
+
+#[test]
+fn a_noted_count_is_idle_after_the_timeout(rt: HostRuntime) {
+    let of = key(&rt, "hits");
+    let cell = cell(&rt);
+    let mut notes = CountNotes::new(rt.alloc(), Some(10));
+    cell.increment(5);
+    assert!(rt; look(&rt, &mut notes, &of, &cell, 0) == Some(5));
+    assert!(rt; look(&rt, &mut notes, &of, &cell, 10) == Some(5));
+    assert!(rt; look(&rt, &mut notes, &of, &cell, 11).is_none());
+    notes.show_again(&of);
+    assert!(rt; look(&rt, &mut notes, &of, &cell, 11) == Some(5));
+    assert!(rt; notes.take_late(&of, 21).is_none());
+    cell.increment(2);
+    assert!(rt; look(&rt, &mut notes, &of, &cell, 30) == Some(7));
+    assert!(rt; notes.take_late(&of, 41) == Some(7));
+    notes.forget(&of);
+    assert!(rt; look(&rt, &mut notes, &of, &cell, 99) == Some(7));
 }

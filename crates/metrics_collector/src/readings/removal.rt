@@ -10,7 +10,7 @@ impl Series {
     /// It waits for a reading to end, as that has the notes.
     pub fn remove<W: Wait>(&self, rt: &W, kind: MetricKind, key: &Key) -> bool {
         let mut readings = self.readings.lock(rt);
-        readings.recency.forget(kind, key);
+        readings.forget(kind, key);
         match kind {
             MetricKind::Counter => self.registry.delete_counter(rt, key),
             MetricKind::Gauge => self.registry.delete_gauge(rt, key),
