@@ -111,6 +111,7 @@ impl Readings {
     ) -> Result<(), Error>
         ensures timeout { self.new.counts.timeout ≡ self.old.counts.timeout }
         ensures rises { IsNoLess (noted_of key_eq self.old.counts key.now) (noted_of key_eq self.new.counts key.now) }
+        ensures others { OthersStay key_eq key.now (noted_of key_eq self.old.counts) (noted_of key_eq self.new.counts) }
         ensures looked { OnOk result (IsLookedAt self.old.counts.timeout key.now reading.old.now
             (noted_of key_eq self.old.counts key.now) (noted_of key_eq self.new.counts key.now)
             reading.old.rows reading.new.rows) }
