@@ -25,7 +25,7 @@ pub use laws::absorb_law;
 pub use lists::LabelList;
 pub use merging::AbsorbError;
 pub use metrics::Error;
-pub use metrics_exporter::Bounds;
+pub use metrics_exporter::{Bounds, BoundsError};
 pub use metrics_prometheus::{BadLabel, Descriptions, Naming, left_out};
 pub use metrics_registry::Quantile;
 pub use quantiles::quantile_bound;

@@ -1,6 +1,8 @@
 -- The bounds of the longest prefix of a name.
 use Rattle.std.proofs.Common.{◌≡◌, ℕ, zero, suc, ◌+◌, ◌<◌, ◌≤◌, ℤ, Bool, true, false, cond, List, [], ◌∷◌, ◌++◌, length, take, Option, None, Some, IsSome, slice_get, All, refl, sym, ap, ◌∙◌, subst, arith, inl, inr, true≢false}
-use Rattle.std.specs.Prelude.{◌⊎◌}
+use Rattle.std.specs.Prelude.{◌⊎◌, OnOk, OnErr}
+use Rattle.std.specs.declared.result.Result.{Result}
+use Rattle.std.specs.declared.result.Result.TheVariants.{Ok, Err}
 use Rattle.std.specs.Option.{option_or, option_map, unwrap_or}
 use Rattle.std.specs.Str.{bytes_eq}
 use Rattle.std.proofs.lemmas.List.{length-take-le}
@@ -10,7 +12,7 @@ use Rattle.metrics_storage.specs.Histogram.{Distribution, no_samples, bounds_of}
 use Rattle.prefix_match.specs.TriePatterns.{stored, IsFront, HasNoFront, IsLongest}
 use Rattle.prefix_match.proofs.TrieFronts.{front_begins, begins_fits, begins_take}
 use Rattle.metrics_exporter.specs.Choice.{or_default}
-use Rattle.metrics_exporter.specs.Prefixes.{longest_within, at_longest, IsSetAtLongest, IsSetAtNone, IsEmpty, ArePlaces}
+use Rattle.metrics_exporter.specs.Prefixes.{longest_within, at_longest, IsSetAtLongest, IsSetAtNone, IsEmpty, ArePlaces, AreEmptyAt}
 
 -- ---- no samples
 
@@ -172,3 +174,47 @@ module _ (default : Distribution) (pairs : List (List ℕ × ℕ)) (chosen : Lis
   chosen-some name place one all h =
       empty-at default chosen place one all
       ∙ ap no_samples (sym (placed-some (λ place. bounds_of (or_default default (slice_get chosen place))) pairs name (bounds_of default) place h))
+
+-- ---- bounds of exact names
+
+pub exact-some : (o : Option Distribution) (d : Distribution) (rest : List ℤ) → o ≡ Some d → IsEmpty d → d ≡ no_samples (unwrap_or (option_map bounds_of o) rest)
+exact-some o d rest e h = h ∙ ap (λ x. no_samples (unwrap_or (option_map bounds_of x) rest)) (sym e)
+
+pub exact-none : (o : Option Distribution) (rest : List ℤ) → o ≡ None → rest ≡ unwrap_or (option_map bounds_of o) rest
+exact-none o rest e = ap (λ x. unwrap_or (option_map bounds_of x) rest) (sym e)
+
+pub empty-none-set : (f : List ℕ → Option Distribution) → ((name : List ℕ) → f name ≡ None) → AreEmptyAt f
+empty-none-set f none name d e = absurd (let h : None ≡ Some d = sym (none name) ∙ e in cc)
+
+some-same : (a b : Distribution) → Some a ≡ Some b → a ≡ b
+some-same a b e = cc
+
+module _ (f g : List ℕ → Option Distribution) (name bs : List ℕ) (x : Distribution) (bounds : List ℤ) (is : x ≡ no_samples bounds) (same : bs ≡ name) where
+  -- what an insert of the histogram at the name leaves
+  abbrev pub Puts : Type 0
+  Puts = (n : List ℕ) → g n ≡ cond (bytes_eq bs n) (Some x) (f n)
+
+  pub empty-more : Puts → AreEmptyAt f → AreEmptyAt g
+  empty-more puts were n d e = go (bytes_eq bs n) (sym (puts n) ∙ e)
+    where
+      go : (b : Bool) → cond b (Some x) (f n) ≡ Some d → IsEmpty d
+      go true e = subst IsEmpty (some-same x d e) (is-empty x bounds is)
+      go false e = were n d e
+
+  pub exact-more : Puts → (n : List ℕ) → option_map bounds_of (g n) ≡ cond (bytes_eq name n) (Some bounds) (option_map bounds_of (f n))
+  exact-more puts n =
+      ap (option_map bounds_of) (puts n)
+      ∙ go (bytes_eq bs n)
+      ∙ ap (λ m. cond (bytes_eq m n) (Some bounds) (option_map bounds_of (f n))) same
+    where
+      go : (b : Bool) → option_map bounds_of (cond b (Some x) (f n)) ≡ cond b (Some bounds) (option_map bounds_of (f n))
+      go true = ap Some (ap bounds_of is ∙ bounds-back bounds)
+      go false = refl
+
+  -- the same of an insert that may fail
+  pub empty-after : {T E : Type 0} (r : Result T E) → OnOk r Puts → OnErr r ((n : List ℕ) → g n ≡ f n) → AreEmptyAt f → AreEmptyAt g
+  empty-after (Ok v) puts same were = empty-more puts were
+  empty-after (Err e) puts same were = λ n d h. were n d (sym (same n) ∙ h)
+
+pub bounds-none : (o : Option Distribution) (rest bounds : List ℤ) → o ≡ None → rest ≡ bounds → unwrap_or (option_map bounds_of o) rest ≡ bounds
+bounds-none o rest bounds none is = sym (exact-none o rest none) ∙ is

@@ -14,3 +14,4 @@ pub mod LawLemmas
 pub mod ReadingsLemmas
 pub mod SeenLemmas
 pub mod DescriptionsLemmas
+pub mod BoundListsLemmas

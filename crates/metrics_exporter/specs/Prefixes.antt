@@ -30,3 +30,7 @@ IsEmpty d = d ≡ no_samples (bounds_of d)
 -- what is stored are places below n
 abbrev pub ArePlaces : List (List ℕ × ℕ) → ℕ → Type 0
 ArePlaces pairs n = (prefix : List ℕ) (place : ℕ) → stored pairs prefix ≡ Some place → place < n
+
+-- what is set for names are histograms without samples
+abbrev pub AreEmptyAt : (List ℕ → Option Distribution) → Type 0
+AreEmptyAt set = (name : List ℕ) (d : Distribution) → set name ≡ Some d → IsEmpty d

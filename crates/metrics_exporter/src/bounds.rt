@@ -1,23 +1,28 @@
 //! The bounds of histograms by their names.
 ghost use Rattle.std.specs.Prelude.{◌≡◌, ◌<◌, ℕ, [], List, Some as Just, All};
-ghost use Rattle.std.specs.Prelude.{length, if◌then◌else◌, nat_lt, IfOk, IfErr, OnOk, OnErr, bytes_eq};
+ghost use Rattle.std.specs.Prelude.{None as Nothing, length, if◌then◌else◌, nat_lt, IfOk, IfErr, OnOk, OnErr, bytes_eq};
+ghost use Rattle.indexmap.specs.IndexMap.{get_by_text};
 ghost use Rattle.metrics.specs.declared.error.Error.TheVariants.{Memory as OutOfMemory, NoBounds as WithoutBounds};
-ghost use Rattle.metrics_storage.specs.Histogram.{no_samples};
-ghost use Rattle.metrics_exporter.specs.Prefixes.{IsEmpty, ArePlaces};
+ghost use Rattle.metrics_storage.specs.Histogram.{no_samples, bounds_of};
+ghost use Rattle.metrics_exporter.specs.Prefixes.{IsEmpty, ArePlaces, AreEmptyAt, at_longest};
 
+use indexmap::IndexMap;
 use metrics::Error;
 use metrics_storage::Histogram;
 use prefix_match::PrefixTrie;
 use std::alloc::Global;
 
-/// Which bounds a histogram counts at: those of the longest prefix that its name begins with, otherwise the default ones.
+/// Which bounds a histogram counts at, in the unit of its samples: those of exactly its name, otherwise those of the longest
+/// prefix that the name begins with, otherwise the default ones.
 #[derive(Drop)]
 pub struct Bounds {
     default: Histogram,
+    exact: IndexMap<String, Histogram>,
     prefixes: PrefixTrie,
     chosen: Vec<Histogram>,
     ghost unused: { IsEmpty default },
     ghost all_unused: { All IsEmpty chosen.items },
+    ghost exact_unused: { AreEmptyAt (get_by_text exact) },
     ghost within: { ArePlaces prefixes.pairs (length chosen.items) },
 }
 
@@ -34,31 +39,34 @@ fn empty_at(alloc: Global, bounds: &[i64]) -> Result<Histogram, Error>
 }
 
 impl Bounds {
-    ghost use Rattle.metrics_exporter.specs.Choice.{IsChoice, chosen_at, set_for, bounds_for};
+    ghost use Rattle.metrics_exporter.specs.Choice.{IsChoice, IsPrefixChoice, chosen_at, set_for, exact_for, bounds_for};
 
     /// Returns bounds that are `default` for each name. Fails with `NoBounds` if it is empty, otherwise only when out of
     /// memory.
     pub fn new(alloc: Global, default: &[i64]) -> Result<Bounds, Error>
         ensures ok { IfOk result (λ b. (b.default ≡ no_samples default.now) × (b.prefixes.pairs ≡ [])) }
         ensures some { OnOk result (0 < length default.now) }
+        ensures exact { IfOk result (λ b. (name : List ℕ) → exact_for b name ≡ Nothing) }
         ensures all { IfOk result (λ b. (name : List ℕ) → bounds_for b name ≡ default.now) }
         ensures err { IfErr result (λ e. e ≡ (if nat_lt 0 (length default.now) then OutOfMemory else WithoutBounds)) }
     {
         let default = empty_at(alloc, default)?;
         Ok(Bounds {
             default,
+            exact: IndexMap::new(alloc),
             prefixes: PrefixTrie::new(alloc),
             chosen: Vec::new(alloc),
         })
     }
 
-    /// Sets other bounds for the names that begin with the prefix, unless a longer prefix is theirs.
+    /// Sets other bounds for the names that begin with the prefix, unless a longer prefix or exact bounds are theirs.
     /// Fails with `NoBounds` if there are none, otherwise with `Memory`. A call that fails changes no choice.
     pub fn set(&mut self, alloc: Global, prefix: &str, bounds: &[i64]) -> Result<(), Error>
         ensures default { self.new.default ≡ self.old.default }
         ensures ok { OnOk result (chosen_at self.new prefix.now ≡ no_samples bounds.now) }
         ensures sets { OnOk result ((p : List ℕ) → set_for self.new p
             ≡ (if bytes_eq p prefix.now then Just bounds.now else set_for self.old p)) }
+        ensures exact { (name : List ℕ) → exact_for self.new name ≡ exact_for self.old name }
         ensures refused { OnErr result ((p : List ℕ) → set_for self.new p ≡ set_for self.old p) }
         ensures err { IfErr result (λ e. e ≡ (if nat_lt 0 (length bounds.now) then OutOfMemory else WithoutBounds)) }
     {
@@ -74,10 +82,25 @@ impl Bounds {
         }
     }
 
-    /// Returns a histogram without samples at the bounds of a name.
-    pub fn of(&self, name: &str) -> &Histogram
-        ensures choice { IsChoice self.now name.now result.now }
-        ensures bounds { result.now ≡ no_samples (bounds_for self.now name.now) }
+    /// Sets other bounds for this name alone, whatever is set for its prefixes.
+    /// Fails with `NoBounds` if there are none, otherwise with `Memory`. A call that fails changes no choice.
+    pub fn set_exact(&mut self, alloc: Global, name: &str, bounds: &[i64]) -> Result<(), Error>
+        ensures default { self.new.default ≡ self.old.default }
+        ensures sets { OnOk result ((n : List ℕ) → exact_for self.new n
+            ≡ (if bytes_eq name.now n then Just bounds.now else exact_for self.old n)) }
+        ensures prefixes { (p : List ℕ) → set_for self.new p ≡ set_for self.old p }
+        ensures refused { OnErr result ((n : List ℕ) → exact_for self.new n ≡ exact_for self.old n) }
+        ensures err { IfErr result (λ e. e ≡ (if nat_lt 0 (length bounds.now) then OutOfMemory else WithoutBounds)) }
+    {
+        let empty = empty_at(alloc, bounds)?;
+        self.exact.insert(String::from_str(alloc, name)?, empty)?;
+        Ok(())
+    }
+
+    /// Returns the bounds of the longest prefix of a name, otherwise the default ones.
+    fn of_prefix(&self, name: &str) -> &Histogram
+        ensures choice { IsPrefixChoice self.now name.now result.now }
+        ensures bounds { result.now ≡ no_samples (at_longest (bounds_of self.now.default) (set_for self.now) name.now) }
     {
         let Some(at) = self.prefixes.longest(name.as_bytes()) else {
             return &self.default;
@@ -85,6 +108,17 @@ impl Bounds {
         match self.chosen.get(at) {
             Some(chosen) => chosen,
             None => &self.default,
+        }
+    }
+
+    /// Returns a histogram without samples at the bounds of a name.
+    pub fn of(&self, name: &str) -> &Histogram
+        ensures choice { IsChoice self.now name.now result.now }
+        ensures bounds { result.now ≡ no_samples (bounds_for self.now name.now) }
+    {
+        match self.exact.get(name) {
+            Some(exact) => exact,
+            None => self.of_prefix(name),
         }
     }
 }

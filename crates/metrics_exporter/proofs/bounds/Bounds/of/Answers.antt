@@ -1,32 +1,24 @@
-use Rattle.std.proofs.Common.{◌≡◌, ◌∙◌, sym, ap, inr, subst, slice_get, Some, refl}
-use Rattle.std.proofs.lemmas.Bool.{ltb-true}
-use Rattle.std.proofs.lemmas.Option.{slice_get_read}
-use Rattle.prefix_match.specs.TriePatterns.{HasNoFront, IsLongest}
-use Rattle.metrics_exporter.specs.Choice.{or_default}
-use Rattle.metrics_exporter.proofs.BoundsLemmas.{chosen-none, chosen-some}
+use Rattle.std.proofs.Common.{◌≡◌, ◌∙◌, refl, sym, ap, subst, Some, None, Option}
+use Rattle.std.specs.Prelude.{MatchOption, option_copied}
+use Rattle.indexmap.specs.IndexMap.{get_by_text}
+use Rattle.metrics_storage.specs.Histogram.{Distribution, no_samples, bounds_of}
+use Rattle.metrics_exporter.specs.Choice.{IsPrefixChoice, set_for}
+use Rattle.metrics_exporter.specs.Prefixes.{at_longest}
+use Rattle.metrics_exporter.proofs.BoundsLemmas.{exact-some, exact-none}
 use Rattle.metrics_exporter.proofs.bounds.Bounds.of.Goals as goal
 
-pub returns-in_default-clause-bounds : goal.returns-in_default-clause-bounds
-returns-in_default-clause-bounds c =
+pub returns-in-Some-clause-choice : goal.returns-in-Some-clause-choice
+returns-in-Some-clause-choice c =
     let b = c.args.self.now in
-    chosen-none b.default b.prefixes.pairs b.chosen.items c.args.name.now b.unused (subst (HasNoFront b.prefixes.pairs) c.as_bytes.ensures.value c.in_default.ensures.none)
+    let name = c.args.name.now in
+    let d = c.in-Some.exact.now in
+    let there : get_by_text b.exact name ≡ Some d = sym c.get.ensures.value ∙ ap option_copied c.in-Some.is in
+    subst (λ o. MatchOption o (IsPrefixChoice b name d) (λ e. d ≡ e)) (sym there) refl
 
-pub returns-in-Some-get-clause-choice : goal.returns-in-Some-get-clause-choice
-returns-in-Some-get-clause-choice c =
+pub returns-in-Some-clause-bounds : goal.returns-in-Some-clause-bounds
+returns-in-Some-clause-bounds c =
     let b = c.args.self.now in
-    let at = c.in-Some.at in
-    let longest = subst (λ name. IsLongest b.prefixes.pairs name at) c.as_bytes.ensures.value c.in-Some.ensures.longest in
-    let lookup = c.in-Some-get.ensures.lookup in
-    let found : slice_get c.deref.result.now at ≡ Some c.in-Some-get.chosen.now = slice_get_read _ _ at _ refl (ltb-true _ _ (sym lookup.0)) lookup.1 in
-    let here : slice_get b.chosen.items at ≡ Some c.in-Some-get.chosen.now = ap (λ items. slice_get items at) (sym c.deref.ensures.value) ∙ found in
-    inr (at, longest, sym (ap (or_default b.default) here))
-
-pub returns-in-Some-get-clause-bounds : goal.returns-in-Some-get-clause-bounds
-returns-in-Some-get-clause-bounds c =
-    let b = c.args.self.now in
-    let at = c.in-Some.at in
-    let longest = subst (λ name. IsLongest b.prefixes.pairs name at) c.as_bytes.ensures.value c.in-Some.ensures.longest in
-    let lookup = c.in-Some-get.ensures.lookup in
-    let found : slice_get c.deref.result.now at ≡ Some c.in-Some-get.chosen.now = slice_get_read _ _ at _ refl (ltb-true _ _ (sym lookup.0)) lookup.1 in
-    let here : slice_get b.chosen.items at ≡ Some c.in-Some-get.chosen.now = ap (λ items. slice_get items at) (sym c.deref.ensures.value) ∙ found in
-    sym (ap (or_default b.default) here) ∙ chosen-some b.default b.prefixes.pairs b.chosen.items c.args.name.now at b.unused b.all_unused longest
+    let name = c.args.name.now in
+    let d = c.in-Some.exact.now in
+    let there : get_by_text b.exact name ≡ Some d = sym c.get.ensures.value ∙ ap option_copied c.in-Some.is in
+    exact-some (get_by_text b.exact name) d (at_longest (bounds_of b.default) (set_for b) name) there (b.exact_unused name d there)
