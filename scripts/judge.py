@@ -322,6 +322,7 @@ class Prometheus(Export):
         self.is_changed, self.is_recommended = False, options.recommended_names
         self.prefixes = model.prefix_bounds(options)
         self.labels = model.common_labels(options)
+        self.names = model.names_of(options)
         self.at_scrapes_only = options.at_scrapes_only
 
     def copied(self):
@@ -331,7 +332,7 @@ class Prometheus(Export):
 
     def after(self, line, said):
         is_refused = said[:1] == [self.refusal]
-        match model.labelled(model.request_of(line.decode(errors="surrogateescape")), self.labels):
+        match model.asked(line.decode(errors="surrogateescape"), self):
             case ("scrape", moment):
                 yield from self.after_scrape(moment or 0, said, is_refused)
             case ("update", word, amount, name, labels):

@@ -56,6 +56,7 @@ class Exporter:
         self.units = {}
         self.is_recommended = False
         self.labels = {}
+        self.names = ("", [])
 
     def bounds_for(self, name):
         """Returns the bounds of the longest prefix of a name, otherwise the default ones."""
@@ -379,6 +380,27 @@ def labelled(request, common):
     return request
 
 
+def named(request, names):
+    """A request by the name that the series gets; of a dropped name nothing is asked."""
+    front, drops = names
+    match request:
+        case ("update", word, amount, name, labels):
+            return ("nothing",) if any(drop in name for drop in drops) else ("update", word, amount, front + name, labels)
+        case ("describe", kind, name, unit, text):
+            return ("nothing",) if any(drop in name for drop in drops) else ("describe", kind, front + name, unit, text)
+    return request
+
+
+def names_of(options):
+    """Returns what is before each name, and the texts of dropped names."""
+    return ("" if options.prefix is None else options.prefix + "."), options.drop
+
+
+def asked(line, exporter):
+    """Returns what a line asks of an exporter, or None if it is bad."""
+    return named(labelled(request_of(line), exporter.labels), exporter.names)
+
+
 def options_of(words):
     """Returns what the words of the command line ask for."""
     parser = argparse.ArgumentParser()
@@ -387,6 +409,8 @@ def options_of(words):
     parser.add_argument("--bounds", default="5,10,25,50,100,250,500,1000,2500,5000,10000")
     parser.add_argument("--bounds-of", action="append", default=[])
     parser.add_argument("--label", action="append", default=[])
+    parser.add_argument("--prefix")
+    parser.add_argument("--drop", action="append", default=[])
     parser.add_argument("--textfile")
     parser.add_argument("--at-scrapes-only", action="store_true")
     parser.add_argument("--accept-partial", action="store_true")
@@ -406,7 +430,7 @@ def common_labels(options):
 
 def prefix_bounds(options):
     parts = [value.rpartition("=") for value in options.bounds_of]
-    return {prefix: ascending(bounds) for prefix, _, bounds in parts}
+    return {names_of(options)[0] + prefix: ascending(bounds) for prefix, _, bounds in parts}
 
 
 def exporter_of(options, made=Exporter):
@@ -415,6 +439,7 @@ def exporter_of(options, made=Exporter):
     exporter.is_recommended = options.recommended_names
     exporter.prefixes = prefix_bounds(options)
     exporter.labels = common_labels(options)
+    exporter.names = names_of(options)
     exporter.at_scrapes_only = options.at_scrapes_only
     return exporter
 
@@ -430,7 +455,7 @@ def check(lines, output, exporter, skips_bad):
         return sum(len(samples) for _, _, samples in wanted[0])
 
     for line in lines:
-        match labelled(request_of(line), exporter.labels):
+        match asked(line, exporter):
             case None if not skips_bad:  # a bad line ends the run
                 is_changed = False
                 break

@@ -3,6 +3,7 @@
 
 mod devices;
 mod host;
+mod names;
 mod options;
 mod values;
 

@@ -1,5 +1,6 @@
 //! The words of the command line.
 
+use crate::names::{drops_of, prefix_of};
 use crate::values::{Unfit, bounds_of, idle_of, labels_of, prefixes_of};
 use clap::error::ErrorKind;
 use clap::{Arg, ArgAction, ArgMatches, Command, Error, value_parser};
@@ -83,6 +84,20 @@ fn with_plan<'a>(alloc: Global, command: Command<'a>) -> Result<Command<'a>, All
         May be repeated",
     )
     .action(ArgAction::Append);
+    let prefix = option(
+        alloc,
+        "prefix",
+        "PREFIX",
+        "Puts PREFIX and an underscore before each name",
+    );
+    let drop = option(
+        alloc,
+        "drop",
+        "TEXT",
+        "Drops the names in which TEXT occurs: nothing is counted of them.\n\
+        May be repeated",
+    )
+    .action(ArgAction::Append);
     let idle = option(
         alloc,
         "idle",
@@ -106,6 +121,8 @@ fn with_plan<'a>(alloc: Global, command: Command<'a>) -> Result<Command<'a>, All
         .arg(bounds)?
         .arg(prefixes)?
         .arg(label)?
+        .arg(prefix)?
+        .arg(drop)?
         .arg(idle)?
         .arg(kinds)
 }
@@ -205,9 +222,15 @@ fn naming_of(matches: &ArgMatches<'_>) -> Naming {
 fn asked<'a>(alloc: Global, matches: &ArgMatches<'a>) -> Result<Options, Unfit<'a>> {
     Ok(Options {
         plan: plan_of(alloc, matches)?,
-        prefixes: prefixes_of(alloc, matches.get_strs("bounds-of"))?,
+        prefixes: prefixes_of(
+            alloc,
+            matches.get_str("prefix"),
+            matches.get_strs("bounds-of"),
+        )?,
         naming: naming_of(matches),
         labels: labels_of(alloc, matches.get_strs("label"))?,
+        prefix: prefix_of(alloc, matches.get_str("prefix"))?,
+        drops: drops_of(alloc, matches.get_strs("drop"))?,
         skips_bad: matches.get_flag("skip-bad"),
         has_file: matches.contains_id("textfile"),
         at_scrapes_only: matches.get_flag("at-scrapes-only"),

@@ -70,9 +70,11 @@ pub fn bounds_of<'a>(alloc: Global, given: Option<&[&'a str]>) -> Result<Items<i
     Ok(Items::from(bounds))
 }
 
-/// The prefix and the bounds that a value of the option sets, or what is wrong with it. The prefix may have equals signs.
-fn prefix_of<'a>(
+/// The prefix and the bounds that a value of the option sets, or what is wrong with it. The prefix may have equals signs. The
+/// others have so many bytes before their prefixes.
+fn parts_of<'a>(
     prefixes: &[PrefixBounds],
+    front: usize,
     given: &'a str,
 ) -> Result<(&'a str, &'a str), &'static str> {
     let Some((prefix, bounds)) = given.rsplit_once('=') else {
@@ -81,7 +83,10 @@ fn prefix_of<'a>(
     if bounds.split(',').any(|bound| bound.parse::<i64>().is_err()) {
         return Err(BOUND);
     }
-    if prefixes.iter().any(|other| other.prefix.as_str() == prefix) {
+    if prefixes
+        .iter()
+        .any(|other| other.prefix.as_str().get(front..) == Some(prefix))
+    {
         return Err("each PREFIX is given once");
     }
     Ok((prefix, bounds))
@@ -98,19 +103,29 @@ fn numbers_of(alloc: Global, bounds: &str) -> Result<Items<i64>, AllocError> {
     Ok(Items::from(numbers))
 }
 
-/// The bounds by prefixes of names, in the order of the command line.
+/// What is before each name.
+fn front_of(alloc: Global, prefix: Option<&str>) -> Result<String, AllocError> {
+    match prefix {
+        Some(prefix) => format!(in alloc; "{prefix}."),
+        None => Ok(String::new(alloc)),
+    }
+}
+
+/// The bounds by prefixes of names, in the order of the command line. Each name is below the one prefix, if there is one.
 pub fn prefixes_of<'a>(
     alloc: Global,
+    prefix: Option<&str>,
     given: Option<&[&'a str]>,
 ) -> Result<Items<PrefixBounds>, Unfit<'a>> {
     let Some(given) = given else {
         return Ok(Items::from(Vec::new(alloc)));
     };
+    let front = front_of(alloc, prefix)?;
     let mut prefixes = Vec::with_capacity(alloc, given.len())?;
     for word in given {
-        match prefix_of(&prefixes, word) {
+        match parts_of(&prefixes, front.len(), word) {
             Ok((prefix, bounds)) => prefixes.push(PrefixBounds {
-                prefix: Text::new(alloc, prefix)?,
+                prefix: Text::from(format!(in alloc; "{front}{prefix}")?),
                 bounds: numbers_of(alloc, bounds)?,
             })?,
             Err(accepted) => return Err(Unfit::Value("--bounds-of <PREFIX=N,..>", word, accepted)),

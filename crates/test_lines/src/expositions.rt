@@ -88,6 +88,8 @@ fn ran<'a, R: Abort>(
         naming: Naming::AsGiven,
         prefixes: Items::from(Vec::new(alloc)),
         labels: Items::from(Vec::new(alloc)),
+        prefix: None,
+        drops: Items::from(Vec::new(alloc)),
         skips_bad: false,
         has_file,
         at_scrapes_only: false,

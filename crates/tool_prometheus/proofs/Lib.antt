@@ -2,6 +2,7 @@ pub mod CommonLemmas
 pub mod EscapeLemmas
 pub mod LabelLemmas
 pub mod MakingLemmas
+pub mod NamesLemmas
 pub mod PlaceLemmas
 pub mod SentenceLemmas
 pub mod WordLemmas

@@ -20,6 +20,7 @@ use Rattle.tool_prometheus.specs.declared.requests.Request.{Request}
 use Rattle.tool_prometheus.specs.declared.requests.Request.TheVariants.{Change, Describe, Scrape, Nothing}
 use Rattle.tool_prometheus.specs.Lines.{Written, MayFollow, label_words, in_order, with_labels, label_of, Sentence, change, describe, scrape, scrape_by_clock, comment, empty}
 use Rattle.tool_prometheus.specs.Lines.{spelling, CanBeSpelled, request_in, Spells, IsBegun}
+use Rattle.tool_prometheus.specs.Names.{Renaming, renamed, Requests}
 use Rattle.tool_prometheus.proofs.LabelLemmas.{label-same, starts-words}
 use Rattle.tool_prometheus.proofs.SentenceLemmas.{lacks_name, first_word, behind_it, IsOther, cut, differs, no_describe}
 
@@ -165,3 +166,6 @@ module _ (common : List LabelParts) where
   pub request_same : (line : List ℕ) (q r : Request) → Spells common line q → Spells common line r → q ≡ r
   request_same line q r (s, can, is, asks) (t, could, was, asked) =
       asks ∙ sentences-same s t can could (sym is ∙ was) ∙ sym asked
+
+  pub asked_same : (new : Renaming) (line : List ℕ) (q r : Request) → Requests common new line q → Requests common new line r → q ≡ r
+  asked_same new line q r (p, spells, is) (o, spelled, was) = is ∙ ap (renamed new) (request_same line p o spells spelled) ∙ sym was

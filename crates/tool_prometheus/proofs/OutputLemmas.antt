@@ -1,8 +1,13 @@
 -- A run over the same bytes, at the same moments of the clock, has one text.
 use Rattle.std.proofs.Common.{◌≡◌, ◌∙◌, ℕ, Bool, true, false, List, [], ◌∷◌, ◌++◌, inl, inr, refl, sym, ap, subst, Ok, Option, None, Some}
 use Rattle.std.proofs.lemmas.Bool.{false≢true}
+use Rattle.std.specs.Prelude.{option_map}
 use Rattle.std.specs.List.{AllByRecursion}
 use Rattle.metrics_names.specs.Names.{KeyParts}
+use Rattle.metrics_names.specs.declared.kind.MetricKind.{MetricKind}
+use Rattle.metrics_names.specs.declared.common.Unit.{Unit as Measure}
+use Rattle.metrics.specs.declared.handles.Update.{Update}
+use Rattle.metrics.specs.Book.{kind_of}
 use Rattle.metrics_registry.specs.Idleness.{Answered}
 use Rattle.metrics_exporter.specs.Exporting.{Setup, Step, expires, steps, Cells, cells_after, IsExpiry}
 use Rattle.metrics_exporter.specs.Describing.{Legend}
@@ -16,7 +21,8 @@ use Rattle.tool_prometheus.specs.Lines.{Spells}
 use Rattle.tool_prometheus.specs.Asked.{Asked, then_asked}
 use Rattle.tool_prometheus.specs.Exposed.{scrape_text, HasMoment, HandsOut}
 use Rattle.tool_prometheus.specs.Output.{Done, PrintsExposition, Prints, PrintsEnd, PrintLines}
-use Rattle.tool_prometheus.proofs.OneLemmas.{request_same}
+use Rattle.tool_prometheus.specs.Names.{renamed, name_by, change_if, describe_if, named_key}
+use Rattle.tool_prometheus.proofs.OneLemmas.{asked_same}
 
 -- cells have one exposition
 abbrev pub OneExposition : Type 0
@@ -106,14 +112,14 @@ module _ (one : OneExposition) (expiry : OneExpiry) (options : Options) where
       let (asked, texts) = end-same done p q a b h g in (asked, texts, is ∙ sym was)
   lines-same done (l ∷ ls) p q a b s t (inl (request, spells, own, later, part, others, new, prints, rest, deeds, text))
       (inl (wanted, spelled, had, last, piece, more, next, printed, left, done_so, said)) e =
-      let same = request_same options.labels l request wanted spells spelled in
+      let same = asked_same options.labels (name_by options) l request wanted spells spelled in
       let (after, news, firsts_same, pieces) = prints-same done wanted own had later.clock last.clock new next part piece
       (subst (λ z. Prints options done z own part new) same prints) printed (parts p q own later had last deeds done_so e) in
       let (laters, texts, status) = lines-same next ls later last others more s t
       (subst (λ d. PrintLines options d ls later others s) news rest) left after in
       (deeds ∙ (λ i. then_asked (firsts_same i) (laters i)) ∙ sym done_so, text ∙ (λ i. pieces i ++ texts i) ∙ sym said, status)
-  lines-same done (l ∷ ls) p q a b s t (inl h) (inr g) e = absurd (g.0 h.1.0 h.1.1 h.1.2)
-  lines-same done (l ∷ ls) p q a b s t (inr h) (inl g) e = absurd (h.0 g.1.0 g.1.1 g.1.2)
+  lines-same done (l ∷ ls) p q a b s t (inl h) (inr g) e = absurd (g.0 h.1.1.0 h.1.1.1 h.1.1.2)
+  lines-same done (l ∷ ls) p q a b s t (inr h) (inl g) e = absurd (h.0 g.1.1.0 g.1.1.1 g.1.1.2)
   lines-same done (l ∷ ls) p q a b s t (inr (bad, inl (skips, h))) (inr (worse, inl (skipped, g))) e =
       lines-same (record done { has_bad = true }) ls p q a b s t h g e
   lines-same done (l ∷ ls) p q a b s t (inr (bad, inl h)) (inr (worse, inr g)) e = absurd (false≢true (sym g.0 ∙ h.0))
@@ -132,11 +138,27 @@ module _ (options : Options) where
   no-moment old (Scrape None) r new a own h = absurd (own refl)
   no-moment old Nothing r new a own h = ap (λ x. x.clock) h.0
 
+  -- a renamed request asks for a moment of the clock only if the line does
+  no-change : (by : Update) (key : Option KeyParts) → change_if by key ≡ Scrape None → ⊥
+  no-change by None e = absurd (cc)
+  no-change by (Some key) e = absurd (cc)
+
+  no-description : (kind : MetricKind) (unit : Option Measure) (note : List ℕ) (name : Option (List ℕ)) → describe_if kind unit note name ≡ Scrape None → ⊥
+  no-description kind unit note None e = absurd (cc)
+  no-description kind unit note (Some name) e = absurd (cc)
+
+  scrape-named : (request : Request) → renamed (name_by options) request ≡ Scrape None → request ≡ Scrape None
+  scrape-named (Change key by) e = absurd (no-change by (option_map (named_key key.labels) (name_by options (kind_of by) key.name)) e)
+  scrape-named (Describe kind name unit note) e = absurd (no-description kind unit note (name_by options kind name) e)
+  scrape-named (Scrape moment) e = e
+  scrape-named Nothing e = e
+
   pub no-moments : (done : Done) (ls : List (List ℕ)) (p : Asked) (a : List ℕ) (s : ℕ)
       → AllByRecursion (λ line. Spells options.labels line (Scrape None) → ⊥) ls → PrintLines options done ls p a s → p.clock ≡ []
   no-moments done [] p a s own h = h.0.0
   no-moments done (l ∷ ls) p a s own (inl (request, spells, first, later, part, others, new, prints, rest, deeds, text)) =
-      let none = no-moment done request first new part (λ e. own.0 (subst (Spells options.labels l) e spells)) prints in
+      let (spelled, of_line, is) = spells in
+      let none = no-moment done request first new part (λ e. own.0 (subst (Spells options.labels l) (scrape-named spelled (sym is ∙ e)) of_line)) prints in
       ap (λ x. x.clock) deeds ∙ ap (λ z. z ++ later.clock) none ∙ no-moments new ls later others s own.1 rest
   no-moments done (l ∷ ls) p a s own (inr (bad, inl (skips, h))) =
       no-moments (record done { has_bad = true }) ls p a s own.1 h

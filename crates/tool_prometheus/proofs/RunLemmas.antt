@@ -19,7 +19,7 @@ use Rattle.tool_prometheus.specs.declared.answering.Served.{Served}
 use Rattle.tool_prometheus.specs.declared.requests.Request.{Request}
 use Rattle.tool_prometheus.specs.declared.requests.Request.TheVariants.{Change, Describe, Scrape, Nothing}
 use Rattle.tool_prometheus.specs.Asked.{Asked, nothing_asked, then_asked, Asks}
-use Rattle.tool_prometheus.specs.Lines.{Spells}
+use Rattle.tool_prometheus.specs.Names.{ruled_name, name_by, Requests}
 use Rattle.tool_prometheus.specs.Exposed.{scrape_text, fault_text, KeepsRest, HandsOut, Shows, IsPlain, IsWant, IsAnswer, IsEnd, shows_at_end}
 use Rattle.tool_prometheus.specs.Serving.{answers_since, Stops, EndsLines, IsFresh, own_status, or_left}
 use Rattle.tool_prometheus.specs.Output.{Done, begun, lines_in, loses_line, PrintsExposition, Prints, PrintLines, IsOutput, Runs}
@@ -130,7 +130,7 @@ module _ (options : Options) (cut : Bool) where
   -- what is served is as after these calls, by these options
   abbrev Stands : Log → Served → Type 0
   Stands log on = IsAfter setup log on.exporter × (on.naming ≡ options.naming) × (on.has_file ≡ options.has_file)
-      × (on.labels ≡ options.labels) × (on.at_scrapes_only ≡ options.at_scrapes_only)
+      × (on.labels ≡ options.labels) × (on.at_scrapes_only ≡ options.at_scrapes_only) × (ruled_name on.rules ≡ name_by options)
 
   done-same : (log : Log) (old : Done) (new : Served) (changed : Bool) → SameLegend (described new.exporter) old.legend
       → new.is_changed ≡ changed → (if cut then true else new.has_bad) ≡ old.has_bad
@@ -157,8 +157,8 @@ module _ (options : Options) (cut : Bool) where
 
   keeps-stands : (log : Log) (old new : Served) → Stands log old → KeepsRest old new → (calls : Log)
       → IsAfter setup calls new.exporter → Stands calls new
-  keeps-stands log old new (was, named, filed, labelled, ended_so) (naming, file, bad, labels, ends) calls after =
-      (after, naming ∙ named, file ∙ filed, labels ∙ labelled, ends ∙ ended_so)
+  keeps-stands log old new (was, named, filed, labelled, ended_so, ruled) (naming, file, bad, labels, ends, rules) calls after =
+      (after, naming ∙ named, file ∙ filed, labels ∙ labelled, ends ∙ ended_so, ap ruled_name rules ∙ ruled)
 
   printed : (log : Log) (old new : Served) (request : Request) (made : Log) (asked : Asked) (text : List ℕ) → Stands log old
       → KeepsRest old new → IsAfter setup (log ++ made) new.exporter → (new.has_failed ≡ true → ⊥)
@@ -247,7 +247,7 @@ module _ (options : Options) (cut : Bool) where
       let (later, total, more) = dialogue calls j q es rest after last s now h fine goes in (
         then_asked asked later,
         total ∙ ap (λ z. then_asked z later) is ∙ then-assoc p.0.1 asked later,
-        inl (request, subst (λ ls. Spells ls e.0 request) stands.3 spells, asked, then_asked later after, e.1, texts_in es ++ last, done_on calls j.0.0, prints, more, then-assoc asked later after, append_assoc e.1 (texts_in es) last),
+        inl (request, subst (λ new. Requests options.labels new e.0 request) stands.5 (subst (λ ls. Requests ls (ruled_name p.0.0.rules) e.0 request) stands.3 spells), asked, then_asked later after, e.1, texts_in es ++ last, done_on calls j.0.0, prints, more, then-assoc asked later after, append_assoc e.1 (texts_in es) last),
       )
   dialogue log p q (e ∷ es) rest after last s stands (j, (asked, inr (skips, bad, none, (same, nothing)), is), h) fine goes =
       let text : (e.1 ++ texts_in es) ++ last ≡ texts_in es ++ last = ap (λ z. (z ++ texts_in es) ++ last) nothing in
@@ -340,7 +340,7 @@ module _ (options : Options) (cut : Bool) where
         absurd (ok (st ∙ ap (λ x. own_status x new.has_bad) same))
 
   fresh : (start : Served) → IsFresh options start → done_on [] start ≡ begun cut
-  fresh start (after, told, naming, file, changed, bad, labels, ends, failed) =
+  fresh start (after, told, naming, file, changed, bad, labels, ends, failed, named) =
       let none : (if cut then true else start.has_bad) ≡ cut = ap (λ b. if cut then true else b) bad ∙ or-false cut in
       λ i. record { calls = []; legend = λ kind name. told kind name i; is_changed = changed i; has_bad = none i }
 
@@ -356,12 +356,12 @@ module _ (options : Options) (cut : Bool) where
       absurd (ok one)
   output-cut bytes text asked status is_cut
       (Some left, (read, wrote, all, took, writes, asks, inl (start, end, r, is_fresh, (served, lines, last, before, after, q, front, half, parts, is_left, run, ends, prints, asked_so, skipped), st))) ok =
-      let (stood, told, naming, file, changed, bad, labels, ending, failed) = is_fresh in
+      let (stood, told, naming, file, changed, bad, labels, ending, failed, named) = is_fresh in
       let fine : (end.has_failed ≡ true → ⊥) = λ f. ok (st ∙ ap (λ b. if b then 1 else own_status r end.has_bad) f) in
       let own : status ≡ own_status r end.has_bad =
       st ∙ ap (λ b. if b then 1 else own_status r end.has_bad) (is-false end.has_failed fine) in
       let goes = ended_so (left ≡ []) bytes front half left (λ e. e) (took ∙ ap (λ z. z ++ left) parts) is_cut start served end before after lines last text status (writes ∙ prints)
-      (stood, naming, file, labels, ending) q r fine own ok run ends is_left skipped in
+      (stood, naming, file, labels, ending, λ i kind name. named kind name i) q r fine own ok run ends is_left skipped in
       subst (λ a. PrintLines options (begun cut) (lines_in options.accepts_partial bytes) a text status) (sym (since_nothing asked all asks ∙ asked_so))
       (subst (λ d. PrintLines options d (lines_in options.accepts_partial bytes) (then_asked before after) text status) (fresh start is_fresh) goes)
 

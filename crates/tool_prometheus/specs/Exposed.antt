@@ -16,7 +16,8 @@ use Rattle.tool_prometheus.specs.declared.answering.Served.{Served}
 use Rattle.tool_prometheus.specs.declared.requests.Request.{Request}
 use Rattle.tool_prometheus.specs.declared.requests.Request.TheVariants.{Change, Describe, Scrape, Nothing}
 use Rattle.tool_prometheus.specs.Asked.{Asked, nothing_asked}
-use Rattle.tool_prometheus.specs.Lines.{Spells, IsBad}
+use Rattle.tool_prometheus.specs.Lines.{IsBad}
+use Rattle.tool_prometheus.specs.Names.{ruled_name, Requests}
 
 -- ---- texts
 
@@ -59,7 +60,7 @@ IsExposed naming on cells text = IsDescribed naming (described on) cells text
 -- only the exporter, what a scrape owes, and whether something failed changed
 abbrev pub KeepsRest : Served → Served → Type 0
 KeepsRest old new = (new.naming ≡ old.naming) × (new.has_file ≡ old.has_file) × (new.has_bad ≡ old.has_bad) × (new.labels ≡ old.labels)
-    × (new.at_scrapes_only ≡ old.at_scrapes_only)
+    × (new.at_scrapes_only ≡ old.at_scrapes_only) × (new.rules ≡ old.rules)
 
 -- an exposition of what is held after the calls, with the descriptions of names
 abbrev pub Shows : Setup → Log → Served → List ℕ → Type 0
@@ -119,7 +120,7 @@ PassesOver old text new = (new ≡ record old { has_bad = true }) × (text ≡ [
 -- A line's request was answered; or a bad line was skipped, if lines may be.
 abbrev pub AnswersLine : Bool → Served → List ℕ → Asked → List ℕ → Served → Type 0
 AnswersLine skips old line asked text new =
-    ((request : Request) × Spells old.labels line request × Answers old new request asked text)
+    ((request : Request) × Requests old.labels (ruled_name old.rules) line request × Answers old new request asked text)
     ⊎ ((skips ≡ true) × IsBad line × (asked ≡ nothing_asked) × PassesOver old text new)
 
 -- ---- handing out

@@ -1,5 +1,6 @@
 pub mod Asked
 pub mod Lines
+pub mod Names
 pub mod Exposed
 pub mod Making
 pub mod Serving

@@ -13,6 +13,7 @@ use Rattle.tool_prometheus.specs.declared.commands.Options.{Options}
 use Rattle.tool_prometheus.specs.declared.requests.Request.{Request}
 use Rattle.tool_prometheus.specs.declared.requests.Request.TheVariants.{Change, Describe, Scrape, Nothing}
 use Rattle.tool_prometheus.specs.Lines.{Spells, IsBad}
+use Rattle.tool_prometheus.specs.Names.{name_by, Requests}
 use Rattle.tool_prometheus.specs.Asked.{Asked, Asks, nothing_asked, then_asked}
 use Rattle.tool_prometheus.specs.Exposed.{scrape_text, HasMoment, HandsOut, shows_at_end}
 use Rattle.tool_prometheus.specs.Serving.{Ends}
@@ -74,7 +75,7 @@ abbrev pub PrintLines : Options → Done → List (List ℕ) → Asked → List 
 PrintLines options done [] asked text status =
     PrintsEnd options done asked text × (status ≡ (if done.has_bad then 3 else 0))
 PrintLines options done (l ∷ ls) asked text status =
-    ((request : Request) × Spells options.labels l request × (own later : Asked) × (part others : List ℕ) × (new : Done)
+    ((request : Request) × Requests options.labels (name_by options) l request × (own later : Asked) × (part others : List ℕ) × (new : Done)
     × Prints options done request own part new × PrintLines options new ls later others status
     × (asked ≡ then_asked own later) × (text ≡ part ++ others))
     ⊎ (IsBad l × (((options.skips_bad ≡ true) × PrintLines options (record done { has_bad = true }) ls asked text status)

@@ -3,6 +3,7 @@ use Rattle.std.specs.Prelude.{if◌then◌else◌, ◌≡◌, ℕ, Bool, true, f
 use Rattle.tool_grammar.specs.declared.error.RunError.{RunError}
 use Rattle.tool_grammar.specs.declared.error.RunError.TheVariants.{Memory, BadLine, Device}
 use Rattle.tool_export.specs.Answering.{Answering, IsRun, IsLeft, status_number}
+use Rattle.metrics_names.specs.declared.kind.MetricKind.{MetricKind}
 use Rattle.metrics_exporter.specs.Kept.{IsAfter, described}
 use Rattle.metrics_exporter.specs.Describing.{SameLegend, no_legend}
 use Rattle.tool_prometheus.specs.Making.{setup_for}
@@ -10,6 +11,7 @@ use Rattle.tool_prometheus.specs.declared.answering.Served.{Served}
 use Rattle.tool_prometheus.specs.declared.commands.Options.{Options}
 use Rattle.tool_prometheus.specs.Asked.{Asked, Asks, nothing_asked, then_asked}
 use Rattle.tool_prometheus.specs.Lines.{IsBad}
+use Rattle.tool_prometheus.specs.Names.{ruled_name, name_by}
 use Rattle.tool_prometheus.specs.Exposed.{AnswersLine, IsEnd}
 
 -- what answers lines, by surroundings that say what was asked of them; whatever is noted of the run
@@ -53,6 +55,7 @@ abbrev pub IsFresh : Options → Served → Type 0
 IsFresh options on = IsAfter (setup_for options) [] on.exporter × SameLegend (described on.exporter) no_legend
     × (on.naming ≡ options.naming) × (on.has_file ≡ options.has_file) × (on.is_changed ≡ false) × (on.has_bad ≡ false)
     × (on.labels ≡ options.labels) × (on.at_scrapes_only ≡ options.at_scrapes_only) × (on.has_failed ≡ false)
+    × ((kind : MetricKind) (name : List ℕ) → ruled_name on.rules kind name ≡ name_by options kind name)
 
 -- the status of a run in which no call was refused, and the file was written
 abbrev pub own_status : Result ℕ RunError → Bool → ℕ

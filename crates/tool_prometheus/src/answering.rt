@@ -11,6 +11,7 @@ use crate::watching::{Call, Watch};
 use metrics::{Error, Items, Key, Label, MetricKind, Unit, Update};
 use metrics_exporter::Exporter;
 use metrics_prometheus::{Naming, exposition_named};
+use metrics_rules::Rules;
 use std::alloc::{AllocError, Global};
 use tool_export::{Page, report_text, shown_at};
 
@@ -23,6 +24,8 @@ pub struct Served {
     pub naming: Naming,
     /// Labels of each series beside its own.
     pub labels: Items<Label>,
+    /// The names that series get, if they don't stay as they are.
+    pub rules: Option<Rules>,
     /// Scrapes go to a file, and not to the output.
     pub has_file: bool,
     /// The end of the input shows nothing.
@@ -169,6 +172,7 @@ fn answer_scrape<S: Surroundings>(
         × Asks (S.asked around.old) (S.asked around.new) more
         × OnOk result (string_bytes text.new ≡ string_bytes text.old ++ whole) }
 {
+    watch.tell_bad(around);
     let now = moment_of(around, moment);
     let naming = on.naming;
     let shown = shown_at(&Exposition { alloc, naming }, &mut on.exporter, now);

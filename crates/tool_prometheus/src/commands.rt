@@ -4,17 +4,20 @@ ghost use Rattle.std.specs.Io.KnownBytes.{Consumes, Appends, IsAtEnd};
 ghost use Rattle.metrics_exporter.specs.Kept.{IsAfter, described};
 ghost use Rattle.metrics_exporter.specs.Describing.{SameLegend, no_legend};
 ghost use Rattle.tool_prometheus.specs.Asked.{Asked, Asks, nothing_asked};
+ghost use Rattle.metrics_names.specs.declared.kind.MetricKind.{MetricKind as Kind};
 ghost use Rattle.tool_prometheus.specs.Making.{setup_for};
+ghost use Rattle.tool_prometheus.specs.Names.{ruled_name, name_by};
 ghost use Rattle.tool_prometheus.specs.Serving.{Ends, IsStatus, IsPrometheusRun};
 
 use crate::answering::Served;
-use crate::making::{PrefixBounds, exporter_for};
+use crate::making::{PrefixBounds, parts_for};
 use crate::serving::prometheus;
 use crate::surroundings::Surroundings;
 use crate::watching::Watch;
-use metrics::{Items, Label};
+use metrics::{Items, Label, Text};
 use metrics_exporter::Exporter;
 use metrics_prometheus::Naming;
+use metrics_rules::Rules;
 use std::alloc::Global;
 use std::io::{BufRead, Write};
 use tool_export::{ExportPlan, flush, status_of};
@@ -31,6 +34,10 @@ pub struct Options {
     pub naming: Naming,
     /// Labels of each series beside its own, which win.
     pub labels: Items<Label>,
+    /// What each name gets before it, with a dot between.
+    pub prefix: Option<Text>,
+    /// A name in which one of these occurs is dropped.
+    pub drops: Items<Text>,
     /// Bad lines are reported and skipped.
     pub skips_bad: bool,
     /// Scrapes go to a file, and not to the output.
@@ -90,6 +97,7 @@ fn serve_new<S: Surroundings, I: BufRead, O: Write>(
     alloc: Global,
     options: Options,
     exporter: Exporter,
+    rules: Option<Rules>,
     around: S,
     watch: &mut Watch,
     input: &mut I,
@@ -97,6 +105,7 @@ fn serve_new<S: Surroundings, I: BufRead, O: Write>(
 ) -> (u8, S)
     requires after { IsAfter (setup_for options) [] exporter }
     requires undescribed { SameLegend (described exporter) no_legend }
+    requires named { (kind : Kind) (name : List ℕ) → ruled_name rules kind name ≡ name_by options kind name }
     ensures { Ends options (OnSome (I.remaining input.old) (IsAtEnd (I.remaining input.new)))
         (Consumes (I.remaining input.old) (I.remaining input.new))
         (Appends (O.contents output.old) (O.contents output.new))
@@ -115,6 +124,7 @@ fn serve_new<S: Surroundings, I: BufRead, O: Write>(
         exporter,
         naming,
         labels,
+        rules,
         has_file,
         at_scrapes_only,
         is_changed: false,
@@ -142,6 +152,14 @@ fn serve_new<S: Surroundings, I: BufRead, O: Write>(
     (status, around)
 }
 
+/// How many bytes a name gets before it.
+fn len_before(prefix: &Option<Text>) -> usize {
+    match prefix {
+        Some(prefix) => prefix.as_str().len().saturating_add(1),
+        None => 0,
+    }
+}
+
 /// Makes an exporter, and answers each line of the reader, from line 1 on. Reports why it stopped, and returns the
 /// program's status and the surroundings.
 pub fn command<S: Surroundings, I: BufRead, O: Write>(
@@ -156,9 +174,11 @@ pub fn command<S: Surroundings, I: BufRead, O: Write>(
         (Appends (O.contents output.old) (O.contents output.new))
         (Asks (S.asked around) (S.asked result.1)) result.0 }
 {
-    let mut watch = Watch::new(alloc);
-    match exporter_for(alloc, &options) {
-        Ok(exporter) => serve_new(alloc, options, exporter, around, &mut watch, input, output),
+    let mut watch = Watch::new(alloc, len_before(&options.prefix));
+    match parts_for(alloc, &options) {
+        Ok((exporter, rules)) => serve_new(
+            alloc, options, exporter, rules, around, &mut watch, input, output,
+        ),
         Err(_) => {
             let answered = flush(output, Err(RunError::Memory(None)));
             let mut around = around;

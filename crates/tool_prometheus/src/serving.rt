@@ -6,7 +6,7 @@ ghost use Rattle.tool_prometheus.specs.Serving.{answers as told, Stops, EndsLine
 
 use crate::answering::{Served, answer_end, answer_request};
 use crate::flaws::Unread;
-use crate::requests::request_of;
+use crate::names::named_request_of;
 use crate::surroundings::Surroundings;
 use crate::watching::Watch;
 use std::alloc::Global;
@@ -38,7 +38,13 @@ impl<const SKIPS: bool, S: Surroundings> LineMachine for PrometheusLines<SKIPS, 
         text: &mut String,
     ) -> Result<(), Unanswered> {
         watch.count();
-        match request_of(alloc, on.0.labels.as_slice(), line) {
+        match named_request_of(
+            alloc,
+            on.0.labels.as_slice(),
+            &on.0.rules,
+            &mut watch.scratch,
+            line,
+        ) {
             Ok(request) => {
                 watch.tell_spelled(&mut on.1, &request);
                 match answer_request(alloc, &mut on.0, &mut on.1, watch, &request, text) {

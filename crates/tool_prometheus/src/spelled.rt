@@ -13,13 +13,16 @@ fn is_allowed(c: char, is_first: bool, colons: bool) -> bool {
     begins(c, colons) || (!is_first && c.is_ascii_digit())
 }
 
-/// Whether the text has a name as it is.
-pub(crate) fn is_as_given(name: &str, colons: bool) -> bool {
-    let Some((first, rest)) = name.as_bytes().split_first() else {
+/// Whether the text has a name as it is, apart from so many bytes at its front.
+pub(crate) fn is_as_given(name: &str, front: usize, colons: bool) -> bool {
+    let Some(rest) = name.as_bytes().get(front..) else {
         return false;
     };
-    is_allowed(*first as char, true, colons)
-        && rest
+    let Some((first, others)) = rest.split_first() else {
+        return false;
+    };
+    is_allowed(*first as char, front == 0, colons)
+        && others
             .iter()
             .all(|byte| is_allowed(*byte as char, false, colons))
 }

@@ -5,8 +5,9 @@ use crate::flaws::{Cause, Message};
 use crate::requests::Request;
 use crate::spelled::{Spelled, is_as_given};
 use crate::surroundings::Surroundings;
-use metrics::Label;
+use metrics::{Key, Label};
 use metrics_prometheus::left_out;
+use metrics_rules::Scratch;
 use std::alloc::Global;
 use std::collections::HashSet;
 use std::{fmt, mem};
@@ -35,10 +36,16 @@ struct Refusals {
 #[derive(Drop)]
 pub struct Watch {
     alloc: Global,
+    /// How many bytes of each name are not of its line.
+    front: usize,
+    /// Memory that naming a request reuses.
+    pub(crate) scratch: Scratch<Key>,
     /// How many lines were read.
     lines: u64,
     /// How many of them were bad.
     bad: u64,
+    /// How many bad ones a message has had, one by one or at a scrape.
+    reported: u64,
     /// The message for the bad line that ended the run.
     message: Option<String>,
     /// How many calls were refused.
@@ -63,12 +70,15 @@ fn is_new(alloc: Global, told: &mut HashSet<String>, words: &str) -> bool {
 }
 
 impl Watch {
-    /// Begins to watch a run.
-    pub fn new(alloc: Global) -> Watch {
+    /// Begins to watch a run, whose names have so many bytes before them.
+    pub fn new(alloc: Global, front: usize) -> Watch {
         Watch {
             alloc,
+            front,
+            scratch: Scratch::new(alloc),
             lines: 0,
             bad: 0,
+            reported: 0,
             message: None,
             refused: Refusals {
                 updates: 0,
@@ -125,7 +135,7 @@ impl Watch {
     fn tell_name<S: Surroundings>(&mut self, around: &mut S, name: &str)
         ensures { Asks (S.asked around.old) (S.asked around.new) nothing_asked }
     {
-        if !is_as_given(name, true) && is_new(self.alloc, &mut self.names, name) {
+        if !is_as_given(name, self.front, true) && is_new(self.alloc, &mut self.names, name) {
             around.tell(Spelled {
                 number: self.lines,
                 what: "name",
@@ -141,7 +151,7 @@ impl Watch {
         ensures { Asks (S.asked around.old) (S.asked around.new) nothing_asked }
     {
         let name = label.key();
-        if is_as_given(name, false) || label.value().is_empty() {
+        if is_as_given(name, 0, false) || label.value().is_empty() {
             return;
         }
         if is_new(self.alloc, &mut self.labels, name) {
@@ -203,12 +213,29 @@ impl Watch {
     {
         self.bad = self.bad.saturating_add(1);
         if self.bad <= TOLD {
+            self.reported = self.bad;
             around.tell(Message {
                 number: self.lines,
                 line,
                 cause,
                 word,
             });
+        }
+    }
+
+    /// Reports, at a scrape, how many bad lines came that had no message yet.
+    #[tactic(auto, using(crate::proofs::AskedLemmas::asks_none))]
+    pub(crate) fn tell_bad<S: Surroundings>(&mut self, around: &mut S)
+        ensures { Asks (S.asked around.old) (S.asked around.new) nothing_asked }
+    {
+        if self.reported < self.bad {
+            let message = Further {
+                number: self.lines,
+                further: self.bad - self.reported,
+                all: self.bad,
+            };
+            self.reported = self.bad;
+            around.tell(message);
         }
     }
 
@@ -302,6 +329,30 @@ impl fmt::Display for Skipped {
     fn fmt<W: fmt::Write>(&self, f: &mut fmt::Formatter<W>) -> fmt::Result {
         let count = self.0;
         write!(f, "{count} bad lines were skipped")
+    }
+}
+
+/// How many lines were skipped without a message of their own, up to a scrape.
+#[derive(Drop)]
+struct Further {
+    /// The number of the scrape's line.
+    number: u64,
+    /// Since the last message.
+    further: u64,
+    all: u64,
+}
+
+impl fmt::Display for Further {
+    fn fmt<W: fmt::Write>(&self, f: &mut fmt::Formatter<W>) -> fmt::Result {
+        let Further {
+            number,
+            further,
+            all,
+        } = *self;
+        write!(
+            f,
+            "line {number}: {further} further bad lines were skipped, {all} in all"
+        )
     }
 }
 

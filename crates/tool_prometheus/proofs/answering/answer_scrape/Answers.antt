@@ -1,7 +1,7 @@
 use Rattle.std.proofs.Common.{string_bytes}
 use Rattle.tool_prometheus.specs.Exposed.{shown_text}
 use Rattle.tool_prometheus.proofs.AnswerLemmas.{scraped}
-use Rattle.tool_prometheus.proofs.AskedLemmas.{asks_both}
+use Rattle.tool_prometheus.proofs.AskedLemmas.{asks_both, asks_later}
 use Rattle.tool_prometheus.proofs.answering.answer_scrape.Goals as goal
 
 pub returns : goal.returns
@@ -14,6 +14,6 @@ returns g c =
       record { clock = clock; files = files },
       shown_text string_bytes c.args.on.now.has_file r,
       done,
-      asks_both _ _ _ clock files gave handed,
+      asks_later _ _ _ _ c.tell_bad.ensures (asks_both _ _ _ clock files gave handed),
       c.hand_out_shown.ensures.text,
     )

@@ -11,9 +11,10 @@ returns g c =
       naming = c.args.options.naming;
       labels = c.args.options.labels;
       has_file = c.args.options.has_file;
+      rules = c.args.rules;
       at_scrapes_only = c.args.options.at_scrapes_only;
       is_changed = false;
       has_bad = false;
       has_failed = false;
     } in
-    (read, text, more, took, wrote, asks_before _ _ _ more asks c.told-status.ensures.asked, inl (start, c.serve-answered.new.on.0, c.serve-answered.result, (c.requires.after, c.requires.undescribed, refl, refl, refl, refl, refl, refl, refl), ran, c.told-status.ensures.status))
+    (read, text, more, took, wrote, asks_before _ _ _ more asks c.told-status.ensures.asked, inl (start, c.serve-answered.new.on.0, c.serve-answered.result, (c.requires.after, c.requires.undescribed, refl, refl, refl, refl, refl, refl, refl, c.requires.named), ran, c.told-status.ensures.status))
