@@ -113,8 +113,10 @@ class Laws:
         """Returns the ghost members of bounds' traits that the clauses name, as `R.meaning`: the name, the type, the trait, the
         docs, and what implementations have for it."""
         clauses, found = "\n".join(contract.lines), []
-        for bound, traits in re.findall(r"\b(\w+): ([\w+ ]+)", contract.around + " " + contract.head):
+        bounds = re.findall(r"\b(\w+): ([\w+ ]+)", contract.around + " " + contract.head)
+        for bound, traits in bounds:
             for trait in re.findall(r"\w+", traits):
+                bounds += [(f"{bound}.{inner}", own) for inner, own in self.crate(crate).associated(trait)]
                 for member, said, docs, inside in self.crate(crate).trait_members(trait, self):
                     if re.search(rf"\b{bound}\.{member}\b", clauses):
                         found.append((f"{bound}.{member}", said, trait, " ".join(docs), inside))

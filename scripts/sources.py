@@ -226,6 +226,10 @@ class Crate:
                     found.append((member, " ".join(said.split()), [it.lstrip("/ ") for it in docs], inside))
         return found
 
+    def associated(self, trait):
+        """Returns the types that a trait of this crate asks of an implementation, each with its bounds."""
+        return re.findall(r"\btype (\w+): ([\w+ ]+);", self.traits.get(trait, ""))
+
     def members_here(self, trait, member):
         """Returns the types that implement a trait in this crate, each with what it has for a ghost member, and its imports."""
         found = []

@@ -15,7 +15,7 @@ joined (count m) (count n) = count ((m + n) % 2 ^ 64)
 joined (samples d) (samples e) = samples (merged d e)
 joined old new = new
 
--- the same if there was something before
+-- a reading joined with what there was before, if there was something
 abbrev pub joined_with : Option Reading → Reading → Reading
 joined_with None new = new
 joined_with (Some old) new = joined old new
@@ -48,7 +48,7 @@ abbrev pub with_told : Told → List Told → List Told
 with_told t [] = t ∷ []
 with_told t (x ∷ xs) = if series_key_eq t.0 x.0 then (x.0, joined x.1 t.1) ∷ xs else x ∷ with_told t xs
 
--- the same with all of these, in order
+-- rows with all of these, one after another
 abbrev pub with_all : List Told → List Told → List Told
 with_all [] told = told
 with_all (t ∷ ts) told = with_all ts (with_told t told)

@@ -266,7 +266,8 @@ pub(crate) struct Seen {
 pub(crate) trait SharedCell: Drop {
     ghost use Rattle.std.specs.Prelude.{◌≡◌, ℕ};
 
-    /// The cell had this generation when nobody else had the cell.
+    /// The cell had this generation when nobody else had the cell. Code that is generic over cells gets it from `last_generation`
+    /// alone, as it can't see what an implementation has here.
     ghost is_last: { Self → ℕ → Type 0 };
 
     /// Returns a number that each activity changes. It takes no memory.

@@ -91,7 +91,8 @@ struct Idle<C> {
 }
 
 /// Returns whether a series leaves: nobody else holds its cell, and at the generation that the cell then has it is idle. It notes
-/// nothing, and forgets the series if nobody else holds it, so what changed since the last look is shown by the next reading.
+/// nothing. If nobody else holds the cell it forgets the series, also one that stays: so what changed since the last look is
+/// shown by the next reading.
 fn leaves<W: Wait, C: Watched>(
     rt: &W,
     recency: &mut OwnedRecency<Key>,

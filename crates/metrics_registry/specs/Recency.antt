@@ -55,7 +55,7 @@ is_watched rules kind = is_some rules.timeout && rules.mask kind
 abbrev pub check_step : {K : Type 0} → Rules → Check K → Option Noted → Bool × Option Noted
 check_step rules c noted = if is_watched rules c.kind then watch_step rules.timeout (noted_now c) c.held noted else (true, noted)
 
--- the result of a check by the table
+-- the result of a check by the table: whether the series is kept; `false` says that it is idle
 abbrev pub table_answer : {K : Type 0} → Rules → Check K → Table K → Bool
 table_answer rules c table = (check_step rules c (table c.kind c.key)).0
 
