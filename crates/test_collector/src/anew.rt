@@ -1,11 +1,11 @@
 //! A thread that asks anew for its handles at each change and drops them, beside one that reads meanwhile.
 ghost use Rattle.std.specs.Thread.{IsSync};
 
-use crate::given::{MEMORY, collector, count, counter, gauge, record, set};
+use crate::given::{MEMORY, collector, count, counter, gauge, histogram, record, set};
 use crate::kept::ask_twice;
 use crate::turns::{LOOKS, Limit, Turns};
 use metrics::MetricKindMask;
-use metrics_collector::{Collector, CounterHandle, GaugeHandle, Value};
+use metrics_collector::{Collector, CounterHandle, GaugeHandle, HistogramHandle, Value};
 use std::alloc::Global;
 use std::process::Abort;
 use std::rt::Clock;
@@ -14,8 +14,9 @@ use std::sync::atomic::{AtomicU64, Ordering};
 use std::thread::{Threads, join};
 use test_trial::Trial;
 
-/// How many other series of a kind there are, which each reading passes: so that one that leaves is asked for meanwhile.
-const OTHERS: usize = 40;
+/// How many series of a kind there are. A reading passes most of them after the one that leaves: so that this one is asked for
+/// meanwhile.
+const SERIES: usize = 40;
 
 /// The most parts of a histogram. A reading looks at each, and a sample goes into the next.
 const STRIPES: usize = 500;
@@ -32,6 +33,8 @@ struct Shared<'a> {
     /// How many there are to be.
     changes: u64,
     change: Change,
+    /// The name of the series that change.
+    name: &'a str,
 }
 
 /// What a writer does at each of its turns.
@@ -42,10 +45,10 @@ pub enum Change {
 }
 
 /// Updates a series of each kind.
-fn update<R: AllocGlobal + Abort + Wait>(rt: &R, on: &Collector, number: i64) {
-    count(rt, on, "hits", 1);
-    set(rt, on, "open", number);
-    record(rt, on, "took", 5);
+fn update<R: AllocGlobal + Abort + Wait>(rt: &R, on: &Collector, name: &str, number: i64) {
+    count(rt, on, name, 1);
+    set(rt, on, name, number);
+    record(rt, on, name, 5);
 }
 
 /// Makes changes, with at least one whole reading between two. Returns how many there were.
@@ -60,8 +63,8 @@ fn write<R: AllocGlobal + Abort + Wait>(rt: &R, on: Shared<'_>) -> i64 {
         if turns.is_due(read) {
             changes = changes.wrapping_add(1);
             match on.change {
-                Change::Update => update(rt, on.collector, changes.cast_signed()),
-                Change::AskTwice => ask_twice(rt, on.collector),
+                Change::Update => update(rt, on.collector, on.name, changes.cast_signed()),
+                Change::AskTwice => ask_twice(rt, on.collector, on.name, on.read),
             }
             turns.made(on.read.load(Ordering::SeqCst));
             on.changed.store(changes, Ordering::SeqCst);
@@ -119,16 +122,42 @@ fn read<R: Abort + Clock + Wait>(rt: &R, on: Shared<'_>) -> Shown {
     shown
 }
 
-/// Makes other series, and returns their handles.
+/// The name of a series by its number.
+fn name_of<R: AllocGlobal + Abort>(rt: &R, number: usize) -> String {
+    format!(in rt.alloc(); "series{number}").expect(rt, MEMORY)
+}
+
+/// Makes series of each kind, and returns the number of those that readings visit first.
+fn first_of<R: AllocGlobal + Abort + Wait>(rt: &R, on: &Collector) -> usize {
+    for number in 0..SERIES {
+        update(rt, on, name_of(rt, number).as_str(), 1);
+    }
+    let gathered = on.gather(rt, rt.alloc(), 0).expect(rt, MEMORY);
+    let first = gathered.series.first().expect(rt, "no series");
+    let number = first.key.name().strip_prefix("series");
+    number
+        .expect(rt, "another name")
+        .parse::<usize>()
+        .expect(rt, "another name")
+}
+
+/// Returns handles of the series of all numbers but this one.
 fn others<R: AllocGlobal + Abort + Wait>(
     rt: &R,
     on: &Collector,
-) -> Vec<(CounterHandle, GaugeHandle)> {
+    first: usize,
+) -> Vec<(CounterHandle, GaugeHandle, HistogramHandle)> {
     let mut others = Vec::new(rt.alloc());
-    for number in 0..OTHERS {
-        let name = format!(in rt.alloc(); "other{number}").expect(rt, MEMORY);
-        let handles = (counter(rt, on, name.as_str()), gauge(rt, on, name.as_str()));
-        others.push(handles).expect(rt, MEMORY);
+    for number in 0..SERIES {
+        if number != first {
+            let name = name_of(rt, number);
+            let handles = (
+                counter(rt, on, name.as_str()),
+                gauge(rt, on, name.as_str()),
+                histogram(rt, on, name.as_str()),
+            );
+            others.push(handles).expect(rt, MEMORY);
+        }
     }
     others
 }
@@ -142,8 +171,11 @@ pub fn changed<R: AllocGlobal + Abort + Clock + Threads + Wait + Sync>(
 ) -> (i64, Shown)
     requires { IsSync R.row }
 {
-    let on = &collector(rt, MetricKindMask::ALL).with_stripes(STRIPES);
-    let _others = others(rt, on);
+    let made = collector(rt, MetricKindMask::ALL).with_stripes(1);
+    let first = first_of(rt, &made);
+    let _others = others(rt, &made, first);
+    let name = name_of(rt, first);
+    let on = &made.with_stripes(STRIPES);
     let on = Shared {
         alloc,
         collector: on,
@@ -151,6 +183,7 @@ pub fn changed<R: AllocGlobal + Abort + Clock + Threads + Wait + Sync>(
         changed: &AtomicU64::new(0),
         changes,
         change,
+        name: name.as_str(),
     };
     let (changes, shown) = join(rt, || write(rt, on), || read(rt, on));
     (changes, shown_after(rt, on, shown, u64::MAX))

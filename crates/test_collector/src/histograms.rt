@@ -1,4 +1,4 @@
-//! Four threads that record into one histogram, beside one that reads it.
+//! Four threads that record into one histogram, beside one that reads the collector and one that reads by a handle.
 ghost use Rattle.std.specs.Thread.{IsSync};
 
 use crate::given::{MEMORY, collector, histogram};
@@ -48,30 +48,42 @@ fn record<R: Abort + Wait>(rt: &R, on: Shared<'_>, took: &HistogramHandle) {
 }
 
 /// The counts of a reading. Its count, its sum and its bucket agree.
-fn read_once<R: Abort + Wait>(rt: &R, on: Shared<'_>) -> Counts {
-    let gathered = on.collector.gather(rt, on.alloc, 1).expect(rt, MEMORY);
-    let (mut low, mut high) = (0u64, 0u64);
-    for series in &gathered.series {
-        if let Value::Samples(samples) = &series.value {
-            let buckets = samples.buckets().expect(rt, MEMORY);
-            low = buckets.first().expect(rt, "no bucket").1;
-            high = samples.count().wrapping_sub(low);
-            let sum = i128::from(low) * i128::from(LOW) + i128::from(high) * i128::from(HIGH);
-            assert_eq!(rt;
-                samples.sum(),
-                sum,
-                "{low} low samples and {high} high ones"
-            );
-        }
-    }
+fn counts_of<R: Abort>(rt: &R, buckets: &[(i64, u64)], count: u64, sum: i128) -> Counts {
+    let low = buckets.first().expect(rt, "no bucket").1;
+    let high = count.wrapping_sub(low);
+    let wanted = i128::from(low) * i128::from(LOW) + i128::from(high) * i128::from(HIGH);
+    assert_eq!(rt; sum, wanted, "{low} low samples and {high} high ones");
     Counts { low, high }
 }
 
+/// Reads the collector.
+fn gather<R: Abort + Wait>(rt: &R, on: Shared<'_>) -> Counts {
+    let gathered = on.collector.gather(rt, on.alloc, 1).expect(rt, MEMORY);
+    let mut counts = Counts { low: 0, high: 0 };
+    for series in &gathered.series {
+        if let Value::Samples(samples) = &series.value {
+            let buckets = samples.buckets().expect(rt, MEMORY);
+            counts = counts_of(rt, &buckets, samples.count(), samples.sum());
+        }
+    }
+    counts
+}
+
+/// Reads the histogram by a handle.
+fn read_by<R: Abort + Wait>(rt: &R, took: &HistogramHandle) -> Counts {
+    let samples = took.read(rt).expect(rt, MEMORY);
+    let buckets = samples.buckets().expect(rt, MEMORY);
+    counts_of(rt, &buckets, samples.count(), samples.sum())
+}
+
 /// Reads until all workers have ended. No count falls.
-fn read<R: Abort + Wait>(rt: &R, on: Shared<'_>) {
+fn read<R: Abort + Wait>(rt: &R, on: Shared<'_>, by: Option<&HistogramHandle>) {
     let mut last = Counts { low: 0, high: 0 };
     for _ in 0..on.rounds.saturating_mul(READINGS) {
-        let counts = read_once(rt, on);
+        let counts = match by {
+            Some(took) => read_by(rt, took),
+            None => gather(rt, on),
+        };
         assert!(rt;
             last.low <= counts.low && last.high <= counts.high,
             "a count falls"
@@ -84,10 +96,12 @@ fn read<R: Abort + Wait>(rt: &R, on: Shared<'_>) {
 }
 
 fn take_part<R: AllocGlobal + Abort + Wait>(rt: &R, on: Shared<'_>, thread: usize) {
-    if thread == WORKERS {
-        return read(rt, on);
+    let took = histogram(rt, on.collector, "h");
+    match thread.checked_sub(WORKERS) {
+        None => record(rt, on, &took),
+        Some(0) => read(rt, on, None),
+        Some(_) => read(rt, on, Some(&took)),
     }
-    record(rt, on, &histogram(rt, on.collector, "h"));
 }
 
 /// Runs all threads. The last reading has all samples.
@@ -106,9 +120,9 @@ fn expect_samples<R: AllocGlobal + Abort + Threads + Wait + Sync>(
         rounds,
     };
     let part = |thread: usize| take_part(rt, on, thread);
-    let done = thread::map_indices(rt, alloc, WORKERS + 1, &part);
+    let done = thread::map_indices(rt, alloc, WORKERS + 2, &part);
     done.expect(rt, MEMORY);
-    let counts = read_once(rt, on);
+    let counts = gather(rt, on);
     let wanted = rounds.wrapping_mul(WORKERS as u64);
     assert_eq!(rt; (counts.low, counts.high), (wanted, wanted));
 }

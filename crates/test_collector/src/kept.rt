@@ -2,32 +2,50 @@
 
 use crate::anew::{Change, changed};
 use crate::given::{MEMORY, collector, counter, expect_text, gauge, histogram};
+use crate::turns::LOOKS;
 use metrics::MetricKindMask;
 use metrics_cells::{CounterFn, GaugeFn, HistogramFn};
 use metrics_collector::{Collector, HistogramHandle};
 use std::process::Abort;
 use std::sync::Wait;
+use std::sync::atomic::{AtomicU64, Ordering};
 use test_trial::Trial;
 
 fn samples<R: Abort + Wait>(rt: &R, took: &HistogramHandle) -> u64 {
     took.read(rt).expect(rt, MEMORY).count()
 }
 
-/// Asks twice for a series, and updates it by each handle. Both show both updates.
-pub fn ask_twice<R: AllocGlobal + Abort + Wait>(rt: &R, on: &Collector) {
-    let hits = counter(rt, on, "hits");
-    let open = gauge(rt, on, "open");
-    let took = histogram(rt, on, "took");
+/// Waits until one more reading has ended, if one does.
+fn wait_for(read: &AtomicU64) {
+    let before = read.load(Ordering::SeqCst);
+    for _ in 0..LOOKS {
+        if read.load(Ordering::SeqCst) != before {
+            break;
+        }
+    }
+}
+
+/// Asks for a series before a reading ends and after that, and updates it by each handle. Both show both updates.
+pub fn ask_twice<R: AllocGlobal + Abort + Wait>(
+    rt: &R,
+    on: &Collector,
+    name: &str,
+    read: &AtomicU64,
+) {
+    let hits = counter(rt, on, name);
+    let open = gauge(rt, on, name);
+    let took = histogram(rt, on, name);
     CounterFn::increment(&hits, 1);
     GaugeFn::increment(&open, rt, 1);
     took.record(rt, 5).expect(rt, MEMORY);
-    let again = counter(rt, on, "hits");
+    wait_for(read);
+    let again = counter(rt, on, name);
     CounterFn::increment(&again, 1);
     assert_eq!(rt; hits.value(), again.value());
-    let again = gauge(rt, on, "open");
+    let again = gauge(rt, on, name);
     GaugeFn::increment(&again, rt, 1);
     assert_eq!(rt; open.value(), again.value());
-    let again = histogram(rt, on, "took");
+    let again = histogram(rt, on, name);
     again.record(rt, 5).expect(rt, MEMORY);
     assert_eq!(rt; samples(rt, &took), samples(rt, &again));
 }
