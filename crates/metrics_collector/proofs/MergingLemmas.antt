@@ -1,19 +1,24 @@
 -- What rows are once others were joined with them.
-use Rattle.std.proofs.Common.{◌≡◌, ◌∙◌, ℕ, zero, suc, ◌<◌, ◌≤◌, ◌%◌, ◌^◌, Bool, true, false, cond, List, [], ◌∷◌, ◌++◌, map, length, get_or, set, Option, None, Some, refl, ap, sym, subst, add_comm, arith}
+use Rattle.std.proofs.Common.{◌≡◌, ◌∙◌, ◌⊎◌, inl, inr, ◌+◌, ℕ, zero, suc, ◌<◌, ◌≤◌, ◌%◌, ◌^◌, Bool, true, false, cond, List, [], ◌∷◌, ◌++◌, map, length, get_or, set, take, slice_get, Option, None, Some, refl, ap, sym, subst, add_comm, arith}
 use Rattle.std.specs.List.{cons_option, AllByRecursion, IsDistinct, position_or_len}
-use Rattle.std.proofs.lemmas.List.{get_or-map, length-map, map-append, map-set}
+use Rattle.std.proofs.lemmas.List.{get_or-map, length-map, map-append, map-set, take_more}
+use Rattle.std.proofs.lemmas.Option.{slice_get-get_or}
 use Rattle.std.proofs.lemmas.List.Sums.{fails_before_first, passes_at_first}
-use Rattle.std.proofs.lemmas.Bool.{false≢true}
-use Rattle.std.proofs.lemmas.Map.Keys.{IsDistinct-head, IsDistinct-tail}
+use Rattle.std.proofs.lemmas.Bool.{false≢true, cases_lt}
+use Rattle.std.proofs.lemmas.Map.Keys.{IsDistinct-head, IsDistinct-tail, IsDistinct-cons}
 use Rattle.metrics_names.specs.Names.{SeriesKey, series_key_eq}
 use Rattle.metrics_names.specs.Equality.{key_exact, key_same}
+use Rattle.metrics_storage.specs.Histogram.{Distribution, bounds_of}
 use Rattle.metrics_exporter.specs.Exporting.{Reading, count, level, samples}
 use Rattle.metrics_exporter.specs.Gathering.{series_at}
 use Rattle.metrics_exporter.specs.Readings.{Told}
 use Rattle.metrics_collector.specs.declared.gathered.Value.{Value}
 use Rattle.metrics_collector.specs.declared.gathered.GatheredSeries.{GatheredSeries}
 use Rattle.metrics_collector.specs.Gathering.{kind_of, reading_of, told_of_gathered}
+use Rattle.metrics_collector.specs.declared.merging.AbsorbError.{AbsorbError}
+use Rattle.metrics_collector.specs.declared.merging.AbsorbError.TheVariants.{Memory, OtherBounds, CountFull}
 use Rattle.metrics_collector.specs.Merging.{are_same, joined, joined_with, joined_all, readings_of, reading_of_series, with_told, with_all, AreJoined, IsCount, AreCounters}
+use Rattle.metrics_collector.specs.Merging.{HasEachOnce, AreRefused, IsRefused, IsRowRefused, HasRefused}
 
 -- ---- by places
 
@@ -136,6 +141,145 @@ reading-with-all s (t ∷ ts) xs =
 -- so the rows that are put together are joined
 pub are-joined : (old other new : List Told) → new ≡ with_all other old → AreJoined old other new
 are-joined old other new is s = ap (reading_of_series s) is ∙ reading-with-all s other old
+
+-- ---- each series once
+
+keys-with : (P : SeriesKey → Type 0) (t : Told) (xs : List Told) → P t.0 → AllByRecursion P (map (λ t. t.0) xs) → AllByRecursion P (map (λ t. t.0) (with_told t xs))
+keys-with P t [] p all = (p, tt)
+keys-with P t (x ∷ xs) p all = go (keys-with P t xs p all.1) (series_key_eq t.0 x.0)
+  where
+    go : AllByRecursion P (map (λ t. t.0) (with_told t xs)) → (b : Bool) → AllByRecursion P (map (λ t. t.0) (cond b ((x.0, joined x.1 t.1) ∷ xs) (x ∷ with_told t xs)))
+    go ih true = all
+    go ih false = (all.0, ih)
+
+once-with : (t : Told) (xs : List Told) → HasEachOnce xs → HasEachOnce (with_told t xs)
+once-with t [] once = IsDistinct-cons series_key_eq t.0 [] tt once
+once-with t (x ∷ xs) once = go (once-with t xs (IsDistinct-tail series_key_eq x.0 (map (λ t. t.0) xs) once)) (series_key_eq t.0 x.0) refl
+  where
+    go : HasEachOnce (with_told t xs) → (b : Bool) → series_key_eq t.0 x.0 ≡ b → HasEachOnce (cond b ((x.0, joined x.1 t.1) ∷ xs) (x ∷ with_told t xs))
+    go ih true e = once
+    go ih false e =
+        let keys : List SeriesKey = map (λ t. t.0) xs in
+        let apart = keys-with (λ k. series_key_eq x.0 k ≡ false) t xs (turned t.0 x.0 e) (IsDistinct-head series_key_eq x.0 keys once) in
+        IsDistinct-cons series_key_eq x.0 (map (λ t. t.0) (with_told t xs)) apart ih
+
+pub once-with-all : (ts xs : List Told) → HasEachOnce xs → HasEachOnce (with_all ts xs)
+once-with-all [] xs once = once
+once-with-all (t ∷ ts) xs once = once-with-all ts (with_told t xs) (once-with t xs once)
+
+-- ---- row after row
+
+with-all-last : (ts : List Told) (t : Told) (xs : List Told) → with_all (ts ++ t ∷ []) xs ≡ with_told t (with_all ts xs)
+with-all-last [] t xs = refl
+with-all-last (u ∷ ts) t xs = with-all-last ts t (with_told u xs)
+
+module _ (others : List GatheredSeries) (i : ℕ) (x : GatheredSeries) (small : i < length others) (at : x ≡ get_or others i x) where
+  abbrev others-told : List Told
+  others-told = map told_of_gathered others
+
+  told-within : i < length others-told
+  told-within = subst (λ n. i < n) (sym (length-map others told_of_gathered)) small
+
+  told-there : get_or others-told i (told_of_gathered x) ≡ told_of_gathered x
+  told-there = get_or-map told_of_gathered others i x (told_of_gathered x) small ∙ ap told_of_gathered (sym at)
+
+  -- one more of the others
+  pub next-all : (rows now then : List Told) → now ≡ with_all (take i (map told_of_gathered others)) rows → then ≡ with_told (told_of_gathered x) now → then ≡ with_all (take (i + 1) (map told_of_gathered others)) rows
+  next-all rows now then was is =
+      is ∙ ap (with_told (told_of_gathered x)) was
+      ∙ sym (with-all-last (take i others-told) (told_of_gathered x) rows)
+      ∙ sym (ap (λ (ts : List Told). with_all ts rows) (take_more others-told i (told_of_gathered x) told-within ∙ ap (λ (t : Told). take i others-told ++ t ∷ []) told-there))
+
+  pub told-here : slice_get (map told_of_gathered others) i ≡ Some (told_of_gathered x)
+  told-here = slice_get-get_or others-told i (told_of_gathered x) told-within ∙ ap Some told-there
+
+-- what a row's series has after the rows before it
+series-after : (rows others now : List Told) (i : ℕ) (s : SeriesKey) → now ≡ with_all (take i others) rows → reading_of_series s now ≡ joined_all (reading_of_series s rows) (readings_of s (take i others))
+series-after rows others now i s is = ap (reading_of_series s) is ∙ reading-with-all s (take i others) rows
+
+pub row-refused : (error : AbsorbError) (rows others now : List Told) (i : ℕ) (t : Told) → now ≡ with_all (take i others) rows → IsRefused error (reading_of_series t.0 now) t.1 → IsRowRefused error rows others i t
+row-refused error rows others now i t is = subst (λ (o : Option Reading). IsRefused error o t.1) (series-after rows others now i t.0 is)
+
+pub row-joined : (error : AbsorbError) (rows others now : List Told) (i : ℕ) (t : Told) → now ≡ with_all (take i others) rows → (IsRefused error (reading_of_series t.0 now) t.1 → ⊥) → IsRowRefused error rows others i t → ⊥
+row-joined error rows others now i t is fits h = fits (subst (λ (o : Option Reading). IsRefused error o t.1) (sym (series-after rows others now i t.0 is)) h)
+
+-- none of the first n others is refused
+abbrev pub AreJoinedUpTo : List Told → List Told → ℕ → Type 0
+AreJoinedUpTo rows others n = (place : ℕ) (t : Told) (error : AbsorbError) → place < n → slice_get others place ≡ Some t → IsRowRefused error rows others place t → ⊥
+
+same-told : (t u : Told) → Some t ≡ Some u → t ≡ u
+same-told t u e = cc
+
+pub joined-more : (rows others : List Told) (i : ℕ) (t : Told) → AreJoinedUpTo rows others i → slice_get others i ≡ Some t → ((error : AbsorbError) → IsRowRefused error rows others i t → ⊥) → AreJoinedUpTo rows others (i + 1)
+joined-more rows others i t was at fits place u error less found = elim (last place i less) [
+  | inl e ↦ λ h.
+      let found-here : slice_get others i ≡ Some u = subst (λ k. slice_get others k ≡ Some u) e found in
+      let same : u ≡ t = same-told u t (sym found-here ∙ at) in
+      fits error (subst (λ k. IsRowRefused error rows others k t) e (subst (IsRowRefused error rows others place) same h))
+  | inr l ↦ was place u error l found
+]
+  where
+    last : (place i : ℕ) → place < i + 1 → (place ≡ i) ⊎ (place < i)
+    last place i less = elim (cases_lt place i) [
+      | inl l ↦ inr l
+      | inr l ↦ inl (omega (arith, l, less))
+    ]
+
+place-within : (others : List Told) (place : ℕ) (t : Told) → slice_get others place ≡ Some t → place < length others
+place-within [] place t e = absurd (let bad : None ≡ Some t = e in cc)
+place-within (x ∷ others) zero t e = omega arith
+place-within (x ∷ others) (suc place) t e = let l = place-within others place t e in omega (arith, l)
+
+pub none-refused : (rows others : List Told) (n : ℕ) → length others ≤ n → AreJoinedUpTo rows others n → (error : AbsorbError) → HasRefused error rows others → ⊥
+none-refused rows others n all up error h = up h.0 h.1 error (let l = place-within others h.0 h.1 h.2 in omega (arith, l, all)) h.2 h.3
+
+-- ---- what the series of a row has
+
+found-at : (t d : Told) (xs : List Told) (i : ℕ) → i < length xs → ((k : ℕ) → k < i → series_key_eq t.0 (get_or xs k d).0 ≡ false) → series_key_eq t.0 (get_or xs i d).0 ≡ true
+    → reading_of_series t.0 xs ≡ Some (get_or xs i d).1
+found-at t d [] i small none here = absurd (omega (arith, small))
+found-at t d (x ∷ xs) zero small none here = ap (λ b. cond b (Some x.1) (reading_of_series t.0 xs)) here
+found-at t d (x ∷ xs) (suc i) small none here =
+    ap (λ b. cond b (Some x.1) (reading_of_series t.0 xs)) (none 0 (omega arith))
+    ∙ found-at t d xs i (omega (arith, small)) (λ k less. none (suc k) (omega (arith, less))) here
+
+found-none : (t d : Told) (xs : List Told) → ((k : ℕ) → k < length xs → series_key_eq t.0 (get_or xs k d).0 ≡ false) → reading_of_series t.0 xs ≡ None
+found-none t d [] none = refl
+found-none t d (x ∷ xs) none =
+    ap (λ b. cond b (Some x.1) (reading_of_series t.0 xs)) (none 0 (omega arith))
+    ∙ found-none t d xs (λ k less. none (suc k) (omega (arith, less)))
+
+pub series-none : (row : GatheredSeries) (xs : List GatheredSeries) → length xs ≤ position_or_len (are_same row) xs → reading_of_series (told_of_gathered row).0 (map told_of_gathered xs) ≡ None
+series-none row xs far =
+    let t = told_of_gathered row in
+    found-none t t (map told_of_gathered xs) (λ k less.
+    let small : k < length xs = subst (λ n. k < n) (length-map xs told_of_gathered) less in
+    ap (λ (r : Told). series_key_eq t.0 r.0) (get_or-map told_of_gathered xs k row t small) ∙ fails_before_first (are_same row) xs k row (omega (arith, small, far)))
+
+pub series-at : (row seen : GatheredSeries) (xs : List GatheredSeries) (place : ℕ) → place ≡ position_or_len (are_same row) xs → place < length xs → seen ≡ get_or xs place row
+    → reading_of_series (told_of_gathered row).0 (map told_of_gathered xs) ≡ Some (reading_of seen.value)
+series-at row seen xs place is less seen-is =
+    let t = told_of_gathered row in
+    let i = position_or_len (are_same row) xs in
+    let told = map told_of_gathered xs in
+    let small : i < length xs = subst (λ n. n < length xs) is less in
+    let at : get_or told i t ≡ told_of_gathered (get_or xs i row) = get_or-map told_of_gathered xs i row t small in
+    found-at t t told i (subst (λ n. i < n) (sym (length-map xs told_of_gathered)) small)
+    (λ k before. ap (λ (r : Told). series_key_eq t.0 r.0) (get_or-map told_of_gathered xs k row t (omega (arith, small, before))) ∙ fails_before_first (are_same row) xs k row before)
+    (ap (λ (r : Told). series_key_eq t.0 r.0) at ∙ passes_at_first (are_same row) xs row small)
+    ∙ ap (λ (r : Told). Some r.1) (at ∙ ap told_of_gathered (sym (seen-is ∙ ap (λ k. get_or xs k row) is)))
+
+-- ---- samples that can be put together
+
+pub refused-none : (error : AbsorbError) (r : Reading) → IsRefused error None r → ⊥
+refused-none error (count n) h = h
+refused-none error (level n) h = h
+refused-none error (samples d) h = h
+
+pub can-merge : (d e : Distribution) → bounds_of d ≡ bounds_of e → d.count + e.count < 2 ^ 64 → (error : AbsorbError) → AreRefused error d e → ⊥
+can-merge d e same few Memory h = h
+can-merge d e same few OtherBounds h = h same
+can-merge d e same few CountFull h = omega (arith, few, h.1)
 
 -- ---- in either order
 

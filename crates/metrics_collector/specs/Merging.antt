@@ -1,12 +1,14 @@
 -- What two readings have together.
-use Rattle.std.specs.Prelude.{if◌then◌else◌, ◌≡◌, Bool, ◌+◌, ◌%◌, ◌^◌, List, [], ◌∷◌, map, Option, None, Some}
+use Rattle.std.specs.Prelude.{if◌then◌else◌, ◌≡◌, ℕ, Bool, ◌+◌, ◌≤◌, ◌%◌, ◌^◌, List, [], ◌∷◌, map, take, slice_get, Option, None, Some}
 use Rattle.std.specs.List.{filter_map, AllByRecursion, IsDistinct}
 use Rattle.std.specs.Map.{lookup}
 use Rattle.metrics_names.specs.Names.{SeriesKey, series_key_eq}
-use Rattle.metrics_storage.specs.Histogram.{merged}
+use Rattle.metrics_storage.specs.Histogram.{Distribution, merged, bounds_of}
 use Rattle.metrics_exporter.specs.Exporting.{Reading, count, level, samples}
 use Rattle.metrics_exporter.specs.Readings.{Told}
 use Rattle.metrics_collector.specs.declared.gathered.GatheredSeries.{GatheredSeries}
+use Rattle.metrics_collector.specs.declared.merging.AbsorbError.{AbsorbError}
+use Rattle.metrics_collector.specs.declared.merging.AbsorbError.TheVariants.{Memory, OtherBounds, CountFull}
 use Rattle.metrics_collector.specs.Gathering.{told_of_gathered}
 
 -- counts are added modulo 2^64, samples are put together, and of a gauge the later value stays
@@ -37,6 +39,35 @@ reading_of_series s told = lookup (series_key_eq s) told
 abbrev pub AreJoined : List Told → List Told → List Told → Type 0
 AreJoined old other new = (s : SeriesKey) → reading_of_series s new ≡ joined_all (reading_of_series s old) (readings_of s other)
 
+-- the keys of rows are those of different series
+abbrev pub HasEachOnce : List Told → Type 0
+HasEachOnce told = IsDistinct series_key_eq (map (λ t. t.0) told)
+
+-- ---- why rows can't be joined
+
+-- samples at other bounds, or in another order, can't be put together, nor can more than 2^64 - 1
+abbrev pub AreRefused : AbsorbError → Distribution → Distribution → Type 0
+AreRefused Memory d e = ⊥
+AreRefused OtherBounds d e = bounds_of d ≡ bounds_of e → ⊥
+AreRefused CountFull d e = (bounds_of d ≡ bounds_of e) × (2 ^ 64 ≤ d.count + e.count)
+
+abbrev pub AreRefusedWith : AbsorbError → Distribution → Option Reading → Type 0
+AreRefusedWith error e (Some (samples d)) = AreRefused error d e
+AreRefusedWith error e old = ⊥
+
+-- a reading can't be joined with what was there before, since both are samples
+abbrev pub IsRefused : AbsorbError → Option Reading → Reading → Type 0
+IsRefused error old (samples e) = AreRefusedWith error e old
+IsRefused error old new = ⊥
+
+-- a row can't be joined with what its series has after the rows before it
+abbrev pub IsRowRefused : AbsorbError → List Told → List Told → ℕ → Told → Type 0
+IsRowRefused error old other place t = IsRefused error (joined_all (reading_of_series t.0 old) (readings_of t.0 (take place other))) t.1
+
+-- this is so of one of the other rows
+abbrev pub HasRefused : AbsorbError → List Told → List Told → Type 0
+HasRefused error old other = (place : ℕ) × (t : Told) × (slice_get other place ≡ Some t) × IsRowRefused error old other place t
+
 -- ---- row by row
 
 -- two rows are of one series
@@ -62,5 +93,5 @@ IsCount (samples d) = ⊥
 
 -- each series once, and each a counter
 pub record AreCounters (told : List Told) : Type 0 where
-  pub once : IsDistinct series_key_eq (map (λ t. t.0) told)
+  pub once : HasEachOnce told
   pub counts : AllByRecursion (λ t. IsCount t.1) told

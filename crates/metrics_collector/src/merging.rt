@@ -1,11 +1,13 @@
 //! Two readings together.
-ghost use Rattle.std.specs.Prelude.{◌≡◌, ◌++◌, ◌∷◌, [], IfOk, OnOk, OnErr, map};
+ghost use Rattle.std.specs.Prelude.{◌≡◌, ◌⊎◌, ◌++◌, ◌∷◌, [], Some as Just, IfOk, IfErr, OnOk, OnErr, map};
 ghost use Rattle.std.specs.List.{position_or_len};
 ghost use Rattle.metrics_names.specs.declared.kind.MetricKind.TheVariants.{Counter as CounterKind, Histogram as HistogramKind};
 ghost use Rattle.metrics_storage.specs.Histogram.{merged};
 ghost use Rattle.metrics_exporter.specs.Exporting.{count as counted, samples as taken};
 ghost use Rattle.metrics_collector.specs.Gathering.{kind_of, reading_of, told_of_gathered, all_gathered};
-ghost use Rattle.metrics_collector.specs.Merging.{are_same, joined, with_told, with_all, AreJoined};
+ghost use Rattle.metrics_collector.specs.Merging.{are_same, joined, with_told, with_all, reading_of_series, AreJoined};
+ghost use Rattle.metrics_collector.specs.Merging.{AreRefused, IsRefused, HasRefused, HasEachOnce};
+ghost use Rattle.metrics_collector.specs.declared.merging.AbsorbError.TheVariants.{Memory as OutOfMemory};
 
 use crate::gathered::{Gathered, GatheredSeries, Value};
 use metrics_storage::Histogram;
@@ -37,12 +39,16 @@ impl fmt::Display for AbsorbError {
 impl Error for AbsorbError {}
 
 impl From<AllocError> for AbsorbError {
+    ghost from_gives = { λ e r. r ≡ OutOfMemory };
+
     fn from(_error: AllocError) -> AbsorbError {
         AbsorbError::Memory
     }
 }
 
 impl<T: Drop> From<AllocFailed<T>> for AbsorbError {
+    ghost from_gives = { λ e r. r ≡ OutOfMemory };
+
     fn from(_error: AllocFailed<T>) -> AbsorbError {
         AbsorbError::Memory
     }
@@ -71,6 +77,7 @@ fn place_of(rows: &[GatheredSeries], row: &GatheredSeries) -> usize
 fn samples_of(alloc: Global, samples: Histogram) -> Result<Value, AbsorbError>
     ensures value { IfOk result (λ v. reading_of v ≡ taken samples) }
     ensures kind { IfOk result (λ v. kind_of v ≡ HistogramKind) }
+    ensures err { IfErr result (λ e. e ≡ OutOfMemory) }
 {
     Ok(Value::Samples(Box::new(alloc, samples)?))
 }
@@ -79,6 +86,7 @@ fn samples_of(alloc: Global, samples: Histogram) -> Result<Value, AbsorbError>
 fn copy_of(alloc: Global, value: &Value) -> Result<Value, AbsorbError>
     ensures value { IfOk result (λ v. reading_of v ≡ reading_of value.now) }
     ensures kind { IfOk result (λ v. kind_of v ≡ kind_of value.now) }
+    ensures err { IfErr result (λ e. e ≡ OutOfMemory) }
 {
     match value {
         Value::Count(count) => Ok(Value::Count(*count)),
@@ -89,7 +97,9 @@ fn copy_of(alloc: Global, value: &Value) -> Result<Value, AbsorbError>
 
 /// Returns the samples of both, which have to have the same bounds.
 fn merged(total: &Histogram, more: &Histogram) -> Result<Histogram, AbsorbError>
-    ensures { IfOk result (λ h. h ≡ merged total.now more.now) }
+    ensures ok { IfOk result (λ h. h ≡ merged total.now more.now) }
+    ensures joins { OnOk result ((e : AbsorbError) → ¬ AreRefused e total.now more.now) }
+    ensures err { IfErr result (λ e. (e ≡ OutOfMemory) ⊎ AreRefused e total.now more.now) }
 {
     if !total.same_bounds(more) {
         return Err(AbsorbError::OtherBounds);
@@ -117,6 +127,8 @@ fn with_count(old: &Value, count: u64) -> Value
 fn with_samples(alloc: Global, old: &Value, more: &Histogram) -> Result<Value, AbsorbError>
     ensures value { IfOk result (λ v. reading_of v ≡ joined (reading_of old.now) (taken more.now)) }
     ensures kind { IfOk result (λ v. kind_of v ≡ HistogramKind) }
+    ensures joins { OnOk result ((e : AbsorbError) → ¬ IsRefused e (Just (reading_of old.now)) (taken more.now)) }
+    ensures err { IfErr result (λ e. (e ≡ OutOfMemory) ⊎ IsRefused e (Just (reading_of old.now)) (taken more.now)) }
 {
     match old {
         Value::Samples(total) => samples_of(alloc, merged(total, more)?),
@@ -129,6 +141,8 @@ fn with_samples(alloc: Global, old: &Value, more: &Histogram) -> Result<Value, A
 fn joined(alloc: Global, old: &Value, new: &Value) -> Result<Value, AbsorbError>
     ensures value { IfOk result (λ v. reading_of v ≡ joined (reading_of old.now) (reading_of new.now)) }
     ensures kind { IfOk result (λ v. kind_of v ≡ kind_of new.now) }
+    ensures joins { OnOk result ((e : AbsorbError) → ¬ IsRefused e (Just (reading_of old.now)) (reading_of new.now)) }
+    ensures err { IfErr result (λ e. (e ≡ OutOfMemory) ⊎ IsRefused e (Just (reading_of old.now)) (reading_of new.now)) }
 {
     match new {
         Value::Count(count) => Ok(with_count(old, *count)),
@@ -143,8 +157,9 @@ fn push_copy(
     rows: &mut Vec<GatheredSeries>,
     row: &GatheredSeries,
 ) -> Result<(), AbsorbError>
-    ensures { OnOk result (map told_of_gathered rows.new.items
+    ensures ok { OnOk result (map told_of_gathered rows.new.items
         ≡ map told_of_gathered rows.old.items ++ told_of_gathered row.now ∷ []) }
+    ensures err { IfErr result (λ e. e ≡ OutOfMemory) }
 {
     let key = row.key.clone()?;
     let value = copy_of(alloc, &row.value)?;
@@ -158,8 +173,12 @@ fn put(
     rows: &mut Vec<GatheredSeries>,
     row: &GatheredSeries,
 ) -> Result<(), AbsorbError>
-    ensures { OnOk result (map told_of_gathered rows.new.items
+    ensures ok { OnOk result (map told_of_gathered rows.new.items
         ≡ with_told (told_of_gathered row.now) (map told_of_gathered rows.old.items)) }
+    ensures joins { OnOk result ((e : AbsorbError) → ¬ IsRefused e (reading_of_series (told_of_gathered row.now).0
+        (map told_of_gathered rows.old.items)) (told_of_gathered row.now).1) }
+    ensures err { IfErr result (λ e. (e ≡ OutOfMemory) ⊎ IsRefused e (reading_of_series (told_of_gathered row.now).0
+        (map told_of_gathered rows.old.items)) (told_of_gathered row.now).1) }
 {
     let place = place_of(rows, row);
     if place >= rows.len() {
@@ -172,7 +191,8 @@ fn put(
 
 /// Returns copies of rows.
 fn copies(alloc: Global, rows: &[GatheredSeries]) -> Result<Vec<GatheredSeries>, AbsorbError>
-    ensures { IfOk result (λ all. map told_of_gathered all.items ≡ map told_of_gathered rows.now) }
+    ensures ok { IfOk result (λ all. map told_of_gathered all.items ≡ map told_of_gathered rows.now) }
+    ensures err { IfErr result (λ e. e ≡ OutOfMemory) }
 {
     let mut all = Vec::with_capacity(alloc, rows.len())?;
     for row in rows {
@@ -187,8 +207,12 @@ fn together(
     rows: &[GatheredSeries],
     others: &[GatheredSeries],
 ) -> Result<Vec<GatheredSeries>, AbsorbError>
-    ensures { IfOk result (λ all. map told_of_gathered all.items
+    ensures ok { IfOk result (λ all. map told_of_gathered all.items
         ≡ with_all (map told_of_gathered others.now) (map told_of_gathered rows.now)) }
+    ensures joins { OnOk result ((e : AbsorbError)
+        → ¬ HasRefused e (map told_of_gathered rows.now) (map told_of_gathered others.now)) }
+    ensures err { IfErr result (λ e. (e ≡ OutOfMemory)
+        ⊎ HasRefused e (map told_of_gathered rows.now) (map told_of_gathered others.now)) }
 {
     let mut all = copies(alloc, rows)?;
     for other in others {
@@ -209,6 +233,10 @@ impl Gathered {
     /// `CountFull` if the two have more than 2^64 - 1 samples together; and `Memory`.
     pub fn absorb(&mut self, alloc: Global, other: &Gathered) -> Result<(), AbsorbError>
         ensures series { OnOk result (AreJoined (all_gathered self.old) (all_gathered other.now) (all_gathered self.new)) }
+        ensures once { OnOk result (HasEachOnce (all_gathered self.old) → HasEachOnce (all_gathered self.new)) }
+        ensures joins { OnOk result ((e : AbsorbError) → ¬ HasRefused e (all_gathered self.old) (all_gathered other.now)) }
+        ensures refused { IfErr result (λ e. (e ≡ OutOfMemory)
+            ⊎ HasRefused e (all_gathered self.old) (all_gathered other.now)) }
         ensures err { OnErr result (self.new ≡ self.old) }
     {
         self.series = together(alloc, &self.series, &other.series)?;

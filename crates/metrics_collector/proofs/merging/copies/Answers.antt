@@ -1,4 +1,4 @@
-use Rattle.std.proofs.Common.{◌≡◌, ◌∙◌, ◌+◌, ◌++◌, ◌∷◌, [], List, map, drop, ap, sym, append_assoc}
+use Rattle.std.proofs.Common.{◌∙◌, ◌+◌, ◌++◌, ◌∷◌, [], List, map, drop, ap, sym, append_assoc}
 use Rattle.std.proofs.lemmas.List.{at_drop_more}
 use Rattle.metrics_exporter.specs.Readings.{Told}
 use Rattle.metrics_collector.specs.declared.gathered.GatheredSeries.{GatheredSeries}
@@ -12,7 +12,7 @@ loop-row-preserved c =
     let x : GatheredSeries = c.row-item.result in
     let all : List Told = map told_of_gathered c.loop-row.all.items in
     let rest : List Told = map told_of_gathered (drop (i + 1) rows) in
-    ap (λ l. l ++ rest) c.in_ok-push_copy.ensures
+    ap (λ l. l ++ rest) c.in_ok-push_copy.ensures.ok
     ∙ append_assoc all (told_of_gathered x ∷ []) rest
     ∙ ap (λ (y : GatheredSeries). all ++ told_of_gathered y ∷ rest) c.row-item.is
     ∙ sym (at_drop_more (λ more. all ++ map told_of_gathered more) rows i x c.loop-row-test.true)

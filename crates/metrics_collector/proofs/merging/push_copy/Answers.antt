@@ -4,8 +4,8 @@ use Rattle.metrics_collector.specs.Gathering.{told_of_gathered}
 use Rattle.metrics_collector.proofs.MergingLemmas.{pushed}
 use Rattle.metrics_collector.proofs.merging.push_copy.Goals as goal
 
-pub returns : goal.returns
-returns c =
+pub returns-clause-ok : goal.returns-clause-ok
+returns-clause-ok c =
     let row = c.args.row.now in
     let key : c.in_ok-key.key ≡ row.key = search rules in
     ap (λ (xs : List GatheredSeries). map told_of_gathered xs) c.in_ok-push.ensures.items

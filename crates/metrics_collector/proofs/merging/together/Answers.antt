@@ -1,19 +1,53 @@
-use Rattle.std.proofs.Common.{◌≡◌, ◌∙◌, ◌+◌, List, map, drop, ap, sym}
-use Rattle.std.proofs.lemmas.List.{at_drop_more}
+use Rattle.std.proofs.Common.{◌∙◌, inl, inr, List, map, ap, arith}
+use Rattle.std.proofs.lemmas.List.{take_all, length-map}
+use Rattle.std.proofs.lemmas.Result.{err_from_is_err_and}
 use Rattle.metrics_exporter.specs.Readings.{Told}
-use Rattle.metrics_collector.specs.declared.gathered.GatheredSeries.{GatheredSeries}
 use Rattle.metrics_collector.specs.Gathering.{told_of_gathered}
-use Rattle.metrics_collector.specs.Merging.{with_told, with_all}
+use Rattle.metrics_collector.specs.Merging.{with_all}
+use Rattle.metrics_collector.proofs.MergingLemmas.{next-all, told-here, row-refused, row-joined, joined-more, none-refused}
 use Rattle.metrics_collector.proofs.merging.together.Goals as goal
 
 pub loop-other-preserved : goal.loop-other-preserved
 loop-other-preserved c =
     let others = c.args.others.now in
     let i = c.loop-other.other-index in
-    let x : GatheredSeries = c.other-item.result in
-    let all : List Told = map told_of_gathered c.loop-other.all.items in
-    let rest : List Told = map told_of_gathered (drop (i + 1) others) in
-    ap (λ l. with_all rest l) c.in_ok-put.ensures
-    ∙ ap (λ (y : GatheredSeries). with_all rest (with_told (told_of_gathered y) all)) c.other-item.is
-    ∙ sym (at_drop_more (λ more. with_all (map told_of_gathered more) all) others i x c.loop-other-test.true)
-    ∙ c.loop-other.invariant
+    let x = c.other-item.result in
+    let small = c.loop-other-test.true in
+    let rows : List Told = map told_of_gathered c.args.rows.now in
+    let all : List Told = map told_of_gathered others in
+    let now : List Told = map told_of_gathered c.loop-other.all.items in
+    let was = c.loop-other.invariant in
+    record {
+      rows = next-all others i x small c.other-item.is rows now _ was.rows c.in_ok-put.ensures.ok;
+      joined = joined-more rows all i (told_of_gathered x) was.joined (told-here others i x small c.other-item.is)
+          (λ error. row-joined error rows all now i (told_of_gathered x) was.rows (c.in_ok-put.ensures.joins error));
+    }
+
+pub returns-clause-ok : goal.returns-clause-ok
+returns-clause-ok c =
+    let all : List Told = map told_of_gathered c.args.others.now in
+    let i = c.loop-other.other-index in
+    c.loop-other.invariant.rows
+    ∙ ap (λ (ts : List Told). with_all ts (map told_of_gathered c.args.rows.now)) (take_all i all (omega (arith, length-map c.args.others.now told_of_gathered, c.loop-other-test.false)))
+
+pub returns-clause-joins : goal.returns-clause-joins
+returns-clause-joins c =
+    let all : List Told = map told_of_gathered c.args.others.now in
+    none-refused (map told_of_gathered c.args.rows.now) all c.loop-other.other-index
+    (omega (arith, length-map c.args.others.now told_of_gathered, c.loop-other-test.false)) c.loop-other.invariant.joined
+
+pub returns-in_err-put-clause-err : goal.returns-in_err-put-clause-err
+returns-in_err-put-clause-err c =
+    let others = c.args.others.now in
+    let i = c.loop-other.other-index in
+    let x = c.other-item.result in
+    let small = c.loop-other-test.true in
+    let rows : List Told = map told_of_gathered c.args.rows.now in
+    let all : List Told = map told_of_gathered others in
+    let now : List Told = map told_of_gathered c.loop-other.all.items in
+    let e = c.in_err-put.field-0.0 in
+    let p = err_from_is_err_and c.from_residual-in_err-put.result c.from_residual-in_err-put.ensures.1 in
+    rw (p.1, p.2) (elim c.in_err-put.ensures.err [
+      | inl m ↦ inl m
+      | inr h ↦ inr (i, told_of_gathered x, told-here others i x small c.other-item.is, row-refused e rows all now i (told_of_gathered x) c.loop-other.invariant.rows h)
+    ])

@@ -1,10 +1,12 @@
--- The rows so far, and the others to come.
-use Rattle.std.proofs.Common.{◌≡◌, map, drop}
+-- The rows with the others so far, each of which could be joined.
+use Rattle.std.proofs.Common.{◌≡◌, map, take}
 use Rattle.metrics_collector.specs.Gathering.{told_of_gathered}
 use Rattle.metrics_collector.specs.Merging.{with_all}
+use Rattle.metrics_collector.proofs.MergingLemmas.{AreJoinedUpTo}
 use Rattle.metrics_collector.proofs.merging.together.Given as goal
 
 abbrev pub invariant-loop-other : goal.invariant-loop-other
-invariant-loop-other l =
-    with_all (map told_of_gathered (drop l.other-index l.others)) (map told_of_gathered l.all.items)
-    ≡ with_all (map told_of_gathered l.others) (map told_of_gathered l.rows)
+invariant-loop-other l = record {
+  rows : map told_of_gathered l.all.items ≡ with_all (take l.other-index (map told_of_gathered l.others)) (map told_of_gathered l.rows);
+  joined : AreJoinedUpTo (map told_of_gathered l.rows) (map told_of_gathered l.others) l.other-index;
+}
