@@ -1,5 +1,5 @@
 -- Bounds that are pushed one after another.
-use Rattle.std.proofs.Common.{◌≡◌, ◌∙◌, ℕ, suc, ◌+◌, ◌<◌, ◌⊎◌, inl, inr, ℤ, List, [], ◌∷◌, ◌++◌, length, get_or, Option, None, Some, IsSome, refl, ap, sym, subst, arith}
+use Rattle.std.proofs.Common.{◌≡◌, ◌∙◌, ℕ, suc, ◌+◌, ◌<◌, inl, inr, ℤ, List, [], ◌∷◌, ◌++◌, length, get_or, Option, None, Some, IsSome, ap, sym, subst, arith}
 use Rattle.std.specs.Prelude.{pos, FitsSigned, IfSome, MatchOption, ◌↔◌}
 use Rattle.std.specs.Int.{w64}
 use Rattle.std.proofs.lemmas.List.{get_or_push, get_or_append_left}

@@ -1,4 +1,4 @@
-use Rattle.std.proofs.Common.{◌≡◌, ◌∙◌, ℕ, List, None, All, ap, rules, subst, sym}
+use Rattle.std.proofs.Common.{◌≡◌, ℕ, List, None, All, rules, subst, sym}
 use Rattle.std.proofs.lemmas.List.Elements.{All-nil}
 use Rattle.indexmap.specs.IndexMap.{get_by_text}
 use Rattle.metrics_exporter.specs.Prefixes.{IsEmpty}

@@ -1,10 +1,10 @@
-use Rattle.std.proofs.Common.{◌≡◌, ◌∙◌, refl, sym, ap, subst, Some, None, Option}
+use Rattle.std.proofs.Common.{◌≡◌, ◌∙◌, refl, sym, ap, subst, Some}
 use Rattle.std.specs.Prelude.{MatchOption, option_copied}
 use Rattle.indexmap.specs.IndexMap.{get_by_text}
-use Rattle.metrics_storage.specs.Histogram.{Distribution, no_samples, bounds_of}
+use Rattle.metrics_storage.specs.Histogram.{bounds_of}
 use Rattle.metrics_exporter.specs.Choice.{IsPrefixChoice, set_for}
 use Rattle.metrics_exporter.specs.Prefixes.{at_longest}
-use Rattle.metrics_exporter.proofs.BoundsLemmas.{exact-some, exact-none}
+use Rattle.metrics_exporter.proofs.BoundsLemmas.{exact-some}
 use Rattle.metrics_exporter.proofs.bounds.Bounds.of.Goals as goal
 
 pub returns-in-Some-clause-choice : goal.returns-in-Some-clause-choice
