@@ -531,8 +531,11 @@ LEFT_OUT = re.compile(rb"^(?:left out: .*|line \d+: (?:name|label) \".*\"(?:\.\.
 
 
 def without_passed_over(errors, bad):
-    """Returns the messages beside those for skipped bad lines, each of which is reported at once."""
-    return b"".join(line for line in errors.splitlines(True) if line not in bad.splitlines(True))
+    """Returns the messages beside those for skipped bad lines, each of which is reported at once. Out of memory, their number at
+    the end may be smaller."""
+    is_short = errors.endswith(b"memory\n")
+    others = [line for line in errors.splitlines(True) if line not in bad.splitlines(True)]
+    return b"".join(line for line in others if not (is_short and re.fullmatch(rb"\d+ bad lines were skipped\n", line)))
 
 
 def without_text(errors, bad):
