@@ -20,7 +20,7 @@ use std::fmt;
 pub enum AbsorbError {
     /// Out of memory.
     Memory,
-    /// Both have a histogram of one series, with other bounds or in another order.
+    /// Both have a histogram of one series, and its bounds differ, also if only in order.
     OtherBounds,
     /// A histogram would have more than 2^64 - 1 samples.
     CountFull,
@@ -222,15 +222,15 @@ fn together(
 }
 
 impl Gathered {
-    /// Adds what another collector's reading has. Counters are added modulo 2^64, histograms of one series are merged, and of a
-    /// gauge the other's value stays. A series that only one of both has is as it was there.
+    /// Adds what another collector's reading has. Counters are added modulo 2^64, histograms of one series are merged, and a
+    /// gauge has the other's value. A series that only one of both has is as it was there.
     ///
     /// Each series of the other is looked for among all here, one after another. A call that fails changes nothing.
     ///
     /// # Errors
     ///
-    /// `OtherBounds` if both have a histogram of one series with other bounds, or with the same bounds in another order;
-    /// `CountFull` if the two have more than 2^64 - 1 samples together; and `Memory`.
+    /// `OtherBounds` if both have a histogram of one series and their bounds differ, also if only in order; `CountFull` if two
+    /// histograms of one series have more than 2^64 - 1 samples together; and `Memory`.
     pub fn absorb(&mut self, alloc: Global, other: &Gathered) -> Result<(), AbsorbError>
         ensures series { OnOk result (AreJoined (all_gathered self.old) (all_gathered other.now) (all_gathered self.new)) }
         ensures once { OnOk result (HasEachOnce (all_gathered self.old) → HasEachOnce (all_gathered self.new)) }
