@@ -6,6 +6,8 @@ mod alone;
 #[cfg(test)]
 mod anew;
 #[cfg(test)]
+mod bounds;
+#[cfg(test)]
 mod counts;
 #[cfg(test)]
 mod gauges;
@@ -37,5 +39,7 @@ mod removed;
 mod series;
 #[cfg(test)]
 mod threads;
+#[cfg(test)]
+mod together;
 #[cfg(test)]
 mod turns;
