@@ -8,17 +8,17 @@ use Rattle.metrics_names.specs.Names.{SeriesKey, series_key_eq}
 use Rattle.metrics_names.specs.Equality.{key_exact, key_same}
 use Rattle.metrics_exporter.specs.Exporting.{Reading, Cell, Cells}
 use Rattle.metrics_exporter.specs.Describing.{Legend}
-use Rattle.metrics_exporter.specs.Readings.{Told, AreReadings, AreOnce, reading_in, cells_told}
+use Rattle.metrics_exporter.specs.Readings.{KeyedReading, AreReadings, AreOnce, reading_in, cells_of_readings}
 use Rattle.metrics_prometheus.specs.declared.naming.Naming.{Naming}
 use Rattle.metrics_prometheus.specs.Exposition.{IsDescribed}
 use Rattle.metrics_prometheus.proofs.PairLemmas.{each-in}
-use Rattle.metrics_prometheus.proofs.OnceLemmas.{readings-once, readings-told}
+use Rattle.metrics_prometheus.proofs.OnceLemmas.{readings-once, readings-keyed}
 use Rattle.metrics_prometheus.proofs.OneTextLemmas.{one-text}
 use Rattle.metrics_collector.specs.Merging.{reading_of_series, AreJoined, AreCounters, HasEachOnce}
 use Rattle.metrics_collector.proofs.MergingLemmas.{either-order}
 
 -- a series that is not found is not among the rows
-not-there : (s : SeriesKey) (rows : List Told) → lookup (series_key_eq s) rows ≡ None → AllByRecursion (λ k. series_key_eq s k ≡ false) (map (λ t. t.0) rows)
+not-there : (s : SeriesKey) (rows : List KeyedReading) → lookup (series_key_eq s) rows ≡ None → AllByRecursion (λ k. series_key_eq s k ≡ false) (map (λ t. t.0) rows)
 not-there s [] e = tt
 not-there s (x ∷ rows) e = go (not-there s rows) (series_key_eq s x.0) refl e
   where
@@ -27,11 +27,11 @@ not-there s (x ∷ rows) e = go (not-there s rows) (series_key_eq s x.0) refl e
     go rest true h e = absurd (let bad : Some x.1 ≡ None = e in cc)
     go rest false h e = (h, rest e)
 
-not-among : (s : SeriesKey) (rows : List Told) → lookup (series_key_eq s) rows ≡ None → Contains (map (λ t. t.0) rows) s → ⊥
+not-among : (s : SeriesKey) (rows : List KeyedReading) → lookup (series_key_eq s) rows ≡ None → Contains (map (λ t. t.0) rows) s → ⊥
 not-among s rows e there = false≢true (sym (each-in (λ k. series_key_eq s k ≡ false) (map (λ t. t.0) rows) s (not-there s rows e) there) ∙ key_same s)
 
 -- what is held of a series is what the rows report
-reads : (cells : Cells) (rows : List Told) → AreReadings cells rows → (s : SeriesKey) → reading_in cells s ≡ lookup (series_key_eq s) rows
+reads : (cells : Cells) (rows : List KeyedReading) → AreReadings cells rows → (s : SeriesKey) → reading_in cells s ≡ lookup (series_key_eq s) rows
 reads cells rows are s = go (lookup (series_key_eq s) rows) refl
   where
     unheld : (o : Option Cell) → (IsSome o → ⊥) → option_map (λ (c : Cell). c.reading) o ≡ None
@@ -47,15 +47,15 @@ read-back None = refl
 read-back (Some r) = refl
 
 -- rows without those that come again report the same
-same-rows : (told kept : List Told) → HasEachOnce told → AreOnce told kept → (s : SeriesKey) → reading_of_series s kept ≡ reading_of_series s told
-same-rows told kept each once s =
-    let cells : Cells = cells_told told in
-    sym (reads cells kept (readings-once cells told kept (readings-told told each) once) s) ∙ read-back (lookup (series_key_eq s) told)
+same-rows : (keyed kept : List KeyedReading) → HasEachOnce keyed → AreOnce keyed kept → (s : SeriesKey) → reading_of_series s kept ≡ reading_of_series s keyed
+same-rows keyed kept each once s =
+    let cells : Cells = cells_of_readings keyed in
+    sym (reads cells kept (readings-once cells keyed kept (readings-keyed keyed each) once) s) ∙ read-back (lookup (series_key_eq s) keyed)
 
-pub either-text : (naming : Naming) (legend : Legend) (a b ab ba kept other : List Told) (x y : List ℕ) → AreCounters a → AreCounters b → AreJoined a b ab → AreJoined b a ba
-    → HasEachOnce ab → HasEachOnce ba → AreOnce ab kept → AreOnce ba other → IsDescribed naming legend (cells_told kept) x → IsDescribed naming legend (cells_told other) y → x ≡ y
+pub either-text : (naming : Naming) (legend : Legend) (a b ab ba kept other : List KeyedReading) (x y : List ℕ) → AreCounters a → AreCounters b → AreJoined a b ab → AreJoined b a ba
+    → HasEachOnce ab → HasEachOnce ba → AreOnce ab kept → AreOnce ba other → IsDescribed naming legend (cells_of_readings kept) x → IsDescribed naming legend (cells_of_readings other) y → x ≡ y
 either-text naming legend a b ab ba kept other x y of-a of-b one two each-ab each-ba once-ab once-ba is-x is-y =
     let same : (s : SeriesKey) → reading_of_series s kept ≡ reading_of_series s other =
     λ s. same-rows ab kept each-ab once-ab s ∙ either-order a b ab ba of-a of-b one two s ∙ sym (same-rows ba other each-ba once-ba s) in
-    let cells : cells_told kept ≡ cells_told other = λ i s. option_map (λ (r : Reading). record { reading = r; generation = 0 }) (same s i) in
-    one-text (cells_told other) x y (subst (λ (c : Cells). IsDescribed naming legend c x) cells is-x) is-y
+    let cells : cells_of_readings kept ≡ cells_of_readings other = λ i s. option_map (λ (r : Reading). record { reading = r; generation = 0 }) (same s i) in
+    one-text (cells_of_readings other) x y (subst (λ (c : Cells). IsDescribed naming legend c x) cells is-x) is-y

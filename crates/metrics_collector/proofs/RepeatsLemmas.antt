@@ -4,7 +4,7 @@ use Rattle.std.proofs.lemmas.List.{at_drop_more, take_more}
 use Rattle.std.specs.List.{list_any}
 use Rattle.metrics_prometheus.specs.Repeated.{repeated_line}
 use Rattle.metrics_collector.specs.declared.gathered.GatheredSeries.{GatheredSeries}
-use Rattle.metrics_collector.specs.Gathering.{told_of_gathered}
+use Rattle.metrics_collector.specs.Gathering.{keyed_gathered}
 use Rattle.metrics_collector.specs.Merging.{are_same}
 use Rattle.metrics_collector.specs.Repeats.{line_after, repeated_lines}
 
@@ -17,11 +17,11 @@ lines-more rows i d small =
 
 -- ---- a row's line
 
-pub line-when : (before : List GatheredSeries) (row : GatheredSeries) → list_any (are_same row) before ≡ true → line_after before row ≡ repeated_line (told_of_gathered row).0
-line-when before row there = ap (λ b. cond b (repeated_line (told_of_gathered row).0) []) there
+pub line-when : (before : List GatheredSeries) (row : GatheredSeries) → list_any (are_same row) before ≡ true → line_after before row ≡ repeated_line (keyed_gathered row).0
+line-when before row there = ap (λ b. cond b (repeated_line (keyed_gathered row).0) []) there
 
 pub no-line : (before : List GatheredSeries) (row : GatheredSeries) → list_any (are_same row) before ≡ false → line_after before row ≡ []
-no-line before row none = ap (λ b. cond b (repeated_line (told_of_gathered row).0) []) none
+no-line before row none = ap (λ b. cond b (repeated_line (keyed_gathered row).0) []) none
 
 -- the text after one row more
 pub next : (text all done : List ℕ) (rows : List GatheredSeries) (i : ℕ) (row : GatheredSeries) → i < length rows → row ≡ get_or rows i row → all ≡ text ++ line_after (take i rows) row

@@ -6,7 +6,7 @@ use Rattle.metrics_names.specs.declared.kind.MetricKind.TheVariants.{Gauge}
 use Rattle.metrics_exporter.specs.Describing.{Legend}
 use Rattle.metrics_exporter.specs.Exporting.{Cells, level}
 use Rattle.metrics_exporter.specs.Gathering.{series_at}
-use Rattle.metrics_exporter.specs.Readings.{Told, AreOnce, cells_told}
+use Rattle.metrics_exporter.specs.Readings.{KeyedReading, AreOnce, cells_of_readings}
 use Rattle.metrics_prometheus.specs.Exposition.{IsDescribed}
 use Rattle.metrics_prometheus.specs.Written.{Line, line_text, left_out_in, IsReadable}
 use Rattle.metrics_prometheus.specs.declared.naming.Naming.{Naming}
@@ -20,13 +20,13 @@ IsLeftOutNumber text n = (all : List Line) → text ≡ flat_map line_text all �
     → n ≡ pos (min (length (filter_map left_out_in all)) 9223372036854775807)
 
 -- the gauge of that number with the collector's labels
-abbrev pub left_out_gauge : List LabelParts → ℤ → Told
+abbrev pub left_out_gauge : List LabelParts → ℤ → KeyedReading
 left_out_gauge labels n = (series_at Gauge (record { name = codes "metrics_left_out_series"; labels = labels }), level n)
 
 -- a text of that gauge alone
 abbrev pub IsLeftOutGauge : List LabelParts → ℤ → List ℕ → Type 0
-IsLeftOutGauge labels n text = (legend : Legend) × (kept : List Told) × AreOnce (left_out_gauge labels n ∷ []) kept
-    × IsDescribed AsGiven legend (cells_told kept) text
+IsLeftOutGauge labels n text = (legend : Legend) × (kept : List KeyedReading) × AreOnce (left_out_gauge labels n ∷ []) kept
+    × IsDescribed AsGiven legend (cells_of_readings kept) text
 
 -- a text with the gauge of the number of series that it leaves out
 abbrev pub IsCounted : List LabelParts → List ℕ → List ℕ → Type 0

@@ -5,11 +5,11 @@ use Rattle.std.specs.Map.{lookup}
 use Rattle.metrics_names.specs.Names.{SeriesKey, series_key_eq}
 use Rattle.metrics_storage.specs.Histogram.{Distribution, merged, bounds_of}
 use Rattle.metrics_exporter.specs.Exporting.{Reading, count, level, samples}
-use Rattle.metrics_exporter.specs.Readings.{Told}
+use Rattle.metrics_exporter.specs.Readings.{KeyedReading}
 use Rattle.metrics_collector.specs.declared.gathered.GatheredSeries.{GatheredSeries}
 use Rattle.metrics_collector.specs.declared.merging.AbsorbError.{AbsorbError}
 use Rattle.metrics_collector.specs.declared.merging.AbsorbError.TheVariants.{Memory, OtherBounds, CountFull}
-use Rattle.metrics_collector.specs.Gathering.{told_of_gathered}
+use Rattle.metrics_collector.specs.Gathering.{keyed_gathered}
 
 -- counts are added modulo 2^64, samples are put together, and of a gauge the later value stays
 abbrev pub joined : Reading → Reading → Reading
@@ -28,20 +28,20 @@ joined_all old [] = old
 joined_all old (new ∷ more) = joined_all (Some (joined_with old new)) more
 
 -- what rows report of a series, in order
-abbrev pub readings_of : SeriesKey → List Told → List Reading
-readings_of s told = filter_map (λ t. if series_key_eq s t.0 then Some t.1 else None) told
+abbrev pub readings_of : SeriesKey → List KeyedReading → List Reading
+readings_of s keyed = filter_map (λ t. if series_key_eq s t.0 then Some t.1 else None) keyed
 
 -- what a series has; the first if it comes again
-abbrev pub reading_of_series : SeriesKey → List Told → Option Reading
-reading_of_series s told = lookup (series_key_eq s) told
+abbrev pub reading_of_series : SeriesKey → List KeyedReading → Option Reading
+reading_of_series s keyed = lookup (series_key_eq s) keyed
 
 -- each series has what it had, and what the other rows report of it
-abbrev pub AreJoined : List Told → List Told → List Told → Type 0
+abbrev pub AreJoined : List KeyedReading → List KeyedReading → List KeyedReading → Type 0
 AreJoined old other new = (s : SeriesKey) → reading_of_series s new ≡ joined_all (reading_of_series s old) (readings_of s other)
 
 -- the keys of rows are those of different series
-abbrev pub HasEachOnce : List Told → Type 0
-HasEachOnce told = IsDistinct series_key_eq (map (λ t. t.0) told)
+abbrev pub HasEachOnce : List KeyedReading → Type 0
+HasEachOnce keyed = IsDistinct series_key_eq (map (λ t. t.0) keyed)
 
 -- ---- why rows can't be joined
 
@@ -61,28 +61,28 @@ IsRefused error old (samples e) = AreRefusedWith error e old
 IsRefused error old new = ⊥
 
 -- a row can't be joined with what its series has after the rows before it
-abbrev pub IsRowRefused : AbsorbError → List Told → List Told → ℕ → Told → Type 0
+abbrev pub IsRowRefused : AbsorbError → List KeyedReading → List KeyedReading → ℕ → KeyedReading → Type 0
 IsRowRefused error old other place t = IsRefused error (joined_all (reading_of_series t.0 old) (readings_of t.0 (take place other))) t.1
 
 -- this is so of one of the other rows
-abbrev pub HasRefused : AbsorbError → List Told → List Told → Type 0
-HasRefused error old other = (place : ℕ) × (t : Told) × (slice_get other place ≡ Some t) × IsRowRefused error old other place t
+abbrev pub HasRefused : AbsorbError → List KeyedReading → List KeyedReading → Type 0
+HasRefused error old other = (place : ℕ) × (t : KeyedReading) × (slice_get other place ≡ Some t) × IsRowRefused error old other place t
 
 -- ---- row by row
 
 -- two rows are of one series
 abbrev pub are_same : GatheredSeries → GatheredSeries → Bool
-are_same row other = series_key_eq (told_of_gathered row).0 (told_of_gathered other).0
+are_same row other = series_key_eq (keyed_gathered row).0 (keyed_gathered other).0
 
 -- rows with one more: the first of its series is joined with it, or else it comes last
-abbrev pub with_told : Told → List Told → List Told
-with_told t [] = t ∷ []
-with_told t (x ∷ xs) = if series_key_eq t.0 x.0 then (x.0, joined x.1 t.1) ∷ xs else x ∷ with_told t xs
+abbrev pub with_reading : KeyedReading → List KeyedReading → List KeyedReading
+with_reading t [] = t ∷ []
+with_reading t (x ∷ xs) = if series_key_eq t.0 x.0 then (x.0, joined x.1 t.1) ∷ xs else x ∷ with_reading t xs
 
 -- rows with all of these, one after another
-abbrev pub with_all : List Told → List Told → List Told
-with_all [] told = told
-with_all (t ∷ ts) told = with_all ts (with_told t told)
+abbrev pub with_all : List KeyedReading → List KeyedReading → List KeyedReading
+with_all [] keyed = keyed
+with_all (t ∷ ts) keyed = with_all ts (with_reading t keyed)
 
 -- ---- in either order
 
@@ -92,6 +92,6 @@ IsCount (level n) = ⊥
 IsCount (samples d) = ⊥
 
 -- each series once, and each a counter
-pub record AreCounters (told : List Told) : Type 0 where
-  pub once : HasEachOnce told
-  pub counts : AllByRecursion (λ t. IsCount t.1) told
+pub record AreCounters (keyed : List KeyedReading) : Type 0 where
+  pub once : HasEachOnce keyed
+  pub counts : AllByRecursion (λ t. IsCount t.1) keyed

@@ -4,7 +4,7 @@ ghost use Rattle.std.specs.Prelude.{IfOk, IfErr, OnOk, MatchResult};
 ghost use Rattle.std.specs.Fn.{FnOnceReturnsAt};
 ghost use Rattle.metrics.specs.declared.error.Error.TheVariants.{Memory as OutOfMemory, BadShards as NotShards};
 ghost use Rattle.metrics_registry.specs.Held.{is_shard_count as is_count};
-ghost use Rattle.metrics_exporter.specs.Readings.{Told, AreOnce, cells_told};
+ghost use Rattle.metrics_exporter.specs.Readings.{KeyedReading, AreOnce, cells_of_readings};
 ghost use Rattle.metrics_exporter.specs.Describing.{Legend};
 ghost use Rattle.metrics_prometheus.specs.declared.naming.Naming.TheVariants.{AsGiven as NamesAsGiven};
 ghost use Rattle.metrics_prometheus.specs.Common.{first_bad_label};
@@ -300,9 +300,9 @@ impl Collector {
         alloc: Global,
         gathered: &Gathered,
     ) -> Result<String, Error>
-        ensures text { IfOk result (λ text. (legend : Legend) × (kept : List Told)
-            × AreOnce (all_gathered gathered.now) kept × AreOfKinds (cells_told kept)
-            × IsDescribed self.now.naming legend (cells_told kept) (string_bytes text)) }
+        ensures text { IfOk result (λ text. (legend : Legend) × (kept : List KeyedReading)
+            × AreOnce (all_gathered gathered.now) kept × AreOfKinds (cells_of_readings kept)
+            × IsDescribed self.now.naming legend (cells_of_readings kept) (string_bytes text)) }
         ensures err { IfErr result (λ e. e ≡ OutOfMemory) }
     {
         gathered.text(alloc, self.naming, &self.descriptions.read(rt))
@@ -315,9 +315,9 @@ impl Collector {
         alloc: Global,
         gathered: &Gathered,
     ) -> Result<String, Error>
-        ensures text { IfOk result (λ text. (legend : Legend) × (kept : List Told)
-            × AreOnce (all_gathered gathered.now) kept × AreOfKinds (cells_told kept)
-            × IsScraped self.now.naming legend self.now.has_left_out_gauge self.now.labels.items (cells_told kept)
+        ensures text { IfOk result (λ text. (legend : Legend) × (kept : List KeyedReading)
+            × AreOnce (all_gathered gathered.now) kept × AreOfKinds (cells_of_readings kept)
+            × IsScraped self.now.naming legend self.now.has_left_out_gauge self.now.labels.items (cells_of_readings kept)
             (string_bytes text)) }
         ensures err { IfErr result (λ e. e ≡ OutOfMemory) }
     {
@@ -336,9 +336,9 @@ impl Collector {
         alloc: Global,
         gathered: &Gathered,
     ) -> Result<String, Error>
-        ensures text { IfOk result (λ text. (legend : Legend) × (kept : List Told)
-            × AreOnce (all_gathered gathered.now) kept × AreOfKinds (cells_told kept)
-            × IsScrapedOf self.now.naming legend self.now.has_left_out_gauge self.now.labels.items (cells_told kept)
+        ensures text { IfOk result (λ text. (legend : Legend) × (kept : List KeyedReading)
+            × AreOnce (all_gathered gathered.now) kept × AreOfKinds (cells_of_readings kept)
+            × IsScrapedOf self.now.naming legend self.now.has_left_out_gauge self.now.labels.items (cells_of_readings kept)
             gathered.now.series.items (string_bytes text)) }
         ensures err { IfErr result (λ e. e ≡ OutOfMemory) }
     {
@@ -373,9 +373,9 @@ impl Collector {
     /// The collector keeps the rows of its last text for the next one: some 60 bytes and its name for each series, and for a
     /// histogram 130 bytes more, and 32 for each bound.
     pub fn render<W: Wait>(&self, rt: &W, alloc: Global, now: u64) -> Result<String, Error>
-        ensures text { IfOk result (λ text. (legend : Legend) × (gathered : GatheredParts) × (kept : List Told)
-            × AreOnce (all_gathered gathered) kept × AreOfKinds (cells_told kept)
-            × IsScraped self.now.naming legend self.now.has_left_out_gauge self.now.labels.items (cells_told kept)
+        ensures text { IfOk result (λ text. (legend : Legend) × (gathered : GatheredParts) × (kept : List KeyedReading)
+            × AreOnce (all_gathered gathered) kept × AreOfKinds (cells_of_readings kept)
+            × IsScraped self.now.naming legend self.now.has_left_out_gauge self.now.labels.items (cells_of_readings kept)
             (string_bytes text)) }
         ensures err { IfErr result IsUnread }
     {
@@ -397,9 +397,9 @@ impl Collector {
         alloc: Global,
         since_start: Duration,
     ) -> Result<String, Error>
-        ensures text { IfOk result (λ text. (legend : Legend) × (gathered : GatheredParts) × (kept : List Told)
-            × AreOnce (all_gathered gathered) kept × AreOfKinds (cells_told kept)
-            × IsScraped self.now.naming legend self.now.has_left_out_gauge self.now.labels.items (cells_told kept)
+        ensures text { IfOk result (λ text. (legend : Legend) × (gathered : GatheredParts) × (kept : List KeyedReading)
+            × AreOnce (all_gathered gathered) kept × AreOfKinds (cells_of_readings kept)
+            × IsScraped self.now.naming legend self.now.has_left_out_gauge self.now.labels.items (cells_of_readings kept)
             (string_bytes text)) }
         ensures err { IfErr result IsUnread }
     {

@@ -4,7 +4,7 @@ ghost use Rattle.metrics.specs.declared.error.Error.TheVariants.{Memory as OutOf
 ghost use Rattle.metrics_names.specs.declared.kind.MetricKind.TheVariants.{Gauge as GaugeKind};
 ghost use Rattle.metrics_exporter.specs.Exporting.{level};
 ghost use Rattle.metrics_exporter.specs.Gathering.{series_at};
-ghost use Rattle.metrics_collector.specs.Gathering.{told_of_gathered};
+ghost use Rattle.metrics_collector.specs.Gathering.{keyed_gathered};
 ghost use Rattle.metrics_collector.specs.LeftOut.{IsLeftOutNumber, IsLeftOutGauge, IsCounted};
 
 use crate::gathered::{GatheredSeries, Value};
@@ -21,13 +21,13 @@ fn left_out_number(alloc: Global, text: &str) -> Result<i64, Error>
     ensures ok { IfOk result (λ n. IsLeftOutNumber text.now n) }
     ensures err { IfErr result (λ e. e ≡ OutOfMemory) }
 {
-    let told = left_out(alloc, text)?;
-    Ok(i64::try_from(told.len()).unwrap_or(i64::MAX))
+    let lines = left_out(alloc, text)?;
+    Ok(i64::try_from(lines.len()).unwrap_or(i64::MAX))
 }
 
 /// Returns the row of the gauge.
 fn gauge_row(key: Key, number: i64) -> GatheredSeries
-    ensures { told_of_gathered result ≡ (series_at GaugeKind key, level number) }
+    ensures { keyed_gathered result ≡ (series_at GaugeKind key, level number) }
 {
     GatheredSeries {
         key,

@@ -1,7 +1,7 @@
 //! What was read of a collector.
 ghost use Rattle.std.specs.Prelude.{◌≡◌, List, IfOk, IfErr, string_bytes};
 ghost use Rattle.metrics.specs.declared.error.Error.TheVariants.{Memory as OutOfMemory};
-ghost use Rattle.metrics_exporter.specs.Readings.{Told, AreReadings, AreOnce, cells_told};
+ghost use Rattle.metrics_exporter.specs.Readings.{KeyedReading, AreReadings, AreOnce, cells_of_readings};
 ghost use Rattle.metrics_exporter.specs.Exporting.{Cells};
 ghost use Rattle.metrics_exporter.specs.Describing.{described_by};
 ghost use Rattle.metrics_prometheus.specs.Exposition.{IsDescribed};
@@ -35,7 +35,7 @@ pub struct Gathered {
     pub series: Vec<GatheredSeries>,
 }
 
-ghost use Rattle.metrics_collector.specs.Gathering.{told_of_gathered, all_gathered, kind_of};
+ghost use Rattle.metrics_collector.specs.Gathering.{keyed_gathered, all_gathered, kind_of};
 
 impl GatheredSeries {
     /// Returns the kind of the series, which is that of its value.
@@ -51,7 +51,7 @@ impl GatheredSeries {
 }
 
 impl ReadSeries for GatheredSeries {
-    ghost told = { told_of_gathered };
+    ghost keyed = { keyed_gathered };
 
     fn reading(&self) -> SeriesReading<'_> {
         let reading = match &self.value {
@@ -77,9 +77,9 @@ impl Gathered {
     ) -> Result<String, Error>
         ensures ok { (cells : Cells) → AreReadings cells (all_gathered self.now)
             → IfOk result (λ text. IsDescribed naming (described_by descriptions.now) cells (string_bytes text)) }
-        ensures each { IfOk result (λ text. (kept : List Told) × AreOnce (all_gathered self.now) kept
-            × AreOfKinds (cells_told kept)
-            × IsDescribed naming (described_by descriptions.now) (cells_told kept) (string_bytes text)) }
+        ensures each { IfOk result (λ text. (kept : List KeyedReading) × AreOnce (all_gathered self.now) kept
+            × AreOfKinds (cells_of_readings kept)
+            × IsDescribed naming (described_by descriptions.now) (cells_of_readings kept) (string_bytes text)) }
         ensures err { IfErr result (λ e. e ≡ OutOfMemory) }
     {
         exposition_of(alloc, naming, descriptions, &self.series)

@@ -4,8 +4,8 @@ ghost use Rattle.std.specs.List.{position_or_len};
 ghost use Rattle.metrics_names.specs.declared.kind.MetricKind.TheVariants.{Counter as CounterKind, Histogram as HistogramKind};
 ghost use Rattle.metrics_storage.specs.Histogram.{merged};
 ghost use Rattle.metrics_exporter.specs.Exporting.{count as counted, samples as taken};
-ghost use Rattle.metrics_collector.specs.Gathering.{kind_of, reading_of, told_of_gathered, all_gathered};
-ghost use Rattle.metrics_collector.specs.Merging.{are_same, joined, with_told, with_all, reading_of_series, AreJoined};
+ghost use Rattle.metrics_collector.specs.Gathering.{kind_of, reading_of, keyed_gathered, all_gathered};
+ghost use Rattle.metrics_collector.specs.Merging.{are_same, joined, with_reading, with_all, reading_of_series, AreJoined};
 ghost use Rattle.metrics_collector.specs.Merging.{AreRefused, IsRefused, HasRefused, HasEachOnce};
 ghost use Rattle.metrics_collector.specs.declared.merging.AbsorbError.TheVariants.{Memory as OutOfMemory};
 
@@ -157,8 +157,8 @@ fn push_copy(
     rows: &mut Vec<GatheredSeries>,
     row: &GatheredSeries,
 ) -> Result<(), AbsorbError>
-    ensures ok { OnOk result (map told_of_gathered rows.new.items
-        ≡ map told_of_gathered rows.old.items ++ told_of_gathered row.now ∷ []) }
+    ensures ok { OnOk result (map keyed_gathered rows.new.items
+        ≡ map keyed_gathered rows.old.items ++ keyed_gathered row.now ∷ []) }
     ensures err { IfErr result (λ e. e ≡ OutOfMemory) }
 {
     let key = row.key.clone()?;
@@ -173,12 +173,12 @@ fn put(
     rows: &mut Vec<GatheredSeries>,
     row: &GatheredSeries,
 ) -> Result<(), AbsorbError>
-    ensures ok { OnOk result (map told_of_gathered rows.new.items
-        ≡ with_told (told_of_gathered row.now) (map told_of_gathered rows.old.items)) }
-    ensures joins { OnOk result ((e : AbsorbError) → ¬ IsRefused e (reading_of_series (told_of_gathered row.now).0
-        (map told_of_gathered rows.old.items)) (told_of_gathered row.now).1) }
-    ensures err { IfErr result (λ e. (e ≡ OutOfMemory) ⊎ IsRefused e (reading_of_series (told_of_gathered row.now).0
-        (map told_of_gathered rows.old.items)) (told_of_gathered row.now).1) }
+    ensures ok { OnOk result (map keyed_gathered rows.new.items
+        ≡ with_reading (keyed_gathered row.now) (map keyed_gathered rows.old.items)) }
+    ensures joins { OnOk result ((e : AbsorbError) → ¬ IsRefused e (reading_of_series (keyed_gathered row.now).0
+        (map keyed_gathered rows.old.items)) (keyed_gathered row.now).1) }
+    ensures err { IfErr result (λ e. (e ≡ OutOfMemory) ⊎ IsRefused e (reading_of_series (keyed_gathered row.now).0
+        (map keyed_gathered rows.old.items)) (keyed_gathered row.now).1) }
 {
     let place = place_of(rows, row);
     if place >= rows.len() {
@@ -191,7 +191,7 @@ fn put(
 
 /// Returns copies of rows.
 fn copies(alloc: Global, rows: &[GatheredSeries]) -> Result<Vec<GatheredSeries>, AbsorbError>
-    ensures ok { IfOk result (λ all. map told_of_gathered all.items ≡ map told_of_gathered rows.now) }
+    ensures ok { IfOk result (λ all. map keyed_gathered all.items ≡ map keyed_gathered rows.now) }
     ensures err { IfErr result (λ e. e ≡ OutOfMemory) }
 {
     let mut all = Vec::with_capacity(alloc, rows.len())?;
@@ -207,12 +207,12 @@ fn together(
     rows: &[GatheredSeries],
     others: &[GatheredSeries],
 ) -> Result<Vec<GatheredSeries>, AbsorbError>
-    ensures ok { IfOk result (λ all. map told_of_gathered all.items
-        ≡ with_all (map told_of_gathered others.now) (map told_of_gathered rows.now)) }
+    ensures ok { IfOk result (λ all. map keyed_gathered all.items
+        ≡ with_all (map keyed_gathered others.now) (map keyed_gathered rows.now)) }
     ensures joins { OnOk result ((e : AbsorbError)
-        → ¬ HasRefused e (map told_of_gathered rows.now) (map told_of_gathered others.now)) }
+        → ¬ HasRefused e (map keyed_gathered rows.now) (map keyed_gathered others.now)) }
     ensures err { IfErr result (λ e. (e ≡ OutOfMemory)
-        ⊎ HasRefused e (map told_of_gathered rows.now) (map told_of_gathered others.now)) }
+        ⊎ HasRefused e (map keyed_gathered rows.now) (map keyed_gathered others.now)) }
 {
     let mut all = copies(alloc, rows)?;
     for other in others {

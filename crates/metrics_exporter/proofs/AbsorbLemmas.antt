@@ -15,8 +15,8 @@ use Rattle.metrics_exporter.specs.declared.exporter.Exporter.{Exporter}
 use Rattle.metrics_exporter.specs.Exporting.{Setup, Log, updates, steps, series_of, cells_after, IsFull}
 use Rattle.metrics_exporter.specs.Kept.{IsAfter}
 use Rattle.metrics_exporter.specs.Absorbing.{MarkedRow, marked, updates_of, made, asked_by, with_row, with_rows, Refuses, StopsIn, MakesUpdates, StopsInRow, AbsorbsRow, StopsAt}
-use Rattle.metrics_exporter.specs.Absorbing.{samples_behind, row_behind, first_behind, behind, AbsorbsBehind}
-use Rattle.metrics_exporter.specs.Describing.{Legend, SameLegend, told_by, told_by_all}
+use Rattle.metrics_exporter.specs.Absorbing.{remaining_samples, remaining_row, first_remaining, remaining, AbsorbsRemaining}
+use Rattle.metrics_exporter.specs.Describing.{Legend, SameLegend, legend_by_row, legend_by_rows}
 use Rattle.metrics_exporter.proofs.KeptLemmas.{Done, err_inside}
 
 -- ---- one more update
@@ -136,12 +136,12 @@ drop-marked (suc n) [] marks = refl
 drop-marked (suc n) (row ∷ rows) [] = drop-marked n rows [] ∙ ap (marked (drop n rows)) (drop-none n)
 drop-marked (suc n) (row ∷ rows) (active ∷ marks) = drop-marked n rows marks
 
-samples-all : (v : DebugValue) → samples_behind 0 v ≡ v
+samples-all : (v : DebugValue) → remaining_samples 0 v ≡ v
 samples-all (value.Counter n) = refl
 samples-all (value.Gauge n) = refl
 samples-all (value.Histogram xs) = refl
 
-row-all : (m : MarkedRow) → row_behind 0 m ≡ m
+row-all : (m : MarkedRow) → remaining_row 0 m ≡ m
 row-all m = ap (λ v. record { row = (m.row.0, m.row.1, m.row.2, v); active = m.active }) (samples-all m.row.3)
 
 module _ (rows : List RowParts) (marks : List Bool) (i : ℕ) (row : RowParts) (active : Bool) (small : i < length rows) (at : row ≡ get_or rows i row) (mark : active ≡ get_or marks i true) where
@@ -158,21 +158,21 @@ module _ (rows : List RowParts) (marks : List Bool) (i : ℕ) (row : RowParts) (
 
   -- a row that was absorbed whole
   pub row-absorbed : (setup : Setup) (log : Log) (r : Result (Unit {0}) (Error × ℕ)) (done : Unit {0}) (after : Exporter) → r ≡ Ok done
-      → AbsorbsRow setup (with_rows log (take i (marked rows marks))) (row_behind 0 here) r after → IsAfter setup (with_rows log (take (i + 1) (marked rows marks))) after
+      → AbsorbsRow setup (with_rows log (take i (marked rows marks))) (remaining_row 0 here) r after → IsAfter setup (with_rows log (take (i + 1) (marked rows marks))) after
   row-absorbed setup log r done after ok makes =
       let before : Log = with_rows log (take i (marked rows marks)) in
-      let R : Result (Unit {0}) (Error × ℕ) → Type 0 = λ q. AbsorbsRow setup before (row_behind 0 here) q after in
+      let R : Result (Unit {0}) (Error × ℕ) → Type 0 = λ q. AbsorbsRow setup before (remaining_row 0 here) q after in
       let M : MarkedRow → Type 0 = λ m. IsAfter setup (with_row before m) after in
       let L : Log → Type 0 = λ l. IsAfter setup l after in
       subst L (rows-more log (marked rows marks) i here within here-at) (subst M (row-all here) (subst R ok makes))
 
   -- a row in which an update failed, or its description
   pub row-stopped : (setup : Setup) (log : Log) (r : Result (Unit {0}) (Error × ℕ)) (error : Error) (n : ℕ) (after : Exporter) → r ≡ Err (error, n)
-      → AbsorbsRow setup (with_rows log (take i (marked rows marks))) (row_behind 0 here) r after
+      → AbsorbsRow setup (with_rows log (take i (marked rows marks))) (remaining_row 0 here) r after
       → StopsAt setup log (marked rows marks) (record { error = error; rows = i; samples = n }) after
   row-stopped setup log r error n after refused makes =
       let before : Log = with_rows log (take i (marked rows marks)) in
-      let R : Result (Unit {0}) (Error × ℕ) → Type 0 = λ q. AbsorbsRow setup before (row_behind 0 here) q after in
+      let R : Result (Unit {0}) (Error × ℕ) → Type 0 = λ q. AbsorbsRow setup before (remaining_row 0 here) q after in
       let M : MarkedRow → Type 0 = λ m. StopsInRow setup before m error n after in
       stops-at setup log (marked rows marks) i here (record { error = error; rows = i; samples = n }) after within here-at refl (subst M (row-all here) (subst R refused makes))
 
@@ -188,93 +188,93 @@ pub within-samples : (r : Result (Unit {0}) (Error × ℕ)) (s most : ℕ) (xs :
 within-samples (Ok done) s most xs long h = tt
 within-samples (Err (e, n)) s most xs long h = omega (arith, long, h, length-drop s xs)
 
-pub nothing-behind : (part : PartlyAbsorbed) (rows : List MarkedRow) → length rows ≤ part.rows → behind part rows ≡ []
-nothing-behind part rows past = ap (first_behind part.samples) (drop_all part.rows rows past)
+pub nothing-remaining : (part : PartlyAbsorbed) (rows : List MarkedRow) → length rows ≤ part.rows → remaining part rows ≡ []
+nothing-remaining part rows past = ap (first_remaining part.samples) (drop_all part.rows rows past)
 
 module _ (rows : List RowParts) (marks : List Bool) (part : PartlyAbsorbed) (row : RowParts) (active : Bool) (small : part.rows < length rows) (at : row ≡ get_or rows part.rows row)
     (mark : active ≡ get_or marks part.rows true) where
   abbrev next : MarkedRow
-  next = row_behind part.samples (record { row = row; active = active })
+  next = remaining_row part.samples (record { row = row; active = active })
 
   abbrev rest : List MarkedRow
   rest = marked (drop (part.rows + 1) rows) (drop (part.rows + 1) marks)
 
-  all-behind : behind part (marked rows marks) ≡ next ∷ rest
-  all-behind =
+  all-remaining : remaining part (marked rows marks) ≡ next ∷ rest
+  all-remaining =
       let m : MarkedRow = record { row = row; active = active } in
       let long : part.rows < length (marked rows marks) = omega (arith, small, length-marked rows marks) in
-      ap (first_behind part.samples)
+      ap (first_remaining part.samples)
       (drop-cons (marked rows marks) part.rows m long
       ∙ ap (λ x. x ∷ drop (suc part.rows) (marked rows marks)) (sym (here-at rows marks part.rows row active small at mark)))
       ∙ ap (λ l. next ∷ l) (ap (λ n. drop n (marked rows marks)) (sym (add-one part.rows)) ∙ drop-marked (part.rows + 1) rows marks)
 
   -- all rows after the part
-  pub behind-absorbed : (setup : Setup) (log : Log) (after : Exporter) → IsAfter setup (with_rows (with_row log next) rest) after
-      → IsAfter setup (with_rows log (behind part (marked rows marks))) after
-  behind-absorbed setup log after h = let P : List MarkedRow → Type 0 = λ l. IsAfter setup (with_rows log l) after in subst P (sym all-behind) h
+  pub remaining-absorbed : (setup : Setup) (log : Log) (after : Exporter) → IsAfter setup (with_rows (with_row log next) rest) after
+      → IsAfter setup (with_rows log (remaining part (marked rows marks))) after
+  remaining-absorbed setup log after h = let P : List MarkedRow → Type 0 = λ l. IsAfter setup (with_rows log l) after in subst P (sym all-remaining) h
 
   -- a stop in the first of them
   pub stopped-first : (setup : Setup) (log : Log) (error : Error) (n : ℕ) (after : Exporter) → StopsInRow setup log next error n after
-      → AbsorbsBehind setup log part (marked rows marks) (Err (record { error = error; rows = part.rows; samples = part.samples + n })) after
+      → AbsorbsRemaining setup log part (marked rows marks) (Err (record { error = error; rows = part.rows; samples = part.samples + n })) after
   stopped-first setup log error n after h =
       let inner : PartlyAbsorbed = record { error = error; rows = 0; samples = n } in
       let P : List MarkedRow → Type 0 = λ l. StopsAt setup log l inner after in
       let stops : StopsAt setup log (next ∷ rest) inner after = record { first = []; next = next; rest = rest; all = refl; number = refl; within = h } in
-      (inner, subst P (sym all-behind) stops, ap (λ k. record { error = error; rows = k; samples = part.samples + n }) (omega arith))
+      (inner, subst P (sym all-remaining) stops, ap (λ k. record { error = error; rows = k; samples = part.samples + n }) (omega arith))
 
   -- a stop in another one
-  pub stopped-behind : (setup : Setup) (log : Log) (stop : PartlyAbsorbed) (after : Exporter) → StopsAt setup (with_row log next) rest stop after
-      → AbsorbsBehind setup log part (marked rows marks) (Err (record { error = stop.error; rows = part.rows + 1 + stop.rows; samples = stop.samples })) after
-  stopped-behind setup log stop after h =
+  pub stopped-remaining : (setup : Setup) (log : Log) (stop : PartlyAbsorbed) (after : Exporter) → StopsAt setup (with_row log next) rest stop after
+      → AbsorbsRemaining setup log part (marked rows marks) (Err (record { error = stop.error; rows = part.rows + 1 + stop.rows; samples = stop.samples })) after
+  stopped-remaining setup log stop after h =
       let inner : PartlyAbsorbed = record { error = stop.error; rows = suc stop.rows; samples = stop.samples } in
       let P : List MarkedRow → Type 0 = λ l. StopsAt setup log l inner after in
       let stops : StopsAt setup log (next ∷ rest) inner after = record { first = next ∷ h.first; next = h.next; rest = h.rest; all = ap (λ l. next ∷ l) h.all; number = ap suc h.number; within = h.within } in
       let lower : part.rows + 1 + stop.rows ≡ part.rows + suc stop.rows = omega arith in
       let none : stop.samples ≡ 0 + stop.samples = omega arith in (
         inner,
-        subst P (sym all-behind) stops,
+        subst P (sym all-remaining) stops,
         ap (λ k. record { error = stop.error; rows = k; samples = stop.samples }) lower
             ∙ ap (λ k. record { error = stop.error; rows = part.rows + suc stop.rows; samples = k }) none,
       )
 
 -- ---- how rows describe names
 
-told-push : (rows : List RowParts) (row : RowParts) (told : Legend) → told_by_all (rows ++ row ∷ []) told ≡ told_by row (told_by_all rows told)
-told-push [] row told = refl
-told-push (r ∷ rows) row told = told-push rows row (told_by r told)
+keyed-push : (rows : List RowParts) (row : RowParts) (keyed : Legend) → legend_by_rows (rows ++ row ∷ []) keyed ≡ legend_by_row row (legend_by_rows rows keyed)
+keyed-push [] row keyed = refl
+keyed-push (r ∷ rows) row keyed = keyed-push rows row (legend_by_row r keyed)
 
 -- the descriptions are the same if those before are
-told-same : (row : RowParts) (a b : Legend) → SameLegend a b → SameLegend (told_by row a) (told_by row b)
-told-same (s, unit, None, value) a b same = same
-told-same (s, unit, Some text, value) a b same = λ k n. ap (λ (d : Description). cond (kind_eq s.kind k && bytes_eq s.key.name n) (described_again unit text d) d) (same k n)
+keyed-same : (row : RowParts) (a b : Legend) → SameLegend a b → SameLegend (legend_by_row row a) (legend_by_row row b)
+keyed-same (s, unit, None, value) a b same = same
+keyed-same (s, unit, Some text, value) a b same = λ k n. ap (λ (d : Description). cond (kind_eq s.kind k && bytes_eq s.key.name n) (described_again unit text d) d) (same k n)
 
 -- one row more
-pub told-more : (items rows : List RowParts) (i : ℕ) (row : RowParts) (first before after : Legend) → items ≡ rows → i < length items → row ≡ get_or items i row
-    → SameLegend before (told_by_all (take i rows) first) → SameLegend after (told_by row before) → SameLegend after (told_by_all (take (i + 1) rows) first)
-told-more items rows i row first before after same small at was now k n =
+pub keyed-more : (items rows : List RowParts) (i : ℕ) (row : RowParts) (first before after : Legend) → items ≡ rows → i < length items → row ≡ get_or items i row
+    → SameLegend before (legend_by_rows (take i rows) first) → SameLegend after (legend_by_row row before) → SameLegend after (legend_by_rows (take (i + 1) rows) first)
+keyed-more items rows i row first before after same small at was now k n =
     let S : List RowParts → Type 0 = λ l. i < length l in
     let G : List RowParts → Type 0 = λ l. row ≡ get_or l i row in
-    let more : told_by row (told_by_all (take i rows) first) ≡ told_by_all (take (i + 1) rows) first = sym (ap (λ l. told_by_all l first) (taken rows i row (subst S same small) (subst G same at)) ∙ told-push (take i rows) row first) in
-    now k n ∙ told-same row before (told_by_all (take i rows) first) was k n ∙ ap (λ (t : Legend). t k n) more
+    let more : legend_by_row row (legend_by_rows (take i rows) first) ≡ legend_by_rows (take (i + 1) rows) first = sym (ap (λ l. legend_by_rows l first) (taken rows i row (subst S same small) (subst G same at)) ∙ keyed-push (take i rows) row first) in
+    now k n ∙ keyed-same row before (legend_by_rows (take i rows) first) was k n ∙ ap (λ (t : Legend). t k n) more
 
 -- the same of several rows
-told-all-same : (rows : List RowParts) (a b : Legend) → SameLegend a b → SameLegend (told_by_all rows a) (told_by_all rows b)
-told-all-same [] a b same = same
-told-all-same (row ∷ rows) a b same = told-all-same rows (told_by row a) (told_by row b) (told-same row a b same)
+keyed-all-same : (rows : List RowParts) (a b : Legend) → SameLegend a b → SameLegend (legend_by_rows rows a) (legend_by_rows rows b)
+keyed-all-same [] a b same = same
+keyed-all-same (row ∷ rows) a b same = keyed-all-same rows (legend_by_row row a) (legend_by_row row b) (keyed-same row a b same)
 
 -- the rows after the first ones, after the first of them
-pub told-behind : (rows : List RowParts) (i : ℕ) (row : RowParts) (first before after : Legend) → i < length rows → row ≡ get_or rows i row
-    → SameLegend before (told_by row first) → SameLegend after (told_by_all (drop (i + 1) rows) before) → SameLegend after (told_by_all (drop i rows) first)
-told-behind rows i row first before after small at was now k n =
+pub keyed-remaining : (rows : List RowParts) (i : ℕ) (row : RowParts) (first before after : Legend) → i < length rows → row ≡ get_or rows i row
+    → SameLegend before (legend_by_row row first) → SameLegend after (legend_by_rows (drop (i + 1) rows) before) → SameLegend after (legend_by_rows (drop i rows) first)
+keyed-remaining rows i row first before after small at was now k n =
     let split : drop i rows ≡ row ∷ drop (i + 1) rows =
     drop-cons rows i row small ∙ ap (λ x. x ∷ drop (suc i) rows) (sym at) ∙ ap (λ m. row ∷ drop m rows) (sym (add-one i)) in
-    now k n ∙ told-all-same (drop (i + 1) rows) before (told_by row first) was k n ∙ ap (λ l. told_by_all l first k n) (sym split)
+    now k n ∙ keyed-all-same (drop (i + 1) rows) before (legend_by_row row first) was k n ∙ ap (λ l. legend_by_rows l first k n) (sym split)
 
 -- all rows
-pub told-end : (items rows : List RowParts) (i : ℕ) (first after : Legend) → items ≡ rows → length items ≤ i → SameLegend after (told_by_all (take i rows) first) → SameLegend after (told_by_all rows first)
-told-end items rows i first after same end told k n =
+pub keyed-end : (items rows : List RowParts) (i : ℕ) (first after : Legend) → items ≡ rows → length items ≤ i → SameLegend after (legend_by_rows (take i rows) first) → SameLegend after (legend_by_rows rows first)
+keyed-end items rows i first after same end keyed k n =
     let S : List RowParts → Type 0 = λ l. length l ≤ i in
-    told k n ∙ ap (λ l. told_by_all l first k n) (take_all i rows (subst S same end))
+    keyed k n ∙ ap (λ l. legend_by_rows l first k n) (take_all i rows (subst S same end))
 
 -- what holds anyway holds if the answer is Ok
 pub on-ok : {T E : Type 0} (r : Result T E) (P : Type 0) → P → OnOk r P

@@ -27,9 +27,9 @@ noted f g name bs unit text x n e b u t =
         ap (λ v. record { unit = v; text = Some x.text }) unit_is ∙ ap (λ v. record { unit = option_or unit (description_of (f n)).unit; text = Some v }) t
 
 -- a description that repeats that of a name
-pub told-again : (f : List ℕ → Description) (name : List ℕ) (unit : Option Measure) (text n : List ℕ) →
+pub keyed-again : (f : List ℕ → Description) (name : List ℕ) (unit : Option Measure) (text n : List ℕ) →
     described_again unit text (f name) ≡ f name → f n ≡ cond (bytes_eq name n) (described_again unit text (f n)) (f n)
-told-again f name unit text n same = by_test (bytes_eq name n) refl
+keyed-again f name unit text n same = by_test (bytes_eq name n) refl
   where
     by_test : (q : Bool) → bytes_eq name n ≡ q → f n ≡ cond q (described_again unit text (f n)) (f n)
     by_test false h = refl

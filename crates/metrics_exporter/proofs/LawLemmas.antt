@@ -33,8 +33,8 @@ module _ {K : Type 0} (R : K → K → Ordering) (total : IsTotalOrder R) where
   cases : (x : K) (xs : List K) (s : K) → Contains (x ∷ xs) s → (x ≡ s) ⊎ Contains xs s
   cases x xs s (k, small, is) = split x xs s k small is
 
-  behind : (x : K) (xs : List K) (s : K) → IsStrictlySortedBy R (x ∷ xs) → Contains xs s → R x s ≡ Less
-  behind x xs s up (k, small, is) = among x xs s k small is (sorted_head R x xs up)
+  remaining : (x : K) (xs : List K) (s : K) → IsStrictlySortedBy R (x ∷ xs) → Contains xs s → R x s ≡ Less
+  remaining x xs s up (k, small, is) = among x xs s k small is (sorted_head R x xs up)
 
   first : (x : K) (xs : List K) → Contains (x ∷ xs) x
   first x xs = (zero, omega arith, refl)
@@ -47,13 +47,13 @@ module _ {K : Type 0} (R : K → K → Ordering) (total : IsTotalOrder R) where
     | inl e ↦ sym e
     | inr d ↦ elim (cases x xs y g) [
       | inl e ↦ e
-      | inr c ↦ absurd (never x (total.trans x y x (behind x xs y up c) (behind y ys x vp d)))
+      | inr c ↦ absurd (never x (total.trans x y x (remaining x xs y up c) (remaining y ys x vp d)))
     ]
   ]
 
   tails : (x : K) (xs ys : List K) → IsStrictlySortedBy R (x ∷ xs) → (s : K) → Contains xs s → Contains (x ∷ ys) s → Contains ys s
   tails x xs ys up s h g = elim (cases x ys s g) [
-    | inl e ↦ absurd (never x (ap (R x) e ∙ behind x xs s up h))
+    | inl e ↦ absurd (never x (ap (R x) e ∙ remaining x xs s up h))
     | inr c ↦ c
   ]
 

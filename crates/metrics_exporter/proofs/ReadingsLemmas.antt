@@ -17,30 +17,30 @@ use Rattle.metrics_registry.specs.Held.{held}
 use Rattle.metrics_exporter.specs.Exporting.{Reading, count, level, samples, Cell, Cells, IsHeld, IsHeldNumber, HoldsSome}
 use Rattle.metrics_exporter.specs.Kept.{SeriesRegistry, cells_of}
 use Rattle.metrics_exporter.specs.Gathering.{series_at, cell_in}
-use Rattle.metrics_exporter.specs.Readings.{Told, told_in, reading_in, AreReadings}
+use Rattle.metrics_exporter.specs.Readings.{KeyedReading, keyed_in, reading_in, AreReadings}
 use Rattle.metrics_exporter.proofs.SortedLemmas.{flips, distinct-all, from-all, in-all, none-distinct}
 
-abbrev firsts : List Told → List SeriesKey
-firsts told = map (λ t. t.0) told
+abbrev firsts : List KeyedReading → List SeriesKey
+firsts keyed = map (λ t. t.0) keyed
 
-firsts-in : {C : Type 0} (kind : MetricKind) (read : C → Reading) (es : List (KeyParts × Counted C)) → firsts (told_in kind read es) ≡ map (λ e. series_at kind e.0) es
+firsts-in : {C : Type 0} (kind : MetricKind) (read : C → Reading) (es : List (KeyParts × Counted C)) → firsts (keyed_in kind read es) ≡ map (λ e. series_at kind e.0) es
 firsts-in kind read [] = refl
 firsts-in kind read (e ∷ es) = ap (λ l. series_at kind e.0 ∷ l) (firsts-in kind read es)
 
-each-append : (P : Told → Type 0) (xs ys : List Told) → AllByRecursion P xs → AllByRecursion P ys → AllByRecursion P (xs ++ ys)
+each-append : (P : KeyedReading → Type 0) (xs ys : List KeyedReading) → AllByRecursion P xs → AllByRecursion P ys → AllByRecursion P (xs ++ ys)
 each-append P [] ys h g = g
 each-append P (x ∷ xs) ys h g = (h.0, each-append P xs ys h.1 g)
 
-each-at : (P : Told → Type 0) (xs : List Told) → AllByRecursion P xs → (t : Told) (k : ℕ) → k < length xs → get_or xs k t ≡ t → P t
+each-at : (P : KeyedReading → Type 0) (xs : List KeyedReading) → AllByRecursion P xs → (t : KeyedReading) (k : ℕ) → k < length xs → get_or xs k t ≡ t → P t
 each-at P [] h t k small is = absurd (omega (arith, small))
 each-at P (x ∷ xs) h t zero small is = subst P is h.0
 each-at P (x ∷ xs) h t (suc k) small is = each-at P xs h.1 t k (omega (arith, small)) is
 
-each-from : (P : Told → Type 0) (xs : List Told) → ((t : Told) → Contains xs t → P t) → AllByRecursion P xs
+each-from : (P : KeyedReading → Type 0) (xs : List KeyedReading) → ((t : KeyedReading) → Contains xs t → P t) → AllByRecursion P xs
 each-from P [] h = tt
 each-from P (x ∷ xs) h = (h x (0, omega arith, refl), each-from P xs (λ t there. h t (suc there.0, omega (arith, there.1), there.2)))
 
-each-moved : (P : Told → Type 0) (xs ys : List Told) → IsPermutation xs ys → AllByRecursion P xs → AllByRecursion P ys
+each-moved : (P : KeyedReading → Type 0) (xs ys : List KeyedReading) → IsPermutation xs ys → AllByRecursion P xs → AllByRecursion P ys
 each-moved P xs ys moved h = each-from P ys (λ t there. let k = Contains-permutation ys xs t (IsPermutation-sym _ _ moved) there in each-at P xs h t k.0 k.1 k.2)
 
 turned : (a b : KeyParts) → key_eq a b ≡ false → key_eq b a ≡ false
@@ -64,30 +64,30 @@ held-each (x ∷ es) once = (
 )
 
 module _ (r : SeriesRegistry) where
-  abbrev IsRead : Told → Type 0
+  abbrev IsRead : KeyedReading → Type 0
   IsRead t = reading_in (cells_of r) t.0 ≡ Some t.1
 
-  told-each : {C : Type 0} (kind : MetricKind) (read : C → Reading) (all : List (KeyParts × Counted C))
+  keyed-each : {C : Type 0} (kind : MetricKind) (read : C → Reading) (all : List (KeyParts × Counted C))
       → ((k : KeyParts) → reading_in (cells_of r) (series_at kind k) ≡ option_map (λ (c : Cell). c.reading) (option_map (cell_in read) (held key_eq all k)))
-      → (es : List (KeyParts × Counted C)) → AllByRecursion (λ e. held key_eq all e.0 ≡ Some e.1) es → AllByRecursion IsRead (told_in kind read es)
-  told-each kind read all at [] h = tt
-  told-each kind read all at (e ∷ es) h = (at e.0 ∙ ap (λ o. option_map (λ (c : Cell). c.reading) (option_map (cell_in read) o)) h.0, told-each kind read all at es h.1)
+      → (es : List (KeyParts × Counted C)) → AllByRecursion (λ e. held key_eq all e.0 ≡ Some e.1) es → AllByRecursion IsRead (keyed_in kind read es)
+  keyed-each kind read all at [] h = tt
+  keyed-each kind read all at (e ∷ es) h = (at e.0 ∙ ap (λ o. option_map (λ (c : Cell). c.reading) (option_map (cell_in read) o)) h.0, keyed-each kind read all at es h.1)
 
-  abbrev cs : List Told
-  cs = told_in Counter count r.counters
+  abbrev cs : List KeyedReading
+  cs = keyed_in Counter count r.counters
 
-  abbrev gs : List Told
-  gs = told_in Gauge level r.gauges
+  abbrev gs : List KeyedReading
+  gs = keyed_in Gauge level r.gauges
 
-  abbrev hs : List Told
-  hs = told_in Histogram samples r.histograms
+  abbrev hs : List KeyedReading
+  hs = keyed_in Histogram samples r.histograms
 
   abbrev series_here : List SeriesKey
   series_here = map (λ e. series_at Counter e.0) r.counters ++ map (λ e. series_at Gauge e.0) r.gauges ++ map (λ e. series_at Histogram e.0) r.histograms
 
   firsts-all : firsts (cs ++ gs ++ hs) ≡ series_here
   firsts-all =
-      let f : Told → SeriesKey = λ t. t.0 in
+      let f : KeyedReading → SeriesKey = λ t. t.0 in
       map-append f (cs ++ gs) hs ∙ ap (λ l. l ++ firsts hs) (map-append f cs gs)
       ∙ ap (λ l. (l ++ firsts gs) ++ firsts hs) (firsts-in Counter count r.counters)
       ∙ ap (λ l. (map (λ e. series_at Counter e.0) r.counters ++ l) ++ firsts hs) (firsts-in Gauge level r.gauges)
@@ -96,24 +96,24 @@ module _ (r : SeriesRegistry) where
   each-read : IsDistinct key_eq (keys_of r.counters) → IsDistinct key_eq (keys_of r.gauges) → IsDistinct key_eq (keys_of r.histograms) → AllByRecursion IsRead (cs ++ gs ++ hs)
   each-read c g h =
       each-append IsRead (cs ++ gs) hs
-      (each-append IsRead cs gs (told-each Counter count r.counters (λ k. refl) r.counters (held-each r.counters c)) (told-each Gauge level r.gauges (λ k. refl) r.gauges (held-each r.gauges g)))
-      (told-each Histogram samples r.histograms (λ k. refl) r.histograms (held-each r.histograms h))
+      (each-append IsRead cs gs (keyed-each Counter count r.counters (λ k. refl) r.counters (held-each r.counters c)) (keyed-each Gauge level r.gauges (λ k. refl) r.gauges (held-each r.gauges g)))
+      (keyed-each Histogram samples r.histograms (λ k. refl) r.histograms (held-each r.histograms h))
 
   -- what is gathered of all shards
-  pub told-all : (told : List Told) → IsPermutation told (cs ++ gs ++ hs)
-      → IsDistinct key_eq (keys_of r.counters) → IsDistinct key_eq (keys_of r.gauges) → IsDistinct key_eq (keys_of r.histograms) → AreReadings (cells_of r) told
-  told-all told walked c g h =
-      let f : Told → SeriesKey = λ t. t.0 in
-      let P : List SeriesKey → Type 0 = IsPermutation (firsts told) in
-      let there : IsPermutation (firsts told) series_here = subst P firsts-all (IsPermutation-map f _ _ walked) in
-      let back : IsPermutation series_here (firsts told) = IsPermutation-sym _ _ there in
+  pub keyed-all : (keyed : List KeyedReading) → IsPermutation keyed (cs ++ gs ++ hs)
+      → IsDistinct key_eq (keys_of r.counters) → IsDistinct key_eq (keys_of r.gauges) → IsDistinct key_eq (keys_of r.histograms) → AreReadings (cells_of r) keyed
+  keyed-all keyed walked c g h =
+      let f : KeyedReading → SeriesKey = λ t. t.0 in
+      let P : List SeriesKey → Type 0 = IsPermutation (firsts keyed) in
+      let there : IsPermutation (firsts keyed) series_here = subst P firsts-all (IsPermutation-map f _ _ walked) in
+      let back : IsPermutation series_here (firsts keyed) = IsPermutation-sym _ _ there in
       record {
-        once = IsDistinct-IsPermutation series_key_eq flips series_here (firsts told) back (distinct-all r c g h);
+        once = IsDistinct-IsPermutation series_key_eq flips series_here (firsts keyed) back (distinct-all r c g h);
         held = λ s. (
-          (λ is. from-all r s (Contains-permutation (firsts told) series_here s there is)),
-          (λ some. Contains-permutation series_here (firsts told) s back (in-all r s.kind s.key some)),
+          (λ is. from-all r s (Contains-permutation (firsts keyed) series_here s there is)),
+          (λ some. Contains-permutation series_here (firsts keyed) s back (in-all r s.kind s.key some)),
         );
-        readings = each-moved IsRead _ told (IsPermutation-sym _ _ walked) (each-read c g h);
+        readings = each-moved IsRead _ keyed (IsPermutation-sym _ _ walked) (each-read c g h);
       }
 
 -- if no series is held there is none to read

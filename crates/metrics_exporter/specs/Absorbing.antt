@@ -107,22 +107,22 @@ Absorbs setup log rows (Err stop) after = StopsAt setup log rows stop after
 -- ---- going on
 
 -- a value without its first n samples
-abbrev pub samples_behind : ℕ → DebugValue → DebugValue
-samples_behind n (value.Counter c) = value.Counter c
-samples_behind n (value.Gauge g) = value.Gauge g
-samples_behind n (value.Histogram xs) = value.Histogram (drop n xs)
+abbrev pub remaining_samples : ℕ → DebugValue → DebugValue
+remaining_samples n (value.Counter c) = value.Counter c
+remaining_samples n (value.Gauge g) = value.Gauge g
+remaining_samples n (value.Histogram xs) = value.Histogram (drop n xs)
 
 -- a row without its first n samples
-abbrev pub row_behind : ℕ → MarkedRow → MarkedRow
-row_behind n m = record { row = (m.row.0, m.row.1, m.row.2, samples_behind n m.row.3); active = m.active }
+abbrev pub remaining_row : ℕ → MarkedRow → MarkedRow
+remaining_row n m = record { row = (m.row.0, m.row.1, m.row.2, remaining_samples n m.row.3); active = m.active }
 
-abbrev pub first_behind : ℕ → List MarkedRow → List MarkedRow
-first_behind n [] = []
-first_behind n (m ∷ rows) = row_behind n m ∷ rows
+abbrev pub first_remaining : ℕ → List MarkedRow → List MarkedRow
+first_remaining n [] = []
+first_remaining n (m ∷ rows) = remaining_row n m ∷ rows
 
 -- what is left of the rows after a part that was absorbed
-abbrev pub behind : PartlyAbsorbed → List MarkedRow → List MarkedRow
-behind part rows = first_behind part.samples (drop part.rows rows)
+abbrev pub remaining : PartlyAbsorbed → List MarkedRow → List MarkedRow
+remaining part rows = first_remaining part.samples (drop part.rows rows)
 
 -- the samples of the row in which it stops that were recorded before: n of the first row, and none of another one
 abbrev pub samples_before : ℕ → ℕ → ℕ
@@ -130,10 +130,10 @@ samples_before zero n = n
 samples_before (suc row) n = 0
 
 -- a stop in what was left after a part, counted over all rows
-abbrev pub behind_part : PartlyAbsorbed → PartlyAbsorbed → PartlyAbsorbed
-behind_part part stop = record { error = stop.error; rows = part.rows + stop.rows; samples = samples_before stop.rows part.samples + stop.samples }
+abbrev pub part_of_whole : PartlyAbsorbed → PartlyAbsorbed → PartlyAbsorbed
+part_of_whole part stop = record { error = stop.error; rows = part.rows + stop.rows; samples = samples_before stop.rows part.samples + stop.samples }
 
 -- all rows after a part were absorbed, or the first n of them
-abbrev pub AbsorbsBehind : Setup → Log → PartlyAbsorbed → List MarkedRow → Result (Unit {0}) PartlyAbsorbed → Exporter → Type 0
-AbsorbsBehind setup log part rows (Ok done) after = IsAfter setup (with_rows log (behind part rows)) after
-AbsorbsBehind setup log part rows (Err stop) after = (inner : PartlyAbsorbed) × StopsAt setup log (behind part rows) inner after × (stop ≡ behind_part part inner)
+abbrev pub AbsorbsRemaining : Setup → Log → PartlyAbsorbed → List MarkedRow → Result (Unit {0}) PartlyAbsorbed → Exporter → Type 0
+AbsorbsRemaining setup log part rows (Ok done) after = IsAfter setup (with_rows log (remaining part rows)) after
+AbsorbsRemaining setup log part rows (Err stop) after = (inner : PartlyAbsorbed) × StopsAt setup log (remaining part rows) inner after × (stop ≡ part_of_whole part inner)

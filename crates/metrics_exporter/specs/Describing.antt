@@ -26,25 +26,25 @@ abbrev pub no_legend : Legend
 no_legend kind name = no_description
 
 -- a name is described again: a text replaces the old one, and a unit only if there is a new one
-abbrev pub told_again : MetricKind → List ℕ → Option Measure → List ℕ → Legend → Legend
-told_again kind name unit text told k n = if kind_eq kind k && bytes_eq name n then described_again unit text (told k n) else told k n
+abbrev pub legend_described : MetricKind → List ℕ → Option Measure → List ℕ → Legend → Legend
+legend_described kind name unit text keyed k n = if kind_eq kind k && bytes_eq name n then described_again unit text (keyed k n) else keyed k n
 
 abbrev pub DescribesName : MetricKind → List ℕ → Option Measure → List ℕ → Legend → Legend → Type 0
-DescribesName kind name unit text old new = (k : MetricKind) (n : List ℕ) → new k n ≡ told_again kind name unit text old k n
+DescribesName kind name unit text old new = (k : MetricKind) (n : List ℕ) → new k n ≡ legend_described kind name unit text old k n
 
 -- ---- the rows of a snapshot
 
 -- a row that has a text describes its key's name by it, with its unit
-abbrev pub told_with : SeriesKey → Option Measure → Option (List ℕ) → Legend → Legend
-told_with s unit None told = told
-told_with s unit (Some text) told = told_again s.kind s.key.name unit text told
+abbrev pub legend_with : SeriesKey → Option Measure → Option (List ℕ) → Legend → Legend
+legend_with s unit None keyed = keyed
+legend_with s unit (Some text) keyed = legend_described s.kind s.key.name unit text keyed
 
-abbrev pub told_by : RowParts → Legend → Legend
-told_by row told = told_with row.0 row.1 row.2 told
+abbrev pub legend_by_row : RowParts → Legend → Legend
+legend_by_row row keyed = legend_with row.0 row.1 row.2 keyed
 
-abbrev pub told_by_all : List RowParts → Legend → Legend
-told_by_all [] told = told
-told_by_all (row ∷ rows) told = told_by_all rows (told_by row told)
+abbrev pub legend_by_rows : List RowParts → Legend → Legend
+legend_by_rows [] keyed = keyed
+legend_by_rows (row ∷ rows) keyed = legend_by_rows rows (legend_by_row row keyed)
 
 -- the same of each kind and name
 abbrev pub SameLegend : Legend → Legend → Type 0

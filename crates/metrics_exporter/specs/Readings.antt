@@ -13,8 +13,8 @@ use Rattle.metrics_exporter.specs.Exporting.{Reading, count, level, samples, Cel
 use Rattle.metrics_exporter.specs.Gathering.{series_at}
 
 -- a series and what it has
-abbrev pub Told : Type 0
-Told = SeriesKey × Reading
+abbrev pub KeyedReading : Type 0
+KeyedReading = SeriesKey × Reading
 
 abbrev pub reading_shown : ReadingRef → Reading
 reading_shown (shown.Count n) = count n
@@ -28,31 +28,31 @@ kind_shown (shown.Level n) = Gauge
 kind_shown (shown.Samples h) = Histogram
 
 -- what a reference shows
-abbrev pub told_of : SeriesReading → Told
-told_of r = (series_at (kind_shown r.reading) r.key.now, reading_shown r.reading)
+abbrev pub keyed_reading : SeriesReading → KeyedReading
+keyed_reading r = (series_at (kind_shown r.reading) r.key.now, reading_shown r.reading)
 
-abbrev pub all_told : List SeriesReading → List Told
-all_told rs = map told_of rs
+abbrev pub keyed_readings : List SeriesReading → List KeyedReading
+keyed_readings rs = map keyed_reading rs
 
 -- the series of one kind's entries, with what they have
-abbrev pub told_in : {C : Type 0} → MetricKind → (C → Reading) → List (KeyParts × Counted C) → List Told
-told_in kind read es = map (λ e. (series_at kind e.0, read e.1.inner)) es
+abbrev pub keyed_in : {C : Type 0} → MetricKind → (C → Reading) → List (KeyParts × Counted C) → List KeyedReading
+keyed_in kind read es = map (λ e. (series_at kind e.0, read e.1.inner)) es
 
 abbrev pub reading_in : Cells → SeriesKey → Option Reading
 reading_in cells s = option_map (λ c. c.reading) (cells s)
 
 -- each held series once, in some order, with what it has
-pub record AreReadings (cells : Cells) (told : List Told) : Type 0 where
-  pub once : IsDistinct series_key_eq (map (λ t. t.0) told)
-  pub held : (s : SeriesKey) → Contains (map (λ t. t.0) told) s ↔ IsHeld cells s
-  pub readings : AllByRecursion (λ t. reading_in cells t.0 ≡ Some t.1) told
+pub record AreReadings (cells : Cells) (keyed : List KeyedReading) : Type 0 where
+  pub once : IsDistinct series_key_eq (map (λ t. t.0) keyed)
+  pub held : (s : SeriesKey) → Contains (map (λ t. t.0) keyed) s ↔ IsHeld cells s
+  pub readings : AllByRecursion (λ t. reading_in cells t.0 ≡ Some t.1) keyed
 
 -- the cells that a list of series reports, the first if one comes again
-abbrev pub cells_told : List Told → Cells
-cells_told told s = option_map (λ r. record { reading = r; generation = 0 }) (lookup (series_key_eq s) told)
+abbrev pub cells_of_readings : List KeyedReading → Cells
+cells_of_readings keyed s = option_map (λ r. record { reading = r; generation = 0 }) (lookup (series_key_eq s) keyed)
 
 -- of series with what they have each series once
-pub record AreOnce (told kept : List Told) : Type 0 where
+pub record AreOnce (keyed kept : List KeyedReading) : Type 0 where
   pub once : IsDistinct series_key_eq (map (λ t. t.0) kept)
-  pub among : (t : Told) → Contains kept t → Contains told t
-  pub all : (s : SeriesKey) → Contains (map (λ t. t.0) told) s → Contains (map (λ t. t.0) kept) s
+  pub among : (t : KeyedReading) → Contains kept t → Contains keyed t
+  pub all : (s : SeriesKey) → Contains (map (λ t. t.0) keyed) s → Contains (map (λ t. t.0) kept) s

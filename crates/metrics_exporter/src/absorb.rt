@@ -6,8 +6,8 @@ ghost use Rattle.metrics.specs.declared.handles.Update.TheVariants.{Record as Re
 ghost use Rattle.metrics_exporter.specs.Exporting.{Setup, Log};
 ghost use Rattle.metrics_exporter.specs.Kept.{IsAfter};
 ghost use Rattle.metrics_exporter.specs.Absorbing.{marked, updates_of, MakesUpdates, AbsorbsRow, Absorbs};
-ghost use Rattle.metrics_exporter.specs.Absorbing.{samples_behind, row_behind, AbsorbsBehind};
-ghost use Rattle.metrics_exporter.specs.Describing.{SameLegend, told_with, told_by, told_by_all};
+ghost use Rattle.metrics_exporter.specs.Absorbing.{remaining_samples, remaining_row, AbsorbsRemaining};
+ghost use Rattle.metrics_exporter.specs.Describing.{SameLegend, legend_with, legend_by_row, legend_by_rows};
 
 use crate::exporter::Exporter;
 use metrics::{CompositeKey, DebugValue, Error, Key, Row, SharedText, Snapshot, Unit, Update};
@@ -56,7 +56,7 @@ impl Exporter {
         ensures absorbs { (setup : Setup) (log : Log) → IsAfter setup log self.old
             → Absorbs setup log (marked snapshot.now.rows snapshot.now.active) result self.new }
         ensures tells { OnOk result (SameLegend (described self.new)
-            (told_by_all snapshot.now.rows (described self.old))) }
+            (legend_by_rows snapshot.now.rows (described self.old))) }
         ensures shards { self.new.registry.count ≡ self.old.registry.count }
     {
         absorb_rows(self, snapshot.as_slice(), snapshot.activity())
@@ -72,12 +72,12 @@ impl Exporter {
         part: PartlyAbsorbed,
     ) -> Result<(), PartlyAbsorbed>
         ensures absorbs { (setup : Setup) (log : Log) → IsAfter setup log self.old
-            → AbsorbsBehind setup log part (marked snapshot.now.rows snapshot.now.active) result self.new }
+            → AbsorbsRemaining setup log part (marked snapshot.now.rows snapshot.now.active) result self.new }
         ensures tells { OnOk result (SameLegend (described self.new)
-            (told_by_all (drop part.rows snapshot.now.rows) (described self.old))) }
+            (legend_by_rows (drop part.rows snapshot.now.rows) (described self.old))) }
         ensures shards { self.new.registry.count ≡ self.old.registry.count }
     {
-        absorb_behind(self, snapshot.as_slice(), snapshot.activity(), part)
+        absorb_remaining(self, snapshot.as_slice(), snapshot.activity(), part)
     }
 }
 
@@ -90,7 +90,7 @@ fn describe_row(
     unit: Option<Unit>,
     text: &Option<SharedText>,
 ) -> Result<(), Error>
-    ensures tells { OnOk result (SameLegend (described on.new) (told_with series.now unit text.now (described on.old))) }
+    ensures tells { OnOk result (SameLegend (described on.new) (legend_with series.now unit text.now (described on.old))) }
     ensures calls { (setup : Setup) (log : Log) → IsAfter setup log on.old → IsAfter setup log on.new }
     ensures err { IfErr result (λ e. (e ≡ OutOfMemory) × IsSome text.now) }
     ensures shards { on.new.registry.count ≡ on.old.registry.count }
@@ -126,8 +126,8 @@ fn absorb_row(
     samples: usize,
 ) -> Result<(), (Error, usize)>
     ensures makes { (setup : Setup) (log : Log) → IsAfter setup log on.old
-        → AbsorbsRow setup log (row_behind samples (record { row = row.now; active = active })) result on.new }
-    ensures tells { OnOk result (SameLegend (described on.new) (told_by row.now (described on.old))) }
+        → AbsorbsRow setup log (remaining_row samples (record { row = row.now; active = active })) result on.new }
+    ensures tells { OnOk result (SameLegend (described on.new) (legend_by_row row.now (described on.old))) }
     ensures shards { on.new.registry.count ≡ on.old.registry.count }
     ensures within { IfErr result (λ e. samples + e.1 ≤ usize.MAX) }
 {
@@ -142,7 +142,7 @@ fn absorb_row(
 fn absorb_rows(on: &mut Exporter, rows: &[Row], activity: &[bool]) -> Result<(), PartlyAbsorbed>
     ensures absorbs { (setup : Setup) (log : Log) → IsAfter setup log on.old
         → Absorbs setup log (marked rows.now activity.now) result on.new }
-    ensures tells { OnOk result (SameLegend (described on.new) (told_by_all rows.now (described on.old))) }
+    ensures tells { OnOk result (SameLegend (described on.new) (legend_by_rows rows.now (described on.old))) }
     ensures shards { on.new.registry.count ≡ on.old.registry.count }
     ensures within { IfErr result (λ stop. stop.rows < length rows.now) }
 {
@@ -159,16 +159,16 @@ fn absorb_rows(on: &mut Exporter, rows: &[Row], activity: &[bool]) -> Result<(),
 }
 
 /// Absorbs the rows after a part, in order.
-fn absorb_behind(
+fn absorb_remaining(
     on: &mut Exporter,
     rows: &[Row],
     activity: &[bool],
     part: PartlyAbsorbed,
 ) -> Result<(), PartlyAbsorbed>
     ensures absorbs { (setup : Setup) (log : Log) → IsAfter setup log on.old
-        → AbsorbsBehind setup log part (marked rows.now activity.now) result on.new }
+        → AbsorbsRemaining setup log part (marked rows.now activity.now) result on.new }
     ensures tells { OnOk result (SameLegend (described on.new)
-        (told_by_all (drop part.rows rows.now) (described on.old))) }
+        (legend_by_rows (drop part.rows rows.now) (described on.old))) }
     ensures shards { on.new.registry.count ≡ on.old.registry.count }
 {
     let first = part.rows;
@@ -233,7 +233,7 @@ fn absorb_value(
     samples: usize,
 ) -> Result<(), (Error, usize)>
     ensures makes { (setup : Setup) (log : Log) → IsAfter setup log on.old
-        → MakesUpdates setup log key.now (updates_of active (samples_behind samples value.now)) result on.new }
+        → MakesUpdates setup log key.now (updates_of active (remaining_samples samples value.now)) result on.new }
     ensures within { IfErr result (λ e. samples + e.1 ≤ usize.MAX) }
     ensures descriptions { described on.new ≡ described on.old }
     ensures shards { on.new.registry.count ≡ on.old.registry.count }

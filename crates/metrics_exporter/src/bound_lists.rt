@@ -127,7 +127,8 @@ impl Bounds {
         ensures bounds { IfOk result (λ v. AreSteps (λ b. b *ℤ factor) start count v.items) }
         ensures start { start <ℤ pos 1 → MatchResult result (λ v. ⊥) (λ e. e ≡ NotStart) }
         ensures factor { pos 0 <ℤ start → factor <ℤ pos 2 → MatchResult result (λ v. ⊥) (λ e. e ≡ NotFactor) }
-        ensures count { pos 0 <ℤ start → pos 1 <ℤ factor → count ≡ 0 → MatchResult result (λ v. ⊥) (λ e. e ≡ NotCount) }
+        ensures count { pos 0 <ℤ start → pos 1 <ℤ factor → count ≡ 0
+            → MatchResult result (λ v. ⊥) (λ e. e ≡ NotCount) }
         ensures err { pos 0 <ℤ start → pos 1 <ℤ factor → 0 < count
             → IfErr result (λ e. (e ≡ OutOfMemory) ⊎ ((e ≡ Past) × OneIsPast (λ b. b *ℤ factor) start count)) }
     {

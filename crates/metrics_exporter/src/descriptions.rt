@@ -79,7 +79,12 @@ impl Descriptions {
 }
 
 /// Returns whether a name has this text already, and this unit if there is one.
-fn is_told(names: &IndexMap<String, Described>, name: &str, unit: Option<Unit>, text: &str) -> bool
+fn is_described_so(
+    names: &IndexMap<String, Described>,
+    name: &str,
+    unit: Option<Unit>,
+    text: &str,
+) -> bool
     ensures { IsTrue result → described_again unit text.now (description_of (get_by_text names.now name.now))
         ≡ description_of (get_by_text names.now name.now) }
 {
@@ -105,7 +110,7 @@ fn describe_name(
         ≡ description_of (get_by_text names.old n)) }
     ensures memory { IfErr result (λ e. e ≡ OutOfMemory) }
 {
-    if is_told(names, name, unit, text) {
+    if is_described_so(names, name, unit, text) {
         return Ok(());
     }
     let text = Text::new(alloc, text)?;

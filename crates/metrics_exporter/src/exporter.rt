@@ -13,7 +13,7 @@ ghost use Rattle.metrics_exporter.specs.Exporting.{cells_after, series_of, Holds
 ghost use Rattle.metrics.specs.Book.{no_description};
 ghost use Rattle.metrics_exporter.specs.Describing.{DescribesName, described_by};
 ghost use Rattle.metrics_exporter.specs.ExporterText.{IsText};
-ghost use Rattle.metrics_exporter.specs.Readings.{AreReadings, all_told};
+ghost use Rattle.metrics_exporter.specs.Readings.{AreReadings, keyed_readings};
 
 use crate::bounds::Bounds;
 use crate::cells::CountedCells;
@@ -178,7 +178,7 @@ impl Exporter {
 
     /// Returns each held series once, by reference, with what it has, in no order of its own. It never fails if none is held.
     pub fn readings(&self) -> Result<Vec<SeriesReading<'_>>, Error>
-        ensures readings { MatchResult result (λ all. AreReadings (held_cells self.now) (all_told all.items))
+        ensures readings { MatchResult result (λ all. AreReadings (held_cells self.now) (keyed_readings all.items))
             (λ e. e ≡ OutOfMemory) }
         ensures refused { OnErr result (HoldsSome (held_cells self.now)) }
     {

@@ -4,7 +4,7 @@ ghost use Rattle.metrics_names.specs.declared.kind.MetricKind.TheVariants.{Count
 ghost use Rattle.metrics_names.specs.declared.kind.MetricKind.TheVariants.{Histogram as HistogramKind};
 ghost use Rattle.metrics.specs.declared.error.Error.TheVariants.{Memory as OutOfMemory};
 ghost use Rattle.metrics_exporter.specs.Exporting.{count, level, samples, HoldsSome};
-ghost use Rattle.metrics_exporter.specs.Readings.{all_told, told_in, kind_shown, AreReadings};
+ghost use Rattle.metrics_exporter.specs.Readings.{keyed_readings, keyed_in, kind_shown, AreReadings};
 ghost use Rattle.metrics_exporter.specs.Kept.{cells_of};
 
 use crate::cells::CountedCells;
@@ -46,17 +46,17 @@ pub struct SeriesReading<'a> {
 /// Adds the series of one kind at the end.
 fn gather<'a, C: KindCell>(
     cells: &'a Cells<Key, Counted<C>>,
-    told: Vec<SeriesReading<'a>>,
+    keyed: Vec<SeriesReading<'a>>,
 ) -> Result<Vec<SeriesReading<'a>>, AllocError>
     ensures { IfOk result
-        (λ all. all_told all.items ≡ all_told told.entry.items ++ told_in C.kind_held C.shows cells.now) }
+        (λ all. keyed_readings all.items ≡ keyed_readings keyed.entry.items ++ keyed_in C.kind_held C.shows cells.now) }
 {
-    let mut told = told;
+    let mut keyed = keyed;
     for (key, cell) in cells.iter() {
         let reading = cell.get_inner().reading();
-        told.push(SeriesReading { key, reading })?;
+        keyed.push(SeriesReading { key, reading })?;
     }
-    Ok(told)
+    Ok(keyed)
 }
 
 /// The held series with what they have, in the order of a walk over the shards.
@@ -64,16 +64,16 @@ fn gathered<'a>(
     alloc: Global,
     registry: &'a OwnedRegistry<Key, CountedCells>,
 ) -> Result<Vec<SeriesReading<'a>>, AllocError>
-    ensures { IfOk result (λ all. IsPermutation (all_told all.items) (told_in CounterKind count registry.now.counters
-        ++ told_in GaugeKind level registry.now.gauges ++ told_in HistogramKind samples registry.now.histograms)) }
+    ensures { IfOk result (λ all. IsPermutation (keyed_readings all.items) (keyed_in CounterKind count registry.now.counters
+        ++ keyed_in GaugeKind level registry.now.gauges ++ keyed_in HistogramKind samples registry.now.histograms)) }
 {
-    let mut told = Vec::new(alloc);
+    let mut keyed = Vec::new(alloc);
     for shard in registry.shards() {
-        told = gather(&shard.counters, told)?;
-        told = gather(&shard.gauges, told)?;
-        told = gather(&shard.histograms, told)?;
+        keyed = gather(&shard.counters, keyed)?;
+        keyed = gather(&shard.gauges, keyed)?;
+        keyed = gather(&shard.histograms, keyed)?;
     }
-    Ok(told)
+    Ok(keyed)
 }
 
 /// Returns each held series once, in some order, with what it has. If none is held it allocates nothing.
@@ -81,7 +81,7 @@ pub(crate) fn readings_of<'a>(
     alloc: Global,
     registry: &'a OwnedRegistry<Key, CountedCells>,
 ) -> Result<Vec<SeriesReading<'a>>, Error>
-    ensures readings { MatchResult result (λ all. AreReadings (cells_of registry.now) (all_told all.items))
+    ensures readings { MatchResult result (λ all. AreReadings (cells_of registry.now) (keyed_readings all.items))
         (λ e. e ≡ OutOfMemory) }
     ensures refused { OnErr result (HoldsSome (cells_of registry.now)) }
 {
@@ -89,6 +89,6 @@ pub(crate) fn readings_of<'a>(
     if held_number(registry) == 0 {
         return Ok(Vec::new(alloc));
     }
-    let told = gathered(alloc, registry)?;
-    Ok(told)
+    let keyed = gathered(alloc, registry)?;
+    Ok(keyed)
 }

@@ -8,7 +8,7 @@ use Rattle.std.proofs.lemmas.List.Elements.{All-map, All-contains, recursion_fro
 use Rattle.std.proofs.lemmas.List.Sorted.{All-permutation, IsPermutation-refl}
 use Rattle.metrics_names.specs.Names.{LabelParts, SeriesKey}
 use Rattle.metrics_exporter.specs.Exporting.{Cells, IsHeld, HoldsSome}
-use Rattle.metrics_exporter.specs.Readings.{Told, told_of, all_told, AreReadings, AreOnce}
+use Rattle.metrics_exporter.specs.Readings.{KeyedReading, keyed_reading, keyed_readings, AreReadings, AreOnce}
 use Rattle.metrics_exporter.specs.declared.readings.SeriesReading.{SeriesReading}
 use Rattle.metrics_prometheus.specs.declared.naming.Naming.{Naming}
 use Rattle.metrics_exporter.specs.Describing.{Legend}
@@ -23,27 +23,27 @@ each-row {display} P cells rows are f =
     (λ j d small. f (get_or are.keys j d) ((are.held (get_or are.keys j d)).0 (j, small, get_or_default are.keys j (get_or are.keys j d) d small)))))
 
 -- if the labels of all series have texts as values, those of the held series have
-pub holds-texts : (cells : Cells) (told : List Told) → AreReadings cells told → All HasTexts told → HoldsTexts cells
-holds-texts cells told are texts s held =
+pub holds-texts : (cells : Cells) (keyed : List KeyedReading) → AreReadings cells keyed → All HasTexts keyed → HoldsTexts cells
+holds-texts cells keyed are texts s held =
     let Q : LabelParts → Type 0 = λ l. IsUtf8 l.1 in
     let P : SeriesKey → Type 0 = λ k. All Q k.key.labels in
-    recursion_from_All Q s.key.labels (All-contains P (map (λ t. t.0) told) s (All-map P (λ t. t.0) told texts) ((are.held s).1 held))
+    recursion_from_All Q s.key.labels (All-contains P (map (λ t. t.0) keyed) s (All-map P (λ t. t.0) keyed texts) ((are.held s).1 held))
 
 -- the same of what is left of them
-pub kept-texts : (cells : Cells) (kept told : List Told) → AreReadings cells kept → AreOnce told kept → All HasTexts told → HoldsTexts cells
-kept-texts cells kept told are once texts s held =
+pub kept-texts : (cells : Cells) (kept keyed : List KeyedReading) → AreReadings cells kept → AreOnce keyed kept → All HasTexts keyed → HoldsTexts cells
+kept-texts cells kept keyed are once texts s held =
     let Q : LabelParts → Type 0 = λ l. IsUtf8 l.1 in
-    let r = unmapped (λ (t : Told). t.0) kept s ((are.held s).1 held) in
-    recursion_from_All Q s.key.labels (subst (λ (k : SeriesKey). All Q k.key.labels) r.2 (All-contains HasTexts told r.0 texts (once.among r.0 r.1)))
+    let r = unmapped (λ (t : KeyedReading). t.0) kept s ((are.held s).1 held) in
+    recursion_from_All Q s.key.labels (subst (λ (k : SeriesKey). All Q k.key.labels) r.2 (All-contains HasTexts keyed r.0 texts (once.among r.0 r.1)))
 
 -- one of these readings is of a series that is held
-pub some-read : {T E : Type 0} (cells : Cells) (series given : List SeriesReading) (r : Result T E) → given ≡ series → AreReadings cells (all_told series) → OnErr r (0 < length given) → OnErr r (HoldsSome cells)
+pub some-read : {T E : Type 0} (cells : Cells) (series given : List SeriesReading) (r : Result T E) → given ≡ series → AreReadings cells (keyed_readings series) → OnErr r (0 < length given) → OnErr r (HoldsSome cells)
 some-read cells series given (Ok t) same are h = tt
 some-read cells series given (Err e) same are h = first series are (subst (λ l. 0 < length l) same h)
   where
-    first : (series : List SeriesReading) → AreReadings cells (all_told series) → 0 < length series → HoldsSome cells
+    first : (series : List SeriesReading) → AreReadings cells (keyed_readings series) → 0 < length series → HoldsSome cells
     first [] are small = absurd (omega (arith, small))
-    first (s ∷ series) are small = ((told_of s).0, (are.held (told_of s).0).0 (0, omega arith, refl))
+    first (s ∷ series) are small = ((keyed_reading s).0, (are.held (keyed_reading s).0).0 (0, omega arith, refl))
 
 -- if there are no readings nothing is held, and that is its exposition
 pub none-given : {naming : Naming} {legend : Legend} (cells : Cells) → AreReadings cells [] → IsDescribed naming legend cells []

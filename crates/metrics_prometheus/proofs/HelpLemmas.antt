@@ -147,13 +147,13 @@ module _ (cells : Cells) (all : List Row) where
           (x, record { before = []; after = done; rows_are = refl; name = same; none_before = tt }, begins-here last x w xs new same up ups)
       by-name false e =
           let its = later e in
-          let (first, is, told) = rest e its in (
+          let (first, is, keyed) = rest e its in (
             first,
             first-later x done w.name first e is,
             in-front (name_at last x ++ map has (own_samples x)) (later_lines (Some x) xs) w.name first.help (own_samples w)
                 (each-append (NoHelp w.name) (name_at last x) (map has (own_samples x)) (name-no-help w.name last x e) (samples-no-help w.name (own_samples x)))
                 (λ s own there. no-sample cells all x w (each-in (AreBoth x) done w both its).1 s own (subst (λ l. Contains l s) (row-all last x (own_samples x)) there))
-                told,
+                keyed,
           )
 
   -- what follows a row, by whether it is left out
@@ -162,8 +162,8 @@ module _ (cells : Cells) (all : List Row) where
       → ((next : Option Row) → IsNew next w.name → Pairs AreBoth (written all next xs) → Contains (written all next xs) w → Helped (written all next xs) (later_lines next xs) w)
       → Helped (cond (is_some why) (written all last xs) (x ∷ written all (Some x) xs)) (row_at cells all why last x ++ later_lines (cond (is_some why) last (Some x)) xs) w
   step last x w xs (Some why) new up ups pairs has_w rest =
-      let (first, is, told) = rest last new pairs has_w in
-      (first, is, in-front (leaves_out x why ∷ []) (later_lines last xs) w.name first.help (own_samples w) (refl, tt) (λ s its there. in-none s there) told)
+      let (first, is, keyed) = rest last new pairs has_w in
+      (first, is, in-front (leaves_out x why ∷ []) (later_lines last xs) w.name first.help (own_samples w) (refl, tt) (λ s its there. in-none s there) keyed)
   step last x w xs None new up ups pairs has_w rest = row-once last x w xs new up ups pairs.0 has_w (λ other its. rest (Some x) other pairs.1 its)
 
   help-once : (xs : List Row) (last : Option Row) (w : Row) → IsNew last w.name → Pairs IsUp xs → Pairs AreBoth (written all last xs) → Contains (written all last xs) w

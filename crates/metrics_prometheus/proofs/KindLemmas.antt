@@ -9,7 +9,7 @@ use Rattle.std.specs.Map.{lookup}
 use Rattle.metrics_names.specs.Equality.{key_exact}
 use Rattle.metrics_names.specs.Names.{SeriesKey, series_key_eq}
 use Rattle.metrics_exporter.specs.Exporting.{Reading, Cell}
-use Rattle.metrics_exporter.specs.Readings.{Told, AreOnce, cells_told}
+use Rattle.metrics_exporter.specs.Readings.{KeyedReading, AreOnce, cells_of_readings}
 use Rattle.metrics_storage.specs.Histogram.{Distribution, bounds_of}
 use Rattle.metrics_prometheus.specs.Reading.{IsSmall, ReadsAs, IsOfKind, AreOfKinds}
 
@@ -25,12 +25,12 @@ read-back : (o : Option Reading) → option_map (λ (c : Cell). c.reading) (opti
 read-back None = refl
 read-back (Some r) = refl
 
-found : (s : SeriesKey) (told kept : List Told) → All IsOfKind told → AreOnce told kept
+found : (s : SeriesKey) (keyed kept : List KeyedReading) → All IsOfKind keyed → AreOnce keyed kept
     → (o : Option Reading) → lookup (series_key_eq s) kept ≡ o → ReadsAs s.kind o
-found s told kept all once None e = tt
-found s told kept all once (Some r) e = All-contains IsOfKind told (s, r) all (once.among (s, r) (Contains-from_lookup key_exact s r kept e))
+found s keyed kept all once None e = tt
+found s keyed kept all once (Some r) e = All-contains IsOfKind keyed (s, r) all (once.among (s, r) (Contains-from_lookup key_exact s r kept e))
 
-pub kinds-kept : (told kept : List Told) → All IsOfKind told → AreOnce told kept → AreOfKinds (cells_told kept)
-kinds-kept told kept all once s =
+pub kinds-kept : (keyed kept : List KeyedReading) → All IsOfKind keyed → AreOnce keyed kept → AreOfKinds (cells_of_readings kept)
+kinds-kept keyed kept all once s =
     let o : Option Reading = lookup (series_key_eq s) kept in
-    subst (ReadsAs s.kind) (sym (read-back o)) (found s told kept all once o refl)
+    subst (ReadsAs s.kind) (sym (read-back o)) (found s keyed kept all once o refl)

@@ -20,30 +20,30 @@ start = codes "# left out: "
 
 -- a line with that start, and one without it
 module _ (line : List ℕ) where
-  told-has : (l : Line) → IsReadable l → line_text l ≡ line ++ 10 ∷ [] → (words : List ℕ) → line ≡ start ++ words → Some words ≡ left_out_in l
-  told-has (has s) h e words is = absurd (let g : true ≡ false = sym (ap begins_comment (e ∙ ap (λ b. b ++ 10 ∷ []) is)) ∙ h.comment in cc)
-  told-has (describes n t) h e words is = absurd (let g : 72 ≡ 108 = ap (λ b. get_or b 2 0) (e ∙ ap (λ b. b ++ 10 ∷ []) is) in omega (arith, g))
-  told-has (tells_kind r) h e words is = absurd (let g : 84 ≡ 108 = ap (λ b. get_or b 2 0) (e ∙ ap (λ b. b ++ 10 ∷ []) is) in omega (arith, g))
-  told-has (leaves_out r why) h e words is =
+  keyed-has : (l : Line) → IsReadable l → line_text l ≡ line ++ 10 ∷ [] → (words : List ℕ) → line ≡ start ++ words → Some words ≡ left_out_in l
+  keyed-has (has s) h e words is = absurd (let g : true ≡ false = sym (ap begins_comment (e ∙ ap (λ b. b ++ 10 ∷ []) is)) ∙ h.comment in cc)
+  keyed-has (describes n t) h e words is = absurd (let g : 72 ≡ 108 = ap (λ b. get_or b 2 0) (e ∙ ap (λ b. b ++ 10 ∷ []) is) in omega (arith, g))
+  keyed-has (tells_kind r) h e words is = absurd (let g : 84 ≡ 108 = ap (λ b. get_or b 2 0) (e ∙ ap (λ b. b ++ 10 ∷ []) is) in omega (arith, g))
+  keyed-has (leaves_out r why) h e words is =
       let same : words ++ 10 ∷ [] ≡ left_out_words r why ++ 10 ∷ [] = append_cancel_left start _ _ (sym (append_assoc start words (10 ∷ [])) ∙ sym (ap (λ b. b ++ 10 ∷ []) is) ∙ sym e) in
       ap (λ w. Some w) (append_cancel_right words (left_out_words r why) (10 ∷ []) same)
 
-  told-none : (l : Line) → IsReadable l → line_text l ≡ line ++ 10 ∷ [] → ((rest : List ℕ) → line ≢ start ++ rest) → None ≡ left_out_in l
-  told-none (has s) h e absent = refl
-  told-none (describes n t) h e absent = refl
-  told-none (tells_kind r) h e absent = refl
-  told-none (leaves_out r why) h e absent =
+  keyed-none : (l : Line) → IsReadable l → line_text l ≡ line ++ 10 ∷ [] → ((rest : List ℕ) → line ≢ start ++ rest) → None ≡ left_out_in l
+  keyed-none (has s) h e absent = refl
+  keyed-none (describes n t) h e absent = refl
+  keyed-none (tells_kind r) h e absent = refl
+  keyed-none (leaves_out r why) h e absent =
       absurd (absent (left_out_words r why) (append_cancel_right line (start ++ left_out_words r why) (10 ∷ []) (sym e ∙ sym (append_assoc start (left_out_words r why) (10 ∷ [])))))
 
-  pub told-line : (o : Option (Bor (List ℕ))) → MatchOption o ((rest : List ℕ) → line ≢ start ++ rest) (λ x. line ≡ start ++ x.now)
+  pub keyed-line : (o : Option (Bor (List ℕ))) → MatchOption o ((rest : List ℕ) → line ≢ start ++ rest) (λ x. line ≡ start ++ x.now)
       → (l : Line) → IsReadable l → line_text l ≡ line ++ 10 ∷ [] → option_map (λ t. t.now) o ≡ left_out_in l
-  told-line None absent l h e = told-none l h e absent
-  told-line (Some x) is l h e = told-has l h e x.now is
+  keyed-line None absent l h e = keyed-none l h e absent
+  keyed-line (Some x) is l h e = keyed-has l h e x.now is
 
 -- the words of one line more, if there are some
-pub told-more : (told next : List (Bor (List ℕ))) (o : Option (Bor (List ℕ))) (words : Option (List ℕ)) → next ≡ told ++ option_to_list o → option_map (λ t. t.now) o ≡ words
-    → names_shown next ≡ names_shown told ++ option_to_list words
-told-more told next o words is e = ap names_shown is ∙ map-append (λ (t : Bor (List ℕ)). t.now) told (option_to_list o) ∙ ap (λ l. names_shown told ++ l) (mapped o ∙ ap option_to_list e)
+pub keyed-more : (keyed next : List (Bor (List ℕ))) (o : Option (Bor (List ℕ))) (words : Option (List ℕ)) → next ≡ keyed ++ option_to_list o → option_map (λ t. t.now) o ≡ words
+    → names_shown next ≡ names_shown keyed ++ option_to_list words
+keyed-more keyed next o words is e = ap names_shown is ∙ map-append (λ (t : Bor (List ℕ)). t.now) keyed (option_to_list o) ∙ ap (λ l. names_shown keyed ++ l) (mapped o ∙ ap option_to_list e)
   where
     mapped : (o : Option (Bor (List ℕ))) → names_shown (option_to_list o) ≡ option_to_list (option_map (λ t. t.now) o)
     mapped None = refl
@@ -52,11 +52,11 @@ told-more told next o words is e = ap names_shown is ∙ map-append (λ (t : Bor
 -- ---- the lines in order
 
 -- what is left of the lines of a text, after those that were listed
-pub record IsLeft (lines : List Line) (told : List (Bor (List ℕ))) (rest : List ℕ) : Type 0 where
+pub record IsLeft (lines : List Line) (keyed : List (Bor (List ℕ))) (rest : List ℕ) : Type 0 where
   pub left : List Line
   pub readable : AllByRecursion IsReadable left
   pub is : rest ≡ flat_map line_text left
-  pub told_is : names_shown told ++ filter_map left_out_in left ≡ filter_map left_out_in lines
+  pub told_is : names_shown keyed ++ filter_map left_out_in left ≡ filter_map left_out_in lines
 
 pub left-all : (lines : List Line) (rest : List ℕ) → rest ≡ flat_map line_text lines → AllByRecursion IsReadable lines → IsLeft lines [] rest
 left-all lines rest is h = record { left = lines; readable = h; is = is; told_is = refl }
@@ -69,12 +69,12 @@ listed None xs = refl
 listed (Some x) xs = refl
 
 -- one line more
-pub left-more : (lines : List Line) (told next : List (Bor (List ℕ))) (rest line behind : List ℕ) → rest ≡ line ++ 10 ∷ behind → ((i : ℕ) → i < length line → get_or line i 0 ≢ 10)
-    → ((l : Line) → IsReadable l → line_text l ≡ line ++ 10 ∷ [] → names_shown next ≡ names_shown told ++ option_to_list (left_out_in l))
-    → IsLeft lines told rest → IsLeft lines next behind
-left-more lines told next rest line behind is none says t = go t.left t.readable t.is t.told_is
+pub left-more : (lines : List Line) (keyed next : List (Bor (List ℕ))) (rest line behind : List ℕ) → rest ≡ line ++ 10 ∷ behind → ((i : ℕ) → i < length line → get_or line i 0 ≢ 10)
+    → ((l : Line) → IsReadable l → line_text l ≡ line ++ 10 ∷ [] → names_shown next ≡ names_shown keyed ++ option_to_list (left_out_in l))
+    → IsLeft lines keyed rest → IsLeft lines next behind
+left-more lines keyed next rest line behind is none says t = go t.left t.readable t.is t.told_is
   where
-    go : (left : List Line) → AllByRecursion IsReadable left → rest ≡ flat_map line_text left → names_shown told ++ filter_map left_out_in left ≡ filter_map left_out_in lines → IsLeft lines next behind
+    go : (left : List Line) → AllByRecursion IsReadable left → rest ≡ flat_map line_text left → names_shown keyed ++ filter_map left_out_in left ≡ filter_map left_out_in lines → IsLeft lines next behind
     go [] readable whole told_is = absurd (no-line line behind (sym whole ∙ is))
     go (l ∷ ls) readable whole told_is =
         let end : IsLine (line ++ 10 ∷ []) = record { inside = line; is = refl; none = each-places (λ c. c ≢ 10) line (λ j d small e. none j small (get_or_default line j 0 d small ∙ e)) } in
@@ -84,7 +84,7 @@ left-more lines told next rest line behind is none says t = go t.left t.readable
           left = ls;
           readable = readable.1;
           is = sym h.1;
-          told_is = ap (λ n. n ++ xs) (says l readable.0 h.0) ∙ append_assoc (names_shown told) (option_to_list (left_out_in l)) xs ∙ ap (λ n. names_shown told ++ n) (listed (left_out_in l) xs) ∙ told_is;
+          told_is = ap (λ n. n ++ xs) (says l readable.0 h.0) ∙ append_assoc (names_shown keyed) (option_to_list (left_out_in l)) xs ∙ ap (λ n. names_shown keyed ++ n) (listed (left_out_in l) xs) ∙ told_is;
         }
 
 feed-there : (n y : List ℕ) → get_or (n ++ 10 ∷ y) (length n) 0 ≡ 10
@@ -92,11 +92,11 @@ feed-there [] y = refl
 feed-there (c ∷ n) y = feed-there n y
 
 -- and no more
-pub left-none : (lines : List Line) (told : List (Bor (List ℕ))) (rest : List ℕ) → ((i : ℕ) → i < length rest → get_or rest i 0 ≢ 10) → IsLeft lines told rest → names_shown told ≡ filter_map left_out_in lines
-left-none lines told rest none t = go t.left t.readable t.is t.told_is
+pub left-none : (lines : List Line) (keyed : List (Bor (List ℕ))) (rest : List ℕ) → ((i : ℕ) → i < length rest → get_or rest i 0 ≢ 10) → IsLeft lines keyed rest → names_shown keyed ≡ filter_map left_out_in lines
+left-none lines keyed rest none t = go t.left t.readable t.is t.told_is
   where
-    go : (left : List Line) → AllByRecursion IsReadable left → rest ≡ flat_map line_text left → names_shown told ++ filter_map left_out_in left ≡ filter_map left_out_in lines → names_shown told ≡ filter_map left_out_in lines
-    go [] readable whole told_is = sym (append-nil (names_shown told)) ∙ told_is
+    go : (left : List Line) → AllByRecursion IsReadable left → rest ≡ flat_map line_text left → names_shown keyed ++ filter_map left_out_in left ≡ filter_map left_out_in lines → names_shown keyed ≡ filter_map left_out_in lines
+    go [] readable whole told_is = sym (append-nil (names_shown keyed)) ∙ told_is
     go (l ∷ ls) readable whole told_is =
         let inside = readable.0.ends.inside in
         let behind = flat_map line_text ls in

@@ -24,11 +24,11 @@ use Rattle.metrics_names.specs.Names.{KeyParts, LabelParts, SeriesKey, kind_numb
 use Rattle.metrics_names.specs.Equality.{series_key_eq-Decides, key_exact}
 use Rattle.metrics_exporter.specs.Exporting.{Reading, Cell, Cells}
 use Rattle.metrics_exporter.specs.Gathering.{series_at}
-use Rattle.metrics_exporter.specs.Readings.{Told, AreReadings, AreOnce, cells_told, reading_in}
+use Rattle.metrics_exporter.specs.Readings.{KeyedReading, AreReadings, AreOnce, cells_of_readings, reading_in}
 use Rattle.metrics_prometheus.specs.declared.rows.ShownRow.{ShownRow}
 use Rattle.metrics_prometheus.specs.Naming.{Display}
 use Rattle.metrics_prometheus.specs.Exposition.{Row, row_of, row_cmp}
-use Rattle.metrics_prometheus.specs.Rows.{row_shown, pair_shown, pair_of, told_shown}
+use Rattle.metrics_prometheus.specs.Rows.{row_shown, pair_shown, pair_of, keyed_shown}
 use Rattle.metrics_prometheus.proofs.PairLemmas.{each-in, in-first, in-later, Pairs, pairs-places}
 use Rattle.metrics_prometheus.proofs.RowLemmas.{map-length, map-get}
 use Rattle.metrics_prometheus.proofs.WrittenLemmas.{row_total, names}
@@ -98,37 +98,37 @@ none-once = tt
 -- ---- the rows
 
 abbrev key_of : ShownRow → SeriesKey
-key_of r = (told_shown r).0
+key_of r = (keyed_shown r).0
 
-abbrev told_of_pair : Row × Reading → Told
-told_of_pair p = (series_at p.0.kind p.0.key, p.1)
+abbrev keyed_pair : Row × Reading → KeyedReading
+keyed_pair p = (series_at p.0.kind p.0.key, p.1)
 
-told-pairs : (rows : List ShownRow) → map told_shown rows ≡ map told_of_pair (map pair_shown rows)
-told-pairs [] = refl
-told-pairs (r ∷ rows) = ap (λ l. told_shown r ∷ l) (told-pairs rows)
+keyed-pairs : (rows : List ShownRow) → map keyed_shown rows ≡ map keyed_pair (map pair_shown rows)
+keyed-pairs [] = refl
+keyed-pairs (r ∷ rows) = ap (λ l. keyed_shown r ∷ l) (keyed-pairs rows)
 
-pairs-told : (display : Display) (told : List Told) → map told_of_pair (map (pair_of display) told) ≡ told
-pairs-told display [] = refl
-pairs-told display (t ∷ told) = ap (λ l. t ∷ l) (pairs-told display told)
+pairs-keyed : (display : Display) (keyed : List KeyedReading) → map keyed_pair (map (pair_of display) keyed) ≡ keyed
+pairs-keyed display [] = refl
+pairs-keyed display (t ∷ keyed) = ap (λ l. t ∷ l) (pairs-keyed display keyed)
 
 module _ (display : Display) where
   abbrev IsOwn : ShownRow → Type 0
-  IsOwn r = pair_shown r ≡ pair_of display (told_shown r)
+  IsOwn r = pair_shown r ≡ pair_of display (keyed_shown r)
 
   abbrev IsPair : Row × Reading → Type 0
-  IsPair p = p ≡ pair_of display (told_of_pair p)
+  IsPair p = p ≡ pair_of display (keyed_pair p)
 
-  pairs-own : (told : List Told) → AllByRecursion IsPair (map (pair_of display) told)
+  pairs-own : (keyed : List KeyedReading) → AllByRecursion IsPair (map (pair_of display) keyed)
   pairs-own [] = tt
-  pairs-own (t ∷ told) = (refl, pairs-own told)
+  pairs-own (t ∷ keyed) = (refl, pairs-own keyed)
 
   rows-own : (rows : List ShownRow) → AllByRecursion IsPair (map pair_shown rows) → AllByRecursion IsOwn rows
   rows-own [] h = tt
   rows-own (r ∷ rows) h = (h.0, rows-own rows h.1)
 
-  own-map : (rows : List ShownRow) → AllByRecursion IsOwn rows → map pair_shown rows ≡ map (pair_of display) (map told_shown rows)
+  own-map : (rows : List ShownRow) → AllByRecursion IsOwn rows → map pair_shown rows ≡ map (pair_of display) (map keyed_shown rows)
   own-map [] h = refl
-  own-map (r ∷ rows) h = ap (λ p. p ∷ map pair_shown rows) h.0 ∙ ap (λ l. pair_of display (told_shown r) ∷ l) (own-map rows h.1)
+  own-map (r ∷ rows) h = ap (λ p. p ∷ map pair_shown rows) h.0 ∙ ap (λ l. pair_of display (keyed_shown r) ∷ l) (own-map rows h.1)
 
   module _ (R : ShownRow → ShownRow → Ordering) (order : (a b : ShownRow) → R a b ≡ row_cmp (row_shown a) (row_shown b)) where
     -- rows that aren't equal are of different series
@@ -142,58 +142,58 @@ module _ (display : Display) where
             let same : R x y ≡ Equal = order x y ∙ ap (row_cmp (row_shown x)) (sym rows) ∙ tied_itself row_total (row_shown x) in
             absurd (false≢true (sym differ ∙ ap is_eq same))
 
-    keys-once : (rows : List ShownRow) → AllByRecursion IsOwn rows → IsDistinct (eq_by_cmp R) rows → IsDistinct series_key_eq (map (λ t. t.0) (map told_shown rows))
+    keys-once : (rows : List ShownRow) → AllByRecursion IsOwn rows → IsDistinct (eq_by_cmp R) rows → IsDistinct series_key_eq (map (λ t. t.0) (map keyed_shown rows))
     keys-once [] own once = none-once
     keys-once (x ∷ rows) own once =
-        IsDistinct-cons series_key_eq (key_of x) (map (λ t. t.0) (map told_shown rows)) (later rows own.1 (IsDistinct-head (eq_by_cmp R) x rows once)) (keys-once rows own.1 (IsDistinct-tail (eq_by_cmp R) x rows once))
+        IsDistinct-cons series_key_eq (key_of x) (map (λ t. t.0) (map keyed_shown rows)) (later rows own.1 (IsDistinct-head (eq_by_cmp R) x rows once)) (keys-once rows own.1 (IsDistinct-tail (eq_by_cmp R) x rows once))
       where
-        later : (ys : List ShownRow) → AllByRecursion IsOwn ys → AllByRecursion (λ y. eq_by_cmp R x y ≡ false) ys → AllByRecursion (λ k. series_key_eq (key_of x) k ≡ false) (map (λ t. t.0) (map told_shown ys))
+        later : (ys : List ShownRow) → AllByRecursion IsOwn ys → AllByRecursion (λ y. eq_by_cmp R x y ≡ false) ys → AllByRecursion (λ k. series_key_eq (key_of x) k ≡ false) (map (λ t. t.0) (map keyed_shown ys))
         later [] h g = tt
         later (y ∷ ys) h g = (apart x y own.0 h.0 g.0, later ys h.1 g.1)
 
     -- what is left of sorted rows
     pub rows-once : (total : IsTotalOrder R) (E : ShownRow → ShownRow → Bool) → ((a b : ShownRow) → E a b ≡ eq_by_cmp R a b)
-        → (told : List Told) (us xs ys : List ShownRow) → map pair_shown us ≡ map (pair_of display) told → IsPermutation us xs → IsStrictlySortedBy R ys → ys ≡ dedup E xs
-        → (map pair_shown ys ≡ map (pair_of display) (map told_shown ys)) × AreOnce told (map told_shown ys)
-    rows-once total E ties told us xs ys made moved up left =
-        let same : map told_shown us ≡ told = told-pairs us ∙ ap (map told_of_pair) made ∙ pairs-told display told in
-        let own-us : AllByRecursion IsOwn us = rows-own us (subst (AllByRecursion IsPair) (sym made) (pairs-own told)) in
+        → (keyed : List KeyedReading) (us xs ys : List ShownRow) → map pair_shown us ≡ map (pair_of display) keyed → IsPermutation us xs → IsStrictlySortedBy R ys → ys ≡ dedup E xs
+        → (map pair_shown ys ≡ map (pair_of display) (map keyed_shown ys)) × AreOnce keyed (map keyed_shown ys)
+    rows-once total E ties keyed us xs ys made moved up left =
+        let same : map keyed_shown us ≡ keyed = keyed-pairs us ∙ ap (map keyed_pair) made ∙ pairs-keyed display keyed in
+        let own-us : AllByRecursion IsOwn us = rows-own us (subst (AllByRecursion IsPair) (sym made) (pairs-own keyed)) in
         let own-ys : AllByRecursion IsOwn ys = recursion_from_All IsOwn ys (subst (All IsOwn) (sym left) (All-dedup E IsOwn xs (All-permutation IsOwn us xs moved (All-from_recursion IsOwn us own-us)))) in
         let equiv : IsEquivalence E = subst IsEquivalence (λ i a b. sym (ties a b) i) (eq_by_cmp_equiv total) in (
           own-map ys own-ys,
           record {
             once = keys-once ys own-ys (IsDistinct-from_sorted R ys up);
             among = λ t there.
-                let r = unmapped told_shown ys t there in
+                let r = unmapped keyed_shown ys t there in
                 let x = r.0 in
                 let at : Contains us x = Contains-permutation xs us x (IsPermutation-sym us xs moved) (Contains-from_dedup E xs x (subst (λ l. Contains l x) left r.1)) in
-                subst (λ l. Contains l t) same (subst (Contains (map told_shown us)) r.2 (mapped told_shown us x at));
+                subst (λ l. Contains l t) same (subst (Contains (map keyed_shown us)) r.2 (mapped keyed_shown us x at));
             all = λ s there.
-                let there' : Contains (map (λ t. t.0) (map told_shown us)) s = subst (λ l. Contains (map (λ t. t.0) l) s) (sym same) there in
-                let r = unmapped (λ (t : Told). t.0) (map told_shown us) s there' in
-                let q = unmapped told_shown us r.0 r.1 in
+                let there' : Contains (map (λ t. t.0) (map keyed_shown us)) s = subst (λ l. Contains (map (λ t. t.0) l) s) (sym same) there in
+                let r = unmapped (λ (t : KeyedReading). t.0) (map keyed_shown us) s there' in
+                let q = unmapped keyed_shown us r.0 r.1 in
                 let any = Any-dedup equiv xs q.0 (Contains-permutation us xs q.0 moved q.1) in
                 let y = any.1 in
                 let in-ys : Contains ys y = subst (λ l. Contains l y) (sym left) (any.0, any.2, any.3) in
                 let equal : row_cmp (row_shown q.0) (row_shown y) ≡ Equal = sym (order q.0 y) ∙ is-equal (R q.0 y) (sym (ties q.0 y) ∙ any.4) in
-                let s-is : key_of y ≡ s = sym (series-from (row_shown q.0) (row_shown y) equal) ∙ ap (λ (t : Told). t.0) q.2 ∙ r.2 in
-                subst (Contains (map (λ t. t.0) (map told_shown ys))) s-is (mapped (λ (t : Told). t.0) (map told_shown ys) (told_shown y) (mapped told_shown ys y in-ys));
+                let s-is : key_of y ≡ s = sym (series-from (row_shown q.0) (row_shown y) equal) ∙ ap (λ (t : KeyedReading). t.0) q.2 ∙ r.2 in
+                subst (Contains (map (λ t. t.0) (map keyed_shown ys))) s-is (mapped (λ (t : KeyedReading). t.0) (map keyed_shown ys) (keyed_shown y) (mapped keyed_shown ys y in-ys));
           },
         )
 
 -- ---- what is left of what is held
 
-pub readings-once : (cells : Cells) (told kept : List Told) → AreReadings cells told → AreOnce told kept → AreReadings cells kept
-readings-once cells told kept are once = record {
+pub readings-once : (cells : Cells) (keyed kept : List KeyedReading) → AreReadings cells keyed → AreOnce keyed kept → AreReadings cells kept
+readings-once cells keyed kept are once = record {
   once = once.once;
   held = λ s. (
-    (λ there. let r = unmapped (λ (t : Told). t.0) kept s there in (are.held s).0 (subst (Contains (map (λ t. t.0) told)) r.2 (mapped (λ (t : Told). t.0) told r.0 (once.among r.0 r.1)))),
+    (λ there. let r = unmapped (λ (t : KeyedReading). t.0) kept s there in (are.held s).0 (subst (Contains (map (λ t. t.0) keyed)) r.2 (mapped (λ (t : KeyedReading). t.0) keyed r.0 (once.among r.0 r.1)))),
     (λ held. once.all s ((are.held s).1 held)),
   );
-  readings = each kept (λ t there. each-in (λ t. reading_in cells t.0 ≡ Some t.1) told t are.readings (once.among t there));
+  readings = each kept (λ t there. each-in (λ t. reading_in cells t.0 ≡ Some t.1) keyed t are.readings (once.among t there));
 }
   where
-    each : (ks : List Told) → ((t : Told) → Contains ks t → reading_in cells t.0 ≡ Some t.1) → AllByRecursion (λ t. reading_in cells t.0 ≡ Some t.1) ks
+    each : (ks : List KeyedReading) → ((t : KeyedReading) → Contains ks t → reading_in cells t.0 ≡ Some t.1) → AllByRecursion (λ t. reading_in cells t.0 ≡ Some t.1) ks
     each [] f = tt
     each (k ∷ ks) f = (f k (in-first k ks), each ks (λ t there. f t (in-later k ks t there)))
 
@@ -206,34 +206,34 @@ turned a b h = go (series_key_eq b a) refl
     go false e = e
     go true e = absurd (false≢true (sym h ∙ (series_key_eq-Decides a b).1 (sym ((series_key_eq-Decides b a).0 e))))
 
-abbrev found : List Told → SeriesKey → Option Reading
-found told s = lookup (series_key_eq s) told
+abbrev found : List KeyedReading → SeriesKey → Option Reading
+found keyed s = lookup (series_key_eq s) keyed
 
-found-later : (x : Told) (all es : List Told) → AllByRecursion (λ q. series_key_eq x.0 q ≡ false) (map (λ t. t.0) es) → AllByRecursion (λ e. found all e.0 ≡ Some e.1) es
+found-later : (x : KeyedReading) (all es : List KeyedReading) → AllByRecursion (λ q. series_key_eq x.0 q ≡ false) (map (λ t. t.0) es) → AllByRecursion (λ e. found all e.0 ≡ Some e.1) es
     → AllByRecursion (λ e. found (x ∷ all) e.0 ≡ Some e.1) es
 found-later x all [] h g = tt
 found-later x all (e ∷ es) h g = (ap (λ b. cond b (Some x.1) (found all e.0)) (turned x.0 e.0 h.0) ∙ g.0, found-later x all es h.1 g.1)
 
-found-each : (told : List Told) → IsDistinct series_key_eq (map (λ t. t.0) told) → AllByRecursion (λ t. found told t.0 ≡ Some t.1) told
+found-each : (keyed : List KeyedReading) → IsDistinct series_key_eq (map (λ t. t.0) keyed) → AllByRecursion (λ t. found keyed t.0 ≡ Some t.1) keyed
 found-each [] once = tt
-found-each (x ∷ told) once = (
-  ap (λ b. cond b (Some x.1) (found told x.0)) ((series_key_eq-Decides x.0 x.0).1 refl),
-  found-later x told told (IsDistinct-head series_key_eq x.0 (map (λ t. t.0) told) once) (found-each told (IsDistinct-tail series_key_eq x.0 (map (λ t. t.0) told) once)),
+found-each (x ∷ keyed) once = (
+  ap (λ b. cond b (Some x.1) (found keyed x.0)) ((series_key_eq-Decides x.0 x.0).1 refl),
+  found-later x keyed keyed (IsDistinct-head series_key_eq x.0 (map (λ t. t.0) keyed) once) (found-each keyed (IsDistinct-tail series_key_eq x.0 (map (λ t. t.0) keyed) once)),
 )
 
-found-in : (told : List Told) (s : SeriesKey) → IsSome (found told s) → Contains (map (λ t. t.0) told) s
+found-in : (keyed : List KeyedReading) (s : SeriesKey) → IsSome (found keyed s) → Contains (map (λ t. t.0) keyed) s
 found-in [] s some = absurd (false≢true some)
-found-in (x ∷ told) s some = go (series_key_eq s x.0) refl (found-in told s) some
+found-in (x ∷ keyed) s some = go (series_key_eq s x.0) refl (found-in keyed s) some
   where
-    go : (b : Bool) → series_key_eq s x.0 ≡ b → (IsSome (found told s) → Contains (map (λ t. t.0) told) s) → IsSome (cond b (Some x.1) (found told s)) → Contains (map (λ t. t.0) (x ∷ told)) s
-    go true e rest h = subst (Contains (x.0 ∷ map (λ t. t.0) told)) (sym ((series_key_eq-Decides s x.0).0 e)) (in-first x.0 (map (λ t. t.0) told))
-    go false e rest h = in-later x.0 (map (λ t. t.0) told) s (rest h)
+    go : (b : Bool) → series_key_eq s x.0 ≡ b → (IsSome (found keyed s) → Contains (map (λ t. t.0) keyed) s) → IsSome (cond b (Some x.1) (found keyed s)) → Contains (map (λ t. t.0) (x ∷ keyed)) s
+    go true e rest h = subst (Contains (x.0 ∷ map (λ t. t.0) keyed)) (sym ((series_key_eq-Decides s x.0).0 e)) (in-first x.0 (map (λ t. t.0) keyed))
+    go false e rest h = in-later x.0 (map (λ t. t.0) keyed) s (rest h)
 
-in-found : (told : List Told) (s : SeriesKey) → AllByRecursion (λ t. found told t.0 ≡ Some t.1) told → Contains (map (λ t. t.0) told) s → IsSome (found told s)
-in-found told s each there =
-    let r = unmapped (λ (t : Told). t.0) told s there in
-    let is = each-in (λ t. found told t.0 ≡ Some t.1) told r.0 each r.1 in
-    subst (λ k. IsSome (found told k)) r.2 (subst IsSome (sym is) refl)
+in-found : (keyed : List KeyedReading) (s : SeriesKey) → AllByRecursion (λ t. found keyed t.0 ≡ Some t.1) keyed → Contains (map (λ t. t.0) keyed) s → IsSome (found keyed s)
+in-found keyed s each there =
+    let r = unmapped (λ (t : KeyedReading). t.0) keyed s there in
+    let is = each-in (λ t. found keyed t.0 ≡ Some t.1) keyed r.0 each r.1 in
+    subst (λ k. IsSome (found keyed k)) r.2 (subst IsSome (sym is) refl)
 
 some-map : {A B : Type 0} (f : A → B) (o : Option A) → IsSome o → IsSome (option_map f o)
 some-map f None h = absurd (false≢true h)
@@ -243,31 +243,31 @@ some-from : {A B : Type 0} (f : A → B) (o : Option A) → IsSome (option_map f
 some-from f None h = absurd (false≢true h)
 some-from f (Some a) h = refl
 
-pub readings-told : (told : List Told) → IsDistinct series_key_eq (map (λ t. t.0) told) → AreReadings (cells_told told) told
-readings-told told once =
-    let each = found-each told once in
+pub readings-keyed : (keyed : List KeyedReading) → IsDistinct series_key_eq (map (λ t. t.0) keyed) → AreReadings (cells_of_readings keyed) keyed
+readings-keyed keyed once =
+    let each = found-each keyed once in
     record {
       once = once;
-      held = λ s. ((λ there. some-map _ (found told s) (in-found told s each there)), (λ held. found-in told s (some-from _ (found told s) held)));
-      readings = readings told each;
+      held = λ s. ((λ there. some-map _ (found keyed s) (in-found keyed s each there)), (λ held. found-in keyed s (some-from _ (found keyed s) held)));
+      readings = readings keyed each;
     }
   where
     cell : Reading → Cell
     cell r = record { reading = r; generation = 0 }
 
-    readings : (es : List Told) → AllByRecursion (λ t. found told t.0 ≡ Some t.1) es → AllByRecursion (λ t. reading_in (cells_told told) t.0 ≡ Some t.1) es
+    readings : (es : List KeyedReading) → AllByRecursion (λ t. found keyed t.0 ≡ Some t.1) es → AllByRecursion (λ t. reading_in (cells_of_readings keyed) t.0 ≡ Some t.1) es
     readings [] h = tt
     readings (e ∷ es) h = (ap (λ (o : Option Reading). option_map (λ (c : Cell). c.reading) (option_map cell o)) h.0, readings es h.1)
 
 -- the labels of rows are in order
-pub own-labels : (display : Display) (rows : List ShownRow) → map pair_shown rows ≡ map (pair_of display) (map told_shown rows) → AllByRecursion (λ r. IsSorted label_cmp r.labels) rows
+pub own-labels : (display : Display) (rows : List ShownRow) → map pair_shown rows ≡ map (pair_of display) (map keyed_shown rows) → AllByRecursion (λ r. IsSorted label_cmp r.labels) rows
 own-labels display rows own =
     let P : Row × Reading → Type 0 = λ p. IsSorted label_cmp p.0.labels in
-    from rows (subst (AllByRecursion P) (sym own) (each (map told_shown rows)))
+    from rows (subst (AllByRecursion P) (sym own) (each (map keyed_shown rows)))
   where
-    each : (told : List Told) → AllByRecursion (λ (p : Row × Reading). IsSorted label_cmp p.0.labels) (map (pair_of display) told)
+    each : (keyed : List KeyedReading) → AllByRecursion (λ (p : Row × Reading). IsSorted label_cmp p.0.labels) (map (pair_of display) keyed)
     each [] = tt
-    each (t ∷ told) = (shown-sorted t.0.key.labels, each told)
+    each (t ∷ keyed) = (shown-sorted t.0.key.labels, each keyed)
 
     from : (rows : List ShownRow) → AllByRecursion (λ (p : Row × Reading). IsSorted label_cmp p.0.labels) (map pair_shown rows) → AllByRecursion (λ r. IsSorted label_cmp r.labels) rows
     from [] h = tt

@@ -8,11 +8,11 @@ use Rattle.std.specs.declared.cmp.Ordering.{Ordering}
 use Rattle.std.proofs.lemmas.List.{take_more, map-append}
 use Rattle.std.proofs.lemmas.List.Sorted.{IsPermutation-refl}
 use Rattle.metrics_exporter.specs.Exporting.{Reading, Cells}
-use Rattle.metrics_exporter.specs.Readings.{Told, reading_in, AreReadings}
+use Rattle.metrics_exporter.specs.Readings.{KeyedReading, reading_in, AreReadings}
 use Rattle.metrics_prometheus.specs.declared.rows.ShownRow.{ShownRow}
 use Rattle.metrics_prometheus.specs.Naming.{Display}
 use Rattle.metrics_prometheus.specs.Exposition.{Row, row_of, row_cmp, reading_at, AreRows}
-use Rattle.metrics_prometheus.specs.Rows.{row_shown, rows_shown, pair_shown, pair_of, told_shown, Shows}
+use Rattle.metrics_prometheus.specs.Rows.{row_shown, rows_shown, pair_shown, pair_of, keyed_shown, Shows}
 
 module _ {A B : Type 0} (f : A → B) where
   pub map-length : (xs : List A) → length (map f xs) ≡ length xs
@@ -34,49 +34,49 @@ module _ {A B : Type 0} (f : A → B) where
       ∙ up k x (omega arith) fits
 
 -- one row more
-pub rows-more : {S : Type 0} (told : S → Told) (display : Display) (xs ys : List ShownRow) (ss : List S) (i : ℕ) (x : ShownRow) (s : S)
-    → i < length ss → s ≡ get_or ss i s → ys ≡ xs ++ x ∷ [] → pair_shown x ≡ pair_of display (told s) → map pair_shown xs ≡ map (pair_of display) (map told (take i ss)) → map pair_shown ys ≡ map (pair_of display) (map told (take (i + 1) ss))
-rows-more told display xs ys ss i x s small at is shown so =
-    let f : Told → Row × Reading = pair_of display in
-    let done = map told (take i ss) in
-    let last : Told = told (get_or ss i s) in
-    ap (map pair_shown) is ∙ map-append pair_shown xs (x ∷ []) ∙ ap (λ l. l ++ pair_shown x ∷ []) so ∙ ap (λ r. map f done ++ r ∷ []) (shown ∙ ap (λ q. f (told q)) at)
-    ∙ sym (ap (λ l. map f (map told l)) (take_more ss i s small) ∙ ap (map f) (map-append told (take i ss) (get_or ss i s ∷ [])) ∙ map-append f done (last ∷ []))
+pub rows-more : {S : Type 0} (keyed : S → KeyedReading) (display : Display) (xs ys : List ShownRow) (ss : List S) (i : ℕ) (x : ShownRow) (s : S)
+    → i < length ss → s ≡ get_or ss i s → ys ≡ xs ++ x ∷ [] → pair_shown x ≡ pair_of display (keyed s) → map pair_shown xs ≡ map (pair_of display) (map keyed (take i ss)) → map pair_shown ys ≡ map (pair_of display) (map keyed (take (i + 1) ss))
+rows-more keyed display xs ys ss i x s small at is shown so =
+    let f : KeyedReading → Row × Reading = pair_of display in
+    let done = map keyed (take i ss) in
+    let last : KeyedReading = keyed (get_or ss i s) in
+    ap (map pair_shown) is ∙ map-append pair_shown xs (x ∷ []) ∙ ap (λ l. l ++ pair_shown x ∷ []) so ∙ ap (λ r. map f done ++ r ∷ []) (shown ∙ ap (λ q. f (keyed q)) at)
+    ∙ sym (ap (λ l. map f (map keyed l)) (take_more ss i s small) ∙ ap (map f) (map-append keyed (take i ss) (get_or ss i s ∷ [])) ∙ map-append f done (last ∷ []))
 
 -- rows by reference, as rows
 rows-first : (rows : List ShownRow) → map (λ (p : Row × Reading). p.0) (map pair_shown rows) ≡ rows_shown rows
 rows-first [] = refl
 rows-first (r ∷ rows) = ap (λ l. row_shown r ∷ l) (rows-first rows)
 
-told-first : (display : Display) (told : List Told) → map (λ (p : Row × Reading). p.0) (map (pair_of display) told) ≡ map (row_of display) (map (λ t. t.0) told)
-told-first display [] = refl
-told-first display (t ∷ told) = ap (λ l. row_of display t.0 ∷ l) (told-first display told)
+keyed-first : (display : Display) (keyed : List KeyedReading) → map (λ (p : Row × Reading). p.0) (map (pair_of display) keyed) ≡ map (row_of display) (map (λ t. t.0) keyed)
+keyed-first display [] = refl
+keyed-first display (t ∷ keyed) = ap (λ l. row_of display t.0 ∷ l) (keyed-first display keyed)
 
 unmapped : (P : Row × Reading → Type 0) (rows : List ShownRow) → AllByRecursion P (map pair_shown rows) → AllByRecursion (λ r. P (pair_shown r)) rows
 unmapped P [] h = tt
 unmapped P (r ∷ rows) h = (h.0, unmapped P rows h.1)
 
-told-read : (display : Display) (cells : Cells) (told : List Told) → AllByRecursion (λ t. reading_in cells t.0 ≡ Some t.1) told → AllByRecursion (λ (p : Row × Reading). reading_at cells p.0 ≡ Some p.1) (map (pair_of display) told)
-told-read display cells [] h = tt
-told-read display cells (t ∷ told) h = (h.0, told-read display cells told h.1)
+keyed-read : (display : Display) (cells : Cells) (keyed : List KeyedReading) → AllByRecursion (λ t. reading_in cells t.0 ≡ Some t.1) keyed → AllByRecursion (λ (p : Row × Reading). reading_at cells p.0 ≡ Some p.1) (map (pair_of display) keyed)
+keyed-read display cells [] h = tt
+keyed-read display cells (t ∷ keyed) h = (h.0, keyed-read display cells keyed h.1)
 
 -- rows of what is held
-pub are-rows : (display : Display) (cells : Cells) (rows : List ShownRow) → AreReadings cells (map told_shown rows) → map pair_shown rows ≡ map (pair_of display) (map told_shown rows) → IsSorted row_cmp (rows_shown rows)
+pub are-rows : (display : Display) (cells : Cells) (rows : List ShownRow) → AreReadings cells (map keyed_shown rows) → map pair_shown rows ≡ map (pair_of display) (map keyed_shown rows) → IsSorted row_cmp (rows_shown rows)
     → AreRows display cells (rows_shown rows)
 are-rows display cells rows are own up =
     let f : Row × Reading → Row = λ p. p.0 in
-    let told = map told_shown rows in
-    let same : map (row_of display) (map (λ t. t.0) told) ≡ rows_shown rows = sym (told-first display told) ∙ ap (map f) (sym own) ∙ rows-first rows in
+    let keyed = map keyed_shown rows in
+    let same : map (row_of display) (map (λ t. t.0) keyed) ≡ rows_shown rows = sym (keyed-first display keyed) ∙ ap (map f) (sym own) ∙ rows-first rows in
     record {
-      keys = map (λ t. t.0) told;
+      keys = map (λ t. t.0) keyed;
       once = are.once;
       held = are.held;
-      same = subst (IsPermutation (map (row_of display) (map (λ t. t.0) told))) same (IsPermutation-refl (map (row_of display) (map (λ t. t.0) told)));
+      same = subst (IsPermutation (map (row_of display) (map (λ t. t.0) keyed))) same (IsPermutation-refl (map (row_of display) (map (λ t. t.0) keyed)));
       ordered = up;
     }
 
 -- and each shows what its series has
-pub rows-show : (display : Display) (cells : Cells) (rows : List ShownRow) → AreReadings cells (map told_shown rows) → map pair_shown rows ≡ map (pair_of display) (map told_shown rows) → AllByRecursion (Shows cells) rows
+pub rows-show : (display : Display) (cells : Cells) (rows : List ShownRow) → AreReadings cells (map keyed_shown rows) → map pair_shown rows ≡ map (pair_of display) (map keyed_shown rows) → AllByRecursion (Shows cells) rows
 rows-show display cells rows are own =
     let P : Row × Reading → Type 0 = λ p. reading_at cells p.0 ≡ Some p.1 in
-    unmapped P rows (subst (AllByRecursion P) (sym own) (told-read display cells (map told_shown rows) are.readings))
+    unmapped P rows (subst (AllByRecursion P) (sym own) (keyed-read display cells (map keyed_shown rows) are.readings))

@@ -14,7 +14,7 @@ use Rattle.metrics_prometheus.specs.Numbers.{number}
 use Rattle.metrics_prometheus.specs.Samples.{Sample, labels_text, sample_line, lines, bucket_sample}
 use Rattle.metrics_prometheus.specs.declared.naming.Naming.{Naming}
 use Rattle.metrics_exporter.specs.Describing.{Legend}
-use Rattle.metrics_prometheus.specs.Exposition.{Row, Reason, label_twice, label_reserved, part, name_taken, labels_taken, reason_of, reason_text, series_named, told_as, left_out_words, help_line, type_line, name_lines, name_text, samples_of, reading_at, left_out_line, last_after, rows_text, IsDescribed}
+use Rattle.metrics_prometheus.specs.Exposition.{Row, Reason, label_twice, label_reserved, part, name_taken, labels_taken, reason_of, reason_text, series_named, row_lines_as, left_out_words, help_line, type_line, name_lines, name_text, samples_of, reading_at, left_out_line, last_after, rows_text, IsDescribed}
 use Rattle.metrics_prometheus.specs.Written.{written, samples_written, Line, has, describes, tells_kind, leaves_out, line_text, sample_in, IsLine, IsReadable, HasSamples}
 use Rattle.metrics_prometheus.proofs.PairLemmas.{each-append}
 use Rattle.metrics_prometheus.proofs.NameLemmas.{AreKeyed, name-more, named-from}
@@ -175,7 +175,7 @@ module _ (cells : Cells) (all : List Row) where
 
   -- a row, and those after it
   of-row : (last : Option Row) (x : Row) → IsNamedRow x → (xs : List Row) (o : Option Reason) → ((next : Option Row) → AreLines (lines_of next xs) (rows_text cells all next xs) (flat_map samples_at (written all next xs)))
-      → AreLines (row_at o last x ++ lines_of (cond (is_some o) last (Some x)) xs) (told_as o (reading_at cells x) last x ++ rows_text cells all (cond (is_some o) last (Some x)) xs) (flat_map samples_at (cond (is_some o) (written all last xs) (x ∷ written all (Some x) xs)))
+      → AreLines (row_at o last x ++ lines_of (cond (is_some o) last (Some x)) xs) (row_lines_as o (reading_at cells x) last x ++ rows_text cells all (cond (is_some o) last (Some x)) xs) (flat_map samples_at (cond (is_some o) (written all last xs) (x ∷ written all (Some x) xs)))
   of-row last x h xs (Some why) rest = joined (leaves_out x why ∷ []) (lines_of last xs) (left_out_line x why) (rows_text cells all last xs) [] (flat_map samples_at (written all last xs)) (of-left x why h) (rest last)
   of-row last x h xs None rest =
       joined (name_at last x ++ map has (samples_at x)) (lines_of (Some x) xs) (name_text last x ++ lines (samples_at x)) (rows_text cells all (Some x) xs) (samples_at x) (flat_map samples_at (written all (Some x) xs))

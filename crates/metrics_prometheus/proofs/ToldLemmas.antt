@@ -16,8 +16,8 @@ use Rattle.metrics_prometheus.specs.Labels.{are_fit}
 use Rattle.metrics_exporter.specs.Describing.{Legend}
 use Rattle.metrics_prometheus.specs.declared.naming.Naming.{Naming}
 use Rattle.metrics_prometheus.specs.Naming.{Display, display_of}
-use Rattle.metrics_prometheus.specs.Exposition.{Row, row_of, row_cmp, is_taken, Reason, reason_of, is_left_out, told_as, name_text, samples_of, reading_at, left_out_line, row_text, last_after, rows_text, AreRows, IsDescribed}
-use Rattle.metrics_prometheus.specs.Written.{written, AreApart, MayStand, IsWhy, alone, beside, IsTold, shown, left_out}
+use Rattle.metrics_prometheus.specs.Exposition.{Row, row_of, row_cmp, is_taken, Reason, reason_of, is_left_out, row_lines_as, name_text, samples_of, reading_at, left_out_line, row_text, last_after, rows_text, AreRows, IsDescribed}
+use Rattle.metrics_prometheus.specs.Written.{written, AreApart, MayStand, IsWhy, alone, beside, IsReported, shown, left_out}
 use Rattle.metrics_prometheus.proofs.PairLemmas.{each-map, each-in, in-first, in-later, in-split, in-none, Pairs, pairs-map}
 use Rattle.metrics_prometheus.proofs.SameLemmas.{same-bytes, same-labels}
 use Rattle.metrics_prometheus.proofs.WrittenLemmas.{IsBefore, before-apart, written-ascend, written-fit, written-free, clashes, left-is}
@@ -44,7 +44,7 @@ module _ (cells : Cells) (all whole : List Row) where
 
   -- the row that comes first
   here : (last : Option Row) (x : Row) (rest : List ℕ) (o : Option Reason) (skipped done : List Row) → ((why : Reason) → o ≡ Some why → Blocked all whole x why)
-      → Part cells all whole x (told_as o (reading_at cells x) last x ++ rest) (cond (is_some o) skipped (x ∷ done))
+      → Part cells all whole x (row_lines_as o (reading_at cells x) last x ++ rest) (cond (is_some o) skipped (x ∷ done))
   here last x rest (Some why) skipped done out = with-line why (out why refl) [] rest refl
   here last x rest None skipped done out = with-samples (name_text last x) rest (in-first x done) (append_assoc (name_text last x) (lines (samples_of x (reading_at cells x))) rest)
 
@@ -204,10 +204,10 @@ row-held {display} cells rows are s held = Contains-permutation (map (row_of dis
     mapped : Contains are.keys s → Contains (map (row_of display) are.keys) (row_of display s)
     mapped (k, small, is) = (k, omega (arith, small, map-length (row_of display) are.keys), map-get (row_of display) are.keys k (row_of display s) s small ∙ ap (row_of display) is)
 
-told-of : (cells : Cells) (rows : List Row) → IsSorted row_cmp rows → (text : List ℕ) (r : Row) → text ≡ rows_text cells rows None rows
-    → Part cells rows (written rows None rows) r (rows_text cells rows None rows) (written rows None rows) → IsTold cells rows text r
-told-of cells rows up text r e (with-samples before after has is) = shown (written-stands rows up r has) before after (e ∙ is)
-told-of cells rows up text r e (with-line why out before after is) = left_out (blocked-stays rows r why out) why (blocked-why rows r why out) before after (e ∙ is)
+keyed-of : (cells : Cells) (rows : List Row) → IsSorted row_cmp rows → (text : List ℕ) (r : Row) → text ≡ rows_text cells rows None rows
+    → Part cells rows (written rows None rows) r (rows_text cells rows None rows) (written rows None rows) → IsReported cells rows text r
+keyed-of cells rows up text r e (with-samples before after has is) = shown (written-stands rows up r has) before after (e ∙ is)
+keyed-of cells rows up text r e (with-line why out before after is) = left_out (blocked-stays rows r why out) why (blocked-why rows r why out) before after (e ∙ is)
 
 stands-of : (cells : Cells) (rows : List Row) (r : Row) → Part cells rows (written rows None rows) r (rows_text cells rows None rows) (written rows None rows) → MayStand rows r → Contains (written rows None rows) r
 stands-of cells rows r (with-samples before after has is) may = has
@@ -217,8 +217,8 @@ module _ (naming : Naming) (legend : Legend) (cells : Cells) (text : List ℕ) (
   part : Part cells e.rows (written e.rows None e.rows) (row_of (display_of naming legend) s) (rows_text cells e.rows None e.rows) (written e.rows None e.rows)
   part = part-all cells e.rows (row_of (display_of naming legend) s) (rows-apart cells e.rows e.all) (row-held cells e.rows e.all s held)
 
-  pub series-told : IsTold cells e.rows text (row_of (display_of naming legend) s)
-  series-told = told-of cells e.rows e.all.ordered text (row_of (display_of naming legend) s) e.is part
+  pub series-keyed : IsReported cells e.rows text (row_of (display_of naming legend) s)
+  series-keyed = keyed-of cells e.rows e.all.ordered text (row_of (display_of naming legend) s) e.is part
 
   pub series-written : Contains (written e.rows None e.rows) (row_of (display_of naming legend) s) ↔ MayStand e.rows (row_of (display_of naming legend) s)
   series-written = (written-stands e.rows e.all.ordered (row_of (display_of naming legend) s), stands-of cells e.rows (row_of (display_of naming legend) s) part)

@@ -170,15 +170,15 @@ abbrev pub left_out_line : Row → Reason → List ℕ
 left_out_line r why = codes "# left out: " ++ (left_out_words r why ++ 10 ∷ [])
 
 -- a row with what it shows
-abbrev pub told_as : Option Reason → Option Reading → Option Row → Row → List ℕ
-told_as None reading last r = name_text last r ++ lines (samples_of r reading)
-told_as (Some why) reading last r = left_out_line r why
+abbrev pub row_lines_as : Option Reason → Option Reading → Option Row → Row → List ℕ
+row_lines_as None reading last r = name_text last r ++ lines (samples_of r reading)
+row_lines_as (Some why) reading last r = left_out_line r why
 
-abbrev pub row_told : Option Reading → List Row → Option Row → Row → List ℕ
-row_told reading rows last r = told_as (reason_of rows last r) reading last r
+abbrev pub row_lines : Option Reading → List Row → Option Row → Row → List ℕ
+row_lines reading rows last r = row_lines_as (reason_of rows last r) reading last r
 
 abbrev pub row_text : Cells → List Row → Option Row → Row → List ℕ
-row_text cells rows last r = row_told (reading_at cells r) rows last r
+row_text cells rows last r = row_lines (reading_at cells r) rows last r
 
 -- the row that was written last
 abbrev pub last_after : List Row → Option Row → Row → Option Row

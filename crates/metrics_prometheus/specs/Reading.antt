@@ -9,7 +9,7 @@ use Rattle.metrics_names.specs.declared.kind.MetricKind.{MetricKind}
 use Rattle.metrics_names.specs.declared.kind.MetricKind.TheVariants.{Histogram}
 use Rattle.metrics_names.specs.Names.{LabelParts, SeriesKey, kind_eq}
 use Rattle.metrics_exporter.specs.Exporting.{Cells, Reading, count, level, samples}
-use Rattle.metrics_exporter.specs.Readings.{Told, reading_in}
+use Rattle.metrics_exporter.specs.Readings.{KeyedReading, reading_in}
 use Rattle.metrics_storage.specs.Histogram.{Distribution}
 use Rattle.metrics_prometheus.specs.Names.{is_name}
 use Rattle.metrics_prometheus.specs.Labels.{AreTexts}
@@ -52,7 +52,7 @@ ReadsAs k (Some (level n)) = kind_eq k Histogram ≡ false
 ReadsAs k (Some (samples d)) = (kind_eq k Histogram ≡ true) × AllByRecursion IsSmall d.buckets
 
 -- so it is of a series with what it has
-abbrev pub IsOfKind : Told → Type 0
+abbrev pub IsOfKind : KeyedReading → Type 0
 IsOfKind t = ReadsAs t.0.kind (Some t.1)
 
 -- so it is of each series

@@ -7,7 +7,7 @@ use Rattle.std.specs.Borrow.{Bor}
 use Rattle.metrics_names.specs.Names.{label_cmp}
 use Rattle.metrics_exporter.specs.Exporting.{Reading, Cells}
 use Rattle.metrics_exporter.specs.Gathering.{series_at}
-use Rattle.metrics_exporter.specs.Readings.{Told, reading_shown, AreOnce}
+use Rattle.metrics_exporter.specs.Readings.{KeyedReading, reading_shown, AreOnce}
 use Rattle.metrics_prometheus.specs.declared.rows.ShownRow.{ShownRow}
 use Rattle.metrics_prometheus.specs.declared.reasons.Reason.{Reason as ReasonParts}
 use Rattle.metrics_prometheus.specs.declared.reasons.Reason.TheVariants.{LabelTwice, LabelReserved, PartOf, NameTaken, LabelsTaken}
@@ -25,11 +25,11 @@ rows_shown rows = map row_shown rows
 abbrev pub pair_shown : ShownRow → Row × Reading
 pair_shown r = (row_shown r, reading_shown r.reading)
 
-abbrev pub pair_of : Display → Told → Row × Reading
+abbrev pub pair_of : Display → KeyedReading → Row × Reading
 pair_of display t = (row_of display t.0, t.1)
 
 -- the values of a series' labels are UTF-8
-abbrev pub HasTexts : Told → Type 0
+abbrev pub HasTexts : KeyedReading → Type 0
 HasTexts t = All (λ l. IsUtf8 l.1) t.0.key.labels
 
 -- a row shows what its series has
@@ -37,13 +37,13 @@ abbrev pub Shows : Cells → ShownRow → Type 0
 Shows cells r = reading_at cells (row_shown r) ≡ Some (reading_shown r.reading)
 
 -- the series of a row with what it shows
-abbrev pub told_shown : ShownRow → Told
-told_shown r = (series_at r.kind r.key.now, reading_shown r.reading)
+abbrev pub keyed_shown : ShownRow → KeyedReading
+keyed_shown r = (series_at r.kind r.key.now, reading_shown r.reading)
 
 -- rows are those of their series, in order, each once
-pub record AreRowsOf (display : Display) (told : List Told) (rows : List ShownRow) : Type 0 where
-  pub own : map pair_shown rows ≡ map (pair_of display) (map told_shown rows)
-  pub once : AreOnce told (map told_shown rows)
+pub record AreRowsOf (display : Display) (keyed : List KeyedReading) (rows : List ShownRow) : Type 0 where
+  pub own : map pair_shown rows ≡ map (pair_of display) (map keyed_shown rows)
+  pub once : AreOnce keyed (map keyed_shown rows)
   pub ordered : IsSorted row_cmp (rows_shown rows)
   pub labels : AllByRecursion (λ r. IsSorted label_cmp r.labels) rows
 

@@ -43,9 +43,9 @@ pub data IsWhy (rows : List Row) (r : Row) (why : Reason) : Type 0 where
   beside : (w : Row) → Contains (written rows None rows) w → reason_of rows (Some w) r ≡ Some why → IsWhy rows r why
 
 -- a row that may be written has its samples in the text; another one has a line that it is left out, and why
-pub data IsTold (cells : Cells) (rows : List Row) (text : List ℕ) (r : Row) : Type 0 where
-  shown : MayStand rows r → (before after : List ℕ) → text ≡ before ++ (lines (samples_of r (reading_at cells r)) ++ after) → IsTold cells rows text r
-  left_out : (MayStand rows r → ⊥) → (why : Reason) → IsWhy rows r why → (before after : List ℕ) → text ≡ before ++ (left_out_line r why ++ after) → IsTold cells rows text r
+pub data IsReported (cells : Cells) (rows : List Row) (text : List ℕ) (r : Row) : Type 0 where
+  shown : MayStand rows r → (before after : List ℕ) → text ≡ before ++ (lines (samples_of r (reading_at cells r)) ++ after) → IsReported cells rows text r
+  left_out : (MayStand rows r → ⊥) → (why : Reason) → IsWhy rows r why → (before after : List ℕ) → text ≡ before ++ (left_out_line r why ++ after) → IsReported cells rows text r
 
 -- ---- the lines of a text
 

@@ -17,7 +17,7 @@ ghost use Rattle.metrics_prometheus.specs.Written.{written, samples_written, is_
 ghost use Rattle.metrics_prometheus.specs.Numbers.{unsigned, number, IsShifted};
 ghost use Rattle.metrics_prometheus.specs.Samples.{Sample, series_text};
 ghost use Rattle.metrics_prometheus.specs.Reading.{AreOfKinds, AreBuckets, HasNames, CanBeRead, is_same_text, Ascend, NamesOnce};
-ghost use Rattle.metrics_prometheus.specs.Written.{AreApart, HasSamples, TellsKinds, DescribesNames, HasHistogram, MayStand, IsTold};
+ghost use Rattle.metrics_prometheus.specs.Written.{AreApart, HasSamples, TellsKinds, DescribesNames, HasHistogram, MayStand, IsReported};
 
 use crate::rows::row_order;
 
@@ -42,9 +42,9 @@ pub fn exposition_law()
         → Contains (written e.rows None e.rows) (row_of (display_of naming legend) s)
         ↔ MayStand e.rows (row_of (display_of naming legend) s) }
     // It has its samples in the text. If something keeps it from the text, it has a line that says that it is left out.
-    ensures told { (naming : Naming) (legend : Legend) (cells : Cells) (text : List ℕ)
+    ensures keyed { (naming : Naming) (legend : Legend) (cells : Cells) (text : List ℕ)
         (e : IsDescribed naming legend cells text) (s : SeriesKey) → IsHeld cells s
-        → IsTold cells e.rows text (row_of (display_of naming legend) s) }
+        → IsReported cells e.rows text (row_of (display_of naming legend) s) }
     // Each name that is written has one line for its kind, the kind of its rows, before its samples.
     ensures types { (naming : Naming) (legend : Legend) (cells : Cells) (text : List ℕ) → AreOfKinds cells
         → (e : IsDescribed naming legend cells text) → TellsKinds cells e.rows text }

@@ -10,20 +10,21 @@ use metrics::Error;
 use std::alloc::{AllocError, Global};
 
 /// What a line, without its line feed, says of a series that is left out.
-fn told_in(line: &str) -> Option<&str>
-    ensures { (l : Line) → IsReadable l → line_text l ≡ line.now ++ 10 ∷ [] → option_map (λ t. t.now) result ≡ left_out_in l }
+fn left_out_in_line(line: &str) -> Option<&str>
+    ensures { (l : Line) → IsReadable l → line_text l ≡ line.now ++ 10 ∷ []
+        → option_map (λ t. t.now) result ≡ left_out_in l }
 {
     line.strip_prefix("# left out: ")
 }
 
 /// Adds what a line says.
-fn add_told<'t>(told: &mut Vec<&'t str>, line: &'t str) -> Result<(), AllocError>
+fn push_left_out<'t>(found: &mut Vec<&'t str>, line: &'t str) -> Result<(), AllocError>
     ensures { OnOk result ((l : Line) → IsReadable l → line_text l ≡ line.now ++ 10 ∷ []
-        → names_shown told.new.items ≡ names_shown told.old.items ++ option_to_list (left_out_in l)) }
+        → names_shown found.new.items ≡ names_shown found.old.items ++ option_to_list (left_out_in l)) }
 {
-    match told_in(line) {
+    match left_out_in_line(line) {
         Some(words) => {
-            told.push(words)?;
+            found.push(words)?;
             Ok(())
         }
         None => Ok(()),
@@ -33,15 +34,15 @@ fn add_told<'t>(told: &mut Vec<&'t str>, line: &'t str) -> Result<(), AllocError
 /// Returns what a text of this crate says of each series that it leaves out, in order: `KIND NAME{LABELS}: REASON`, without the
 /// `# left out: ` at the start. Fails only with `Error::Memory`. A text that leaves out none allocates nothing.
 pub fn left_out(alloc: Global, text: &str) -> Result<Vec<&str>, Error>
-    ensures told { (lines : List Line) → text.now ≡ flat_map line_text lines → AllByRecursion IsReadable lines
-        → IfOk result (λ told. names_shown told.items ≡ filter_map left_out_in lines) }
+    ensures found { (lines : List Line) → text.now ≡ flat_map line_text lines → AllByRecursion IsReadable lines
+        → IfOk result (λ found. names_shown found.items ≡ filter_map left_out_in lines) }
     ensures err { IfErr result (λ e. e ≡ OutOfMemory) }
 {
-    let mut told = Vec::new(alloc);
+    let mut found = Vec::new(alloc);
     let mut rest = text;
-    while let Some((line, behind)) = rest.split_once('\n') {
-        add_told(&mut told, line)?;
-        rest = behind;
+    while let Some((line, later)) = rest.split_once('\n') {
+        push_left_out(&mut found, line)?;
+        rest = later;
     }
-    Ok(told)
+    Ok(found)
 }

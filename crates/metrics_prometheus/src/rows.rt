@@ -2,7 +2,7 @@
 ghost use Rattle.std.specs.Prelude.{◌≡◌, List, MatchResult, OnOk, IfOk, IsTrue, All, map};
 ghost use Rattle.std.specs.List.{AllByRecursion};
 ghost use Rattle.metrics.specs.declared.error.Error.TheVariants.{Memory as OutOfMemory};
-ghost use Rattle.metrics_exporter.specs.Readings.{Told, told_of};
+ghost use Rattle.metrics_exporter.specs.Readings.{KeyedReading, keyed_reading};
 ghost use Rattle.metrics_prometheus.specs.Exposition.{row_cmp};
 ghost use Rattle.metrics_prometheus.specs.Reading.{IsOfKind};
 ghost use Rattle.metrics_prometheus.specs.Rows.{HasTexts};
@@ -147,10 +147,10 @@ fn row_of<'a>(
 ) -> Result<ShownRow<'a>, Error>
     requires { IfSome last.old (IsKnown (display_of naming (described_by descriptions.now))) }
     ensures row { MatchResult result
-        (λ row. pair_shown row ≡ pair_of (display_of naming (described_by descriptions.now)) (told_of series.entry))
+        (λ row. pair_shown row ≡ pair_of (display_of naming (described_by descriptions.now)) (keyed_reading series.entry))
         (λ e. e ≡ OutOfMemory) }
-    ensures texts { OnOk result (HasTexts (told_of series.entry)) }
-    ensures kind { OnOk result (IsOfKind (told_of series.entry)) }
+    ensures texts { OnOk result (HasTexts (keyed_reading series.entry)) }
+    ensures kind { OnOk result (IsOfKind (keyed_reading series.entry)) }
     ensures last { IfSome last.new (IsKnown (display_of naming (described_by descriptions.now))) }
 {
     reading_kind(series.reading);
@@ -178,10 +178,10 @@ pub(crate) fn rows_of<'a, S: ReadSeries>(
 ) -> Result<Vec<ShownRow<'a>>, Error>
     ensures rows { MatchResult result
         (λ rows. map pair_shown rows.items
-        ≡ map (pair_of (display_of naming (described_by descriptions.now))) (map S.told series.now))
+        ≡ map (pair_of (display_of naming (described_by descriptions.now))) (map S.keyed series.now))
         (λ e. e ≡ OutOfMemory) }
-    ensures texts { OnOk result (All HasTexts (map S.told series.now)) }
-    ensures kinds { OnOk result (All IsOfKind (map S.told series.now)) }
+    ensures texts { OnOk result (All HasTexts (map S.keyed series.now)) }
+    ensures kinds { OnOk result (All IsOfKind (map S.keyed series.now)) }
 {
     let mut rows = Vec::with_capacity(alloc, series.len())?;
     let mut last = None;
@@ -298,8 +298,8 @@ pub(crate) fn sorted_rows<'r, 'a>(
     alloc: Global,
     rows: &'r [ShownRow<'a>],
 ) -> Result<Vec<Place<'r, 'a>>, AllocError>
-    ensures { (display : Display) (told : List Told) → map pair_shown rows.now ≡ map (pair_of display) told
-        → IfOk result (λ places. AreRowsOf display told (rows_placed places.items)) }
+    ensures { (display : Display) (keyed : List KeyedReading) → map pair_shown rows.now ≡ map (pair_of display) keyed
+        → IfOk result (λ places. AreRowsOf display keyed (rows_placed places.items)) }
 {
     let mut places = places_of(alloc, rows, are_alike(rows))?;
     row_order();

@@ -1,7 +1,7 @@
 //! Series of which texts are written.
 ghost use Rattle.std.specs.Prelude.{◌≡◌, Some};
 ghost use Rattle.std.specs.List.{AllByRecursion};
-ghost use Rattle.metrics_exporter.specs.Readings.{Told, told_of, kind_shown, reading_shown};
+ghost use Rattle.metrics_exporter.specs.Readings.{KeyedReading, keyed_reading, kind_shown, reading_shown};
 ghost use Rattle.metrics_prometheus.specs.Reading.{IsSmall, ReadsAs};
 
 use metrics_exporter::{ReadingRef, SeriesReading};
@@ -9,15 +9,15 @@ use metrics_storage::Histogram;
 
 /// A series with what it has.
 pub trait ReadSeries {
-    ghost told: { Self → Told };
+    ghost keyed: { Self → KeyedReading };
 
     /// Returns the series by reference.
     fn reading(&self) -> SeriesReading<'_>
-        ensures { told_of result ≡ told self.now };
+        ensures { keyed_reading result ≡ keyed self.now };
 }
 
 impl ReadSeries for SeriesReading<'_> {
-    ghost told = { told_of };
+    ghost keyed = { keyed_reading };
 
     fn reading(&self) -> SeriesReading<'_> {
         *self

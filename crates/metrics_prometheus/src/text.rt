@@ -11,10 +11,10 @@ ghost use Rattle.metrics_exporter.specs.Exporting.{Cells, Setup, Log, steps, cel
 ghost use Rattle.metrics_names.specs.Names.{label_cmp};
 ghost use Rattle.metrics_exporter.specs.Kept.{IsAfter, described};
 ghost use Rattle.metrics_exporter.specs.Describing.{SameLegend, no_legend, described_by};
-ghost use Rattle.metrics_exporter.specs.Readings.{AreReadings, AreOnce, Told, reading_shown, cells_told};
+ghost use Rattle.metrics_exporter.specs.Readings.{AreReadings, AreOnce, KeyedReading, reading_shown, cells_of_readings};
 ghost use Rattle.metrics_prometheus.specs.Exposition.{Row, row_cmp, histogram_names, is_left_out};
 ghost use Rattle.metrics_prometheus.specs.Exposition.{help_line, type_line, name_lines, name_text};
-ghost use Rattle.metrics_prometheus.specs.Exposition.{samples_of, row_told, rows_text};
+ghost use Rattle.metrics_prometheus.specs.Exposition.{samples_of, row_lines, rows_text};
 ghost use Rattle.metrics_prometheus.specs.Exposition.{IsExposition, IsDescribed};
 ghost use Rattle.metrics_prometheus.specs.Places.{rows_placed};
 ghost use Rattle.metrics_prometheus.specs.Reading.{AreOfKinds};
@@ -67,7 +67,8 @@ fn write_name_lines(text: &mut String, row: &ShownRow<'_>) -> Result<(), AllocEr
 
 /// The row that was written last, if it has a row's name.
 fn named<'w, 'r>(last: Option<&'w ShownRow<'r>>, row: &ShownRow<'_>) -> Option<&'w ShownRow<'r>>
-    ensures named { option_map (λ w. row_shown w.now) result ≡ named (option_map (λ w. row_shown w.now) last.entry) row.now.name }
+    ensures named { option_map (λ w. row_shown w.now) result
+        ≡ named (option_map (λ w. row_shown w.now) last.entry) row.now.name }
     ensures same { IfSome result (λ w. w.now.name ≡ row.now.name) }
 {
     match last {
@@ -132,7 +133,7 @@ fn write_row(
     requires sorted { IsSorted (slice_cmp nat_cmp) (names_shown histograms.now) }
     requires labels { IsSorted label_cmp row.now.labels }
     ensures ok { OnOk result ((rows : List Row) → names_shown histograms.now ≡ histogram_names rows →
-        string_bytes text.new ≡ string_bytes text.old ++ row_told (Some (reading_shown row.now.reading)) rows
+        string_bytes text.new ≡ string_bytes text.old ++ row_lines (Some (reading_shown row.now.reading)) rows
         (option_map (λ w. row_shown w.now) last.entry) (row_shown row.now)) }
     ensures written { IfOk result (λ written. (rows : List Row) → names_shown histograms.now ≡ histogram_names rows
         → written ≡ not (is_left_out rows (option_map (λ w. row_shown w.now) last.entry) (row_shown row.now))) }
@@ -183,12 +184,12 @@ pub fn exposition_of<S: ReadSeries>(
     series: &[S],
 ) -> Result<String, Error>
     // For the cells that the series report.
-    ensures ok { (cells : Cells) → AreReadings cells (map S.told series.now)
+    ensures ok { (cells : Cells) → AreReadings cells (map S.keyed series.now)
         → IfOk result (λ text. IsDescribed naming (described_by descriptions.now) cells (string_bytes text)) }
     // For any list: each series once.
-    ensures each { IfOk result (λ text. (kept : List Told) × AreOnce (map S.told series.now) kept
-        × AreOfKinds (cells_told kept)
-        × IsDescribed naming (described_by descriptions.now) (cells_told kept) (string_bytes text)) }
+    ensures each { IfOk result (λ text. (kept : List KeyedReading) × AreOnce (map S.keyed series.now) kept
+        × AreOfKinds (cells_of_readings kept)
+        × IsDescribed naming (described_by descriptions.now) (cells_of_readings kept) (string_bytes text)) }
     ensures err { IfErr result (λ e. e ≡ OutOfMemory) }
     ensures refused { OnErr result (0 < length series.now) }
 {

@@ -93,8 +93,8 @@ where
 
     /// Calls `op` once on the cell of a counter, and returns its result. The storage makes the cell if the key isn't held.
     ///
-    /// A call that fails changes nothing, and one for a held key never fails: tests show both. A new cell is made before the shard
-    /// is locked: if another thread adds the key meanwhile, `op` is called on that thread's cell, and this one is dropped.
+    /// A call that fails changes nothing, and one for a held key never fails: tests show both. A new cell is made before the
+    /// shard is locked: if another thread adds the key meanwhile, `op` is called on that thread's cell, and this one is dropped.
     pub fn get_or_create_counter<W: Wait, V, F: FnOnce(&S::Counter) -> V + Drop>(
         &self,
         rt: &W,
@@ -196,8 +196,8 @@ where
 
     /// Calls `op` once on the cell of a gauge, and returns its result. The storage makes the cell if the key isn't held.
     ///
-    /// A call that fails changes nothing, and one for a held key never fails: tests show both. A new cell is made before the shard
-    /// is locked: if another thread adds the key meanwhile, `op` is called on that thread's cell, and this one is dropped.
+    /// A call that fails changes nothing, and one for a held key never fails: tests show both. A new cell is made before the
+    /// shard is locked: if another thread adds the key meanwhile, `op` is called on that thread's cell, and this one is dropped.
     pub fn get_or_create_gauge<W: Wait, V, F: FnOnce(&S::Gauge) -> V + Drop>(
         &self,
         rt: &W,
@@ -300,8 +300,8 @@ where
 
     /// Calls `op` once on the cell of a histogram, and returns its result. The storage makes the cell if the key isn't held.
     ///
-    /// A call that fails changes nothing, and one for a held key never fails: tests show both. A new cell is made before the shard
-    /// is locked: if another thread adds the key meanwhile, `op` is called on that thread's cell, and this one is dropped.
+    /// A call that fails changes nothing, and one for a held key never fails: tests show both. A new cell is made before the
+    /// shard is locked: if another thread adds the key meanwhile, `op` is called on that thread's cell, and this one is dropped.
     pub fn get_or_create_histogram<W: Wait, V, F: FnOnce(&S::Histogram) -> V + Drop>(
         &self,
         rt: &W,

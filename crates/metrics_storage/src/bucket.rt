@@ -97,13 +97,13 @@ fn copied<T: Clone + Drop>(blocks: &[Block<T>], alloc: Global) -> Result<Vec<T>,
     ensures clones { IfOk result (λ v. AllZip T.is_clone (joined_lists (reverse blocks.now)) v.items) }
     ensures refused { OnErr result (0 < length blocks.now) }
 {
-    let mut told = Vec::new(alloc);
+    let mut values = Vec::new(alloc);
     let mut rest = blocks;
     while let Some((newest, older)) = rest.split_last() {
-        told.extend_with_clones(newest.data())?;
+        values.extend_with_clones(newest.data())?;
         rest = older;
     }
-    Ok(told)
+    Ok(values)
 }
 
 /// The values pushed since the last clear, in blocks of 64.

@@ -93,7 +93,7 @@ impl Histogram {
     pub fn buckets(&self) -> Result<Vec<(i64, u64)>, Error>
         ensures { MatchResult result (λ v. v.items ≡ self.now.buckets) (λ e. e ≡ OutOfMemory) }
     {
-        Ok(told(
+        Ok(bucket_counts(
             *self.ranks.allocator(),
             &self.bounds,
             &self.own,
@@ -257,7 +257,7 @@ fn ranks_of(alloc: Global, bounds: &[i64]) -> Result<Vec<usize>, AllocError>
 }
 
 /// Each bound with its count.
-fn told(
+fn bucket_counts(
     alloc: Global,
     bounds: &[i64],
     own: &[usize],
@@ -268,16 +268,16 @@ fn told(
     requires own { own.now ≡ own_ranks bounds.now }
     ensures { IfOk result (λ v. v.items ≡ buckets_of bounds.now ranks.now) }
 {
-    let mut told = Vec::with_capacity(alloc, bounds.len())?;
+    let mut bucket_counts = Vec::with_capacity(alloc, bounds.len())?;
     let mut first = 0usize;
     let mut sum = 0u64;
     for i in 0..bounds.len() {
         let next = own[i] + 1;
         sum = moved(ranks, first, sum, next);
         first = next;
-        told.push((bounds[i], sum))?;
+        bucket_counts.push((bounds[i], sum))?;
     }
-    Ok(told)
+    Ok(bucket_counts)
 }
 
 /// Shows each bound with its count to `f`.

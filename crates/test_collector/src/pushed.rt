@@ -102,8 +102,8 @@ fn the_gauge_of_what_is_left_out_has_the_labels(rt: HostRuntime) {
 /// `left_out` is at hand beside the collector.
 #[test]
 fn left_out_reads_a_text(rt: HostRuntime) {
-    let told = left_out(rt.alloc(), LEFT_OUT).expect(&rt, MEMORY);
-    assert_eq!(&rt; told.len(), 2);
+    let lines = left_out(rt.alloc(), LEFT_OUT).expect(&rt, MEMORY);
+    assert_eq!(&rt; lines.len(), 2);
 }
 
 /// A series that was gathered and is pushed again has a line, and is counted.

@@ -60,8 +60,8 @@ const DESCRIBED: &str =
 
 fn expect_described<E: Exports>(rt: &impl Abort, alloc: Global, mut exporter: E) {
     for (name, text) in [("a.b", "one\\two\nthree \"four\""), ("a_b", "hidden")] {
-        let told = exporter.describe(MetricKind::Counter, name, text);
-        told.expect(rt, MEMORY);
+        let answer = exporter.describe(MetricKind::Counter, name, text);
+        answer.expect(rt, MEMORY);
     }
     fill(rt, alloc, &mut exporter, &BESIDE);
     expect_shown(rt, alloc, &exporter, DESCRIBED);

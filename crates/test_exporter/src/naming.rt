@@ -172,10 +172,10 @@ fn is_list(found: &[&str], wanted: &[&str]) -> bool {
 fn what_is_left_out_is_listed(rt: HostRuntime) {
     let exporter = filled(&rt, rt.alloc(), &[], &UNFIT);
     let shown = exposition_named(&exporter, rt.alloc(), Naming::Recommended).expect(&rt, MEMORY);
-    let told = left_out(rt.alloc(), &shown).expect(&rt, MEMORY);
+    let lines = left_out(rt.alloc(), &shown).expect(&rt, MEMORY);
     assert!(rt;
         is_list(
-            &told,
+            &lines,
             &[
                 "counter a_b_total: labels equal those of a b",
                 "gauge line\\nfeed\r{__name__=\"x\"}: label __name__",

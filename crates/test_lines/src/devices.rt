@@ -94,7 +94,7 @@ fn tells_memory(held: &[u8]) -> bool {
 }
 
 /// Returns the status of the program, and what it writes to its errors.
-pub fn told<R: Threads + Wait + Sync + Abort, I: BufRead + Drop>(
+pub fn report<R: Threads + Wait + Sync + Abort, I: BufRead + Drop>(
     rt: &R,
     alloc: Global,
     words: &[&str],
@@ -119,7 +119,7 @@ pub fn ran_slowly<R: Threads + Wait + Sync + Abort>(
     let reader = FaultyReader { rest, most, left };
     let input = BufReader::with_capacity(alloc, 4, reader).expect(rt, MEMORY);
     let mut output = writer(rt, alloc, 1, writes);
-    let told = told(rt, alloc, &["run"], input, &mut output);
+    let report = report(rt, alloc, &["run"], input, &mut output);
     let FaultyWriter { held, .. } = output;
-    (told, held)
+    (report, held)
 }

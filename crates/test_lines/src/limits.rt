@@ -1,6 +1,6 @@
 //! Tree lines past a limit are bad lines, and no want of memory.
 
-use crate::devices::{MEMORY, told, writer};
+use crate::devices::{MEMORY, report, writer};
 use std::alloc::Global;
 use std::process::Abort;
 use std::sync::Wait;
@@ -26,7 +26,7 @@ fn is_bad_at<R: Threads + Wait + Sync + Abort>(
 ) -> bool {
     let text = times(rt, alloc, parts);
     let mut output = writer(rt, alloc, 1000, 1000);
-    let (status, errors) = told(rt, alloc, &["run"], text.as_slice(), &mut output);
+    let (status, errors) = report(rt, alloc, &["run"], text.as_slice(), &mut output);
     let want = format!(in alloc; "line {number}: bad line\n").expect(rt, MEMORY);
     status == 2 && errors.as_slice() == want.as_bytes() && output.held.is_empty()
 }

@@ -1,6 +1,6 @@
 //! Devices that fail, answers that are written in time, and words and numbers that no text case can spell.
 
-use crate::devices::{FaultyReader, MEMORY, end_if_refused, ran_slowly, told, writer};
+use crate::devices::{FaultyReader, MEMORY, end_if_refused, ran_slowly, report, writer};
 use metrics_debugging::DebuggingRecorder;
 use std::alloc::Global;
 use std::cell::Cell;
@@ -30,12 +30,12 @@ fn is_device((status, errors): &(u8, Vec<u8>)) -> bool {
 }
 
 /// Whether a device failed, and a beginning of the answers was written. Out of memory ends the test.
-fn is_cut(rt: &impl Abort, told: &(u8, Vec<u8>), held: &[u8], whole: &[u8]) -> bool {
+fn is_cut(rt: &impl Abort, report: &(u8, Vec<u8>), held: &[u8], whole: &[u8]) -> bool {
     let is_beginning = whole.starts_with(held);
     let last = held.rsplit(|byte| *byte == b'\n').next().unwrap_or(held);
     let is_refusal = b"refused E1 memory".as_slice().starts_with(last);
     end_if_refused(rt, !is_beginning && is_refusal);
-    is_device(told) && is_beginning
+    is_device(report) && is_beginning
 }
 
 #[test]
@@ -45,12 +45,12 @@ fn each_read_and_each_write_fails(rt: HostRuntime) {
         let ((status, _), held) = ran_slowly(&rt, alloc, text, (1000, 1000));
         assert_eq!(rt; (status, held.as_slice()), (good, whole));
         for reads in 0..text.len() / 3 {
-            let (told, held) = ran_slowly(&rt, alloc, text, (reads, 1000));
-            assert!(rt; is_cut(&rt, &told, &held, whole), "at read {reads}");
+            let (report, held) = ran_slowly(&rt, alloc, text, (reads, 1000));
+            assert!(rt; is_cut(&rt, &report, &held, whole), "at read {reads}");
         }
         for writes in 0..whole.len() {
-            let (told, held) = ran_slowly(&rt, alloc, text, (1000, writes));
-            assert!(rt; is_cut(&rt, &told, &held, whole), "at write {writes}");
+            let (report, held) = ran_slowly(&rt, alloc, text, (1000, writes));
+            assert!(rt; is_cut(&rt, &report, &held, whole), "at write {writes}");
             assert_eq!(rt; held.len(), writes);
         }
     }
@@ -62,7 +62,7 @@ fn the_flush_fails(rt: HostRuntime) {
     for (text, whole) in [(GOOD, GOOD_TEXT), (BAD, BAD_TEXT), (before, b"".as_slice())] {
         let mut output = writer(&rt, rt.alloc(), 1000, 1000);
         output.is_flush_good = false;
-        assert!(rt; is_device(&told(&rt, rt.alloc(), &["run"], text, &mut output)));
+        assert!(rt; is_device(&report(&rt, rt.alloc(), &["run"], text, &mut output)));
         assert_eq!(rt; output.held.as_slice(), whole);
     }
 }
@@ -84,9 +84,9 @@ fn a_storm_whose_writer_fails(rt: HostRuntime) {
     for (writes, is_flush_good) in [(0, true), (9, true), (99, false), (99, true)] {
         let mut output = writer(&rt, rt.alloc(), 5, writes);
         output.is_flush_good = is_flush_good;
-        let told = told(&rt, rt.alloc(), &words, b"".as_slice(), &mut output);
+        let report = report(&rt, rt.alloc(), &words, b"".as_slice(), &mut output);
         let is_good = writes == 99 && is_flush_good;
-        assert_eq!(rt; (told.0 == 0, is_device(&told)), (is_good, !is_good));
+        assert_eq!(rt; (report.0 == 0, is_device(&report)), (is_good, !is_good));
         let out = writes.saturating_mul(5).min(whole.len());
         assert!(rt; output.held.len() == out && whole.starts_with(&output.held));
     }
@@ -115,7 +115,7 @@ fn wrong_words_ask_for_nothing(rt: HostRuntime) {
     let alloc = rt.alloc();
     for words in WRONG {
         let mut output = writer(&rt, alloc, 1000, 1000);
-        let (status, errors) = told(&rt, alloc, words, GOOD, &mut output);
+        let (status, errors) = report(&rt, alloc, words, GOOD, &mut output);
         assert_eq!(rt;
             (status, errors.as_slice(), output.held.len()),
             (2, USAGE, 0)
@@ -208,12 +208,12 @@ fn numbers_of_lines_stop(rt: HostRuntime) {
 }
 
 /// A line so many times, and the lines after it.
-fn repeated(rt: &impl Abort, alloc: Global, line: &[u8], times: usize, behind: &[u8]) -> Vec<u8> {
+fn repeated(rt: &impl Abort, alloc: Global, line: &[u8], times: usize, after: &[u8]) -> Vec<u8> {
     let mut text = Vec::new(alloc);
     for _ in 0..times {
         text.extend_from_slice(line).expect(rt, MEMORY);
     }
-    text.extend_from_slice(behind).expect(rt, MEMORY);
+    text.extend_from_slice(after).expect(rt, MEMORY);
     text
 }
 
@@ -221,10 +221,10 @@ fn repeated(rt: &impl Abort, alloc: Global, line: &[u8], times: usize, behind: &
 #[test]
 fn fanouts_of_many_noops(rt: HostRuntime) {
     let good: &[u8] = b"fanout 65536\nfanout 2\nend\n";
-    for (behind, want) in [(good, 0), (b"fanout 65537\nend\n".as_slice(), 2)] {
-        let text = repeated(&rt, rt.alloc(), b"noop\n", 65_537, behind);
+    for (after, want) in [(good, 0), (b"fanout 65537\nend\n".as_slice(), 2)] {
+        let text = repeated(&rt, rt.alloc(), b"noop\n", 65_537, after);
         let mut output = writer(&rt, rt.alloc(), 1000, 1000);
-        let (status, _) = told(&rt, rt.alloc(), &["run"], text.as_slice(), &mut output);
+        let (status, _) = report(&rt, rt.alloc(), &["run"], text.as_slice(), &mut output);
         assert_eq!(rt; status, want);
     }
 }

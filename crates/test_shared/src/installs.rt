@@ -15,7 +15,7 @@ use std::thread::{Threads, join};
 use test_trial::Trial;
 
 #[test]
-fn a_refused_install_is_told(rt: HostRuntime) {
+fn a_refused_install_is_reported(rt: HostRuntime) {
     let alloc = rt.alloc();
     for (error, text) in [
         (

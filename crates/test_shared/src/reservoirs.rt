@@ -15,10 +15,10 @@ use std::thread::{self, Threads, join};
 type Shared = AtomicSamplingReservoir<Xoshiro256PlusPlus>;
 
 /// What a drain reported: the number of values and their sum, the rate, and how many items it yielded.
-type Told = (u64, i128, (u64, u64), usize);
+type Drained = (u64, i128, (u64, u64), usize);
 
 /// What the drain of a reservoir without values reports.
-const NOTHING: Told = (0, 0, (1, 1), 0);
+const NOTHING: Drained = (0, 0, (1, 1), 0);
 
 /// A new reservoir of this size.
 fn sampling(rt: &impl Abort, alloc: Global, size: usize, seed: u64) -> Shared {
@@ -37,17 +37,17 @@ fn push_all<R: Abort + Wait, G: Rng + Drop>(
     }
 }
 
-fn consumed<R: Wait, G: Rng + Drop>(rt: &R, reservoir: &AtomicSamplingReservoir<G>) -> Told {
-    let mut told = NOTHING;
+fn consumed<R: Wait, G: Rng + Drop>(rt: &R, reservoir: &AtomicSamplingReservoir<G>) -> Drained {
+    let mut drained = NOTHING;
     reservoir.consume(rt, |drain| {
         let (len, sum) = (drain.unsampled_len(), drain.unsampled_sum());
-        told = (len, sum, drain.sample_rate(), drain.count());
+        drained = (len, sum, drain.sample_rate(), drain.count());
     });
-    told
+    drained
 }
 
 /// The size, and by turns how many values are pushed and what a drain reports.
-type Turns = (usize, &'static [(i64, Told)]);
+type Turns = (usize, &'static [(i64, Drained)]);
 
 const TURNS: [Turns; 4] = [
     (0, &[(3, (3, 3, (0, 3), 0))]),

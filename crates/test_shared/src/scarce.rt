@@ -20,7 +20,7 @@ fn is_five(rows: &[Row]) -> bool {
 }
 
 /// Checks that a call reports on how many targets its recorder had acted. If memory really ran out it had acted on none.
-fn expect_told<T: Drop>(rt: &impl Abort, answer: Result<T, Refused>) {
+fn expect_refusal<T: Drop>(rt: &impl Abort, answer: Result<T, Refused>) {
     let refused = answer.err();
     assert!(rt;
         refused != Some(Refused::Memory { acted: 0 }),
@@ -45,8 +45,8 @@ fn call_shared<R: Abort + Wait, B: Recorder>(
     let kind = MetricKind::Histogram;
     let first = shared.describe(rt, alloc, kind, name, Some(Unit::Count), "t");
     assert_eq!(rt; first.expect(rt, "out of memory"), 1);
-    expect_told(rt, shared.describe(rt, alloc, kind, name, None, "u"));
-    expect_told(rt, shared.register(rt, alloc, kind, key));
+    expect_refusal(rt, shared.describe(rt, alloc, kind, name, None, "u"));
+    expect_refusal(rt, shared.register(rt, alloc, kind, key));
     let first = shared.update(rt, AT, Update::Record(5));
     expect_updated(rt, first, shared.update(rt, AT, Update::Record(6)));
     let rows = shared.snapshot(rt, alloc, 0).expect(rt, "out of memory");
@@ -63,8 +63,8 @@ fn call_slot<R: Abort + Wait, B: Recorder>(
     let kind = MetricKind::Histogram;
     let first = slot.describe(rt, alloc, kind, name, Some(Unit::Count), "t");
     assert_eq!(rt; first.expect(rt, "out of memory"), 1);
-    expect_told(rt, slot.describe(rt, alloc, kind, name, None, "u"));
-    expect_told(rt, slot.register(rt, alloc, kind, key));
+    expect_refusal(rt, slot.describe(rt, alloc, kind, name, None, "u"));
+    expect_refusal(rt, slot.register(rt, alloc, kind, key));
     let first = slot.update(rt, AT, Update::Record(5));
     expect_updated(rt, first, slot.update(rt, AT, Update::Record(6)));
 }

@@ -19,8 +19,8 @@ fn is_described(rows: &[Row]) -> bool {
 fn expect_counter<R: Abort + Wait, B: Recorder>(rt: &R, alloc: Global, on: &Shared<B>) {
     let kind = MetricKind::Counter;
     let name = KeyName::new(alloc, "c").expect(rt, "out of memory");
-    let told = on.describe(rt, alloc, kind, &name, None, "t");
-    assert_eq!(rt; told.expect(rt, "out of memory"), 1);
+    let answer = on.describe(rt, alloc, kind, &name, None, "t");
+    assert_eq!(rt; answer.expect(rt, "out of memory"), 1);
     let found = on.register(rt, alloc, kind, &key(rt, alloc, "c"));
     assert_eq!(rt;
         found.expect(rt, "out of memory").as_slice(),

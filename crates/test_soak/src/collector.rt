@@ -21,7 +21,7 @@ const CHANGES: i64 = 1024;
 /// How often the kept series were changed, how many series of each kind were made that are changed once, and how often such
 /// ones were shown with their change.
 #[derive(Clone, Copy)]
-struct Told {
+struct Counts {
     changed: u64,
     made: u64,
     counters: u64,
@@ -29,9 +29,9 @@ struct Told {
     histograms: u64,
 }
 
-impl Told {
-    fn none() -> Told {
-        Told {
+impl Counts {
+    fn none() -> Counts {
+        Counts {
             changed: 0,
             made: 0,
             counters: 0,
@@ -40,7 +40,7 @@ impl Told {
         }
     }
 
-    fn join(&mut self, other: Told) {
+    fn join(&mut self, other: Counts) {
         self.changed = self.changed.wrapping_add(other.changed);
         self.made = self.made.wrapping_add(other.made);
         self.counters = self.counters.wrapping_add(other.counters);
@@ -97,19 +97,19 @@ fn change_once<W: Wait>(rt: &W, on: Shared<'_>, at: &str) -> Result<(), Error> {
     histogram.record(rt, 5)
 }
 
-fn work<R: Clock + Wait>(rt: &R, on: Shared<'_>, thread: usize) -> Result<Told, Error> {
-    let mut told = Told::none();
+fn work<R: Clock + Wait>(rt: &R, on: Shared<'_>, thread: usize) -> Result<Counts, Error> {
+    let mut counts = Counts::none();
     for round in 0..u64::MAX {
         change(rt, on, CHANGES)?;
         let at = format!(in on.alloc; "{thread}.{round}")?;
         change_once(rt, on, at.as_str())?;
-        told.changed = told.changed.wrapping_add(CHANGES as u64);
-        told.made = told.made.wrapping_add(1);
+        counts.changed = counts.changed.wrapping_add(CHANGES as u64);
+        counts.made = counts.made.wrapping_add(1);
         if on.deadline.is_over(rt) {
             break;
         }
     }
-    Ok(told)
+    Ok(counts)
 }
 
 /// How many lines of a text begin so and end with a 1.
@@ -123,8 +123,8 @@ fn ones(text: &str, front: &str) -> u64 {
     shown
 }
 
-fn shown_in(text: &str) -> Told {
-    Told {
+fn shown_in(text: &str) -> Counts {
+    Counts {
         changed: 0,
         made: 0,
         counters: ones(text, "counter{"),
@@ -134,37 +134,37 @@ fn shown_in(text: &str) -> Told {
 }
 
 /// Reads the text until all workers have ended, and then once more.
-fn read<W: Wait>(rt: &W, on: Shared<'_>) -> Result<Told, Error> {
-    let mut told = Told::none();
+fn read<W: Wait>(rt: &W, on: Shared<'_>) -> Result<Counts, Error> {
+    let mut counts = Counts::none();
     for now in 1..u64::MAX {
         let is_last = on.ended.load(Ordering::SeqCst) >= WORKERS;
         let text = on.collector.render(rt, on.alloc, now)?;
-        told.join(shown_in(text.as_str()));
+        counts.join(shown_in(text.as_str()));
         if is_last {
             break;
         }
     }
-    Ok(told)
+    Ok(counts)
 }
 
-fn take_part<R: Clock + Wait>(rt: &R, on: Shared<'_>, thread: usize) -> Result<Told, Error> {
+fn take_part<R: Clock + Wait>(rt: &R, on: Shared<'_>, thread: usize) -> Result<Counts, Error> {
     if thread == WORKERS {
         return read(rt, on);
     }
-    let told = work(rt, on, thread);
+    let counts = work(rt, on, thread);
     on.ended.fetch_add(1, Ordering::SeqCst);
-    told
+    counts
 }
 
-fn run_all<R: Clock + Threads + Wait + Sync>(rt: &R, on: Shared<'_>) -> Result<Told>
+fn run_all<R: Clock + Threads + Wait + Sync>(rt: &R, on: Shared<'_>) -> Result<Counts>
     requires { IsSync R.row }
 {
-    let mut told = Told::none();
+    let mut counts = Counts::none();
     let part = |thread: usize| take_part(rt, on, thread);
     for one in thread::map_indices(rt, on.alloc, WORKERS + 1, &part)? {
-        told.join(one?);
+        counts.join(one?);
     }
-    Ok(told)
+    Ok(counts)
 }
 
 /// The kept series show each change, one more of each kind included.
@@ -181,17 +181,17 @@ fn expect_kept(alloc: Global, text: &str, changed: u64) -> Result<()> {
 
 /// One text shows the change of a counter or a histogram. That of a gauge is in one or two: its value changes first, and then the
 /// number of its changes.
-fn expect_shown(told: Told) -> Result<()> {
-    let made = told.made;
+fn expect_shown(counts: Counts) -> Result<()> {
+    let made = counts.made;
     let twice = made.wrapping_mul(2);
-    let is_shown = told.counters == made && told.histograms == made;
-    if made == 0 || !is_shown || told.gauges < made || told.gauges > twice {
+    let is_shown = counts.counters == made && counts.histograms == made;
+    if made == 0 || !is_shown || counts.gauges < made || counts.gauges > twice {
         return Err(anyhow!(
             "{} series of each kind were made; counters were shown {} times, gauges {}, histograms {}",
             made,
-            told.counters,
-            told.gauges,
-            told.histograms
+            counts.counters,
+            counts.gauges,
+            counts.histograms
         ));
     }
     Ok(())
@@ -200,11 +200,11 @@ fn expect_shown(told: Told) -> Result<()> {
 fn soak_beside<R: Clock + Threads + Wait + Sync>(rt: &R, on: Shared<'_>) -> Result<()>
     requires { IsSync R.row }
 {
-    let told = run_all(rt, on)?;
-    expect_shown(told)?;
+    let counts = run_all(rt, on)?;
+    expect_shown(counts)?;
     change(rt, on, 1)?;
     let text = on.collector.render(rt, on.alloc, u64::MAX)?;
-    expect_kept(on.alloc, text.as_str(), told.changed)
+    expect_kept(on.alloc, text.as_str(), counts.changed)
 }
 
 /// Handles are kept meanwhile, so that the kept series stay.

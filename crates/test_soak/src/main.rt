@@ -56,7 +56,7 @@ impl Samples {
 
 /// What went in and what came out.
 #[derive(Clone, Copy)]
-struct Told {
+struct Counts {
     pushed: Samples,
     taken: Samples,
 }
@@ -126,7 +126,7 @@ fn take<W: Wait>(rt: &W, bucket: &AtomicBucket<i64>, taken: &mut Samples) {
 }
 
 /// Pushes into each key's histogram, which is made if it isn't there, and into the bucket. A full one rejects the value.
-fn push<W: Wait>(rt: &W, on: &Shared, told: &mut Told) -> Result<(), Error> {
+fn push<W: Wait>(rt: &W, on: &Shared, counts: &mut Counts) -> Result<(), Error> {
     for number in 0..PUSHES {
         let value = number as i64;
         let Some(key) = on.keys.get(number % KEYS) else {
@@ -134,81 +134,85 @@ fn push<W: Wait>(rt: &W, on: &Shared, told: &mut Told) -> Result<(), Error> {
         };
         let record = |cell: &std::sync::Arc<AtomicBucket<i64>>| cell.push(rt, value).is_ok();
         if on.cells.get_or_create_histogram(rt, key, record)? {
-            told.pushed.add(&[value]);
+            counts.pushed.add(&[value]);
         }
         if on.bucket.push(rt, value).is_ok() {
-            told.pushed.add(&[value]);
+            counts.pushed.add(&[value]);
         }
     }
     Ok(())
 }
 
 /// Clears each histogram in place, and the bucket.
-fn clear<W: Wait>(rt: &W, on: &Shared, told: &mut Told) {
+fn clear<W: Wait>(rt: &W, on: &Shared, counts: &mut Counts) {
     on.cells
-        .visit_histograms(rt, |_, cell| take(rt, cell, &mut told.taken));
-    take(rt, &on.bucket, &mut told.taken);
+        .visit_histograms(rt, |_, cell| take(rt, cell, &mut counts.taken));
+    take(rt, &on.bucket, &mut counts.taken);
 }
 
 /// Removes histograms in three ways, and takes what they held: nobody else removes any, so no sample comes after that.
-fn remove<W: Wait>(rt: &W, on: &Shared, told: &mut Told, now: u64) -> Result<(), Error> {
+fn remove<W: Wait>(rt: &W, on: &Shared, counts: &mut Counts, now: u64) -> Result<(), Error> {
     for (key, cell) in &on.cells.get_histogram_handles(rt, on.alloc)? {
         let generation = Generation::new(0);
         if !on
             .recency
             .should_store_histogram(rt, key, generation, now, &on.cells)?
         {
-            take(rt, cell, &mut told.taken);
+            take(rt, cell, &mut counts.taken);
         }
     }
     if let Some(key) = on.keys.get((now % KEYS as u64) as usize)
         && let Some(cell) = on.cells.get_histogram(rt, key)?
     {
         on.cells.delete_histogram(rt, key);
-        take(rt, &cell, &mut told.taken);
+        take(rt, &cell, &mut counts.taken);
     }
     let is_kept = now % 8 != 7;
     on.cells.retain_histograms(rt, |_, cell| {
-        take(rt, cell, &mut told.taken);
+        take(rt, cell, &mut counts.taken);
         is_kept
     });
     Ok(())
 }
 
 /// What one thread does until the time is up: the first removes, the second clears, all others push.
-fn work<R: Clock + Wait>(rt: &R, on: &Shared, thread: usize) -> Result<Told, Error> {
-    let mut told = Told {
+fn work<R: Clock + Wait>(rt: &R, on: &Shared, thread: usize) -> Result<Counts, Error> {
+    let mut counts = Counts {
         pushed: Samples::none(),
         taken: Samples::none(),
     };
     for now in 0..u64::MAX {
         match thread {
-            0 => remove(rt, on, &mut told, now)?,
-            1 => clear(rt, on, &mut told),
-            _ => push(rt, on, &mut told)?,
+            0 => remove(rt, on, &mut counts, now)?,
+            1 => clear(rt, on, &mut counts),
+            _ => push(rt, on, &mut counts)?,
         }
         if on.deadline.is_over(rt) {
             break;
         }
     }
-    Ok(told)
+    Ok(counts)
 }
 
-fn soak<R: Clock + Threads + Wait + Sync>(rt: &R, alloc: Global, deadline: Deadline) -> Result<Told>
+fn soak<R: Clock + Threads + Wait + Sync>(
+    rt: &R,
+    alloc: Global,
+    deadline: Deadline,
+) -> Result<Counts>
     requires { IsSync R.row }
 {
     let on = &Shared::new(alloc, deadline)?;
-    let mut told = Told {
+    let mut counts = Counts {
         pushed: Samples::none(),
         taken: Samples::none(),
     };
     for worked in thread::map_indices(rt, on.alloc, THREADS, &|thread| work(rt, on, thread))? {
         let more = worked?;
-        told.pushed.join(more.pushed);
-        told.taken.join(more.taken);
+        counts.pushed.join(more.pushed);
+        counts.taken.join(more.taken);
     }
-    clear(rt, on, &mut told);
-    Ok(told)
+    clear(rt, on, &mut counts);
+    Ok(counts)
 }
 
 fn seconds(rt: &(impl Env + AllocGlobal)) -> Result<u64> {
@@ -219,8 +223,8 @@ fn seconds(rt: &(impl Env + AllocGlobal)) -> Result<u64> {
 }
 
 /// Each sample that went in came out once.
-fn expect_samples(told: Told) -> Result<()> {
-    let (pushed, taken) = (told.pushed, told.taken);
+fn expect_samples(counts: Counts) -> Result<()> {
+    let (pushed, taken) = (counts.pushed, counts.taken);
     if pushed != taken || pushed.count == 0 {
         return Err(anyhow!(
             "{} of sum {} went in, {} of sum {} came out",
@@ -236,12 +240,12 @@ fn expect_samples(told: Told) -> Result<()> {
 fn main(rt: HostRuntime) -> Result<()> {
     let alloc = rt.alloc();
     let deadline = Deadline::new(&rt, seconds(&rt)?)?;
-    let (told, collected) = join(
+    let (counts, collected) = join(
         &rt,
         || soak(&rt, alloc, deadline),
         || collector::soak(&rt, alloc, deadline),
     );
-    expect_samples(told?)?;
+    expect_samples(counts?)?;
     collected?;
     println!(rt; "each sample came out once")?;
     println!(rt; "each change of a collector's counters and histograms was shown once")?;

@@ -82,19 +82,19 @@ fn fill<R: Abort, T: Numbered, F: Fn(i64) -> T>(
     }
     assert!(rt; !on.is_empty());
     trial.begin();
-    let mut told = 0;
-    on.data_with(|chunk| told = firsts(told, chunk));
+    let mut seen = 0;
+    on.data_with(|chunk| seen = firsts(seen, chunk));
     trial.calm();
-    assert!(rt; told == 128_064_000);
+    assert!(rt; seen == 128_064_000);
 }
 
 /// Takes the numbers 0 to 129 out, which allocates nothing.
 fn clear<R: Abort, T: Numbered>(rt: &R, trial: &Trial, on: &mut OwnedBucket<T>) {
     trial.begin();
-    let mut told = 0;
-    on.clear_with(|chunk| told = firsts(told, chunk));
+    let mut seen = 0;
+    on.clear_with(|chunk| seen = firsts(seen, chunk));
     trial.calm();
-    assert!(rt; told == 128_064_000);
+    assert!(rt; seen == 128_064_000);
     assert!(rt; on.is_empty());
 }
 
@@ -102,8 +102,8 @@ fn clear<R: Abort, T: Numbered>(rt: &R, trial: &Trial, on: &mut OwnedBucket<T>) 
 fn are_newest_first<T: Numbered>(values: &[T]) -> bool {
     let (newest, older) = values.split_at(values.len().min(2));
     let (middle, oldest) = older.split_at(older.len().min(64));
-    let told = firsts(firsts(firsts(0, newest), middle), oldest);
-    newest.len() == 2 && middle.len() == 64 && oldest.len() == 64 && told == 128_064_000
+    let seen = firsts(firsts(firsts(0, newest), middle), oldest);
+    newest.len() == 2 && middle.len() == 64 && oldest.len() == 64 && seen == 128_064_000
 }
 
 /// Reads them, where the first try may run out of memory.
@@ -119,10 +119,10 @@ fn a_kept_closure_is_shown_each_block(rt: HostRuntime) {
     for number in 0..130i64 {
         bucket.record(number).expect(&rt, "out of memory");
     }
-    let mut told = 0;
-    let mut note = |chunk: &[i64]| told = firsts(told, chunk);
+    let mut seen = 0;
+    let mut note = |chunk: &[i64]| seen = firsts(seen, chunk);
     bucket.data_to(&mut note);
-    assert!(rt; told == 128_064_000);
+    assert!(rt; seen == 128_064_000);
 }
 
 #[test]

@@ -45,7 +45,7 @@ fn shown(before: i64, (bound, count): (i64, u64)) -> i64 {
 }
 
 /// Checks that a histogram reports these samples, and shows them too.
-fn expect_told(rt: &impl Abort, histogram: &Histogram, samples: &Samples) {
+fn expect_refusal(rt: &impl Abort, histogram: &Histogram, samples: &Samples) {
     assert!(rt; (histogram.count(), histogram.sum()) == (samples.count, samples.sum));
     let buckets = histogram.buckets().expect(rt, "out of memory");
     assert!(rt; buckets.as_slice() == samples.buckets);
@@ -68,9 +68,9 @@ fn expect_samples(rt: &impl Abort, alloc: Global, samples: &Samples) {
     histogram
         .record(samples.one)
         .expect(rt, "a record is refused");
-    expect_told(rt, &histogram, samples);
+    expect_refusal(rt, &histogram, samples);
     let copy = histogram.clone().expect(rt, "out of memory");
-    expect_told(rt, &copy, samples);
+    expect_refusal(rt, &copy, samples);
 }
 
 #[test]

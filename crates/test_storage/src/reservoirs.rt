@@ -7,13 +7,13 @@ use std::mem;
 use std::process::Abort;
 
 /// What a drain reports: the number of values, their sum and the rate.
-type Told = (u64, i128, (u64, u64));
+type Drained = (u64, i128, (u64, u64));
 
 /// What the drain of a reservoir without values reports.
-const NOTHING: Told = (0, 0, (1, 1));
+const NOTHING: Drained = (0, 0, (1, 1));
 
 /// The pushes on a reservoir, each with its draw, its size, what a drain reports and what it yields.
-type Row = (usize, &'static [(i64, u64)], Told, &'static [i64]);
+type Row = (usize, &'static [(i64, u64)], Drained, &'static [i64]);
 
 const ROWS: [Row; 4] = [
     (
@@ -38,9 +38,9 @@ fn reservoir_of(rt: &impl Abort, alloc: Global, row: &Row) -> Reservoir {
     reservoir
 }
 
-fn expect_drain(rt: &impl Abort, mut drain: Drain<'_>, told: Told, items: &[i64]) {
+fn expect_drain(rt: &impl Abort, mut drain: Drain<'_>, drained: Drained, items: &[i64]) {
     let (count, sum) = (drain.unsampled_len(), drain.unsampled_sum());
-    assert!(rt; (count, sum, drain.sample_rate()) == told);
+    assert!(rt; (count, sum, drain.sample_rate()) == drained);
     assert!(rt; drain.len() == items.len());
     for item in items {
         assert!(rt; drain.next() == Some(*item));

@@ -48,7 +48,7 @@ pub fn text(rt: &impl Abort, alloc: Global, number: i64) -> String {
 }
 
 /// Returns the first number of a chunk, after those of the chunks before it; or -1 if its numbers don't rise one by one.
-pub fn firsts<T: Numbered>(told: i64, chunk: &[T]) -> i64 {
+pub fn firsts<T: Numbered>(seen: i64, chunk: &[T]) -> i64 {
     let first = chunk.first().map_or(-1, |first| first.number());
     let mut next = first;
     for value in chunk {
@@ -57,5 +57,5 @@ pub fn firsts<T: Numbered>(told: i64, chunk: &[T]) -> i64 {
         }
         next = next.wrapping_add(1);
     }
-    told.wrapping_mul(1000).wrapping_add(first)
+    seen.wrapping_mul(1000).wrapping_add(first)
 }

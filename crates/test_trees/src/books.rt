@@ -29,12 +29,12 @@ fn are_all(rows: &[Row]) -> bool {
 /// Describes a name by the call of a kind. Returns how many books accepted it.
 fn described<P: Abort, R: Recorder>(test: &Test<P>, on: &mut R, kind: MetricKind) -> usize {
     let name = test.ok(KeyName::new(test.alloc, "hits"));
-    let told = match kind {
+    let seen = match kind {
         Counter => on.describe_counter(test.alloc, &name, Some(Unit::Count), "all"),
         Gauge => on.describe_gauge(test.alloc, &name, None, "all"),
         Histogram => on.describe_histogram(test.alloc, &name, None, "all"),
     };
-    test.ok(told)
+    test.ok(seen)
 }
 
 fn update_counter<P: Abort, R: Recorder>(test: &Test<P>, on: &mut R, key: &Key) {

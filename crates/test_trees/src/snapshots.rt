@@ -55,8 +55,8 @@ fn samples_come_newest_block_first(rt: HostRuntime) {
 /// The rows of a described counter, and of a histogram of the same key.
 fn rows_of_two<P: Abort, R: Recorder>(test: &Test<P>, mut on: R, key: &Key) -> Snapshot {
     let name = test.ok(KeyName::new(test.alloc, "a"));
-    let told = on.describe_counter(test.alloc, &name, Some(Unit::Bytes), "text");
-    assert!(test.rt; test.ok(told) == 1);
+    let seen = on.describe_counter(test.alloc, &name, Some(Unit::Bytes), "text");
+    assert!(test.rt; test.ok(seen) == 1);
     for kind in [MetricKind::Histogram, MetricKind::Counter] {
         test.ok(on.register(test.alloc, kind, key));
     }

@@ -5,7 +5,7 @@ ghost use Rattle.metrics.specs.declared.error.Error.TheVariants.{Memory as OutOf
 ghost use Rattle.metrics_exporter.specs.Exporting.{Setup};
 ghost use Rattle.metrics_exporter.specs.Kept.{IsAfter, described};
 ghost use Rattle.metrics_exporter.specs.Describing.{SameLegend, no_legend};
-ghost use Rattle.tool_export.specs.Exporting.{answers as told, Exports, IsExport, IsExportRun};
+ghost use Rattle.tool_export.specs.Exporting.{answers as answers_of, Exports, IsExport, IsExportRun};
 ghost use Rattle.tool_export.specs.Plans.{setup_of, IsAllowed};
 ghost use Rattle.tool_export.specs.Requests.{IsBad};
 
@@ -27,7 +27,7 @@ impl LineMachine for ExportLines {
 
     type Notes = ();
 
-    ghost answers = { told };
+    ghost answers = { answers_of };
 
     ghost is_bad = { IsBad };
 

@@ -25,7 +25,7 @@ pub trait Page {
 /// Removes the series idle at this moment, and returns the page of the rest. Never fails if no series is held.
 pub fn shown_at<P: Page>(page: &P, on: &mut Exporter, now: u64) -> Result<String, Error>
     ensures shown { Scrapes (λ cells text. P.shows page.now on.new cells (string_bytes text)) on.old on.new now result }
-    ensures told { described on.new ≡ described on.old }
+    ensures legend { described on.new ≡ described on.old }
 {
     match on.expire(now) {
         Ok(_) => page.text(on),

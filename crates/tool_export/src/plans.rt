@@ -56,12 +56,12 @@ fn bounds_of(alloc: Global, word: &[u8]) -> Result<Option<Vec<i64>>, AllocError>
 {
     let mut bounds = Vec::new(alloc);
     let mut rest = word;
-    while let Some((digits, behind)) = split_at_first(rest, b',') {
+    while let Some((digits, later)) = split_at_first(rest, b',') {
         let Some(bound) = signed_number_of(digits) else {
             return Ok(None);
         };
         bounds.push(bound)?;
-        rest = behind;
+        rest = later;
     }
     let Some(last) = signed_number_of(rest) else {
         return Ok(None);
@@ -76,11 +76,11 @@ fn are_bounds(word: &[u8]) -> bool
     ensures not_are { result ≡ false → (ns : List ℤ) → AreSamples ns → word.now ≡ samples_text ns → ⊥ }
 {
     let mut rest = word;
-    while let Some((digits, behind)) = split_at_first(rest, b',') {
+    while let Some((digits, later)) = split_at_first(rest, b',') {
         let Some(_bound) = signed_number_of(digits) else {
             return false;
         };
-        rest = behind;
+        rest = later;
     }
     match signed_number_of(rest) {
         Some(_last) => true,

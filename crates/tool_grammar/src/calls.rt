@@ -10,7 +10,7 @@ ghost use Rattle.tool_grammar.specs.Cuts.{Lacks};
 ghost use Rattle.tool_grammar.specs.Grammar.{unit_word, update_word, amount_word};
 ghost use Rattle.tool_grammar.specs.Grammar.{IsName, IsLabel, AreLabels, IsInRange, Spells, IsBad};
 
-use crate::cuts::{behind, split_at_first, split_before};
+use crate::cuts::{split_at_first, split_before, strip_prefix};
 use crate::words::{kind_of, name_of, number_of, unit_of, update_of};
 use metrics::{Call, Key, KeyName, Label, MetricKind, Refused, Reset, Text, Unit};
 use std::alloc::Global;
@@ -101,7 +101,7 @@ fn labels_of(alloc: Global, bytes: &[u8]) -> Result<Option<Vec<Label>>, Refused>
     let mut labels = Vec::with_capacity(alloc, room_for(bytes))?;
     let mut rest = bytes;
     while !rest.is_empty() {
-        let Some(others) = behind(rest, b" ") else {
+        let Some(others) = strip_prefix(rest, b" ") else {
             return Ok(None);
         };
         let (word, after) = split_before(others, b' ');

@@ -18,7 +18,7 @@ pub fn place_of(bytes: &[u8], byte: u8) -> usize
 }
 
 /// Returns what follows `front`, if the line begins with it.
-pub fn behind<'a>(line: &'a [u8], front: &[u8]) -> Option<&'a [u8]>
+pub fn strip_prefix<'a>(line: &'a [u8], front: &[u8]) -> Option<&'a [u8]>
     ensures { MatchOption result ((rest : List ℕ) → line.now ≡ front.now ++ rest → ⊥)
         (λ rest. line.now ≡ front.now ++ rest.now) }
 {

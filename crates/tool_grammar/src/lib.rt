@@ -9,7 +9,7 @@ mod printing;
 mod words;
 
 pub use calls::{call_of, key_of};
-pub use cuts::{behind, place_of, split_at_first, split_before};
+pub use cuts::{place_of, split_at_first, split_before, strip_prefix};
 pub use error::RunError;
 pub use laws::one_call_at_most;
 pub use printing::write_answer;

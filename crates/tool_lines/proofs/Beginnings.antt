@@ -90,8 +90,8 @@ begins_whole ls text (inl none) i =
     let m = meaning_of i.tree in
     let (more, all) = extended m [] i.calls [] (answered m [] [] tt refl) in
     (more, subst (λ t. IsAnswered m i.calls (t ++ more)) none all)
-begins_whole ls text (inr (tree, behind, first, (front, more, (calls, rest, spelled, lines, ans), same))) i =
-    let trees = one_tree ls tree i.tree behind i.behind first i.tree_first in
+begins_whole ls text (inr (tree, after_tree, first, (front, more, (calls, rest, spelled, lines, ans), same))) i =
+    let trees = one_tree ls tree i.tree after_tree i.after_tree first i.tree_first in
     let (others, e) = first_calls calls i.calls rest i.rest spelled i.then_calls.0 i.then_calls.2 (sym lines ∙ trees.1 ∙ i.then_calls.1) in
     let (end, all) = extended (meaning_of tree) calls others (front ++ more) ans in
     let whole = subst (λ cs. IsAnswered (meaning_of tree) cs ((front ++ more) ++ end)) (sym e) all in

@@ -24,14 +24,14 @@ calls =
     call.Describe Counter (codes "hits") (Some Count) (codes "all hits") ∷ call.Register Counter (record { name = codes "hits"; labels = (codes "host", codes "a") ∷ [] })
     ∷ call.Update 0 (Increment 2) ∷ call.Update 0 (Increment 3) ∷ call.Snapshot 0 ∷ call.Snapshot 0 ∷ []
 
-abbrev behind : List (List ℕ)
-behind = codes "describe counter hits count all hits" ∷ codes "register counter hits host=a" ∷ codes "increment 0 2" ∷ codes "increment 0 3" ∷ codes "snapshot 0" ∷ codes "snapshot 0" ∷ []
+abbrev after_tree : List (List ℕ)
+after_tree = codes "describe counter hits count all hits" ∷ codes "register counter hits host=a" ∷ codes "increment 0 2" ∷ codes "increment 0 3" ∷ codes "snapshot 0" ∷ codes "snapshot 0" ∷ []
 
 text_is : answers_text (meaning_of tree) calls ≡ first_output
 unfolding digits
 text_is = refl
 
-cut : lines_of first_input ≡ codes "book" ∷ (codes "prefix app" ∷ (codes "end" ∷ behind))
+cut : lines_of first_input ≡ codes "book" ∷ (codes "prefix app" ∷ (codes "end" ∷ after_tree))
 cut = refl
 
 -- bytes below 128 are a text
@@ -50,7 +50,7 @@ each_ascii (x ∷ xs) h (suc i) = each_ascii xs (both_true x (are_ascii xs) h).1
 is_text : (bs : List ℕ) → are_ascii bs ≡ true → IsUtf8 bs
 is_text bs h = IsUtf8-from_ascii bs (each_ascii bs h)
 
-begins : BeginsWithTree (lines_of first_input) tree behind
+begins : BeginsWithTree (lines_of first_input) tree after_tree
 begins = ((((is_text (codes "app") refl, lacks_literal 32 (codes "app") refl, λ e. absurd (omega (arith, ap length e))), tt, omega arith), (tt, tt, omega arith)), cut)
 
 hits : IsName (codes "hits")
@@ -62,9 +62,9 @@ host = (is_text (codes "host") refl, is_text (codes "a") refl, lacks_literal 32 
 spelled : AllByRecursion CanBeSpelled calls
 spelled = ((hits, is_text (codes "all hits") refl), ((hits, (host, tt)), ((omega arith, omega arith), ((omega arith, omega arith), (omega arith, (omega arith, tt))))))
 
-follows : BeginsWithCalls behind calls []
+follows : BeginsWithCalls after_tree calls []
 unfolding digits
 follows = (spelled, refl, tt)
 
 pub first : (i : Input (lines_of first_input)) × (i.rest ≡ []) × (printed i ≡ first_output)
-first = (record { tree = tree; calls = calls; behind = behind; rest = []; tree_first = begins; then_calls = follows }, refl, text_is)
+first = (record { tree = tree; calls = calls; after_tree = after_tree; rest = []; tree_first = begins; then_calls = follows }, refl, text_is)

@@ -52,7 +52,7 @@ calls_same (c ∷ cs) (d ∷ ds) p q h g s t e =
 
 pub input_same : (ls : List (List ℕ)) (i j : Input ls) → (i.tree ≡ j.tree) × (i.calls ≡ j.calls) × (i.rest ≡ j.rest)
 input_same ls i j =
-    let trees = one_tree ls i.tree j.tree i.behind j.behind i.tree_first j.tree_first in
+    let trees = one_tree ls i.tree j.tree i.after_tree j.after_tree i.tree_first j.tree_first in
     let lines : map spelling i.calls ++ i.rest ≡ map spelling j.calls ++ j.rest = sym i.then_calls.1 ∙ trees.1 ∙ j.then_calls.1 in
     let calls = calls_same i.calls j.calls i.rest j.rest i.then_calls.0 j.then_calls.0 i.then_calls.2 j.then_calls.2 lines in
     (trees.0, calls.0, calls.1)
@@ -64,8 +64,8 @@ printed_same ls i j =
 
 pub one_text : (ls : List (List ℕ)) (a b : List ℕ) → Prints ls a → Prints ls b → a ≡ b
 one_text ls a b (inl (i, e)) (inl (j, f)) = e ∙ printed_same ls i j ∙ sym f
-one_text ls a b (inl (i, e)) (inr (none, f)) = absurd (none i.tree i.behind i.tree_first)
-one_text ls a b (inr (none, e)) (inl (j, f)) = absurd (none j.tree j.behind j.tree_first)
+one_text ls a b (inl (i, e)) (inr (none, f)) = absurd (none i.tree i.after_tree i.tree_first)
+one_text ls a b (inr (none, e)) (inl (j, f)) = absurd (none j.tree j.after_tree j.tree_first)
 one_text ls a b (inr (none, e)) (inr (other, f)) = e ∙ sym f
 
 -- ---- texts of answers
@@ -210,16 +210,16 @@ spelled_calls (l ∷ ls) (e ∷ log) h =
 answers_front : (m : Meaning) (ys left read : List ℕ) (ls : List (List ℕ)) (log : Log) (text : List ℕ) → ys ≡ read ++ left → AreFirst (left ≡ []) read ls → AreSpelled ls log
     → ArePlain m.targets (length m.contents) log → text ≡ print log → AnswersFront m (lines_of ys) text
 answers_front m ys left read ls log text took at spelled plain is =
-    let (behind, whole) = some_lines ys left read ls took at in
+    let (after_tree, whole) = some_lines ys left read ls took at in
     let calls = spelled_calls ls log spelled in
-    (map (λ e. e.0) log, behind, calls.0, whole ∙ ap (λ k. k ++ behind) calls.1, answered m log text plain is)
+    (map (λ e. e.0) log, after_tree, calls.0, whole ∙ ap (λ k. k ++ after_tree) calls.1, answered m log text plain is)
 
 module _ (xs ys left held : List ℕ) (y : Option (List ℕ)) (s t : Meaning) (tree : Tree) (allowed : IsAllowed tree) (is : s ≡ meaning_of tree) (front : lines_of xs ≡ (tree_lines tree ++ tree_spelling line.End ∷ []) ++ lines_of ys) where
   abbrev input : (calls : List Call) (rest : List (List ℕ)) → BeginsWithCalls (lines_of ys) calls rest → Input (lines_of xs)
   input calls rest h = record {
     tree = tree;
     calls = calls;
-    behind = lines_of ys;
+    after_tree = lines_of ys;
     rest = rest;
     tree_first = (allowed, front ∙ append_assoc (tree_lines tree) (tree_spelling line.End ∷ []) (lines_of ys));
     then_calls = h;
@@ -264,8 +264,8 @@ runs_over (Some xs) (Some ys) (Some left) (Some held) (Some now) s t first (Ok n
     all_answered xs ys left held (Some now) s t tree allowed is front log text (subst (λ k. AreSpelled (lines_of k) log) (sym all) spelled) made text_is (ap Some w)
 runs_over (Some xs) (Some ys) (Some left) (Some held) (Some now) s t first (Err (BadLine k)) read took (tree, allowed, is, are, number) (more, text, took', w, (ls, bad, log, at, lines, is_bad, spelled, made, text_is, count)) =
     let front = read_lines xs ys read (tree_lines tree ++ tree_spelling line.End ∷ []) took are in
-    let (behind, whole) = first_lines ys left more ls bad took' at lines in
-    first_answered xs ys left held (Some now) s t tree allowed is front ls bad behind log text whole is_bad spelled made text_is (ap Some w)
+    let (after_tree, whole) = first_lines ys left more ls bad took' at lines in
+    first_answered xs ys left held (Some now) s t tree allowed is front ls bad after_tree log text whole is_bad spelled made text_is (ap Some w)
 runs_over (Some xs) (Some ys) (Some left) (Some held) (Some now) s t first (Err (Memory (Some k))) read took (tree, allowed, is, are, number) (more, text, took', w, (ls, log, at, spelled, made, text_is, count)) =
     let front = read_lines xs ys read (tree_lines tree ++ tree_spelling line.End ∷ []) took are in
     some_answered xs ys left held (Some now) s t tree allowed is front more ls log text [] took' at spelled made (sym text_is ∙ sym (append-nil text)) (ap Some w)
@@ -338,9 +338,9 @@ run_answered (Some ys) (Some left) (Some held) (Some now) s t first (Ok n) (read
     let lines = spelled_calls (lines_of ys) log (subst (λ k. AreSpelled (lines_of k) log) (sym all) spelled) in
     (map (λ e. e.0) log, text, (lines.0, lines.1 ∙ sym (append-nil _), tt), answered s log text (made.plain new) is, ap Some w)
 run_answered (Some ys) (Some left) (Some held) (Some now) s t first (Err (BadLine k)) (read, text, took, w, (ls, bad, log, at, lines, is_bad, spelled, made, is, count)) new =
-    let (behind, whole) = first_lines ys left read ls bad took at lines in
+    let (after_tree, whole) = first_lines ys left read ls bad took at lines in
     let calls = spelled_calls ls log spelled in
-    (map (λ e. e.0) log, text, bad, behind, (calls.0, whole ∙ ap (λ k. k ++ bad ∷ behind) calls.1, is_bad), answered s log text (made.plain new) is, ap Some w)
+    (map (λ e. e.0) log, text, bad, after_tree, (calls.0, whole ∙ ap (λ k. k ++ bad ∷ after_tree) calls.1, is_bad), answered s log text (made.plain new) is, ap Some w)
 run_answered (Some ys) (Some left) (Some held) (Some now) s t first (Err (Memory (Some k))) (read, text, took, w, (ls, log, at, spelled, made, is, count)) new =
     (text, answers_front s ys left read ls log text took at spelled (made.plain new) is, ap Some w)
 run_answered (Some ys) (Some left) (Some held) (Some now) s t first (Err (Memory None)) (read, text, took, w, (ls, log, more, at, spelled, made, is)) new =

@@ -23,7 +23,7 @@ use Rattle.tool_export.specs.Lines.{lines_of, ended, unlines, IsLine}
 use Rattle.tool_export.specs.declared.stream.Fault.{Fault}
 use Rattle.tool_export.specs.declared.stream.Fault.TheVariants as faults
 use Rattle.tool_export.specs.Answering.{fault_at}
-use Rattle.tool_lines.specs.TreeReading.{AreRead, StopsBehind, BuildsTree, RefusesTree, error_at}
+use Rattle.tool_lines.specs.TreeReading.{AreRead, StopsAfter, BuildsTree, RefusesTree, error_at}
 use Rattle.tool_export.proofs.LinesLemmas.{lines-last, lines-one}
 use Rattle.std.proofs.lemmas.List.{length_push}
 use Rattle.tool_export.proofs.Loop.{unlines_push, split_push}
@@ -81,7 +81,7 @@ module _ (a b c : Option (List ℕ)) (stack : List Level) (number : ℕ) (so : T
       }
 
   -- lines of trees were read, and this much more
-  stops : (part : List ℕ) → Consumes b c part → length (lines_of part) ≤ 1 → (read : List ℕ) × Consumes a c read × StopsBehind read (all_lines so.trees)
+  stops : (part : List ℕ) → Consumes b c part → length (lines_of part) ≤ 1 → (read : List ℕ) × Consumes a c read × StopsAfter read (all_lines so.trees)
   stops part r short =
       let old = unlines (all_lines so.trees) in
       (old ++ part, Consumes-trans a b c _ _ so.read r, (part, of_trees so.trees (built_allowed stack so.trees so.built), refl, so.split part, short))

@@ -27,10 +27,10 @@ BeginsWithCalls ls calls rest = AllByRecursion CanBeSpelled calls × (ls ≡ map
 pub record Input (ls : List (List ℕ)) : Type 0 where
   pub tree : Tree
   pub calls : List Call
-  pub behind : List (List ℕ)
+  pub after_tree : List (List ℕ)
   pub rest : List (List ℕ)
-  pub tree_first : BeginsWithTree ls tree behind
-  pub then_calls : BeginsWithCalls behind calls rest
+  pub tree_first : BeginsWithTree ls tree after_tree
+  pub then_calls : BeginsWithCalls after_tree calls rest
 
 -- ---- what is written
 
@@ -91,8 +91,8 @@ AnswersFirst ls Writes =
 -- nothing was written; or a beginning of the answers to the first calls, on the tree with which the lines begin
 abbrev pub AnswersPart : List (List ℕ) → (List ℕ → Type 0) → Type 0
 AnswersPart ls Writes = Writes []
-    ⊎ ((tree : Tree) × (behind : List (List ℕ)) × BeginsWithTree ls tree behind
-    × AnswersSome (meaning_of tree) behind Writes)
+    ⊎ ((tree : Tree) × (after_tree : List (List ℕ)) × BeginsWithTree ls tree after_tree
+    × AnswersSome (meaning_of tree) after_tree Writes)
 
 -- what was written for lines, by the result
 abbrev pub RunsOver : {A : Type 0} → List (List ℕ) → (List ℕ → Type 0) → Result A RunError → Type 0

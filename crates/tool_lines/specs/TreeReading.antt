@@ -23,8 +23,8 @@ BuildsTree at_end read m number = (t : Tree)
     × AreRead at_end read (tree_lines t ++ spelling line.End ∷ []) × (number ≡ suc (suc (length (tree_lines t))))
 
 -- Lines of trees were read, one tree after the other, and after them at most one line, or a part of it.
-abbrev pub StopsBehind : List ℕ → List (List ℕ) → Type 0
-StopsBehind read ls = (part : List ℕ)
+abbrev pub StopsAfter : List ℕ → List (List ℕ) → Type 0
+StopsAfter read ls = (part : List ℕ)
     × AreOfTrees ls × (read ≡ unlines ls ++ part) × (lines_of read ≡ ls ++ lines_of part) × (length (lines_of part) ≤ 1)
 
 -- The first bad line, after the lines of trees; or the reader is at its end after such lines, and they have no `end`.
@@ -34,8 +34,8 @@ RefusesTree at_end read (BadLine k) =
     ((ls : List (List ℕ)) × (bad : List ℕ) × AreRead at_end read (ls ++ bad ∷ []) × IsFirstBad ls bad × (k ≡ suc (length ls)))
     ⊎ (at_end × AreOfTrees (lines_of read) × NoTree (lines_of read) × (k ≡ suc (length (lines_of read))))
 RefusesTree at_end read (Memory None) = ⊥
-RefusesTree at_end read (Memory (Some k)) = (ls : List (List ℕ)) × StopsBehind read ls × (k ≡ suc (length ls))
-RefusesTree at_end read Device = (ls : List (List ℕ)) × StopsBehind read ls
+RefusesTree at_end read (Memory (Some k)) = (ls : List (List ℕ)) × StopsAfter read ls × (k ≡ suc (length ls))
+RefusesTree at_end read Device = (ls : List (List ℕ)) × StopsAfter read ls
 
 -- the error at a tree line
 abbrev pub error_at : ℕ → LineError → RunError

@@ -5,7 +5,7 @@ use Rattle.std.specs.Io.KnownBytes.{Consumes, Appends, IsAtEnd}
 use Rattle.metrics_names.specs.Names.{KeyParts}
 use Rattle.metrics_registry.specs.Idleness.{Answered}
 use Rattle.metrics_exporter.specs.Exporting.{Log, updates, expires, steps, cells_after, IsExpiry, IsFull}
-use Rattle.metrics_exporter.specs.Describing.{Legend, no_legend, told_again}
+use Rattle.metrics_exporter.specs.Describing.{Legend, no_legend, legend_described}
 use Rattle.metrics_prometheus.specs.Exposition.{IsDescribed}
 use Rattle.tool_export.specs.Lines.{lines_of, ended_lines, is_cut}
 use Rattle.tool_prometheus.specs.Making.{setup_for}
@@ -43,7 +43,7 @@ abbrev pub Prints : Options → Done → Request → Asked → List ℕ → Done
 Prints options old (Change key by) asked text new = (asked ≡ nothing_asked) × (IsFull (steps old.calls) key by → ⊥) × (text ≡ [])
     × (new ≡ record old { calls = old.calls ++ updates key by (Ok tt) ∷ []; is_changed = true })
 Prints options old (Describe kind name unit note) asked text new = (asked ≡ nothing_asked) × (text ≡ [])
-    × (new ≡ record old { legend = told_again kind name unit note old.legend; is_changed = true })
+    × (new ≡ record old { legend = legend_described kind name unit note old.legend; is_changed = true })
 Prints options old (Scrape moment) asked text new = (now : ℕ) × HasMoment moment asked.clock now
     × (checks : List (Answered KeyParts)) × (n : ℕ) × IsExpiry (setup_for options) (steps old.calls) now checks (Ok n)
     × (new ≡ record old { calls = old.calls ++ expires now checks (Ok n) ∷ []; is_changed = false })

@@ -49,7 +49,7 @@ pub struct Options {
 }
 
 /// Reports why a run stopped, and returns the status at its end.
-fn told<S: Surroundings>(
+fn final_status<S: Surroundings>(
     around: &mut S,
     watch: &mut Watch,
     answered: Result<u64, RunError>,
@@ -142,7 +142,7 @@ fn serve_new<S: Surroundings, I: BufRead, O: Write>(
         output,
     );
     let (served, mut around) = on;
-    let status = told(
+    let status = final_status(
         &mut around,
         watch,
         answered,
@@ -182,7 +182,7 @@ pub fn command<S: Surroundings, I: BufRead, O: Write>(
         Err(_) => {
             let answered = flush(output, Err(RunError::Memory(None)));
             let mut around = around;
-            let status = told(&mut around, &mut watch, answered, false, false);
+            let status = final_status(&mut around, &mut watch, answered, false, false);
             (status, around)
         }
     }

@@ -32,7 +32,7 @@ pub enum Cause {
     /// A backslash precedes a character other than a quote, a backslash or an n.
     Escape,
     /// Something other than a space follows a quoted value.
-    Behind,
+    AfterQuote,
     /// A name, a label or a TEXT has a control character.
     Control,
     /// A word isn't UTF-8.
@@ -151,7 +151,7 @@ fn wanted(cause: Cause, word: &[u8]) -> &'static str {
         Cause::Label => "is not LABEL=VALUE",
         Cause::Unclosed => "has no quote at its end",
         Cause::Escape => "is not \\\", \\\\ or \\n",
-        Cause::Behind => "follows a closing quote: put a space between",
+        Cause::AfterQuote => "follows a closing quote: put a space between",
         Cause::Control => "has a control character",
         Cause::Bytes => "is not UTF-8",
         Cause::Name =>

@@ -15,7 +15,7 @@ use crate::flaws::{Cause, Unread};
 use crate::words::{is_plain, text_before, text_of, visible_before};
 use metrics::{Label, Refused};
 use std::alloc::{AllocError, Global};
-use tool_grammar::{behind, place_of, split_at_first, split_before};
+use tool_grammar::{place_of, split_at_first, split_before, strip_prefix};
 
 /// The character that a backslash and this one spell.
 fn unescaped(byte: u8) -> Option<u8>
@@ -51,11 +51,11 @@ fn next_byte(bytes: &[u8]) -> Result<(u8, &[u8]), Unread<'_>>
             Err(Unread::Bad(Cause::Control, front(bytes, 1)))
         };
     }
-    let Some((second, behind)) = others.split_first() else {
+    let Some((second, left)) = others.split_first() else {
         return Err(Unread::Bad(Cause::Unclosed, bytes));
     };
     match unescaped(*second) {
-        Some(byte) => Ok((byte, behind)),
+        Some(byte) => Ok((byte, left)),
         None => Err(Unread::Bad(Cause::Escape, front(bytes, 2))),
     }
 }
@@ -78,8 +78,8 @@ fn quoted(alloc: Global, bytes: &[u8]) -> Result<(Vec<u8>, &[u8]), Unread<'_>>
     let mut value = Vec::new(alloc);
     let mut rest = bytes;
     while !rest.is_empty() {
-        if let Some(behind) = behind(rest, b"\"") {
-            return Ok((value, behind));
+        if let Some(left) = strip_prefix(rest, b"\"") {
+            return Ok((value, left));
         }
         let (byte, others) = next_byte(rest)?;
         put(&mut value, byte)?;
@@ -97,7 +97,7 @@ fn closed(alloc: Global, bytes: &[u8]) -> Result<(Vec<u8>, &[u8]), Unread<'_>>
 {
     let (value, rest) = quoted(alloc, bytes)?;
     if !starts_at_space(rest) {
-        return Err(Unread::Bad(Cause::Behind, split_before(rest, b' ').0));
+        return Err(Unread::Bad(Cause::AfterQuote, split_before(rest, b' ').0));
     }
     Ok((value, rest))
 }
@@ -174,7 +174,7 @@ fn label_from<'a>(
         (Fails ((quotes : _) (value rest : List ℕ) → CanBeValue quotes value → StartsAt 32 rest
         → bytes.now ≡ value_word quotes value ++ rest → ⊥)) }
 {
-    match behind(bytes, b"\"") {
+    match strip_prefix(bytes, b"\"") {
         Some(bytes) => quoted_label(alloc, key, bytes),
         None => bare_label(alloc, key, bytes),
     }
@@ -199,7 +199,7 @@ fn visible_key(bytes: &[u8]) -> Option<(&str, &[u8])>
         × (bytes.now ≡ f.0.now ++ 61 ∷ f.1.now)) }
 {
     let (key, rest) = visible_before(bytes, b'=')?;
-    let value = behind(rest, b"=")?;
+    let value = strip_prefix(rest, b"=")?;
     Some((key, value))
 }
 
@@ -228,8 +228,8 @@ fn next_label(alloc: Global, bytes: &[u8]) -> Result<(Label, &[u8]), Unread<'_>>
         (Fails ((w : Written) (rest : List ℕ) → IsWritten w → StartsAt 32 rest
         → bytes.now ≡ label_word w ++ rest → ⊥)) }
 {
-    let Some(bytes) = behind(bytes, b" ") else {
-        return Err(Unread::Bad(Cause::Behind, bytes));
+    let Some(bytes) = strip_prefix(bytes, b" ") else {
+        return Err(Unread::Bad(Cause::AfterQuote, bytes));
     };
     let (key, value) = key_and_value(bytes)?;
     label_from(alloc, key, value)

@@ -53,7 +53,8 @@ pub(crate) fn parts_for(
 ) -> Result<(Exporter, Option<Rules>), Error>
     ensures made { IfOk result (λ p. IsAfter (setup_for options.now) [] p.0) }
     ensures undescribed { IfOk result (λ p. SameLegend (described p.0) no_legend) }
-    ensures named { IfOk result (λ p. (kind : Kind) (name : List ℕ) → ruled_name p.1 kind name ≡ name_by options.now kind name) }
+    ensures named { IfOk result (λ p. (kind : Kind) (name : List ℕ)
+        → ruled_name p.1 kind name ≡ name_by options.now kind name) }
 {
     let exporter = exporter_for(alloc, options)?;
     let rules = rules_for(alloc, options)?;

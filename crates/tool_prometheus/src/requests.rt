@@ -15,7 +15,7 @@ use crate::labels::{labels_of, with_labels};
 use crate::words::{are_of_name, text_before, text_of};
 use metrics::{Key, KeyName, Label, MetricKind, Text, Unit, Update};
 use std::alloc::Global;
-use tool_grammar::{behind, kind_of, number_of, split_before, unit_of, update_of};
+use tool_grammar::{kind_of, number_of, split_before, strip_prefix, unit_of, update_of};
 
 /// The request of a line.
 #[derive(Debug, Drop)]
@@ -46,7 +46,7 @@ fn next_word<'a>(bytes: &'a [u8], what: &'static str) -> Result<(&'a [u8], &'a [
         (λ f. (bytes.now ≡ 32 ∷ (f.0.now ++ f.1.now)) × Lacks 32 f.0.now × StartsAt 32 f.1.now)
         (Fails ((rest : List ℕ) → bytes.now ≡ 32 ∷ rest → ⊥)) }
 {
-    match behind(bytes, b" ") {
+    match strip_prefix(bytes, b" ") {
         Some(others) => Ok(split_before(others, b' ')),
         None => Err(Unread::Bad(Cause::Missing(what), bytes)),
     }
@@ -79,7 +79,7 @@ fn update_and_rest<'a>(word: &'a [u8], bytes: &'a [u8]) -> Result<(Update, &'a [
         (Fails ((by : Change) (rest : List ℕ) → IsInRange by → StartsAt 32 rest → word.now ≡ update_word by
         → bytes.now ≡ 32 ∷ (amount_word by ++ rest) → ⊥)) }
 {
-    let Some(others) = behind(bytes, b" ") else {
+    let Some(others) = strip_prefix(bytes, b" ") else {
         return Err(amount_flaw(word, None));
     };
     let (amount, rest) = split_before(others, b' ');
@@ -110,7 +110,7 @@ fn name_and_rest(bytes: &[u8]) -> Result<(&str, &[u8]), Unread<'_>>
         (Fails ((name rest : List ℕ) → IsName name → StartsAt 32 rest
         → bytes.now ≡ 32 ∷ (name_word name ++ rest) → ⊥)) }
 {
-    let Some(others) = behind(bytes, b" ") else {
+    let Some(others) = strip_prefix(bytes, b" ") else {
         return Err(Unread::Bad(Cause::Missing("NAME"), bytes));
     };
     let (text, rest) = text_before(others, b' ')?;
@@ -166,7 +166,7 @@ fn note_of(bytes: &[u8]) -> Result<&str, Unread<'_>>
     ensures { MatchResult result (λ text. IsText text.now × (bytes.now ≡ 32 ∷ text.now))
         (Fails ((text : List ℕ) → IsText text → bytes.now ≡ 32 ∷ text → ⊥)) }
 {
-    let Some(text) = behind(bytes, b" ") else {
+    let Some(text) = strip_prefix(bytes, b" ") else {
         return Err(Unread::Bad(Cause::Missing("TEXT"), bytes));
     };
     text_of(text)
@@ -193,7 +193,7 @@ fn scrape_of(bytes: &[u8]) -> Result<Request, Unread<'_>>
     ensures { (common : List LabelParts) → MatchResult result (Reads common (codes "scrape" ++ bytes.now))
         (Fails ((bytes.now ≡ [] → ⊥) × ((now : ℕ) → now < 2 ^ 64 → bytes.now ≡ 32 ∷ decimal now → ⊥))) }
 {
-    let Some(digits) = behind(bytes, b" ") else {
+    let Some(digits) = strip_prefix(bytes, b" ") else {
         return Ok(Request::Scrape(None));
     };
     match number_of(digits) {

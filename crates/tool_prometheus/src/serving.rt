@@ -2,7 +2,7 @@
 ghost use Rattle.std.specs.Prelude.{◌≡◌, ℕ, List, OnSome, Ok as Answered};
 ghost use Rattle.std.specs.Io.KnownBytes.{Consumes, Appends, IsAtEnd};
 ghost use Rattle.tool_prometheus.specs.Asked.{Asked, Asks, nothing_asked};
-ghost use Rattle.tool_prometheus.specs.Serving.{answers as told, Stops, EndsLines, IsPrometheusRun, or_left};
+ghost use Rattle.tool_prometheus.specs.Serving.{answers as answers_of, Stops, EndsLines, IsPrometheusRun, or_left};
 
 use crate::answering::{Served, answer_end, answer_request};
 use crate::flaws::Unread;
@@ -25,7 +25,7 @@ impl<const SKIPS: bool, S: Surroundings> LineMachine for PrometheusLines<SKIPS, 
 
     type Notes = Watch;
 
-    ghost answers = { told S.asked SKIPS };
+    ghost answers = { answers_of S.asked SKIPS };
 
     ghost is_bad = { Stops SKIPS };
 

@@ -59,12 +59,12 @@ pub struct Watch {
 }
 
 /// Whether words are new to a set, to which they are added. Out of memory they are not, and are new again later.
-fn is_new(alloc: Global, told: &mut HashSet<String>, words: &str) -> bool {
-    if told.contains(words) {
+fn is_new(alloc: Global, seen: &mut HashSet<String>, words: &str) -> bool {
+    if seen.contains(words) {
         return false;
     }
     if let Ok(words) = String::from_str(alloc, words) {
-        let _ = told.insert(words);
+        let _ = seen.insert(words);
     }
     true
 }

@@ -43,15 +43,15 @@ fn sampled<R: Wait, G: Rng + Drop>(
     rt: &R,
     reservoir: &AtomicSamplingReservoir<G>,
 ) -> (u64, u64, i128) {
-    let mut told = (0, 0, 0);
+    let mut totals = (0, 0, 0);
     reservoir.consume(rt, |drain| {
-        told = (
+        totals = (
             drain.len() as u64,
             drain.unsampled_len(),
             drain.unsampled_sum(),
         );
     });
-    told
+    totals
 }
 
 /// The bucket and the reservoir, a pen for each worker, and one for the clearer.

@@ -13,7 +13,7 @@ ghost use Rattle.tool_trees.specs.Words.{Spells, IsNoLine, SpellsFrom, IsNoLineF
 use crate::tree_line::{First, RouteWord, TreeLine};
 use metrics::{Items, Text};
 use std::alloc::{AllocError, Global};
-use tool_grammar::{behind, kinds_of, name_of, number_of, split_at_first, split_before};
+use tool_grammar::{kinds_of, name_of, number_of, split_at_first, split_before, strip_prefix};
 
 /// Whether a word asks for folding.
 fn folds(word: &[u8]) -> Option<bool>
@@ -76,7 +76,7 @@ fn names_of(alloc: Global, bytes: &[u8]) -> Result<Option<Vec<Text>>, AllocError
     let mut names = Vec::new(alloc);
     let mut rest = bytes;
     while !rest.is_empty() {
-        let Some(others) = behind(rest, b" ") else {
+        let Some(others) = strip_prefix(rest, b" ") else {
             return Ok(None);
         };
         let (word, after) = split_before(others, b' ');
@@ -126,7 +126,7 @@ fn routes_of(alloc: Global, bytes: &[u8]) -> Result<Option<Vec<RouteWord>>, Allo
     let mut routes = Vec::new(alloc);
     let mut rest = bytes;
     while !rest.is_empty() {
-        let Some(others) = behind(rest, b" ") else {
+        let Some(others) = strip_prefix(rest, b" ") else {
             return Ok(None);
         };
         let (word, after) = split_before(others, b' ');
@@ -144,7 +144,7 @@ fn next_word(bytes: &[u8]) -> Option<(&[u8], &[u8])>
     ensures { MatchOption result ((others : List ℕ) → bytes.now ≡ 32 ∷ others → ⊥)
         (λ found. (bytes.now ≡ 32 ∷ (found.0.now ++ found.1.now)) × Lacks 32 found.0.now × StartsAt 32 found.1.now) }
 {
-    let others = behind(bytes, b" ")?;
+    let others = strip_prefix(bytes, b" ")?;
     Some(split_before(others, b' '))
 }
 

@@ -2,7 +2,7 @@ use Rattle.std.proofs.Common.{List, take, ◌∙◌, refl, subst, arith}
 use Rattle.std.proofs.lemmas.List.{take_all}
 use Rattle.metrics_exporter.specs.Kept.{IsAfter, described}
 use Rattle.metrics_exporter.specs.Absorbing.{MarkedRow, marked, with_rows}
-use Rattle.metrics_exporter.proofs.AbsorbLemmas.{row-absorbed, row-stopped, length-marked, told-more, told-end}
+use Rattle.metrics_exporter.proofs.AbsorbLemmas.{row-absorbed, row-stopped, length-marked, keyed-more, keyed-end}
 use Rattle.metrics_exporter.proofs.absorb.absorb_rows.Goals as goal
 
 pub returns-in-Err-clause-absorbs : goal.returns-in-Err-clause-absorbs
@@ -25,7 +25,7 @@ loop-i-preserved c = record {
       row-absorbed rows marks i c.index-rows-i.result c.is_active.result c.loop-i-test.true c.index-rows-i.is c.is_active.ensures
       setup log c.absorb_row.result c.in_default.field-0 c.absorb_row.new.on c.in_default.is
       (c.absorb_row.ensures.makes setup (with_rows log (take i (marked rows marks))) here);
-  tells = told-more c.args.rows.now c.args.rows.now c.loop-i.i c.index-rows-i.result (described c.args.on.now) (described c.loop-i.on) (described c.absorb_row.new.on)
+  tells = keyed-more c.args.rows.now c.args.rows.now c.loop-i.i c.index-rows-i.result (described c.args.on.now) (described c.loop-i.on) (described c.absorb_row.new.on)
       refl c.loop-i-test.true c.index-rows-i.is c.loop-i.invariant.tells c.in_default.ensures.tells;
   shards = c.absorb_row.ensures.shards ∙ c.loop-i.invariant.shards;
 }
@@ -40,4 +40,4 @@ returns-clause-absorbs c = λ setup log after.
 
 pub returns-clause-tells : goal.returns-clause-tells
 returns-clause-tells c =
-    told-end c.args.rows.now c.args.rows.now c.loop-i.i (described c.args.on.now) (described c.loop-i.on) refl c.loop-i-test.false c.loop-i.invariant.tells
+    keyed-end c.args.rows.now c.args.rows.now c.loop-i.i (described c.args.on.now) (described c.loop-i.on) refl c.loop-i-test.false c.loop-i.invariant.tells

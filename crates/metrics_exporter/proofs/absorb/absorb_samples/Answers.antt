@@ -25,10 +25,10 @@ loop-i-preserved c = record {
       let x : ℤ = to_z w64 (of_z w64 (get_or xs i (pos 0))) in
       let read : x ≡ get_or xs i (pos 0) = to_z-of_z {w = w64} {z = get_or xs i (pos 0)} (search rules) in
       let at : x ≡ get_or xs i x = read ∙ get_or_default xs i (pos 0) x c.loop-i-test.true in
-      let behind = log ++ made c.args.key.now (map Record (take i xs)) in
+      let remaining = log ++ made c.args.key.now (map Record (take i xs)) in
       let P : Log → Type 0 = λ l. IsAfter setup l c.update.new.self in
-      let R : Done → Type 0 = λ r. IsAfter setup (behind ++ updates c.args.key.now (Record x) r ∷ []) c.update.new.self in
-      subst P (samples-more log c.args.key.now xs i x c.loop-i-test.true at) (subst R c.in_default.is (c.update.ensures.calls setup behind (c.loop-i.invariant.stands setup log after)));
+      let R : Done → Type 0 = λ r. IsAfter setup (remaining ++ updates c.args.key.now (Record x) r ∷ []) c.update.new.self in
+      subst P (samples-more log c.args.key.now xs i x c.loop-i-test.true at) (subst R c.in_default.is (c.update.ensures.calls setup remaining (c.loop-i.invariant.stands setup log after)));
   descriptions = c.update.ensures.descriptions ∙ c.loop-i.invariant.descriptions;
   shards = c.update.ensures.shards ∙ c.loop-i.invariant.shards;
 }
@@ -41,11 +41,11 @@ returns-in-Err-clause-makes c = λ setup log after.
     let read : x ≡ get_or xs i (pos 0) = to_z-of_z {w = w64} {z = get_or xs i (pos 0)} (search rules) in
     let at : x ≡ get_or xs i x = read ∙ get_or_default xs i (pos 0) x c.loop-i-test.true in
     let here = c.loop-i.invariant.stands setup log after in
-    let behind = log ++ made c.args.key.now (map Record (take i xs)) in
+    let remaining = log ++ made c.args.key.now (map Record (take i xs)) in
     let e = c.in-Err.ensures in
     stops-in setup log c.args.key.now (map Record (take i xs)) (map Record (drop (suc i) xs)) (map Record xs) (Record x) c.in-Err.error i c.loop-i.on c.update.new.self
     (samples-split xs i x c.loop-i-test.true at) (samples-number xs i c.loop-i-test.true) here e.err.1
-    (refuses setup behind c.args.key.now (Record x) _ c.in-Err.error refl (e.full setup behind here) (e.absent setup behind here) e.err.0)
+    (refuses setup remaining c.args.key.now (Record x) _ c.in-Err.error refl (e.full setup remaining here) (e.absent setup remaining here) e.err.0)
 
 pub returns : goal.returns
 returns c = record {

@@ -4,11 +4,11 @@ use Rattle.std.proofs.lemmas.Map.Text.{hash_map_updates_text}
 use Rattle.indexmap.specs.IndexMap.{get_by_text}
 use Rattle.metrics_exporter.specs.declared.descriptions.Described.{Described}
 use Rattle.metrics_exporter.specs.Describing.{description_of}
-use Rattle.metrics_exporter.proofs.DescriptionsLemmas.{noted, or-none, told-again}
+use Rattle.metrics_exporter.proofs.DescriptionsLemmas.{noted, or-none, keyed-again}
 use Rattle.metrics_exporter.proofs.descriptions.describe_name.Goals as goal
 
-pub returns-then-is_told-clause-ok : goal.returns-then-is_told-clause-ok
-returns-then-is_told-clause-ok c = λ n. told-again (λ m. description_of (get_by_text c.args.names.now m)) c.args.name.now c.args.unit c.args.text.now n (c.is_told.ensures (search rules))
+pub returns-then-is_described_so-clause-ok : goal.returns-then-is_described_so-clause-ok
+returns-then-is_described_so-clause-ok c = λ n. keyed-again (λ m. description_of (get_by_text c.args.names.now m)) c.args.name.now c.args.unit c.args.text.now n (c.is_described_so.ensures (search rules))
 
 pub returns-in-Some-clause-ok : goal.returns-in-Some-clause-ok
 returns-in-Some-clause-ok c = λ n.

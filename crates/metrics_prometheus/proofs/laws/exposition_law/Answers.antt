@@ -4,7 +4,7 @@ use Rattle.metrics_prometheus.proofs.PairLemmas.{pairs-map, pairs-places}
 use Rattle.metrics_prometheus.proofs.WrittenLemmas.{IsBefore, before-apart, written-ascend}
 use Rattle.metrics_prometheus.proofs.ReadingLemmas.{rows-read, rows-buckets, kinds-after}
 use Rattle.metrics_prometheus.proofs.DistinctLemmas.{samples-distinct}
-use Rattle.metrics_prometheus.proofs.ToldLemmas.{series-told, series-written}
+use Rattle.metrics_prometheus.proofs.ToldLemmas.{series-keyed, series-written}
 use Rattle.metrics_prometheus.proofs.TextLineLemmas.{text-has}
 use Rattle.metrics_prometheus.proofs.OneTextLemmas.{one-text}
 use Rattle.metrics_prometheus.proofs.TypeLemmas.{text-tells}
@@ -20,8 +20,8 @@ returns-clause-apart c = λ naming legend cells text e.
     let rows = written e.rows None e.rows in
     pairs-places AreApart rows (pairs-map IsBefore AreApart before-apart rows (written-ascend e.rows e.all.ordered))
 
-pub returns-clause-told : goal.returns-clause-told
-returns-clause-told c = series-told
+pub returns-clause-keyed : goal.returns-clause-keyed
+returns-clause-keyed c = series-keyed
 
 pub returns-clause-samples : goal.returns-clause-samples
 returns-clause-samples c = λ naming legend cells text e. text-has cells text e

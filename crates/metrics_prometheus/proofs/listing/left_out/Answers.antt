@@ -8,12 +8,12 @@ loop-line-preserved c = (
   λ lines is readable.
       let rest = c.loop-line.rest.now in
       let line = c.in-Some.line.now in
-      let behind = c.in-Some.behind.now in
-      let cut = cut-here rest line behind c.in-Some.ensures.cases in
-      left-more lines c.loop-line.told.items c.add_told.new.told.items rest line behind cut.0 cut.1 c.in_ok-add_told.ensures (c.loop-line.invariant.1 lines is readable),
+      let later = c.in-Some.later.now in
+      let cut = cut-here rest line later c.in-Some.ensures.cases in
+      left-more lines c.loop-line.found.items c.push_left_out.new.found.items rest line later cut.0 cut.1 c.in_ok-push_left_out.ensures (c.loop-line.invariant.1 lines is readable),
 )
 
-pub returns-clause-told : goal.returns-clause-told
-returns-clause-told c = λ lines is readable.
+pub returns-clause-found : goal.returns-clause-found
+returns-clause-found c = λ lines is readable.
     let rest = c.loop-line.rest.now in
-    left-none lines c.loop-line.told.items rest (cut-nowhere rest (rw c.in_default.is at c.split_once.ensures.cases)) (c.loop-line.invariant.1 lines is readable)
+    left-none lines c.loop-line.found.items rest (cut-nowhere rest (rw c.in_default.is at c.split_once.ensures.cases)) (c.loop-line.invariant.1 lines is readable)

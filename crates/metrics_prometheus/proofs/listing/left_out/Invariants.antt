@@ -9,7 +9,7 @@ use Rattle.metrics_prometheus.proofs.LeftOutLemmas.{IsLeft}
 use Rattle.metrics_prometheus.proofs.listing.left_out.Given as goal
 
 abbrev pub invariant-loop-line : goal.invariant-loop-line
-invariant-loop-line l = shadow (Utf8 l.rest) × ((lines : List Line) → l.text ≡ flat_map line_text lines → AllByRecursion IsReadable lines → IsLeft lines l.told.items l.rest)
+invariant-loop-line l = shadow (Utf8 l.rest) × ((lines : List Line) → l.text ≡ flat_map line_text lines → AllByRecursion IsReadable lines → IsLeft lines l.found.items l.rest)
 
 abbrev pub decreases-loop-line : goal.decreases-loop-line
 decreases-loop-line l = length l.rest

@@ -11,7 +11,7 @@ use Rattle.metrics_prometheus.proofs.rows.rows_of.Goals as goal
 
 pub loop-one-preserved : goal.loop-one-preserved
 loop-one-preserved g c =
-    let told = g.S.ReadSeries.told in
+    let keyed = g.S.ReadSeries.keyed in
     let series = c.args.series.now in
     let i = c.loop-one.one-index in
     let one = c.one-item.result in
@@ -20,17 +20,17 @@ loop-one-preserved g c =
     let same = c.reading.ensures in
     record {
       last = c.row_of.ensures.last;
-      rows = rows-more told display c.loop-one.rows.items c.push.new.self.items series i row one c.loop-one-test.true c.one-item.is c.in_ok-push.ensures.items (c.in_ok-row.ensures.row ∙ ap (pair_of display) same) c.loop-one.invariant.rows;
-      texts = All-more (λ s. HasTexts (told s)) series i one c.loop-one-test.true c.loop-one.invariant.texts (subst (λ s. HasTexts (told s)) c.one-item.is (subst HasTexts same c.in_ok-row.ensures.texts));
-      kinds = All-more (λ s. IsOfKind (told s)) series i one c.loop-one-test.true c.loop-one.invariant.kinds (subst (λ s. IsOfKind (told s)) c.one-item.is (subst IsOfKind same c.in_ok-row.ensures.kind));
+      rows = rows-more keyed display c.loop-one.rows.items c.push.new.self.items series i row one c.loop-one-test.true c.one-item.is c.in_ok-push.ensures.items (c.in_ok-row.ensures.row ∙ ap (pair_of display) same) c.loop-one.invariant.rows;
+      texts = All-more (λ s. HasTexts (keyed s)) series i one c.loop-one-test.true c.loop-one.invariant.texts (subst (λ s. HasTexts (keyed s)) c.one-item.is (subst HasTexts same c.in_ok-row.ensures.texts));
+      kinds = All-more (λ s. IsOfKind (keyed s)) series i one c.loop-one-test.true c.loop-one.invariant.kinds (subst (λ s. IsOfKind (keyed s)) c.one-item.is (subst IsOfKind same c.in_ok-row.ensures.kind));
     }
 
 pub returns-clause-texts : goal.returns-clause-texts
 returns-clause-texts g c =
-    let told = g.S.ReadSeries.told in
-    All-map HasTexts told c.args.series.now (subst (All (λ s. HasTexts (told s))) (take_all c.loop-one.one-index c.args.series.now c.loop-one-test.false) c.loop-one.invariant.texts)
+    let keyed = g.S.ReadSeries.keyed in
+    All-map HasTexts keyed c.args.series.now (subst (All (λ s. HasTexts (keyed s))) (take_all c.loop-one.one-index c.args.series.now c.loop-one-test.false) c.loop-one.invariant.texts)
 
 pub returns-clause-kinds : goal.returns-clause-kinds
 returns-clause-kinds g c =
-    let told = g.S.ReadSeries.told in
-    All-map IsOfKind told c.args.series.now (subst (All (λ s. IsOfKind (told s))) (take_all c.loop-one.one-index c.args.series.now c.loop-one-test.false) c.loop-one.invariant.kinds)
+    let keyed = g.S.ReadSeries.keyed in
+    All-map IsOfKind keyed c.args.series.now (subst (All (λ s. IsOfKind (keyed s))) (take_all c.loop-one.one-index c.args.series.now c.loop-one-test.false) c.loop-one.invariant.kinds)

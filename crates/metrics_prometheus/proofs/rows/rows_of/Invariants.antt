@@ -12,7 +12,7 @@ abbrev pub invariant-loop-one : goal.invariant-loop-one
 invariant-loop-one g l =
     record {
       last : IfSome l.last (IsKnown (display_of l.naming (described_by l.descriptions)));
-      rows : map pair_shown l.rows.items ≡ map (pair_of (display_of l.naming (described_by l.descriptions))) (map g.S.ReadSeries.told (take l.one-index l.series));
-      texts : All (λ s. HasTexts (g.S.ReadSeries.told s)) (take l.one-index l.series);
-      kinds : All (λ s. IsOfKind (g.S.ReadSeries.told s)) (take l.one-index l.series);
+      rows : map pair_shown l.rows.items ≡ map (pair_of (display_of l.naming (described_by l.descriptions))) (map g.S.ReadSeries.keyed (take l.one-index l.series));
+      texts : All (λ s. HasTexts (g.S.ReadSeries.keyed s)) (take l.one-index l.series);
+      kinds : All (λ s. IsOfKind (g.S.ReadSeries.keyed s)) (take l.one-index l.series);
     }

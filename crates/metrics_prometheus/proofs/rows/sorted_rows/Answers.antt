@@ -18,7 +18,7 @@ use Rattle.metrics_prometheus.proofs.PlaceLemmas.{dedup-map, placed-sorted}
 use Rattle.metrics_prometheus.proofs.rows.sorted_rows.Goals as goal
 
 pub returns : goal.returns
-returns c = λ display told made.
+returns c = λ display keyed made.
     let f : Place → ShownRow = λ p. p.row.now in
     let rows = c.args.rows.now in
     let us = c.in_ok-places.places.items in
@@ -31,7 +31,7 @@ returns c = λ display told made.
     let sorted = placed-sorted _ _ (λ a b. c.place_order.ensures a b) (λ a b. c.row_order.ensures a b) c.are_alike.result rows us ps c.in_ok-places.ensures.rows c.sort.ensures.permutation c.in_ok-places.ensures.placed c.are_alike.ensures c.in_ok-sort.ensures.sorted in
     let up = subst (IsStrictlySortedBy _) (sym left) (IsStrictlySortedBy-dedup total-law matches_eq-law xs sorted) in
     let moved : IsPermutation rows xs = subst (λ l. IsPermutation l xs) c.in_ok-places.ensures.rows (IsPermutation-map f us ps c.sort.ensures.permutation) in
-    let r = rows-once display _ (λ a b. c.row_order.ensures a b) total-law _ matches_eq-law told rows xs ys made moved up left in
+    let r = rows-once display _ (λ a b. c.row_order.ensures a b) total-law _ matches_eq-law keyed rows xs ys made moved up left in
     record {
       own = r.0;
       once = r.1;

@@ -1,7 +1,7 @@
 use Rattle.std.proofs.Common.{rules, ◌≡◌, List, [], IfOk, None, map, length, arith, string_bytes, sym, subst}
 use Rattle.std.specs.List.{AllByRecursion}
 use Rattle.metrics_exporter.specs.Exporting.{Cells}
-use Rattle.metrics_exporter.specs.Readings.{cells_told, AreReadings, AreOnce}
+use Rattle.metrics_exporter.specs.Readings.{cells_of_readings, AreReadings, AreOnce}
 use Rattle.std.specs.List.Sorted.{IsSorted}
 use Rattle.metrics_names.specs.Names.{label_cmp}
 use Rattle.metrics_prometheus.specs.Exposition.{row_cmp, rows_text, IsDescribed}
@@ -10,11 +10,11 @@ use Rattle.metrics_prometheus.specs.declared.rows.Place.{Place}
 use Rattle.metrics_exporter.specs.Describing.{described_by}
 use Rattle.metrics_prometheus.specs.Naming.{display_of}
 use Rattle.metrics_prometheus.specs.Places.{rows_placed}
-use Rattle.metrics_prometheus.specs.Rows.{rows_shown, pair_shown, pair_of, told_shown, Shows}
+use Rattle.metrics_prometheus.specs.Rows.{rows_shown, pair_shown, pair_of, keyed_shown, Shows}
 use Rattle.metrics_prometheus.proofs.HeldLemmas.{holds-texts, kept-texts, none-given, none-long}
 use Rattle.metrics_exporter.proofs.SortedLemmas.{none-distinct}
 use Rattle.metrics_prometheus.proofs.KindLemmas.{kinds-kept}
-use Rattle.metrics_prometheus.proofs.OnceLemmas.{readings-once, readings-told}
+use Rattle.metrics_prometheus.proofs.OnceLemmas.{readings-once, readings-keyed}
 use Rattle.metrics_prometheus.proofs.RowLemmas.{are-rows, rows-show}
 use Rattle.metrics_prometheus.proofs.PlaceLemmas.{each-mapped}
 use Rattle.metrics_prometheus.proofs.TextLemmas.{text-of-rows, with-first}
@@ -27,7 +27,7 @@ rows_text-requires g c =
     let display = display_of naming legend in
     let places = c.in_ok-places.places.items in
     let rows = rows_placed places in
-    let is = c.in_ok-places.ensures display (map g.S.ReadSeries.told c.args.series.now) (subst (λ (l : List ShownRow). map pair_shown l ≡ map (pair_of display) (map g.S.ReadSeries.told c.args.series.now)) (sym c.deref.ensures.value) c.in_ok-rows.ensures.rows) in
+    let is = c.in_ok-places.ensures display (map g.S.ReadSeries.keyed c.args.series.now) (subst (λ (l : List ShownRow). map pair_shown l ≡ map (pair_of display) (map g.S.ReadSeries.keyed c.args.series.now)) (sym c.deref.ensures.value) c.in_ok-rows.ensures.rows) in
     let O : List Place → Type 0 = λ ps. IsSorted row_cmp (rows_shown (rows_placed ps)) in
     let L : List Place → Type 0 = λ ps. AllByRecursion (λ p. IsSorted label_cmp p.row.now.labels) ps in
     record {
@@ -42,11 +42,11 @@ returns-clause-ok g c = λ cells are.
     let display = display_of naming legend in
     let places = c.in_ok-places.places.items in
     let rows = rows_placed places in
-    let is = c.in_ok-places.ensures display (map g.S.ReadSeries.told c.args.series.now) (subst (λ (l : List ShownRow). map pair_shown l ≡ map (pair_of display) (map g.S.ReadSeries.told c.args.series.now)) (sym c.deref.ensures.value) c.in_ok-rows.ensures.rows) in
-    let kept = readings-once cells (map g.S.ReadSeries.told c.args.series.now) (map told_shown rows) are is.once in
+    let is = c.in_ok-places.ensures display (map g.S.ReadSeries.keyed c.args.series.now) (subst (λ (l : List ShownRow). map pair_shown l ≡ map (pair_of display) (map g.S.ReadSeries.keyed c.args.series.now)) (sym c.deref.ensures.value) c.in_ok-rows.ensures.rows) in
+    let kept = readings-once cells (map g.S.ReadSeries.keyed c.args.series.now) (map keyed_shown rows) are is.once in
     let r = c.rows_text.result in
     let Q : List Place → Type 0 = λ ps. (cells : Cells) → AllByRecursion (λ p. Shows cells p.row.now) ps → IfOk r (λ text. string_bytes text ≡ rows_text cells (rows_shown (rows_placed ps)) None (rows_shown (rows_placed ps))) in
-    text-of-rows string_bytes naming legend cells (rows_shown rows) (are-rows display cells rows kept is.own is.ordered) (holds-texts cells (map g.S.ReadSeries.told c.args.series.now) are c.in_ok-rows.ensures.texts) r
+    text-of-rows string_bytes naming legend cells (rows_shown rows) (are-rows display cells rows kept is.own is.ordered) (holds-texts cells (map g.S.ReadSeries.keyed c.args.series.now) are c.in_ok-rows.ensures.texts) r
     (subst Q c.deref-2.ensures.value c.rows_text.ensures.ok cells (each-mapped (λ p. p.row.now) (Shows cells) places (rows-show display cells rows kept is.own)))
 
 pub returns-clause-each : goal.returns-clause-each
@@ -56,26 +56,26 @@ returns-clause-each g c =
     let display = display_of naming legend in
     let places = c.in_ok-places.places.items in
     let rows = rows_placed places in
-    let is = c.in_ok-places.ensures display (map g.S.ReadSeries.told c.args.series.now) (subst (λ (l : List ShownRow). map pair_shown l ≡ map (pair_of display) (map g.S.ReadSeries.told c.args.series.now)) (sym c.deref.ensures.value) c.in_ok-rows.ensures.rows) in
-    let all = map g.S.ReadSeries.told c.args.series.now in
-    let told = map told_shown rows in
-    let cells = cells_told told in
-    let kept : AreReadings cells told = readings-told told is.once.once in
+    let is = c.in_ok-places.ensures display (map g.S.ReadSeries.keyed c.args.series.now) (subst (λ (l : List ShownRow). map pair_shown l ≡ map (pair_of display) (map g.S.ReadSeries.keyed c.args.series.now)) (sym c.deref.ensures.value) c.in_ok-rows.ensures.rows) in
+    let all = map g.S.ReadSeries.keyed c.args.series.now in
+    let keyed = map keyed_shown rows in
+    let cells = cells_of_readings keyed in
+    let kept : AreReadings cells keyed = readings-keyed keyed is.once.once in
     let r = c.rows_text.result in
     let Q : List Place → Type 0 = λ ps. (cells : Cells) → AllByRecursion (λ p. Shows cells p.row.now) ps → IfOk r (λ text. string_bytes text ≡ rows_text cells (rows_shown (rows_placed ps)) None (rows_shown (rows_placed ps))) in
-    with-first r (λ text. IsDescribed naming legend cells (string_bytes text)) _ (λ text h. (told, is.once, kinds-kept all told c.in_ok-rows.ensures.kinds is.once, h))
-    (text-of-rows string_bytes naming legend cells (rows_shown rows) (are-rows display cells rows kept is.own is.ordered) (kept-texts cells told all kept is.once c.in_ok-rows.ensures.texts) r
+    with-first r (λ text. IsDescribed naming legend cells (string_bytes text)) _ (λ text h. (keyed, is.once, kinds-kept all keyed c.in_ok-rows.ensures.kinds is.once, h))
+    (text-of-rows string_bytes naming legend cells (rows_shown rows) (are-rows display cells rows kept is.own is.ordered) (kept-texts cells keyed all kept is.once c.in_ok-rows.ensures.texts) r
     (subst Q c.deref-2.ensures.value c.rows_text.ensures.ok cells (each-mapped (λ p. p.row.now) (Shows cells) places (rows-show display cells rows kept is.own))))
 
 pub returns-then-is_empty-clause-ok : goal.returns-then-is_empty-clause-ok
 returns-then-is_empty-clause-ok g c = λ cells are.
     let zero : length c.args.series.now ≡ 0 = search (rules, arith) in
     let none : c.args.series.now ≡ [] = none-long c.args.series.now zero in
-    subst (IsDescribed c.args.naming (described_by c.args.descriptions.now) cells) (sym c.new.ensures.bytes) (none-given cells (subst (λ (l : List g.row.S.Denot). AreReadings cells (map g.S.ReadSeries.told l)) none are))
+    subst (IsDescribed c.args.naming (described_by c.args.descriptions.now) cells) (sym c.new.ensures.bytes) (none-given cells (subst (λ (l : List g.row.S.Denot). AreReadings cells (map g.S.ReadSeries.keyed l)) none are))
 
 pub returns-then-is_empty-clause-each : goal.returns-then-is_empty-clause-each
 returns-then-is_empty-clause-each g c =
     let zero : length c.args.series.now ≡ 0 = search (rules, arith) in
     let none : c.args.series.now ≡ [] = none-long c.args.series.now zero in
-    let once : AreOnce (map g.S.ReadSeries.told c.args.series.now) [] = subst (λ (l : List g.row.S.Denot). AreOnce (map g.S.ReadSeries.told l) []) (sym none) (record { once = none-distinct; among = λ t h. h; all = λ s h. h }) in
-    ([], once, (λ s. tt), subst (IsDescribed c.args.naming (described_by c.args.descriptions.now) (cells_told [])) (sym c.new.ensures.bytes) (none-given (cells_told []) (readings-told [] none-distinct)))
+    let once : AreOnce (map g.S.ReadSeries.keyed c.args.series.now) [] = subst (λ (l : List g.row.S.Denot). AreOnce (map g.S.ReadSeries.keyed l) []) (sym none) (record { once = none-distinct; among = λ t h. h; all = λ s h. h }) in
+    ([], once, (λ s. tt), subst (IsDescribed c.args.naming (described_by c.args.descriptions.now) (cells_of_readings [])) (sym c.new.ensures.bytes) (none-given (cells_of_readings []) (readings-keyed [] none-distinct)))

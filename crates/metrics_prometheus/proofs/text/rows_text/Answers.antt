@@ -5,7 +5,7 @@ use Rattle.std.specs.Cmp.Lexicographic.{slice_cmp}
 use Rattle.std.specs.Ordering.{nat_cmp}
 use Rattle.metrics_names.specs.Names.{label_cmp}
 use Rattle.metrics_exporter.specs.Readings.{reading_shown}
-use Rattle.metrics_prometheus.specs.Exposition.{Row, histogram_names, row_told, rows_text, reading_at}
+use Rattle.metrics_prometheus.specs.Exposition.{Row, histogram_names, row_lines, rows_text, reading_at}
 use Rattle.metrics_exporter.specs.Exporting.{Cells}
 use Rattle.metrics_prometheus.specs.declared.rows.ShownRow.{ShownRow}
 use Rattle.metrics_prometheus.specs.declared.rows.Place.{Place}
@@ -36,8 +36,8 @@ loop-place-preserved c = λ cells shows.
     let row = place.row.now in
     let has : reading_at cells (row_shown row) ≡ Some (reading_shown row.reading) = subst (ShowsAt cells) (sym c.place-item.is) (each-at (ShowsAt cells) c.args.places.now c.loop-place.place-index place shows c.loop-place-test.true) in
     let names : names_shown c.deref.result.now ≡ histogram_names all = ap names_shown c.deref.ensures.value ∙ c.in_ok-histograms.ensures.names in
-    let told = c.in_ok-write_row.ensures.ok all names ∙ ap (λ o. string_bytes c.loop-place.text ++ row_told o all last (row_shown row)) (sym has) in
-    let more = text-more cells all last (shown c.if-branch.last) c.args.places.now c.loop-place.place-index place (string_bytes c.loop-place.text) (string_bytes c.write_row.new.text) (rows_text cells all None all) c.loop-place-test.true c.place-item.is told in
+    let keyed = c.in_ok-write_row.ensures.ok all names ∙ ap (λ o. string_bytes c.loop-place.text ++ row_lines o all last (row_shown row)) (sym has) in
+    let more = text-more cells all last (shown c.if-branch.last) c.args.places.now c.loop-place.place-index place (string_bytes c.loop-place.text) (string_bytes c.write_row.new.text) (rows_text cells all None all) c.loop-place-test.true c.place-item.is keyed in
     let written = c.in_ok-write_row.ensures.written all names in
     let before = c.loop-place.invariant cells shows in
     elim c.if-branch.branch [

@@ -10,7 +10,7 @@ loop-newest-preserved g c =
     let cut = c.in-Some.ensures.cases.0 in
     let all = AllZip R (joined_lists (reverse c.args.blocks.now)) in (
       λ ys h. subst (λ (l : List _). all (l ++ ys)) (sym e.1)
-          (cloned_more R _ _ c.in-Some.newest.now c.loop-newest.told.items e.0 ys all cut (subst (λ l. AllZip R l e.0) c.data.ensures.value e.2) c.loop-newest.invariant.0 h),
+          (cloned_more R _ _ c.in-Some.newest.now c.loop-newest.values.items e.0 ys all cut (subst (λ l. AllZip R l e.0) c.data.ensures.value e.2) c.loop-newest.invariant.0 h),
       omega (arith, c.loop-newest.invariant.1, shorter _ _ _ cut),
     )
 
@@ -22,4 +22,4 @@ returns-in_err-extend_with_clones g c =
 pub returns-clause-clones : goal.returns-clause-clones
 returns-clause-clones g c =
     let R = g.T.Clone.is_clone in let all = AllZip R (joined_lists (reverse c.args.blocks.now)) in
-    subst all (append-nil c.loop-newest.told.items) (c.loop-newest.invariant.0 [] (none_left R c.loop-newest.rest.now c.in_default.ensures.cases))
+    subst all (append-nil c.loop-newest.values.items) (c.loop-newest.invariant.0 [] (none_left R c.loop-newest.rest.now c.in_default.ensures.cases))

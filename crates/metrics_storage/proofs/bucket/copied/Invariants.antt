@@ -6,7 +6,7 @@ use Rattle.metrics_storage.proofs.bucket.copied.Given as goal
 -- what was shown and clones of the rest are clones of all
 abbrev pub invariant-loop-newest : goal.invariant-loop-newest
 invariant-loop-newest g l =
-    ((ys : List _) → AllZip g.T.Clone.is_clone (joined_lists (reverse l.rest)) ys → AllZip g.T.Clone.is_clone (joined_lists (reverse l.fn.blocks)) (l.told.items ++ ys))
+    ((ys : List _) → AllZip g.T.Clone.is_clone (joined_lists (reverse l.rest)) ys → AllZip g.T.Clone.is_clone (joined_lists (reverse l.fn.blocks)) (l.values.items ++ ys))
     × (length l.rest ≤ length l.fn.blocks)
 
 abbrev pub decreases-loop-newest : goal.decreases-loop-newest

@@ -5,14 +5,14 @@ use Rattle.tool_export.proofs.plans.bounds_of.Goals as goal
 
 pub returns-in_default-signed_number_of : goal.returns-in_default-signed_number_of
 returns-in_default-signed_number_of c = no_bound c.args.word.now c.loop-digits.rest.now c.in-Some.digits.now
-    c.in-Some.behind.now c.loop-digits.bounds.items c.loop-digits.invariant c.in-Some.ensures.0 c.in-Some.ensures.1
+    c.in-Some.later.now c.loop-digits.bounds.items c.loop-digits.invariant c.in-Some.ensures.0 c.in-Some.ensures.1
     c.in_default-signed_number_of.ensures
 
 pub loop-digits-preserved : goal.loop-digits-preserved
 loop-digits-preserved c =
     let fits : FitsSigned w64 c.in-Some-signed_number_of.bound = search rules in
     rw (c.in_ok-push.ensures.items, to_z-of_z w64 c.in-Some-signed_number_of.bound fits)
-    (bounds_more c.args.word.now c.loop-digits.rest.now c.in-Some.digits.now c.in-Some.behind.now c.loop-digits.bounds.items
+    (bounds_more c.args.word.now c.loop-digits.rest.now c.in-Some.digits.now c.in-Some.later.now c.loop-digits.bounds.items
     c.loop-digits.invariant c.in-Some.ensures.0 c.in-Some.ensures.1 c.in-Some-signed_number_of.bound fits
     c.in-Some-signed_number_of.ensures)
 

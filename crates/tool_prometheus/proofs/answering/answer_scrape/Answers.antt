@@ -10,7 +10,7 @@ returns g c =
     let (clock, at, gave) = c.moment_of-now.ensures in
     let (files, out, handed) = c.hand_out_shown.ensures.done in
     let done = scraped c.args.on.now c.shown_at-shown.new.on string_bytes c.args.moment c.moment_of-now.result clock files c.hand_out_shown.new.on r
-    c.shown_at-shown.ensures.told at c.shown_at-shown.ensures.shown out in (
+    c.shown_at-shown.ensures.legend at c.shown_at-shown.ensures.shown out in (
       record { clock = clock; files = files },
       shown_text string_bytes c.args.on.now.has_file r,
       done,

@@ -13,6 +13,6 @@ returns-in-Err g c =
       nothing_asked,
       Consumes-nil _,
       Appends-kept _ _ _ [] (Appends-nil _) c.flush-answered.ensures.bytes,
-      c.told-status.ensures.asked,
-      inr (refl, refl, refl, ◌∙◌ {b = own_status answered false} c.told-status.ensures.status (ap (λ r. own_status r false) (flushed-memory answered c.flush-answered.ensures.flushed))),
+      c.final_status-status.ensures.asked,
+      inr (refl, refl, refl, ◌∙◌ {b = own_status answered false} c.final_status-status.ensures.status (ap (λ r. own_status r false) (flushed-memory answered c.flush-answered.ensures.flushed))),
     )

@@ -17,4 +17,4 @@ returns g c =
       has_bad = false;
       has_failed = false;
     } in
-    (read, text, more, took, wrote, asks_before _ _ _ more asks c.told-status.ensures.asked, inl (start, c.serve-answered.new.on.0, c.serve-answered.result, (c.requires.after, c.requires.undescribed, refl, refl, refl, refl, refl, refl, refl, c.requires.named), ran, c.told-status.ensures.status))
+    (read, text, more, took, wrote, asks_before _ _ _ more asks c.final_status-status.ensures.asked, inl (start, c.serve-answered.new.on.0, c.serve-answered.result, (c.requires.after, c.requires.undescribed, refl, refl, refl, refl, refl, refl, refl, c.requires.named), ran, c.final_status-status.ensures.status))

@@ -5,7 +5,7 @@ use Rattle.tool_prometheus.proofs.ReadLemmas.{quoted-err}
 use Rattle.tool_prometheus.proofs.labels.quoted.Goals as goal
 
 pub returns-in-Some : goal.returns-in-Some
-returns-in-Some c = quoted-ends _ _ _ c.in-Some.behind.now c.loop-rest.invariant c.in-Some.ensures
+returns-in-Some c = quoted-ends _ _ _ c.in-Some.left.now c.loop-rest.invariant c.in-Some.ensures
 
 pub returns-in_err-byte : goal.returns-in_err-byte
 returns-in_err-byte c =

@@ -3,7 +3,7 @@ use Rattle.std.proofs.Math.Facts.{to_z-of_z}
 use Rattle.std.proofs.Math.Seq.{take-suc}
 use Rattle.metrics_storage.specs.Histogram.{buckets_of}
 use Rattle.metrics_storage.proofs.Counting.{own-length, own-within, bucket-at, buckets-length}
-use Rattle.metrics_storage.proofs.histogram.told.Goals as goal
+use Rattle.metrics_storage.proofs.histogram.bucket_counts.Goals as goal
 
 pub bounds-own-i : goal.bounds-own-i
 bounds-own-i c = omega (arith, own-length c.args.bounds.now c.args.own.now c.requires.own, c.loop-i-test.true)
@@ -32,6 +32,6 @@ loop-i-preserved c =
     record {
       within = omega (arith, own-within bounds c.args.own.now c.requires.own i lt, c.requires.same);
       sum = c.moved-sum.ensures;
-      told = (c.in_ok-push.ensures {u = tt}).items ∙ (λ j. c.loop-i.invariant.told j ++ bucket j ∷ [])
+      bucket_counts = (c.in_ok-push.ensures {u = tt}).items ∙ (λ j. c.loop-i.invariant.bucket_counts j ++ bucket j ∷ [])
           ∙ sym (take-suc bs i (pos 0, 0) (omega (arith, buckets-length bounds ranks, lt))) ∙ ap (λ k. take k bs) next;
     }
