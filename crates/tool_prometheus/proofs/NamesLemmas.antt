@@ -69,15 +69,3 @@ pub filtered_names : (rules : Rules) (inner : Meaning) (options : Options) → r
 filtered_names rules inner options is one kind name =
     ap (λ (z : Meaning). first_name (z.targets kind name)) is
     ∙ filtered-name (matches false options.drops name) (inner.targets kind name) (below options.prefix name) (one kind name)
-
--- ---- the name of a key that was found
-
-pub name_found : (labels : List LabelParts) (o : Option (List ℕ)) (found : Option KeyParts) (key : KeyParts)
-    → found ≡ option_map (named_key labels) o → found ≡ Some key → Some key.name ≡ o
-name_found labels None found key is some = absurd (cc)
-name_found labels (Some name) found key is some = ap (option_map (λ (k : KeyParts). k.name)) (sym some ∙ is)
-
-pub name_missing : (labels : List LabelParts) (o : Option (List ℕ)) (found : Option KeyParts)
-    → found ≡ option_map (named_key labels) o → found ≡ None → None ≡ o
-name_missing labels None found is none = refl
-name_missing labels (Some name) found is none = absurd (cc)
