@@ -29,7 +29,7 @@ fn sizes_are_in_bytes(rt: HostRuntime) {
 
 /// A text that is cut off, has no number or is too large says nothing.
 #[test]
-fn what_is_not_told_is_none(rt: HostRuntime) {
+fn what_is_not_said_is_none(rt: HostRuntime) {
     for stat in [
         "",
         "1 (a) R 1 2 3",
