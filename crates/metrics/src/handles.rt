@@ -141,7 +141,8 @@ impl Counter {
 
     /// Adds, modulo 2^64.
     ///
-    /// Returns how many series it updated.
+    /// A handle is its addresses: on another recorder than that of its registration it updates what is there. Returns how many
+    /// series it updated.
     /// Fails with `NoSuchAddress` if some address has no counter, and then changes nothing.
     pub fn increment<R: Recorder>(&self, on: &mut R, n: u64) -> Result<usize, Refused>
         ensures keeps { KeepsTargets (R.meaning on.old) (R.meaning on.new) }
@@ -152,7 +153,8 @@ impl Counter {
 
     /// Raises the count to the value, if it is below that.
     ///
-    /// Returns how many series it updated.
+    /// A handle is its addresses: on another recorder than that of its registration it updates what is there. Returns how many
+    /// series it updated.
     /// Fails with `NoSuchAddress` if some address has no counter, and then changes nothing.
     pub fn absolute<R: Recorder>(&self, on: &mut R, n: u64) -> Result<usize, Refused>
         ensures keeps { KeepsTargets (R.meaning on.old) (R.meaning on.new) }
@@ -208,7 +210,8 @@ impl Gauge {
 
     /// Adds, and saturates at the ends of `i64`.
     ///
-    /// Returns how many series it updated.
+    /// A handle is its addresses: on another recorder than that of its registration it updates what is there. Returns how many
+    /// series it updated.
     /// Fails with `NoSuchAddress` if some address has no gauge, and then changes nothing.
     pub fn increment<R: Recorder>(&self, on: &mut R, n: i64) -> Result<usize, Refused>
         ensures keeps { KeepsTargets (R.meaning on.old) (R.meaning on.new) }
@@ -219,7 +222,8 @@ impl Gauge {
 
     /// Subtracts, and saturates at the ends of `i64`.
     ///
-    /// Returns how many series it updated.
+    /// A handle is its addresses: on another recorder than that of its registration it updates what is there. Returns how many
+    /// series it updated.
     /// Fails with `NoSuchAddress` if some address has no gauge, and then changes nothing.
     pub fn decrement<R: Recorder>(&self, on: &mut R, n: i64) -> Result<usize, Refused>
         ensures keeps { KeepsTargets (R.meaning on.old) (R.meaning on.new) }
@@ -230,7 +234,8 @@ impl Gauge {
 
     /// Replaces the value.
     ///
-    /// Returns how many series it updated.
+    /// A handle is its addresses: on another recorder than that of its registration it updates what is there. Returns how many
+    /// series it updated.
     /// Fails with `NoSuchAddress` if some address has no gauge, and then changes nothing.
     pub fn set<R: Recorder>(&self, on: &mut R, n: i64) -> Result<usize, Refused>
         ensures keeps { KeepsTargets (R.meaning on.old) (R.meaning on.new) }
@@ -286,7 +291,8 @@ impl Histogram {
 
     /// Adds a sample.
     ///
-    /// Returns how many series it updated.
+    /// A handle is its addresses: on another recorder than that of its registration it updates what is there. Returns how many
+    /// series it updated.
     /// When out of memory `acted` says how many series have the sample.
     /// Fails with `NoSuchAddress` if some address has no histogram, and then changes nothing.
     pub fn record<R: Recorder>(&self, on: &mut R, sample: i64) -> Result<usize, Refused>

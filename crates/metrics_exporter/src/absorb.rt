@@ -51,6 +51,8 @@ impl Exporter {
     /// `snapshot` resets gauges too, so that `absorb` sees a change and no level: a gauge that counts 5, 6, 7 is set to 5, 1,
     /// 1. Any snapshot that isn't absorbed takes away counts, samples and activity.
     ///
+    /// The book keeps its series also once the exporter has let them go, so this way is for a fixed set of names.
+    ///
     /// An error says which part was absorbed; `absorb_from` goes on from there.
     pub fn absorb(&mut self, snapshot: &Snapshot) -> Result<(), PartlyAbsorbed>
         ensures absorbs { (setup : Setup) (log : Log) → IsAfter setup log self.old
