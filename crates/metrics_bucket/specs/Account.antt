@@ -19,8 +19,8 @@ abbrev pub home_code : Coded Home
 home_code = code_by (TableId × ℕ) (coded× table_id_coded coded_ℕ) (λ e. (e.table, e.places)) (λ p. record { table = p.0; places = p.1 }) (λ _. refl)
 
 -- A pen's account: what it pushed, the walks that took and those that only read, its weight, and whether it has a ticket. Then
--- the control word that it saw last, which is twice the number of tickets given plus the live side, how often it looked at that
--- word, and how many of its claims found the turn held
+-- the control word that it saw last: twice the number of tickets given, plus the live side. It counts its looks at that word, and
+-- its claims that found the turn held
 pub record Account : Type 0 where
   pub home : Home
   pub weight : ℕ

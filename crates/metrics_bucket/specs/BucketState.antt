@@ -8,7 +8,8 @@ use Rattle.metrics_bucket.specs.declared.view.Hold.TheVariants.{Nothing, Ticket,
 use Rattle.metrics_bucket.specs.declared.view.Visit.{Visit}
 use Rattle.metrics_bucket.specs.declared.view.Visit.TheVariants.{Unseen, Marked, Read, Wiped}
 
--- The epoch, which is the number of takes so far, the live side (0 or 1) with its tickets given, the turn, a value and a mark for each place of both sides, and what each thread has and holds
+-- The epoch, which is the number of takes so far, the live side (0 or 1) with its tickets given, and the turn. Then a value and a
+-- mark for each place of both sides, and what each thread has and holds
 pub record BucketState : Type 0 where
   pub epoch : ℕ
   pub live : ℕ

@@ -1,7 +1,12 @@
 //! Lists of bounds, made by a rule.
-ghost use Rattle.std.specs.Prelude.{◌≡◌, ◌<◌, ◌⊎◌, ◌+ℤ◌, ◌*ℤ◌, ◌<ℤ◌, ◌↔◌, pos, IfOk, IfErr, IfSome, IsSome, OnOk, MatchResult, FitsSigned};
+ghost use Rattle.std.specs.Prelude.{◌≡◌, ◌<◌, ◌⊎◌, ◌+ℤ◌, ◌*ℤ◌, ◌<ℤ◌, ◌↔◌, pos};
+ghost use Rattle.std.specs.Prelude.{IfOk, IfErr, IfSome, IsSome, OnOk, MatchResult, FitsSigned};
 ghost use Rattle.std.specs.Int.{w64};
-ghost use Rattle.metrics_exporter.specs.declared.bound_lists.BoundsError.TheVariants.{Memory as OutOfMemory, BadStart as NotStart, BadWidth as NotWidth, BadFactor as NotFactor, BadCount as NotCount, Overflow as Past};
+ghost use Rattle.metrics_exporter.specs.declared.bound_lists.BoundsError.TheVariants.{Memory as OutOfMemory, Overflow as Past};
+ghost use Rattle.metrics_exporter.specs.declared.bound_lists.BoundsError.TheVariants.{BadStart as NotStart};
+ghost use Rattle.metrics_exporter.specs.declared.bound_lists.BoundsError.TheVariants.{BadWidth as NotWidth};
+ghost use Rattle.metrics_exporter.specs.declared.bound_lists.BoundsError.TheVariants.{BadFactor as NotFactor};
+ghost use Rattle.metrics_exporter.specs.declared.bound_lists.BoundsError.TheVariants.{BadCount as NotCount};
 ghost use Rattle.metrics_exporter.specs.BoundLists.{AreSteps, OneIsPast, stepped};
 
 use crate::bounds::Bounds;

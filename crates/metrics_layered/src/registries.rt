@@ -24,7 +24,8 @@ where
 
     type Histogram = S::Histogram;
 
-    ghost gives_counter = { λ r key handle. (c : S.Counter) × FitsKey key_eq S.makes_counter key c × S.Counter.is_clone c handle };
+    ghost gives_counter = { λ r key handle. (c : S.Counter) × FitsKey key_eq S.makes_counter key c
+        × S.Counter.is_clone c handle };
 
     ghost gives_gauge = { λ r key handle. (c : S.Gauge) × FitsKey key_eq S.makes_gauge key c × S.Gauge.is_clone c handle };
 

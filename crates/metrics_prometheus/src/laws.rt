@@ -17,7 +17,8 @@ ghost use Rattle.metrics_prometheus.specs.Written.{written, samples_written, is_
 ghost use Rattle.metrics_prometheus.specs.Numbers.{unsigned, number, IsShifted};
 ghost use Rattle.metrics_prometheus.specs.Samples.{Sample, series_text};
 ghost use Rattle.metrics_prometheus.specs.Reading.{AreOfKinds, AreBuckets, HasNames, CanBeRead, is_same_text, Ascend, NamesOnce};
-ghost use Rattle.metrics_prometheus.specs.Written.{AreApart, HasSamples, TellsKinds, DescribesNames, HasHistogram, MayStand, IsReported};
+ghost use Rattle.metrics_prometheus.specs.Written.{AreApart, HasSamples, TellsKinds, DescribesNames};
+ghost use Rattle.metrics_prometheus.specs.Written.{HasHistogram, MayStand, IsReported};
 
 use crate::rows::row_order;
 

@@ -66,7 +66,7 @@ AnswersFront m ls text = (calls : List Call) × (rest : List (List ℕ))
 abbrev pub AnswersSome : Meaning → List (List ℕ) → (List ℕ → Type 0) → Type 0
 AnswersSome m ls Writes = (text more : List ℕ) × AnswersFront m ls (text ++ more) × Writes text
 
--- What was written for the lines of calls on a recorder of new books, by the result: all were answered, or those before
+-- What was written for the lines of calls on a recorder of new books, by the result. All were answered, or those before
 -- a bad line, or before one at which memory ran out; or the writing stopped.
 abbrev pub AnswersCalls : {A : Type 0} → Meaning → List (List ℕ) → (List ℕ → Type 0) → Result A RunError → Type 0
 AnswersCalls m ls Writes (Ok done) = (calls : List Call) × (text : List ℕ)

@@ -33,8 +33,8 @@ pub fn output_law()
         → IsOutput options bytes q b t → p.clock ≡ q.clock → (p ≡ q) × (a ≡ b) × (s ≡ t) }
     // A run writes those and ends with that status. Where memory, the device or the file fails, or the count of a series'
     // samples is full, the status is 1.
-    ensures written { (options : Options) (bytes text : List ℕ) (asked : Deeds) (status : ℕ) → Runs options bytes asked text status
-        → status ≢ 1 → IsOutput options bytes asked text status }
+    ensures written { (options : Options) (bytes text : List ℕ) (asked : Deeds) (status : ℕ)
+        → Runs options bytes asked text status → status ≢ 1 → IsOutput options bytes asked text status }
     // So two such runs over the same bytes agree, with any numbers of shards, where each scrape has its own moment.
     ensures same { (options : Options) (shards : ℕ) (bytes a b : List ℕ) (p q : Deeds) (s t : ℕ) → NamesMoments options bytes
         → Runs options bytes p a s → Runs (with_shards shards options) bytes q b t

@@ -38,8 +38,8 @@ abbrev pub is_end : TreeLine → Bool
 is_end line.End = true
 is_end l = false
 
--- The bytes are `end` over one recorder; or they spell a line that removed its trees and pushed its own; or memory ran
--- out; or the bytes are neither `end` over one tree nor a line that is allowed there.
+-- The bytes are `end` over one recorder; or they spell a line that removed its trees and pushed its own. Or memory ran
+-- out, or the bytes are neither `end` over one tree nor a line that is allowed there.
 abbrev pub DoesLine : List ℕ → List Level → List Level → Result Bool LineError → Type 0
 DoesLine bytes old new (Ok true) = (bytes ≡ spelling line.End) × (length old ≡ 1) × (new ≡ old)
 DoesLine bytes old new (Ok false) = (ts : List Tree) → AreBuilt old ts → (said : TreeLine) × (us : List Tree) × Spells bytes said × Steps said ts us × AreBuilt new us
