@@ -1,6 +1,5 @@
 #!/usr/bin/env python3
-"""What `metrics_prometheus_tool --textfile PATH --state PATH` does to files: no reader sees a torn or an empty text, whatever
-happens, and what was held goes on at the next run.
+"""What `metrics_prometheus_tool --textfile PATH` does to files: no reader sees a torn or an empty text, whatever happens.
 
     textfile.py PROGRAM
 
@@ -170,50 +169,6 @@ def kills(folder):
     return run(folder, path, series(b"x", 300, 1))[0] == 0 and is_whole(path.read_bytes(), counts)
 
 
-def state_run(folder, given, *options):
-    ended = subprocess.run([PROGRAM, "--textfile", "a.prom", "--state", "a.state", *options], input=given, capture_output=True, cwd=folder, timeout=60)
-    return ended.returncode, ended.stdout, ended.stderr.decode()
-
-
-def runs_add_up(folder):
-    """Three runs hold together what one run with all their lines holds."""
-    lines = (b'describe counter hits count All hits.\nincrement 2 hits path="a \\"b\\""\nset 3 temp\nadd 4 temp\n'
-             b"record 7 lat\nrecord 7000 lat\nrecord -9 lat\nincrement 0 none\n")
-    for _ in range(3):
-        if state_run(folder, lines, "--prefix", "p", "--label", "host=x y") != (0, b"", ""):
-            return False
-    together = (folder / "a.prom").read_text()
-    ended = subprocess.run([PROGRAM, "--prefix", "p", "--label", "host=x y"], input=lines * 3, capture_output=True, timeout=60)
-    return together + "\n" == ended.stdout.decode() and not beside(folder, ["a.prom", "a.state"])
-
-
-def no_update(folder):
-    """A run without updates keeps the state and the text as they are."""
-    state_run(folder, b"increment 2 hits\n")
-    before = (folder / "a.state").read_bytes(), (folder / "a.prom").read_bytes()
-    return state_run(folder, b"") == (0, b"", "") and before == ((folder / "a.state").read_bytes(), (folder / "a.prom").read_bytes())
-
-
-def bad_state(spoil, message, *options):
-    """A state that a run can't begin with is reported before the first line, and stays."""
-    def case(folder):
-        state_run(folder, b"increment 2 hits\nrecord 7 lat\n")
-        path = folder / "a.state"
-        path.write_bytes(spoil(path.read_bytes()))
-        before = path.read_bytes(), (folder / "a.prom").read_bytes()
-        ended = state_run(folder, b"increment 1 hits\nbad\n", *options)
-        return ended == (2, b"", message) and before == (path.read_bytes(), (folder / "a.prom").read_bytes())
-    return case
-
-
-def state_unwritten(folder):
-    """Where the state can't be written, the text isn't either."""
-    (folder / "none").symlink_to("missing/a")
-    ended = subprocess.run([PROGRAM, "--textfile", "a.prom", "--state", "none"], input=SMALL, capture_output=True, cwd=folder, timeout=60)
-    message = "can't make ./missing/a.0.tmp: No such file or directory (os error 2)\n".replace("./", "")
-    return (ended.returncode, ended.stdout, ended.stderr.decode()) == (1, b"", message) and not (folder / "a.prom").exists()
-
-
 def clock_in_seconds(folder):
     """By the clock a series goes 3 seconds after its last update with --idle 1, and stays with --idle 60."""
     def shown(idle):
@@ -243,16 +198,6 @@ CASES = {
     "little memory": memory_short,
     "two writers": two_writers,
     "kills": kills,
-    "three runs": runs_add_up,
-    "no update": no_update,
-    "a cut state": bad_state(lambda text: text[:-3], "a.state: not whole\n"),
-    "a state without its last line": bad_state(lambda text: text[:text.rindex(b"\n", 0, -1) + 1], "a.state: not whole\n"),
-    "an empty state": bad_state(lambda text: b"", "a.state: not a state of this program with these options\n"),
-    "a foreign state": bad_state(lambda text: b"# TYPE a counter\na 1\n", "a.state: not a state of this program with these options\n"),
-    "a changed line": bad_state(lambda text: text.replace(b"1 increment 2 hits", b"1 increment x hits"), "a.state: a line is not one of a state\n"),
-    "other bounds": bad_state(lambda text: text, "a.state: not a state of this program with these options\n", "--bounds", "1,2"),
-    "other bounds of a prefix": bad_state(lambda text: text, "a.state: not a state of this program with these options\n", "--bounds-of", "lat=1,2"),
-    "a state that can't be written": state_unwritten,
     "seconds": clock_in_seconds,
 }
 

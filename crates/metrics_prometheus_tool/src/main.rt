@@ -5,33 +5,24 @@ mod devices;
 mod host;
 mod names;
 mod options;
-mod state;
 mod values;
 
 use crate::devices::{Failure, Noting};
 use crate::host::Host;
 use crate::options::options_of;
-use crate::state::{Place, begin, title_of};
 use clap::error::ErrorKind;
-use metrics_exporter::Exporter;
 use metrics_textfile::{TextfileError, textfile_place};
 use std::io::BufReader;
 use std::process::ExitCode;
 use std::{env, io};
 use tool_export::exit_of;
-use tool_prometheus::{Options, command_on, exporter_for};
+use tool_prometheus::{Options, command};
 
 /// The status where nobody reads standard output any longer, as of a program that the signal for it ends.
 const READER_GONE: u8 = 141;
 
-/// Answers standard input, on an exporter.
-fn serve(
-    host: &HostRuntime,
-    options: Options,
-    exporter: Exporter,
-    path: Option<&str>,
-    state: Option<Place<'_>>,
-) -> io::Result<u8> {
+/// Answers standard input.
+fn serve(host: &HostRuntime, options: Options, path: Option<&str>) -> io::Result<u8> {
     let failure = Failure::new();
     let reader = Noting {
         stream: host.reader(),
@@ -47,17 +38,9 @@ fn serve(
     let around = Host {
         rt: host,
         path,
-        state,
         failure: &failure,
     };
-    let (status, _) = command_on(
-        host.alloc(),
-        options,
-        exporter,
-        around,
-        &mut input,
-        &mut output,
-    );
+    let (status, _) = command(host.alloc(), options, around, &mut input, &mut output);
     Ok(if failure.is_reader_gone() {
         READER_GONE
     } else {
@@ -79,43 +62,12 @@ fn refused_path(host: &HostRuntime, path: &str) -> Option<u8> {
     Some(if e.is_unfit() { 2 } else { 1 })
 }
 
-/// Answers standard input, on an exporter that begins with the state, if there is one.
-fn serve_from(
-    host: &HostRuntime,
-    options: Options,
-    path: Option<&str>,
-    state: Option<&str>,
-) -> io::Result<u8> {
-    let Ok(mut exporter) = exporter_for(host.alloc(), &options) else {
-        return Err(io::Error::from(io::ErrorKind::OutOfMemory));
-    };
-    let Some(state) = state else {
-        return serve(host, options, exporter, path, None);
-    };
-    let title = title_of(host.alloc(), &options)?;
-    let place = Place {
-        path: state,
-        title: title.as_str(),
-    };
-    match begin(host, &mut exporter, place) {
+/// Answers standard input, unless the file for scrapes can't be one.
+fn serve_at(host: &HostRuntime, options: Options, path: Option<&str>) -> io::Result<u8> {
+    match path.and_then(|path| refused_path(host, path)) {
         Some(status) => Ok(status),
-        None => serve(host, options, exporter, path, Some(place)),
+        None => serve(host, options, path),
     }
-}
-
-/// Answers standard input, unless one of the files can't be one.
-fn serve_at(
-    host: &HostRuntime,
-    options: Options,
-    path: Option<&str>,
-    state: Option<&str>,
-) -> io::Result<u8> {
-    for file in [path, state] {
-        if let Some(status) = file.and_then(|file| refused_path(host, file)) {
-            return Ok(status);
-        }
-    }
-    serve_from(host, options, path, state)
 }
 
 /// Prints help, the version, or what is wrong with the words.
@@ -131,7 +83,7 @@ fn tell(host: &HostRuntime, error: clap::Error) -> io::Result<u8> {
 fn status(host: &HostRuntime) -> io::Result<u8> {
     let words: Vec<String> = env::args(host)?.collect(host.alloc())?;
     match options_of(host.alloc(), &words) {
-        Ok((options, path, state)) => serve_at(host, options, path, state),
+        Ok((options, path)) => serve_at(host, options, path),
         Err(error) => tell(host, error),
     }
 }

@@ -142,14 +142,6 @@ fn with_output<'a>(alloc: Global, command: Command<'a>) -> Result<Command<'a>, A
         "Puts each scrape into the file PATH, whole or not at all,\n\
         and nothing on standard output",
     );
-    let state = option(
-        alloc,
-        "state",
-        "PATH",
-        "Begins with what the last run held, from the file PATH, and keeps\n\
-        what is held there at each scrape; needs --textfile",
-    )
-    .requires_arg("textfile")?;
     let ends = flag(
         alloc,
         "at-scrapes-only",
@@ -168,7 +160,6 @@ fn with_output<'a>(alloc: Global, command: Command<'a>) -> Result<Command<'a>, A
     command
         .arg(recommended)?
         .arg(file)?
-        .arg(state)?
         .arg(ends)?
         .arg(partial)?
         .arg(skips)
@@ -256,19 +247,15 @@ fn error_of(alloc: Global, command: &mut Command<'_>, unfit: Unfit<'_>) -> Resul
     Ok(command.error(ErrorKind::ValueValidation, message.as_str())?)
 }
 
-/// Returns what the words ask for, and the paths of the file for scrapes and of the state. The first word is the program's name.
+/// Returns what the words ask for, and the path of the file for scrapes. The first word is the program's name.
 pub fn options_of<'a>(
     alloc: Global,
     words: &'a [String],
-) -> Result<(Options, Option<&'a str>, Option<&'a str>), Error> {
+) -> Result<(Options, Option<&'a str>), Error> {
     let mut command = command_line(alloc)?;
     let matches = command.try_get_matches_from_mut(words)?;
     match asked(alloc, &matches) {
-        Ok(options) => Ok((
-            options,
-            matches.get_str("textfile"),
-            matches.get_str("state"),
-        )),
+        Ok(options) => Ok((options, matches.get_str("textfile"))),
         Err(unfit) => Err(error_of(alloc, &mut command, unfit)?),
     }
 }

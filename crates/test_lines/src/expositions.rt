@@ -1,7 +1,6 @@
 //! Runs of an exporter for Prometheus: what it asks of its surroundings, and what it tells them.
 
 use crate::devices::{MEMORY, end_if_refused};
-use metrics_exporter::Exporter;
 use std::alloc::Global;
 use std::fmt::Display;
 use std::io;
@@ -42,10 +41,6 @@ impl<R: Abort> Surroundings for Stage<'_, R> {
 
     fn tell_device(&mut self) {
         self.tell("device");
-    }
-
-    fn keep(&mut self, _on: &Exporter) -> bool {
-        true
     }
 
     fn publish(&mut self, text: &str) -> bool {

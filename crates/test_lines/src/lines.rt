@@ -2,7 +2,6 @@
 
 use crate::devices::{FaultyReader, MEMORY, end_if_refused, ran_slowly, report, writer};
 use metrics_debugging::DebuggingRecorder;
-use metrics_exporter::Exporter;
 use std::alloc::Global;
 use std::cell::Cell;
 use std::fmt::Display;
@@ -140,10 +139,6 @@ impl Surroundings for Alone {
     fn tell<M: Display + Drop>(&mut self, _message: M) {}
 
     fn tell_device(&mut self) {}
-
-    fn keep(&mut self, _on: &Exporter) -> bool {
-        true
-    }
 
     fn publish(&mut self, _text: &str) -> bool {
         false

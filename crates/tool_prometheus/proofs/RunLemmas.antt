@@ -21,7 +21,7 @@ use Rattle.tool_prometheus.specs.declared.requests.Request.TheVariants.{Change, 
 use Rattle.tool_prometheus.specs.Asked.{Asked, nothing_asked, then_asked, Asks}
 use Rattle.tool_prometheus.specs.Names.{ruled_name, name_by, Requests}
 use Rattle.tool_prometheus.specs.Exposed.{scrape_text, fault_text, KeepsRest, HandsOut, Shows, IsPlain, IsWant, IsAnswer, IsEnd, shows_at_end}
-use Rattle.tool_prometheus.specs.Serving.{Start, answers_since, Stops, EndsLines, IsFresh, own_status, or_left}
+use Rattle.tool_prometheus.specs.Serving.{answers_since, Stops, EndsLines, IsFresh, own_status, or_left}
 use Rattle.tool_prometheus.specs.Output.{Done, begun, lines_in, loses_line, PrintsExposition, Prints, PrintLines, IsOutput, Runs}
 use Rattle.tool_prometheus.proofs.AskedLemmas.{then-nothing, then-assoc}
 
@@ -300,30 +300,30 @@ module _ (options : Options) (cut : Bool) where
       shown_so (inl (shown, false, shows, t, out, failed)) = absurd (fine failed)
       shown_so (inr (want, failed, held)) = absurd (fine failed)
 
-  module _ (log : Log) (at_end : Type 0) (bytes front half left : List ℕ) (ends : at_end → left ≡ []) (whole : bytes ≡ (front ++ half) ++ left)
+  module _ (at_end : Type 0) (bytes front half left : List ℕ) (ends : at_end → left ≡ []) (whole : bytes ≡ (front ++ half) ++ left)
       (is_cut : cut ≡ loses_line options.accepts_partial bytes) (start served new : Served) (before after : Asked) (lines last text : List ℕ) (status : ℕ) (prints : text ≡ lines ++ last)
-      (stands : Stands log start) where
+      (stands : Stands [] start) where
     -- what a run over the lines wrote, if they are these and then others
     over : (es : Dialogue) (rest : List (List ℕ)) → lines_in options.accepts_partial bytes ≡ lines_said es ++ rest → lines ≡ texts_in es
         → (notes : Unit {0}) → AreAnswered (answers_since options.skips_bad) ((start, nothing_asked), tt) es ((served, before), notes)
         → (served.has_failed ≡ true → ⊥) → ((calls : Log) → Stands calls served → Goes calls served rest after last status)
-        → Goes log start (lines_in options.accepts_partial bytes) (then_asked before after) text status
+        → Goes [] start (lines_in options.accepts_partial bytes) (then_asked before after) text status
     over es rest are is notes h fine goes =
         let whole_text : text ≡ texts_in es ++ last = prints ∙ ap (λ z. z ++ last) is in
-        let (asked, total, more) = dialogue log ((start, nothing_asked), tt) ((served, before), notes) es rest after last status stands h fine goes in
-        subst (λ z. PrintLines options (done_on log start) z (then_asked before after) text status) (sym are)
-        (subst (λ z. PrintLines options (done_on log start) (lines_said es ++ rest) (then_asked before after) z status) (sym whole_text)
-        (subst (λ z. PrintLines options (done_on log start) (lines_said es ++ rest) (then_asked z after) (texts_in es ++ last) status) (sym total) more))
+        let (asked, total, more) = dialogue [] ((start, nothing_asked), tt) ((served, before), notes) es rest after last status stands h fine goes in
+        subst (λ z. PrintLines options (done_on [] start) z (then_asked before after) text status) (sym are)
+        (subst (λ z. PrintLines options (done_on [] start) (lines_said es ++ rest) (then_asked before after) z status) (sym whole_text)
+        (subst (λ z. PrintLines options (done_on [] start) (lines_said es ++ rest) (then_asked z after) (texts_in es ++ last) status) (sym total) more))
 
     ended_so : (q r : Result ℕ RunError) → (new.has_failed ≡ true → ⊥) → status ≡ own_status r new.has_bad → status ≢ 1
         → IsRun (answers_since options.skips_bad) (Stops options.skips_bad) at_end 1 ((start, nothing_asked), tt) (served, before) front lines q
         → EndsLines served new after last q r → IsLeft options.accepts_partial front half q → OnOk q (new.has_bad ≡ or_left half served.has_bad)
-        → Goes log start (lines_in options.accepts_partial bytes) (then_asked before after) text status
+        → Goes [] start (lines_in options.accepts_partial bytes) (then_asked before after) text status
     ended_so (Ok n) (Ok m) fine st ok (es, end, are, (notes, h), is, count) (shows, same) is_left skipped =
         let all = whole ∙ ap (λ z. (front ++ half) ++ z) (ends end) ∙ append-nil (front ++ half) in
         let bad : new.has_bad ≡ (if cut then true else served.has_bad) =
         skipped ∙ half-taken options.accepts_partial bytes front half n served.has_bad all is_left ∙ sym (ap (λ b. if b then true else served.has_bad) is_cut) in
-        let ((calls, stood), failed) = stays log ((start, nothing_asked), tt) ((served, before), notes) es stands.0 h in
+        let ((calls, stood), failed) = stays [] ((start, nothing_asked), tt) ((served, before), notes) es stands.0 h in
         over es [] (all-taken options.accepts_partial bytes front half n all is_left ∙ are ∙ sym (append-nil (lines_said es))) is
         notes h (λ f. fine (end-failed calls served new after last stood shows f))
         (λ calls now. at-end calls served new after last status now fine shows (st ∙ ap (λ b. if b then 3 else 0) bad))
@@ -339,33 +339,33 @@ module _ (options : Options) (cut : Bool) where
     ended_so (Err Device) r fine st ok run (none, nothing, kept, same) is_left skipped =
         absurd (ok (st ∙ ap (λ x. own_status x new.has_bad) same))
 
-  fresh : (begin : Start) (start : Served) → IsFresh options begin start → done_on begin.calls start ≡ begun begin cut
-  fresh begin start (after, told, naming, file, changed, bad, labels, ends, failed, named) =
+  fresh : (start : Served) → IsFresh options start → done_on [] start ≡ begun cut
+  fresh start (after, told, naming, file, changed, bad, labels, ends, failed, named) =
       let none : (if cut then true else start.has_bad) ≡ cut = ap (λ b. if cut then true else b) bad ∙ or-false cut in
-      λ i. record { calls = begin.calls; legend = λ kind name. told kind name i; is_changed = changed i; has_bad = none i }
+      λ i. record { calls = []; legend = λ kind name. told kind name i; is_changed = changed i; has_bad = none i }
 
   -- what was asked since nothing was
   since_nothing : (asked all : Asked) → Asks (Some nothing_asked) (Some asked) all → asked ≡ all
   since_nothing asked all e = cc
 
-  output-cut : (begin : Start) (bytes text : List ℕ) (asked : Asked) (status : ℕ) → cut ≡ loses_line options.accepts_partial bytes
-      → Runs options begin bytes asked text status → status ≢ 1
-      → PrintLines options (begun begin cut) (lines_in options.accepts_partial bytes) asked text status
-  output-cut begin bytes text asked status is_cut (None, (read, wrote, all, took, writes, asks, serves)) ok = absurd took
-  output-cut begin bytes text asked status is_cut (Some left, (read, wrote, all, took, writes, asks, inr (nothing, none, nor, one))) ok =
+  output-cut : (bytes text : List ℕ) (asked : Asked) (status : ℕ) → cut ≡ loses_line options.accepts_partial bytes
+      → Runs options bytes asked text status → status ≢ 1
+      → PrintLines options (begun cut) (lines_in options.accepts_partial bytes) asked text status
+  output-cut bytes text asked status is_cut (None, (read, wrote, all, took, writes, asks, serves)) ok = absurd took
+  output-cut bytes text asked status is_cut (Some left, (read, wrote, all, took, writes, asks, inr (nothing, none, nor, one))) ok =
       absurd (ok one)
-  output-cut begin bytes text asked status is_cut
+  output-cut bytes text asked status is_cut
       (Some left, (read, wrote, all, took, writes, asks, inl (start, end, r, is_fresh, (served, lines, last, before, after, q, front, half, parts, is_left, run, ends, prints, asked_so, skipped), st))) ok =
       let (stood, told, naming, file, changed, bad, labels, ending, failed, named) = is_fresh in
       let fine : (end.has_failed ≡ true → ⊥) = λ f. ok (st ∙ ap (λ b. if b then 1 else own_status r end.has_bad) f) in
       let own : status ≡ own_status r end.has_bad =
       st ∙ ap (λ b. if b then 1 else own_status r end.has_bad) (is-false end.has_failed fine) in
-      let goes = ended_so begin.calls (left ≡ []) bytes front half left (λ e. e) (took ∙ ap (λ z. z ++ left) parts) is_cut start served end before after lines last text status (writes ∙ prints)
+      let goes = ended_so (left ≡ []) bytes front half left (λ e. e) (took ∙ ap (λ z. z ++ left) parts) is_cut start served end before after lines last text status (writes ∙ prints)
       (stood, naming, file, labels, ending, λ i kind name. named kind name i) q r fine own ok run ends is_left skipped in
-      subst (λ a. PrintLines options (begun begin cut) (lines_in options.accepts_partial bytes) a text status) (sym (since_nothing asked all asks ∙ asked_so))
-      (subst (λ d. PrintLines options d (lines_in options.accepts_partial bytes) (then_asked before after) text status) (fresh begin start is_fresh) goes)
+      subst (λ a. PrintLines options (begun cut) (lines_in options.accepts_partial bytes) a text status) (sym (since_nothing asked all asks ∙ asked_so))
+      (subst (λ d. PrintLines options d (lines_in options.accepts_partial bytes) (then_asked before after) text status) (fresh start is_fresh) goes)
 
-pub run-output : (options : Options) (begin : Start) (bytes text : List ℕ) (asked : Asked) (status : ℕ) → Runs options begin bytes asked text status → status ≢ 1
-    → IsOutput options begin bytes asked text status
-run-output options begin bytes text asked status runs ok =
-    output-cut options (loses_line options.accepts_partial bytes) begin bytes text asked status refl runs ok
+pub run-output : (options : Options) (bytes text : List ℕ) (asked : Asked) (status : ℕ) → Runs options bytes asked text status → status ≢ 1
+    → IsOutput options bytes asked text status
+run-output options bytes text asked status runs ok =
+    output-cut options (loses_line options.accepts_partial bytes) bytes text asked status refl runs ok

@@ -5,7 +5,7 @@ use Rattle.std.specs.Io.KnownBytes.{Consumes, Appends, IsAtEnd}
 use Rattle.metrics_names.specs.Names.{KeyParts}
 use Rattle.metrics_registry.specs.Idleness.{Answered}
 use Rattle.metrics_exporter.specs.Exporting.{Log, updates, expires, steps, cells_after, IsExpiry, IsFull}
-use Rattle.metrics_exporter.specs.Describing.{Legend, legend_described}
+use Rattle.metrics_exporter.specs.Describing.{Legend, no_legend, legend_described}
 use Rattle.metrics_prometheus.specs.Exposition.{IsDescribed}
 use Rattle.tool_export.specs.Lines.{lines_of, ended_lines, is_cut}
 use Rattle.tool_prometheus.specs.Making.{setup_for}
@@ -16,7 +16,7 @@ use Rattle.tool_prometheus.specs.Lines.{Spells, IsBad}
 use Rattle.tool_prometheus.specs.Names.{name_by, Requests}
 use Rattle.tool_prometheus.specs.Asked.{Asked, Asks, nothing_asked, then_asked}
 use Rattle.tool_prometheus.specs.Exposed.{scrape_text, HasMoment, HandsOut, shows_at_end}
-use Rattle.tool_prometheus.specs.Serving.{Start, Ends}
+use Rattle.tool_prometheus.specs.Serving.{Ends}
 
 -- ---- one request
 
@@ -27,6 +27,9 @@ pub record Done : Type 0 where
   pub legend : Legend
   pub is_changed : Bool
   pub has_bad : Bool
+
+abbrev pub nothing_done : Done
+nothing_done = record { calls = []; legend = no_legend; is_changed = false; has_bad = false }
 
 -- an exposition of what is held, in the file or on the output
 abbrev pub PrintsExposition : Options → Done → List (List ℕ) → List ℕ → Type 0
@@ -63,9 +66,8 @@ lines_in accepts_partial bytes = if accepts_partial then lines_of bytes else end
 abbrev pub loses_line : Bool → List ℕ → Bool
 loses_line accepts_partial bytes = if accepts_partial then false else is_cut bytes
 
--- before the first line
-abbrev pub begun : Start → Bool → Done
-begun start loses = record { calls = start.calls; legend = start.legend; is_changed = false; has_bad = loses }
+abbrev pub begun : Bool → Done
+begun loses = record nothing_done { has_bad = loses }
 
 -- Lines print one after another, and then the end of the input does. A bad line is skipped, or ends the run. The status is 2
 -- at a bad line, 3 if bad lines were skipped or the last one is not counted, and otherwise 0.
@@ -79,17 +81,17 @@ PrintLines options done (l ∷ ls) asked text status =
     ⊎ (IsBad l × (((options.skips_bad ≡ true) × PrintLines options (record done { has_bad = true }) ls asked text status)
     ⊎ ((options.skips_bad ≡ false) × (asked ≡ nothing_asked) × (text ≡ []) × (status ≡ 2))))
 
--- The text and the status of a run with these options from this start over these bytes, and what it asks of the surroundings: a moment for each
+-- The text and the status of a run with these options over these bytes, and what it asks of the surroundings: a moment for each
 -- scrape without its own, and to put each scrape's text into the file.
-abbrev pub IsOutput : Options → Start → List ℕ → Asked → List ℕ → ℕ → Type 0
-IsOutput options start bytes asked text status =
-    PrintLines options (begun start (loses_line options.accepts_partial bytes)) (lines_in options.accepts_partial bytes) asked text status
+abbrev pub IsOutput : Options → List ℕ → Asked → List ℕ → ℕ → Type 0
+IsOutput options bytes asked text status =
+    PrintLines options (begun (loses_line options.accepts_partial bytes)) (lines_in options.accepts_partial bytes) asked text status
 
 -- ---- what `command` says of a run
 
--- A run over these bytes asked this, wrote this text and ended with this status, by the contract of `command_on`.
-abbrev pub Runs : Options → Start → List ℕ → Asked → List ℕ → ℕ → Type 0
-Runs options start bytes asked text status = (left : Option (List ℕ)) × Ends options start (OnSome (Some bytes) (IsAtEnd left))
+-- A run over these bytes asked this, wrote this text and ended with this status, by the contract of `command`.
+abbrev pub Runs : Options → List ℕ → Asked → List ℕ → ℕ → Type 0
+Runs options bytes asked text status = (left : Option (List ℕ)) × Ends options (OnSome (Some bytes) (IsAtEnd left))
     (Consumes (Some bytes) left) (Appends (Some []) (Some text)) (Asks (Some nothing_asked) (Some asked)) status
 
 -- the same, but for the number of shards

@@ -5,9 +5,7 @@ use Rattle.tool_grammar.specs.declared.error.RunError.TheVariants.{Memory, BadLi
 use Rattle.tool_export.specs.Answering.{Answering, IsRun, IsLeft, status_number}
 use Rattle.metrics_names.specs.declared.kind.MetricKind.{MetricKind}
 use Rattle.metrics_exporter.specs.Kept.{IsAfter, described}
-use Rattle.metrics_exporter.specs.declared.exporter.Exporter.{Exporter}
-use Rattle.metrics_exporter.specs.Exporting.{Log}
-use Rattle.metrics_exporter.specs.Describing.{Legend, SameLegend, no_legend}
+use Rattle.metrics_exporter.specs.Describing.{SameLegend, no_legend}
 use Rattle.tool_prometheus.specs.Making.{setup_for}
 use Rattle.tool_prometheus.specs.declared.answering.Served.{Served}
 use Rattle.tool_prometheus.specs.declared.commands.Options.{Options}
@@ -52,22 +50,9 @@ IsPrometheusRun skips takes at_end old read text asked r new = (served : Served)
     × EndsLines served new after last q r × (text ≡ lines ++ last) × (asked ≡ then_asked before after)
     × OnOk q (new.has_bad ≡ or_left left served.has_bad)
 
--- how a run begins: the calls that made what its exporter holds, and the descriptions of names
-pub record Start : Type 0 where
-  pub calls : Log
-  pub legend : Legend
-
--- nothing was called or described
-abbrev pub new_start : Start
-new_start = record { calls = []; legend = no_legend }
-
--- an exporter of the options holds what the start says
-abbrev pub Begins : Options → Start → Exporter → Type 0
-Begins options start on = IsAfter (setup_for options) start.calls on × SameLegend (described on) start.legend
-
--- what the lines act on, before the first one
-abbrev pub IsFresh : Options → Start → Served → Type 0
-IsFresh options start on = IsAfter (setup_for options) start.calls on.exporter × SameLegend (described on.exporter) start.legend
+-- an exporter of the options, before its first line: nothing was called or described
+abbrev pub IsFresh : Options → Served → Type 0
+IsFresh options on = IsAfter (setup_for options) [] on.exporter × SameLegend (described on.exporter) no_legend
     × (on.naming ≡ options.naming) × (on.has_file ≡ options.has_file) × (on.is_changed ≡ false) × (on.has_bad ≡ false)
     × (on.labels ≡ options.labels) × (on.at_scrapes_only ≡ options.at_scrapes_only) × (on.has_failed ≡ false)
     × ((kind : MetricKind) (name : List ℕ) → ruled_name on.rules kind name ≡ name_by options kind name)
@@ -82,15 +67,15 @@ own_status (Err e) has_bad = status_number e
 abbrev pub IsStatus : Result ℕ RunError → Bool → Bool → ℕ → Type 0
 IsStatus r has_bad has_failed status = status ≡ (if has_failed then 1 else own_status r has_bad)
 
--- The lines were answered from the start on, and the status reports how that ended; or memory ran out before, and nothing was
--- read, written or asked.
-abbrev pub Serves : Options → Start → Type 0 → List ℕ → List ℕ → Asked → ℕ → Type 0
-Serves options start at_end read text asked status =
-    ((first end : Served) × (r : Result ℕ RunError) × IsFresh options start first
-    × IsPrometheusRun options.skips_bad options.accepts_partial at_end first read text asked r end × IsStatus r end.has_bad end.has_failed status)
+-- The lines were answered by a new exporter, and the status reports how that ended; or none was made, and nothing was read,
+-- written or asked.
+abbrev pub Serves : Options → Type 0 → List ℕ → List ℕ → Asked → ℕ → Type 0
+Serves options at_end read text asked status =
+    ((start end : Served) × (r : Result ℕ RunError) × IsFresh options start
+    × IsPrometheusRun options.skips_bad options.accepts_partial at_end start read text asked r end × IsStatus r end.has_bad end.has_failed status)
     ⊎ ((read ≡ []) × (text ≡ []) × (asked ≡ nothing_asked) × (status ≡ 1))
 
 -- the lines were answered, and the status reports how that ended
-abbrev pub Ends : Options → Start → Type 0 → (List ℕ → Type 0) → (List ℕ → Type 0) → (Asked → Type 0) → ℕ → Type 0
-Ends options start at_end Reads Writes Asks status = (read text : List ℕ) × (asked : Asked)
-    × Reads read × Writes text × Asks asked × Serves options start at_end read text asked status
+abbrev pub Ends : Options → Type 0 → (List ℕ → Type 0) → (List ℕ → Type 0) → (Asked → Type 0) → ℕ → Type 0
+Ends options at_end Reads Writes Asks status = (read text : List ℕ) × (asked : Asked)
+    × Reads read × Writes text × Asks asked × Serves options at_end read text asked status

@@ -111,20 +111,15 @@ impl Page for Exposition {
     }
 }
 
-/// Keeps what is held, and puts a text into the file, if there is one. Returns whether both succeeded; if the first doesn't,
-/// the file stays.
-#[tactic(auto, using(crate::proofs::AskedLemmas::asks_none, crate::proofs::AskedLemmas::asks_later))]
-fn hand_out<S: Surroundings>(around: &mut S, on: &Exporter, has_file: bool, shown: &str) -> bool
+/// Puts a text into the file, if there is one. Returns whether that succeeded.
+fn hand_out<S: Surroundings>(around: &mut S, has_file: bool, shown: &str) -> bool
     ensures { (files : List (List ℕ)) × HandsOut has_file shown.now result files
         × Asks (S.asked around.old) (S.asked around.new) (record { clock = []; files = files }) }
 {
-    if !has_file {
-        return true;
+    if has_file {
+        return around.publish(shown);
     }
-    if !around.keep(on) {
-        return false;
-    }
-    around.publish(shown)
+    true
 }
 
 /// Hands out what a scrape shows: into the file, or as text with an empty line. Or appends the report of a failure.
@@ -144,7 +139,7 @@ fn hand_out_shown<S: Surroundings>(
         Ok(shown) => {
             on.is_changed = false;
             watch.tell_left_out(around, shown.as_str());
-            if !hand_out(around, &on.exporter, on.has_file, shown.as_str()) {
+            if !hand_out(around, on.has_file, shown.as_str()) {
                 on.has_failed = true;
             }
             write_shown(on.has_file, shown.as_str(), text)

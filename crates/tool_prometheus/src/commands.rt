@@ -1,14 +1,16 @@
 //! The whole program, for a parsed command line.
 ghost use Rattle.std.specs.Prelude.{◌≡◌, ℕ, List, [], OnSome};
 ghost use Rattle.std.specs.Io.KnownBytes.{Consumes, Appends, IsAtEnd};
+ghost use Rattle.metrics_exporter.specs.Kept.{IsAfter, described};
+ghost use Rattle.metrics_exporter.specs.Describing.{SameLegend, no_legend};
 ghost use Rattle.tool_prometheus.specs.Asked.{Asked, Asks, nothing_asked};
 ghost use Rattle.metrics_names.specs.declared.kind.MetricKind.{MetricKind as Kind};
+ghost use Rattle.tool_prometheus.specs.Making.{setup_for};
 ghost use Rattle.tool_prometheus.specs.Names.{ruled_name, name_by};
-ghost use Rattle.tool_prometheus.specs.Serving.{Begins, Ends, new_start, Start, IsStatus, IsPrometheusRun};
+ghost use Rattle.tool_prometheus.specs.Serving.{Ends, IsStatus, IsPrometheusRun};
 
 use crate::answering::Served;
-use crate::making::{PrefixBounds, exporter_for};
-use crate::names::rules_for;
+use crate::making::{PrefixBounds, parts_for};
 use crate::serving::prometheus;
 use crate::surroundings::Surroundings;
 use crate::watching::Watch;
@@ -90,7 +92,7 @@ fn serve<S: Surroundings, I: BufRead, O: Write>(
     }
 }
 
-/// Answers each line of the reader, on an exporter of the plan.
+/// Answers each line of the reader, on a new exporter of the plan.
 fn serve_new<S: Surroundings, I: BufRead, O: Write>(
     alloc: Global,
     options: Options,
@@ -101,9 +103,10 @@ fn serve_new<S: Surroundings, I: BufRead, O: Write>(
     input: &mut I,
     output: &mut O,
 ) -> (u8, S)
+    requires after { IsAfter (setup_for options) [] exporter }
+    requires undescribed { SameLegend (described exporter) no_legend }
     requires named { (kind : Kind) (name : List ℕ) → ruled_name rules kind name ≡ name_by options kind name }
-    ensures { (start : Start) → Begins options start exporter
-        → Ends options start (OnSome (I.remaining input.old) (IsAtEnd (I.remaining input.new)))
+    ensures { Ends options (OnSome (I.remaining input.old) (IsAtEnd (I.remaining input.new)))
         (Consumes (I.remaining input.old) (I.remaining input.new))
         (Appends (O.contents output.old) (O.contents output.new))
         (Asks (S.asked around) (S.asked result.1)) result.0 }
@@ -157,44 +160,6 @@ fn len_before(prefix: &Option<Text>) -> usize {
     }
 }
 
-/// Reports that memory ran out before the first line.
-fn end_before<S: Surroundings, O: Write>(alloc: Global, around: S, output: &mut O) -> (u8, S)
-    ensures status { result.0 ≡ 1 }
-    ensures output { Appends (O.contents output.old) (O.contents output.new) [] }
-    ensures asked { Asks (S.asked around) (S.asked result.1) nothing_asked }
-{
-    let mut watch = Watch::new(alloc, 0);
-    let answered = flush(output, Err(RunError::Memory(None)));
-    let mut around = around;
-    let status = final_status(&mut around, &mut watch, answered, false, false);
-    (status, around)
-}
-
-/// Answers each line of the reader, from line 1 on, on an exporter of the options that may hold something. Reports why it
-/// stopped, and returns the program's status and the surroundings.
-pub fn command_on<S: Surroundings, I: BufRead, O: Write>(
-    alloc: Global,
-    options: Options,
-    exporter: Exporter,
-    around: S,
-    input: &mut I,
-    output: &mut O,
-) -> (u8, S)
-    ensures { (start : Start) → Begins options start exporter
-        → Ends options start (OnSome (I.remaining input.old) (IsAtEnd (I.remaining input.new)))
-        (Consumes (I.remaining input.old) (I.remaining input.new))
-        (Appends (O.contents output.old) (O.contents output.new))
-        (Asks (S.asked around) (S.asked result.1)) result.0 }
-{
-    let mut watch = Watch::new(alloc, len_before(&options.prefix));
-    match rules_for(alloc, &options) {
-        Ok(rules) => serve_new(
-            alloc, options, exporter, rules, around, &mut watch, input, output,
-        ),
-        Err(_) => end_before(alloc, around, output),
-    }
-}
-
 /// Makes an exporter, and answers each line of the reader, from line 1 on. Reports why it stopped, and returns the
 /// program's status and the surroundings.
 pub fn command<S: Surroundings, I: BufRead, O: Write>(
@@ -204,13 +169,21 @@ pub fn command<S: Surroundings, I: BufRead, O: Write>(
     input: &mut I,
     output: &mut O,
 ) -> (u8, S)
-    ensures { Ends options new_start (OnSome (I.remaining input.old) (IsAtEnd (I.remaining input.new)))
+    ensures { Ends options (OnSome (I.remaining input.old) (IsAtEnd (I.remaining input.new)))
         (Consumes (I.remaining input.old) (I.remaining input.new))
         (Appends (O.contents output.old) (O.contents output.new))
         (Asks (S.asked around) (S.asked result.1)) result.0 }
 {
-    match exporter_for(alloc, &options) {
-        Ok(exporter) => command_on(alloc, options, exporter, around, input, output),
-        Err(_) => end_before(alloc, around, output),
+    let mut watch = Watch::new(alloc, len_before(&options.prefix));
+    match parts_for(alloc, &options) {
+        Ok((exporter, rules)) => serve_new(
+            alloc, options, exporter, rules, around, &mut watch, input, output,
+        ),
+        Err(_) => {
+            let answered = flush(output, Err(RunError::Memory(None)));
+            let mut around = around;
+            let status = final_status(&mut around, &mut watch, answered, false, false);
+            (status, around)
+        }
     }
 }

@@ -6,7 +6,6 @@ ghost use Rattle.tool_prometheus.specs.declared.commands.Options.{Options};
 ghost use Rattle.tool_prometheus.specs.declared.requests.Request.{Request as Asked};
 ghost use Rattle.tool_prometheus.specs.Asked.{Asked as Deeds};
 ghost use Rattle.tool_prometheus.specs.Lines.{Spells, IsBad, with_labels, value_of};
-ghost use Rattle.tool_prometheus.specs.Serving.{Start};
 ghost use Rattle.tool_prometheus.specs.Output.{IsOutput, Runs, NamesMoments, with_shards};
 
 use metrics_exporter::exporter_law;
@@ -29,16 +28,16 @@ pub fn label_law()
 
 /// Does nothing: its contract states the laws of what a whole run of `command` writes.
 pub fn output_law()
-    // The same options, start, bytes and moments of the clock have one text, one list of texts in the file, and one status.
-    ensures one { (options : Options) (start : Start) (bytes a b : List ℕ) (p q : Deeds) (s t : ℕ) → IsOutput options start bytes p a s
-        → IsOutput options start bytes q b t → p.clock ≡ q.clock → (p ≡ q) × (a ≡ b) × (s ≡ t) }
+    // The same options, bytes and moments of the clock have one text, one list of texts in the file, and one status.
+    ensures one { (options : Options) (bytes a b : List ℕ) (p q : Deeds) (s t : ℕ) → IsOutput options bytes p a s
+        → IsOutput options bytes q b t → p.clock ≡ q.clock → (p ≡ q) × (a ≡ b) × (s ≡ t) }
     // A run writes those and ends with that status. Where memory, the device or the file fails, or the count of a series'
     // samples is full, the status is 1.
-    ensures written { (options : Options) (start : Start) (bytes text : List ℕ) (asked : Deeds) (status : ℕ)
-        → Runs options start bytes asked text status → status ≢ 1 → IsOutput options start bytes asked text status }
+    ensures written { (options : Options) (bytes text : List ℕ) (asked : Deeds) (status : ℕ)
+        → Runs options bytes asked text status → status ≢ 1 → IsOutput options bytes asked text status }
     // So two such runs over the same bytes agree, with any numbers of shards, where each scrape has its own moment.
-    ensures same { (options : Options) (start : Start) (shards : ℕ) (bytes a b : List ℕ) (p q : Deeds) (s t : ℕ) → NamesMoments options bytes
-        → Runs options start bytes p a s → Runs (with_shards shards options) start bytes q b t
+    ensures same { (options : Options) (shards : ℕ) (bytes a b : List ℕ) (p q : Deeds) (s t : ℕ) → NamesMoments options bytes
+        → Runs options bytes p a s → Runs (with_shards shards options) bytes q b t
         → s ≢ 1 → t ≢ 1 → (p ≡ q) × (a ≡ b) × (s ≡ t) }
 {
     exporter_law();

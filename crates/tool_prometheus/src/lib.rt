@@ -16,10 +16,10 @@ mod watching;
 mod words;
 
 pub use answering::{Served, answer_end, answer_request};
-pub use commands::{Options, command, command_on};
+pub use commands::{Options, command};
 pub use flaws::{Cause, Message, Unread};
 pub use laws::{label_law, line_law, output_law};
-pub use making::{PrefixBounds, exporter_for};
+pub use making::PrefixBounds;
 pub use metrics::{Items, Label, Text};
 pub use metrics_prometheus::{BadLabel, Naming, bad_label};
 pub use requests::{Request, request_of};

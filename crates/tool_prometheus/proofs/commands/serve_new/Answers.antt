@@ -4,7 +4,7 @@ use Rattle.tool_prometheus.proofs.AskedLemmas.{asks_before}
 use Rattle.tool_prometheus.proofs.commands.serve_new.Goals as goal
 
 pub returns : goal.returns
-returns g c = λ begin begins.
+returns g c =
     let (read, text, more, took, wrote, asks, ran) = c.serve-answered.ensures in
     let start : Served = record {
       exporter = c.args.exporter;
@@ -17,4 +17,4 @@ returns g c = λ begin begins.
       has_bad = false;
       has_failed = false;
     } in
-    (read, text, more, took, wrote, asks_before _ _ _ more asks c.final_status-status.ensures.asked, inl (start, c.serve-answered.new.on.0, c.serve-answered.result, (begins.0, begins.1, refl, refl, refl, refl, refl, refl, refl, c.requires), ran, c.final_status-status.ensures.status))
+    (read, text, more, took, wrote, asks_before _ _ _ more asks c.final_status-status.ensures.asked, inl (start, c.serve-answered.new.on.0, c.serve-answered.result, (c.requires.after, c.requires.undescribed, refl, refl, refl, refl, refl, refl, refl, c.requires.named), ran, c.final_status-status.ensures.status))
