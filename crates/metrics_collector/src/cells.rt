@@ -21,11 +21,11 @@ use std::sync::{Arc, Wait};
 
 /// A counter's cell, which any thread may keep and change. It is a `CounterFn` too.
 ///
-/// An update is one load and one locked instruction. The count itself shows activity, so an update that leaves it as it is
-/// shows none: an increment by 0, or `absolute` of a value that isn't above the count. An increment adds its amount to a total
-/// once, and the total never falls: the cell is a `CountCell`.
+/// An update is one locked instruction. The count itself shows activity, so an update that leaves it as it is shows none: an
+/// increment by 0, or `absolute` of a value that isn't above the count. An increment adds its amount to a total once, and the
+/// total never falls: the cell is a `CountCell`.
 ///
-/// A handle has 8 bytes. It keeps its series in the collector: one that is kept for ever keeps some 360 bytes, and the key's
+/// A handle has 8 bytes. It keeps its series in the collector: one that is kept for ever keeps some 240 bytes, and the key's
 /// texts.
 #[derive(Clone, Drop)]
 pub struct CounterHandle {
@@ -439,10 +439,8 @@ impl Storage<Key> for CollectorCells {
     ghost makes_histogram = { λ storage key cell. histogram_key cell ≡ key };
 
     fn counter(&self, key: &Key) -> Result<CounterHandle, Error> {
-        let cell = CountCell::new(self.alloc, key)?;
-        Ok(CounterHandle {
-            cell: Arc::new(self.alloc, cell)?,
-        })
+        let cell = Arc::new(self.alloc, CountCell::new(key))?;
+        Ok(CounterHandle { cell })
     }
 
     fn gauge(&self, key: &Key) -> Result<GaugeHandle, Error> {

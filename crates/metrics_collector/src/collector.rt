@@ -172,8 +172,8 @@ impl Collector {
 
     /// Returns a handle of a counter, which begins at 0 if it is new. Labels in another order name the same series.
     ///
-    /// An update is one load and one locked instruction. An increment by 0 is no activity. A handle keeps its series, as long as
-    /// it is kept: some 360 bytes and the key's texts.
+    /// An update is one locked instruction. An increment by 0 is no activity. A handle keeps its series, as long as it is kept:
+    /// some 240 bytes and the key's texts.
     pub fn counter<W: Wait>(&self, rt: &W, key: &Key) -> Result<CounterHandle, Error>
         ensures key { IfOk result (λ h. IsKept self.now.labels.items key.now (counter_key h)) }
         ensures err { IfErr result (λ e. e ≡ OutOfMemory) }

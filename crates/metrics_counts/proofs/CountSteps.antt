@@ -1,15 +1,14 @@
 -- A step that adds to the total keeps the rule.
-use Rattle.std.proofs.Common.{◌≡◌, ℕ, zero, suc, ◌+◌, ◌-◌, ◌*◌, ◌/◌, ◌%◌, ◌^◌, ◌≤◌, ◌<◌, ◌≢◌, max, List, [], ◌∷◌, ◌++◌, set, slice_index, slice_set, refl, sym, ap, ◌∙◌, subst, ⊎_elim, le_refl, le_trans, arith}
+use Rattle.std.proofs.Common.{◌≡◌, ℕ, zero, suc, ◌+◌, ◌-◌, ◌*◌, ◌/◌, ◌%◌, ◌^◌, ◌≤◌, ◌<◌, ◌≢◌, max, List, [], ◌∷◌, ◌++◌, set, refl, sym, ap, ◌∙◌, subst, ⊎_elim, le_refl, le_trans, arith}
 use Rattle.std.proofs.Math.Nat.{mod-add-mod, div-add-mod'}
 use Rattle.std.proofs.lemmas.Nat.{mod-mul-add}
 use Rattle.std.proofs.lemmas.List.Sums.{sum_by-cons, sum_by_push}
-use mathlib.Core.Option.{some, none, some-injective, some-ne-none}
+use mathlib.Core.Option.{some, some-injective, some-ne-none}
 use native.Mathlib.Decide.{dec_le}
 use lib.ListN.{get_elem?}
-use Rattle.atomic_table.specs.Table.{step, Allows, Enters, keeps}
 use Rattle.atomic_table.proofs.Lists.{at_set, at_snoc}
 use Rattle.metrics_counts.specs.declared.view.View.{View}
-use Rattle.metrics_counts.specs.Counting.{total_of, first_view, AllBelow, IsCounted, WasAdded, count_entered, count_seen, count_added, count_raised}
+use Rattle.metrics_counts.specs.Counting.{total_of, first_view, AllBelow, IsCounted, WasAdded}
 
 -- the total changes as what one seat added
 total_of-set : (views : List View) (seat : ℕ) (v w : View) (amount : ℕ) → get_elem? views seat ≡ some v → w.added ≡ v.added + amount → total_of (set views seat w) ≡ total_of views + amount
@@ -25,45 +24,46 @@ sees : (total next : ℕ) (views : List View) (seat : ℕ) (w : View) → total 
 sees total next views seat w up own below j u e = ⊎_elim (λ (t : (j ≡ seat) × (w ≡ u)). subst (λ (z : View). z.seen ≤ next) t.1 own)
     (λ (t : (j ≢ seat) × (get_elem? views j ≡ some u)). le_trans (below j u t.1) up) (at_set views seat j w u e)
 
--- a new seat saw nothing
-comes : (total : ℕ) (views : List View) → AllBelow total views → AllBelow total (views ++ first_view ∷ [])
-comes total views below j u e = ⊎_elim (λ (t : get_elem? views j ≡ some u). below j u t) (λ (t : first_view ≡ u). subst (λ (z : View). z.seen ≤ total) t (omega arith)) (at_snoc views first_view u j e)
+-- a seat comes that sees this total
+comes : (total next : ℕ) (views : List View) (w : View) → total ≤ next → w.seen ≤ next → AllBelow total views → AllBelow next (views ++ w ∷ [])
+comes total next views w up own below j u e = ⊎_elim (λ (t : get_elem? views j ≡ some u). le_trans (below j u t) up) (λ (t : w ≡ u). subst (λ (z : View). z.seen ≤ next) t own) (at_snoc views w u j e)
 
-pub enters : (slots word : ℕ) → Enters IsCounted slots word (λ n v. count_entered (step slots word 0 0 none) (first_view, []) n (v, []))
-enters slots word s kept len fits =
-    let same : total_of (s.views ++ first_view ∷ []) ≡ total_of s.views = sum_by_push (λ v. v.added) s.views first_view ∙ omega arith in (
-      first_view,
-      (
-        kept.0,
-        kept.1 ∙ ap (λ (n : ℕ). (n % 2 ^ 64) ∷ kept.0) (sym same),
-        subst (λ (n : ℕ). AllBelow n (s.views ++ first_view ∷ [])) (sym same) (comes (total_of s.views) s.views kept.2),
-      ),
-      refl,
-    )
+-- a step leaves the word of the total that it found, and an amount
+abbrev pub Rises : (ℕ → ℕ) → (ℕ → ℕ) → Type 0
+Rises f amount = (total : ℕ) → f (total % 2 ^ 64) ≡ (total + amount (total % 2 ^ 64)) % 2 ^ 64
 
--- a step that finds the word of a total, and leaves that of the total and an amount
-rises : (slots id : ℕ) (v : View) (c : List (ℕ × Unit {0})) (f amount : ℕ → ℕ)
-    → ((total : ℕ) → f (total % 2 ^ 64) ≡ (total + amount (total % 2 ^ 64)) % 2 ^ 64)
-    → Allows IsCounted slots id (v, c) 0 f (λ found after. WasAdded (amount found) v found after.0)
-rises slots id v c f amount fits s kept len at small =
-    let total = total_of s.views in
-    let found : slice_index s.words 0 ≡ total % 2 ^ 64 = ap (λ (ws : List ℕ). slice_index ws 0) kept.1 in
-    let more = amount (total % 2 ^ 64) in
-    let w : View = record { seen = total + more; added = v.added + more } in
-    let next : total_of (set s.views id w) ≡ total + more = total_of-set s.views id v w more at refl in
-    let words : slice_set s.words 0 (f (slice_index s.words 0)) ≡ (total_of (set s.views id w) % 2 ^ 64) ∷ kept.0 =
-    ap (λ (ws : List ℕ). slice_set ws 0 (f (slice_index ws 0))) kept.1
-    ∙ ap (λ (k : ℕ). k ∷ kept.0) (fits total ∙ ap (λ (k : ℕ). k % 2 ^ 64) (sym next)) in
-    let below : AllBelow (total + more) (set s.views id w) = sees total (total + more) s.views id w (omega arith) (le_refl (total + more)) kept.2 in (
-      w,
-      keeps,
-      tt,
-      (kept.0, words, subst (λ (n : ℕ). AllBelow n (set s.views id w)) (sym next) below),
-      subst (λ (k : ℕ). WasAdded (amount k) v k w) (sym found) (total, kept.2 id v at, refl, refl, refl),
-    )
+word_after : (f amount : ℕ → ℕ) → Rises f amount → (n total next : ℕ) → n ≡ total % 2 ^ 64 → next ≡ total + amount n → f n ≡ next % 2 ^ 64
+word_after f amount fits n total next is more = ap f is ∙ (fits total ∙ (ap (λ (k : ℕ). (total + amount k) % 2 ^ 64) (sym is) ∙ ap (λ (k : ℕ). k % 2 ^ 64) (sym more)))
 
-pub adds : (slots id : ℕ) (v : View) (k : ℕ) (c : List (ℕ × Unit {0})) → Allows IsCounted slots id (v, c) 0 (λ n. (n + k) % 2 ^ 64) (count_added (step slots 0 k 0 none) (v, c))
-adds slots id v k c = rises slots id v c (λ n. (n + k) % 2 ^ 64) (λ n. k) (λ total. mod-add-mod total (2 ^ 64) k)
+module _ (f amount : ℕ → ℕ) (fits : Rises f amount) (n : ℕ) (views : List View) (kept : IsCounted n views) where
+  -- the step of a seat that made one before
+  pub goes_on : (id : ℕ) (v : View) → get_elem? views id ≡ some v → (w : View) × IsCounted (f n) (set views id w) × WasAdded (amount n) v n w
+  goes_on id v at =
+      let total = total_of views in
+      let more = amount n in
+      let w : View = record { seen = total + more; added = v.added + more } in
+      let next : total_of (set views id w) ≡ total + more = total_of-set views id v w more at refl in
+      let below : AllBelow (total + more) (set views id w) = sees total (total + more) views id w (omega arith) (le_refl (total + more)) kept.1 in (
+        w,
+        (word_after f amount fits n total (total_of (set views id w)) kept.0 next, subst (λ (k : ℕ). AllBelow k (set views id w)) (sym next) below),
+        (total, kept.1 id v at, kept.0, refl, refl),
+      )
+
+  -- the first step of a seat
+  pub begins : (w : View) × IsCounted (f n) (views ++ w ∷ []) × WasAdded (amount n) first_view n w
+  begins =
+      let total = total_of views in
+      let more = amount n in
+      let w : View = record { seen = total + more; added = 0 + more } in
+      let next : total_of (views ++ w ∷ []) ≡ total + more = sum_by_push (λ v. v.added) views w ∙ omega arith in
+      let below : AllBelow (total + more) (views ++ w ∷ []) = comes total (total + more) views w (omega arith) (le_refl (total + more)) kept.1 in (
+        w,
+        (word_after f amount fits n total (total_of (views ++ w ∷ [])) kept.0 next, subst (λ (k : ℕ). AllBelow k (views ++ w ∷ [])) (sym next) below),
+        (total, omega arith, kept.0, refl, refl),
+      )
+
+pub adds : (k : ℕ) → Rises (λ n. (n + k) % 2 ^ 64) (λ n. k)
+adds k total = mod-add-mod total (2 ^ 64) k
 
 -- the word of a total that is raised to k
 raised : (total k : ℕ) → k < 2 ^ 64 → Dec (k ≤ total % 2 ^ 64) → max (total % 2 ^ 64) k ≡ (total + (k - total % 2 ^ 64)) % 2 ^ 64
@@ -79,19 +79,13 @@ raised total k fits (no high) =
     let greatest : max n k ≡ k = omega arith in
     greatest ∙ (sym (mod-mul-add q (2 ^ 64) k fits) ∙ ap (λ m. m % 2 ^ 64) (sym sum))
 
-pub raises : (slots id : ℕ) (v : View) (k : ℕ) (c : List (ℕ × Unit {0})) → k < 2 ^ 64 → Allows IsCounted slots id (v, c) 0 (λ n. max n k) (count_raised (step slots 0 k 0 none) (v, c))
-raises slots id v k c fits = rises slots id v c (λ n. max n k) (λ n. k - n) (λ total. raised total k fits (dec_le k (total % 2 ^ 64)))
+pub raises : (k : ℕ) → k < 2 ^ 64 → Rises (λ n. max n k) (λ n. k - n)
+raises k fits total = raised total k fits (dec_le k (total % 2 ^ 64))
 
 -- a look adds nothing
-pub looks : (slots id : ℕ) (v : View) (c : List (ℕ × Unit {0})) → Allows IsCounted slots id (v, c) 0 (λ n. n) (count_seen (step slots 0 0 0 none) (v, c))
-looks slots id v c s kept len at small =
-    let same : (total : ℕ) → total % 2 ^ 64 ≡ (total + 0) % 2 ^ 64 = λ total. ap (λ (n : ℕ). n % 2 ^ 64) (omega arith) in
-    let all = rises slots id v c (λ n. n) (λ n. 0) same s kept len at small in
-    let was = all.4 in
-    let seen : all.0.seen ≡ was.0 = was.3 ∙ omega arith in (
-      all.0,
-      all.1,
-      all.2,
-      all.3,
-      (omega (arith, was.1, seen), was.2 ∙ ap (λ (n : ℕ). n % 2 ^ 64) (sym seen), was.4 ∙ omega arith),
-    )
+pub looks : Rises (λ n. n) (λ n. 0)
+looks total = ap (λ (n : ℕ). n % 2 ^ 64) (omega arith)
+
+-- nobody has a seat at a new cell
+pub starts : IsCounted 0 []
+starts = (refl, λ seat v e. absurd (some-ne-none v (sym e)))

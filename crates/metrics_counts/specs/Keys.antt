@@ -1,5 +1,5 @@
 -- The key that a cell was made for.
-use Rattle.metrics_counts.specs.declared.cell.CountCell.{CountCell}
+use Rattle.metrics_counts.specs.Owning.{Counted}
 
-abbrev pub key_of : {K : Type 0} → CountCell K → K
-key_of cell = cell.table.shared.key
+abbrev pub key_of : {K : Type 0} → Counted K → K
+key_of cell = cell.key

@@ -2,3 +2,4 @@ pub mod Counting
 pub mod Keys
 pub mod Noted
 pub mod Noting
+pub mod Owning

@@ -1,91 +1,92 @@
 //! A counter's cell.
-ghost use Rattle.std.specs.Prelude.{◌≡◌, ℕ, ◌-◌, ◌≤◌, [], IfOk};
-ghost use Rattle.metrics_counts.specs.Counting.{first_view, IsWordOf, WasAdded};
+ghost use Rattle.std.specs.Prelude.{◌≡◌, ℕ, ◌-◌};
+ghost use Rattle.metrics_counts.specs.Counting.{first_view, WasAdded};
+ghost use Rattle.metrics_counts.specs.Owning.{Counted, counted_coded, cell_owns, cell_shares};
 
-use crate::rule::CountRule;
-use crate::steps::{Add, Enter, Look, Raise};
-use crate::view::View;
-use atomic_table::{Seat, Table};
-use std::alloc::{AllocError, Global};
-
-type Words<K> = Table<(), View, K, CountRule, Global>;
-
-/// How many words there are: the count, and in another cache line one that stays 0, at which threads enter.
-const WORDS: usize = 9;
-
-/// The word at which threads enter. A look at the count would have to wait for the thread's own last update, and would fetch
-/// the line once more from another thread's cache.
-const DOOR: usize = 8;
+use crate::seat::Seat;
+use std::marker::{Brand, Move, Owns, PhantomData};
+use std::sync::atomic::Ordering::SeqCst;
+use std::sync::atomic::raw;
 
 /// A count that any thread may change: the remainder, modulo 2^64, of a total that only rises.
 ///
 /// Contracts see the key that it was made for. The key itself isn't kept.
-#[derive(Drop)]
 pub struct CountCell<K> {
-    table: Words<K>,
-    ghost has_words: { table.shared.table_id.words ≡ 9 },
+    word: u64,
+    marker: PhantomData<K>,
+}
+
+impl<K> Owns for CountCell<K> {
+    ghost Value = { Counted K };
+
+    ghost coded = { counted_coded K.code };
+
+    ghost shr_at = { λ d p κ. cell_shares d.name p κ };
+}
+
+impl<K> Move for CountCell<K> {
+    ghost own_val = { λ d vs. cell_owns d.name (λ n. Fields.own_val (record { word = n; marker = record {} }) vs) };
 }
 
 impl<K> CountCell<K> {
-    ghost use Rattle.metrics_counts.specs.Keys.{key_of};
-
     /// Makes a cell for a key, with the count 0.
-    pub fn new(alloc: Global, key: &K) -> Result<CountCell<K>, AllocError>
-        ensures { IfOk result (λ cell. key_of cell ≡ key.now) }
+    pub fn new(key: &K) -> CountCell<K>
+        ensures { result.key ≡ key.now }
     {
-        let (table, _) = Table::of_words(alloc, &[0; WORDS], key)?;
-        Ok(CountCell { table })
+        let _ = key;
+        CountCell {
+            word: 0,
+            marker: PhantomData,
+        }
     }
 
-    /// Returns the count at the moment.
-    pub fn value(&self) -> u64 {
-        self.table.shared.peek(0)
-    }
-
-    /// Enters a new seat, which saw and added nothing.
+    /// Returns a new seat, which saw and added nothing.
     #[inline(always)]
-    pub fn enter(&self) -> Seat<(), View>
-        ensures table { result.table_id ≡ self.now.table.shared.table_id }
-        ensures new { result.me ≡ (first_view, []) }
+    pub fn enter(&self) -> Seat
+        ensures { (result.cell ≡ self.now.name) × (result.view ≡ first_view) }
     {
-        let (_, seat) = self.table.shared.load_new_seat::<Enter>(DOOR);
-        seat
+        Seat {
+            marker: PhantomData,
+        }
     }
 
     /// Adds to the total, once, and returns the count before.
     #[inline(always)]
-    pub fn add(&self, seat: &mut Seat<(), View>, value: u64) -> u64
-        requires { seat.old.table_id ≡ self.now.table.shared.table_id }
-        ensures seat { seat.new.table_id ≡ seat.old.table_id }
-        ensures added { WasAdded value seat.old.me.0 result seat.new.me.0 }
+    pub fn add(&self, seat: &mut Seat, value: u64) -> u64
+        requires { seat.old.cell ≡ self.now.name }
+        ensures { (seat.new.cell ≡ seat.old.cell) × WasAdded value seat.old.view result seat.new.view }
     {
-        self.table.shared.fetch_add::<Add>(seat, 0, value)
+        unsafe { raw::fetch_add::<Brand>(&raw const self.word, value, SeqCst) }
     }
 
     /// Adds to the total what the count lacks of the value, if it is below that, and returns the count before.
     #[inline(always)]
-    pub fn raise(&self, seat: &mut Seat<(), View>, value: u64) -> u64
-        requires { seat.old.table_id ≡ self.now.table.shared.table_id }
-        ensures seat { seat.new.table_id ≡ seat.old.table_id }
-        ensures raised { WasAdded (value - result) seat.old.me.0 result seat.new.me.0 }
+    pub fn raise(&self, seat: &mut Seat, value: u64) -> u64
+        requires { seat.old.cell ≡ self.now.name }
+        ensures { (seat.new.cell ≡ seat.old.cell) × WasAdded (value - result) seat.old.view result seat.new.view }
     {
-        self.table.shared.fetch_max::<Raise>(seat, 0, value)
+        unsafe { raw::fetch_max::<Brand>(&raw const self.word, value, SeqCst) }
     }
 
     /// Looks at the total, and returns the count.
-    pub fn look(&self, seat: &mut Seat<(), View>) -> u64
-        requires { seat.old.table_id ≡ self.now.table.shared.table_id }
-        ensures seat { (seat.new.table_id ≡ seat.old.table_id) × (seat.new.me.0.added ≡ seat.old.me.0.added) }
-        ensures rises { seat.old.me.0.seen ≤ seat.new.me.0.seen }
-        ensures seen { IsWordOf seat.new.me.0.seen result }
+    #[inline(always)]
+    pub fn look(&self, seat: &mut Seat) -> u64
+        requires { seat.old.cell ≡ self.now.name }
+        ensures { (seat.new.cell ≡ seat.old.cell) × WasAdded 0 seat.old.view result seat.new.view }
     {
-        self.table.shared.load::<Look>(seat, 0)
+        unsafe { raw::load::<Brand>(&raw const self.word, SeqCst) }
+    }
+
+    /// Returns the count at the moment.
+    pub fn value(&self) -> u64 {
+        let mut seat = self.enter();
+        self.look(&mut seat)
     }
 
     /// Adds to the count once, modulo 2^64, and returns the seat that did. It has no bytes, and may be dropped.
     #[inline(always)]
-    pub fn increment(&self, value: u64) -> Seat<(), View>
-        ensures { (found : ℕ) × WasAdded value first_view found result.me.0 }
+    pub fn increment(&self, value: u64) -> Seat
+        ensures { (found : ℕ) × WasAdded value first_view found result.view }
     {
         let mut seat = self.enter();
         self.add(&mut seat, value);
@@ -94,11 +95,21 @@ impl<K> CountCell<K> {
 
     /// Raises the count to the value, if it is below that, and returns the seat that did. It has no bytes, and may be dropped.
     #[inline(always)]
-    pub fn absolute(&self, value: u64) -> Seat<(), View>
-        ensures { (found : ℕ) × WasAdded (value - found) first_view found result.me.0 }
+    pub fn absolute(&self, value: u64) -> Seat
+        ensures { (found : ℕ) × WasAdded (value - found) first_view found result.view }
     {
         let mut seat = self.enter();
         self.raise(&mut seat, value);
         seat
     }
 }
+
+impl<K> Drop for CountCell<K> {
+    fn drop(self) {
+        let Self { word: _, marker: _ } = self;
+    }
+}
+
+unsafe impl<K> Send for CountCell<K> {}
+
+unsafe impl<K> Sync for CountCell<K> {}

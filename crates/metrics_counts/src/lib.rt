@@ -4,14 +4,13 @@
 mod cell;
 mod note;
 mod notes;
-mod rule;
-mod steps;
+mod seat;
 mod view;
 mod watch;
 
 pub use cell::CountCell;
 pub use note::CountNote;
 pub use notes::CountNotes;
-pub use rule::CountRule;
+pub use seat::Seat;
 pub use view::View;
 pub use watch::Watch;

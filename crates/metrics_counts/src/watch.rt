@@ -3,8 +3,7 @@ ghost use Rattle.std.specs.Prelude.{◌≡◌, ◌-◌, ◌≤◌};
 ghost use Rattle.metrics_counts.specs.Counting.{IsWordOf, WasAdded};
 
 use crate::cell::CountCell;
-use crate::view::View;
-use atomic_table::Seat;
+use crate::seat::Seat;
 use std::alloc::Global;
 use std::marker::Model;
 use std::sync::Arc;
@@ -13,7 +12,7 @@ use std::sync::Arc;
 #[derive(Drop)]
 pub struct Watch<K> {
     cell: Arc<CountCell<K>, Global>,
-    seat: Seat<(), View>,
+    seat: Seat,
 }
 
 impl<K> Model for Watch<K> {
@@ -23,10 +22,9 @@ impl<K> Model for Watch<K> {
 
     ghost Value = { Known };
 
-    ghost view = { λ w. w.seat.me.0 };
+    ghost view = { λ w. w.seat.view };
 
-    ghost invariant = { λ w. (w.seat.table_id ≡ (arc_value w.cell).table.shared.table_id)
-        × (w.seat.me.0.added ≤ w.seat.me.0.seen) };
+    ghost invariant = { λ w. (w.seat.cell ≡ (arc_value w.cell).name) × (w.seat.view.added ≤ w.seat.view.seen) };
 }
 
 impl<K> Watch<K> {

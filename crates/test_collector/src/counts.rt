@@ -7,7 +7,7 @@ use std::process::Abort;
 use std::sync::Arc;
 
 fn cell<R: AllocGlobal + Abort>(rt: &R) -> Arc<CountCell<Key>> {
-    let cell = CountCell::new(rt.alloc(), &key(rt, "hits")).expect(rt, MEMORY);
+    let cell = CountCell::new(&key(rt, "hits"));
     Arc::new(rt.alloc(), cell).expect(rt, MEMORY)
 }
 

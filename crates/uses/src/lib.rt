@@ -24,7 +24,7 @@ pub fn clear_bucket<R: AllocGlobal + Wait>(rt: &R) -> Result<usize, Error> {
 
 /// `metrics_counts`: a cell, and a view of it.
 pub fn watch_counter(alloc: Global, key: &Key) -> Result<u64, Error> {
-    let cell = Arc::new(alloc, CountCell::new(alloc, key)?)?;
+    let cell = Arc::new(alloc, CountCell::new(key))?;
     let mut watch = Watch::new(Arc::try_clone(&cell)?);
     cell.increment(5);
     Ok(watch.read())

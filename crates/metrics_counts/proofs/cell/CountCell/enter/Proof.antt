@@ -1,0 +1,32 @@
+-- `enter` makes a seat that made no step yet.
+use Rattle.atomic_table.proofs.Names.{◌≡◌, [], ◌∷◌, refl, a_type, named, Val, vptr, vstruct, vnil, inst_fn, SProp, emp, Fml, ‵, raw, ◌⊛◌, ◌$◌, ◌∵◌, !, qed, by, keep, split, fjoin, use0, no_more, and_then, returns, enter, alloc_all, pass_all, free_all, look_at, get, sets, agg, tables, yes, RattleType, owns, types_at, plain, nothing, param, layouts, alive, Stays, stay_dropped, walk_of, Goes-dropped, fact, fact_i, RefOf, shr_vals, shr_Tells, makes_shadow}
+use Rattle.std.proofs.Common.{false}
+use Rattle.atomic_table.proofs.Walks.{proved, leaves}
+use Rattle.atomic_table.proofs.Fields.{token_val}
+use Rattle.metrics_counts.specs.Counting.{first_view}
+use Rattle.metrics_counts.specs.contracts.cell.CountCell as cell
+use Rattle.metrics_counts.specs.contracts.seat.Seat as seat
+use Rattle.metrics_counts.specs.contracts.cell.CountCell.enter.{ended, clauses}
+use Rattle.metrics_counts.specs.contracts.cell.CountCell.enter.Key.{name as #self}
+use Rattle.metrics_counts.proofs.cell.CountCell.enter.Statement.{statement}
+use Rattle.metrics_counts.proofs.cell.CountCell.enter.Code as code
+
+pub enter_spec : {M : Type 1} → statement M
+enter_spec 𝓤 𝓛 𝓜 𝓡 wired T _ =
+    let H = 𝓛.H in let 𝓣 = tables 𝓤 H 𝓜 𝓡 𝓡.env in let R : RattleType = param 0 T in let En = ended T in let c = clauses T 𝓛 𝓜.mem 𝓡.returns in
+    let inst = layouts (a_type ∷ []) (T, tt) in let fn = inst_fn inst code.function in let closed = code.unfolded 𝓤 H 𝓜 𝓡 wired (T, tt) in
+    let Cr : RattleType = cell.the_row R in let Sr : RattleType = seat.the_row in let self = RefOf (0 ∷ []) tt (plain (λ _. Cr)) (λ _. tt) in
+    let hs : Stays En.signature.params En.kept = (stay_dropped self yes, tt) in
+    proved 𝓛 En hs c 𝓜 𝓡 (Goes-dropped 𝓛 2 self yes (λ κs x f. refl), tt) (#self inst) fn closed
+    (λ κs. (shr_vals, tt)) (λ κs. (shr_Tells (named 0) κs.0 Cr, tt)) (λ κs qs bounds a gh are.
+    let at : Val = vptr a.0.ref_ptr.0 a.0.ref_ptr.1 in
+    let r : Sr.Denot = record { marker = record {}; cell = a.0.now.name; has_stepped = false; id = 0; view = first_view } in
+    let O : Fml = Sr.own_val r (token_val ∷ []) in let Told : Type 0 = (r.cell ≡ r.cell) × (r.view ≡ r.view) in
+    let y : (walk_of 𝓛 En hs c).Ghost = ((κs, qs, bounds, a, (at ∷ [], tt)), gh) in let Post : Val → SProp 𝓤 = (walk_of 𝓛 En hs c).post y in
+    qed 𝓛 ((raw (alive 𝓛 En.signature κs qs) ⊛ ‵ (owns (types_at En.signature.params κs) a y.0.4)) ∷ raw ((c κs a).requires gh) ∷ []) ∵
+    split ! $ keep ! (0 ∷ []) $
+    use0 𝓛 (‵ O) (makes_shadow 𝓛 O ((λ vss. (tt, ((λ uss. (tt, tt)), tt))), (λ _. tt)) (((vstruct vnil ∷ [], tt), (refl, ((tt, (refl, tt)), tt))), (refl, tt))) $
+    enter ! 𝓣.C 𝓣.Λ fn (at ∷ []) Post $ alloc_all ! (λ l. pass_all ! refl ((tt, tt), tt) $
+    sets ! (agg ! (no_more !)) refl (tt, tt) $ sets ! (agg ! (and_then ! (get ! refl) (no_more !))) refl (tt, (tt, tt)) $
+    use0 𝓛 (raw (fact 𝓤 Told)) (fact_i 𝓤 Told (emp 𝓤) (refl, refl)) $ nothing ! $ nothing ! $ fjoin ! $
+    returns ! (look_at ! 0 refl) $ free_all ! refl $ keep ! (3 ∷ 0 ∷ 2 ∷ 1 ∷ []) $ by ! (leaves 𝓛 En hs c y token_val r (tt, tt) (tt, tt))))
