@@ -38,6 +38,44 @@ impl Node {
         }
     }
 
+    /// The branch that gets a name, if there is only one, and the number of leaves before it; or else the tree itself.
+    #[inline(always)]
+    fn only_branch(&self, kind: MetricKind, name: &str) -> (&Node, usize)
+        requires { IsTree self.now }
+        ensures tree { IsTree result.0.now }
+        ensures fits { result.1 + leaves_of (node_meaning result.0.now) ≤ leaves_of (node_meaning self.now) }
+        ensures targets { raise result.1 ((node_meaning result.0.now).targets kind name.now)
+            ≡ (node_meaning self.now).targets kind name.now }
+    {
+        if let Node::Group(children, ends, reach) = self {
+            let (first, end) = reach.range(kind, name, children.len());
+            if end - first == 1 {
+                return (&children[first], start_of(ends, first));
+            }
+        }
+        (self, 0)
+    }
+
+    /// Visits the targets of a key or a name. The way to a leaf alone, or to one of a router, is short.
+    #[inline(always)]
+    pub(crate) fn visit_all<K: Named, V: Visitor<K>>(
+        &self,
+        kind: MetricKind,
+        key: &K,
+        scratch: &mut Scratch<K>,
+        visitor: &mut V,
+    ) -> Result<usize, Stopped>
+        requires { IsTree self.now }
+        ensures { Visits V.accepts V.refuses (K.parts key.now).labels visitor.old
+            ((node_meaning self.now).targets kind (K.parts key.now).name) visitor.new result }
+    {
+        let (branch, front) = self.only_branch(kind, key.name());
+        match branch {
+            Node::Leaf => show(visitor, front, key),
+            branch => branch.visit(kind, key, front, scratch, visitor),
+        }
+    }
+
     /// Visits the targets of a key or a name, whose leaves are numbered from `front`.
     pub(crate) fn visit<K: Named, V: Visitor<K>>(
         &self,

@@ -122,7 +122,7 @@ impl Rules {
         ensures { Visits V.accepts V.refuses (K.parts key.now).labels visitor.old
             ((rules_meaning self.now).targets kind (K.parts key.now).name) visitor.new result }
     {
-        self.node.visit(kind, key, 0, scratch, visitor)
+        self.node.visit_all(kind, key, scratch, visitor)
     }
 
     /// Returns the targets of a key, in order: for each the number of the leaf, and the key as it is there.
