@@ -12,12 +12,12 @@ use Rattle.metrics.specs.TargetsLaws.{raise-append, raise-raise, length-raise}
 use Rattle.metrics.specs.Layers.{joined_all, targets_of}
 use Rattle.metrics.specs.Meaning.{Meaning}
 use Rattle.metrics_rules.specs.Ends.{total, ends_from}
-use Rattle.metrics_rules.specs.Nodes.{node_meaning, leaves_of, most_leaves, IsTree}
+use Rattle.metrics_rules.specs.Nodes.{node_meaning, leaves_of, most_leaves}
 use Rattle.metrics_rules.specs.Reaches.{range_of, IsWithin}
 use Rattle.metrics_rules.specs.Visits.{key_at, listed, shown, StopsAt, EndsEarly, after_more}
 use Rattle.metrics_rules.specs.declared.visitor.Stopped.{Stopped}
 use Rattle.metrics_rules.specs.declared.reach.Reach.{Reach}
-use Rattle.metrics_rules.specs.declared.node.Node.{Node, Group}
+use Rattle.metrics_rules.specs.declared.node.Node.{Node}
 use Rattle.metrics_rules.proofs.BetweenLemmas.{targets_between, between-split, between-group, range-within, fits_in}
 use Rattle.metrics_rules.proofs.NodesLemmas.{IsGroup, Visit, visit, row-is, meaning-is, contents-are}
 use Rattle.metrics_rules.proofs.OneChildLemmas.{before-is, targets-one, child-most}
