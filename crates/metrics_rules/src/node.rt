@@ -132,7 +132,11 @@ impl Node {
                 let mut accepted: usize = 0;
                 for i in first..end {
                     let before = start_of(ends, i);
-                    match children[i].visit(kind, key, front + before, scratch, visitor) {
+                    let visited = match &children[i] {
+                        Node::Leaf => show(visitor, front + before, key),
+                        child => child.visit(kind, key, front + before, scratch, visitor),
+                    };
+                    match visited {
                         Ok(count) => accepted += count,
                         Err(stopped) => return Err(stopped.after(accepted)),
                     }

@@ -7,6 +7,7 @@ use Rattle.metrics_rules.specs.Visits.{Visits, EndsEarly, shown}
 use Rattle.metrics_rules.specs.declared.node.Node.{Node, the_lemmas}
 use Rattle.metrics_rules.proofs.NodesLemmas.{IsGroup, ends-within}
 use Rattle.metrics_rules.proofs.VisitLemmas.{reach-within, loop-of, next-within, next-visit, next-fits, next-count, front-is, loop-end, got-none, all-got, only-child, counted-next, visited-next, stopped-next}
+use Rattle.metrics_rules.proofs.node.Node.+visit.Goals.{in-Leaf-index-2, in_default-index-2}
 use Rattle.metrics_rules.proofs.node.Node.+visit.Goals as goal
 
 pub range-first-requires : goal.range-first-requires
@@ -110,16 +111,24 @@ start_of-before-requires-in-loop-i g t c =
     let l = ends-within group _ c.deref-in-loop-i.ensures.value in
     record { within = omega (arith, lt, l, c.in-Group.children.ok.0) }
 
-pub overflow_add-front-in-loop-i : goal.overflow_add-front-in-loop-i
-overflow_add-front-in-loop-i g t c =
+pub overflow_add-front-in-Leaf-index-2 : goal.overflow_add-front-in-Leaf-index-2
+overflow_add-front-in-Leaf-index-2 g t c =
     let group : IsGroup c.in-Group.children c.in-Group.ends c.in-Group.reach c.args.self.now = record { is = c.in-Group.is; tree = c.requires.tree } in
     let loop = loop-of group _ c.len.ensures c.args.kind (g.K.Named.parts c.args.key.now).name _ c.name-in-Group.ensures _ c.range-first.ensures in
     let f = next-fits loop c.loop-i.i c.index-in-loop-i.result.now c.loop-i.auto.i c.loop-i-test.true c.index-in-loop-i.ensures in
     let is = front-is loop c.loop-i.i c.index-in-loop-i.result.now c.loop-i.auto.i c.loop-i-test.true c.index-in-loop-i.ensures _ c.deref-in-loop-i.ensures.value _ c.start_of-before-in-loop-i.ensures in
     omega (arith, f, is, c.requires.few)
 
-pub visit-requires-in-loop-i : goal.visit-requires-in-loop-i
-visit-requires-in-loop-i g t c κs within =
+pub overflow_add-front-in_default-index-2 : goal.overflow_add-front-in_default-index-2
+overflow_add-front-in_default-index-2 g t c =
+    let group : IsGroup c.in-Group.children c.in-Group.ends c.in-Group.reach c.args.self.now = record { is = c.in-Group.is; tree = c.requires.tree } in
+    let loop = loop-of group _ c.len.ensures c.args.kind (g.K.Named.parts c.args.key.now).name _ c.name-in-Group.ensures _ c.range-first.ensures in
+    let f = next-fits loop c.loop-i.i c.index-in-loop-i.result.now c.loop-i.auto.i c.loop-i-test.true c.index-in-loop-i.ensures in
+    let is = front-is loop c.loop-i.i c.index-in-loop-i.result.now c.loop-i.auto.i c.loop-i-test.true c.index-in-loop-i.ensures _ c.deref-in-loop-i.ensures.value _ c.start_of-before-in-loop-i.ensures in
+    omega (arith, f, is, c.requires.few)
+
+pub visit-visited-requires-in_default-index-2 : goal.visit-visited-requires-in_default-index-2
+visit-visited-requires-in_default-index-2 g t c κs within =
     let group : IsGroup c.in-Group.children c.in-Group.ends c.in-Group.reach c.args.self.now = record { is = c.in-Group.is; tree = c.requires.tree } in
     let loop = loop-of group _ c.len.ensures c.args.kind (g.K.Named.parts c.args.key.now).name _ c.name-in-Group.ensures _ c.range-first.ensures in
     let at = next-visit loop c.loop-i.i c.index-in-loop-i.result.now c.loop-i.auto.i c.loop-i-test.true c.index-in-loop-i.ensures in
@@ -131,39 +140,103 @@ pub overflow_add-accepted : goal.overflow_add-accepted
 overflow_add-accepted g t c =
     let group : IsGroup c.in-Group.children c.in-Group.ends c.in-Group.reach c.args.self.now = record { is = c.in-Group.is; tree = c.requires.tree } in
     let loop = loop-of group _ c.len.ensures c.args.kind (g.K.Named.parts c.args.key.now).name _ c.name-in-Group.ensures _ c.range-first.ensures in
+    let accepts = g.V.Visitor.accepts in
+    let refuses = g.V.Visitor.refuses in
+    let key = g.K.Named.parts c.args.key.now in
+    let ts = λ (y : Node). raise (c.args.front + c.start_of-before-in-loop-i.result) ((node_meaning y).targets c.args.kind key.name) in
+    let here : Visits accepts refuses key.labels c.loop-i.visitor (ts c.index-in-loop-i.result.now) c.match-index-2.visitor c.match-index-2.visited =
+    elim c.match-index-2.branch [
+      | in-Leaf-index-2 w ↦
+          subst (λ r. Visits accepts refuses key.labels c.loop-i.visitor (ts c.index-in-loop-i.result.now) c.match-index-2.visitor r) (sym w.visited-is)
+          (subst (λ v. Visits accepts refuses key.labels c.loop-i.visitor (ts c.index-in-loop-i.result.now) v w.show-visited.result) (sym w.visitor-is)
+          (subst (λ (y : Node). Visits accepts refuses key.labels c.loop-i.visitor (ts y) w.show-visited.new.visitor w.show-visited.result) (sym w.in-Leaf-index-2.is) w.show-visited.ensures))
+      | in_default-index-2 w ↦
+          subst (λ r. Visits accepts refuses key.labels c.loop-i.visitor (ts c.index-in-loop-i.result.now) c.match-index-2.visitor r) (sym w.visited-is)
+          (subst (λ v. Visits accepts refuses key.labels c.loop-i.visitor (ts c.index-in-loop-i.result.now) v w.visit-visited-in_default-index-2.result) (sym w.visitor-is)
+          w.visit-visited-in_default-index-2.ensures)
+    ] in
+    let met = subst (Visits accepts refuses key.labels c.loop-i.visitor (ts c.index-in-loop-i.result.now) c.match-index-2.visitor) c.in-Ok.is here in
     let n = next-count loop c.loop-i.i c.index-in-loop-i.result.now c.loop-i.auto.i c.loop-i-test.true c.index-in-loop-i.ensures in
     let a = c.loop-i.invariant.0 in
-    let k = c.in-Ok.ensures.0 in
-    let r = length-raise (c.args.front + c.start_of-before-in-loop-i.result) ((node_meaning c.index-in-loop-i.result.now).targets c.args.kind (g.K.Named.parts c.args.key.now).name) in
+    let k = met.0 in
+    let r = length-raise (c.args.front + c.start_of-before-in-loop-i.result) ((node_meaning c.index-in-loop-i.result.now).targets c.args.kind key.name) in
     omega (arith, n, a, k, r)
 
 pub after-requires : goal.after-requires
 after-requires g t c =
     let group : IsGroup c.in-Group.children c.in-Group.ends c.in-Group.reach c.args.self.now = record { is = c.in-Group.is; tree = c.requires.tree } in
     let loop = loop-of group _ c.len.ensures c.args.kind (g.K.Named.parts c.args.key.now).name _ c.name-in-Group.ensures _ c.range-first.ensures in
+    let accepts = g.V.Visitor.accepts in
+    let refuses = g.V.Visitor.refuses in
+    let key = g.K.Named.parts c.args.key.now in
+    let ts = λ (y : Node). raise (c.args.front + c.start_of-before-in-loop-i.result) ((node_meaning y).targets c.args.kind key.name) in
+    let here : Visits accepts refuses key.labels c.loop-i.visitor (ts c.index-in-loop-i.result.now) c.match-index-2.visitor c.match-index-2.visited =
+    elim c.match-index-2.branch [
+      | in-Leaf-index-2 w ↦
+          subst (λ r. Visits accepts refuses key.labels c.loop-i.visitor (ts c.index-in-loop-i.result.now) c.match-index-2.visitor r) (sym w.visited-is)
+          (subst (λ v. Visits accepts refuses key.labels c.loop-i.visitor (ts c.index-in-loop-i.result.now) v w.show-visited.result) (sym w.visitor-is)
+          (subst (λ (y : Node). Visits accepts refuses key.labels c.loop-i.visitor (ts y) w.show-visited.new.visitor w.show-visited.result) (sym w.in-Leaf-index-2.is) w.show-visited.ensures))
+      | in_default-index-2 w ↦
+          subst (λ r. Visits accepts refuses key.labels c.loop-i.visitor (ts c.index-in-loop-i.result.now) c.match-index-2.visitor r) (sym w.visited-is)
+          (subst (λ v. Visits accepts refuses key.labels c.loop-i.visitor (ts c.index-in-loop-i.result.now) v w.visit-visited-in_default-index-2.result) (sym w.visitor-is)
+          w.visit-visited-in_default-index-2.ensures)
+    ] in
+    let met = subst (Visits accepts refuses key.labels c.loop-i.visitor (ts c.index-in-loop-i.result.now) c.match-index-2.visitor) c.in-Err-visited.is here in
     let n = next-count loop c.loop-i.i c.index-in-loop-i.result.now c.loop-i.auto.i c.loop-i-test.true c.index-in-loop-i.ensures in
     let a = c.loop-i.invariant.0 in
-    let k = c.in-Err-visit.ensures.most in
-    let r = length-raise (c.args.front + c.start_of-before-in-loop-i.result) ((node_meaning c.index-in-loop-i.result.now).targets c.args.kind (g.K.Named.parts c.args.key.now).name) in
+    let k = met.most in
+    let r = length-raise (c.args.front + c.start_of-before-in-loop-i.result) ((node_meaning c.index-in-loop-i.result.now).targets c.args.kind key.name) in
     omega (arith, n, a, k, r)
 
-pub returns-in-Err-visit : goal.returns-in-Err-visit
-returns-in-Err-visit g t c =
+pub returns-in-Err-visited : goal.returns-in-Err-visited
+returns-in-Err-visited g t c =
     let group : IsGroup c.in-Group.children c.in-Group.ends c.in-Group.reach c.args.self.now = record { is = c.in-Group.is; tree = c.requires.tree } in
     let loop = loop-of group _ c.len.ensures c.args.kind (g.K.Named.parts c.args.key.now).name _ c.name-in-Group.ensures _ c.range-first.ensures in
+    let accepts = g.V.Visitor.accepts in
+    let refuses = g.V.Visitor.refuses in
+    let key = g.K.Named.parts c.args.key.now in
+    let ts = λ (y : Node). raise (c.args.front + c.start_of-before-in-loop-i.result) ((node_meaning y).targets c.args.kind key.name) in
+    let here : Visits accepts refuses key.labels c.loop-i.visitor (ts c.index-in-loop-i.result.now) c.match-index-2.visitor c.match-index-2.visited =
+    elim c.match-index-2.branch [
+      | in-Leaf-index-2 w ↦
+          subst (λ r. Visits accepts refuses key.labels c.loop-i.visitor (ts c.index-in-loop-i.result.now) c.match-index-2.visitor r) (sym w.visited-is)
+          (subst (λ v. Visits accepts refuses key.labels c.loop-i.visitor (ts c.index-in-loop-i.result.now) v w.show-visited.result) (sym w.visitor-is)
+          (subst (λ (y : Node). Visits accepts refuses key.labels c.loop-i.visitor (ts y) w.show-visited.new.visitor w.show-visited.result) (sym w.in-Leaf-index-2.is) w.show-visited.ensures))
+      | in_default-index-2 w ↦
+          subst (λ r. Visits accepts refuses key.labels c.loop-i.visitor (ts c.index-in-loop-i.result.now) c.match-index-2.visitor r) (sym w.visited-is)
+          (subst (λ v. Visits accepts refuses key.labels c.loop-i.visitor (ts c.index-in-loop-i.result.now) v w.visit-visited-in_default-index-2.result) (sym w.visitor-is)
+          w.visit-visited-in_default-index-2.ensures)
+    ] in
+    let met = subst (Visits accepts refuses key.labels c.loop-i.visitor (ts c.index-in-loop-i.result.now) c.match-index-2.visitor) c.in-Err-visited.is here in
     let is = front-is loop c.loop-i.i c.index-in-loop-i.result.now c.loop-i.auto.i c.loop-i-test.true c.index-in-loop-i.ensures _ c.deref-in-loop-i.ensures.value _ c.start_of-before-in-loop-i.ensures in
-    subst (λ s. EndsEarly g.V.Visitor.accepts g.V.Visitor.refuses (g.K.Named.parts c.args.key.now).labels c.args.visitor.now (raise c.args.front ((node_meaning c.args.self.now).targets c.args.kind (g.K.Named.parts c.args.key.now).name)) c.visit-in-loop-i.new.visitor s) (sym c.after.ensures)
-    (stopped-next loop c.loop-i.i c.index-in-loop-i.result.now c.loop-i.auto.i c.loop-i-test.true c.index-in-loop-i.ensures g.V.Visitor.accepts g.V.Visitor.refuses (g.K.Named.parts c.args.key.now).labels
-    c.args.front _ is c.args.visitor.now c.loop-i.visitor c.visit-in-loop-i.new.visitor c.loop-i.invariant.1 c.in-Err-visit.stopped c.loop-i.accepted c.loop-i.invariant.0 c.in-Err-visit.ensures)
+    subst (λ s. EndsEarly accepts refuses key.labels c.args.visitor.now (raise c.args.front ((node_meaning c.args.self.now).targets c.args.kind key.name)) c.match-index-2.visitor s) (sym c.after.ensures)
+    (stopped-next loop c.loop-i.i c.index-in-loop-i.result.now c.loop-i.auto.i c.loop-i-test.true c.index-in-loop-i.ensures accepts refuses key.labels
+    c.args.front _ is c.args.visitor.now c.loop-i.visitor c.match-index-2.visitor c.loop-i.invariant.1 c.in-Err-visited.stopped c.loop-i.accepted c.loop-i.invariant.0 met)
 
 pub loop-i-preserved : goal.loop-i-preserved
 loop-i-preserved g t c =
     let group : IsGroup c.in-Group.children c.in-Group.ends c.in-Group.reach c.args.self.now = record { is = c.in-Group.is; tree = c.requires.tree } in
     let loop = loop-of group _ c.len.ensures c.args.kind (g.K.Named.parts c.args.key.now).name _ c.name-in-Group.ensures _ c.range-first.ensures in
+    let accepts = g.V.Visitor.accepts in
+    let refuses = g.V.Visitor.refuses in
+    let key = g.K.Named.parts c.args.key.now in
+    let ts = λ (y : Node). raise (c.args.front + c.start_of-before-in-loop-i.result) ((node_meaning y).targets c.args.kind key.name) in
+    let here : Visits accepts refuses key.labels c.loop-i.visitor (ts c.index-in-loop-i.result.now) c.match-index-2.visitor c.match-index-2.visited =
+    elim c.match-index-2.branch [
+      | in-Leaf-index-2 w ↦
+          subst (λ r. Visits accepts refuses key.labels c.loop-i.visitor (ts c.index-in-loop-i.result.now) c.match-index-2.visitor r) (sym w.visited-is)
+          (subst (λ v. Visits accepts refuses key.labels c.loop-i.visitor (ts c.index-in-loop-i.result.now) v w.show-visited.result) (sym w.visitor-is)
+          (subst (λ (y : Node). Visits accepts refuses key.labels c.loop-i.visitor (ts y) w.show-visited.new.visitor w.show-visited.result) (sym w.in-Leaf-index-2.is) w.show-visited.ensures))
+      | in_default-index-2 w ↦
+          subst (λ r. Visits accepts refuses key.labels c.loop-i.visitor (ts c.index-in-loop-i.result.now) c.match-index-2.visitor r) (sym w.visited-is)
+          (subst (λ v. Visits accepts refuses key.labels c.loop-i.visitor (ts c.index-in-loop-i.result.now) v w.visit-visited-in_default-index-2.result) (sym w.visitor-is)
+          w.visit-visited-in_default-index-2.ensures)
+    ] in
+    let met = subst (Visits accepts refuses key.labels c.loop-i.visitor (ts c.index-in-loop-i.result.now) c.match-index-2.visitor) c.in-Ok.is here in
     let is = front-is loop c.loop-i.i c.index-in-loop-i.result.now c.loop-i.auto.i c.loop-i-test.true c.index-in-loop-i.ensures _ c.deref-in-loop-i.ensures.value _ c.start_of-before-in-loop-i.ensures in (
-      counted-next loop c.loop-i.i c.index-in-loop-i.result.now c.loop-i.auto.i c.loop-i-test.true c.index-in-loop-i.ensures c.args.front c.start_of-before-in-loop-i.result c.loop-i.accepted c.in-Ok.count c.loop-i.invariant.0 c.in-Ok.ensures.0,
-      visited-next loop c.loop-i.i c.index-in-loop-i.result.now c.loop-i.auto.i c.loop-i-test.true c.index-in-loop-i.ensures g.V.Visitor.accepts g.V.Visitor.refuses (g.K.Named.parts c.args.key.now).labels
-          c.args.front _ is c.args.visitor.now c.loop-i.visitor c.visit-in-loop-i.new.visitor c.loop-i.invariant.1 c.in-Ok.ensures.1,
+      counted-next loop c.loop-i.i c.index-in-loop-i.result.now c.loop-i.auto.i c.loop-i-test.true c.index-in-loop-i.ensures c.args.front c.start_of-before-in-loop-i.result c.loop-i.accepted c.in-Ok.count c.loop-i.invariant.0 met.0,
+      visited-next loop c.loop-i.i c.index-in-loop-i.result.now c.loop-i.auto.i c.loop-i-test.true c.index-in-loop-i.ensures accepts refuses key.labels
+          c.args.front _ is c.args.visitor.now c.loop-i.visitor c.match-index-2.visitor c.loop-i.invariant.1 met.1,
     )
 
 pub returns-after-loop-i : goal.returns-after-loop-i
