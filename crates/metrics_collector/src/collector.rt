@@ -264,6 +264,16 @@ impl Collector {
         Ok(self.on_histogram(rt, key, handle)??)
     }
 
+    /// Returns the number of the epoch. Whoever keeps handles for later look-ups (`Local` of `metrics_local`) drops them in the
+    /// next one, so that idle series can leave.
+    ///
+    /// An epoch ends with a reading that finds an idle series of which some thread has a handle, and once `remove` has removed a
+    /// series.
+    #[inline(always)]
+    pub fn epoch(&self) -> u64 {
+        self.series.epoch()
+    }
+
     /// Reads each cell once, and returns the series in use. An idle series is removed if no thread has a handle.
     ///
     /// # Waiting

@@ -5,6 +5,7 @@ mod adding;
 mod cells;
 mod collector;
 mod counted;
+mod epoch;
 mod gathered;
 mod keys;
 mod laws;

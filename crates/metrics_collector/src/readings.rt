@@ -16,6 +16,7 @@ mod removal;
 use crate::cells::{
     CollectorCells, CounterHandle, GaugeHandle, HistogramHandle, Seen, SharedCell, Watched,
 };
+use crate::epoch::Epoch;
 use crate::gathered::{Gathered, GatheredSeries};
 use crate::rows::Rows;
 use metrics::{Error, Key, MetricKind, MetricKindMask};
@@ -213,6 +214,8 @@ struct Walked<C> {
 struct Reading {
     now: u64,
     rows: Rows,
+    /// Whether an idle series stays since some thread has a handle.
+    has_held_idle: bool,
     /// Why it gathers no more.
     refused: Option<Error>,
 }
@@ -289,6 +292,7 @@ impl Readings {
             })?;
         }
         if fate != Fate::Shown {
+            reading.has_held_idle |= fate == Fate::Hidden;
             return Ok(());
         }
         let pushed = self.push(rt, reading, key, cell, seen);
@@ -328,22 +332,28 @@ impl Readings {
         Walked { of: PhantomData }
     }
 
-    /// Reads each cell once, into the memory of these rows, and removes idle series that nobody holds.
+    /// Reads each cell once, into the memory of these rows, and removes idle series that nobody holds. Ends the epoch if an
+    /// idle series stays.
     fn read<W: Wait>(
         &mut self,
         rt: &W,
         registry: &Registry<Key, CollectorCells>,
+        epoch: &Epoch,
         now: u64,
         rows: Vec<GatheredSeries>,
     ) -> Result<Gathered, Error> {
         let mut reading = Reading {
             now,
             rows: Rows::reusing(rows),
+            has_held_idle: false,
             refused: None,
         };
         let counters = self.walk(rt, registry, &mut reading);
         let gauges = self.walk(rt, registry, &mut reading);
         let histograms = self.walk(rt, registry, &mut reading);
+        if reading.has_held_idle {
+            epoch.end();
+        }
         let (gathered, refused) = reading.finish(counters, gauges, histograms);
         match refused {
             None => Ok(gathered),
@@ -385,6 +395,7 @@ impl Readings {
 pub(crate) struct Series {
     registry: Registry<Key, CollectorCells>,
     readings: Mutex<Readings>,
+    epoch: Epoch,
 }
 
 impl Series {
@@ -405,7 +416,14 @@ impl Series {
         Ok(Series {
             registry,
             readings: Mutex::new(Readings::new(alloc, mask, idle_timeout)),
+            epoch: Epoch::new(),
         })
+    }
+
+    /// Returns the number of the epoch.
+    #[inline(always)]
+    pub fn epoch(&self) -> u64 {
+        self.epoch.number()
     }
 
     /// Lets each histogram that is made from then on have up to this many parts.
@@ -467,7 +485,8 @@ impl Series {
     ) -> Result<Gathered, Error>
         ensures { IfErr result IsUnread }
     {
-        match self.readings.lock(rt).read(rt, &self.registry, now, rows) {
+        let mut readings = self.readings.lock(rt);
+        match readings.read(rt, &self.registry, &self.epoch, now, rows) {
             Ok(gathered) => Ok(gathered),
             Err(Error::CountFull) => Err(Error::CountFull),
             Err(_) => Err(Error::Memory),

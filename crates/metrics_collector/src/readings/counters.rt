@@ -79,17 +79,10 @@ impl Kind for CounterHandle {
     }
 }
 
-/// Adds an idle counter to what was found, if it seems that no thread has a handle of it.
-fn find_idle(
-    found: &mut Vec<Idle<CounterHandle>>,
-    key: &Key,
-    cell: &CounterHandle,
-) -> Result<(), Error>
+/// Adds an idle counter to what was found, of which it seems that no thread has a handle.
+fn push_idle(found: &mut Vec<Idle<CounterHandle>>, key: &Key) -> Result<(), Error>
     ensures { IfErr result (λ e. e ≡ OutOfMemory) }
 {
-    if Arc::strong_count(&cell.cell) > OWN_HANDLES {
-        return Ok(());
-    }
     let key = key.clone()?;
     found.push(Idle {
         key,
@@ -118,7 +111,11 @@ impl Readings {
         ensures err { IfErr result (λ e. e ≡ OutOfMemory) }
     {
         let Some(count) = self.counts.look(key, &cell.cell, reading.now)? else {
-            return find_idle(found, key, cell);
+            if Arc::strong_count(&cell.cell) > OWN_HANDLES {
+                reading.has_held_idle = true;
+                return Ok(());
+            }
+            return push_idle(found, key);
         };
         match reading.rows.push(key, Value::Count(count)) {
             Ok(()) => Ok(()),
