@@ -24,6 +24,11 @@ impl SharedRecorder for Collector {
 
     ghost targets_of = { λ c kind name. 1 };
 
+    #[inline(always)]
+    fn epoch(&self) -> u64 {
+        self.epoch()
+    }
+
     fn describe<W: Wait>(
         &self,
         rt: &W,

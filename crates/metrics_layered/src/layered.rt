@@ -81,6 +81,16 @@ impl<R: Drop> Layered<R> {
 impl<R: SharedRecorder> Layered<R> {
     ghost use Rattle.metrics_layered.specs.Layering.{HasEachTarget};
 
+    /// Returns the number of the epoch, which ends with that of each recorder: the sum of their numbers, modulo 2^64.
+    #[inline(always)]
+    pub fn epoch(&self) -> u64 {
+        let mut sum: u64 = 0;
+        for recorder in &self.recorders {
+            sum = sum.wrapping_add(recorder.epoch());
+        }
+        sum
+    }
+
     /// Replaces the text of a name of this kind in each of its targets, under the name there, and the unit if there is a new one.
     /// Returns how many targets there are. A call that fails may have described the first of them.
     pub fn describe<W: Wait>(

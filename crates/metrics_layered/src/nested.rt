@@ -28,6 +28,10 @@ impl<R: SharedRecorder> SharedRecorder for Layered<R> {
 
     ghost targets_of = { λ l kind name. length ((rules_meaning l.rules).targets kind name) };
 
+    fn epoch(&self) -> u64 {
+        self.epoch()
+    }
+
     fn describe<W: Wait>(
         &self,
         rt: &W,
@@ -73,6 +77,11 @@ impl<R: SharedRecorder> SharedRecorder for &R {
 
     ghost targets_of = { λ r kind name. R.targets_of r.now kind name };
 
+    #[inline(always)]
+    fn epoch(&self) -> u64 {
+        (**self).epoch()
+    }
+
     fn describe<W: Wait>(
         &self,
         rt: &W,
@@ -115,6 +124,11 @@ impl<R: SharedRecorder> SharedRecorder for Arc<R> {
     ghost gives_histogram = { λ r key handle. R.gives_histogram (arc_value r) key handle };
 
     ghost targets_of = { λ r kind name. R.targets_of (arc_value r) kind name };
+
+    #[inline(always)]
+    fn epoch(&self) -> u64 {
+        (**self).epoch()
+    }
 
     fn describe<W: Wait>(
         &self,

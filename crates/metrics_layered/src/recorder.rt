@@ -32,6 +32,12 @@ pub trait SharedRecorder {
     /// How many targets a name of this kind has there.
     ghost targets_of: { Self → AnyKind → List ℕ → ℕ };
 
+    /// Returns the number of the epoch. Whoever keeps handles for later look-ups drops them once it sees another one.
+    ///
+    /// A recorder ends an epoch after it removed a key of which some thread may have a handle, and when such a handle keeps it
+    /// from removing one.
+    fn epoch(&self) -> u64;
+
     /// Replaces the text of a name of this kind in each of its targets, and the unit if there is a new one. Returns how many
     /// targets there are. A call that fails may have described the first of them.
     fn describe<W: Wait>(

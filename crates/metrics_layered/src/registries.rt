@@ -8,6 +8,8 @@ use std::alloc::{AllocError, Global};
 use std::sync::Wait;
 
 /// A handle is a clone of a cell that the storage makes for an equal key. A registry keeps no descriptions.
+///
+/// It has one epoch, whatever is removed from it.
 impl<S: Storage<Key> + Drop> SharedRecorder for Registry<Key, S>
 where
     S::Counter: CounterFn + Clone + Drop,
@@ -33,6 +35,10 @@ where
         × S.Histogram.is_clone c handle };
 
     ghost targets_of = { λ r kind name. 1 };
+
+    fn epoch(&self) -> u64 {
+        0
+    }
 
     fn describe<W: Wait>(
         &self,
