@@ -29,11 +29,12 @@ pub mod exporter {
     pub use metrics_textfile::{TextfileError, textfile_place, write_textfile};
 }
 
-/// Recorders that threads share, under rules that say where a name goes.
+/// Recorders that threads share, under rules that say where a name goes, and a thread's look-ups on them.
 pub mod layered {
     pub use metrics_layered::{
         CounterHandles, GaugeHandles, Handles, HistogramHandles, Layered, SharedRecorder,
     };
+    pub use metrics_local::Local;
 }
 
 /// Layers over recorders.

@@ -3,7 +3,9 @@
 
 use metrics::{Error, Key, KeyName, MetricKind, Recorder, Refused};
 use metrics_counts::{CountCell, Watch};
+use metrics_util::collector::Collector;
 use metrics_util::exporter::{TextfileError, write_textfile};
+use metrics_util::layered::Local;
 use metrics_util::layers::{Layer, Prefix, PrefixLayer};
 use metrics_util::registry::{GenerationalAtomicStorage, OwnedRegistry, PlainStorage, Registry};
 use metrics_util::storage::AtomicBucket;
@@ -38,6 +40,19 @@ pub fn put_below_prefix<R: Recorder + Drop>(
     let layer = PrefixLayer::new(alloc, "app")?;
     let on = layer.layer(alloc, recorder)?;
     Ok(on)
+}
+
+/// `metrics_local`: counts by keys that come at run time.
+pub fn count_by_keys<R: AllocGlobal + Wait>(
+    rt: &R,
+    on: &Collector,
+    keys: &[Key],
+) -> Result<(), Error> {
+    let mut local = Local::new(rt.alloc(), on);
+    for key in keys {
+        local.counter(rt, key)?.increment(1);
+    }
+    Ok(())
 }
 
 /// `metrics_registry`: an empty registry.

@@ -1,0 +1,12 @@
+use Rattle.std.proofs.Common.{◌≡◌, refl, subst}
+use Rattle.metrics_local.specs.Keeping.{FindsGauge}
+use Rattle.metrics_local.proofs.KeepingLemmas.{handle-at}
+use Rattle.metrics_local.proofs.local.Local.gauge.Goals as goal
+
+pub returns : goal.returns
+returns g c =
+    let found = c.in_ok-place.ensures.found in
+    let new = c.find_gauge.new.self in
+    let same : found.0 ≡ c.gauge_at.result.now = handle-at new.gauges c.in_ok-place.place c.args.key.now found.0 c.gauge_at.result.now found.1 c.gauge_at.ensures in
+    let P : g.row.S-Gauge.Denot → Type 0 = λ h. FindsGauge g.S.SharedRecorder.gives_gauge c.args.key.now h c.args.self.now new in
+    ((refl, (λ w. tt), subst P same found.2), record { finds = tt })
