@@ -8,12 +8,12 @@ use metrics_local::Local;
 use std::process::Abort;
 use std::sync::Wait;
 use std::sync::atomic::{AtomicUsize, Ordering};
-use std::thread::{Threads, for_each_mut, join};
+use std::thread::{Threads, for_each_mut};
 
 /// How often each thread looks up each series at a time.
 const TIMES: u32 = 500;
 
-/// How many threads there are.
+/// How many threads look up.
 const THREADS: usize = 2;
 
 /// What one thread has.
@@ -23,9 +23,9 @@ struct Worker<'a> {
     failed: Option<Error>,
 }
 
-fn workers<'a, R: AllocGlobal + Abort>(rt: &R, on: &'a Collector) -> Vec<Worker<'a>> {
+fn workers<'a, R: AllocGlobal + Abort>(rt: &R, on: &'a Collector, count: usize) -> Vec<Worker<'a>> {
     let mut all = Vec::new(rt.alloc());
-    for _ in 0..THREADS {
+    for _ in 0..count {
         let local = Local::new(rt.alloc(), on);
         all.push(Worker {
             local,
@@ -47,6 +47,12 @@ fn work<W: Wait>(rt: &W, worker: &mut Worker<'_>, key: &Key) {
     }
 }
 
+fn expect_done<R: Abort>(rt: &R, workers: &[Worker<'_>]) {
+    for worker in workers {
+        assert!(rt; worker.failed.is_none(), "out of memory: Memory");
+    }
+}
+
 fn work_all<R: AllocGlobal + Abort + Threads + Wait + Sync>(
     rt: &R,
     workers: &mut [Worker<'_>],
@@ -55,9 +61,7 @@ fn work_all<R: AllocGlobal + Abort + Threads + Wait + Sync>(
     requires { IsSync R.row }
 {
     for_each_mut(rt, workers, THREADS, &|_, worker| work(rt, worker, key));
-    for worker in workers.iter() {
-        assert!(rt; worker.failed.is_none(), "out of memory: Memory");
-    }
+    expect_done(rt, workers);
 }
 
 /// Reads, and compares what is shown of the series of each kind.
@@ -76,7 +80,7 @@ fn expect_each<R: AllocGlobal + Abort + Wait>(
 #[test]
 fn threads_count_into_one_series(rt: HostRuntime) {
     let on = collector(&rt);
-    let mut workers = workers(&rt, &on);
+    let mut workers = workers(&rt, &on, THREADS);
     let (a, b) = (key(&rt, "a"), key(&rt, "b"));
     let wanted = i128::from(TIMES).wrapping_mul(2);
     for start in [10, 30, 50] {
@@ -88,16 +92,17 @@ fn threads_count_into_one_series(rt: HostRuntime) {
     }
 }
 
-/// Reads at moments that are further apart than the timeout, until the threads have ended.
+/// Reads at moments that are further apart than the timeout, until the other threads have ended.
 fn read_until<R: AllocGlobal + Abort + Wait>(rt: &R, on: &Collector, ended: &AtomicUsize) {
     for step in 1..100_000u64 {
-        if ended.load(Ordering::SeqCst) > 0 {
+        if ended.load(Ordering::SeqCst) >= THREADS {
             break;
         }
         on.gather(rt, rt.alloc(), step * 10).expect(rt, MEMORY);
     }
 }
 
+/// The first thread reads while the others work.
 fn work_and_read<R: AllocGlobal + Abort + Threads + Wait + Sync>(
     rt: &R,
     on: &Collector,
@@ -106,13 +111,21 @@ fn work_and_read<R: AllocGlobal + Abort + Threads + Wait + Sync>(
 )
     requires { IsSync R.row }
 {
-    let ended = AtomicUsize::new(0);
-    let read = || read_until(rt, on, &ended);
-    let work = || {
-        work_all(rt, workers, key);
-        ended.store(1, Ordering::SeqCst);
-    };
-    join(rt, read, work);
+    let ended = &AtomicUsize::new(0);
+    for_each_mut(
+        rt,
+        workers,
+        THREADS + 1,
+        &|thread, worker| {
+            if thread == 0 {
+                read_until(rt, on, ended);
+            } else {
+                work(rt, worker, key);
+                ended.fetch_add(1, Ordering::SeqCst);
+            }
+        },
+    );
+    expect_done(rt, workers);
 }
 
 /// While somebody holds a handle the series stays, however many epochs end meanwhile. So no count is lost, and none comes
@@ -126,7 +139,7 @@ fn no_count_is_lost_while_epochs_end(rt: HostRuntime) {
         on.gauge(&rt, &a).expect(&rt, MEMORY),
         on.histogram(&rt, &a).expect(&rt, MEMORY),
     );
-    let mut workers = workers(&rt, &on);
+    let mut workers = workers(&rt, &on, THREADS + 1);
     work_and_read(&rt, &on, workers.as_mut_slice(), &a);
     let wanted = u64::from(TIMES).wrapping_mul(2);
     assert!(&rt; held.0.value() == wanted);
