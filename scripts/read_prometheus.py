@@ -412,6 +412,7 @@ def options_of(words):
     parser.add_argument("--prefix")
     parser.add_argument("--drop", action="append", default=[])
     parser.add_argument("--textfile")
+    parser.add_argument("--every")
     parser.add_argument("--at-scrapes-only", action="store_true")
     parser.add_argument("--accept-partial", action="store_true")
     parser.add_argument("--skip-bad", action="store_true")

@@ -181,6 +181,22 @@ def clock_in_seconds(folder):
     return (shown("1"), shown("60")) == (1, 2)
 
 
+def clock_by_itself(folder):
+    """With --every 2 a line that comes 3 seconds after the start is in the file at once, and the next one only at the end."""
+    with subprocess.Popen([PROGRAM, "--every", "2", "--textfile", "a.prom"], stdin=subprocess.PIPE, cwd=folder) as one:
+        one.stdin.write(b"increment 1 a\n")
+        one.stdin.flush()
+        time.sleep(0.5)
+        first = (folder / "a.prom").exists()
+        time.sleep(2.5)
+        one.stdin.write(b"increment 1 a\nincrement 1 a\n")
+        one.stdin.flush()
+        time.sleep(0.5)
+        second = (folder / "a.prom").read_text()
+        one.communicate()
+    return (not first, second, (folder / "a.prom").read_text()) == (True, "# TYPE a counter\na 2\n", "# TYPE a counter\na 3\n")
+
+
 CASES = {
     "modes": modes,
     "names taken": names_taken,
@@ -199,6 +215,7 @@ CASES = {
     "two writers": two_writers,
     "kills": kills,
     "seconds": clock_in_seconds,
+    "a period": clock_by_itself,
 }
 
 

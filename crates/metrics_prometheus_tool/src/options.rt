@@ -1,7 +1,7 @@
 //! The words of the command line.
 
 use crate::names::{drops_of, prefix_of};
-use crate::values::{Unfit, bounds_of, idle_of, labels_of, prefixes_of};
+use crate::values::{Unfit, bounds_of, every_of, idle_of, labels_of, prefixes_of};
 use clap::error::ErrorKind;
 use clap::{Arg, ArgAction, ArgMatches, Command, Error, value_parser};
 use metrics::MetricKindMask;
@@ -142,6 +142,14 @@ fn with_output<'a>(alloc: Global, command: Command<'a>) -> Result<Command<'a>, A
         "Puts each scrape into the file PATH, whole or not at all,\n\
         and nothing on standard output",
     );
+    let every = option(
+        alloc,
+        "every",
+        "SECONDS",
+        "Scrapes by the clock after a line that comes SECONDS or more after\n\
+        the last scrape, or the start",
+    )
+    .allow_negative_numbers(true);
     let ends = flag(
         alloc,
         "at-scrapes-only",
@@ -160,6 +168,7 @@ fn with_output<'a>(alloc: Global, command: Command<'a>) -> Result<Command<'a>, A
     command
         .arg(recommended)?
         .arg(file)?
+        .arg(every)?
         .arg(ends)?
         .arg(partial)?
         .arg(skips)
@@ -233,6 +242,7 @@ fn asked<'a>(alloc: Global, matches: &ArgMatches<'a>) -> Result<Options, Unfit<'
         drops: drops_of(alloc, matches.get_strs("drop"))?,
         skips_bad: matches.get_flag("skip-bad"),
         has_file: matches.contains_id("textfile"),
+        every: every_of(matches.get_str("every"))?,
         at_scrapes_only: matches.get_flag("at-scrapes-only"),
         accepts_partial: matches.get_flag("accept-partial"),
     })

@@ -55,6 +55,21 @@ pub fn idle_of(given: Option<&str>) -> Result<Option<u64>, Unfit<'_>> {
     }
 }
 
+/// How many seconds are between two scrapes by the clock.
+pub fn every_of(given: Option<&str>) -> Result<Option<u64>, Unfit<'_>> {
+    let Some(given) = given else {
+        return Ok(None);
+    };
+    match given.parse::<u64>() {
+        Ok(seconds) if seconds > 0 => Ok(Some(seconds)),
+        _ => Err(Unfit::Value(
+            "--every <SECONDS>",
+            given,
+            "SECONDS is a whole number from 1 to 18446744073709551615",
+        )),
+    }
+}
+
 /// The bounds of histograms, in the order of the command line.
 pub fn bounds_of<'a>(alloc: Global, given: Option<&[&'a str]>) -> Result<Items<i64>, Unfit<'a>> {
     let Some(given) = given else {

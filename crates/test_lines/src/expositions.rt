@@ -77,9 +77,21 @@ impl Write for Pipe {
 fn ran<'a, R: Abort>(
     rt: &'a R,
     alloc: Global,
+    lines: &[u8],
+    clock_and_bad: (&'a [u64], usize),
+    has_file: bool,
+) -> (u8, Stage<'a, R>, Pipe) {
+    ran_every(rt, alloc, lines, clock_and_bad, has_file, None)
+}
+
+/// The same with a period of scrapes, in which bad lines are skipped.
+fn ran_every<'a, R: Abort>(
+    rt: &'a R,
+    alloc: Global,
     mut lines: &[u8],
     (moments, bad): (&'a [u64], usize),
     has_file: bool,
+    every: Option<u64>,
 ) -> (u8, Stage<'a, R>, Pipe) {
     Trial::new(alloc).calm();
     let plan = plan_of(alloc, "1", "cgh", "60", "5").expect(rt, MEMORY);
@@ -90,9 +102,10 @@ fn ran<'a, R: Abort>(
         labels: Items::from(Vec::new(alloc)),
         prefix: None,
         drops: Items::from(Vec::new(alloc)),
-        skips_bad: false,
+        skips_bad: every.is_some(),
         has_file,
         at_scrapes_only: false,
+        every,
         accepts_partial: false,
     };
     let stage = Stage {
@@ -197,4 +210,68 @@ fn the_end_is_flushed(rt: HostRuntime) {
         let (status, _, pipe) = ran(&rt, rt.alloc(), lines, (&[], 0), false);
         assert_eq!(rt; (status, pipe.written, pipe.flushed), (0, written, written));
     }
+}
+
+/// With a period of 10 seconds each line reads the clock once, and so does the start. A scrape follows a line that comes 10 seconds
+/// or more after the last scrape, or after the clock went back.
+#[test]
+fn a_period_of_the_clock_scrapes(rt: HostRuntime) {
+    let (one, two, three) = (
+        "# TYPE a counter\na 1\n",
+        "# TYPE a counter\na 2\n",
+        "# TYPE a counter\na 3\n",
+    );
+    let a = "increment 1 a\n";
+    for (lines, moments, texts) in [
+        ([a, a, "\n", a], [100, 109, 110, 119, 120], [two, three]),
+        ([a, a, a, "# \n"], [100, 150, 159, 159, 160], [one, three]),
+        ([a, a, "\n", "\n"], [100, 99, 50, 59, 59], [one, two]),
+        ([a, a, "\n", a], [0, 9, 9, 1000, 1009], [two, three]),
+        (
+            [a, "scrape\n", a, a],
+            [100, 105, 108, 117, 118],
+            [one, three],
+        ),
+        (
+            [a, "scrape 7\n", a, a],
+            [100, 105, 108, 117, 118],
+            [one, three],
+        ),
+        ([a, "jump\n", a, a], [100, 105, 110, 119, 120], [one, three]),
+        (
+            [a, "scrape\n", "jump\n", a],
+            [100, 109, 111, 120, 120],
+            [one, two],
+        ),
+    ] {
+        let lines = lines.concat(rt.alloc()).expect(&rt, MEMORY);
+        let (_, stage, _) = ran_every(
+            &rt,
+            rt.alloc(),
+            lines.as_bytes(),
+            (&moments, 0),
+            true,
+            Some(10),
+        );
+        assert_eq!(rt; stage.given, 5);
+        assert!(rt; are(&stage.files, &texts));
+    }
+}
+
+/// A line's update comes before the scrape that follows it, so its series is not idle then. Without a file the text goes to the output.
+#[test]
+fn a_scrape_by_the_clock_follows_its_line(rt: HostRuntime) {
+    let lines = b"increment 1 a\nincrement 1 a\n".as_slice();
+    let moments = [100, 160, 221];
+    let (status, stage, _) = ran_every(&rt, rt.alloc(), lines, (&moments, 0), true, Some(60));
+    assert_eq!(rt; status, 0);
+    assert!(rt;
+        are(
+            &stage.files,
+            &["# TYPE a counter\na 1\n", "# TYPE a counter\na 2\n"]
+        )
+    );
+    let written = "# TYPE a counter\na 1\n\n# TYPE a counter\na 2\n\n".len();
+    let (_, _, pipe) = ran_every(&rt, rt.alloc(), lines, (&moments, 0), false, Some(60));
+    assert_eq!(rt; pipe.written, written);
 }

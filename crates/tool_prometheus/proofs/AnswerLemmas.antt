@@ -41,7 +41,7 @@ module _ (old : Served) (exporter : Exporter) where
 
     told_done : Told (Ok tt)
     told_done calls full absent = (
-      (refl, refl, refl, refl, refl, refl),
+      (refl, refl, refl, refl, refl, refl, refl),
       λ setup log after. (
         updates key by (Ok tt) ∷ [],
         calls setup log after,
@@ -51,7 +51,7 @@ module _ (old : Served) (exporter : Exporter) where
 
     told_full : Told (Err CountFull)
     told_full calls full absent = (
-      (refl, refl, refl, refl, refl, refl),
+      (refl, refl, refl, refl, refl, refl, refl),
       λ setup log after. (
         updates key by (Err CountFull) ∷ [],
         calls setup log after,
@@ -61,7 +61,7 @@ module _ (old : Served) (exporter : Exporter) where
 
     told_want : Told (Err Memory)
     told_want calls full absent = (
-      (refl, refl, refl, refl, refl, refl),
+      (refl, refl, refl, refl, refl, refl, refl),
       λ setup log after. (
         updates key by (Err Memory) ∷ [],
         calls setup log after,
@@ -85,9 +85,9 @@ module _ (old : Served) (exporter : Exporter) where
         → IfErr r (λ e. e ≡ Memory)
         → Answers old (with_exporter (owed r) (failed r)) (Describe kind name unit note) nothing_asked (refusal_text old.has_file r)
     described_told (Ok done) told same memory =
-        ((refl, refl, refl, refl, refl, refl), λ setup log after. ([], stands setup log after, inl (told, refl, refl, refl, refl, refl)))
+        ((refl, refl, refl, refl, refl, refl, refl), λ setup log after. ([], stands setup log after, inl (told, refl, refl, refl, refl, refl)))
     described_told (Err e) told same memory = (
-      (refl, refl, refl, refl, refl, refl),
+      (refl, refl, refl, refl, refl, refl, refl),
       λ setup log after. ([], stands setup log after, inr (same, refl, refl, ap (fault_text old.has_file) memory, refl, refl)),
     )
 
@@ -106,7 +106,7 @@ module _ (old : Served) (exporter : Exporter) where
   scraped bytes moment now clock files new (Ok t) same at scrapes (done, out, is) =
       let on : Served = record scraped_on { is_changed = false; has_failed = (if done then old.has_failed else true) } in
       let answer : Answers old on (Scrape moment) (record { clock = clock; files = files }) (shown_text bytes old.has_file (Ok t)) = (
-        (refl, refl, refl, refl, refl, refl),
+        (refl, refl, refl, refl, refl, refl, refl),
         λ setup log after.
             let (checks, answered, made, stands, (n, ok, shown)) = scrapes setup log after in (
               expires now checks answered ∷ [],
@@ -135,7 +135,7 @@ module _ (old : Served) (exporter : Exporter) where
   scraped bytes moment now clock files new (Err e) same at scrapes (none, is) =
       let on : Served = record scraped_on { has_failed = true } in
       let answer : Answers old on (Scrape moment) (record { clock = clock; files = files }) (shown_text bytes old.has_file (Err e)) = (
-        (refl, refl, refl, refl, refl, refl),
+        (refl, refl, refl, refl, refl, refl, refl),
         λ setup log after.
             let (checks, answered, made, stands, (memory, held)) = scrapes setup log after in (
               expires now checks answered ∷ [],
@@ -155,7 +155,7 @@ module _ (old : Served) (exporter : Exporter) where
 
 pub nothing_told : (on : Served) → Answers on on Nothing nothing_asked []
 nothing_told on = (
-  (refl, refl, refl, refl, refl, refl),
+  (refl, refl, refl, refl, refl, refl, refl),
   λ setup log after.
       ([], subst (λ l. IsAfter setup l on.exporter) (sym (append-nil log)) after, inl (refl, refl, refl, refl)),
 )

@@ -13,3 +13,4 @@ pub mod ReadLemmas
 pub mod OutputLemmas
 pub mod RunLemmas
 pub mod AskedLemmas
+pub mod TimingLemmas

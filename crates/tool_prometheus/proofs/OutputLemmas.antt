@@ -1,5 +1,5 @@
 -- A run over the same bytes, at the same moments of the clock, has one text.
-use Rattle.std.proofs.Common.{◌≡◌, ◌∙◌, ℕ, Bool, true, false, List, [], ◌∷◌, ◌++◌, inl, inr, refl, sym, ap, subst, Ok, Option, None, Some}
+use Rattle.std.proofs.Common.{◌≡◌, ◌∙◌, ℕ, Bool, true, false, List, [], ◌∷◌, ◌++◌, inl, inr, refl, sym, ap, subst, Ok, Option, None, Some, append_assoc}
 use Rattle.std.proofs.lemmas.Bool.{false≢true}
 use Rattle.std.specs.Prelude.{option_map}
 use Rattle.std.specs.List.{AllByRecursion}
@@ -17,10 +17,13 @@ use Rattle.tool_prometheus.specs.Making.{setup_for}
 use Rattle.tool_prometheus.specs.declared.commands.Options.{Options}
 use Rattle.tool_prometheus.specs.declared.requests.Request.{Request}
 use Rattle.tool_prometheus.specs.declared.requests.Request.TheVariants.{Change, Describe, Scrape, Nothing}
-use Rattle.tool_prometheus.specs.Lines.{Spells}
-use Rattle.tool_prometheus.specs.Asked.{Asked, then_asked}
+use Rattle.tool_prometheus.specs.Lines.{Spells, IsBad}
+use Rattle.tool_prometheus.specs.Asked.{Asked, then_asked, clock_gave}
 use Rattle.tool_prometheus.specs.Exposed.{scrape_text, HasMoment, HandsOut}
-use Rattle.tool_prometheus.specs.Output.{Done, PrintsExposition, Prints, PrintsEnd, PrintLines}
+use Rattle.tool_prometheus.specs.declared.timing.Timer.{Timer}
+use Rattle.tool_prometheus.specs.Timing.{Timed, Starts, in_time, restarted}
+use Rattle.tool_prometheus.specs.Output.{Done, begun, loses_line, lines_in, PrintsExposition, Prints, PrintsEach, PrintsInTime, TakesLine, PrintsEnd, PrintLines}
+use Rattle.tool_prometheus.specs.Output.{IsOutput, NamesMoments}
 use Rattle.tool_prometheus.specs.Names.{renamed, name_by, change_if, describe_if, named_key}
 use Rattle.tool_prometheus.proofs.OneLemmas.{asked_same}
 
@@ -49,6 +52,36 @@ moment-same (Some now) r s p q x y (none, is) (nor, was) e = (unread r s p q non
 moment-same None r s p q x y is was e =
     let (rest, moments) = firsts x y p q (sym (ap (λ z. z ++ p) is) ∙ e ∙ ap (λ z. z ++ q) was) in
     (rest, moments, is ∙ ap (λ z. z ∷ []) moments ∙ sym was)
+
+-- the clocks of two parts, and what follows them
+joined : (r own later s had last : Asked) (p q : List ℕ) → r ≡ then_asked own later → s ≡ then_asked had last → r.clock ++ p ≡ s.clock ++ q
+    → own.clock ++ (later.clock ++ p) ≡ had.clock ++ (last.clock ++ q)
+joined r own later s had last p q is was e = sym (append_assoc own.clock later.clock p) ∙ sym (ap (λ a. a.clock ++ p) is) ∙ e
+    ∙ ap (λ a. a.clock ++ q) was ∙ append_assoc had.clock last.clock q
+
+timed-same : (timer : Option Timer) (request : Request) (r s : Asked) (rs qs : List Request) (after other : Option Timer) (p q : List ℕ)
+    → Timed timer request r rs after → Timed timer request s qs other → r.clock ++ p ≡ s.clock ++ q
+    → (p ≡ q) × (r ≡ s) × (rs ≡ qs) × (after ≡ other)
+timed-same None request r s rs qs after other p q (none, is, at) (nor, was, to) e =
+    (unread r.clock s.clock p q (ap (λ x. x.clock) none) (ap (λ x. x.clock) nor) e, none ∙ sym nor, is ∙ sym was, at ∙ sym to)
+timed-same (Some timer) request r s rs qs after other p q (x, gave, is, at) (y, given, was, to) e =
+    let (rest, moments) = firsts x y p q (sym (ap (λ z. z.clock ++ p) gave) ∙ e ∙ ap (λ z. z.clock ++ q) given) in (
+      rest,
+      gave ∙ ap clock_gave moments ∙ sym given,
+      is ∙ ap (λ m. in_time timer m request) moments ∙ sym was,
+      at ∙ ap (λ m. Some (restarted timer m request)) moments ∙ sym to,
+    )
+
+starts-same : (period : Option ℕ) (r s : Asked) (timer other : Option Timer) (p q : List ℕ) → Starts period r timer
+    → Starts period s other → r.clock ++ p ≡ s.clock ++ q → (p ≡ q) × (r ≡ s) × (timer ≡ other)
+starts-same None r s timer other p q (none, at) (nor, to) e =
+    (unread r.clock s.clock p q (ap (λ x. x.clock) none) (ap (λ x. x.clock) nor) e, none ∙ sym nor, at ∙ sym to)
+starts-same (Some period) r s timer other p q (x, gave, at) (y, given, to) e =
+    let (rest, moments) = firsts x y p q (sym (ap (λ z. z.clock ++ p) gave) ∙ e ∙ ap (λ z. z.clock ++ q) given) in (
+      rest,
+      gave ∙ ap clock_gave moments ∙ sym given,
+      at ∙ ap (λ m. Some (record { period = period; last = m })) moments ∙ sym to,
+    )
 
 -- ---- the file
 
@@ -106,26 +139,78 @@ module _ (one : OneExposition) (expiry : OneExpiry) (options : Options) where
   end-same done p q a b (none, inr (is, files, text)) (nor, inr (was, file, said)) =
       (both p q (none ∙ sym nor) (files ∙ sym file), text ∙ sym said)
 
-  pub lines-same : (done : Done) (ls : List (List ℕ)) (p q : Asked) (a b : List ℕ) (s t : ℕ) → PrintLines options done ls p a s
+  each-same : (old : Done) (rs : List Request) (r s : Asked) (p q : List ℕ) (new other : Done) (a b : List ℕ)
+      → PrintsEach options old rs r a new → PrintsEach options old rs s b other → r.clock ++ p ≡ s.clock ++ q
+      → (p ≡ q) × (new ≡ other) × (r ≡ s) × (a ≡ b)
+  each-same old [] r s p q new other a b (is, none, text) (was, nor, said) e =
+      (unread r.clock s.clock p q (ap (λ x. x.clock) none) (ap (λ x. x.clock) nor) e, is ∙ sym was, none ∙ sym nor, text ∙ sym said)
+  each-same old (x ∷ xs) r s p q new other a b (between, own, later, part, rest, prints, each, deeds, text)
+      (midst, had, last, piece, more, printed, all, done_so, said) e =
+      let (after, news, firsts_same, pieces) = prints-same old x own had (later.clock ++ p) (last.clock ++ q) between midst part piece prints printed
+      (joined r own later s had last p q deeds done_so e) in
+      let (ends, others, laters, texts) = each-same midst xs later last p q new other rest more
+      (subst (λ d. PrintsEach options d xs later rest new) news each) all after in
+      (ends, others, deeds ∙ (λ i. then_asked (firsts_same i) (laters i)) ∙ sym done_so, text ∙ (λ i. pieces i ++ texts i) ∙ sym said)
+
+  in-time-same : (old : Done) (request : Request) (r s : Asked) (p q : List ℕ) (new other : Done) (a b : List ℕ)
+      → PrintsInTime options old request r a new → PrintsInTime options old request s b other → r.clock ++ p ≡ s.clock ++ q
+      → (p ≡ q) × (new ≡ other) × (r ≡ s) × (a ≡ b)
+  in-time-same old request r s p q new other a b (first, later, rs, after, timed, each, deeds) (had, last, qs, to, ran, all, done_so) e =
+      let (rest, firsts_same, requests, timers) = timed-same old.timer request first had rs qs after to (later.clock ++ p) (last.clock ++ q) timed ran
+      (joined r first later s had last p q deeds done_so e) in
+      let there = subst (λ t. PrintsEach options (record old { timer = t }) qs later a new) timers
+      (subst (λ z. PrintsEach options (record old { timer = after }) z later a new) requests each) in
+      let (ends, news, laters, texts) = each-same (record old { timer = to }) qs later last p q new other a b there all rest in
+      (ends, news, deeds ∙ (λ i. then_asked (firsts_same i) (laters i)) ∙ sym done_so, texts)
+
+  takes-same : (old : Done) (line : List ℕ) (request wanted : Request) (new other : Done) → TakesLine options old line request new
+      → TakesLine options old line wanted other → (request ≡ wanted) × (new ≡ other)
+  takes-same old line request wanted new other (inl (spells, is)) (inl (spelled, was)) =
+      (asked_same options.labels (name_by options) line request wanted spells spelled, is ∙ sym was)
+  takes-same old line request wanted new other (inl (spells, is)) (inr (skips, bad, none, was)) =
+      absurd (bad spells.1.0 spells.1.1 spells.1.2)
+  takes-same old line request wanted new other (inr (skips, bad, none, is)) (inl (spells, was)) =
+      absurd (bad spells.1.0 spells.1.1 spells.1.2)
+  takes-same old line request wanted new other (inr (skips, bad, none, is)) (inr (skipped, worse, nor, was)) =
+      (none ∙ sym nor, is ∙ sym was)
+
+  -- a line that ends the run asks for nothing
+  taken-good : (old : Done) (line : List ℕ) (request : Request) (new : Done) → TakesLine options old line request new
+      → options.skips_bad ≡ false → IsBad line → ⊥
+  taken-good old line request new (inl (spells, is)) ends bad = bad spells.1.0 spells.1.1 spells.1.2
+  taken-good old line request new (inr (skips, was, none, is)) ends bad = false≢true (sym ends ∙ skips)
+
+  lines-same : (done : Done) (ls : List (List ℕ)) (p q : Asked) (a b : List ℕ) (s t : ℕ) → PrintLines options done ls p a s
       → PrintLines options done ls q b t → p.clock ≡ q.clock → (p ≡ q) × (a ≡ b) × (s ≡ t)
   lines-same done [] p q a b s t (h, is) (g, was) e =
       let (asked, texts) = end-same done p q a b h g in (asked, texts, is ∙ sym was)
-  lines-same done (l ∷ ls) p q a b s t (inl (request, spells, own, later, part, others, new, prints, rest, deeds, text))
-      (inl (wanted, spelled, had, last, piece, more, next, printed, left, done_so, said)) e =
-      let same = asked_same options.labels (name_by options) l request wanted spells spelled in
-      let (after, news, firsts_same, pieces) = prints-same done wanted own had later.clock last.clock new next part piece
-      (subst (λ z. Prints options done z own part new) same prints) printed (parts p q own later had last deeds done_so e) in
+  lines-same done (l ∷ ls) p q a b s t (inl (request, taken, new, own, later, part, others, takes, prints, rest, deeds, text))
+      (inl (wanted, held, next, had, last, piece, more, took, printed, left, done_so, said)) e =
+      let (same, begins) = takes-same done l request wanted taken held takes took in
+      let there = subst (λ d. PrintsInTime options d wanted own part new) begins (subst (λ z. PrintsInTime options taken z own part new) same prints) in
+      let (after, news, firsts_same, pieces) = in-time-same held wanted own had later.clock last.clock new next part piece there printed
+      (parts p q own later had last deeds done_so e) in
       let (laters, texts, status) = lines-same next ls later last others more s t
       (subst (λ d. PrintLines options d ls later others s) news rest) left after in
       (deeds ∙ (λ i. then_asked (firsts_same i) (laters i)) ∙ sym done_so, text ∙ (λ i. pieces i ++ texts i) ∙ sym said, status)
-  lines-same done (l ∷ ls) p q a b s t (inl h) (inr g) e = absurd (g.0 h.1.1.0 h.1.1.1 h.1.1.2)
-  lines-same done (l ∷ ls) p q a b s t (inr h) (inl g) e = absurd (h.0 g.1.1.0 g.1.1.1 g.1.1.2)
-  lines-same done (l ∷ ls) p q a b s t (inr (bad, inl (skips, h))) (inr (worse, inl (skipped, g))) e =
-      lines-same (record done { has_bad = true }) ls p q a b s t h g e
-  lines-same done (l ∷ ls) p q a b s t (inr (bad, inl h)) (inr (worse, inr g)) e = absurd (false≢true (sym g.0 ∙ h.0))
-  lines-same done (l ∷ ls) p q a b s t (inr (bad, inr h)) (inr (worse, inl g)) e = absurd (false≢true (sym h.0 ∙ g.0))
-  lines-same done (l ∷ ls) p q a b s t (inr (bad, inr h)) (inr (worse, inr g)) e =
-      (h.1 ∙ sym g.1, h.2 ∙ sym g.2, h.3 ∙ sym g.3)
+  lines-same done (l ∷ ls) p q a b s t (inl (request, taken, new, own, later, part, others, takes, prints, rest, deeds, text))
+      (inr (ends, bad, none, empty, status)) e = absurd (taken-good done l request taken takes ends bad)
+  lines-same done (l ∷ ls) p q a b s t (inr (ends, bad, none, empty, status))
+      (inl (request, taken, new, own, later, part, others, takes, prints, rest, deeds, text)) e =
+      absurd (taken-good done l request taken takes ends bad)
+  lines-same done (l ∷ ls) p q a b s t (inr (ends, bad, none, empty, status)) (inr (ended, worse, nor, nothing, number)) e =
+      (none ∙ sym nor, empty ∙ sym nothing, status ∙ sym number)
+
+  pub output-same : (bytes : List ℕ) (p q : Asked) (a b : List ℕ) (s t : ℕ) → IsOutput options bytes p a s
+      → IsOutput options bytes q b t → p.clock ≡ q.clock → (p ≡ q) × (a ≡ b) × (s ≡ t)
+  output-same bytes p q a b s t (first, later, timer, starts, prints, deeds) (had, last, other, started, printed, done_so) e =
+      let loses = loses_line options.accepts_partial bytes in
+      let lines = lines_in options.accepts_partial bytes in
+      let (rest, firsts_same, timers) = starts-same options.every first had timer other later.clock last.clock starts started
+      (parts p q first later had last deeds done_so e) in
+      let (laters, texts, status) = lines-same (begun loses other) lines later last a b s t
+      (subst (λ z. PrintLines options (begun loses z) lines later a s) timers prints) printed rest in
+      (deeds ∙ (λ i. then_asked (firsts_same i) (laters i)) ∙ sym done_so, texts, status)
 
 -- ---- inputs that do not ask the clock
 
@@ -153,13 +238,50 @@ module _ (options : Options) where
   scrape-named (Scrape moment) e = e
   scrape-named Nothing e = e
 
-  pub no-moments : (done : Done) (ls : List (List ℕ)) (p : Asked) (a : List ℕ) (s : ℕ)
+  prints-timer : (old : Done) (request : Request) (r : Asked) (new : Done) (a : List ℕ) → Prints options old request r a new
+      → new.timer ≡ old.timer
+  prints-timer old (Change key by) r new a h = ap (λ d. d.timer) h.3
+  prints-timer old (Describe kind name unit note) r new a h = ap (λ d. d.timer) h.2
+  prints-timer old (Scrape moment) r new a h = ap (λ d. d.timer) h.5
+  prints-timer old Nothing r new a h = ap (λ d. d.timer) h.2
+
+  no-moment-of-one : (old : Done) (request : Request) (r : Asked) (new : Done) (a : List ℕ) → (request ≡ Scrape None → ⊥)
+      → PrintsEach options old (request ∷ []) r a new → (r.clock ≡ []) × (new.timer ≡ old.timer)
+  no-moment-of-one old request r new a own (between, first, later, part, rest, prints, (is, none, text), deeds, all) = (
+    ap (λ x. x.clock) deeds ∙ ap (λ z. z ++ later.clock) (no-moment old request first between part own prints) ∙ ap (λ x. x.clock) none,
+    ap (λ d. d.timer) is ∙ prints-timer old request first between part prints,
+  )
+
+  no-moment-in-time : (old : Done) (request : Request) (r : Asked) (new : Done) (a : List ℕ) → old.timer ≡ None
+      → (request ≡ Scrape None → ⊥) → PrintsInTime options old request r a new → (r.clock ≡ []) × (new.timer ≡ None)
+  no-moment-in-time old request r new a untimed own (first, later, rs, after, timed, each, deeds) =
+      let (none, is, at) = subst (λ t. Timed t request first rs after) untimed timed in
+      let (silent, kept) = no-moment-of-one (record old { timer = after }) request later new a own
+      (subst (λ z. PrintsEach options (record old { timer = after }) z later a new) is each) in
+      (ap (λ x. x.clock) deeds ∙ ap (λ z. z.clock ++ later.clock) none ∙ silent, kept ∙ at)
+
+  nothing-else : Nothing ≡ Scrape None → ⊥
+  nothing-else e = absurd (cc)
+
+  no-moment-taken : (old : Done) (line : List ℕ) (request : Request) (new : Done) → (Spells options.labels line (Scrape None) → ⊥)
+      → TakesLine options old line request new → (new.timer ≡ old.timer) × (request ≡ Scrape None → ⊥)
+  no-moment-taken old line request new own (inl ((spelled, of_line, is), same)) =
+      (ap (λ d. d.timer) same, λ e. own (subst (Spells options.labels line) (scrape-named spelled (sym is ∙ e)) of_line))
+  no-moment-taken old line request new own (inr (skips, bad, none, same)) =
+      (ap (λ d. d.timer) same, λ e. nothing-else (sym none ∙ e))
+
+  no-moments : (done : Done) (ls : List (List ℕ)) (p : Asked) (a : List ℕ) (s : ℕ) → done.timer ≡ None
       → AllByRecursion (λ line. Spells options.labels line (Scrape None) → ⊥) ls → PrintLines options done ls p a s → p.clock ≡ []
-  no-moments done [] p a s own h = h.0.0
-  no-moments done (l ∷ ls) p a s own (inl (request, spells, first, later, part, others, new, prints, rest, deeds, text)) =
-      let (spelled, of_line, is) = spells in
-      let none = no-moment done request first new part (λ e. own.0 (subst (Spells options.labels l) (scrape-named spelled (sym is ∙ e)) of_line)) prints in
-      ap (λ x. x.clock) deeds ∙ ap (λ z. z ++ later.clock) none ∙ no-moments new ls later others s own.1 rest
-  no-moments done (l ∷ ls) p a s own (inr (bad, inl (skips, h))) =
-      no-moments (record done { has_bad = true }) ls p a s own.1 h
-  no-moments done (l ∷ ls) p a s own (inr (bad, inr h)) = ap (λ x. x.clock) h.1
+  no-moments done [] p a s untimed own h = h.0.0
+  no-moments done (l ∷ ls) p a s untimed own (inl (request, taken, new, first, later, part, others, takes, prints, rest, deeds, text)) =
+      let (kept, other) = no-moment-taken done l request taken own.0 takes in
+      let (none, still) = no-moment-in-time taken request first new part (kept ∙ untimed) other prints in
+      ap (λ x. x.clock) deeds ∙ ap (λ z. z ++ later.clock) none ∙ no-moments new ls later others s still own.1 rest
+  no-moments done (l ∷ ls) p a s untimed own (inr (ends, bad, none, empty, status)) = ap (λ x. x.clock) none
+
+  pub output-silent : (bytes : List ℕ) (p : Asked) (a : List ℕ) (s : ℕ) → NamesMoments options bytes → IsOutput options bytes p a s
+      → p.clock ≡ []
+  output-silent bytes p a s (untimed, own) (first, later, timer, starts, prints, deeds) =
+      let (none, at) = subst (λ e. Starts e first timer) untimed starts in
+      ap (λ x. x.clock) deeds ∙ ap (λ z. z.clock ++ later.clock) none
+      ∙ no-moments (begun (loses_line options.accepts_partial bytes) timer) (lines_in options.accepts_partial bytes) later a s at own prints

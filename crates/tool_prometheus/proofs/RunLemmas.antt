@@ -1,6 +1,6 @@
 -- A run that neither memory, the device nor the file ended wrote the text of its input.
 use Rattle.std.proofs.Common.{if◌then◌else◌, ◌≡◌, ◌≢◌, ◌∙◌, ℕ, Bool, true, false, List, [], ◌∷◌, ◌++◌, ◌⊎◌, inl, inr, refl, sym, ap, subst}
-use Rattle.std.proofs.Common.{None, Some, Result, Ok, Err, OnOk, append_assoc, append-nil}
+use Rattle.std.proofs.Common.{Option, None, Some, Result, Ok, Err, OnOk, append_assoc, append-nil}
 use Rattle.std.proofs.lemmas.List.{append_cancel_right}
 use Rattle.std.proofs.lemmas.List.Concat.{flat_map-append}
 use Rattle.metrics_exporter.specs.Exporting.{Setup, Log, updates, expires, steps, cells_after, HoldsSome}
@@ -21,8 +21,12 @@ use Rattle.tool_prometheus.specs.declared.requests.Request.TheVariants.{Change, 
 use Rattle.tool_prometheus.specs.Asked.{Asked, nothing_asked, then_asked, Asks}
 use Rattle.tool_prometheus.specs.Names.{ruled_name, name_by, Requests}
 use Rattle.tool_prometheus.specs.Exposed.{scrape_text, fault_text, KeepsRest, HandsOut, Shows, IsPlain, IsWant, IsAnswer, IsEnd, shows_at_end}
+use Rattle.tool_prometheus.specs.Exposed.{AnswersEach, Takes, AnswersLine}
+use Rattle.tool_prometheus.specs.declared.timing.Timer.{Timer}
+use Rattle.tool_prometheus.specs.Timing.{Starts}
 use Rattle.tool_prometheus.specs.Serving.{answers_since, Stops, EndsLines, IsFresh, own_status, or_left}
-use Rattle.tool_prometheus.specs.Output.{Done, begun, lines_in, loses_line, PrintsExposition, Prints, PrintLines, IsOutput, Runs}
+use Rattle.tool_prometheus.specs.Output.{Done, begun, lines_in, loses_line, PrintsExposition, Prints, PrintsEach, PrintsInTime, TakesLine, PrintLines}
+use Rattle.tool_prometheus.specs.Output.{IsOutput, Runs}
 use Rattle.tool_prometheus.proofs.AskedLemmas.{then-nothing, then-assoc}
 
 -- ---- the lines of an input
@@ -125,7 +129,7 @@ module _ (options : Options) (cut : Bool) where
 
   -- what is done where a run has come so far
   abbrev done_on : Log → Served → Done
-  done_on log on = record { calls = log; legend = described on.exporter; is_changed = on.is_changed; has_bad = (if cut then true else on.has_bad) }
+  done_on log on = record { calls = log; legend = described on.exporter; is_changed = on.is_changed; has_bad = (if cut then true else on.has_bad); timer = on.timer }
 
   -- what is served is as after these calls, by these options
   abbrev Stands : Log → Served → Type 0
@@ -133,10 +137,10 @@ module _ (options : Options) (cut : Bool) where
       × (on.labels ≡ options.labels) × (on.at_scrapes_only ≡ options.at_scrapes_only) × (ruled_name on.rules ≡ name_by options)
 
   done-same : (log : Log) (old : Done) (new : Served) (changed : Bool) → SameLegend (described new.exporter) old.legend
-      → new.is_changed ≡ changed → (if cut then true else new.has_bad) ≡ old.has_bad
+      → new.is_changed ≡ changed → (if cut then true else new.has_bad) ≡ old.has_bad → new.timer ≡ old.timer
       → done_on log new ≡ record old { calls = log; is_changed = changed }
-  done-same log old new changed same is bad =
-      λ i. record { calls = log; legend = λ kind name. same kind name i; is_changed = is i; has_bad = bad i }
+  done-same log old new changed same is bad timer =
+      λ i. record { calls = log; legend = λ kind name. same kind name i; is_changed = is i; has_bad = bad i; timer = timer i }
 
   exposition : (log : Log) (on : Served) (has_file : Bool) (shown text : List ℕ) (files : List (List ℕ)) → Stands log on
       → has_file ≡ options.has_file → Shows setup log on shown → text ≡ scrape_text has_file shown → HandsOut has_file shown true files
@@ -157,7 +161,7 @@ module _ (options : Options) (cut : Bool) where
 
   keeps-stands : (log : Log) (old new : Served) → Stands log old → KeepsRest old new → (calls : Log)
       → IsAfter setup calls new.exporter → Stands calls new
-  keeps-stands log old new (was, named, filed, labelled, ended_so, ruled) (naming, file, bad, labels, ends, rules) calls after =
+  keeps-stands log old new (was, named, filed, labelled, ended_so, ruled) (naming, file, bad, labels, ends, rules, timer) calls after =
       (after, naming ∙ named, file ∙ filed, labels ∙ labelled, ends ∙ ended_so, ap ruled_name rules ∙ ruled)
 
   printed : (log : Log) (old new : Served) (request : Request) (made : Log) (asked : Asked) (text : List ℕ) → Stands log old
@@ -167,14 +171,14 @@ module _ (options : Options) (cut : Bool) where
       let calls = log ++ updates key by (Ok tt) ∷ [] in (
         calls,
         keeps-stands log old new stands keeps calls (subst (λ m. IsAfter setup (log ++ m) new.exporter) is after),
-        (none, free, t, done-same calls (done_on log old) new true told changed (λ i. if cut then true else keeps.2 i)),
+        (none, free, t, done-same calls (done_on log old) new true told changed (λ i. if cut then true else keeps.2 i) keeps.6),
       )
   printed log old new (Change key by) made asked text stands keeps after fine (told, none, inr (is, t, full, changed, failed)) =
       absurd (fine failed)
   printed log old new (Describe kind name unit note) made asked text stands keeps after fine (told, none, is, t, changed, failed) = (
     log,
     keeps-stands log old new stands keeps log (subst (λ l. IsAfter setup l new.exporter) (ap (λ m. log ++ m) is ∙ append-nil log) after),
-    (none, t, λ i. record { calls = log; legend = λ k n. told k n i; is_changed = changed i; has_bad = (if cut then true else keeps.2 i) }),
+    (none, t, λ i. record { calls = log; legend = λ k n. told k n i; is_changed = changed i; has_bad = (if cut then true else keeps.2 i); timer = keeps.6 i }),
   )
   printed log old new (Scrape moment) made asked text stands keeps after fine
       (told, (now, at, checks, n, shown, true, is, ran, shows, t, out, changed, failed)) =
@@ -189,7 +193,7 @@ module _ (options : Options) (cut : Bool) where
           checks,
           n,
           ran,
-          done-same calls (done_on log old) new false told changed (λ i. if cut then true else keeps.2 i),
+          done-same calls (done_on log old) new false told changed (λ i. if cut then true else keeps.2 i) keeps.6,
           exposition calls new old.has_file shown text asked.files now_stands stands.2
               (subst (λ m. Shows setup (log ++ m) new shown) is shows) t out,
         ),
@@ -210,21 +214,83 @@ module _ (options : Options) (cut : Bool) where
   answered log old new request made asked text stands keeps after fine (inr want) =
       absurd (fine (failed-want setup log old request made new asked text want))
 
+  -- ---- requests one after another
+
+  -- what is served is after some calls, and what failed before stays so
+  abbrev Goes_on : Served → Served → Type 0
+  Goes_on old new = ((calls : Log) × IsAfter setup calls new.exporter) × (old.has_failed ≡ true → new.has_failed ≡ true)
+
+  each-stays : (log : Log) (old : Served) (rs : List Request) (new : Served) (asked : Asked) (text : List ℕ)
+      → IsAfter setup log old.exporter → AnswersEach old rs new asked text → Goes_on old new
+  each-stays log old [] new asked text after (is, none, nothing) =
+      ((log, subst (λ s. IsAfter setup log s.exporter) (sym is) after), λ f. ap (λ s. s.has_failed) is ∙ f)
+  each-stays log old (r ∷ rs) new asked text after (between, own, later, part, rest, (keeps, made_so), each, deeds, all) =
+      let (made, stood, answer) = made_so setup log after in
+      let (stands, failed) = each-stays (log ++ made) between rs new later rest stood each in
+      (stands, λ f. failed (failed-answer setup log old r made between own part answer f))
+
+  each-printed : (log : Log) (old : Served) (rs : List Request) (new : Served) (asked : Asked) (text : List ℕ) → Stands log old
+      → (new.has_failed ≡ true → ⊥) → AnswersEach old rs new asked text
+      → (calls : Log) × Stands calls new × PrintsEach options (done_on log old) rs asked text (done_on calls new)
+  each-printed log old [] new asked text stands fine (is, none, nothing) =
+      (log, subst (Stands log) (sym is) stands, (ap (done_on log) is, none, nothing))
+  each-printed log old (r ∷ rs) new asked text stands fine (between, own, later, part, rest, (keeps, made_so), each, deeds, all) =
+      let (made, stood, answer) = made_so setup log stands.0 in
+      let (onward, failed) = each-stays (log ++ made) between rs new later rest stood each in
+      let (calls, now, prints) = answered log old between r made own part stands keeps stood (λ f. fine (failed f)) answer in
+      let (ended, there, more) = each-printed calls between rs new later rest now fine each in
+      (ended, there, (done_on calls between, own, later, part, rest, prints, more, deeds, all))
+
   -- ---- lines
 
-  -- what is served is after some calls, and what failed stays so
+  -- nothing but whether a line was bad changes before a line's request
+  taken-stays : (log : Log) (old : Served) (line : List ℕ) (request : Request) (taken : Served)
+      → Takes options.skips_bad old line request taken → IsAfter setup log old.exporter
+      → IsAfter setup log taken.exporter × (old.has_failed ≡ true → taken.has_failed ≡ true)
+  taken-stays log old line request taken (inl (spells, is)) after =
+      (subst (λ s. IsAfter setup log s.exporter) (sym is) after, λ f. ap (λ s. s.has_failed) is ∙ f)
+  taken-stays log old line request taken (inr (skips, bad, none, is)) after =
+      (subst (λ s. IsAfter setup log s.exporter) (sym is) after, λ f. ap (λ s. s.has_failed) is ∙ f)
+
+  line-stays : (log : Log) (old : Served) (line : List ℕ) (asked : Asked) (text : List ℕ) (new : Served)
+      → IsAfter setup log old.exporter → AnswersLine options.skips_bad old line asked text new → Goes_on old new
+  line-stays log old line asked text new after (request, taken, takes, (first, later, requests, timer, timed, each, deeds)) =
+      let (stood, failed) = taken-stays log old line request taken takes after in
+      let (stands, failing) = each-stays log (record taken { timer = timer }) requests new later text stood each in
+      (stands, λ f. failing (failed f))
+
+  taken-stands : (log : Log) (old : Served) (line : List ℕ) (request : Request) (taken : Served)
+      → Takes options.skips_bad old line request taken → Stands log old
+      → Stands log taken × TakesLine options (done_on log old) line request (done_on log taken)
+  taken-stands log old line request taken (inl (spells, is)) stands = (
+    subst (Stands log) (sym is) stands,
+    inl (subst (λ new. Requests options.labels new line request) stands.5 (subst (λ ls. Requests ls (ruled_name old.rules) line request) stands.3 spells), ap (done_on log) is),
+  )
+  taken-stands log old line request taken (inr (skips, bad, none, is)) stands =
+      let noted : done_on log taken ≡ record (done_on log old) { has_bad = true } =
+      ap (done_on log) is ∙ (λ i. record (done_on log old) { has_bad = or-true cut i }) in
+      (subst (Stands log) (sym is) stands, inr (skips, bad, none, noted))
+
+  -- a line asked and printed this, and what is served is after some calls
+  abbrev Line_printed : Log → Served → List ℕ → Asked → List ℕ → Served → Type 0
+  Line_printed log old line asked text new = (calls : Log) × Stands calls new × (request : Request) × (taken : Done)
+      × TakesLine options (done_on log old) line request taken × PrintsInTime options taken request asked text (done_on calls new)
+
+  line-printed : (log : Log) (old : Served) (line : List ℕ) (asked : Asked) (text : List ℕ) (new : Served) → Stands log old
+      → (new.has_failed ≡ true → ⊥) → AnswersLine options.skips_bad old line asked text new → Line_printed log old line asked text new
+  line-printed log old line asked text new stands fine (request, taken, takes, (first, later, requests, timer, timed, each, deeds)) =
+      let (stood, takes_so) = taken-stands log old line request taken takes stands in
+      let (calls, now, prints) = each-printed log (record taken { timer = timer }) requests new later text stood fine each in
+      (calls, now, request, done_on log taken, takes_so, (first, later, requests, timer, timed, prints, deeds))
+
   stays : (log : Log) (p q : (Served × Asked) × Unit {0}) (es : Dialogue) → IsAfter setup log p.0.0.exporter
-      → AreAnswered (answers_since options.skips_bad) p es q
-      → ((calls : Log) × IsAfter setup calls q.0.0.exporter) × (p.0.0.has_failed ≡ true → q.0.0.has_failed ≡ true)
+      → AreAnswered (answers_since options.skips_bad) p es q → Goes_on p.0.0 q.0.0
   stays log p q [] after h =
       ((log, subst (λ z. IsAfter setup log z.0.0.exporter) h after), λ f. subst (λ z. z.0.0.has_failed ≡ true) h f)
-  stays log p q (e ∷ es) after (j, (asked, inl (request, spells, (keeps, made_so)), is), h) =
-      let (made, later, answer) = made_so setup log after in
-      let (stands, failed) = stays (log ++ made) j q es later h in
-      (stands, λ f. failed (failed-answer setup log p.0.0 request made j.0.0 asked e.1 answer f))
-  stays log p q (e ∷ es) after (j, (asked, inr (skips, bad, none, (same, nothing)), is), h) =
-      let (stands, failed) = stays log j q es (subst (λ s. IsAfter setup log s.exporter) (sym same) after) h in
-      (stands, λ f. failed (ap (λ s. s.has_failed) same ∙ f))
+  stays log p q (e ∷ es) after (j, (asked, line, is), h) =
+      let ((calls, there), failed) = line-stays log p.0.0 e.0 asked e.1 j.0.0 after line in
+      let (stands, failing) = stays calls j q es there h in
+      (stands, λ f. failing (failed f))
 
   -- the lines to come ask and print this, and the run ends with this status
   abbrev Goes : Log → Served → List (List ℕ) → Asked → List ℕ → ℕ → Type 0
@@ -240,29 +306,14 @@ module _ (options : Options) (cut : Bool) where
     ap (λ z. z.0.1) (sym h) ∙ sym (then-nothing p.0.1),
     subst (λ z. Goes log z.0.0 rest after last s) (sym h) (goes log (subst (λ z. Stands log z.0.0) h stands)),
   )
-  dialogue log p q (e ∷ es) rest after last s stands (j, (asked, inl (request, spells, (keeps, made_so)), is), h) fine goes =
-      let (made, stood, answer) = made_so setup log stands.0 in
-      let failed = (stays (log ++ made) j q es stood h).1 in
-      let (calls, now, prints) = answered log p.0.0 j.0.0 request made asked e.1 stands keeps stood (λ f. fine (failed f)) answer in
+  dialogue log p q (e ∷ es) rest after last s stands (j, (asked, line, is), h) fine goes =
+      let ((so_far, there), onward) = line-stays log p.0.0 e.0 asked e.1 j.0.0 stands.0 line in
+      let failed = (stays so_far j q es there h).1 in
+      let (calls, now, request, taken, takes, prints) = line-printed log p.0.0 e.0 asked e.1 j.0.0 stands (λ f. fine (failed f)) line in
       let (later, total, more) = dialogue calls j q es rest after last s now h fine goes in (
         then_asked asked later,
         total ∙ ap (λ z. then_asked z later) is ∙ then-assoc p.0.1 asked later,
-        inl (request, subst (λ new. Requests options.labels new e.0 request) stands.5 (subst (λ ls. Requests ls (ruled_name p.0.0.rules) e.0 request) stands.3 spells), asked, then_asked later after, e.1, texts_in es ++ last, done_on calls j.0.0, prints, more, then-assoc asked later after, append_assoc e.1 (texts_in es) last),
-      )
-  dialogue log p q (e ∷ es) rest after last s stands (j, (asked, inr (skips, bad, none, (same, nothing)), is), h) fine goes =
-      let text : (e.1 ++ texts_in es) ++ last ≡ texts_in es ++ last = ap (λ z. (z ++ texts_in es) ++ last) nothing in
-      let (later, total, more) = dialogue log j q es rest after last s (subst (Stands log) (sym same) stands) h fine goes in
-      let here = subst (λ d. PrintLines options d (lines_said es ++ rest) (then_asked later after) (texts_in es ++ last) s) (ap (done_on log) same) more in (
-        later,
-        total ∙ ap (λ z. then_asked z later) (is ∙ ap (then_asked p.0.1) none ∙ then-nothing p.0.1),
-        inr (
-          bad,
-          inl (
-            skips,
-            subst (λ z. PrintLines options (record (done_on log p.0.0) { has_bad = true }) (lines_said es ++ rest) (then_asked later after) z s) (sym text)
-                (subst (λ b. PrintLines options (record (done_on log p.0.0) { has_bad = b }) (lines_said es ++ rest) (then_asked later after) (texts_in es ++ last) s) (or-true cut) here),
-          ),
-        ),
+        inl (request, taken, done_on calls j.0.0, asked, then_asked later after, e.1, texts_in es ++ last, takes, prints, more, then-assoc asked later after, append_assoc e.1 (texts_in es) last),
       )
 
   -- ---- ends
@@ -333,37 +384,42 @@ module _ (options : Options) (cut : Bool) where
     ended_so (Err (BadLine k)) r fine st ok (es, line, first, are, (stops, bad), (notes, h), is, count) (none, nothing, kept, same) is_left skipped =
         let bad_status : status ≡ 2 = st ∙ ap (λ x. own_status x new.has_bad) same in
         let (more, all) = first-taken options.accepts_partial at_end bytes front half left (lines_said es) line k ends whole is_left first are in
-        over es (line ∷ more) all is notes h (λ f. fine (kept ∙ f)) (λ calls now. inr (bad, inr (stops, nothing, none, bad_status)))
+        over es (line ∷ more) all is notes h (λ f. fine (kept ∙ f)) (λ calls now. inr (stops, bad, nothing, none, bad_status))
     ended_so (Err (Memory at)) r fine st ok run (none, nothing, kept, same) is_left skipped =
         absurd (ok (st ∙ ap (λ x. own_status x new.has_bad) same))
     ended_so (Err Device) r fine st ok run (none, nothing, kept, same) is_left skipped =
         absurd (ok (st ∙ ap (λ x. own_status x new.has_bad) same))
 
-  fresh : (start : Served) → IsFresh options start → done_on [] start ≡ begun cut
+  fresh : (start : Served) → IsFresh options start → done_on [] start ≡ begun cut start.timer
   fresh start (after, told, naming, file, changed, bad, labels, ends, failed, named) =
       let none : (if cut then true else start.has_bad) ≡ cut = ap (λ b. if cut then true else b) bad ∙ or-false cut in
-      λ i. record { calls = []; legend = λ kind name. told kind name i; is_changed = changed i; has_bad = none i }
+      λ i. record { calls = []; legend = λ kind name. told kind name i; is_changed = changed i; has_bad = none i; timer = start.timer }
 
   -- what was asked since nothing was
   since_nothing : (asked all : Asked) → Asks (Some nothing_asked) (Some asked) all → asked ≡ all
   since_nothing asked all e = cc
 
+  -- as the output of the options, if a last line is not counted or is
+  abbrev Cut : List ℕ → Asked → List ℕ → ℕ → Type 0
+  Cut bytes asked text status = (first later : Asked) × (timer : Option Timer) × Starts options.every first timer
+      × PrintLines options (begun cut timer) (lines_in options.accepts_partial bytes) later text status × (asked ≡ then_asked first later)
+
   output-cut : (bytes text : List ℕ) (asked : Asked) (status : ℕ) → cut ≡ loses_line options.accepts_partial bytes
-      → Runs options bytes asked text status → status ≢ 1
-      → PrintLines options (begun cut) (lines_in options.accepts_partial bytes) asked text status
+      → Runs options bytes asked text status → status ≢ 1 → Cut bytes asked text status
   output-cut bytes text asked status is_cut (None, (read, wrote, all, took, writes, asks, serves)) ok = absurd took
   output-cut bytes text asked status is_cut (Some left, (read, wrote, all, took, writes, asks, inr (nothing, none, nor, one))) ok =
       absurd (ok one)
   output-cut bytes text asked status is_cut
-      (Some left, (read, wrote, all, took, writes, asks, inl (start, end, r, is_fresh, (served, lines, last, before, after, q, front, half, parts, is_left, run, ends, prints, asked_so, skipped), st))) ok =
+      (Some left, (read, wrote, all, took, writes, asks, inl (start, end, first, later, r, is_fresh, starts, (served, lines, last, before, after, q, front, half, parts, is_left, run, ends, prints, asked_so, skipped), st, total))) ok =
       let (stood, told, naming, file, changed, bad, labels, ending, failed, named) = is_fresh in
       let fine : (end.has_failed ≡ true → ⊥) = λ f. ok (st ∙ ap (λ b. if b then 1 else own_status r end.has_bad) f) in
       let own : status ≡ own_status r end.has_bad =
       st ∙ ap (λ b. if b then 1 else own_status r end.has_bad) (is-false end.has_failed fine) in
       let goes = ended_so (left ≡ []) bytes front half left (λ e. e) (took ∙ ap (λ z. z ++ left) parts) is_cut start served end before after lines last text status (writes ∙ prints)
       (stood, naming, file, labels, ending, λ i kind name. named kind name i) q r fine own ok run ends is_left skipped in
-      subst (λ a. PrintLines options (begun cut) (lines_in options.accepts_partial bytes) a text status) (sym (since_nothing asked all asks ∙ asked_so))
-      (subst (λ d. PrintLines options d (lines_in options.accepts_partial bytes) (then_asked before after) text status) (fresh start is_fresh) goes)
+      let printed = subst (λ a. PrintLines options (begun cut start.timer) (lines_in options.accepts_partial bytes) a text status) (sym asked_so)
+      (subst (λ d. PrintLines options d (lines_in options.accepts_partial bytes) (then_asked before after) text status) (fresh start is_fresh) goes) in
+      (first, later, start.timer, starts, printed, since_nothing asked all asks ∙ total)
 
 pub run-output : (options : Options) (bytes text : List ℕ) (asked : Asked) (status : ℕ) → Runs options bytes asked text status → status ≢ 1
     → IsOutput options bytes asked text status

@@ -15,9 +15,11 @@ use Rattle.tool_export.specs.Exported.{HoldsAtRefusal, report_text}
 use Rattle.tool_prometheus.specs.declared.answering.Served.{Served}
 use Rattle.tool_prometheus.specs.declared.requests.Request.{Request}
 use Rattle.tool_prometheus.specs.declared.requests.Request.TheVariants.{Change, Describe, Scrape, Nothing}
-use Rattle.tool_prometheus.specs.Asked.{Asked, nothing_asked}
+use Rattle.tool_prometheus.specs.Asked.{Asked, nothing_asked, then_asked}
 use Rattle.tool_prometheus.specs.Lines.{IsBad}
 use Rattle.tool_prometheus.specs.Names.{ruled_name, Requests}
+use Rattle.tool_prometheus.specs.declared.timing.Timer.{Timer}
+use Rattle.tool_prometheus.specs.Timing.{Timed}
 
 -- ---- texts
 
@@ -60,7 +62,7 @@ IsExposed naming on cells text = IsDescribed naming (described on) cells text
 -- only the exporter, what a scrape owes, and whether something failed changed
 abbrev pub KeepsRest : Served → Served → Type 0
 KeepsRest old new = (new.naming ≡ old.naming) × (new.has_file ≡ old.has_file) × (new.has_bad ≡ old.has_bad) × (new.labels ≡ old.labels)
-    × (new.at_scrapes_only ≡ old.at_scrapes_only) × (new.rules ≡ old.rules)
+    × (new.at_scrapes_only ≡ old.at_scrapes_only) × (new.rules ≡ old.rules) × (new.timer ≡ old.timer)
 
 -- an exposition of what is held after the calls, with the descriptions of names
 abbrev pub Shows : Setup → Log → Served → List ℕ → Type 0
@@ -113,15 +115,30 @@ abbrev pub Answers : Served → Served → Request → Asked → List ℕ → Ty
 Answers old new request asked text = KeepsRest old new × ((setup : Setup) (log : Log) → IsAfter setup log old.exporter →
     (made : Log) × IsAfter setup (log ++ made) new.exporter × IsAnswer setup log old request made new asked text)
 
--- a bad line that is skipped is noted, and has no text
-abbrev pub PassesOver : Served → List ℕ → Served → Type 0
-PassesOver old text new = (new ≡ record old { has_bad = true }) × (text ≡ [])
+-- ---- lines
 
--- A line's request was answered; or a bad line was skipped, if lines may be.
+-- requests are answered one after another
+abbrev pub AnswersEach : Served → List Request → Served → Asked → List ℕ → Type 0
+AnswersEach old [] new asked text = (new ≡ old) × (asked ≡ nothing_asked) × (text ≡ [])
+AnswersEach old (request ∷ requests) new asked text = (between : Served) × (own later : Asked) × (part rest : List ℕ)
+    × Answers old between request own part × AnswersEach between requests new later rest
+    × (asked ≡ then_asked own later) × (text ≡ part ++ rest)
+
+-- a line's request is answered, and then a scrape, if the timer wants one
+abbrev pub AnswersInTime : Served → Request → Asked → List ℕ → Served → Type 0
+AnswersInTime old request asked text new = (first later : Asked) × (requests : List Request) × (after : Option Timer)
+    × Timed old.timer request first requests after × AnswersEach (record old { timer = after }) requests new later text
+    × (asked ≡ then_asked first later)
+
+-- a line asks for this; one that is bad asks for nothing and is noted, if bad lines are skipped
+abbrev pub Takes : Bool → Served → List ℕ → Request → Served → Type 0
+Takes skips old line request new = (Requests old.labels (ruled_name old.rules) line request × (new ≡ old))
+    ⊎ ((skips ≡ true) × IsBad line × (request ≡ Nothing) × (new ≡ record old { has_bad = true }))
+
+-- what a line asks for was answered
 abbrev pub AnswersLine : Bool → Served → List ℕ → Asked → List ℕ → Served → Type 0
-AnswersLine skips old line asked text new =
-    ((request : Request) × Requests old.labels (ruled_name old.rules) line request × Answers old new request asked text)
-    ⊎ ((skips ≡ true) × IsBad line × (asked ≡ nothing_asked) × PassesOver old text new)
+AnswersLine skips old line asked text new = (request : Request) × (taken : Served) × Takes skips old line request taken
+    × AnswersInTime taken request asked text new
 
 -- ---- handing out
 

@@ -16,20 +16,23 @@ use Rattle.tool_prometheus.specs.Lines.{Spells, IsBad}
 use Rattle.tool_prometheus.specs.Names.{name_by, Requests}
 use Rattle.tool_prometheus.specs.Asked.{Asked, Asks, nothing_asked, then_asked}
 use Rattle.tool_prometheus.specs.Exposed.{scrape_text, HasMoment, HandsOut, shows_at_end}
+use Rattle.tool_prometheus.specs.declared.timing.Timer.{Timer}
+use Rattle.tool_prometheus.specs.Timing.{Timed, Starts}
 use Rattle.tool_prometheus.specs.Serving.{Ends}
 
 -- ---- one request
 
--- what was done so far: the calls in order, the descriptions of names, whether something changed since the last scrape, and
--- whether a bad line was skipped, or the last one is not counted
+-- what was done so far: the calls in order, the descriptions of names, whether something changed since the last scrape, whether
+-- a bad line was skipped, or the last one is not counted, and the timer for scrapes
 pub record Done : Type 0 where
   pub calls : Log
   pub legend : Legend
   pub is_changed : Bool
   pub has_bad : Bool
+  pub timer : Option Timer
 
 abbrev pub nothing_done : Done
-nothing_done = record { calls = []; legend = no_legend; is_changed = false; has_bad = false }
+nothing_done = record { calls = []; legend = no_legend; is_changed = false; has_bad = false; timer = None }
 
 -- an exposition of what is held, in the file or on the output
 abbrev pub PrintsExposition : Options → Done → List (List ℕ) → List ℕ → Type 0
@@ -66,8 +69,26 @@ lines_in accepts_partial bytes = if accepts_partial then lines_of bytes else end
 abbrev pub loses_line : Bool → List ℕ → Bool
 loses_line accepts_partial bytes = if accepts_partial then false else is_cut bytes
 
-abbrev pub begun : Bool → Done
-begun loses = record nothing_done { has_bad = loses }
+abbrev pub begun : Bool → Option Timer → Done
+begun loses timer = record nothing_done { has_bad = loses; timer = timer }
+
+-- requests print one after another
+abbrev pub PrintsEach : Options → Done → List Request → Asked → List ℕ → Done → Type 0
+PrintsEach options old [] asked text new = (new ≡ old) × (asked ≡ nothing_asked) × (text ≡ [])
+PrintsEach options old (request ∷ requests) asked text new = (between : Done) × (own later : Asked) × (part rest : List ℕ)
+    × Prints options old request own part between × PrintsEach options between requests later rest new
+    × (asked ≡ then_asked own later) × (text ≡ part ++ rest)
+
+-- what a line's request prints, and then a scrape, if the timer wants one
+abbrev pub PrintsInTime : Options → Done → Request → Asked → List ℕ → Done → Type 0
+PrintsInTime options old request asked text new = (first later : Asked) × (requests : List Request) × (after : Option Timer)
+    × Timed old.timer request first requests after × PrintsEach options (record old { timer = after }) requests later text new
+    × (asked ≡ then_asked first later)
+
+-- a line asks for this; one that is bad asks for nothing, if bad lines are skipped
+abbrev pub TakesLine : Options → Done → List ℕ → Request → Done → Type 0
+TakesLine options old line request new = (Requests options.labels (name_by options) line request × (new ≡ old))
+    ⊎ ((options.skips_bad ≡ true) × IsBad line × (request ≡ Nothing) × (new ≡ record old { has_bad = true }))
 
 -- Lines print one after another, and then the end of the input does. A bad line is skipped, or ends the run. The status is 2
 -- at a bad line, 3 if bad lines were skipped or the last one is not counted, and otherwise 0.
@@ -75,17 +96,18 @@ abbrev pub PrintLines : Options → Done → List (List ℕ) → Asked → List 
 PrintLines options done [] asked text status =
     PrintsEnd options done asked text × (status ≡ (if done.has_bad then 3 else 0))
 PrintLines options done (l ∷ ls) asked text status =
-    ((request : Request) × Requests options.labels (name_by options) l request × (own later : Asked) × (part others : List ℕ) × (new : Done)
-    × Prints options done request own part new × PrintLines options new ls later others status
+    ((request : Request) × (taken new : Done) × (own later : Asked) × (part others : List ℕ) × TakesLine options done l request taken
+    × PrintsInTime options taken request own part new × PrintLines options new ls later others status
     × (asked ≡ then_asked own later) × (text ≡ part ++ others))
-    ⊎ (IsBad l × (((options.skips_bad ≡ true) × PrintLines options (record done { has_bad = true }) ls asked text status)
-    ⊎ ((options.skips_bad ≡ false) × (asked ≡ nothing_asked) × (text ≡ []) × (status ≡ 2))))
+    ⊎ ((options.skips_bad ≡ false) × IsBad l × (asked ≡ nothing_asked) × (text ≡ []) × (status ≡ 2))
 
 -- The text and the status of a run with these options over these bytes, and what it asks of the surroundings: a moment for each
--- scrape without its own, and to put each scrape's text into the file.
+-- scrape without its own, or one at the start and for each line if scrapes have a period; and to put each scrape's text into
+-- the file.
 abbrev pub IsOutput : Options → List ℕ → Asked → List ℕ → ℕ → Type 0
-IsOutput options bytes asked text status =
-    PrintLines options (begun (loses_line options.accepts_partial bytes)) (lines_in options.accepts_partial bytes) asked text status
+IsOutput options bytes asked text status = (first later : Asked) × (timer : Option Timer) × Starts options.every first timer
+    × PrintLines options (begun (loses_line options.accepts_partial bytes) timer) (lines_in options.accepts_partial bytes) later text status
+    × (asked ≡ then_asked first later)
 
 -- ---- what `command` says of a run
 
@@ -98,7 +120,7 @@ Runs options bytes asked text status = (left : Option (List ℕ)) × Ends option
 abbrev pub with_shards : ℕ → Options → Options
 with_shards n options = record options { plan = record options.plan { shards = n } }
 
--- each scrape has its own moment
+-- each scrape is a line with its own moment
 abbrev pub NamesMoments : Options → List ℕ → Type 0
-NamesMoments options bytes = AllByRecursion (λ line. Spells options.labels line (Scrape None) → ⊥)
+NamesMoments options bytes = (options.every ≡ None) × AllByRecursion (λ line. Spells options.labels line (Scrape None) → ⊥)
     (lines_in options.accepts_partial bytes)

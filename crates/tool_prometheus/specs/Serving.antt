@@ -2,6 +2,8 @@
 use Rattle.std.specs.Prelude.{if◌then◌else◌, ◌≡◌, ℕ, Bool, true, false, List, [], ◌∷◌, ◌++◌, ◌⊎◌, Result, Ok, Err, OnOk, Option, None}
 use Rattle.tool_grammar.specs.declared.error.RunError.{RunError}
 use Rattle.tool_grammar.specs.declared.error.RunError.TheVariants.{Memory, BadLine, Device}
+use Rattle.tool_export.specs.declared.machine.Unanswered.{Unanswered}
+use Rattle.tool_export.specs.declared.machine.Unanswered.TheVariants as unanswered
 use Rattle.tool_export.specs.Answering.{Answering, IsRun, IsLeft, status_number}
 use Rattle.metrics_names.specs.declared.kind.MetricKind.{MetricKind}
 use Rattle.metrics_exporter.specs.Kept.{IsAfter, described}
@@ -12,6 +14,7 @@ use Rattle.tool_prometheus.specs.declared.commands.Options.{Options}
 use Rattle.tool_prometheus.specs.Asked.{Asked, Asks, nothing_asked, then_asked}
 use Rattle.tool_prometheus.specs.Lines.{IsBad}
 use Rattle.tool_prometheus.specs.Names.{ruled_name, name_by}
+use Rattle.tool_prometheus.specs.Timing.{Starts}
 use Rattle.tool_prometheus.specs.Exposed.{AnswersLine, IsEnd}
 
 -- what answers lines, by surroundings that say what was asked of them; whatever is noted of the run
@@ -27,6 +30,12 @@ answers_since skips p line text q = (asked : Asked) × AnswersLine skips p.0.0 l
 -- a bad line ends a run that doesn't skip it
 abbrev pub Stops : Bool → List ℕ → Type 0
 Stops skips line = (skips ≡ false) × IsBad line
+
+-- why a line asks for nothing: it ends the run, or memory ran out
+abbrev pub IsUntaken : Bool → List ℕ → Unanswered → Type 0
+IsUntaken skips line unanswered.Bad = Stops skips line
+IsUntaken skips line unanswered.Memory = Unit {0}
+IsUntaken skips line unanswered.Lost = ⊥
 
 -- after the last line what is held may be shown; memory or the device may fail then, and what was shown may be cut short
 abbrev pub EndsLines : Served → Served → Asked → List ℕ → Result ℕ RunError → Result ℕ RunError → Type 0
@@ -71,8 +80,9 @@ IsStatus r has_bad has_failed status = status ≡ (if has_failed then 1 else own
 -- written or asked.
 abbrev pub Serves : Options → Type 0 → List ℕ → List ℕ → Asked → ℕ → Type 0
 Serves options at_end read text asked status =
-    ((start end : Served) × (r : Result ℕ RunError) × IsFresh options start
-    × IsPrometheusRun options.skips_bad options.accepts_partial at_end start read text asked r end × IsStatus r end.has_bad end.has_failed status)
+    ((start end : Served) × (first later : Asked) × (r : Result ℕ RunError) × IsFresh options start × Starts options.every first start.timer
+    × IsPrometheusRun options.skips_bad options.accepts_partial at_end start read text later r end × IsStatus r end.has_bad end.has_failed status
+    × (asked ≡ then_asked first later))
     ⊎ ((read ≡ []) × (text ≡ []) × (asked ≡ nothing_asked) × (status ≡ 1))
 
 -- the lines were answered, and the status reports how that ended

@@ -2,11 +2,12 @@
 ghost use Rattle.std.specs.Prelude.{◌≡◌, ◌++◌, ℕ, [], List, OnOk};
 ghost use Rattle.std.specs.Prelude.{string_bytes, is_ok, true, if◌then◌else◌};
 ghost use Rattle.tool_prometheus.specs.Asked.{Asked, Asks, nothing_asked};
-ghost use Rattle.tool_prometheus.specs.Exposed.{Answers, IsExposed, HasMoment, IsEnd, HandsOut, HandsOutShown};
+ghost use Rattle.tool_prometheus.specs.Exposed.{Answers, AnswersInTime, IsExposed, HasMoment, IsEnd, HandsOut, HandsOutShown};
 ghost use Rattle.tool_prometheus.specs.Exposed.{refusal_text, scrape_text, shown_text, shows_at_end as shows_then};
 
 use crate::requests::Request;
 use crate::surroundings::Surroundings;
+use crate::timing::Timer;
 use crate::watching::{Call, Watch};
 use metrics::{Error, Items, Key, Label, MetricKind, Unit, Update};
 use metrics_exporter::Exporter;
@@ -30,6 +31,8 @@ pub struct Served {
     pub has_file: bool,
     /// The end of the input shows nothing.
     pub at_scrapes_only: bool,
+    /// Scrapes by the clock, if there are such.
+    pub timer: Option<Timer>,
     /// Something changed since the last scrape that succeeded.
     pub is_changed: bool,
     /// A bad line was skipped.
@@ -212,6 +215,45 @@ pub fn answer_request<S: Surroundings>(
         Request::Scrape(moment) => answer_scrape(alloc, on, around, watch, *moment, text),
         Request::Nothing => Ok(()),
     }
+}
+
+/// The first failure of two calls, if there is one.
+fn both(first: Result<(), AllocError>, second: Result<(), AllocError>) -> Result<(), AllocError>
+    ensures { result ≡ (if is_ok first then second else first) }
+{
+    match first {
+        Ok(()) => second,
+        Err(e) => Err(e),
+    }
+}
+
+/// Answers a line's request, and after it a scrape, if the timer wants one. Fails as `answer_request`.
+pub(crate) fn answer_in_time<S: Surroundings>(
+    alloc: Global,
+    on: &mut Served,
+    around: &mut S,
+    watch: &mut Watch,
+    request: Request,
+    text: &mut String,
+) -> Result<(), AllocError>
+    ensures { (more : Asked) × (whole : List ℕ) × AnswersInTime on.old request more whole on.new
+        × Asks (S.asked around.old) (S.asked around.new) more
+        × OnOk result (string_bytes text.new ≡ string_bytes text.old ++ whole) }
+{
+    let Some(timer) = on.timer else {
+        return answer_request(alloc, on, around, watch, &request, text);
+    };
+    let now = around.seconds();
+    on.timer = Some(timer.restarted(now, &request));
+    let is_due = timer.is_due(now, &request);
+    let request = request.at_moment(now);
+    let answered = answer_request(alloc, on, around, watch, &request, text);
+    if is_due {
+        let next = Request::Scrape(Some(now));
+        let scraped = answer_request(alloc, on, around, watch, &next, text);
+        return both(answered, scraped);
+    }
+    answered
 }
 
 /// Whether the end of the input shows what is held.

@@ -13,6 +13,7 @@ use crate::answering::Served;
 use crate::making::{PrefixBounds, parts_for};
 use crate::serving::prometheus;
 use crate::surroundings::Surroundings;
+use crate::timing::started;
 use crate::watching::Watch;
 use metrics::{Items, Label, Text};
 use metrics_exporter::Exporter;
@@ -44,6 +45,8 @@ pub struct Options {
     pub has_file: bool,
     /// The end of the input shows nothing.
     pub at_scrapes_only: bool,
+    /// A scrape follows a line that comes so many seconds after the last scrape.
+    pub every: Option<u64>,
     /// A last line without a line feed counts too.
     pub accepts_partial: bool,
 }
@@ -117,9 +120,12 @@ fn serve_new<S: Surroundings, I: BufRead, O: Write>(
         skips_bad,
         has_file,
         at_scrapes_only,
+        every,
         accepts_partial,
         ..
     } = options;
+    let mut around = around;
+    let timer = started(&mut around, every);
     let served = Served {
         exporter,
         naming,
@@ -127,6 +133,7 @@ fn serve_new<S: Surroundings, I: BufRead, O: Write>(
         rules,
         has_file,
         at_scrapes_only,
+        timer,
         is_changed: false,
         has_bad: false,
         has_failed: false,

@@ -12,6 +12,7 @@ mod requests;
 mod serving;
 mod spelled;
 mod surroundings;
+mod timing;
 mod watching;
 mod words;
 
@@ -25,5 +26,6 @@ pub use metrics_prometheus::{BadLabel, Naming, bad_label};
 pub use requests::{Request, request_of};
 pub use serving::{PrometheusLines, prometheus};
 pub use surroundings::Surroundings;
+pub use timing::Timer;
 pub use tool_grammar::RunError;
 pub use watching::Watch;

@@ -1,12 +1,14 @@
 //! The loop over the lines of an exporter.
-ghost use Rattle.std.specs.Prelude.{◌≡◌, ℕ, List, OnSome, Ok as Answered};
+ghost use Rattle.std.specs.Prelude.{◌≡◌, ℕ, List, OnSome, MatchResult, Ok as Answered};
 ghost use Rattle.std.specs.Io.KnownBytes.{Consumes, Appends, IsAtEnd};
 ghost use Rattle.tool_prometheus.specs.Asked.{Asked, Asks, nothing_asked};
-ghost use Rattle.tool_prometheus.specs.Serving.{answers as answers_of, Stops, EndsLines, IsPrometheusRun, or_left};
+ghost use Rattle.tool_prometheus.specs.Exposed.{Takes};
+ghost use Rattle.tool_prometheus.specs.Serving.{answers as answers_of, Stops, IsUntaken, EndsLines, IsPrometheusRun, or_left};
 
-use crate::answering::{Served, answer_end, answer_request};
+use crate::answering::{Served, answer_end, answer_in_time};
 use crate::flaws::Unread;
 use crate::names::named_request_of;
+use crate::requests::Request;
 use crate::surroundings::Surroundings;
 use crate::watching::Watch;
 use std::alloc::Global;
@@ -14,6 +16,44 @@ use std::io::{BufRead, Write};
 use std::marker::PhantomData;
 use tool_export::{LineMachine, Unanswered, flush, run_lines_leaving, write_text};
 use tool_grammar::RunError;
+
+/// Returns what a line asks for, and reports what the text spells otherwise. A bad line is skipped, and asks for nothing; or it
+/// is an error.
+fn take_line<const SKIPS: bool, S: Surroundings>(
+    alloc: Global,
+    on: &mut (Served, S),
+    watch: &mut Watch,
+    line: &[u8],
+) -> Result<Request, Unanswered>
+    ensures taken { MatchResult result (λ request. Takes SKIPS on.old.0 line.now request on.new.0)
+        (λ e. IsUntaken SKIPS line.now e × (on.new ≡ on.old)) }
+    ensures asked { Asks (S.asked on.old.1) (S.asked on.new.1) nothing_asked }
+{
+    watch.count();
+    match named_request_of(
+        alloc,
+        on.0.labels.as_slice(),
+        &on.0.rules,
+        &mut watch.scratch,
+        line,
+    ) {
+        Ok(request) => {
+            watch.tell_spelled(&mut on.1, &request);
+            Ok(request)
+        }
+        Err(Unread::Memory) => Err(Unanswered::Memory),
+        Err(Unread::Bad(cause, word)) => {
+            if SKIPS {
+                watch.pass_over(&mut on.1, line, cause, word);
+                on.0.has_bad = true;
+                Ok(Request::Nothing)
+            } else {
+                watch.note(line, cause, word);
+                Err(Unanswered::Bad)
+            }
+        }
+    }
+}
 
 /// Answers the lines of an exporter, in its surroundings. With `SKIPS` bad lines are skipped.
 pub struct PrometheusLines<const SKIPS: bool, S> {
@@ -37,32 +77,14 @@ impl<const SKIPS: bool, S: Surroundings> LineMachine for PrometheusLines<SKIPS, 
         line: &[u8],
         text: &mut String,
     ) -> Result<(), Unanswered> {
-        watch.count();
-        match named_request_of(
-            alloc,
-            on.0.labels.as_slice(),
-            &on.0.rules,
-            &mut watch.scratch,
-            line,
-        ) {
+        match take_line::<SKIPS, S>(alloc, on, watch, line) {
             Ok(request) => {
-                watch.tell_spelled(&mut on.1, &request);
-                match answer_request(alloc, &mut on.0, &mut on.1, watch, &request, text) {
+                match answer_in_time(alloc, &mut on.0, &mut on.1, watch, request, text) {
                     Ok(()) => Ok(()),
                     Err(_) => Err(Unanswered::Lost),
                 }
             }
-            Err(Unread::Memory) => Err(Unanswered::Memory),
-            Err(Unread::Bad(cause, word)) => {
-                if SKIPS {
-                    watch.pass_over(&mut on.1, line, cause, word);
-                    on.0.has_bad = true;
-                    Ok(())
-                } else {
-                    watch.note(line, cause, word);
-                    Err(Unanswered::Bad)
-                }
-            }
+            Err(e) => Err(e),
         }
     }
 }

@@ -1,12 +1,11 @@
 use Rattle.std.proofs.Common.{◌∙◌, sym}
-use Rattle.tool_prometheus.specs.Output.{begun, lines_in, loses_line, with_shards}
-use Rattle.tool_prometheus.proofs.OutputLemmas.{lines-same, no-moments}
+use Rattle.tool_prometheus.specs.Output.{with_shards}
+use Rattle.tool_prometheus.proofs.OutputLemmas.{output-same, output-silent}
 use Rattle.tool_prometheus.proofs.RunLemmas.{run-output}
 use Rattle.tool_prometheus.proofs.laws.output_law.Goals as goal
 
 pub returns-clause-one : goal.returns-clause-one
-returns-clause-one c = λ options bytes a b p q s t h g e.
-    lines-same c.exposition_law.ensures.one c.exporter_law.ensures.expiry options (begun (loses_line options.accepts_partial bytes)) (lines_in options.accepts_partial bytes) p q a b s t h g e
+returns-clause-one c = λ options bytes a b p q s t h g e. output-same c.exposition_law.ensures.one c.exporter_law.ensures.expiry options bytes p q a b s t h g e
 
 pub returns-clause-written : goal.returns-clause-written
 returns-clause-written c = λ options bytes text asked status runs ok. run-output options bytes text asked status runs ok
@@ -15,7 +14,5 @@ pub returns-clause-same : goal.returns-clause-same
 returns-clause-same c = λ options shards bytes a b p q s t own runs ran ok all.
     let h = run-output options bytes a p s runs ok in
     let g = run-output (with_shards shards options) bytes b q t ran all in
-    let none = no-moments options (begun (loses_line options.accepts_partial bytes)) (lines_in options.accepts_partial bytes) p a s own h in
-    let nor = no-moments options (begun (loses_line options.accepts_partial bytes)) (lines_in options.accepts_partial bytes) q b t own g in
-    lines-same c.exposition_law.ensures.one c.exporter_law.ensures.expiry options (begun (loses_line options.accepts_partial bytes)) (lines_in options.accepts_partial bytes) p q a b s t h g
-    (none ∙ sym nor)
+    output-same c.exposition_law.ensures.one c.exporter_law.ensures.expiry options bytes p q a b s t h g
+    (output-silent options bytes p a s own h ∙ sym (output-silent options bytes q b t own g))
