@@ -1,6 +1,6 @@
 //! Blocks and buckets with one owner, for values of three types.
 
-use crate::values::{Ending, Numbered, firsts, text};
+use crate::values::{Ending, Numbered, check, firsts, text};
 use metrics::{Error, HistogramCell};
 use metrics_storage::{Block, OwnedBucket};
 use std::alloc::Global;
@@ -14,11 +14,11 @@ fn fill_block<R: Abort, T: Numbered, F: Fn(i64) -> T>(rt: &R, alloc: Global, mak
 {
     let mut block = Block::<T>::new(alloc).expect(rt, "out of memory");
     for number in 0..64i64 {
-        assert!(rt; block.push(make(number)).is_ok());
+        check(rt, block.push(make(number)).is_ok());
     }
     let back = block.push(make(42)).err().expect(rt, "not full");
-    assert!(rt; back.number() == 42);
-    assert!(rt; (block.len(), firsts(1, block.data())) == (64, 1000));
+    check(rt, back.number() == 42);
+    check(rt, (block.len(), firsts(1, block.data())) == (64, 1000));
 }
 
 #[test]
@@ -28,17 +28,18 @@ fn a_block_of_64(rt: HostRuntime) {
     fill_block(&rt, alloc, &|number: i64| text(&rt, alloc, number));
     let ends = &Cell::new(0u64);
     fill_block(&rt, alloc, &|number: i64| Ending { number, ends });
-    assert!(rt; ends.get() == 65);
+    check(&rt, ends.get() == 65);
 }
 
 #[test]
 fn a_block_takes_values_without_size(rt: HostRuntime) {
     let mut block = Block::<()>::new(rt.alloc()).expect(&rt, "out of memory");
     for _value in 0..64 {
-        assert!(rt; block.push(()).is_ok());
+        check(&rt, block.push(()).is_ok());
     }
-    assert!(rt; block.push(()).is_err());
-    assert!(rt; block.data().len() == 64);
+    check(&rt, block.push(()).is_err());
+    check(&rt, block.data().len() == 64);
+    drop(block);
 }
 
 #[test]
@@ -46,12 +47,14 @@ fn samples_are_recorded(rt: HostRuntime) {
     let mut bucket = OwnedBucket::<i64>::new(rt.alloc());
     bucket.record(7).expect(&rt, "out of memory");
     let samples = bucket.data().expect(&rt, "out of memory");
-    assert!(rt; samples.as_slice() == [7].as_slice());
+    check(&rt, samples.as_slice() == [7].as_slice());
+    drop(samples);
+    drop(bucket);
 }
 
 /// Pushes a value that was returned when memory ran out: the bucket needs a block.
 fn push_again<R: Abort, T: Numbered>(rt: &R, on: &mut OwnedBucket<T>, back: T, number: i64) {
-    assert!(rt; back.number() == number && number % 64 == 0);
+    check(rt, back.number() == number && number % 64 == 0);
     assert!(rt; on.push(back).is_ok(), "refused with memory at hand");
 }
 
@@ -76,16 +79,16 @@ fn fill<R: Abort, T: Numbered, F: Fn(i64) -> T>(
 )
     requires { F.IsAlwaysCallable make.now }
 {
-    assert!(rt; on.is_empty());
+    check(rt, on.is_empty());
     for number in 0..130i64 {
         push(rt, trial, on, make(number));
     }
-    assert!(rt; !on.is_empty());
+    check(rt, !on.is_empty());
     trial.begin();
     let mut seen = 0;
     on.data_with(|chunk| seen = firsts(seen, chunk));
     trial.calm();
-    assert!(rt; seen == 128_064_000);
+    check(rt, seen == 128_064_000);
 }
 
 /// Takes the numbers 0 to 129 out, which allocates nothing.
@@ -94,8 +97,8 @@ fn clear<R: Abort, T: Numbered>(rt: &R, trial: &Trial, on: &mut OwnedBucket<T>) 
     let mut seen = 0;
     on.clear_with(|chunk| seen = firsts(seen, chunk));
     trial.calm();
-    assert!(rt; seen == 128_064_000);
-    assert!(rt; on.is_empty());
+    check(rt, seen == 128_064_000);
+    check(rt, on.is_empty());
 }
 
 /// Whether these are the numbers 128 and 129, 64 to 127, and 0 to 63.
@@ -109,7 +112,8 @@ fn are_newest_first<T: Numbered>(values: &[T]) -> bool {
 /// Reads them, where the first try may run out of memory.
 fn read<R: Abort, T: Numbered + Clone>(rt: &R, trial: &mut Trial, on: &OwnedBucket<T>) {
     let values = made(trial, &|| on.data()).expect(rt, "refused");
-    assert!(rt; are_newest_first(values.as_slice()));
+    check(rt, are_newest_first(values.as_slice()));
+    drop(values);
 }
 
 /// A closure that the caller keeps is shown the numbers 128 and 129, 64 to 127, and 0 to 63.
@@ -122,7 +126,8 @@ fn a_kept_closure_is_shown_each_block(rt: HostRuntime) {
     let mut seen = 0;
     let mut note = |chunk: &[i64]| seen = firsts(seen, chunk);
     bucket.data_to(&mut note);
-    assert!(rt; seen == 128_064_000);
+    check(&rt, seen == 128_064_000);
+    drop(bucket);
 }
 
 #[test]
@@ -132,6 +137,7 @@ fn numbers_come_newest_block_first(rt: HostRuntime) {
     fill(&rt, &mut trial, &mut bucket, &|number: i64| number);
     read(&rt, &mut trial, &bucket);
     clear(&rt, &trial, &mut bucket);
+    drop(bucket);
 }
 
 #[test]
@@ -147,6 +153,7 @@ fn texts_come_newest_block_first(rt: HostRuntime) {
     );
     read(&rt, &mut trial, &bucket);
     clear(&rt, &trial, &mut bucket);
+    drop(bucket);
 }
 
 /// Also if a value was returned first.
@@ -161,9 +168,9 @@ fn each_value_ends_once(rt: HostRuntime) {
         &mut bucket,
         &|number: i64| Ending { number, ends },
     );
-    assert!(rt; ends.get() == 0);
+    check(&rt, ends.get() == 0);
     clear(&rt, &trial, &mut bucket);
-    assert!(rt; ends.get() == 130);
+    check(&rt, ends.get() == 130);
     fill(
         &rt,
         &mut trial,
@@ -171,9 +178,9 @@ fn each_value_ends_once(rt: HostRuntime) {
         &|number: i64| Ending { number, ends },
     );
     bucket.clear();
-    assert!(rt; ends.get() == 260);
+    check(&rt, ends.get() == 260);
     drop(bucket);
-    assert!(rt; ends.get() == 260);
+    check(&rt, ends.get() == 260);
 }
 
 #[test]
@@ -188,5 +195,5 @@ fn the_end_of_a_bucket_ends_its_values(rt: HostRuntime) {
         &|number: i64| Ending { number, ends },
     );
     drop(bucket);
-    assert!(rt; ends.get() == 130);
+    check(&rt, ends.get() == 130);
 }

@@ -1,5 +1,6 @@
 //! Cells by their places.
 
+use crate::values::check;
 use metrics::Key;
 use metrics_registry::Cells;
 
@@ -17,12 +18,20 @@ fn a_cell_is_changed_at_its_place(rt: HostRuntime) {
         let key = Key::from_name(rt.alloc(), name).expect(&rt, "out of memory");
         let added = cells.change_or_create(&key, value, |_: &mut i64| {});
         added.expect(&rt, "out of memory");
+        drop(key);
     }
     let doubled = cells.change_at(1, |cell: &mut i64| {
         *cell = 16;
         true
     });
-    assert!(rt; (doubled, cells_of(&cells)) == (Some(true), [Some(7), Some(16), Some(9)]));
+    check(
+        &rt,
+        (doubled, cells_of(&cells)) == (Some(true), [Some(7), Some(16), Some(9)]),
+    );
     let changed = cells.change_at(3, |cell: &mut i64| *cell = 0);
-    assert!(rt; (changed, cells_of(&cells)) == (None, [Some(7), Some(16), Some(9)]));
+    check(
+        &rt,
+        (changed, cells_of(&cells)) == (None, [Some(7), Some(16), Some(9)]),
+    );
+    drop(cells);
 }

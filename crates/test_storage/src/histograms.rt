@@ -1,5 +1,6 @@
 //! Histograms over fixed bounds.
 
+use crate::values::check;
 use metrics::Error;
 use metrics_storage::Histogram;
 use std::alloc::Global;
@@ -46,16 +47,20 @@ fn shown(before: i64, (bound, count): (i64, u64)) -> i64 {
 
 /// Checks that a histogram reports these samples, and shows them too.
 fn expect_refusal(rt: &impl Abort, histogram: &Histogram, samples: &Samples) {
-    assert!(rt; (histogram.count(), histogram.sum()) == (samples.count, samples.sum));
+    check(
+        rt,
+        (histogram.count(), histogram.sum()) == (samples.count, samples.sum),
+    );
     let buckets = histogram.buckets().expect(rt, "out of memory");
-    assert!(rt; buckets.as_slice() == samples.buckets);
+    check(rt, buckets.as_slice() == samples.buckets);
     let mut found = 0;
     histogram.visit_buckets(|bound, count| found = shown(found, (bound, count)));
     let mut wanted = 0;
     for bucket in samples.buckets {
         wanted = shown(wanted, *bucket);
     }
-    assert!(rt; found == wanted);
+    check(rt, found == wanted);
+    drop(buckets);
 }
 
 /// Records, which allocates nothing, and copies.
@@ -71,6 +76,8 @@ fn expect_samples(rt: &impl Abort, alloc: Global, samples: &Samples) {
     expect_refusal(rt, &histogram, samples);
     let copy = histogram.clone().expect(rt, "out of memory");
     expect_refusal(rt, &copy, samples);
+    drop(copy);
+    drop(histogram);
 }
 
 #[test]
@@ -83,7 +90,8 @@ fn samples_are_counted_up_to_each_bound(rt: HostRuntime) {
 #[test]
 fn no_bounds_make_no_histogram(rt: HostRuntime) {
     let made = Histogram::new(rt.alloc(), &[]).expect(&rt, "refused");
-    assert!(rt; made.is_none());
+    check(&rt, made.is_none());
+    drop(made);
 }
 
 /// A histogram of these samples.
@@ -96,7 +104,7 @@ fn histogram_of(rt: &impl Abort, alloc: Global, bounds: &[i64], samples: &[i64])
 
 /// Adds the samples of a histogram of the same bounds.
 fn merge(rt: &impl Abort, all: &mut Histogram, more: &Histogram) {
-    assert!(rt; all.same_bounds(more));
+    check(rt, all.same_bounds(more));
     if all.same_bounds(more) {
         all.merge(more).expect(rt, "count full");
     }
@@ -107,6 +115,7 @@ fn double_and_add(rt: &impl Abort, all: &mut Histogram, one: &Histogram) {
     let copy = all.clone().expect(rt, "out of memory");
     merge(rt, all, &copy);
     merge(rt, all, one);
+    drop(copy);
 }
 
 #[test]
@@ -116,11 +125,17 @@ fn the_greatest_count_refuses_a_sample(rt: HostRuntime) {
     for _ in 0..63 {
         double_and_add(&rt, &mut full, &one);
     }
-    assert!(rt; full.record(3) == Err(Error::CountFull));
-    assert!(rt; full.record_many(&[3]) == Err(Error::CountFull));
-    assert!(rt; (full.count(), full.sum()) == (u64::MAX, 55_340_232_221_128_654_845));
+    check(&rt, full.record(3) == Err(Error::CountFull));
+    check(&rt, full.record_many(&[3]) == Err(Error::CountFull));
+    check(
+        &rt,
+        (full.count(), full.sum()) == (u64::MAX, 55_340_232_221_128_654_845),
+    );
     let buckets = full.buckets().expect(&rt, "out of memory");
-    assert!(rt; buckets.as_slice() == [(10, u64::MAX)].as_slice());
+    check(&rt, buckets.as_slice() == [(10, u64::MAX)].as_slice());
+    drop(buckets);
+    drop(full);
+    drop(one);
 }
 
 #[test]
@@ -128,11 +143,14 @@ fn merging_adds_the_samples(rt: HostRuntime) {
     let mut all = histogram_of(&rt, rt.alloc(), &[10, -5, 10], &[-7, 8]);
     let more = histogram_of(&rt, rt.alloc(), &[10, -5, 10], &[4, 12]);
     let other = histogram_of(&rt, rt.alloc(), &[-5, 10], &[]);
-    assert!(rt; !all.same_bounds(&other));
-    assert!(rt; all.bounds() == [10, -5, 10].as_slice());
+    check(&rt, !all.same_bounds(&other));
+    check(&rt, all.bounds() == [10, -5, 10].as_slice());
     merge(&rt, &mut all, &more);
-    assert!(rt; (all.count(), all.sum()) == (4, 17));
+    check(&rt, (all.count(), all.sum()) == (4, 17));
     let mut found = 0;
     all.visit_ascending(|bound, count| found = shown(found, (bound, count)));
-    assert!(rt; found == -4_988_997);
+    check(&rt, found == -4_988_997);
+    drop(other);
+    drop(more);
+    drop(all);
 }

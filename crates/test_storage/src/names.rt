@@ -1,5 +1,6 @@
 //! Quantiles and their labels, and composite keys.
 
+use crate::values::check;
 use metrics::{CompositeKey, Key, MetricKind};
 use metrics_registry::{Quantile, parse_quantiles};
 use std::cmp::Ordering;
@@ -23,7 +24,8 @@ const LABELS: [(i64, &str); 11] = [
 fn labels_of_quantiles(rt: HostRuntime) {
     for (value, label) in LABELS {
         let quantile = Quantile::new(rt.alloc(), value).expect(&rt, "out of memory");
-        assert!(rt; quantile.label() == label);
+        check(&rt, quantile.label() == label);
+        drop(quantile);
     }
 }
 
@@ -34,9 +36,9 @@ const PARSED: [(&[i64], &[&str]); 2] = [
 ];
 
 fn expect_labels(rt: &impl Abort, quantiles: &[Quantile], labels: &[&str]) {
-    assert!(rt; quantiles.len() == labels.len());
+    check(rt, quantiles.len() == labels.len());
     for (quantile, label) in quantiles.iter().zip(labels) {
-        assert!(rt; quantile.label() == *label);
+        check(rt, quantile.label() == *label);
     }
 }
 
@@ -45,6 +47,7 @@ fn quantiles_are_parsed_in_order(rt: HostRuntime) {
     for (values, labels) in PARSED {
         let quantiles = parse_quantiles(rt.alloc(), values).expect(&rt, "out of memory");
         expect_labels(&rt, quantiles.as_slice(), labels);
+        drop(quantiles);
     }
 }
 
@@ -61,8 +64,9 @@ const RANKED: [(i64, i64); 5] = [
 fn quantiles_of_sorted_values(rt: HostRuntime) {
     for (value, wanted) in RANKED {
         let quantile = Quantile::new(rt.alloc(), value).expect(&rt, "out of memory");
-        assert!(rt; quantile.of_sorted(&[10, 20, 30, 40]) == Some(wanted));
-        assert!(rt; quantile.of_sorted(&[]) == None);
+        check(&rt, quantile.of_sorted(&[10, 20, 30, 40]) == Some(wanted));
+        check(&rt, quantile.of_sorted(&[]) == None);
+        drop(quantile);
     }
 }
 
@@ -71,8 +75,10 @@ fn a_counter_comes_before_a_gauge_of_its_key(rt: HostRuntime) {
     let key = || Key::from_name(rt.alloc(), "a").expect(&rt, "out of memory");
     let counter = CompositeKey::new(MetricKind::Counter, key());
     let gauge = CompositeKey::new(MetricKind::Gauge, key());
-    assert!(rt; counter != gauge);
-    assert!(rt; counter.cmp(&gauge) == Ordering::Less);
+    check(&rt, counter != gauge);
+    check(&rt, counter.cmp(&gauge) == Ordering::Less);
+    drop(gauge);
+    drop(counter);
 }
 
 #[test]
@@ -82,5 +88,6 @@ fn a_composite_key_comes_apart(rt: HostRuntime) {
         key.expect(&rt, "out of memory")
     };
     let (kind, parted) = CompositeKey::new(MetricKind::Gauge, key()).into_parts();
-    assert!(rt; kind == MetricKind::Gauge && parted == key());
+    check(&rt, kind == MetricKind::Gauge && parted == key());
+    drop(parted);
 }

@@ -1,5 +1,6 @@
 //! How texts, lists, calls, answers and errors print.
 
+use crate::values::check;
 use metrics::{Answer, Call, Items, Refused, Text, Update};
 use std::alloc::{AllocError, Global};
 use std::fmt::{Debug, Display};
@@ -9,12 +10,14 @@ const MEMORY: &str = "out of memory";
 
 fn expect_debugged<T: Debug>(rt: &impl Abort, alloc: Global, value: &T, wanted: &str) {
     let printed = format!(in alloc; "{value:?}").expect(rt, MEMORY);
-    assert!(rt; printed.as_str() == wanted);
+    check(rt, printed.as_str() == wanted);
+    drop(printed);
 }
 
 fn expect_printed<T: Display>(rt: &impl Abort, alloc: Global, value: &T, wanted: &str) {
     let printed = format!(in alloc; "{value}").expect(rt, MEMORY);
-    assert!(rt; printed.as_str() == wanted);
+    check(rt, printed.as_str() == wanted);
+    drop(printed);
 }
 
 #[test]
@@ -23,7 +26,9 @@ fn texts_print_and_give_their_strings_back(rt: HostRuntime) {
     let text = Text::from(String::from_str(alloc, "é").expect(&rt, MEMORY));
     expect_printed(&rt, alloc, &text, "é");
     expect_debugged(&rt, alloc, &text, "\"é\"");
-    assert!(rt; text.into_string().as_str() == "é");
+    let text = text.into_string();
+    check(&rt, text.as_str() == "é");
+    drop(text);
 }
 
 #[test]
@@ -31,6 +36,7 @@ fn lists_print(rt: HostRuntime) {
     let alloc = rt.alloc();
     let items = Items::from(Vec::from_array(alloc, [3i64, -1]).expect(&rt, MEMORY));
     expect_debugged(&rt, alloc, &items, "[3, -1]");
+    drop(items);
 }
 
 #[test]
@@ -43,7 +49,10 @@ fn refusals_say_why(rt: HostRuntime) {
     ] {
         expect_printed(&rt, rt.alloc(), &refused, text);
     }
-    assert!(rt; Refused::from(AllocError) == Refused::Memory { acted: 0 });
+    check(
+        &rt,
+        Refused::from(AllocError) == Refused::Memory { acted: 0 },
+    );
 }
 
 #[test]
@@ -53,4 +62,6 @@ fn calls_and_answers_print(rt: HostRuntime) {
     let answer = Answer::Refused(Refused::Memory { acted: 1 });
     let wanted = "Refused(Memory { acted: 1 })";
     expect_debugged(&rt, rt.alloc(), &answer, wanted);
+    drop(answer);
+    drop(call);
 }

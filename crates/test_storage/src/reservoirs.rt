@@ -1,5 +1,6 @@
 //! Reservoirs with one owner, which allocate when they are made and not later.
 
+use crate::values::check;
 use metrics_storage::reservoir::{Drain, Reservoir};
 use metrics_storage::reservoir_law;
 use std::alloc::Global;
@@ -40,12 +41,12 @@ fn reservoir_of(rt: &impl Abort, alloc: Global, row: &Row) -> Reservoir {
 
 fn expect_drain(rt: &impl Abort, mut drain: Drain<'_>, drained: Drained, items: &[i64]) {
     let (count, sum) = (drain.unsampled_len(), drain.unsampled_sum());
-    assert!(rt; (count, sum, drain.sample_rate()) == drained);
-    assert!(rt; drain.len() == items.len());
+    check(rt, (count, sum, drain.sample_rate()) == drained);
+    check(rt, drain.len() == items.len());
     for item in items {
-        assert!(rt; drain.next() == Some(*item));
+        check(rt, drain.next() == Some(*item));
     }
-    assert!(rt; drain.next() == None);
+    check(rt, drain.next() == None);
 }
 
 #[test]
@@ -54,8 +55,9 @@ fn reservoirs_tell_what_was_pushed(rt: HostRuntime) {
         let mut reservoir = reservoir_of(&rt, rt.alloc(), row);
         expect_drain(&rt, reservoir.drain(), row.2, row.3);
         reservoir.reset();
-        assert!(rt; reservoir.is_empty());
+        check(&rt, reservoir.is_empty());
         expect_drain(&rt, reservoir.drain(), NOTHING, &[]);
+        drop(reservoir);
     }
     reservoir_law();
 }
@@ -67,10 +69,11 @@ fn a_consume_empties(rt: HostRuntime) {
         let mut reservoir = reservoir_of(&rt, rt.alloc(), row);
         let mut first = None;
         reservoir.consume(|mut drain| first = drain.next());
-        assert!(rt; first == row.3.first().copied());
+        check(&rt, first == row.3.first().copied());
         expect_drain(&rt, reservoir.drain(), NOTHING, &[]);
         let mut reservoir = reservoir_of(&rt, rt.alloc(), row);
         reservoir.consume(|drain| mem::forget(drain));
         expect_drain(&rt, reservoir.drain(), NOTHING, &[]);
+        drop(reservoir);
     }
 }

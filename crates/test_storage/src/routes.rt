@@ -1,5 +1,6 @@
 //! The trie of routes, whose answers stay when memory runs out.
 
+use crate::values::check;
 use metrics::Error;
 use prefix_match::PrefixTrie;
 use std::process::Abort;
@@ -37,7 +38,7 @@ fn plain_old(entries: &[Entry], text: &str) -> Option<usize> {
 fn expect_longest(rt: &impl Abort, trie: &PrefixTrie, entries: &[Entry]) {
     for text in ["abcx", "abd", "x", "", "éa", "è", "ê"] {
         let found = trie.longest(text.as_bytes());
-        assert!(rt; found == plain_longest(entries, text));
+        check(rt, found == plain_longest(entries, text));
     }
 }
 
@@ -62,7 +63,7 @@ fn insert(
             second.expect(rt, "refused with memory at hand")
         }
     };
-    assert!(rt; old == plain_old(before, pattern));
+    check(rt, old == plain_old(before, pattern));
 }
 
 #[test]
@@ -75,6 +76,7 @@ fn the_longest_pattern_is_found(rt: HostRuntime) {
         let (held, _) = ENTRIES.split_at((at.saturating_add(1)).min(ENTRIES.len()));
         expect_longest(&rt, &trie, held);
     }
+    drop(trie);
 }
 
 /// Reserves a pattern, where the first try may run out of memory and leaves every answer.
@@ -82,7 +84,10 @@ fn reserve(rt: &impl Abort, trial: &mut Trial, trie: &mut PrefixTrie) {
     trial.begin();
     let first = trie.reserve(b"abd");
     trial.calm();
-    assert!(rt; (trie.longest(b"abcd"), trie.longest(b"abdx")) == (Some(1), None));
+    check(
+        rt,
+        (trie.longest(b"abcd"), trie.longest(b"abdx")) == (Some(1), None),
+    );
     if first.is_err() {
         trial.note(Error::Memory).expect(rt, "refused");
         trie.reserve(b"abd")
@@ -96,11 +101,21 @@ fn a_reserved_route_is_not_refused(rt: HostRuntime) {
     let mut trial = Trial::new(rt.alloc());
     let mut trie = PrefixTrie::new(rt.alloc());
     let inserted = trie.insert(b"abc", 1);
-    assert!(rt; inserted.expect(&rt, "refused with memory at hand") == None);
+    check(
+        &rt,
+        inserted.expect(&rt, "refused with memory at hand") == None,
+    );
     reserve(&rt, &mut trial, &mut trie);
     trial.begin();
     let inserted = trie.insert(b"abd", 2);
     trial.calm();
-    assert!(rt; inserted.expect(&rt, "a reserved route is refused") == None);
-    assert!(rt; (trie.longest(b"abcd"), trie.longest(b"abdx")) == (Some(1), Some(2)));
+    check(
+        &rt,
+        inserted.expect(&rt, "a reserved route is refused") == None,
+    );
+    check(
+        &rt,
+        (trie.longest(b"abcd"), trie.longest(b"abdx")) == (Some(1), Some(2)),
+    );
+    drop(trie);
 }

@@ -1,5 +1,6 @@
 //! Both forms of the automaton, with expected answers and counts from outside.
 
+use crate::values::check;
 use prefix_match::{MatchError, SubstringSet};
 use std::alloc::Global;
 use std::process::Abort;
@@ -30,8 +31,9 @@ const ROWS: [Row; 7] = [
 fn expect_moves(rt: &impl Abort, alloc: Global, row: &Row, is_table: bool, moves: (bool, u64)) {
     let made = SubstringSet::new(alloc, row.0, row.1, is_table);
     let set = made.expect(rt, "out of memory");
-    assert!(rt; set.is_match_counted(row.2.as_bytes()) == moves);
-    assert!(rt; set.is_match(row.2.as_bytes()) == moves.0);
+    check(rt, set.is_match_counted(row.2.as_bytes()) == moves);
+    check(rt, set.is_match(row.2.as_bytes()) == moves.0);
+    drop(set);
 }
 
 #[test]
@@ -57,8 +59,13 @@ fn the_limit_is_accepted(rt: HostRuntime) {
     let patterns = [half.as_str(), half.as_str()];
     let made = SubstringSet::new(rt.alloc(), &patterns, true, false);
     let set = made.expect(&rt, "out of memory");
-    assert!(&rt; set.is_match_counted(half.as_bytes()) == (true, 524_288));
-    assert!(&rt; set.is_match(b"aaaab") == false);
+    check(
+        &rt,
+        set.is_match_counted(half.as_bytes()) == (true, 524_288),
+    );
+    check(&rt, set.is_match(b"aaaab") == false);
+    drop(set);
+    drop(half);
 }
 
 #[test]
@@ -67,6 +74,7 @@ fn one_byte_past_the_limit_is_refused(rt: HostRuntime) {
     let patterns = [half.as_str(), "b", half.as_str()];
     for is_table in [false, true] {
         let made = SubstringSet::new(rt.alloc(), &patterns, true, is_table);
-        assert!(&rt; made.err() == Some(MatchError::PatternsTooLong));
+        check(&rt, made.err() == Some(MatchError::PatternsTooLong));
     }
+    drop(half);
 }

@@ -4,6 +4,11 @@ use std::alloc::Global;
 use std::cell::Cell;
 use std::process::Abort;
 
+/// Checks that a fact holds.
+pub fn check<R: Abort>(rt: &R, holds: bool) {
+    assert!(rt; holds);
+}
+
 /// A value that has a number.
 pub trait Numbered: Drop {
     fn number(&self) -> i64;
