@@ -47,7 +47,11 @@ fn answer<I: BufRead, O: Write>(
     ensures known { RunsKnown (I.remaining input.old) (O.contents output.old) (O.contents output.new) result }
 {
     match tree(alloc, input) {
-        Ok((mut books, first)) => run(alloc, &mut books, input, output, first),
+        Ok((mut books, first)) => {
+            let answered = run(alloc, &mut books, input, output, first);
+            drop(books);
+            answered
+        }
         Err(e) => flush(output, Err(e)),
     }
 }

@@ -65,20 +65,28 @@ impl<R: Recorder> LineMachine for CallLines<R> {
         match &call {
             Call::Register(kind, _) => {
                 if notes.reserve().is_err() {
+                    drop(call);
                     return Err(Unanswered::Memory);
                 }
                 let answer = answer_of(alloc, on, &call, None);
                 let said = say(notes.len(), &call, &answer, text);
                 notes.push(*kind, answer);
+                drop(call);
                 said
             }
             Call::Update(number, _) => {
                 let answer = answer_of(alloc, on, &call, notes.entry(*number));
-                say(notes.len(), &call, &answer, text)
+                let said = say(notes.len(), &call, &answer, text);
+                drop(answer);
+                drop(call);
+                said
             }
             _ => {
                 let answer = answer_of(alloc, on, &call, None);
-                say(notes.len(), &call, &answer, text)
+                let said = say(notes.len(), &call, &answer, text);
+                drop(answer);
+                drop(call);
+                said
             }
         }
     }

@@ -6,12 +6,12 @@ use Rattle.tool_lines.proofs.commands.answer.Goals as goal
 pub returns-in-Ok-clause-prints : goal.returns-in-Ok-clause-prints
 returns-in-Ok-clause-prints g c =
     let (read, took, (t, allowed, mean, are, number)) = c.in-Ok.ensures in
-    prints_more _ _ _ _ _ _ c.in-Ok.first c.run.result t allowed mean (means_new _ t mean) c.run.ensures.general
+    prints_more _ _ _ _ _ _ c.in-Ok.first c.run-answered.result t allowed mean (means_new _ t mean) c.run-answered.ensures.general
 
 pub returns-in-Ok-clause-known : goal.returns-in-Ok-clause-known
 returns-in-Ok-clause-known g c =
     let (read, took, built) = c.in-Ok.ensures in
-    runs_over _ _ _ _ _ _ _ c.in-Ok.first c.run.result read took built c.run.ensures.general
+    runs_over _ _ _ _ _ _ _ c.in-Ok.first c.run-answered.result read took built c.run-answered.ensures.general
 
 pub returns-in-Err-clause-prints : goal.returns-in-Err-clause-prints
 returns-in-Err-clause-prints g c = begins_kept _ _ c.flush.result c.flush.ensures.bytes
