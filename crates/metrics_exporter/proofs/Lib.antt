@@ -1,3 +1,4 @@
+pub mod PresenceLemmas
 pub mod GatheringLemmas
 pub mod WalkLemmas
 pub mod SortedLemmas

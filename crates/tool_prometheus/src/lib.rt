@@ -6,6 +6,7 @@ mod commands;
 mod flaws;
 mod labels;
 mod laws;
+mod limit;
 mod making;
 mod names;
 mod requests;
