@@ -313,7 +313,6 @@ class Prometheus(Export):
     end of the input is a scrape without an expiry, unless nothing changed since the last one."""
 
     refusal = b"# refused E1 memory"
-    limit = b"# refused too many series"
     taken = []
 
     def __init__(self, words):
@@ -325,7 +324,6 @@ class Prometheus(Export):
         self.labels = model.common_labels(options)
         self.names = model.names_of(options)
         self.at_scrapes_only = options.at_scrapes_only
-        self.max_series = options.max_series
 
     def copied(self):
         other = super().copied()
@@ -337,9 +335,6 @@ class Prometheus(Export):
         match model.asked(line.decode(errors="surrogateescape"), self):
             case ("scrape", moment):
                 yield from self.after_scrape(moment or 0, said, is_refused)
-            case ("update", word, _, name, labels) if self.is_beyond(word, name, labels):
-                if said[:1] == [self.limit]:
-                    yield self, 1, False
             case ("update", word, amount, name, labels):
                 if is_refused and (model.KIND_OF[word], name, labels) not in self.held:
                     yield self.copied(), 1, True
@@ -507,9 +502,7 @@ def judge(program, words, given, bad, code, how, status, out, errors):
         lines = model.without_partial(pieces, model.options_of(words))
         partial = len(pieces) - len(lines) if pieces[-1] else 0
         errors, refused = without_refusals(status, errors)
-        shown = said.count(Prometheus.refusal) + said.count(Prometheus.limit)
-        if REFUSED.search(bad):  # also with memory available there are too many series
-            bad, code = REFUSED.sub(b"", bad), 0
+        shown = said.count(Prometheus.refusal)
         told, bad = without_text(errors, bad), LEFT_OUT.sub(b"", bad)
         if code == 3:
             told, bad = without_passed_over(told, bad), b""

@@ -57,11 +57,6 @@ class Exporter:
         self.is_recommended = False
         self.labels = {}
         self.names = ("", [])
-        self.max_series = None
-
-    def is_beyond(self, word, name, labels):
-        """Whether an update would make one series too many."""
-        return self.max_series is not None and len(self.held) >= self.max_series and (KIND_OF[word], name, labels) not in self.held
 
     def bounds_for(self, name):
         """Returns the bounds of the longest prefix of a name, otherwise the default ones."""
@@ -418,7 +413,6 @@ def options_of(words):
     parser.add_argument("--drop", action="append", default=[])
     parser.add_argument("--textfile")
     parser.add_argument("--every")
-    parser.add_argument("--max-series", type=int)
     parser.add_argument("--at-scrapes-only", action="store_true")
     parser.add_argument("--accept-partial", action="store_true")
     parser.add_argument("--skip-bad", action="store_true")
@@ -448,7 +442,6 @@ def exporter_of(options, made=Exporter):
     exporter.labels = common_labels(options)
     exporter.names = names_of(options)
     exporter.at_scrapes_only = options.at_scrapes_only
-    exporter.max_series = options.max_series
     return exporter
 
 
@@ -467,8 +460,6 @@ def check(lines, output, exporter, skips_bad):
             case None if not skips_bad:  # a bad line ends the run
                 is_changed = False
                 break
-            case ("update", word, _, name, labels) if exporter.is_beyond(word, name, labels):
-                pass
             case ("update", *update):
                 exporter.update(*update)
                 is_changed = True

@@ -1,4 +1,3 @@
-pub mod PresenceLemmas
 pub mod GatheringLemmas
 pub mod WalkLemmas
 pub mod SortedLemmas

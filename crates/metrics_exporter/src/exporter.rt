@@ -1,7 +1,7 @@
 //! An exporter of series as text.
 ghost use Rattle.std.specs.Prelude.{◌≡◌, ◌↔◌, ◌+◌, ◌<◌, ◌++◌, ◌∷◌, ℕ, List};
 ghost use Rattle.std.specs.Prelude.{[], true, length, if◌then◌else◌, string_bytes, Ok, Err, None, IfOk, IfErr, OnOk};
-ghost use Rattle.std.specs.Prelude.{MatchResult, OnErr, ◌⊎◌, nat_lt, min, is_some};
+ghost use Rattle.std.specs.Prelude.{MatchResult, OnErr, ◌⊎◌, nat_lt, min};
 ghost use Rattle.metrics.specs.declared.error.Error.TheVariants.{Memory as OutOfMemory, BadShards as NotShards};
 ghost use Rattle.metrics.specs.declared.error.Error.TheVariants.{NoBounds as WithoutBounds, CountFull as Full};
 ghost use Rattle.metrics.specs.Layers.{mask_has};
@@ -10,7 +10,6 @@ ghost use Rattle.metrics_registry.specs.Held.{is_shard_count as is_count};
 ghost use Rattle.metrics_registry.specs.Idleness.{Answered};
 ghost use Rattle.metrics_exporter.specs.Exporting.{Setup, Log, Step, updates, expires, steps, IsFull, IsExpiry, IsHeldNumber};
 ghost use Rattle.metrics_exporter.specs.Exporting.{cells_after, series_of, HoldsSome};
-ghost use Rattle.metrics_exporter.specs.Gathering.{series_at};
 ghost use Rattle.metrics.specs.Book.{no_description};
 ghost use Rattle.metrics_exporter.specs.Describing.{DescribesName, described_by};
 ghost use Rattle.metrics_exporter.specs.ExporterText.{IsText};
@@ -21,7 +20,7 @@ use crate::cells::CountedCells;
 use crate::changes::{remove_series, update_cells};
 use crate::descriptions::Descriptions;
 use crate::expiring::check_all;
-use crate::keys::{held_number, is_held, sorted_series};
+use crate::keys::{held_number, sorted_series};
 use crate::lines::write_series;
 use crate::readings::{SeriesReading, readings_of};
 use metrics::{CompositeKey, Error, Key, MetricKind, MetricKindMask, Unit, Update};
@@ -199,14 +198,6 @@ impl Exporter {
             write_series(&mut text, row)?;
         }
         Ok(text)
-    }
-
-    /// Returns whether a series of this kind and key is held.
-    pub fn holds(&self, kind: MetricKind, key: &Key) -> bool
-        ensures { (setup : Setup) (log : Log) → IsAfter setup log self.now
-            → result ≡ is_some (cells_after setup (steps log) (series_at kind key.now)) }
-    {
-        is_held(&self.registry, kind, key)
     }
 
     /// Returns the number of series that are held, which is the number of lines of `text`. It allocates nothing.

@@ -1,11 +1,11 @@
 //! The series that are held, by reference.
-ghost use Rattle.std.specs.Prelude.{◌≡◌, ◌++◌, ℕ, min, is_some, IfOk, MatchResult, IsPermutation};
+ghost use Rattle.std.specs.Prelude.{◌≡◌, ◌++◌, ℕ, min, IfOk, MatchResult, IsPermutation};
 ghost use Rattle.metrics_names.specs.Names.{SeriesKey, series_key_eq, series_key_cmp};
 ghost use Rattle.metrics_names.specs.declared.kind.MetricKind.TheVariants.{Counter as CounterKind, Gauge as GaugeKind};
 ghost use Rattle.metrics_names.specs.declared.kind.MetricKind.TheVariants.{Histogram as HistogramKind};
 ghost use Rattle.metrics.specs.declared.error.Error.TheVariants.{Memory as OutOfMemory};
 ghost use Rattle.metrics_exporter.specs.declared.keys.SeriesRef.{SeriesRef as Shown};
-ghost use Rattle.metrics_exporter.specs.Gathering.{all_seen, seen_in, series_shown, series_at, cell_shown, AreSeen};
+ghost use Rattle.metrics_exporter.specs.Gathering.{all_seen, seen_in, series_shown, cell_shown, AreSeen};
 ghost use Rattle.metrics_exporter.specs.Exporting.{count, level, samples, HaveFirst, IsHeldNumber};
 ghost use Rattle.metrics_exporter.specs.Kept.{cells_of};
 
@@ -104,21 +104,6 @@ pub(crate) fn sorted_series<'a>(
     let _shards = registry.shards();
     series.sort_unstable();
     Ok(series)
-}
-
-/// Whether a series of this kind and key is held.
-pub(crate) fn is_held(
-    registry: &OwnedRegistry<Key, CountedCells>,
-    kind: MetricKind,
-    key: &Key,
-) -> bool
-    ensures { result ≡ is_some (cells_of registry.now (series_at kind key.now)) }
-{
-    match kind {
-        MetricKind::Counter => registry.get_counter(key).is_some(),
-        MetricKind::Gauge => registry.get_gauge(key).is_some(),
-        MetricKind::Histogram => registry.get_histogram(key).is_some(),
-    }
 }
 
 /// The number of the series that are held, or the greatest `usize`.

@@ -1,7 +1,7 @@
 //! The words of the command line.
 
 use crate::names::{drops_of, prefix_of};
-use crate::values::{Unfit, bounds_of, every_of, idle_of, labels_of, most_of, prefixes_of};
+use crate::values::{Unfit, bounds_of, every_of, idle_of, labels_of, prefixes_of};
 use clap::error::ErrorKind;
 use clap::{Arg, ArgAction, ArgMatches, Command, Error, value_parser};
 use metrics::MetricKindMask;
@@ -98,13 +98,6 @@ fn with_plan<'a>(alloc: Global, command: Command<'a>) -> Result<Command<'a>, All
         May be repeated",
     )
     .action(ArgAction::Append);
-    let most = option(
-        alloc,
-        "max-series",
-        "N",
-        "Refuses updates that would make a series while N are held",
-    )
-    .allow_negative_numbers(true);
     let idle = option(
         alloc,
         "idle",
@@ -130,7 +123,6 @@ fn with_plan<'a>(alloc: Global, command: Command<'a>) -> Result<Command<'a>, All
         .arg(label)?
         .arg(prefix)?
         .arg(drop)?
-        .arg(most)?
         .arg(idle)?
         .arg(kinds)
 }
@@ -251,7 +243,6 @@ fn asked<'a>(alloc: Global, matches: &ArgMatches<'a>) -> Result<Options, Unfit<'
         skips_bad: matches.get_flag("skip-bad"),
         has_file: matches.contains_id("textfile"),
         every: every_of(matches.get_str("every"))?,
-        max_series: most_of(matches.get_str("max-series"))?,
         at_scrapes_only: matches.get_flag("at-scrapes-only"),
         accepts_partial: matches.get_flag("accept-partial"),
     })

@@ -70,21 +70,6 @@ pub fn every_of(given: Option<&str>) -> Result<Option<u64>, Unfit<'_>> {
     }
 }
 
-/// The most series that are held.
-pub fn most_of(given: Option<&str>) -> Result<Option<u64>, Unfit<'_>> {
-    let Some(given) = given else {
-        return Ok(None);
-    };
-    match given.parse::<u64>() {
-        Ok(most) if most > 0 => Ok(Some(most)),
-        _ => Err(Unfit::Value(
-            "--max-series <N>",
-            given,
-            "N is a whole number from 1 to 18446744073709551615",
-        )),
-    }
-}
-
 /// The bounds of histograms, in the order of the command line.
 pub fn bounds_of<'a>(alloc: Global, given: Option<&[&'a str]>) -> Result<Items<i64>, Unfit<'a>> {
     let Some(given) = given else {

@@ -106,7 +106,6 @@ fn ran_every<'a, R: Abort>(
         has_file,
         at_scrapes_only: false,
         every,
-        max_series: None,
         accepts_partial: false,
     };
     let stage = Stage {

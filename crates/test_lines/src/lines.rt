@@ -159,7 +159,6 @@ fn shown_to(rt: &impl Abort, alloc: Global, given: &[u8], writes: usize) -> (u8,
         has_file: false,
         at_scrapes_only: false,
         every: None,
-        max_series: None,
         accepts_partial: false,
     };
     let (mut input, mut output) = (given, writer(rt, alloc, 1, writes));

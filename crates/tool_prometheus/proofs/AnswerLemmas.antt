@@ -8,7 +8,7 @@ use Rattle.metrics_names.specs.Names.{KeyParts}
 use Rattle.metrics_names.specs.declared.kind.MetricKind.{MetricKind}
 use Rattle.metrics_names.specs.declared.common.Unit.{Unit as Measure}
 use Rattle.metrics_exporter.specs.declared.exporter.Exporter.{Exporter}
-use Rattle.metrics_exporter.specs.Exporting.{Setup, Log, updates, expires, steps, cells_after, series_of, IsExpiry, HoldsSome}
+use Rattle.metrics_exporter.specs.Exporting.{Setup, Log, updates, expires, steps, cells_after, IsExpiry, HoldsSome}
 use Rattle.metrics_exporter.specs.Describing.{DescribesName, SameLegend}
 use Rattle.metrics_exporter.specs.Kept.{IsAfter, described}
 use Rattle.tool_export.specs.Exported.{Scrapes}
@@ -16,8 +16,7 @@ use Rattle.tool_export.proofs.AnswerLemmas.{Calls, Full, Absent, IsUpdateAnswer,
 use Rattle.tool_prometheus.specs.declared.answering.Served.{Served}
 use Rattle.tool_prometheus.specs.declared.requests.Request.TheVariants.{Change, Describe, Scrape, Nothing}
 use Rattle.tool_prometheus.specs.Asked.{nothing_asked}
-use Rattle.tool_prometheus.specs.Limit.{IsBeyond, IsWithin}
-use Rattle.tool_prometheus.specs.Exposed.{fault_text, refusal_text, limit_text, shown_text, IsExposed, HasMoment, HandsOutShown, Answers, ShowsEnd}
+use Rattle.tool_prometheus.specs.Exposed.{fault_text, refusal_text, shown_text, IsExposed, HasMoment, HandsOutShown, Answers, ShowsEnd}
 
 module _ (old : Served) (exporter : Exporter) where
   -- another exporter, whether something changed, and whether something failed
@@ -33,41 +32,36 @@ module _ (old : Served) (exporter : Exporter) where
   -- ---- an update
 
   module _ (key : KeyParts) (by : Update) (same : described exporter ≡ described old.exporter) where
-    -- there would not be too many series
-    abbrev pub Within : Type 0
-    Within = (setup : Setup) (log : Log) → IsAfter setup log old.exporter
-        → IsWithin old.max_series (cells_after setup (steps log)) (series_of key by)
-
     abbrev pub Told : Result (Unit {0}) Error → Type 0
-    Told r = Within → Calls old.exporter exporter key by r → Full old.exporter exporter key by r → Absent old.exporter exporter key by r
+    Told r = Calls old.exporter exporter key by r → Full old.exporter exporter key by r → Absent old.exporter exporter key by r
         → Answers old (with_exporter (owed r) (failed r)) (Change key by) nothing_asked (refusal_text old.has_file r)
 
     keeps : (changed broken : Bool) → SameLegend (described (with_exporter changed broken).exporter) (described old.exporter)
     keeps changed broken kind name = λ i. same i kind name
 
     told_done : Told (Ok tt)
-    told_done within calls full absent = (
-      (refl, refl, refl, refl, refl, refl, refl, refl),
+    told_done calls full absent = (
+      (refl, refl, refl, refl, refl, refl, refl),
       λ setup log after. (
         updates key by (Ok tt) ∷ [],
         calls setup log after,
-        inl (keeps true old.has_failed, refl, inl (refl, refl, not_full old.exporter exporter key by full setup log after, refl, refl, within setup log after)),
+        inl (keeps true old.has_failed, refl, inl (refl, refl, not_full old.exporter exporter key by full setup log after, refl, refl)),
       ),
     )
 
     told_full : Told (Err CountFull)
-    told_full within calls full absent = (
-      (refl, refl, refl, refl, refl, refl, refl, refl),
+    told_full calls full absent = (
+      (refl, refl, refl, refl, refl, refl, refl),
       λ setup log after. (
         updates key by (Err CountFull) ∷ [],
         calls setup log after,
-        inl (keeps old.is_changed true, refl, inr (inl (refl, refl, (full setup log after).0 refl, refl, refl))),
+        inl (keeps old.is_changed true, refl, inr (refl, refl, (full setup log after).0 refl, refl, refl)),
       ),
     )
 
     told_want : Told (Err Memory)
-    told_want within calls full absent = (
-      (refl, refl, refl, refl, refl, refl, refl, refl),
+    told_want calls full absent = (
+      (refl, refl, refl, refl, refl, refl, refl),
       λ setup log after. (
         updates key by (Err Memory) ∷ [],
         calls setup log after,
@@ -91,9 +85,9 @@ module _ (old : Served) (exporter : Exporter) where
         → IfErr r (λ e. e ≡ Memory)
         → Answers old (with_exporter (owed r) (failed r)) (Describe kind name unit note) nothing_asked (refusal_text old.has_file r)
     described_told (Ok done) told same memory =
-        ((refl, refl, refl, refl, refl, refl, refl, refl), λ setup log after. ([], stands setup log after, inl (told, refl, refl, refl, refl, refl)))
+        ((refl, refl, refl, refl, refl, refl, refl), λ setup log after. ([], stands setup log after, inl (told, refl, refl, refl, refl, refl)))
     described_told (Err e) told same memory = (
-      (refl, refl, refl, refl, refl, refl, refl, refl),
+      (refl, refl, refl, refl, refl, refl, refl),
       λ setup log after. ([], stands setup log after, inr (same, refl, refl, ap (fault_text old.has_file) memory, refl, refl)),
     )
 
@@ -112,7 +106,7 @@ module _ (old : Served) (exporter : Exporter) where
   scraped bytes moment now clock files new (Ok t) same at scrapes (done, out, is) =
       let on : Served = record scraped_on { is_changed = false; has_failed = (if done then old.has_failed else true) } in
       let answer : Answers old on (Scrape moment) (record { clock = clock; files = files }) (shown_text bytes old.has_file (Ok t)) = (
-        (refl, refl, refl, refl, refl, refl, refl, refl),
+        (refl, refl, refl, refl, refl, refl, refl),
         λ setup log after.
             let (checks, answered, made, stands, (n, ok, shown)) = scrapes setup log after in (
               expires now checks answered ∷ [],
@@ -141,7 +135,7 @@ module _ (old : Served) (exporter : Exporter) where
   scraped bytes moment now clock files new (Err e) same at scrapes (none, is) =
       let on : Served = record scraped_on { has_failed = true } in
       let answer : Answers old on (Scrape moment) (record { clock = clock; files = files }) (shown_text bytes old.has_file (Err e)) = (
-        (refl, refl, refl, refl, refl, refl, refl, refl),
+        (refl, refl, refl, refl, refl, refl, refl),
         λ setup log after.
             let (checks, answered, made, stands, (memory, held)) = scrapes setup log after in (
               expires now checks answered ∷ [],
@@ -161,24 +155,9 @@ module _ (old : Served) (exporter : Exporter) where
 
 pub nothing_told : (on : Served) → Answers on on Nothing nothing_asked []
 nothing_told on = (
-  (refl, refl, refl, refl, refl, refl, refl, refl),
+  (refl, refl, refl, refl, refl, refl, refl),
   λ setup log after.
       ([], subst (λ l. IsAfter setup l on.exporter) (sym (append-nil log)) after, inl (refl, refl, refl, refl)),
-)
-
--- ---- one series too many
-
--- there would be too many series
-pub told_limit : (old : Served) (key : KeyParts) (by : Update)
-    → ((setup : Setup) (log : Log) → IsAfter setup log old.exporter → IsBeyond old.max_series (cells_after setup (steps log)) (series_of key by))
-    → Answers old (record old { has_failed = true }) (Change key by) nothing_asked (limit_text old.has_file)
-told_limit old key by beyond = (
-  (refl, refl, refl, refl, refl, refl, refl, refl),
-  λ setup log after. (
-    [],
-    subst (λ l. IsAfter setup l old.exporter) (sym (append-nil log)) after,
-    inl (λ kind name. refl, refl, inr (inr (refl, refl, beyond setup log after, refl, refl))),
-  ),
 )
 
 -- ---- the end

@@ -112,7 +112,7 @@ module _ (one : OneExposition) (expiry : OneExpiry) (options : Options) where
   pub prints-same : (old : Done) (request : Request) (r s : Asked) (p q : List ℕ) (new other : Done) (a b : List ℕ)
       → Prints options old request r a new → Prints options old request s b other → r.clock ++ p ≡ s.clock ++ q
       → (p ≡ q) × (new ≡ other) × (r ≡ s) × (a ≡ b)
-  prints-same old (Change key by) r s p q new other a b (none, free, text, within, is) (nor, fits, said, inside, was) e =
+  prints-same old (Change key by) r s p q new other a b (none, free, text, is) (nor, fits, said, was) e =
       (unread r.clock s.clock p q (ap (λ x. x.clock) none) (ap (λ x. x.clock) nor) e, is ∙ sym was, none ∙ sym nor, text ∙ sym said)
   prints-same old (Describe kind name unit note) r s p q new other a b (none, text, is) (nor, said, was) e =
       (unread r.clock s.clock p q (ap (λ x. x.clock) none) (ap (λ x. x.clock) nor) e, is ∙ sym was, none ∙ sym nor, text ∙ sym said)
@@ -240,7 +240,7 @@ module _ (options : Options) where
 
   prints-timer : (old : Done) (request : Request) (r : Asked) (new : Done) (a : List ℕ) → Prints options old request r a new
       → new.timer ≡ old.timer
-  prints-timer old (Change key by) r new a h = ap (λ d. d.timer) h.4
+  prints-timer old (Change key by) r new a h = ap (λ d. d.timer) h.3
   prints-timer old (Describe kind name unit note) r new a h = ap (λ d. d.timer) h.2
   prints-timer old (Scrape moment) r new a h = ap (λ d. d.timer) h.5
   prints-timer old Nothing r new a h = ap (λ d. d.timer) h.2

@@ -3,7 +3,7 @@ use Rattle.std.proofs.Common.{if◌then◌else◌, ◌≡◌, ◌≢◌, ◌∙�
 use Rattle.std.proofs.Common.{Option, None, Some, Result, Ok, Err, OnOk, append_assoc, append-nil}
 use Rattle.std.proofs.lemmas.List.{append_cancel_right}
 use Rattle.std.proofs.lemmas.List.Concat.{flat_map-append}
-use Rattle.metrics_exporter.specs.Exporting.{Setup, Log, updates, expires, steps, cells_after, series_of, HoldsSome}
+use Rattle.metrics_exporter.specs.Exporting.{Setup, Log, updates, expires, steps, cells_after, HoldsSome}
 use Rattle.metrics.specs.declared.error.Error.TheVariants as error
 use Rattle.metrics_exporter.specs.Describing.{SameLegend}
 use Rattle.metrics_exporter.specs.Kept.{IsAfter, described}
@@ -24,7 +24,6 @@ use Rattle.tool_prometheus.specs.Exposed.{scrape_text, fault_text, KeepsRest, Ha
 use Rattle.tool_prometheus.specs.Exposed.{AnswersEach, Takes, AnswersLine}
 use Rattle.tool_prometheus.specs.declared.timing.Timer.{Timer}
 use Rattle.tool_prometheus.specs.Timing.{Starts}
-use Rattle.tool_prometheus.specs.Limit.{IsWithin}
 use Rattle.tool_prometheus.specs.Serving.{answers_since, Stops, EndsLines, IsFresh, own_status, or_left}
 use Rattle.tool_prometheus.specs.Output.{Done, begun, lines_in, loses_line, PrintsExposition, Prints, PrintsEach, PrintsInTime, TakesLine, PrintLines}
 use Rattle.tool_prometheus.specs.Output.{IsOutput, Runs}
@@ -91,9 +90,8 @@ half-taken false bytes front (x ∷ xs) n has_bad whole (ends, line) =
 
 failed-plain : (setup : Setup) (log : Log) (old : Served) (request : Request) (made : Log) (new : Served) (asked : Asked) (text : List ℕ)
     → IsPlain setup log old request made new asked text → old.has_failed ≡ true → new.has_failed ≡ true
-failed-plain setup log old (Change key by) made new asked text (told, none, inl (is, t, free, changed, failed, within)) f = failed ∙ f
-failed-plain setup log old (Change key by) made new asked text (told, none, inr (inl (is, t, full, changed, failed))) f = failed
-failed-plain setup log old (Change key by) made new asked text (told, none, inr (inr (is, t, beyond, changed, failed))) f = failed
+failed-plain setup log old (Change key by) made new asked text (told, none, inl (is, t, free, changed, failed)) f = failed ∙ f
+failed-plain setup log old (Change key by) made new asked text (told, none, inr (is, t, full, changed, failed)) f = failed
 failed-plain setup log old (Describe kind name unit note) made new asked text (told, none, is, t, changed, failed) f = failed ∙ f
 failed-plain setup log old (Scrape moment) made new asked text
     (told, (now, at, checks, n, shown, true, is, ran, shows, t, out, changed, failed)) f = failed ∙ f
@@ -136,7 +134,7 @@ module _ (options : Options) (cut : Bool) where
   -- what is served is as after these calls, by these options
   abbrev Stands : Log → Served → Type 0
   Stands log on = IsAfter setup log on.exporter × (on.naming ≡ options.naming) × (on.has_file ≡ options.has_file)
-      × (on.labels ≡ options.labels) × (on.at_scrapes_only ≡ options.at_scrapes_only) × (ruled_name on.rules ≡ name_by options) × (on.max_series ≡ options.max_series)
+      × (on.labels ≡ options.labels) × (on.at_scrapes_only ≡ options.at_scrapes_only) × (ruled_name on.rules ≡ name_by options)
 
   done-same : (log : Log) (old : Done) (new : Served) (changed : Bool) → SameLegend (described new.exporter) old.legend
       → new.is_changed ≡ changed → (if cut then true else new.has_bad) ≡ old.has_bad → new.timer ≡ old.timer
@@ -163,21 +161,19 @@ module _ (options : Options) (cut : Bool) where
 
   keeps-stands : (log : Log) (old new : Served) → Stands log old → KeepsRest old new → (calls : Log)
       → IsAfter setup calls new.exporter → Stands calls new
-  keeps-stands log old new (was, named, filed, labelled, ended_so, ruled, limit) (naming, file, bad, labels, ends, rules, timer, most) calls after =
-      (after, naming ∙ named, file ∙ filed, labels ∙ labelled, ends ∙ ended_so, ap ruled_name rules ∙ ruled, most ∙ limit)
+  keeps-stands log old new (was, named, filed, labelled, ended_so, ruled) (naming, file, bad, labels, ends, rules, timer) calls after =
+      (after, naming ∙ named, file ∙ filed, labels ∙ labelled, ends ∙ ended_so, ap ruled_name rules ∙ ruled)
 
   printed : (log : Log) (old new : Served) (request : Request) (made : Log) (asked : Asked) (text : List ℕ) → Stands log old
       → KeepsRest old new → IsAfter setup (log ++ made) new.exporter → (new.has_failed ≡ true → ⊥)
       → IsPlain setup log old request made new asked text → Printed log old request new asked text
-  printed log old new (Change key by) made asked text stands keeps after fine (told, none, inl (is, t, free, changed, failed, within)) =
+  printed log old new (Change key by) made asked text stands keeps after fine (told, none, inl (is, t, free, changed, failed)) =
       let calls = log ++ updates key by (Ok tt) ∷ [] in (
         calls,
         keeps-stands log old new stands keeps calls (subst (λ m. IsAfter setup (log ++ m) new.exporter) is after),
-        (none, free, t, subst (λ m. IsWithin m (cells_after setup (steps log)) (series_of key by)) stands.6 within, done-same calls (done_on log old) new true told changed (λ i. if cut then true else keeps.2 i) keeps.6),
+        (none, free, t, done-same calls (done_on log old) new true told changed (λ i. if cut then true else keeps.2 i) keeps.6),
       )
-  printed log old new (Change key by) made asked text stands keeps after fine (told, none, inr (inl (is, t, full, changed, failed))) =
-      absurd (fine failed)
-  printed log old new (Change key by) made asked text stands keeps after fine (told, none, inr (inr (is, t, beyond, changed, failed))) =
+  printed log old new (Change key by) made asked text stands keeps after fine (told, none, inr (is, t, full, changed, failed)) =
       absurd (fine failed)
   printed log old new (Describe kind name unit note) made asked text stands keeps after fine (told, none, is, t, changed, failed) = (
     log,
@@ -395,7 +391,7 @@ module _ (options : Options) (cut : Bool) where
         absurd (ok (st ∙ ap (λ x. own_status x new.has_bad) same))
 
   fresh : (start : Served) → IsFresh options start → done_on [] start ≡ begun cut start.timer
-  fresh start (after, told, naming, file, changed, bad, labels, ends, failed, most, named) =
+  fresh start (after, told, naming, file, changed, bad, labels, ends, failed, named) =
       let none : (if cut then true else start.has_bad) ≡ cut = ap (λ b. if cut then true else b) bad ∙ or-false cut in
       λ i. record { calls = []; legend = λ kind name. told kind name i; is_changed = changed i; has_bad = none i; timer = start.timer }
 
@@ -415,12 +411,12 @@ module _ (options : Options) (cut : Bool) where
       absurd (ok one)
   output-cut bytes text asked status is_cut
       (Some left, (read, wrote, all, took, writes, asks, inl (start, end, first, later, r, is_fresh, starts, (served, lines, last, before, after, q, front, half, parts, is_left, run, ends, prints, asked_so, skipped), st, total))) ok =
-      let (stood, told, naming, file, changed, bad, labels, ending, failed, most, named) = is_fresh in
+      let (stood, told, naming, file, changed, bad, labels, ending, failed, named) = is_fresh in
       let fine : (end.has_failed ≡ true → ⊥) = λ f. ok (st ∙ ap (λ b. if b then 1 else own_status r end.has_bad) f) in
       let own : status ≡ own_status r end.has_bad =
       st ∙ ap (λ b. if b then 1 else own_status r end.has_bad) (is-false end.has_failed fine) in
       let goes = ended_so (left ≡ []) bytes front half left (λ e. e) (took ∙ ap (λ z. z ++ left) parts) is_cut start served end before after lines last text status (writes ∙ prints)
-      (stood, naming, file, labels, ending, λ i kind name. named kind name i, most) q r fine own ok run ends is_left skipped in
+      (stood, naming, file, labels, ending, λ i kind name. named kind name i) q r fine own ok run ends is_left skipped in
       let printed = subst (λ a. PrintLines options (begun cut start.timer) (lines_in options.accepts_partial bytes) a text status) (sym asked_so)
       (subst (λ d. PrintLines options d (lines_in options.accepts_partial bytes) (then_asked before after) text status) (fresh start is_fresh) goes) in
       (first, later, start.timer, starts, printed, since_nothing asked all asks ∙ total)

@@ -20,7 +20,6 @@ use Rattle.tool_prometheus.specs.Lines.{IsBad}
 use Rattle.tool_prometheus.specs.Names.{ruled_name, Requests}
 use Rattle.tool_prometheus.specs.declared.timing.Timer.{Timer}
 use Rattle.tool_prometheus.specs.Timing.{Timed}
-use Rattle.tool_prometheus.specs.Limit.{IsBeyond, IsWithin}
 
 -- ---- texts
 
@@ -36,10 +35,6 @@ fault_text has_file e = if has_file then [] else codes "# " ++ report_text (Err 
 abbrev pub refusal_text : Bool → Result (Unit {0}) Error → List ℕ
 refusal_text has_file (Ok done) = []
 refusal_text has_file (Err e) = fault_text has_file e
-
--- the report that there would be too many series
-abbrev pub limit_text : Bool → List ℕ
-limit_text has_file = if has_file then [] else codes "# refused too many series\n"
 
 -- what a scrape prints that showed this, or failed
 abbrev pub shown_text : {T : Type 0} → (T → List ℕ) → Bool → Result T Error → List ℕ
@@ -68,7 +63,6 @@ IsExposed naming on cells text = IsDescribed naming (described on) cells text
 abbrev pub KeepsRest : Served → Served → Type 0
 KeepsRest old new = (new.naming ≡ old.naming) × (new.has_file ≡ old.has_file) × (new.has_bad ≡ old.has_bad) × (new.labels ≡ old.labels)
     × (new.at_scrapes_only ≡ old.at_scrapes_only) × (new.rules ≡ old.rules) × (new.timer ≡ old.timer)
-    × (new.max_series ≡ old.max_series)
 
 -- an exposition of what is held after the calls, with the descriptions of names
 abbrev pub Shows : Setup → Log → Served → List ℕ → Type 0
@@ -80,15 +74,13 @@ KeepsTold old new = SameLegend (described new.exporter) (described old.exporter)
 
 -- The expected answer to a request after a list of calls: the calls that it made, as they are added to the list with
 -- their answers, what it asked of the surroundings, and its text. An update is made, or fails if the count of its samples is
--- full; or it isn't called, since there would be too many series. A scrape is an expiry, and then an exposition. Afterwards something has changed since the last scrape, or nothing; and
+-- full; a scrape is an expiry, and then an exposition. Afterwards something has changed since the last scrape, or nothing; and
 -- something has failed, or nothing.
 abbrev pub IsPlain : Setup → Log → Served → Request → Log → Served → Asked → List ℕ → Type 0
 IsPlain setup log old (Change key by) made new asked text = KeepsTold old new × (asked ≡ nothing_asked) ×
     (((made ≡ updates key by (Ok tt) ∷ []) × (text ≡ []) × (IsFull (steps log) key by → ⊥) × (new.is_changed ≡ true)
-    × (new.has_failed ≡ old.has_failed) × IsWithin old.max_series (cells_after setup (steps log)) (series_of key by))
+    × (new.has_failed ≡ old.has_failed))
     ⊎ ((made ≡ updates key by (Err CountFull) ∷ []) × (text ≡ fault_text old.has_file CountFull) × IsFull (steps log) key by
-    × (new.is_changed ≡ old.is_changed) × (new.has_failed ≡ true))
-    ⊎ ((made ≡ []) × (text ≡ limit_text old.has_file) × IsBeyond old.max_series (cells_after setup (steps log)) (series_of key by)
     × (new.is_changed ≡ old.is_changed) × (new.has_failed ≡ true)))
 IsPlain setup log old (Describe kind name unit note) made new asked text =
     DescribesName kind name unit note (described old.exporter) (described new.exporter) × (asked ≡ nothing_asked)

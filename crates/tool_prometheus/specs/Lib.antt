@@ -2,7 +2,6 @@ pub mod Asked
 pub mod Lines
 pub mod Names
 pub mod Timing
-pub mod Limit
 pub mod Exposed
 pub mod Making
 pub mod Serving

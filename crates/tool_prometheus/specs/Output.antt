@@ -4,7 +4,7 @@ use Rattle.std.specs.List.{AllByRecursion}
 use Rattle.std.specs.Io.KnownBytes.{Consumes, Appends, IsAtEnd}
 use Rattle.metrics_names.specs.Names.{KeyParts}
 use Rattle.metrics_registry.specs.Idleness.{Answered}
-use Rattle.metrics_exporter.specs.Exporting.{Log, updates, expires, steps, cells_after, series_of, IsExpiry, IsFull}
+use Rattle.metrics_exporter.specs.Exporting.{Log, updates, expires, steps, cells_after, IsExpiry, IsFull}
 use Rattle.metrics_exporter.specs.Describing.{Legend, no_legend, legend_described}
 use Rattle.metrics_prometheus.specs.Exposition.{IsDescribed}
 use Rattle.tool_export.specs.Lines.{lines_of, ended_lines, is_cut}
@@ -18,7 +18,6 @@ use Rattle.tool_prometheus.specs.Asked.{Asked, Asks, nothing_asked, then_asked}
 use Rattle.tool_prometheus.specs.Exposed.{scrape_text, HasMoment, HandsOut, shows_at_end}
 use Rattle.tool_prometheus.specs.declared.timing.Timer.{Timer}
 use Rattle.tool_prometheus.specs.Timing.{Timed, Starts}
-use Rattle.tool_prometheus.specs.Limit.{IsWithin}
 use Rattle.tool_prometheus.specs.Serving.{Ends}
 
 -- ---- one request
@@ -42,10 +41,9 @@ PrintsExposition options done files text = (shown : List ℕ)
     × (text ≡ scrape_text options.has_file shown) × HandsOut options.has_file shown true files
 
 -- What a request prints, what it asks of the surroundings, and what is done then. An update is made; it fails only if the count
--- of its samples is full, or there would be too many series. A scrape removes what is idle.
+-- of its samples is full. A scrape removes what is idle.
 abbrev pub Prints : Options → Done → Request → Asked → List ℕ → Done → Type 0
 Prints options old (Change key by) asked text new = (asked ≡ nothing_asked) × (IsFull (steps old.calls) key by → ⊥) × (text ≡ [])
-    × IsWithin options.max_series (cells_after (setup_for options) (steps old.calls)) (series_of key by)
     × (new ≡ record old { calls = old.calls ++ updates key by (Ok tt) ∷ []; is_changed = true })
 Prints options old (Describe kind name unit note) asked text new = (asked ≡ nothing_asked) × (text ≡ [])
     × (new ≡ record old { legend = legend_described kind name unit note old.legend; is_changed = true })

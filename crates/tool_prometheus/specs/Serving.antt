@@ -64,7 +64,6 @@ abbrev pub IsFresh : Options → Served → Type 0
 IsFresh options on = IsAfter (setup_for options) [] on.exporter × SameLegend (described on.exporter) no_legend
     × (on.naming ≡ options.naming) × (on.has_file ≡ options.has_file) × (on.is_changed ≡ false) × (on.has_bad ≡ false)
     × (on.labels ≡ options.labels) × (on.at_scrapes_only ≡ options.at_scrapes_only) × (on.has_failed ≡ false)
-    × (on.max_series ≡ options.max_series)
     × ((kind : MetricKind) (name : List ℕ) → ruled_name on.rules kind name ≡ name_by options kind name)
 
 -- the status of a run in which no call was refused, and the file was written

@@ -3,9 +3,8 @@ ghost use Rattle.std.specs.Prelude.{◌≡◌, ◌++◌, ℕ, [], List, OnOk};
 ghost use Rattle.std.specs.Prelude.{string_bytes, is_ok, true, if◌then◌else◌};
 ghost use Rattle.tool_prometheus.specs.Asked.{Asked, Asks, nothing_asked};
 ghost use Rattle.tool_prometheus.specs.Exposed.{Answers, AnswersInTime, IsExposed, HasMoment, IsEnd, HandsOut, HandsOutShown};
-ghost use Rattle.tool_prometheus.specs.Exposed.{limit_text, refusal_text, scrape_text, shown_text, shows_at_end as shows_then};
+ghost use Rattle.tool_prometheus.specs.Exposed.{refusal_text, scrape_text, shown_text, shows_at_end as shows_then};
 
-use crate::limit::is_beyond;
 use crate::requests::Request;
 use crate::surroundings::Surroundings;
 use crate::timing::Timer;
@@ -34,8 +33,6 @@ pub struct Served {
     pub at_scrapes_only: bool,
     /// Scrapes by the clock, if there are such.
     pub timer: Option<Timer>,
-    /// The most series that are held, if there is a limit.
-    pub max_series: Option<u64>,
     /// Something changed since the last scrape that succeeded.
     pub is_changed: bool,
     /// A bad line was skipped.
@@ -68,20 +65,7 @@ fn write_refusal(
     }
 }
 
-/// Notes that there would be too many series, and appends a comment that reports it, unless the output has no texts.
-fn write_limit(on: &mut Served, watch: &mut Watch, text: &mut String) -> Result<(), AllocError>
-    ensures noted { on.new ≡ record on.old { has_failed = true } }
-    ensures text { OnOk result (string_bytes text.new ≡ string_bytes text.old ++ limit_text on.old.has_file) }
-{
-    on.has_failed = true;
-    watch.refuse(Call::Update);
-    if on.has_file {
-        return Ok(());
-    }
-    text.push_str("# refused too many series\n")
-}
-
-/// Updates a series, unless that would make one too many, and appends the report of a failure.
+/// Updates a series, and appends the report of a failure.
 fn answer_change(
     on: &mut Served,
     watch: &mut Watch,
@@ -92,9 +76,6 @@ fn answer_change(
     ensures { (whole : List ℕ) × Answers on.old on.new (Request.Change key.now by) nothing_asked whole
         × OnOk result (string_bytes text.new ≡ string_bytes text.old ++ whole) }
 {
-    if is_beyond(&on.exporter, on.max_series, key, by) {
-        return write_limit(on, watch, text);
-    }
     let answered = on.exporter.update(key, by);
     on.is_changed = answered.is_ok() | on.is_changed;
     write_refusal(on, watch, Call::Update, answered, text)

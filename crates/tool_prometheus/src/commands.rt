@@ -47,8 +47,6 @@ pub struct Options {
     pub at_scrapes_only: bool,
     /// A scrape follows a line that comes so many seconds after the last scrape.
     pub every: Option<u64>,
-    /// The most series that are held.
-    pub max_series: Option<u64>,
     /// A last line without a line feed counts too.
     pub accepts_partial: bool,
 }
@@ -123,7 +121,6 @@ fn serve_new<S: Surroundings, I: BufRead, O: Write>(
         has_file,
         at_scrapes_only,
         every,
-        max_series,
         accepts_partial,
         ..
     } = options;
@@ -137,7 +134,6 @@ fn serve_new<S: Surroundings, I: BufRead, O: Write>(
         has_file,
         at_scrapes_only,
         timer,
-        max_series,
         is_changed: false,
         has_bad: false,
         has_failed: false,

@@ -6,7 +6,6 @@ mod commands;
 mod flaws;
 mod labels;
 mod laws;
-mod limit;
 mod making;
 mod names;
 mod requests;

@@ -113,7 +113,7 @@ fn key_by_rules(
 }
 
 /// The kind that an update is for.
-pub(crate) fn kind_of_update(by: Update) -> MetricKind
+fn kind_of_update(by: Update) -> MetricKind
     ensures { result ≡ kind_of by }
 {
     match by {

@@ -16,7 +16,6 @@ returns g c =
       rules = c.args.rules;
       at_scrapes_only = c.args.options.at_scrapes_only;
       timer = c.started-timer.result;
-      max_series = c.args.options.max_series;
       is_changed = false;
       has_bad = false;
       has_failed = false;
@@ -33,7 +32,7 @@ returns g c =
         first,
         more,
         c.serve-answered.result,
-        (c.requires.after, c.requires.undescribed, refl, refl, refl, refl, refl, refl, refl, refl, c.requires.named),
+        (c.requires.after, c.requires.undescribed, refl, refl, refl, refl, refl, refl, refl, c.requires.named),
         starts,
         ran,
         c.final_status-status.ensures.status,
