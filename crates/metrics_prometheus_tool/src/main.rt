@@ -5,6 +5,7 @@ mod devices;
 mod host;
 mod names;
 mod options;
+mod places;
 mod values;
 
 use crate::devices::{Failure, Noting};

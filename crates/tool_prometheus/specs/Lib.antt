@@ -1,4 +1,5 @@
 pub mod Asked
+pub mod Places
 pub mod Lines
 pub mod Names
 pub mod Timing

@@ -11,7 +11,8 @@ returns g c =
     let start : Served = record {
       exporter = c.args.exporter;
       naming = c.args.options.naming;
-      labels = c.args.options.labels;
+      dialect = c.args.options.dialect;
+      front = c.front_of.result;
       has_file = c.args.options.has_file;
       rules = c.args.rules;
       at_scrapes_only = c.args.options.at_scrapes_only;
@@ -32,7 +33,7 @@ returns g c =
         first,
         more,
         c.serve-answered.result,
-        (c.requires.after, c.requires.undescribed, refl, refl, refl, refl, refl, refl, refl, c.requires.named),
+        (c.requires.after, c.requires.undescribed, refl, refl, refl, refl, refl, refl, refl, c.front_of.ensures, c.requires.named),
         starts,
         ran,
         c.final_status-status.ensures.status,
