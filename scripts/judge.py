@@ -318,11 +318,9 @@ class Prometheus(Export):
     def __init__(self, words):
         options = model.options_of(words)
         kinds = "".join(kind[0] for kind in options.idle_kinds.split(","))
-        super().__init__(["", kinds, options.idle, "0"])
-        self.bounds = options.bounds
+        super().__init__(["", kinds, options.idle, options.bounds])
         self.is_changed, self.is_recommended = False, options.recommended_names
         self.prefixes = model.prefix_bounds(options)
-        self.places = model.prefix_places(options)
         self.labels = model.common_labels(options)
         self.names = model.names_of(options)
         self.at_scrapes_only = options.at_scrapes_only

@@ -13,7 +13,6 @@ import argparse
 import re
 import subprocess
 import sys
-from fractions import Fraction
 
 KINDS = ("counter", "gauge", "histogram")
 KIND_OF = {"increment": 0, "absolute": 0, "add": 1, "sub": 1, "set": 1, "record": 2}
@@ -39,30 +38,8 @@ def updated(word, amount, value):
     return min(max(level, LEAST), GREATEST)
 
 
-NUMERAL = re.compile(r"-?(?P<whole>0|[1-9][0-9]*)(?:\.(?P<decimals>[0-9]{1,18}))?(?P<power>e[+-]?[0-9]{1,2})?")
-
-
-def units_of(number, places):
-    """Returns how many units of the last of so many decimal places a number is, or None: no number, or a place too many."""
-    found = NUMERAL.fullmatch(number)
-    if found is None or number == "-0" or int(found["whole"]) >= 2**64:
-        return None
-    if found["power"] is None and len(found["decimals"] or "") > places:
-        return None
-    units = Fraction(number) * 10**places
-    return int(units) if units.denominator == 1 else None
-
-
-def ascending(bounds, places=0):
-    """Returns bounds in units of the last place, in order. They may have a plus and needless zeros."""
-    units = {units_of(re.sub("^([+-]?)0*(?=[0-9])", r"\1", bound).lstrip("+"), places) for bound in bounds.split(",")}
-    return sorted(bound for bound in units if LEAST <= bound <= GREATEST)
-
-
-def longest(prefixes, name, default):
-    """Returns what is set for the longest prefix of a name, or the default."""
-    prefix = max(filter(name.startswith, prefixes), key=len, default=None)
-    return default if prefix is None else prefixes[prefix]
+def ascending(bounds):
+    return sorted({int(bound) for bound in bounds.split(",")})
 
 
 class Exporter:
@@ -71,9 +48,8 @@ class Exporter:
     def __init__(self, kinds, timeout, bounds):
         self.watched = [KINDS.index(k) for k in KINDS if k[0] in kinds]
         self.timeout = None if timeout == "-" else int(timeout)
-        self.bounds = bounds
+        self.bounds = ascending(bounds)
         self.prefixes = {}
-        self.places = {}
         self.held = {}
         self.seen = {}
         self.helps = {}
@@ -82,17 +58,10 @@ class Exporter:
         self.labels = {}
         self.names = ("", [])
 
-    def places_of(self, name):
-        """Returns the decimal places of the name of a line."""
-        return longest(self.places, name, 0)
-
-    def kept_places(self, name):
-        """Returns the decimal places of a kept name, which has the prefix of all names."""
-        return self.places_of(name[len(self.names[0]) :])
-
     def bounds_for(self, name):
-        """Returns the bounds of the longest prefix of a kept name, otherwise the default ones; in units of its last place."""
-        return ascending(longest(self.prefixes, name, self.bounds), self.kept_places(name))
+        """Returns the bounds of the longest prefix of a name, otherwise the default ones."""
+        prefix = max(filter(name.startswith, self.prefixes), key=len, default=None)
+        return self.bounds if prefix is None else self.prefixes[prefix]
 
     def describe(self, kind, name, unit, text):
         self.helps[kind, name] = text
@@ -240,7 +209,7 @@ def braces(labels):
 def samples_of(exporter, row):
     """Returns the samples of a row: the end of each name, the labels, and the number as it is written."""
     _, kind, labels, key = row
-    value, places = exporter.held[key][0], base_of(exporter, kind, key[1])[1] + exporter.kept_places(key[1])
+    value, places = exporter.held[key][0], base_of(exporter, kind, key[1])[1]
     if kind != 2:
         return [("", labels, pointed(value, places))]
     buckets = [(pointed(bound, places), sum(1 for x in value if x <= bound)) for bound in exporter.bounds_for(key[1])]
@@ -336,15 +305,11 @@ def expositions(output):
     return texts
 
 
-def amount_of(word, amount, places):
-    """Returns the units of an update's amount, or None."""
-    units = units_of(amount, places)
-    least, greatest = (0, 2**64 - 1) if word in ("increment", "absolute") else (LEAST, GREATEST)
-    return units if units is not None and least <= units <= greatest else None
-
-
-def is_moment(text):
-    return re.fullmatch("0|[1-9][0-9]*", text) is not None and int(text) < 2**64
+def is_number(word, amount):
+    """Returns whether this is a number of a line."""
+    if word in ("increment", "absolute", "scrape"):
+        return re.fullmatch("0|[1-9][0-9]*", amount) is not None and int(amount) < 2**64
+    return re.fullmatch("0|-?[1-9][0-9]*", amount) is not None and -(2**63) <= int(amount) < 2**63
 
 
 # ---- lines
@@ -377,13 +342,12 @@ def labels_of(rest):
     return in_order(labels)
 
 
-def update_of(word, rest, places_of):
+def update_of(word, rest):
     found = re.fullmatch("([^ ]*) ([^ ]+)(.*)", rest, re.DOTALL)
-    if word not in KIND_OF or found is None or UNFIT.search(found[2]):
+    if word not in KIND_OF or found is None or not is_number(word, found[1]) or UNFIT.search(found[2]):
         return None
-    name = "" if found[2] == "-" else found[2]
-    amount, labels = amount_of(word, found[1], places_of(name)), labels_of(found[3])
-    return None if amount is None or labels is None else ("update", word, amount, name, labels)
+    labels = labels_of(found[3])
+    return labels if labels is None else ("update", word, int(found[1]), "" if found[2] == "-" else found[2], labels)
 
 
 def describe_of(rest):
@@ -395,8 +359,8 @@ def describe_of(rest):
     return "describe", KINDS.index(kind), "" if name == "-" else name, unit, text[0]
 
 
-def request_of(line, places_of):
-    """Returns what a line asks for, or None if it is bad; names have decimal places."""
+def request_of(line):
+    """Returns what a line asks for, or None if it is bad."""
     line = line.removesuffix("\r")
     word, space, rest = line.partition(" ")
     if line == "" or line[0] == "#":
@@ -404,8 +368,8 @@ def request_of(line, places_of):
     if line == "scrape":
         return "scrape", None
     if word == "scrape":
-        return ("scrape", int(rest)) if is_moment(rest) else None
-    return describe_of(rest) if word == "describe" else update_of(word, rest, places_of)
+        return ("scrape", int(rest)) if is_number(word, rest) else None
+    return describe_of(rest) if word == "describe" else update_of(word, rest)
 
 
 def labelled(request, common):
@@ -434,7 +398,7 @@ def names_of(options):
 
 def asked(line, exporter):
     """Returns what a line asks of an exporter, or None if it is bad."""
-    return named(labelled(request_of(line, exporter.places_of), exporter.labels), exporter.names)
+    return named(labelled(request_of(line), exporter.labels), exporter.names)
 
 
 def options_of(words):
@@ -444,7 +408,6 @@ def options_of(words):
     parser.add_argument("--idle-kinds", default=",".join(KINDS))
     parser.add_argument("--bounds", default="5,10,25,50,100,250,500,1000,2500,5000,10000")
     parser.add_argument("--bounds-of", action="append", default=[])
-    parser.add_argument("--places", action="append", default=[])
     parser.add_argument("--label", action="append", default=[])
     parser.add_argument("--prefix")
     parser.add_argument("--drop", action="append", default=[])
@@ -468,12 +431,7 @@ def common_labels(options):
 
 def prefix_bounds(options):
     parts = [value.rpartition("=") for value in options.bounds_of]
-    return {names_of(options)[0] + prefix: bounds for prefix, _, bounds in parts}
-
-
-def prefix_places(options):
-    parts = [value.rpartition("=") for value in options.places]
-    return {prefix: int(places) for prefix, _, places in parts}
+    return {names_of(options)[0] + prefix: ascending(bounds) for prefix, _, bounds in parts}
 
 
 def exporter_of(options, made=Exporter):
@@ -481,7 +439,6 @@ def exporter_of(options, made=Exporter):
     exporter = made(kinds, options.idle, options.bounds)
     exporter.is_recommended = options.recommended_names
     exporter.prefixes = prefix_bounds(options)
-    exporter.places = prefix_places(options)
     exporter.labels = common_labels(options)
     exporter.names = names_of(options)
     exporter.at_scrapes_only = options.at_scrapes_only

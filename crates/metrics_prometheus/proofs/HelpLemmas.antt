@@ -9,7 +9,7 @@ use Rattle.metrics_exporter.specs.Exporting.{Cells}
 use Rattle.metrics_exporter.specs.Describing.{Legend}
 use Rattle.metrics_prometheus.specs.Samples.{Sample}
 use Rattle.metrics_prometheus.specs.declared.naming.Naming.{Naming}
-use Rattle.metrics_prometheus.specs.Exposition.{Row, Reason, reason_of, last_after, IsScaled}
+use Rattle.metrics_prometheus.specs.Exposition.{Row, Reason, reason_of, last_after, IsDescribed}
 use Rattle.metrics_prometheus.specs.Written.{written, Line, has, describes, tells_kind, leaves_out, sample_in, is_help_of, IsFirstNamed, DescribesOnce, DescribesAs, DescribesNames}
 use Rattle.metrics_prometheus.specs.Reading.{AreOfKinds}
 use Rattle.metrics_prometheus.proofs.PairLemmas.{each-append, each-in, in-append, in-none, in-split, Pairs, pairs-both}
@@ -171,7 +171,7 @@ module _ (cells : Cells) (all : List Row) where
   help-once [] last w new ups pairs has_w = absurd (in-none w has_w)
   help-once (x ∷ xs) last w new ups pairs has_w = step last x w xs (reason_of all last x) new ups.0 ups.1 pairs has_w (λ next other both its. help-once xs next w other ups.1 both its)
 
-pub text-describes : {naming : Naming} {legend : Legend} {places : List ℕ → ℕ} (cells : Cells) (text : List ℕ) → AreOfKinds cells → (e : IsScaled naming legend places cells text) → DescribesNames cells e.rows text
+pub text-describes : {naming : Naming} {legend : Legend} (cells : Cells) (text : List ℕ) → AreOfKinds cells → (e : IsDescribed naming legend cells text) → DescribesNames cells e.rows text
 text-describes cells text kinds e =
     let h = text-lines cells text e in
     let done = written e.rows None e.rows in

@@ -1,5 +1,5 @@
 -- The names and the numbers that series are shown with.
-use Rattle.std.specs.Prelude.{if◌then◌else◌, ◌≡◌, ◌⊎◌, ℕ, zero, suc, ◌+◌, ◌-◌, false, List, [], ◌++◌, take, length, codes, nat_eq, flat_map, Contains, Option, None, Some}
+use Rattle.std.specs.Prelude.{if◌then◌else◌, ◌≡◌, ◌⊎◌, ℕ, zero, suc, ◌-◌, false, List, [], ◌++◌, take, length, codes, nat_eq, flat_map, Contains, Option, None, Some}
 use Rattle.std.specs.List.{ends_with, AllByRecursion}
 use Rattle.metrics_names.specs.declared.common.Unit.{Unit as Measure}
 use Rattle.metrics_names.specs.declared.common.Unit.TheVariants.{Count, Percent, Seconds, Milliseconds, Microseconds, Nanoseconds, Bytes}
@@ -86,14 +86,10 @@ abbrev pub shown_places : Naming → Option Measure → ℕ
 shown_places AsGiven unit = 0
 shown_places Recommended unit = unit_places unit
 
--- the numbers of all names are whole
-abbrev pub no_places : List ℕ → ℕ
-no_places name = 0
-
--- what is shown of names that are described so, and whose numbers have these decimal places beside those of the unit
-abbrev pub display_by : Naming → Legend → (List ℕ → ℕ) → Display
-display_by naming legend places kind name = record {
+-- what is shown of names that are described so
+abbrev pub display_of : Naming → Legend → Display
+display_of naming legend kind name = record {
   name = shown_name naming kind (legend kind name).unit name;
   help = (legend kind name).text;
-  places = places name + shown_places naming (legend kind name).unit;
+  places = shown_places naming (legend kind name).unit;
 }

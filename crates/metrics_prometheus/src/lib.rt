@@ -8,7 +8,6 @@ mod listing;
 mod names;
 mod naming;
 mod numbers;
-mod places;
 mod reasons;
 mod repeated;
 mod rows;
@@ -24,9 +23,6 @@ pub use listing::left_out;
 pub use metrics::Error;
 pub use metrics_exporter::{Descriptions, Exporter, ReadingRef, SeriesReading};
 pub use naming::Naming;
-pub use places::{DecimalPlaces, WholeNumbers};
 pub use repeated::write_repeated;
 pub use series::ReadSeries;
-pub use text::{
-    exposition, exposition_named, exposition_of, scaled_exposition, scaled_exposition_of,
-};
+pub use text::{exposition, exposition_named, exposition_of};

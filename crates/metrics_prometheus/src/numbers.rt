@@ -6,7 +6,7 @@ use itoa::Buffer;
 use std::alloc::AllocError;
 
 /// Writes a number of units of the last of so many decimal places.
-fn write_pointed(text: &mut String, places: u16, units: u128) -> Result<(), AllocError>
+fn write_pointed(text: &mut String, places: u8, units: u128) -> Result<(), AllocError>
     ensures { OnOk result (string_bytes text.new ≡ string_bytes text.old ++ pointed places units) }
 {
     if places == 0 {
@@ -19,7 +19,7 @@ fn write_pointed(text: &mut String, places: u16, units: u128) -> Result<(), Allo
 }
 
 /// Writes a number of units of the last of so many decimal places, without zeros at its end.
-fn write_unsigned(text: &mut String, places: u16, units: u128) -> Result<(), AllocError>
+fn write_unsigned(text: &mut String, places: u8, units: u128) -> Result<(), AllocError>
     ensures { OnOk result (string_bytes text.new ≡ string_bytes text.old ++ unsigned places units) }
 {
     if places == 0 {
@@ -41,7 +41,7 @@ pub(crate) fn write_count(text: &mut String, count: u64) -> Result<(), AllocErro
 }
 
 /// Writes a number of units of the last of so many decimal places: its shortest text.
-pub(crate) fn write_number(text: &mut String, places: u16, units: i128) -> Result<(), AllocError>
+pub(crate) fn write_number(text: &mut String, places: u8, units: i128) -> Result<(), AllocError>
     ensures { OnOk result (string_bytes text.new ≡ string_bytes text.old ++ number places units) }
 {
     if places == 0 {

@@ -85,7 +85,7 @@ pub(crate) fn write_sample(
     name: &str,
     end: &str,
     labels: &[Label],
-    places: u16,
+    places: u8,
     value: i128,
 ) -> Result<(), AllocError>
     ensures { OnOk result (string_bytes text.new ≡ string_bytes text.old
@@ -123,7 +123,7 @@ fn write_buckets(
     text: &mut String,
     name: &str,
     labels: &[Label],
-    places: u16,
+    places: u8,
     buckets: &[(i64, u64)],
 ) -> Result<(), AllocError>
     ensures { OnOk result (string_bytes text.new ≡ string_bytes text.old
@@ -177,7 +177,7 @@ pub(crate) fn write_histogram(
     text: &mut String,
     name: &str,
     labels: &[Label],
-    places: u16,
+    places: u8,
     histogram: &Histogram,
 ) -> Result<(), Error>
     ensures ok { OnOk result (string_bytes text.new

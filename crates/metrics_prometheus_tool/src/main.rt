@@ -5,7 +5,6 @@ mod devices;
 mod host;
 mod names;
 mod options;
-mod places;
 mod values;
 
 use crate::devices::{Failure, Noting};

@@ -1,14 +1,13 @@
 //! The words of the command line.
 
 use crate::names::{drops_of, prefix_of};
-use crate::places::{NamePlaces, bounds_of, places_of, prefix_places, prefixes_of};
-use crate::values::{Unfit, every_of, idle_of, labels_of};
+use crate::values::{Unfit, bounds_of, every_of, idle_of, labels_of, prefixes_of};
 use clap::error::ErrorKind;
 use clap::{Arg, ArgAction, ArgMatches, Command, Error, value_parser};
 use metrics::MetricKindMask;
 use std::alloc::{AllocError, Global};
 use tool_export::ExportPlan;
-use tool_prometheus::{Dialect, Naming, Options};
+use tool_prometheus::{Naming, Options};
 
 const KINDS: &[&str] = &["counter", "gauge", "histogram"];
 
@@ -25,8 +24,7 @@ A line of the input is one of
                                     any unit, from 0 on
   scrape                            the same at the clock's seconds since 1970
   an empty line, or a comment that begins with #
-One space is between two words. N is a whole number, for gauges and samples also a negative one;
---places has names with decimal places. A whole number may be written as awk does: 3e+09, 1.4e3.
+One space is between two words. N is a whole number, for gauges and samples also a negative one.
 The first update of a series makes it. A VALUE with spaces is in double quotes; there \\\", \\\\ and \\n
 are a quote, a backslash and a line feed.
 The end of the input writes all series, unless nothing changed since the last scrape. A last line
@@ -78,15 +76,6 @@ fn with_plan<'a>(alloc: Global, command: Command<'a>) -> Result<Command<'a>, All
         the longest wins. May be repeated",
     )
     .action(ArgAction::Append);
-    let places = option(
-        alloc,
-        "places",
-        "NAME=N",
-        "Reads numbers of names that begin with NAME with up to N decimal\n\
-        places, 18 at most, and shows them so, bounds too.\n\
-        The longest wins. May be repeated",
-    )
-    .action(ArgAction::Append);
     let label = option(
         alloc,
         "label",
@@ -131,7 +120,6 @@ fn with_plan<'a>(alloc: Global, command: Command<'a>) -> Result<Command<'a>, All
     command
         .arg(bounds)?
         .arg(prefixes)?
-        .arg(places)?
         .arg(label)?
         .arg(prefix)?
         .arg(drop)?
@@ -221,16 +209,12 @@ fn watched_of(matches: &ArgMatches<'_>) -> MetricKindMask {
 }
 
 /// How an exporter is to be made.
-fn plan_of<'a>(
-    alloc: Global,
-    places: &[NamePlaces<'_>],
-    matches: &ArgMatches<'a>,
-) -> Result<ExportPlan, Unfit<'a>> {
+fn plan_of<'a>(alloc: Global, matches: &ArgMatches<'a>) -> Result<ExportPlan, Unfit<'a>> {
     Ok(ExportPlan {
         shards: 1,
         watched: watched_of(matches),
         idle_timeout: idle_of(matches.get_str("idle"))?,
-        bounds: bounds_of(alloc, places, matches.get_strs("bounds"))?,
+        bounds: bounds_of(alloc, matches.get_strs("bounds"))?,
     })
 }
 
@@ -245,22 +229,15 @@ fn naming_of(matches: &ArgMatches<'_>) -> Naming {
 
 /// What the options ask for.
 fn asked<'a>(alloc: Global, matches: &ArgMatches<'a>) -> Result<Options, Unfit<'a>> {
-    let places = places_of(alloc, matches.get_strs("places"))?;
     Ok(Options {
-        plan: plan_of(alloc, &places, matches)?,
+        plan: plan_of(alloc, matches)?,
         prefixes: prefixes_of(
             alloc,
             matches.get_str("prefix"),
-            &places,
-            matches.get_strs("places").unwrap_or(&[]),
-            matches.get_strs("bounds").unwrap_or(&[]),
-            matches.get_strs("bounds-of").unwrap_or(&[]),
+            matches.get_strs("bounds-of"),
         )?,
         naming: naming_of(matches),
-        dialect: Dialect {
-            labels: labels_of(alloc, matches.get_strs("label"))?,
-            places: prefix_places(alloc, &places)?,
-        },
+        labels: labels_of(alloc, matches.get_strs("label"))?,
         prefix: prefix_of(alloc, matches.get_str("prefix"))?,
         drops: drops_of(alloc, matches.get_strs("drop"))?,
         skips_bad: matches.get_flag("skip-bad"),

@@ -8,7 +8,7 @@ use std::io::Write;
 use std::process::Abort;
 use test_trial::Trial;
 use tool_export::plan_of;
-use tool_prometheus::{Dialect, Items, Naming, Options, Surroundings};
+use tool_prometheus::{Items, Naming, Options, Surroundings};
 
 /// A clock of these moments, and a file that keeps its texts, but for the one with the number `bad`. Keeps messages too.
 #[derive(Drop)]
@@ -99,10 +99,7 @@ fn ran_every<'a, R: Abort>(
         plan: plan.expect(rt, "a plan"),
         naming: Naming::AsGiven,
         prefixes: Items::from(Vec::new(alloc)),
-        dialect: Dialect {
-            labels: Items::from(Vec::new(alloc)),
-            places: Items::from(Vec::new(alloc)),
-        },
+        labels: Items::from(Vec::new(alloc)),
         prefix: None,
         drops: Items::from(Vec::new(alloc)),
         skips_bad: every.is_some(),

@@ -11,7 +11,7 @@ use std::process::Abort;
 use test_trial::Trial;
 use tool_export::plan_of;
 use tool_lines::{RunError, command, run};
-use tool_prometheus::{Dialect, Items, Naming, Options, Surroundings};
+use tool_prometheus::{Items, Naming, Options, Surroundings};
 
 const GOOD: &[u8] = b"book\nprefix app\nend\ndescribe counter hits count all hits\n\
     register counter hits host=a\nincrement 0 2\nincrement 0 3\nsnapshot 0\nsnapshot 0\n";
@@ -152,10 +152,7 @@ fn shown_to(rt: &impl Abort, alloc: Global, given: &[u8], writes: usize) -> (u8,
         plan: plan.expect(rt, "a plan"),
         naming: Naming::AsGiven,
         prefixes: Items::from(Vec::new(alloc)),
-        dialect: Dialect {
-            labels: Items::from(Vec::new(alloc)),
-            places: Items::from(Vec::new(alloc)),
-        },
+        labels: Items::from(Vec::new(alloc)),
         prefix: None,
         drops: Items::from(Vec::new(alloc)),
         skips_bad: false,

@@ -16,7 +16,6 @@ use Rattle.tool_export.proofs.AnswerLemmas.{Calls, Full, Absent, IsUpdateAnswer,
 use Rattle.tool_prometheus.specs.declared.answering.Served.{Served}
 use Rattle.tool_prometheus.specs.declared.requests.Request.TheVariants.{Change, Describe, Scrape, Nothing}
 use Rattle.tool_prometheus.specs.Asked.{nothing_asked}
-use Rattle.tool_prometheus.specs.Places.{kept_places}
 use Rattle.tool_prometheus.specs.Exposed.{fault_text, refusal_text, shown_text, IsExposed, HasMoment, HandsOutShown, Answers, ShowsEnd}
 
 module _ (old : Served) (exporter : Exporter) where
@@ -42,7 +41,7 @@ module _ (old : Served) (exporter : Exporter) where
 
     told_done : Told (Ok tt)
     told_done calls full absent = (
-      (refl, refl, refl, refl, refl, refl, refl, refl),
+      (refl, refl, refl, refl, refl, refl, refl),
       λ setup log after. (
         updates key by (Ok tt) ∷ [],
         calls setup log after,
@@ -52,7 +51,7 @@ module _ (old : Served) (exporter : Exporter) where
 
     told_full : Told (Err CountFull)
     told_full calls full absent = (
-      (refl, refl, refl, refl, refl, refl, refl, refl),
+      (refl, refl, refl, refl, refl, refl, refl),
       λ setup log after. (
         updates key by (Err CountFull) ∷ [],
         calls setup log after,
@@ -62,7 +61,7 @@ module _ (old : Served) (exporter : Exporter) where
 
     told_want : Told (Err Memory)
     told_want calls full absent = (
-      (refl, refl, refl, refl, refl, refl, refl, refl),
+      (refl, refl, refl, refl, refl, refl, refl),
       λ setup log after. (
         updates key by (Err Memory) ∷ [],
         calls setup log after,
@@ -86,9 +85,9 @@ module _ (old : Served) (exporter : Exporter) where
         → IfErr r (λ e. e ≡ Memory)
         → Answers old (with_exporter (owed r) (failed r)) (Describe kind name unit note) nothing_asked (refusal_text old.has_file r)
     described_told (Ok done) told same memory =
-        ((refl, refl, refl, refl, refl, refl, refl, refl), λ setup log after. ([], stands setup log after, inl (told, refl, refl, refl, refl, refl)))
+        ((refl, refl, refl, refl, refl, refl, refl), λ setup log after. ([], stands setup log after, inl (told, refl, refl, refl, refl, refl)))
     described_told (Err e) told same memory = (
-      (refl, refl, refl, refl, refl, refl, refl, refl),
+      (refl, refl, refl, refl, refl, refl, refl),
       λ setup log after. ([], stands setup log after, inr (same, refl, refl, ap (fault_text old.has_file) memory, refl, refl)),
     )
 
@@ -101,13 +100,13 @@ module _ (old : Served) (exporter : Exporter) where
   pub scraped : {T : Type 0} (bytes : T → List ℕ) (moment : Option ℕ) (now : ℕ) (clock : List ℕ) (files : List (List ℕ))
       (new : Served) (r : Result T Error)
       → described exporter ≡ described old.exporter → HasMoment moment clock now
-      → Scrapes (λ cells t. IsExposed old.naming (kept_places old.dialect.places old.front) exporter cells (bytes t)) old.exporter exporter now r
+      → Scrapes (λ cells t. IsExposed old.naming exporter cells (bytes t)) old.exporter exporter now r
       → HandsOutShown bytes scraped_on r new files
       → Answers old new (Scrape moment) (record { clock = clock; files = files }) (shown_text bytes old.has_file r)
   scraped bytes moment now clock files new (Ok t) same at scrapes (done, out, is) =
       let on : Served = record scraped_on { is_changed = false; has_failed = (if done then old.has_failed else true) } in
       let answer : Answers old on (Scrape moment) (record { clock = clock; files = files }) (shown_text bytes old.has_file (Ok t)) = (
-        (refl, refl, refl, refl, refl, refl, refl, refl),
+        (refl, refl, refl, refl, refl, refl, refl),
         λ setup log after.
             let (checks, answered, made, stands, (n, ok, shown)) = scrapes setup log after in (
               expires now checks answered ∷ [],
@@ -136,7 +135,7 @@ module _ (old : Served) (exporter : Exporter) where
   scraped bytes moment now clock files new (Err e) same at scrapes (none, is) =
       let on : Served = record scraped_on { has_failed = true } in
       let answer : Answers old on (Scrape moment) (record { clock = clock; files = files }) (shown_text bytes old.has_file (Err e)) = (
-        (refl, refl, refl, refl, refl, refl, refl, refl),
+        (refl, refl, refl, refl, refl, refl, refl),
         λ setup log after.
             let (checks, answered, made, stands, (memory, held)) = scrapes setup log after in (
               expires now checks answered ∷ [],
@@ -156,7 +155,7 @@ module _ (old : Served) (exporter : Exporter) where
 
 pub nothing_told : (on : Served) → Answers on on Nothing nothing_asked []
 nothing_told on = (
-  (refl, refl, refl, refl, refl, refl, refl, refl),
+  (refl, refl, refl, refl, refl, refl, refl),
   λ setup log after.
       ([], subst (λ l. IsAfter setup l on.exporter) (sym (append-nil log)) after, inl (refl, refl, refl, refl)),
 )
@@ -165,7 +164,7 @@ nothing_told on = (
 
 pub end_shown : (on new : Served) (files : List (List ℕ)) {T : Type 0} (bytes : T → List ℕ) (r : Result T Error)
     → ((setup : Setup) (log : Log) → IsAfter setup log on.exporter
-    → MatchResult r (λ t. IsExposed on.naming (kept_places on.dialect.places on.front) on.exporter (cells_after setup (steps log)) (bytes t)) (λ e. e ≡ Memory))
+    → MatchResult r (λ t. IsExposed on.naming on.exporter (cells_after setup (steps log)) (bytes t)) (λ e. e ≡ Memory))
     → ((setup : Setup) (log : Log) → IsAfter setup log on.exporter → OnErr r (HoldsSome (cells_after setup (steps log))))
     → HandsOutShown bytes on r new files
     → ShowsEnd on new (record { clock = []; files = files }) (shown_text bytes on.has_file r)

@@ -4,7 +4,6 @@ pub mod LabelLemmas
 pub mod MakingLemmas
 pub mod NamesLemmas
 pub mod PlaceLemmas
-pub mod PlacesLemmas
 pub mod SentenceLemmas
 pub mod WordLemmas
 pub mod AnswerLemmas

@@ -1,5 +1,5 @@
 -- A line spells at most one request.
-use Rattle.std.proofs.Common.{◌≡◌, ◌∙◌, ℕ, List, [], ◌∷◌, ◌++◌, codes, drop, refl, ap, sym, subst, arith}
+use Rattle.std.proofs.Common.{◌≡◌, ◌∙◌, ℕ, List, [], ◌∷◌, ◌++◌, codes, drop, refl, ap, sym, arith}
 use Rattle.std.specs.Prelude.{Option, Some}
 use Rattle.std.proofs.lemmas.Fmt.{decimal_injective}
 use Rattle.metrics_names.specs.Names.{LabelParts, name_word}
@@ -11,14 +11,11 @@ use Rattle.metrics.specs.declared.calls.Call.{Call}
 use Rattle.metrics.specs.declared.calls.Call.TheVariants as call
 use Rattle.metrics_prometheus.specs.Labels.{placed}
 use Rattle.tool_grammar.specs.Cuts.{Lacks, StartsAt}
-use Rattle.tool_grammar.specs.Grammar.{spelling as call_spelling}
-use Rattle.tool_numbers.specs.Numerals.{IsAmount}
-use Rattle.tool_numbers.proofs.AmountLemmas.{amount-lacks, amount-same}
-use Rattle.tool_prometheus.specs.declared.dialect.Dialect.{Dialect}
-use Rattle.tool_prometheus.specs.Places.{places_at}
+use Rattle.tool_grammar.specs.Grammar.{amount_word, spelling as call_spelling}
 use Rattle.tool_grammar.proofs.WordsLemmas.{before_same, first_same, lacks_literal, lacks_update}
 use Rattle.tool_grammar.proofs.CallLemmas.{call_same, name_same}
-use Rattle.tool_export.proofs.RequestLemmas.{no_scrape}
+use Rattle.tool_export.proofs.RequestLemmas.{lacks_amount, no_scrape}
+use Rattle.tool_export.proofs.SpellingLemmas.{same_update}
 use Rattle.tool_prometheus.specs.declared.requests.Request.{Request}
 use Rattle.tool_prometheus.specs.declared.requests.Request.TheVariants.{Change, Describe, Scrape, Nothing}
 use Rattle.tool_prometheus.specs.Lines.{Written, MayFollow, label_words, in_order, with_labels, label_of, Sentence, change, describe, scrape, scrape_by_clock, comment, empty}
@@ -49,12 +46,12 @@ request_of (call.SnapshotWith b reset) = Nothing
 -- ---- lines
 
 begun : (s : Sentence) → IsOther s → IsBegun (first_word s ++ behind_it s)
-begun (change (Increment n) amount name ws) o = λ e. omega (arith, e)
-begun (change (Absolute n) amount name ws) o = λ e. omega (arith, e)
-begun (change (Add n) amount name ws) o = λ e. omega (arith, e)
-begun (change (Subtract n) amount name ws) o = λ e. omega (arith, e)
-begun (change (Set n) amount name ws) o = λ e. omega (arith, e)
-begun (change (Record n) amount name ws) o = λ e. omega (arith, e)
+begun (change (Increment n) name ws) o = λ e. omega (arith, e)
+begun (change (Absolute n) name ws) o = λ e. omega (arith, e)
+begun (change (Add n) name ws) o = λ e. omega (arith, e)
+begun (change (Subtract n) name ws) o = λ e. omega (arith, e)
+begun (change (Set n) name ws) o = λ e. omega (arith, e)
+begun (change (Record n) name ws) o = λ e. omega (arith, e)
 begun (describe kind name unit text) o = λ e. omega (arith, e)
 begun (scrape now) o = λ e. omega (arith, e)
 begun scrape_by_clock o = λ e. omega (arith, e)
@@ -62,7 +59,7 @@ begun (comment text) o = absurd o
 begun empty o = absurd o
 
 lacks : (s : Sentence) → IsOther s → Lacks 32 (first_word s)
-lacks (change by amount name ws) o = lacks_update by
+lacks (change by name ws) o = lacks_update by
 lacks (describe kind name unit text) o = lacks_literal 32 (codes "describe") refl
 lacks (scrape now) o = lacks_literal 32 (codes "scrape") refl
 lacks scrape_by_clock o = lacks_literal 32 (codes "scrape") refl
@@ -70,7 +67,7 @@ lacks (comment text) o = absurd o
 lacks empty o = absurd o
 
 starts : (s : Sentence) → IsOther s → StartsAt 32 (behind_it s)
-starts (change by amount name ws) o = refl
+starts (change by name ws) o = refl
 starts (describe kind name unit text) o = refl
 starts (scrape now) o = refl
 starts scrape_by_clock o = tt
@@ -78,7 +75,7 @@ starts (comment text) o = absurd o
 starts empty o = absurd o
 
 cut-is : (s : Sentence) → IsOther s → spelling s ≡ first_word s ++ behind_it s
-cut-is (change by amount name ws) o = refl
+cut-is (change by name ws) o = refl
 cut-is (describe kind name unit text) o = refl
 cut-is (scrape now) o = refl
 cut-is scrape_by_clock o = refl
@@ -87,31 +84,30 @@ cut-is empty o = absurd o
 
 -- ---- two sentences of one line, by the first
 
-module _ (dialect : Dialect) where
+module _ (common : List LabelParts) where
   abbrev Same : Sentence → Sentence → Type 0
-  Same s t = CanBeSpelled dialect s → CanBeSpelled dialect t → IsOther t × (first_word s ≡ first_word t) × (behind_it s ≡ behind_it t)
-      → spelling s ≡ spelling t → request_in dialect.labels s ≡ request_in dialect.labels t
+  Same s t = CanBeSpelled s → CanBeSpelled t → IsOther t × (first_word s ≡ first_word t) × (behind_it s ≡ behind_it t)
+      → spelling s ≡ spelling t → request_in common s ≡ request_in common t
 
-  change-same : (by : Update) (amount name : List ℕ) (ws : List Written) (t : Sentence) → Same (change by amount name ws) t
-  change-same by amount name ws (change u given n vs) h g (o, w, b) e =
+  change-same : (by : Update) (name : List ℕ) (ws : List Written) (t : Sentence) → Same (change by name ws) t
+  change-same by name ws (change u n vs) h g (o, w, b) e =
       let tail = ap (drop 1) b in
-      let amounts = first_same 32 (amount ++ 32 ∷ (name_word name ++ label_words ws)) amount (name_word name ++ label_words ws)
-      given (name_word n ++ label_words vs) (amount-lacks _ by amount h.0) (amount-lacks _ u given g.0) refl tail in
+      let amounts = first_same 32 (amount_word by ++ 32 ∷ (name_word name ++ label_words ws)) (amount_word by) (name_word name ++ label_words ws)
+      (amount_word u) (name_word n ++ label_words vs) (lacks_amount by h.0) (lacks_amount u g.0) refl tail in
       let names = before_same 32 (name_word name) (name_word n) (label_words ws) (label_words vs) (lacks_name name h.1) (lacks_name n g.1)
       (starts-words ws) (starts-words vs) amounts.1 in
+      let updates = same_update by u h.0 g.0 w amounts.0 in
       let same = name_same name n (h.1.0.1, h.1.1, h.1.2) (g.1.0.1, g.1.1, g.1.2) names.0 in
-      let other : IsAmount (places_at dialect.places n) by given = subst (IsAmount (places_at dialect.places n) by) amounts.0 (subst (λ (z : List ℕ). IsAmount (places_at dialect.places z) by amount) same h.0) in
-      let updates = amount-same (places_at dialect.places n) by u given other g.0 w in
       let labels = words-same ws vs [] [] h.2 g.2 names.1 in
-      λ i. Change (record { name = same i; labels = with_labels dialect.labels (in_order (labels i)) }) (updates i)
-  change-same by amount name ws (describe kind n unit text) h g (o, w, b) e = absurd (no_describe by (sym w))
-  change-same by amount name ws (scrape now) h g (o, w, b) e = absurd (no_scrape by (sym w))
-  change-same by amount name ws scrape_by_clock h g (o, w, b) e = absurd (no_scrape by (sym w))
-  change-same by amount name ws (comment text) h g (o, w, b) e = absurd o
-  change-same by amount name ws empty h g (o, w, b) e = absurd o
+      λ i. Change (record { name = same i; labels = with_labels common (in_order (labels i)) }) (updates i)
+  change-same by name ws (describe kind n unit text) h g (o, w, b) e = absurd (no_describe by (sym w))
+  change-same by name ws (scrape now) h g (o, w, b) e = absurd (no_scrape by (sym w))
+  change-same by name ws scrape_by_clock h g (o, w, b) e = absurd (no_scrape by (sym w))
+  change-same by name ws (comment text) h g (o, w, b) e = absurd o
+  change-same by name ws empty h g (o, w, b) e = absurd o
 
   describe-same : (kind : MetricKind) (name : List ℕ) (unit : Option Measure) (text : List ℕ) (t : Sentence) → Same (describe kind name unit text) t
-  describe-same kind name unit text (change u given n vs) h g (o, w, b) e = absurd (no_describe u w)
+  describe-same kind name unit text (change u n vs) h g (o, w, b) e = absurd (no_describe u w)
   describe-same kind name unit text (describe k n m x) h g (o, w, b) e =
       ap request_of (call_same (call_spelling (call.Describe kind name unit text)) (call.Describe kind name unit text) (call.Describe k n m x)
       (((h.0.0.1, h.0.1, h.0.2), h.1.1), refl) (((g.0.0.1, g.0.1, g.0.2), g.1.1), e))
@@ -121,7 +117,7 @@ module _ (dialect : Dialect) where
   describe-same kind name unit text empty h g (o, w, b) e = absurd o
 
   scrape-same : (now : ℕ) (t : Sentence) → Same (scrape now) t
-  scrape-same now (change u given n vs) h g (o, w, b) e = absurd (no_scrape u w)
+  scrape-same now (change u n vs) h g (o, w, b) e = absurd (no_scrape u w)
   scrape-same now (describe k n m x) h g (o, w, b) e = absurd (differs w)
   scrape-same now (scrape n) h g (o, w, b) e = ap (λ m. Scrape (Some m)) (decimal_injective now n h g (ap (drop 1) b))
   scrape-same now scrape_by_clock h g (o, w, b) e = absurd (cc)
@@ -129,7 +125,7 @@ module _ (dialect : Dialect) where
   scrape-same now empty h g (o, w, b) e = absurd o
 
   clock-same : (t : Sentence) → Same scrape_by_clock t
-  clock-same (change u given n vs) h g (o, w, b) e = absurd (no_scrape u w)
+  clock-same (change u n vs) h g (o, w, b) e = absurd (no_scrape u w)
   clock-same (describe k n m x) h g (o, w, b) e = absurd (differs w)
   clock-same (scrape n) h g (o, w, b) e = absurd (cc)
   clock-same scrape_by_clock h g (o, w, b) e = refl
@@ -137,7 +133,7 @@ module _ (dialect : Dialect) where
   clock-same empty h g (o, w, b) e = absurd o
 
   by-first : (s t : Sentence) → IsOther s → Same s t
-  by-first (change by amount name ws) t o = change-same by amount name ws t
+  by-first (change by name ws) t o = change-same by name ws t
   by-first (describe kind name unit text) t o = describe-same kind name unit text t
   by-first (scrape now) t o = scrape-same now t
   by-first scrape_by_clock t o = clock-same t
@@ -145,31 +141,31 @@ module _ (dialect : Dialect) where
   by-first empty t o = absurd o
 
   -- by the first, where it is neither a comment nor empty
-  other-same : (s t : Sentence) → IsOther s → CanBeSpelled dialect s → CanBeSpelled dialect t → spelling s ≡ spelling t → request_in dialect.labels s ≡ request_in dialect.labels t
+  other-same : (s t : Sentence) → IsOther s → CanBeSpelled s → CanBeSpelled t → spelling s ≡ spelling t → request_in common s ≡ request_in common t
   other-same s t o h g e =
       by-first s t o h g (cut (first_word s) (behind_it s) (lacks s o) (starts s o) (begun s o) t (sym (cut-is s o) ∙ e)) e
 
-  sentences-same : (s t : Sentence) → CanBeSpelled dialect s → CanBeSpelled dialect t → spelling s ≡ spelling t → request_in dialect.labels s ≡ request_in dialect.labels t
-  sentences-same (change by amount name ws) t h g e = other-same (change by amount name ws) t tt h g e
+  sentences-same : (s t : Sentence) → CanBeSpelled s → CanBeSpelled t → spelling s ≡ spelling t → request_in common s ≡ request_in common t
+  sentences-same (change by name ws) t h g e = other-same (change by name ws) t tt h g e
   sentences-same (describe kind name unit text) t h g e = other-same (describe kind name unit text) t tt h g e
   sentences-same (scrape now) t h g e = other-same (scrape now) t tt h g e
   sentences-same scrape_by_clock t h g e = other-same scrape_by_clock t tt h g e
-  sentences-same (comment x) (change by amount name ws) h g e = sym (other-same (change by amount name ws) (comment x) tt g h (sym e))
+  sentences-same (comment x) (change by name ws) h g e = sym (other-same (change by name ws) (comment x) tt g h (sym e))
   sentences-same (comment x) (describe kind name unit text) h g e = sym (other-same (describe kind name unit text) (comment x) tt g h (sym e))
   sentences-same (comment x) (scrape now) h g e = sym (other-same (scrape now) (comment x) tt g h (sym e))
   sentences-same (comment x) scrape_by_clock h g e = sym (other-same scrape_by_clock (comment x) tt g h (sym e))
   sentences-same (comment x) (comment y) h g e = refl
   sentences-same (comment x) empty h g e = refl
-  sentences-same empty (change by amount name ws) h g e = sym (other-same (change by amount name ws) empty tt g h (sym e))
+  sentences-same empty (change by name ws) h g e = sym (other-same (change by name ws) empty tt g h (sym e))
   sentences-same empty (describe kind name unit text) h g e = sym (other-same (describe kind name unit text) empty tt g h (sym e))
   sentences-same empty (scrape now) h g e = sym (other-same (scrape now) empty tt g h (sym e))
   sentences-same empty scrape_by_clock h g e = sym (other-same scrape_by_clock empty tt g h (sym e))
   sentences-same empty (comment y) h g e = refl
   sentences-same empty empty h g e = refl
 
-  pub request_same : (line : List ℕ) (q r : Request) → Spells dialect line q → Spells dialect line r → q ≡ r
+  pub request_same : (line : List ℕ) (q r : Request) → Spells common line q → Spells common line r → q ≡ r
   request_same line q r (s, can, is, asks) (t, could, was, asked) =
       asks ∙ sentences-same s t can could (sym is ∙ was) ∙ sym asked
 
-  pub asked_same : (new : Renaming) (line : List ℕ) (q r : Request) → Requests dialect new line q → Requests dialect new line r → q ≡ r
+  pub asked_same : (new : Renaming) (line : List ℕ) (q r : Request) → Requests common new line q → Requests common new line r → q ≡ r
   asked_same new line q r (p, spells, is) (o, spelled, was) = is ∙ ap (renamed new) (request_same line p o spells spelled) ∙ sym was

@@ -12,7 +12,7 @@ use Rattle.metrics_registry.specs.Idleness.{Answered}
 use Rattle.metrics_exporter.specs.Exporting.{Setup, Step, expires, steps, Cells, cells_after, IsExpiry}
 use Rattle.metrics_exporter.specs.Describing.{Legend}
 use Rattle.metrics_prometheus.specs.declared.naming.Naming.{Naming}
-use Rattle.metrics_prometheus.specs.Exposition.{IsScaled}
+use Rattle.metrics_prometheus.specs.Exposition.{IsDescribed}
 use Rattle.tool_prometheus.specs.Making.{setup_for}
 use Rattle.tool_prometheus.specs.declared.commands.Options.{Options}
 use Rattle.tool_prometheus.specs.declared.requests.Request.{Request}
@@ -22,15 +22,15 @@ use Rattle.tool_prometheus.specs.Asked.{Asked, then_asked, clock_gave}
 use Rattle.tool_prometheus.specs.Exposed.{scrape_text, HasMoment, HandsOut}
 use Rattle.tool_prometheus.specs.declared.timing.Timer.{Timer}
 use Rattle.tool_prometheus.specs.Timing.{Timed, Starts, in_time, restarted}
-use Rattle.tool_prometheus.specs.Output.{Done, begun, places_shown, loses_line, lines_in, PrintsExposition, Prints, PrintsEach, PrintsInTime, TakesLine, PrintsEnd, PrintLines}
+use Rattle.tool_prometheus.specs.Output.{Done, begun, loses_line, lines_in, PrintsExposition, Prints, PrintsEach, PrintsInTime, TakesLine, PrintsEnd, PrintLines}
 use Rattle.tool_prometheus.specs.Output.{IsOutput, NamesMoments}
 use Rattle.tool_prometheus.specs.Names.{renamed, name_by, change_if, describe_if, named_key}
 use Rattle.tool_prometheus.proofs.OneLemmas.{asked_same}
 
 -- cells have one exposition
 abbrev pub OneExposition : Type 0
-OneExposition = (naming : Naming) (legend : Legend) (places : List ℕ → ℕ) (cells : Cells) (a b : List ℕ)
-    → IsScaled naming legend places cells a → IsScaled naming legend places cells b → a ≡ b
+OneExposition = (naming : Naming) (legend : Legend) (cells : Cells) (a b : List ℕ)
+    → IsDescribed naming legend cells a → IsDescribed naming legend cells b → a ≡ b
 
 -- an expiry makes one list of checks
 abbrev pub OneExpiry : Type 0
@@ -104,7 +104,7 @@ module _ (one : OneExposition) (expiry : OneExpiry) (options : Options) where
   exposition-same : (done : Done) (f g : List (List ℕ)) (a b : List ℕ) → PrintsExposition options done f a
       → PrintsExposition options done g b → (f ≡ g) × (a ≡ b)
   exposition-same done f g a b (shown, is, prints, out) (other, was, printed, given) =
-      let same : shown ≡ other = one options.naming done.legend (places_shown options) (cells_after (setup_for options) (steps done.calls)) shown other is was in (
+      let same : shown ≡ other = one options.naming done.legend (cells_after (setup_for options) (steps done.calls)) shown other is was in (
         handed-same options.has_file other f g (subst (λ z. HandsOut options.has_file z true f) same out) given,
         prints ∙ ap (scrape_text options.has_file) same ∙ sym printed,
       )
@@ -166,7 +166,7 @@ module _ (one : OneExposition) (expiry : OneExpiry) (options : Options) where
   takes-same : (old : Done) (line : List ℕ) (request wanted : Request) (new other : Done) → TakesLine options old line request new
       → TakesLine options old line wanted other → (request ≡ wanted) × (new ≡ other)
   takes-same old line request wanted new other (inl (spells, is)) (inl (spelled, was)) =
-      (asked_same options.dialect (name_by options) line request wanted spells spelled, is ∙ sym was)
+      (asked_same options.labels (name_by options) line request wanted spells spelled, is ∙ sym was)
   takes-same old line request wanted new other (inl (spells, is)) (inr (skips, bad, none, was)) =
       absurd (bad spells.1.0 spells.1.1 spells.1.2)
   takes-same old line request wanted new other (inr (skips, bad, none, is)) (inl (spells, was)) =
@@ -176,7 +176,7 @@ module _ (one : OneExposition) (expiry : OneExpiry) (options : Options) where
 
   -- a line that ends the run asks for nothing
   taken-good : (old : Done) (line : List ℕ) (request : Request) (new : Done) → TakesLine options old line request new
-      → options.skips_bad ≡ false → IsBad options.dialect line → ⊥
+      → options.skips_bad ≡ false → IsBad line → ⊥
   taken-good old line request new (inl (spells, is)) ends bad = bad spells.1.0 spells.1.1 spells.1.2
   taken-good old line request new (inr (skips, was, none, is)) ends bad = false≢true (sym ends ∙ skips)
 
@@ -263,15 +263,15 @@ module _ (options : Options) where
   nothing-else : Nothing ≡ Scrape None → ⊥
   nothing-else e = absurd (cc)
 
-  no-moment-taken : (old : Done) (line : List ℕ) (request : Request) (new : Done) → (Spells options.dialect line (Scrape None) → ⊥)
+  no-moment-taken : (old : Done) (line : List ℕ) (request : Request) (new : Done) → (Spells options.labels line (Scrape None) → ⊥)
       → TakesLine options old line request new → (new.timer ≡ old.timer) × (request ≡ Scrape None → ⊥)
   no-moment-taken old line request new own (inl ((spelled, of_line, is), same)) =
-      (ap (λ d. d.timer) same, λ e. own (subst (Spells options.dialect line) (scrape-named spelled (sym is ∙ e)) of_line))
+      (ap (λ d. d.timer) same, λ e. own (subst (Spells options.labels line) (scrape-named spelled (sym is ∙ e)) of_line))
   no-moment-taken old line request new own (inr (skips, bad, none, same)) =
       (ap (λ d. d.timer) same, λ e. nothing-else (sym none ∙ e))
 
   no-moments : (done : Done) (ls : List (List ℕ)) (p : Asked) (a : List ℕ) (s : ℕ) → done.timer ≡ None
-      → AllByRecursion (λ line. Spells options.dialect line (Scrape None) → ⊥) ls → PrintLines options done ls p a s → p.clock ≡ []
+      → AllByRecursion (λ line. Spells options.labels line (Scrape None) → ⊥) ls → PrintLines options done ls p a s → p.clock ≡ []
   no-moments done [] p a s untimed own h = h.0.0
   no-moments done (l ∷ ls) p a s untimed own (inl (request, taken, new, first, later, part, others, takes, prints, rest, deeds, text)) =
       let (kept, other) = no-moment-taken done l request taken own.0 takes in

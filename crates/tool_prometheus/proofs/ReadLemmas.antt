@@ -7,13 +7,9 @@ use Rattle.metrics_names.specs.declared.kind.MetricKind.{MetricKind}
 use Rattle.metrics_names.specs.declared.common.Unit.{Unit as Measure}
 use Rattle.metrics.specs.declared.handles.Update.{Update}
 use Rattle.tool_grammar.specs.Cuts.{Lacks, StartsAt}
-use Rattle.tool_grammar.specs.Grammar.{unit_word, update_word}
-use Rattle.tool_numbers.specs.Numerals.{IsAmount}
-use Rattle.tool_numbers.proofs.AmountLemmas.{amount-lacks}
-use Rattle.tool_prometheus.specs.declared.dialect.Dialect.{Dialect}
-use Rattle.tool_prometheus.specs.Places.{places_at}
+use Rattle.tool_grammar.specs.Grammar.{unit_word, update_word, amount_word, IsInRange}
 use Rattle.tool_grammar.proofs.WordsLemmas.{before_same, first_same, lacks_kind, lacks_unit}
-use Rattle.tool_grammar.proofs.CallLemmas.{name_same}
+use Rattle.tool_export.proofs.RequestLemmas.{lacks_amount}
 use Rattle.tool_prometheus.specs.declared.flaws.Unread.{Unread}
 use Rattle.tool_prometheus.specs.declared.flaws.Unread.TheVariants.{Memory, Bad}
 use Rattle.tool_prometheus.specs.declared.requests.Request.TheVariants.{Change, Describe, Scrape}
@@ -152,6 +148,11 @@ module _ (bytes word rest : List ℕ) (is : bytes ≡ 32 ∷ (word ++ rest)) (la
   no-name Memory none = tt
   no-name (Bad cause at) none = λ name r h sr e. none name h (same-word (name_word name) r (lacks_name name h) sr e).0
 
+  pub no-amount : (first : List ℕ) → ((by : Update) → IsInRange by → first ≡ update_word by → word ≡ amount_word by → ⊥)
+      → (by : Update) (r : List ℕ) → IsInRange by → StartsAt 32 r → first ≡ update_word by → bytes ≡ 32 ∷ (amount_word by ++ r) → ⊥
+  no-amount first none by r range sr is_word e =
+      none by range is_word (same-word (amount_word by) r (lacks_amount by range) sr e).0
+
 text-name : (name : List ℕ) → IsName name → IsText (name_word name)
 text-name [] h = visible-text (codes "-") (λ k d small. grind arith)
 text-name (x ∷ xs) h = h.0
@@ -165,60 +166,45 @@ no-name-text bytes others (Bad cause at) is none = λ name r h sr e.
 
 -- ---- an update
 
-abbrev pub IsNoChange : Dialect → List ℕ → List ℕ → Type 0
-IsNoChange dialect word bytes = (by : Update) (amount name : List ℕ) (ws : List Written) → IsAmount (places_at dialect.places name) by amount → IsName name
-    → AreWritten ws → word ≡ update_word by → bytes ≡ 32 ∷ (amount ++ 32 ∷ (name_word name ++ label_words ws)) → ⊥
+abbrev pub IsNoChange : List ℕ → List ℕ → Type 0
+IsNoChange word bytes = (by : Update) (name : List ℕ) (ws : List Written) → IsInRange by → IsName name → AreWritten ws
+    → word ≡ update_word by → bytes ≡ 32 ∷ (amount_word by ++ 32 ∷ (name_word name ++ label_words ws)) → ⊥
 
-pub no-change-space : (dialect : Dialect) (word bytes : List ℕ) (e : Unread) → Fails ((rest : List ℕ) → bytes ≡ 32 ∷ rest → ⊥) e
-    → Fails (IsNoChange dialect word bytes) e
-no-change-space dialect word bytes Memory none = tt
-no-change-space dialect word bytes (Bad cause at) none = λ u a n ws h hn hw w e. none (a ++ 32 ∷ (name_word n ++ label_words ws)) e
-
--- the amount was read
-module _ (dialect : Dialect) (word bytes amount rest : List ℕ) (is : bytes ≡ 32 ∷ (amount ++ rest)) (lacks : Lacks 32 amount)
+-- the update was read
+module _ (word bytes : List ℕ) (by : Update) (rest : List ℕ) (range : IsInRange by) (is : bytes ≡ 32 ∷ (amount_word by ++ rest))
     (starts : StartsAt 32 rest) where
-  behind-amount : (places : ℕ) (u : Update) (a more : List ℕ) → IsAmount places u a → bytes ≡ 32 ∷ (a ++ 32 ∷ more)
-      → (amount ≡ a) × (rest ≡ 32 ∷ more)
-  behind-amount places u a more h e =
-      before_same 32 amount a rest (32 ∷ more) lacks (amount-lacks places u a h) starts refl (ap (drop 1) (sym is ∙ e))
+  behind-amount : (u : Update) (more : List ℕ) → IsInRange u → bytes ≡ 32 ∷ (amount_word u ++ 32 ∷ more) → rest ≡ 32 ∷ more
+  behind-amount u more h e =
+      (before_same 32 (amount_word by) (amount_word u) rest (32 ∷ more) (lacks_amount by range) (lacks_amount u h) starts refl
+      (ap (drop 1) (sym is ∙ e))).1
 
   pub no-change-name : (e : Unread) → Fails ((name r : List ℕ) → IsName name → StartsAt 32 r → rest ≡ 32 ∷ (name_word name ++ r) → ⊥) e
-      → Fails (IsNoChange dialect word bytes) e
+      → Fails (IsNoChange word bytes) e
   no-change-name Memory none = tt
-  no-change-name (Bad cause at) none = λ u a name ws h hn hw w e.
-      none name (label_words ws) hn (starts-words ws) (behind-amount _ u a _ h e).1
+  no-change-name (Bad cause at) none = λ u name ws h hn hw w e.
+      none name (label_words ws) hn (starts-words ws) (behind-amount u _ h e)
 
   module _ (name after : List ℕ) (hn : IsName name) (cut : rest ≡ 32 ∷ (name_word name ++ after)) (stops : StartsAt 32 after) where
-    behind-name : (u : Update) (a n : List ℕ) (ws : List Written) → IsAmount (places_at dialect.places n) u a → IsName n
-        → bytes ≡ 32 ∷ (a ++ 32 ∷ (name_word n ++ label_words ws)) → (amount ≡ a) × (name ≡ n) × (after ≡ label_words ws)
-    behind-name u a n ws h h' e =
-        let (amounts, names) = behind-amount _ u a _ h e in
-        let both = before_same 32 (name_word name) (name_word n) after (label_words ws) (lacks_name name hn) (lacks_name n h') stops (starts-words ws)
-        (ap (drop 1) (sym cut ∙ names)) in
-        (amounts, name_same name n (hn.0.1, hn.1, hn.2) (h'.0.1, h'.1, h'.2) both.0, both.1)
-
-    pub no-change-amount : (e : Unread)
-        → Fails ((by : Update) → IsAmount (places_at dialect.places name) by amount → word ≡ update_word by → ⊥) e
-        → Fails (IsNoChange dialect word bytes) e
-    no-change-amount Memory none = tt
-    no-change-amount (Bad cause at) none = λ u a n ws h h' hw w e.
-        let (amounts, names, others) = behind-name u a n ws h h' e in
-        none u (subst (λ (z : List ℕ). IsAmount (places_at dialect.places z) u amount) (sym names) (subst (IsAmount (places_at dialect.places n) u) (sym amounts) h)) w
+    behind-name : (u : Update) (n : List ℕ) (ws : List Written) → IsInRange u → IsName n
+        → bytes ≡ 32 ∷ (amount_word u ++ 32 ∷ (name_word n ++ label_words ws)) → after ≡ label_words ws
+    behind-name u n ws h h' e =
+        (before_same 32 (name_word name) (name_word n) after (label_words ws) (lacks_name name hn) (lacks_name n h') stops (starts-words ws)
+        (ap (drop 1) (sym cut ∙ behind-amount u _ h e))).1
 
     pub no-change-labels : (e : Unread) → Fails ((ws : List Written) → AreWritten ws → after ≡ label_words ws → ⊥) e
-        → Fails (IsNoChange dialect word bytes) e
+        → Fails (IsNoChange word bytes) e
     no-change-labels Memory none = tt
-    no-change-labels (Bad cause at) none = λ u a n ws h h' hw w e. none ws hw (behind-name u a n ws h h' e).2
+    no-change-labels (Bad cause at) none = λ u n ws h h' hw w e. none ws hw (behind-name u n ws h h' e)
 
-    pub change-read : (by : Update) (own labels : List LabelParts) → IsAmount (places_at dialect.places name) by amount → word ≡ update_word by
+    pub change-read : (common : List LabelParts) (own labels : List LabelParts) → word ≡ update_word by
         → ((ws : List Written) × AreWritten ws × (own ≡ in_order ws) × (after ≡ label_words ws))
-        → labels ≡ with_labels dialect.labels own → Reads dialect (word ++ bytes) (Change (record { name = name; labels = labels }) by)
-    change-read by own labels spells is_word (ws, written, same, at) all = (
-      change by amount name ws,
-      (spells, hn, written),
-      ap (λ w. w ++ bytes) is_word ∙ ap (λ b. update_word by ++ b) (is ∙ ap (λ z. 32 ∷ (amount ++ z)) (cut
+        → labels ≡ with_labels common own → Reads common (word ++ bytes) (Change (record { name = name; labels = labels }) by)
+    change-read common own labels is_word (ws, written, same, at) all = (
+      change by name ws,
+      (range, hn, written),
+      ap (λ w. w ++ bytes) is_word ∙ ap (λ b. update_word by ++ b) (is ∙ ap (λ z. 32 ∷ (amount_word by ++ z)) (cut
           ∙ ap (λ z. 32 ∷ (name_word name ++ z)) at)),
-      ap (λ ls. Change (record { name = name; labels = ls }) by) (all ∙ ap (with_labels dialect.labels) same),
+      ap (λ ls. Change (record { name = name; labels = ls }) by) (all ∙ ap (with_labels common) same),
     )
 
 -- ---- a description
@@ -252,9 +238,9 @@ module _ (bytes : List ℕ) (kind : MetricKind) (rest : List ℕ) (is : bytes �
           none text utf8 (before_same 32 (unit_word unit) (unit_word u) last (32 ∷ text) (lacks_unit unit) (lacks_unit u) ends refl
           (ap (drop 1) (sym measured ∙ behind-named k n _ h e))).1
 
-      pub description-read : (dialect : Dialect) (text : List ℕ) → IsText text → last ≡ 32 ∷ text
-          → Reads dialect (codes "describe" ++ bytes) (Describe kind name unit text)
-      description-read dialect text utf8 at = (
+      pub description-read : (common : List LabelParts) (text : List ℕ) → IsText text → last ≡ 32 ∷ text
+          → Reads common (codes "describe" ++ bytes) (Describe kind name unit text)
+      description-read common text utf8 at = (
         describe kind name unit text,
         (hn, utf8),
         ap (λ b. codes "describe" ++ b) (is ∙ ap (λ z. 32 ∷ (kind_word kind ++ z)) (cut ∙ ap (λ z. 32 ∷ (name_word name ++ z))
@@ -264,7 +250,7 @@ module _ (bytes : List ℕ) (kind : MetricKind) (rest : List ℕ) (is : bytes �
 
 -- ---- a scrape
 
-pub scrape-read : (dialect : Dialect) (bytes digits : List ℕ) (now : ℕ) → bytes ≡ 32 ∷ digits → digits ≡ decimal now
-    → now < 2 ^ 64 → Reads dialect (codes "scrape" ++ bytes) (Scrape (Some now))
-scrape-read dialect bytes digits now is at small =
+pub scrape-read : (common : List LabelParts) (bytes digits : List ℕ) (now : ℕ) → bytes ≡ 32 ∷ digits → digits ≡ decimal now
+    → now < 2 ^ 64 → Reads common (codes "scrape" ++ bytes) (Scrape (Some now))
+scrape-read common bytes digits now is at small =
     (scrape now, small, ap (λ b. codes "scrape" ++ b) (is ∙ ap (λ z. 32 ∷ z) at), refl)

@@ -7,7 +7,7 @@ use Rattle.metrics_exporter.specs.Exporting.{Setup, Log, updates, expires, steps
 use Rattle.metrics.specs.declared.error.Error.TheVariants as error
 use Rattle.metrics_exporter.specs.Describing.{SameLegend}
 use Rattle.metrics_exporter.specs.Kept.{IsAfter, described}
-use Rattle.metrics_prometheus.specs.Exposition.{IsScaled}
+use Rattle.metrics_prometheus.specs.Exposition.{IsDescribed}
 use Rattle.tool_grammar.specs.declared.error.RunError.{RunError}
 use Rattle.tool_grammar.specs.declared.error.RunError.TheVariants.{Memory, BadLine, Device}
 use Rattle.tool_export.specs.Lines.{lines_of, ended_lines, unlines, ended, IsEnded, IsLine}
@@ -19,15 +19,13 @@ use Rattle.tool_prometheus.specs.declared.answering.Served.{Served}
 use Rattle.tool_prometheus.specs.declared.requests.Request.{Request}
 use Rattle.tool_prometheus.specs.declared.requests.Request.TheVariants.{Change, Describe, Scrape, Nothing}
 use Rattle.tool_prometheus.specs.Asked.{Asked, nothing_asked, then_asked, Asks}
-use Rattle.tool_prometheus.specs.Lines.{IsBad}
-use Rattle.tool_prometheus.specs.Places.{kept_places, front_of}
 use Rattle.tool_prometheus.specs.Names.{ruled_name, name_by, Requests}
 use Rattle.tool_prometheus.specs.Exposed.{scrape_text, fault_text, KeepsRest, HandsOut, Shows, IsPlain, IsWant, IsAnswer, IsEnd, shows_at_end}
 use Rattle.tool_prometheus.specs.Exposed.{AnswersEach, Takes, AnswersLine}
 use Rattle.tool_prometheus.specs.declared.timing.Timer.{Timer}
 use Rattle.tool_prometheus.specs.Timing.{Starts}
 use Rattle.tool_prometheus.specs.Serving.{answers_since, Stops, EndsLines, IsFresh, own_status, or_left}
-use Rattle.tool_prometheus.specs.Output.{Done, begun, places_shown, lines_in, loses_line, PrintsExposition, Prints, PrintsEach, PrintsInTime, TakesLine, PrintLines}
+use Rattle.tool_prometheus.specs.Output.{Done, begun, lines_in, loses_line, PrintsExposition, Prints, PrintsEach, PrintsInTime, TakesLine, PrintLines}
 use Rattle.tool_prometheus.specs.Output.{IsOutput, Runs}
 use Rattle.tool_prometheus.proofs.AskedLemmas.{then-nothing, then-assoc}
 
@@ -136,8 +134,7 @@ module _ (options : Options) (cut : Bool) where
   -- what is served is as after these calls, by these options
   abbrev Stands : Log → Served → Type 0
   Stands log on = IsAfter setup log on.exporter × (on.naming ≡ options.naming) × (on.has_file ≡ options.has_file)
-      × (on.dialect ≡ options.dialect) × (on.at_scrapes_only ≡ options.at_scrapes_only) × (ruled_name on.rules ≡ name_by options)
-      × (on.front ≡ front_of options.prefix)
+      × (on.labels ≡ options.labels) × (on.at_scrapes_only ≡ options.at_scrapes_only) × (ruled_name on.rules ≡ name_by options)
 
   done-same : (log : Log) (old : Done) (new : Served) (changed : Bool) → SameLegend (described new.exporter) old.legend
       → new.is_changed ≡ changed → (if cut then true else new.has_bad) ≡ old.has_bad → new.timer ≡ old.timer
@@ -150,9 +147,7 @@ module _ (options : Options) (cut : Bool) where
       → PrintsExposition options (done_on log on) files text
   exposition log on has_file shown text files stands is shows t out = (
     shown,
-    subst (λ n. IsScaled n (described on.exporter) (places_shown options) (cells_after setup (steps log)) shown) stands.1
-        (subst (λ (f : List ℕ → ℕ). IsScaled on.naming (described on.exporter) f (cells_after setup (steps log)) shown)
-        (λ i. kept_places (stands.3 i).places (stands.6 i)) shows),
+    subst (λ n. IsDescribed n (described on.exporter) (cells_after setup (steps log)) shown) stands.1 shows,
     t ∙ ap (λ b. scrape_text b shown) is,
     subst (λ b. HandsOut b shown true files) is out,
   )
@@ -166,8 +161,8 @@ module _ (options : Options) (cut : Bool) where
 
   keeps-stands : (log : Log) (old new : Served) → Stands log old → KeepsRest old new → (calls : Log)
       → IsAfter setup calls new.exporter → Stands calls new
-  keeps-stands log old new (was, named, filed, labelled, ended_so, ruled, fronted) (naming, file, bad, dialect, ends, rules, timer, front) calls after =
-      (after, naming ∙ named, file ∙ filed, dialect ∙ labelled, ends ∙ ended_so, ap ruled_name rules ∙ ruled, front ∙ fronted)
+  keeps-stands log old new (was, named, filed, labelled, ended_so, ruled) (naming, file, bad, labels, ends, rules, timer) calls after =
+      (after, naming ∙ named, file ∙ filed, labels ∙ labelled, ends ∙ ended_so, ap ruled_name rules ∙ ruled)
 
   printed : (log : Log) (old new : Served) (request : Request) (made : Log) (asked : Asked) (text : List ℕ) → Stands log old
       → KeepsRest old new → IsAfter setup (log ++ made) new.exporter → (new.has_failed ≡ true → ⊥)
@@ -269,12 +264,12 @@ module _ (options : Options) (cut : Bool) where
       → Stands log taken × TakesLine options (done_on log old) line request (done_on log taken)
   taken-stands log old line request taken (inl (spells, is)) stands = (
     subst (Stands log) (sym is) stands,
-    inl (subst (λ new. Requests options.dialect new line request) stands.5 (subst (λ ds. Requests ds (ruled_name old.rules) line request) stands.3 spells), ap (done_on log) is),
+    inl (subst (λ new. Requests options.labels new line request) stands.5 (subst (λ ls. Requests ls (ruled_name old.rules) line request) stands.3 spells), ap (done_on log) is),
   )
   taken-stands log old line request taken (inr (skips, bad, none, is)) stands =
       let noted : done_on log taken ≡ record (done_on log old) { has_bad = true } =
       ap (done_on log) is ∙ (λ i. record (done_on log old) { has_bad = or-true cut i }) in
-      (subst (Stands log) (sym is) stands, inr (skips, subst (λ ds. IsBad ds line) stands.3 bad, none, noted))
+      (subst (Stands log) (sym is) stands, inr (skips, bad, none, noted))
 
   -- a line asked and printed this, and what is served is after some calls
   abbrev Line_printed : Log → Served → List ℕ → Asked → List ℕ → Served → Type 0
@@ -372,7 +367,7 @@ module _ (options : Options) (cut : Bool) where
         (subst (λ z. PrintLines options (done_on [] start) (lines_said es ++ rest) (then_asked z after) (texts_in es ++ last) status) (sym total) more))
 
     ended_so : (q r : Result ℕ RunError) → (new.has_failed ≡ true → ⊥) → status ≡ own_status r new.has_bad → status ≢ 1
-        → IsRun (answers_since options.skips_bad) (λ on. Stops options.skips_bad on.0) at_end 1 ((start, nothing_asked), tt) (served, before) front lines q
+        → IsRun (answers_since options.skips_bad) (Stops options.skips_bad) at_end 1 ((start, nothing_asked), tt) (served, before) front lines q
         → EndsLines served new after last q r → IsLeft options.accepts_partial front half q → OnOk q (new.has_bad ≡ or_left half served.has_bad)
         → Goes [] start (lines_in options.accepts_partial bytes) (then_asked before after) text status
     ended_so (Ok n) (Ok m) fine st ok (es, end, are, (notes, h), is, count) (shows, same) is_left skipped =
@@ -389,14 +384,14 @@ module _ (options : Options) (cut : Bool) where
     ended_so (Err (BadLine k)) r fine st ok (es, line, first, are, (stops, bad), (notes, h), is, count) (none, nothing, kept, same) is_left skipped =
         let bad_status : status ≡ 2 = st ∙ ap (λ x. own_status x new.has_bad) same in
         let (more, all) = first-taken options.accepts_partial at_end bytes front half left (lines_said es) line k ends whole is_left first are in
-        over es (line ∷ more) all is notes h (λ f. fine (kept ∙ f)) (λ calls now. inr (stops, subst (λ ds. IsBad ds line) now.3 bad, nothing, none, bad_status))
+        over es (line ∷ more) all is notes h (λ f. fine (kept ∙ f)) (λ calls now. inr (stops, bad, nothing, none, bad_status))
     ended_so (Err (Memory at)) r fine st ok run (none, nothing, kept, same) is_left skipped =
         absurd (ok (st ∙ ap (λ x. own_status x new.has_bad) same))
     ended_so (Err Device) r fine st ok run (none, nothing, kept, same) is_left skipped =
         absurd (ok (st ∙ ap (λ x. own_status x new.has_bad) same))
 
   fresh : (start : Served) → IsFresh options start → done_on [] start ≡ begun cut start.timer
-  fresh start (after, told, naming, file, changed, bad, dialect, ends, failed, front, named) =
+  fresh start (after, told, naming, file, changed, bad, labels, ends, failed, named) =
       let none : (if cut then true else start.has_bad) ≡ cut = ap (λ b. if cut then true else b) bad ∙ or-false cut in
       λ i. record { calls = []; legend = λ kind name. told kind name i; is_changed = changed i; has_bad = none i; timer = start.timer }
 
@@ -416,12 +411,12 @@ module _ (options : Options) (cut : Bool) where
       absurd (ok one)
   output-cut bytes text asked status is_cut
       (Some left, (read, wrote, all, took, writes, asks, inl (start, end, first, later, r, is_fresh, starts, (served, lines, last, before, after, q, front, half, parts, is_left, run, ends, prints, asked_so, skipped), st, total))) ok =
-      let (stood, told, naming, file, changed, bad, dialect, ending, failed, front, named) = is_fresh in
+      let (stood, told, naming, file, changed, bad, labels, ending, failed, named) = is_fresh in
       let fine : (end.has_failed ≡ true → ⊥) = λ f. ok (st ∙ ap (λ b. if b then 1 else own_status r end.has_bad) f) in
       let own : status ≡ own_status r end.has_bad =
       st ∙ ap (λ b. if b then 1 else own_status r end.has_bad) (is-false end.has_failed fine) in
       let goes = ended_so (left ≡ []) bytes front half left (λ e. e) (took ∙ ap (λ z. z ++ left) parts) is_cut start served end before after lines last text status (writes ∙ prints)
-      (stood, naming, file, dialect, ending, (λ i kind name. named kind name i), front) q r fine own ok run ends is_left skipped in
+      (stood, naming, file, labels, ending, λ i kind name. named kind name i) q r fine own ok run ends is_left skipped in
       let printed = subst (λ a. PrintLines options (begun cut start.timer) (lines_in options.accepts_partial bytes) a text status) (sym asked_so)
       (subst (λ d. PrintLines options d (lines_in options.accepts_partial bytes) (then_asked before after) text status) (fresh start is_fresh) goes) in
       (first, later, start.timer, starts, printed, since_nothing asked all asks ∙ total)

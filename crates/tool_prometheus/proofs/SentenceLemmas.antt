@@ -5,14 +5,11 @@ use Rattle.std.proofs.lemmas.Bool.{false≢true, ne_eqb}
 use Rattle.std.proofs.lemmas.Slice.Eq.{bytes_eq-Decides}
 use Rattle.metrics.specs.declared.handles.Update.{Update}
 use Rattle.metrics.specs.declared.handles.Update.TheVariants.{Increment, Absolute, Add, Subtract, Set, Record}
-use Rattle.metrics_names.specs.Names.{name_word, kind_word}
+use Rattle.metrics_names.specs.Names.{LabelParts, name_word, kind_word}
 use Rattle.metrics_names.specs.declared.kind.MetricKind.{MetricKind}
 use Rattle.metrics_names.specs.declared.common.Unit.{Unit as Measure}
 use Rattle.tool_grammar.specs.Cuts.{Lacks, StartsAt}
-use Rattle.tool_grammar.specs.Grammar.{unit_word, update_word}
-use Rattle.tool_numbers.specs.Numerals.{IsAmount}
-use Rattle.tool_prometheus.specs.declared.dialect.Dialect.{Dialect}
-use Rattle.tool_prometheus.specs.Places.{places_at}
+use Rattle.tool_grammar.specs.Grammar.{unit_word, update_word, amount_word, IsInRange}
 use Rattle.tool_grammar.proofs.WordsLemmas.{before_same, lacks_literal, lacks_update}
 use Rattle.tool_export.proofs.RequestLemmas.{no_scrape}
 use Rattle.tool_prometheus.specs.declared.flaws.Unread.{Unread}
@@ -28,7 +25,7 @@ lacks_name (x ∷ xs) h = h.1
 -- ---- a line by its first word and what follows it
 
 abbrev pub first_word : Sentence → List ℕ
-first_word (change by amount name ws) = update_word by
+first_word (change by name ws) = update_word by
 first_word (describe kind name unit text) = codes "describe"
 first_word (scrape now) = codes "scrape"
 first_word scrape_by_clock = codes "scrape"
@@ -36,7 +33,7 @@ first_word (comment text) = []
 first_word empty = []
 
 abbrev pub behind_it : Sentence → List ℕ
-behind_it (change by amount name ws) = 32 ∷ (amount ++ 32 ∷ (name_word name ++ label_words ws))
+behind_it (change by name ws) = 32 ∷ (amount_word by ++ 32 ∷ (name_word name ++ label_words ws))
 behind_it (describe kind name unit text) = 32 ∷ (kind_word kind ++ 32 ∷ (name_word name ++ 32 ∷ (unit_word unit ++ 32 ∷ text)))
 behind_it (scrape now) = 32 ∷ decimal now
 behind_it scrape_by_clock = []
@@ -62,7 +59,7 @@ no_describe (Record n) e = false≢true ((bytes_eq-Decides (codes "describe") (c
 
 -- nothing that begins is a comment or empty
 abbrev pub IsOther : Sentence → Type 0
-IsOther (change by amount name ws) = Unit {0}
+IsOther (change by name ws) = Unit {0}
 IsOther (describe kind name unit text) = Unit {0}
 IsOther (scrape now) = Unit {0}
 IsOther scrape_by_clock = Unit {0}
@@ -71,7 +68,7 @@ IsOther empty = ⊥
 
 module _ (word rest : List ℕ) (lacks : Lacks 32 word) (starts : StartsAt 32 rest) (begun : IsBegun (word ++ rest)) where
   pub cut : (s : Sentence) → word ++ rest ≡ spelling s → IsOther s × (word ≡ first_word s) × (rest ≡ behind_it s)
-  cut (change by amount name ws) e = let b = before_same 32 word (update_word by) rest _ lacks (lacks_update by) starts refl e in (tt, b.0, b.1)
+  cut (change by name ws) e = let b = before_same 32 word (update_word by) rest _ lacks (lacks_update by) starts refl e in (tt, b.0, b.1)
   cut (describe kind name unit text) e = let b = before_same 32 word (codes "describe") rest _ lacks lacks_describe starts refl e in (tt, b.0, b.1)
   cut (scrape now) e = let b = before_same 32 word (codes "scrape") rest (32 ∷ decimal now) lacks lacks_scrape starts refl e in (tt, b.0, b.1)
   cut scrape_by_clock e = let b = before_same 32 word (codes "scrape") rest [] lacks lacks_scrape starts tt e in (tt, b.0, b.1)
@@ -80,17 +77,17 @@ module _ (word rest : List ℕ) (lacks : Lacks 32 word) (starts : StartsAt 32 re
 
   -- ---- a line that begins with `scrape`
 
-  pub scrape_line : (dialect : Dialect) → word ≡ codes "scrape" → (r : Result Request Unread)
-      → MatchResult r (Reads dialect (codes "scrape" ++ rest))
+  pub scrape_line : (common : List LabelParts) → word ≡ codes "scrape" → (r : Result Request Unread)
+      → MatchResult r (Reads common (codes "scrape" ++ rest))
       (Fails ((rest ≡ [] → ⊥) × ((now : ℕ) → now < 2 ^ 64 → rest ≡ 32 ∷ decimal now → ⊥)))
-      → MatchResult r (Reads dialect (word ++ rest)) (Fails (IsNone dialect (word ++ rest)))
-  scrape_line dialect is (Ok q) h = subst (λ w. Reads dialect (w ++ rest) q) (sym is) h
-  scrape_line dialect is (Err Memory) h = tt
-  scrape_line dialect is (Err (Bad cause at)) h = λ s can is_spelled. no s can (cut s is_spelled) h
+      → MatchResult r (Reads common (word ++ rest)) (Fails (IsNone (word ++ rest)))
+  scrape_line common is (Ok q) h = subst (λ w. Reads common (w ++ rest) q) (sym is) h
+  scrape_line common is (Err Memory) h = tt
+  scrape_line common is (Err (Bad cause at)) h = λ s can is_spelled. no s can (cut s is_spelled) h
     where
-      no : (s : Sentence) → CanBeSpelled dialect s → IsOther s × (word ≡ first_word s) × (rest ≡ behind_it s)
+      no : (s : Sentence) → CanBeSpelled s → IsOther s × (word ≡ first_word s) × (rest ≡ behind_it s)
           → (rest ≡ [] → ⊥) × ((now : ℕ) → now < 2 ^ 64 → rest ≡ 32 ∷ decimal now → ⊥) → ⊥
-      no (change by amount name ws) can at none = no_scrape by (sym is ∙ at.1)
+      no (change by name ws) can at none = no_scrape by (sym is ∙ at.1)
       no (describe kind name unit text) can at none = differs (sym is ∙ at.1)
       no (scrape now) can at none = none.1 now can at.2
       no scrape_by_clock can at none = none.0 at.2
@@ -99,19 +96,19 @@ module _ (word rest : List ℕ) (lacks : Lacks 32 word) (starts : StartsAt 32 re
 
   -- ---- a line that begins with `describe`
 
-  pub describe_line : (dialect : Dialect) → word ≡ codes "describe" → (r : Result Request Unread)
-      → MatchResult r (Reads dialect (codes "describe" ++ rest))
+  pub describe_line : (common : List LabelParts) → word ≡ codes "describe" → (r : Result Request Unread)
+      → MatchResult r (Reads common (codes "describe" ++ rest))
       (Fails ((kind : MetricKind) (name : List ℕ) (unit : Option Measure) (text : List ℕ) → IsName name → IsText text
       → rest ≡ 32 ∷ (kind_word kind ++ 32 ∷ (name_word name ++ 32 ∷ (unit_word unit ++ 32 ∷ text))) → ⊥))
-      → MatchResult r (Reads dialect (word ++ rest)) (Fails (IsNone dialect (word ++ rest)))
-  describe_line dialect is (Ok q) h = subst (λ w. Reads dialect (w ++ rest) q) (sym is) h
-  describe_line dialect is (Err Memory) h = tt
-  describe_line dialect is (Err (Bad cause at)) h = λ s can is_spelled. no s can (cut s is_spelled) h
+      → MatchResult r (Reads common (word ++ rest)) (Fails (IsNone (word ++ rest)))
+  describe_line common is (Ok q) h = subst (λ w. Reads common (w ++ rest) q) (sym is) h
+  describe_line common is (Err Memory) h = tt
+  describe_line common is (Err (Bad cause at)) h = λ s can is_spelled. no s can (cut s is_spelled) h
     where
-      no : (s : Sentence) → CanBeSpelled dialect s → IsOther s × (word ≡ first_word s) × (rest ≡ behind_it s)
+      no : (s : Sentence) → CanBeSpelled s → IsOther s × (word ≡ first_word s) × (rest ≡ behind_it s)
           → ((kind : MetricKind) (name : List ℕ) (unit : Option Measure) (text : List ℕ) → IsName name → IsText text
           → rest ≡ 32 ∷ (kind_word kind ++ 32 ∷ (name_word name ++ 32 ∷ (unit_word unit ++ 32 ∷ text))) → ⊥) → ⊥
-      no (change by amount name ws) can at none = no_describe by (sym is ∙ at.1)
+      no (change by name ws) can at none = no_describe by (sym is ∙ at.1)
       no (describe kind name unit text) can at none = none kind name unit text can.0 can.1 at.2
       no (scrape now) can at none = differs (sym (sym is ∙ at.1))
       no scrape_by_clock can at none = differs (sym (sym is ∙ at.1))
@@ -120,19 +117,19 @@ module _ (word rest : List ℕ) (lacks : Lacks 32 word) (starts : StartsAt 32 re
 
   -- ---- any other line
 
-  pub change_line : (dialect : Dialect) → word ≢ codes "scrape" → word ≢ codes "describe" → (r : Result Request Unread)
-      → MatchResult r (Reads dialect (word ++ rest))
-      (Fails ((by : Update) (amount name : List ℕ) (ws : List Written) → IsAmount (places_at dialect.places name) by amount → IsName name → AreWritten ws
-      → word ≡ update_word by → rest ≡ 32 ∷ (amount ++ 32 ∷ (name_word name ++ label_words ws)) → ⊥))
-      → MatchResult r (Reads dialect (word ++ rest)) (Fails (IsNone dialect (word ++ rest)))
-  change_line dialect scrapes describes (Ok q) h = h
-  change_line dialect scrapes describes (Err Memory) h = tt
-  change_line dialect scrapes describes (Err (Bad cause at)) h = λ s can is_spelled. no s can (cut s is_spelled) h
+  pub change_line : (common : List LabelParts) → word ≢ codes "scrape" → word ≢ codes "describe" → (r : Result Request Unread)
+      → MatchResult r (Reads common (word ++ rest))
+      (Fails ((by : Update) (name : List ℕ) (ws : List Written) → IsInRange by → IsName name → AreWritten ws
+      → word ≡ update_word by → rest ≡ 32 ∷ (amount_word by ++ 32 ∷ (name_word name ++ label_words ws)) → ⊥))
+      → MatchResult r (Reads common (word ++ rest)) (Fails (IsNone (word ++ rest)))
+  change_line common scrapes describes (Ok q) h = h
+  change_line common scrapes describes (Err Memory) h = tt
+  change_line common scrapes describes (Err (Bad cause at)) h = λ s can is_spelled. no s can (cut s is_spelled) h
     where
-      no : (s : Sentence) → CanBeSpelled dialect s → IsOther s × (word ≡ first_word s) × (rest ≡ behind_it s)
-          → ((by : Update) (amount name : List ℕ) (ws : List Written) → IsAmount (places_at dialect.places name) by amount → IsName name → AreWritten ws
-          → word ≡ update_word by → rest ≡ 32 ∷ (amount ++ 32 ∷ (name_word name ++ label_words ws)) → ⊥) → ⊥
-      no (change by amount name ws) can at none = none by amount name ws can.0 can.1 can.2 at.1 at.2
+      no : (s : Sentence) → CanBeSpelled s → IsOther s × (word ≡ first_word s) × (rest ≡ behind_it s)
+          → ((by : Update) (name : List ℕ) (ws : List Written) → IsInRange by → IsName name → AreWritten ws
+          → word ≡ update_word by → rest ≡ 32 ∷ (amount_word by ++ 32 ∷ (name_word name ++ label_words ws)) → ⊥) → ⊥
+      no (change by name ws) can at none = none by name ws can.0 can.1 can.2 at.1 at.2
       no (describe kind name unit text) can at none = describes at.1
       no (scrape now) can at none = scrapes at.1
       no scrape_by_clock can at none = scrapes at.1

@@ -32,7 +32,7 @@ module _ (skips : Bool) {S : Type 0} (asked_of : S → Option Asked) where
   -- What a run did, and what it asked for.
   abbrev Since : Type 0 → ℕ → Served × S → Served × S → List ℕ → List ℕ → Result ℕ RunError → Type 0
   Since at_end first old new read text r = (asked : Asked) × Asks (asked_of old.1) (asked_of new.1) asked
-      × IsRun (answers_since skips) (λ on. Stops skips on.0) at_end first ((old.0, nothing_asked), tt) (new.0, asked) read text r
+      × IsRun (answers_since skips) (Stops skips) at_end first ((old.0, nothing_asked), tt) (new.0, asked) read text r
 
   abbrev Left : Served × S → Dialogue → Served × S → Type 0
   Left old es on = (asked : Asked) × Asks (asked_of old.1) (asked_of on.1) asked
@@ -43,7 +43,7 @@ module _ (skips : Bool) {S : Type 0} (asked_of : S → Option Asked) where
   leaves old n es on (m, h) = let (asked, folds, asks) = forget (old, n) es (on, m) nothing_asked h in (asked, asks, (tt, folds))
 
   pub run-of : {N : Type 0} (at_end : Type 0) (first : ℕ) (old : Served × S) (n : N) (new : Served × S) (read text : List ℕ) (r : Result ℕ RunError)
-      → IsRun (answers {Notes = N} asked_of skips) (λ on. Stops skips on.0) at_end first (old, n) new read text r
+      → IsRun (answers {Notes = N} asked_of skips) (Stops skips) at_end first (old, n) new read text r
       → Since at_end first old new read text r
   run-of at_end first old n new read text (Ok k) (es, ends, are, l, is, count) =
       let (asked, asks, h) = leaves old n es new l in (asked, asks, (es, ends, are, h, is, count))

@@ -9,7 +9,7 @@ use Rattle.metrics_exporter.specs.Exporting.{IsExpiry, IsFull, HoldsSome}
 use Rattle.metrics_exporter.specs.declared.exporter.Exporter.{Exporter}
 use Rattle.metrics_exporter.specs.Describing.{SameLegend, DescribesName}
 use Rattle.metrics_exporter.specs.Kept.{IsAfter, described}
-use Rattle.metrics_prometheus.specs.Exposition.{IsScaled}
+use Rattle.metrics_prometheus.specs.Exposition.{IsDescribed}
 use Rattle.metrics_prometheus.specs.declared.naming.Naming.{Naming}
 use Rattle.tool_export.specs.Exported.{HoldsAtRefusal, report_text}
 use Rattle.tool_prometheus.specs.declared.answering.Served.{Served}
@@ -17,7 +17,6 @@ use Rattle.tool_prometheus.specs.declared.requests.Request.{Request}
 use Rattle.tool_prometheus.specs.declared.requests.Request.TheVariants.{Change, Describe, Scrape, Nothing}
 use Rattle.tool_prometheus.specs.Asked.{Asked, nothing_asked, then_asked}
 use Rattle.tool_prometheus.specs.Lines.{IsBad}
-use Rattle.tool_prometheus.specs.Places.{kept_places}
 use Rattle.tool_prometheus.specs.Names.{ruled_name, Requests}
 use Rattle.tool_prometheus.specs.declared.timing.Timer.{Timer}
 use Rattle.tool_prometheus.specs.Timing.{Timed}
@@ -56,18 +55,18 @@ HasMoment None clock moment = clock ≡ moment ∷ []
 
 -- ---- one request
 
--- an exposition of these cells, with the exporter's descriptions of names, and the decimal places of their numbers
-abbrev pub IsExposed : Naming → (List ℕ → ℕ) → Exporter → Cells → List ℕ → Type 0
-IsExposed naming places on cells text = IsScaled naming (described on) places cells text
+-- an exposition of these cells, with the exporter's descriptions of names
+abbrev pub IsExposed : Naming → Exporter → Cells → List ℕ → Type 0
+IsExposed naming on cells text = IsDescribed naming (described on) cells text
 
 -- only the exporter, what a scrape owes, and whether something failed changed
 abbrev pub KeepsRest : Served → Served → Type 0
-KeepsRest old new = (new.naming ≡ old.naming) × (new.has_file ≡ old.has_file) × (new.has_bad ≡ old.has_bad) × (new.dialect ≡ old.dialect)
-    × (new.at_scrapes_only ≡ old.at_scrapes_only) × (new.rules ≡ old.rules) × (new.timer ≡ old.timer) × (new.front ≡ old.front)
+KeepsRest old new = (new.naming ≡ old.naming) × (new.has_file ≡ old.has_file) × (new.has_bad ≡ old.has_bad) × (new.labels ≡ old.labels)
+    × (new.at_scrapes_only ≡ old.at_scrapes_only) × (new.rules ≡ old.rules) × (new.timer ≡ old.timer)
 
 -- an exposition of what is held after the calls, with the descriptions of names
 abbrev pub Shows : Setup → Log → Served → List ℕ → Type 0
-Shows setup log on shown = IsExposed on.naming (kept_places on.dialect.places on.front) on.exporter (cells_after setup (steps log)) shown
+Shows setup log on shown = IsExposed on.naming on.exporter (cells_after setup (steps log)) shown
 
 -- the descriptions of names stay
 abbrev pub KeepsTold : Served → Served → Type 0
@@ -133,8 +132,8 @@ AnswersInTime old request asked text new = (first later : Asked) × (requests : 
 
 -- a line asks for this; one that is bad asks for nothing and is noted, if bad lines are skipped
 abbrev pub Takes : Bool → Served → List ℕ → Request → Served → Type 0
-Takes skips old line request new = (Requests old.dialect (ruled_name old.rules) line request × (new ≡ old))
-    ⊎ ((skips ≡ true) × IsBad old.dialect line × (request ≡ Nothing) × (new ≡ record old { has_bad = true }))
+Takes skips old line request new = (Requests old.labels (ruled_name old.rules) line request × (new ≡ old))
+    ⊎ ((skips ≡ true) × IsBad line × (request ≡ Nothing) × (new ≡ record old { has_bad = true }))
 
 -- what a line asks for was answered
 abbrev pub AnswersLine : Bool → Served → List ℕ → Asked → List ℕ → Served → Type 0

@@ -1,5 +1,4 @@
 pub mod Asked
-pub mod Places
 pub mod Lines
 pub mod Names
 pub mod Timing

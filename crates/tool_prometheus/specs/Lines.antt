@@ -8,10 +8,7 @@ use Rattle.metrics_names.specs.declared.common.Unit.{Unit as Measure}
 use Rattle.metrics.specs.declared.handles.Update.{Update}
 use Rattle.metrics_prometheus.specs.Labels.{placed}
 use Rattle.tool_grammar.specs.Cuts.{Lacks}
-use Rattle.tool_grammar.specs.Grammar.{unit_word, update_word}
-use Rattle.tool_numbers.specs.Numerals.{IsAmount}
-use Rattle.tool_prometheus.specs.declared.dialect.Dialect.{Dialect}
-use Rattle.tool_prometheus.specs.Places.{places_at}
+use Rattle.tool_grammar.specs.Grammar.{unit_word, update_word, amount_word, IsInRange}
 use Rattle.tool_prometheus.specs.declared.flaws.Unread.{Unread}
 use Rattle.tool_prometheus.specs.declared.flaws.Unread.TheVariants as unread
 use Rattle.tool_prometheus.specs.declared.requests.Request.{Request}
@@ -129,9 +126,9 @@ value_of key (l ∷ labels) = if bytes_eq l.0 key then Some l.1 else value_of ke
 
 -- ---- lines
 
--- a line as it is written; an update has its amount as a word
+-- a line as it is written
 pub data Sentence : Type 0 where
-  change : Update → List ℕ → List ℕ → List Written → Sentence
+  change : Update → List ℕ → List Written → Sentence
   describe : MetricKind → List ℕ → Option Measure → List ℕ → Sentence
   scrape : ℕ → Sentence
   scrape_by_clock : Sentence
@@ -139,25 +136,25 @@ pub data Sentence : Type 0 where
   empty : Sentence
 
 abbrev pub spelling : Sentence → List ℕ
-spelling (change by amount name ws) = update_word by ++ 32 ∷ (amount ++ 32 ∷ (name_word name ++ label_words ws))
+spelling (change by name ws) = update_word by ++ 32 ∷ (amount_word by ++ 32 ∷ (name_word name ++ label_words ws))
 spelling (describe kind name unit text) = codes "describe" ++ 32 ∷ (kind_word kind ++ 32 ∷ (name_word name ++ 32 ∷ (unit_word unit ++ 32 ∷ text)))
 spelling (scrape now) = codes "scrape" ++ 32 ∷ decimal now
 spelling scrape_by_clock = codes "scrape"
 spelling (comment text) = 35 ∷ text
 spelling empty = []
 
--- the sentences that have a line in a dialect, by the decimal places of its names
-abbrev pub CanBeSpelled : Dialect → Sentence → Type 0
-CanBeSpelled dialect (change by amount name ws) = IsAmount (places_at dialect.places name) by amount × IsName name × AreWritten ws
-CanBeSpelled dialect (describe kind name unit text) = IsName name × IsText text
-CanBeSpelled dialect (scrape now) = now < 2 ^ 64
-CanBeSpelled dialect scrape_by_clock = Unit {0}
-CanBeSpelled dialect (comment text) = Unit {0}
-CanBeSpelled dialect empty = Unit {0}
+-- the sentences that have a line
+abbrev pub CanBeSpelled : Sentence → Type 0
+CanBeSpelled (change by name ws) = IsInRange by × IsName name × AreWritten ws
+CanBeSpelled (describe kind name unit text) = IsName name × IsText text
+CanBeSpelled (scrape now) = now < 2 ^ 64
+CanBeSpelled scrape_by_clock = Unit {0}
+CanBeSpelled (comment text) = Unit {0}
+CanBeSpelled empty = Unit {0}
 
 -- the request of a sentence, where all series have these labels
 abbrev pub request_in : List LabelParts → Sentence → Request
-request_in common (change by amount name ws) = Change (record { name = name; labels = with_labels common (in_order ws) }) by
+request_in common (change by name ws) = Change (record { name = name; labels = with_labels common (in_order ws) }) by
 request_in common (describe kind name unit text) = Describe kind name unit text
 request_in common (scrape now) = Scrape (Some now)
 request_in common scrape_by_clock = Scrape None
@@ -175,21 +172,21 @@ body_of [] = []
 body_of (x ∷ []) = if nat_eq x 13 then [] else x ∷ []
 body_of (x ∷ (y ∷ ys)) = x ∷ body_of (y ∷ ys)
 
--- the bytes are those of a sentence with this request
-abbrev pub Reads : Dialect → List ℕ → Request → Type 0
-Reads dialect bytes request = (s : Sentence) × CanBeSpelled dialect s × (bytes ≡ spelling s) × (request ≡ request_in dialect.labels s)
+-- the bytes are those of a sentence with this request, where all series have these labels
+abbrev pub Reads : List LabelParts → List ℕ → Request → Type 0
+Reads common bytes request = (s : Sentence) × CanBeSpelled s × (bytes ≡ spelling s) × (request ≡ request_in common s)
 
 -- the bytes are those of no sentence
-abbrev pub IsNone : Dialect → List ℕ → Type 0
-IsNone dialect bytes = (s : Sentence) → CanBeSpelled dialect s → bytes ≡ spelling s → ⊥
+abbrev pub IsNone : List ℕ → Type 0
+IsNone bytes = (s : Sentence) → CanBeSpelled s → bytes ≡ spelling s → ⊥
 
--- the line spells the request
-abbrev pub Spells : Dialect → List ℕ → Request → Type 0
-Spells dialect line request = Reads dialect (body_of line) request
+-- the line spells the request, where all series have these labels
+abbrev pub Spells : List LabelParts → List ℕ → Request → Type 0
+Spells common line request = Reads common (body_of line) request
 
 -- the line spells no request
-abbrev pub IsBad : Dialect → List ℕ → Type 0
-IsBad dialect line = IsNone dialect (body_of line)
+abbrev pub IsBad : List ℕ → Type 0
+IsBad line = IsNone (body_of line)
 
 -- ---- errors
 

@@ -9,7 +9,6 @@ use Rattle.metrics.specs.Layers.{dotted, matches}
 use Rattle.metrics_rules.specs.Meanings.{rules_meaning}
 use Rattle.metrics_rules.specs.declared.rules.Rules.{Rules}
 use Rattle.tool_prometheus.specs.declared.commands.Options.{Options}
-use Rattle.tool_prometheus.specs.declared.dialect.Dialect.{Dialect}
 use Rattle.tool_prometheus.specs.declared.requests.Request.{Request}
 use Rattle.tool_prometheus.specs.declared.requests.Request.TheVariants.{Change, Describe, Scrape, Nothing}
 use Rattle.tool_prometheus.specs.Lines.{Spells}
@@ -64,5 +63,5 @@ renamed new (Scrape moment) = Scrape moment
 renamed new Nothing = Nothing
 
 -- the line asks for this: it spells a request, which has its name by the renaming
-abbrev pub Requests : Dialect → Renaming → List ℕ → Request → Type 0
-Requests dialect new line request = (spelled : Request) × Spells dialect line spelled × (request ≡ renamed new spelled)
+abbrev pub Requests : List LabelParts → Renaming → List ℕ → Request → Type 0
+Requests common new line request = (spelled : Request) × Spells common line spelled × (request ≡ renamed new spelled)

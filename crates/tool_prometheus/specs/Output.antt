@@ -6,14 +6,13 @@ use Rattle.metrics_names.specs.Names.{KeyParts}
 use Rattle.metrics_registry.specs.Idleness.{Answered}
 use Rattle.metrics_exporter.specs.Exporting.{Log, updates, expires, steps, cells_after, IsExpiry, IsFull}
 use Rattle.metrics_exporter.specs.Describing.{Legend, no_legend, legend_described}
-use Rattle.metrics_prometheus.specs.Exposition.{IsScaled}
+use Rattle.metrics_prometheus.specs.Exposition.{IsDescribed}
 use Rattle.tool_export.specs.Lines.{lines_of, ended_lines, is_cut}
 use Rattle.tool_prometheus.specs.Making.{setup_for}
 use Rattle.tool_prometheus.specs.declared.commands.Options.{Options}
 use Rattle.tool_prometheus.specs.declared.requests.Request.{Request}
 use Rattle.tool_prometheus.specs.declared.requests.Request.TheVariants.{Change, Describe, Scrape, Nothing}
 use Rattle.tool_prometheus.specs.Lines.{Spells, IsBad}
-use Rattle.tool_prometheus.specs.Places.{kept_places, front_of}
 use Rattle.tool_prometheus.specs.Names.{name_by, Requests}
 use Rattle.tool_prometheus.specs.Asked.{Asked, Asks, nothing_asked, then_asked}
 use Rattle.tool_prometheus.specs.Exposed.{scrape_text, HasMoment, HandsOut, shows_at_end}
@@ -35,14 +34,10 @@ pub record Done : Type 0 where
 abbrev pub nothing_done : Done
 nothing_done = record { calls = []; legend = no_legend; is_changed = false; has_bad = false; timer = None }
 
--- the decimal places of the names that are kept
-abbrev pub places_shown : Options → List ℕ → ℕ
-places_shown options = kept_places options.dialect.places (front_of options.prefix)
-
 -- an exposition of what is held, in the file or on the output
 abbrev pub PrintsExposition : Options → Done → List (List ℕ) → List ℕ → Type 0
 PrintsExposition options done files text = (shown : List ℕ)
-    × IsScaled options.naming done.legend (places_shown options) (cells_after (setup_for options) (steps done.calls)) shown
+    × IsDescribed options.naming done.legend (cells_after (setup_for options) (steps done.calls)) shown
     × (text ≡ scrape_text options.has_file shown) × HandsOut options.has_file shown true files
 
 -- What a request prints, what it asks of the surroundings, and what is done then. An update is made; it fails only if the count
@@ -92,8 +87,8 @@ PrintsInTime options old request asked text new = (first later : Asked) × (requ
 
 -- a line asks for this; one that is bad asks for nothing, if bad lines are skipped
 abbrev pub TakesLine : Options → Done → List ℕ → Request → Done → Type 0
-TakesLine options old line request new = (Requests options.dialect (name_by options) line request × (new ≡ old))
-    ⊎ ((options.skips_bad ≡ true) × IsBad options.dialect line × (request ≡ Nothing) × (new ≡ record old { has_bad = true }))
+TakesLine options old line request new = (Requests options.labels (name_by options) line request × (new ≡ old))
+    ⊎ ((options.skips_bad ≡ true) × IsBad line × (request ≡ Nothing) × (new ≡ record old { has_bad = true }))
 
 -- Lines print one after another, and then the end of the input does. A bad line is skipped, or ends the run. The status is 2
 -- at a bad line, 3 if bad lines were skipped or the last one is not counted, and otherwise 0.
@@ -104,7 +99,7 @@ PrintLines options done (l ∷ ls) asked text status =
     ((request : Request) × (taken new : Done) × (own later : Asked) × (part others : List ℕ) × TakesLine options done l request taken
     × PrintsInTime options taken request own part new × PrintLines options new ls later others status
     × (asked ≡ then_asked own later) × (text ≡ part ++ others))
-    ⊎ ((options.skips_bad ≡ false) × IsBad options.dialect l × (asked ≡ nothing_asked) × (text ≡ []) × (status ≡ 2))
+    ⊎ ((options.skips_bad ≡ false) × IsBad l × (asked ≡ nothing_asked) × (text ≡ []) × (status ≡ 2))
 
 -- The text and the status of a run with these options over these bytes, and what it asks of the surroundings: a moment for each
 -- scrape without its own, or one at the start and for each line if scrapes have a period; and to put each scrape's text into
@@ -127,5 +122,5 @@ with_shards n options = record options { plan = record options.plan { shards = n
 
 -- each scrape is a line with its own moment
 abbrev pub NamesMoments : Options → List ℕ → Type 0
-NamesMoments options bytes = (options.every ≡ None) × AllByRecursion (λ line. Spells options.dialect line (Scrape None) → ⊥)
+NamesMoments options bytes = (options.every ≡ None) × AllByRecursion (λ line. Spells options.labels line (Scrape None) → ⊥)
     (lines_in options.accepts_partial bytes)

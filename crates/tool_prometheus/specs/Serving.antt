@@ -13,7 +13,6 @@ use Rattle.tool_prometheus.specs.declared.answering.Served.{Served}
 use Rattle.tool_prometheus.specs.declared.commands.Options.{Options}
 use Rattle.tool_prometheus.specs.Asked.{Asked, Asks, nothing_asked, then_asked}
 use Rattle.tool_prometheus.specs.Lines.{IsBad}
-use Rattle.tool_prometheus.specs.Places.{front_of}
 use Rattle.tool_prometheus.specs.Names.{ruled_name, name_by}
 use Rattle.tool_prometheus.specs.Timing.{Starts}
 use Rattle.tool_prometheus.specs.Exposed.{AnswersLine, IsEnd}
@@ -29,14 +28,14 @@ answers_since skips p line text q = (asked : Asked) × AnswersLine skips p.0.0 l
     × (q.0.1 ≡ then_asked p.0.1 asked)
 
 -- a bad line ends a run that doesn't skip it
-abbrev pub Stops : Bool → Served → List ℕ → Type 0
-Stops skips on line = (skips ≡ false) × IsBad on.dialect line
+abbrev pub Stops : Bool → List ℕ → Type 0
+Stops skips line = (skips ≡ false) × IsBad line
 
 -- why a line asks for nothing: it ends the run, or memory ran out
-abbrev pub IsUntaken : Bool → Served → List ℕ → Unanswered → Type 0
-IsUntaken skips on line unanswered.Bad = Stops skips on line
-IsUntaken skips on line unanswered.Memory = Unit {0}
-IsUntaken skips on line unanswered.Lost = ⊥
+abbrev pub IsUntaken : Bool → List ℕ → Unanswered → Type 0
+IsUntaken skips line unanswered.Bad = Stops skips line
+IsUntaken skips line unanswered.Memory = Unit {0}
+IsUntaken skips line unanswered.Lost = ⊥
 
 -- after the last line what is held may be shown; memory or the device may fail then, and what was shown may be cut short
 abbrev pub EndsLines : Served → Served → Asked → List ℕ → Result ℕ RunError → Result ℕ RunError → Type 0
@@ -56,7 +55,7 @@ or_left (x ∷ xs) has_bad = true
 abbrev pub IsPrometheusRun : Bool → Bool → Type 0 → Served → List ℕ → List ℕ → Asked → Result ℕ RunError → Served → Type 0
 IsPrometheusRun skips takes at_end old read text asked r new = (served : Served) × (lines last : List ℕ) × (before after : Asked)
     × (q : Result ℕ RunError) × (front left : List ℕ) × (read ≡ front ++ left) × IsLeft takes front left q
-    × IsRun (answers_since skips) (λ on. Stops skips on.0) at_end 1 ((old, nothing_asked), tt) (served, before) front lines q
+    × IsRun (answers_since skips) (Stops skips) at_end 1 ((old, nothing_asked), tt) (served, before) front lines q
     × EndsLines served new after last q r × (text ≡ lines ++ last) × (asked ≡ then_asked before after)
     × OnOk q (new.has_bad ≡ or_left left served.has_bad)
 
@@ -64,8 +63,7 @@ IsPrometheusRun skips takes at_end old read text asked r new = (served : Served)
 abbrev pub IsFresh : Options → Served → Type 0
 IsFresh options on = IsAfter (setup_for options) [] on.exporter × SameLegend (described on.exporter) no_legend
     × (on.naming ≡ options.naming) × (on.has_file ≡ options.has_file) × (on.is_changed ≡ false) × (on.has_bad ≡ false)
-    × (on.dialect ≡ options.dialect) × (on.at_scrapes_only ≡ options.at_scrapes_only) × (on.has_failed ≡ false)
-    × (on.front ≡ front_of options.prefix)
+    × (on.labels ≡ options.labels) × (on.at_scrapes_only ≡ options.at_scrapes_only) × (on.has_failed ≡ false)
     × ((kind : MetricKind) (name : List ℕ) → ruled_name on.rules kind name ≡ name_by options kind name)
 
 -- the status of a run in which no call was refused, and the file was written

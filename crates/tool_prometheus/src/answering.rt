@@ -3,18 +3,15 @@ ghost use Rattle.std.specs.Prelude.{◌≡◌, ◌++◌, ℕ, [], List, OnOk};
 ghost use Rattle.std.specs.Prelude.{string_bytes, is_ok, true, if◌then◌else◌};
 ghost use Rattle.tool_prometheus.specs.Asked.{Asked, Asks, nothing_asked};
 ghost use Rattle.tool_prometheus.specs.Exposed.{Answers, AnswersInTime, IsExposed, HasMoment, IsEnd, HandsOut, HandsOutShown};
-ghost use Rattle.tool_prometheus.specs.Places.{kept_places};
 ghost use Rattle.tool_prometheus.specs.Exposed.{refusal_text, scrape_text, shown_text, shows_at_end as shows_then};
 
-use crate::dialect::Dialect;
-use crate::places::KeptPlaces;
 use crate::requests::Request;
 use crate::surroundings::Surroundings;
 use crate::timing::Timer;
 use crate::watching::{Call, Watch};
-use metrics::{Error, Key, MetricKind, Unit, Update};
+use metrics::{Error, Items, Key, Label, MetricKind, Unit, Update};
 use metrics_exporter::Exporter;
-use metrics_prometheus::{Naming, scaled_exposition};
+use metrics_prometheus::{Naming, exposition_named};
 use metrics_rules::Rules;
 use std::alloc::{AllocError, Global};
 use tool_export::{Page, report_text, shown_at};
@@ -26,10 +23,8 @@ pub struct Served {
     pub exporter: Exporter,
     /// The names and units that series are shown with.
     pub naming: Naming,
-    /// How lines are read.
-    pub dialect: Dialect,
-    /// How many bytes each name that is kept has before that of its line.
-    pub front: usize,
+    /// Labels of each series beside its own.
+    pub labels: Items<Label>,
     /// The names that series get, if they don't stay as they are.
     pub rules: Option<Rules>,
     /// Scrapes go to a file, and not to the output.
@@ -106,27 +101,16 @@ fn answer_describe(
 
 /// The page for Prometheus.
 #[derive(Drop)]
-struct Exposition<'a> {
+struct Exposition {
     alloc: Global,
     naming: Naming,
-    places: KeptPlaces<'a>,
 }
 
-impl Page for Exposition<'_> {
-    ghost shows = { λ page on cells text. IsExposed page.naming (kept_places page.places.list.now page.places.front) on cells text };
+impl Page for Exposition {
+    ghost shows = { λ page on cells text. IsExposed page.naming on cells text };
 
     fn text(&self, on: &Exporter) -> Result<String, Error> {
-        scaled_exposition(on, self.alloc, self.naming, &self.places)
-    }
-}
-
-/// The decimal places of kept names.
-fn kept_places_of(dialect: &Dialect, front: usize) -> KeptPlaces<'_>
-    ensures { kept_places result.list.now result.front ≡ kept_places dialect.now.places front }
-{
-    KeptPlaces {
-        list: dialect.places.as_slice(),
-        front,
+        exposition_named(on, self.alloc, self.naming)
     }
 }
 
@@ -193,12 +177,8 @@ fn answer_scrape<S: Surroundings>(
 {
     watch.tell_bad(around);
     let now = moment_of(around, moment);
-    let page = Exposition {
-        alloc,
-        naming: on.naming,
-        places: kept_places_of(&on.dialect, on.front),
-    };
-    let shown = shown_at(&page, &mut on.exporter, now);
+    let naming = on.naming;
+    let shown = shown_at(&Exposition { alloc, naming }, &mut on.exporter, now);
     hand_out_shown(on, around, watch, shown, text)
 }
 
@@ -301,12 +281,8 @@ pub fn answer_end<S: Surroundings>(
     ensures kept { on.new.has_bad ≡ on.old.has_bad }
 {
     if shows_at_end(on) {
-        let page = Exposition {
-            alloc,
-            naming: on.naming,
-            places: kept_places_of(&on.dialect, on.front),
-        };
-        let shown = page.text(&on.exporter);
+        let naming = on.naming;
+        let shown = Exposition { alloc, naming }.text(&on.exporter);
         hand_out_shown(on, around, watch, shown, text)
     } else {
         Ok(())

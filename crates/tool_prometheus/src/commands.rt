@@ -10,14 +10,12 @@ ghost use Rattle.tool_prometheus.specs.Names.{ruled_name, name_by};
 ghost use Rattle.tool_prometheus.specs.Serving.{Ends, IsStatus, IsPrometheusRun};
 
 use crate::answering::Served;
-use crate::dialect::Dialect;
 use crate::making::{PrefixBounds, parts_for};
-use crate::places::front_of;
 use crate::serving::prometheus;
 use crate::surroundings::Surroundings;
 use crate::timing::started;
 use crate::watching::Watch;
-use metrics::{Items, Text};
+use metrics::{Items, Label, Text};
 use metrics_exporter::Exporter;
 use metrics_prometheus::Naming;
 use metrics_rules::Rules;
@@ -35,8 +33,8 @@ pub struct Options {
     pub prefixes: Items<PrefixBounds>,
     /// The names and units that series are shown with.
     pub naming: Naming,
-    /// How lines are read.
-    pub dialect: Dialect,
+    /// Labels of each series beside its own, which win.
+    pub labels: Items<Label>,
     /// What each name gets before it, with a dot between.
     pub prefix: Option<Text>,
     /// A name in which one of these occurs is dropped.
@@ -118,8 +116,7 @@ fn serve_new<S: Surroundings, I: BufRead, O: Write>(
 {
     let Options {
         naming,
-        dialect,
-        prefix,
+        labels,
         skips_bad,
         has_file,
         at_scrapes_only,
@@ -132,8 +129,7 @@ fn serve_new<S: Surroundings, I: BufRead, O: Write>(
     let served = Served {
         exporter,
         naming,
-        dialect,
-        front: front_of(&prefix),
+        labels,
         rules,
         has_file,
         at_scrapes_only,
@@ -163,6 +159,14 @@ fn serve_new<S: Surroundings, I: BufRead, O: Write>(
     (status, around)
 }
 
+/// How many bytes a name gets before it.
+fn len_before(prefix: &Option<Text>) -> usize {
+    match prefix {
+        Some(prefix) => prefix.as_str().len().saturating_add(1),
+        None => 0,
+    }
+}
+
 /// Makes an exporter, and answers each line of the reader, from line 1 on. Reports why it stopped, and returns the
 /// program's status and the surroundings.
 pub fn command<S: Surroundings, I: BufRead, O: Write>(
@@ -177,7 +181,7 @@ pub fn command<S: Surroundings, I: BufRead, O: Write>(
         (Appends (O.contents output.old) (O.contents output.new))
         (Asks (S.asked around) (S.asked result.1)) result.0 }
 {
-    let mut watch = Watch::new(alloc, front_of(&options.prefix));
+    let mut watch = Watch::new(alloc, len_before(&options.prefix));
     match parts_for(alloc, &options) {
         Ok((exporter, rules)) => serve_new(
             alloc, options, exporter, rules, around, &mut watch, input, output,

@@ -1,7 +1,6 @@
 //! Why a line is bad, and the message for it.
 ghost use Rattle.std.specs.Prelude.{◌≡◌};
 
-use crate::amounts::Limits;
 use metrics::Refused;
 use std::alloc::AllocError;
 use std::fmt;
@@ -20,12 +19,6 @@ pub enum Cause {
     Whole,
     /// Expected a number from -2^63 to 2^63 - 1.
     Signed,
-    /// Expected a number with so many decimal places at most.
-    Number(u8),
-    /// The number has more decimal places than these.
-    Places(u8),
-    /// The number is too large or too small: whether it may be negative, and the decimal places of its name.
-    Range(bool, u8),
     /// Expected a kind of series.
     Kind,
     /// Expected a unit.
@@ -104,38 +97,11 @@ impl fmt::Display for Message<'_> {
             Cause::Missing(what) => write!(f, "line {number}: {what} is missing{form}"),
             Cause::Empty => write!(f, "line {number}: {wanted}{form}"),
             Cause::Partial => write!(f, "line {number}: {word} {wanted}"),
-            Cause::Number(places) => {
-                let places = AtMost(places);
-                write!(
-                    f,
-                    "line {number}: {word} is no number of at most {places}, without needless zeros{form}"
-                )
-            }
-            Cause::Places(places) => {
-                let places = AtMost(places);
-                write!(f, "line {number}: {word} has more than {places}{form}")
-            }
-            Cause::Range(signed, places) => {
-                let limits = Limits { signed, places };
-                write!(f, "line {number}: {word} is not from {limits}{form}")
-            }
             Cause::Twice | Cause::Many => {
                 write!(f, "line {number}: label {word} {wanted}{form}")
             }
             _ => write!(f, "line {number}: {word} {wanted}{form}"),
         }
-    }
-}
-
-/// A number of decimal places.
-#[derive(Drop)]
-struct AtMost(u8);
-
-impl fmt::Display for AtMost {
-    fn fmt<W: fmt::Write>(&self, f: &mut fmt::Formatter<W>) -> fmt::Result {
-        let places = self.0;
-        let end = if places == 1 { "" } else { "s" };
-        write!(f, "{places} decimal place{end}")
     }
 }
 
@@ -195,7 +161,6 @@ fn wanted(cause: Cause, word: &[u8]) -> &'static str {
         Cause::Twice => "comes twice",
         Cause::Empty => "a word is empty: one space stands between two words",
         Cause::Missing(_) => "is missing",
-        Cause::Number(_) | Cause::Places(_) | Cause::Range(_, _) => "is no number here",
     }
 }
 

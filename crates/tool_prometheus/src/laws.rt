@@ -3,7 +3,6 @@ ghost use Rattle.std.specs.Prelude.{◌≡◌, ◌≢◌, ℕ, List};
 ghost use Rattle.std.specs.Option.{option_or};
 ghost use Rattle.metrics_names.specs.Names.{LabelParts};
 ghost use Rattle.tool_prometheus.specs.declared.commands.Options.{Options};
-ghost use Rattle.tool_prometheus.specs.declared.dialect.Dialect.{Dialect};
 ghost use Rattle.tool_prometheus.specs.declared.requests.Request.{Request as Asked};
 ghost use Rattle.tool_prometheus.specs.Asked.{Asked as Deeds};
 ghost use Rattle.tool_prometheus.specs.Lines.{Spells, IsBad, with_labels, value_of};
@@ -15,9 +14,9 @@ use metrics_prometheus::exposition_law;
 /// Does nothing: its contract states the laws of lines.
 pub fn line_law()
     // A line spells at most one request.
-    ensures one { (dialect : Dialect) (line : List ℕ) (q r : Asked) → Spells dialect line q → Spells dialect line r → q ≡ r }
+    ensures one { (common : List LabelParts) (line : List ℕ) (q r : Asked) → Spells common line q → Spells common line r → q ≡ r }
     // A line that spells a request is not bad.
-    ensures apart { (dialect : Dialect) (line : List ℕ) (q : Asked) → Spells dialect line q → IsBad dialect line → ⊥ }
+    ensures apart { (common : List LabelParts) (line : List ℕ) (q : Asked) → Spells common line q → IsBad line → ⊥ }
 {}
 
 /// Does nothing: its contract states the law of the labels that all series have.

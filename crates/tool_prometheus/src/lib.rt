@@ -1,16 +1,13 @@
 //! The lines of an exporter, answered by expositions for Prometheus: requests, the loop over them, and the program.
 #![tactic(auto)]
 
-mod amounts;
 mod answering;
 mod commands;
-mod dialect;
 mod flaws;
 mod labels;
 mod laws;
 mod making;
 mod names;
-mod places;
 mod requests;
 mod serving;
 mod spelled;
@@ -21,13 +18,11 @@ mod words;
 
 pub use answering::{Served, answer_end, answer_request};
 pub use commands::{Options, command};
-pub use dialect::Dialect;
 pub use flaws::{Cause, Message, Unread};
 pub use laws::{label_law, line_law, output_law};
 pub use making::PrefixBounds;
 pub use metrics::{Items, Label, Text};
 pub use metrics_prometheus::{BadLabel, Naming, bad_label};
-pub use places::PrefixPlaces;
 pub use requests::{Request, request_of};
 pub use serving::{PrometheusLines, prometheus};
 pub use surroundings::Surroundings;

@@ -9,10 +9,9 @@ ghost use Rattle.tool_prometheus.specs.Names.{change_if as change_or_none, descr
 ghost use Rattle.tool_prometheus.specs.Lines.{Fails, IsBad};
 
 use crate::commands::Options;
-use crate::dialect::Dialect;
 use crate::flaws::Unread;
 use crate::requests::{Request, request_of};
-use metrics::{Error, Key, KeyName, MetricKind, Refused, Text, Unit, Update};
+use metrics::{Error, Key, KeyName, Label, MetricKind, Refused, Text, Unit, Update};
 use metrics_layers::{FilterLayer, PrefixLayer};
 use metrics_rules::{Rules, Scratch, Visitor};
 use std::alloc::{AllocError, Global};
@@ -221,14 +220,13 @@ fn request_by_rules(
 /// nothing. `scratch` may be any, and keeps memory for the next call.
 pub(crate) fn named_request_of<'a>(
     alloc: Global,
-    dialect: &Dialect,
+    common: &[Label],
     rules: &Option<Rules>,
     scratch: &mut Scratch<Key>,
     line: &'a [u8],
 ) -> Result<Request, Unread<'a>>
-    ensures { MatchResult result (Requests dialect.now (ruled_name rules.now) line.now)
-        (Fails (IsBad dialect.now line.now)) }
+    ensures { MatchResult result (Requests common.now (ruled_name rules.now) line.now) (Fails (IsBad line.now)) }
 {
-    let request = request_of(alloc, dialect, line)?;
+    let request = request_of(alloc, common, line)?;
     Ok(request_by_rules(alloc, rules, scratch, request)?)
 }

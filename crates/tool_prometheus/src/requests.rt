@@ -1,28 +1,21 @@
 //! The lines of this tool: updates, descriptions, scrapes, and lines that are skipped.
 ghost use Rattle.std.specs.Prelude.{◌≡◌, ℕ, List, [], ◌∷◌, ◌++◌, ◌<◌, ◌^◌, codes, decimal};
 ghost use Rattle.std.specs.Prelude.{MatchResult, Option as Maybe};
-ghost use Rattle.metrics_names.specs.Names.{name_word, kind_word};
+ghost use Rattle.metrics_names.specs.Names.{LabelParts, name_word, kind_word};
 ghost use Rattle.metrics_names.specs.declared.kind.MetricKind.{MetricKind as Kind};
 ghost use Rattle.metrics_names.specs.declared.common.Unit.{Unit as Measure};
 ghost use Rattle.metrics.specs.declared.handles.Update.{Update as Change};
 ghost use Rattle.tool_grammar.specs.Cuts.{Lacks, StartsAt};
-ghost use Rattle.tool_grammar.specs.Grammar.{unit_word, update_word};
-ghost use Rattle.tool_numbers.specs.Numerals.{IsAmount};
-ghost use Rattle.tool_prometheus.specs.declared.dialect.Dialect.{Dialect as Ways};
-ghost use Rattle.tool_prometheus.specs.Places.{places_at};
+ghost use Rattle.tool_grammar.specs.Grammar.{unit_word, update_word, amount_word, IsInRange};
 ghost use Rattle.tool_prometheus.specs.Lines.{IsName, IsText, Written, AreWritten, label_words, Fails, Reads, IsNone, Spells};
 ghost use Rattle.tool_prometheus.specs.Lines.{IsBad, body_of as body, IsBegun};
 
-use crate::amounts::{amount_flaw, is_amount, no_amount};
-use crate::dialect::Dialect;
 use crate::flaws::{Cause, Unread};
 use crate::labels::{labels_of, with_labels};
-use crate::places::places_at;
 use crate::words::{are_of_name, text_before, text_of};
-use metrics::{Key, KeyName, MetricKind, Text, Unit, Update};
+use metrics::{Key, KeyName, Label, MetricKind, Text, Unit, Update};
 use std::alloc::Global;
-use tool_grammar::{kind_of, number_of, split_before, strip_prefix, unit_of};
-use tool_numbers::update_in;
+use tool_grammar::{kind_of, number_of, split_before, strip_prefix, unit_of, update_of};
 
 /// The request of a line.
 #[derive(Debug, Drop)]
@@ -78,29 +71,35 @@ fn name_of(text: &str) -> Result<&str, Unread<'_>>
     Ok(text)
 }
 
-/// The amount of an update, and what follows it.
-fn amount_and_rest<'a>(word: &'a [u8], bytes: &'a [u8]) -> Result<(&'a [u8], &'a [u8]), Unread<'a>>
+/// The update of a word, and what follows its amount.
+fn update_and_rest<'a>(word: &'a [u8], bytes: &'a [u8]) -> Result<(Update, &'a [u8]), Unread<'a>>
     ensures { MatchResult result
-        (λ f. (bytes.now ≡ 32 ∷ (f.0.now ++ f.1.now)) × Lacks 32 f.0.now × StartsAt 32 f.1.now)
-        (Fails ((rest : List ℕ) → bytes.now ≡ 32 ∷ rest → ⊥)) }
+        (λ f. IsInRange f.0 × (word.now ≡ update_word f.0) × (bytes.now ≡ 32 ∷ (amount_word f.0 ++ f.1.now))
+        × StartsAt 32 f.1.now)
+        (Fails ((by : Change) (rest : List ℕ) → IsInRange by → StartsAt 32 rest → word.now ≡ update_word by
+        → bytes.now ≡ 32 ∷ (amount_word by ++ rest) → ⊥)) }
 {
-    match strip_prefix(bytes, b" ") {
-        Some(others) => Ok(split_before(others, b' ')),
-        None => Err(Unread::Bad(no_amount(word), word)),
+    let Some(others) = strip_prefix(bytes, b" ") else {
+        return Err(amount_flaw(word, None));
+    };
+    let (amount, rest) = split_before(others, b' ');
+    match update_of(word, amount) {
+        Some(by) => Ok((by, rest)),
+        None => Err(amount_flaw(word, Some(amount))),
     }
 }
 
-/// The update of a word, by an amount with so many decimal places at most.
-fn update_by<'a>(word: &'a [u8], amount: &'a [u8], places: u8) -> Result<Update, Unread<'a>>
-    ensures { MatchResult result (λ by. IsAmount places by amount.now × (word.now ≡ update_word by))
-        (Fails ((by : Change) → IsAmount places by amount.now → word.now ≡ update_word by → ⊥)) }
-{
-    match update_in(word, amount, places) {
-        Some(by) => Ok(by),
-        None => {
-            let (cause, flawed) = amount_flaw(word, amount, places);
-            Err(Unread::Bad(cause, flawed))
-        }
+/// What is wrong with a line whose first word and amount are no update.
+fn amount_flaw<'a>(word: &'a [u8], amount: Option<&'a [u8]>) -> Unread<'a> {
+    let cause = match word {
+        b"increment" | b"absolute" => Cause::Whole,
+        b"add" | b"sub" | b"set" | b"record" => Cause::Signed,
+        b"" => return Unread::Bad(Cause::Empty, word),
+        _ => return Unread::Bad(Cause::FirstWord, word),
+    };
+    match amount {
+        Some(amount) => Unread::Bad(cause, amount),
+        None => Unread::Bad(Cause::Missing("N"), word),
     }
 }
 
@@ -119,64 +118,21 @@ fn name_and_rest(bytes: &[u8]) -> Result<(&str, &[u8]), Unread<'_>>
     Ok((name, rest))
 }
 
-/// The first flaw of a line whose name has this one: its first word and its amount come before.
-fn first_flaw<'a>(
-    word: &'a [u8],
-    amount: &'a [u8],
-    cause: Cause,
-    flawed: &'a [u8],
-) -> (Cause, &'a [u8]) {
-    if is_amount(word, amount) {
-        (cause, flawed)
-    } else {
-        amount_flaw(word, amount, 0)
-    }
-}
-
-/// The name of an update, and what follows it.
-fn updated_name<'a>(
-    word: &'a [u8],
-    amount: &'a [u8],
-    bytes: &'a [u8],
-) -> Result<(&'a str, &'a [u8]), Unread<'a>>
-    ensures { MatchResult result
-        (λ f. IsName f.0.now × (bytes.now ≡ 32 ∷ (name_word f.0.now ++ f.1.now)) × StartsAt 32 f.1.now)
-        (Fails ((name rest : List ℕ) → IsName name → StartsAt 32 rest
-        → bytes.now ≡ 32 ∷ (name_word name ++ rest) → ⊥)) }
-{
-    match name_and_rest(bytes) {
-        Ok(found) => Ok(found),
-        Err(Unread::Memory) => Err(Unread::Memory),
-        Err(Unread::Bad(cause, flawed)) => {
-            let (cause, flawed) = first_flaw(word, amount, cause, flawed);
-            Err(Unread::Bad(cause, flawed))
-        }
-    }
-}
-
-/// The decimal places of a name.
-fn places_for(dialect: &Dialect, name: &str) -> u8
-    ensures { result ≡ places_at dialect.now.places name.now }
-{
-    places_at(dialect.places.as_slice(), name.as_bytes())
-}
-
 /// The update of a line, from its first word and what follows it.
 fn change_of<'a>(
     alloc: Global,
-    dialect: &Dialect,
+    common: &[Label],
     word: &'a [u8],
     bytes: &'a [u8],
 ) -> Result<Request, Unread<'a>>
-    ensures { MatchResult result (Reads dialect.now (word.now ++ bytes.now))
-        (Fails ((by : Change) (amount name : List ℕ) (ws : List Written) → IsAmount (places_at dialect.now.places name) by amount
-        → IsName name → AreWritten ws → word.now ≡ update_word by
-        → bytes.now ≡ 32 ∷ (amount ++ 32 ∷ (name_word name ++ label_words ws)) → ⊥)) }
+    ensures { MatchResult result (Reads common.now (word.now ++ bytes.now))
+        (Fails ((by : Change) (name : List ℕ) (ws : List Written) → IsInRange by → IsName name → AreWritten ws
+        → word.now ≡ update_word by
+        → bytes.now ≡ 32 ∷ (amount_word by ++ 32 ∷ (name_word name ++ label_words ws)) → ⊥)) }
 {
-    let (amount, rest) = amount_and_rest(word, bytes)?;
-    let (name, rest) = updated_name(word, amount, rest)?;
-    let by = update_by(word, amount, places_for(dialect, name))?;
-    let labels = with_labels(alloc, dialect.labels.as_slice(), labels_of(alloc, rest)?)?;
+    let (by, rest) = update_and_rest(word, bytes)?;
+    let (name, rest) = name_and_rest(rest)?;
+    let labels = with_labels(alloc, common, labels_of(alloc, rest)?)?;
     Ok(Request::Change(Key::from_parts(alloc, name, labels)?, by))
 }
 
@@ -218,7 +174,7 @@ fn note_of(bytes: &[u8]) -> Result<&str, Unread<'_>>
 
 /// The description of a line, from what follows its first word.
 fn describe_of(alloc: Global, bytes: &[u8]) -> Result<Request, Unread<'_>>
-    ensures { (dialect : Ways) → MatchResult result (Reads dialect (codes "describe" ++ bytes.now))
+    ensures { (common : List LabelParts) → MatchResult result (Reads common (codes "describe" ++ bytes.now))
         (Fails ((kind : Kind) (name : List ℕ) (unit : Maybe Measure) (text : List ℕ) → IsName name → IsText text
         → bytes.now ≡ 32 ∷ (kind_word kind ++ 32 ∷ (name_word name ++ 32 ∷ (unit_word unit ++ 32 ∷ text))) → ⊥)) }
 {
@@ -234,7 +190,7 @@ fn describe_of(alloc: Global, bytes: &[u8]) -> Result<Request, Unread<'_>>
 /// The scrape of a line, from what follows its first word.
 fn scrape_of(bytes: &[u8]) -> Result<Request, Unread<'_>>
     requires { StartsAt 32 bytes.now }
-    ensures { (dialect : Ways) → MatchResult result (Reads dialect (codes "scrape" ++ bytes.now))
+    ensures { (common : List LabelParts) → MatchResult result (Reads common (codes "scrape" ++ bytes.now))
         (Fails ((bytes.now ≡ [] → ⊥) × ((now : ℕ) → now < 2 ^ 64 → bytes.now ≡ 32 ∷ decimal now → ⊥))) }
 {
     let Some(digits) = strip_prefix(bytes, b" ") else {
@@ -249,13 +205,12 @@ fn scrape_of(bytes: &[u8]) -> Result<Request, Unread<'_>>
 /// The request of a first word and what follows it.
 fn request_from<'a>(
     alloc: Global,
-    dialect: &Dialect,
+    common: &[Label],
     word: &'a [u8],
     rest: &'a [u8],
 ) -> Result<Request, Unread<'a>>
     requires { Lacks 32 word.now × StartsAt 32 rest.now × IsBegun (word.now ++ rest.now) }
-    ensures { MatchResult result (Reads dialect.now (word.now ++ rest.now))
-        (Fails (IsNone dialect.now (word.now ++ rest.now))) }
+    ensures { MatchResult result (Reads common.now (word.now ++ rest.now)) (Fails (IsNone (word.now ++ rest.now))) }
 {
     if word == b"scrape".as_slice() {
         return scrape_of(rest);
@@ -263,12 +218,12 @@ fn request_from<'a>(
     if word == b"describe".as_slice() {
         return describe_of(alloc, rest);
     }
-    change_of(alloc, dialect, word, rest)
+    change_of(alloc, common, word, rest)
 }
 
 /// The request of a line without its end.
-fn sentence_of<'a>(alloc: Global, dialect: &Dialect, body: &'a [u8]) -> Result<Request, Unread<'a>>
-    ensures { MatchResult result (Reads dialect.now body.now) (Fails (IsNone dialect.now body.now)) }
+fn sentence_of<'a>(alloc: Global, common: &[Label], body: &'a [u8]) -> Result<Request, Unread<'a>>
+    ensures { MatchResult result (Reads common.now body.now) (Fails (IsNone body.now)) }
 {
     let Some((first, _others)) = body.split_first() else {
         return Ok(Request::Nothing);
@@ -277,17 +232,17 @@ fn sentence_of<'a>(alloc: Global, dialect: &Dialect, body: &'a [u8]) -> Result<R
         return Ok(Request::Nothing);
     }
     let (word, rest) = split_before(body, b' ');
-    request_from(alloc, dialect, word, rest)
+    request_from(alloc, common, word, rest)
 }
 
-/// Returns the request that a line spells, or why it spells none. An updated series has the dialect's labels beside its own, in
-/// the order of their keys; its own label of a key wins. Its amount is in units of the last decimal place of its name.
+/// Returns the request that a line spells, or why it spells none. An updated series has the common labels beside its own, in
+/// the order of their keys; its own label of a key wins.
 pub fn request_of<'a>(
     alloc: Global,
-    dialect: &Dialect,
+    common: &[Label],
     line: &'a [u8],
 ) -> Result<Request, Unread<'a>>
-    ensures { MatchResult result (Spells dialect.now line.now) (Fails (IsBad dialect.now line.now)) }
+    ensures { MatchResult result (Spells common.now line.now) (Fails (IsBad line.now)) }
 {
-    sentence_of(alloc, dialect, body_of(line))
+    sentence_of(alloc, common, body_of(line))
 }

@@ -26,11 +26,17 @@ fn take_line<const SKIPS: bool, S: Surroundings>(
     line: &[u8],
 ) -> Result<Request, Unanswered>
     ensures taken { MatchResult result (λ request. Takes SKIPS on.old.0 line.now request on.new.0)
-        (λ e. IsUntaken SKIPS on.old.0 line.now e × (on.new ≡ on.old)) }
+        (λ e. IsUntaken SKIPS line.now e × (on.new ≡ on.old)) }
     ensures asked { Asks (S.asked on.old.1) (S.asked on.new.1) nothing_asked }
 {
     watch.count();
-    match named_request_of(alloc, &on.0.dialect, &on.0.rules, &mut watch.scratch, line) {
+    match named_request_of(
+        alloc,
+        on.0.labels.as_slice(),
+        &on.0.rules,
+        &mut watch.scratch,
+        line,
+    ) {
         Ok(request) => {
             watch.tell_spelled(&mut on.1, &request);
             Ok(request)
@@ -61,7 +67,7 @@ impl<const SKIPS: bool, S: Surroundings> LineMachine for PrometheusLines<SKIPS, 
 
     ghost answers = { answers_of S.asked SKIPS };
 
-    ghost is_bad = { λ on. Stops SKIPS on.0 };
+    ghost is_bad = { Stops SKIPS };
 
     #[tactic(auto, using(crate::proofs::AskedLemmas::asks_later))]
     fn answer(

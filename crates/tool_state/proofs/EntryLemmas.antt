@@ -19,7 +19,7 @@ use Rattle.tool_grammar.specs.Cuts.{Lacks}
 use Rattle.tool_prometheus.specs.declared.requests.Request.{Request}
 use Rattle.tool_prometheus.specs.declared.requests.Request.TheVariants.{Change, Describe}
 use Rattle.tool_prometheus.specs.Lines.{Spells}
-use Rattle.tool_state.specs.State.{Entry, plain, StateLine, IsLine, IsLineOf, lines_text, entries_of, calls_by, calls_of, legend_by, legend_of, DoesAll, ReadsState}
+use Rattle.tool_state.specs.State.{Entry, StateLine, IsLine, IsLineOf, lines_text, entries_of, calls_by, calls_of, legend_by, legend_of, DoesAll, ReadsState}
 
 -- ---- an update so many times
 
@@ -72,7 +72,7 @@ does-description n kind name unit note a b same tells = (
 -- ---- lines
 
 -- the number, and the request after a space
-pub line-read : (line digits rest : List ℕ) (n : ℕ) (q : Request) → Lacks 10 line → n < 2 ^ 64 → line ≡ digits ++ 32 ∷ rest → digits ≡ decimal n → Spells plain rest q → IsLine line (n, q)
+pub line-read : (line digits rest : List ℕ) (n : ℕ) (q : Request) → Lacks 10 line → n < 2 ^ 64 → line ≡ digits ++ 32 ∷ rest → digits ≡ decimal n → Spells [] rest q → IsLine line (n, q)
 line-read line digits rest n q lacks small is number spells = (lacks, small, (rest, is ∙ ap (λ z. z ++ 32 ∷ rest) number, spells))
 
 pub positive : (n : ℕ) (b : Bool) → b ≡ eqb n 0 → b ≡ false → 0 < n

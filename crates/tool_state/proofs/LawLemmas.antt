@@ -150,5 +150,5 @@ reading-gives-same setup log title bytes old fresh new after (entries, is, (keye
         (firsts-each (legend_of notes no_legend) (described old) keyed tells) ((readings.held s).1 held)
 
     one : SameTexts new old
-    one naming places x y is-x is-y =
-        one-text (held_cells old) x y (moved naming places (described new) (described old) (held_cells new) (held_cells old) x values names is-x) is-y
+    one naming x y is-x is-y =
+        one-text (held_cells old) x y (moved naming (described new) (described old) (held_cells new) (held_cells old) x values names is-x) is-y

@@ -1,5 +1,5 @@
 -- Cells that show the same have one text.
-use Rattle.std.proofs.Common.{◌≡◌, ◌∙◌, ℕ, suc, ◌+◌, ◌<◌, List, [], ◌∷◌, ◌++◌, map, length, Contains, Option, None, Some, IsSome, refl, ap, sym, subst, arith}
+use Rattle.std.proofs.Common.{◌≡◌, ◌∙◌, ℕ, suc, ◌<◌, List, [], ◌∷◌, ◌++◌, map, length, Contains, Option, None, Some, IsSome, refl, ap, sym, subst, arith}
 use Rattle.std.specs.Prelude.{option_map, ◌↔◌, IsPermutation}
 use Rattle.std.proofs.lemmas.Bool.{false≢true}
 use Rattle.metrics_names.specs.declared.kind.MetricKind.{MetricKind}
@@ -9,8 +9,8 @@ use Rattle.metrics_exporter.specs.Describing.{Legend}
 use Rattle.metrics_exporter.specs.Gathering.{series_at}
 use Rattle.metrics_exporter.specs.Readings.{reading_in}
 use Rattle.metrics_prometheus.specs.declared.naming.Naming.{Naming}
-use Rattle.metrics_prometheus.specs.Naming.{Display, display_by, shown_name, shown_places}
-use Rattle.metrics_prometheus.specs.Exposition.{Row, row_of, rows_text, row_lines, last_after, reading_at, AreRows, IsScaled}
+use Rattle.metrics_prometheus.specs.Naming.{Display, display_of, shown_name, shown_places}
+use Rattle.metrics_prometheus.specs.Exposition.{Row, row_of, rows_text, row_lines, last_after, reading_at, AreRows, IsDescribed}
 use Rattle.metrics.specs.Book.{Description}
 use Rattle.tool_state.specs.Held.{SameReadings}
 
@@ -32,12 +32,11 @@ rows-same a b same all last (r ∷ rows) =
     ∙ ap (λ l. row_lines (reading_at b r) all last r ++ l) (rows-same a b same all (last_after all last r) rows)
 
 -- what a name is shown as follows from its description
-display-same : (naming : Naming) (places : List ℕ → ℕ) (a b : Legend) (s : SeriesKey) → a s.kind s.key.name ≡ b s.kind s.key.name
-    → row_of (display_by naming a places) s ≡ row_of (display_by naming b places) s
-display-same naming places a b s e = ap row e
+display-same : (naming : Naming) (a b : Legend) (s : SeriesKey) → a s.kind s.key.name ≡ b s.kind s.key.name → row_of (display_of naming a) s ≡ row_of (display_of naming b) s
+display-same naming a b s e = ap row e
   where
     row : Description → Row
-    row d = row_of (λ kind name. record { name = shown_name naming kind d.unit name; help = d.text; places = places name + shown_places naming d.unit }) s
+    row d = row_of (λ kind name. record { name = shown_name naming kind d.unit name; help = d.text; places = shown_places naming d.unit }) s
 
 each-same : (f g : SeriesKey → Row) (keys : List SeriesKey) → ((s : SeriesKey) → Contains keys s → f s ≡ g s) → map f keys ≡ map g keys
 each-same f g [] h = refl
@@ -45,18 +44,17 @@ each-same f g (k ∷ keys) h =
     ap (λ r. r ∷ map f keys) (h k (0, omega arith, refl)) ∙ ap (λ l. g k ∷ l) (each-same f g keys (λ s there. h s (suc there.0, omega (arith, there.1), there.2)))
 
 -- a text of cells is one of cells that show the same, with the same descriptions of their names
-pub moved : (naming : Naming) (places : List ℕ → ℕ) (legend other : Legend) (a b : Cells) (text : List ℕ) → SameReadings a b
-    → ((s : SeriesKey) → IsHeld b s → legend s.kind s.key.name ≡ other s.kind s.key.name)
-    → IsScaled naming legend places a text → IsScaled naming other places b text
-moved naming places legend other a b text same names is = record {
+pub moved : (naming : Naming) (legend other : Legend) (a b : Cells) (text : List ℕ) → SameReadings a b → ((s : SeriesKey) → IsHeld b s → legend s.kind s.key.name ≡ other s.kind s.key.name)
+    → IsDescribed naming legend a text → IsDescribed naming other b text
+moved naming legend other a b text same names is = record {
   rows = is.rows;
   all = record {
     keys = is.all.keys;
     once = is.all.once;
     held = λ s. ((λ there. held-same a b same s ((is.all.held s).0 there)), (λ held. (is.all.held s).1 (held-same b a back s held)));
     same = let P : List Row → Type 0 = λ l. IsPermutation l is.rows in
-        subst P (each-same (row_of (display_by naming legend places)) (row_of (display_by naming other places)) is.all.keys
-        (λ s there. display-same naming places legend other s (names s (held-same a b same s ((is.all.held s).0 there))))) is.all.same;
+        subst P (each-same (row_of (display_of naming legend)) (row_of (display_of naming other)) is.all.keys
+        (λ s there. display-same naming legend other s (names s (held-same a b same s ((is.all.held s).0 there))))) is.all.same;
     ordered = is.all.ordered;
   };
   texts = λ s held. is.texts s (held-same b a back s held);

@@ -6,13 +6,13 @@ use Rattle.std.proofs.lemmas.List.{append_cancel_left}
 use Rattle.tool_grammar.proofs.WordsLemmas.{first_same, lacks_decimal}
 use Rattle.tool_prometheus.specs.Lines.{Spells}
 use Rattle.tool_prometheus.proofs.OneLemmas.{request_same}
-use Rattle.tool_state.specs.State.{Entry, plain, IsLine, StateLine, IsLineOf, lines_text, state_text, entries_of, IsState}
+use Rattle.tool_state.specs.State.{Entry, IsLine, StateLine, IsLineOf, lines_text, state_text, entries_of, IsState}
 
 entry-same : (line : List ℕ) (e f : Entry) → IsLine line e → IsLine line f → e ≡ f
 entry-same line (m, q) (n, r) (la, ms, (x, ex, sx)) (lb, ns, (y, ey, sy)) =
     let both = first_same 32 line (decimal m) x (decimal n) y (lacks_decimal m ms) (lacks_decimal n ns) ex ey in
     let numbers : m ≡ n = decimal_injective m n ms ns both.0 in
-    let requests : q ≡ r = request_same plain y q r (subst (λ z. Spells plain z q) both.1 sx) sy in
+    let requests : q ≡ r = request_same [] y q r (subst (λ z. Spells [] z q) both.1 sx) sy in
     λ i. (numbers i, requests i)
 
 no-line : (line rest : List ℕ) → [] ≡ line ++ 10 ∷ rest → ⊥

@@ -10,7 +10,7 @@ use Rattle.metrics_exporter.specs.Describing.{SameLegend, no_legend}
 use Rattle.metrics_exporter.specs.Kept.{IsAfter, held_cells, described}
 use Rattle.metrics_exporter.specs.Readings.{KeyedReading, AreReadings, reading_in}
 use Rattle.metrics_prometheus.specs.declared.naming.Naming.{Naming}
-use Rattle.metrics_prometheus.specs.Exposition.{IsScaled}
+use Rattle.metrics_prometheus.specs.Exposition.{IsDescribed}
 use Rattle.tool_prometheus.specs.declared.requests.Request.TheVariants.{Change}
 use Rattle.tool_state.specs.Runs.{Run, AreSamplesOf}
 use Rattle.tool_state.specs.State.{Entry, IsState, ReadsState, calls_of, legend_of}
@@ -54,10 +54,10 @@ SameReadings a b = (s : SeriesKey) → reading_in a s ≡ reading_in b s
 abbrev pub SameNames : Cells → Exporter → Exporter → Type 0
 SameNames cells a b = (s : SeriesKey) → IsHeld cells s → described a s.kind s.key.name ≡ described b s.kind s.key.name
 
--- they have one exposition, in each naming and with any decimal places
+-- they have one exposition, in each naming
 abbrev pub SameTexts : Exporter → Exporter → Type 0
-SameTexts a b = (naming : Naming) (places : List ℕ → ℕ) (x y : List ℕ) → IsScaled naming (described a) places (held_cells a) x
-    → IsScaled naming (described b) places (held_cells b) y → x ≡ y
+SameTexts a b = (naming : Naming) (x y : List ℕ) → IsDescribed naming (described a) (held_cells a) x
+    → IsDescribed naming (described b) (held_cells b) y → x ≡ y
 
 -- A new exporter of the same setup that reads a state of another one holds the same series with the same values, and describes
 -- their names as that one. So both have one text.

@@ -9,7 +9,6 @@ use Rattle.metrics_exporter.specs.Kept.{IsAfter, described}
 use Rattle.tool_grammar.specs.Cuts.{Lacks}
 use Rattle.tool_prometheus.specs.declared.requests.Request.{Request}
 use Rattle.tool_prometheus.specs.declared.requests.Request.TheVariants.{Change, Describe, Scrape, Nothing}
-use Rattle.tool_prometheus.specs.declared.dialect.Dialect.{Dialect}
 use Rattle.tool_prometheus.specs.Lines.{Spells}
 
 -- ---- lines
@@ -18,13 +17,9 @@ use Rattle.tool_prometheus.specs.Lines.{Spells}
 abbrev pub Entry : Type 0
 Entry = ℕ × Request
 
--- no common labels, and whole numbers
-abbrev pub plain : Dialect
-plain = record { labels = []; places = [] }
-
 -- the number, a space, and a line of the program's language that spells the request; no line feed
 abbrev pub IsLine : List ℕ → Entry → Type 0
-IsLine line e = Lacks 10 line × (e.0 < 2 ^ 64) × ((rest : List ℕ) × (line ≡ decimal e.0 ++ 32 ∷ rest) × Spells plain rest e.1)
+IsLine line e = Lacks 10 line × (e.0 < 2 ^ 64) × ((rest : List ℕ) × (line ≡ decimal e.0 ++ 32 ∷ rest) × Spells [] rest e.1)
 
 -- a line, and what it says
 abbrev pub StateLine : Type 0

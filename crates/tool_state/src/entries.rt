@@ -6,30 +6,27 @@ ghost use Rattle.metrics_exporter.specs.Kept.{IsAfter, described};
 ghost use Rattle.tool_grammar.specs.Cuts.{Lacks};
 ghost use Rattle.tool_prometheus.specs.Lines.{Spells};
 ghost use Rattle.tool_prometheus.specs.declared.requests.Request.TheVariants.{Change, Describe};
-ghost use Rattle.tool_state.specs.State.{IsLine, DoesAll, plain};
+ghost use Rattle.tool_state.specs.State.{IsLine, DoesAll};
 
 use crate::error::StateError;
-use metrics::{Items, Key, MetricKind, Unit, Update};
+use metrics::{Key, Label, MetricKind, Unit, Update};
 use metrics_exporter::{Error, Exporter};
 use std::alloc::Global;
 use tool_grammar::{number_of, split_at_first};
-use tool_prometheus::{Dialect, Request, Unread, request_of};
+use tool_prometheus::{Request, Unread, request_of};
 
-/// No common labels, and whole numbers.
-fn plain_dialect(alloc: Global) -> Dialect
-    ensures { result ≡ plain }
+/// No labels.
+fn no_labels<'a>() -> &'a [Label]
+    ensures { result.now ≡ [] }
 {
-    Dialect {
-        labels: Items::from(Vec::new(alloc)),
-        places: Items::from(Vec::new(alloc)),
-    }
+    &[]
 }
 
 /// The request that the rest of a line spells.
 fn request_in(alloc: Global, rest: &[u8]) -> Result<Request, StateError>
-    ensures { IfOk result (Spells plain rest.now) }
+    ensures { IfOk result (Spells [] rest.now) }
 {
-    match request_of(alloc, &plain_dialect(alloc), rest) {
+    match request_of(alloc, no_labels(), rest) {
         Ok(request) => Ok(request),
         Err(Unread::Memory) => Err(StateError::Memory),
         Err(Unread::Bad(_, _)) => Err(StateError::BadLine),

@@ -90,8 +90,7 @@ fn text_of(alloc: Global, title: &str, body: &Body) -> Result<String, AllocError
 /// the program's language that make its value, each after how many times it is made. A histogram's lines are samples that have
 /// its counts and its sum.
 ///
-/// The title may be any text without a line feed. It is for what a reader has to have alike, as the bounds of histograms and
-/// the decimal places of names: a state has whole numbers of the last place.
+/// The title may be any text without a line feed. It is for what a reader has to have alike, as the bounds of histograms.
 ///
 /// # Errors
 ///

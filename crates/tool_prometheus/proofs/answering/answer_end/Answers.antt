@@ -1,9 +1,6 @@
-use Rattle.std.proofs.Common.{◌≡◌, ℕ, List, MatchResult, [], subst, refl, sym, ◌∙◌, append-nil, string_bytes, inl, inr}
+use Rattle.std.proofs.Common.{[], refl, sym, ◌∙◌, append-nil, string_bytes, inl, inr}
 use Rattle.tool_prometheus.specs.Asked.{nothing_asked}
-use Rattle.metrics.specs.declared.error.Error.TheVariants.{Memory}
-use Rattle.metrics_exporter.specs.Exporting.{Setup, Log, steps, cells_after}
-use Rattle.metrics_exporter.specs.Kept.{IsAfter}
-use Rattle.tool_prometheus.specs.Exposed.{shown_text, IsExposed}
+use Rattle.tool_prometheus.specs.Exposed.{shown_text}
 use Rattle.tool_prometheus.proofs.AnswerLemmas.{end_shown, shown_keeps}
 use Rattle.tool_prometheus.proofs.AskedLemmas.{asks_none}
 use Rattle.tool_prometheus.proofs.answering.answer_end.Goals as goal
@@ -12,10 +9,7 @@ pub returns-then-shows_at_end : goal.returns-then-shows_at_end
 returns-then-shows_at_end g c =
     let r = c.text-shown.result in
     let (files, out, asked) = c.hand_out_shown.ensures.done in
-    let on = c.args.on.now in
-    let P : (List ℕ → ℕ) → Type 0 = λ places. (setup : Setup) (log : Log) → IsAfter setup log on.exporter → MatchResult r (λ t. IsExposed on.naming places on.exporter (cells_after setup (steps log)) (string_bytes t)) (λ e. e ≡ Memory) in
-    let text = subst P c.kept_places_of.ensures c.text-shown.ensures.text in
-    let done = end_shown c.args.on.now c.hand_out_shown.new.on files string_bytes r text c.text-shown.ensures.refused out in
+    let done = end_shown c.args.on.now c.hand_out_shown.new.on files string_bytes r c.text-shown.ensures.text c.text-shown.ensures.refused out in
     record {
       shows = (record { clock = []; files = files }, shown_text string_bytes c.args.on.now.has_file r, (refl, inl (sym c.shows_at_end.ensures ∙ c.if-shows_at_end.true, done)), asked, c.hand_out_shown.ensures.text);
       kept = shown_keeps string_bytes c.args.on.now c.hand_out_shown.new.on r files out;

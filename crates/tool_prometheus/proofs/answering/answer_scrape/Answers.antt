@@ -1,6 +1,5 @@
-use Rattle.std.proofs.Common.{ℕ, List, string_bytes, subst}
-use Rattle.tool_export.specs.Exported.{Scrapes}
-use Rattle.tool_prometheus.specs.Exposed.{shown_text, IsExposed}
+use Rattle.std.proofs.Common.{string_bytes}
+use Rattle.tool_prometheus.specs.Exposed.{shown_text}
 use Rattle.tool_prometheus.proofs.AnswerLemmas.{scraped}
 use Rattle.tool_prometheus.proofs.AskedLemmas.{asks_both, asks_later}
 use Rattle.tool_prometheus.proofs.answering.answer_scrape.Goals as goal
@@ -10,10 +9,8 @@ returns g c =
     let r = c.shown_at-shown.result in
     let (clock, at, gave) = c.moment_of-now.ensures in
     let (files, out, handed) = c.hand_out_shown.ensures.done in
-    let P : (List ℕ → ℕ) → Type 0 = λ places. Scrapes (λ cells t. IsExposed c.args.on.now.naming places c.shown_at-shown.new.on cells (string_bytes t)) c.args.on.now.exporter c.shown_at-shown.new.on c.moment_of-now.result r in
-    let shown = subst P c.kept_places_of.ensures c.shown_at-shown.ensures.shown in
     let done = scraped c.args.on.now c.shown_at-shown.new.on string_bytes c.args.moment c.moment_of-now.result clock files c.hand_out_shown.new.on r
-    c.shown_at-shown.ensures.legend at shown out in (
+    c.shown_at-shown.ensures.legend at c.shown_at-shown.ensures.shown out in (
       record { clock = clock; files = files },
       shown_text string_bytes c.args.on.now.has_file r,
       done,

@@ -11,8 +11,7 @@ returns g c =
     let start : Served = record {
       exporter = c.args.exporter;
       naming = c.args.options.naming;
-      dialect = c.args.options.dialect;
-      front = c.front_of.result;
+      labels = c.args.options.labels;
       has_file = c.args.options.has_file;
       rules = c.args.rules;
       at_scrapes_only = c.args.options.at_scrapes_only;
@@ -33,7 +32,7 @@ returns g c =
         first,
         more,
         c.serve-answered.result,
-        (c.requires.after, c.requires.undescribed, refl, refl, refl, refl, refl, refl, refl, c.front_of.ensures, c.requires.named),
+        (c.requires.after, c.requires.undescribed, refl, refl, refl, refl, refl, refl, refl, c.requires.named),
         starts,
         ran,
         c.final_status-status.ensures.status,

@@ -3,19 +3,19 @@ use Rattle.tool_prometheus.proofs.ReadLemmas.{no-description-unit, no-descriptio
 use Rattle.tool_prometheus.proofs.requests.describe_of.Goals as goal
 
 pub returns-in_err-unit : goal.returns-in_err-unit
-returns-in_err-unit c = λ dialect.
+returns-in_err-unit c = λ common.
     let p = err_from_is_err_and c.from_residual-in_err-unit.result c.from_residual-in_err-unit.ensures.1 in
     rw (p.1, p.2) (no-description-unit c.args.bytes.now c.in_ok-kind.kind c.in_ok-kind.rest.now c.in_ok-kind.ensures.0 c.in_ok-kind.ensures.1
     c.in_ok-name.name.now c.in_ok-name.rest.now c.in_ok-name.ensures.0 c.in_ok-name.ensures.1 c.in_ok-name.ensures.2 c.in_err-unit.field-0.0 c.in_err-unit.ensures)
 
 pub returns-in_err-text : goal.returns-in_err-text
-returns-in_err-text c = λ dialect.
+returns-in_err-text c = λ common.
     let p = err_from_is_err_and c.from_residual-in_err-text.result c.from_residual-in_err-text.ensures.1 in
     rw (p.1, p.2) (no-description-text c.args.bytes.now c.in_ok-kind.kind c.in_ok-kind.rest.now c.in_ok-kind.ensures.0 c.in_ok-kind.ensures.1
     c.in_ok-name.name.now c.in_ok-name.rest.now c.in_ok-name.ensures.0 c.in_ok-name.ensures.1 c.in_ok-name.ensures.2 c.in_ok-unit.unit c.in_ok-unit.rest.now c.in_ok-unit.ensures.0 c.in_ok-unit.ensures.1 c.in_err-text.field-0.0 c.in_err-text.ensures)
 
 pub returns : goal.returns
-returns c = λ dialect.
+returns c = λ common.
     let read = description-read c.args.bytes.now c.in_ok-kind.kind c.in_ok-kind.rest.now c.in_ok-kind.ensures.0 c.in_ok-kind.ensures.1
-    c.in_ok-name.name.now c.in_ok-name.rest.now c.in_ok-name.ensures.0 c.in_ok-name.ensures.1 c.in_ok-name.ensures.2 c.in_ok-unit.unit c.in_ok-unit.rest.now c.in_ok-unit.ensures.0 c.in_ok-unit.ensures.1 dialect c.in_ok-text.text.now c.in_ok-text.ensures.0 c.in_ok-text.ensures.1 in
+    c.in_ok-name.name.now c.in_ok-name.rest.now c.in_ok-name.ensures.0 c.in_ok-name.ensures.1 c.in_ok-name.ensures.2 c.in_ok-unit.unit c.in_ok-unit.rest.now c.in_ok-unit.ensures.0 c.in_ok-unit.ensures.1 common c.in_ok-text.text.now c.in_ok-text.ensures.0 c.in_ok-text.ensures.1 in
     rw (c.in_ok-name-2.ensures, c.in_ok-text-2.ensures) read

@@ -12,5 +12,5 @@ pub returns : goal.returns
 returns c =
     let scrapes = differs (slice_eq-Decides Decides-eqb _ _ _ c.eq.ensures) c.if-eq.false c.as_slice.ensures in
     let describes = differs (slice_eq-Decides Decides-eqb _ _ _ c.eq-2.ensures) c.if-eq-2.false c.as_slice-2.ensures in
-    change_line c.args.word.now c.args.rest.now c.requires.0 c.requires.1 c.requires.2 c.args.dialect.now scrapes describes c.change_of.result
+    change_line c.args.word.now c.args.rest.now c.requires.0 c.requires.1 c.requires.2 c.args.common.now scrapes describes c.change_of.result
     c.change_of.ensures
