@@ -1,6 +1,0 @@
-use Rattle.tool_state.proofs.TextLemmas.{state-same}
-use Rattle.tool_state.proofs.LawLemmas.{reading-gives-same}
-use Rattle.tool_state.proofs.laws.state_law.Goals as goal
-
-pub returns : goal.returns
-returns c = record { one = state-same; same = reading-gives-same }

@@ -1,4 +1,0 @@
-pub mod Runs
-pub mod State
-pub mod Held
-pub mod Written
