@@ -28,7 +28,8 @@ fn a_library_counts_on_a_collector_and_under_rules(rt: HostRuntime) {
     let on = layered(&rt, prefixed(&rt, "app", Rules::leaf()));
     work(&rt, &on);
     let wanted = "# TYPE app_hits counter\napp_hits 2\n# TYPE app_ms histogram\n\
-        app_ms_bucket{le=\"10\"} 1\napp_ms_bucket{le=\"+Inf\"} 1\napp_ms_sum 7\napp_ms_count 1\n# TYPE app_open gauge\napp_open -3\n";
+        app_ms_bucket{le=\"10\"} 1\napp_ms_bucket{le=\"+Inf\"} 1\napp_ms_sum 7\napp_ms_count 1\n\
+        # TYPE app_open gauge\napp_open -3\n";
     expect_leaf(&rt, &on, 0, wanted);
 }
 

@@ -212,8 +212,8 @@ fn the_end_is_flushed(rt: HostRuntime) {
     }
 }
 
-/// With a period of 10 seconds each line reads the clock once, and so does the start. A scrape follows a line that comes 10 seconds
-/// or more after the last scrape, or after the clock went back.
+/// With a period of 10 seconds each line reads the clock once, and so does the start. A scrape follows a line that comes 10
+/// seconds or more after the last scrape, or after the clock went back.
 #[test]
 fn a_period_of_the_clock_scrapes(rt: HostRuntime) {
     let (one, two, three) = (
@@ -258,7 +258,8 @@ fn a_period_of_the_clock_scrapes(rt: HostRuntime) {
     }
 }
 
-/// A line's update comes before the scrape that follows it, so its series is not idle then. Without a file the text goes to the output.
+/// A line's update comes before the scrape that follows it, so its series is not idle then. Without a file the text goes to the
+/// output.
 #[test]
 fn a_scrape_by_the_clock_follows_its_line(rt: HostRuntime) {
     let lines = b"increment 1 a\nincrement 1 a\n".as_slice();
