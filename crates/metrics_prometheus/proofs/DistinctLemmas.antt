@@ -1,21 +1,21 @@
 -- No two samples of a text are of one series.
-use Rattle.std.proofs.Common.{◌≡◌, ◌∙◌, Bool, true, false, cond, List, [], ◌∷◌, ◌++◌, ℕ, None, refl, ap}
+use Rattle.std.proofs.Common.{◌≡◌, Bool, true, false, List, [], ◌∷◌, ◌++◌, ℕ, None, refl, ap}
 use Rattle.std.specs.Prelude.{bytes_eq}
 use Rattle.std.specs.List.{AllByRecursion, IsDistinct}
 use Rattle.std.specs.List.Sorted.{IsSorted}
 use Rattle.std.specs.Cmp.Lexicographic.{pointwise}
 use Rattle.metrics_names.specs.Names.{label_eq}
 use Rattle.metrics_exporter.specs.Exporting.{Cells}
-use Rattle.metrics_prometheus.specs.Samples.{Sample, series_text}
-use Rattle.metrics_prometheus.specs.declared.naming.Naming.{Naming}
+use Rattle.metrics_exposition.specs.Samples.{Sample, series_text}
+use Rattle.metrics_exposition.specs.declared.naming.Naming.{Naming}
 use Rattle.metrics_exporter.specs.Describing.{Legend}
-use Rattle.metrics_prometheus.specs.Exposition.{Row, row_cmp, is_taken, samples_of, reading_at, IsDescribed}
+use Rattle.metrics_prometheus.specs.Exposition.{Row, row_cmp, is_taken, samples_of, reading_at, IsScaled}
 use Rattle.metrics_prometheus.specs.Written.{written, samples_written, is_same_series}
-use Rattle.metrics_prometheus.specs.Reading.{CanBeRead, is_same_text, ReadsAs}
-use Rattle.metrics_prometheus.proofs.BackLemmas.{read-back}
+use Rattle.metrics_exposition.specs.Reading.{CanBeRead, is_same_text, ReadsAs}
+use Rattle.metrics_exposition.proofs.BackLemmas.{read-back}
 use Rattle.metrics_prometheus.proofs.SampleLabelLemmas.{samples-read}
-use Rattle.metrics_prometheus.proofs.PairLemmas.{each-map, each-all, each-both, Pairs, pairs-with, pairs-flat}
-use Rattle.metrics_prometheus.proofs.SameLemmas.{both-true, bytes-same, same-bytes, same-labels}
+use Rattle.metrics_exposition.proofs.PairLemmas.{each-map, each-all, each-both, Pairs, pairs-with, pairs-flat}
+use Rattle.metrics_exposition.proofs.SameLemmas.{both-true, same-bytes, same-labels}
 use Rattle.metrics_prometheus.proofs.SampleLemmas.{Differ, IsAmong, IsFree, row-differs, rows-differ}
 use Rattle.metrics_prometheus.proofs.UsingLemmas.{written-among}
 use Rattle.metrics_prometheus.proofs.WrittenLemmas.{IsBefore, before-apart, written-ascend, written-free}
@@ -70,7 +70,7 @@ unfolding IsDistinct
 texts-from [] p = tt
 texts-from (s ∷ ss) p = (p.0, texts-from ss p.1)
 
-pub texts-distinct : {naming : Naming} {legend : Legend} (cells : Cells) → ((r : Row) → ReadsAs r.kind (reading_at cells r)) → (text : List ℕ) (e : IsDescribed naming legend cells text) → IsDistinct is_same_text (samples_written cells e.rows)
+pub texts-distinct : {naming : Naming} {legend : Legend} {places : List ℕ → ℕ} (cells : Cells) → ((r : Row) → ReadsAs r.kind (reading_at cells r)) → (text : List ℕ) (e : IsScaled naming legend places cells text) → IsDistinct is_same_text (samples_written cells e.rows)
 texts-distinct cells reads text e =
     let ss = samples_written cells e.rows in
     texts-from ss (pairs-with CanBeRead Differ OtherText text-test ss (samples-read cells reads text e) (samples-differ cells e.rows e.all.ordered reads))

@@ -1,9 +1,9 @@
 -- A sample's line begins with a character of a name, and so is no comment.
 use Rattle.std.proofs.Common.{◌≡◌, ◌∙◌, ℕ, Bool, true, false, List, [], ◌∷◌, ◌++◌, nat_eq, refl, ap, sym}
 use Rattle.std.proofs.lemmas.Bool.{eqb-true}
-use Rattle.metrics_prometheus.specs.Names.{goes_on, is_name}
+use Rattle.metrics_exposition.specs.Names.{goes_on, is_name}
 use Rattle.metrics_prometheus.specs.Written.{begins_comment}
-use Rattle.metrics_prometheus.proofs.NameLemmas.{named}
+use Rattle.metrics_exposition.proofs.NameLemmas.{named}
 
 pub no-comment : (n rest : List ℕ) → is_name true n ≡ true → begins_comment (n ++ rest) ≡ false
 no-comment [] rest h = absurd (let g : false ≡ true = h in cc)

@@ -1,5 +1,5 @@
 -- Each row is that of a held series.
-use Rattle.std.proofs.Common.{◌≡◌, ◌<◌, List, [], ◌∷◌, map, length, get_or, Contains, Result, Ok, Err, refl, subst, arith}
+use Rattle.std.proofs.Common.{◌≡◌, ℕ, ◌<◌, List, [], ◌∷◌, map, length, get_or, Contains, Result, Ok, Err, refl, subst, arith}
 use Rattle.std.specs.Prelude.{OnErr}
 use Rattle.std.specs.List.{All, AllByRecursion}
 use Rattle.std.specs.Str.{IsUtf8}
@@ -10,10 +10,10 @@ use Rattle.metrics_names.specs.Names.{LabelParts, SeriesKey}
 use Rattle.metrics_exporter.specs.Exporting.{Cells, IsHeld, HoldsSome}
 use Rattle.metrics_exporter.specs.Readings.{KeyedReading, keyed_reading, keyed_readings, AreReadings, AreOnce}
 use Rattle.metrics_exporter.specs.declared.readings.SeriesReading.{SeriesReading}
-use Rattle.metrics_prometheus.specs.declared.naming.Naming.{Naming}
+use Rattle.metrics_exposition.specs.declared.naming.Naming.{Naming}
 use Rattle.metrics_exporter.specs.Describing.{Legend}
-use Rattle.metrics_prometheus.specs.Naming.{Display}
-use Rattle.metrics_prometheus.specs.Exposition.{Row, row_of, AreRows, HoldsTexts, IsDescribed}
+use Rattle.metrics_exposition.specs.Naming.{Display}
+use Rattle.metrics_prometheus.specs.Exposition.{Row, row_of, AreRows, HoldsTexts, IsScaled}
 use Rattle.metrics_prometheus.specs.Rows.{HasTexts}
 use Rattle.metrics_prometheus.proofs.OnceLemmas.{unmapped}
 
@@ -46,7 +46,7 @@ some-read cells series given (Err e) same are h = first series are (subst (λ l.
     first (s ∷ series) are small = ((keyed_reading s).0, (are.held (keyed_reading s).0).0 (0, omega arith, refl))
 
 -- if there are no readings nothing is held, and that is its exposition
-pub none-given : {naming : Naming} {legend : Legend} (cells : Cells) → AreReadings cells [] → IsDescribed naming legend cells []
+pub none-given : {naming : Naming} {legend : Legend} {places : List ℕ → ℕ} (cells : Cells) → AreReadings cells [] → IsScaled naming legend places cells []
 none-given cells are = record {
   rows = [];
   all = record { keys = []; once = are.once; held = are.held; same = IsPermutation-refl []; ordered = λ k d first small. absurd (omega (arith, small)) };

@@ -10,7 +10,7 @@ use Rattle.std.proofs.lemmas.List.{append_cancel_left, append_cancel_right, map-
 use Rattle.metrics_prometheus.specs.Exposition.{left_out_words}
 use Rattle.metrics_prometheus.specs.Rows.{names_shown}
 use Rattle.metrics_prometheus.specs.Written.{Line, has, describes, tells_kind, leaves_out, line_text, left_out_in, IsLine, IsReadable, begins_comment}
-use Rattle.metrics_prometheus.proofs.PairLemmas.{each-places}
+use Rattle.metrics_exposition.proofs.PairLemmas.{each-places}
 use Rattle.metrics_prometheus.proofs.OneReadingLemmas.{same-first}
 
 abbrev start : List ℕ

@@ -26,13 +26,14 @@ use Rattle.metrics_exporter.specs.Exporting.{Reading, Cell, Cells}
 use Rattle.metrics_exporter.specs.Gathering.{series_at}
 use Rattle.metrics_exporter.specs.Readings.{KeyedReading, AreReadings, AreOnce, cells_of_readings, reading_in}
 use Rattle.metrics_prometheus.specs.declared.rows.ShownRow.{ShownRow}
-use Rattle.metrics_prometheus.specs.Naming.{Display}
+use Rattle.metrics_exposition.specs.Naming.{Display}
 use Rattle.metrics_prometheus.specs.Exposition.{Row, row_of, row_cmp}
 use Rattle.metrics_prometheus.specs.Rows.{row_shown, pair_shown, pair_of, keyed_shown}
-use Rattle.metrics_prometheus.proofs.PairLemmas.{each-in, in-first, in-later, Pairs, pairs-places}
+use Rattle.metrics_exposition.proofs.PairLemmas.{each-in, in-first, in-later, Pairs, pairs-places}
 use Rattle.metrics_prometheus.proofs.RowLemmas.{map-length, map-get}
-use Rattle.metrics_prometheus.proofs.WrittenLemmas.{row_total, names}
-use Rattle.metrics_prometheus.proofs.LabelLemmas.{shown-sorted}
+use Rattle.metrics_prometheus.proofs.WrittenLemmas.{row_total}
+use Rattle.metrics_exposition.proofs.OrderLemmas.{names}
+use Rattle.metrics_exposition.proofs.LabelLemmas.{shown-sorted}
 
 module _ {A B : Type 0} (f : A → B) where
   pub mapped : (xs : List A) (x : A) → Contains xs x → Contains (map f xs) (f x)

@@ -2,10 +2,10 @@
 use Rattle.std.proofs.Common.{◌≡◌, ◌≢◌, ◌∙◌, ℕ, true, false, not, List, [], ◌∷◌, ◌++◌, length, drop, get_or, is_some, refl, ap, sym, subst, append_assoc, arith}
 use Rattle.std.specs.List.{All, AllByRecursion, flat_map, filter_map, cons_option}
 use Rattle.std.proofs.lemmas.List.Elements.{recursion_from_All}
-use Rattle.metrics_prometheus.specs.Samples.{Sample}
+use Rattle.metrics_exposition.specs.Samples.{Sample}
 use Rattle.metrics_prometheus.specs.Written.{Line, has, describes, tells_kind, leaves_out, line_text, sample_in, begins_comment, IsLine, IsReadable, HasSamples}
-use Rattle.metrics_prometheus.specs.Reading.{CanBeRead}
-use Rattle.metrics_prometheus.proofs.BackLemmas.{same-sample}
+use Rattle.metrics_exposition.specs.Reading.{CanBeRead}
+use Rattle.metrics_exposition.proofs.BackLemmas.{same-sample}
 
 -- what comes before the first line feed
 first-feed : (n m x y : List ℕ) → AllByRecursion (λ c. c ≢ 10) n → AllByRecursion (λ c. c ≢ 10) m → n ++ 10 ∷ x ≡ m ++ 10 ∷ y → (n ≡ m) × (x ≡ y)

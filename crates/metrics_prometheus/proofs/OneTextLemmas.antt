@@ -5,11 +5,12 @@ use Rattle.std.specs.declared.cmp.Ordering.TheVariants.{Less}
 use Rattle.std.proofs.lemmas.List.Sorted.{IsPermutation-sym, Contains-permutation}
 use Rattle.metrics_exporter.specs.Exporting.{Cells}
 use Rattle.metrics_exporter.specs.Describing.{Legend}
-use Rattle.metrics_prometheus.specs.declared.naming.Naming.{Naming}
-use Rattle.metrics_prometheus.specs.Naming.{Display}
-use Rattle.metrics_prometheus.specs.Exposition.{Row, row_of, row_cmp, rows_text, AreRows, IsDescribed}
-use Rattle.metrics_prometheus.proofs.PairLemmas.{each-map, each-both, each-in, in-first, in-later, in-split, in-none, Pairs}
-use Rattle.metrics_prometheus.proofs.WrittenLemmas.{never, turn, row_total, rows-up, IsUp}
+use Rattle.metrics_exposition.specs.declared.naming.Naming.{Naming}
+use Rattle.metrics_exposition.specs.Naming.{Display}
+use Rattle.metrics_prometheus.specs.Exposition.{Row, row_of, row_cmp, rows_text, AreRows, IsScaled}
+use Rattle.metrics_exposition.proofs.PairLemmas.{each-map, each-both, each-in, in-first, in-later, in-split, in-none, Pairs}
+use Rattle.metrics_prometheus.proofs.WrittenLemmas.{row_total, rows-up, IsUp}
+use Rattle.metrics_exposition.proofs.OrderLemmas.{never, turn}
 use Rattle.metrics_prometheus.proofs.OnceLemmas.{series-from, unmapped}
 use Rattle.metrics_prometheus.proofs.ToldLemmas.{AreOfOthers, rows-of-others, row-held}
 
@@ -67,7 +68,7 @@ module _ {display : Display} (cells : Cells) where
       let s = unmapped (row_of display) are.keys r (Contains-permutation xs of r (IsPermutation-sym of xs are.same) has) in
       subst (Contains ys) s.2 (row-held cells ys others s.0 ((are.held s.0).0 s.1))
 
-pub one-text : {naming : Naming} {legend : Legend} (cells : Cells) (a b : List ℕ) → IsDescribed naming legend cells a → IsDescribed naming legend cells b → a ≡ b
+pub one-text : {naming : Naming} {legend : Legend} {places : List ℕ → ℕ} (cells : Cells) (a b : List ℕ) → IsScaled naming legend places cells a → IsScaled naming legend places cells b → a ≡ b
 one-text cells a b e f =
     let same = same-rows e.rows f.rows (rows-below cells e.rows e.all) (rows-below cells f.rows f.all) (rows-among cells e.rows f.rows e.all f.all) (rows-among cells f.rows e.rows f.all e.all) in
     e.is ∙ ap (λ rows. rows_text cells rows None rows) same ∙ sym f.is

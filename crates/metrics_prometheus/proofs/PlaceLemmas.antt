@@ -18,11 +18,12 @@ use Rattle.metrics_prometheus.specs.declared.rows.ShownRow.{ShownRow}
 use Rattle.metrics_prometheus.specs.declared.rows.Place.{Place}
 use Rattle.metrics_prometheus.specs.Exposition.{Row, row_cmp}
 use Rattle.metrics_prometheus.specs.Rows.{row_shown}
-use Rattle.metrics_prometheus.specs.Places.{rows_placed, place_cmp, first_value, value_placed, IsPlaced, are_led, HasHead, AreAlike}
-use Rattle.metrics_prometheus.proofs.PairLemmas.{each-at, each-append, each-both}
+use Rattle.metrics_prometheus.specs.Places.{rows_placed, place_cmp, value_placed, IsPlaced, are_led, HasHead, AreAlike}
+use Rattle.metrics_exposition.specs.Labels.{first_value}
+use Rattle.metrics_exposition.proofs.PairLemmas.{each-at, each-append, each-both}
 use Rattle.metrics_prometheus.proofs.RowLemmas.{map-length, map-get}
-use Rattle.metrics_prometheus.proofs.SameLemmas.{both-true, same-kind, same-bytes}
-use Rattle.metrics_prometheus.proofs.WrittenLemmas.{names}
+use Rattle.metrics_exposition.proofs.SameLemmas.{both-true, same-kind, same-bytes}
+use Rattle.metrics_exposition.proofs.OrderLemmas.{names}
 
 -- ---- lists that are mapped
 

@@ -4,6 +4,7 @@ use Rattle.std.specs.List.{All, AllByRecursion}
 use Rattle.std.specs.Int.{w64}
 use Rattle.std.specs.Int.RustNames.{FitsSigned}
 use Rattle.std.specs.Int.Signed.{mag}
+use Rattle.metrics_names.specs.declared.common.Unit.{Unit as Measure}
 use Rattle.metrics_names.specs.declared.kind.MetricKind.{MetricKind}
 use Rattle.metrics_names.specs.declared.kind.MetricKind.TheVariants.{Counter, Gauge, Histogram}
 use Rattle.metrics_names.specs.Names.{SeriesKey, kind_eq}
@@ -13,13 +14,13 @@ use Rattle.metrics.specs.declared.debugging.DebugValue.{DebugValue}
 use Rattle.metrics.specs.declared.debugging.DebugValue.TheVariants as value
 use Rattle.metrics.specs.Book.{new_value, updated, value_from}
 use Rattle.metrics_storage.specs.Histogram.{Distribution, bucket_with, no_samples, with_samples}
-use Rattle.metrics_exporter.specs.Exporting.{Reading, count, level, samples, Cells, Setup, Step, since, reading, cell_of, cells_after}
+use Rattle.metrics_exporter.specs.Exporting.{Reading, count, level, samples, Cells, Setup, Step, since, unit_since, reading, cell_of, cells_after}
 use Rattle.metrics_exporter.specs.Gathering.{series_at}
-use Rattle.metrics_prometheus.specs.Samples.{histogram_samples}
+use Rattle.metrics_exposition.specs.Samples.{histogram_samples}
 use Rattle.metrics_prometheus.specs.Exposition.{Row, reading_at, samples_of}
-use Rattle.metrics_prometheus.specs.Reading.{AreBuckets, IsSmall, ReadsAs, AreOfKinds}
-use Rattle.metrics_prometheus.proofs.BucketLemmas.{buckets-are}
-use Rattle.metrics_prometheus.proofs.PairLemmas.{each-places}
+use Rattle.metrics_exposition.specs.Reading.{AreBuckets, IsSmall, ReadsAs, AreOfKinds}
+use Rattle.metrics_exposition.proofs.BucketLemmas.{buckets-are}
+use Rattle.metrics_exposition.proofs.PairLemmas.{each-places}
 use Rattle.metrics_prometheus.proofs.SampleLabelLemmas.{IsOfKind}
 
 abbrev value_kind : DebugValue → MetricKind
@@ -73,10 +74,10 @@ small : (z : ℤ) → FitsSigned w64 z → mag z < 2 ^ 63
 small z h = h.sfits
 
 -- what an exporter holds after some steps
-pub kinds-after : (setup : Setup) (xs : List Step) → ((name : List ℕ) → All (FitsSigned w64) (setup.bounds name)) → AreOfKinds (cells_after setup xs)
+pub kinds-after : (setup : Setup) (xs : List Step) → ((unit : Option Measure) (name : List ℕ) → All (FitsSigned w64) (setup.bounds unit name)) → AreOfKinds (cells_after setup xs)
 kinds-after setup xs fits s =
-    let bounds = setup.bounds s.key.name in
-    reads bounds (each-places (λ b. mag b < 2 ^ 63) bounds (λ k d within. small _ (fits s.key.name k d within))) s (since xs s)
+    let bounds = setup.bounds (unit_since xs s) s.key.name in
+    reads bounds (each-places (λ b. mag b < 2 ^ 63) bounds (λ k d within. small _ (fits (unit_since xs s) s.key.name k d within))) s (since xs s)
 
 -- what is held of a row's series
 pub rows-read : (cells : Cells) → AreOfKinds cells → (r : Row) → ReadsAs r.kind (reading_at cells r)
@@ -113,7 +114,7 @@ pub rows-buckets : (setup : Setup) (xs : List Step) (r : Row) (d : Distribution)
     → AreBuckets r.places r.name r.labels d (samples_of r (reading_at (cells_after setup xs) r))
 rows-buckets setup xs r d e =
     let s = series_at r.kind r.key in
-    let bounds = setup.bounds s.key.name in
+    let bounds = setup.bounds (unit_since xs s) s.key.name in
     let from = subst (IsMade bounds) e (made bounds s (since xs s)) in
     let is = subst (λ k. AreBuckets r.places r.name r.labels k (histogram_samples r.places r.name r.labels k)) from.1 (buckets-are from.0 bounds r.places r.name r.labels) in
     subst (λ o. AreBuckets r.places r.name r.labels d (samples_of r o)) (sym e) is

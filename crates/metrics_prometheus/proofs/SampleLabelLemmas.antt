@@ -9,29 +9,29 @@ use Rattle.metrics_names.specs.declared.kind.MetricKind.{MetricKind}
 use Rattle.metrics_names.specs.declared.kind.MetricKind.TheVariants.{Histogram}
 use Rattle.metrics_names.specs.Names.{LabelParts, kind_eq}
 use Rattle.metrics_exporter.specs.Exporting.{Cells, Reading, count, level, samples}
-use Rattle.metrics_prometheus.specs.Labels.{are_fit, shown_labels, AreTexts}
+use Rattle.metrics_exposition.specs.Labels.{are_fit, shown_labels, AreTexts}
 use Rattle.metrics_storage.specs.Histogram.{ascending}
-use Rattle.metrics_prometheus.specs.Numbers.{number}
-use Rattle.metrics_prometheus.specs.Samples.{Sample, bucket_sample}
-use Rattle.metrics_prometheus.specs.declared.naming.Naming.{Naming}
+use Rattle.metrics_exposition.specs.Numbers.{number}
+use Rattle.metrics_exposition.specs.Samples.{Sample, bucket_sample}
+use Rattle.metrics_exposition.specs.declared.naming.Naming.{Naming}
 use Rattle.metrics_exporter.specs.Describing.{Legend}
-use Rattle.metrics_prometheus.specs.Naming.{Display}
-use Rattle.metrics_prometheus.specs.Exposition.{Row, samples_of, reading_at, AreRows, IsDescribed}
+use Rattle.metrics_exposition.specs.Naming.{Display}
+use Rattle.metrics_prometheus.specs.Exposition.{Row, samples_of, reading_at, AreRows, IsScaled}
 use Rattle.metrics_prometheus.specs.Written.{written, samples_written}
-use Rattle.metrics_prometheus.specs.Reading.{HasNames, CanBeRead, Ascend, NamesOnce, IsSmall, ReadsAs}
-use Rattle.metrics_prometheus.proofs.PairLemmas.{each-map, each-both, each-append, each-flat}
+use Rattle.metrics_exposition.specs.Reading.{HasNames, CanBeRead, Ascend, NamesOnce, IsSmall, ReadsAs}
+use Rattle.metrics_exposition.proofs.PairLemmas.{each-map, each-both, each-append, each-flat}
 use Rattle.metrics_prometheus.proofs.WrittenLemmas.{written-each, written-fit}
-use Rattle.metrics_prometheus.proofs.NamingLemmas.{shown-name}
-use Rattle.metrics_prometheus.proofs.NumeralLemmas.{number-ascii}
-use Rattle.metrics_prometheus.proofs.LabelLemmas.{labels-keyed, shown-each, fit-ascend, once, once-bounded}
-use Rattle.metrics_prometheus.proofs.SampleLemmas.{with-each}
+use Rattle.metrics_exposition.proofs.NamingLemmas.{shown-name}
+use Rattle.metrics_exposition.proofs.NumeralLemmas.{number-ascii}
+use Rattle.metrics_exposition.proofs.LabelLemmas.{labels-keyed, shown-each, fit-ascend, once, once-bounded}
+use Rattle.metrics_exposition.proofs.BoundLemmas.{with-each}
 use Rattle.metrics_prometheus.proofs.HeldLemmas.{each-row}
 use Rattle.metrics_prometheus.proofs.TextLineLemmas.{IsPlain, IsNamedRow, samples-plain}
 
 -- ---- names
 
-pub samples-named : {naming : Naming} {legend : Legend} (cells : Cells) (text : List ℕ) (e : IsDescribed naming legend cells text) → AllByRecursion HasNames (samples_written cells e.rows)
-samples-named {naming} {legend} cells text e =
+pub samples-named : {naming : Naming} {legend : Legend} {places : List ℕ → ℕ} (cells : Cells) (text : List ℕ) (e : IsScaled naming legend places cells text) → AllByRecursion HasNames (samples_written cells e.rows)
+samples-named {naming} {legend} {places} cells text e =
     let done = written e.rows None e.rows in
     let named = written-each IsNamedRow e.rows None e.rows (each-row IsNamedRow cells e.rows e.all (λ s held. (shown-name naming s.kind (legend s.kind s.key.name).unit s.key.name, labels-keyed s.key.labels))) in
     each-flat (λ r. samples_of r (reading_at cells r)) HasNames done
@@ -52,7 +52,7 @@ rows-fit cells rows are =
     each-map (λ r. IsFit r × (IsFit r → Ascend r.labels)) (λ r. IsFit r × Ascend r.labels) (λ r h. (h.0, h.1 h.0)) done
     (each-both IsFit (λ r. IsFit r → Ascend r.labels) done (written-fit rows None rows) (written-each (λ r. IsFit r → Ascend r.labels) rows None rows (rows-ascend cells rows are)))
 
-pub labels-ascend : {naming : Naming} {legend : Legend} (cells : Cells) (text : List ℕ) (e : IsDescribed naming legend cells text) → AllByRecursion (λ r. Ascend r.labels) (written e.rows None e.rows)
+pub labels-ascend : {naming : Naming} {legend : Legend} {places : List ℕ → ℕ} (cells : Cells) (text : List ℕ) (e : IsScaled naming legend places cells text) → AllByRecursion (λ r. Ascend r.labels) (written e.rows None e.rows)
 labels-ascend cells text e = each-map (λ r. IsFit r × Ascend r.labels) (λ r. Ascend r.labels) (λ r h. h.1) (written e.rows None e.rows) (rows-fit cells e.rows e.all)
 
 -- ---- no label twice
@@ -76,7 +76,7 @@ row-once r (Some (samples d)) k fit up =
     each-append NamesOnce (map (λ b. bucket_sample r.name r.labels (number r.places b.0) b.1) (ascending d.buckets)) _ (buckets-once r k fit up (ascending d.buckets))
     (once-bounded r.kind r.labels (codes "+Inf") k fit up, (once r.labels up, (once r.labels up, tt)))
 
-pub samples-once : {naming : Naming} {legend : Legend} (cells : Cells) → ((r : Row) → IsOfKind r.kind (reading_at cells r)) → (text : List ℕ) (e : IsDescribed naming legend cells text) → AllByRecursion NamesOnce (samples_written cells e.rows)
+pub samples-once : {naming : Naming} {legend : Legend} {places : List ℕ → ℕ} (cells : Cells) → ((r : Row) → IsOfKind r.kind (reading_at cells r)) → (text : List ℕ) (e : IsScaled naming legend places cells text) → AllByRecursion NamesOnce (samples_written cells e.rows)
 samples-once cells kinds text e =
     let done = written e.rows None e.rows in
     each-flat (λ r. samples_of r (reading_at cells r)) NamesOnce done
@@ -113,14 +113,14 @@ row-texts r (Some (samples d)) k h =
     each-append HasTexts (map (λ b. bucket_sample r.name r.labels (number r.places b.0) b.1) (ascending d.buckets)) _ (buckets-texts r h (ascending d.buckets) (with-each IsSmall [] d.buckets tt k.1))
     (bounded-texts r.labels (codes "+Inf") h infinity-text, (h, (h, tt)))
 
-samples-texts : {naming : Naming} {legend : Legend} (cells : Cells) → ((r : Row) → ReadsAs r.kind (reading_at cells r)) → (text : List ℕ) (e : IsDescribed naming legend cells text) → AllByRecursion HasTexts (samples_written cells e.rows)
+samples-texts : {naming : Naming} {legend : Legend} {places : List ℕ → ℕ} (cells : Cells) → ((r : Row) → ReadsAs r.kind (reading_at cells r)) → (text : List ℕ) (e : IsScaled naming legend places cells text) → AllByRecursion HasTexts (samples_written cells e.rows)
 samples-texts cells reads text e =
     let done = written e.rows None e.rows in
     let rows = each-row (λ r. AreTexts r.labels) cells e.rows e.all (λ s held. labels-texts s.key.labels (e.texts s held)) in
     each-flat (λ r. samples_of r (reading_at cells r)) HasTexts done
     (each-map (λ r. AreTexts r.labels) (λ r. AllByRecursion HasTexts (samples_of r (reading_at cells r))) (λ r h. row-texts r (reading_at cells r) (reads r) h) done (written-each (λ r. AreTexts r.labels) e.rows None e.rows rows))
 
-pub samples-read : {naming : Naming} {legend : Legend} (cells : Cells) → ((r : Row) → ReadsAs r.kind (reading_at cells r)) → (text : List ℕ) (e : IsDescribed naming legend cells text) → AllByRecursion CanBeRead (samples_written cells e.rows)
+pub samples-read : {naming : Naming} {legend : Legend} {places : List ℕ → ℕ} (cells : Cells) → ((r : Row) → ReadsAs r.kind (reading_at cells r)) → (text : List ℕ) (e : IsScaled naming legend places cells text) → AllByRecursion CanBeRead (samples_written cells e.rows)
 samples-read cells reads text e =
     let ss = samples_written cells e.rows in
     each-map (λ s. HasNames s × HasTexts s) CanBeRead (λ s h. record { names = h.0; texts = h.1 }) ss (each-both HasNames HasTexts ss (samples-named cells text e) (samples-texts cells reads text e))

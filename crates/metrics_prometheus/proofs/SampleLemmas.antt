@@ -5,21 +5,21 @@ use Rattle.std.specs.List.{AllByRecursion, list_any, ends_with}
 use Rattle.std.specs.Fmt.{decimal}
 use Rattle.std.specs.Option.{option_or}
 use Rattle.std.proofs.lemmas.Int.{ints}
-use Rattle.std.proofs.lemmas.Bool.{cond_both}
 use Rattle.std.proofs.lemmas.Bool.Decides.{Decides-eqb}
 use Rattle.std.proofs.lemmas.List.{append_cancel_left, append_cancel_right, reverse-append, take_at, length-append}
 use Rattle.std.proofs.lemmas.Slice.Eq.{ends_is}
 use Rattle.metrics_names.specs.declared.kind.MetricKind.TheVariants.{Histogram}
 use Rattle.metrics_names.specs.Names.{LabelParts, kind_eq}
-use Rattle.metrics_storage.specs.Histogram.{Distribution, bucket_placed, with_buckets, ascending}
+use Rattle.metrics_storage.specs.Histogram.{Distribution, ascending}
 use Rattle.metrics_exporter.specs.Exporting.{Reading, count, level, samples}
-use Rattle.metrics_prometheus.specs.Numbers.{number as number_text}
-use Rattle.metrics_prometheus.specs.Samples.{Sample, bucket_sample, histogram_samples}
-use Rattle.metrics_prometheus.specs.Reading.{IsSmall, ReadsAs}
+use Rattle.metrics_exposition.specs.Numbers.{number as number_text}
+use Rattle.metrics_exposition.specs.Samples.{Sample, bucket_sample, histogram_samples}
+use Rattle.metrics_exposition.specs.Reading.{IsSmall, ReadsAs}
 use Rattle.metrics_prometheus.specs.Exposition.{Row, histogram_names, found_in, part_of, whole_of, is_taken, samples_of}
 use Rattle.metrics_prometheus.specs.Written.{AreApart}
-use Rattle.metrics_prometheus.proofs.PairLemmas.{each-map, each-append, Pairs, pairs-append}
-use Rattle.metrics_prometheus.proofs.NumeralLemmas.{no-infinity, number-injective}
+use Rattle.metrics_exposition.proofs.PairLemmas.{each-map, each-append, Pairs, pairs-append}
+use Rattle.metrics_exposition.proofs.NumeralLemmas.{no-infinity, number-injective}
+use Rattle.metrics_exposition.proofs.BoundLemmas.{IsBelow, with-each, with-up}
 
 -- samples are of different series
 abbrev pub Differ : Sample → Sample → Type 0
@@ -136,35 +136,8 @@ of-two all a b fa fb apart s t (part k e x n l) (part k' f y n' l') names labels
 
 -- ---- samples of one row
 
-lt-trans : (a b c : ℤ) → int_lt a b ≡ true → int_lt b c ≡ true → int_lt a c ≡ true
-lt-trans a b c h g = grind (arith, ints)
-
 lt-never : (a b : ℤ) → a ≡ b → int_lt a b ≡ true → ⊥
 lt-never a b e h = absurd (let g : int_lt b b ≡ true = ap (λ z. int_lt z b) (sym e) ∙ h in grind (arith, ints))
-
-abbrev pub IsBelow : ℤ × ℕ → ℤ × ℕ → Type 0
-IsBelow b c = int_lt b.0 c.0 ≡ true
-
-placed-each : (P : ℤ × ℕ → Type 0) (b : ℤ × ℕ) (cs : List (ℤ × ℕ)) → P b → AllByRecursion P cs → AllByRecursion P (bucket_placed b cs)
-placed-each P b [] h hs = (h, tt)
-placed-each P b (c ∷ cs) h hs =
-    cond_both (int_lt b.0 c.0) (b ∷ c ∷ cs) _ (AllByRecursion P) (λ _. (h, hs))
-    (λ _. cond_both (int_lt c.0 b.0) (c ∷ bucket_placed b cs) (c ∷ cs) (AllByRecursion P) (λ _. (hs.0, placed-each P b cs h hs.1)) (λ _. hs))
-
-placed-up : (b : ℤ × ℕ) (cs : List (ℤ × ℕ)) → Pairs IsBelow cs → Pairs IsBelow (bucket_placed b cs)
-placed-up b [] up = (tt, tt)
-placed-up b (c ∷ cs) up =
-    cond_both (int_lt b.0 c.0) (b ∷ c ∷ cs) _ (Pairs IsBelow)
-    (λ e. ((e, each-map (IsBelow c) (IsBelow b) (λ d f. lt-trans b.0 c.0 d.0 e f) cs up.0), up))
-    (λ _. cond_both (int_lt c.0 b.0) (c ∷ bucket_placed b cs) (c ∷ cs) (Pairs IsBelow) (λ e. (placed-each (IsBelow c) b cs e up.0, placed-up b cs up.1)) (λ _. up))
-
-pub with-each : (P : ℤ × ℕ → Type 0) (done bs : List (ℤ × ℕ)) → AllByRecursion P done → AllByRecursion P bs → AllByRecursion P (with_buckets done bs)
-with-each P done [] h hs = h
-with-each P done (b ∷ bs) h hs = with-each P (bucket_placed b done) bs (placed-each P b done hs.0 h) hs.1
-
-pub with-up : (done bs : List (ℤ × ℕ)) → Pairs IsBelow done → Pairs IsBelow (with_buckets done bs)
-with-up done [] up = up
-with-up done (b ∷ bs) up = with-up (bucket_placed b done) bs (placed-up b done up)
 
 -- the value of the last label
 last-value : (labels : List LabelParts) (v w : List ℕ) → labels ++ (codes "le", v) ∷ [] ≡ labels ++ (codes "le", w) ∷ [] → v ≡ w

@@ -15,11 +15,12 @@ use Rattle.metrics_prometheus.specs.declared.rows.Place.{Place}
 use Rattle.metrics_prometheus.specs.Places.{rows_placed}
 use Rattle.metrics_prometheus.specs.Rows.{row_shown, rows_shown, names_shown}
 use Rattle.metrics_prometheus.specs.Exposition.{Row, row_cmp, last_number, uses_name, names_used, histogram_names, found_in}
-use Rattle.metrics_prometheus.proofs.PairLemmas.{each-map, each-append, Pairs, pairs-append, pairs-places}
+use Rattle.metrics_exposition.proofs.PairLemmas.{each-map, each-append, Pairs, pairs-append, pairs-places}
 use Rattle.metrics_prometheus.proofs.RowLemmas.{map-length, map-get}
-use Rattle.metrics_prometheus.proofs.SameLemmas.{bytes-same, same-bytes}
+use Rattle.metrics_exposition.proofs.SameLemmas.{bytes-same, same-bytes}
 use Rattle.metrics_prometheus.proofs.SampleLemmas.{or-first, or-second}
-use Rattle.metrics_prometheus.proofs.WrittenLemmas.{names, first-part, IsUp, rows-up, row_total}
+use Rattle.metrics_prometheus.proofs.WrittenLemmas.{IsUp, rows-up, row_total}
+use Rattle.metrics_exposition.proofs.OrderLemmas.{names, first-part}
 
 -- ---- the names are in order
 

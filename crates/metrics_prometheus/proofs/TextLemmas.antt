@@ -6,9 +6,9 @@ use Rattle.std.specs.List.{ends_with}
 use Rattle.std.proofs.lemmas.List.{at_drop_more}
 use Rattle.metrics_exporter.specs.Exporting.{Cells}
 use Rattle.metrics_exporter.specs.Describing.{Legend}
-use Rattle.metrics_prometheus.specs.declared.naming.Naming.{Naming}
-use Rattle.metrics_prometheus.specs.Naming.{display_of}
-use Rattle.metrics_prometheus.specs.Exposition.{Row, histogram_names, found_in, part_of, part, labels_reason, name_reason, same_name_reason, last_reason, reason_of, name_lines, name_text, is_left_out, row_text, last_after, rows_text, AreRows, HoldsTexts, IsDescribed}
+use Rattle.metrics_exposition.specs.declared.naming.Naming.{Naming}
+use Rattle.metrics_exposition.specs.Naming.{display_by}
+use Rattle.metrics_prometheus.specs.Exposition.{Row, histogram_names, found_in, part_of, part, labels_reason, name_reason, same_name_reason, last_reason, reason_of, name_lines, name_text, is_left_out, row_text, last_after, rows_text, AreRows, HoldsTexts, IsScaled}
 use Rattle.metrics_prometheus.specs.declared.rows.Place.{Place}
 use Rattle.metrics_prometheus.specs.Places.{rows_placed}
 use Rattle.metrics_prometheus.specs.Rows.{row_shown, rows_shown, named}
@@ -75,10 +75,10 @@ text-more cells all last after xs i x before now whole small at is then was =
     ∙ was
 
 -- the text of the rows of the held series
-pub text-of-rows : {T E : Type 0} (bytes : T → List ℕ) (naming : Naming) (legend : Legend) (cells : Cells) (rows : List Row) → AreRows (display_of naming legend) cells rows → HoldsTexts cells → (r : Result T E) → IfOk r (λ t. bytes t ≡ rows_text cells rows None rows)
-    → IfOk r (λ t. IsDescribed naming legend cells (bytes t))
-text-of-rows bytes naming legend cells rows all texts (Ok t) is = record { rows = rows; all = all; texts = texts; is = is }
-text-of-rows bytes naming legend cells rows all texts (Err e) is = tt
+pub text-of-rows : {T E : Type 0} (bytes : T → List ℕ) (naming : Naming) (legend : Legend) (places : List ℕ → ℕ) (cells : Cells) (rows : List Row) → AreRows (display_by naming legend places) cells rows → HoldsTexts cells → (r : Result T E) → IfOk r (λ t. bytes t ≡ rows_text cells rows None rows)
+    → IfOk r (λ t. IsScaled naming legend places cells (bytes t))
+text-of-rows bytes naming legend places cells rows all texts (Ok t) is = record { rows = rows; all = all; texts = texts; is = is }
+text-of-rows bytes naming legend places cells rows all texts (Err e) is = tt
 
 -- a result that is both
 pub either-way : {T E : Type 0} (P : T → Type 0) (Q : E → Type 0) (r : Result T E) → IfOk r P → IfErr r Q → MatchResult r P Q

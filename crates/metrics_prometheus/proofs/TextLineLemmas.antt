@@ -8,20 +8,20 @@ use Rattle.metrics_names.specs.declared.kind.MetricKind.{MetricKind}
 use Rattle.metrics_names.specs.declared.kind.MetricKind.TheVariants.{Counter, Gauge, Histogram}
 use Rattle.metrics_exporter.specs.Exporting.{Cells, Reading, count, level, samples}
 use Rattle.metrics_names.specs.Names.{kind_word}
-use Rattle.metrics_prometheus.specs.Names.{goes_on, is_name, help_escaped}
+use Rattle.metrics_exposition.specs.Names.{goes_on, is_name, help_escaped}
 use Rattle.metrics_storage.specs.Histogram.{ascending}
-use Rattle.metrics_prometheus.specs.Numbers.{number}
-use Rattle.metrics_prometheus.specs.Samples.{Sample, labels_text, sample_line, lines, bucket_sample}
-use Rattle.metrics_prometheus.specs.declared.naming.Naming.{Naming}
+use Rattle.metrics_exposition.specs.Numbers.{number}
+use Rattle.metrics_exposition.specs.Samples.{Sample, labels_text, sample_line, lines, bucket_sample}
+use Rattle.metrics_exposition.specs.declared.naming.Naming.{Naming}
 use Rattle.metrics_exporter.specs.Describing.{Legend}
-use Rattle.metrics_prometheus.specs.Exposition.{Row, Reason, label_twice, label_reserved, part, name_taken, labels_taken, reason_of, reason_text, series_named, row_lines_as, left_out_words, help_line, type_line, name_lines, name_text, samples_of, reading_at, left_out_line, last_after, rows_text, IsDescribed}
+use Rattle.metrics_prometheus.specs.Exposition.{Row, Reason, label_twice, label_reserved, part, name_taken, labels_taken, reason_of, reason_text, series_named, row_lines_as, left_out_words, help_line, type_line, name_lines, name_text, samples_of, reading_at, left_out_line, last_after, rows_text, IsScaled}
 use Rattle.metrics_prometheus.specs.Written.{written, samples_written, Line, has, describes, tells_kind, leaves_out, line_text, sample_in, IsLine, IsReadable, HasSamples}
-use Rattle.metrics_prometheus.proofs.PairLemmas.{each-append}
-use Rattle.metrics_prometheus.proofs.NameLemmas.{AreKeyed, name-more, named-from}
-use Rattle.metrics_prometheus.proofs.FeedLemmas.{HasNoFeed, join, plain, name-plain, labels-plain, decimal-plain, unsigned-plain, number-plain, help-plain}
-use Rattle.metrics_prometheus.proofs.NamingLemmas.{shown-name}
+use Rattle.metrics_exposition.proofs.PairLemmas.{each-append}
+use Rattle.metrics_exposition.proofs.NameLemmas.{AreKeyed, name-more, named-from}
+use Rattle.metrics_exposition.proofs.FeedLemmas.{HasNoFeed, join, plain, name-plain, labels-plain, decimal-plain, unsigned-plain, number-plain, help-plain}
+use Rattle.metrics_exposition.proofs.NamingLemmas.{shown-name}
 use Rattle.metrics_prometheus.proofs.HeadLemmas.{no-comment}
-use Rattle.metrics_prometheus.proofs.LabelLemmas.{labels-keyed}
+use Rattle.metrics_exposition.proofs.LabelLemmas.{labels-keyed}
 use Rattle.metrics_prometheus.proofs.HeldLemmas.{each-row}
 
 -- a text is these lines, and these are their samples
@@ -185,12 +185,12 @@ module _ (cells : Cells) (all : List Row) where
   of-rows [] h last = nothing
   of-rows (x ∷ xs) h last = of-row last x h.0 xs (reason_of all last x) (λ next. of-rows xs h.1 next)
 
-pub text-lines : {naming : Naming} {legend : Legend} (cells : Cells) (text : List ℕ) (e : IsDescribed naming legend cells text) → AreLines (lines_of cells e.rows None e.rows) text (samples_written cells e.rows)
-text-lines {naming} {legend} cells text e =
+pub text-lines : {naming : Naming} {legend : Legend} {places : List ℕ → ℕ} (cells : Cells) (text : List ℕ) (e : IsScaled naming legend places cells text) → AreLines (lines_of cells e.rows None e.rows) text (samples_written cells e.rows)
+text-lines {naming} {legend} {places} cells text e =
     let h = of-rows cells e.rows e.rows (each-row IsNamedRow cells e.rows e.all (λ s held. (shown-name naming s.kind (legend s.kind s.key.name).unit s.key.name, labels-keyed s.key.labels))) None in
     record { text_is = e.is ∙ h.text_is; readable = h.readable; samples_are = h.samples_are }
 
-pub text-has : {naming : Naming} {legend : Legend} (cells : Cells) (text : List ℕ) (e : IsDescribed naming legend cells text) → HasSamples text (samples_written cells e.rows)
+pub text-has : {naming : Naming} {legend : Legend} {places : List ℕ → ℕ} (cells : Cells) (text : List ℕ) (e : IsScaled naming legend places cells text) → HasSamples text (samples_written cells e.rows)
 text-has cells text e =
     let h = text-lines cells text e in
     record { all = lines_of cells e.rows None e.rows; text_is = h.text_is; readable = h.readable; samples_are = h.samples_are }

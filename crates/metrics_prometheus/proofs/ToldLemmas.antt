@@ -11,15 +11,15 @@ use Rattle.metrics_names.specs.Names.{SeriesKey, kind_eq, label_eq, series_key_e
 use Rattle.metrics_names.specs.Equality.{kind_eq-Decides, series_key_eq-Decides, key_exact}
 use Rattle.metrics_exporter.specs.Exporting.{Cells, IsHeld}
 use Rattle.metrics_exporter.specs.Gathering.{series_at}
-use Rattle.metrics_prometheus.specs.Samples.{lines}
-use Rattle.metrics_prometheus.specs.Labels.{are_fit}
+use Rattle.metrics_exposition.specs.Samples.{lines}
+use Rattle.metrics_exposition.specs.Labels.{are_fit}
 use Rattle.metrics_exporter.specs.Describing.{Legend}
-use Rattle.metrics_prometheus.specs.declared.naming.Naming.{Naming}
-use Rattle.metrics_prometheus.specs.Naming.{Display, display_of}
-use Rattle.metrics_prometheus.specs.Exposition.{Row, row_of, row_cmp, is_taken, Reason, reason_of, is_left_out, row_lines_as, name_text, samples_of, reading_at, left_out_line, row_text, last_after, rows_text, AreRows, IsDescribed}
+use Rattle.metrics_exposition.specs.declared.naming.Naming.{Naming}
+use Rattle.metrics_exposition.specs.Naming.{Display, display_by}
+use Rattle.metrics_prometheus.specs.Exposition.{Row, row_of, row_cmp, is_taken, Reason, reason_of, is_left_out, row_lines_as, name_text, samples_of, reading_at, left_out_line, row_text, last_after, rows_text, AreRows, IsScaled}
 use Rattle.metrics_prometheus.specs.Written.{written, AreApart, MayStand, IsWhy, alone, beside, IsReported, shown, left_out}
-use Rattle.metrics_prometheus.proofs.PairLemmas.{each-map, each-in, in-first, in-later, in-split, in-none, Pairs, pairs-map}
-use Rattle.metrics_prometheus.proofs.SameLemmas.{same-bytes, same-labels}
+use Rattle.metrics_exposition.proofs.PairLemmas.{each-map, each-in, in-first, in-later, in-split, in-none, Pairs, pairs-map}
+use Rattle.metrics_exposition.proofs.SameLemmas.{same-bytes, same-labels}
 use Rattle.metrics_prometheus.proofs.WrittenLemmas.{IsBefore, before-apart, written-ascend, written-fit, written-free, clashes, left-is}
 use Rattle.metrics_prometheus.proofs.RowLemmas.{map-length, map-get}
 
@@ -213,12 +213,12 @@ stands-of : (cells : Cells) (rows : List Row) (r : Row) → Part cells rows (wri
 stands-of cells rows r (with-samples before after has is) may = has
 stands-of cells rows r (with-line why out before after is) may = absurd (blocked-stays rows r why out may)
 
-module _ (naming : Naming) (legend : Legend) (cells : Cells) (text : List ℕ) (e : IsDescribed naming legend cells text) (s : SeriesKey) (held : IsHeld cells s) where
-  part : Part cells e.rows (written e.rows None e.rows) (row_of (display_of naming legend) s) (rows_text cells e.rows None e.rows) (written e.rows None e.rows)
-  part = part-all cells e.rows (row_of (display_of naming legend) s) (rows-apart cells e.rows e.all) (row-held cells e.rows e.all s held)
+module _ (naming : Naming) (legend : Legend) (places : List ℕ → ℕ) (cells : Cells) (text : List ℕ) (e : IsScaled naming legend places cells text) (s : SeriesKey) (held : IsHeld cells s) where
+  part : Part cells e.rows (written e.rows None e.rows) (row_of (display_by naming legend places) s) (rows_text cells e.rows None e.rows) (written e.rows None e.rows)
+  part = part-all cells e.rows (row_of (display_by naming legend places) s) (rows-apart cells e.rows e.all) (row-held cells e.rows e.all s held)
 
-  pub series-keyed : IsReported cells e.rows text (row_of (display_of naming legend) s)
-  series-keyed = keyed-of cells e.rows e.all.ordered text (row_of (display_of naming legend) s) e.is part
+  pub series-keyed : IsReported cells e.rows text (row_of (display_by naming legend places) s)
+  series-keyed = keyed-of cells e.rows e.all.ordered text (row_of (display_by naming legend places) s) e.is part
 
-  pub series-written : Contains (written e.rows None e.rows) (row_of (display_of naming legend) s) ↔ MayStand e.rows (row_of (display_of naming legend) s)
-  series-written = (written-stands e.rows e.all.ordered (row_of (display_of naming legend) s), stands-of cells e.rows (row_of (display_of naming legend) s) part)
+  pub series-written : Contains (written e.rows None e.rows) (row_of (display_by naming legend places) s) ↔ MayStand e.rows (row_of (display_by naming legend places) s)
+  series-written = (written-stands e.rows e.all.ordered (row_of (display_by naming legend places) s), stands-of cells e.rows (row_of (display_by naming legend places) s) part)

@@ -9,15 +9,16 @@ use Rattle.std.proofs.lemmas.Cmp.{nat_list_cmp_total}
 use Rattle.std.proofs.lemmas.List.Elements.{filter_map-append}
 use Rattle.std.proofs.lemmas.Map.Lookups.{exact_bytes}
 use Rattle.metrics_exporter.specs.Exporting.{Cells}
-use Rattle.metrics_prometheus.specs.Samples.{Sample}
-use Rattle.metrics_prometheus.specs.declared.naming.Naming.{Naming}
+use Rattle.metrics_exposition.specs.Samples.{Sample}
+use Rattle.metrics_exposition.specs.declared.naming.Naming.{Naming}
 use Rattle.metrics_exporter.specs.Describing.{Legend}
-use Rattle.metrics_prometheus.specs.Exposition.{Row, Reason, reason_of, last_after, IsDescribed}
+use Rattle.metrics_prometheus.specs.Exposition.{Row, Reason, reason_of, last_after, IsScaled}
 use Rattle.metrics_prometheus.specs.Written.{written, Line, has, tells_kind, leaves_out, sample_in, is_type_of, TellsKindOnce, TellsKinds}
-use Rattle.metrics_prometheus.specs.Reading.{AreOfKinds}
-use Rattle.metrics_prometheus.proofs.PairLemmas.{each-append, each-in, in-append, in-none, in-split, Pairs, pairs-both}
-use Rattle.metrics_prometheus.proofs.SameLemmas.{bytes-same, same-bytes}
-use Rattle.metrics_prometheus.proofs.WrittenLemmas.{names, first-part, turn, IsBefore, before-apart, written-ascend, IsUp, rows-up, row_total}
+use Rattle.metrics_exposition.specs.Reading.{AreOfKinds}
+use Rattle.metrics_exposition.proofs.PairLemmas.{each-append, each-in, in-append, in-none, in-split, Pairs, pairs-both}
+use Rattle.metrics_exposition.proofs.SameLemmas.{bytes-same, same-bytes}
+use Rattle.metrics_prometheus.proofs.WrittenLemmas.{IsBefore, before-apart, written-ascend, IsUp, rows-up, row_total}
+use Rattle.metrics_exposition.proofs.OrderLemmas.{names, first-part, turn}
 use Rattle.metrics_prometheus.proofs.DistinctLemmas.{AreAcross, rows-across}
 use Rattle.metrics_prometheus.proofs.ReadingLemmas.{rows-read}
 use Rattle.metrics_prometheus.proofs.TextLineLemmas.{help_at, begin_at, name_at, samples_at, row_at, lines_of, text-lines}
@@ -209,7 +210,7 @@ module _ (cells : Cells) (all : List Row) where
   kind-once [] last w new ups pairs has_w = absurd (in-none w has_w)
   kind-once (x ∷ xs) last w new ups pairs has_w = step last x w xs (reason_of all last x) new ups.0 ups.1 pairs has_w (λ next other both its. kind-once xs next w other ups.1 both its)
 
-pub text-tells : {naming : Naming} {legend : Legend} (cells : Cells) (text : List ℕ) → AreOfKinds cells → (e : IsDescribed naming legend cells text) → TellsKinds cells e.rows text
+pub text-tells : {naming : Naming} {legend : Legend} {places : List ℕ → ℕ} (cells : Cells) (text : List ℕ) → AreOfKinds cells → (e : IsScaled naming legend places cells text) → TellsKinds cells e.rows text
 text-tells cells text kinds e =
     let h = text-lines cells text e in
     let done = written e.rows None e.rows in

@@ -16,14 +16,15 @@ use Rattle.std.proofs.lemmas.Map.Lookups.{exact_bytes}
 use Rattle.metrics_names.specs.declared.kind.MetricKind.{MetricKind}
 use Rattle.metrics_names.specs.declared.kind.MetricKind.TheVariants.{Counter, Gauge, Histogram}
 use Rattle.metrics_names.specs.Names.{kind_eq, kind_number, label_eq}
-use Rattle.metrics_prometheus.specs.Labels.{are_fit, is_last}
+use Rattle.metrics_exposition.specs.Labels.{are_fit, is_last}
 use Rattle.metrics_prometheus.specs.Exposition.{Row, row_cmp, is_fit_histogram, is_fit_number, last_number, uses_name, names_used, histogram_names, found_in, part_of, whole_of, is_taken, is_left_out}
 use Rattle.metrics_prometheus.specs.Written.{written, HasHistogram}
-use Rattle.metrics_prometheus.proofs.PairLemmas.{each-map, each-in, in-first, in-later, in-split, in-none, Pairs}
+use Rattle.metrics_exposition.proofs.PairLemmas.{each-map, each-in, in-first, in-later, in-split, in-none, Pairs}
 use Rattle.metrics_prometheus.proofs.SearchLemmas.{NotAbove}
-use Rattle.metrics_prometheus.proofs.SameLemmas.{both-true, bytes-same, same-bytes, same-kind}
+use Rattle.metrics_exposition.proofs.SameLemmas.{both-true, bytes-same, same-bytes, same-kind}
 use Rattle.metrics_prometheus.proofs.SampleLemmas.{End, bucket, sum, number, end_text, IsAmong, or-first, or-second, both}
-use Rattle.metrics_prometheus.proofs.WrittenLemmas.{names, first-part, second-part, turn, never, IsBefore, in-order, IsUp, rows-up, row_total, clashes, left-is, left-case, some-or}
+use Rattle.metrics_prometheus.proofs.WrittenLemmas.{in-order, IsUp, rows-up, row_total, clashes, left-is, left-case, some-or}
+use Rattle.metrics_exposition.proofs.OrderLemmas.{names, first-part, second-part, turn, never}
 
 -- ---- names that are used
 

@@ -1,38 +1,26 @@
 -- The rows that are written: they ascend, and rows of one name are of one kind.
-use Rattle.std.proofs.Common.{◌≡◌, ◌∙◌, ◌⊎◌, inl, inr, ℕ, Bool, true, false, not, ◌||◌, ◌&&◌, List, [], ◌∷◌, Option, Some, None, is_some, option_map, cond, refl, ap, sym, arith}
+use Rattle.std.proofs.Common.{◌≡◌, ◌∙◌, ◌⊎◌, inl, inr, Bool, true, false, not, ◌||◌, ◌&&◌, List, [], ◌∷◌, Option, Some, None, is_some, option_map, cond, refl, ap, sym, arith}
 use Rattle.std.specs.Option.{option_or}
 use Rattle.std.specs.List.{AllByRecursion}
 use Rattle.std.specs.Cmp.{IsTotalOrder}
-use Rattle.std.specs.Cmp.Lexicographic.{slice_cmp, pointwise}
+use Rattle.std.specs.Cmp.Lexicographic.{pointwise}
 use Rattle.std.specs.Prelude.{bytes_eq}
 use Rattle.std.specs.List.Sorted.{IsSorted}
-use Rattle.std.specs.Ordering.{nat_cmp, ordering_then, ordering_reverse, is_lt}
-use Rattle.std.specs.declared.cmp.Ordering.{Ordering}
-use Rattle.std.specs.declared.cmp.Ordering.TheVariants.{Less, Equal, Greater}
+use Rattle.std.specs.Ordering.{nat_cmp, is_lt}
+use Rattle.std.specs.declared.cmp.Ordering.TheVariants.{Less, Equal}
 use Rattle.std.proofs.lemmas.Bool.{cond_both}
-use Rattle.std.proofs.lemmas.Cmp.{nat_list_cmp_total, lists_total, then_total, on_total, nat_cmp_total, tied_itself}
+use Rattle.std.proofs.lemmas.Cmp.{nat_list_cmp_total, then_total, on_total, nat_cmp_total, tied_itself}
 use Rattle.std.proofs.lemmas.List.Sorted.{ranks_by, sorted_far}
 use Rattle.std.specs.FinMap.{slice_cmp-IsAntisymmetric}
 use Rattle.std.proofs.lemmas.Map.Lookups.{exact_bytes, exact_pairs}
 use Rattle.metrics_names.specs.declared.kind.MetricKind.{MetricKind}
-use Rattle.metrics_names.specs.Names.{LabelParts, label_cmp, label_eq, kind_eq, kind_number}
+use Rattle.metrics_names.specs.Names.{LabelParts, label_eq, kind_eq, kind_number}
 use Rattle.metrics_prometheus.specs.Exposition.{Row, row_cmp, histogram_names, whole_of, is_taken, label_twice, label_reserved, name_taken, labels_taken, labels_reason, name_reason, last_reason, is_left_out}
-use Rattle.metrics_prometheus.specs.Labels.{repeats, reserved_of, are_fit}
+use Rattle.metrics_exposition.specs.Labels.{repeats, reserved_of, are_fit}
 use Rattle.metrics_prometheus.specs.Written.{written, AreApart}
-use Rattle.metrics_prometheus.proofs.PairLemmas.{each-map, Pairs, pairs-from-places}
-use Rattle.metrics_prometheus.proofs.SameLemmas.{same-kind, bytes-same, labels-same}
-
-abbrev pub names : List ℕ → List ℕ → Ordering
-names = slice_cmp nat_cmp
-
-abbrev label_lists : List LabelParts → List LabelParts → Ordering
-label_lists = slice_cmp label_cmp
-
-pub label_total : IsTotalOrder label_cmp
-label_total = then_total (on_total (λ l. l.0) nat_list_cmp_total) (on_total (λ l. l.1) nat_list_cmp_total)
-
-label_lists_total : IsTotalOrder label_lists
-label_lists_total = lists_total label_total
+use Rattle.metrics_exposition.proofs.PairLemmas.{each-map, Pairs, pairs-from-places}
+use Rattle.metrics_exposition.proofs.SameLemmas.{same-kind, bytes-same, labels-same}
+use Rattle.metrics_exposition.proofs.OrderLemmas.{names, label_lists, label_lists_total, never, turn, first-part, second-part}
 
 -- a row comes before another: its name comes before, or it has the same name and kind, and its labels come before
 abbrev pub IsBefore : Row → Row → Type 0
@@ -44,29 +32,10 @@ before-trans a b c (inl h) (inr g) = inl (ap (names a.name) (sym g.0) ∙ h)
 before-trans a b c (inr h) (inl g) = inl (ap (λ n. names n c.name) h.0 ∙ g)
 before-trans a b c (inr h) (inr g) = inr (h.0 ∙ g.0, (h.1.0 ∙ g.1.0, label_lists_total.trans a.labels b.labels c.labels h.1.1 g.1.1))
 
-pub never : {K : Type 0} (R : K → K → Ordering) (total : IsTotalOrder R) (x : K) → R x x ≡ Less → ⊥
-never R total x e = let g : Less ≡ Greater = sym e ∙ total.antisymm x x ∙ ap ordering_reverse e in cc
-
 -- rows that come before one another are apart
 pub before-apart : (a b : Row) → IsBefore a b → AreApart a b
 before-apart a b (inl h) e = absurd (never names nat_list_cmp_total b.name (ap (λ n. names n b.name) (sym e) ∙ h))
 before-apart a b (inr h) e = (h.1.0, λ same. never label_lists label_lists_total b.labels (ap (λ l. label_lists l b.labels) (sym same) ∙ h.1.1))
-
--- what is not above comes before or is equal
-pub turn : (o p : Ordering) → o ≡ ordering_reverse p → is_lt p ≡ false → (o ≡ Less) ⊎ (p ≡ Equal)
-turn o Less e up = absurd (let g : true ≡ false = up in cc)
-turn o Equal e up = inr refl
-turn o Greater e up = inl e
-
-pub first-part : (o p : Ordering) → is_lt (ordering_then o p) ≡ false → is_lt o ≡ false
-first-part Less p up = up
-first-part Equal p up = refl
-first-part Greater p up = refl
-
-pub second-part : (o p : Ordering) → o ≡ Equal → is_lt (ordering_then o p) ≡ false → is_lt p ≡ false
-second-part Less p e up = absurd (let g : Less ≡ Equal = e in cc)
-second-part Equal p e up = up
-second-part Greater p e up = absurd (let g : Greater ≡ Equal = e in cc)
 
 -- ---- a reason to leave a row out, as tests
 

@@ -11,13 +11,13 @@ use Rattle.metrics_names.specs.Names.{KeyParts, LabelParts, SeriesKey, kind_numb
 use Rattle.metrics_exporter.specs.Exporting.{Reading, count, level, samples, Cells, IsHeld}
 use Rattle.metrics_exporter.specs.Gathering.{series_at}
 use Rattle.metrics_exporter.specs.Describing.{Legend, no_legend}
-use Rattle.metrics_prometheus.specs.declared.naming.Naming.{Naming}
-use Rattle.metrics_prometheus.specs.declared.naming.Naming.TheVariants.{AsGiven}
-use Rattle.metrics_prometheus.specs.Naming.{Display, display_of}
-use Rattle.metrics_prometheus.specs.Names.{help_escaped}
-use Rattle.metrics_prometheus.specs.Numbers.{unsigned, number}
-use Rattle.metrics_prometheus.specs.Labels.{shown_labels, repeats, reserved_of, are_fit, is_last, AreTexts}
-use Rattle.metrics_prometheus.specs.Samples.{Sample, lines, labels_text, histogram_samples}
+use Rattle.metrics_exposition.specs.declared.naming.Naming.{Naming}
+use Rattle.metrics_exposition.specs.declared.naming.Naming.TheVariants.{AsGiven}
+use Rattle.metrics_exposition.specs.Naming.{Display, display_by, no_places}
+use Rattle.metrics_exposition.specs.Names.{help_escaped}
+use Rattle.metrics_exposition.specs.Numbers.{unsigned, number}
+use Rattle.metrics_exposition.specs.Labels.{shown_labels, repeats, reserved_of, are_fit, is_last, AreTexts}
+use Rattle.metrics_exposition.specs.Samples.{Sample, lines, labels_text, histogram_samples}
 
 -- a series as Prometheus is shown it, next to its own key: with the description of its own name, and the number of decimal
 -- places of each number
@@ -201,12 +201,17 @@ abbrev pub HoldsTexts : Cells → Type 0
 HoldsTexts cells = (s : SeriesKey) → IsHeld cells s → AreTexts s.key.labels
 
 -- a text has for each held series its samples, after its name's description and kind, or one line that says that it is left
--- out; names and units follow the naming and the descriptions; label values are UTF-8
-pub record IsDescribed (naming : Naming) (legend : Legend) (cells : Cells) (text : List ℕ) : Type 0 where
+-- out; names and units follow the naming and the descriptions; numbers have the decimal places of their names; label values are
+-- UTF-8
+pub record IsScaled (naming : Naming) (legend : Legend) (places : List ℕ → ℕ) (cells : Cells) (text : List ℕ) : Type 0 where
   pub rows : List Row
-  pub all : AreRows (display_of naming legend) cells rows
+  pub all : AreRows (display_by naming legend places) cells rows
   pub texts : HoldsTexts cells
   pub is : text ≡ rows_text cells rows None rows
+
+-- the same of whole numbers
+abbrev pub IsDescribed : Naming → Legend → Cells → List ℕ → Type 0
+IsDescribed naming legend cells text = IsScaled naming legend no_places cells text
 
 -- the same with unchanged names and numbers, if no name is described
 abbrev pub IsExposition : Cells → List ℕ → Type 0

@@ -2,7 +2,7 @@
 use Rattle.std.specs.Prelude.{◌≡◌, option_map}
 use Rattle.metrics_prometheus.specs.declared.rows.Head.{Head}
 use Rattle.metrics_prometheus.specs.declared.rows.Known.{Known}
-use Rattle.metrics_prometheus.specs.Naming.{Display, Shown}
+use Rattle.metrics_exposition.specs.Naming.{Display, Shown}
 
 abbrev pub head_shown : Head → Shown
 head_shown h = record { name = h.name; help = option_map (λ t. t.now) h.help; places = h.places }

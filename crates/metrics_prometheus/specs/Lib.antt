@@ -1,14 +1,6 @@
-pub mod Common
-pub mod Names
-pub mod Numbers
-pub mod Naming
-pub mod Labels
-pub mod Shown
-pub mod Samples
 pub mod Exposition
 pub mod Repeated
 pub mod Rows
 pub mod Places
 pub mod Heads
 pub mod Written
-pub mod Reading

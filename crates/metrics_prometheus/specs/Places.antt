@@ -9,6 +9,7 @@ use Rattle.metrics_prometheus.specs.declared.rows.ShownRow.{ShownRow}
 use Rattle.metrics_prometheus.specs.declared.rows.Place.{Place}
 use Rattle.metrics_prometheus.specs.Exposition.{row_cmp}
 use Rattle.metrics_prometheus.specs.Rows.{row_shown}
+use Rattle.metrics_exposition.specs.Labels.{first_value}
 
 -- the rows that stand there
 abbrev pub rows_placed : List Place → List ShownRow
@@ -17,10 +18,6 @@ rows_placed places = map (λ p. p.row.now) places
 -- the texts of places decide, and then their rows
 abbrev pub place_cmp : Place → Place → Ordering
 place_cmp = then_cmp (on (λ p. p.value.now) (slice_cmp nat_cmp)) (on (λ p. row_shown p.row.now) row_cmp)
-
-abbrev pub first_value : List LabelParts → List ℕ
-first_value [] = []
-first_value (l ∷ ls) = l.1
 
 -- the text of a row's place: the value of its first label, beside rows that are alike
 abbrev pub value_placed : Bool → ShownRow → List ℕ

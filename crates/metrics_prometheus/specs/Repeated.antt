@@ -2,7 +2,7 @@
 use Rattle.std.specs.Prelude.{ℕ, List, None}
 use Rattle.metrics_names.specs.Names.{SeriesKey}
 use Rattle.metrics_prometheus.specs.Exposition.{labels_taken, left_out_line}
-use Rattle.metrics_prometheus.specs.Labels.{shown_labels}
+use Rattle.metrics_exposition.specs.Labels.{shown_labels}
 
 -- it is left out, since its own name and labels are taken
 abbrev pub repeated_line : SeriesKey → List ℕ

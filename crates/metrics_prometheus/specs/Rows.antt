@@ -11,7 +11,7 @@ use Rattle.metrics_exporter.specs.Readings.{KeyedReading, reading_shown, AreOnce
 use Rattle.metrics_prometheus.specs.declared.rows.ShownRow.{ShownRow}
 use Rattle.metrics_prometheus.specs.declared.reasons.Reason.{Reason as ReasonParts}
 use Rattle.metrics_prometheus.specs.declared.reasons.Reason.TheVariants.{LabelTwice, LabelReserved, PartOf, NameTaken, LabelsTaken}
-use Rattle.metrics_prometheus.specs.Naming.{Display}
+use Rattle.metrics_exposition.specs.Naming.{Display}
 use Rattle.metrics_prometheus.specs.Exposition.{Row, row_of, row_cmp, reading_at, Reason, label_twice, label_reserved, part, name_taken, labels_taken}
 
 -- the row that a reference shows

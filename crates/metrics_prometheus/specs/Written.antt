@@ -5,8 +5,8 @@ use Rattle.std.specs.Cmp.Lexicographic.{pointwise}
 use Rattle.metrics_names.specs.declared.kind.MetricKind.TheVariants.{Histogram}
 use Rattle.metrics_names.specs.Names.{label_eq}
 use Rattle.metrics_exporter.specs.Exporting.{Cells}
-use Rattle.metrics_prometheus.specs.Samples.{Sample, sample_line, lines}
-use Rattle.metrics_prometheus.specs.Labels.{are_fit}
+use Rattle.metrics_exposition.specs.Samples.{Sample, sample_line, lines}
+use Rattle.metrics_exposition.specs.Labels.{are_fit}
 use Rattle.metrics_prometheus.specs.Exposition.{Row, is_taken, Reason, reason_of, is_left_out, samples_of, reading_at, help_line, type_line, left_out_words, left_out_line}
 
 -- the rows that are not left out

@@ -7,14 +7,12 @@ ghost use Rattle.metrics_names.specs.Names.{label_cmp};
 ghost use Rattle.metrics_prometheus.specs.Exposition.{Row, histogram_names, labels_reason, name_reason};
 ghost use Rattle.metrics_prometheus.specs.Exposition.{same_name_reason, last_reason, reason_of};
 ghost use Rattle.metrics_prometheus.specs.Exposition.{reason_text, series_named, left_out_line};
-ghost use Rattle.metrics_prometheus.specs.Names.{help_escaped};
+ghost use Rattle.metrics_exposition.specs.Names.{help_escaped};
 
-use crate::labels::{are_equal, repeats, reserved_of};
-use crate::names::write_help_text;
 use crate::rows::ShownRow;
-use crate::samples::write_labels;
 use crate::taken::whole_of;
 use metrics::{Label, MetricKind};
+use metrics_exposition::{are_equal, repeats, reserved_of, write_help_text, write_labels};
 use std::alloc::AllocError;
 
 /// Why a series is left out.

@@ -4,12 +4,11 @@ ghost use Rattle.metrics.specs.declared.error.Error.TheVariants.{Memory as OutOf
 ghost use Rattle.metrics_exporter.specs.Gathering.{series_at};
 ghost use Rattle.metrics_prometheus.specs.Repeated.{repeated_line};
 
-use crate::labels::shown_labels;
 use crate::reasons::{Reason, write_left_out};
 use crate::rows::ShownRow;
-use crate::shown::ShownName;
 use metrics::{Error, Key, MetricKind};
 use metrics_exporter::ReadingRef;
+use metrics_exposition::{ShownName, shown_labels};
 use std::alloc::Global;
 
 /// Adds the line that a series is left out, since a series of its own name and labels is written: it comes again.

@@ -4,15 +4,15 @@ ghost use Rattle.std.specs.List.{AllByRecursion};
 ghost use Rattle.metrics.specs.declared.error.Error.TheVariants.{Memory as OutOfMemory};
 ghost use Rattle.metrics_exporter.specs.Readings.{KeyedReading, keyed_reading};
 ghost use Rattle.metrics_prometheus.specs.Exposition.{row_cmp};
-ghost use Rattle.metrics_prometheus.specs.Reading.{IsOfKind};
+ghost use Rattle.metrics_exposition.specs.Reading.{IsOfKind};
 ghost use Rattle.metrics_prometheus.specs.Rows.{HasTexts};
 
-use crate::labels::{first_value, shown_labels};
-use crate::naming::{Naming, shown_name, shown_places};
-use crate::series::{ReadSeries, reading_kind};
-use crate::shown::{ShownItems, ShownName};
 use metrics::{Error, Key, Label, MetricKind};
 use metrics_exporter::{Descriptions, ReadingRef, SeriesReading};
+use metrics_exposition::{
+    DecimalPlaces, Naming, ReadSeries, ShownItems, ShownName, all_places, first_value,
+    reading_kind, shown_labels, shown_name, shown_places,
+};
 use std::alloc::{AllocError, Global};
 
 /// A series as Prometheus is shown it: name, kind and labels, and beside them its own key. Rows compare in this order. The
@@ -24,7 +24,7 @@ pub(crate) struct ShownRow<'a> {
     pub kind: MetricKind,
     /// The decimal places of its numbers.
     #[derive_where(skip)]
-    pub places: u8,
+    pub places: u16,
     pub labels: ShownItems<'a, Label>,
     pub key: &'a Key,
     #[derive_where(skip)]
@@ -38,7 +38,7 @@ pub(crate) struct ShownRow<'a> {
 struct Head<'a> {
     name: ShownName<'a>,
     help: Option<&'a str>,
-    places: u8,
+    places: u16,
 }
 
 /// What the last kind and name are shown with.
@@ -51,21 +51,22 @@ struct Known<'a> {
 
 ghost use Rattle.std.specs.Prelude.{IfSome};
 ghost use Rattle.metrics_exporter.specs.Describing.{described_by};
-ghost use Rattle.metrics_prometheus.specs.Naming.{Display, display_of};
+ghost use Rattle.metrics_exposition.specs.Naming.{Display, display_by};
 ghost use Rattle.metrics_prometheus.specs.Rows.{row_shown, pair_shown, pair_of, AreRowsOf};
 ghost use Rattle.metrics_prometheus.specs.Heads.{head_shown, IsKnown};
 ghost use Rattle.metrics_prometheus.specs.declared.rows.ShownRow.{ShownRow as RowParts};
 
 /// Looks up what a kind and name are shown with.
-fn found_head<'a>(
+fn found_head<'a, P: DecimalPlaces>(
     alloc: Global,
     naming: Naming,
+    scale: &P,
     descriptions: &'a Descriptions,
     kind: MetricKind,
     key: &'a Key,
 ) -> Result<Head<'a>, Error>
     ensures { MatchResult result
-        (λ head. head_shown head ≡ display_of naming (described_by descriptions.now) kind key.now.name)
+        (λ head. head_shown head ≡ display_by naming (described_by descriptions.now) (P.places scale.now) kind key.now.name)
         (λ e. e ≡ OutOfMemory) }
 {
     let help = descriptions.text(kind, key.name());
@@ -74,7 +75,7 @@ fn found_head<'a>(
     Ok(Head {
         name: shown,
         help,
-        places: shown_places(naming, unit),
+        places: all_places(scale.places_of(key.name()), shown_places(naming, unit)),
     })
 }
 
@@ -111,24 +112,25 @@ fn known_head<'l, 'a>(
 }
 
 /// What a kind and name are shown with. It is looked up unless the row before has them.
-fn head_of<'a>(
+fn head_of<'a, P: DecimalPlaces>(
     alloc: Global,
     naming: Naming,
+    scale: &P,
     descriptions: &'a Descriptions,
     last: &mut Option<Known<'a>>,
     kind: MetricKind,
     key: &'a Key,
 ) -> Result<Head<'a>, Error>
-    requires { IfSome last.old (IsKnown (display_of naming (described_by descriptions.now))) }
+    requires { IfSome last.old (IsKnown (display_by naming (described_by descriptions.now) (P.places scale.now))) }
     ensures head { MatchResult result
-        (λ head. head_shown head ≡ display_of naming (described_by descriptions.now) kind key.now.name)
+        (λ head. head_shown head ≡ display_by naming (described_by descriptions.now) (P.places scale.now) kind key.now.name)
         (λ e. e ≡ OutOfMemory) }
-    ensures last { IfSome last.new (IsKnown (display_of naming (described_by descriptions.now))) }
+    ensures last { IfSome last.new (IsKnown (display_by naming (described_by descriptions.now) (P.places scale.now))) }
 {
     if let Some(head) = known_head(last, kind, key.name()) {
         return Ok(shared_head(head)?);
     }
-    let head = found_head(alloc, naming, descriptions, kind, key)?;
+    let head = found_head(alloc, naming, scale, descriptions, kind, key)?;
     *last = Some(Known {
         kind,
         name: key.name(),
@@ -138,25 +140,27 @@ fn head_of<'a>(
 }
 
 /// The row of a series. What its kind and name are shown with is kept for the next one.
-fn row_of<'a>(
+fn row_of<'a, P: DecimalPlaces>(
     alloc: Global,
     naming: Naming,
+    scale: &P,
     descriptions: &'a Descriptions,
     last: &mut Option<Known<'a>>,
     series: SeriesReading<'a>,
 ) -> Result<ShownRow<'a>, Error>
-    requires { IfSome last.old (IsKnown (display_of naming (described_by descriptions.now))) }
+    requires { IfSome last.old (IsKnown (display_by naming (described_by descriptions.now) (P.places scale.now))) }
     ensures row { MatchResult result
-        (λ row. pair_shown row ≡ pair_of (display_of naming (described_by descriptions.now)) (keyed_reading series.entry))
+        (λ row. pair_shown row
+        ≡ pair_of (display_by naming (described_by descriptions.now) (P.places scale.now)) (keyed_reading series.entry))
         (λ e. e ≡ OutOfMemory) }
     ensures texts { OnOk result (HasTexts (keyed_reading series.entry)) }
     ensures kind { OnOk result (IsOfKind (keyed_reading series.entry)) }
-    ensures last { IfSome last.new (IsKnown (display_of naming (described_by descriptions.now))) }
+    ensures last { IfSome last.new (IsKnown (display_by naming (described_by descriptions.now) (P.places scale.now))) }
 {
     reading_kind(series.reading);
     let kind = series.reading.kind();
     let labels = shown_labels(alloc, series.key.labels())?;
-    let head = head_of(alloc, naming, descriptions, last, kind, series.key)?;
+    let head = head_of(alloc, naming, scale, descriptions, last, kind, series.key)?;
     let Head { name, help, places } = head;
     Ok(ShownRow {
         name,
@@ -170,15 +174,16 @@ fn row_of<'a>(
 }
 
 /// A row for each series, in their order.
-pub(crate) fn rows_of<'a, S: ReadSeries>(
+pub(crate) fn rows_of<'a, P: DecimalPlaces, S: ReadSeries>(
     alloc: Global,
     naming: Naming,
+    scale: &P,
     descriptions: &'a Descriptions,
     series: &'a [S],
 ) -> Result<Vec<ShownRow<'a>>, Error>
     ensures rows { MatchResult result
         (λ rows. map pair_shown rows.items
-        ≡ map (pair_of (display_of naming (described_by descriptions.now))) (map S.keyed series.now))
+        ≡ map (pair_of (display_by naming (described_by descriptions.now) (P.places scale.now))) (map S.keyed series.now))
         (λ e. e ≡ OutOfMemory) }
     ensures texts { OnOk result (All HasTexts (map S.keyed series.now)) }
     ensures kinds { OnOk result (All IsOfKind (map S.keyed series.now)) }
@@ -186,7 +191,7 @@ pub(crate) fn rows_of<'a, S: ReadSeries>(
     let mut rows = Vec::with_capacity(alloc, series.len())?;
     let mut last = None;
     for one in series {
-        let row = row_of(alloc, naming, descriptions, &mut last, one.reading())?;
+        let row = row_of(alloc, naming, scale, descriptions, &mut last, one.reading())?;
         rows.push(row)?;
     }
     Ok(rows)

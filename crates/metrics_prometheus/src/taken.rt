@@ -10,9 +10,9 @@ ghost use Rattle.metrics_prometheus.specs.Exposition.{histogram_names, found_in,
 ghost use Rattle.metrics_prometheus.specs.Places.{rows_placed};
 ghost use Rattle.metrics_prometheus.specs.Rows.{row_shown, rows_shown, names_shown};
 
-use crate::labels::{are_fit, is_last};
 use crate::rows::{Place, ShownRow};
 use metrics::MetricKind;
+use metrics_exposition::{are_fit, is_last};
 use std::alloc::{AllocError, Global};
 use std::cmp::Ordering;
 

@@ -6,7 +6,7 @@ ghost use Rattle.std.specs.List.Sorted.{IsSorted};
 ghost use Rattle.std.specs.Cmp.Lexicographic.{slice_cmp};
 ghost use Rattle.std.specs.Ordering.{nat_cmp};
 ghost use Rattle.metrics.specs.declared.error.Error.TheVariants.{Memory as OutOfMemory};
-ghost use Rattle.metrics_prometheus.specs.declared.naming.Naming.TheVariants.{AsGiven};
+ghost use Rattle.metrics_exposition.specs.declared.naming.Naming.TheVariants.{AsGiven};
 ghost use Rattle.metrics_exporter.specs.Exporting.{Cells, Setup, Log, steps, cells_after, HoldsSome};
 ghost use Rattle.metrics_names.specs.Names.{label_cmp};
 ghost use Rattle.metrics_exporter.specs.Kept.{IsAfter, described};
@@ -15,21 +15,20 @@ ghost use Rattle.metrics_exporter.specs.Readings.{AreReadings, AreOnce, KeyedRea
 ghost use Rattle.metrics_prometheus.specs.Exposition.{Row, row_cmp, histogram_names, is_left_out};
 ghost use Rattle.metrics_prometheus.specs.Exposition.{help_line, type_line, name_lines, name_text};
 ghost use Rattle.metrics_prometheus.specs.Exposition.{samples_of, row_lines, rows_text};
-ghost use Rattle.metrics_prometheus.specs.Exposition.{IsExposition, IsDescribed};
+ghost use Rattle.metrics_prometheus.specs.Exposition.{IsExposition, IsDescribed, IsScaled};
 ghost use Rattle.metrics_prometheus.specs.Places.{rows_placed};
-ghost use Rattle.metrics_prometheus.specs.Reading.{AreOfKinds};
+ghost use Rattle.metrics_exposition.specs.Reading.{AreOfKinds};
 ghost use Rattle.metrics_prometheus.specs.Rows.{row_shown, rows_shown, Shows, names_shown, named};
-ghost use Rattle.metrics_prometheus.specs.Samples.{lines};
+ghost use Rattle.metrics_exposition.specs.Samples.{lines};
 
-use crate::names::write_help_text;
-use crate::naming::Naming;
 use crate::reasons::{reason_of, write_left_out};
 use crate::rows::{Place, ShownRow, rows_of, sorted_rows};
-use crate::samples::{write_histogram, write_sample};
-use crate::series::ReadSeries;
 use crate::taken::histogram_names;
 use metrics::Error;
 use metrics_exporter::{Descriptions, Exporter, ReadingRef};
+use metrics_exposition::{
+    DecimalPlaces, Naming, ReadSeries, WholeNumbers, write_help_text, write_histogram, write_sample,
+};
 use std::alloc::{AllocError, Global};
 
 fn write_type_line(text: &mut String, row: &ShownRow<'_>) -> Result<(), AllocError>
@@ -173,10 +172,36 @@ fn rows_text(alloc: Global, places: &[Place<'_, '_>]) -> Result<String, Error>
 
 /// Writes these series in Prometheus's text format, version 0.0.4, each name after its description. That is the description of
 /// the first series that is written under it, by that series' kind and own name. The naming decides names and units; units are
-/// those of the descriptions.
+/// those of the descriptions. Numbers are whole numbers of the last of their name's decimal places, bounds and sums too.
 ///
 /// The whole text is in memory, with a row for each series. Fails with `Error::Memory` when out of memory, and never for an
 /// empty list. A repeated series is written once.
+pub fn scaled_exposition_of<P: DecimalPlaces, S: ReadSeries>(
+    alloc: Global,
+    naming: Naming,
+    scale: &P,
+    descriptions: &Descriptions,
+    series: &[S],
+) -> Result<String, Error>
+    // For the cells that the series report.
+    ensures ok { (cells : Cells) → AreReadings cells (map S.keyed series.now) → IfOk result
+        (λ text. IsScaled naming (described_by descriptions.now) (P.places scale.now) cells (string_bytes text)) }
+    // For any list: each series once.
+    ensures each { IfOk result (λ text. (kept : List KeyedReading) × AreOnce (map S.keyed series.now) kept
+        × AreOfKinds (cells_of_readings kept)
+        × IsScaled naming (described_by descriptions.now) (P.places scale.now) (cells_of_readings kept) (string_bytes text)) }
+    ensures err { IfErr result (λ e. e ≡ OutOfMemory) }
+    ensures refused { OnErr result (0 < length series.now) }
+{
+    if series.is_empty() {
+        return Ok(String::new(alloc));
+    }
+    let rows = rows_of(alloc, naming, scale, descriptions, series)?;
+    let places = sorted_rows(alloc, &rows)?;
+    rows_text(alloc, &places)
+}
+
+/// Writes these series as `scaled_exposition_of` does, with whole numbers, save for the decimal places of units.
 pub fn exposition_of<S: ReadSeries>(
     alloc: Global,
     naming: Naming,
@@ -193,19 +218,32 @@ pub fn exposition_of<S: ReadSeries>(
     ensures err { IfErr result (λ e. e ≡ OutOfMemory) }
     ensures refused { OnErr result (0 < length series.now) }
 {
-    if series.is_empty() {
-        return Ok(String::new(alloc));
-    }
-    let rows = rows_of(alloc, naming, descriptions, series)?;
-    let places = sorted_rows(alloc, &rows)?;
-    rows_text(alloc, &places)
+    scaled_exposition_of(alloc, naming, &WholeNumbers, descriptions, series)
 }
 
 /// Writes the held series in Prometheus's text format, version 0.0.4, each name after its description in the exporter. The
-/// naming decides names and units.
+/// naming decides names and units. Numbers are whole numbers of the last of their name's decimal places.
 ///
 /// The whole text is in memory, with a row for each series. Fails with `Error::Memory` when out of memory, and never if no
 /// series is held.
+pub fn scaled_exposition<P: DecimalPlaces>(
+    exporter: &Exporter,
+    alloc: Global,
+    naming: Naming,
+    scale: &P,
+) -> Result<String, Error>
+    ensures text { (setup : Setup) (log : Log) → IsAfter setup log exporter.now → MatchResult result
+        (λ text. IsScaled naming (described exporter.now) (P.places scale.now)
+        (cells_after setup (steps log)) (string_bytes text))
+        (λ e. e ≡ OutOfMemory) }
+    ensures refused { (setup : Setup) (log : Log) → IsAfter setup log exporter.now →
+        OnErr result (HoldsSome (cells_after setup (steps log))) }
+{
+    let series = exporter.readings()?;
+    scaled_exposition_of(alloc, naming, scale, exporter.descriptions(), &series)
+}
+
+/// Writes the held series as `scaled_exposition` does, with whole numbers, save for the decimal places of units.
 pub fn exposition_named(exporter: &Exporter, alloc: Global, naming: Naming) -> Result<String, Error>
     ensures text { (setup : Setup) (log : Log) → IsAfter setup log exporter.now → MatchResult result
         (λ text. IsDescribed naming (described exporter.now) (cells_after setup (steps log)) (string_bytes text))
@@ -213,8 +251,7 @@ pub fn exposition_named(exporter: &Exporter, alloc: Global, naming: Naming) -> R
     ensures refused { (setup : Setup) (log : Log) → IsAfter setup log exporter.now →
         OnErr result (HoldsSome (cells_after setup (steps log))) }
 {
-    let series = exporter.readings()?;
-    exposition_of(alloc, naming, exporter.descriptions(), &series)
+    scaled_exposition(exporter, alloc, naming, &WholeNumbers)
 }
 
 /// Writes the held series as `exposition_named` does, with unchanged names and numbers.

@@ -1,7 +1,7 @@
 use Rattle.std.proofs.Common.{codes, string_bytes, ◌∙◌, ◌++◌, ◌∷◌, [], ap, sym, append_assoc}
 use Rattle.metrics_prometheus.specs.Exposition.{reason_text, series_named}
 use Rattle.metrics_prometheus.specs.Rows.{row_shown, reason_shown}
-use Rattle.metrics_prometheus.proofs.LineLemmas.{five-parts}
+use Rattle.metrics_exposition.proofs.LineLemmas.{five-parts}
 use Rattle.metrics_prometheus.proofs.reasons.write_left_out.Goals as goal
 
 pub returns : goal.returns

@@ -3,8 +3,8 @@ use Rattle.std.specs.Prelude.{All}
 use Rattle.std.proofs.lemmas.List.{take_all}
 use Rattle.std.proofs.lemmas.List.Elements.{All-map, All-more}
 use Rattle.metrics_exporter.specs.Describing.{described_by}
-use Rattle.metrics_prometheus.specs.Naming.{display_of}
-use Rattle.metrics_prometheus.specs.Reading.{IsOfKind}
+use Rattle.metrics_exposition.specs.Naming.{display_by}
+use Rattle.metrics_exposition.specs.Reading.{IsOfKind}
 use Rattle.metrics_prometheus.specs.Rows.{pair_of, HasTexts}
 use Rattle.metrics_prometheus.proofs.RowLemmas.{rows-more}
 use Rattle.metrics_prometheus.proofs.rows.rows_of.Goals as goal
@@ -15,7 +15,7 @@ loop-one-preserved g c =
     let series = c.args.series.now in
     let i = c.loop-one.one-index in
     let one = c.one-item.result in
-    let display = display_of c.args.naming (described_by c.args.descriptions.now) in
+    let display = display_by c.args.naming (described_by c.args.descriptions.now) (g.P.DecimalPlaces.places c.args.scale.now) in
     let row = c.in_ok-row.row in
     let same = c.reading.ensures in
     record {

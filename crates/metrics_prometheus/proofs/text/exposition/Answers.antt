@@ -2,7 +2,7 @@ use Rattle.std.proofs.Common.{◌≡◌, IfOk, string_bytes, subst}
 use Rattle.metrics_exporter.specs.Describing.{Legend, no_legend}
 use Rattle.metrics_exporter.specs.Exporting.{steps, cells_after}
 use Rattle.metrics_exporter.specs.Kept.{described}
-use Rattle.metrics_prometheus.specs.declared.naming.Naming.TheVariants.{AsGiven}
+use Rattle.metrics_exposition.specs.declared.naming.Naming.TheVariants.{AsGiven}
 use Rattle.metrics_prometheus.specs.Exposition.{IsDescribed}
 use Rattle.metrics_prometheus.proofs.TextLemmas.{of-ok}
 use Rattle.metrics_prometheus.proofs.text.exposition.Goals as goal

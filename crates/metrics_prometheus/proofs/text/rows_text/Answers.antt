@@ -11,7 +11,7 @@ use Rattle.metrics_prometheus.specs.declared.rows.ShownRow.{ShownRow}
 use Rattle.metrics_prometheus.specs.declared.rows.Place.{Place}
 use Rattle.metrics_prometheus.specs.Places.{rows_placed}
 use Rattle.metrics_prometheus.specs.Rows.{row_shown, rows_shown, names_shown, Shows}
-use Rattle.metrics_prometheus.proofs.PairLemmas.{each-at}
+use Rattle.metrics_exposition.proofs.PairLemmas.{each-at}
 use Rattle.metrics_prometheus.proofs.TextLemmas.{last-written, last-kept, text-more}
 use Rattle.metrics_prometheus.proofs.text.rows_text.Goals as goal
 use Rattle.metrics_prometheus.proofs.text.rows_text.Goals.{then-branch, else-branch}

@@ -1,0 +1,16 @@
+pub mod Yielded
+pub mod PairLemmas
+pub mod SameLemmas
+pub mod OrderLemmas
+pub mod BoundLemmas
+pub mod NameLemmas
+pub mod NamingLemmas
+pub mod NumeralLemmas
+pub mod ValueLemmas
+pub mod LabelLemmas
+pub mod LineLemmas
+pub mod GatherLemmas
+pub mod FeedLemmas
+pub mod BackLemmas
+pub mod BucketLemmas
+pub mod KindLemmas

@@ -1,0 +1,43 @@
+//! Series of which texts are written.
+ghost use Rattle.std.specs.Prelude.{◌≡◌, Some};
+ghost use Rattle.std.specs.List.{AllByRecursion};
+ghost use Rattle.metrics_exporter.specs.Readings.{KeyedReading, keyed_reading, kind_shown, reading_shown};
+ghost use Rattle.metrics_exposition.specs.Reading.{IsSmall, ReadsAs};
+
+use metrics_exporter::{ReadingRef, SeriesReading};
+use metrics_storage::Histogram;
+
+/// A series with what it has.
+pub trait ReadSeries {
+    ghost keyed: { Self → KeyedReading };
+
+    /// Returns the series by reference.
+    fn reading(&self) -> SeriesReading<'_>
+        ensures { keyed_reading result ≡ keyed self.now };
+}
+
+impl ReadSeries for SeriesReading<'_> {
+    ghost keyed = { keyed_reading };
+
+    fn reading(&self) -> SeriesReading<'_> {
+        *self
+    }
+}
+
+/// Does nothing. Its contract says that the bounds are numbers of 64 bits.
+fn small_bounds(histogram: &Histogram)
+    ensures { AllByRecursion IsSmall histogram.now.buckets }
+{
+    histogram.bounds();
+}
+
+/// Does nothing. Its contract says that a reading is of its kind.
+pub fn reading_kind(reading: ReadingRef<'_>)
+    ensures { ReadsAs (kind_shown reading.entry) (Some (reading_shown reading.entry)) }
+{
+    match reading {
+        ReadingRef::Count(_) => {}
+        ReadingRef::Level(_) => {}
+        ReadingRef::Samples(histogram) => small_bounds(histogram),
+    }
+}

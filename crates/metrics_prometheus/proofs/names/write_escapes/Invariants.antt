@@ -1,8 +1,0 @@
--- The value so far.
-use Rattle.std.proofs.Common.{◌≡◌, ◌++◌, string_bytes}
-use Rattle.std.specs.Prelude.{flat_map}
-use Rattle.metrics_prometheus.specs.Names.{escape}
-use Rattle.metrics_prometheus.proofs.names.write_escapes.Given as goal
-
-abbrev pub invariant-loop-c : goal.invariant-loop-c
-invariant-loop-c l = string_bytes l.text ≡ string_bytes l.initial.text ++ flat_map escape l.yielded

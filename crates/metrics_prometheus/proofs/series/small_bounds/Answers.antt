@@ -1,5 +1,0 @@
-use Rattle.metrics_prometheus.proofs.KindLemmas.{small-buckets}
-use Rattle.metrics_prometheus.proofs.series.small_bounds.Goals as goal
-
-pub returns : goal.returns
-returns c = small-buckets c.args.histogram.now c.bounds.ensures.fits
