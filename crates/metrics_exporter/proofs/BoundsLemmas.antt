@@ -142,21 +142,21 @@ empty-at default chosen place one all = go (slice_get chosen place) refl
     go (Some d) e = subst IsEmpty (get_or_from_slice_get chosen place d default e) (all place default (slice_get_within chosen place d e))
 
 module _ (default : Distribution) (pairs : List (List ℕ × ℕ)) (chosen : List Distribution) where
-  -- what is set for a prefix, and the bounds of a name, by the fields
+  -- what is set for a prefix, and the bounds of a name that else has other ones, by the fields
   abbrev set-in : List ℕ → Option (List ℤ)
   set-in prefix = option_map (λ place. bounds_of (or_default default (slice_get chosen place))) (stored pairs prefix)
 
-  abbrev in-all : List ℕ → List ℤ
-  in-all name = at_longest (bounds_of default) set-in name
+  abbrev in-all : List ℤ → List ℕ → List ℤ
+  in-all other name = at_longest other set-in name
 
   some-none : IsSome {T = ℕ} None → ⊥
   some-none h = true≢false (sym h)
 
   -- no prefix is set
-  pub bounds-all : (bounds : List ℤ) → default ≡ no_samples bounds → pairs ≡ [] → (name : List ℕ) → in-all name ≡ bounds
-  bounds-all bounds is none name =
-      placed-none (λ place. bounds_of (or_default default (slice_get chosen place))) pairs name (bounds_of default) (λ q s. absurd (some-none (subst IsSome (ap (λ (ps : List (List ℕ × ℕ)). stored ps q) none) s)))
-      ∙ ap bounds_of is ∙ bounds-back bounds
+  pub bounds-all : (bounds other : List ℤ) → other ≡ bounds → pairs ≡ [] → (name : List ℕ) → in-all other name ≡ bounds
+  bounds-all bounds other is none name =
+      placed-none (λ place. bounds_of (or_default default (slice_get chosen place))) pairs name other (λ q s. absurd (some-none (subst IsSome (ap (λ (ps : List (List ℕ × ℕ)). stored ps q) none) s)))
+      ∙ is
 
   pub set-one : (new : List (List ℕ × ℕ)) (all : List Distribution) (one : Distribution) (bounds : List ℤ) (pattern : List ℕ) → all ≡ chosen ++ one ∷ [] → one ≡ no_samples bounds
       → ArePlaces pairs (length chosen) → Inserts pairs new pattern (length chosen)
@@ -166,16 +166,17 @@ module _ (default : Distribution) (pairs : List (List ℕ × ℕ)) (chosen : Lis
       ∙ sets-one (λ o. bounds_of (or_default default o)) chosen one pairs new pattern were inserts p
       ∙ ap (λ ns. cond (bytes_eq p pattern) (Some ns) (set-in p)) (ap bounds_of is ∙ bounds-back bounds)
 
-  pub chosen-none : (name : List ℕ) → IsEmpty default → HasNoFront pairs name → default ≡ no_samples (in-all name)
-  chosen-none name one h =
-      one ∙ ap no_samples (sym (placed-none (λ place. bounds_of (or_default default (slice_get chosen place))) pairs name (bounds_of default) h))
+  pub chosen-none : (other : Distribution) (name : List ℕ) → IsEmpty other → HasNoFront pairs name → other ≡ no_samples (in-all (bounds_of other) name)
+  chosen-none other name one h =
+      one ∙ ap no_samples (sym (placed-none (λ place. bounds_of (or_default default (slice_get chosen place))) pairs name (bounds_of other) h))
 
-  pub chosen-some : (name : List ℕ) (place : ℕ) → IsEmpty default → All IsEmpty chosen → IsLongest pairs name place → or_default default (slice_get chosen place) ≡ no_samples (in-all name)
-  chosen-some name place one all h =
+  pub chosen-some : (other : List ℤ) (name : List ℕ) (place : ℕ) → IsEmpty default → All IsEmpty chosen → IsLongest pairs name place
+      → or_default default (slice_get chosen place) ≡ no_samples (in-all other name)
+  chosen-some other name place one all h =
       empty-at default chosen place one all
-      ∙ ap no_samples (sym (placed-some (λ place. bounds_of (or_default default (slice_get chosen place))) pairs name (bounds_of default) place h))
+      ∙ ap no_samples (sym (placed-some (λ place. bounds_of (or_default default (slice_get chosen place))) pairs name other place h))
 
--- ---- bounds of exact names
+-- ---- bounds of exact names and of units
 
 pub exact-some : (o : Option Distribution) (d : Distribution) (rest : List ℤ) → o ≡ Some d → IsEmpty d → d ≡ no_samples (unwrap_or (option_map bounds_of o) rest)
 exact-some o d rest e h = h ∙ ap (λ x. no_samples (unwrap_or (option_map bounds_of x) rest)) (sym e)
@@ -183,38 +184,40 @@ exact-some o d rest e h = h ∙ ap (λ x. no_samples (unwrap_or (option_map boun
 pub exact-none : (o : Option Distribution) (rest : List ℤ) → o ≡ None → rest ≡ unwrap_or (option_map bounds_of o) rest
 exact-none o rest e = ap (λ x. unwrap_or (option_map bounds_of x) rest) (sym e)
 
-pub empty-none-set : (f : List ℕ → Option Distribution) → ((name : List ℕ) → f name ≡ None) → AreEmptyAt f
-empty-none-set f none name d e = absurd (let h : None ≡ Some d = sym (none name) ∙ e in cc)
+pub empty-none-set : {A : Type 0} (f : A → Option Distribution) → ((a : A) → f a ≡ None) → AreEmptyAt f
+empty-none-set f none a d e = absurd (let h : None ≡ Some d = sym (none a) ∙ e in cc)
 
 some-same : (a b : Distribution) → Some a ≡ Some b → a ≡ b
 some-same a b e = cc
 
-module _ (f g : List ℕ → Option Distribution) (name bs : List ℕ) (x : Distribution) (bounds : List ℤ) (is : x ≡ no_samples bounds) (same : bs ≡ name) where
-  -- what an insert of the histogram at the name leaves
+module _ {A : Type 0} (f g : A → Option Distribution) (test : A → Bool) (x : Distribution) (bounds : List ℤ) (is : x ≡ no_samples bounds) where
+  -- what an insert of the histogram leaves, where the test passes
   abbrev pub Puts : Type 0
-  Puts = (n : List ℕ) → g n ≡ cond (bytes_eq bs n) (Some x) (f n)
+  Puts = (a : A) → g a ≡ cond (test a) (Some x) (f a)
 
-  pub empty-more : Puts → AreEmptyAt f → AreEmptyAt g
-  empty-more puts were n d e = go (bytes_eq bs n) (sym (puts n) ∙ e)
+  empty-more : Puts → AreEmptyAt f → AreEmptyAt g
+  empty-more puts were a d e = go (test a) (sym (puts a) ∙ e)
     where
-      go : (b : Bool) → cond b (Some x) (f n) ≡ Some d → IsEmpty d
+      go : (b : Bool) → cond b (Some x) (f a) ≡ Some d → IsEmpty d
       go true e = subst IsEmpty (some-same x d e) (is-empty x bounds is)
-      go false e = were n d e
+      go false e = were a d e
 
-  pub exact-more : Puts → (n : List ℕ) → option_map bounds_of (g n) ≡ cond (bytes_eq name n) (Some bounds) (option_map bounds_of (f n))
-  exact-more puts n =
-      ap (option_map bounds_of) (puts n)
-      ∙ go (bytes_eq bs n)
-      ∙ ap (λ m. cond (bytes_eq m n) (Some bounds) (option_map bounds_of (f n))) same
+  pub bounds-more : Puts → (a : A) → option_map bounds_of (g a) ≡ cond (test a) (Some bounds) (option_map bounds_of (f a))
+  bounds-more puts a = ap (option_map bounds_of) (puts a) ∙ go (test a)
     where
-      go : (b : Bool) → option_map bounds_of (cond b (Some x) (f n)) ≡ cond b (Some bounds) (option_map bounds_of (f n))
+      go : (b : Bool) → option_map bounds_of (cond b (Some x) (f a)) ≡ cond b (Some bounds) (option_map bounds_of (f a))
       go true = ap Some (ap bounds_of is ∙ bounds-back bounds)
       go false = refl
 
   -- the same of an insert that may fail
-  pub empty-after : {T E : Type 0} (r : Result T E) → OnOk r Puts → OnErr r ((n : List ℕ) → g n ≡ f n) → AreEmptyAt f → AreEmptyAt g
+  pub empty-after : {T E : Type 0} (r : Result T E) → OnOk r Puts → OnErr r ((a : A) → g a ≡ f a) → AreEmptyAt f → AreEmptyAt g
   empty-after (Ok v) puts same were = empty-more puts were
-  empty-after (Err e) puts same were = λ n d h. were n d (sym (same n) ∙ h)
+  empty-after (Err e) puts same were = λ a d h. were a d (sym (same a) ∙ h)
+
+pub exact-more : (f g : List ℕ → Option Distribution) (name bs : List ℕ) (x : Distribution) (bounds : List ℤ) (is : x ≡ no_samples bounds) → bs ≡ name → Puts f g (bytes_eq bs) x bounds is
+    → (n : List ℕ) → option_map bounds_of (g n) ≡ cond (bytes_eq name n) (Some bounds) (option_map bounds_of (f n))
+exact-more f g name bs x bounds is same puts n =
+    bounds-more f g (bytes_eq bs) x bounds is puts n ∙ ap (λ m. cond (bytes_eq m n) (Some bounds) (option_map bounds_of (f n))) same
 
 pub bounds-none : (o : Option Distribution) (rest bounds : List ℤ) → o ≡ None → rest ≡ bounds → unwrap_or (option_map bounds_of o) rest ≡ bounds
 bounds-none o rest bounds none is = sym (exact-none o rest none) ∙ is

@@ -63,7 +63,7 @@ checks-all xs done =
 
 -- ---- one check
 
-same-check : (s : SeriesKey) (now : ℕ) (b c : Cells) → b s ≡ c s → check_of_held b now s ≡ check_of_held c now s
+pub same-check : (s : SeriesKey) (now : ℕ) (b c : Cells) → b s ≡ c s → check_of_held b now s ≡ check_of_held c now s
 same-check s now b c e = ap (λ o. record { kind = s.kind; key = s.key; generation = generation_in o; moment = now; held = true }) e
 
 -- of a series that is idle nothing is noted any more
@@ -239,7 +239,7 @@ module _ (now : ℕ) (rows : List SeriesRef) (r : SeriesRegistry) (a e f : Owned
 
 -- ---- the end
 
-same-series : (setup : Setup) (xs : List Step) (r : SeriesRegistry) (a : OwnedRecency KeyParts) (keys : List SeriesKey) → KeepsBut [] setup xs r a → AreSeries (cells_of r) keys → AreSeries (cells_after setup xs) keys
+pub same-series : (setup : Setup) (xs : List Step) (r : SeriesRegistry) (a : OwnedRecency KeyParts) (keys : List SeriesKey) → KeepsBut [] setup xs r a → AreSeries (cells_of r) keys → AreSeries (cells_after setup xs) keys
 same-series setup xs r a keys kept series = let P : Cells → Type 0 = λ c. AreSeries c keys in subst P (λ i s. kept.cells s i) series
 
 -- an expiry made these checks, and found the idle series

@@ -12,7 +12,7 @@ use Rattle.metrics.specs.declared.debugging.DebugValue.TheVariants as value
 use Rattle.metrics.specs.declared.handles.Update.{Update}
 use Rattle.metrics.specs.declared.handles.Update.TheVariants.{Increment, Absolute, Add, Subtract, Set, Record}
 use Rattle.metrics.specs.Book.{kind_of, value_from}
-use Rattle.metrics_exporter.specs.Exporting.{Step, updated, checked, series_of, after_removal, update_of, since, reading, cell_of, cells_after, Setup, IsFull}
+use Rattle.metrics_exporter.specs.Exporting.{Step, updated_in, checked, series_of, after_removal, update_of, since, unit_since, updates_alone, reading, cell_of, cells_after, Setup, IsFull}
 use Rattle.metrics_exporter.specs.Stepping.{reading_has_room, cell_has_room}
 
 -- ---- the updates of a series are of its kind
@@ -20,14 +20,14 @@ use Rattle.metrics_exporter.specs.Stepping.{reading_has_room, cell_has_room}
 AllKind : MetricKind → List Update → Type 0
 AllKind kind us = AllByRecursion (λ u. kind_of u ≡ kind) us
 
-all-kind : (s : SeriesKey) (xs : List Step) → AllKind s.kind (filter_map (update_of s) xs)
+all-kind : (s : SeriesKey) (xs : List Step) → AllKind s.kind (updates_alone (filter_map (update_of s) xs))
 unfolding AllKind
 all-kind s [] = tt
 all-kind s (checked a ∷ xs) = all-kind s xs
-all-kind s (updated key u ∷ xs) = go (all-kind s xs) (series_key_eq (series_of key u) s) refl
+all-kind s (updated_in unit key u ∷ xs) = go (all-kind s xs) (series_key_eq (series_of key u) s) refl
   where
-    go : AllKind s.kind (filter_map (update_of s) xs) → (b : Bool) → series_key_eq (series_of key u) s ≡ b
-        → AllKind s.kind (cons_option (cond b (Some u) None) (filter_map (update_of s) xs))
+    go : AllKind s.kind (updates_alone (filter_map (update_of s) xs)) → (b : Bool) → series_key_eq (series_of key u) s ≡ b
+        → AllKind s.kind (updates_alone (cons_option (cond b (Some (unit, u)) None) (filter_map (update_of s) xs)))
     go rest true e = (ap (λ (t : SeriesKey). t.kind) (key_exact (series_of key u) s e), rest)
     go rest false e = rest
 
@@ -83,15 +83,15 @@ never b e = (λ f. false≢true (sym f ∙ e), λ h. absurd h)
 
 -- an update finds no room exactly if it is full
 pub full-cells : (setup : Setup) (xs : List Step) (key : KeyParts) (u : Update) → (cell_has_room (cells_after setup xs (series_of key u)) ≡ false) ↔ IsFull xs key u
-full-cells setup xs key (Increment n) = never _ (counter-room (setup.bounds key.name) key (since xs (series_of key (Increment n))))
-full-cells setup xs key (Absolute n) = never _ (counter-room (setup.bounds key.name) key (since xs (series_of key (Absolute n))))
-full-cells setup xs key (Add n) = never _ (gauge-room (setup.bounds key.name) key (since xs (series_of key (Add n))))
-full-cells setup xs key (Subtract n) = never _ (gauge-room (setup.bounds key.name) key (since xs (series_of key (Subtract n))))
-full-cells setup xs key (Set n) = never _ (gauge-room (setup.bounds key.name) key (since xs (series_of key (Set n))))
+full-cells setup xs key (Increment n) = never _ (counter-room (setup.bounds (unit_since xs (series_of key (Increment n))) key.name) key (since xs (series_of key (Increment n))))
+full-cells setup xs key (Absolute n) = never _ (counter-room (setup.bounds (unit_since xs (series_of key (Absolute n))) key.name) key (since xs (series_of key (Absolute n))))
+full-cells setup xs key (Add n) = never _ (gauge-room (setup.bounds (unit_since xs (series_of key (Add n))) key.name) key (since xs (series_of key (Add n))))
+full-cells setup xs key (Subtract n) = never _ (gauge-room (setup.bounds (unit_since xs (series_of key (Subtract n))) key.name) key (since xs (series_of key (Subtract n))))
+full-cells setup xs key (Set n) = never _ (gauge-room (setup.bounds (unit_since xs (series_of key (Set n))) key.name) key (since xs (series_of key (Set n))))
 full-cells setup xs key (Record n) =
     let s : SeriesKey = series_of key (Record n) in
     let us : List Update = since xs s in
-    let room : cell_has_room (cells_after setup xs s) ≡ nat_lt (length us) (2 ^ 64 - 1) = histogram-room (setup.bounds key.name) key us (all-kind s (after_removal s xs)) in (
+    let room : cell_has_room (cells_after setup xs s) ≡ nat_lt (length us) (2 ^ 64 - 1) = histogram-room (setup.bounds (unit_since xs s) key.name) key us (all-kind s (after_removal s xs)) in (
       λ none. let h : 2 ^ 64 - 1 ≤ length us = ltb-false (length us) (2 ^ 64 - 1) (sym room ∙ none) in let g : 2 ^ 64 ≤ length us + 1 = omega (arith, h) in g,
       λ full. room ∙ le-ltb (length us) (2 ^ 64 - 1) (let h : 2 ^ 64 ≤ length us + 1 = full in omega (arith, h)),
     )

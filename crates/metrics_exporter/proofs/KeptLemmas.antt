@@ -5,12 +5,14 @@ use Rattle.std.proofs.lemmas.Grind.{flat_map-append}
 use Rattle.std.proofs.lemmas.List.{reverse-append}
 use Rattle.metrics_names.specs.declared.kind.MetricKind.{MetricKind}
 use Rattle.metrics_names.specs.declared.kind.MetricKind.TheVariants.{Counter, Gauge, Histogram}
+use Rattle.metrics_names.specs.declared.common.Unit.{Unit as Measure}
 use Rattle.metrics_names.specs.Names.{KeyParts, SeriesKey, key_eq, series_key_eq}
 use Rattle.metrics.specs.declared.error.Error.{Error}
 use Rattle.metrics.specs.declared.error.Error.TheVariants.{Memory, CountFull}
 use Rattle.std.proofs.lemmas.Bool.{false≢true}
 use Rattle.metrics_exporter.proofs.FullLemmas.{full-cells}
 use Rattle.metrics.specs.declared.handles.Update.{Update}
+use Rattle.metrics.specs.declared.handles.Update.TheVariants.{Increment, Absolute, Add, Subtract, Set, Record}
 use Rattle.metrics.specs.Book.{kind_of}
 use Rattle.metrics_storage.specs.Histogram.{no_samples}
 use Rattle.metrics_registry.specs.Held.{held}
@@ -19,11 +21,12 @@ use Rattle.metrics_registry.specs.Recency.{Check, Table, new_table, table_answer
 use Rattle.metrics_registry.specs.RecencyEntries.{rules_of, table_of}
 use Rattle.metrics_registry.specs.Idleness.{Answered, run_answer, run_answers, TableGivesRuns}
 use Rattle.metrics_exporter.specs.declared.exporter.Exporter.{Exporter}
-use Rattle.metrics_exporter.specs.Exporting.{Setup, Event, updates, Log, Step, updated, checked, steps, steps_of, series_of, count, level, samples, Cell, IsFull, cells_after, checks_in, check_of_held}
+use Rattle.metrics_exporter.specs.Exporting.{Setup, Event, updates_in, Log, Step, updated_in, checked, steps, steps_of, series_of, count, level, samples, Cell, Cells, IsFull, cells_after, checks_in, check_of_held}
 use Rattle.metrics_exporter.specs.Stepping.{cell_has_room, TakesUpdate, RefusesUpdate, UpdatesCells, ChecksCells, cell_with, or_new, new_cell, cells_without, notes_without}
-use Rattle.metrics_exporter.specs.Choice.{bounds_for}
-use Rattle.metrics_exporter.specs.Kept.{SeriesRegistry, cells_of, empty_for, HasBounds, Keeps, KeepsBut, IsAfter}
+use Rattle.metrics_exporter.specs.Choice.{bounds_in}
+use Rattle.metrics_exporter.specs.Kept.{SeriesRegistry, cells_of, empty_in, HasBounds, Keeps, KeepsBut, IsAfter}
 use Rattle.metrics_exporter.specs.Gathering.{cell_in}
+use Rattle.metrics_exporter.specs.Describing.{Legend, unit_told}
 use Rattle.metrics_exporter.proofs.StepLemmas.{cells-updated, cells-checked, checks-updated, checks-checked}
 
 -- ---- the calls as steps
@@ -53,7 +56,7 @@ new-keeps setup e bounds rules counters gauges histograms notes law = record {
 pub keeps-same : (setup : Setup) (xs : List Step) (a b : Exporter) → b.registry ≡ a.registry → rules_of b.recency ≡ rules_of a.recency
     → ((kind : MetricKind) (key : KeyParts) → table_of key_eq b.recency kind key ≡ table_of key_eq a.recency kind key) → Keeps setup xs a → Keeps setup xs b
 keeps-same setup xs a b registry rules notes kept = record {
-  bounds = λ name. ap (λ (r : SeriesRegistry). bounds_for r.storage.bounds name) registry ∙ kept.bounds name;
+  bounds = λ unit name. ap (λ (r : SeriesRegistry). bounds_in r.storage.bounds unit name) registry ∙ kept.bounds unit name;
   rules = rules ∙ kept.rules;
   cells = λ s. ap (λ r. cells_of r s) registry ∙ kept.cells s;
   checks = λ checks. ap (λ t. table_answers key_eq setup.rules t checks) (λ i kind key. notes kind key i) ∙ kept.checks checks;
@@ -61,22 +64,22 @@ keeps-same setup xs a b registry rules notes kept = record {
 
 -- ---- an update
 
-pub keeps-updated : (setup : Setup) (xs : List Step) (a b : Exporter) (key : KeyParts) (u : Update) → b.registry.storage ≡ a.registry.storage → b.recency ≡ a.recency
-    → UpdatesCells (empty_for a.registry key.name) (series_of key u) u (cells_of a.registry) (cells_of b.registry) → Keeps setup xs a → Keeps setup (xs ++ updated key u ∷ []) b
-keeps-updated setup xs a b key u storage recency changed kept = record {
-  bounds = λ name. ap (λ s. bounds_for s.bounds name) storage ∙ kept.bounds name;
+pub keeps-updated : (setup : Setup) (xs : List Step) (a b : Exporter) (unit : Option Measure) (key : KeyParts) (u : Update) → b.registry.storage ≡ a.registry.storage → b.recency ≡ a.recency
+    → UpdatesCells (empty_in a.registry unit key.name) (series_of key u) u (cells_of a.registry) (cells_of b.registry) → Keeps setup xs a → Keeps setup (xs ++ updated_in unit key u ∷ []) b
+keeps-updated setup xs a b unit key u storage recency changed kept = record {
+  bounds = λ unit name. ap (λ s. bounds_in s.bounds unit name) storage ∙ kept.bounds unit name;
   rules = ap rules_of recency ∙ kept.rules;
   cells = λ t.
       let s = series_of key u in
       changed t
       ∙ ap (λ o. cond (series_key_eq s t) o (cells_of a.registry t))
-      (ap (λ bounds. Some (cell_with u (or_new (new_cell (no_samples bounds) (kind_of u)) (cells_of a.registry s)))) (kept.bounds key.name)
-      ∙ ap (λ o. Some (cell_with u (or_new (new_cell (no_samples (setup.bounds key.name)) (kind_of u)) o))) (kept.cells s))
-      ∙ ap (λ o. cond (series_key_eq s t) (Some (cell_with u (or_new (new_cell (no_samples (setup.bounds key.name)) (kind_of u)) (cells_after setup xs s)))) o) (kept.cells t)
-      ∙ sym (cells-updated setup xs key u t);
+      (ap (λ bounds. Some (cell_with u (or_new (new_cell (no_samples bounds) (kind_of u)) (cells_of a.registry s)))) (kept.bounds unit key.name)
+      ∙ ap (λ o. Some (cell_with u (or_new (new_cell (no_samples (setup.bounds unit key.name)) (kind_of u)) o))) (kept.cells s))
+      ∙ ap (λ o. cond (series_key_eq s t) (Some (cell_with u (or_new (new_cell (no_samples (setup.bounds unit key.name)) (kind_of u)) (cells_after setup xs s)))) o) (kept.cells t)
+      ∙ sym (cells-updated setup xs unit key u t);
   checks = λ checks.
       ap (λ r. table_answers key_eq setup.rules (table_of key_eq r) checks) recency ∙ kept.checks checks
-      ∙ ap (λ answered. run_answers key_eq setup.rules (reverse answered) checks) (sym (checks-updated xs key u));
+      ∙ ap (λ answered. run_answers key_eq setup.rules (reverse answered) checks) (sym (checks-updated xs unit key u));
 }
 
 -- ---- a check
@@ -156,7 +159,7 @@ pub keeps-removed : (setup : Setup) (xs : List Step) (gone : List SeriesKey) (a 
     → ((s : SeriesKey) → cells_of b.registry s ≡ cells_without gone (cells_of a.registry) s)
     → ((kind : MetricKind) (key : KeyParts) → table_of key_eq b.recency kind key ≡ notes_without gone (table_of key_eq a.recency) kind key) → KeepsBut gone setup xs a.registry a.recency → Keeps setup xs b
 keeps-removed setup xs gone a b storage rules cells notes kept = record {
-  bounds = λ name. ap (λ s. bounds_for s.bounds name) storage ∙ kept.bounds name;
+  bounds = λ unit name. ap (λ s. bounds_in s.bounds unit name) storage ∙ kept.bounds unit name;
   rules = rules ∙ kept.rules;
   cells = λ s. cells s ∙ kept.cells s;
   checks = λ checks. ap (λ t. table_answers key_eq setup.rules t checks) (λ i kind key. notes kind key i) ∙ kept.checks checks;
@@ -168,17 +171,34 @@ abbrev pub Done : Type 0
 Done = Result (Unit {0}) Error
 
 -- after an update, whatever it was answered
-pub update-after : (setup : Setup) (log : Log) (a b : Exporter) (key : KeyParts) (u : Update) (r : Done)
-    → OnOk r (UpdatesCells (empty_for a.registry key.name) (series_of key u) u (cells_of a.registry) (cells_of b.registry))
+pub update-after : (setup : Setup) (log : Log) (a b : Exporter) (unit : Option Measure) (key : KeyParts) (u : Update) (r : Done)
+    → OnOk r (UpdatesCells (empty_in a.registry unit key.name) (series_of key u) u (cells_of a.registry) (cells_of b.registry))
     → IfErr r (λ e. RefusesUpdate (cells_of a.registry (series_of key u)) e × (b.registry ≡ a.registry))
-    → b.registry.storage ≡ a.registry.storage → b.recency ≡ a.recency → IsAfter setup log a → IsAfter setup (log ++ updates key u r ∷ []) b
-update-after setup log a b key u (Ok done) changed refused storage recency after =
+    → b.registry.storage ≡ a.registry.storage → b.recency ≡ a.recency → IsAfter setup log a → IsAfter setup (log ++ updates_in unit key u r ∷ []) b
+update-after setup log a b unit key u (Ok done) changed refused storage recency after =
     let P : List Step → Type 0 = λ xs. Keeps setup xs b in
-    subst P (sym (steps-push log (updates key u (Ok done)))) (keeps-updated setup (steps log) a b key u storage recency changed after)
-update-after setup log a b key u (Err e) changed refused storage recency after =
+    subst P (sym (steps-push log (updates_in unit key u (Ok done)))) (keeps-updated setup (steps log) a b unit key u storage recency changed after)
+update-after setup log a b unit key u (Err e) changed refused storage recency after =
     let P : List Step → Type 0 = λ xs. Keeps setup xs b in
-    subst P (sym (steps-push log (updates key u (Err e)) ∙ append-nil (steps log)))
+    subst P (sym (steps-push log (updates_in unit key u (Err e)) ∙ append-nil (steps log)))
     (keeps-same setup (steps log) a b refused.1 (ap rules_of recency) (λ kind q. ap (λ n. table_of key_eq n kind q) recency) after)
+
+-- the unit of a name's description matters to histograms alone
+pub new-told : (legend : Legend) (r : SeriesRegistry) (key : KeyParts) (u : Update)
+    → new_cell (empty_in r (legend Histogram key.name).unit key.name) (kind_of u) ≡ new_cell (empty_in r (unit_told legend key u) key.name) (kind_of u)
+new-told legend r key (Increment n) = refl
+new-told legend r key (Absolute n) = refl
+new-told legend r key (Add n) = refl
+new-told legend r key (Subtract n) = refl
+new-told legend r key (Set n) = refl
+new-told legend r key (Record n) = refl
+
+pub updates-told : (legend : Legend) (r : SeriesRegistry) (key : KeyParts) (u : Update) (old new : Cells) (result : Done)
+    → OnOk result (UpdatesCells (empty_in r (legend Histogram key.name).unit key.name) (series_of key u) u old new)
+    → OnOk result (UpdatesCells (empty_in r (unit_told legend key u) key.name) (series_of key u) u old new)
+updates-told legend r key u old new (Err e) h = h
+updates-told legend r key u old new (Ok done) h = λ t.
+    h t ∙ ap (λ fresh. cond (series_key_eq (series_of key u) t) (Some (cell_with u (or_new fresh (old (series_of key u))))) (old t)) (new-told legend r key u)
 
 -- an update fails as full exactly if a sample finds no room
 pub update-full : (setup : Setup) (log : Log) (a : Exporter) (key : KeyParts) (u : Update) (r : Done) (P : Error → Type 0)

@@ -143,22 +143,31 @@ module _ {K : Type 0} (R : K → K → Ordering) (total : IsTotalOrder R) (exact
         );
       }
 
--- of series that are held there is a first one in order
-pub have-first : IsTotalOrder series_key_cmp → ((a b : SeriesKey) → series_key_eq a b ≡ eq_by_cmp series_key_cmp a b) → (cells : Cells) (n : ℕ) → IsHeldNumber cells n → 0 < n → HaveFirst cells
-have-first total ties cells n held some =
-    let order = in-order series_key_cmp total exact held.keys in
-    from order.keys order.ascending order.same
+-- the held series have an order
+pub some-order : IsTotalOrder series_key_cmp → ((a b : SeriesKey) → series_key_eq a b ≡ eq_by_cmp series_key_cmp a b) → (cells : Cells) (n : ℕ) → IsHeldNumber cells n → (keys : List SeriesKey) × AreSeries cells keys
+some-order total ties cells n held =
+    let order = in-order series_key_cmp total exact held.keys in (
+      order.keys,
+      record {
+        ascending = order.ascending;
+        held = λ s. (λ c. (held.held s).0 ((order.same s).0 c), λ h. (order.same s).1 ((held.held s).1 h));
+      },
+    )
   where
     exact : (a b : SeriesKey) → series_key_cmp a b ≡ Equal → a ≡ b
     exact a b e = key_exact a b (ties a b ∙ ap is_eq e)
 
+-- of series that are held there is a first one in order
+pub have-first : IsTotalOrder series_key_cmp → ((a b : SeriesKey) → series_key_eq a b ≡ eq_by_cmp series_key_cmp a b) → (cells : Cells) (n : ℕ) → IsHeldNumber cells n → 0 < n → HaveFirst cells
+have-first total ties cells n held some = let order = some-order total ties cells n held in from order.0 order.1
+  where
     none : (ks : List SeriesKey) → 0 < length ks → ((s : SeriesKey) → Contains ks s → Contains [] s) → ⊥
     none [] small to = absurd (omega (arith, small))
     none (k ∷ ks) small to = absurd (let c = to k (zero, omega arith, refl) in omega (arith, c.1))
 
-    from : (ks : List SeriesKey) → IsStrictlySortedBy series_key_cmp ks → ((s : SeriesKey) → Contains ks s ↔ Contains held.keys s) → HaveFirst cells
-    from [] up same = absurd (none held.keys (omega (arith, some, held.number)) (λ s. (same s).1))
-    from (k ∷ ks) up same = (k, ks, record { ascending = up; held = λ s. (λ c. (held.held s).0 ((same s).0 c), λ h. (same s).1 ((held.held s).1 h)) })
+    from : (ks : List SeriesKey) → AreSeries cells ks → HaveFirst cells
+    from [] series = absurd (none held.keys (omega (arith, some, held.number)) (λ s c. (series.held s).1 ((held.held s).0 c)))
+    from (k ∷ ks) series = (k, ks, series)
 
 -- no series is held
 pub none-held : (cells : Cells) (n : ℕ) → IsHeldNumber cells n → n ≡ 0 → AreSeries cells []

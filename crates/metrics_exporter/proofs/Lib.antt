@@ -1,3 +1,4 @@
+pub mod PresenceLemmas
 pub mod GatheringLemmas
 pub mod WalkLemmas
 pub mod SortedLemmas
@@ -11,6 +12,7 @@ pub mod KeptLemmas
 pub mod AbsorbLemmas
 pub mod ExpiryLemmas
 pub mod LawLemmas
+pub mod UnwatchedLemmas
 pub mod ReadingsLemmas
 pub mod SeenLemmas
 pub mod DescriptionsLemmas

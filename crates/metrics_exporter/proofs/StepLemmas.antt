@@ -1,15 +1,16 @@
 -- One more step of what the calls of an exporter mean.
-use Rattle.std.proofs.Common.{◌≡◌, ℕ, ◌+◌, ◌*◌, ◌/◌, ◌%◌, ◌^◌, Bool, true, false, cond, not, List, [], ◌∷◌, ◌++◌, map, length, None, Some, refl, ap, sym, ◌∙◌, arith, append-nil}
+use Rattle.std.proofs.Common.{◌≡◌, ℕ, ◌+◌, ◌*◌, ◌/◌, ◌%◌, ◌^◌, Bool, true, false, cond, not, List, [], ◌∷◌, ◌++◌, map, length, Option, None, Some, refl, ap, sym, ◌∙◌, arith, append-nil}
 use Rattle.std.specs.Prelude.{ℤ, pos, ◌+ℤ◌, ◌&&◌, ◌||◌, int_le}
 use Rattle.std.specs.List.{filter_map, list_any}
 use Rattle.std.proofs.lemmas.Int.{ints}
-use Rattle.std.proofs.lemmas.List.{length_push, map-id}
+use Rattle.std.proofs.lemmas.List.{length_push, map-id, map-append}
 use Rattle.std.proofs.lemmas.List.Elements.{filter_map-append}
 use Rattle.std.proofs.lemmas.List.Folds.{list_any-append}
 use Rattle.std.proofs.Math.Nat.{mod-add-div, add-mul-mod_self_left}
 use Rattle.std.proofs.lemmas.List.Sums.{sum_by-append, fold-append}
 use Rattle.metrics_names.specs.declared.kind.MetricKind.{MetricKind}
 use Rattle.metrics_names.specs.declared.kind.MetricKind.TheVariants.{Counter, Gauge, Histogram}
+use Rattle.metrics_names.specs.declared.common.Unit.{Unit as Measure}
 use Rattle.metrics_names.specs.Names.{KeyParts, SeriesKey, series_key_eq}
 use Rattle.metrics_names.specs.Equality.{key_exact}
 use Rattle.metrics.specs.declared.debugging.DebugValue.{DebugValue}
@@ -19,7 +20,7 @@ use Rattle.metrics.specs.declared.handles.Update.TheVariants.{Increment, Absolut
 use Rattle.metrics.specs.Book.{kind_of, new_value, value_from, updated as with_update}
 use Rattle.metrics_storage.specs.Histogram.{Distribution, no_samples, with_samples, bucket_with, at_most}
 use Rattle.metrics_registry.specs.Idleness.{Answered}
-use Rattle.metrics_exporter.specs.Exporting.{Step, updated, checked, series_of, series_checked, removes, after_removal, update_of, since, Reading, samples, reading, Cell, cell_of, cells_after, Setup, check_in, checks_in}
+use Rattle.metrics_exporter.specs.Exporting.{Step, updated_in, checked, series_of, series_checked, removes, after_removal, UpdateIn, update_of, since_in, since, updates_alone, first_unit, Reading, samples, reading, Cell, cell_of, cells_after, Setup, check_in, checks_in}
 use Rattle.metrics_exporter.specs.Stepping.{reading_with, cell_with, new_reading, new_cell, or_new}
 
 -- ---- the updates of a series
@@ -38,25 +39,44 @@ after-push s (y ∷ xs) x =
     go false false true = refl
     go false false false = refl
 
-pub since-updated : (xs : List Step) (key : KeyParts) (u : Update) (t : SeriesKey) → since (xs ++ updated key u ∷ []) t ≡ cond (series_key_eq (series_of key u) t) (since xs t ++ u ∷ []) (since xs t)
-since-updated xs key u t =
-    ap (filter_map (update_of t)) (after-push t xs (updated key u))
-    ∙ (filter_map-append (update_of t) (after_removal t xs) (updated key u ∷ []) ∙ go (since xs t) (series_key_eq (series_of key u) t))
+pub since_in-updated : (xs : List Step) (unit : Option Measure) (key : KeyParts) (u : Update) (t : SeriesKey)
+    → since_in (xs ++ updated_in unit key u ∷ []) t ≡ cond (series_key_eq (series_of key u) t) (since_in xs t ++ (unit, u) ∷ []) (since_in xs t)
+since_in-updated xs unit key u t =
+    ap (filter_map (update_of t)) (after-push t xs (updated_in unit key u))
+    ∙ (filter_map-append (update_of t) (after_removal t xs) (updated_in unit key u ∷ []) ∙ go (since_in xs t) (series_key_eq (series_of key u) t))
   where
-    go : (l : List Update) (b : Bool) → l ++ filter_map (λ (_ : Step). cond b (Some u) None) (updated key u ∷ []) ≡ cond b (l ++ u ∷ []) l
+    go : (l : List UpdateIn) (b : Bool) → l ++ filter_map (λ (_ : Step). cond b (Some (unit, u)) None) (updated_in unit key u ∷ []) ≡ cond b (l ++ (unit, u) ∷ []) l
     go l true = refl
     go l false = append-nil l
 
-pub since-checked : (xs : List Step) (a : Answered KeyParts) (t : SeriesKey) → since (xs ++ checked a ∷ []) t ≡ cond (removes t (checked a)) [] (since xs t)
-since-checked xs a t =
+pub since_in-checked : (xs : List Step) (a : Answered KeyParts) (t : SeriesKey) → since_in (xs ++ checked a ∷ []) t ≡ cond (removes t (checked a)) [] (since_in xs t)
+since_in-checked xs a t =
     ap (filter_map (update_of t)) (after-push t xs (checked a))
-    ∙ elim (removes t (checked a)) as (λ b. filter_map (update_of t) (cond b [] (after_removal t xs ++ checked a ∷ [])) ≡ cond b [] (since xs t)) [
+    ∙ elim (removes t (checked a)) as (λ b. filter_map (update_of t) (cond b [] (after_removal t xs ++ checked a ∷ [])) ≡ cond b [] (since_in xs t)) [
       | true ↦ refl
-      | false ↦ filter_map-append (update_of t) (after_removal t xs) (checked a ∷ []) ∙ append-nil (since xs t)
+      | false ↦ filter_map-append (update_of t) (after_removal t xs) (checked a ∷ []) ∙ append-nil (since_in xs t)
     ]
 
-pub checks-updated : (xs : List Step) (key : KeyParts) (u : Update) → checks_in (xs ++ updated key u ∷ []) ≡ checks_in xs
-checks-updated xs key u = filter_map-append check_in xs (updated key u ∷ []) ∙ append-nil (checks_in xs)
+alone-push : (us : List UpdateIn) (unit : Option Measure) (u : Update) → updates_alone (us ++ (unit, u) ∷ []) ≡ updates_alone us ++ u ∷ []
+alone-push us unit u = map-append (λ v. v.1) us ((unit, u) ∷ [])
+
+pub since-updated : (xs : List Step) (unit : Option Measure) (key : KeyParts) (u : Update) (t : SeriesKey)
+    → since (xs ++ updated_in unit key u ∷ []) t ≡ cond (series_key_eq (series_of key u) t) (since xs t ++ u ∷ []) (since xs t)
+since-updated xs unit key u t = ap updates_alone (since_in-updated xs unit key u t) ∙ go (series_key_eq (series_of key u) t)
+  where
+    go : (b : Bool) → updates_alone (cond b (since_in xs t ++ (unit, u) ∷ []) (since_in xs t)) ≡ cond b (since xs t ++ u ∷ []) (since xs t)
+    go true = alone-push (since_in xs t) unit u
+    go false = refl
+
+pub since-checked : (xs : List Step) (a : Answered KeyParts) (t : SeriesKey) → since (xs ++ checked a ∷ []) t ≡ cond (removes t (checked a)) [] (since xs t)
+since-checked xs a t = ap updates_alone (since_in-checked xs a t) ∙ go (removes t (checked a))
+  where
+    go : (b : Bool) → updates_alone (cond b [] (since_in xs t)) ≡ cond b [] (since xs t)
+    go true = refl
+    go false = refl
+
+pub checks-updated : (xs : List Step) (unit : Option Measure) (key : KeyParts) (u : Update) → checks_in (xs ++ updated_in unit key u ∷ []) ≡ checks_in xs
+checks-updated xs unit key u = filter_map-append check_in xs (updated_in unit key u ∷ []) ∙ append-nil (checks_in xs)
 
 pub checks-checked : (xs : List Step) (a : Answered KeyParts) → checks_in (xs ++ checked a ∷ []) ≡ checks_in xs ++ a ∷ []
 checks-checked xs a = filter_map-append check_in xs (checked a ∷ [])
@@ -143,26 +163,38 @@ cell-push bounds s (v ∷ us) u =
 
 -- ---- all cells
 
+-- the cell of a series after these updates
+abbrev pub cell_from : Setup → SeriesKey → List UpdateIn → Option Cell
+cell_from setup s us = cell_of (setup.bounds (first_unit us) s.key.name) s (updates_alone us)
+
+-- one more update changes the cell, or makes it in its unit
+cell-from-push : (setup : Setup) (s : SeriesKey) (us : List UpdateIn) (unit : Option Measure) (u : Update)
+    → cell_from setup s (us ++ (unit, u) ∷ []) ≡ Some (cell_with u (or_new (new_cell (no_samples (setup.bounds unit s.key.name)) s.kind) (cell_from setup s us)))
+cell-from-push setup s [] unit u = cell-push (setup.bounds unit s.key.name) s [] u
+cell-from-push setup s (v ∷ us) unit u =
+    let bounds = setup.bounds v.0 s.key.name in
+    ap (cell_of bounds s) (alone-push (v ∷ us) unit u) ∙ cell-push bounds s (updates_alone (v ∷ us)) u
+
 -- an update changes the cell of its series, and no other
-pub cells-updated : (setup : Setup) (xs : List Step) (key : KeyParts) (u : Update) (t : SeriesKey) →
-    cells_after setup (xs ++ updated key u ∷ []) t
-    ≡ cond (series_key_eq (series_of key u) t) (Some (cell_with u (or_new (new_cell (no_samples (setup.bounds key.name)) (kind_of u)) (cells_after setup xs (series_of key u))))) (cells_after setup xs t)
-cells-updated setup xs key u t =
-    ap (cell_of (setup.bounds t.key.name) t) (since-updated xs key u t) ∙ go (series_key_eq (series_of key u) t) refl
+pub cells-updated : (setup : Setup) (xs : List Step) (unit : Option Measure) (key : KeyParts) (u : Update) (t : SeriesKey) →
+    cells_after setup (xs ++ updated_in unit key u ∷ []) t
+    ≡ cond (series_key_eq (series_of key u) t) (Some (cell_with u (or_new (new_cell (no_samples (setup.bounds unit key.name)) (kind_of u)) (cells_after setup xs (series_of key u))))) (cells_after setup xs t)
+cells-updated setup xs unit key u t =
+    ap (cell_from setup t) (since_in-updated xs unit key u t) ∙ go (series_key_eq (series_of key u) t) refl
   where
-    go : (b : Bool) → series_key_eq (series_of key u) t ≡ b → cell_of (setup.bounds t.key.name) t (cond b (since xs t ++ u ∷ []) (since xs t))
-        ≡ cond b (Some (cell_with u (or_new (new_cell (no_samples (setup.bounds key.name)) (kind_of u)) (cells_after setup xs (series_of key u))))) (cells_after setup xs t)
+    go : (b : Bool) → series_key_eq (series_of key u) t ≡ b → cell_from setup t (cond b (since_in xs t ++ (unit, u) ∷ []) (since_in xs t))
+        ≡ cond b (Some (cell_with u (or_new (new_cell (no_samples (setup.bounds unit key.name)) (kind_of u)) (cells_after setup xs (series_of key u))))) (cells_after setup xs t)
     go false e = refl
     go true e =
-        ap (λ r. cell_of (setup.bounds r.key.name) r (since xs r ++ u ∷ [])) (sym (key_exact (series_of key u) t e))
-        ∙ cell-push (setup.bounds key.name) (series_of key u) (since xs (series_of key u)) u
+        ap (λ r. cell_from setup r (since_in xs r ++ (unit, u) ∷ [])) (sym (key_exact (series_of key u) t e))
+        ∙ cell-from-push setup (series_of key u) (since_in xs (series_of key u)) unit u
 
 -- a check whose result is false empties the cell of its series, and no check changes another
 pub cells-checked : (setup : Setup) (xs : List Step) (a : Answered KeyParts) (t : SeriesKey) →
     cells_after setup (xs ++ checked a ∷ []) t ≡ cond (not a.answer && series_key_eq (series_checked a) t) None (cells_after setup xs t)
-cells-checked setup xs a t = ap (cell_of (setup.bounds t.key.name) t) (since-checked xs a t) ∙ go (series_key_eq (series_checked a) t) a.answer
+cells-checked setup xs a t = ap (cell_from setup t) (since_in-checked xs a t) ∙ go (series_key_eq (series_checked a) t) a.answer
   where
-    go : (b c : Bool) → cell_of (setup.bounds t.key.name) t (cond (b && not c) [] (since xs t)) ≡ cond (not c && b) None (cells_after setup xs t)
+    go : (b c : Bool) → cell_from setup t (cond (b && not c) [] (since_in xs t)) ≡ cond (not c && b) None (cells_after setup xs t)
     go true true = refl
     go true false = refl
     go false true = refl

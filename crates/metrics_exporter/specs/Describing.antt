@@ -3,11 +3,15 @@ use Rattle.std.specs.Prelude.{if◌then◌else◌, ◌≡◌, ◌&&◌, ℕ, Lis
 use Rattle.metrics_names.specs.declared.common.Unit.{Unit as Measure}
 use Rattle.indexmap.specs.IndexMap.{get_by_text}
 use Rattle.metrics_names.specs.declared.kind.MetricKind.{MetricKind}
-use Rattle.metrics_names.specs.Names.{SeriesKey, kind_eq}
-use Rattle.metrics.specs.Book.{Description, no_description, described_again, RowParts}
+use Rattle.metrics_names.specs.Names.{KeyParts, SeriesKey, kind_eq}
+use Rattle.metrics_names.specs.declared.kind.MetricKind.TheVariants.{Histogram}
+use Rattle.metrics.specs.declared.handles.Update.{Update}
+use Rattle.metrics.specs.Book.{Description, no_description, described_again, RowParts, kind_of}
 use Rattle.metrics.specs.Kinds.{of_kind}
 use Rattle.metrics_exporter.specs.declared.descriptions.Described.{Described}
 use Rattle.metrics_exporter.specs.declared.descriptions.Descriptions.{Descriptions}
+use Rattle.metrics_exporter.specs.declared.cells.UnitSource.{UnitSource}
+use Rattle.metrics_exporter.specs.declared.cells.UnitSource.TheVariants.{Given, Described as DescribedBy}
 
 abbrev pub description_of : Option Described → Description
 description_of None = no_description
@@ -21,6 +25,10 @@ described_by ds kind name = description_of (get_by_text (of_kind kind ds.names) 
 abbrev pub Legend : Type 0
 Legend = MetricKind → List ℕ → Description
 
+-- the unit that the name of an update's series is described in, if any
+abbrev pub unit_told : Legend → KeyParts → Update → Option Measure
+unit_told legend key by = (legend (kind_of by) key.name).unit
+
 -- nothing was described
 abbrev pub no_legend : Legend
 no_legend kind name = no_description
@@ -31,6 +39,11 @@ legend_described kind name unit text keyed k n = if kind_eq kind k && bytes_eq n
 
 abbrev pub DescribesName : MetricKind → List ℕ → Option Measure → List ℕ → Legend → Legend → Type 0
 DescribesName kind name unit text old new = (k : MetricKind) (n : List ℕ) → new k n ≡ legend_described kind name unit text old k n
+
+-- the unit of a new histogram of a key, if any
+abbrev pub unit_from : UnitSource → KeyParts → Option Measure
+unit_from (Given unit) key = unit
+unit_from (DescribedBy descriptions) key = (described_by descriptions.now Histogram key.name).unit
 
 -- ---- the rows of a snapshot
 

@@ -16,7 +16,7 @@ abbrev pub lat : KeyParts
 lat = record { name = codes "lat"; labels = [] }
 
 abbrev pub counters_for_five : Setup
-counters_for_five = record { bounds = λ name. pos 10 ∷ pos 25 ∷ []; rules = record { timeout = Some 5; mask = kind_eq Counter } }
+counters_for_five = record { bounds = λ unit name. pos 10 ∷ pos 25 ∷ []; rules = record { timeout = Some 5; mask = kind_eq Counter } }
 
 -- the series in composite key order
 abbrev pub counted : SeriesKey

@@ -2,6 +2,7 @@
 use Rattle.std.specs.Prelude.{if◌then◌else◌, ◌≡◌, ◌↔◌, ℕ, ◌+◌, ◌≤◌, ◌%◌, ◌^◌, ℤ, Bool, true, false, not, ◌&&◌, List, [], ◌∷◌, ◌++◌, map, length, reverse, Option, None, Some, IsSome, Result, Ok, Err, Contains}
 use Rattle.std.specs.List.{flat_map, filter_map, list_any, count_by, IsDistinct}
 use Rattle.std.specs.List.Sorted.{IsStrictlySortedBy}
+use Rattle.metrics_names.specs.declared.common.Unit.{Unit as Measure}
 use Rattle.metrics_names.specs.Names.{KeyParts, SeriesKey, key_eq, series_key_eq, series_key_cmp}
 use Rattle.metrics.specs.declared.error.Error.{Error}
 use Rattle.metrics.specs.declared.error.Error.TheVariants.{Memory}
@@ -14,18 +15,23 @@ use Rattle.metrics_storage.specs.Histogram.{Distribution, no_samples, with_sampl
 use Rattle.metrics_registry.specs.Recency.{Rules, Check}
 use Rattle.metrics_registry.specs.Idleness.{Answered, run_answers}
 
--- what an exporter was made with: the bounds of a histogram by its name, and when a series is idle
+-- what an exporter was made with: the bounds of a histogram by the unit that it is made in, if any, and by its name; and when
+-- a series is idle
 pub record Setup : Type 0 where
-  pub bounds : List ℕ → List ℤ
+  pub bounds : Option Measure → List ℕ → List ℤ
   pub rules : Rules
 
 -- ---- the calls
 
--- a call that may change the exporter: an update with its answer, or an expiry with its moment, its checks in order, each
--- with its result, and its answer
+-- a call that may change the exporter: an update with its unit, if any, and its answer, or an expiry with its moment, its
+-- checks in order, each with its result, and its answer
 pub data Event : Type 0 where
-  updates : KeyParts → Update → Result (Unit {0}) Error → Event
+  updates_in : Option Measure → KeyParts → Update → Result (Unit {0}) Error → Event
   expires : ℕ → List (Answered KeyParts) → Result ℕ Error → Event
+
+-- an update without a unit
+abbrev pub updates : KeyParts → Update → Result (Unit {0}) Error → Event
+updates key u result = updates_in None key u result
 
 -- the calls in order
 abbrev pub Log : Type 0
@@ -33,12 +39,16 @@ Log = List Event
 
 -- what a call did: an update that was answered Ok, or a check
 pub data Step : Type 0 where
-  updated : KeyParts → Update → Step
+  updated_in : Option Measure → KeyParts → Update → Step
   checked : Answered KeyParts → Step
 
+-- an update without a unit
+abbrev pub updated : KeyParts → Update → Step
+updated key u = updated_in None key u
+
 abbrev pub steps_of : Event → List Step
-steps_of (updates key u (Ok done)) = updated key u ∷ []
-steps_of (updates key u (Err e)) = []
+steps_of (updates_in unit key u (Ok done)) = updated_in unit key u ∷ []
+steps_of (updates_in unit key u (Err e)) = []
 steps_of (expires now checks result) = map checked checks
 
 abbrev pub steps : Log → List Step
@@ -55,7 +65,7 @@ series_checked a = record { kind = a.check.kind; key = a.check.key }
 
 -- a check of the series answered false
 abbrev pub removes : SeriesKey → Step → Bool
-removes s (updated key u) = false
+removes s (updated_in unit key u) = false
 removes s (checked a) = series_key_eq (series_checked a) s && not a.answer
 
 -- the steps after the last check of the series that answered false
@@ -63,13 +73,32 @@ abbrev pub after_removal : SeriesKey → List Step → List Step
 after_removal s [] = []
 after_removal s (x ∷ xs) = if list_any (removes s) xs then after_removal s xs else if removes s x then xs else x ∷ xs
 
-abbrev pub update_of : SeriesKey → Step → Option Update
-update_of s (updated key u) = if series_key_eq (series_of key u) s then Some u else None
+-- an update with its unit, if any
+abbrev pub UpdateIn : Type 0
+UpdateIn = Option Measure × Update
+
+abbrev pub update_of : SeriesKey → Step → Option UpdateIn
+update_of s (updated_in unit key u) = if series_key_eq (series_of key u) s then Some (unit, u) else None
 update_of s (checked a) = None
 
--- the updates of a series that were answered Ok after its last check with result false
+-- the updates of a series that were answered Ok after its last check with result false, each with its unit
+abbrev pub since_in : List Step → SeriesKey → List UpdateIn
+since_in xs s = filter_map (update_of s) (after_removal s xs)
+
+abbrev pub updates_alone : List UpdateIn → List Update
+updates_alone us = map (λ u. u.1) us
+
+-- the same without units
 abbrev pub since : List Step → SeriesKey → List Update
-since xs s = filter_map (update_of s) (after_removal s xs)
+since xs s = updates_alone (since_in xs s)
+
+abbrev pub first_unit : List UpdateIn → Option Measure
+first_unit [] = None
+first_unit (u ∷ us) = u.0
+
+-- the unit of the first of them
+abbrev pub unit_since : List Step → SeriesKey → Option Measure
+unit_since xs s = first_unit (since_in xs s)
 
 -- ---- its value and generation
 
@@ -99,8 +128,9 @@ cell_of bounds s (u ∷ us) = Some (record { reading = reading bounds (value_fro
 abbrev pub Cells : Type 0
 Cells = SeriesKey → Option Cell
 
+-- samples are counted at the bounds of the unit of the first update, which made the cell
 abbrev pub cells_after : Setup → List Step → Cells
-cells_after setup xs s = cell_of (setup.bounds s.key.name) s (since xs s)
+cells_after setup xs s = cell_of (setup.bounds (unit_since xs s) s.key.name) s (since xs s)
 
 -- a sample that comes to a series would make its count pass 2^64 - 1
 abbrev pub IsFull : List Step → KeyParts → Update → Type 0
@@ -134,7 +164,7 @@ HaveFirst cells = (first : SeriesKey) × (rest : List SeriesKey) × AreSeries ce
 -- ---- an expiry
 
 abbrev pub check_in : Step → Option (Answered KeyParts)
-check_in (updated key u) = None
+check_in (updated_in unit key u) = None
 check_in (checked a) = Some a
 
 -- the checks of all expiries, in order

@@ -2,6 +2,7 @@
 use Rattle.std.specs.Prelude.{◌≡◌, List, Option, option_map, reverse, ℕ, ℤ}
 use Rattle.metrics_names.specs.declared.kind.MetricKind.TheVariants.{Counter, Gauge, Histogram}
 use Rattle.metrics_names.specs.declared.kind.MetricKind.{MetricKind}
+use Rattle.metrics_names.specs.declared.common.Unit.{Unit as Measure}
 use Rattle.metrics_names.specs.Names.{KeyParts, SeriesKey, key_eq}
 use Rattle.metrics_storage.specs.Histogram.{Distribution, no_samples}
 use Rattle.metrics_registry.specs.declared.generation.Counted.{Counted}
@@ -12,7 +13,7 @@ use Rattle.metrics_registry.specs.RecencyEntries.{rules_of, table_of}
 use Rattle.metrics_registry.specs.Idleness.{Answered, run_answers}
 use Rattle.metrics_exporter.specs.declared.cells.CountedCells.{CountedCells}
 use Rattle.metrics_exporter.specs.declared.exporter.Exporter.{Exporter}
-use Rattle.metrics_exporter.specs.Choice.{bounds_for}
+use Rattle.metrics_exporter.specs.Choice.{bounds_in}
 use Rattle.metrics_exporter.specs.Describing.{Legend, described_by}
 use Rattle.metrics_exporter.specs.Exporting.{Setup, Log, Step, steps, count, level, samples, Cell, Cells, cells_after, checks_in}
 use Rattle.metrics_exporter.specs.Gathering.{cell_in}
@@ -27,13 +28,13 @@ cells_at r Counter key = option_map (cell_in count) (held key_eq r.counters key)
 cells_at r Gauge key = option_map (cell_in level) (held key_eq r.gauges key)
 cells_at r Histogram key = option_map (cell_in samples) (held key_eq r.histograms key)
 
--- a histogram without samples at the bounds of a name
-abbrev pub empty_for : SeriesRegistry → List ℕ → Distribution
-empty_for r name = no_samples (bounds_for r.storage.bounds name)
+-- a histogram without samples at the bounds of a unit, if any, and of a name
+abbrev pub empty_in : SeriesRegistry → Option Measure → List ℕ → Distribution
+empty_in r unit name = no_samples (bounds_in r.storage.bounds unit name)
 
--- each name has the bounds that the setup says
+-- each unit and name has the bounds that the setup says
 abbrev pub HasBounds : SeriesRegistry → Setup → Type 0
-HasBounds r setup = (name : List ℕ) → bounds_for r.storage.bounds name ≡ setup.bounds name
+HasBounds r setup = (unit : Option Measure) (name : List ℕ) → bounds_in r.storage.bounds unit name ≡ setup.bounds unit name
 
 -- the cell of each series
 abbrev pub cells_of : SeriesRegistry → Cells

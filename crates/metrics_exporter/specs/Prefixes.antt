@@ -31,6 +31,6 @@ IsEmpty d = d ≡ no_samples (bounds_of d)
 abbrev pub ArePlaces : List (List ℕ × ℕ) → ℕ → Type 0
 ArePlaces pairs n = (prefix : List ℕ) (place : ℕ) → stored pairs prefix ≡ Some place → place < n
 
--- what is set for names are histograms without samples
-abbrev pub AreEmptyAt : (List ℕ → Option Distribution) → Type 0
-AreEmptyAt set = (name : List ℕ) (d : Distribution) → set name ≡ Some d → IsEmpty d
+-- what is set for names, or for units, are histograms without samples
+abbrev pub AreEmptyAt : {A : Type 0} → (A → Option Distribution) → Type 0
+AreEmptyAt {A} set = (a : A) (d : Distribution) → set a ≡ Some d → IsEmpty d

@@ -9,12 +9,13 @@ ghost use Rattle.metrics_registry.specs.Held.{held, CountersAlone, GaugesAlone, 
 ghost use Rattle.metrics_registry.specs.RecencyEntries.{rules_of, table_of, check_of};
 ghost use Rattle.metrics_exporter.specs.Exporting.{series_of};
 ghost use Rattle.metrics_exporter.specs.Gathering.{series_at, series_shown, cell_shown};
-ghost use Rattle.metrics_exporter.specs.Kept.{cells_of, empty_for, KeepsSetting};
+ghost use Rattle.metrics_exporter.specs.Kept.{cells_of, empty_in, KeepsSetting};
+ghost use Rattle.metrics_exporter.specs.Describing.{unit_from};
 ghost use Rattle.metrics_exporter.specs.Stepping.{count_with, level_with, counted_with, has_room, UpdatesEntry, UpdatesCells};
 ghost use Rattle.metrics_exporter.specs.Stepping.{TakesSample};
 ghost use Rattle.metrics_exporter.specs.Stepping.{TakesUpdate, RefusesUpdate, NotesOrAdds};
 
-use crate::cells::CountedCells;
+use crate::cells::{CountedCells, UnitSource};
 use crate::keys::SeriesRef;
 use metrics::{CompositeKey, Error, Key, MetricKind, Update};
 use metrics_registry::{Counted, OwnedRecency, OwnedRegistry};
@@ -92,11 +93,13 @@ fn update_gauge(
 /// Adds a sample to the cell of a key.
 fn record(
     registry: &mut OwnedRegistry<Key, CountedCells>,
+    source: &UnitSource<'_>,
     key: &Key,
     sample: i64,
 ) -> Result<(), Error>
-    ensures ok { OnOk result (UpdatesEntry (with_samples
-        (sample ∷ [])) (empty_for registry.old key.now.name) key.now registry.old.histograms registry.new.histograms) }
+    ensures ok { OnOk result (UpdatesEntry (with_samples (sample ∷ []))
+        (empty_in registry.old (unit_from source.now key.now) key.now.name)
+        key.now registry.old.histograms registry.new.histograms) }
     ensures room { OnOk result (has_room (held key_eq registry.old.histograms key.now) ≡ true) }
     ensures err { IfErr result (λ e.
         (e ≡ (if has_room (held key_eq registry.old.histograms key.now) then OutOfMemory else CountFull))
@@ -105,7 +108,8 @@ fn record(
     ensures rest { HistogramsAlone registry.old registry.new }
 {
     let _shards = registry.shards();
-    registry.get_or_create_histogram(
+    registry.get_or_make_histogram(
+        source,
         key,
         |cell: &mut Counted<Histogram>| -> Result<(), Error>
             ensures { TakesSample sample cell.old result cell.new }
@@ -121,14 +125,15 @@ fn record(
     )?
 }
 
-/// Updates the cell of a key, and makes it if there is none.
+/// Updates the cell of a key, and makes it if there is none, a histogram in the unit of the source.
 pub(crate) fn update_cells(
     registry: &mut OwnedRegistry<Key, CountedCells>,
+    source: &UnitSource<'_>,
     key: &Key,
     by: Update,
 ) -> Result<(), Error>
-    ensures ok { OnOk result (UpdatesCells (empty_for registry.old key.now.name) (series_of key.now by) by
-        (cells_of registry.old) (cells_of registry.new)) }
+    ensures ok { OnOk result (UpdatesCells (empty_in registry.old (unit_from source.now key.now) key.now.name)
+        (series_of key.now by) by (cells_of registry.old) (cells_of registry.new)) }
     ensures room { OnOk result (TakesUpdate (cells_of registry.old (series_of key.now by))) }
     ensures err { IfErr result (λ e. RefusesUpdate (cells_of registry.old (series_of key.now by)) e
         × (registry.new ≡ registry.old)) }
@@ -138,7 +143,7 @@ pub(crate) fn update_cells(
     match by {
         Update::Increment(_) | Update::Absolute(_) => update_counter(registry, key, by),
         Update::Add(_) | Update::Subtract(_) | Update::Set(_) => update_gauge(registry, key, by),
-        Update::Record(sample) => record(registry, key, sample),
+        Update::Record(sample) => record(registry, source, key, sample),
     }
 }
 

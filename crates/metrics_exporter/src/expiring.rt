@@ -7,12 +7,13 @@ ghost use Rattle.metrics_exporter.specs.Kept.{KeepsBut};
 
 use crate::cells::CountedCells;
 use crate::changes::check_series;
-use crate::keys::sorted_series;
+use crate::keys::{key_order, sorted_series};
 use metrics::{CompositeKey, Error, Key};
 use metrics_registry::{OwnedRecency, OwnedRegistry};
 use std::alloc::Global;
 
-/// Checks every series that is held, in composite key order, and finds those that are idle. Returns how many.
+/// Checks every series that is held, in composite key order, and finds those that are idle. Returns how many. Without a timeout
+/// no check finds one or notes anything, so it looks at none.
 pub(crate) fn check_all(
     alloc: Global,
     registry: &OwnedRegistry<Key, CountedCells>,
@@ -25,6 +26,11 @@ pub(crate) fn check_all(
         (checks : List (Answered KeyParts)) × IsExpiry setup xs now checks result
         × KeepsBut idle.new.items setup (xs ++ map checked checks) registry.now recency.new }
 {
+    if !recency.has_timeout() {
+        key_order();
+        let _shards = registry.shards();
+        return Ok(0);
+    }
     let held = sorted_series(alloc, registry)?;
     for series in &held {
         check_series(recency, series, now, idle)?;

@@ -1,26 +1,28 @@
 //! An exporter of series as text.
-ghost use Rattle.std.specs.Prelude.{◌≡◌, ◌↔◌, ◌+◌, ◌<◌, ◌++◌, ◌∷◌, ℕ, List};
+ghost use Rattle.std.specs.Prelude.{◌≡◌, ◌↔◌, ◌+◌, ◌<◌, ◌++◌, ◌∷◌, ℕ, List, Option as Maybe};
 ghost use Rattle.std.specs.Prelude.{[], true, length, if◌then◌else◌, string_bytes, Ok, Err, None, IfOk, IfErr, OnOk};
-ghost use Rattle.std.specs.Prelude.{MatchResult, OnErr, ◌⊎◌, nat_lt, min};
+ghost use Rattle.std.specs.Prelude.{MatchResult, OnErr, ◌⊎◌, nat_lt, min, is_some};
 ghost use Rattle.metrics.specs.declared.error.Error.TheVariants.{Memory as OutOfMemory, BadShards as NotShards};
 ghost use Rattle.metrics.specs.declared.error.Error.TheVariants.{NoBounds as WithoutBounds, CountFull as Full};
 ghost use Rattle.metrics.specs.Layers.{mask_has};
+ghost use Rattle.metrics_names.specs.declared.common.Unit.{Unit as Measure};
 ghost use Rattle.metrics_names.specs.Names.{KeyParts};
 ghost use Rattle.metrics_registry.specs.Held.{is_shard_count as is_count};
 ghost use Rattle.metrics_registry.specs.Idleness.{Answered};
 ghost use Rattle.metrics_exporter.specs.Exporting.{Setup, Log, Step, updates, expires, steps, IsFull, IsExpiry, IsHeldNumber};
-ghost use Rattle.metrics_exporter.specs.Exporting.{cells_after, series_of, HoldsSome};
+ghost use Rattle.metrics_exporter.specs.Exporting.{updates_in, cells_after, series_of, HoldsSome};
+ghost use Rattle.metrics_exporter.specs.Gathering.{series_at};
 ghost use Rattle.metrics.specs.Book.{no_description};
-ghost use Rattle.metrics_exporter.specs.Describing.{DescribesName, described_by};
+ghost use Rattle.metrics_exporter.specs.Describing.{DescribesName, described_by, unit_told};
 ghost use Rattle.metrics_exporter.specs.ExporterText.{IsText};
 ghost use Rattle.metrics_exporter.specs.Readings.{AreReadings, keyed_readings};
 
 use crate::bounds::Bounds;
-use crate::cells::CountedCells;
+use crate::cells::{CountedCells, UnitSource};
 use crate::changes::{remove_series, update_cells};
 use crate::descriptions::Descriptions;
 use crate::expiring::check_all;
-use crate::keys::{held_number, sorted_series};
+use crate::keys::{held_number, is_held, sorted_series};
 use crate::lines::write_series;
 use crate::readings::{SeriesReading, readings_of};
 use metrics::{CompositeKey, Error, Key, MetricKind, MetricKindMask, Unit, Update};
@@ -38,7 +40,7 @@ pub struct Exporter {
 
 impl Exporter {
     ghost use Rattle.metrics_exporter.specs.Kept.{IsAfter, Keeps, KeepsBut, held_cells, described};
-    ghost use Rattle.metrics_exporter.specs.Choice.{bounds_for};
+    ghost use Rattle.metrics_exporter.specs.Choice.{bounds_in};
 
     /// Makes an exporter without series. Its registry has so many shards, a power of two from 1 to 1,024. Its histograms count
     /// at the bounds, of which there has to be one.
@@ -53,7 +55,7 @@ impl Exporter {
         bounds: &[i64],
     ) -> Result<Exporter, Error>
         ensures ok { IfOk result (IsAfter (record {
-          bounds = λ name. bounds.now;
+          bounds = λ unit name. bounds.now;
           rules = record { timeout = idle_timeout; mask = λ kind. mask_has kind mask };
         }) []) }
         ensures shards { IfOk result (λ e. e.registry.count ≡ shards) }
@@ -69,7 +71,7 @@ impl Exporter {
         Exporter::with_bounds(alloc, shards, mask, idle_timeout, bounds)
     }
 
-    /// Makes an exporter as `new` does, whose histograms count at the bounds of the longest prefix of their names.
+    /// Makes an exporter as `new` does, whose histograms count at the bounds of their names and units.
     pub fn with_bounds(
         alloc: Global,
         shards: usize,
@@ -78,7 +80,7 @@ impl Exporter {
         bounds: Bounds,
     ) -> Result<Exporter, Error>
         ensures ok { IfOk result (IsAfter (record {
-          bounds = bounds_for bounds;
+          bounds = bounds_in bounds;
           rules = record { timeout = idle_timeout; mask = λ kind. mask_has kind mask };
         }) []) }
         ensures shards { IfOk result (λ e. e.registry.count ≡ shards) }
@@ -112,13 +114,54 @@ impl Exporter {
         ensures descriptions { described self.new ≡ described self.old }
         ensures err { IfErr result (λ e. ((e ≡ OutOfMemory) ⊎ (e ≡ Full)) × (self.new ≡ self.old)) }
     {
-        update_cells(&mut self.registry, key, by)
+        self.update_in(None, key, by)
+    }
+
+    /// Updates as `update` does. A histogram that it makes counts at the bounds of this unit, unless those of its name are
+    /// others. It keeps its bounds until `expire` removes it, whatever the units of later updates.
+    pub fn update_in(&mut self, unit: Option<Unit>, key: &Key, by: Update) -> Result<(), Error>
+        ensures calls { (setup : Setup) (log : Log) → IsAfter setup log self.old
+            → IsAfter setup (log ++ updates_in unit key.now by result ∷ []) self.new }
+        ensures full { (setup : Setup) (log : Log) → IsAfter setup log self.old
+            → (result ≡ Err Full) ↔ IsFull (steps log) key.now by }
+        ensures absent { (setup : Setup) (log : Log) → IsAfter setup log self.old → result ≡ Err OutOfMemory
+            → cells_after setup (steps log) (series_of key.now by) ≡ None }
+        ensures shards { self.new.registry.count ≡ self.old.registry.count }
+        ensures descriptions { described self.new ≡ described self.old }
+        ensures err { IfErr result (λ e. ((e ≡ OutOfMemory) ⊎ (e ≡ Full)) × (self.new ≡ self.old)) }
+    {
+        update_cells(&mut self.registry, &UnitSource::Given(unit), key, by)
+    }
+
+    /// Updates as `update_in` does, in the unit that the name has by its description, if any. It looks that up only where it
+    /// makes a histogram.
+    pub fn update_described(&mut self, key: &Key, by: Update) -> Result<(), Error>
+        ensures calls { (setup : Setup) (log : Log) → IsAfter setup log self.old
+            → IsAfter setup (log ++ updates_in (unit_told (described self.old) key.now by) key.now by result ∷ []) self.new }
+        ensures full { (setup : Setup) (log : Log) → IsAfter setup log self.old
+            → (result ≡ Err Full) ↔ IsFull (steps log) key.now by }
+        ensures absent { (setup : Setup) (log : Log) → IsAfter setup log self.old → result ≡ Err OutOfMemory
+            → cells_after setup (steps log) (series_of key.now by) ≡ None }
+        ensures shards { self.new.registry.count ≡ self.old.registry.count }
+        ensures descriptions { described self.new ≡ described self.old }
+        ensures err { IfErr result (λ e. ((e ≡ OutOfMemory) ⊎ (e ≡ Full)) × (self.new ≡ self.old)) }
+    {
+        let source = UnitSource::Described(&self.descriptions);
+        update_cells(&mut self.registry, &source, key, by)
+    }
+
+    /// Returns the bounds that its histograms are made at.
+    pub fn bounds(&self) -> &Bounds
+        ensures { (setup : Setup) (log : Log) → IsAfter setup log self.now
+            → (unit : Maybe Measure) (name : List ℕ) → bounds_in result.now unit name ≡ setup.bounds unit name }
+    {
+        self.registry.storage().bounds()
     }
 
     /// Checks every series that is held, in composite key order, and removes those that are idle. Returns how many.
     ///
     /// If it fails, the first n of these checks were made, and what they removed is gone. It never fails after the last check,
-    /// nor if no series is held.
+    /// nor if no series is held. Without a timeout it looks at no series.
     pub fn expire(&mut self, now: u64) -> Result<usize, Error>
         ensures expired { (setup : Setup) (log : Log) → IsAfter setup log self.old →
             (checks : List (Answered KeyParts)) × IsExpiry setup (steps log) now checks result
@@ -198,6 +241,14 @@ impl Exporter {
             write_series(&mut text, row)?;
         }
         Ok(text)
+    }
+
+    /// Returns whether a series of this kind and key is held.
+    pub fn holds(&self, kind: MetricKind, key: &Key) -> bool
+        ensures { (setup : Setup) (log : Log) → IsAfter setup log self.now
+            → result ≡ is_some (cells_after setup (steps log) (series_at kind key.now)) }
+    {
+        is_held(&self.registry, kind, key)
     }
 
     /// Returns the number of series that are held, which is the number of lines of `text`. It allocates nothing.

@@ -1,11 +1,11 @@
 //! The series that are held, by reference.
-ghost use Rattle.std.specs.Prelude.{◌≡◌, ◌++◌, ℕ, min, IfOk, MatchResult, IsPermutation};
+ghost use Rattle.std.specs.Prelude.{◌≡◌, ◌++◌, ℕ, min, is_some, IfOk, MatchResult, IsPermutation};
 ghost use Rattle.metrics_names.specs.Names.{SeriesKey, series_key_eq, series_key_cmp};
 ghost use Rattle.metrics_names.specs.declared.kind.MetricKind.TheVariants.{Counter as CounterKind, Gauge as GaugeKind};
 ghost use Rattle.metrics_names.specs.declared.kind.MetricKind.TheVariants.{Histogram as HistogramKind};
 ghost use Rattle.metrics.specs.declared.error.Error.TheVariants.{Memory as OutOfMemory};
 ghost use Rattle.metrics_exporter.specs.declared.keys.SeriesRef.{SeriesRef as Shown};
-ghost use Rattle.metrics_exporter.specs.Gathering.{all_seen, seen_in, series_shown, cell_shown, AreSeen};
+ghost use Rattle.metrics_exporter.specs.Gathering.{all_seen, seen_in, series_shown, series_at, cell_shown, AreSeen};
 ghost use Rattle.metrics_exporter.specs.Exporting.{count, level, samples, HaveFirst, IsHeldNumber};
 ghost use Rattle.metrics_exporter.specs.Kept.{cells_of};
 
@@ -64,15 +64,16 @@ fn gather<'a, C: KindCell>(
     Ok(series)
 }
 
-/// The series that are held, in the order of a walk over the shards.
-pub(crate) fn gathered_series<'a>(
+/// The series that are held, in the order of a walk over the shards. There are about so many.
+fn gathered_series<'a>(
     alloc: Global,
     registry: &'a OwnedRegistry<Key, CountedCells>,
+    number: usize,
 ) -> Result<Vec<SeriesRef<'a>>, AllocError>
     ensures { IfOk result (λ all. IsPermutation (all_seen all.items) (seen_in CounterKind count registry.now.counters
         ++ seen_in GaugeKind level registry.now.gauges ++ seen_in HistogramKind samples registry.now.histograms)) }
 {
-    let mut series = Vec::new(alloc);
+    let mut series = Vec::with_capacity(alloc, number)?;
     for shard in registry.shards() {
         series = gather(&shard.counters, series)?;
         series = gather(&shard.gauges, series)?;
@@ -97,13 +98,29 @@ pub(crate) fn sorted_series<'a>(
         (λ e. (e ≡ OutOfMemory) × HaveFirst (cells_of registry.now)) }
 {
     key_order();
-    if held_number(registry) == 0 {
+    let number = held_number(registry);
+    if number == 0 {
         return Ok(Vec::new(alloc));
     }
-    let mut series = gathered_series(alloc, registry)?;
+    let mut series = gathered_series(alloc, registry, number)?;
     let _shards = registry.shards();
     series.sort_unstable();
     Ok(series)
+}
+
+/// Whether a series of this kind and key is held.
+pub(crate) fn is_held(
+    registry: &OwnedRegistry<Key, CountedCells>,
+    kind: MetricKind,
+    key: &Key,
+) -> bool
+    ensures { result ≡ is_some (cells_of registry.now (series_at kind key.now)) }
+{
+    match kind {
+        MetricKind::Counter => registry.get_counter(key).is_some(),
+        MetricKind::Gauge => registry.get_gauge(key).is_some(),
+        MetricKind::Histogram => registry.get_histogram(key).is_some(),
+    }
 }
 
 /// The number of the series that are held, or the greatest `usize`.

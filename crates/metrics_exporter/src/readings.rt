@@ -59,15 +59,16 @@ fn gather<'a, C: KindCell>(
     Ok(keyed)
 }
 
-/// The held series with what they have, in the order of a walk over the shards.
+/// The held series with what they have, in the order of a walk over the shards. There are about so many.
 fn gathered<'a>(
     alloc: Global,
     registry: &'a OwnedRegistry<Key, CountedCells>,
+    number: usize,
 ) -> Result<Vec<SeriesReading<'a>>, AllocError>
     ensures { IfOk result (λ all. IsPermutation (keyed_readings all.items) (keyed_in CounterKind count registry.now.counters
         ++ keyed_in GaugeKind level registry.now.gauges ++ keyed_in HistogramKind samples registry.now.histograms)) }
 {
-    let mut keyed = Vec::new(alloc);
+    let mut keyed = Vec::with_capacity(alloc, number)?;
     for shard in registry.shards() {
         keyed = gather(&shard.counters, keyed)?;
         keyed = gather(&shard.gauges, keyed)?;
@@ -86,9 +87,10 @@ pub(crate) fn readings_of<'a>(
     ensures refused { OnErr result (HoldsSome (cells_of registry.now)) }
 {
     let _shards = registry.shards();
-    if held_number(registry) == 0 {
+    let number = held_number(registry);
+    if number == 0 {
         return Ok(Vec::new(alloc));
     }
-    let keyed = gathered(alloc, registry)?;
+    let keyed = gathered(alloc, registry, number)?;
     Ok(keyed)
 }

@@ -8,7 +8,7 @@ ghost use Rattle.metrics_registry.specs.Held.{MayCall, GetsOrCreates, is_shard_c
 
 use crate::cells::Cells;
 use crate::keys::{EqualClone, Hashable};
-use crate::storage::Storage;
+use crate::storage::{ByStorage, HistogramMaker, Storage};
 use metrics::Error;
 use std::alloc::Global;
 use std::hash::Hash;
@@ -114,10 +114,27 @@ where
         ensures rest { (self.new.counters ≡ self.old.counters) × (self.new.gauges ≡ self.old.gauges) }
         ensures once { OnOk result (IsDistinct K.eq (keys_of self.new.histograms)) }
     {
+        self.get_or_make_histogram(storage, &ByStorage, key, op)
+    }
+
+    /// Calls `op` once on the cell of a histogram, and returns its result. The maker makes the cell if the key isn't held.
+    ///
+    /// A call that fails changes nothing. A call for a held key never fails.
+    pub fn get_or_make_histogram<
+        V,
+        M: HistogramMaker<K, S>,
+        F: FnOnce(&mut S::Histogram) -> V + Drop,
+    >(&mut self, storage: &S, maker: &M, key: &K, op: F) -> Result<V, Error>
+        requires { MayCall K.eq (M.makes maker.now storage.now) (FnOnceTakesAtMut F.FnOnce op) key.now self.old.histograms }
+        ensures histograms { GetsOrCreates K.eq K.is_clone (M.makes maker.now storage.now) (FnOnceReturnsAtMut F.FnOnce op) ⊤
+            key.now result self.old.histograms self.new.histograms }
+        ensures rest { (self.new.counters ≡ self.old.counters) × (self.new.gauges ≡ self.old.gauges) }
+        ensures once { OnOk result (IsDistinct K.eq (keys_of self.new.histograms)) }
+    {
         match self.histograms.change(key, op) {
             Ok(answer) => Ok(answer),
             Err(op) => {
-                let cell = storage.histogram(key)?;
+                let cell = maker.make(storage, key)?;
                 self.histograms.create(key, cell, op)
             }
         }

@@ -22,4 +22,4 @@ pub use plain::PlainStorage;
 pub use quantile::{Quantile, parse_quantiles};
 pub use recency::OwnedRecency;
 pub use registry::OwnedRegistry;
-pub use storage::Storage;
+pub use storage::{HistogramMaker, Storage};

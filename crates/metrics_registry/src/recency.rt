@@ -234,6 +234,13 @@ impl<K: Hashable + EqualClone + Drop> OwnedRecency<K> {
     ghost use Rattle.metrics_registry.specs.Recency.{is_watched, table_answer, table_after};
     ghost use Rattle.metrics_registry.specs.RecencyEntries.{rules_of, table_of, check_of};
 
+    /// Returns whether a series may be idle at all: without a timeout none ever is.
+    pub fn has_timeout(&self) -> bool
+        ensures { result ≡ is_some (rules_of self.now).timeout }
+    {
+        self.timeout.is_some()
+    }
+
     /// Returns whether a series that has this generation at this moment is still in use, as far as the notes say.
     ///
     /// If it isn't, nothing is noted yet: remove the series, then call `forget`.

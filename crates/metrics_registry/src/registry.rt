@@ -11,7 +11,7 @@ ghost use Rattle.metrics_registry.specs.Held.{CountersAlone, GaugesAlone, Histog
 
 use crate::keys::{EqualClone, Hashable};
 use crate::kinds::{Kinds, is_shard_count, shard_by_mask};
-use crate::storage::Storage;
+use crate::storage::{ByStorage, HistogramMaker, Storage};
 use metrics::Error;
 use std::alloc::Global;
 use std::collections::HashMap;
@@ -284,8 +284,24 @@ where
             (FnOnceReturnsAtMut F.FnOnce op) (self.old.count ≡ 1) key.now result self.old.histograms self.new.histograms }
         ensures rest { HistogramsAlone self.old self.new }
     {
+        self.get_or_make_histogram(&ByStorage, key, op)
+    }
+
+    /// Calls `op` once on the cell of a histogram, and returns its result. The maker makes the cell if the key isn't held.
+    ///
+    /// A call that fails changes nothing. A call for a held key never fails.
+    pub fn get_or_make_histogram<
+        V,
+        M: HistogramMaker<K, S>,
+        F: FnOnce(&mut S::Histogram) -> V + Drop,
+    >(&mut self, maker: &M, key: &K, op: F) -> Result<V, Error>
+        requires { MayCall K.eq (M.makes maker.now self.old.storage) (FnOnceTakesAtMut F.FnOnce op) key.now self.old.histograms }
+        ensures histograms { GetsOrCreates K.eq K.is_clone (M.makes maker.now self.old.storage)
+            (FnOnceReturnsAtMut F.FnOnce op) (self.old.count ≡ 1) key.now result self.old.histograms self.new.histograms }
+        ensures rest { HistogramsAlone self.old self.new }
+    {
         let shard = shard_by_mask(key, self.shards.len());
-        self.shards[shard].get_or_create_histogram(&self.storage, key, op)
+        self.shards[shard].get_or_make_histogram(&self.storage, maker, key, op)
     }
 
     /// Calls `f` once for each histogram, in some order.

@@ -65,3 +65,26 @@ impl<K, T: Storage<K>> Storage<K> for Arc<T> {
         (**self).histogram(key)
     }
 }
+
+/// Makes a histogram's cell in the place of a storage, which it may read.
+///
+/// It fails only when out of memory, with `Error::Memory`.
+pub trait HistogramMaker<K, S: Storage<K>> {
+    /// Whether a cell is one that it makes for the key beside the storage.
+    ghost makes: { Self → S → K → S.Histogram → Type 0 };
+
+    /// Makes a new histogram.
+    fn make(&self, storage: &S, key: &K) -> Result<S::Histogram, Error>
+        ensures { MatchResult result (makes self.now storage.now key.now) (λ e. e ≡ OutOfMemory) };
+}
+
+/// Makes the histograms that the storage makes.
+pub(crate) struct ByStorage;
+
+impl<K, S: Storage<K>> HistogramMaker<K, S> for ByStorage {
+    ghost makes = { λ maker storage key cell. S.makes_histogram storage key cell };
+
+    fn make(&self, storage: &S, key: &K) -> Result<S::Histogram, Error> {
+        storage.histogram(key)
+    }
+}

@@ -20,7 +20,11 @@ pub const MEMORY: &str = "out of memory";
 pub trait Exports: Drop {
     fn update(&mut self, key: &Key, by: Update) -> Result<(), Error>;
 
+    fn update_described(&mut self, key: &Key, by: Update) -> Result<(), Error>;
+
     fn describe(&mut self, kind: MetricKind, name: &str, text: &str) -> Result<(), Error>;
+
+    fn describe_histogram(&mut self, name: &str, unit: Unit) -> Result<(), Error>;
 
     fn absorb(&mut self, rows: &Snapshot) -> Result<(), PartlyAbsorbed>;
 
@@ -42,8 +46,16 @@ impl Exports for Exporter {
         Exporter::update(self, key, by)
     }
 
+    fn update_described(&mut self, key: &Key, by: Update) -> Result<(), Error> {
+        Exporter::update_described(self, key, by)
+    }
+
     fn describe(&mut self, kind: MetricKind, name: &str, text: &str) -> Result<(), Error> {
         Exporter::describe(self, kind, name, None, text)
+    }
+
+    fn describe_histogram(&mut self, name: &str, unit: Unit) -> Result<(), Error> {
+        Exporter::describe(self, MetricKind::Histogram, name, Some(unit), "")
     }
 
     fn absorb(&mut self, rows: &Snapshot) -> Result<(), PartlyAbsorbed> {

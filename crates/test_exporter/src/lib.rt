@@ -15,3 +15,5 @@ mod makers;
 mod naming;
 #[cfg(test)]
 mod rows;
+#[cfg(test)]
+mod units;

@@ -1,10 +1,27 @@
-use Rattle.std.proofs.Common.{◌≡◌, ℕ, List, length, Result, Ok, sym, subst, arith}
+use Rattle.std.proofs.Common.{rules, ◌≡◌, ◌∙◌, ℕ, List, length, false, Result, Ok, sym, subst, ap, arith}
+use Rattle.std.specs.Cmp.{IsTotalOrder}
+use Rattle.std.specs.Ordering.{is_eq}
+use Rattle.metrics_names.specs.contracts.key.CompositeKeyOrd.TheImpl.Laws.{total-law, matches_eq-law}
 use Rattle.metrics.specs.declared.error.Error.{Error}
 use Rattle.metrics_exporter.specs.declared.keys.SeriesRef.{SeriesRef}
 use Rattle.metrics_exporter.specs.Gathering.{AreSeen}
 use Rattle.metrics_exporter.specs.Kept.{cells_of}
 use Rattle.metrics_exporter.proofs.ExpiryLemmas.{Checked, front-none, front-more, checked-all, checked-front, checked-none, err-result}
+use Rattle.metrics_exporter.proofs.SortedLemmas.{held-by-all}
+use Rattle.metrics_exporter.proofs.UnwatchedLemmas.{unwatched, is-none}
+use Rattle.metrics_registry.specs.RecencyEntries.{rules_of}
 use Rattle.metrics_exporter.proofs.expiring.check_all.Goals as goal
+
+pub returns-then-not-has_timeout : goal.returns-then-not-has_timeout
+returns-then-not-has_timeout c =
+    let order = c.key_order.ensures.order in
+    let once = c.shards-shards.ensures.once in
+    let off : c.has_timeout.result ≡ false = search rules in
+    record {
+      checked = unwatched c.args.now c.args.registry.now c.args.recency.now c.args.idle.now.items _ c.requires (is-none (rules_of c.args.recency.now).timeout c.has_timeout.result c.has_timeout.ensures off)
+          (subst IsTotalOrder (λ i a b. order a b i) total-law) (λ a b. sym (c.key_order.ensures.equality a b) ∙ matches_eq-law a b ∙ ap is_eq (order a b))
+          (held-by-all c.args.registry.now once.0 once.1 once.2);
+    }
 
 pub returns-in_err-held : goal.returns-in_err-held
 returns-in_err-held c =

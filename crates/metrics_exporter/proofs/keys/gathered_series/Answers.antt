@@ -8,7 +8,7 @@ pub loop-shard-preserved : goal.loop-shard-preserved
 loop-shard-preserved c =
     walk-more (λ s. s.counters) (λ s. s.gauges) (λ s. s.histograms) (λ e. (series_at Counter e.0, cell_in count e.1)) (λ e. (series_at Gauge e.0, cell_in level e.1)) (λ e. (series_at Histogram e.0, cell_in samples e.1))
     c.shards-shard-items.result.now c.loop-shard.shard-index c.shard-item.result (all_seen c.loop-shard.series.items) _ _ _ c.loop-shard-test.true c.shard-item.is c.loop-shard.invariant
-    c.in_ok-series.ensures c.in_ok-series-2.ensures c.in_ok-series-3.ensures
+    c.in_ok-series-2.ensures c.in_ok-series-3.ensures c.in_ok-series-4.ensures
 
 pub returns : goal.returns
 returns c =

@@ -14,10 +14,10 @@ use Rattle.metrics_exporter.proofs.SeenLemmas.{seen-sorted}
 use Rattle.metrics_exporter.proofs.GatheringLemmas.{shown-sorted}
 use Rattle.metrics_exporter.proofs.keys.sorted_series.Goals as goal
 
-pub returns-then-held_number-eq0 : goal.returns-then-held_number-eq0
-returns-then-held_number-eq0 c =
-    let counted = c.held_number.ensures in
-    let none : c.held_number.result ≡ 0 = search rules in
+pub returns-then-number-eq0 : goal.returns-then-number-eq0
+returns-then-number-eq0 c =
+    let counted = c.held_number-number.ensures in
+    let none : c.held_number-number.result ≡ 0 = search rules in
     let P : List SeriesRef → Type 0 = AreSeen (cells_of c.args.registry.now) in
     subst P (sym c.new.ensures.items) (record {
       series = none-held (cells_of c.args.registry.now) counted.0 counted.1 (omega (arith, none, counted.2));
@@ -28,8 +28,8 @@ returns-then-held_number-eq0 c =
 pub returns-in_err-series : goal.returns-in_err-series
 returns-in_err-series c =
     let order = c.key_order.ensures.order in
-    let counted = c.held_number.ensures in
-    let some : 0 < c.held_number.result = search (rules, arith) in
+    let counted = c.held_number-number.ensures in
+    let some : 0 < c.held_number-number.result = search (rules, arith) in
     let total : IsTotalOrder series_key_cmp = subst IsTotalOrder (λ i a b. order a b i) total-law in
     let first = have-first total (λ a b. sym (c.key_order.ensures.equality a b) ∙ matches_eq-law a b ∙ ap is_eq (order a b)) (cells_of c.args.registry.now) counted.0 counted.1 (omega (arith, some, counted.2)) in
     refused-with c.from_residual.result _ (λ e. e ≡ Memory) (HaveFirst (cells_of c.args.registry.now)) first (search rules)

@@ -9,7 +9,7 @@ pub loop-shard-preserved : goal.loop-shard-preserved
 loop-shard-preserved c =
     walk-more (λ s. s.counters) (λ s. s.gauges) (λ s. s.histograms) (λ e. (series_at Counter e.0, count e.1.inner)) (λ e. (series_at Gauge e.0, level e.1.inner)) (λ e. (series_at Histogram e.0, samples e.1.inner))
     c.shards-shard-items.result.now c.loop-shard.shard-index c.shard-item.result (keyed_readings c.loop-shard.keyed.items) _ _ _ c.loop-shard-test.true c.shard-item.is c.loop-shard.invariant
-    c.in_ok-keyed.ensures c.in_ok-keyed-2.ensures c.in_ok-keyed-3.ensures
+    c.in_ok-keyed-2.ensures c.in_ok-keyed-3.ensures c.in_ok-keyed-4.ensures
 
 pub returns : goal.returns
 returns c =

@@ -4,17 +4,17 @@ use Rattle.metrics_exporter.specs.Readings.{KeyedReading, AreReadings, keyed_rea
 use Rattle.metrics_exporter.proofs.ReadingsLemmas.{keyed-all, no-readings, some-held}
 use Rattle.metrics_exporter.proofs.readings.readings_of.Goals as goal
 
-pub returns-then-held_number-eq0-clause-readings : goal.returns-then-held_number-eq0-clause-readings
-returns-then-held_number-eq0-clause-readings c =
-    let counted = c.held_number.ensures in
-    let none : c.held_number.result ≡ 0 = search rules in
+pub returns-then-number-eq0-clause-readings : goal.returns-then-number-eq0-clause-readings
+returns-then-number-eq0-clause-readings c =
+    let counted = c.held_number-number.ensures in
+    let none : c.held_number-number.result ≡ 0 = search rules in
     let P : List KeyedReading → Type 0 = λ keyed. AreReadings (cells_of c.args.registry.now) keyed in
     subst P (ap keyed_readings (sym c.new.ensures.items)) (no-readings (cells_of c.args.registry.now) counted.0 counted.1 (omega (arith, none, counted.2)))
 
 pub returns-in_err-keyed-clause-refused : goal.returns-in_err-keyed-clause-refused
 returns-in_err-keyed-clause-refused c =
-    let counted = c.held_number.ensures in
-    let some : 0 < c.held_number.result = search (rules, arith) in
+    let counted = c.held_number-number.ensures in
+    let some : 0 < c.held_number-number.result = search (rules, arith) in
     let held = some-held (cells_of c.args.registry.now) counted.0 counted.1 (omega (arith, some, counted.2)) in
     search rules
 

@@ -15,6 +15,7 @@ invariant_of-self c =
       unused = b.unused;
       all_unused = subst (All IsEmpty) (sym items) b.all_unused;
       exact_unused = b.exact_unused;
+      units_unused = b.units_unused;
       within = subst (ArePlaces b.prefixes.pairs) (sym (ap length items)) b.within;
     }
 
@@ -33,6 +34,7 @@ invariant_of-self-in-Ok c =
       unused = b.unused;
       all_unused = subst (All IsEmpty) (sym items) (All-push IsEmpty b.chosen.items one b.all_unused (is-empty one c.args.bounds.now c.in_ok-empty.ensures.ok));
       exact_unused = b.exact_unused;
+      units_unused = b.units_unused;
       within = subst (ArePlaces c.insert.new.self.pairs) {x = n + 1} {y = length c.push_reserved.new.self.items} more (places-more b.prefixes.pairs c.insert.new.self.pairs c.as_bytes.result.now n below inserts);
     }
 

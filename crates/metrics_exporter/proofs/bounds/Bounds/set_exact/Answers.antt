@@ -14,10 +14,11 @@ invariant_of-self-2 c =
     record {
       unused = b.unused;
       all_unused = b.all_unused;
-      exact_unused = empty-after (get_by_text b.exact) (get_by_text new) c.args.name.now bs c.in_ok-empty.empty c.args.bounds.now c.in_ok-empty.ensures.ok c.in_ok-from_str.ensures.ok c.insert.result
+      exact_unused = empty-after (get_by_text b.exact) (get_by_text new) (bytes_eq bs) c.in_ok-empty.empty c.args.bounds.now c.in_ok-empty.ensures.ok c.insert.result
           (on_ok_weaker c.insert.result (λ u. hash_map_updates_text bs b.exact new _ u) c.insert.ensures.updates)
           (on_err_weaker c.insert.result (λ same n. λ i. lookup (λ k. bytes_eq n (string_bytes k)) (same i)) c.insert.ensures.err)
           b.exact_unused;
+      units_unused = b.units_unused;
       within = b.within;
     }
 

@@ -1,10 +1,10 @@
 use Rattle.std.proofs.Common.{refl, sym, ◌∙◌, ◌≡◌}
 use Rattle.metrics_exporter.specs.Exporting.{series_of}
 use Rattle.metrics_exporter.proofs.KeptLemmas.{update-after, update-full}
-use Rattle.metrics_exporter.proofs.exporter.Exporter.update.Goals as goal
+use Rattle.metrics_exporter.proofs.exporter.Exporter.update_in.Goals as goal
 
 pub returns-clause-calls : goal.returns-clause-calls
-returns-clause-calls c = λ setup log after. update-after setup log c.args.self.now _ c.args.key.now c.args.by c.update_cells.result c.update_cells.ensures.ok c.update_cells.ensures.err c.update_cells.ensures.storage.0 refl after
+returns-clause-calls c = λ setup log after. update-after setup log c.args.self.now _ c.args.unit c.args.key.now c.args.by c.update_cells.result c.update_cells.ensures.ok c.update_cells.ensures.err c.update_cells.ensures.storage.0 refl after
 
 pub returns-clause-full : goal.returns-clause-full
 returns-clause-full c = λ setup log after. update-full setup log c.args.self.now c.args.key.now c.args.by c.update_cells.result (λ _. c.update_cells.new.registry ≡ c.args.self.now.registry) c.update_cells.ensures.room c.update_cells.ensures.err after

@@ -3,7 +3,7 @@ use Rattle.std.specs.Prelude.{MatchResult, IsErr, ◌↔◌}
 use Rattle.metrics.specs.declared.error.Error.TheVariants.{CountFull}
 use Rattle.metrics_storage.specs.Histogram.{with_samples}
 use Rattle.metrics_exporter.proofs.RoomLemmas.{takes-sample}
-use Rattle.metrics_exporter.proofs.changes.fn.record.get_or_create_histogram.Goals as goal
+use Rattle.metrics_exporter.proofs.changes.fn.record.get_or_make_histogram.Goals as goal
 
 pub returns : goal.returns
 returns c =
