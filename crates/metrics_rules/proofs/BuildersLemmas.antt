@@ -1,17 +1,11 @@
 -- The builders, as branches are added.
-use Rattle.std.proofs.Common.{◌≡◌, ℕ, zero, suc, ◌+◌, ◌-◌, ◌<◌, ◌≤◌, true, false, List, [], ◌∷◌, ◌++◌, length, map, Option, None, Some, Vec, Global, refl, ap, sym, ◌∙◌, subst, arith, append-nil, length-append}
-use Rattle.metrics_rules.specs.Nodes.{node_meaning, leaves_of, most_leaves, AreEnds, IsSound, IsTree}
+use Rattle.std.proofs.Common.{◌≡◌, ℕ, zero, suc, ◌-◌, ◌<◌, true, false, List, [], ◌∷◌, ◌++◌, length, Option, None, Some, refl, ap, sym, ◌∙◌, subst, arith, append-nil, length-append}
+use Rattle.metrics_rules.specs.Nodes.{node_meaning}
 use Rattle.metrics_rules.specs.Reaches.{group_meaning, IsWithin}
-use Rattle.std.proofs.lemmas.List.{map-append, length-map}
-use Rattle.std.proofs.lemmas.List.Elements.{All-push}
+use Rattle.std.proofs.lemmas.List.{length-map}
 use Rattle.metrics.specs.Meaning.{Meaning}
-use Rattle.metrics_rules.specs.Ends.{total, ends_from}
-use Rattle.metrics_rules.specs.Branches.{meanings, leaves_in, AreSound, LeavesFit}
-use Rattle.metrics_rules.specs.declared.reach.Reach.{Reach}
-use Rattle.metrics_rules.specs.declared.node.Node.{Node, Group}
-use Rattle.metrics_rules.proofs.JoinedLemmas.{leaves-append, contents-group}
-use Rattle.metrics_rules.proofs.NodesLemmas.{meaning-Group, sound-of-row}
-use Rattle.metrics_rules.proofs.OneChildLemmas.{leaves-total}
+use Rattle.metrics_rules.specs.Branches.{meanings}
+use Rattle.metrics_rules.specs.declared.node.Node.{Node}
 use Rattle.std.specs.Prelude.{is_some, nat_eq}
 use Rattle.std.specs.Option.{option_map}
 use Rattle.std.specs.Coded.{le_prop}
@@ -25,51 +19,6 @@ use Rattle.metrics_rules.specs.Routing.{RouteTables, AreTablesOf, TargetsBelow, 
 use Rattle.metrics_rules.specs.Branches.{all_meanings}
 use Rattle.metrics_rules.specs.declared.reach.Reach.TheVariants.{ByRoute}
 use Rattle.metrics_rules.proofs.RoutingLemmas.{winner-target, target-below, below-more}
-
-ends-more : (k : ℕ) (ns : List ℕ) (n : ℕ) → ends_from k (ns ++ n ∷ []) ≡ ends_from k ns ++ (k + (total ns + n)) ∷ []
-ends-more k [] n = ap (λ e. e ∷ []) (let e : k + n ≡ k + (0 + n) = omega arith in e)
-ends-more k (x ∷ ns) n =
-    let e : k + x + (total ns + n) ≡ k + (x + total ns + n) = omega arith in
-    ap (λ es. (k + x) ∷ es) (ends-more (k + x) ns n ∙ ap (λ z. ends_from (k + x) ns ++ z ∷ []) e)
-
--- the last end is the number of all leaves
-pub leaves-are : (ends : List ℕ) (all : List Meaning) (n : ℕ) → AreEnds ends all → ((sizes : List ℕ) → ends ≡ ends_from 0 sizes → n ≡ total sizes) → n ≡ leaves_in all
-leaves-are ends all n e h = h (map leaves_of all) e ∙ sym (leaves-total all)
-
--- ---- one branch more
-
-module _ (nodes : List Node) (node : Node) where
-  pub meanings-more : meanings (nodes ++ node ∷ []) ≡ meanings nodes ++ node_meaning node ∷ []
-  meanings-more = map-append node_meaning nodes (node ∷ [])
-
-  pub ends-pushed : (ends : List ℕ) (end : ℕ) → AreEnds ends (meanings nodes) → end ≡ leaves_in (meanings nodes) + leaves_of (node_meaning node) →
-      AreEnds (ends ++ end ∷ []) (meanings (nodes ++ node ∷ []))
-  ends-pushed ends end e h =
-      let sizes = map leaves_of (meanings nodes) in
-      let n = leaves_of (node_meaning node) in
-      let b = leaves-total (meanings nodes) in
-      let at : end ≡ 0 + (total sizes + n) = omega (arith, h, b) in
-      ap (λ es. es ++ end ∷ []) e ∙ ap (λ z. ends_from 0 sizes ++ z ∷ []) at ∙ sym (ends-more 0 sizes n)
-      ∙ ap (ends_from 0) (sym (map-append leaves_of (meanings nodes) (node_meaning node ∷ []))) ∙ ap (λ all. ends_from 0 (map leaves_of all)) (sym meanings-more)
-
-  pub sound-pushed : AreSound nodes → IsSound node → AreSound (nodes ++ node ∷ [])
-  sound-pushed h s = All-push IsSound nodes node h s
-
-  pub most-pushed : LeavesFit (meanings nodes) (node_meaning node) → leaves_in (meanings (nodes ++ node ∷ [])) ≤ most_leaves
-  most-pushed f =
-      let a = ap leaves_in meanings-more ∙ leaves-append (meanings nodes) (node_meaning node ∷ []) in
-      let b = ap length (append-nil (node_meaning node).contents) in
-      omega (arith, a, b, f)
-
--- ---- all as one
-
-module _ (children : Vec Node Global) (ends : Vec ℕ Global) (reach : Reach) where
-  pub tree-of-all : AreEnds ends.items (meanings children.items) → IsWithin reach (length children.items) → AreSound children.items →
-      leaves_in (meanings children.items) ≤ most_leaves → IsTree (Group children ends reach)
-  tree-of-all e w s h = (
-    sound-of-row children ends reach (record { ends_are = e; within = w; sound = s }),
-    (let b = ap leaves_of (meaning-Group children ends reach) ∙ ap length (contents-group reach (meanings children.items)) in omega (arith, b, h)),
-  )
 
 -- ---- one meaning
 
@@ -91,21 +40,19 @@ AreBelow cs ts = (kind : MetricKind) (name : List ℕ) → AllBelow (length cs) 
 abbrev AllDistinct : (MetricKind → List ℕ → List (ℕ × List ℕ)) → Type 0
 AllDistinct ts = (kind : MetricKind) (name : List ℕ) → AreDistinct (ts kind name)
 
+abbrev MeansThis : Meaning → List Content → (MetricKind → List ℕ → List (ℕ × List ℕ)) → Type 0
+MeansThis a cs ts = (b : AreBelow cs ts) (d : AllDistinct ts) → ◌≡◌ {A = Meaning} a (record { contents = cs; targets = ts; below = b; distinct = d })
+
 -- branches of the same leaves and targets mean the same
-pub same_meaning : (a : Meaning) (cs : List Content) (ts : MetricKind → List ℕ → List (ℕ × List ℕ)) → a.contents ≡ cs → a.targets ≡ ts →
-    (b : AreBelow cs ts) (d : AllDistinct ts) → ◌≡◌ {A = Meaning} a (record { contents = cs; targets = ts; below = b; distinct = d })
-same_meaning a cs ts c t b d =
-    subst (λ cs. (b : AreBelow cs ts) → ◌≡◌ {A = Meaning} a (record { contents = cs; targets = ts; below = b; distinct = d })) c (with_targets d) b
+pub same_meaning : (a : Meaning) (cs : List Content) (ts : MetricKind → List ℕ → List (ℕ × List ℕ)) → a.contents ≡ cs → a.targets ≡ ts → MeansThis a cs ts
+same_meaning a cs ts c t = subst (λ cs. MeansThis a cs ts) c (subst (MeansThis a a.contents) t plain)
   where
-    plain : (b : AreBelow a.contents a.targets) (d : AllDistinct a.targets) → ◌≡◌ {A = Meaning} a (record { contents = a.contents; targets = a.targets; below = b; distinct = d })
+    plain : MeansThis a a.contents a.targets
     plain b d =
         let p : a.below ≡ b = fun_ext (λ kind. fun_ext (λ name. below_prop (length a.contents) (a.targets kind name) (a.below kind name) (b kind name))) in
         let q : a.distinct ≡ d = fun_ext (λ kind. fun_ext (λ name. distinct_prop (a.targets kind name) (a.distinct kind name) (d kind name))) in
         ap {B = Meaning} (λ x. record { contents = a.contents; targets = a.targets; below = x; distinct = a.distinct }) p
         ∙ ap {B = Meaning} (λ x. record { contents = a.contents; targets = a.targets; below = b; distinct = x }) q
-
-    with_targets : (d : AllDistinct ts) (b : AreBelow a.contents ts) → ◌≡◌ {A = Meaning} a (record { contents = a.contents; targets = ts; below = b; distinct = d })
-    with_targets = subst (λ ts. (d : AllDistinct ts) (b : AreBelow a.contents ts) → ◌≡◌ {A = Meaning} a (record { contents = a.contents; targets = ts; below = b; distinct = d })) t (λ d b. plain b d)
 
 -- ---- a router
 

@@ -1,5 +1,7 @@
 -- Ends and totals.
-use Rattle.std.proofs.Common.{◌≡◌, ℕ, zero, suc, ◌+◌, ◌-◌, ◌<◌, ◌≤◌, List, [], ◌∷◌, length, take, get_or, Option, None, Some, refl, ap, sym, ◌∙◌, arith, slice_get}
+use Rattle.std.proofs.Common.{◌≡◌, ℕ, zero, suc, ◌+◌, ◌-◌, ◌<◌, ◌≤◌, List, [], ◌∷◌, ◌++◌, length, map, take, get_or, None, Some, refl, ap, sym, ◌∙◌, arith, slice_get}
+use Rattle.std.proofs.lemmas.List.{take_all}
+use Rattle.std.proofs.lemmas.Option.{get_or_from_slice_get, slice_get-get_or, slice_get_within}
 use Rattle.metrics_rules.specs.Ends.{total, ends_from}
 
 pub length-ends : (k : ℕ) (ns : List ℕ) → length (ends_from k ns) ≡ length ns
@@ -30,33 +32,33 @@ rises-to (n ∷ ns) (suc i) zero le = absurd (omega arith)
 rises-to (n ∷ ns) (suc i) (suc j) le = let e = rises-to ns i j (omega arith) in omega (arith, e)
 
 -- the last end is the total
-last_from : (k : ℕ) (n : ℕ) (ns : List ℕ) → slice_get (ends_from k (n ∷ ns)) (length ns) ≡ Some (k + total (n ∷ ns))
-last_from k n [] = let e : k + n ≡ k + (n + 0) = omega arith in ap Some e
-last_from k n (m ∷ ns) =
-    let e : k + n + (m + total ns) ≡ k + (n + (m + total ns)) = omega arith in
-    last_from (k + n) m ns ∙ ap Some e
-
-abbrev total_if_any : List ℕ → Option ℕ
-total_if_any [] = None
-total_if_any (n ∷ ns) = Some (total (n ∷ ns))
-
-last-ends : (ns : List ℕ) → slice_get (ends_from 0 ns) (length (ends_from 0 ns) - 1) ≡ total_if_any ns
-last-ends [] = refl
-last-ends (n ∷ ns) =
-    let i : length (ends_from 0 (n ∷ ns)) - 1 ≡ length ns = (let l = length-ends (0 + n) ns in omega (arith, l)) in
-    let z : 0 + (n + total ns) ≡ n + total ns = omega arith in
-    ap (slice_get (ends_from 0 (n ∷ ns))) i ∙ last_from 0 n ns ∙ ap Some z
-
-if-some : (ns : List ℕ) (x : ℕ) → Some x ≡ total_if_any ns → x ≡ total ns
-if-some [] x h = absurd (cc)
-if-some (n ∷ ns) x h = cc
-
-if-none : (ns : List ℕ) → total_if_any ns ≡ None → 0 ≡ total ns
-if-none [] h = refl
-if-none (n ∷ ns) h = absurd (cc)
-
 pub last-is : (ends ns : List ℕ) (x : ℕ) → ends ≡ ends_from 0 ns → Some x ≡ slice_get ends (length ends - 1) → x ≡ total ns
-last-is ends ns x e h = if-some ns x (h ∙ ap (λ es. slice_get es (length es - 1)) e ∙ last-ends ns)
+last-is ends ns x e h =
+    let l = ap length e ∙ length-ends 0 ns in
+    let g = get_or_from_slice_get ends (length ends - 1) x 0 (sym h) in
+    let t = ap (λ es. get_or es (length ends - 1) 0) e ∙ end-total 0 ns (length ends - 1) 0 (omega (arith, l, slice_get_within ends (length ends - 1) x (sym h))) in
+    let w = ap total (take_all (suc (length ends - 1)) ns (omega (arith, l))) in
+    omega (arith, g, t, w)
 
 pub none-is : (ends ns : List ℕ) → ends ≡ ends_from 0 ns → slice_get ends (length ends - 1) ≡ None → 0 ≡ total ns
-none-is ends ns e h = if-none ns (sym (last-ends ns) ∙ sym (ap (λ es. slice_get es (length es - 1)) e) ∙ h)
+none-is ends [] e h = refl
+none-is ends (n ∷ ns) e h =
+    let l = ap length e ∙ length-ends 0 (n ∷ ns) in
+    let s = slice_get-get_or ends (length ends - 1) 0 (omega (arith, l)) in
+    absurd (cc)
+
+-- ---- ends after others
+
+ends-shift : (k j : ℕ) (ns : List ℕ) → ends_from (k + j) ns ≡ map (λ e. k + e) (ends_from j ns)
+ends-shift k j [] = refl
+ends-shift k j (n ∷ ns) =
+    let e : k + j + n ≡ k + (j + n) = omega arith in
+    ap (λ z. z ∷ ends_from z ns) e ∙ ap (λ es. (k + (j + n)) ∷ es) (ends-shift k (j + n) ns)
+
+pub ends-append : (k : ℕ) (ns ks : List ℕ) → ends_from k (ns ++ ks) ≡ ends_from k ns ++ map (λ e. k + total ns + e) (ends_from 0 ks)
+ends-append k [] ks =
+    let e : k ≡ k + 0 + 0 = omega arith in
+    ap (λ z. ends_from z ks) e ∙ ends-shift (k + 0) 0 ks
+ends-append k (n ∷ ns) ks =
+    let e : k + n + total ns ≡ k + (n + total ns) = omega arith in
+    ap (λ es. (k + n) ∷ es) (ends-append (k + n) ns ks ∙ ap (λ z. ends_from (k + n) ns ++ map (λ i. z + i) (ends_from 0 ks)) e)

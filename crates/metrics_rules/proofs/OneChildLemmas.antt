@@ -7,9 +7,9 @@ use Rattle.metrics.specs.Targets.{raise}
 use Rattle.metrics.specs.Meaning.{Meaning}
 use Rattle.metrics.specs.Layers.{joined_all, targets_of}
 use Rattle.metrics_rules.specs.Ends.{total, ends_from}
-use Rattle.metrics_rules.specs.Nodes.{leaves_of}
-use Rattle.metrics_rules.proofs.EndsLemmas.{length-ends}
-use Rattle.metrics_rules.proofs.JoinedLemmas.{targets_of-middle, leaves-append}
+use Rattle.metrics_rules.specs.Nodes.{leaves_of, AreEnds}
+use Rattle.metrics_rules.proofs.EndsLemmas.{length-ends, ends-append}
+use Rattle.metrics_rules.proofs.JoinedLemmas.{targets_of-past, leaves-append}
 
 -- the leaves of several branches are those of each together
 pub leaves-total : (all : List Meaning) → leaves_of (joined_all all) ≡ total (map leaves_of all)
@@ -43,9 +43,8 @@ module _ {Y : Type 0} (M : Y → Meaning) (ys : List Y) (n : ℕ) (x : Y) (lt : 
 
   pub targets-one : (kind : MetricKind) (name : List ℕ) → targets_of n (map M ys) kind name ≡ raise before ((M x).targets kind name)
   targets-one kind name =
-      let k : length front ≡ n = length-map (take n ys) M ∙ length-take-le n ys (omega (arith, lt)) in
-      ap (λ all. targets_of n all kind name) all_is ∙ ap (λ k. targets_of k (front ++ M x ∷ rest) kind name) (sym k)
-      ∙ targets_of-middle front rest (M x) kind name
+      let k : n ≡ length front + 0 = (let l = length-map (take n ys) M ∙ length-take-le n ys (omega (arith, lt)) in omega (arith, l)) in
+      ap (λ all. targets_of n all kind name) all_is ∙ ap (λ k. targets_of k (front ++ M x ∷ rest) kind name) k ∙ targets_of-past front (M x ∷ rest) kind 0 name
 
   -- the child has at most as many leaves as all
   pub child-most : (k : ℕ) → leaves_of (joined_all (map M ys)) ≤ k → before + leaves_of (M x) ≤ k
@@ -59,3 +58,22 @@ module _ {Y : Type 0} (M : Y → Meaning) (ys : List Y) (n : ℕ) (x : Y) (lt : 
 -- there are as many ends as children
 pub length-ends-of : {Y : Type 0} (M : Y → Meaning) (ys : List Y) (ends : List ℕ) → ends ≡ ends_from 0 (map leaves_of (map M ys)) → length ends ≡ length ys
 length-ends-of M ys ends e = ap length e ∙ length-ends 0 (map leaves_of (map M ys)) ∙ length-map (map M ys) leaves_of ∙ length-map ys M
+
+-- ---- the ends of more children
+
+-- the last end is the number of all leaves
+pub leaves-are : (ends : List ℕ) (all : List Meaning) (n : ℕ) → AreEnds ends all → ((sizes : List ℕ) → ends ≡ ends_from 0 sizes → n ≡ total sizes) → n ≡ leaves_of (joined_all all)
+leaves-are ends all n e h = h (map leaves_of all) e ∙ sym (leaves-total all)
+
+pub ends-joined : (xs ys : List Meaning) (es fs : List ℕ) → AreEnds es xs → AreEnds fs ys → AreEnds (es ++ map (λ e. leaves_of (joined_all xs) + e) fs) (xs ++ ys)
+ends-joined xs ys es fs a b =
+    let ns = map leaves_of xs in
+    let t : leaves_of (joined_all xs) ≡ 0 + total ns = (let k = leaves-total xs in omega (arith, k)) in
+    ap (λ is. is ++ map (λ e. leaves_of (joined_all xs) + e) fs) a ∙ ap (λ is. ends_from 0 ns ++ map (λ e. leaves_of (joined_all xs) + e) is) b
+    ∙ ap (λ z. ends_from 0 ns ++ map (λ e. z + e) (ends_from 0 (map leaves_of ys))) t
+    ∙ sym (ends-append 0 ns (map leaves_of ys)) ∙ ap (ends_from 0) (sym (map-append leaves_of xs ys))
+
+pub ends-pushed : (xs : List Meaning) (a : Meaning) (es : List ℕ) (end : ℕ) → AreEnds es xs → end ≡ leaves_of (joined_all xs) + leaves_of a → AreEnds (es ++ end ∷ []) (xs ++ a ∷ [])
+ends-pushed xs a es end h e =
+    let z : end ≡ leaves_of (joined_all xs) + (0 + leaves_of a) = omega (arith, e) in
+    ap (λ i. es ++ i ∷ []) z ∙ ends-joined xs (a ∷ []) es ((0 + leaves_of a) ∷ []) h refl

@@ -4,12 +4,13 @@ use Rattle.std.specs.Prelude.{◌⊎◌, IfSome, IfNone}
 use Rattle.std.specs.Option.{option_or, option_map}
 use Rattle.std.specs.Str.{bytes_eq}
 use Rattle.std.proofs.lemmas.List.{length-take-le}
+use Rattle.std.proofs.Math.Nat.{eq-or-lt_of_le}
 use Rattle.std.proofs.lemmas.Slice.Eq.{bytes_eq-Decides}
 use Rattle.metrics_names.specs.declared.kind.MetricKind.{MetricKind}
 use Rattle.metrics_names.specs.declared.kind.MetricKind.TheVariants.{Counter, Gauge, Histogram}
 use Rattle.metrics.specs.Layers.{Route, mask_has, fits, NoneFits, IsWinner, winner}
 use Rattle.metrics.proofs.LayersLemmas.{IsBest, winner-IsBest}
-use Rattle.metrics_names.specs.Equality.{and_left, and_right}
+use Rattle.metrics_names.specs.Equality.{and_left, and_right, and_both}
 use Rattle.prefix_match.specs.TriePatterns.{stored, IsFront, HasNoFront, IsLongestFront, IsLongest}
 use Rattle.prefix_match.proofs.TrieFronts.{front_begins, begins_fits, begins_take}
 use Rattle.metrics.specs.Kinds.{of_kind}
@@ -32,28 +33,19 @@ within_none pairs name (suc n) h l =
     ap (λ o. option_or o (longest_within pairs name n)) (none_of (stored pairs (take (suc n) name)) (λ s. h (take (suc n) name) s (take_front name (suc n) l)))
     ∙ within_none pairs name n h (omega arith)
 
-at_most : (k n : ℕ) → k ≤ suc n → (k ≡ suc n) ⊎ (k ≤ n)
-at_most zero n l = inr (omega arith)
-at_most (suc k) zero l = inl (omega arith)
-at_most (suc k) (suc n) l = further (at_most k n (omega arith))
-  where
-    further : (k ≡ suc n) ⊎ (k ≤ n) → (suc k ≡ suc (suc n)) ⊎ (suc k ≤ suc n)
-    further (inl e) = inl (ap suc e)
-    further (inr l) = inr (omega arith)
-
 within_some : (pairs : List (List ℕ × ℕ)) (name p : List ℕ) (v n : ℕ) → IsLongestFront pairs name p v → length p ≤ n → n ≤ length name → longest_within pairs name n ≡ Some v
 within_some pairs name [] v zero a l m = a.has_value
 within_some pairs name (x ∷ p) v zero a l m = absurd (omega arith)
-within_some pairs name p v (suc n) a l m = at_or_below (λ b. within_some pairs name p v n a b (omega arith)) (at_most (length p) n l)
+within_some pairs name p v (suc n) a l m = at_or_below (λ b. within_some pairs name p v n a b (omega arith)) (eq-or-lt_of_le l)
   where
-    at_or_below : (length p ≤ n → longest_within pairs name n ≡ Some v) → (length p ≡ suc n) ⊎ (length p ≤ n) → longest_within pairs name (suc n) ≡ Some v
+    at_or_below : (length p ≤ n → longest_within pairs name n ≡ Some v) → (length p ≡ suc n) ⊎ (length p < suc n) → longest_within pairs name (suc n) ≡ Some v
     at_or_below below (inl e) =
         let same : take (suc n) name ≡ p = ap (λ k. take k name) (sym e) ∙ front_begins p name a.front in
         ap (λ o. option_or o (longest_within pairs name n)) (ap (stored pairs) same ∙ a.has_value)
     at_or_below below (inr l) =
         let len : length (take (suc n) name) ≡ suc n = length-take-le (suc n) name m in
         let no : IsSome (stored pairs (take (suc n) name)) → ⊥ = λ s. (let le = a.longest (take (suc n) name) s (take_front name (suc n) m) in omega (arith, le, len)) in
-        ap (λ o. option_or o (longest_within pairs name n)) (none_of (stored pairs (take (suc n) name)) no) ∙ below l
+        ap (λ o. option_or o (longest_within pairs name n)) (none_of (stored pairs (take (suc n) name)) no) ∙ below (omega (arith, l))
 
 -- a result of a trie is the longest stored prefix
 pub longest_answers : (pairs : List (List ℕ × ℕ)) (name : List ℕ) (answer : Option ℕ) → IfSome answer (IsLongest pairs name) → IfNone answer (HasNoFront pairs name) → answer ≡ longest_within pairs name (length name)
@@ -126,15 +118,12 @@ last_at (x ∷ routes) kind p (suc at) r e h last =
 
 -- ---- the longest stored prefix is the winner
 
-both : (a b : Bool) → a ≡ true → b ≡ true → (a && b) ≡ true
-both a b h g = ap (λ x. x && b) h ∙ g
-
 same_pattern : (kind : MetricKind) (p : List ℕ) (r : Route) → has kind p r ≡ true → p ≡ r.pattern
 same_pattern kind p r h = (bytes_eq-Decides p r.pattern).0 (and_right (mask_has kind r.mask) (bytes_eq p r.pattern) h)
 
 has_fits : (kind : MetricKind) (name p : List ℕ) (r : Route) → has kind p r ≡ true → IsFront p name → fits kind name r ≡ true
 has_fits kind name p r h f =
-    both (mask_has kind r.mask) _ (and_left (mask_has kind r.mask) (bytes_eq p r.pattern) h) (subst (λ q. IsFront q name) (same_pattern kind p r h) f)
+    and_both (mask_has kind r.mask) _ (and_left (mask_has kind r.mask) (bytes_eq p r.pattern) h) (subst (λ q. IsFront q name) (same_pattern kind p r h) f)
 
 found_of : (s : RouteTables) (routes : List Route) (kind : MetricKind) (q : List ℕ) → AreTablesOf s routes → IsSome (stored (of_kind kind s) q) → Found routes kind q
 found_of s routes kind q h e = last_found routes kind q (subst IsSome (h kind q) e)
@@ -161,7 +150,7 @@ is_longest s routes kind name r h w = (
     front = and_right (mask_has kind r.mask) _ w.fitting
 
     self : has kind r.pattern r ≡ true
-    self = both (mask_has kind r.mask) _ (and_left (mask_has kind r.mask) _ w.fitting) ((bytes_eq-Decides r.pattern r.pattern).1 refl)
+    self = and_both (mask_has kind r.mask) _ (and_left (mask_has kind r.mask) _ w.fitting) ((bytes_eq-Decides r.pattern r.pattern).1 refl)
 
 -- the target that a look-up finds is the winner's
 pub winner-target : (s : RouteTables) (routes : List Route) → AreTablesOf s routes → (kind : MetricKind) (name : List ℕ) →

@@ -12,14 +12,14 @@ use Rattle.metrics.specs.TargetsLaws.{raise-append, raise-raise, length-raise}
 use Rattle.metrics.specs.Layers.{joined_all, targets_of}
 use Rattle.metrics.specs.Meaning.{Meaning}
 use Rattle.metrics_rules.specs.Ends.{total, ends_from}
-use Rattle.metrics_rules.specs.Nodes.{node_meaning, leaves_of, most_leaves}
+use Rattle.metrics_rules.specs.Nodes.{node_meaning, leaves_of, most_leaves, IsTree}
 use Rattle.metrics_rules.specs.Reaches.{range_of, IsWithin}
 use Rattle.metrics_rules.specs.Visits.{key_at, listed, shown, StopsAt, EndsEarly, after_more}
 use Rattle.metrics_rules.specs.declared.visitor.Stopped.{Stopped}
 use Rattle.metrics_rules.specs.declared.reach.Reach.{Reach}
-use Rattle.metrics_rules.specs.declared.node.Node.{Node}
+use Rattle.metrics_rules.specs.declared.node.Node.{Node, Group}
 use Rattle.metrics_rules.proofs.BetweenLemmas.{targets_between, between-split, between-group, range-within, fits_in}
-use Rattle.metrics_rules.proofs.NodesLemmas.{IsGroup, Visit, visit, row-is, meaning-is, contents-are}
+use Rattle.metrics_rules.proofs.NodesLemmas.{IsGroup, Visit, visit, row-is, meaning-is, contents-are, ends-within}
 use Rattle.metrics_rules.proofs.OneChildLemmas.{before-is, targets-one, child-most}
 
 get-past : {X : Type 0} (ts us : List X) (n : ℕ) → slice_get (ts ++ us) (length ts + n) ≡ slice_get us n
@@ -88,16 +88,19 @@ pub record Loop (v : Vec Node Global) (ends : Vec ℕ Global) (reach : Reach) (o
   pub group : IsGroup v ends reach old
   pub range_is : range ≡ range_of reach kind name (length v.items)
 
-module _ {v : Vec Node Global} {ends : Vec ℕ Global} {reach : Reach} {old : Node} (group : IsGroup v ends reach old) (len : ℕ) (l : len ≡ vec_len v) where
+module _ (v : Vec Node Global) (ends : Vec ℕ Global) (reach : Reach) (old : Node) (is : old ≡ Group v ends reach) (tree : IsTree old) (len : ℕ) (l : len ≡ vec_len v) where
+  group_is : IsGroup v ends reach old
+  group_is = record { is = is; tree = tree }
+
   same_length : len ≡ length v.items
   same_length = omega (arith, l, v.ok.0)
 
   pub reach-within : IsWithin reach len
-  reach-within = subst (IsWithin reach) (sym same_length) (row-is group).within
+  reach-within = subst (IsWithin reach) (sym same_length) (row-is group_is).within
 
   pub loop-of : (kind : MetricKind) (name text : List ℕ) → text ≡ name → (range : ℕ × ℕ) → range ≡ range_of reach kind text len → Loop v ends reach old kind name range
   loop-of kind name text same range e =
-      record { group = group; range_is = e ∙ ap (λ q. range_of reach kind q len) same ∙ ap (range_of reach kind name) same_length }
+      record { group = group_is; range_is = e ∙ ap (λ q. range_of reach kind q len) same ∙ ap (range_of reach kind name) same_length }
 
 -- the targets of the children from the first to before the i-th
 abbrev pub got : List Node → MetricKind → List ℕ → ℕ → ℕ → List (ℕ × List ℕ)
@@ -113,11 +116,14 @@ module _ {v : Vec Node Global} {ends : Vec ℕ Global} {reach : Reach} {old : No
   pub next-within : (i : ℕ) → i < range.1 → i < vec_len v
   next-within i lt = let b = bounds.1 in omega (arith, lt, b, v.ok.0)
 
+  pub start-within : (i : ℕ) → i < range.1 → (es : List ℕ) → es ≡ ends.items → i ≤ length es
+  start-within i lt es e =
+      let l = ends-within loop.group es e in
+      let b = bounds.1 in
+      omega (arith, lt, b, l)
+
   pub loop-end : (i : ℕ) → (range.0 ≤ range.1 → i ≤ range.1) → range.1 ≤ i → i ≡ range.1
-  loop-end i most least = same_number i range.1 (most bounds.0) least
-    where
-      same_number : (a b : ℕ) → a ≤ b → b ≤ a → a ≡ b
-      same_number a b le ge = omega (arith, le, ge)
+  loop-end i most least = let le = most bounds.0 in omega (arith, le, least)
 
   range_is-map : range ≡ range_of reach kind name (length (map node_meaning v.items))
   range_is-map = loop.range_is ∙ ap (range_of reach kind name) (sym (length-map v.items node_meaning))
@@ -134,15 +140,6 @@ module _ {v : Vec Node Global} {ends : Vec ℕ Global} {reach : Reach} {old : No
 
     abbrev before : ℕ
     before = leaves_of (joined_all (map node_meaning (take i v.items)))
-
-    pub front-is : (es : List ℕ) → es ≡ ends.items → (front : ℕ) → ((sizes : List ℕ) → es ≡ ends_from 0 sizes → front ≡ total (take i sizes)) → before ≡ front
-    front-is es e front f = before-is node_meaning v.items i x here at ∙ sym (f (map leaves_of (map node_meaning v.items)) (e ∙ (row-is loop.group).ends_are))
-
-    -- the child's leaves are among those of the node
-    pub next-fits : before + leaves_of (node_meaning x) ≤ leaves_of (node_meaning old)
-    next-fits =
-        child-most node_meaning v.items i x here at (leaves_of (node_meaning old))
-        (let e = ap length (contents-are loop.group) in omega (arith, e))
 
     abbrev targets : List (ℕ × List ℕ)
     targets = (node_meaning x).targets kind name
@@ -178,48 +175,57 @@ module _ {v : Vec Node Global} {ends : Vec ℕ Global} {reach : Reach} {old : No
         ap (raise front) whole ∙ raise-append front (got v.items kind name range.0 (i + 1)) rest
         ∙ ap (λ ts. ts ++ raise front rest) (raised-more front)
 
-    -- the number of targets fits
-    pub next-count : length (got v.items kind name range.0 i) + length targets ≤ most_leaves
-    next-count =
+    length-more : (from : ℕ) → length (got v.items kind name range.0 (i + 1)) ≡ length (got v.items kind name range.0 i) + length (raise from targets)
+    length-more from =
         let m = ap length more ∙ length-append (got v.items kind name range.0 i) (raise before targets) in
-        let r = length-raise before targets in
+        omega (arith, m, length-raise before targets, length-raise from targets)
+
+    -- the number of targets fits
+    pub next-count : (n k from : ℕ) → n ≡ length (got v.items kind name range.0 i) → k ≤ length (raise from targets) → n + k ≤ most_leaves
+    next-count n k from count most =
         let w = ap length whole ∙ length-append (got v.items kind name range.0 (i + 1)) rest in
-        let f = fits_in (node_meaning old) kind name in
-        omega (arith, m, r, w, f, loop.group.tree.1)
+        omega (arith, length-more from, w, fits_in (node_meaning old) kind name, loop.group.tree.1, count, most)
 
-    -- a child that is the only one that the name goes to
-    pub only-child : (front there : ℕ) → before ≡ there → i ≡ range.0 → range.1 - range.0 ≡ 1 → raise front ((node_meaning old).targets kind name) ≡ raise (front + there) targets
-    only-child front there is first one =
-        let last : range.1 ≡ i + 1 = omega (arith, first, one) in
-        let none = ap (λ k. got v.items kind name k i) (sym first) ∙ got-none v.items kind name i in
-        ap (raise front) (all-got ∙ ap (got v.items kind name range.0) last) ∙ raised-more front
-        ∙ ap (λ ts. raise front ts ++ raise (front + before) targets) none ∙ ap (λ k. raise (front + k) targets) is
+    -- the child's leaves are numbered from `front + there`
+    module _ (es : List ℕ) (e : es ≡ ends.items) (there : ℕ) (f : (sizes : List ℕ) → es ≡ ends_from 0 sizes → there ≡ total (take i sizes)) where
+      front-is : before ≡ there
+      front-is = before-is node_meaning v.items i x here at ∙ sym (f (map leaves_of (map node_meaning v.items)) (e ∙ (row-is loop.group).ends_are))
 
-    module _ {V : Type 0} (accepts : V → ℕ → KeyParts → V → Type 0) (refuses : V → ℕ → KeyParts → Refused → V → Type 0) (labels : List (List ℕ × List ℕ))
-        (front there : ℕ) (is : before ≡ there) (a b c : V) (h : FoldsTo (shown accepts labels) a (raise front (got v.items kind name range.0 i)) b) where
-      -- the child was visited
-      pub visited-next : FoldsTo (shown accepts labels) b (raise (front + there) targets) c →
-          FoldsTo (shown accepts labels) a (raise front (got v.items kind name range.0 (i + 1))) c
-      visited-next q =
-          subst (λ ts. FoldsTo (shown accepts labels) a ts c) (sym (raised-more front))
-          (folds-append accepts refuses labels a (raise front (got v.items kind name range.0 i)) b (raise (front + before) targets) c h
-          (subst (λ k. FoldsTo (shown accepts labels) b (raise (front + k) targets) c) (sym is) q))
+      -- they are among those of the node
+      pub next-fits : there + leaves_of (node_meaning x) ≤ leaves_of (node_meaning old)
+      next-fits =
+          let all = ap length (contents-are loop.group) in
+          let most = child-most node_meaning v.items i x here at (leaves_of (node_meaning old)) (omega (arith, all)) in
+          omega (arith, most, front-is)
 
-      -- the visit ended there
-      pub stopped-next : (s : Stopped) (n : ℕ) → n ≡ length (got v.items kind name range.0 i) → EndsEarly accepts refuses labels b (raise (front + there) targets) c s →
-          EndsEarly accepts refuses labels a (raise front ((node_meaning old).targets kind name)) c (after_more n s)
-      stopped-next s n count q =
-          subst (λ k. EndsEarly accepts refuses labels a (raise front ((node_meaning old).targets kind name)) c (after_more k s)) (length-raise front (got v.items kind name range.0 i) ∙ sym count)
-          (subst (λ ts. EndsEarly accepts refuses labels a ts c (after_more (length (raise front (got v.items kind name range.0 i))) s)) (sym (raised-whole front))
-          (ends-before accepts refuses labels a (raise front (got v.items kind name range.0 i) ++ raise (front + before) targets) (raise front rest) c _
-          (ends-after accepts refuses labels a (raise front (got v.items kind name range.0 i)) b (raise (front + before) targets) c s h
-          (subst (λ k. EndsEarly accepts refuses labels b (raise (front + k) targets) c s) (sym is) q))))
+      -- a child that is the only one that the name goes to
+      pub only-child : (front : ℕ) → i ≡ range.0 → range.1 - range.0 ≡ 1 → raise front ((node_meaning old).targets kind name) ≡ raise (front + there) targets
+      only-child front first one =
+          let last : range.1 ≡ i + 1 = omega (arith, first, one) in
+          let none = ap (λ k. got v.items kind name k i) (sym first) ∙ got-none v.items kind name i in
+          ap (raise front) (all-got ∙ ap (got v.items kind name range.0) last) ∙ raised-more front
+          ∙ ap (λ ts. raise front ts ++ raise (front + before) targets) none ∙ ap (λ k. raise (front + k) targets) front-is
+
+      module _ {V : Type 0} (accepts : V → ℕ → KeyParts → V → Type 0) (refuses : V → ℕ → KeyParts → Refused → V → Type 0) (labels : List (List ℕ × List ℕ))
+          (front : ℕ) (a b c : V) (h : FoldsTo (shown accepts labels) a (raise front (got v.items kind name range.0 i)) b) where
+        -- the child was visited
+        pub visited-next : FoldsTo (shown accepts labels) b (raise (front + there) targets) c →
+            FoldsTo (shown accepts labels) a (raise front (got v.items kind name range.0 (i + 1))) c
+        visited-next q =
+            subst (λ ts. FoldsTo (shown accepts labels) a ts c) (sym (raised-more front))
+            (folds-append accepts refuses labels a (raise front (got v.items kind name range.0 i)) b (raise (front + before) targets) c h
+            (subst (λ k. FoldsTo (shown accepts labels) b (raise (front + k) targets) c) (sym front-is) q))
+
+        -- the visit ended there
+        pub stopped-next : (s : Stopped) (n : ℕ) → n ≡ length (got v.items kind name range.0 i) → EndsEarly accepts refuses labels b (raise (front + there) targets) c s →
+            EndsEarly accepts refuses labels a (raise front ((node_meaning old).targets kind name)) c (after_more n s)
+        stopped-next s n count q =
+            subst (λ k. EndsEarly accepts refuses labels a (raise front ((node_meaning old).targets kind name)) c (after_more k s)) (length-raise front (got v.items kind name range.0 i) ∙ sym count)
+            (subst (λ ts. EndsEarly accepts refuses labels a ts c (after_more (length (raise front (got v.items kind name range.0 i))) s)) (sym (raised-whole front))
+            (ends-before accepts refuses labels a (raise front (got v.items kind name range.0 i) ++ raise (front + before) targets) (raise front rest) c _
+            (ends-after accepts refuses labels a (raise front (got v.items kind name range.0 i)) b (raise (front + before) targets) c s h
+            (subst (λ k. EndsEarly accepts refuses labels b (raise (front + k) targets) c s) (sym front-is) q))))
 
     -- one child more was counted
-    pub counted-next : (front there n k : ℕ) → n ≡ length (got v.items kind name range.0 i) → k ≡ length (raise (front + there) targets) →
-        n + k ≡ length (got v.items kind name range.0 (i + 1))
-    counted-next front there n k count here =
-        let m = ap length more ∙ length-append (got v.items kind name range.0 i) (raise before targets) in
-        let r = length-raise before targets in
-        let q = length-raise (front + there) targets in
-        omega (arith, m, r, q, count, here)
+    pub counted-next : (n k from : ℕ) → n ≡ length (got v.items kind name range.0 i) → k ≡ length (raise from targets) → n + k ≡ length (got v.items kind name range.0 (i + 1))
+    counted-next n k from count here = let m = length-more from in omega (arith, m, count, here)

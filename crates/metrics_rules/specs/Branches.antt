@@ -34,7 +34,7 @@ abbrev pub refusal : List Meaning → Meaning → Error
 refusal all a = if nat_lt most_leaves (leaves_in all + leaves_of a) then TooManyBooks else Memory
 
 -- room for so many branches more
-abbrev pub HasSpare : ℕ → Vec Node Global → Vec ℕ Global → Type 0
+abbrev pub HasSpare : {T : Type 0} → ℕ → Vec T Global → Vec ℕ Global → Type 0
 HasSpare n children ends =
     (vec_len children + n ≤ vec_capacity children) × (vec_len ends + n ≤ vec_capacity ends)
 

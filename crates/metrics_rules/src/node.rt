@@ -122,19 +122,13 @@ impl Node {
             }
             Node::Group(children, ends, reach) => {
                 let (first, end) = reach.range(kind, key.name(), children.len());
-                if end - first == 1 {
-                    let before = start_of(ends, first);
-                    return match &children[first] {
-                        Node::Leaf => show(visitor, front + before, key),
-                        child => child.visit(kind, key, front + before, scratch, visitor),
-                    };
-                }
                 let mut accepted: usize = 0;
                 for i in first..end {
-                    let before = start_of(ends, i);
-                    let visited = match &children[i] {
-                        Node::Leaf => show(visitor, front + before, key),
-                        child => child.visit(kind, key, front + before, scratch, visitor),
+                    let child = &children[i];
+                    let there = front + start_of(ends, i);
+                    let visited = match child {
+                        Node::Leaf => show(visitor, there, key),
+                        child => child.visit(kind, key, there, scratch, visitor),
                     };
                     match visited {
                         Ok(count) => accepted += count,

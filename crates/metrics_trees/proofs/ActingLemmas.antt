@@ -1,320 +1,258 @@
 -- A call that goes from leaf to leaf, and acts on the targets there.
-use Rattle.std.proofs.Common.{◌≡◌, ◌⊎◌, ℕ, zero, suc, ◌+◌, ◌<◌, ◌≤◌, ◌^◌, List, [], ◌∷◌, ◌++◌, length, take, drop, map, get_or, slice_get, slice_set, Some, Result, Ok, Err, refl, ap, sym, ◌∙◌, subst, arith, append-nil, append_assoc, length-append, inl, inr}
+use Rattle.std.proofs.Common.{◌≡◌, ℕ, zero, suc, ◌+◌, ◌<◌, ◌≤◌, ◌^◌, List, [], ◌∷◌, ◌++◌, length, take, map, Result, Ok, Err, refl, ap, sym, ◌∙◌, subst, arith, length-append, inl, inr}
 use Rattle.std.specs.List.{FoldsTo}
+use Rattle.std.specs.Result.{result_map_both}
 use Rattle.std.proofs.Math.Seq.{take-append-add, take-length}
-use Rattle.std.proofs.lemmas.List.{take-append-le, take-append-drop}
+use Rattle.std.proofs.lemmas.List.{take-append-le, length-set}
 use mathlib.Core.Path.{fun_ext}
 use Rattle.metrics_names.specs.declared.kind.MetricKind.{MetricKind}
 use Rattle.metrics_names.specs.declared.refused.Refused.{Refused}
-use Rattle.metrics_names.specs.declared.refused.Refused.TheVariants.{Memory, NoSuchBook}
+use Rattle.metrics_names.specs.declared.refused.Refused.TheVariants.{Memory, NoSuchAddress, NoSuchBook, BadHandle}
 use Rattle.metrics_names.specs.Names.{KeyParts}
 use Rattle.metrics_names.specs.Refusals.{after_front, CanFollow, IfMemory}
-use Rattle.metrics.specs.Targets.{raise, after_targets, AllBelow, AreDistinct, IsNot}
-use Rattle.metrics.specs.TargetsLaws.{after_targets-append, below_take, few, length-raise, take-raise}
+use Rattle.metrics.specs.Targets.{after_targets, AllBelow}
+use Rattle.metrics.specs.TargetsLaws.{after_targets-append, below_take, few, length-after_targets, length-raise, take-raise}
 use Rattle.metrics.specs.Book.{Content}
-use Rattle.metrics.specs.Meaning.{Meaning, KeepsTargets}
+use Rattle.metrics.specs.Meaning.{Meaning, KeepsTargets, Acts}
 use Rattle.metrics.specs.Layers.{joined_all, targets_of}
 use Rattle.metrics_rules.specs.declared.visitor.Stopped.{Stopped}
-use Rattle.metrics_rules.specs.Visits.{key_at, shown, StopsAt, EndsEarly, Visits}
+use Rattle.metrics_rules.specs.Visits.{key_at, shown, StopsAt, Visits}
+use Rattle.metrics_trees.specs.Calls.{Calls}
 use Rattle.metrics_trees.specs.Recorders.{books_of, books_in, most_books, spread}
 use Rattle.metrics_trees.specs.Over.{over}
-use Rattle.metrics_trees.specs.OverLaws.{distinct_spread, below_spread}
+use Rattle.metrics_trees.specs.Visiting.{Acting, IsAdded, Acted, Accepts, Rejects, IsEnd}
 use Rattle.metrics_rules.proofs.OneChildLemmas.{targets-one}
 use Rattle.metrics_trees.proofs.OneChildLemmas.{acts-one, spread-one}
 
-pub spread-append : (all : List Meaning) (kind : MetricKind) (ts us : List (ℕ × List ℕ)) → spread all kind (ts ++ us) ≡ spread all kind ts ++ spread all kind us
-spread-append all kind [] us = refl
-spread-append all kind (t ∷ ts) us =
-    ap (λ vs. targets_of t.0 all kind t.1 ++ vs) (spread-append all kind ts us) ∙ sym (append_assoc (targets_of t.0 all kind t.1) (spread all kind ts) (spread all kind us))
+-- the same for what is made of the result
+pub ends-mapped : {T U : Type 0} (h : T → U) (q : Result ℕ Stopped) (t : T) (acted : ℕ) (r : Result T Refused) → IsEnd q t acted r → IsEnd q (h t) acted (result_map_both h (λ e. e) r)
+ends-mapped h (Ok n) t acted (Ok u) e = ap h e
+ends-mapped h (Ok n) t acted (Err x) e = e
+ends-mapped h (Err s) t acted (Ok u) e = e
+ends-mapped h (Err s) t acted (Err x) e = e
 
-pub spread-alone : (all : List Meaning) (kind : MetricKind) (t : ℕ × List ℕ) → spread all kind (t ∷ []) ≡ targets_of t.0 all kind t.1
-spread-alone all kind t = append-nil (targets_of t.0 all kind t.1)
+abbrev pub contents_in : {B : Type 0} → (B → Meaning) → List B → List Content
+contents_in m bs = (joined_all (map m bs)).contents
 
-is_not-take : {X : Type 0} (b n : ℕ) (ts : List (ℕ × X)) → IsNot b ts → IsNot b (take n ts)
-is_not-take b zero ts h = tt
-is_not-take b (suc n) [] h = tt
-is_not-take b (suc n) (t ∷ ts) h = (h.0, is_not-take b n ts h.1)
+-- recorders acted on these targets in their books
+pub record Did {B : Type 0} (m : B → Meaning) (f : List ℕ → Content → Content) (us : List (ℕ × List ℕ)) (was now : List B) : Type 0 where
+  pub contents : contents_in m now ≡ after_targets f us (contents_in m was)
+  pub same : (q : MetricKind) (ts : List (ℕ × List ℕ)) → spread (map m now) q ts ≡ spread (map m was) q ts
+  pub count : length now ≡ length was
 
-distinct-take : {X : Type 0} (n : ℕ) (ts : List (ℕ × X)) → AreDistinct ts → AreDistinct (take n ts)
-distinct-take zero ts h = tt
-distinct-take (suc n) [] h = tt
-distinct-take (suc n) (t ∷ ts) h = (is_not-take t.0 n ts h.0, distinct-take n ts h.1)
+module _ {B : Type 0} (m : B → Meaning) (labels : List (List ℕ × List ℕ)) (kind : MetricKind) (step : List (List ℕ × List ℕ) → List ℕ → Content → Content) where
+  abbrev f : List ℕ → Content → Content
+  f = step labels
 
-split-there : {X : Type 0} (ts : List X) (n : ℕ) (t : X) → slice_get ts n ≡ Some t → ts ≡ take n ts ++ t ∷ drop (suc n) ts
-split-there [] n t h = absurd (cc)
-split-there (x ∷ ts) zero t h = ap (λ y. y ∷ ts) (same x t h)
-  where
-    same : {X : Type 0} (a b : X) → Some a ≡ Some b → a ≡ b
-    same a b e = cc
-split-there (x ∷ ts) (suc n) t h = ap (λ us. x ∷ us) (split-there ts n t h)
+  abbrev all_targets : List B → List (ℕ × List ℕ) → List (ℕ × List ℕ)
+  all_targets bs ts = spread (map m bs) kind ts
 
-below-there : {X : Type 0} (k : ℕ) (ts : List (ℕ × X)) (n : ℕ) (t : ℕ × X) → AllBelow k ts → slice_get ts n ≡ Some t → t.0 < k
-below-there k [] n t b h = absurd (cc)
-below-there k (x ∷ ts) zero t b h = subst (λ (y : ℕ × _). y.0 < k) (same x t h) b.0
-  where
-    same : {X : Type 0} (a b : X) → Some a ≡ Some b → a ≡ b
-    same a b e = cc
-below-there k (x ∷ ts) (suc n) t b h = below-there k ts n t b.1 h
+  did-none : (bs : List B) → Did m f [] bs bs
+  did-none bs = record { contents = refl; same = λ q ts. refl; count = refl }
 
-length-set : {X : Type 0} (xs : List X) (i : ℕ) (y : X) → length (slice_set xs i y) ≡ length xs
-length-set [] i y = refl
-length-set (x ∷ xs) zero y = refl
-length-set (x ∷ xs) (suc i) y = ap suc (length-set xs i y)
+  did-more : (us vs : List (ℕ × List ℕ)) (was mid now : List B) → Did m f us was mid → Did m f vs mid now → Did m f (us ++ vs) was now
+  did-more us vs was mid now h g = record {
+    contents = g.contents ∙ ap (after_targets f vs) h.contents ∙ sym (after_targets-append f us vs (contents_in m was));
+    same = λ q ts. g.same q ts ∙ h.same q ts;
+    count = g.count ∙ h.count;
+  }
 
-module _ {B : Type 0} (m : B → Meaning) (kind : MetricKind) (f : List ℕ → Content → Content) where
-  abbrev pub contents_in : List B → List Content
-  contents_in bs = (joined_all (map m bs)).contents
+  -- ---- one target
 
-  -- how a call at one target ended, after it acted on so many of the recorder's targets; n had been acted on before
-  abbrev pub Ended : ℕ → ℕ → ℕ → ℕ → Result (Unit {0}) Refused → Type 0
-  Ended count all n k (Ok done) = (count ≡ all) × (n + count < 2 ^ 64 → k ≡ n + count)
-  Ended count all n k (Err e) = (e ≡ Memory count) × (k ≡ n)
+  module _ (t : ℕ × List ℕ) (was now : List B) where
+    abbrev there : List (ℕ × List ℕ)
+    there = targets_of t.0 (map m was) kind t.1
 
-  -- the recorder at a target's leaf acted on the first of its targets
-  pub record Acted (t : ℕ × List ℕ) (was now : List B) (n k : ℕ) (r : Result (Unit {0}) Refused) : Type 0 where
-    pub before : B
-    pub after : B
-    pub within : t.0 < length was
-    pub at : before ≡ get_or was t.0 before
-    pub is : now ≡ slice_set was t.0 after
-    pub keeps : KeepsTargets (m before) (m after)
-    pub books : books_of (m after) ≡ books_of (m before)
-    pub count : ℕ
-    pub most : count ≤ length ((m before).targets kind t.1)
-    pub contents : (m after).contents ≡ after_targets f (take count ((m before).targets kind t.1)) (m before).contents
-    pub ended : Ended count (length ((m before).targets kind t.1)) n k r
+    -- its recorder acted on the first of its targets there
+    did-first : {R : Meaning → Meaning → Type 0} (c : Calls m t.0 was now R) (n : ℕ) → n ≤ length ((m c.before).targets kind t.1) →
+        (m c.after).contents ≡ after_targets f (take n ((m c.before).targets kind t.1)) (m c.before).contents → (n ≤ length there) × Did m f (take n there) was now
+    did-first c n le h =
+        let x = c.before in
+        let ts = (m x).targets kind t.1 in
+        let at = targets-one m was t.0 x c.within c.at kind t.1 in
+        let books = ap length h ∙ length-after_targets f (take n ts) (m x).contents in (
+          omega (arith, le, ap length at ∙ length-raise _ ts),
+          record {
+            contents =
+                ap (contents_in m) c.is ∙ acts-one m was t.0 x c.within c.at f (take n ts) c.after (below_take (books_of (m x)) n ts ((m x).below kind t.1)) h
+                ∙ ap (λ us. after_targets f us (contents_in m was)) (sym (ap (take n) at ∙ take-raise _ n ts));
+            same = λ q us. ap (λ bs. spread (map m bs) q us) c.is ∙ spread-one m was t.0 x c.within c.at c.after c.keeps books q us;
+            count = ap length c.is ∙ length-set was t.0 c.after;
+          },
+        )
 
-  -- the recorders acted on all of these targets
-  pub record Done (ts : List (ℕ × List ℕ)) (was now : List B) (n k : ℕ) : Type 0 where
-    pub contents : contents_in now ≡ after_targets f (spread (map m was) kind ts) (contents_in was)
-    pub acted : n + length (spread (map m was) kind ts) < 2 ^ 64 → k ≡ n + length (spread (map m was) kind ts)
-    pub same : (q : MetricKind) (us : List (ℕ × List ℕ)) → spread (map m now) q us ≡ spread (map m was) q us
-    pub count : length now ≡ length was
+    -- after n targets it acted on all of its own; or an error says on how many
+    abbrev One : ℕ → ℕ → Result (Unit {0}) Refused → Type 0
+    One n k (Ok done) = Did m f there was now × (n + length there < 2 ^ 64 → k ≡ n + length there)
+    One n k (Err e) = (c : ℕ) × (e ≡ Memory c) × (c ≤ length there) × Did m f (take c there) was now × (k ≡ n)
 
-  module _ (t : ℕ × List ℕ) (was now : List B) (n k : ℕ) (r : Result (Unit {0}) Refused) (c : Acted t was now n k r) where
-    abbrev pub ahead : ℕ
-    ahead = books_of (joined_all (map m (take t.0 was)))
+    one : (n k : ℕ) (q : Result ℕ Refused) (r : Result (Unit {0}) Refused) →
+        Calls m t.0 was now (λ a c. Acts f (a.targets kind t.1) a c q (λ count. count ≡ length (a.targets kind t.1))) → IsAdded n k q r → One n k r
+    one n k (Ok count) r c a =
+        let ts = (m c.before).targets kind t.1 in
+        let at = ap length (targets-one m was t.0 c.before c.within c.at kind t.1) ∙ length-raise _ ts in
+        let all : count ≡ length there = c.called.0 ∙ sym at in
+        let d = did-first c (length ts) (omega arith) (c.called.1 ∙ ap (λ us. after_targets f us (m c.before).contents) (sym (take-length ts))) in
+        by_result r a all (subst (λ i. Did m f (take i there) was now) (sym at) d.1)
+      where
+        by_result : (r : Result (Unit {0}) Refused) → IsAdded n k (Ok count) r → count ≡ length there → Did m f (take (length there) there) was now → One n k r
+        by_result (Ok done) a all d = (rw (take-length there) at d, λ lt. a (omega (arith, lt, all)) ∙ ap (λ i. n + i) all)
+        by_result (Err e) a all d = (count, a.0, omega (arith, all), rw (sym all) at d, a.1)
+    one n k (Err (Memory i)) (Err e) c a = let d = did-first c i c.called.0 c.called.1 in (i, a.0, d.0, d.1, a.1)
+    one n k (Err e) (Ok done) c a = absurd a
+    one n k (Err NoSuchAddress) (Err e) c a = absurd c.called
+    one n k (Err NoSuchBook) (Err e) c a = absurd c.called
+    one n k (Err BadHandle) (Err e) c a = absurd c.called
 
-    abbrev pub here : List (ℕ × List ℕ)
-    here = (m c.before).targets kind t.1
+  -- ---- one target after another
 
-    same-one : (q : MetricKind) (us : List (ℕ × List ℕ)) → spread (map m now) q us ≡ spread (map m was) q us
-    same-one q us = ap (λ bs. spread (map m bs) q us) c.is ∙ spread-one m was t.0 c.before c.within c.at c.after c.keeps c.books q us
+  module _ {V : Type 0} (st : V → Acting B) where
+    -- the call at hand is this one
+    abbrev pub IsAt : V → Type 0
+    IsAt v = ((st v).kind ≡ kind) × ((st v).step ≡ step)
 
-    pub there-is : targets_of t.0 (map m was) kind t.1 ≡ raise ahead here
-    there-is = targets-one m was t.0 c.before c.within c.at kind t.1
+    acted_one : (t : ℕ × List ℕ) (v w : V) (r : Result (Unit {0}) Refused) → IsAt v → Acted m t.0 (key_at labels t) (st v) (st w) r →
+        One t (st v).recorders (st w).recorders (st v).acted (st w).acted r
+    acted_one t v w r k a =
+        let Called : MetricKind → (List (List ℕ × List ℕ) → List ℕ → Content → Content) → Type 0 = λ q g.
+        Calls m t.0 (st v).recorders (st w).recorders (λ b c. Acts (g labels) (b.targets q t.1) b c a.answer (λ n. n ≡ length (b.targets q t.1))) in
+        one t (st v).recorders (st w).recorders (st v).acted (st w).acted a.answer r (subst (λ g. Called kind g) k.1 (subst (λ q. Called q (st v).step) k.0 a.calls)) a.added
 
-    length-there : length (targets_of t.0 (map m was) kind t.1) ≡ length here
-    length-there = ap length there-is ∙ length-raise ahead here
+    -- all of these targets were acted on
+    pub record Went (us : List (ℕ × List ℕ)) (v w : V) : Type 0 where
+      pub did : Did m f us (st v).recorders (st w).recorders
+      pub acted : (st v).acted + length us < 2 ^ 64 → (st w).acted ≡ (st v).acted + length us
 
-    count-one : length now ≡ length was
-    count-one = ap length c.is ∙ length-set was t.0 c.after
+    -- the first so many of these were, the last so many of them by a recorder that failed
+    record Failed (us : List (ℕ × List ℕ)) (v w : V) (e : Refused) : Type 0 where
+      pub count : ℕ
+      pub last : ℕ
+      pub is : e ≡ Memory last
+      pub most : count ≤ length us
+      pub did : Did m f (take count us) (st v).recorders (st w).recorders
+      pub acted : (st v).acted + length us < 2 ^ 64 → (st w).acted + last ≡ (st v).acted + count
 
-    -- what it did, among all
-    contents-one : contents_in now ≡ after_targets f (take c.count (targets_of t.0 (map m was) kind t.1)) (contents_in was)
-    contents-one =
-        ap contents_in c.is
-        ∙ acts-one m was t.0 c.before c.within c.at f (take c.count here) c.after (below_take (books_of (m c.before)) c.count here ((m c.before).below kind t.1)) c.contents
-        ∙ ap (λ ts. after_targets f ts (contents_in was)) (sym (ap (take c.count) there-is ∙ take-raise ahead c.count here))
+    idle : (us : List (ℕ × List ℕ)) (v w : V) (e : Refused) → st w ≡ st v → e ≡ Memory 0 → Failed us v w e
+    idle us v w e same is = record {
+      count = 0;
+      last = 0;
+      is = is;
+      most = omega arith;
+      did = subst (λ (s : Acting B). Did m f [] (st v).recorders s.recorders) (sym same) (did-none (st v).recorders);
+      acted = λ lt. ap (λ (s : Acting B). s.acted + 0) same;
+    }
 
-  pub done-one : (t : ℕ × List ℕ) (was now : List B) (n k : ℕ) → Acted t was now n k (Ok tt) → Done (t ∷ []) was now n k
-  done-one t was now n k c =
-      let there = targets_of t.0 (map m was) kind t.1 in
-      let l = length-there t was now n k (Ok tt) c in
-      let all : c.count ≡ length there = c.ended.0 ∙ sym l in
-      record {
-        contents =
-            contents-one t was now n k (Ok tt) c
-            ∙ ap (λ us. after_targets f us (contents_in was)) (ap (λ i. take i there) all ∙ take-length there ∙ sym (spread-alone (map m was) kind t));
-        acted = λ lt.
-            let e = all ∙ ap length (sym (spread-alone (map m was) kind t)) in
-            c.ended.1 (omega (arith, lt, e)) ∙ ap (λ i. n + i) e;
-        same = same-one t was now n k (Ok tt) c;
-        count = count-one t was now n k (Ok tt) c;
-      }
+    module _ (accepts : V → ℕ → KeyParts → V → Type 0) (refuses : V → ℕ → KeyParts → Refused → V → Type 0)
+        (gains : (v : V) (leaf : ℕ) (key : KeyParts) (w : V) → accepts v leaf key w → Accepts m leaf key (st v) (st w))
+        (loses : (v : V) (leaf : ℕ) (key : KeyParts) (e : Refused) (w : V) → refuses v leaf key e w → Rejects m leaf key e (st v) (st w)) where
+      pub went-one : (v : V) (t : ℕ × List ℕ) (w : V) → IsAt v → accepts v t.0 (key_at labels t) w → IsAt w × Went (targets_of t.0 (map m (st v).recorders) kind t.1) v w
+      went-one v t w k h =
+          let g = gains v t.0 (key_at labels t) w h in
+          let o = acted_one t v w (Ok tt) k g.2 in
+          ((g.0 ∙ k.0, g.1 ∙ k.1), record { did = o.0; acted = o.1 })
 
-  done-none : (bs : List B) (n : ℕ) → Done [] bs bs n n
-  done-none bs n = record { contents = refl; acted = λ lt. omega arith; same = λ q us. refl; count = refl }
+      pub went-all : (v : V) (ts : List (ℕ × List ℕ)) (w : V) → IsAt v → FoldsTo (shown accepts labels) v ts w → Went (all_targets (st v).recorders ts) v w
+      went-all v [] w k p = subst (λ (u : V). Went [] v u) p (record { did = did-none (st v).recorders; acted = λ lt. omega arith })
+      went-all v (t ∷ ts) w k p =
+          let s = went-one v t p.0 k p.1 in
+          let Y = targets_of t.0 (map m (st v).recorders) kind t.1 in
+          let Z = all_targets (st v).recorders ts in
+          let rest = subst (λ us. Went us p.0 w) (s.1.did.same kind ts) (went-all p.0 ts w s.0 p.2) in
+          record {
+            did = did-more Y Z (st v).recorders (st p.0).recorders (st w).recorders s.1.did rest.did;
+            acted = λ lt.
+                let l = length-append Y Z in
+                let a = s.1.acted (omega (arith, lt, l)) in
+                let b = rest.acted (omega (arith, lt, l, a)) in
+                omega (arith, a, b, l);
+          }
 
-  done-more : (ts us : List (ℕ × List ℕ)) (was mid now : List B) (n i k : ℕ) → Done ts was mid n i → Done us mid now i k → Done (ts ++ us) was now n k
-  done-more ts us was mid now n i k h g =
-      let all = map m was in
-      let X = spread all kind ts in
-      let Y = spread all kind us in
-      let cs = contents_in was in
-      let ds = contents_in mid in
-      let same = h.same kind us in
-      record {
-        contents =
-            g.contents ∙ ap (λ vs. after_targets f vs ds) same ∙ ap (after_targets f Y) h.contents
-            ∙ sym (after_targets-append f X Y cs) ∙ ap (λ vs. after_targets f vs cs) (sym (spread-append all kind ts us));
-        acted = λ lt.
-            let c = ap length same in
-            let d = ap length (spread-append all kind ts us) ∙ length-append X Y in
-            let a = h.acted (omega (arith, lt, d)) in
-            let b = g.acted (omega (arith, lt, a, c, d)) in
-            omega (arith, a, b, c, d);
-        same = λ q vs. g.same q vs ∙ h.same q vs;
-        count = g.count ∙ h.count;
-      }
+      went-part : (v : V) (ts : List (ℕ × List ℕ)) (j : ℕ) (u w : V) (e : Refused) → IsAt v → AllBelow (length (st v).recorders) ts →
+          FoldsTo (shown accepts labels) v (take j ts) u → StopsAt refuses labels ts j u e w → Failed (all_targets (st v).recorders ts) v w e
+      went-part v [] j u w e k b p (inl (x, is, h)) = absurd (cc)
+      went-part v [] zero u w e k b p (inr s) = idle _ v w e (ap st (s.0 ∙ sym p)) s.1
+      went-part v [] (suc j) u w e k b p (inr s) = idle _ v w e (ap st (s.0 ∙ sym p)) s.1
+      went-part v (t ∷ ts) zero u w e k b p (inr s) = idle _ v w e (ap st (s.0 ∙ sym p)) s.1
+      went-part v (t ∷ ts) zero u w e k b p (inl (x, is, h)) =
+          let same : x ≡ t = cc in
+          let r = subst (λ (y : V). refuses y t.0 (key_at labels t) e w) (sym p) (subst (λ (y : ℕ × List ℕ). refuses u y.0 (key_at labels y) e w) same h) in
+          rejected (loses v t.0 (key_at labels t) e w r)
+        where
+          rejected : Rejects m t.0 (key_at labels t) e (st v) (st w) → Failed (all_targets (st v).recorders (t ∷ ts)) v w e
+          rejected (inl out) = absurd (omega (arith, out.0, b.0))
+          rejected (inr (inl h)) = idle _ v w e h.0 h.1
+          rejected (inr (inr h)) =
+              let (c, is, le, did, at) = acted_one t v w (Err e) k h in
+              let Y = targets_of t.0 (map m (st v).recorders) kind t.1 in
+              let Z = all_targets (st v).recorders ts in
+              record {
+                count = c;
+                last = c;
+                is = is;
+                most = omega (arith, le, length-append Y Z);
+                did = subst (λ us. Did m f us (st v).recorders (st w).recorders) (sym (take-append-le c Y Z le)) did;
+                acted = λ lt. ap (λ i. i + c) at;
+              }
+      went-part v (t ∷ ts) (suc j) u w e k b p s =
+          let one = went-one v t p.0 k p.1 in
+          let Y = targets_of t.0 (map m (st v).recorders) kind t.1 in
+          let Z = all_targets (st v).recorders ts in
+          let d = subst (λ us. Failed us p.0 w e) (one.1.did.same kind ts) (went-part p.0 ts j u w e one.0 (subst (λ n. AllBelow n ts) (sym one.1.did.count) b.1) p.2 s) in
+          let l = length-append Y Z in
+          record {
+            count = length Y + d.count;
+            last = d.last;
+            is = d.is;
+            most = omega (arith, d.most, l);
+            did = subst (λ us. Did m f us (st v).recorders (st w).recorders) (sym (take-append-add Y Z d.count))
+                (did-more Y (take d.count Z) (st v).recorders (st p.0).recorders (st w).recorders one.1.did d.did);
+            acted = λ lt.
+                let a = one.1.acted (omega (arith, lt, l)) in
+                let c = d.acted (omega (arith, lt, l, a)) in
+                omega (arith, a, c);
+          }
 
-  -- an error after nothing was done at its target
-  abbrev pub IsOut : List B → ℕ → Refused → Type 0
-  IsOut bs leaf e = (length bs ≤ leaf) × (e ≡ NoSuchBook)
+      -- ---- the whole call
 
-  module _ {V : Type 0} (labels : List (List ℕ × List ℕ)) (accepts : V → ℕ → KeyParts → V → Type 0) (refuses : V → ℕ → KeyParts → Refused → V → Type 0)
-      (ok : V → Type 0) (lv : V → List B) (acted : V → ℕ)
-      (gains : (v : V) (t : ℕ × List ℕ) (w : V) → ok v → accepts v t.0 (key_at labels t) w → ok w × Acted t (lv v) (lv w) (acted v) (acted w) (Ok tt)) where
-    pub done-all : (v : V) (ts : List (ℕ × List ℕ)) (w : V) → ok v → FoldsTo (shown accepts labels) v ts w → Done ts (lv v) (lv w) (acted v) (acted w)
-    done-all v [] w k p = subst (λ (u : V). Done [] (lv v) (lv u) (acted v) (acted u)) p (done-none (lv v) (acted v))
-    done-all v (t ∷ ts) w k p =
-        let step = gains v t p.0 k p.1 in
-        done-more (t ∷ []) ts (lv v) (lv p.0) (lv w) (acted v) (acted p.0) (acted w)
-        (done-one t (lv v) (lv p.0) (acted v) (acted p.0) step.1) (done-all p.0 ts w step.0 p.2)
+      module _ (R : Meaning) (name : List ℕ) (v w : V) (k : IsAt v) (none : (st v).acted ≡ 0) (most : books_in (map m (st v).recorders) ≤ most_books) (leaves : books_of R ≡ length (st v).recorders) where
+        abbrev old : Meaning
+        old = over R (map m (st v).recorders)
 
-    kept : (v : V) (ts : List (ℕ × List ℕ)) (w : V) → ok v → FoldsTo (shown accepts labels) v ts w → ok w
-    kept v [] w k p = subst ok p k
-    kept v (t ∷ ts) w k p = kept p.0 ts w (gains v t p.0 k p.1).0 p.2
+        abbrev new : Meaning
+        new = over R (map m (st w).recorders)
 
-    -- ---- the whole call
+        abbrev ts : List (ℕ × List ℕ)
+        ts = R.targets kind name
 
-    module _ (R : Meaning) (name : List ℕ) (v w : V) (k : ok v) (none : acted v ≡ 0) where
-      abbrev ts : List (ℕ × List ℕ)
-      ts = R.targets kind name
+        fits : (st v).acted + length (old.targets kind name) < 2 ^ 64
+        fits =
+            let l = few (length old.contents) (old.targets kind name) (old.below kind name) (old.distinct kind name) in
+            omega (arith, l, most, none)
 
-      abbrev old : Meaning
-      old = over R (map m (lv v))
+        keeps : {us : List (ℕ × List ℕ)} → Did m f us (st v).recorders (st w).recorders → KeepsTargets old new
+        keeps h = fun_ext (λ q. fun_ext (λ n. h.same q (R.targets q n)))
 
-      abbrev new : Meaning
-      new = over R (map m (lv w))
+        failed : (s : Stopped) → Visits accepts refuses labels v ts w (Err s) → Failed (old.targets kind name) v w s.refused
+        failed s p = went-part v ts s.accepted p.last w s.refused k (subst (λ n. AllBelow n ts) leaves (R.below kind name)) p.accepted p.stops
 
-      keeps-same : ((q : MetricKind) (us : List (ℕ × List ℕ)) → spread (map m (lv w)) q us ≡ spread (map m (lv v)) q us) → KeepsTargets old new
-      keeps-same h = fun_ext (λ q. fun_ext (λ n. h q (R.targets q n)))
+        pub counted : (q : Result ℕ Stopped) → Visits accepts refuses labels v ts w q → length (st w).recorders ≡ length (st v).recorders
+        counted (Ok n) p = (went-all v ts w k p.1).did.count
+        counted (Err s) p = (failed s p).did.count
 
-      -- all accepted
-      pub whole : FoldsTo (shown accepts labels) v ts w → Done ts (lv v) (lv w) (acted v) (acted w)
-      whole p = done-all v ts w k p
-
-      pub whole-keeps : FoldsTo (shown accepts labels) v ts w → KeepsTargets old new
-      whole-keeps p = keeps-same (whole p).same
-
-      -- stopped
-      pub record Failed (e : Refused) : Type 0 where
-        pub keeps : KeepsTargets old new
-        pub count : length (lv w) ≡ length (lv v)
-        pub can : CanFollow (acted w) e
-        pub acts : (z : Refused) → z ≡ after_front (acted w) e →
-            IfMemory z (λ a. (a ≤ length (old.targets kind name)) × (new.contents ≡ after_targets f (take a (old.targets kind name)) old.contents))
-
-      abbrev all : List Meaning
-      all = map m (lv v)
-
-      -- a part of its targets, after these, were acted on
-      part : (X Y Z : List (ℕ × List ℕ)) (a j : ℕ) → spread all kind ts ≡ X ++ (Y ++ Z) → a ≤ length Y → j ≡ length X → contents_in (lv w) ≡ after_targets f (X ++ take a Y) (contents_in (lv v)) →
-          (j + a ≤ length (spread all kind ts)) × (contents_in (lv w) ≡ after_targets f (take (j + a) (spread all kind ts)) (contents_in (lv v)))
-      part X Y Z a j is le at c = (
-        omega (arith, ap length is, length-append X (Y ++ Z), length-append Y Z, le, at),
-        c ∙ ap (λ us. after_targets f us (contents_in (lv v)))
-            (sym (ap (λ i. take (i + a) (spread all kind ts)) at ∙ ap (take (length X + a)) is ∙ take-append-add X (Y ++ Z) a ∙ ap (λ us. X ++ us) (take-append-le a Y Z le))),
-      )
-
-      module _ (most : books_in all ≤ most_books) where
-        fits : (i : ℕ) → i ≤ length (spread all kind ts) → i < 2 ^ 64
-        fits i le =
-            let l = few (length (joined_all all).contents) (spread all kind ts) (below_spread all kind ts) (distinct_spread all kind ts (R.distinct kind name)) in
-            omega (arith, le, l, most)
-
-        -- on how many targets it acted
-        pub whole-acted : FoldsTo (shown accepts labels) v ts w → acted w ≡ length (spread all kind ts)
-        whole-acted p =
-            let f = fits (length (spread all kind ts)) (omega arith) in
-            let a = (whole p).acted (omega (arith, f, none)) in
-            omega (arith, a, none)
-
-        failed : (a : ℕ) (X Y Z : List (ℕ × List ℕ)) (e : Refused) → e ≡ Memory a → spread all kind ts ≡ X ++ (Y ++ Z) → a ≤ length Y → acted w ≡ length X →
-            contents_in (lv w) ≡ after_targets f (X ++ take a Y) (contents_in (lv v)) →
-            ((q : MetricKind) (us : List (ℕ × List ℕ)) → spread (map m (lv w)) q us ≡ spread (map m (lv v)) q us) → length (lv w) ≡ length (lv v) → Failed e
-        failed a X Y Z e is split le at c same count =
-            let h = part X Y Z a (acted w) split le at c in
-            record {
-              keeps = keeps-same same;
-              count = count;
-              can = subst (λ d. CanFollow (acted w) d) (sym is) (fits (acted w + a) h.0);
-              acts = λ z s.
-                  subst (λ d. IfMemory d (λ a. (a ≤ length (old.targets kind name)) × (new.contents ≡ after_targets f (take a (old.targets kind name)) old.contents)))
-                  (sym (s ∙ ap (after_front (acted w)) is)) h;
-            }
-
-        module _ (rejects : (u : V) (t : ℕ × List ℕ) (e : Refused) (x : V) → ok u → refuses u t.0 (key_at labels t) e x →
-            IsOut (lv u) t.0 e ⊎ (((x ≡ u) × (e ≡ Memory 0)) ⊎ Acted t (lv u) (lv x) (acted u) (acted x) (Err e)))
-            (leaves : books_of R ≡ length (lv v)) where
-          module _ (s : Stopped) (ends : EndsEarly accepts refuses labels v ts w s) where
-            abbrev e : Refused
-            e = s.refused
-
-            so_far : Done (take s.accepted ts) (lv v) (lv ends.last) (acted v) (acted ends.last)
-            so_far = done-all v (take s.accepted ts) ends.last k ends.accepted
-
-            abbrev X : List (ℕ × List ℕ)
-            X = spread all kind (take s.accepted ts)
-
-            acted_so_far : acted ends.last ≡ length X
-            acted_so_far =
-                let d = ap length (ap (spread all kind) (sym (take-append-drop s.accepted ts)) ∙ spread-append all kind (take s.accepted ts) (drop s.accepted ts)) ∙ length-append X (spread all kind (drop s.accepted ts)) in
-                let f = fits (length X) (omega (arith, d)) in
-                let a = so_far.acted (omega (arith, f, none)) in
-                omega (arith, a, none)
-
-            -- nobody was called
-            idle : w ≡ ends.last → e ≡ Memory 0 → Failed e
-            idle same is =
-                let Z = spread all kind (drop s.accepted ts) in
-                let split : spread all kind ts ≡ X ++ ([] ++ Z) = ap (spread all kind) (sym (take-append-drop s.accepted ts)) ∙ spread-append all kind (take s.accepted ts) (drop s.accepted ts) in
-                failed 0 X [] Z e is split (omega arith) (ap acted same ∙ acted_so_far)
-                (ap (λ (u : V). contents_in (lv u)) same ∙ so_far.contents ∙ ap (λ us. after_targets f us (contents_in (lv v))) (sym (append-nil X)))
-                (λ q us. ap (λ (u : V). spread (map m (lv u)) q us) same ∙ so_far.same q us) (ap (λ (u : V). length (lv u)) same ∙ so_far.count)
-
-            -- a leaf failed
-            module _ (t : ℕ × List ℕ) (there : slice_get ts s.accepted ≡ Some t) where
-              abbrev Y : List (ℕ × List ℕ)
-              Y = targets_of t.0 all kind t.1
-
-              Y-is : targets_of t.0 (map m (lv ends.last)) kind t.1 ≡ Y
-              Y-is = sym (append-nil (targets_of t.0 (map m (lv ends.last)) kind t.1)) ∙ so_far.same kind (t ∷ []) ∙ append-nil Y
-
-              split-at : spread all kind ts ≡ X ++ (Y ++ spread all kind (drop (suc s.accepted) ts))
-              split-at = ap (spread all kind) (split-there ts s.accepted t there) ∙ spread-append all kind (take s.accepted ts) (t ∷ drop (suc s.accepted) ts)
-
-              one-failed : Acted t (lv ends.last) (lv w) (acted ends.last) (acted w) (Err e) → Failed e
-              one-failed c =
-                  let l = length-there t (lv ends.last) (lv w) (acted ends.last) (acted w) (Err e) c in
-                  let y = ap length Y-is in
-                  let most = c.most in
-                  failed c.count X Y (spread all kind (drop (suc s.accepted) ts)) e c.ended.0 split-at (omega (arith, most, l, y)) (c.ended.1 ∙ acted_so_far)
-                  (contents-one t (lv ends.last) (lv w) (acted ends.last) (acted w) (Err e) c ∙ ap (λ us. after_targets f (take c.count us) (contents_in (lv ends.last))) Y-is
-                  ∙ ap (after_targets f (take c.count Y)) so_far.contents ∙ sym (after_targets-append f X (take c.count Y) (contents_in (lv v))))
-                  (λ q us. same-one t (lv ends.last) (lv w) (acted ends.last) (acted w) (Err e) c q us ∙ so_far.same q us)
-                  (count-one t (lv ends.last) (lv w) (acted ends.last) (acted w) (Err e) c ∙ so_far.count)
-
-              refused : refuses ends.last t.0 (key_at labels t) e w → Failed e
-              refused h = cases (rejects ends.last t e w (kept v (take s.accepted ts) ends.last k ends.accepted) h)
-                where
-                  cases : IsOut (lv ends.last) t.0 e ⊎ (((w ≡ ends.last) × (e ≡ Memory 0)) ⊎ Acted t (lv ends.last) (lv w) (acted ends.last) (acted w) (Err e)) → Failed e
-                  cases (inl out) =
-                      let b = below-there (books_of R) ts s.accepted t (R.below kind name) there in
-                      let c = so_far.count in
-                      absurd (omega (arith, out.0, b, c, leaves))
-                  cases (inr (inl h)) = idle h.0 h.1
-                  cases (inr (inr c)) = one-failed c
-
-            pub stopped : Failed e
-            stopped = cases ends.stops
-              where
-                cases : StopsAt refuses labels ts s.accepted ends.last e w → Failed e
-                cases (inl h) = refused h.0 h.1 h.2
-                cases (inr h) = idle h.0 h.1
-
-          -- however it ended
-          pub visited : (r : Result ℕ Stopped) → Visits accepts refuses labels v ts w r → KeepsTargets old new × (length (lv w) ≡ length (lv v))
-          visited (Ok n) p = (whole-keeps p.1, (whole p.1).count)
-          visited (Err s) ends = ((stopped s ends).keeps, (stopped s ends).count)
+        -- however it ended
+        pub answered : {T : Type 0} (P : T → Type 0) (done : T) → (FoldsTo (shown accepts labels) v ts w → (st w).acted ≡ length (old.targets kind name) → P done) → (q : Result ℕ Stopped) (r : Result T Refused) →
+            Visits accepts refuses labels v ts w q → IsEnd q done (st w).acted r → Acts f (old.targets kind name) old new r P × KeepsTargets old new
+        answered P done so (Ok n) (Ok t) p e =
+            let g = went-all v ts w k p.1 in
+            let a = g.acted fits in
+            ((subst P (sym e) (so p.1 (omega (arith, a, none))), g.did.contents), keeps g.did)
+        answered P done so (Ok n) (Err x) p e = absurd e
+        answered P done so (Err s) (Ok t) p e = absurd e
+        answered P done so (Err s) (Err x) p e =
+            let d = failed s p in
+            let a = d.acted fits in
+            let m = d.most in
+            let sum : (st w).acted + d.last ≡ d.count = omega (arith, a, none) in
+            let follows : CanFollow (st w).acted s.refused = subst (CanFollow (st w).acted) (sym d.is) (omega (arith, sum, m, fits)) in
+            let is : x ≡ Memory d.count = e follows ∙ ap (after_front (st w).acted) d.is ∙ ap Memory sum in
+            (subst (λ z. IfMemory z (λ n. (n ≤ length (old.targets kind name)) × (new.contents ≡ after_targets f (take n (old.targets kind name)) old.contents))) (sym is) (d.most, d.did.contents), keeps d.did)

@@ -1,14 +1,15 @@
 -- Places and raised addresses.
-use Rattle.std.proofs.Common.{◌≡◌, ℕ, zero, suc, ◌+◌, ◌-◌, ◌<◌, ◌≤◌, true, false, List, [], ◌∷◌, ◌++◌, length, take, drop, get_or, refl, ap, sym, ◌∙◌, subst, arith, slice_set, append-nil}
+use Rattle.std.proofs.Common.{◌≡◌, ℕ, zero, suc, ◌+◌, ◌-◌, ◌<◌, ◌≤◌, true, false, List, ◌++◌, length, take, drop, get_or, ap, sym, ◌∙◌, subst, arith, slice_set, append-nil, length-append}
 use Rattle.std.specs.Prelude.{nat_le, nat_eq, IsTrue}
-use Rattle.std.proofs.lemmas.List.{take_all}
+use Rattle.std.proofs.lemmas.List.{take_all, length-map, length-drop, length-take-le, get_or-drop, get_or-append_right, get_or_default}
+use Rattle.std.proofs.lemmas.List.Edits.{map_over_more}
 use Rattle.std.proofs.Math.ListN.{drop_of_length-le}
 use Rattle.metrics.specs.declared.handles.Address.{Address}
 use Rattle.std.specs.List.Sorted.{IsPartitionedBy, IsPartitionPoint}
 use Rattle.std.proofs.lemmas.Bool.Decides.{nat_tests}
 use Rattle.metrics_rules.specs.Ends.{total, ends_from}
 use Rattle.metrics_rules.proofs.EndsLemmas.{length-ends, end-total, total-more, rises-to}
-use Rattle.metrics_trees.specs.BookEnds.{IsPlace, raised}
+use Rattle.metrics_trees.specs.BookEnds.{IsPlace, raised, raised_one}
 
 -- the recorder of a number begins at the book of that number, and has one
 pub begins-is : (ends ns : List ℕ) (number front : ℕ) → ends ≡ ends_from 0 ns → number < length ends → number < get_or ends number 0 →
@@ -79,26 +80,23 @@ module _ (ends ns : List ℕ) (book i : ℕ) (e : ends ≡ ends_from 0 ns) (h : 
 
 -- ---- raised addresses
 
-pub raised-more : (front i : ℕ) (xs ys : List Address) (z : Address) → i < length xs → ys ≡ raised front (take i xs) ++ drop i xs →
-    slice_set ys i (record { book = (get_or ys i z).book + front; series = (get_or ys i z).series }) ≡ raised front (take (suc i) xs) ++ drop (suc i) xs
-raised-more front i xs ys z lt e =
-    ap (λ us. slice_set us i (record { book = (get_or us i z).book + front; series = (get_or us i z).series })) e ∙ one i xs lt
-  where
-    one : (i : ℕ) (xs : List Address) → i < length xs →
-        (let us = raised front (take i xs) ++ drop i xs in
-        slice_set us i (record { book = (get_or us i z).book + front; series = (get_or us i z).series })) ≡ raised front (take (suc i) xs) ++ drop (suc i) xs
-    one i [] lt = absurd (omega arith)
-    one zero (x ∷ xs) lt = let c : x.book + front ≡ front + x.book = omega arith in ap (λ b. record { book = b; series = x.series } ∷ xs) c
-    one (suc i) (x ∷ xs) lt = ap (λ us. record { book = front + x.book; series = x.series } ∷ us) (one i xs (omega arith))
+module _ (front i : ℕ) (xs ys : List Address) (z : Address) (lt : i < length xs) (e : ys ≡ raised front (take i xs) ++ drop i xs) where
+  front-length : length (raised front (take i xs)) ≡ i
+  front-length = length-map (take i xs) (raised_one front) ∙ length-take-le i xs (omega (arith, lt))
+
+  pub raised-more : slice_set ys i (record { book = (get_or ys i z).book + front; series = (get_or ys i z).series }) ≡ raised front (take (i + 1) xs) ++ drop (i + 1) xs
+  raised-more =
+      let x = get_or ys i z in
+      let c : x.book + front ≡ front + x.book = omega arith in
+      let l = ap length e ∙ length-append (raised front (take i xs)) (drop i xs) in
+      let d = length-drop i xs in
+      ap (λ b. slice_set ys i (record { book = b; series = x.series })) c ∙ map_over_more (raised_one front) xs ys i x lt e (get_or_default ys i z x (omega (arith, l, d, front-length, lt)))
+
+  -- the next address is not raised yet
+  pub next-is : get_or ys i z ≡ get_or xs i z
+  next-is =
+      let n : i + (i - i) ≡ i = omega arith in
+      ap (λ us. get_or us i z) e ∙ get_or-append_right (raised front (take i xs)) (drop i xs) i i z front-length (omega arith) ∙ get_or-drop i xs (i - i) z ∙ ap (λ k. get_or xs k z) n
 
 pub raised-all : (front i : ℕ) (xs : List Address) → length xs ≤ i → raised front (take i xs) ++ drop i xs ≡ raised front xs
 raised-all front i xs le = ap (λ us. raised front us ++ drop i xs) (take_all i xs le) ∙ ap (λ us. raised front xs ++ us) (drop_of_length-le xs le) ∙ append-nil (raised front xs)
-
--- the next address is not raised yet
-pub next-is : (front i : ℕ) (xs ys : List Address) (z : Address) → i < length xs → ys ≡ raised front (take i xs) ++ drop i xs → get_or ys i z ≡ get_or xs i z
-next-is front i xs ys z lt e = ap (λ us. get_or us i z) e ∙ one i xs lt
-  where
-    one : (i : ℕ) (xs : List Address) → i < length xs → get_or (raised front (take i xs) ++ drop i xs) i z ≡ get_or xs i z
-    one i [] lt = absurd (omega arith)
-    one zero (x ∷ xs) lt = refl
-    one (suc i) (x ∷ xs) lt = one i xs (omega arith)

@@ -1,67 +1,70 @@
 -- The builders, as recorders are added.
-use Rattle.std.proofs.Common.{◌≡◌, ℕ, suc, ◌+◌, ◌<◌, ◌≤◌, false, List, [], ◌∷◌, ◌++◌, length, map, drop, refl, ap, sym, ◌∙◌, subst, arith, append-nil, length-append, nat_lt, nat_eq, cond}
+use Rattle.std.proofs.Common.{◌≡◌, ℕ, suc, ◌+◌, ◌≤◌, false, List, [], ◌∷◌, ◌++◌, length, map, drop, refl, ap, sym, ◌∙◌, subst, arith, length-append, nat_lt, nat_eq, cond}
 use Rattle.std.proofs.lemmas.List.{map-append, length-map}
 use Rattle.std.proofs.lemmas.Bool.Decides.{nat_tests}
+use Rattle.metrics.specs.declared.recorder.Recorder as recorder
 use Rattle.metrics.specs.Meaning.{Meaning}
 use Rattle.metrics.specs.declared.error.Error.{Error}
 use Rattle.metrics.specs.declared.error.Error.TheVariants.{Memory, EmptyMask, TooManyBooks}
-use Rattle.metrics_rules.specs.Nodes.{leaves_of}
-use Rattle.metrics_rules.specs.Branches.{leaves_in}
-use Rattle.metrics_trees.specs.Recorders.{books_of, books_in, most_books, BooksFit, refusal}
+use Rattle.metrics_rules.specs.Branches.{leaves_in, refusal}
+use Rattle.metrics_rules.specs.Meanings.{rules_meaning}
+use Rattle.metrics_trees.specs.Leaves.{recorders_of}
+use Rattle.metrics_trees.specs.declared.leaves.Leaves.{Leaves}
+use Rattle.metrics_trees.specs.declared.child.Child.{Child}
+use Rattle.metrics_trees.specs.Recorders.{books_in, most_books, BooksFit}
 use Rattle.metrics_trees.specs.Over.{over, overs}
-use Rattle.metrics_rules.proofs.JoinedLemmas.{leaves-append}
+use Rattle.metrics_rules.proofs.JoinedLemmas.{leaves-append, leaves-one}
 use Rattle.metrics_trees.proofs.OverLemmas.{overs-more, books-over}
 
 pub length-overs : (rs ms : List Meaning) → length (overs rs ms) ≡ length rs
 length-overs [] ms = refl
 length-overs (r ∷ rs) ms = ap suc (length-overs rs (drop (length r.contents) ms))
 
-leaves-more : (rs : List Meaning) (r : Meaning) → leaves_in (rs ++ r ∷ []) ≡ leaves_in rs + leaves_of r
-leaves-more rs r = leaves-append rs (r ∷ []) ∙ ap (λ k. leaves_in rs + k) (ap length (append-nil r.contents))
-
--- why a number of books is rejected
-refused-many : (n : ℕ) → most_books < n → TooManyBooks ≡ cond (nat_lt most_books n) TooManyBooks Memory
-refused-many n h = grind (arith, nat_tests)
-
 refused-few : (n : ℕ) → n ≤ most_books → Memory ≡ cond (nat_lt most_books n) TooManyBooks Memory
 refused-few n h = grind (arith, nat_tests)
 
-module _ {B : Type 0} (m : B → Meaning) (rs : List Meaning) (r : Meaning) (bs cs : List B) (many : leaves_in rs ≡ length bs) where
-  abbrev all : List Meaning
-  all = overs rs (map m bs)
+module _ {B : Type 0} {r : recorder.Ghosts B} (rs : List Meaning) (leaves : Leaves B r) (given : Child B r) (many : leaves_in rs ≡ length (recorders_of leaves)) where
+  abbrev bs : List Meaning
+  bs = map r.meaning (recorders_of leaves)
+
+  abbrev cs : List Meaning
+  cs = map r.meaning (recorders_of given.registrar.leaves)
 
   abbrev one : Meaning
-  one = over r (map m cs)
+  one = over (rules_meaning given.rules) cs
 
-  same-books : books_in all ≡ books_in (map m bs)
-  same-books = books-over rs (map m bs) (length-map bs m ∙ sym many)
+  as-many : length bs ≡ leaves_in rs
+  as-many = length-map (recorders_of leaves) r.meaning ∙ sym many
 
-  pub fits-one : books_in (map m bs) + books_in (map m cs) ≤ most_books → BooksFit all one
-  fits-one h = subst (λ k. k + books_in (map m cs) ≤ most_books) (sym same-books) h
+  -- why it is rejected
+  pub refusal-is : (e : Error) → e ≡ cond (nat_lt most_books (books_in bs + books_in cs)) TooManyBooks Memory → e ≡ refusal (overs rs bs) one
+  refusal-is e h = h ∙ ap (λ k. cond (nat_lt most_books (k + books_in cs)) TooManyBooks Memory) (sym (books-over rs bs as-many))
 
-  pub too-many : most_books < books_in (map m bs) + books_in (map m cs) → TooManyBooks ≡ refusal all one
-  too-many h = refused-many (books_in all + books_of one) (subst (λ k. most_books < k + books_in (map m cs)) (sym same-books) h)
-
-  pub out-of-memory : books_in (map m bs) + books_in (map m cs) ≤ most_books → Memory ≡ refusal all one
-  out-of-memory h = refused-few (books_in all + books_of one) (fits-one h)
+  pub out-of-memory : books_in bs + books_in cs ≤ most_books → Memory ≡ refusal (overs rs bs) one
+  out-of-memory few = refusal-is Memory (refused-few _ few)
 
   -- one recorder more
-  module _ (count : leaves_of r ≡ length cs) (now : List Meaning) (after : List B) (gained : now ≡ rs ++ r ∷ []) (moved : after ≡ bs ++ cs) where
-    pub one-more : overs now (map m after) ≡ all ++ one ∷ []
-    one-more =
-        ap (λ qs. overs qs (map m after)) gained ∙ ap (λ xs. overs (rs ++ r ∷ []) (map m xs)) moved ∙ ap (overs (rs ++ r ∷ [])) (map-append m bs cs)
-        ∙ overs-more rs r (map m bs) (map m cs) (length-map bs m ∙ sym many) (length-map cs m ∙ sym count)
+  pub record Gains (now : List Meaning) (after : List B) : Type 0 where
+    pub as_many : leaves_in now ≡ length after
+    pub few : books_in (map r.meaning after) ≤ most_books
+    pub fit : BooksFit (overs rs bs) one
+    pub gained : overs now (map r.meaning after) ≡ overs rs bs ++ one ∷ []
 
-    pub many-more : leaves_in now ≡ length after
-    many-more =
-        let g = ap leaves_in gained ∙ leaves-more rs r in
-        let a = ap length moved ∙ length-append bs cs in
-        omega (arith, g, a, many, count)
-
-    pub few-more : books_in (map m bs) + books_in (map m cs) ≤ most_books → books_in (map m after) ≤ most_books
-    few-more h =
-        let a = ap (λ xs. books_in (map m xs)) moved ∙ ap books_in (map-append m bs cs) ∙ leaves-append (map m bs) (map m cs) in
-        omega (arith, a, h)
+  pub gains : books_in bs + books_in cs ≤ most_books → (now : List Meaning) (mid after : List B) → now ≡ rs ++ rules_meaning given.rules ∷ [] → mid ≡ recorders_of leaves → after ≡ mid ++ recorders_of given.registrar.leaves → Gains now after
+  gains few now mid after g room moved =
+      let to = moved ∙ ap (λ xs. xs ++ recorders_of given.registrar.leaves) room in
+      let ms = ap (map r.meaning) to ∙ map-append r.meaning (recorders_of leaves) (recorders_of given.registrar.leaves) in
+      let b = ap books_in ms ∙ leaves-append bs cs in
+      let l = ap leaves_in g ∙ leaves-one rs (rules_meaning given.rules) in
+      let n = ap length to ∙ length-append (recorders_of leaves) (recorders_of given.registrar.leaves) in
+      record {
+        as_many = omega (arith, l, n, many, given.as_many);
+        few = omega (arith, b, few);
+        fit = subst (λ k. k + books_in cs ≤ most_books) (sym (books-over rs bs as-many)) few;
+        gained =
+            ap (λ qs. overs qs (map r.meaning after)) g ∙ ap (overs (rs ++ rules_meaning given.rules ∷ [])) ms
+            ∙ overs-more rs (rules_meaning given.rules) bs cs as-many (length-map (recorders_of given.registrar.leaves) r.meaning ∙ sym given.as_many);
+      }
 
 -- a mask with a kind is no reason
 pub if-any-kind : (mask : ℕ) (e : Error) {f : Error} → nat_eq mask 0 ≡ false → e ≡ f → e ≡ cond (nat_eq mask 0) EmptyMask f

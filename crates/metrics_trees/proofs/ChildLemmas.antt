@@ -1,6 +1,6 @@
 -- A tree by its parts.
-use Rattle.std.proofs.Common.{◌≡◌, ◌≤◌, Option, length, map, subst, ap}
-use Rattle.std.specs.Coded.{Coded-set, coded_ℕ, le_prop}
+use Rattle.std.proofs.Common.{◌≡◌, Option, length, subst, ap}
+use Rattle.std.specs.Coded.{Coded-set, coded_ℕ}
 use Rattle.metrics.specs.declared.recorder.Recorder as recorder
 use Rattle.metrics_names.specs.Names.{KeyParts}
 use Rattle.metrics_rules.specs.Nodes.{leaves_of}
@@ -8,16 +8,8 @@ use Rattle.metrics_rules.specs.Meanings.{rules_meaning}
 use Rattle.metrics_rules.specs.declared.rules.Rules.{Rules}
 use Rattle.metrics_rules.specs.declared.scratch.Scratch.{Scratch}
 use Rattle.metrics_trees.specs.Leaves.{recorders_of}
-use Rattle.metrics_trees.specs.Recorders.{books_in, most_books}
-use Rattle.metrics_trees.specs.declared.leaves.Leaves.{Leaves}
-use Rattle.metrics_trees.specs.declared.visits.Call.{Call}
 use Rattle.metrics_trees.specs.declared.child.Child.{Child}
 use Rattle.metrics_trees.specs.declared.visits.Registrar.{Registrar}
-
--- recorders and a call make one registrar at most
-pub same-registrar : {B : Type 0} {r : recorder.Ghosts B} (l : Leaves B r) (call : Option Call) (a b : books_in (map r.meaning (recorders_of l)) ≤ most_books) →
-    ◌≡◌ {A = Registrar B r} (record { leaves = l; call = call; few = a }) (record { leaves = l; call = call; few = b })
-same-registrar {B} {r} l call a b = ap {B = Registrar B r} (λ f. record { leaves = l; call = call; few = f }) (le_prop a b)
 
 module _ {B : Type 0} {r : recorder.Ghosts B} where
   abbrev AsMany : Rules → Registrar B r → Type 0

@@ -14,13 +14,11 @@ use Rattle.metrics.specs.TargetsLaws.{after_targets-front, after_targets-past, c
 use Rattle.metrics.specs.Book.{Content, SnapshotParts, content_at, kind_at, kind_of, place, snapshot_of, update_in, reset_in}
 use Rattle.metrics.specs.Meaning.{Meaning, KeepsTargets, Updates, Snapshots, holds_at, is_kind, addresses, address_in, key_in_book}
 use Rattle.metrics.specs.Layers.{joined_all, targets_of}
-use Rattle.metrics_rules.proofs.JoinedLemmas.{contents-append, leaves-append}
+use Rattle.metrics_rules.proofs.JoinedLemmas.{contents-append}
+pub use Rattle.metrics_rules.proofs.JoinedLemmas.{leaves-append, leaves-one}
 use Rattle.metrics_trees.specs.BookEnds.{raised}
 use Rattle.metrics_trees.specs.Recorders.{books_of, spread}
 use Rattle.metrics_trees.specs.Over.{over}
-
-pub books-append : (xs ys : List Meaning) → books_of (joined_all (xs ++ ys)) ≡ books_of (joined_all xs) + books_of (joined_all ys)
-books-append = leaves-append
 
 -- ---- another recorder in one's place, of the same targets and as many books
 
@@ -159,10 +157,6 @@ module _ (kind : MetricKind) (labels : List (List ℕ × List ℕ)) where
       ap (λ c. record { book = length cs + t.0; series = place (key_in_book kind labels t.1) c } ∷ addresses kind labels (raise (length cs) ts) (cs ++ ds)) (content_at-past t.0 cs ds)
       ∙ ap (λ as'. record { book = length cs + t.0; series = place (key_in_book kind labels t.1) (content_at t.0 ds) } ∷ as') (addresses-past ts cs ds)
 
-  pub addresses-append : (ts us : List (ℕ × List ℕ)) (cs : List Content) → addresses kind labels (ts ++ us) cs ≡ addresses kind labels ts cs ++ addresses kind labels us cs
-  addresses-append [] us cs = refl
-  addresses-append (t ∷ ts) us cs = ap (λ as'. address_in kind labels cs t ∷ as') (addresses-append ts us cs)
-
   -- the addresses in one recorder's targets, raised, are those among all
   pub addresses-one : (front rest : List Meaning) (x : Meaning) (name : List ℕ) →
       raised (books_of (joined_all front)) (addresses kind labels (x.targets kind name) x.contents)
@@ -178,7 +172,3 @@ module _ (kind : MetricKind) (labels : List (List ℕ × List ℕ)) where
   pub addresses-below : (ts : List (ℕ × List ℕ)) (cs : List Content) (n : ℕ) → AllBelow n ts → All (λ a. a.book < n) (addresses kind labels ts cs)
   addresses-below [] cs n b = All-nil _
   addresses-below (t ∷ ts) cs n b = All-cons (λ a. a.book < n) (address_in kind labels cs t) (addresses kind labels ts cs) b.0 (addresses-below ts cs n b.1)
-
-  pub length-addresses : (ts : List (ℕ × List ℕ)) (cs : List Content) → length (addresses kind labels ts cs) ≡ length ts
-  length-addresses [] cs = refl
-  length-addresses (t ∷ ts) cs = ap suc (length-addresses ts cs)

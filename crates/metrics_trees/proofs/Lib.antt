@@ -4,7 +4,6 @@ pub mod OneChildLemmas
 pub mod RowLemmas
 pub mod ActingLemmas
 pub mod RegisterLemmas
-pub mod DescribeLemmas
 pub mod OverLemmas
 pub mod ChildLemmas
 pub mod BuildersLemmas

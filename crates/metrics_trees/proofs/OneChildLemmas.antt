@@ -1,5 +1,5 @@
 -- One child of several: its targets, books and addresses among all, and a call that goes to it alone.
-use Rattle.std.proofs.Common.{◌≡◌, ℕ, suc, ◌+◌, ◌<◌, ◌≤◌, List, [], ◌∷◌, ◌++◌, length, take, drop, map, get_or, set, Result, Err, refl, ap, sym, ◌∙◌, subst, arith, append-nil, false}
+use Rattle.std.proofs.Common.{◌≡◌, ℕ, suc, ◌+◌, ◌<◌, ◌≤◌, List, ◌∷◌, ◌++◌, length, take, drop, map, get_or, set, Result, Err, refl, ap, sym, ◌∙◌, subst, arith, false}
 use Rattle.std.proofs.lemmas.List.{map-append, length-map, get_or-map}
 use Rattle.metrics_names.specs.declared.kind.MetricKind.{MetricKind}
 use Rattle.metrics.specs.declared.debugging.Reset.{Reset}
@@ -9,7 +9,7 @@ use Rattle.metrics_names.specs.declared.refused.Refused.TheVariants.{NoSuchAddre
 use Rattle.metrics.specs.Targets.{raise, after_targets, AllBelow}
 use Rattle.metrics.specs.Book.{Content, SnapshotParts, kind_of}
 use Rattle.metrics.specs.Meaning.{Meaning, KeepsTargets, Updates, Snapshots, holds_at, addresses}
-use Rattle.metrics.specs.Layers.{joined_all, targets_of}
+use Rattle.metrics.specs.Layers.{joined_all}
 use Rattle.metrics_rules.specs.Ends.{total}
 use Rattle.metrics_rules.proofs.OneChildLemmas.{all_is, new_is, before-is, leaves-total}
 use Rattle.metrics_trees.specs.BookEnds.{IsPlace, raised}
@@ -111,7 +111,3 @@ module _ (R : Meaning) (all : List Meaning) (book : ℕ) (past : total (map book
 
   pub snapshots-none : (reset : Reset) → Snapshots whole whole book reset (Err NoSuchBook)
   snapshots-none reset = (no-more, refl)
-
--- a place is in one of the children
-pub place-within : {Y : Type 0} (M : Y → Meaning) (ys : List Y) (book : ℕ) (p : ℕ × ℕ) → IsPlace (map books_of (map M ys)) book p → p.0 < length ys
-place-within M ys book p h = let l = length-map (map M ys) books_of in let k = length-map ys M in omega (arith, h.recorder, l, k)

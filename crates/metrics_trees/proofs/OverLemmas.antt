@@ -1,11 +1,11 @@
 -- Recorders under rules, by what the rules were made of.
-use Rattle.std.proofs.Common.{if◌then◌else◌, ◌≡◌, ℕ, zero, suc, ◌+◌, ◌<◌, ◌≤◌, Bool, true, false, List, [], ◌∷◌, ◌++◌, length, take, drop, refl, ap, sym, ◌∙◌, subst, arith, append-nil, length-append}
+use Rattle.std.proofs.Common.{if◌then◌else◌, ◌≡◌, ℕ, zero, suc, ◌<◌, ◌≤◌, Bool, true, false, List, [], ◌∷◌, ◌++◌, length, take, drop, refl, ap, sym, ◌∙◌, subst, arith, append-nil, append_assoc, length-append}
 use Rattle.std.proofs.lemmas.List.{take-append-drop, take-append-le, drop-append-le, length-take-le}
 use Rattle.std.proofs.Math.Seq.{take-length}
 use mathlib.Core.Path.{fun_ext}
 use Rattle.metrics_names.specs.declared.kind.MetricKind.{MetricKind}
 use Rattle.metrics.specs.Targets.{raise, AllBelow}
-use Rattle.metrics.specs.TargetsLaws.{raise-raise, raise-zero}
+use Rattle.metrics.specs.TargetsLaws.{raise-append}
 use Rattle.metrics.specs.Book.{new_book}
 use Rattle.metrics.specs.Meaning.{Meaning, nothing, one_book}
 use Rattle.metrics.specs.Layers.{joined, joined_all, choosing, targets_of, filtered, matches}
@@ -14,8 +14,12 @@ use Rattle.metrics_rules.specs.Branches.{leaves_in}
 use Rattle.metrics_rules.proofs.BuildersLemmas.{same_meaning}
 use Rattle.metrics_trees.specs.Recorders.{books_in, spread}
 use Rattle.metrics_trees.specs.Over.{over, overs}
-use Rattle.metrics_rules.proofs.JoinedLemmas.{contents-append}
-use Rattle.metrics_trees.proofs.ActingLemmas.{spread-append}
+use Rattle.metrics_rules.proofs.JoinedLemmas.{contents-append, targets_of-past}
+
+spread-append : (all : List Meaning) (kind : MetricKind) (ts us : List (ℕ × List ℕ)) → spread all kind (ts ++ us) ≡ spread all kind ts ++ spread all kind us
+spread-append all kind [] us = refl
+spread-append all kind (t ∷ ts) us =
+    ap (λ vs. targets_of t.0 all kind t.1 ++ vs) (spread-append all kind ts us) ∙ sym (append_assoc (targets_of t.0 all kind t.1) (spread all kind ts) (spread all kind us))
 
 -- one leaf means its recorder
 pub over-leaf : (a : Meaning) → over (one_book new_book) (a ∷ []) ≡ a
@@ -40,30 +44,16 @@ targets_of-front [] ys kind w name lt = absurd (omega (arith, lt))
 targets_of-front (x ∷ xs) ys kind zero name lt = refl
 targets_of-front (x ∷ xs) ys kind (suc w) name lt = ap (raise (length x.contents)) (targets_of-front xs ys kind w name (omega (arith, lt)))
 
-targets_of-past : (xs ys : List Meaning) (kind : MetricKind) (w : ℕ) (name : List ℕ) → targets_of (length xs + w) (xs ++ ys) kind name ≡ raise (books_in xs) (targets_of w ys kind name)
-targets_of-past [] ys kind w name =
-    let z : 0 + w ≡ w = omega arith in
-    ap (λ k. targets_of k ys kind name) z ∙ sym (raise-zero (targets_of w ys kind name))
-targets_of-past (x ∷ xs) ys kind w name =
-    let s : suc (length xs) + w ≡ suc (length xs + w) = omega arith in
-    ap (λ k. targets_of k (x ∷ (xs ++ ys)) kind name) s
-    ∙ ap (raise (length x.contents)) (targets_of-past xs ys kind w name) ∙ raise-raise (length x.contents) (books_in xs) (targets_of w ys kind name)
-    ∙ ap (λ k. raise k (targets_of w ys kind name)) (sym (length-append x.contents (joined_all xs).contents))
-
 spread-front : (xs ys : List Meaning) (kind : MetricKind) (ts : List (ℕ × List ℕ)) → AllBelow (length xs) ts → spread (xs ++ ys) kind ts ≡ spread xs kind ts
 spread-front xs ys kind [] b = refl
 spread-front xs ys kind (t ∷ ts) b =
     ap (λ us. us ++ spread (xs ++ ys) kind ts) (targets_of-front xs ys kind t.0 t.1 b.0) ∙ ap (λ us. targets_of t.0 xs kind t.1 ++ us) (spread-front xs ys kind ts b.1)
 
-raise-join : {X : Type 0} (k : ℕ) (ts us : List (ℕ × X)) → raise k ts ++ raise k us ≡ raise k (ts ++ us)
-raise-join k [] us = refl
-raise-join k (t ∷ ts) us = ap (λ vs. (k + t.0, t.1) ∷ vs) (raise-join k ts us)
-
 spread-past : (xs ys : List Meaning) (kind : MetricKind) (ts : List (ℕ × List ℕ)) → spread (xs ++ ys) kind (raise (length xs) ts) ≡ raise (books_in xs) (spread ys kind ts)
 spread-past xs ys kind [] = refl
 spread-past xs ys kind (t ∷ ts) =
     ap (λ us. us ++ spread (xs ++ ys) kind (raise (length xs) ts)) (targets_of-past xs ys kind t.0 t.1)
-    ∙ ap (λ us. raise (books_in xs) (targets_of t.0 ys kind t.1) ++ us) (spread-past xs ys kind ts) ∙ raise-join (books_in xs) (targets_of t.0 ys kind t.1) (spread ys kind ts)
+    ∙ ap (λ us. raise (books_in xs) (targets_of t.0 ys kind t.1) ++ us) (spread-past xs ys kind ts) ∙ sym (raise-append (books_in xs) (targets_of t.0 ys kind t.1) (spread ys kind ts))
 
 over-joined : (a b : Meaning) (xs ys : List Meaning) → length xs ≡ leaves_of a → over (joined a b) (xs ++ ys) ≡ joined (over a xs) (over b ys)
 over-joined a b xs ys l =

@@ -1,32 +1,29 @@
--- A register call that goes from leaf to leaf.
-use Rattle.std.proofs.Common.{◌≡◌, ◌⊎◌, ℕ, zero, suc, ◌+◌, ◌<◌, ◌≤◌, List, [], ◌∷◌, ◌++◌, length, take, map, get_or, Result, Ok, Err, refl, ap, sym, ◌∙◌, subst, arith, append-nil, append_assoc, length-append, inl, inr}
+-- A register call that goes from leaf to leaf: its addresses.
+use Rattle.std.proofs.Common.{◌≡◌, ℕ, zero, suc, ◌+◌, ◌<◌, ◌≤◌, List, [], ◌∷◌, ◌++◌, length, map, get_or, Option, Result, Ok, Err, refl, ap, sym, ◌∙◌, subst, arith, append-nil, append_assoc, length-append, inr}
 use Rattle.std.specs.List.{All, FoldsTo}
-use Rattle.std.specs.Result.{MatchResult}
-use Rattle.std.proofs.Math.Seq.{take-length}
-use Rattle.std.proofs.lemmas.List.{length-map}
+use Rattle.std.specs.Result.{MatchResult, result_map_both}
+use Rattle.std.proofs.lemmas.List.{length-map, map-append}
 use Rattle.metrics_names.specs.declared.kind.MetricKind.{MetricKind}
 use Rattle.metrics_names.specs.declared.refused.Refused.{Refused}
-use Rattle.metrics_names.specs.declared.refused.Refused.TheVariants.{Memory, NoSuchAddress, NoSuchBook, BadHandle}
 use Rattle.metrics_names.specs.Names.{KeyParts}
 use Rattle.metrics.specs.declared.handles.Address.{Address}
 use Rattle.metrics.specs.Targets.{after_targets, change_at, AreDistinct, IsNot}
 use Rattle.metrics.specs.Book.{Content, register_in, content_at, place}
-use Rattle.metrics.specs.Meaning.{Meaning, KeepsTargets, Registers, addresses, address_in, key_in_book}
+use Rattle.metrics.specs.Meaning.{Meaning, Acts, KeepsTargets, Registers, addresses, address_in, key_in_book}
 use Rattle.metrics.specs.Layers.{targets_of}
-use Rattle.metrics.proofs.MeaningLemmas.{length-registers}
 use Rattle.metrics_rules.specs.declared.visitor.Stopped.{Stopped}
 use Rattle.metrics_rules.specs.Visits.{key_at, shown, Visits}
 use Rattle.metrics_trees.specs.BookEnds.{raised, raised_one, IsAppended, CanAppend}
-use Rattle.metrics_trees.specs.Recorders.{books_of, books_in, most_books, spread}
+use Rattle.metrics_trees.specs.Recorders.{books_of, books_in, most_books, spread, start}
 use Rattle.metrics_trees.specs.Over.{over}
 use Rattle.metrics_trees.specs.OverLaws.{distinct_spread}
-use Rattle.metrics_trees.specs.Recorders.{start}
 use Rattle.metrics_trees.specs.Calls.{Calls}
-use Rattle.metrics_trees.specs.Visiting.{Asks}
-use Rattle.metrics_trees.proofs.JoinedLemmas.{addresses-below, addresses-append, length-addresses}
+use Rattle.metrics_trees.specs.Visiting.{Acting, IsEnd, Acted, Accepts, Rejects, IsAdded, kind_of, found_by, registering, addresses_at}
+use Rattle.metrics_trees.specs.declared.visits.Call.{Call}
+use Rattle.metrics_trees.proofs.JoinedLemmas.{addresses-below}
 use Rattle.metrics_rules.proofs.OneChildLemmas.{before-is, child-most, targets-one}
 use Rattle.metrics_trees.proofs.OneChildLemmas.{addresses-child}
-use Rattle.metrics_trees.proofs.ActingLemmas.{spread-append, spread-alone, contents_in, Ended, Acted, IsOut, Failed, done-one, whole, stopped, visited}
+use Rattle.metrics_trees.proofs.ActingLemmas.{contents_in, IsAt, went-one, counted, answered}
 
 -- the addresses of one recorder can be raised
 pub can-append : {Y : Type 0} (M : Y → Meaning) (ys : List Y) (n : ℕ) (x : Y) → n < length ys → x ≡ get_or ys n x → (front : ℕ) → front ≡ start n (map M ys) → books_in (map M ys) ≤ most_books →
@@ -38,190 +35,123 @@ can-append M ys n x lt at front f m y kind key (Ok there) g =
     record { front_fits = omega (arith, p, s, f); books_fit = subst (All (λ a. a.book < 65536)) (sym g.0) (λ j d l. (let z = b j d l in omega (arith, z, p))) }
 can-append M ys n x lt at front f m y kind key (Err e) g = tt
 
--- a recorder was asked, and its addresses were added, or it failed
-pub asked : {B : Type 0} (m : B → Meaning) (leaf : ℕ) (key : KeyParts) (was now : List B) (found more : List Address) {k j : MetricKind} → j ≡ k → (front : ℕ) → front ≡ start leaf (map m was) →
-    (answer : Result (List Address) Refused) → Calls m leaf was now (λ a c. Registers a c k key answer) → (r : Result (Unit {0}) Refused) → IsAppended found more front answer r →
-    MatchResult r (λ done. Asks m j leaf key was now found more (Ok tt)) (λ e. Asks m j leaf key was now found more (Err e))
-asked m leaf key was now found more {k} {j} e front at answer calls = by_result
-  where
-    asks : (r : Result (Unit {0}) Refused) → IsAppended found more front answer r → Asks m j leaf key was now found more r
-    asks r a = record {
-      answer = answer;
-      calls = subst (λ q. Calls m leaf was now (λ a c. Registers a c q key answer)) (sym e) calls;
-      appended = subst (λ n. IsAppended found more n answer r) at a;
-    }
+abbrev registers : MetricKind → List (List ℕ × List ℕ) → List ℕ → Content → Content
+registers kind labels name = register_in (key_in_book kind labels name)
 
-    by_result : (r : Result (Unit {0}) Refused) → IsAppended found more front answer r →
-        MatchResult r (λ done. Asks m j leaf key was now found more (Ok tt)) (λ e. Asks m j leaf key was now found more (Err e))
-    by_result (Ok done) a = asks (Ok done) a
-    by_result (Err d) a = asks (Err d) a
+-- ---- a recorder was asked, and its addresses were added, or it failed
+
+abbrev count_of : Result (List Address) Refused → Result ℕ Refused
+count_of answer = result_map_both (length {A = Address}) (λ e. e) answer
+
+registers-counted : (a c : Meaning) (kind : MetricKind) (key : KeyParts) (answer : Result (List Address) Refused) → Registers a c kind key answer →
+    Acts (registers kind key.labels) (a.targets kind key.name) a c (count_of answer) (λ n. n ≡ length (a.targets kind key.name))
+registers-counted a c kind key (Ok there) h = (ap length h.0 ∙ length-map (a.targets kind key.name) (address_in kind key.labels a.contents), h.1)
+registers-counted a c kind key (Err e) h = h
+
+added : (found more : List Address) (front : ℕ) (answer : Result (List Address) Refused) (r : Result (Unit {0}) Refused) → IsAppended found more front answer r → IsAdded (length found) (length more) (count_of answer) r
+added found more front (Ok there) (Ok done) a = λ lt. ap length a ∙ length-append found (raised front there) ∙ ap (λ n. length found + n) (length-map there (raised_one front))
+added found more front (Ok there) (Err e) a = (a.0, ap length a.1)
+added found more front (Err e) (Err d) a = (a.0, ap length a.1)
+added found more front (Err e) (Ok done) a = absurd a
+
+module _ {B : Type 0} (m : B → Meaning) (leaf : ℕ) (key : KeyParts) (was now : List B) (call next : Option Call) (same : kind_of next ≡ kind_of call) (front : ℕ) (at : front ≡ start leaf (map m was)) where
+  found_there : (answer : Result (List Address) Refused) → Calls m leaf was now (λ a c. Registers a c (kind_of call) key answer) → IsAppended {A = Unit {0}} (found_by call) (found_by next) front answer (Ok tt) →
+      found_by next ≡ found_by call ++ addresses_at m was leaf (kind_of call) key
+  found_there (Err e) c a = absurd a
+  found_there (Ok there) c a =
+      let ts = (m c.before).targets (kind_of call) key.name in
+      a ∙ ap (λ xs. found_by call ++ raised front xs) c.called.0
+      ∙ ap (λ k. found_by call ++ raised k (addresses (kind_of call) key.labels ts (m c.before).contents)) (at ∙ sym (before-is m was leaf c.before c.within c.at))
+      ∙ ap (λ xs. found_by call ++ xs)
+      (addresses-child m was leaf c.before c.within c.at (kind_of call) key.labels key.name
+      ∙ ap (λ us. addresses (kind_of call) key.labels us (contents_in m was)) (sym (targets-one m was leaf c.before c.within c.at (kind_of call) key.name)))
+
+  pub asked : (kind : MetricKind) → kind_of call ≡ kind → (answer : Result (List Address) Refused) → Calls m leaf was now (λ a c. Registers a c kind key answer) → (r : Result (Unit {0}) Refused) →
+      IsAppended (found_by call) (found_by next) front answer r →
+      MatchResult r (λ done. Accepts m leaf key (registering call was) (registering next now) × (found_by next ≡ found_by call ++ addresses_at m was leaf (kind_of call) key)) (λ e. Rejects m leaf key e (registering call was) (registering next now))
+  asked kind e answer calls r a = by_result r a (acted r a)
+    where
+      c : Calls m leaf was now (λ a c. Registers a c (kind_of call) key answer)
+      c = subst (λ q. Calls m leaf was now (λ a c. Registers a c q key answer)) (sym e) calls
+
+      acted : (r : Result (Unit {0}) Refused) → IsAppended (found_by call) (found_by next) front answer r → Acted m leaf key (registering call was) (registering next now) r
+      acted r a = record {
+        answer = count_of answer;
+        calls = record { before = c.before; after = c.after; within = c.within; at = c.at; is = c.is; keeps = c.keeps; called = registers-counted (m c.before) (m c.after) (kind_of call) key answer c.called };
+        added = added (found_by call) (found_by next) front answer r a;
+      }
+
+      by_result : (r : Result (Unit {0}) Refused) → IsAppended (found_by call) (found_by next) front answer r → Acted m leaf key (registering call was) (registering next now) r →
+          MatchResult r (λ done. Accepts m leaf key (registering call was) (registering next now) × (found_by next ≡ found_by call ++ addresses_at m was leaf (kind_of call) key)) (λ e. Rejects m leaf key e (registering call was) (registering next now))
+      by_result (Ok done) a h = ((same, ap registers' same, h), found_there answer c a)
+        where
+          registers' : MetricKind → List (List ℕ × List ℕ) → List ℕ → Content → Content
+          registers' = registers
+      by_result (Err d) a h = inr (inr h)
 
 -- ---- what acting on some targets leaves
 
-content-other : (b k : ℕ) (g : Content → Content) (cs : List Content) → (k ≡ b → ⊥) → content_at b (change_at k g cs) ≡ content_at b cs
+content-other : (b k : ℕ) (g : Content → Content) (cs : List Content) → (k ≡ b → ⊥) → content_at k (change_at b g cs) ≡ content_at k cs
 content-other b k g [] ne = refl
 content-other zero zero g (c ∷ cs) ne = absurd (ne refl)
 content-other (suc b) zero g (c ∷ cs) ne = refl
 content-other zero (suc k) g (c ∷ cs) ne = refl
 content-other (suc b) (suc k) g (c ∷ cs) ne = content-other b k g cs (λ e. ne (ap suc e))
 
-content-stays : (b : ℕ) (f : List ℕ → Content → Content) (ts : List (ℕ × List ℕ)) (cs : List Content) → IsNot b ts → content_at b (after_targets f ts cs) ≡ content_at b cs
-content-stays b f [] cs h = refl
-content-stays b f (t ∷ ts) cs h = content-stays b f ts (change_at t.0 (f t.1) cs) h.1 ∙ content-other b t.0 (f t.1) cs h.0
-
-abbrev pub Apart : List (ℕ × List ℕ) → List (ℕ × List ℕ) → Type 0
-Apart ts [] = Unit {0}
-Apart ts (u ∷ us) = IsNot u.0 ts × Apart ts us
-
-apart-none : (us : List (ℕ × List ℕ)) → Apart [] us
-apart-none [] = tt
-apart-none (u ∷ us) = (tt, apart-none us)
-
-apart-more : (t : ℕ × List ℕ) (ts us : List (ℕ × List ℕ)) → IsNot t.0 us → Apart ts us → Apart (t ∷ ts) us
-apart-more t ts [] n h = tt
-apart-more t ts (u ∷ us) n h = (((λ e. n.0 (sym e)), h.0), apart-more t ts us n.1 h.1)
-
 is_not-behind : (b : ℕ) (ts us : List (ℕ × List ℕ)) → IsNot b (ts ++ us) → IsNot b us
 is_not-behind b [] us h = h
 is_not-behind b (t ∷ ts) us h = is_not-behind b ts us h.1
 
-pub apart-of : (ts us : List (ℕ × List ℕ)) → AreDistinct (ts ++ us) → Apart ts us
-apart-of [] us d = apart-none us
-apart-of (t ∷ ts) us d = apart-more t ts us (is_not-behind t.0 ts us d.0) (apart-of ts us d.1)
-
 module _ (kind : MetricKind) (labels : List (List ℕ × List ℕ)) where
-  abbrev pub registers : List ℕ → Content → Content
-  registers there = register_in (key_in_book kind labels there)
+  addresses-other : (b : ℕ) (g : Content → Content) (us : List (ℕ × List ℕ)) (cs : List Content) → IsNot b us → addresses kind labels us (change_at b g cs) ≡ addresses kind labels us cs
+  addresses-other b g [] cs h = refl
+  addresses-other b g (u ∷ us) cs h =
+      ap (λ c. record { book = u.0; series = place (key_in_book kind labels u.1) c } ∷ addresses kind labels us (change_at b g cs)) (content-other b u.0 g cs h.0)
+      ∙ ap (λ xs. address_in kind labels cs u ∷ xs) (addresses-other b g us cs h.1)
 
-  pub addresses-stay : (f : List ℕ → Content → Content) (ts us : List (ℕ × List ℕ)) (cs : List Content) → Apart ts us → addresses kind labels us (after_targets f ts cs) ≡ addresses kind labels us cs
-  addresses-stay f ts [] cs h = refl
-  addresses-stay f ts (u ∷ us) cs h =
-      ap (λ c. record { book = u.0; series = place (key_in_book kind labels u.1) c } ∷ addresses kind labels us (after_targets f ts cs)) (content-stays u.0 f ts cs h.0)
-      ∙ ap (λ as'. address_in kind labels cs u ∷ as') (addresses-stay f ts us cs h.1)
+  addresses-stay : (f : List ℕ → Content → Content) (ts us : List (ℕ × List ℕ)) (cs : List Content) → AreDistinct (ts ++ us) → addresses kind labels us (after_targets f ts cs) ≡ addresses kind labels us cs
+  addresses-stay f [] us cs d = refl
+  addresses-stay f (t ∷ ts) us cs d = addresses-stay f ts us (change_at t.0 (f t.1) cs) d.1 ∙ addresses-other t.0 (f t.1) us cs (is_not-behind t.0 ts us d.0)
 
-  module _ {B : Type 0} (m : B → Meaning) where
-    -- asking one recorder acts on its targets
-    asks-acted : (t : ℕ × List ℕ) (was now : List B) (found more : List Address) (r : Result (Unit {0}) Refused) →
-        Asks m kind t.0 (key_at labels t) was now found more r → Acted m kind registers t was now (length found) (length more) r
-    asks-acted t was now found more r asks = by_answer asks.answer r asks.calls asks.appended
-      where
-        acted : (q : Result (List Address) Refused) (r : Result (Unit {0}) Refused) (c : Calls m t.0 was now (λ a c. Registers a c kind (key_at labels t) q)) (n : ℕ) →
-            n ≤ length ((m c.before).targets kind t.1) → (m c.after).contents ≡ after_targets registers (take n ((m c.before).targets kind t.1)) (m c.before).contents →
-            Ended m kind registers n (length ((m c.before).targets kind t.1)) (length found) (length more) r → Acted m kind registers t was now (length found) (length more) r
-        acted q r c n most contents ended = record {
-          before = c.before;
-          after = c.after;
-          within = c.within;
-          at = c.at;
-          is = c.is;
-          keeps = c.keeps;
-          books = length-registers (m c.before) (m c.after) kind (key_at labels t) q c.called;
-          count = n;
-          most = most;
-          contents = contents;
-          ended = ended;
-        }
+-- the addresses found are those of all targets, before the call
+module _ {B : Type 0} (m : B → Meaning) (labels : List (List ℕ × List ℕ)) (kind : MetricKind) (step : List (List ℕ × List ℕ) → List ℕ → Content → Content) {V : Type 0} (st : V → Acting B) (fd : V → List Address)
+    (accepts : V → ℕ → KeyParts → V → Type 0) (refuses : V → ℕ → KeyParts → Refused → V → Type 0)
+    (gains : (v : V) (leaf : ℕ) (key : KeyParts) (w : V) → accepts v leaf key w → Accepts m leaf key (st v) (st w) × (fd w ≡ fd v ++ addresses_at m (st v).recorders leaf (st v).kind key))
+    (loses : (v : V) (leaf : ℕ) (key : KeyParts) (e : Refused) (w : V) → refuses v leaf key e w → Rejects m leaf key e (st v) (st w)) where
+  gained : (v : V) (leaf : ℕ) (key : KeyParts) (w : V) → accepts v leaf key w → Accepts m leaf key (st v) (st w)
+  gained v leaf key w h = (gains v leaf key w h).0
 
-        by_answer : (q : Result (List Address) Refused) (r : Result (Unit {0}) Refused) → Calls m t.0 was now (λ a c. Registers a c kind (key_at labels t) q) →
-            IsAppended found more (start t.0 (map m was)) q r → Acted m kind registers t was now (length found) (length more) r
-        by_answer (Ok there) (Ok done) c a =
-            let ts = (m c.before).targets kind t.1 in
-            let l : length there ≡ length ts = ap length c.called.0 ∙ length-addresses kind labels ts (m c.before).contents in
-            let n : length more ≡ length found + length ts = (let e = ap length a ∙ length-append found (raised (start t.0 (map m was)) there) in let d = length-map there (raised_one (start t.0 (map m was))) in omega (arith, e, d, l)) in
-            acted (Ok there) (Ok done) c (length ts) (omega arith) (c.called.1 ∙ ap (λ us. after_targets registers us (m c.before).contents) (sym (take-length ts))) (refl, λ lt. n)
-        by_answer (Ok there) (Err e) c a =
-            let ts = (m c.before).targets kind t.1 in
-            let l : length there ≡ length ts = ap length c.called.0 ∙ length-addresses kind labels ts (m c.before).contents in
-            acted (Ok there) (Err e) c (length ts) (omega arith) (c.called.1 ∙ ap (λ us. after_targets registers us (m c.before).contents) (sym (take-length ts))) (a.0 ∙ ap Memory l, ap length a.1)
-        by_answer (Err (Memory i)) (Err e) c a = acted (Err (Memory i)) (Err e) c i c.called.0 c.called.1 (a.0, ap length a.1)
-        by_answer (Err NoSuchAddress) (Err e) c a = absurd c.called
-        by_answer (Err NoSuchBook) (Err e) c a = absurd c.called
-        by_answer (Err BadHandle) (Err e) c a = absurd c.called
-        by_answer (Err e) (Ok done) c a = absurd a
+  found-all : (v : V) (ts : List (ℕ × List ℕ)) (w : V) → IsAt m labels kind step st v → AreDistinct ts → FoldsTo (shown accepts labels) v ts w →
+      fd w ≡ fd v ++ addresses kind labels (spread (map m (st v).recorders) kind ts) (contents_in m (st v).recorders)
+  found-all v [] w k d p = ap fd (sym p) ∙ sym (append-nil (fd v))
+  found-all v (t ∷ ts) w k d p =
+      let bs = (st v).recorders in
+      let one = went-one m labels kind step st accepts refuses gained loses v t p.0 k p.1 in
+      let Y = targets_of t.0 (map m bs) kind t.1 in
+      let Z = spread (map m bs) kind ts in
+      let at = λ (us : List (ℕ × List ℕ)) (cs : List Content). addresses kind labels us cs in
+      let found = (gains v t.0 (key_at labels t) p.0 p.1).1 ∙ ap (λ q. fd v ++ addresses_at m bs t.0 q (key_at labels t)) k.0 in
+      found-all p.0 ts w one.0 d.1 p.2
+      ∙ ap (λ us. fd p.0 ++ at us (contents_in m (st p.0).recorders)) (one.1.did.same kind ts)
+      ∙ ap (λ cs. fd p.0 ++ at Z cs) one.1.did.contents
+      ∙ ap (λ xs. fd p.0 ++ xs) (addresses-stay kind labels (step labels) Y Z (contents_in m bs) (distinct_spread (map m bs) kind (t ∷ ts) d))
+      ∙ ap (λ xs. xs ++ at Z (contents_in m bs)) found
+      ∙ append_assoc (fd v) (at Y (contents_in m bs)) (at Z (contents_in m bs))
+      ∙ ap (λ xs. fd v ++ xs) (sym (map-append (address_in kind labels (contents_in m bs)) Y Z))
 
-    -- its addresses are those of its targets among all
-    found-one : (t : ℕ × List ℕ) (was now : List B) (found more : List Address) → Asks m kind t.0 (key_at labels t) was now found more (Ok tt) →
-        more ≡ found ++ addresses kind labels (targets_of t.0 (map m was) kind t.1) (contents_in m kind registers was)
-    found-one t was now found more asks = by_answer asks.answer asks.calls asks.appended
-      where
-        by_answer : (q : Result (List Address) Refused) → Calls m t.0 was now (λ a c. Registers a c kind (key_at labels t) q) → IsAppended {A = Unit {0}} found more (start t.0 (map m was)) q (Ok tt) →
-            more ≡ found ++ addresses kind labels (targets_of t.0 (map m was) kind t.1) (contents_in m kind registers was)
-        by_answer (Err e) c a = absurd a
-        by_answer (Ok there) c a =
-            let ts = (m c.before).targets kind t.1 in
-            a ∙ ap (λ as'. found ++ raised (start t.0 (map m was)) as') c.called.0
-            ∙ ap (λ k. found ++ raised k (addresses kind labels ts (m c.before).contents)) (sym (before-is m was t.0 c.before c.within c.at))
-            ∙ ap (λ as'. found ++ as')
-            (addresses-child m was t.0 c.before c.within c.at kind labels t.1
-            ∙ ap (λ us. addresses kind labels us (contents_in m kind registers was)) (sym (targets-one m was t.0 c.before c.within c.at kind t.1)))
+  module _ (R : Meaning) (name : List ℕ) (v w : V) (k : IsAt m labels kind step st v) (none : (st v).acted ≡ 0) (most : books_in (map m (st v).recorders) ≤ most_books) (leaves : books_of R ≡ length (st v).recorders)
+      (q : Result ℕ Stopped) (p : Visits accepts refuses labels v (R.targets kind name) w q) where
+    abbrev old : Meaning
+    old = over R (map m (st v).recorders)
 
-    module _ {V : Type 0} (accepts : V → ℕ → KeyParts → V → Type 0) (refuses : V → ℕ → KeyParts → Refused → V → Type 0) (kd : V → MetricKind) (lv : V → List B) (fd : V → List Address)
-        (asks : (v : V) (leaf : ℕ) (key : KeyParts) (w : V) → accepts v leaf key w → (kd w ≡ kd v) × Asks m (kd v) leaf key (lv v) (lv w) (fd v) (fd w) (Ok tt))
-        (rejects : (u : V) (leaf : ℕ) (key : KeyParts) (e : Refused) (x : V) → refuses u leaf key e x →
-        IsOut m kind registers (lv u) leaf e ⊎ (((x ≡ u) × (e ≡ Memory 0)) ⊎ Asks m (kd u) leaf key (lv u) (lv x) (fd u) (fd x) (Err e))) where
-      abbrev pub ok : V → Type 0
-      ok v = kd v ≡ kind
+    pub registered-count : length (st w).recorders ≡ length (st v).recorders
+    registered-count = counted m labels kind step st accepts refuses gained loses R name v w k none most leaves q p
 
-      abbrev pub acted : V → ℕ
-      acted v = length (fd v)
+    abbrev all : List Address
+    all = addresses kind labels (old.targets kind name) old.contents
 
-      asks-there : (v : V) (t : ℕ × List ℕ) (w : V) → ok v → accepts v t.0 (key_at labels t) w → Asks m kind t.0 (key_at labels t) (lv v) (lv w) (fd v) (fd w) (Ok tt)
-      asks-there v t w k h = subst (λ q. Asks m q t.0 (key_at labels t) (lv v) (lv w) (fd v) (fd w) (Ok tt)) k (asks v t.0 (key_at labels t) w h).1
-
-      pub gains : (v : V) (t : ℕ × List ℕ) (w : V) → ok v → accepts v t.0 (key_at labels t) w → ok w × Acted m kind registers t (lv v) (lv w) (acted v) (acted w) (Ok tt)
-      gains v t w k h = ((asks v t.0 (key_at labels t) w h).0 ∙ k, asks-acted t (lv v) (lv w) (fd v) (fd w) (Ok tt) (asks-there v t w k h))
-
-      pub loses : (u : V) (t : ℕ × List ℕ) (e : Refused) (x : V) → ok u → refuses u t.0 (key_at labels t) e x →
-          IsOut m kind registers (lv u) t.0 e ⊎ (((x ≡ u) × (e ≡ Memory 0)) ⊎ Acted m kind registers t (lv u) (lv x) (acted u) (acted x) (Err e))
-      loses u t e x k h = cases (rejects u t.0 (key_at labels t) e x h)
-        where
-          cases : IsOut m kind registers (lv u) t.0 e ⊎ (((x ≡ u) × (e ≡ Memory 0)) ⊎ Asks m (kd u) t.0 (key_at labels t) (lv u) (lv x) (fd u) (fd x) (Err e)) →
-              IsOut m kind registers (lv u) t.0 e ⊎ (((x ≡ u) × (e ≡ Memory 0)) ⊎ Acted m kind registers t (lv u) (lv x) (acted u) (acted x) (Err e))
-          cases (inl out) = inl out
-          cases (inr (inl same)) = inr (inl same)
-          cases (inr (inr h)) = inr (inr (asks-acted t (lv u) (lv x) (fd u) (fd x) (Err e) (subst (λ q. Asks m q t.0 (key_at labels t) (lv u) (lv x) (fd u) (fd x) (Err e)) k h)))
-
-      found-all : (v : V) (ts : List (ℕ × List ℕ)) (w : V) → ok v → AreDistinct ts → FoldsTo (shown accepts labels) v ts w →
-          fd w ≡ fd v ++ addresses kind labels (spread (map m (lv v)) kind ts) (contents_in m kind registers (lv v))
-      found-all v [] w k d p = ap fd (sym p) ∙ sym (append-nil (fd v))
-      found-all v (t ∷ ts) w k d p =
-          let all = map m (lv v) in
-          let step = asks-there v t p.0 k p.1 in
-          let done = done-one m kind registers t (lv v) (lv p.0) (acted v) (acted p.0) (asks-acted t (lv v) (lv p.0) (fd v) (fd p.0) (Ok tt) step) in
-          let X = spread all kind (t ∷ []) in
-          let Y = spread all kind ts in
-          let cs = contents_in m kind registers (lv v) in
-          let ds = contents_in m kind registers (lv p.0) in
-          let apart = apart-of X Y (subst AreDistinct (spread-append all kind (t ∷ []) ts) (distinct_spread all kind (t ∷ ts) d)) in
-          let k' = (asks v t.0 (key_at labels t) p.0 p.1).0 ∙ k in
-          found-all p.0 ts w k' d.1 p.2
-          ∙ ap (λ vs. fd p.0 ++ addresses kind labels vs ds) (done.same kind ts)
-          ∙ ap (λ es. fd p.0 ++ addresses kind labels Y es) done.contents
-          ∙ ap (λ as'. fd p.0 ++ as') (addresses-stay registers X Y cs apart)
-          ∙ ap (λ fs. fs ++ addresses kind labels Y cs) (found-one t (lv v) (lv p.0) (fd v) (fd p.0) step ∙ ap (λ us. fd v ++ addresses kind labels us cs) (sym (spread-alone all kind t)))
-          ∙ append_assoc (fd v) (addresses kind labels X cs) (addresses kind labels Y cs)
-          ∙ ap (λ as'. fd v ++ as') (sym (addresses-append kind labels X Y cs) ∙ ap (λ vs. addresses kind labels vs cs) (sym (spread-append all kind (t ∷ []) ts)))
-
-      module _ (R : Meaning) (name : List ℕ) (v w : V) (k : kd v ≡ kind) (none : fd v ≡ []) where
-        abbrev call : KeyParts
-        call = record { name = name; labels = labels }
-
-        abbrev old : Meaning
-        old = over R (map m (lv v))
-
-        abbrev new : Meaning
-        new = over R (map m (lv w))
-
-        pub registers-whole : (n : ℕ) → Visits accepts refuses labels v (R.targets kind name) w (Ok n) → Registers old new kind call (Ok (fd w))
-        registers-whole n p = (
-          found-all v (R.targets kind name) w k (R.distinct kind name) p.1 ∙ ap (λ fs. fs ++ addresses kind labels (old.targets kind name) old.contents) none,
-          (whole m kind registers labels accepts refuses ok lv acted gains R name v w k (ap length none) p.1).contents,
-        )
-
-        module _ (most : books_in (map m (lv v)) ≤ most_books) (leaves : books_of R ≡ length (lv v)) where
-          pub registers-kept : (r : Result ℕ Stopped) → Visits accepts refuses labels v (R.targets kind name) w r → KeepsTargets old new × (length (lv w) ≡ length (lv v))
-          registers-kept r p = visited m kind registers labels accepts refuses ok lv acted gains R name v w k (ap length none) most loses leaves r p
-
-          pub registers-stopped : (s : Stopped) → Visits accepts refuses labels v (R.targets kind name) w (Err s) →
-              Failed m kind registers labels accepts refuses ok lv acted gains R name v w k (ap length none) s.refused
-          registers-stopped s p = stopped m kind registers labels accepts refuses ok lv acted gains R name v w k (ap length none) most loses leaves s p
+    pub registered : (r : Result (List Address) Refused) (found : List Address) → found ≡ fd w → fd v ≡ [] → IsEnd q found (st w).acted r →
+        Acts (step labels) (old.targets kind name) old (over R (map m (st w).recorders)) r (λ xs. xs ≡ all) × KeepsTargets old (over R (map m (st w).recorders))
+    registered r found is begun end =
+        answered m labels kind step st accepts refuses gained loses R name v w k none most leaves (λ xs. xs ≡ all) found
+        (λ folds n. is ∙ found-all v (R.targets kind name) w k (R.distinct kind name) folds ∙ ap (λ xs. xs ++ all) begun) q r p end

@@ -1,21 +1,28 @@
 -- Recorders and the ends of their books.
-use Rattle.std.proofs.Common.{◌≡◌, ℕ, suc, ◌+◌, ◌<◌, ◌≤◌, List, [], ◌∷◌, ◌++◌, length, map, take, drop, get_or, set, refl, ap, sym, ◌∙◌, subst, arith, append-nil}
+use Rattle.std.proofs.Common.{◌≡◌, ℕ, suc, ◌+◌, ◌<◌, ◌≤◌, List, [], ◌∷◌, ◌++◌, length, map, take, drop, get_or, set, Result, ap, sym, ◌∙◌, subst, arith}
 use Rattle.std.specs.List.{All}
 use Rattle.std.proofs.Math.Seq.{take-suc}
 use Rattle.std.proofs.lemmas.List.{map-append, take-append-drop}
 use Rattle.std.proofs.lemmas.List.Elements.{All-nil, All-cons}
-use Rattle.metrics.specs.Meaning.{Meaning, KeepsTargets}
+use Rattle.std.proofs.lemmas.List.{length-map, length-set}
+use Rattle.metrics.specs.declared.debugging.Reset.{Reset}
+use Rattle.metrics.specs.declared.handles.Update.{Update}
+use Rattle.metrics_names.specs.declared.refused.Refused.{Refused}
+use Rattle.metrics.specs.Book.{SnapshotParts}
+use Rattle.metrics.specs.Meaning.{Meaning, nothing, KeepsTargets, Updates, Snapshots}
+use Rattle.metrics.proofs.MeaningLemmas.{length-updates, length-snapshots}
+use Rattle.metrics_trees.specs.BookEnds.{IsPlace}
+use Rattle.metrics_trees.specs.Calls.{Calls, CallsBook}
+use Rattle.metrics_trees.specs.Over.{over}
 use Rattle.metrics_rules.specs.Ends.{total, ends_from}
-use Rattle.metrics_trees.specs.Recorders.{AreEnds, books_of, books_in, most_books}
-use Rattle.metrics_rules.proofs.JoinedLemmas.{leaves-append}
-use Rattle.metrics_rules.proofs.OneChildLemmas.{leaves-total}
-use Rattle.metrics_trees.proofs.OneChildLemmas.{same-books}
-
-pub books-are : (ends : List ℕ) (all : List Meaning) (n : ℕ) → AreEnds ends all → ((sizes : List ℕ) → ends ≡ ends_from 0 sizes → n ≡ total sizes) → n ≡ books_in all
-books-are ends all n e h = h (map books_of all) e ∙ sym (leaves-total all)
+use Rattle.metrics_rules.specs.Nodes.{AreEnds}
+use Rattle.metrics_trees.specs.Recorders.{books_of, books_in, most_books}
+use Rattle.metrics_rules.proofs.JoinedLemmas.{leaves-append, leaves-one}
+use Rattle.metrics_rules.proofs.OneChildLemmas.{leaves-total, ends-pushed}
+use Rattle.metrics_trees.proofs.OneChildLemmas.{same-books, keeps-one, updates-place, snapshots-place}
 
 module _ {Y : Type 0} (M : Y → Meaning) (ys : List Y) (n : ℕ) (x : Y) (lt : n < length ys) (at : x ≡ get_or ys n x) (y : Y) (keeps : KeepsTargets (M x) (M y)) (books : books_of (M y) ≡ books_of (M x)) where
-  pub ends-stay : (ends : List ℕ) → AreEnds ends (map M ys) → AreEnds ends (map M (set ys n y))
+  ends-stay : (ends : List ℕ) → AreEnds ends (map M ys) → AreEnds ends (map M (set ys n y))
   ends-stay ends e = e ∙ ap (ends_from 0) (sym (same-books M ys n x lt at y keeps books))
 
   pub books-stay : books_in (map M (set ys n y)) ≡ books_in (map M ys)
@@ -24,37 +31,47 @@ module _ {Y : Type 0} (M : Y → Meaning) (ys : List Y) (n : ℕ) (x : Y) (lt : 
   pub most-stays : books_in (map M ys) ≤ most_books → books_in (map M (set ys n y)) ≤ most_books
   most-stays m = subst (λ k. k ≤ most_books) (sym books-stay) m
 
--- ---- recorders after others
+-- after a call there are few enough books, if it leaves their number
+pub few-after : {B : Type 0} (m : B → Meaning) (leaf : ℕ) {was now : List B} {R : Meaning → Meaning → Type 0} (c : Calls m leaf was now R) → books_of (m c.after) ≡ books_of (m c.before) → books_in (map m was) ≤ most_books → books_in (map m now) ≤ most_books
+few-after m leaf {was} c books few = subst (λ bs. books_in (map m bs) ≤ most_books) (sym c.is) (most-stays m was leaf c.before c.within c.at c.after c.keeps books few)
 
-pub books-one : (xs : List Meaning) (a : Meaning) → books_in (xs ++ a ∷ []) ≡ books_in xs + books_of a
-books-one xs a = leaves-append xs (a ∷ []) ∙ ap (λ k. books_in xs + k) (ap length (append-nil a.contents))
+pub few-kept : {B : Type 0} (m : B → Meaning) {was now : List B} {R : Meaning → Meaning → Type 0} → CallsBook m was now R → ((a c : Meaning) → R a c → books_of c ≡ books_of a) → books_in (map m was) ≤ most_books → books_in (map m now) ≤ most_books
+few-kept m c books few = subst (λ k. k ≤ most_books) (sym (books _ _ (c.called nothing))) few
 
-ends-shift : (k j : ℕ) (ns : List ℕ) → ends_from (k + j) ns ≡ map (λ e. k + e) (ends_from j ns)
-ends-shift k j [] = refl
-ends-shift k j (n ∷ ns) =
-    let e : k + j + n ≡ k + (j + n) = omega arith in
-    ap (λ z. z ∷ ends_from z ns) e ∙ ap (λ es. (k + (j + n)) ∷ es) (ends-shift k (j + n) ns)
+-- the recorders after a call of one of them, which did this
+pub record PutBack {Y : Type 0} (M : Y → Meaning) (ys zs : List Y) (ends : List ℕ) (R : Meaning → Meaning → Type 0) : Type 0 where
+  pub ends_are : AreEnds ends (map M zs)
+  pub most : books_in (map M zs) ≤ most_books
+  pub calls : CallsBook M ys zs R
 
-ends-append : (k : ℕ) (ns ks : List ℕ) → ends_from k (ns ++ ks) ≡ ends_from k ns ++ map (λ e. k + total ns + e) (ends_from 0 ks)
-ends-append k [] ks =
-    let e : k ≡ k + 0 + 0 = omega arith in
-    ap (λ z. ends_from z ks) e ∙ ends-shift (k + 0) 0 ks
-ends-append k (n ∷ ns) ks =
-    let e : k + n + total ns ≡ k + (n + total ns) = omega arith in
-    ap (λ es. (k + n) ∷ es) (ends-append (k + n) ns ks ∙ ap (λ z. ends_from (k + n) ns ++ map (λ i. z + i) (ends_from 0 ks)) e)
+module _ {Y : Type 0} (M : Y → Meaning) (ys : List Y) (ends : List ℕ) (are : AreEnds ends (map M ys)) (most : books_in (map M ys) ≤ most_books) (n : ℕ) (x y : Y)
+    (at : x ≡ get_or ys n x) (keeps : KeepsTargets (M x) (M y)) where
+  pub put-back : (R : Meaning → Meaning → Type 0) → n < length ys → books_of (M y) ≡ books_of (M x) → ((rules : Meaning) → R (over rules (map M ys)) (over rules (map M (set ys n y)))) →
+      PutBack M ys (set ys n y) ends R
+  put-back R lt books called = record {
+    ends_are = ends-stay M ys n x lt at y keeps books ends are;
+    most = most-stays M ys n x lt at y keeps books most;
+    calls = record { count = length-set ys n y; keeps = keeps-one M ys n x lt at y keeps books; called = called };
+  }
 
-pub ends-joined : (xs ys : List Meaning) (es fs : List ℕ) → AreEnds es xs → AreEnds fs ys → AreEnds (es ++ map (λ e. books_in xs + e) fs) (xs ++ ys)
-ends-joined xs ys es fs a b =
-    let ns = map books_of xs in
-    let t : books_in xs ≡ 0 + total ns = (let k = leaves-total xs in omega (arith, k)) in
-    ap (λ is. is ++ map (λ e. books_in xs + e) fs) a ∙ ap (λ is. ends_from 0 ns ++ map (λ e. books_in xs + e) is) b
-    ∙ ap (λ z. ends_from 0 ns ++ map (λ e. z + e) (ends_from 0 (map books_of ys))) t
-    ∙ sym (ends-append 0 ns (map books_of ys)) ∙ ap (ends_from 0) (sym (map-append books_of xs ys))
+  -- a call of the one that has a book
+  module _ (book b : ℕ) (found : (sizes : List ℕ) → ends ≡ ends_from 0 sizes → IsPlace sizes book (n, b)) where
+    place : IsPlace (map books_of (map M ys)) book (n, b)
+    place = found (map books_of (map M ys)) are
 
-pub ends-pushed : (xs : List Meaning) (a : Meaning) (es : List ℕ) (end : ℕ) → AreEnds es xs → end ≡ books_in xs + books_of a → AreEnds (es ++ end ∷ []) (xs ++ a ∷ [])
-ends-pushed xs a es end h e =
-    let z : end ≡ books_in xs + (0 + books_of a) = omega (arith, e) in
-    ap (λ i. es ++ i ∷ []) z ∙ ends-joined xs (a ∷ []) es ((0 + books_of a) ∷ []) h refl
+    pub place-below : n < length ys
+    place-below = let k = length-map (map M ys) books_of in let l = length-map ys M in omega (arith, place.recorder, k, l)
+
+    pub put-updated : {A : Type 0} (s : ℕ) (by : Update) (r : Result A Refused) → Updates (M x) (M y) (record { book = b; series = s }) by r →
+        PutBack M ys (set ys n y) ends (λ a c. Updates a c (record { book = book; series = s }) by r)
+    put-updated s by r h =
+        let books = length-updates (M x) (M y) (record { book = b; series = s }) by r h in
+        put-back _ place-below books (λ R. updates-place M ys n x place-below at y keeps books R book b place s by r h)
+
+    pub put-read : (reset : Reset) (r : Result SnapshotParts Refused) → Snapshots (M x) (M y) b reset r → PutBack M ys (set ys n y) ends (λ a c. Snapshots a c book reset r)
+    put-read reset r h =
+        let books = length-snapshots (M x) (M y) b reset r h in
+        put-back _ place-below books (λ R. snapshots-place M ys n x place-below at y keeps books R book b place reset r h)
 
 -- what holds of each number up to the last end holds of each end
 pub ends-fit : (P : ℕ → Type 0) (k : ℕ) (ns : List ℕ) → ((e : ℕ) → e ≤ k + total ns → P e) → All P (ends_from k ns)
@@ -77,10 +94,10 @@ module _ {Y : Type 0} (M : Y → Meaning) (ys : List Y) (i : ℕ) (x : Y) (lt : 
 
   pub end-more : (end n : ℕ) → end ≡ books_in (map M (take i ys)) → n ≡ books_of (M x) → end + n ≡ books_in (map M (take (i + 1) ys))
   end-more end n e c =
-      let b = ap books_in front-more ∙ books-one (map M (take i ys)) (M x) in
+      let b = ap books_in front-more ∙ leaves-one (map M (take i ys)) (M x) in
       omega (arith, e, c, b)
 
   pub ends-next : (ends : List ℕ) (end : ℕ) → AreEnds ends (map M (take i ys)) → end ≡ books_in (map M (take (i + 1) ys)) → AreEnds (ends ++ end ∷ []) (map M (take (i + 1) ys))
   ends-next ends end are e =
-      let b = ap books_in front-more ∙ books-one (map M (take i ys)) (M x) in
+      let b = ap books_in front-more ∙ leaves-one (map M (take i ys)) (M x) in
       subst (λ all. AreEnds (ends ++ end ∷ []) all) (sym front-more) (ends-pushed (map M (take i ys)) (M x) ends end are (e ∙ b))

@@ -1,7 +1,7 @@
 -- The recorders at the leaves of a tree.
 use Rattle.std.specs.Prelude.{ℕ, List, [], ◌∷◌}
 use Rattle.metrics.specs.declared.recorder.Recorder as recorder
-use Rattle.metrics_trees.specs.Recorders.{HasSpare}
+use Rattle.metrics_rules.specs.Branches.{HasSpare}
 use Rattle.metrics_trees.specs.declared.leaves.Leaves.{Leaves}
 use Rattle.metrics_trees.specs.declared.leaves.Leaves.TheVariants.{Empty, One, Several}
 

@@ -1,10 +1,11 @@
 -- The targets of recorders under rules are in their books, and no book has two.
-use Rattle.std.proofs.Common.{◌≡◌, ◌⊎◌, ℕ, zero, suc, ◌+◌, ◌<◌, ◌≤◌, List, [], ◌∷◌, ◌++◌, length, map, take, refl, ap, subst, arith, inl, inr}
+use Rattle.std.proofs.Common.{◌≡◌, ◌⊎◌, ℕ, zero, suc, ◌+◌, ◌<◌, ◌≤◌, List, [], ◌∷◌, ◌++◌, length, map, subst, arith, inl, inr}
 use Rattle.metrics_names.specs.declared.kind.MetricKind.{MetricKind}
 use Rattle.metrics.specs.Targets.{raise, AllBelow, AreDistinct, IsNot}
 use Rattle.metrics.specs.Meaning.{Meaning}
 use Rattle.metrics.specs.Layers.{joined_all, targets_of, below_of, distinct_of}
-use Rattle.metrics_rules.specs.Ends.{total}
+use Rattle.metrics_rules.proofs.EndsLemmas.{rises-to}
+use Rattle.std.proofs.lemmas.Bool.{cases_lt}
 use Rattle.metrics_trees.specs.Recorders.{books_of, spread, start}
 
 below_append : {X : Type 0} (k : ℕ) (ts us : List (ℕ × X)) → AllBelow k ts → AllBelow k us → AllBelow k (ts ++ us)
@@ -15,7 +16,7 @@ pub below_spread : (all : List Meaning) (kind : MetricKind) (ts : List (ℕ × L
 below_spread all kind [] = tt
 below_spread all kind (t ∷ ts) = below_append (length (joined_all all).contents) (targets_of t.0 all kind t.1) (spread all kind ts) (below_of t.0 all kind t.1) (below_spread all kind ts)
 
-abbrev pub Within : {X : Type 0} → ℕ → ℕ → List (ℕ × X) → Type 0
+abbrev Within : {X : Type 0} → ℕ → ℕ → List (ℕ × X) → Type 0
 Within lo hi [] = Unit {0}
 Within lo hi (t ∷ ts) = (lo ≤ t.0) × (t.0 < hi) × Within lo hi ts
 
@@ -27,21 +28,14 @@ within_below : {X : Type 0} (hi : ℕ) (ts : List (ℕ × X)) → AllBelow hi ts
 within_below hi [] h = tt
 within_below hi (t ∷ ts) h = (omega arith, h.0, within_below hi ts h.1)
 
-pub within_of : (w : ℕ) (all : List Meaning) (kind : MetricKind) (name : List ℕ) → Within (start w all) (start (suc w) all) (targets_of w all kind name)
+within_of : (w : ℕ) (all : List Meaning) (kind : MetricKind) (name : List ℕ) → Within (start w all) (start (suc w) all) (targets_of w all kind name)
 within_of w [] kind name = tt
 within_of zero (a ∷ rest) kind name =
     let e : books_of a ≡ books_of a + 0 = omega arith in
     subst (λ hi. Within 0 hi (a.targets kind name)) e (within_below (books_of a) (a.targets kind name) (a.below kind name))
 within_of (suc w) (a ∷ rest) kind name = within_raise (books_of a) (start w rest) (start (suc w) rest) (targets_of w rest kind name) (within_of w rest kind name)
 
-rises : (ns : List ℕ) (i j : ℕ) → i ≤ j → total (take i ns) ≤ total (take j ns)
-rises ns zero j le = omega arith
-rises [] (suc i) zero le = absurd (omega arith)
-rises [] (suc i) (suc j) le = omega arith
-rises (n ∷ ns) (suc i) zero le = absurd (omega arith)
-rises (n ∷ ns) (suc i) (suc j) le = let e = rises ns i j (omega arith) in omega (arith, e)
-
-pub is_not_append : {X : Type 0} (b : ℕ) (ts us : List (ℕ × X)) → IsNot b ts → IsNot b us → IsNot b (ts ++ us)
+is_not_append : {X : Type 0} (b : ℕ) (ts us : List (ℕ × X)) → IsNot b ts → IsNot b us → IsNot b (ts ++ us)
 is_not_append b [] us h g = g
 is_not_append b (t ∷ ts) us h g = (h.0, is_not_append b ts us h.1 g)
 
@@ -50,26 +44,16 @@ is_not_outside b lo hi [] h out = tt
 is_not_outside b lo hi (t ∷ ts) h (inl l) = ((λ e. absurd (omega (arith, e, h.0, l))), is_not_outside b lo hi ts h.2 (inl l))
 is_not_outside b lo hi (t ∷ ts) h (inr l) = ((λ e. absurd (omega (arith, e, h.1, l))), is_not_outside b lo hi ts h.2 (inr l))
 
-apart : (a b : ℕ) → (a ≡ b → ⊥) → (suc a ≤ b) ⊎ (suc b ≤ a)
-apart zero zero ne = absurd (ne refl)
-apart zero (suc b) ne = inl (omega arith)
-apart (suc a) zero ne = inr (omega arith)
-apart (suc a) (suc b) ne = more (apart a b (λ e. ne (ap suc e)))
-  where
-    more : (suc a ≤ b) ⊎ (suc b ≤ a) → (suc (suc a) ≤ suc b) ⊎ (suc (suc b) ≤ suc a)
-    more (inl l) = inl (omega (arith, l))
-    more (inr l) = inr (omega (arith, l))
-
 -- a book of one recorder is none of another's targets
 is_not_of : (all : List Meaning) (w v b : ℕ) (kind : MetricKind) (name : List ℕ) → (v ≡ w → ⊥) → start w all ≤ b → b < start (suc w) all → IsNot b (targets_of v all kind name)
 is_not_of all w v b kind name ne lo hi =
-    is_not_outside b (start v all) (start (suc v) all) (targets_of v all kind name) (within_of v all kind name) (side (apart v w ne))
+    is_not_outside b (start v all) (start (suc v) all) (targets_of v all kind name) (within_of v all kind name) (side (cases_lt v w))
   where
-    side : (suc v ≤ w) ⊎ (suc w ≤ v) → (b < start v all) ⊎ (start (suc v) all ≤ b)
-    side (inl l) = let r = rises (map books_of all) (suc v) w l in inr (omega (arith, r, lo))
-    side (inr l) = let r = rises (map books_of all) (suc w) v l in inl (omega (arith, r, hi))
+    side : (v < w) ⊎ (w ≤ v) → (b < start v all) ⊎ (start (suc v) all ≤ b)
+    side (inl l) = let r = rises-to (map books_of all) (suc v) w l in inr (omega (arith, r, lo))
+    side (inr l) = let r = rises-to (map books_of all) (suc w) v (omega (arith, l, ne)) in inl (omega (arith, r, hi))
 
-pub is_not_spread : (all : List Meaning) (w b : ℕ) (kind : MetricKind) (ts : List (ℕ × List ℕ)) → IsNot w ts → start w all ≤ b → b < start (suc w) all → IsNot b (spread all kind ts)
+is_not_spread : (all : List Meaning) (w b : ℕ) (kind : MetricKind) (ts : List (ℕ × List ℕ)) → IsNot w ts → start w all ≤ b → b < start (suc w) all → IsNot b (spread all kind ts)
 is_not_spread all w b kind [] ne lo hi = tt
 is_not_spread all w b kind (t ∷ ts) ne lo hi =
     is_not_append b (targets_of t.0 all kind t.1) (spread all kind ts) (is_not_of all w t.0 b kind t.1 ne.0 lo hi) (is_not_spread all w b kind ts ne.1 lo hi)

@@ -1,15 +1,13 @@
 -- Recorders by number: their books, their targets, and when adding one fails.
-use Rattle.std.specs.Prelude.{if◌then◌else◌, ◌≡◌, ℕ, ◌+◌, ◌≤◌, nat_eq, nat_lt, nat_le, List, [], ◌∷◌, ◌++◌, length, map, take, Vec}
-use Rattle.std.specs.Global.{Global}
-use Rattle.std.specs.Vec.{vec_len, vec_capacity}
+use Rattle.std.specs.Prelude.{if◌then◌else◌, ℕ, ◌+◌, ◌≤◌, nat_eq, nat_le, List, [], ◌∷◌, ◌++◌, length, map, take}
 use Rattle.metrics_names.specs.declared.kind.MetricKind.{MetricKind}
 use Rattle.metrics.specs.Meaning.{Meaning}
 use Rattle.metrics.specs.Layers.{joined_all, targets_of}
-use Rattle.metrics_rules.specs.Ends.{ends_from, total}
-use Rattle.metrics.specs.declared.error.Error.{Error}
-use Rattle.metrics.specs.declared.error.Error.TheVariants.{Memory, EmptyMask, NoSuchTarget, TooManyBooks}
+use Rattle.metrics_rules.specs.Ends.{total}
 use Rattle.metrics_trees.specs.declared.over_error.OverError.{OverError}
 use Rattle.metrics_trees.specs.declared.over_error.OverError.TheVariants.{NotOneEach, TooManyBooks as TooMany, Memory as OutOfMemory}
+-- why one recorder more, or a route, is rejected: as of leaves, since a meaning's books are its leaves
+pub use Rattle.metrics_rules.specs.Branches.{refusal, route_refusal, target_refusal}
 
 -- the number of books of a recorder
 abbrev pub books_of : Meaning → ℕ
@@ -22,10 +20,6 @@ most_books = 65536
 -- the number of books of several recorders
 abbrev pub books_in : List Meaning → ℕ
 books_in all = books_of (joined_all all)
-
--- the number of books up to the end of each of several recorders
-abbrev pub AreEnds : List ℕ → List Meaning → Type 0
-AreEnds ends all = ends ≡ ends_from 0 (map books_of all)
 
 -- the books of a recorder are those from the end of the recorders before it to its own
 abbrev pub start : ℕ → List Meaning → ℕ
@@ -40,10 +34,6 @@ spread all kind (t ∷ ts) = targets_of t.0 all kind t.1 ++ spread all kind ts
 abbrev pub BooksFit : List Meaning → Meaning → Type 0
 BooksFit all a = books_in all + books_of a ≤ most_books
 
--- why one recorder more is rejected: for too many books exactly if there would be, and else for memory
-abbrev pub refusal : List Meaning → Meaning → Error
-refusal all a = if nat_lt most_books (books_in all + books_of a) then TooManyBooks else Memory
-
 -- why several recorders are rejected: for too many books exactly if they have more, and else for memory
 abbrev pub row_refusal : List Meaning → OverError
 row_refusal all = if nat_le (books_in all) most_books then OutOfMemory else TooMany
@@ -51,18 +41,3 @@ row_refusal all = if nat_le (books_in all) most_books then OutOfMemory else TooM
 -- why recorders are rejected for rules with so many leaves: unless there is one for each, else as they are
 abbrev pub over_refusal : ℕ → List Meaning → OverError
 over_refusal leaves all = if nat_eq leaves (length all) then row_refusal all else NotOneEach
-
--- room for so many recorders more
-abbrev pub HasSpare : {B : Type 0} → ℕ → Vec B Global → Vec ℕ Global → Type 0
-HasSpare n recorders ends =
-    (vec_len recorders + n ≤ vec_capacity recorders) × (vec_len ends + n ≤ vec_capacity ends)
-
--- why a route to one recorder more is rejected: for a mask without kinds, else as the recorder is
-abbrev pub route_refusal : ℕ → List Meaning → Meaning → Error
-route_refusal mask all a = if nat_eq mask 0 then EmptyMask else refusal all a
-
--- why a route to an earlier target is rejected: for a mask without kinds, else for a number that no target has, else for
--- memory
-abbrev pub target_refusal : ℕ → ℕ → ℕ → Error
-target_refusal mask target targets =
-    if nat_eq mask 0 then EmptyMask else if nat_lt target targets then Memory else NoSuchTarget

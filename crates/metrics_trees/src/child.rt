@@ -12,7 +12,8 @@ ghost use Rattle.metrics.specs.declared.error.Error.TheVariants.{Memory};
 
 use crate::leaves::Leaves;
 use crate::over_error::OverError;
-use crate::visits::{Call, Describing, Registrar};
+use crate::row::Row;
+use crate::visits::{Call, Describing, Registrar, ended};
 use metrics::{
     Address, Error, Key, KeyName, MetricKind, Recorder, Refused, Reset, Snapshot, Unit, Update,
 };
@@ -74,11 +75,11 @@ impl<B: Recorder> Child<B> {
         if rules.leaves() != leaves.len() {
             return Err((OverError::NotOneEach, rules, leaves));
         }
-        match Leaves::new(leaves) {
-            Ok(leaves) => Ok(Child {
+        match Row::new(leaves) {
+            Ok(row) => Ok(Child {
                 rules,
                 scratch: None,
-                registrar: Registrar::new(leaves),
+                registrar: Registrar::new(Leaves::Several(row)),
             }),
             Err((error, leaves)) => Err((error, rules, leaves)),
         }
@@ -140,23 +141,18 @@ impl<B: Recorder> Child<B> {
             prefixed layer.now (⟦<Child<B> as Recorder>⟧.meaning self))
             (λ e. (e.0 ≡ Memory) × (e.1 ≡ self)) }
     {
-        let Child {
-            rules,
-            scratch,
-            registrar,
-        } = self;
-        match rules.prefix(alloc, layer) {
+        match self.rules.prefix(alloc, layer) {
             Ok(rules) => Ok(Child {
                 rules,
-                scratch,
-                registrar,
+                scratch: self.scratch,
+                registrar: self.registrar,
             }),
             Err((error, rules)) => Err((
                 error,
                 Child {
                     rules,
-                    scratch,
-                    registrar,
+                    scratch: self.scratch,
+                    registrar: self.registrar,
                 },
             )),
         }
@@ -175,23 +171,18 @@ impl<B: Recorder> Child<B> {
             (⟦<Child<B> as Recorder>⟧.meaning self)))
             (λ e. (e.0 ≡ unwrap_or (fault_of layer.now) Memory) × (e.1 ≡ self)) }
     {
-        let Child {
-            rules,
-            scratch,
-            registrar,
-        } = self;
-        match rules.filter(alloc, layer) {
+        match self.rules.filter(alloc, layer) {
             Ok(rules) => Ok(Child {
                 rules,
-                scratch,
-                registrar,
+                scratch: self.scratch,
+                registrar: self.registrar,
             }),
             Err((error, rules)) => Err((
                 error,
                 Child {
                     rules,
-                    scratch,
-                    registrar,
+                    scratch: self.scratch,
+                    registrar: self.registrar,
                 },
             )),
         }
@@ -224,19 +215,9 @@ impl<B: Recorder> Recorder for Child<B> {
         };
         let mut scratch = Scratch::new(alloc);
         let visited = self.rules.visit(kind, name, &mut scratch, &mut visitor);
-        let Describing {
-            alloc: _,
-            kind: _,
-            unit: _,
-            text: _,
-            leaves,
-            acted,
-        } = visitor;
+        let Describing { leaves, acted, .. } = visitor;
         self.registrar.leaves = leaves;
-        match visited {
-            Ok(_count) => Ok(acted),
-            Err(stopped) => Err(stopped.refused.after(acted)),
-        }
+        ended(visited, acted, acted)
     }
 
     fn register(
@@ -253,10 +234,8 @@ impl<B: Recorder> Recorder for Child<B> {
         let scratch = self.scratch.get_or_insert_with(|| Scratch::new(alloc));
         let visited = self.rules.visit(kind, key, scratch, &mut self.registrar);
         let found = self.registrar.finish(alloc);
-        match visited {
-            Ok(_count) => Ok(found),
-            Err(stopped) => Err(stopped.refused.after(found.len())),
-        }
+        let acted = found.len();
+        ended(visited, found, acted)
     }
 
     fn holds(&self, kind: MetricKind, at: Address) -> bool {

@@ -8,7 +8,6 @@ ghost use Rattle.metrics_trees.specs.Recorders.{BooksFit, books_in, most_books, 
 
 use crate::child::{Child, Fanout};
 use crate::leaves::Leaves;
-use crate::row::MOST_BOOKS;
 use crate::visits::Registrar;
 use metrics::{Error, Recorder};
 use metrics_rules::FanoutBuilder as RulesBuilder;
@@ -51,15 +50,8 @@ impl<B: Recorder> FanoutBuilder<B> {
             (λ e. (e.0 ≡ refusal (fanout_recorders self.old) one) × (e.1 ≡ child)
             × (fanout_recorders self.new ≡ fanout_recorders self.old)) }
     {
-        if child.registrar.leaves.books() > MOST_BOOKS - self.leaves.books() {
-            return Err((Error::TooManyBooks, child));
-        }
-        if self
-            .leaves
-            .reserve(self.alloc, child.rules().leaves())
-            .is_err()
-        {
-            return Err((Error::Memory, child));
+        if let Err(error) = self.leaves.make_room(self.alloc, &child.registrar.leaves) {
+            return Err((error, child));
         }
         let Child {
             rules,

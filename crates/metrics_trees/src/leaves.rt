@@ -1,19 +1,20 @@
 //! The recorders at the leaves of a tree.
-ghost use Rattle.std.specs.Prelude.{◌≡◌, ◌+◌, ◌<◌, ◌≤◌, ◌++◌, length, map, MatchResult, OnOk};
+ghost use Rattle.std.specs.Prelude.{◌≡◌, ◌+◌, ◌<◌, ◌≤◌, ◌++◌, length, map, nat_lt, cond, MatchResult, OnOk};
 ghost use Rattle.std.specs.Result.{result_map_both};
-ghost use Rattle.metrics.specs.Meaning.{Meaning, KeepsTargets, Describes, Registers, Updates, Snapshots, holds_at};
-ghost use Rattle.metrics_trees.specs.Calls.{Calls};
+ghost use Rattle.metrics.specs.Meaning.{Meaning, Describes, Registers, Updates, Snapshots, holds_at};
+ghost use Rattle.metrics_trees.specs.Calls.{Calls, CallsBook};
 ghost use Rattle.metrics_trees.specs.Leaves.{recorders_of, HasRoom};
 ghost use Rattle.metrics_trees.specs.Over.{over};
-ghost use Rattle.metrics_trees.specs.Recorders.{start};
-ghost use Rattle.metrics_trees.specs.Recorders.{books_in, most_books, row_refusal};
+ghost use Rattle.metrics_trees.specs.Recorders.{books_in, most_books, start};
 ghost use Rattle.metrics_rules.specs.Nodes.{most_leaves};
+ghost use Rattle.metrics.specs.declared.error.Error.TheVariants.{Memory, TooManyBooks};
 
-use crate::over_error::OverError;
-use crate::row::Row;
+use crate::book_ends::place_of;
+use crate::row::{MOST_BOOKS, Row};
 use metrics::{
-    Address, Key, KeyName, MetricKind, Recorder, Refused, Reset, Snapshot, Unit, Update,
+    Address, Error, Key, KeyName, MetricKind, Recorder, Refused, Reset, Snapshot, Unit, Update,
 };
+use metrics_rules::{end_of_all, start_of};
 use std::alloc::{AllocError, Global};
 use std::mem;
 
@@ -26,25 +27,32 @@ pub enum Leaves<B: Recorder> {
 }
 
 impl<B: Recorder> Leaves<B> {
-    /// These recorders, if they have at most 65,536 books. If that fails it returns them.
+    /// Makes room for other recorders at the end, if there would be at most 65,536 books. The recorders stay, whatever the
+    /// result.
     ///
     /// # Errors
     ///
-    /// `TooManyBooks` if they have more, and else `Memory`.
-    pub(crate) fn new(recorders: Vec<B>) -> Result<Leaves<B>, (OverError, Vec<B>)>
-        ensures { MatchResult result
-            (λ leaves. (recorders_of leaves ≡ recorders.items)
-            × (books_in (map B.meaning recorders.items) ≤ most_books))
-            (λ e. (e.0 ≡ row_refusal (map B.meaning recorders.items)) × (e.1 ≡ recorders)) }
+    /// `TooManyBooks` if there would be more, and else `Memory`.
+    pub(crate) fn make_room(&mut self, alloc: Global, others: &Leaves<B>) -> Result<(), Error>
+        requires most { length (recorders_of others.now) ≤ most_leaves }
+        requires few { books_in (map B.meaning (recorders_of self.old)) ≤ most_books }
+        ensures recorders { recorders_of self.new ≡ recorders_of self.old }
+        ensures room { let n = books_in (map B.meaning (recorders_of self.old))
+            + books_in (map B.meaning (recorders_of others.now)) in MatchResult result
+            (λ done. (n ≤ most_books) × HasRoom (length (recorders_of others.now)) self.new)
+            (λ e. e ≡ cond (nat_lt most_books n) TooManyBooks Memory) }
     {
-        match Row::new(recorders) {
-            Ok(row) => Ok(Leaves::Several(row)),
-            Err(refused) => Err(refused),
+        if others.books() > MOST_BOOKS - self.books() {
+            return Err(Error::TooManyBooks);
         }
+        if self.reserve(alloc, others.len()).is_err() {
+            return Err(Error::Memory);
+        }
+        Ok(())
     }
 
     /// Makes room for so many recorders more at the end. The recorders stay, whatever the result.
-    pub(crate) fn reserve(&mut self, alloc: Global, additional: usize) -> Result<(), AllocError>
+    fn reserve(&mut self, alloc: Global, additional: usize) -> Result<(), AllocError>
         requires additional { additional ≤ most_leaves }
         requires few { books_in (map B.meaning (recorders_of self.old)) ≤ most_books }
         ensures recorders { recorders_of self.new ≡ recorders_of self.old }
@@ -90,7 +98,7 @@ impl<B: Recorder> Leaves<B> {
         match self {
             Leaves::Empty => 0,
             Leaves::One(_) => 1,
-            Leaves::Several(row) => row.len(),
+            Leaves::Several(row) => row.recorders.len(),
         }
     }
 
@@ -101,7 +109,7 @@ impl<B: Recorder> Leaves<B> {
         match self {
             Leaves::Empty => 0,
             Leaves::One(recorder) => recorder.books(),
-            Leaves::Several(row) => row.books(),
+            Leaves::Several(row) => end_of_all(&row.ends),
         }
     }
 
@@ -113,7 +121,7 @@ impl<B: Recorder> Leaves<B> {
         match self {
             Leaves::Empty => 0,
             Leaves::One(_) => 0,
-            Leaves::Several(row) => row.before(leaf),
+            Leaves::Several(row) => start_of(&row.ends, leaf),
         }
     }
 
@@ -134,7 +142,7 @@ impl<B: Recorder> Leaves<B> {
         match self {
             Leaves::Empty => Ok(0),
             Leaves::One(recorder) => recorder.describe(alloc, kind, name, unit, text),
-            Leaves::Several(row) => row.describe(alloc, kind, leaf, name, unit, text),
+            Leaves::Several(row) => row.recorders[leaf].describe(alloc, kind, name, unit, text),
         }
     }
 
@@ -153,7 +161,7 @@ impl<B: Recorder> Leaves<B> {
         match self {
             Leaves::Empty => Ok(Vec::new(alloc)),
             Leaves::One(recorder) => recorder.register(alloc, kind, key),
-            Leaves::Several(row) => row.register(alloc, kind, leaf, key),
+            Leaves::Several(row) => row.recorders[leaf].register(alloc, kind, key),
         }
     }
 
@@ -164,23 +172,30 @@ impl<B: Recorder> Leaves<B> {
         match self {
             Leaves::Empty => false,
             Leaves::One(recorder) => recorder.holds(kind, at),
-            Leaves::Several(row) => row.holds(kind, at),
+            Leaves::Several(row) => match place_of(&row.ends, at.book) {
+                None => false,
+                Some((number, book)) => {
+                    let series = at.series;
+                    row.recorders[number].holds(kind, Address { book, series })
+                }
+            },
         }
     }
 
     pub(crate) fn update(&mut self, at: Address, by: Update) -> Result<(), Refused>
-        ensures keeps { (rules : Meaning) → KeepsTargets
-            (over rules (map B.meaning (recorders_of self.old)))
-            (over rules (map B.meaning (recorders_of self.new))) }
-        ensures updates { (rules : Meaning) → Updates
-            (over rules (map B.meaning (recorders_of self.old)))
-            (over rules (map B.meaning (recorders_of self.new))) at by result }
-        ensures count { length (recorders_of self.new) ≡ length (recorders_of self.old) }
+        ensures { CallsBook B.meaning (recorders_of self.old) (recorders_of self.new)
+            (λ a c. Updates a c at by result) }
     {
         match self {
             Leaves::Empty => Err(Refused::NoSuchAddress),
             Leaves::One(recorder) => recorder.update(at, by),
-            Leaves::Several(row) => row.update(at, by),
+            Leaves::Several(row) => match place_of(&row.ends, at.book) {
+                None => Err(Refused::NoSuchAddress),
+                Some((number, book)) => {
+                    let series = at.series;
+                    row.recorders[number].update(Address { book, series }, by)
+                }
+            },
         }
     }
 
@@ -190,18 +205,16 @@ impl<B: Recorder> Leaves<B> {
         book: usize,
         reset: Reset,
     ) -> Result<Snapshot, Refused>
-        ensures keeps { (rules : Meaning) → KeepsTargets
-            (over rules (map B.meaning (recorders_of self.old)))
-            (over rules (map B.meaning (recorders_of self.new))) }
-        ensures snapshots { (rules : Meaning) → Snapshots
-            (over rules (map B.meaning (recorders_of self.old)))
-            (over rules (map B.meaning (recorders_of self.new))) book reset result }
-        ensures count { length (recorders_of self.new) ≡ length (recorders_of self.old) }
+        ensures { CallsBook B.meaning (recorders_of self.old) (recorders_of self.new)
+            (λ a c. Snapshots a c book reset result) }
     {
         match self {
             Leaves::Empty => Err(Refused::NoSuchBook),
             Leaves::One(recorder) => recorder.snapshot_with(alloc, book, reset),
-            Leaves::Several(row) => row.snapshot_with(alloc, book, reset),
+            Leaves::Several(row) => match place_of(&row.ends, book) {
+                None => Err(Refused::NoSuchBook),
+                Some((number, there)) => row.recorders[number].snapshot_with(alloc, there, reset),
+            },
         }
     }
 }

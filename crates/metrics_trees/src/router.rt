@@ -9,7 +9,6 @@ ghost use Rattle.metrics_trees.specs.Recorders.{BooksFit, books_in, most_books, 
 
 use crate::child::{Child, Router};
 use crate::leaves::Leaves;
-use crate::row::MOST_BOOKS;
 use crate::visits::Registrar;
 use metrics::{Error, MetricKindMask, Recorder};
 use metrics_rules::RouterBuilder as RulesBuilder;
@@ -36,8 +35,8 @@ impl<B: Recorder> RouterBuilder<B> {
     {
         let Child {
             rules,
-            scratch: _,
             registrar,
+            ..
         } = default;
         RouterBuilder {
             alloc,
@@ -71,15 +70,8 @@ impl<B: Recorder> RouterBuilder<B> {
         if mask.is_empty() {
             return Err((Error::EmptyMask, target));
         }
-        if target.registrar.leaves.books() > MOST_BOOKS - self.leaves.books() {
-            return Err((Error::TooManyBooks, target));
-        }
-        if self
-            .leaves
-            .reserve(self.alloc, target.rules().leaves())
-            .is_err()
-        {
-            return Err((Error::Memory, target));
+        if let Err(error) = self.leaves.make_room(self.alloc, &target.registrar.leaves) {
+            return Err((error, target));
         }
         let Child {
             rules,

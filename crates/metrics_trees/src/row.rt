@@ -1,19 +1,14 @@
 //! Recorders by number.
-ghost use Rattle.std.specs.Prelude.{◌≡◌, ◌+◌, ◌<◌, ◌≤◌, ◌++◌, ◌∷◌, [], ℕ, suc, length};
+ghost use Rattle.std.specs.Prelude.{◌≡◌, ◌+◌, ◌≤◌, ◌++◌, ◌∷◌, [], ℕ, suc, length};
 ghost use Rattle.std.specs.Prelude.{map, nat_le, IfOk, OnOk, MatchResult};
-ghost use Rattle.std.specs.Result.{result_map_both};
-ghost use Rattle.metrics.specs.Meaning.{Meaning, KeepsTargets, Describes, Registers, Updates, Snapshots, holds_at};
-ghost use Rattle.metrics_trees.specs.Recorders.{AreEnds, BooksFit, HasSpare, books_in, most_books, row_refusal};
-ghost use Rattle.metrics_trees.specs.Over.{over};
-ghost use Rattle.metrics_trees.specs.Recorders.{start};
-ghost use Rattle.metrics_trees.specs.Calls.{Calls};
+ghost use Rattle.metrics_rules.specs.Branches.{HasSpare};
+ghost use Rattle.metrics_rules.specs.Nodes.{AreEnds};
+ghost use Rattle.metrics_trees.specs.Recorders.{BooksFit, books_in, most_books, row_refusal};
 
-use crate::book_ends::{place_of, push_ends};
+use crate::book_ends::push_ends;
 use crate::over_error::OverError;
-use metrics::{
-    Address, Key, KeyName, MetricKind, Recorder, Refused, Reset, Snapshot, Unit, Update,
-};
-use metrics_rules::{end_of_all, start_of};
+use metrics::Recorder;
+use metrics_rules::end_of_all;
 use std::alloc::{AllocError, Global};
 
 /// How many books there may be in all.
@@ -88,126 +83,12 @@ impl<B: Recorder> Row<B> {
             + books_in (map B.meaning other.recorders.items) ≤ most_books }
         ensures { self.new.recorders.items ≡ self.old.recorders.items ++ other.recorders.items }
     {
-        let Row {
-            mut recorders,
-            ends,
-        } = other;
         let front = end_of_all(&self.ends);
-        push_ends(&mut self.ends, front, &ends);
+        push_ends(&mut self.ends, front, &other.ends);
+        let mut recorders = other.recorders;
         let Ok(()) = self.recorders.append(&mut recorders) else {
             unreachable!()
         };
-    }
-
-    /// The number of recorders.
-    pub(crate) fn len(&self) -> usize
-        ensures { result ≡ length self.now.recorders.items }
-    {
-        self.recorders.len()
-    }
-
-    /// The number of books of all.
-    pub(crate) fn books(&self) -> usize
-        ensures { result ≡ books_in (map B.meaning self.now.recorders.items) }
-    {
-        end_of_all(&self.ends)
-    }
-
-    /// The number of books before a recorder.
-    pub(crate) fn before(&self, leaf: usize) -> usize
-        requires { leaf < length self.now.recorders.items }
-        ensures { result ≡ start leaf (map B.meaning self.now.recorders.items) }
-    {
-        start_of(&self.ends, leaf)
-    }
-
-    /// Registers a key in one recorder.
-    pub(crate) fn register(
-        &mut self,
-        alloc: Global,
-        kind: MetricKind,
-        leaf: usize,
-        key: &Key,
-    ) -> Result<Vec<Address>, Refused>
-        requires { leaf < length self.old.recorders.items }
-        ensures { Calls B.meaning leaf self.old.recorders.items self.new.recorders.items
-            (λ a c. Registers a c kind key.now (result_map_both (λ v. v.items) (λ e. e) result)) }
-    {
-        self.recorders[leaf].register(alloc, kind, key)
-    }
-
-    /// Describes a name in one recorder.
-    pub(crate) fn describe(
-        &mut self,
-        alloc: Global,
-        kind: MetricKind,
-        leaf: usize,
-        name: &KeyName,
-        unit: Option<Unit>,
-        text: &str,
-    ) -> Result<usize, Refused>
-        requires { leaf < length self.old.recorders.items }
-        ensures { Calls B.meaning leaf self.old.recorders.items self.new.recorders.items
-            (λ a c. Describes a c kind name.now unit text.now result) }
-    {
-        self.recorders[leaf].describe(alloc, kind, name, unit, text)
-    }
-
-    pub(crate) fn holds(&self, kind: MetricKind, at: Address) -> bool
-        ensures { (rules : Meaning) → result
-            ≡ holds_at kind at (over rules (map B.meaning self.now.recorders.items)).contents }
-    {
-        match place_of(&self.ends, at.book) {
-            None => false,
-            Some((number, book)) => self.recorders[number].holds(
-                kind,
-                Address {
-                    book,
-                    series: at.series,
-                },
-            ),
-        }
-    }
-
-    pub(crate) fn update(&mut self, at: Address, by: Update) -> Result<(), Refused>
-        ensures keeps { (rules : Meaning) → KeepsTargets
-            (over rules (map B.meaning self.old.recorders.items))
-            (over rules (map B.meaning self.new.recorders.items)) }
-        ensures updates { (rules : Meaning) → Updates
-            (over rules (map B.meaning self.old.recorders.items))
-            (over rules (map B.meaning self.new.recorders.items)) at by result }
-        ensures count { length self.new.recorders.items ≡ length self.old.recorders.items }
-    {
-        match place_of(&self.ends, at.book) {
-            None => Err(Refused::NoSuchAddress),
-            Some((number, book)) => self.recorders[number].update(
-                Address {
-                    book,
-                    series: at.series,
-                },
-                by,
-            ),
-        }
-    }
-
-    pub(crate) fn snapshot_with(
-        &mut self,
-        alloc: Global,
-        book: usize,
-        reset: Reset,
-    ) -> Result<Snapshot, Refused>
-        ensures keeps { (rules : Meaning) → KeepsTargets
-            (over rules (map B.meaning self.old.recorders.items))
-            (over rules (map B.meaning self.new.recorders.items)) }
-        ensures snapshots { (rules : Meaning) → Snapshots
-            (over rules (map B.meaning self.old.recorders.items))
-            (over rules (map B.meaning self.new.recorders.items)) book reset result }
-        ensures count { length self.new.recorders.items ≡ length self.old.recorders.items }
-    {
-        match place_of(&self.ends, book) {
-            None => Err(Refused::NoSuchBook),
-            Some((number, there)) => self.recorders[number].snapshot_with(alloc, there, reset),
-        }
     }
 }
 

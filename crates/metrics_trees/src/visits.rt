@@ -4,12 +4,12 @@ ghost use Rattle.std.specs.Result.{result_map_both};
 ghost use Rattle.metrics_trees.specs.BookEnds.{IsAppended, CanAppend};
 ghost use Rattle.metrics_trees.specs.Leaves.{recorders_of};
 ghost use Rattle.metrics_trees.specs.Recorders.{books_in, most_books};
-ghost use Rattle.metrics_trees.specs.Visiting.{kind_of, found_by};
+ghost use Rattle.metrics_trees.specs.Visiting.{kind_of, found_by, IsEnd};
 
 use crate::book_ends::append_answer;
 use crate::leaves::Leaves;
 use metrics::{Address, Key, KeyName, MetricKind, Recorder, Refused, Unit};
-use metrics_rules::Visitor;
+use metrics_rules::{Stopped, Visitor};
 use std::alloc::Global;
 
 /// A register call: its kind, and the addresses so far.
@@ -50,19 +50,17 @@ impl<B: Recorder> Registrar<B> {
 }
 
 impl<B: Recorder> Visitor<Key> for Registrar<B> {
-    ghost use Rattle.std.specs.Prelude.{◌≡◌, ◌≤◌, ◌⊎◌, length, Ok, Err};
-    ghost use Rattle.metrics_names.specs.declared.refused.Refused.TheVariants.{Memory, NoSuchBook};
-    ghost use Rattle.metrics_trees.specs.Visiting.{Asks, kind_of, found_by};
+    ghost use Rattle.std.specs.Prelude.{◌≡◌, ◌++◌};
+    ghost use Rattle.metrics_trees.specs.Visiting.{Accepts, Rejects, registering, addresses_at, kind_of, found_by};
 
-    ghost accepts = { λ v leaf key w. (kind_of w.call ≡ kind_of v.call)
-        × Asks B.meaning (kind_of v.call) leaf key (recorders_of v.leaves) (recorders_of w.leaves)
-        (found_by v.call) (found_by w.call) (Ok tt) };
+    ghost accepts = { λ v leaf key w.
+        Accepts B.meaning leaf key (registering v.call (recorders_of v.leaves)) (registering w.call (recorders_of w.leaves))
+        × (found_by w.call
+        ≡ found_by v.call ++ addresses_at B.meaning (recorders_of v.leaves) leaf (kind_of v.call) key) };
 
     ghost refuses = { λ v leaf key e w.
-        ((length (recorders_of v.leaves) ≤ leaf) × (e ≡ NoSuchBook))
-        ⊎ (((w ≡ v) × (e ≡ Memory 0))
-        ⊎ Asks B.meaning (kind_of v.call) leaf key (recorders_of v.leaves) (recorders_of w.leaves)
-        (found_by v.call) (found_by w.call) (Err e)) };
+        Rejects B.meaning leaf key e (registering v.call (recorders_of v.leaves))
+        (registering w.call (recorders_of w.leaves)) };
 
     /// Registers the key in the recorder of the leaf. Nobody is asked outside of a call.
     fn visit(&mut self, leaf: usize, key: &Key) -> Result<(), Refused> {
@@ -110,19 +108,15 @@ pub struct Describing<'a, B: Recorder> {
 }
 
 impl<B: Recorder> Visitor<KeyName> for Describing<'_, B> {
-    ghost use Rattle.std.specs.Prelude.{◌≡◌, ◌≤◌, ◌⊎◌, length, Ok, Err};
-    ghost use Rattle.metrics_names.specs.declared.refused.Refused.TheVariants.{Memory, NoSuchBook};
-    ghost use Rattle.metrics_trees.specs.Visiting.{Tells};
+    ghost use Rattle.metrics_trees.specs.Visiting.{Accepts, Rejects, describing};
 
-    ghost accepts = { λ v leaf key w. (w.kind ≡ v.kind) × (w.unit ≡ v.unit) × (w.text.now ≡ v.text.now)
-        × Tells B.meaning v.kind v.unit v.text.now leaf key.name (recorders_of v.leaves) (recorders_of w.leaves)
-        v.acted w.acted (Ok tt) };
+    ghost accepts = { λ v leaf key w.
+        Accepts B.meaning leaf key (describing v.kind v.unit v.text.now (recorders_of v.leaves) v.acted)
+        (describing w.kind w.unit w.text.now (recorders_of w.leaves) w.acted) };
 
     ghost refuses = { λ v leaf key e w.
-        ((length (recorders_of v.leaves) ≤ leaf) × (e ≡ NoSuchBook))
-        ⊎ (((w ≡ v) × (e ≡ Memory 0))
-        ⊎ Tells B.meaning v.kind v.unit v.text.now leaf key.name (recorders_of v.leaves) (recorders_of w.leaves)
-        v.acted w.acted (Err e)) };
+        Rejects B.meaning leaf key e (describing v.kind v.unit v.text.now (recorders_of v.leaves) v.acted)
+        (describing w.kind w.unit w.text.now (recorders_of w.leaves) w.acted) };
 
     fn visit(&mut self, leaf: usize, name: &KeyName) -> Result<(), Refused> {
         if leaf >= self.leaves.len() {
@@ -133,5 +127,19 @@ impl<B: Recorder> Visitor<KeyName> for Describing<'_, B> {
             .describe(self.alloc, self.kind, leaf, name, self.unit, self.text)?;
         self.acted = self.acted.saturating_add(count);
         Ok(())
+    }
+}
+
+/// The result of a call that acted on so many targets, by how its visit ended.
+pub(crate) fn ended<T: Drop>(
+    visited: Result<usize, Stopped>,
+    done: T,
+    acted: usize,
+) -> Result<T, Refused>
+    ensures { IsEnd visited done acted result }
+{
+    match visited {
+        Ok(_count) => Ok(done),
+        Err(stopped) => Err(stopped.refused.after(acted)),
     }
 }

@@ -1,32 +1,21 @@
 -- What a line does, from what was taken and what was made of it.
-use Rattle.std.proofs.Common.{◌≡◌, ℕ, suc, ◌<◌, ◌≤◌, max, List, [], ◌∷◌, ◌++◌, length, map, Result, Ok, Err, refl, sym, ap, subst, ◌∙◌, arith, length-append, Bool}
-use Rattle.std.specs.List.{AllByRecursion, sum_by}
-use Rattle.metrics.specs.Book.{new_book}
-use Rattle.metrics.specs.Meaning.{Meaning, nothing, one_book}
-use Rattle.metrics.specs.Layers.{prefixed, filtered, joined_all, routed}
-use Rattle.tool_trees.specs.declared.tree_line.RouteWord.{RouteWord}
+use Rattle.std.proofs.Common.{◌≡◌, ℕ, suc, ◌<◌, ◌≤◌, max, List, [], ◌∷◌, ◌++◌, length, map, Result, Ok, Err, refl, sym, ap, subst, ◌∙◌, arith, length-append}
+use Rattle.std.specs.List.{AllByRecursion}
+use Rattle.metrics.specs.Meaning.{Meaning}
+use Rattle.metrics.specs.Layers.{joined_all, routed}
+use Rattle.metrics_trees.specs.Recorders.{books_in}
 use Rattle.tool_trees.specs.declared.tree_line.TreeLine.{TreeLine}
 use Rattle.tool_trees.specs.declared.tree_line.TreeLine.TheVariants as line
 use Rattle.tool_trees.specs.Words.{CanBeSpelled}
-use Rattle.tool_trees.specs.Trees.{Tree, Book, Noop, Prefix, Filter, Fanout, Router, number_of, last_line, meaning_of, meanings_of, levels_of, most_levels, books_in, route_of, NameTargets, IsMade, IsTop, IsAllowed}
-use Rattle.tool_trees.specs.Steps.{taken, Steps}
-use Rattle.tool_trees.proofs.LastLines.{from_list, list_of-from, length-list_of, length-taken, arity, tree_same, split_same}
+use Rattle.tool_trees.specs.Trees.{Tree, Book, Noop, Prefix, Filter, Fanout, Router, Trees, none, more, number_of, last_line, meaning_of, meanings_of, levels_of, most_levels, route_of, IsMade, IsTop, IsAllowed}
+use Rattle.tool_trees.specs.Steps.{list_of, taken, arity, Steps}
+use Rattle.tool_trees.proofs.LastLines.{from_list, from_list-of, list_of-from, length-list_of, length-taken, split_same}
 use Rattle.tool_trees.proofs.OneListAtMost.{are_allowed}
 use Rattle.tool_trees.specs.declared.level.Level.{Level}
 use Rattle.tool_trees.specs.declared.level.LineError.{LineError}
 use Rattle.tool_trees.specs.declared.level.LineError.TheVariants.{Memory, Bad}
-use Rattle.tool_trees.specs.Levels.{backwards, level_meaning, level_meanings, most_of}
+use Rattle.tool_trees.specs.Levels.{level_meaning, level_meanings, most_of, line_meaning, Fits}
 use Rattle.tool_trees.specs.Doing.{IsBuilt, AreBuilt, Does, Puts}
-
--- ---- lists
-
-pub backwards-push : {A : Type 0} (xs : List A) (x : A) → backwards (xs ++ x ∷ []) ≡ x ∷ backwards xs
-backwards-push [] x = refl
-backwards-push (y ∷ xs) x = ap (λ z. z ++ y ∷ []) (backwards-push xs x)
-
-pub length-backwards : {A : Type 0} (xs : List A) → length (backwards xs) ≡ length xs
-length-backwards [] = refl
-length-backwards (x ∷ xs) = length-append (backwards xs) (x ∷ []) ∙ (omega (arith, length-backwards xs))
 
 -- ---- stacks that are built
 
@@ -54,9 +43,9 @@ built_length [] [] h = refl
 built_length (l ∷ ls) (t ∷ ts) h = ap suc (built_length ls ts h.1)
 built_length ls ts h = absurd h
 
-pub built_meanings : (ls : List Level) (ts : List Tree) → AreBuilt ls ts → meanings_of (from_list ts) ≡ level_meanings ls
+pub built_meanings : (ls : List Level) (ts : List Tree) → AreBuilt ls ts → map meaning_of ts ≡ level_meanings ls
 built_meanings [] [] h = refl
-built_meanings (l ∷ ls) (t ∷ ts) h = ap (λ m. m ∷ meanings_of (from_list ts)) (sym h.0.meaning) ∙ ap (λ ms. level_meaning l ∷ ms) (built_meanings ls ts h.1)
+built_meanings (l ∷ ls) (t ∷ ts) h = ap (λ m. m ∷ map meaning_of ts) (sym h.0.meaning) ∙ ap (λ ms. level_meaning l ∷ ms) (built_meanings ls ts h.1)
 built_meanings ls ts h = absurd h
 
 pub built_most : (ls : List Level) (ts : List Tree) → AreBuilt ls ts → most_levels (from_list ts) ≡ most_of ls
@@ -77,65 +66,104 @@ allowed_of (Filter fold table patterns t) h g = (h, g.0)
 allowed_of (Fanout ts) h g = (h, are_allowed ts g)
 allowed_of (Router routes default ts) h g = (h, g.0, are_allowed ts g.1)
 
--- ---- what is made of trees
+-- ---- a tree, by its last line and the trees that this uses
 
--- the tree of a line over trees, and what has to hold beside its line and levels
-pub record Gift (l : TreeLine) (here : List Tree) (m : Meaning) (n : ℕ) (Fine : Type 0) : Type 0 where
-  pub tree : Tree
-  pub takes : taken tree ≡ here
-  pub line_is : last_line tree ≡ l
-  pub meaning : meaning_of tree ≡ m
-  pub levels : levels_of tree ≡ n
-  pub made : Fine → IsMade tree
-  pub fine : IsMade tree → Fine
+means-list : (ts : Trees) → meanings_of ts ≡ map meaning_of (list_of ts)
+means-list none = refl
+means-list (more t ts) = ap (λ ms. meaning_of t ∷ ms) (means-list ts)
 
-abbrev pub Gives : TreeLine → List Level → Meaning → ℕ → Type 0 → Type 0
-Gives l all m n Fine = (here : List Tree) → AreBuilt all here → Gift l here m n Fine
+meaning-top : (t : Tree) → meaning_of t ≡ line_meaning (last_line t) (map meaning_of (taken t))
+meaning-top (Fanout ts) = ap joined_all (means-list ts)
+meaning-top (Router routes d ts) = ap (λ ms. routed (map route_of routes) (meaning_of d ∷ ms)) (means-list ts)
+meaning-top t = refl
 
-module _ (l : TreeLine) (old front all : List Level) (m : Meaning) (n : ℕ) (Fine : Type 0) (gives : Gives l all m n Fine) (whole : old ≡ front ++ all) where
+levels-top : (t : Tree) → levels_of t ≡ suc (most_levels (from_list (taken t)))
+levels-top (Fanout ts) = ap (λ us. suc (most_levels us)) (sym (from_list-of ts))
+levels-top (Router routes d ts) = ap (λ us. suc (max (levels_of d) (most_levels us))) (sym (from_list-of ts))
+levels-top t = omega arith
+
+-- what is required of a tree beside its line and levels, both ways
+made-top : (t : Tree) → (IsMade t → Fits (last_line t) (map meaning_of (taken t))) × (Fits (last_line t) (map meaning_of (taken t)) → IsMade t)
+made-top (Fanout ts) = (subst (λ ms. books_in ms ≤ 65536) (means-list ts), subst (λ ms. books_in ms ≤ 65536) (sym (means-list ts)))
+made-top (Router routes d ts) =
+    let Few : List Meaning → Type 0 = λ ms. books_in (meaning_of d ∷ ms) ≤ 65536 in
+    ((λ h. (h.0, subst Few (means-list ts) h.1)), (λ h. (h.0, subst Few (sym (means-list ts)) h.1)))
+made-top t = ((λ h. h), (λ h. h))
+
+number_from : (ts : List Tree) → number_of (from_list ts) ≡ length ts
+number_from ts = sym (length-list_of (from_list ts)) ∙ ap length (list_of-from ts)
+
+-- the tree of a line over as many trees as it uses
+tree_of : (l : TreeLine) (here : List Tree) (ms : List Meaning) → Fits l ms → length here ≡ arity l → (t : Tree) × (last_line t ≡ l) × (taken t ≡ here)
+tree_of line.Book [] ms fit e = (Book, refl, refl)
+tree_of line.Noop [] ms fit e = (Noop, refl, refl)
+tree_of (line.Prefix p) (t ∷ []) ms fit e = (Prefix p t, refl, refl)
+tree_of (line.Filter fold table ps) (t ∷ []) ms fit e = (Filter fold table ps t, refl, refl)
+tree_of (line.Fanout n) here ms fit e = (Fanout (from_list here), ap line.Fanout (number_from here ∙ e), list_of-from here)
+tree_of (line.Router n rs) (t ∷ here) ms fit e =
+    let number : number_of (from_list here) ≡ n = number_from here ∙ omega (arith, e) in
+    (Router rs t (from_list here), ap (λ k. line.Router k rs) number, ap (λ us. t ∷ us) (list_of-from here))
+tree_of line.End here ms fit e = absurd fit
+tree_of l here ms fit e = absurd (omega (arith, e))
+
+-- ---- lines
+
+module _ (l : TreeLine) (old front all : List Level) (whole : old ≡ front ++ all) (count : length all ≡ arity l) where
   split_old : (ts : List Tree) → AreBuilt old ts → Split front all ts
   split_old ts h = built_split front all ts (subst (λ (ls : List Level). AreBuilt ls ts) whole h)
 
-  -- a step makes just that tree
-  step_is : (ts us : List Tree) (h : AreBuilt old ts) (s : Steps l ts us) → s.tree ≡ (gives (split_old ts h).here (split_old ts h).all_built).tree
-  step_is ts us h s =
+  -- a tree of this line over what was taken
+  module _ (t : Tree) (here : List Tree) (built : AreBuilt all here) (said : last_line t ≡ l) (uses : taken t ≡ here) where
+    means : map meaning_of (taken t) ≡ level_meanings all
+    means = ap (map meaning_of) uses ∙ built_meanings all here built
+
+    meaning-is : meaning_of t ≡ line_meaning l (level_meanings all)
+    meaning-is = meaning-top t ∙ ap (λ k. line_meaning k (map meaning_of (taken t))) said ∙ ap (line_meaning l) means
+
+    levels-is : levels_of t ≡ suc (most_of all)
+    levels-is = levels-top t ∙ ap (λ us. suc (most_levels (from_list us))) uses ∙ ap suc (built_most all here built)
+
+    fits-is : IsMade t → Fits l (level_meanings all)
+    fits-is h = subst (Fits l) means (subst (λ k. Fits k (map meaning_of (taken t))) said ((made-top t).0 h))
+
+    made-is : Fits l (level_meanings all) → IsMade t
+    made-is h = (made-top t).1 (subst (λ k. Fits k (map meaning_of (taken t))) (sym said) (subst (Fits l) (sym means) h))
+
+  -- a step uses what was taken
+  step_uses : (ts us : List Tree) (h : AreBuilt old ts) (s : Steps l ts us) → taken s.tree ≡ (split_old ts h).here
+  step_uses ts us h s =
       let cut = split_old ts h in
-      let gift = gives cut.here cut.all_built in
-      let lengths : length (taken s.tree) ≡ length cut.here = length-taken s.tree ∙ ap arity (s.line_is ∙ sym gift.line_is) ∙ sym (length-taken gift.tree) ∙ ap length gift.takes in
-      let both = split_same s.front cut.before (taken s.tree) cut.here (sym s.before ∙ cut.whole) lengths in
-      tree_same s.tree gift.tree (s.line_is ∙ sym gift.line_is) (both.1 ∙ sym gift.takes)
+      let lengths = length-taken s.tree ∙ ap arity s.line_is ∙ sym count ∙ built_length all cut.here cut.all_built in
+      (split_same s.front cut.before (taken s.tree) cut.here (sym s.before ∙ cut.whole) lengths).1
 
-  does_ok : (new : List Level) (top : Level) → CanBeSpelled l → Fine → level_meaning top ≡ m → top.levels ≡ n → n ≤ 1000 → new ≡ front ++ top ∷ [] → Does l old new (Ok tt)
-  does_ok new top spelled fine mean lev le e = λ ts h.
+  does_ok : (new : List Level) (top : Level) → CanBeSpelled l → Fits l (level_meanings all) → level_meaning top ≡ line_meaning l (level_meanings all) → top.levels ≡ suc (most_of all) →
+      new ≡ front ++ top ∷ [] → Does l old new (Ok tt)
+  does_ok new top spelled fit mean lev e = λ ts h.
       let cut = split_old ts h in
-      let gift = gives cut.here cut.all_built in
-      let is_top : IsTop gift.tree = (subst CanBeSpelled (sym gift.line_is) spelled, gift.made fine, subst (λ k. k ≤ 1000) (sym gift.levels) le) in
-      let allowed : AllByRecursion IsAllowed (taken gift.tree) = subst (AllByRecursion IsAllowed) (sym gift.takes) (built_allowed all cut.here cut.all_built) in
-      let built : IsBuilt top gift.tree = record { meaning = mean ∙ sym gift.meaning; levels = lev ∙ sym gift.levels; allowed = allowed_of gift.tree is_top allowed } in
-      let step : Steps l ts (cut.before ++ gift.tree ∷ []) =
-      record { front = cut.before; tree = gift.tree; line_is = gift.line_is; before = cut.whole ∙ ap (λ us. cut.before ++ us) (sym gift.takes); after = refl; top = is_top } in
-      (cut.before ++ gift.tree ∷ [], step, subst (λ (ls : List Level). AreBuilt ls (cut.before ++ gift.tree ∷ [])) (sym e) (built_push front cut.before top gift.tree cut.front_built built))
+      let (t, said, uses) = tree_of l cut.here (level_meanings all) fit (sym (built_length all cut.here cut.all_built) ∙ count) in
+      let levels = levels-is t cut.here cut.all_built said uses in
+      let is_top : IsTop t = (subst CanBeSpelled (sym said) spelled, made-is t cut.here cut.all_built said uses fit, omega (arith, levels, lev, top.low)) in
+      let allowed = subst (AllByRecursion IsAllowed) (sym uses) (built_allowed all cut.here cut.all_built) in
+      let built : IsBuilt top t = record { meaning = mean ∙ sym (meaning-is t cut.here cut.all_built said uses); levels = lev ∙ sym levels; allowed = allowed_of t is_top allowed } in
+      let step : Steps l ts (cut.before ++ t ∷ []) =
+      record { front = cut.before; tree = t; line_is = said; before = cut.whole ∙ ap (λ us. cut.before ++ us) (sym uses); after = refl; top = is_top } in
+      (cut.before ++ t ∷ [], step, subst (λ (ls : List Level). AreBuilt ls (cut.before ++ t ∷ [])) (sym e) (built_push front cut.before top t cut.front_built built))
 
-  does_high : 1000 < n → (ts us : List Tree) → AreBuilt old ts → Steps l ts us → ⊥
-  does_high high ts us h s =
-      let gift = gives (split_old ts h).here (split_old ts h).all_built in
-      let same = ap levels_of (step_is ts us h s) ∙ gift.levels in
-      let low : levels_of s.tree ≤ 1000 = s.top.2 in
-      absurd (omega arith)
+  -- what was taken doesn't fit the line
+  pub does_unfit : (Fits l (level_meanings all) → ⊥) → (ts us : List Tree) → AreBuilt old ts → Steps l ts us → ⊥
+  does_unfit unfit ts us h s =
+      let cut = split_old ts h in
+      unfit (fits-is s.tree cut.here cut.all_built s.line_is (step_uses ts us h s) s.top.1)
 
-  pub does_unfine : (Fine → ⊥) → (ts us : List Tree) → AreBuilt old ts → Steps l ts us → ⊥
-  does_unfine unfine ts us h s =
-      let gift = gives (split_old ts h).here (split_old ts h).all_built in
-      unfine (gift.fine (subst IsMade (step_is ts us h s) s.top.1))
-
-  -- the recorder was pushed, or rejected
-  pub does_put : (new : List Level) (r : Result (Unit {0}) LineError) → CanBeSpelled l → Fine → Puts m n front new r → Does l old new r
-  does_put new (Ok done) spelled fine (le, top, mean, lev, e) = does_ok new top spelled fine mean lev le e
-  does_put new (Err Memory) spelled fine p = tt
-  does_put new (Err Bad) spelled fine p = does_high p
-
-pub puts_as : (m p : Meaning) (n k : ℕ) (old new : List Level) (r : Result (Unit {0}) LineError) → Puts m n old new r → m ≡ p → n ≡ k → Puts p k old new r
-puts_as m p n k old new r h e f = subst (λ (q : Meaning). Puts q k old new r) e (subst (λ j. Puts m j old new r) f h)
+  -- the recorder was pushed, or has too many levels
+  pub does_put : (new : List Level) (m : Meaning) (n : ℕ) (r : Result (Unit {0}) LineError) → CanBeSpelled l → Fits l (level_meanings all) →
+      m ≡ line_meaning l (level_meanings all) → n ≡ suc (most_of all) → Puts m n front new r → Does l old new r
+  does_put new m n (Ok done) spelled fit e f (le, top, mean, lev, is) = does_ok new top spelled fit (mean ∙ e) (lev ∙ f) is
+  does_put new m n (Err Memory) spelled fit e f p = tt
+  does_put new m n (Err Bad) spelled fit e f p = λ ts us h s.
+      let cut = split_old ts h in
+      let levels = levels-is s.tree cut.here cut.all_built s.line_is (step_uses ts us h s) in
+      absurd (omega (arith, levels, s.top.2, f, p))
 
 -- too short a stack
 pub does_short : (l : TreeLine) (old : List Level) → length old < arity l → (ts us : List Tree) → AreBuilt old ts → Steps l ts us → ⊥
@@ -143,65 +171,7 @@ does_short l old lt ts us h s =
     let lengths : length (taken s.tree) ≡ arity l = length-taken s.tree ∙ ap arity s.line_is in
     absurd (omega (arith, built_length old ts h, ap length s.before, length-append s.front (taken s.tree), lengths, lt))
 
--- ---- each line
-
-pub gives_book : Gives line.Book [] (one_book new_book) 1 (Unit {0})
-gives_book [] h = record { tree = Book; takes = refl; line_is = refl; meaning = refl; levels = refl; made = λ x. x; fine = λ x. x }
-gives_book (t ∷ ts) h = absurd h
-
-pub gives_noop : Gives line.Noop [] nothing 1 (Unit {0})
-gives_noop [] h = record { tree = Noop; takes = refl; line_is = refl; meaning = refl; levels = refl; made = λ x. x; fine = λ x. x }
-gives_noop (t ∷ ts) h = absurd h
-
-pub gives_prefix : (p : List ℕ) (l : Level) → Gives (line.Prefix p) (l ∷ []) (prefixed p (level_meaning l)) (suc l.levels) (Unit {0})
-gives_prefix p l [] h = absurd h
-gives_prefix p l (t ∷ (u ∷ ts)) h = absurd h.1
-gives_prefix p l (t ∷ []) h =
-    record { tree = Prefix p t; takes = refl; line_is = refl; meaning = ap (prefixed p) (sym h.0.meaning); levels = ap suc (sym h.0.levels); made = λ x. x; fine = λ x. x }
-
-pub gives_filter : (fold table : Bool) (ps : List (List ℕ)) (l : Level) → Gives (line.Filter fold table ps) (l ∷ []) (filtered fold ps (level_meaning l)) (suc l.levels) (sum_by length ps ≤ 1048576)
-gives_filter fold table ps l [] h = absurd h
-gives_filter fold table ps l (t ∷ (u ∷ ts)) h = absurd h.1
-gives_filter fold table ps l (t ∷ []) h =
-    record { tree = Filter fold table ps t; takes = refl; line_is = refl; meaning = ap (filtered fold ps) (sym h.0.meaning); levels = ap suc (sym h.0.levels); made = λ x. x; fine = λ x. x }
-
--- as many trees as recorders
-number_built : (all : List Level) (here : List Tree) → AreBuilt all here → number_of (from_list here) ≡ length all
-number_built all here h = sym (length-list_of (from_list here)) ∙ ap length (list_of-from here) ∙ sym (built_length all here h)
-
-pub gives_fanout : (n : ℕ) (all : List Level) → length all ≡ n → Gives (line.Fanout n) all (joined_all (level_meanings all)) (suc (most_of all)) (books_in (level_meanings all) ≤ 65536)
-gives_fanout n all e here h =
-    let means = built_meanings all here h in record {
-      tree = Fanout (from_list here);
-      takes = list_of-from here;
-      line_is = ap line.Fanout (number_built all here h ∙ e);
-      meaning = ap joined_all means;
-      levels = ap suc (built_most all here h);
-      made = λ x. subst (λ ms. books_in ms ≤ 65536) (sym means) x;
-      fine = λ x. subst (λ ms. books_in ms ≤ 65536) means x;
-    }
-
-pub gives_router : (n : ℕ) (rs : List RouteWord) (d : Level) (all : List Level) → length all ≡ n →
-    Gives (line.Router n rs) (d ∷ all) (routed (map route_of rs) (level_meanings (d ∷ all))) (suc (most_of (d ∷ all))) (NameTargets n 0 rs × (books_in (level_meanings (d ∷ all)) ≤ 65536))
-gives_router n rs d all e [] h = absurd h
-gives_router n rs d all e (t ∷ here) h =
-    let means : meaning_of t ∷ meanings_of (from_list here) ≡ level_meanings (d ∷ all) = built_meanings (d ∷ all) (t ∷ here) h in
-    let number : number_of (from_list here) ≡ n = number_built all here h.1 ∙ e in record {
-      tree = Router rs t (from_list here);
-      takes = ap (λ us. t ∷ us) (list_of-from here);
-      line_is = ap (λ k. line.Router k rs) number;
-      meaning = ap (routed (map route_of rs)) means;
-      levels = ap suc (built_most (d ∷ all) (t ∷ here) h);
-      made = λ x. (subst (λ k. NameTargets k 0 rs) (sym number) x.0, subst (λ ms. books_in ms ≤ 65536) (sym means) x.1);
-      fine = λ x. (subst (λ k. NameTargets k 0 rs) number x.0, subst (λ ms. books_in ms ≤ 65536) means x.1);
-    }
-
 -- a line that failed
 pub does_refused : (l : TreeLine) (old new : List Level) (e : LineError) → (e ≡ Bad → (ts us : List Tree) → AreBuilt old ts → Steps l ts us → ⊥) → Does l old new (Err e)
 does_refused l old new Memory h = tt
 does_refused l old new Bad h = h refl
-
-pub gives_routed : (n : ℕ) (rs : List RouteWord) (all : List Level) → length all ≡ suc n →
-    Gives (line.Router n rs) all (routed (map route_of rs) (level_meanings all)) (suc (most_of all)) (NameTargets n 0 rs × (books_in (level_meanings all) ≤ 65536))
-gives_routed n rs [] e = absurd (omega arith)
-gives_routed n rs (d ∷ all) e = gives_router n rs d all (omega arith)

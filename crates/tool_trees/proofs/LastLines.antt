@@ -1,18 +1,19 @@
 -- A tree is its last line and the trees that this line uses.
 use Rattle.std.proofs.Common.{◌≡◌, ℕ, suc, List, [], ◌∷◌, ◌++◌, length, Option, Some, None, refl, sym, ap, ◌∙◌, arith, append_assoc, append-nil, length-append}
+use Rattle.std.specs.List.{flat_map}
+use Rattle.std.proofs.lemmas.Grind.{flat_map-append}
 use Rattle.tool_trees.specs.declared.tree_line.TreeLine.{TreeLine}
 use Rattle.tool_trees.specs.declared.tree_line.TreeLine.TheVariants as line
 use Rattle.tool_trees.specs.Words.{spelling}
 use Rattle.tool_trees.specs.Trees.{Tree, Book, Noop, Prefix, Filter, Fanout, Router, Trees, none, more, number_of, last_line, tree_lines, trees_lines, IsTop}
-use Rattle.tool_trees.specs.Steps.{list_of, taken, Steps}
+use Rattle.tool_trees.specs.Steps.{list_of, taken, arity, Steps}
 
 abbrev pub from_list : List Tree → Trees
 from_list [] = none
 from_list (t ∷ ts) = more t (from_list ts)
 
 abbrev pub all_lines : List Tree → List (List ℕ)
-all_lines [] = []
-all_lines (t ∷ ts) = tree_lines t ++ all_lines ts
+all_lines ts = flat_map tree_lines ts
 
 pub from_list-of : (ts : Trees) → from_list (list_of ts) ≡ ts
 from_list-of none = refl
@@ -38,14 +39,6 @@ lines-top (Prefix p t) = ap (λ ls. ls ++ spelling (line.Prefix p) ∷ []) (sym 
 lines-top (Filter fold table patterns t) = ap (λ ls. ls ++ spelling (line.Filter fold table patterns) ∷ []) (sym (append-nil (tree_lines t)))
 lines-top (Fanout ts) = ap (λ ls. ls ++ spelling (line.Fanout (number_of ts)) ∷ []) (lines-list ts)
 lines-top (Router routes default ts) = ap (λ ls. (tree_lines default ++ ls) ++ spelling (line.Router (number_of ts) routes) ∷ []) (lines-list ts)
-
--- how many trees a line uses
-abbrev pub arity : TreeLine → ℕ
-arity (line.Prefix p) = 1
-arity (line.Filter fold table patterns) = 1
-arity (line.Fanout n) = n
-arity (line.Router n routes) = suc n
-arity l = 0
 
 pub length-taken : (t : Tree) → length (taken t) ≡ arity (last_line t)
 length-taken (Fanout ts) = length-list_of ts
@@ -95,19 +88,8 @@ split_same (p ∷ a) (q ∷ b) x y e l =
     let rest = split_same a b x y tail l in
     (ap (λ z. z ∷ a) head ∙ ap (λ zs. q ∷ zs) rest.0, rest.1)
 
-pub steps_same : (l : TreeLine) (old a b : List Tree) → Steps l old a → Steps l old b → a ≡ b
-steps_same l old a b s t =
-    let lengths : length (taken s.tree) ≡ length (taken t.tree) = length-taken s.tree ∙ ap arity (s.line_is ∙ sym t.line_is) ∙ sym (length-taken t.tree) in
-    let both = split_same s.front t.front (taken s.tree) (taken t.tree) (sym s.before ∙ t.before) lengths in
-    let same = tree_same s.tree t.tree (s.line_is ∙ sym t.line_is) both.1 in
-    s.after ∙ ap (λ f. f ++ s.tree ∷ []) both.0 ∙ ap (λ u. t.front ++ u ∷ []) same ∙ sym t.after
-
-all_lines-append : (ts us : List Tree) → all_lines (ts ++ us) ≡ all_lines ts ++ all_lines us
-all_lines-append [] us = refl
-all_lines-append (t ∷ ts) us = ap (λ ls. tree_lines t ++ ls) (all_lines-append ts us) ∙ sym (append_assoc (tree_lines t) (all_lines ts) (all_lines us))
-
 -- the lines of trees with one more at the end: its last line follows those of the trees before it and of those that it uses
 pub lines_push : (front : List Tree) (t : Tree) → all_lines (front ++ t ∷ []) ≡ all_lines (front ++ taken t) ++ spelling (last_line t) ∷ []
 lines_push front t =
-    all_lines-append front (t ∷ []) ∙ ap (λ ls. all_lines front ++ ls) (append-nil (tree_lines t) ∙ lines-top t)
-    ∙ sym (append_assoc (all_lines front) (all_lines (taken t)) (spelling (last_line t) ∷ [])) ∙ ap (λ ls. ls ++ spelling (last_line t) ∷ []) (sym (all_lines-append front (taken t)))
+    flat_map-append tree_lines front (t ∷ []) ∙ ap (λ ls. all_lines front ++ ls) (append-nil (tree_lines t) ∙ lines-top t)
+    ∙ sym (append_assoc (all_lines front) (all_lines (taken t)) (spelling (last_line t) ∷ [])) ∙ ap (λ ls. ls ++ spelling (last_line t) ∷ []) (sym (flat_map-append tree_lines front (taken t)))

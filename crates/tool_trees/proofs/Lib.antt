@@ -1,7 +1,6 @@
 pub mod Lines
 pub mod Parse
 pub mod LastLines
-pub mod Readings
 pub mod OneListAtMost
 pub mod Orders
 pub mod Doing

@@ -34,10 +34,7 @@ module _ (bytes : List ℕ) (said : TreeLine) (sp : Spells bytes said) (old : Li
 
   pub ended : is_end said ≡ true → (r : Result Bool LineError) → MatchResult r (λ one. (one ≡ true) × (length old ≡ 1)) (λ e. (e ≡ Bad) × (length old ≡ 1 → ⊥)) → DoesLine bytes old old r
   ended e (Ok true) h = one_left e h.1
-  ended e (Ok false) h = absurd (false_is h.0)
-    where
-      false_is : false ≡ true → ⊥
-      false_is g = cc
+  ended e (Ok false) h = let f = h.0 in absurd (cc)
   ended e (Err Bad) h = others_left e h.1
   ended e (Err Memory) h = tt
 
@@ -45,10 +42,7 @@ module _ (bytes : List ℕ) (said : TreeLine) (sp : Spells bytes said) (old : Li
   said_done new h = λ ts b. let (us, st, built) = h ts b in (said, us, sp, st, built)
 
   no_end_said : is_end said ≡ false → bytes ≡ spelling line.End → ⊥
-  no_end_said e f = differ (ap is_end (same_said bytes said line.End sp (tt, f)))
-    where
-      differ : is_end said ≡ true → ⊥
-      differ g = cc
+  no_end_said e f = let ends = ap is_end (same_said bytes said line.End sp (tt, f)) in absurd (cc)
 
   pub said_refused : (new : List Level) (e : LineError) → is_end said ≡ false → Does said old new (Err e) → DoesLine bytes old new (Err e)
   said_refused new Memory f h = tt

@@ -1,5 +1,5 @@
 -- Targets that are named in order, in both forms.
-use Rattle.std.proofs.Common.{◌≡◌, ℕ, suc, ◌<◌, ◌≤◌, List, [], ◌∷◌, ◌++◌, refl, ap, ◌∙◌, arith, ◌⊎◌, inl, inr}
+use Rattle.std.proofs.Common.{◌≡◌, ℕ, suc, ◌<◌, ◌≤◌, List, [], ◌∷◌, ◌++◌, refl, sym, ap, ◌∙◌, arith, ◌⊎◌, inl, inr}
 use Rattle.std.proofs.lemmas.Bool.{cases_lt}
 use Rattle.std.proofs.Math.Nat.{eq-or-lt_of_le}
 use Rattle.tool_trees.specs.declared.tree_line.RouteWord.{RouteWord}
@@ -11,11 +11,81 @@ record NameOthers (n named : ℕ) (routes : List RouteWord) : Type 0 where
   pub only : (k : ℕ) → IsNamed k routes → k < n
   pub in_order : (before after : List RouteWord) (r : RouteWord) (k : ℕ) → routes ≡ before ++ r ∷ after → k < r.target → (k < named) ⊎ IsNamed k before
 
+-- a route to a number that was named, or to the next one: so many are named then
+record Next (named since : ℕ) (q : RouteWord) : Type 0 where
+  pub low : q.target ≤ named
+  pub target : q.target < since
+  pub more : named ≤ since
+  pub new : (k : ℕ) → k < since → (k < named) ⊎ (q.target ≡ k)
+
+again : (named : ℕ) (q : RouteWord) → q.target < named → Next named named q
+again named q lt = record { low = omega (arith, lt); target = lt; more = omega arith; new = λ k below. inl below }
+
+onward : (named : ℕ) (q : RouteWord) → q.target ≡ named → Next named (suc named) q
+onward named q is = record { low = omega (arith, is); target = omega (arith, is); more = omega arith; new = new }
+  where
+    new : (k : ℕ) → k < suc named → (k < named) ⊎ (q.target ≡ k)
+    new k below = by (cases_lt k named)
+      where
+        by : (k < named) ⊎ (named ≤ k) → (k < named) ⊎ (q.target ≡ k)
+        by (inl lt) = inl lt
+        by (inr ge) = inr (omega (arith, is, below, ge))
+
 no_routes : (before after : List RouteWord) (r : RouteWord) → [] ≡ before ++ r ∷ after → ⊥
 no_routes [] after r e = absurd (cc)
 no_routes (b ∷ before) after r e = absurd (cc)
 
--- ---- from the recursion
+module _ (n named since : ℕ) (q : RouteWord) (routes : List RouteWord) (next : Next named since q) where
+  -- one route more in front
+  others_more : since ≤ n → NameOthers n since routes → NameOthers n named (q ∷ routes)
+  others_more le o = record { all = λ k low high. all k low high (cases_lt k since); only = only; in_order = in_order }
+    where
+      all : (k : ℕ) → named ≤ k → k < n → (k < since) ⊎ (since ≤ k) → IsNamed k (q ∷ routes)
+      all k low high (inr ge) = inr (o.all k ge high)
+      all k low high (inl lt) = here (next.new k lt)
+        where
+          here : (k < named) ⊎ (q.target ≡ k) → IsNamed k (q ∷ routes)
+          here (inl below) = absurd (omega (arith, below, low))
+          here (inr is) = inl is
+
+      only : (k : ℕ) → IsNamed k (q ∷ routes) → k < n
+      only k (inl is) = omega (arith, is, next.target, le)
+      only k (inr i) = o.only k i
+
+      in_order : (before after : List RouteWord) (r : RouteWord) (k : ℕ) → q ∷ routes ≡ before ++ r ∷ after → k < r.target → (k < named) ⊎ IsNamed k before
+      in_order [] after r k e lt =
+          let head : q ≡ r = cc in
+          let target = ap (λ (x : RouteWord). x.target) head in
+          inl (omega (arith, lt, target, next.low))
+      in_order (b ∷ before) after r k e lt =
+          let head : q ≡ b = cc in
+          let tail : routes ≡ before ++ r ∷ after = cc in
+          later (ap (λ (x : RouteWord). x.target) head) (o.in_order before after r k tail lt)
+        where
+          earlier : q.target ≡ b.target → (k < named) ⊎ (q.target ≡ k) → (k < named) ⊎ IsNamed k (b ∷ before)
+          earlier same (inl below) = inl below
+          earlier same (inr is) = inr (inl (sym same ∙ is))
+
+          later : q.target ≡ b.target → (k < since) ⊎ IsNamed k before → (k < named) ⊎ IsNamed k (b ∷ before)
+          later same (inl below) = earlier same (next.new k below)
+          later same (inr i) = inr (inr i)
+
+  -- and one less
+  others_less : NameOthers n named (q ∷ routes) → NameOthers n since routes
+  others_less o = record {
+    all = λ k low high. other k low (o.all k (omega (arith, low, next.more)) high);
+    only = λ k i. o.only k (inr i);
+    in_order = λ before after r k e lt. later before k (o.in_order (q ∷ before) after r k (ap (λ rs. q ∷ rs) e) lt);
+  }
+    where
+      other : (k : ℕ) → since ≤ k → IsNamed k (q ∷ routes) → IsNamed k routes
+      other k low (inl is) = absurd (omega (arith, low, is, next.target))
+      other k low (inr i) = i
+
+      later : (before : List RouteWord) (k : ℕ) → (k < named) ⊎ IsNamed k (q ∷ before) → (k < since) ⊎ IsNamed k before
+      later before k (inl low) = inl (omega (arith, low, next.more))
+      later before k (inr (inl is)) = inl (omega (arith, is, next.target))
+      later before k (inr (inr i)) = inr i
 
 few : (n named : ℕ) (routes : List RouteWord) → NameTargets n named routes → named ≤ n
 few n named [] h = omega (arith, h)
@@ -28,69 +98,33 @@ others n named [] h = record {
   only = λ k i. absurd i;
   in_order = λ before after r k e lt. absurd (no_routes before after r e);
 }
-others n named (q ∷ routes) (inl h) =
-    let rest = others n named routes h.1 in
-    record {
-      all = λ k le lt. inr (rest.all k le lt);
-      only = only rest.only;
-      in_order = in_order rest.in_order;
-    }
+others n named (q ∷ routes) (inl h) = others_more n named named q routes (again named q h.0) (few n named routes h.1) (others n named routes h.1)
+others n named (q ∷ routes) (inr h) = others_more n named (suc named) q routes (onward named q h.0) (omega (arith, h.1)) (others n (suc named) routes h.2)
+
+named_by : (n named : ℕ) (routes : List RouteWord) → named ≤ n → NameOthers n named routes → NameTargets n named routes
+named_by n named [] le o = by (eq-or-lt_of_le le)
   where
-    only : ((k : ℕ) → IsNamed k routes → k < n) → (k : ℕ) → IsNamed k (q ∷ routes) → k < n
-    only rest k (inl e) = omega (arith, e, h.0, few n named routes h.1)
-    only rest k (inr i) = rest k i
-
-    in_order : ((before after : List RouteWord) (r : RouteWord) (k : ℕ) → routes ≡ before ++ r ∷ after → k < r.target → (k < named) ⊎ IsNamed k before)
-        → (before after : List RouteWord) (r : RouteWord) (k : ℕ) → q ∷ routes ≡ before ++ r ∷ after → k < r.target → (k < named) ⊎ IsNamed k before
-    in_order rest [] after r k e lt =
-        let head : q ≡ r = cc in
-        let target : q.target ≡ r.target = ap (λ (x : RouteWord). x.target) head in
-        inl (omega (arith, lt, target, h.0))
-    in_order rest (b ∷ before) after r k e lt =
-        let tail : routes ≡ before ++ r ∷ after = cc in
-        later (rest before after r k tail lt)
-      where
-        later : (k < named) ⊎ IsNamed k before → (k < named) ⊎ IsNamed k (b ∷ before)
-        later (inl low) = inl low
-        later (inr i) = inr (inr i)
-others n named (q ∷ routes) (inr h) =
-    let rest = others n (suc named) routes h.2 in
-    record {
-      all = all rest.all;
-      only = only rest.only;
-      in_order = in_order rest.in_order;
-    }
+    by : (named ≡ n) ⊎ (named < n) → named ≡ n
+    by (inl is) = is
+    by (inr lt) = absurd (o.all named (omega arith) lt)
+named_by n named (q ∷ routes) le o = by (λ since next. named_by n since routes next) (cases_lt named q.target)
   where
-    all : ((k : ℕ) → suc named ≤ k → k < n → IsNamed k routes) → (k : ℕ) → named ≤ k → k < n → IsNamed k (q ∷ routes)
-    all rest k le lt = by (eq-or-lt_of_le le)
+    none : named < q.target → ⊥
+    none lt = out (o.in_order [] routes q named refl lt)
       where
-        by : (named ≡ k) ⊎ (named < k) → IsNamed k (q ∷ routes)
-        by (inl e) = inl (h.0 ∙ e)
-        by (inr more) = inr (rest k more lt)
+        out : (named < named) ⊎ IsNamed named [] → ⊥
+        out (inl low) = absurd (omega (arith, low))
+        out (inr i) = i
 
-    only : ((k : ℕ) → IsNamed k routes → k < n) → (k : ℕ) → IsNamed k (q ∷ routes) → k < n
-    only rest k (inl e) = omega (arith, e, h.0, h.1)
-    only rest k (inr i) = rest k i
-
-    in_order : ((before after : List RouteWord) (r : RouteWord) (k : ℕ) → routes ≡ before ++ r ∷ after → k < r.target → (k < suc named) ⊎ IsNamed k before)
-        → (before after : List RouteWord) (r : RouteWord) (k : ℕ) → q ∷ routes ≡ before ++ r ∷ after → k < r.target → (k < named) ⊎ IsNamed k before
-    in_order rest [] after r k e lt =
-        let head : q ≡ r = cc in
-        let target : q.target ≡ r.target = ap (λ (x : RouteWord). x.target) head in
-        inl (omega (arith, lt, target, h.0))
-    in_order rest (b ∷ before) after r k e lt =
-        let head : q ≡ b = cc in
-        let tail : routes ≡ before ++ r ∷ after = cc in
-        let target : q.target ≡ b.target = ap (λ (x : RouteWord). x.target) head in
-        later target (rest before after r k tail lt)
+    by : ((since : ℕ) → since ≤ n → NameOthers n since routes → NameTargets n since routes) → (named < q.target) ⊎ (q.target ≤ named) → NameTargets n named (q ∷ routes)
+    by shorter (inl lt) = absurd (none lt)
+    by shorter (inr low) = at (eq-or-lt_of_le low)
       where
-        later : q.target ≡ b.target → (k < suc named) ⊎ IsNamed k before → (k < named) ⊎ IsNamed k (b ∷ before)
-        later same (inl low) = by (cases_lt k named)
-          where
-            by : (k < named) ⊎ (named ≤ k) → (k < named) ⊎ IsNamed k (b ∷ before)
-            by (inl less) = inl less
-            by (inr le) = inr (inl (omega (arith, same, low, le, h.0)))
-        later same (inr i) = inr (inr i)
+        at : (q.target ≡ named) ⊎ (q.target < named) → NameTargets n named (q ∷ routes)
+        at (inr lt) = inl (lt, shorter named le (others_less n named named q routes (again named q lt) o))
+        at (inl is) =
+            let more : named < n = omega (arith, is, o.only q.target (inl refl)) in
+            inr (is, more, shorter (suc named) (omega (arith, more)) (others_less n named (suc named) q routes (onward named q is) o))
 
 pub in_words : (n : ℕ) (routes : List RouteWord) → NameTargets n 0 routes → NameInOrder n routes
 in_words n routes h =
@@ -104,63 +138,6 @@ in_words n routes h =
     second : (k : ℕ) (before : List RouteWord) → (k < 0) ⊎ IsNamed k before → IsNamed k before
     second k before (inl low) = absurd (omega (arith, low))
     second k before (inr i) = i
-
--- ---- to the recursion
-
-named_by : (n named : ℕ) (routes : List RouteWord) → named ≤ n → NameOthers n named routes → NameTargets n named routes
-named_by n named [] le o = by (cases_lt named n)
-  where
-    by : (named < n) ⊎ (n ≤ named) → named ≡ n
-    by (inl lt) = absurd (o.all named (omega arith) lt)
-    by (inr ge) = omega (arith, le, ge)
-named_by n named (q ∷ routes) le o = by (λ m low. named_by n m routes low) (cases_lt q.target named) (cases_lt named q.target)
-  where
-    again : q.target < named → NameOthers n named routes
-    again lt = record {
-      all = λ k low high. other k low (o.all k low high);
-      only = λ k i. o.only k (inr i);
-      in_order = λ before after r k e less. later before k (o.in_order (q ∷ before) after r k (ap (λ rs. q ∷ rs) e) less);
-    }
-      where
-        other : (k : ℕ) → named ≤ k → IsNamed k (q ∷ routes) → IsNamed k routes
-        other k low (inl e) = absurd (omega (arith, lt, low, e))
-        other k low (inr i) = i
-
-        later : (before : List RouteWord) (k : ℕ) → (k < named) ⊎ IsNamed k (q ∷ before) → (k < named) ⊎ IsNamed k before
-        later before k (inl low) = inl low
-        later before k (inr (inl e)) = inl (omega (arith, lt, e))
-        later before k (inr (inr i)) = inr i
-
-    onward : q.target ≡ named → NameOthers n (suc named) routes
-    onward is = record {
-      all = λ k low high. other k low (o.all k (omega (arith, low)) high);
-      only = λ k i. o.only k (inr i);
-      in_order = λ before after r k e less. later before k (o.in_order (q ∷ before) after r k (ap (λ rs. q ∷ rs) e) less);
-    }
-      where
-        other : (k : ℕ) → suc named ≤ k → IsNamed k (q ∷ routes) → IsNamed k routes
-        other k low (inl e) = absurd (omega (arith, is, low, e))
-        other k low (inr i) = i
-
-        later : (before : List RouteWord) (k : ℕ) → (k < named) ⊎ IsNamed k (q ∷ before) → (k < suc named) ⊎ IsNamed k before
-        later before k (inl low) = inl (omega (arith, low))
-        later before k (inr (inl e)) = inl (omega (arith, is, e))
-        later before k (inr (inr i)) = inr i
-
-    none_left_out : (named < q.target) → ⊥
-    none_left_out lt = out (o.in_order [] routes q named refl lt)
-      where
-        out : (named < named) ⊎ IsNamed named [] → ⊥
-        out (inl low) = absurd (omega (arith, low))
-        out (inr i) = i
-
-    by : ((m : ℕ) → m ≤ n → NameOthers n m routes → NameTargets n m routes) → (q.target < named) ⊎ (named ≤ q.target) → (named < q.target) ⊎ (q.target ≤ named) → NameTargets n named (q ∷ routes)
-    by shorter (inl lt) other = inl (lt, shorter named le (again lt))
-    by shorter (inr ge) (inl lt) = absurd (none_left_out lt)
-    by shorter (inr ge) (inr low) =
-        let is : q.target ≡ named = omega (arith, ge, low) in
-        let more : named < n = omega (arith, is, o.only q.target (inl refl)) in
-        inr (is, more, shorter (suc named) (omega (arith, more)) (onward is))
 
 pub from_words : (n : ℕ) (routes : List RouteWord) → NameInOrder n routes → NameTargets n 0 routes
 from_words n routes o = named_by n 0 routes (omega arith) (record {

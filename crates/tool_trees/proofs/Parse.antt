@@ -3,6 +3,7 @@ use Rattle.std.proofs.Common.{◌≡◌, ◌≢◌, ℕ, ◌<◌, ◌≤◌, ◌
 use Rattle.std.proofs.lemmas.Fmt.{decimal_injective}
 use Rattle.std.proofs.lemmas.List.Elements.{recursion_from_All, All-from_recursion}
 use Rattle.std.specs.List.{AllByRecursion}
+use Rattle.std.proofs.lemmas.Grind.{flat_map-append}
 use Rattle.tool_grammar.specs.Cuts.{Lacks, StartsAt}
 use Rattle.tool_grammar.specs.Grammar.{IsName}
 use Rattle.metrics_names.specs.Names.{name_word}
@@ -48,11 +49,9 @@ all_push Is [] x h g = (g, tt)
 all_push Is (y ∷ xs) x h g = (h.0, all_push Is xs x h.1 g)
 
 words_push : {A : Type 0} (word : A → List ℕ) (xs : List A) (x : A) (after : List ℕ) → words word (xs ++ x ∷ []) ++ after ≡ words word xs ++ (32 ∷ (word x ++ after))
-words_push word [] x after = ap (λ z. (32 ∷ z) ++ after) (append-nil (word x))
-words_push word (y ∷ xs) x after =
-    append_assoc (32 ∷ word y) (words word (xs ++ x ∷ [])) after
-    ∙ ap (λ z. (32 ∷ word y) ++ z) (words_push word xs x after)
-    ∙ sym (append_assoc (32 ∷ word y) (words word xs) (32 ∷ (word x ++ after)))
+words_push word xs x after =
+    ap (λ z. z ++ after) (flat_map-append (λ y. 32 ∷ word y) xs (x ∷ []) ∙ ap (λ z. words word xs ++ z) (append-nil (32 ∷ word x)))
+    ∙ append_assoc (words word xs) (32 ∷ word x) after
 
 -- how far words are read
 pub record WordsSoFar {A : Type 0} (Is : A → Type 0) (word : A → List ℕ) (bytes rest : List ℕ) (xs : List A) : Type 0 where

@@ -5,6 +5,7 @@ use Rattle.std.specs.Str.{bytes_eq}
 use Rattle.metrics.specs.Book.{new_book}
 use Rattle.metrics.specs.Meaning.{Meaning, nothing, one_book}
 use Rattle.metrics.specs.Layers.{Route, prefixed, filtered, joined_all, routed}
+use Rattle.metrics_trees.specs.Recorders.{books_in}
 use Rattle.tool_trees.specs.declared.tree_line.RouteWord.{RouteWord}
 use Rattle.tool_trees.specs.declared.tree_line.TreeLine.{TreeLine}
 use Rattle.tool_trees.specs.declared.tree_line.TreeLine.TheVariants as line
@@ -98,10 +99,6 @@ abbrev mutual
   pub most_levels : Trees → ℕ
   most_levels none = 0
   most_levels (more t ts) = max (levels_of t) (most_levels ts)
-
--- how many books they have together
-abbrev pub books_in : List Meaning → ℕ
-books_in ms = length (joined_all ms).contents
 
 -- After so many of n targets were named, the routes name each other one too: each first by the lowest number not yet named.
 abbrev pub NameTargets : ℕ → ℕ → List RouteWord → Type 0

@@ -1,12 +1,13 @@
 //! Builds recorders out of recorders.
-ghost use Rattle.std.specs.Prelude.{◌≡◌, ◌<◌, ◌≤◌, ◌++◌, suc, length, MatchResult};
+ghost use Rattle.std.specs.Prelude.{◌≡◌, ◌<◌, ◌≤◌, ◌++◌, ◌∷◌, [], length, reverse, MatchResult};
 ghost use Rattle.std.specs.List.{sum_by};
 ghost use Rattle.metrics.specs.Book.{new_book};
 ghost use Rattle.metrics.specs.Meaning.{one_book};
-ghost use Rattle.metrics.specs.Layers.{prefixed, filtered, joined_all};
-ghost use Rattle.tool_trees.specs.Trees.{books_in};
+ghost use Rattle.metrics.specs.Layers.{joined_all};
+ghost use Rattle.metrics_trees.specs.Recorders.{books_in};
+ghost use Rattle.tool_trees.specs.declared.tree_line.TreeLine.TheVariants as line;
 ghost use Rattle.tool_trees.specs.declared.level.LineError.TheVariants.{Memory as NoMemory, Bad as IsBadLine};
-ghost use Rattle.tool_trees.specs.Levels.{backwards, level_meanings, most_of};
+ghost use Rattle.tool_trees.specs.Levels.{level_meanings, line_meaning, most_of, Fits};
 
 use crate::level::{Level, LineError, refusing};
 use metrics::{Recorder, Text};
@@ -24,34 +25,32 @@ pub fn book(alloc: Global) -> Result<Child<DebuggingRecorder>, LineError>
     Ok(Child::leaf(book))
 }
 
-/// A recorder below the prefix of a layer.
-fn prefixed_by(
-    alloc: Global,
-    child: Child<DebuggingRecorder>,
-    layer: &PrefixLayer,
-) -> Result<Child<DebuggingRecorder>, LineError>
-    ensures { MatchResult result
-        (λ c. ⟦<Child<DebuggingRecorder> as Recorder>⟧.meaning c
-        ≡ prefixed layer.now (⟦<Child<DebuggingRecorder> as Recorder>⟧.meaning child))
-        (λ e. e ≡ NoMemory) }
+/// The one recorder of a list.
+fn only(mut taken: Vec<Level>) -> Child<DebuggingRecorder>
+    requires { length taken.items ≡ 1 }
+    ensures { level_meanings (reverse taken.items) ≡ ⟦<Child<DebuggingRecorder> as Recorder>⟧.meaning result ∷ [] }
 {
-    Ok(child.prefix(alloc, layer)?)
+    let Some(Level { child, levels: _ }) = taken.pop() else {
+        unreachable!()
+    };
+    child
 }
 
-/// Returns a recorder below a prefix.
+/// Returns the one recorder below a prefix.
 pub fn below_prefix(
     alloc: Global,
-    child: Child<DebuggingRecorder>,
+    taken: Vec<Level>,
     prefix: &Text,
 ) -> Result<Child<DebuggingRecorder>, LineError>
+    requires { length taken.items ≡ 1 }
     ensures { MatchResult result
         (λ c. ⟦<Child<DebuggingRecorder> as Recorder>⟧.meaning c
-        ≡ prefixed prefix.now (⟦<Child<DebuggingRecorder> as Recorder>⟧.meaning child))
+        ≡ line_meaning (line.Prefix prefix.now) (level_meanings (reverse taken.items)))
         (λ e. e ≡ NoMemory) }
 {
     match PrefixLayer::new(alloc, prefix.as_str()) {
-        Ok(layer) => prefixed_by(alloc, child, &layer),
-        Err(_) => Err(refusing(LineError::Memory, child)),
+        Ok(layer) => Ok(only(taken).prefix(alloc, &layer)?),
+        Err(_) => Err(refusing(LineError::Memory, taken)),
     }
 }
 
@@ -75,79 +74,67 @@ fn filter_layer(
     Ok(layer)
 }
 
-/// A recorder below the filter of a layer.
-fn filtered_by(
-    alloc: Global,
-    child: Child<DebuggingRecorder>,
-    layer: &FilterLayer,
-) -> Result<Child<DebuggingRecorder>, LineError>
-    ensures { MatchResult result
-        (λ c. (sum_by length layer.now.listed ≤ 1048576)
-        × (⟦<Child<DebuggingRecorder> as Recorder>⟧.meaning c
-        ≡ filtered layer.now.fold_case layer.now.listed (⟦<Child<DebuggingRecorder> as Recorder>⟧.meaning child)))
-        (λ e. e ≡ IsBadLine → 1048576 < sum_by length layer.now.listed) }
-{
-    Ok(child.filter(alloc, layer)?)
-}
-
-/// Returns a recorder below a filter.
+/// Returns the one recorder below a filter.
 pub fn below_filter(
     alloc: Global,
-    child: Child<DebuggingRecorder>,
+    taken: Vec<Level>,
     fold: bool,
     table: bool,
     patterns: &[Text],
 ) -> Result<Child<DebuggingRecorder>, LineError>
-    ensures { MatchResult result
+    requires { length taken.items ≡ 1 }
+    ensures { let said = line.Filter fold table patterns.now in MatchResult result
         (λ c. (sum_by length patterns.now ≤ 1048576)
-        × (⟦<Child<DebuggingRecorder> as Recorder>⟧.meaning c
-        ≡ filtered fold patterns.now (⟦<Child<DebuggingRecorder> as Recorder>⟧.meaning child)))
+        × (⟦<Child<DebuggingRecorder> as Recorder>⟧.meaning c ≡ line_meaning said (level_meanings (reverse taken.items))))
         (λ e. e ≡ IsBadLine → 1048576 < sum_by length patterns.now) }
 {
     match filter_layer(alloc, fold, table, patterns) {
-        Ok(layer) => filtered_by(alloc, child, &layer),
-        Err(_) => Err(refusing(LineError::Memory, child)),
+        Ok(layer) => Ok(only(taken).filter(alloc, &layer)?),
+        Err(error) => Err(refusing(error, taken)),
     }
 }
 
-/// Removes recorders from the top of the stack, and returns them, the topmost first.
-pub fn take_top(alloc: Global, stack: &mut Vec<Level>, count: u64) -> Result<Vec<Level>, LineError>
+/// Removes recorders from the top of the stack. Returns them, the topmost first, and their greatest number of levels.
+pub fn take_top(
+    alloc: Global,
+    stack: &mut Vec<Level>,
+    count: u64,
+) -> Result<(Vec<Level>, u64), LineError>
     ensures { MatchResult result
-        (λ taken. (stack.old.items ≡ stack.new.items ++ backwards taken.items) × (length taken.items ≡ count))
+        (λ taken. (stack.old.items ≡ stack.new.items ++ reverse taken.0.items) × (length taken.0.items ≡ count)
+        × (taken.1 ≡ most_of (reverse taken.0.items)) × (taken.1 ≤ 1000))
         (λ e. e ≡ IsBadLine → length stack.old.items < count) }
 {
-    let mut taken = Vec::new(alloc);
     if count > stack.len() as u64 {
         return Err(LineError::Bad);
     }
+    let mut taken = Vec::new(alloc);
+    let mut most: u64 = 0;
     while (taken.len() as u64) < count {
-        match stack.pop() {
-            Some(level) => taken.push(level)?,
-            None => return Err(LineError::Bad),
-        }
+        let Some(level) = stack.pop() else {
+            unreachable!()
+        };
+        most = most.max(level.levels);
+        taken.push(level)?;
     }
-    Ok(taken)
+    Ok((taken, most))
 }
 
-/// Returns a fanout over recorders, of which the last is the first child, and its number of levels.
+/// Returns a fanout over recorders, of which the last is the first child.
 pub fn fanout_over(
     alloc: Global,
     mut taken: Vec<Level>,
-) -> Result<(Child<DebuggingRecorder>, u64), LineError>
-    ensures { let all = backwards taken.items in MatchResult result
-        (λ made. (books_in (level_meanings all) ≤ 65536)
-        × (⟦<Child<DebuggingRecorder> as Recorder>⟧.meaning made.0 ≡ joined_all (level_meanings all))
-        × (made.1 ≡ suc (most_of all)))
-        (λ e. e ≡ IsBadLine → 65536 < books_in (level_meanings all)) }
+) -> Result<Child<DebuggingRecorder>, LineError>
+    ensures { let all = level_meanings (reverse taken.items) in MatchResult result
+        (λ c. (books_in all ≤ 65536) × (⟦<Child<DebuggingRecorder> as Recorder>⟧.meaning c ≡ joined_all all))
+        (λ e. e ≡ IsBadLine → 65536 < books_in all) }
 {
     let mut builder = FanoutBuilder::default(alloc);
-    let mut most: u64 = 0;
-    while let Some(Level { child, levels }) = taken.pop() {
-        most = most.max(levels);
+    while let Some(Level { child, levels: _ }) = taken.pop() {
         match builder.add_recorder(child) {
             Ok(()) => {}
             Err(refused) => return Err(LineError::from(refused)),
         }
     }
-    Ok((Child::fanout(builder.build()), most + 1))
+    Ok(Child::fanout(builder.build()))
 }

@@ -10,6 +10,7 @@ pub fn one_tree_at_most()
 {}
 
 /// States what is required of the targets of routes, in words: all are named, and each lower target before it.
+#[tactic(auto, using(crate::proofs::Orders::in_words, crate::proofs::Orders::from_words))]
 pub fn targets_in_order()
     ensures says { (n : ℕ) (routes : List Written) → NameTargets n 0 routes → NameInOrder n routes }
     ensures enough { (n : ℕ) (routes : List Written) → NameInOrder n routes → NameTargets n 0 routes }

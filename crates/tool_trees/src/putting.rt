@@ -1,14 +1,16 @@
 //! What each tree line does to the stack.
-ghost use Rattle.tool_trees.specs.declared.tree_line.TreeLine.TheVariants as line;
-ghost use Rattle.tool_grammar.specs.Grammar.{IsName};
+ghost use Rattle.std.specs.Prelude.{◌≡◌, ◌≤◌, ◌^◌, length, reverse, MatchOption, MatchResult};
+ghost use Rattle.tool_trees.specs.declared.level.LineError.TheVariants.{Bad as IsBadLine};
 ghost use Rattle.tool_trees.specs.Words.{CanBeSpelled};
+ghost use Rattle.tool_trees.specs.Steps.{arity};
+ghost use Rattle.tool_trees.specs.Levels.{level_meanings, line_meaning, Fits};
 ghost use Rattle.tool_trees.specs.Doing.{Does, Puts};
 
 use crate::building::{below_filter, below_prefix, book, fanout_over, take_top};
 use crate::level::{Level, LineError, refusing};
 use crate::routing::router_over;
-use crate::tree_line::{RouteWord, TreeLine};
-use metrics::{Items, Recorder, Text};
+use crate::tree_line::TreeLine;
+use metrics::Recorder;
 use metrics_debugging::DebuggingRecorder;
 use metrics_trees::Child;
 use std::alloc::Global;
@@ -31,93 +33,53 @@ fn put(
     Ok(())
 }
 
-/// Pushes a new book.
-fn put_book(alloc: Global, stack: &mut Vec<Level>) -> Result<(), LineError>
-    ensures { Does line.Book stack.old.items stack.new.items result }
+/// How many recorders a line uses, if a stack can have so many.
+fn uses(said: &TreeLine) -> Option<u64>
+    requires { CanBeSpelled said.now }
+    ensures { MatchOption result (2 ^ 64 ≤ arity said.now) (λ n. n ≡ arity said.now) }
 {
-    let child = book(alloc)?;
-    put(stack, child, 1)
-}
-
-/// Pushes a recorder that keeps nothing.
-fn put_noop(stack: &mut Vec<Level>) -> Result<(), LineError>
-    ensures { Does line.Noop stack.old.items stack.new.items result }
-{
-    put(stack, Child::noop(), 1)
-}
-
-/// Wraps the top of the stack in a prefix.
-fn put_prefix(alloc: Global, stack: &mut Vec<Level>, prefix: &Text) -> Result<(), LineError>
-    requires { IsName prefix.now }
-    ensures { Does (line.Prefix prefix.now) stack.old.items stack.new.items result }
-{
-    let Some(Level { child, levels }) = stack.pop() else {
-        return Err(LineError::Bad);
-    };
-    let child = below_prefix(alloc, child, prefix)?;
-    put(stack, child, levels + 1)
-}
-
-/// Wraps the top of the stack in a filter.
-fn put_filter(
-    alloc: Global,
-    stack: &mut Vec<Level>,
-    fold: bool,
-    table: bool,
-    patterns: &Items<Text>,
-) -> Result<(), LineError>
-    requires { CanBeSpelled (line.Filter fold table patterns.now) }
-    ensures { Does (line.Filter fold table patterns.now) stack.old.items stack.new.items result }
-{
-    let Some(Level { child, levels }) = stack.pop() else {
-        return Err(LineError::Bad);
-    };
-    let child = below_filter(alloc, child, fold, table, patterns.as_slice())?;
-    put(stack, child, levels + 1)
-}
-
-/// Replaces recorders at the top of the stack by a fanout over them; the deepest is the first child.
-fn put_fanout(alloc: Global, stack: &mut Vec<Level>, count: u64) -> Result<(), LineError>
-    requires { CanBeSpelled (line.Fanout count) }
-    ensures { Does (line.Fanout count) stack.old.items stack.new.items result }
-{
-    let taken = take_top(alloc, stack, count)?;
-    let (child, levels) = fanout_over(alloc, taken)?;
-    put(stack, child, levels)
-}
-
-/// Replaces recorders at the top of the stack by a router over them; the deepest is the default, then the targets.
-fn put_router(
-    alloc: Global,
-    stack: &mut Vec<Level>,
-    targets: u64,
-    routes: &Items<RouteWord>,
-) -> Result<(), LineError>
-    requires { CanBeSpelled (line.Router targets routes.now) }
-    ensures { Does (line.Router targets routes.now) stack.old.items stack.new.items result }
-{
-    if targets >= stack.len() as u64 {
-        return Err(LineError::Bad);
+    match said {
+        TreeLine::Book | TreeLine::Noop | TreeLine::End => Some(0),
+        TreeLine::Prefix(_) | TreeLine::Filter(..) => Some(1),
+        TreeLine::Fanout(count) => Some(*count),
+        TreeLine::Router(targets, _) => targets.checked_add(1),
     }
-    let taken = take_top(alloc, stack, targets + 1)?;
-    let (child, levels) = router_over(alloc, taken, routes.as_slice())?;
-    put(stack, child, levels)
 }
 
-/// Does what a tree line says.
+/// The recorder of a line, over the recorders that it uses, of which the last is the first.
+fn made_of(
+    alloc: Global,
+    said: &TreeLine,
+    taken: Vec<Level>,
+) -> Result<Child<DebuggingRecorder>, LineError>
+    requires said { CanBeSpelled said.now }
+    requires taken { length taken.items ≡ arity said.now }
+    ensures { let all = level_meanings (reverse taken.items) in MatchResult result
+        (λ c. Fits said.now all × (⟦<Child<DebuggingRecorder> as Recorder>⟧.meaning c ≡ line_meaning said.now all))
+        (λ e. e ≡ IsBadLine → Fits said.now all → ⊥) }
+{
+    match said {
+        TreeLine::Book => book(alloc),
+        TreeLine::Noop => Ok(Child::noop()),
+        TreeLine::Prefix(prefix) => below_prefix(alloc, taken, prefix),
+        TreeLine::Filter(fold, table, patterns) => {
+            below_filter(alloc, taken, *fold, *table, patterns.as_slice())
+        }
+        TreeLine::Fanout(_) => fanout_over(alloc, taken),
+        TreeLine::Router(_, routes) => router_over(alloc, taken, routes.as_slice()),
+        TreeLine::End => Err(LineError::Bad),
+    }
+}
+
+/// Does what a tree line says: replaces recorders at the top of the stack by one over them. The deepest is the first.
 pub fn put_line(alloc: Global, stack: &mut Vec<Level>, said: &TreeLine) -> Result<(), LineError>
     requires { CanBeSpelled said.now }
     ensures { Does said.now stack.old.items stack.new.items result }
 {
-    match said {
-        TreeLine::Book => put_book(alloc, stack),
-        TreeLine::Noop => put_noop(stack),
-        TreeLine::Prefix(prefix) => put_prefix(alloc, stack, prefix),
-        TreeLine::Filter(fold, table, patterns) => {
-            put_filter(alloc, stack, *fold, *table, patterns)
-        }
-        TreeLine::Fanout(count) => put_fanout(alloc, stack, *count),
-        TreeLine::Router(targets, routes) => put_router(alloc, stack, *targets, routes),
-        TreeLine::End => Err(LineError::Bad),
-    }
+    let Some(count) = uses(said) else {
+        return Err(LineError::Bad);
+    };
+    let (taken, most) = take_top(alloc, stack, count)?;
+    let child = made_of(alloc, said, taken)?;
+    put(stack, child, most + 1)
 }

@@ -1,13 +1,14 @@
 //! Builds routers.
 ghost use Rattle.std.specs.Prelude.{◌≡◌, ◌<◌, ◌≤◌, ◌+◌, ◌^◌, ◌++◌, ◌∷◌, [], suc, ◌-◌};
-ghost use Rattle.std.specs.Prelude.{max, length, map, List, OnOk, MatchResult};
+ghost use Rattle.std.specs.Prelude.{length, map, reverse, List, OnOk, MatchResult};
 ghost use Rattle.std.specs.List.{AllByRecursion};
 ghost use Rattle.metrics.specs.Layers.{Route, routed};
 ghost use Rattle.metrics_trees.specs.Builders.{router_recorders, HasRoutes};
 ghost use Rattle.tool_trees.specs.Words.{IsRoute};
-ghost use Rattle.tool_trees.specs.Trees.{pattern_of, route_of, books_in, NameTargets};
+ghost use Rattle.metrics_trees.specs.Recorders.{books_in};
+ghost use Rattle.tool_trees.specs.Trees.{pattern_of, route_of, NameTargets};
 ghost use Rattle.tool_trees.specs.declared.level.LineError.TheVariants.{Bad as IsBadLine};
-ghost use Rattle.tool_trees.specs.Levels.{backwards, level_meanings, most_of, Adds, CantAdd, AreRouted};
+ghost use Rattle.tool_trees.specs.Levels.{level_meanings, Adds, CantAdd, AreRouted};
 
 use crate::level::{Level, LineError, refusing};
 use crate::tree_line::RouteWord;
@@ -24,101 +25,91 @@ fn pattern_text(word: &Text) -> &str
     if text == "-" { "" } else { text }
 }
 
-/// Adds a route, to a target that was named, or to the next one from the end of the list.
+/// Adds a route, to a target that was named, or to the next one from the end of the list. Returns how many are named then.
 fn add_one(
     builder: &mut RouterBuilder<DebuggingRecorder>,
     targets: &mut Vec<Level>,
     named: u64,
-    most: u64,
     route: &RouteWord,
-) -> Result<(u64, u64), LineError>
+) -> Result<u64, LineError>
     requires is_route { IsRoute route.now }
     requires named { suc named ≡ length (router_recorders builder.old) }
     requires few { named + length targets.old.items < 2 ^ 64 }
     ensures routes { OnOk result ((rs : List Route) → HasRoutes builder.old rs
         → HasRoutes builder.new (rs ++ route_of route.now ∷ [])) }
     ensures step { MatchResult result
-        (λ next. Adds route.now.target named most (router_recorders builder.old) (router_recorders builder.new)
-        targets.old.items targets.new.items next)
+        (Adds route.now.target named (router_recorders builder.old) (router_recorders builder.new)
+        targets.old.items targets.new.items)
         (λ e. e ≡ IsBadLine → CantAdd route.now.target named (router_recorders builder.old) targets.old.items) }
 {
     let kinds = route.kinds;
     let pattern = pattern_text(&route.pattern);
     if route.target < named {
         return match builder.add_route_to(kinds, pattern, route.target as usize) {
-            Ok(()) => Ok((named, most)),
+            Ok(()) => Ok(named),
             Err(error) => Err(LineError::from(error)),
         };
     }
     if route.target > named {
         return Err(LineError::Bad);
     }
-    let Some(Level { child, levels }) = targets.pop() else {
+    let Some(Level { child, levels: _ }) = targets.pop() else {
         return Err(LineError::Bad);
     };
     match builder.add_route(kinds, pattern, child) {
-        Ok(_) => Ok((named + 1, most.max(levels))),
+        Ok(_) => Ok(named + 1),
         Err(refused) => Err(LineError::from(refused)),
     }
 }
 
-/// Adds routes, to targets from the end of the list, all of which have to be named. Returns the greatest number of levels.
+/// Adds routes, to targets from the end of the list, all of which have to be named.
 fn add_routes(
     builder: &mut RouterBuilder<DebuggingRecorder>,
     targets: &mut Vec<Level>,
     routes: &[RouteWord],
-    first: u64,
-) -> Result<u64, LineError>
+) -> Result<(), LineError>
     requires are_routes { AllByRecursion IsRoute routes.now }
     requires alone { length (router_recorders builder.old) ≡ 1 }
     requires none { HasRoutes builder.old [] }
-    requires low { first ≤ 1000 }
     requires fits { books_in (router_recorders builder.old) ≤ 65536 }
     ensures routes { OnOk result (HasRoutes builder.new (map route_of routes.now)) }
     ensures all { MatchResult result
-        (λ most. AreRouted (router_recorders builder.old) (router_recorders builder.new) targets.old.items routes.now first most)
+        (λ done. AreRouted (router_recorders builder.old) (router_recorders builder.new) targets.old.items routes.now)
         (λ e. e ≡ IsBadLine → NameTargets (length targets.old.items) 0 routes.now
-        → books_in (router_recorders builder.old ++ level_meanings (backwards targets.old.items)) ≤ 65536 → ⊥) }
+        → books_in (router_recorders builder.old ++ level_meanings (reverse targets.old.items)) ≤ 65536 → ⊥) }
 {
     let mut named: u64 = 0;
-    let mut most = first;
     for route in routes {
-        let next = add_one(builder, targets, named, most, route)?;
-        named = next.0;
-        most = next.1;
+        named = add_one(builder, targets, named, route)?;
     }
     if targets.is_empty() {
-        Ok(most)
+        Ok(())
     } else {
         Err(LineError::Bad)
     }
 }
 
-/// Returns a router over recorders, of which the last is the default, and its number of levels.
+/// Returns a router over recorders, of which the last is the default.
 pub fn router_over(
     alloc: Global,
     mut taken: Vec<Level>,
     routes: &[RouteWord],
-) -> Result<(Child<DebuggingRecorder>, u64), LineError>
+) -> Result<Child<DebuggingRecorder>, LineError>
     requires are_routes { AllByRecursion IsRoute routes.now }
     requires some { 0 < length taken.items }
-    ensures { let all = backwards taken.items in MatchResult result
-        (λ made. NameTargets (length taken.items - 1) 0 routes.now × (books_in (level_meanings all) ≤ 65536)
-        × (⟦<Child<DebuggingRecorder> as Recorder>⟧.meaning made.0 ≡ routed (map route_of routes.now) (level_meanings all))
-        × (made.1 ≡ suc (most_of all)))
-        (λ e. e ≡ IsBadLine → NameTargets (length taken.items - 1) 0 routes.now
-        → books_in (level_meanings all) ≤ 65536 → ⊥) }
+    ensures { let all = level_meanings (reverse taken.items) in MatchResult result
+        (λ c. NameTargets (length taken.items - 1) 0 routes.now × (books_in all ≤ 65536)
+        × (⟦<Child<DebuggingRecorder> as Recorder>⟧.meaning c ≡ routed (map route_of routes.now) all))
+        (λ e. e ≡ IsBadLine → NameTargets (length taken.items - 1) 0 routes.now → books_in all ≤ 65536 → ⊥) }
 {
-    let Some(Level { child, levels }) = taken.pop() else {
+    let Some(Level { child, levels: _ }) = taken.pop() else {
         return Err(LineError::Memory);
     };
     // The trait bounds the number of books when it is asked for.
     let _books = child.books();
     let mut builder = RouterBuilder::from_recorder(alloc, child);
-    let most = match add_routes(&mut builder, &mut taken, routes, levels) {
-        Ok(most) => most,
-        Err(error) => return Err(refusing(error, builder)),
-    };
-    let router = Child::router(builder.build())?;
-    Ok((router, most + 1))
+    if let Err(error) = add_routes(&mut builder, &mut taken, routes) {
+        return Err(refusing(error, builder));
+    }
+    Ok(Child::router(builder.build())?)
 }

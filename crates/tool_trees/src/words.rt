@@ -5,7 +5,6 @@ ghost use Rattle.std.specs.List.{AllByRecursion};
 ghost use Rattle.tool_grammar.specs.Cuts.{Lacks, StartsAt};
 ghost use Rattle.tool_grammar.specs.Grammar.{IsName};
 ghost use Rattle.metrics_names.specs.Names.{name_word};
-ghost use Rattle.tool_trees.specs.declared.tree_line.RouteWord.{RouteWord as Written};
 ghost use Rattle.tool_trees.specs.declared.tree_line.First.{First as Begin};
 ghost use Rattle.tool_trees.specs.Words.{words, case_word, form_word, route_word, first_word, IsRoute};
 ghost use Rattle.tool_trees.specs.Words.{Spells, IsNoLine, SpellsFrom, IsNoLineFrom};
@@ -55,88 +54,83 @@ fn first_of(word: &[u8]) -> Option<First>
     }
 }
 
-/// A name, from the bytes of its word.
-fn name_text(alloc: Global, word: &[u8]) -> Result<Option<Text>, AllocError>
-    requires { Lacks 32 word.now }
-    ensures { IfOk result (λ found. MatchOption found ((p : List ℕ) → IsName p → word.now ≡ name_word p → ⊥)
-        (λ p. IsName p × (word.now ≡ name_word p))) }
-{
-    match name_of(word) {
-        Some(name) => Ok(Some(Text::new(alloc, name)?)),
-        None => Ok(None),
+/// What words without spaces are read as.
+trait Word: Drop {
+    /// Which of them can be written, and how.
+    ghost is: { Self → Type 0 };
+
+    ghost spelled: { Self → List ℕ };
+
+    fn read(alloc: Global, word: &[u8]) -> Result<Option<Self>, AllocError>
+        requires { Lacks 32 word.now }
+        ensures { IfOk result (λ found. MatchOption found ((x : Self) → is x → word.now ≡ spelled x → ⊥)
+            (λ x. is x × (word.now ≡ spelled x))) };
+}
+
+/// A name.
+impl Word for Text {
+    ghost is = { IsName };
+
+    ghost spelled = { name_word };
+
+    fn read(alloc: Global, word: &[u8]) -> Result<Option<Text>, AllocError> {
+        match name_of(word) {
+            Some(name) => Ok(Some(Text::new(alloc, name)?)),
+            None => Ok(None),
+        }
     }
 }
 
-/// The names of a line, each with a space before it.
-fn names_of(alloc: Global, bytes: &[u8]) -> Result<Option<Vec<Text>>, AllocError>
+impl Word for RouteWord {
+    ghost is = { IsRoute };
+
+    ghost spelled = { route_word };
+
+    fn read(alloc: Global, word: &[u8]) -> Result<Option<RouteWord>, AllocError> {
+        let Some((kinds, rest)) = split_at_first(word, b'/') else {
+            return Ok(None);
+        };
+        let Some((target, pattern)) = split_at_first(rest, b'/') else {
+            return Ok(None);
+        };
+        let Some(kinds) = kinds_of(kinds) else {
+            return Ok(None);
+        };
+        let Some(target) = number_of(target) else {
+            return Ok(None);
+        };
+        let Ok(pattern) = str::from_utf8(pattern) else {
+            return Ok(None);
+        };
+        Ok(Some(RouteWord {
+            kinds,
+            target,
+            pattern: Text::new(alloc, pattern)?,
+        }))
+    }
+}
+
+/// The words of a line, each with a space before it.
+fn words_of<T: Word>(alloc: Global, bytes: &[u8]) -> Result<Option<Vec<T>>, AllocError>
+    requires { (x : T) → T.is x → Lacks 32 (T.spelled x) }
     ensures { IfOk result (λ found. MatchOption found
-        ((ps : List (List ℕ)) → AllByRecursion IsName ps → bytes.now ≡ words name_word ps → ⊥)
-        (λ ps. AllByRecursion IsName ps.items × (bytes.now ≡ words name_word ps.items))) }
+        ((xs : List T) → AllByRecursion T.is xs → bytes.now ≡ words T.spelled xs → ⊥)
+        (λ xs. AllByRecursion T.is xs.items × (bytes.now ≡ words T.spelled xs.items))) }
 {
-    let mut names = Vec::new(alloc);
+    let mut read = Vec::new(alloc);
     let mut rest = bytes;
     while !rest.is_empty() {
         let Some(others) = strip_prefix(rest, b" ") else {
             return Ok(None);
         };
         let (word, after) = split_before(others, b' ');
-        match name_text(alloc, word)? {
-            Some(name) => names.push(name)?,
+        match T::read(alloc, word)? {
+            Some(one) => read.push(one)?,
             None => return Ok(None),
         }
         rest = after;
     }
-    Ok(Some(names))
-}
-
-/// A route, from the bytes of its word.
-fn route_of(alloc: Global, word: &[u8]) -> Result<Option<RouteWord>, AllocError>
-    requires { Lacks 32 word.now }
-    ensures { IfOk result (λ found. MatchOption found ((r : Written) → IsRoute r → word.now ≡ route_word r → ⊥)
-        (λ r. IsRoute r × (word.now ≡ route_word r))) }
-{
-    let Some((kinds, rest)) = split_at_first(word, b'/') else {
-        return Ok(None);
-    };
-    let Some((target, pattern)) = split_at_first(rest, b'/') else {
-        return Ok(None);
-    };
-    let Some(kinds) = kinds_of(kinds) else {
-        return Ok(None);
-    };
-    let Some(target) = number_of(target) else {
-        return Ok(None);
-    };
-    let Ok(pattern) = str::from_utf8(pattern) else {
-        return Ok(None);
-    };
-    Ok(Some(RouteWord {
-        kinds,
-        target,
-        pattern: Text::new(alloc, pattern)?,
-    }))
-}
-
-/// The routes of a line, each with a space before it.
-fn routes_of(alloc: Global, bytes: &[u8]) -> Result<Option<Vec<RouteWord>>, AllocError>
-    ensures { IfOk result (λ found. MatchOption found
-        ((rs : List Written) → AllByRecursion IsRoute rs → bytes.now ≡ words route_word rs → ⊥)
-        (λ rs. AllByRecursion IsRoute rs.items × (bytes.now ≡ words route_word rs.items))) }
-{
-    let mut routes = Vec::new(alloc);
-    let mut rest = bytes;
-    while !rest.is_empty() {
-        let Some(others) = strip_prefix(rest, b" ") else {
-            return Ok(None);
-        };
-        let (word, after) = split_before(others, b' ');
-        match route_of(alloc, word)? {
-            Some(route) => routes.push(route)?,
-            None => return Ok(None),
-        }
-        rest = after;
-    }
-    Ok(Some(routes))
+    Ok(Some(read))
 }
 
 /// The word after a space, and what follows the word.
@@ -165,7 +159,7 @@ fn prefix_of(alloc: Global, bytes: &[u8]) -> Result<Option<Text>, AllocError>
     let Some(word) = only_word(bytes) else {
         return Ok(None);
     };
-    name_text(alloc, word)
+    Text::read(alloc, word)
 }
 
 /// The flags of a filter line, and what follows them, from the bytes after its first word.
@@ -228,7 +222,7 @@ fn line_from(alloc: Global, first: First, bytes: &[u8]) -> Result<Option<TreeLin
             let Some((fold, table, others)) = flags_of(bytes) else {
                 return Ok(None);
             };
-            match names_of(alloc, others)? {
+            match words_of::<Text>(alloc, others)? {
                 Some(patterns) => Ok(Some(TreeLine::Filter(fold, table, Items::from(patterns)))),
                 None => Ok(None),
             }
@@ -241,7 +235,7 @@ fn line_from(alloc: Global, first: First, bytes: &[u8]) -> Result<Option<TreeLin
             let Some((targets, others)) = targets_of(bytes) else {
                 return Ok(None);
             };
-            match routes_of(alloc, others)? {
+            match words_of::<RouteWord>(alloc, others)? {
                 Some(routes) => Ok(Some(TreeLine::Router(targets, Items::from(routes)))),
                 None => Ok(None),
             }

@@ -1,6 +1,5 @@
-use Rattle.std.proofs.Common.{◌≡◌, ◌+◌, suc, refl, ap, sym, ◌∙◌, arith, drop, take, ◌++◌}
+use Rattle.std.proofs.Common.{refl, ap, ◌∙◌, arith}
 use Rattle.metrics.specs.declared.handles.Address.{Address}
-use Rattle.metrics_trees.specs.BookEnds.{raised}
 use Rattle.metrics_trees.proofs.BookEndsLemmas.{raised-more, raised-all, next-is}
 use Rattle.metrics_trees.proofs.book_ends.raise.Goals as goal
 
@@ -15,10 +14,7 @@ overflow_add-at c =
     omega (arith, ap (λ a. a.book) n, b, c.requires.front_fits)
 
 pub loop-at-preserved : goal.loop-at-preserved
-loop-at-preserved c =
-    let s : c.loop-at.at-index + 1 ≡ suc c.loop-at.at-index = omega arith in
-    raised-more c.args.front c.loop-at.at-index c.args.found.now c.loop-at.at-items (record { book = 0; series = 0 }) c.loop-at-test.true c.loop-at.invariant
-    ∙ ap (λ k. raised c.args.front (take k c.args.found.now) ++ drop k c.args.found.now) (sym s)
+loop-at-preserved c = raised-more c.args.front c.loop-at.at-index c.args.found.now c.loop-at.at-items (record { book = 0; series = 0 }) c.loop-at-test.true c.loop-at.invariant
 
 pub returns : goal.returns
 returns c = c.loop-at.invariant ∙ raised-all c.args.front c.loop-at.at-index c.args.found.now (omega (arith, c.loop-at-test.false, c.loop-at.auto.at-index-end))

@@ -1,5 +1,5 @@
 use Rattle.std.proofs.Common.{◌+◌, map, take, arith, sym, subst}
-use Rattle.metrics_trees.specs.Recorders.{AreEnds}
+use Rattle.metrics_rules.specs.Nodes.{AreEnds}
 use Rattle.metrics_trees.proofs.RowLemmas.{books-within, end-more, ends-next}
 use Rattle.metrics_trees.proofs.row.ends_of.Goals as goal
 

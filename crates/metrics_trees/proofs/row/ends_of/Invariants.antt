@@ -1,5 +1,6 @@
 use Rattle.std.proofs.Common.{◌≡◌, map, take}
-use Rattle.metrics_trees.specs.Recorders.{AreEnds, books_in}
+use Rattle.metrics_rules.specs.Nodes.{AreEnds}
+use Rattle.metrics_trees.specs.Recorders.{books_in}
 use Rattle.metrics_trees.proofs.row.ends_of.Given as goal
 
 abbrev pub invariant-loop-recorder : goal.invariant-loop-recorder

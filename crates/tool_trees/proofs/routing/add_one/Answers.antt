@@ -1,7 +1,7 @@
-use Rattle.std.proofs.Common.{◌≡◌, ◌+◌, suc, sym, ap, ◌∙◌, arith, inr}
+use Rattle.std.proofs.Common.{◌≡◌, sym, arith, inr}
 use Rattle.metrics_trees.specs.Builders.{router_recorders}
 use Rattle.tool_trees.specs.Levels.{level_meaning}
-use Rattle.tool_trees.proofs.Joins.{not_empty, to_earlier, to_next, cant_add}
+use Rattle.tool_trees.proofs.Joins.{to_earlier, to_next, cant_add}
 use Rattle.tool_trees.proofs.routing.add_one.Goals as goal
 
 pub returns-in-Ok-clause-routes : goal.returns-in-Ok-clause-routes
@@ -9,8 +9,7 @@ returns-in-Ok-clause-routes c = λ rs h. rw (sym c.pattern_text-pattern.ensures)
 
 pub returns-in-Err-clause-step : goal.returns-in-Err-clause-step
 returns-in-Err-clause-step c = λ bad.
-    let some = not_empty c.args.route.now.kinds c.requires.is_route.0 in
-    absurd (to_earlier _ _ _ _ _ c.in-Err.ensures.0 some (omega (arith, c.requires.named, c.if-route-named.true)) c.from.ensures.0 bad)
+    absurd (to_earlier _ _ _ _ _ c.in-Err.ensures.0 c.requires.is_route.0 (omega (arith, c.requires.named, c.if-route-named.true)) c.from.ensures.0 bad)
 
 pub returns-in-Ok-add_route-clause-routes : goal.returns-in-Ok-add_route-clause-routes
 returns-in-Ok-add_route-clause-routes c = λ rs h.
@@ -20,11 +19,9 @@ returns-in-Ok-add_route-clause-routes c = λ rs h.
 pub returns-in-Ok-add_route-clause-step : goal.returns-in-Ok-add_route-clause-step
 returns-in-Ok-add_route-clause-step c =
     let target : c.args.route.now.target ≡ c.args.named = omega (arith, c.if-route-named.false, c.if-route-named-2.false) in
-    let e : c.args.named + 1 ≡ suc c.args.named = omega arith in
-    inr (target, c.in-Some.field-0, c.in-Some.ensures.items, c.in-Ok-add_route.ensures.3, c.in-Ok-add_route.ensures.2, ap (λ n. (n, c.max.result)) e ∙ ap (λ m. (suc c.args.named, m)) c.max.ensures)
+    inr (target, c.in-Some.field-0, c.in-Some.ensures.items, c.in-Ok-add_route.ensures.3, c.in-Ok-add_route.ensures.2, omega arith)
 
 pub returns-in-Err-add_route-clause-step : goal.returns-in-Err-add_route-clause-step
 returns-in-Err-add_route-clause-step c = λ bad.
-    let some = not_empty c.args.route.now.kinds c.requires.is_route.0 in
     cant_add _ _ (router_recorders c.args.builder.now) _ c.pop.new.self.items c.in-Some.field-0 (λ lt. absurd (omega (arith, lt, c.if-route-named.false))) c.in-Some.ensures.items
-    (to_next _ (router_recorders c.args.builder.now) (level_meaning c.in-Some.field-0) _ _ c.in-Err-add_route.ensures.0 some c.from-in-Err-add_route.ensures.0 bad)
+    (to_next _ (router_recorders c.args.builder.now) (level_meaning c.in-Some.field-0) _ _ c.in-Err-add_route.ensures.0 c.requires.is_route.0 c.from-in-Err-add_route.ensures.0 bad)

@@ -8,5 +8,5 @@ use Rattle.tool_trees.proofs.routing.add_routes.Given as goal
 abbrev pub invariant-loop-route : goal.invariant-loop-route
 invariant-loop-route l = record {
   added : HasRoutes l.builder (map route_of (take l.route-index l.routes));
-  so : RoutesSoFar (router_recorders l.fn.builder) (router_recorders l.builder) l.fn.targets.items l.targets.items l.routes (drop l.route-index l.routes) l.named l.first l.most;
+  so : RoutesSoFar (router_recorders l.fn.builder) (router_recorders l.builder) l.fn.targets.items l.targets.items l.routes (drop l.route-index l.routes) l.named;
 }

@@ -14,4 +14,5 @@ returns-in-Err c = λ bad.
 pub returns : goal.returns
 returns c =
     router_good c.args.taken.items c.pop.new.self.items c.in-Some.field-0 (router_recorders c.from_recorder-builder.result) c.args.routes.now c.in-Some.ensures.items c.from_recorder-builder.ensures.recorders
-    (router_recorders c.add_routes.new.builder) c.in-Ok.most (tree_meaning book.meaning_of c.in_ok-router.router) c.in-Ok.ensures.all (c.in_ok-router.ensures.meaning ∙ c.build.ensures.routed (map route_of c.args.routes.now) c.in-Ok.ensures.routes)
+    (router_recorders c.add_routes.new.builder) (tree_meaning book.meaning_of c.in_ok-router.field-0) c.in_default-add_routes.ensures.all
+    (c.in_ok-router.ensures.meaning ∙ c.build.ensures.routed (map route_of c.args.routes.now) c.in_default-add_routes.ensures.routes)

@@ -1,4 +1,4 @@
-use Rattle.tool_trees.proofs.Lines.{starts_words}
+use Rattle.tool_trees.proofs.Lines.{starts_words, lacks_route}
 use Rattle.metrics_names.specs.Names.{name_word}
 use Rattle.tool_trees.specs.Words.{route_word, words}
 use Rattle.tool_trees.proofs.Parse.{no_filter, no_router, no_routes}
@@ -15,3 +15,6 @@ returns-in-None-3 c =
     let found = c.in-Some-targets_of.ensures in
     let none = rw c.in-None-3.is at c.in_ok-routes-in-Router.ensures in
     rw c.in-Router.is (no_router c.args.bytes.now (no_routes _ _ _ found.0 found.2 found.1 none))
+
+pub words_of-requires-in-Router : goal.words_of-requires-in-Router
+words_of-requires-in-Router c = lacks_route

@@ -1,11 +1,16 @@
-use Rattle.metrics_rules.proofs.NodesLemmas.{meaning-Group}
-use Rattle.metrics_rules.proofs.BuildersLemmas.{tree-of-all}
+use Rattle.std.proofs.Common.{length, ap, ◌∙◌, sym, subst, ◌≤◌}
+use Rattle.metrics_rules.specs.Nodes.{leaves_of, most_leaves}
+use Rattle.metrics_rules.specs.Branches.{meanings}
+use Rattle.metrics_rules.proofs.JoinedLemmas.{contents-group}
+use Rattle.metrics_rules.proofs.NodesLemmas.{meaning-Group, sound-of-row}
 use Rattle.metrics_rules.proofs.branches.Branches.into_rules.Goals as goal
 
 pub invariant_of-result : goal.invariant_of-result
 invariant_of-result c =
     let s = c.args.self in
-    record { tree = tree-of-all s.children s.ends c.args.reach s.ends_are c.requires s.sound s.most }
+    let count = ap leaves_of (meaning-Group s.children s.ends c.args.reach) ∙ ap length (contents-group c.args.reach (meanings s.children.items)) in
+    let sound = sound-of-row s.children s.ends c.args.reach (record { ends_are = s.ends_are; within = c.requires; sound = s.sound }) in
+    record { tree = (sound, subst (λ k. k ≤ most_leaves) (sym count) s.most) }
 
 pub returns : goal.returns
 returns c = meaning-Group c.args.self.children c.args.self.ends c.args.reach

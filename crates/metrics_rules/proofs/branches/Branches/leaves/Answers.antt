@@ -1,6 +1,6 @@
 use Rattle.std.proofs.Common.{◌∙◌}
 use Rattle.metrics_rules.specs.Branches.{meanings}
-use Rattle.metrics_rules.proofs.BuildersLemmas.{leaves-are}
+use Rattle.metrics_rules.proofs.OneChildLemmas.{leaves-are}
 use Rattle.metrics_rules.proofs.branches.Branches.leaves.Goals as goal
 
 pub returns : goal.returns

@@ -1,7 +1,28 @@
+use Rattle.std.proofs.Common.{map, refl, ◌∙◌}
+use Rattle.metrics_trees.specs.Recorders.{books_of}
+use Rattle.metrics_trees.proofs.OneChildLemmas.{updates-none}
+use Rattle.metrics_trees.proofs.RowLemmas.{put-updated}
 use Rattle.metrics_trees.proofs.leaves.Leaves.update.Goals as goal
 
-pub returns-in-Several-clause-keeps : goal.returns-in-Several-clause-keeps
-returns-in-Several-clause-keeps g c rules = rw c.in-Several.is (c.update-in-Several.ensures.keeps rules)
+pub invariant_of-row : goal.invariant_of-row
+invariant_of-row g c =
+    let m = g.B.Recorder.meaning in
+    let row = c.in-Several.row in
+    let p =
+    put-updated m row.recorders.items row.ends.items row.ends_are row.most c.in-Some.number c.index_mut.result.now c.update-in-Some.new.self c.index_mut.ensures.value c.update-in-Some.ensures.keeps c.args.at.book c.in-Some.book
+    (λ sizes e. c.in-Some.ensures {u = tt} sizes (c.deref.ensures.value ∙ e)) c.args.at.series c.args.by c.update-in-Some.result c.update-in-Some.ensures.updates in
+    record { ends_are = p.ends_are; most = p.most }
 
-pub returns-in-Several-clause-updates : goal.returns-in-Several-clause-updates
-returns-in-Several-clause-updates g c rules = rw c.in-Several.is (c.update-in-Several.ensures.updates rules)
+pub returns-in-None : goal.returns-in-None
+returns-in-None g c =
+    let all = map g.B.Recorder.meaning c.in-Several.row.recorders.items in
+    rw c.in-Several.is (record { count = refl; keeps = λ R. refl; called = λ R. updates-none R all c.args.at.book (c.in-None.ensures {u = tt} (map books_of all) (c.deref.ensures.value ∙ c.in-Several.row.ends_are)) (Prim.Unit {0}) c.args.at.series c.args.by })
+
+pub returns-in-Some : goal.returns-in-Some
+returns-in-Some g c =
+    let m = g.B.Recorder.meaning in
+    let row = c.in-Several.row in
+    let p =
+    put-updated m row.recorders.items row.ends.items row.ends_are row.most c.in-Some.number c.index_mut.result.now c.update-in-Some.new.self c.index_mut.ensures.value c.update-in-Some.ensures.keeps c.args.at.book c.in-Some.book
+    (λ sizes e. c.in-Some.ensures {u = tt} sizes (c.deref.ensures.value ∙ e)) c.args.at.series c.args.by c.update-in-Some.result c.update-in-Some.ensures.updates in
+    rw c.in-Several.is p.calls

@@ -3,7 +3,7 @@ use Rattle.std.proofs.lemmas.Result.{MatchResult-weaker}
 use Rattle.metrics_rules.specs.Builders.{router_branches}
 use Rattle.metrics_trees.specs.Leaves.{recorders_of}
 use Rattle.metrics_trees.specs.Over.{overs}
-use Rattle.metrics_trees.specs.Recorders.{target_refusal}
+use Rattle.metrics_rules.specs.Branches.{target_refusal}
 use Rattle.metrics_trees.proofs.BuildersLemmas.{length-overs}
 use Rattle.metrics_trees.proofs.router.RouterBuilder.add_route_to.Goals as goal
 

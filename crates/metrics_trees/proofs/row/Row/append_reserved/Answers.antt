@@ -4,8 +4,8 @@ use Rattle.std.proofs.lemmas.List.{map-append}
 use Rattle.metrics_rules.specs.Ends.{total, ends_from}
 use Rattle.metrics_trees.specs.Recorders.{books_of, books_in, most_books}
 use Rattle.metrics_rules.proofs.JoinedLemmas.{leaves-append}
-use Rattle.metrics_rules.proofs.OneChildLemmas.{leaves-total, length-ends-of}
-use Rattle.metrics_trees.proofs.RowLemmas.{books-are, ends-joined, ends-fit}
+use Rattle.metrics_rules.proofs.OneChildLemmas.{leaves-total, leaves-are, length-ends-of, ends-joined}
+use Rattle.metrics_trees.proofs.RowLemmas.{ends-fit}
 use Rattle.metrics_trees.proofs.row.Row.append_reserved.Goals as goal
 
 pub push_ends-requires-clause-spare : goal.push_ends-requires-clause-spare
@@ -19,7 +19,7 @@ pub push_ends-requires-clause-fits : goal.push_ends-requires-clause-fits
 push_ends-requires-clause-fits g c =
     let m = g.B.Recorder.meaning in
     let ys = map m c.args.other.recorders.items in
-    let front = books-are _ (map m c.args.self.now.recorders.items) _ (c.deref.ensures.value ∙ c.args.self.now.ends_are) c.end_of_all-front.ensures in
+    let front = leaves-are _ (map m c.args.self.now.recorders.items) _ (c.deref.ensures.value ∙ c.args.self.now.ends_are) c.end_of_all-front.ensures in
     let all = leaves-total ys in
     let few = c.requires.few in
     let fits : (e : ℕ) → e ≤ 0 + total (map books_of ys) → c.end_of_all-front.result + e < 2 ^ 64 = λ e le. omega (arith, le, front, all, few) in
@@ -32,7 +32,7 @@ invariant_of-self g c =
     let other = c.args.other in
     let xs = map m s.recorders.items in
     let ys = map m other.recorders.items in
-    let b = books-are _ xs _ (c.deref.ensures.value ∙ s.ends_are) c.end_of_all-front.ensures in
+    let b = leaves-are _ xs _ (c.deref.ensures.value ∙ s.ends_are) c.end_of_all-front.ensures in
     let spare = c.requires.spare.0 in
     let count = other.recorders.ok.0 in
     let made = c.append.ensures.succeeds (omega (arith, spare, count)) in

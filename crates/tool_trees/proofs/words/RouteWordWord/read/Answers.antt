@@ -1,6 +1,6 @@
 use Rattle.std.proofs.Common.{◌<◌, ◌^◌, ◌∙◌, rules}
 use Rattle.tool_trees.proofs.Parse.{no_second, no_kinds, no_target, no_pattern, route_found}
-use Rattle.tool_trees.proofs.words.route_of.Goals as goal
+use Rattle.tool_trees.proofs.words.RouteWordWord.read.Goals as goal
 
 pub returns-in_default-split_at_first : goal.returns-in_default-split_at_first
 returns-in_default-split_at_first c = no_second _ _ _ c.in-Some.ensures.0 c.in-Some.ensures.1 c.in_default-split_at_first.ensures
