@@ -9,9 +9,9 @@ use Rattle.metrics_names.specs.Equality.{key_exact, key_same}
 use Rattle.metrics_exporter.specs.Exporting.{Reading, Cell, Cells}
 use Rattle.metrics_exporter.specs.Describing.{Legend}
 use Rattle.metrics_exporter.specs.Readings.{KeyedReading, AreReadings, AreOnce, reading_in, cells_of_readings}
-use Rattle.metrics_prometheus.specs.declared.naming.Naming.{Naming}
+use Rattle.metrics_exposition.specs.declared.naming.Naming.{Naming}
 use Rattle.metrics_prometheus.specs.Exposition.{IsDescribed}
-use Rattle.metrics_prometheus.proofs.PairLemmas.{each-in}
+use Rattle.metrics_exposition.proofs.PairLemmas.{each-in}
 use Rattle.metrics_prometheus.proofs.OnceLemmas.{readings-once, readings-keyed}
 use Rattle.metrics_prometheus.proofs.OneTextLemmas.{one-text}
 use Rattle.metrics_collector.specs.Merging.{reading_of_series, AreJoined, AreCounters, HasEachOnce}

@@ -9,10 +9,10 @@ use Rattle.metrics_exporter.specs.Gathering.{series_at}
 use Rattle.metrics_exporter.specs.Readings.{KeyedReading, AreOnce, cells_of_readings}
 use Rattle.metrics_prometheus.specs.Exposition.{IsDescribed}
 use Rattle.metrics_prometheus.specs.Written.{Line, line_text, left_out_in, IsReadable}
-use Rattle.metrics_prometheus.specs.declared.naming.Naming.{Naming}
+use Rattle.metrics_exposition.specs.declared.naming.Naming.{Naming}
 use Rattle.metrics_collector.specs.declared.gathered.GatheredSeries.{GatheredSeries}
 use Rattle.metrics_collector.specs.Repeats.{repeated_lines}
-use Rattle.metrics_prometheus.specs.declared.naming.Naming.TheVariants.{AsGiven}
+use Rattle.metrics_exposition.specs.declared.naming.Naming.TheVariants.{AsGiven}
 
 -- how many series a text of such lines leaves out; the greatest number of a gauge, if there are more
 abbrev pub IsLeftOutNumber : List ℕ → ℤ → Type 0

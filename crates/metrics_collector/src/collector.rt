@@ -6,10 +6,10 @@ ghost use Rattle.metrics.specs.declared.error.Error.TheVariants.{Memory as OutOf
 ghost use Rattle.metrics_registry.specs.Held.{is_shard_count as is_count};
 ghost use Rattle.metrics_exporter.specs.Readings.{KeyedReading, AreOnce, cells_of_readings};
 ghost use Rattle.metrics_exporter.specs.Describing.{Legend};
-ghost use Rattle.metrics_prometheus.specs.declared.naming.Naming.TheVariants.{AsGiven as NamesAsGiven};
-ghost use Rattle.metrics_prometheus.specs.Common.{first_bad_label};
+ghost use Rattle.metrics_exposition.specs.declared.naming.Naming.TheVariants.{AsGiven as NamesAsGiven};
+ghost use Rattle.metrics_exposition.specs.Common.{first_bad_label};
 ghost use Rattle.metrics_prometheus.specs.Exposition.{IsDescribed};
-ghost use Rattle.metrics_prometheus.specs.Reading.{AreOfKinds};
+ghost use Rattle.metrics_exposition.specs.Reading.{AreOfKinds};
 ghost use Rattle.metrics_collector.specs.Gathering.{all_gathered, IsUnread};
 ghost use Rattle.metrics_collector.specs.LeftOut.{IsEnded, IsScraped, IsScrapedOf};
 ghost use Rattle.metrics_collector.specs.declared.gathered.Gathered.{Gathered as GatheredParts};

@@ -5,7 +5,7 @@ ghost use Rattle.metrics_exporter.specs.Readings.{KeyedReading, AreReadings, Are
 ghost use Rattle.metrics_exporter.specs.Exporting.{Cells};
 ghost use Rattle.metrics_exporter.specs.Describing.{described_by};
 ghost use Rattle.metrics_prometheus.specs.Exposition.{IsDescribed};
-ghost use Rattle.metrics_prometheus.specs.Reading.{AreOfKinds};
+ghost use Rattle.metrics_exposition.specs.Reading.{AreOfKinds};
 
 use metrics::{Error, Key, MetricKind};
 use metrics_prometheus::{

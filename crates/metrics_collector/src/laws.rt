@@ -3,7 +3,7 @@ ghost use Rattle.std.specs.Prelude.{◌≡◌, ℕ, List};
 ghost use Rattle.metrics_names.specs.Names.{SeriesKey};
 ghost use Rattle.metrics_exporter.specs.Describing.{Legend};
 ghost use Rattle.metrics_exporter.specs.Readings.{KeyedReading, AreOnce, cells_of_readings};
-ghost use Rattle.metrics_prometheus.specs.declared.naming.Naming.{Naming};
+ghost use Rattle.metrics_exposition.specs.declared.naming.Naming.{Naming};
 ghost use Rattle.metrics_prometheus.specs.Exposition.{IsDescribed};
 ghost use Rattle.metrics_collector.specs.Merging.{AreJoined, AreCounters, HasEachOnce, reading_of_series};
 

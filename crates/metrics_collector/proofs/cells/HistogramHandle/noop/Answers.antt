@@ -1,0 +1,10 @@
+use Rattle.std.proofs.Common.{◌≡◌, MatchResult, subst}
+use Rattle.metrics.specs.declared.error.Error.TheVariants.{Memory as OutOfMemory}
+use Rattle.metrics_names.specs.Names.{KeyParts}
+use Rattle.metrics_collector.specs.Series.{histogram_key}
+use Rattle.metrics_collector.proofs.cells.HistogramHandle.noop.Goals as goal
+
+pub returns : goal.returns
+returns c =
+    let P : KeyParts → Type 0 = λ key. MatchResult c.histogram.result (λ h. histogram_key h ≡ key) (λ e. e ≡ OutOfMemory) in
+    subst P c.in_ok-cells.ensures c.histogram.ensures
