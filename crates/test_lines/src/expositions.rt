@@ -1,6 +1,7 @@
 //! Runs of an exporter for Prometheus: what it asks of its surroundings, and what it tells them.
 
 use crate::devices::{MEMORY, end_if_refused};
+use metrics_exporter::Exporter;
 use std::alloc::Global;
 use std::fmt::Display;
 use std::io;
@@ -8,7 +9,7 @@ use std::io::Write;
 use std::process::Abort;
 use test_trial::Trial;
 use tool_export::plan_of;
-use tool_prometheus::{Items, Naming, Options, Surroundings};
+use tool_prometheus::{Dialect, Items, Naming, Options, Surroundings};
 
 /// A clock of these moments, and a file that keeps its texts, but for the one with the number `bad`. Keeps messages too.
 #[derive(Drop)]
@@ -41,6 +42,10 @@ impl<R: Abort> Surroundings for Stage<'_, R> {
 
     fn tell_device(&mut self) {
         self.tell("device");
+    }
+
+    fn keep(&mut self, _on: &Exporter) -> bool {
+        true
     }
 
     fn publish(&mut self, text: &str) -> bool {
@@ -99,14 +104,21 @@ fn ran_every<'a, R: Abort>(
         plan: plan.expect(rt, "a plan"),
         naming: Naming::AsGiven,
         prefixes: Items::from(Vec::new(alloc)),
-        labels: Items::from(Vec::new(alloc)),
+        units: Items::from(Vec::new(alloc)),
+        dialect: Dialect {
+            labels: Items::from(Vec::new(alloc)),
+            places: Items::from(Vec::new(alloc)),
+        },
         prefix: None,
         drops: Items::from(Vec::new(alloc)),
         skips_bad: every.is_some(),
         has_file,
         at_scrapes_only: false,
         every,
+        max_series: None,
+        is_strict: false,
         accepts_partial: false,
+        tells_self: false,
     };
     let stage = Stage {
         rt,

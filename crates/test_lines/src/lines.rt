@@ -2,6 +2,7 @@
 
 use crate::devices::{FaultyReader, MEMORY, end_if_refused, ran_slowly, report, writer};
 use metrics_debugging::DebuggingRecorder;
+use metrics_exporter::Exporter;
 use std::alloc::Global;
 use std::cell::Cell;
 use std::fmt::Display;
@@ -11,7 +12,7 @@ use std::process::Abort;
 use test_trial::Trial;
 use tool_export::plan_of;
 use tool_lines::{RunError, command, run};
-use tool_prometheus::{Items, Naming, Options, Surroundings};
+use tool_prometheus::{Dialect, Items, Naming, Options, Surroundings};
 
 const GOOD: &[u8] = b"book\nprefix app\nend\ndescribe counter hits count all hits\n\
     register counter hits host=a\nincrement 0 2\nincrement 0 3\nsnapshot 0\nsnapshot 0\n";
@@ -140,6 +141,10 @@ impl Surroundings for Alone {
 
     fn tell_device(&mut self) {}
 
+    fn keep(&mut self, _on: &Exporter) -> bool {
+        true
+    }
+
     fn publish(&mut self, _text: &str) -> bool {
         false
     }
@@ -152,14 +157,21 @@ fn shown_to(rt: &impl Abort, alloc: Global, given: &[u8], writes: usize) -> (u8,
         plan: plan.expect(rt, "a plan"),
         naming: Naming::AsGiven,
         prefixes: Items::from(Vec::new(alloc)),
-        labels: Items::from(Vec::new(alloc)),
+        units: Items::from(Vec::new(alloc)),
+        dialect: Dialect {
+            labels: Items::from(Vec::new(alloc)),
+            places: Items::from(Vec::new(alloc)),
+        },
         prefix: None,
         drops: Items::from(Vec::new(alloc)),
         skips_bad: false,
         has_file: false,
         at_scrapes_only: false,
         every: None,
+        max_series: None,
+        is_strict: false,
         accepts_partial: false,
+        tells_self: false,
     };
     let (mut input, mut output) = (given, writer(rt, alloc, 1, writes));
     let (status, _) = tool_prometheus::command(alloc, options, Alone, &mut input, &mut output);

@@ -53,7 +53,7 @@ left_device : (takes : Bool) (read left : List ℕ) (r : Result ℕ RunError) �
 left_device true read left r h = h
 left_device false read left r h = tt
 
-module _ {On Notes : Type 0} (R : Answering (On × Notes)) (Bad : List ℕ → Type 0) (takes : Bool) where
+module _ {On Notes : Type 0} (R : Answering (On × Notes)) (Bad : On → List ℕ → Type 0) (takes : Bool) where
   -- these lines were read and answered; so much of the texts was written, and the rest waits
   pub record SoFar (a b x y : Option (List ℕ)) (waiting : List ℕ) (s t : On × Notes) (first count number : ℕ) : Type 0 where
     pub done : Dialogue
@@ -181,7 +181,7 @@ module _ {On Notes : Type 0} (R : Answering (On × Notes)) (Bad : List ℕ → T
           line,
           first',
           so.split bytes ∙ ap (λ k. ls ++ k) one,
-          bad,
+          subst (λ (w : On). Bad w line) (sym same) bad,
           (t.1, subst (λ (w : On). AreAnswered R s so.done (w, t.1)) (sym same) so.made),
           sym texts,
           is ∙ so.numbered,
@@ -282,7 +282,7 @@ module _ {On Notes : Type 0} (R : Answering (On × Notes)) (Bad : List ℕ → T
   flushed a b x y z line s t first r q (inr (whole, e)) h k = rw e (unflushed a b x y z line s t first r h k)
 
 -- nothing is left where a last line without a line feed is answered
-pub all_read : {On Notes : Type 0} (R : Answering (On × Notes)) (Bad : List ℕ → Type 0) (a b x y : Option (List ℕ)) (line : List ℕ) (first : ℕ) (s : On × Notes) (t : On) (r : Result ℕ RunError)
+pub all_read : {On Notes : Type 0} (R : Answering (On × Notes)) (Bad : On → List ℕ → Type 0) (a b x y : Option (List ℕ)) (line : List ℕ) (first : ℕ) (s : On × Notes) (t : On) (r : Result ℕ RunError)
     → Run R Bad true a b x y line first s t r
     → (read : List ℕ) × (text : List ℕ) × Consumes a b read × Appends x y text × IsRun R Bad (OnSome a (IsAtEnd b)) first s t read text r
 all_read R Bad a b x y line first s t r (read, text, left, took, wrote, run, none, is_line) =

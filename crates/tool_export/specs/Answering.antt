@@ -37,13 +37,13 @@ abbrev pub Leaves : {On Notes : Type 0} → Answering (On × Notes) → On × No
 Leaves answers old es on = (notes : _) × AreAnswered answers old es (on, notes)
 
 -- why a line got no text
-abbrev pub IsUnanswered : {On Notes : Type 0} → Answering (On × Notes) → (List ℕ → Type 0) → On × Notes → List ℕ → Unanswered → On × Notes → Type 0
-IsUnanswered answers bad old line unanswered.Bad new = bad line × (new.0 ≡ old.0)
+abbrev pub IsUnanswered : {On Notes : Type 0} → Answering (On × Notes) → (On → List ℕ → Type 0) → On × Notes → List ℕ → Unanswered → On × Notes → Type 0
+IsUnanswered answers bad old line unanswered.Bad new = bad old.0 line × (new.0 ≡ old.0)
 IsUnanswered answers bad old line unanswered.Memory new = new.0 ≡ old.0
 IsUnanswered answers bad old line unanswered.Lost new = (text : List ℕ) × answers old line text new
 
 -- What a machine did with a line: it appended the text that answers it to what was there, or returned none.
-abbrev pub Replies : {On Notes : Type 0} → Answering (On × Notes) → (List ℕ → Type 0) → On × Notes → On × Notes → List ℕ → List ℕ → List ℕ → Result (Unit {0}) Unanswered → Type 0
+abbrev pub Replies : {On Notes : Type 0} → Answering (On × Notes) → (On → List ℕ → Type 0) → On × Notes → On × Notes → List ℕ → List ℕ → List ℕ → Result (Unit {0}) Unanswered → Type 0
 Replies answers bad old new line before after (Ok _) = (text : List ℕ) × (after ≡ before ++ text) × answers old line text new
 Replies answers bad old new line before after (Err e) = IsUnanswered answers bad old line e new
 
@@ -57,13 +57,13 @@ abbrev pub IsCutShort : {On Notes : Type 0} → Answering (On × Notes) → Type
 IsCutShort answers at_end old new read text = (es : Dialogue) × (more : List ℕ) × AreFirst at_end read (lines_in es) × Leaves answers old es new × (texts_in es ≡ text ++ more)
 
 -- What a run over what was read, from line `first` on, did and wrote, by its result.
-abbrev pub IsRun : {On Notes : Type 0} → Answering (On × Notes) → (List ℕ → Type 0) → Type 0 → ℕ → On × Notes → On → List ℕ → List ℕ → Result ℕ RunError → Type 0
+abbrev pub IsRun : {On Notes : Type 0} → Answering (On × Notes) → (On → List ℕ → Type 0) → Type 0 → ℕ → On × Notes → On → List ℕ → List ℕ → Result ℕ RunError → Type 0
 -- each line was answered, up to the end
 IsRun answers bad at_end first old new read text (Ok n) = (es : Dialogue)
     × at_end × (lines_of read ≡ lines_in es) × Leaves answers old es new × (text ≡ texts_in es) × (n ≡ capped (length es))
 -- each line before the first bad one, which is the last and was read whole
 IsRun answers bad at_end first old new read text (Err (BadLine k)) = (es : Dialogue) × (line : List ℕ)
-    × AreFirst at_end read (lines_in es ++ line ∷ []) × (lines_of read ≡ lines_in es ++ line ∷ []) × bad line
+    × AreFirst at_end read (lines_in es ++ line ∷ []) × (lines_of read ≡ lines_in es ++ line ∷ []) × bad new line
     × Leaves answers old es new × (text ≡ texts_in es) × (k ≡ capped (first + length es))
 -- each line before the one at which memory ran out
 IsRun answers bad at_end first old new read text (Err (Memory (Some k))) = (es : Dialogue)
@@ -83,10 +83,10 @@ IsLeft false read left (Err Device) = Unit {0}
 -- ---- one line
 
 -- What the answer to one line did, where this was written before it and after it, and these texts waited.
-abbrev pub AnswersLine : {On Notes : Type 0} → Answering (On × Notes) → (List ℕ → Type 0) → On × Notes → On × Notes → List ℕ
+abbrev pub AnswersLine : {On Notes : Type 0} → Answering (On × Notes) → (On → List ℕ → Type 0) → On × Notes → On × Notes → List ℕ
     → Option (List ℕ) → Option (List ℕ) → List ℕ → List ℕ → ℕ → Result (Unit {0}) RunError → Type 0
 AnswersLine answers bad old new line before after waiting waits number (Ok _) = (text : List ℕ) × answers old line text new × HandsOn before after (waiting ++ text) waits
-AnswersLine answers bad old new line before after waiting waits number (Err (BadLine k)) = bad line × (new.0 ≡ old.0) × HandsOn before after waiting waits × (k ≡ number)
+AnswersLine answers bad old new line before after waiting waits number (Err (BadLine k)) = bad old.0 line × (new.0 ≡ old.0) × HandsOn before after waiting waits × (k ≡ number)
 AnswersLine answers bad old new line before after waiting waits number (Err (Memory (Some k))) = (new.0 ≡ old.0) × HandsOn before after waiting waits × (k ≡ number)
 AnswersLine answers bad old new line before after waiting waits number (Err (Memory None)) = (text : List ℕ) × answers old line text new × HandsOn before after waiting waits
 AnswersLine answers bad old new line before after waiting waits number (Err Device) = (text : List ℕ) × answers old line text new × LosesSome before after (waiting ++ text) waits

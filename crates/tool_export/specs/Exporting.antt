@@ -18,7 +18,7 @@ answers p line text q = AnswersLine p.0 line text q.0
 
 -- what a run over lines did and wrote on an exporter
 abbrev pub IsExportRun : Type 0 → ℕ → Exporter → Exporter → List ℕ → List ℕ → Result ℕ RunError → Type 0
-IsExportRun at_end first old new read text r = IsRun answers IsBad at_end first (old, tt) new read text r
+IsExportRun at_end first old new read text r = IsRun answers (λ on. IsBad) at_end first (old, tt) new read text r
 
 -- the calls that were made
 abbrev pub log_of : List Exchange → Log

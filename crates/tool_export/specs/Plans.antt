@@ -13,7 +13,7 @@ use Rattle.tool_export.specs.declared.plans.ExportPlan.{ExportPlan}
 
 -- how the exporter of a plan is made
 abbrev pub setup_of : ExportPlan → Setup
-setup_of plan = record { bounds = λ name. plan.bounds; rules = record { timeout = plan.idle_timeout; mask = λ kind. mask_has kind plan.watched } }
+setup_of plan = record { bounds = λ unit name. plan.bounds; rules = record { timeout = plan.idle_timeout; mask = λ kind. mask_has kind plan.watched } }
 
 -- a letter for each kind, or a dash for none
 abbrev pub watched_word : ℕ → List ℕ

@@ -29,7 +29,7 @@ impl LineMachine for ExportLines {
 
     ghost answers = { answers_of };
 
-    ghost is_bad = { IsBad };
+    ghost is_bad = { λ on. IsBad };
 
     fn answer(
         alloc: Global,

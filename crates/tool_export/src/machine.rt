@@ -31,8 +31,8 @@ pub trait LineMachine {
     /// On a line, value and notes may return a text and become others.
     ghost answers: { Self.On × Self.Notes → List ℕ → List ℕ → Self.On × Self.Notes → Type 0 };
 
-    /// The lines that it rejects.
-    ghost is_bad: { List ℕ → Type 0 };
+    /// The lines that it rejects, where it acts on a value.
+    ghost is_bad: { Self.On → List ℕ → Type 0 };
 
     /// Answers a line, and appends its text to `text`. On failure the content of `text` is unspecified, and these notes
     /// are not used again.

@@ -14,7 +14,7 @@ use Rattle.tool_grammar.specs.Grammar.{spelling, CanBeSpelled}
 use Rattle.tool_grammar.specs.Printing.{text_of, registers_in, print_from, print}
 use Rattle.tool_grammar.proofs.CallLemmas.{call_same}
 use Rattle.tool_trees.specs.Trees.{meaning_of}
-use Rattle.tool_trees.proofs.Readings.{one_tree}
+use Rattle.tool_trees.proofs.OneListAtMost.{one_tree}
 use Rattle.tool_lines.specs.Output.{IsStop, Input, IsAnswered, AnswersPart}
 use Rattle.tool_lines.proofs.OutputLemmas.{tail_lines, answered}
 

@@ -50,15 +50,15 @@ module _ {On Notes : Type 0} (mean : On → Meaning) (seen : Notes → Entries) 
 
   -- a line's call was made; its text was said, or lost
   spoken : (p q : On × Notes) (line before after : List ℕ) (c : Call) (a : Answer) (r : Result (Unit {0}) Unanswered) → IsAnswered (mean p.0) (mean q.0) (seen p.1) (seen q.1) line c a
-      → MatchResult r (λ u. after ≡ before ++ text_of (length (seen p.1)) c a) (λ e. e ≡ unanswered.Lost) → stream.Replies Says IsBad p q line before after r
+      → MatchResult r (λ u. after ≡ before ++ text_of (length (seen p.1)) c a) (λ e. e ≡ unanswered.Lost) → stream.Replies Says (λ on. IsBad) p q line before after r
   spoken p q line before after c a (Ok u) ans said = (text_of (length (seen p.1)) c a, said, (c, a, ans, refl))
   spoken p q line before after c a (Err e) ans lost =
-      subst (λ (x : Unanswered). stream.IsUnanswered Says IsBad p line x q) (sym lost) (text_of (length (seen p.1)) c a, (c, a, ans, refl))
+      subst (λ (x : Unanswered). stream.IsUnanswered Says (λ on. IsBad) p line x q) (sym lost) (text_of (length (seen p.1)) c a, (c, a, ans, refl))
 
   -- the same, of a call that was made with the handle that it names
   pub replied : (p q : On × Notes) (line before after : List ℕ) (c : Call) (a : Answer) (r : Result (Unit {0}) Unanswered) (h : Option Handle) → Spells line c → KeepsTargets (mean p.0) (mean q.0) → h ≡ entry_named c (seen p.1)
       → (IsHeld h (mean p.0).contents → Answers (mean p.0) (mean q.0) h c a) → seen q.1 ≡ seen p.1 ++ entries_by c (addresses_in a)
-      → MatchResult r (λ u. after ≡ before ++ text_of (length (seen p.1)) c a) (λ e. e ≡ unanswered.Lost) → stream.Replies Says IsBad p q line before after r
+      → MatchResult r (λ u. after ≡ before ++ text_of (length (seen p.1)) c a) (λ e. e ≡ unanswered.Lost) → stream.Replies Says (λ on. IsBad) p q line before after r
   replied p q line before after c a r h spells keeps named answers noted said =
       let held : AreHeld (seen p.1) (mean p.0).contents → IsHeld h (mean p.0).contents = λ all. subst (λ e. IsHeld e (mean p.0).contents) (sym named) (named_held c (seen p.1) (mean p.0).contents all) in
       let does : AreHeld (seen p.1) (mean p.0).contents → Answers (mean p.0) (mean q.0) (entry_named c (seen p.1)) c a = λ all. subst (λ e. Answers (mean p.0) (mean q.0) e c a) named (answers (held all)) in
@@ -91,7 +91,7 @@ module _ {On Notes : Type 0} (mean : On → Meaning) (seen : Notes → Entries) 
         (lines_in es, so.log, more, first, so.spelled, are_made _ _ so.log so.made, sym so.printed ∙ is)
 
     -- the loop's run over the machine is a run over calls
-    pub of_run : (at_end : Type 0) (first : ℕ) (q : On) (read text : List ℕ) (r : Result ℕ RunError) → stream.IsRun Says IsBad at_end first p q read text r → IsRun at_end first (mean p.0) (mean q) read text r
+    pub of_run : (at_end : Type 0) (first : ℕ) (q : On) (read text : List ℕ) (r : Result ℕ RunError) → stream.IsRun Says (λ on. IsBad) at_end first p q read text r → IsRun at_end first (mean p.0) (mean q) read text r
     of_run at_end first q read text (Ok n) (es, end, lines, h, is, count) =
         let so = told es q h in
         let long : length es ≡ length so.log = sym (length-map es (λ e. e.0)) ∙ spelled_length (lines_in es) so.log so.spelled in
@@ -111,7 +111,7 @@ abbrev pub Finished : Option (List ℕ) → Option (List ℕ) → Option (List �
 Finished a b x y first s t r = (read : List ℕ) × (text : List ℕ) × Consumes a b read × Appends x y text × IsRun (OnSome a (IsAtEnd b)) first s t read text r
 
 pub finished : {On Notes : Type 0} (mean : On → Meaning) (seen : Notes → Entries) (a b x y : Option (List ℕ)) (first : ℕ) (p : On × Notes) (q : On) (r : Result ℕ RunError) → seen p.1 ≡ []
-    → (read : List ℕ) × (text : List ℕ) × Consumes a b read × Appends x y text × stream.IsRun (Says mean seen) IsBad (OnSome a (IsAtEnd b)) first p q read text r → Finished a b x y first (mean p.0) (mean q) r
+    → (read : List ℕ) × (text : List ℕ) × Consumes a b read × Appends x y text × stream.IsRun (Says mean seen) (λ on. IsBad) (OnSome a (IsAtEnd b)) first p q read text r → Finished a b x y first (mean p.0) (mean q) r
 finished mean seen a b x y first p q r none (read, text, took, wrote, run) = (read, text, took, wrote, of_run mean seen p none (OnSome a (IsAtEnd b)) first q read text r run)
 
 -- if the bytes are known, an `Ok` says it directly

@@ -23,7 +23,7 @@ use Rattle.tool_grammar.proofs.CallLemmas.{call_same}
 use Rattle.tool_trees.specs.declared.tree_line.TreeLine.TheVariants as line
 use Rattle.tool_trees.specs.Words.{spelling as tree_spelling}
 use Rattle.tool_trees.specs.Trees.{Tree, Book, tree_lines, meaning_of, IsAllowed, BeginsWithTree, NoTree}
-use Rattle.tool_trees.proofs.Readings.{one_tree}
+use Rattle.tool_trees.proofs.OneListAtMost.{one_tree}
 use Rattle.tool_export.specs.Lines.{lines_of, unlines}
 use Rattle.tool_export.specs.Answering.{AreFirst, IsFlushed}
 use Rattle.tool_lines.specs.Running.{AreSpelled, AreMade, PrintsAnswers}

@@ -11,8 +11,7 @@ use Rattle.tool_trees.specs.Words.{spelling, Spells}
 use Rattle.tool_trees.specs.Trees.{Tree, last_line, tree_lines, IsAllowed, NoTree, AreOfTrees}
 use Rattle.tool_trees.specs.Steps.{Steps}
 use Rattle.tool_trees.proofs.LastLines.{all_lines, lines_push}
-use Rattle.tool_trees.proofs.Readings.{no_end}
-use Rattle.tool_trees.proofs.OneListAtMost.{of_trees, first_bad}
+use Rattle.tool_trees.proofs.OneListAtMost.{no_end, of_trees, first_bad}
 use Rattle.tool_trees.specs.declared.level.Level.{Level}
 use Rattle.tool_trees.specs.declared.level.LineError.{LineError}
 use Rattle.tool_trees.specs.declared.level.LineError.TheVariants as levels

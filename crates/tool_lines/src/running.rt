@@ -52,7 +52,7 @@ impl<R: Recorder> LineMachine for CallLines<R> {
 
     ghost answers = { λ p line text q. AnswersLine (R.meaning p.0) (R.meaning q.0) (entries p.1) (entries q.1) line text };
 
-    ghost is_bad = { IsBad };
+    ghost is_bad = { λ on. IsBad };
 
     fn answer(
         alloc: Global,

@@ -1,0 +1,7 @@
+//! Tests of `tool_state`.
+#![tactic(auto)]
+
+#[cfg(test)]
+mod given;
+#[cfg(test)]
+mod states;

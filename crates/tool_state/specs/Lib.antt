@@ -1,0 +1,4 @@
+pub mod Runs
+pub mod State
+pub mod Held
+pub mod Written
