@@ -1,6 +1,8 @@
-//! The surroundings of the program: the clock, standard error, and the file for scrapes.
+//! The surroundings of the program: the clock, standard error, the file for scrapes, and the state.
 
 use crate::devices::Failure;
+use crate::state::{Place, keep};
+use metrics_exporter::Exporter;
 use metrics_textfile::write_textfile;
 use std::fmt::Display;
 use std::rt::{Clock, Files};
@@ -14,6 +16,8 @@ pub struct Host<'a, R> {
     pub rt: &'a R,
     /// The path of the file for scrapes, if there is one.
     pub path: Option<&'a str>,
+    /// Where the state is kept, if it is.
+    pub state: Option<Place<'a>>,
     /// What failed of standard input and standard output.
     pub failure: &'a Failure,
 }
@@ -40,6 +44,13 @@ impl<R: AllocGlobal + Clock + Eprint + Files> Surroundings for Host<'_, R> {
     fn tell_device(&mut self) {
         if !self.failure.is_reader_gone() {
             let _ = eprintln!(self.rt; "{}", self.failure);
+        }
+    }
+
+    fn keep(&mut self, on: &Exporter) -> bool {
+        match self.state {
+            Some(place) => keep(self.rt, on, place),
+            None => true,
         }
     }
 

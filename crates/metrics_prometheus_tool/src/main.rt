@@ -5,24 +5,35 @@ mod devices;
 mod host;
 mod names;
 mod options;
+mod places;
+mod state;
+mod units;
 mod values;
 
 use crate::devices::{Failure, Noting};
 use crate::host::Host;
-use crate::options::options_of;
+use crate::options::{Paths, options_of};
+use crate::state::{Place, begin, title_of};
 use clap::error::ErrorKind;
+use metrics_exporter::Exporter;
 use metrics_textfile::{TextfileError, textfile_place};
 use std::io::BufReader;
 use std::process::ExitCode;
 use std::{env, io};
 use tool_export::exit_of;
-use tool_prometheus::{Options, command};
+use tool_prometheus::{Options, command_on, exporter_for};
 
 /// The status where nobody reads standard output any longer, as of a program that the signal for it ends.
 const READER_GONE: u8 = 141;
 
-/// Answers standard input.
-fn serve(host: &HostRuntime, options: Options, path: Option<&str>) -> io::Result<u8> {
+/// Answers standard input, on an exporter.
+fn serve(
+    host: &HostRuntime,
+    options: Options,
+    exporter: Exporter,
+    path: Option<&str>,
+    state: Option<Place<'_>>,
+) -> io::Result<u8> {
     let failure = Failure::new();
     let reader = Noting {
         stream: host.reader(),
@@ -38,9 +49,17 @@ fn serve(host: &HostRuntime, options: Options, path: Option<&str>) -> io::Result
     let around = Host {
         rt: host,
         path,
+        state,
         failure: &failure,
     };
-    let (status, _) = command(host.alloc(), options, around, &mut input, &mut output);
+    let (status, _) = command_on(
+        host.alloc(),
+        options,
+        exporter,
+        around,
+        &mut input,
+        &mut output,
+    );
     Ok(if failure.is_reader_gone() {
         READER_GONE
     } else {
@@ -48,25 +67,70 @@ fn serve(host: &HostRuntime, options: Options, path: Option<&str>) -> io::Result
     })
 }
 
-/// Reports why no textfile can be at the path, and returns the status then. Where its folder is missing, each scrape tries
-/// again, and reports that.
-fn refused_path(host: &HostRuntime, path: &str) -> Option<u8> {
-    let place = textfile_place(host, host.alloc(), path);
-    let Err(e) = &place else {
-        return None;
-    };
-    if !e.is_unfit() && !matches!(e, TextfileError::Memory) {
-        return None;
+/// The status for why no text can be put into a file, unless a scrape may still succeed, as where a folder is missing.
+fn status_for(e: &TextfileError) -> Option<u8> {
+    if e.is_unfit() {
+        Some(2)
+    } else if matches!(e, TextfileError::Memory) {
+        Some(1)
+    } else {
+        None
     }
-    let _ = eprintln!(host; "{e}");
-    Some(if e.is_unfit() { 2 } else { 1 })
 }
 
-/// Answers standard input, unless the file for scrapes can't be one.
-fn serve_at(host: &HostRuntime, options: Options, path: Option<&str>) -> io::Result<u8> {
-    match path.and_then(|path| refused_path(host, path)) {
+/// The path of the file that a text at the path goes to, if the system says it. Reports why there can be none, and returns the
+/// status then.
+fn place_at(host: &HostRuntime, path: Option<&str>) -> Result<Option<String>, u8> {
+    let Some(path) = path else {
+        return Ok(None);
+    };
+    match textfile_place(host, host.alloc(), path) {
+        Ok(place) => Ok(Some(place)),
+        Err(e) => match status_for(&e) {
+            Some(status) => {
+                let _ = eprintln!(host; "{e}");
+                Err(status)
+            }
+            None => Ok(None),
+        },
+    }
+}
+
+/// Reports why the files can't be those that the words name, and returns the status then.
+fn expect_places(host: &HostRuntime, paths: Paths<'_>) -> Result<(), u8> {
+    let textfile = place_at(host, paths.textfile)?;
+    let state = place_at(host, paths.state)?;
+    if textfile.is_some() && textfile == state {
+        let _ = eprintln!(host; "--state and --textfile name one file");
+        return Err(2);
+    }
+    Ok(())
+}
+
+/// Answers standard input, on an exporter that begins with the state, if there is one.
+fn serve_from(host: &HostRuntime, options: Options, paths: Paths<'_>) -> io::Result<u8> {
+    let Ok(mut exporter) = exporter_for(host.alloc(), &options) else {
+        return Err(io::Error::from(io::ErrorKind::OutOfMemory));
+    };
+    let Some(path) = paths.state else {
+        return serve(host, options, exporter, paths.textfile, None);
+    };
+    let title = title_of(host.alloc(), &options)?;
+    let place = Place {
+        path,
+        title: title.as_str(),
+    };
+    match begin(host, &mut exporter, place) {
         Some(status) => Ok(status),
-        None => serve(host, options, path),
+        None => serve(host, options, exporter, paths.textfile, Some(place)),
+    }
+}
+
+/// Answers standard input, unless one of the files can't be one.
+fn serve_at(host: &HostRuntime, options: Options, paths: Paths<'_>) -> io::Result<u8> {
+    match expect_places(host, paths) {
+        Ok(()) => serve_from(host, options, paths),
+        Err(status) => Ok(status),
     }
 }
 
@@ -83,7 +147,7 @@ fn tell(host: &HostRuntime, error: clap::Error) -> io::Result<u8> {
 fn status(host: &HostRuntime) -> io::Result<u8> {
     let words: Vec<String> = env::args(host)?.collect(host.alloc())?;
     match options_of(host.alloc(), &words) {
-        Ok((options, path)) => serve_at(host, options, path),
+        Ok((options, paths)) => serve_at(host, options, paths),
         Err(error) => tell(host, error),
     }
 }

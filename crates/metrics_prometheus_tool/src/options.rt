@@ -1,13 +1,15 @@
 //! The words of the command line.
 
 use crate::names::{drops_of, prefix_of};
-use crate::values::{Unfit, bounds_of, every_of, idle_of, labels_of, prefixes_of};
+use crate::places::{NamePlaces, bounds_of, places_of, prefix_places, prefixes_of};
+use crate::units::{plain_bounds, unit_bounds};
+use crate::values::{Unfit, every_of, idle_of, labels_of, most_of};
 use clap::error::ErrorKind;
 use clap::{Arg, ArgAction, ArgMatches, Command, Error, value_parser};
 use metrics::MetricKindMask;
 use std::alloc::{AllocError, Global};
 use tool_export::ExportPlan;
-use tool_prometheus::{Naming, Options};
+use tool_prometheus::{Dialect, Naming, Options};
 
 const KINDS: &[&str] = &["counter", "gauge", "histogram"];
 
@@ -24,7 +26,8 @@ A line of the input is one of
                                     any unit, from 0 on
   scrape                            the same at the clock's seconds since 1970
   an empty line, or a comment that begins with #
-One space is between two words. N is a whole number, for gauges and samples also a negative one.
+One space is between two words. N is a whole number, for gauges and samples also a negative one;
+--places has names with decimal places. A whole number may be written as awk does: 3e+09, 1.4e3.
 The first update of a series makes it. A VALUE with spaces is in double quotes; there \\\", \\\\ and \\n
 are a quote, a backslash and a line feed.
 The end of the input writes all series, unless nothing changed since the last scrape. A last line
@@ -35,7 +38,8 @@ error has what is wrong with bad lines, how many calls were refused, which serie
 which names and labels the text spells otherwise.
 
 Status: 0 at the end of the input, 1 if memory, a device or the file failed or a call was refused,
-2 at a bad line or wrong words, 3 if bad lines were skipped or the last line is not counted.";
+2 at a bad line or wrong words, 3 if bad lines were skipped or the last line is not counted, or as
+--strict has it.";
 
 /// An option with a value.
 fn option<'a>(alloc: Global, name: &'a str, value: &'a str, help: &'a str) -> Arg<'a> {
@@ -62,18 +66,26 @@ fn with_plan<'a>(alloc: Global, command: Command<'a>) -> Result<Command<'a>, All
         "N,..",
         "Upper bounds of the buckets of histograms\n\
         (--bounds=-5,0 if the first is negative)\n\
-        [default: 5,10,25,50,100,250,500,1000,2500,5000,10000]",
+        [default: those of the name's unit, without one\n\
+        5,10,25,50,100,250,500,1000,2500,5000,10000]",
     )
-    .hide_default_value(true)
     .value_delimiter(',')
-    .allow_negative_numbers(true)
-    .default_value("5,10,25,50,100,250,500,1000,2500,5000,10000");
+    .allow_negative_numbers(true);
     let prefixes = option(
         alloc,
         "bounds-of",
         "PREFIX=N,..",
         "Bounds of histograms whose names begin with PREFIX;\n\
         the longest wins. May be repeated",
+    )
+    .action(ArgAction::Append);
+    let places = option(
+        alloc,
+        "places",
+        "NAME=N",
+        "Reads numbers of names that begin with NAME with up to N decimal\n\
+        places, 18 at most, and shows them so, bounds too.\n\
+        The longest wins. May be repeated",
     )
     .action(ArgAction::Append);
     let label = option(
@@ -98,6 +110,13 @@ fn with_plan<'a>(alloc: Global, command: Command<'a>) -> Result<Command<'a>, All
         May be repeated",
     )
     .action(ArgAction::Append);
+    let most = option(
+        alloc,
+        "max-series",
+        "N",
+        "Refuses updates that would make a series while N are held",
+    )
+    .allow_negative_numbers(true);
     let idle = option(
         alloc,
         "idle",
@@ -120,9 +139,11 @@ fn with_plan<'a>(alloc: Global, command: Command<'a>) -> Result<Command<'a>, All
     command
         .arg(bounds)?
         .arg(prefixes)?
+        .arg(places)?
         .arg(label)?
         .arg(prefix)?
         .arg(drop)?
+        .arg(most)?
         .arg(idle)?
         .arg(kinds)
 }
@@ -150,6 +171,14 @@ fn with_output<'a>(alloc: Global, command: Command<'a>) -> Result<Command<'a>, A
         the last scrape, or the start",
     )
     .allow_negative_numbers(true);
+    let state = option(
+        alloc,
+        "state",
+        "PATH",
+        "Begins with what the last run held, from the file PATH, and keeps\n\
+        what is held there at each scrape; needs --textfile",
+    )
+    .requires_arg("textfile")?;
     let ends = flag(
         alloc,
         "at-scrapes-only",
@@ -165,20 +194,35 @@ fn with_output<'a>(alloc: Global, command: Command<'a>) -> Result<Command<'a>, A
         "skip-bad",
         "Reports and skips bad lines, instead of ending at the first one",
     );
+    let strict = flag(
+        alloc,
+        "strict",
+        "Ends with status 3 if the text spells a name or a label otherwise,\n\
+        or leaves a series out",
+    );
+    let own = flag(
+        alloc,
+        "self",
+        "Adds series about the program itself to each text: lines read, bad\n\
+        lines, refused calls, series held and left out, the last scrape",
+    );
     command
         .arg(recommended)?
         .arg(file)?
         .arg(every)?
+        .arg(state)?
         .arg(ends)?
         .arg(partial)?
-        .arg(skips)
+        .arg(skips)?
+        .arg(strict)?
+        .arg(own)
 }
 
 /// The command line.
 fn command_line<'a>(alloc: Global) -> Result<Command<'a>, AllocError> {
     let command = Command::new(alloc, "metrics_prometheus_tool")
         .bin_name("metrics_prometheus_tool")?
-        .version("0.11.0")
+        .version("0.12.0")
         .about(
             "Reads updates of series from standard input, and writes the series in Prometheus's text\n\
             format at each scrape.",
@@ -209,12 +253,17 @@ fn watched_of(matches: &ArgMatches<'_>) -> MetricKindMask {
 }
 
 /// How an exporter is to be made.
-fn plan_of<'a>(alloc: Global, matches: &ArgMatches<'a>) -> Result<ExportPlan, Unfit<'a>> {
+fn plan_of<'a>(
+    alloc: Global,
+    places: &[NamePlaces<'_>],
+    bounds: &[&'a str],
+    matches: &ArgMatches<'a>,
+) -> Result<ExportPlan, Unfit<'a>> {
     Ok(ExportPlan {
         shards: 1,
         watched: watched_of(matches),
         idle_timeout: idle_of(matches.get_str("idle"))?,
-        bounds: bounds_of(alloc, matches.get_strs("bounds"))?,
+        bounds: bounds_of(alloc, places, bounds)?,
     })
 }
 
@@ -229,22 +278,34 @@ fn naming_of(matches: &ArgMatches<'_>) -> Naming {
 
 /// What the options ask for.
 fn asked<'a>(alloc: Global, matches: &ArgMatches<'a>) -> Result<Options, Unfit<'a>> {
+    let places = places_of(alloc, matches.get_strs("places"))?;
+    let bounds = plain_bounds(alloc, matches.get_strs("bounds"))?;
     Ok(Options {
-        plan: plan_of(alloc, matches)?,
+        plan: plan_of(alloc, &places, &bounds, matches)?,
+        units: unit_bounds(alloc, matches.get_strs("bounds"))?,
         prefixes: prefixes_of(
             alloc,
             matches.get_str("prefix"),
-            matches.get_strs("bounds-of"),
+            &places,
+            matches.get_strs("places").unwrap_or(&[]),
+            &bounds,
+            matches.get_strs("bounds-of").unwrap_or(&[]),
         )?,
         naming: naming_of(matches),
-        labels: labels_of(alloc, matches.get_strs("label"))?,
+        dialect: Dialect {
+            labels: labels_of(alloc, matches.get_strs("label"))?,
+            places: prefix_places(alloc, &places)?,
+        },
         prefix: prefix_of(alloc, matches.get_str("prefix"))?,
         drops: drops_of(alloc, matches.get_strs("drop"))?,
         skips_bad: matches.get_flag("skip-bad"),
         has_file: matches.contains_id("textfile"),
         every: every_of(matches.get_str("every"))?,
+        max_series: most_of(matches.get_str("max-series"))?,
+        is_strict: matches.get_flag("strict"),
         at_scrapes_only: matches.get_flag("at-scrapes-only"),
         accepts_partial: matches.get_flag("accept-partial"),
+        tells_self: matches.get_flag("self"),
     })
 }
 
@@ -257,15 +318,25 @@ fn error_of(alloc: Global, command: &mut Command<'_>, unfit: Unfit<'_>) -> Resul
     Ok(command.error(ErrorKind::ValueValidation, message.as_str())?)
 }
 
-/// Returns what the words ask for, and the path of the file for scrapes. The first word is the program's name.
-pub fn options_of<'a>(
-    alloc: Global,
-    words: &'a [String],
-) -> Result<(Options, Option<&'a str>), Error> {
+/// The paths that the words name.
+#[derive(Clone, Copy)]
+pub struct Paths<'a> {
+    /// Of the file for scrapes.
+    pub textfile: Option<&'a str>,
+    /// Of the state.
+    pub state: Option<&'a str>,
+}
+
+/// Returns what the words ask for, and the paths that they name. The first word is the program's name.
+pub fn options_of<'a>(alloc: Global, words: &'a [String]) -> Result<(Options, Paths<'a>), Error> {
     let mut command = command_line(alloc)?;
     let matches = command.try_get_matches_from_mut(words)?;
+    let paths = Paths {
+        textfile: matches.get_str("textfile"),
+        state: matches.get_str("state"),
+    };
     match asked(alloc, &matches) {
-        Ok(options) => Ok((options, matches.get_str("textfile"))),
+        Ok(options) => Ok((options, paths)),
         Err(unfit) => Err(error_of(alloc, &mut command, unfit)?),
     }
 }

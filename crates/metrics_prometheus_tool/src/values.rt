@@ -1,12 +1,9 @@
 //! The values of options that the command line's parser doesn't check.
 
-use metrics::{Items, Label, Text};
+use metrics::{Items, Label};
 use std::alloc::{AllocError, AllocFailed, Global};
 use std::fmt;
-use tool_prometheus::{BadLabel, PrefixBounds, bad_label};
-
-/// What a bound is.
-const BOUND: &str = "N is a whole number from -9223372036854775808 to 9223372036854775807";
+use tool_prometheus::{BadLabel, bad_label};
 
 /// Why the value of an option can't be used.
 #[derive(Clone, Copy, Debug)]
@@ -70,83 +67,19 @@ pub fn every_of(given: Option<&str>) -> Result<Option<u64>, Unfit<'_>> {
     }
 }
 
-/// The bounds of histograms, in the order of the command line.
-pub fn bounds_of<'a>(alloc: Global, given: Option<&[&'a str]>) -> Result<Items<i64>, Unfit<'a>> {
+/// The most series that are held.
+pub fn most_of(given: Option<&str>) -> Result<Option<u64>, Unfit<'_>> {
     let Some(given) = given else {
-        return Ok(Items::from(Vec::new(alloc)));
+        return Ok(None);
     };
-    let mut bounds = Vec::with_capacity(alloc, given.len())?;
-    for bound in given {
-        match bound.parse::<i64>() {
-            Ok(bound) => bounds.push(bound)?,
-            Err(_) => return Err(Unfit::Value("--bounds <N,..>", bound, BOUND)),
-        }
+    match given.parse::<u64>() {
+        Ok(most) if most > 0 => Ok(Some(most)),
+        _ => Err(Unfit::Value(
+            "--max-series <N>",
+            given,
+            "N is a whole number from 1 to 18446744073709551615",
+        )),
     }
-    Ok(Items::from(bounds))
-}
-
-/// The prefix and the bounds that a value of the option sets, or what is wrong with it. The prefix may have equals signs. The
-/// others have so many bytes before their prefixes.
-fn parts_of<'a>(
-    prefixes: &[PrefixBounds],
-    front: usize,
-    given: &'a str,
-) -> Result<(&'a str, &'a str), &'static str> {
-    let Some((prefix, bounds)) = given.rsplit_once('=') else {
-        return Err("it has no '='");
-    };
-    if bounds.split(',').any(|bound| bound.parse::<i64>().is_err()) {
-        return Err(BOUND);
-    }
-    if prefixes
-        .iter()
-        .any(|other| other.prefix.as_str().get(front..) == Some(prefix))
-    {
-        return Err("each PREFIX is given once");
-    }
-    Ok((prefix, bounds))
-}
-
-/// The numbers between commas.
-fn numbers_of(alloc: Global, bounds: &str) -> Result<Items<i64>, AllocError> {
-    let mut numbers = Vec::new(alloc);
-    for bound in bounds.split(',') {
-        if let Ok(number) = bound.parse::<i64>() {
-            numbers.push(number)?;
-        }
-    }
-    Ok(Items::from(numbers))
-}
-
-/// What is before each name.
-fn front_of(alloc: Global, prefix: Option<&str>) -> Result<String, AllocError> {
-    match prefix {
-        Some(prefix) => format!(in alloc; "{prefix}."),
-        None => Ok(String::new(alloc)),
-    }
-}
-
-/// The bounds by prefixes of names, in the order of the command line. Each name is below the one prefix, if there is one.
-pub fn prefixes_of<'a>(
-    alloc: Global,
-    prefix: Option<&str>,
-    given: Option<&[&'a str]>,
-) -> Result<Items<PrefixBounds>, Unfit<'a>> {
-    let Some(given) = given else {
-        return Ok(Items::from(Vec::new(alloc)));
-    };
-    let front = front_of(alloc, prefix)?;
-    let mut prefixes = Vec::with_capacity(alloc, given.len())?;
-    for word in given {
-        match parts_of(&prefixes, front.len(), word) {
-            Ok((prefix, bounds)) => prefixes.push(PrefixBounds {
-                prefix: Text::from(format!(in alloc; "{front}{prefix}")?),
-                bounds: numbers_of(alloc, bounds)?,
-            })?,
-            Err(accepted) => return Err(Unfit::Value("--bounds-of <PREFIX=N,..>", word, accepted)),
-        }
-    }
-    Ok(Items::from(prefixes))
 }
 
 /// What is wrong with the name of a label that would stand beside others.

@@ -1,5 +1,5 @@
 -- A run over the same bytes, at the same moments of the clock, has one text.
-use Rattle.std.proofs.Common.{◌≡◌, ◌∙◌, ℕ, Bool, true, false, List, [], ◌∷◌, ◌++◌, inl, inr, refl, sym, ap, subst, Ok, Option, None, Some, append_assoc}
+use Rattle.std.proofs.Common.{if◌then◌else◌, ◌≡◌, ◌∙◌, ℕ, Bool, true, false, List, [], ◌∷◌, ◌++◌, inl, inr, refl, sym, ap, subst, Ok, Option, None, Some, append_assoc}
 use Rattle.std.proofs.lemmas.Bool.{false≢true}
 use Rattle.std.specs.Prelude.{option_map}
 use Rattle.std.specs.List.{AllByRecursion}
@@ -9,28 +9,26 @@ use Rattle.metrics_names.specs.declared.common.Unit.{Unit as Measure}
 use Rattle.metrics.specs.declared.handles.Update.{Update}
 use Rattle.metrics.specs.Book.{kind_of}
 use Rattle.metrics_registry.specs.Idleness.{Answered}
-use Rattle.metrics_exporter.specs.Exporting.{Setup, Step, expires, steps, Cells, cells_after, IsExpiry}
-use Rattle.metrics_exporter.specs.Describing.{Legend}
-use Rattle.metrics_prometheus.specs.declared.naming.Naming.{Naming}
-use Rattle.metrics_prometheus.specs.Exposition.{IsDescribed}
+use Rattle.metrics_exporter.specs.Exporting.{Setup, Step, expires, steps, cells_after, IsExpiry}
 use Rattle.tool_prometheus.specs.Making.{setup_for}
 use Rattle.tool_prometheus.specs.declared.commands.Options.{Options}
-use Rattle.tool_prometheus.specs.declared.requests.Request.{Request}
-use Rattle.tool_prometheus.specs.declared.requests.Request.TheVariants.{Change, Describe, Scrape, Nothing}
-use Rattle.tool_prometheus.specs.Lines.{Spells, IsBad}
+use Rattle.tool_requests.specs.declared.requests.Request.{Request}
+use Rattle.tool_requests.specs.declared.requests.Request.TheVariants.{Change, Describe, Scrape, Nothing}
+use Rattle.tool_requests.specs.Lines.{Spells, IsBad}
+use Rattle.tool_requests.specs.Places.{front_of}
+use Rattle.tool_prometheus.specs.Strict.{respells, leaves_out, noted}
 use Rattle.tool_prometheus.specs.Asked.{Asked, then_asked, clock_gave}
 use Rattle.tool_prometheus.specs.Exposed.{scrape_text, HasMoment, HandsOut}
 use Rattle.tool_prometheus.specs.declared.timing.Timer.{Timer}
 use Rattle.tool_prometheus.specs.Timing.{Timed, Starts, in_time, restarted}
-use Rattle.tool_prometheus.specs.Output.{Done, begun, loses_line, lines_in, PrintsExposition, Prints, PrintsEach, PrintsInTime, TakesLine, PrintsEnd, PrintLines}
+use Rattle.tool_prometheus.specs.Output.{Done, begun, places_shown, loses_line, lines_in, own_done, PrintsExposition, Prints, PrintsEach, PrintsInTime, TakesLine, PrintsEnd, PrintLines}
+use Rattle.tool_prometheus.specs.Serving.{Start}
 use Rattle.tool_prometheus.specs.Output.{IsOutput, NamesMoments}
-use Rattle.tool_prometheus.specs.Names.{renamed, name_by, change_if, describe_if, named_key}
-use Rattle.tool_prometheus.proofs.OneLemmas.{asked_same}
-
--- cells have one exposition
-abbrev pub OneExposition : Type 0
-OneExposition = (naming : Naming) (legend : Legend) (cells : Cells) (a b : List ℕ)
-    → IsDescribed naming legend cells a → IsDescribed naming legend cells b → a ≡ b
+use Rattle.tool_requests.specs.Names.{renamed, change_if, describe_if, named_key}
+use Rattle.tool_prometheus.specs.Names.{name_by}
+use Rattle.tool_prometheus.specs.Own.{with_line}
+use Rattle.tool_requests.proofs.OneLemmas.{asked_same}
+use Rattle.tool_prometheus.proofs.OwnLemmas.{OneExposition, shown-same}
 
 -- an expiry makes one list of checks
 abbrev pub OneExpiry : Type 0
@@ -101,10 +99,12 @@ parts p q own later had last is was e = sym (ap (λ a. a.clock) is) ∙ e ∙ ap
 module _ (one : OneExposition) (expiry : OneExpiry) (options : Options) where
   -- ---- one request
 
-  exposition-same : (done : Done) (f g : List (List ℕ)) (a b : List ℕ) → PrintsExposition options done f a
-      → PrintsExposition options done g b → (f ≡ g) × (a ≡ b)
-  exposition-same done f g a b (shown, is, prints, out) (other, was, printed, given) =
-      let same : shown ≡ other = one options.naming done.legend (cells_after (setup_for options) (steps done.calls)) shown other is was in (
+  exposition-same : (done : Done) (f g : List (List ℕ)) (shown other a b : List ℕ) → PrintsExposition options done f shown a
+      → PrintsExposition options done g other b → (shown ≡ other) × (f ≡ g) × (a ≡ b)
+  exposition-same done f g shown other a b (is, prints, out) (was, printed, given) =
+      let same : shown ≡ other = shown-same one options.tells_self (own_done options done) options.naming done.legend (places_shown options)
+      (cells_after (setup_for options) (steps done.calls)) shown other is was in (
+        same,
         handed-same options.has_file other f g (subst (λ z. HandsOut options.has_file z true f) same out) given,
         prints ∙ ap (scrape_text options.has_file) same ∙ sym printed,
       )
@@ -112,32 +112,47 @@ module _ (one : OneExposition) (expiry : OneExpiry) (options : Options) where
   pub prints-same : (old : Done) (request : Request) (r s : Asked) (p q : List ℕ) (new other : Done) (a b : List ℕ)
       → Prints options old request r a new → Prints options old request s b other → r.clock ++ p ≡ s.clock ++ q
       → (p ≡ q) × (new ≡ other) × (r ≡ s) × (a ≡ b)
-  prints-same old (Change key by) r s p q new other a b (none, free, text, is) (nor, fits, said, was) e =
+  prints-same old (Change key by) r s p q new other a b (none, free, text, within, is) (nor, fits, said, inside, was) e =
       (unread r.clock s.clock p q (ap (λ x. x.clock) none) (ap (λ x. x.clock) nor) e, is ∙ sym was, none ∙ sym nor, text ∙ sym said)
   prints-same old (Describe kind name unit note) r s p q new other a b (none, text, is) (nor, said, was) e =
       (unread r.clock s.clock p q (ap (λ x. x.clock) none) (ap (λ x. x.clock) nor) e, is ∙ sym was, none ∙ sym nor, text ∙ sym said)
-  prints-same old (Scrape moment) r s p q new other a b (x, at, checks, n, made, is, shown) (y, by, others, m, ran, was, show) e =
+  prints-same old (Scrape moment) r s p q new other a b (x, at, checks, n, shown, made, is, prints) (y, by, others, m, show, ran, was, printed) e =
       let (rest, moments, clocks) = moment-same moment r.clock s.clock p q x y at by e in
       let checked = expiry (setup_for options) (steps old.calls) y checks others n m
       (subst (λ z. IsExpiry (setup_for options) (steps old.calls) z checks (Ok n)) moments made) ran in
       let events : expires x checks (Ok n) ≡ expires y others (Ok m) =
       λ i. expires (moments i) (checked.0 i) (Ok (checked.1 i)) in
+      let after : Done = record old { calls = old.calls ++ expires y others (Ok m) ∷ []; is_changed = false; last = Some y } in
+      let same : record old { calls = old.calls ++ expires x checks (Ok n) ∷ []; is_changed = false; last = Some x } ≡ after =
+      λ i. record old { calls = old.calls ++ events i ∷ []; is_changed = false; last = Some (moments i) } in
+      let first : PrintsExposition options after r.files shown a =
+      subst (λ d. PrintsExposition options d r.files shown a) same (subst (λ d. PrintsExposition options d r.files shown a) is prints) in
+      let (shows, files, texts) = exposition-same after r.files s.files shown show a b first
+      (subst (λ d. PrintsExposition options d s.files show b) was printed) in
       let news : new ≡ other =
-      is ∙ ap (λ z. record old { calls = old.calls ++ z ∷ []; is_changed = false }) events ∙ sym was in
-      let (files, texts) = exposition-same other r.files s.files a b (subst (λ d. PrintsExposition options d r.files a) news shown) show in
+      is
+      ∙ (λ i. record old {
+        calls = old.calls ++ events i ∷ [];
+        is_changed = false;
+        has_bad = noted options.is_strict (leaves_out (shows i)) old.has_bad;
+        last = Some (moments i);
+      })
+      ∙ sym was in
       (rest, news, both r s clocks files, texts)
   prints-same old Nothing r s p q new other a b (none, text, is) (nor, said, was) e =
       (unread r.clock s.clock p q (ap (λ x. x.clock) none) (ap (λ x. x.clock) nor) e, is ∙ sym was, none ∙ sym nor, text ∙ sym said)
 
   -- ---- lines
 
-  end-same : (done : Done) (p q : Asked) (a b : List ℕ) → PrintsEnd options done p a → PrintsEnd options done q b → (p ≡ q) × (a ≡ b)
-  end-same done p q a b (none, inl (is, shown)) (nor, inl (was, show)) =
-      let (files, texts) = exposition-same done p.files q.files a b shown show in (both p q (none ∙ sym nor) files, texts)
-  end-same done p q a b (none, inl (is, shown)) (nor, inr (was, file, said)) = absurd (false≢true (sym was ∙ is))
-  end-same done p q a b (none, inr (is, files, text)) (nor, inl (was, show)) = absurd (false≢true (sym is ∙ was))
-  end-same done p q a b (none, inr (is, files, text)) (nor, inr (was, file, said)) =
-      (both p q (none ∙ sym nor) (files ∙ sym file), text ∙ sym said)
+  end-same : (done : Done) (p q : Asked) (a b : List ℕ) (x y : Bool) → PrintsEnd options done p a x → PrintsEnd options done q b y
+      → (p ≡ q) × (a ≡ b) × (x ≡ y)
+  end-same done p q a b x y (none, inl (is, (shown, prints, bad))) (nor, inl (was, (show, printed, worse))) =
+      let (shows, files, texts) = exposition-same done p.files q.files shown show a b prints printed in
+      (both p q (none ∙ sym nor) files, texts, bad ∙ ap (λ t. noted options.is_strict (leaves_out t) done.has_bad) shows ∙ sym worse)
+  end-same done p q a b x y (none, inl (is, shown)) (nor, inr (was, file, said, worse)) = absurd (false≢true (sym was ∙ is))
+  end-same done p q a b x y (none, inr (is, files, text, bad)) (nor, inl (was, show)) = absurd (false≢true (sym is ∙ was))
+  end-same done p q a b x y (none, inr (is, files, text, bad)) (nor, inr (was, file, said, worse)) =
+      (both p q (none ∙ sym nor) (files ∙ sym file), text ∙ sym said, bad ∙ sym worse)
 
   each-same : (old : Done) (rs : List Request) (r s : Asked) (p q : List ℕ) (new other : Done) (a b : List ℕ)
       → PrintsEach options old rs r a new → PrintsEach options old rs s b other → r.clock ++ p ≡ s.clock ++ q
@@ -166,7 +181,12 @@ module _ (one : OneExposition) (expiry : OneExpiry) (options : Options) where
   takes-same : (old : Done) (line : List ℕ) (request wanted : Request) (new other : Done) → TakesLine options old line request new
       → TakesLine options old line wanted other → (request ≡ wanted) × (new ≡ other)
   takes-same old line request wanted new other (inl (spells, is)) (inl (spelled, was)) =
-      (asked_same options.labels (name_by options) line request wanted spells spelled, is ∙ sym was)
+      let same = asked_same options.dialect (name_by options) line request wanted spells spelled in (
+        same,
+        is
+            ∙ ap (λ r. record old { counts = with_line old.counts; has_bad = noted options.is_strict (respells (front_of options.prefix) r) old.has_bad }) same
+            ∙ sym was,
+      )
   takes-same old line request wanted new other (inl (spells, is)) (inr (skips, bad, none, was)) =
       absurd (bad spells.1.0 spells.1.1 spells.1.2)
   takes-same old line request wanted new other (inr (skips, bad, none, is)) (inl (spells, was)) =
@@ -176,14 +196,14 @@ module _ (one : OneExposition) (expiry : OneExpiry) (options : Options) where
 
   -- a line that ends the run asks for nothing
   taken-good : (old : Done) (line : List ℕ) (request : Request) (new : Done) → TakesLine options old line request new
-      → options.skips_bad ≡ false → IsBad line → ⊥
+      → options.skips_bad ≡ false → IsBad options.dialect line → ⊥
   taken-good old line request new (inl (spells, is)) ends bad = bad spells.1.0 spells.1.1 spells.1.2
   taken-good old line request new (inr (skips, was, none, is)) ends bad = false≢true (sym ends ∙ skips)
 
   lines-same : (done : Done) (ls : List (List ℕ)) (p q : Asked) (a b : List ℕ) (s t : ℕ) → PrintLines options done ls p a s
       → PrintLines options done ls q b t → p.clock ≡ q.clock → (p ≡ q) × (a ≡ b) × (s ≡ t)
-  lines-same done [] p q a b s t (h, is) (g, was) e =
-      let (asked, texts) = end-same done p q a b h g in (asked, texts, is ∙ sym was)
+  lines-same done [] p q a b s t (x, h, is) (y, g, was) e =
+      let (asked, texts, bad) = end-same done p q a b x y h g in (asked, texts, is ∙ ap (λ b. if b then 3 else 0) bad ∙ sym was)
   lines-same done (l ∷ ls) p q a b s t (inl (request, taken, new, own, later, part, others, takes, prints, rest, deeds, text))
       (inl (wanted, held, next, had, last, piece, more, took, printed, left, done_so, said)) e =
       let (same, begins) = takes-same done l request wanted taken held takes took in
@@ -201,15 +221,15 @@ module _ (one : OneExposition) (expiry : OneExpiry) (options : Options) where
   lines-same done (l ∷ ls) p q a b s t (inr (ends, bad, none, empty, status)) (inr (ended, worse, nor, nothing, number)) e =
       (none ∙ sym nor, empty ∙ sym nothing, status ∙ sym number)
 
-  pub output-same : (bytes : List ℕ) (p q : Asked) (a b : List ℕ) (s t : ℕ) → IsOutput options bytes p a s
-      → IsOutput options bytes q b t → p.clock ≡ q.clock → (p ≡ q) × (a ≡ b) × (s ≡ t)
-  output-same bytes p q a b s t (first, later, timer, starts, prints, deeds) (had, last, other, started, printed, done_so) e =
+  pub output-same : (begin : Start) (bytes : List ℕ) (p q : Asked) (a b : List ℕ) (s t : ℕ) → IsOutput options begin bytes p a s
+      → IsOutput options begin bytes q b t → p.clock ≡ q.clock → (p ≡ q) × (a ≡ b) × (s ≡ t)
+  output-same begin bytes p q a b s t (first, later, timer, starts, prints, deeds) (had, last, other, started, printed, done_so) e =
       let loses = loses_line options.accepts_partial bytes in
       let lines = lines_in options.accepts_partial bytes in
       let (rest, firsts_same, timers) = starts-same options.every first had timer other later.clock last.clock starts started
       (parts p q first later had last deeds done_so e) in
-      let (laters, texts, status) = lines-same (begun loses other) lines later last a b s t
-      (subst (λ z. PrintLines options (begun loses z) lines later a s) timers prints) printed rest in
+      let (laters, texts, status) = lines-same (begun begin loses other) lines later last a b s t
+      (subst (λ z. PrintLines options (begun begin loses z) lines later a s) timers prints) printed rest in
       (deeds ∙ (λ i. then_asked (firsts_same i) (laters i)) ∙ sym done_so, texts, status)
 
 -- ---- inputs that do not ask the clock
@@ -240,9 +260,9 @@ module _ (options : Options) where
 
   prints-timer : (old : Done) (request : Request) (r : Asked) (new : Done) (a : List ℕ) → Prints options old request r a new
       → new.timer ≡ old.timer
-  prints-timer old (Change key by) r new a h = ap (λ d. d.timer) h.3
+  prints-timer old (Change key by) r new a h = ap (λ d. d.timer) h.4
   prints-timer old (Describe kind name unit note) r new a h = ap (λ d. d.timer) h.2
-  prints-timer old (Scrape moment) r new a h = ap (λ d. d.timer) h.5
+  prints-timer old (Scrape moment) r new a h = ap (λ d. d.timer) h.6
   prints-timer old Nothing r new a h = ap (λ d. d.timer) h.2
 
   no-moment-of-one : (old : Done) (request : Request) (r : Asked) (new : Done) (a : List ℕ) → (request ≡ Scrape None → ⊥)
@@ -263,25 +283,25 @@ module _ (options : Options) where
   nothing-else : Nothing ≡ Scrape None → ⊥
   nothing-else e = absurd (cc)
 
-  no-moment-taken : (old : Done) (line : List ℕ) (request : Request) (new : Done) → (Spells options.labels line (Scrape None) → ⊥)
+  no-moment-taken : (old : Done) (line : List ℕ) (request : Request) (new : Done) → (Spells options.dialect line (Scrape None) → ⊥)
       → TakesLine options old line request new → (new.timer ≡ old.timer) × (request ≡ Scrape None → ⊥)
   no-moment-taken old line request new own (inl ((spelled, of_line, is), same)) =
-      (ap (λ d. d.timer) same, λ e. own (subst (Spells options.labels line) (scrape-named spelled (sym is ∙ e)) of_line))
+      (ap (λ d. d.timer) same, λ e. own (subst (Spells options.dialect line) (scrape-named spelled (sym is ∙ e)) of_line))
   no-moment-taken old line request new own (inr (skips, bad, none, same)) =
       (ap (λ d. d.timer) same, λ e. nothing-else (sym none ∙ e))
 
   no-moments : (done : Done) (ls : List (List ℕ)) (p : Asked) (a : List ℕ) (s : ℕ) → done.timer ≡ None
-      → AllByRecursion (λ line. Spells options.labels line (Scrape None) → ⊥) ls → PrintLines options done ls p a s → p.clock ≡ []
-  no-moments done [] p a s untimed own h = h.0.0
+      → AllByRecursion (λ line. Spells options.dialect line (Scrape None) → ⊥) ls → PrintLines options done ls p a s → p.clock ≡ []
+  no-moments done [] p a s untimed own h = h.1.0
   no-moments done (l ∷ ls) p a s untimed own (inl (request, taken, new, first, later, part, others, takes, prints, rest, deeds, text)) =
       let (kept, other) = no-moment-taken done l request taken own.0 takes in
       let (none, still) = no-moment-in-time taken request first new part (kept ∙ untimed) other prints in
       ap (λ x. x.clock) deeds ∙ ap (λ z. z ++ later.clock) none ∙ no-moments new ls later others s still own.1 rest
   no-moments done (l ∷ ls) p a s untimed own (inr (ends, bad, none, empty, status)) = ap (λ x. x.clock) none
 
-  pub output-silent : (bytes : List ℕ) (p : Asked) (a : List ℕ) (s : ℕ) → NamesMoments options bytes → IsOutput options bytes p a s
-      → p.clock ≡ []
-  output-silent bytes p a s (untimed, own) (first, later, timer, starts, prints, deeds) =
+  pub output-silent : (begin : Start) (bytes : List ℕ) (p : Asked) (a : List ℕ) (s : ℕ) → NamesMoments options bytes
+      → IsOutput options begin bytes p a s → p.clock ≡ []
+  output-silent begin bytes p a s (untimed, own) (first, later, timer, starts, prints, deeds) =
       let (none, at) = subst (λ e. Starts e first timer) untimed starts in
       ap (λ x. x.clock) deeds ∙ ap (λ z. z.clock ++ later.clock) none
-      ∙ no-moments (begun (loses_line options.accepts_partial bytes) timer) (lines_in options.accepts_partial bytes) later a s at own prints
+      ∙ no-moments (begun begin (loses_line options.accepts_partial bytes) timer) (lines_in options.accepts_partial bytes) later a s at own prints

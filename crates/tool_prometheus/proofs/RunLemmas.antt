@@ -1,31 +1,38 @@
 -- A run that neither memory, the device nor the file ended wrote the text of its input.
-use Rattle.std.proofs.Common.{if◌then◌else◌, ◌≡◌, ◌≢◌, ◌∙◌, ℕ, Bool, true, false, List, [], ◌∷◌, ◌++◌, ◌⊎◌, inl, inr, refl, sym, ap, subst}
-use Rattle.std.proofs.Common.{Option, None, Some, Result, Ok, Err, OnOk, append_assoc, append-nil}
+use Rattle.std.proofs.Common.{if◌then◌else◌, ◌≡◌, ◌≢◌, ◌∙◌, ℕ, Bool, true, false, ◌&&◌, ◌||◌, List, [], ◌∷◌, ◌++◌, ◌⊎◌, inl, inr, refl, sym, ap, subst}
+use Rattle.std.proofs.Common.{Option, None, Some, Result, Ok, Err, append_assoc, append-nil}
 use Rattle.std.proofs.lemmas.List.{append_cancel_right}
 use Rattle.std.proofs.lemmas.List.Concat.{flat_map-append}
-use Rattle.metrics_exporter.specs.Exporting.{Setup, Log, updates, expires, steps, cells_after, HoldsSome}
+use Rattle.metrics_exporter.specs.Exporting.{Setup, Log, updates_in, expires, steps, cells_after, series_of, HoldsSome}
 use Rattle.metrics.specs.declared.error.Error.TheVariants as error
-use Rattle.metrics_exporter.specs.Describing.{SameLegend}
+use Rattle.metrics_exporter.specs.Describing.{SameLegend, unit_told}
 use Rattle.metrics_exporter.specs.Kept.{IsAfter, described}
-use Rattle.metrics_prometheus.specs.Exposition.{IsDescribed}
+use Rattle.metrics_exposition.specs.declared.naming.Naming.{Naming}
 use Rattle.tool_grammar.specs.declared.error.RunError.{RunError}
 use Rattle.tool_grammar.specs.declared.error.RunError.TheVariants.{Memory, BadLine, Device}
-use Rattle.tool_export.specs.Lines.{lines_of, ended_lines, unlines, ended, IsEnded, IsLine}
+use Rattle.tool_export.specs.Lines.{lines_of, ended_lines, unlines, ended}
 use Rattle.tool_export.specs.Answering.{Dialogue, lines_in as lines_said, texts_in, AreAnswered, AreFirst, IsRun, IsLeft}
 use Rattle.tool_export.proofs.LinesLemmas.{lines-cut, ended-cut, ended-left, cut-none, cut-some}
 use Rattle.tool_prometheus.specs.Making.{setup_for}
 use Rattle.tool_prometheus.specs.declared.commands.Options.{Options}
 use Rattle.tool_prometheus.specs.declared.answering.Served.{Served}
-use Rattle.tool_prometheus.specs.declared.requests.Request.{Request}
-use Rattle.tool_prometheus.specs.declared.requests.Request.TheVariants.{Change, Describe, Scrape, Nothing}
+use Rattle.tool_requests.specs.declared.requests.Request.{Request}
+use Rattle.tool_requests.specs.declared.requests.Request.TheVariants.{Change, Describe, Scrape, Nothing}
 use Rattle.tool_prometheus.specs.Asked.{Asked, nothing_asked, then_asked, Asks}
-use Rattle.tool_prometheus.specs.Names.{ruled_name, name_by, Requests}
+use Rattle.tool_requests.specs.Lines.{IsBad}
+use Rattle.tool_requests.specs.Places.{kept_places, front_of}
+use Rattle.tool_requests.specs.Names.{ruled_name, Requests}
+use Rattle.tool_prometheus.specs.Names.{name_by}
 use Rattle.tool_prometheus.specs.Exposed.{scrape_text, fault_text, KeepsRest, HandsOut, Shows, IsPlain, IsWant, IsAnswer, IsEnd, shows_at_end}
-use Rattle.tool_prometheus.specs.Exposed.{AnswersEach, Takes, AnswersLine}
+use Rattle.tool_prometheus.specs.Exposed.{AnswersEach, Takes, AnswersLine, own_of, UnlessTold}
+use Rattle.tool_prometheus.specs.Own.{IsShown, with_line, with_bad_line}
+use Rattle.tool_requests.specs.declared.dialect.Dialect.{Dialect}
 use Rattle.tool_prometheus.specs.declared.timing.Timer.{Timer}
 use Rattle.tool_prometheus.specs.Timing.{Starts}
-use Rattle.tool_prometheus.specs.Serving.{answers_since, Stops, EndsLines, IsFresh, own_status, or_left}
-use Rattle.tool_prometheus.specs.Output.{Done, begun, lines_in, loses_line, PrintsExposition, Prints, PrintsEach, PrintsInTime, TakesLine, PrintLines}
+use Rattle.tool_prometheus.specs.Serving.{Start, answers_since, Stops, EndsLines, IsFresh, own_status, or_left, left_noted}
+use Rattle.tool_prometheus.specs.Limit.{IsWithin}
+use Rattle.tool_prometheus.specs.Strict.{respells, leaves_out, noted}
+use Rattle.tool_prometheus.specs.Output.{Done, begun, places_shown, own_done, lines_in, loses_line, PrintsExposition, Prints, PrintsEach, PrintsInTime, TakesLine, PrintLines}
 use Rattle.tool_prometheus.specs.Output.{IsOutput, Runs}
 use Rattle.tool_prometheus.proofs.AskedLemmas.{then-nothing, then-assoc}
 
@@ -90,20 +97,21 @@ half-taken false bytes front (x ∷ xs) n has_bad whole (ends, line) =
 
 failed-plain : (setup : Setup) (log : Log) (old : Served) (request : Request) (made : Log) (new : Served) (asked : Asked) (text : List ℕ)
     → IsPlain setup log old request made new asked text → old.has_failed ≡ true → new.has_failed ≡ true
-failed-plain setup log old (Change key by) made new asked text (told, none, inl (is, t, free, changed, failed)) f = failed ∙ f
-failed-plain setup log old (Change key by) made new asked text (told, none, inr (is, t, full, changed, failed)) f = failed
-failed-plain setup log old (Describe kind name unit note) made new asked text (told, none, is, t, changed, failed) f = failed ∙ f
+failed-plain setup log old (Change key by) made new asked text (told, none, at, inl (is, t, free, changed, failed, bad, within, counted)) f = failed ∙ f
+failed-plain setup log old (Change key by) made new asked text (told, none, at, inr (inl (is, t, full, changed, failed, bad, counted))) f = failed
+failed-plain setup log old (Change key by) made new asked text (told, none, at, inr (inr (is, t, beyond, changed, failed, bad, counted))) f = failed
+failed-plain setup log old (Describe kind name unit note) made new asked text (told, none, is, t, changed, failed, bad, at, counted) f = failed ∙ f
 failed-plain setup log old (Scrape moment) made new asked text
-    (told, (now, at, checks, n, shown, true, is, ran, shows, t, out, changed, failed)) f = failed ∙ f
+    (told, (now, at, checks, n, shown, true, is, ran, shows, t, out, changed, failed, bad, last, counted)) f = failed ∙ f
 failed-plain setup log old (Scrape moment) made new asked text
-    (told, (now, at, checks, n, shown, false, is, ran, shows, t, out, changed, failed)) f = failed
+    (told, (now, at, checks, n, shown, false, is, ran, shows, t, out, changed, failed, bad, last, counted)) f = failed
 failed-plain setup log old Nothing made new asked text (same, none, is, t) f = ap (λ s. s.has_failed) same ∙ f
 
 failed-want : (setup : Setup) (log : Log) (old : Served) (request : Request) (made : Log) (new : Served) (asked : Asked) (text : List ℕ)
     → IsWant setup log old request made new asked text → new.has_failed ≡ true
-failed-want setup log old (Change key by) made new asked text (told, none, is, t, changed, failed, absent) = failed
-failed-want setup log old (Describe kind name unit note) made new asked text (told, none, is, t, changed, failed) = failed
-failed-want setup log old (Scrape moment) made new asked text (told, t, changed, failed, ran) = failed
+failed-want setup log old (Change key by) made new asked text (told, none, is, t, changed, failed, bad, absent, at, counted) = failed
+failed-want setup log old (Describe kind name unit note) made new asked text (told, none, is, t, changed, failed, bad, at, counted) = failed
+failed-want setup log old (Scrape moment) made new asked text (told, t, changed, failed, bad, counted, ran) = failed
 failed-want setup log old Nothing made new asked text none = absurd none
 
 failed-answer : (setup : Setup) (log : Log) (old : Served) (request : Request) (made : Log) (new : Served) (asked : Asked) (text : List ℕ)
@@ -123,31 +131,74 @@ or-false : (b : Bool) → (if b then true else false) ≡ b
 or-false true = refl
 or-false false = refl
 
+or-more : (b : Bool) → true ≡ (b || true)
+or-more true = refl
+or-more false = refl
+
 module _ (options : Options) (cut : Bool) where
   abbrev setup : Setup
   setup = setup_for options
 
   -- what is done where a run has come so far
   abbrev done_on : Log → Served → Done
-  done_on log on = record { calls = log; legend = described on.exporter; is_changed = on.is_changed; has_bad = (if cut then true else on.has_bad); timer = on.timer }
+  done_on log on = record {
+    calls = log;
+    legend = described on.exporter;
+    is_changed = on.is_changed;
+    has_bad = (if cut then true else on.has_bad);
+    timer = on.timer;
+    counts = on.counts;
+    last = on.last;
+  }
 
   -- what is served is as after these calls, by these options
   abbrev Stands : Log → Served → Type 0
   Stands log on = IsAfter setup log on.exporter × (on.naming ≡ options.naming) × (on.has_file ≡ options.has_file)
-      × (on.labels ≡ options.labels) × (on.at_scrapes_only ≡ options.at_scrapes_only) × (ruled_name on.rules ≡ name_by options)
+      × (on.dialect ≡ options.dialect) × (on.at_scrapes_only ≡ options.at_scrapes_only) × (ruled_name on.rules ≡ name_by options)
+      × (on.front ≡ front_of options.prefix) × (on.max_series ≡ options.max_series)
+      × (on.is_strict ≡ options.is_strict) × (on.tells_self ≡ options.tells_self)
 
-  done-same : (log : Log) (old : Done) (new : Served) (changed : Bool) → SameLegend (described new.exporter) old.legend
-      → new.is_changed ≡ changed → (if cut then true else new.has_bad) ≡ old.has_bad → new.timer ≡ old.timer
-      → done_on log new ≡ record old { calls = log; is_changed = changed }
-  done-same log old new changed same is bad timer =
-      λ i. record { calls = log; legend = λ kind name. same kind name i; is_changed = is i; has_bad = bad i; timer = timer i }
+  -- what a strict run notes, beside a last line that is not counted
+  noted-cut : (is_strict odd bad : Bool) → (if cut then true else noted is_strict odd bad) ≡ noted is_strict odd (if cut then true else bad)
+  noted-cut is_strict odd bad = go cut
+    where
+      go : (c : Bool) → (if c then true else noted is_strict odd bad) ≡ noted is_strict odd (if c then true else bad)
+      go true = or-more (is_strict && odd)
+      go false = refl
+
+  done-same : (log : Log) (old : Done) (new : Served) (changed bad : Bool) (last : Option ℕ) → SameLegend (described new.exporter) old.legend
+      → new.is_changed ≡ changed → (if cut then true else new.has_bad) ≡ bad → new.timer ≡ old.timer → new.counts ≡ old.counts
+      → new.last ≡ last → done_on log new ≡ record old { calls = log; is_changed = changed; has_bad = bad; last = last }
+  done-same log old new changed bad last same is noted_so timer counted at = λ i. record {
+    calls = log;
+    legend = λ kind name. same kind name i;
+    is_changed = is i;
+    has_bad = noted_so i;
+    timer = timer i;
+    counts = counted i;
+    last = at i;
+  }
+
+  -- what is shown by what is served, by the options
+  shows-so : (log : Log) (on : Served) (shown : List ℕ) → Stands log on → Shows setup log on shown
+      → IsShown options.tells_self (own_done options (done_on log on)) options.naming (described on.exporter) (places_shown options)
+      (cells_after setup (steps log)) shown
+  shows-so log on shown stands shows =
+      let cells = cells_after setup (steps log) in
+      let legend = described on.exporter in
+      let by : Bool → Naming → Dialect → ℕ → Type 0 =
+      λ tells naming dialect front. IsShown tells (record { labels = dialect.labels; counts = on.counts; last = on.last }) naming legend
+      (kept_places dialect.places front) cells shown in
+      subst (λ front. by options.tells_self options.naming options.dialect front) stands.6
+      (subst (λ dialect. by options.tells_self options.naming dialect on.front) stands.3
+      (subst (λ naming. by options.tells_self naming on.dialect on.front) stands.1
+      (subst (λ tells. by tells on.naming on.dialect on.front) stands.9 shows)))
 
   exposition : (log : Log) (on : Served) (has_file : Bool) (shown text : List ℕ) (files : List (List ℕ)) → Stands log on
       → has_file ≡ options.has_file → Shows setup log on shown → text ≡ scrape_text has_file shown → HandsOut has_file shown true files
-      → PrintsExposition options (done_on log on) files text
+      → PrintsExposition options (done_on log on) files shown text
   exposition log on has_file shown text files stands is shows t out = (
-    shown,
-    subst (λ n. IsDescribed n (described on.exporter) (cells_after setup (steps log)) shown) stands.1 shows,
+    shows-so log on shown stands shows,
     t ∙ ap (λ b. scrape_text b shown) is,
     subst (λ b. HandsOut b shown true files) is out,
   )
@@ -161,27 +212,52 @@ module _ (options : Options) (cut : Bool) where
 
   keeps-stands : (log : Log) (old new : Served) → Stands log old → KeepsRest old new → (calls : Log)
       → IsAfter setup calls new.exporter → Stands calls new
-  keeps-stands log old new (was, named, filed, labelled, ended_so, ruled) (naming, file, bad, labels, ends, rules, timer) calls after =
-      (after, naming ∙ named, file ∙ filed, labels ∙ labelled, ends ∙ ended_so, ap ruled_name rules ∙ ruled)
+  keeps-stands log old new (was, named, filed, labelled, ended_so, ruled, fronted, limit, strictly, told_so)
+      (naming, file, strict, dialect, ends, rules, timer, front, most, tells) calls after = (
+        after,
+        naming ∙ named,
+        file ∙ filed,
+        dialect ∙ labelled,
+        ends ∙ ended_so,
+        ap ruled_name rules ∙ ruled,
+        front ∙ fronted,
+        most ∙ limit,
+        strict ∙ strictly,
+        tells ∙ told_so,
+      )
 
   printed : (log : Log) (old new : Served) (request : Request) (made : Log) (asked : Asked) (text : List ℕ) → Stands log old
       → KeepsRest old new → IsAfter setup (log ++ made) new.exporter → (new.has_failed ≡ true → ⊥)
       → IsPlain setup log old request made new asked text → Printed log old request new asked text
-  printed log old new (Change key by) made asked text stands keeps after fine (told, none, inl (is, t, free, changed, failed)) =
-      let calls = log ++ updates key by (Ok tt) ∷ [] in (
+  printed log old new (Change key by) made asked text stands keeps after fine (told, none, at, inl (is, t, free, changed, failed, bad, within, counted)) =
+      let calls = log ++ updates_in (unit_told (described old.exporter) key by) key by (Ok tt) ∷ [] in (
         calls,
         keeps-stands log old new stands keeps calls (subst (λ m. IsAfter setup (log ++ m) new.exporter) is after),
-        (none, free, t, done-same calls (done_on log old) new true told changed (λ i. if cut then true else keeps.2 i) keeps.6),
+        (none, free, t, subst (λ m. IsWithin m (cells_after setup (steps log)) (series_of key by)) stands.7 within, done-same calls (done_on log old) new true (done_on log old).has_bad old.last told changed (λ i. if cut then true else bad i) keeps.6 counted at),
       )
-  printed log old new (Change key by) made asked text stands keeps after fine (told, none, inr (is, t, full, changed, failed)) =
+  printed log old new (Change key by) made asked text stands keeps after fine (told, none, at, inr (inl (is, t, full, changed, failed, bad, counted))) =
       absurd (fine failed)
-  printed log old new (Describe kind name unit note) made asked text stands keeps after fine (told, none, is, t, changed, failed) = (
+  printed log old new (Change key by) made asked text stands keeps after fine (told, none, at, inr (inr (is, t, beyond, changed, failed, bad, counted))) =
+      absurd (fine failed)
+  printed log old new (Describe kind name unit note) made asked text stands keeps after fine (told, none, is, t, changed, failed, bad, at, counted) = (
     log,
     keeps-stands log old new stands keeps log (subst (λ l. IsAfter setup l new.exporter) (ap (λ m. log ++ m) is ∙ append-nil log) after),
-    (none, t, λ i. record { calls = log; legend = λ k n. told k n i; is_changed = changed i; has_bad = (if cut then true else keeps.2 i); timer = keeps.6 i }),
+    (
+      none,
+      t,
+      λ i. record {
+        calls = log;
+        legend = λ k n. told k n i;
+        is_changed = changed i;
+        has_bad = (if cut then true else bad i);
+        timer = keeps.6 i;
+        counts = counted i;
+        last = at i;
+      },
+    ),
   )
   printed log old new (Scrape moment) made asked text stands keeps after fine
-      (told, (now, at, checks, n, shown, true, is, ran, shows, t, out, changed, failed)) =
+      (told, (now, at, checks, n, shown, true, is, ran, shows, t, out, changed, failed, bad, last, counted)) =
       let calls = log ++ expires now checks (Ok n) ∷ [] in
       let now_stands : Stands calls new =
       keeps-stands log old new stands keeps calls (subst (λ m. IsAfter setup (log ++ m) new.exporter) is after) in (
@@ -192,14 +268,17 @@ module _ (options : Options) (cut : Bool) where
           at,
           checks,
           n,
+          shown,
           ran,
-          done-same calls (done_on log old) new false told changed (λ i. if cut then true else keeps.2 i) keeps.6,
+          done-same calls (done_on log old) new false (noted options.is_strict (leaves_out shown) (done_on log old).has_bad) (Some now) told changed
+              (ap (λ b. if cut then true else b) bad ∙ noted-cut old.is_strict (leaves_out shown) old.has_bad
+              ∙ ap (λ s. noted s (leaves_out shown) (done_on log old).has_bad) stands.8) keeps.6 counted last,
           exposition calls new old.has_file shown text asked.files now_stands stands.2
               (subst (λ m. Shows setup (log ++ m) new shown) is shows) t out,
         ),
       )
   printed log old new (Scrape moment) made asked text stands keeps after fine
-      (told, (now, at, checks, n, shown, false, is, ran, shows, t, out, changed, failed)) = absurd (fine failed)
+      (told, (now, at, checks, n, shown, false, is, ran, shows, t, out, changed, failed, bad, last, counted)) = absurd (fine failed)
   printed log old new Nothing made asked text stands keeps after fine (same, none, is, t) = (
     log,
     keeps-stands log old new stands keeps log (subst (λ l. IsAfter setup l new.exporter) (ap (λ m. log ++ m) is ∙ append-nil log) after),
@@ -243,7 +322,7 @@ module _ (options : Options) (cut : Bool) where
 
   -- ---- lines
 
-  -- nothing but whether a line was bad changes before a line's request
+  -- nothing but what was counted and whether a line was bad changes before a line's request
   taken-stays : (log : Log) (old : Served) (line : List ℕ) (request : Request) (taken : Served)
       → Takes options.skips_bad old line request taken → IsAfter setup log old.exporter
       → IsAfter setup log taken.exporter × (old.has_failed ≡ true → taken.has_failed ≡ true)
@@ -264,12 +343,20 @@ module _ (options : Options) (cut : Bool) where
       → Stands log taken × TakesLine options (done_on log old) line request (done_on log taken)
   taken-stands log old line request taken (inl (spells, is)) stands = (
     subst (Stands log) (sym is) stands,
-    inl (subst (λ new. Requests options.labels new line request) stands.5 (subst (λ ls. Requests ls (ruled_name old.rules) line request) stands.3 spells), ap (done_on log) is),
+    inl (
+      subst (λ new. Requests options.dialect new line request) stands.5 (subst (λ ds. Requests ds (ruled_name old.rules) line request) stands.3 spells),
+      ap (done_on log) is
+          ∙ (λ i. record (done_on log old) { counts = with_line old.counts; has_bad = noted-cut old.is_strict (respells old.front request) old.has_bad i })
+          ∙ (λ i. record (done_on log old) {
+            counts = with_line old.counts;
+            has_bad = noted (stands.8 i) (respells (stands.6 i) request) (done_on log old).has_bad;
+          }),
+    ),
   )
   taken-stands log old line request taken (inr (skips, bad, none, is)) stands =
-      let noted : done_on log taken ≡ record (done_on log old) { has_bad = true } =
-      ap (done_on log) is ∙ (λ i. record (done_on log old) { has_bad = or-true cut i }) in
-      (subst (Stands log) (sym is) stands, inr (skips, bad, none, noted))
+      let noted : done_on log taken ≡ record (done_on log old) { counts = with_bad_line old.counts; has_bad = true } =
+      ap (done_on log) is ∙ (λ i. record (done_on log old) { counts = with_bad_line old.counts; has_bad = or-true cut i }) in
+      (subst (Stands log) (sym is) stands, inr (skips, subst (λ ds. IsBad ds line) stands.3 bad, none, noted))
 
   -- a line asked and printed this, and what is served is after some calls
   abbrev Line_printed : Log → Served → List ℕ → Asked → List ℕ → Served → Type 0
@@ -320,108 +407,129 @@ module _ (options : Options) (cut : Bool) where
 
   end-failed : (calls : Log) (old new : Served) (asked : Asked) (last : List ℕ) → IsAfter setup calls old.exporter
       → IsEnd old new asked last → old.has_failed ≡ true → new.has_failed ≡ true
-  end-failed calls old new asked last after (clock, inr (kept, none, failed, empty)) f = failed ∙ f
+  end-failed calls old new asked last after (clock, inr (kept, none, failed, bad, empty)) f = failed ∙ f
   end-failed calls old new asked last after (clock, inl (changed, ends)) f = shown_so (ends setup calls after)
     where
       shown_so : ((shown : List ℕ) × (done : Bool) × Shows setup calls old shown × (last ≡ scrape_text old.has_file shown)
-          × HandsOut old.has_file shown done asked.files × (new.has_failed ≡ (if done then old.has_failed else true)))
-          ⊎ ((last ≡ fault_text old.has_file error.Memory) × (new.has_failed ≡ true) × HoldsSome (cells_after setup (steps calls)))
+          × HandsOut old.has_file shown done asked.files × (new.has_failed ≡ (if done then old.has_failed else true))
+          × (new.has_bad ≡ noted old.is_strict (leaves_out shown) old.has_bad))
+          ⊎ ((last ≡ fault_text old.has_file error.Memory) × (new.has_failed ≡ true) × (new.has_bad ≡ old.has_bad)
+          × UnlessTold old.tells_self (HoldsSome (cells_after setup (steps calls))))
           → new.has_failed ≡ true
-      shown_so (inl (shown, true, shows, t, out, failed)) = failed ∙ f
-      shown_so (inl (shown, false, shows, t, out, failed)) = failed
-      shown_so (inr (want, failed, held)) = failed
+      shown_so (inl (shown, true, shows, t, out, failed, bad)) = failed ∙ f
+      shown_so (inl (shown, false, shows, t, out, failed, bad)) = failed
+      shown_so (inr (want, failed, bad, held)) = failed
 
   at-end : (calls : Log) (old new : Served) (asked : Asked) (last : List ℕ) (s : ℕ) → Stands calls old → (new.has_failed ≡ true → ⊥)
-      → IsEnd old new asked last → s ≡ (if (if cut then true else old.has_bad) then 3 else 0) → Goes calls old [] asked last s
-  at-end calls old new asked last s stands fine (clock, inr (kept, none, failed, empty)) st =
-      ((clock, inr (sym (ap (λ b. shows_at_end b old.is_changed) stands.4) ∙ kept, none, empty)), st)
-  at-end calls old new asked last s stands fine (clock, inl (changed, ends)) st = shown_so (ends setup calls stands.0)
+      → (bad : Bool) → bad ≡ (if cut then true else old.has_bad) → IsEnd (record old { has_bad = bad }) new asked last
+      → s ≡ (if new.has_bad then 3 else 0) → Goes calls old [] asked last s
+  at-end calls old new asked last s stands fine bad is (clock, inr (kept, none, failed, same, empty)) st =
+      (new.has_bad, (clock, inr (sym (ap (λ b. shows_at_end b old.is_changed) stands.4) ∙ kept, none, empty, same ∙ is)), st)
+  at-end calls old new asked last s stands fine bad is (clock, inl (changed, ends)) st = shown_so (ends setup calls stands.0)
     where
       shown_so : ((shown : List ℕ) × (done : Bool) × Shows setup calls old shown × (last ≡ scrape_text old.has_file shown)
-          × HandsOut old.has_file shown done asked.files × (new.has_failed ≡ (if done then old.has_failed else true)))
-          ⊎ ((last ≡ fault_text old.has_file error.Memory) × (new.has_failed ≡ true) × HoldsSome (cells_after setup (steps calls)))
+          × HandsOut old.has_file shown done asked.files × (new.has_failed ≡ (if done then old.has_failed else true))
+          × (new.has_bad ≡ noted old.is_strict (leaves_out shown) bad))
+          ⊎ ((last ≡ fault_text old.has_file error.Memory) × (new.has_failed ≡ true) × (new.has_bad ≡ bad)
+          × UnlessTold old.tells_self (HoldsSome (cells_after setup (steps calls))))
           → Goes calls old [] asked last s
-      shown_so (inl (shown, true, shows, t, out, failed)) = (
+      shown_so (inl (shown, true, shows, t, out, failed, worse)) = (
+        new.has_bad,
         (
           clock,
-          inl (sym (ap (λ b. shows_at_end b old.is_changed) stands.4) ∙ changed, exposition calls old old.has_file shown last asked.files stands stands.2 shows t out),
+          inl (
+            sym (ap (λ b. shows_at_end b old.is_changed) stands.4) ∙ changed,
+            (
+              shown,
+              exposition calls old old.has_file shown last asked.files stands stands.2 shows t out,
+              worse ∙ (λ i. noted (stands.8 i) (leaves_out shown) (is i)),
+            ),
+          ),
         ),
         st,
       )
-      shown_so (inl (shown, false, shows, t, out, failed)) = absurd (fine failed)
-      shown_so (inr (want, failed, held)) = absurd (fine failed)
+      shown_so (inl (shown, false, shows, t, out, failed, worse)) = absurd (fine failed)
+      shown_so (inr (want, failed, worse, held)) = absurd (fine failed)
 
-  module _ (at_end : Type 0) (bytes front half left : List ℕ) (ends : at_end → left ≡ []) (whole : bytes ≡ (front ++ half) ++ left)
+  module _ (log : Log) (at_end : Type 0) (bytes front half left : List ℕ) (ends : at_end → left ≡ []) (whole : bytes ≡ (front ++ half) ++ left)
       (is_cut : cut ≡ loses_line options.accepts_partial bytes) (start served new : Served) (before after : Asked) (lines last text : List ℕ) (status : ℕ) (prints : text ≡ lines ++ last)
-      (stands : Stands [] start) where
+      (stands : Stands log start) where
     -- what a run over the lines wrote, if they are these and then others
     over : (es : Dialogue) (rest : List (List ℕ)) → lines_in options.accepts_partial bytes ≡ lines_said es ++ rest → lines ≡ texts_in es
         → (notes : Unit {0}) → AreAnswered (answers_since options.skips_bad) ((start, nothing_asked), tt) es ((served, before), notes)
         → (served.has_failed ≡ true → ⊥) → ((calls : Log) → Stands calls served → Goes calls served rest after last status)
-        → Goes [] start (lines_in options.accepts_partial bytes) (then_asked before after) text status
+        → Goes log start (lines_in options.accepts_partial bytes) (then_asked before after) text status
     over es rest are is notes h fine goes =
         let whole_text : text ≡ texts_in es ++ last = prints ∙ ap (λ z. z ++ last) is in
-        let (asked, total, more) = dialogue [] ((start, nothing_asked), tt) ((served, before), notes) es rest after last status stands h fine goes in
-        subst (λ z. PrintLines options (done_on [] start) z (then_asked before after) text status) (sym are)
-        (subst (λ z. PrintLines options (done_on [] start) (lines_said es ++ rest) (then_asked before after) z status) (sym whole_text)
-        (subst (λ z. PrintLines options (done_on [] start) (lines_said es ++ rest) (then_asked z after) (texts_in es ++ last) status) (sym total) more))
+        let (asked, total, more) = dialogue log ((start, nothing_asked), tt) ((served, before), notes) es rest after last status stands h fine goes in
+        subst (λ z. PrintLines options (done_on log start) z (then_asked before after) text status) (sym are)
+        (subst (λ z. PrintLines options (done_on log start) (lines_said es ++ rest) (then_asked before after) z status) (sym whole_text)
+        (subst (λ z. PrintLines options (done_on log start) (lines_said es ++ rest) (then_asked z after) (texts_in es ++ last) status) (sym total) more))
 
     ended_so : (q r : Result ℕ RunError) → (new.has_failed ≡ true → ⊥) → status ≡ own_status r new.has_bad → status ≢ 1
-        → IsRun (answers_since options.skips_bad) (Stops options.skips_bad) at_end 1 ((start, nothing_asked), tt) (served, before) front lines q
-        → EndsLines served new after last q r → IsLeft options.accepts_partial front half q → OnOk q (new.has_bad ≡ or_left half served.has_bad)
-        → Goes [] start (lines_in options.accepts_partial bytes) (then_asked before after) text status
-    ended_so (Ok n) (Ok m) fine st ok (es, end, are, (notes, h), is, count) (shows, same) is_left skipped =
+        → IsRun (answers_since options.skips_bad) (λ on. Stops options.skips_bad on.0) at_end 1 ((start, nothing_asked), tt) (served, before) front lines q
+        → EndsLines (left_noted q half served) new after last q r → IsLeft options.accepts_partial front half q
+        → Goes log start (lines_in options.accepts_partial bytes) (then_asked before after) text status
+    ended_so (Ok n) (Ok m) fine st ok (es, end, are, (notes, h), is, count) (shows, same) is_left =
         let all = whole ∙ ap (λ z. (front ++ half) ++ z) (ends end) ∙ append-nil (front ++ half) in
-        let bad : new.has_bad ≡ (if cut then true else served.has_bad) =
-        skipped ∙ half-taken options.accepts_partial bytes front half n served.has_bad all is_left ∙ sym (ap (λ b. if b then true else served.has_bad) is_cut) in
-        let ((calls, stood), failed) = stays [] ((start, nothing_asked), tt) ((served, before), notes) es stands.0 h in
+        let bad : or_left half served.has_bad ≡ (if cut then true else served.has_bad) =
+        half-taken options.accepts_partial bytes front half n served.has_bad all is_left ∙ sym (ap (λ b. if b then true else served.has_bad) is_cut) in
+        let ((calls, stood), failed) = stays log ((start, nothing_asked), tt) ((served, before), notes) es stands.0 h in
         over es [] (all-taken options.accepts_partial bytes front half n all is_left ∙ are ∙ sym (append-nil (lines_said es))) is
-        notes h (λ f. fine (end-failed calls served new after last stood shows f))
-        (λ calls now. at-end calls served new after last status now fine shows (st ∙ ap (λ b. if b then 3 else 0) bad))
-    ended_so (Ok n) (Err (BadLine k)) fine st ok run none is_left skipped = absurd none
-    ended_so (Ok n) (Err (Memory at)) fine st ok run ending is_left skipped = absurd (ok st)
-    ended_so (Ok n) (Err Device) fine st ok run ending is_left skipped = absurd (ok st)
-    ended_so (Err (BadLine k)) r fine st ok (es, line, first, are, (stops, bad), (notes, h), is, count) (none, nothing, kept, same) is_left skipped =
+        notes h (λ f. fine (end-failed calls (record served { has_bad = or_left half served.has_bad }) new after last stood shows f))
+        (λ calls now. at-end calls served new after last status now fine (or_left half served.has_bad) bad shows st)
+    ended_so (Ok n) (Err (BadLine k)) fine st ok run none is_left = absurd none
+    ended_so (Ok n) (Err (Memory at)) fine st ok run ending is_left = absurd (ok st)
+    ended_so (Ok n) (Err Device) fine st ok run ending is_left = absurd (ok st)
+    ended_so (Err (BadLine k)) r fine st ok (es, line, first, are, (stops, bad), (notes, h), is, count) (none, nothing, kept, same) is_left =
         let bad_status : status ≡ 2 = st ∙ ap (λ x. own_status x new.has_bad) same in
         let (more, all) = first-taken options.accepts_partial at_end bytes front half left (lines_said es) line k ends whole is_left first are in
-        over es (line ∷ more) all is notes h (λ f. fine (kept ∙ f)) (λ calls now. inr (stops, bad, nothing, none, bad_status))
-    ended_so (Err (Memory at)) r fine st ok run (none, nothing, kept, same) is_left skipped =
+        over es (line ∷ more) all is notes h (λ f. fine (kept ∙ f)) (λ calls now. inr (stops, subst (λ ds. IsBad ds line) now.3 bad, nothing, none, bad_status))
+    ended_so (Err (Memory at)) r fine st ok run (none, nothing, kept, same) is_left =
         absurd (ok (st ∙ ap (λ x. own_status x new.has_bad) same))
-    ended_so (Err Device) r fine st ok run (none, nothing, kept, same) is_left skipped =
+    ended_so (Err Device) r fine st ok run (none, nothing, kept, same) is_left =
         absurd (ok (st ∙ ap (λ x. own_status x new.has_bad) same))
 
-  fresh : (start : Served) → IsFresh options start → done_on [] start ≡ begun cut start.timer
-  fresh start (after, told, naming, file, changed, bad, labels, ends, failed, named) =
+  fresh : (begin : Start) (start : Served) → IsFresh options begin start → done_on begin.calls start ≡ begun begin cut start.timer
+  fresh begin start (after, told, naming, file, changed, bad, dialect, ends, failed, front, most, strict, counted, last, tells, named) =
       let none : (if cut then true else start.has_bad) ≡ cut = ap (λ b. if cut then true else b) bad ∙ or-false cut in
-      λ i. record { calls = []; legend = λ kind name. told kind name i; is_changed = changed i; has_bad = none i; timer = start.timer }
+      λ i. record {
+        calls = begin.calls;
+        legend = λ kind name. told kind name i;
+        is_changed = changed i;
+        has_bad = none i;
+        timer = start.timer;
+        counts = counted i;
+        last = last i;
+      }
 
   -- what was asked since nothing was
   since_nothing : (asked all : Asked) → Asks (Some nothing_asked) (Some asked) all → asked ≡ all
   since_nothing asked all e = cc
 
   -- as the output of the options, if a last line is not counted or is
-  abbrev Cut : List ℕ → Asked → List ℕ → ℕ → Type 0
-  Cut bytes asked text status = (first later : Asked) × (timer : Option Timer) × Starts options.every first timer
-      × PrintLines options (begun cut timer) (lines_in options.accepts_partial bytes) later text status × (asked ≡ then_asked first later)
+  abbrev Cut : Start → List ℕ → Asked → List ℕ → ℕ → Type 0
+  Cut begin bytes asked text status = (first later : Asked) × (timer : Option Timer) × Starts options.every first timer
+      × PrintLines options (begun begin cut timer) (lines_in options.accepts_partial bytes) later text status × (asked ≡ then_asked first later)
 
-  output-cut : (bytes text : List ℕ) (asked : Asked) (status : ℕ) → cut ≡ loses_line options.accepts_partial bytes
-      → Runs options bytes asked text status → status ≢ 1 → Cut bytes asked text status
-  output-cut bytes text asked status is_cut (None, (read, wrote, all, took, writes, asks, serves)) ok = absurd took
-  output-cut bytes text asked status is_cut (Some left, (read, wrote, all, took, writes, asks, inr (nothing, none, nor, one))) ok =
+  output-cut : (begin : Start) (bytes text : List ℕ) (asked : Asked) (status : ℕ) → cut ≡ loses_line options.accepts_partial bytes
+      → Runs options begin bytes asked text status → status ≢ 1 → Cut begin bytes asked text status
+  output-cut begin bytes text asked status is_cut (None, (read, wrote, all, took, writes, asks, serves)) ok = absurd took
+  output-cut begin bytes text asked status is_cut (Some left, (read, wrote, all, took, writes, asks, inr (nothing, none, nor, one))) ok =
       absurd (ok one)
-  output-cut bytes text asked status is_cut
-      (Some left, (read, wrote, all, took, writes, asks, inl (start, end, first, later, r, is_fresh, starts, (served, lines, last, before, after, q, front, half, parts, is_left, run, ends, prints, asked_so, skipped), st, total))) ok =
-      let (stood, told, naming, file, changed, bad, labels, ending, failed, named) = is_fresh in
+  output-cut begin bytes text asked status is_cut
+      (Some left, (read, wrote, all, took, writes, asks, inl (start, end, first, later, r, is_fresh, starts, (served, lines, last, before, after, q, front, half, parts, is_left, run, ends, prints, asked_so), st, total))) ok =
+      let (stood, told, naming, file, changed, bad, dialect, ending, failed, fronted, most, strict, counted, at, tells, named) = is_fresh in
       let fine : (end.has_failed ≡ true → ⊥) = λ f. ok (st ∙ ap (λ b. if b then 1 else own_status r end.has_bad) f) in
       let own : status ≡ own_status r end.has_bad =
       st ∙ ap (λ b. if b then 1 else own_status r end.has_bad) (is-false end.has_failed fine) in
-      let goes = ended_so (left ≡ []) bytes front half left (λ e. e) (took ∙ ap (λ z. z ++ left) parts) is_cut start served end before after lines last text status (writes ∙ prints)
-      (stood, naming, file, labels, ending, λ i kind name. named kind name i) q r fine own ok run ends is_left skipped in
-      let printed = subst (λ a. PrintLines options (begun cut start.timer) (lines_in options.accepts_partial bytes) a text status) (sym asked_so)
-      (subst (λ d. PrintLines options d (lines_in options.accepts_partial bytes) (then_asked before after) text status) (fresh start is_fresh) goes) in
+      let goes = ended_so begin.calls (left ≡ []) bytes front half left (λ e. e) (took ∙ ap (λ z. z ++ left) parts) is_cut start served end before after lines last text status (writes ∙ prints)
+      (stood, naming, file, dialect, ending, (λ i kind name. named kind name i), fronted, most, strict, tells) q r fine own ok run ends is_left in
+      let printed = subst (λ a. PrintLines options (begun begin cut start.timer) (lines_in options.accepts_partial bytes) a text status) (sym asked_so)
+      (subst (λ d. PrintLines options d (lines_in options.accepts_partial bytes) (then_asked before after) text status) (fresh begin start is_fresh) goes) in
       (first, later, start.timer, starts, printed, since_nothing asked all asks ∙ total)
 
-pub run-output : (options : Options) (bytes text : List ℕ) (asked : Asked) (status : ℕ) → Runs options bytes asked text status → status ≢ 1
-    → IsOutput options bytes asked text status
-run-output options bytes text asked status runs ok =
-    output-cut options (loses_line options.accepts_partial bytes) bytes text asked status refl runs ok
+pub run-output : (options : Options) (begin : Start) (bytes text : List ℕ) (asked : Asked) (status : ℕ) → Runs options begin bytes asked text status → status ≢ 1
+    → IsOutput options begin bytes asked text status
+run-output options begin bytes text asked status runs ok =
+    output-cut options (loses_line options.accepts_partial bytes) begin bytes text asked status refl runs ok

@@ -8,7 +8,7 @@ use Rattle.tool_export.specs.Answering.{Dialogue, Leaves, IsRun, IsFlushed}
 use Rattle.tool_prometheus.specs.declared.answering.Served.{Served}
 use Rattle.tool_prometheus.specs.Asked.{Asked, nothing_asked, then_asked, Asks}
 use Rattle.tool_prometheus.specs.Exposed.{IsEnd}
-use Rattle.tool_prometheus.specs.Serving.{answers, answers_since, Stops, EndsLines, or_left}
+use Rattle.tool_prometheus.specs.Serving.{answers, answers_since, Stops, EndsLines}
 use Rattle.tool_prometheus.proofs.AskedLemmas.{then-nothing, then-assoc, asks_none, asks_then}
 
 module _ (skips : Bool) {S : Type 0} (asked_of : S → Option Asked) where
@@ -32,7 +32,7 @@ module _ (skips : Bool) {S : Type 0} (asked_of : S → Option Asked) where
   -- What a run did, and what it asked for.
   abbrev Since : Type 0 → ℕ → Served × S → Served × S → List ℕ → List ℕ → Result ℕ RunError → Type 0
   Since at_end first old new read text r = (asked : Asked) × Asks (asked_of old.1) (asked_of new.1) asked
-      × IsRun (answers_since skips) (Stops skips) at_end first ((old.0, nothing_asked), tt) (new.0, asked) read text r
+      × IsRun (answers_since skips) (λ on. Stops skips on.0) at_end first ((old.0, nothing_asked), tt) (new.0, asked) read text r
 
   abbrev Left : Served × S → Dialogue → Served × S → Type 0
   Left old es on = (asked : Asked) × Asks (asked_of old.1) (asked_of on.1) asked
@@ -43,7 +43,7 @@ module _ (skips : Bool) {S : Type 0} (asked_of : S → Option Asked) where
   leaves old n es on (m, h) = let (asked, folds, asks) = forget (old, n) es (on, m) nothing_asked h in (asked, asks, (tt, folds))
 
   pub run-of : {N : Type 0} (at_end : Type 0) (first : ℕ) (old : Served × S) (n : N) (new : Served × S) (read text : List ℕ) (r : Result ℕ RunError)
-      → IsRun (answers {Notes = N} asked_of skips) (Stops skips) at_end first (old, n) new read text r
+      → IsRun (answers {Notes = N} asked_of skips) (λ on. Stops skips on.0) at_end first (old, n) new read text r
       → Since at_end first old new read text r
   run-of at_end first old n new read text (Ok k) (es, ends, are, l, is, count) =
       let (asked, asks, h) = leaves old n es new l in (asked, asks, (es, ends, are, h, is, count))
@@ -70,9 +70,9 @@ module _ (old new : Served) (asked : Asked) (n : ℕ) where
   ends-broken whole text more r end is (inl same) = subst (EndsLines old new asked text (Ok n)) (sym same) (whole, more, end, is)
   ends-broken whole text more r end is (inr (w, same)) = absurd w
 
-  pub ends-memory : (r : Result ℕ RunError) → IsFlushed (Err (Memory None)) r → EndsLines old new asked [] (Ok n) r
-  ends-memory r (inl same) = subst (EndsLines old new asked [] (Ok n)) (sym same) (refl, refl)
-  ends-memory r (inr (w, same)) = absurd w
+  pub ends-memory : (whole : List ℕ) (r : Result ℕ RunError) → IsEnd old new asked whole → IsFlushed (Err (Memory None)) r → EndsLines old new asked [] (Ok n) r
+  ends-memory whole r end (inl same) = subst (EndsLines old new asked [] (Ok n)) (sym same) (refl, refl, (whole, end))
+  ends-memory whole r end (inr (w, same)) = absurd w
 
 -- the text of the end, where there was memory for it
 pub end-text : {E : Type 0} (r : Result (Unit {0}) E) (new old whole : List ℕ) → is_err r ≡ false → OnOk r (new ≡ old ++ whole)
@@ -84,13 +84,3 @@ end-text (Err e) new old whole h is none = absurd (let g : true ≡ false = h in
 pub flushed-memory : (r : Result ℕ RunError) → IsFlushed (Err (Memory None)) r → r ≡ Err (Memory None)
 flushed-memory r (inl is) = is
 flushed-memory r (inr (whole, is)) = absurd whole
-
--- the end shows what it does whatever was noted of a last line
-pub ends-noted : (old noted new : Served) (asked : Asked) (text : List ℕ) (n : ℕ) (r : Result ℕ RunError) (left : List ℕ)
-    → noted ≡ record old { has_bad = or_left left old.has_bad } → EndsLines noted new asked text (Ok n) r → EndsLines old new asked text (Ok n) r
-ends-noted old noted new asked text n (Ok m) left is (end, same) =
-    (subst (λ s. IsEnd s new asked text) is end, same)
-ends-noted old noted new asked text n (Err (BadLine k)) left is none = absurd none
-ends-noted old noted new asked text n (Err (Memory at)) left is end = end
-ends-noted old noted new asked text n (Err Device) left is (whole, more, end, same) =
-    (whole, more, subst (λ s. IsEnd s new asked whole) is end, same)

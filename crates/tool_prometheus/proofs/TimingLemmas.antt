@@ -3,10 +3,11 @@ use Rattle.std.proofs.Common.{if◌then◌else◌, ◌≡◌, ◌∙◌, ℕ, Bo
 use Rattle.std.proofs.Common.{Result, Ok, Err, OnOk, is_ok, append-nil, append_assoc}
 use Rattle.tool_prometheus.specs.declared.answering.Served.{Served}
 use Rattle.tool_prometheus.specs.declared.timing.Timer.{Timer}
-use Rattle.tool_prometheus.specs.declared.requests.Request.{Request}
-use Rattle.tool_prometheus.specs.declared.requests.Request.TheVariants.{Scrape}
+use Rattle.tool_requests.specs.declared.requests.Request.{Request}
+use Rattle.tool_requests.specs.declared.requests.Request.TheVariants.{Scrape}
 use Rattle.tool_prometheus.specs.Asked.{Asked, nothing_asked, then_asked, clock_gave}
-use Rattle.tool_prometheus.specs.Timing.{Timed, is_due, at_moment, restarted}
+use Rattle.tool_requests.specs.Scrapes.{at_moment}
+use Rattle.tool_prometheus.specs.Timing.{Timed, is_due, restarted}
 use Rattle.tool_prometheus.specs.Exposed.{Answers, AnswersEach, AnswersInTime}
 use Rattle.tool_prometheus.proofs.AskedLemmas.{then-nothing}
 

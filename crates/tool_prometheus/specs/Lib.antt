@@ -1,7 +1,10 @@
 pub mod Asked
-pub mod Lines
 pub mod Names
 pub mod Timing
+pub mod Limit
+pub mod Strict
+pub mod Own
+pub mod OwnRows
 pub mod Exposed
 pub mod Making
 pub mod Serving

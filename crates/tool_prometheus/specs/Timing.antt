@@ -1,31 +1,18 @@
 -- When the clock asks for a scrape.
-use Rattle.std.specs.Prelude.{if◌then◌else◌, ◌≡◌, ℕ, ◌-◌, nat_lt, nat_le, Bool, true, false, ◌||◌, List, [], ◌∷◌, Option, None, Some}
+use Rattle.std.specs.Prelude.{if◌then◌else◌, ◌≡◌, ℕ, ◌-◌, nat_lt, nat_le, Bool, false, ◌||◌, List, [], ◌∷◌, Option, None, Some}
 use Rattle.tool_prometheus.specs.declared.timing.Timer.{Timer}
-use Rattle.tool_prometheus.specs.declared.requests.Request.{Request}
-use Rattle.tool_prometheus.specs.declared.requests.Request.TheVariants.{Change, Describe, Scrape, Nothing}
+use Rattle.tool_requests.specs.declared.requests.Request.{Request}
+use Rattle.tool_requests.specs.declared.requests.Request.TheVariants.{Scrape}
+use Rattle.tool_requests.specs.Scrapes.{is_scrape, at_moment}
 use Rattle.tool_prometheus.specs.Asked.{Asked, nothing_asked, clock_gave}
 
 -- the period is over that began at the last scrape; so it is where the clock went back past that
 abbrev pub is_over : Timer → ℕ → Bool
 is_over timer now = nat_lt now timer.last || nat_le timer.period (now - timer.last)
 
-abbrev pub is_scrape : Request → Bool
-is_scrape (Change key by) = false
-is_scrape (Describe kind name unit note) = false
-is_scrape (Scrape moment) = true
-is_scrape Nothing = false
-
 -- after a line that is no scrape comes one, if the period is over
 abbrev pub is_due : Timer → ℕ → Request → Bool
 is_due timer now request = if is_scrape request then false else is_over timer now
-
--- a scrape without a moment of its own has this one
-abbrev pub at_moment : ℕ → Request → Request
-at_moment now (Change key by) = Change key by
-at_moment now (Describe kind name unit note) = Describe kind name unit note
-at_moment now (Scrape None) = Scrape (Some now)
-at_moment now (Scrape (Some moment)) = Scrape (Some moment)
-at_moment now Nothing = Nothing
 
 -- what a line asks for that comes at this moment
 abbrev pub in_time : Timer → ℕ → Request → List Request

@@ -2,19 +2,24 @@
 ghost use Rattle.std.specs.Prelude.{◌≡◌, ◌++◌, ℕ, [], List, OnOk};
 ghost use Rattle.std.specs.Prelude.{string_bytes, is_ok, true, if◌then◌else◌};
 ghost use Rattle.tool_prometheus.specs.Asked.{Asked, Asks, nothing_asked};
-ghost use Rattle.tool_prometheus.specs.Exposed.{Answers, AnswersInTime, IsExposed, HasMoment, IsEnd, HandsOut, HandsOutShown};
-ghost use Rattle.tool_prometheus.specs.Exposed.{refusal_text, scrape_text, shown_text, shows_at_end as shows_then};
+ghost use Rattle.tool_prometheus.specs.Exposed.{Answers, AnswersInTime, HasMoment, IsEnd, HandsOut, HandsOutShown};
+ghost use Rattle.tool_prometheus.specs.Own.{with_refusal};
+ghost use Rattle.tool_prometheus.specs.Exposed.{limit_text, refusal_text, scrape_text, shown_text, shows_at_end as shows_then};
 
-use crate::requests::Request;
+use crate::counts::Counts;
+use crate::limit::is_beyond;
+use crate::showing::{shown_at, text_of};
+use crate::strict::note_left_out;
 use crate::surroundings::Surroundings;
 use crate::timing::Timer;
 use crate::watching::{Call, Watch};
-use metrics::{Error, Items, Key, Label, MetricKind, Unit, Update};
+use metrics::{Error, Key, MetricKind, Unit, Update};
 use metrics_exporter::Exporter;
-use metrics_prometheus::{Naming, exposition_named};
+use metrics_prometheus::Naming;
 use metrics_rules::Rules;
 use std::alloc::{AllocError, Global};
-use tool_export::{Page, report_text, shown_at};
+use tool_export::report_text;
+use tool_requests::{Dialect, Request};
 
 /// What the lines act on.
 #[derive(Drop)]
@@ -23,8 +28,10 @@ pub struct Served {
     pub exporter: Exporter,
     /// The names and units that series are shown with.
     pub naming: Naming,
-    /// Labels of each series beside its own.
-    pub labels: Items<Label>,
+    /// How lines are read.
+    pub dialect: Dialect,
+    /// How many bytes each name that is kept has before that of its line.
+    pub front: usize,
     /// The names that series get, if they don't stay as they are.
     pub rules: Option<Rules>,
     /// Scrapes go to a file, and not to the output.
@@ -33,9 +40,19 @@ pub struct Served {
     pub at_scrapes_only: bool,
     /// Scrapes by the clock, if there are such.
     pub timer: Option<Timer>,
+    /// The most series that are held, if there is a limit.
+    pub max_series: Option<u64>,
+    /// What the text doesn't have as it was given counts as bad.
+    pub is_strict: bool,
+    /// Texts have the series about the program itself.
+    pub tells_self: bool,
+    /// What was counted so far.
+    pub counts: Counts,
+    /// The moment of the last scrape, also of one that was refused.
+    pub last: Option<u64>,
     /// Something changed since the last scrape that succeeded.
     pub is_changed: bool,
-    /// A bad line was skipped.
+    /// A bad line was skipped; or, in a strict run, a text had a name or a label otherwise than its line, or left a series out.
     pub has_bad: bool,
     /// A call was refused, or a scrape could not be put into the file.
     pub has_failed: bool,
@@ -49,13 +66,17 @@ fn write_refusal(
     answered: Result<(), Error>,
     text: &mut String,
 ) -> Result<(), AllocError>
-    ensures noted { on.new ≡ record on.old { has_failed = (if is_ok answered then on.old.has_failed else true) } }
+    ensures noted { on.new ≡ record on.old {
+      counts = (if is_ok answered then on.old.counts else with_refusal on.old.counts);
+      has_failed = (if is_ok answered then on.old.has_failed else true);
+    } }
     ensures text { OnOk result (string_bytes text.new ≡ string_bytes text.old ++ refusal_text on.old.has_file answered) }
 {
     match answered {
         Ok(()) => Ok(()),
         Err(e) => {
             on.has_failed = true;
+            on.counts = on.counts.with_refusal();
             watch.refuse(call);
             if on.has_file {
                 return Ok(());
@@ -65,7 +86,21 @@ fn write_refusal(
     }
 }
 
-/// Updates a series, and appends the report of a failure.
+/// Notes that there would be too many series, and appends a comment that reports it, unless the output has no texts.
+fn write_limit(on: &mut Served, watch: &mut Watch, text: &mut String) -> Result<(), AllocError>
+    ensures noted { on.new ≡ record on.old { counts = with_refusal on.old.counts; has_failed = true } }
+    ensures text { OnOk result (string_bytes text.new ≡ string_bytes text.old ++ limit_text on.old.has_file) }
+{
+    on.has_failed = true;
+    on.counts = on.counts.with_refusal();
+    watch.refuse(Call::Update);
+    if on.has_file {
+        return Ok(());
+    }
+    text.push_str("# refused too many series\n")
+}
+
+/// Updates a series, unless that would make one too many, and appends the report of a failure.
 fn answer_change(
     on: &mut Served,
     watch: &mut Watch,
@@ -76,7 +111,10 @@ fn answer_change(
     ensures { (whole : List ℕ) × Answers on.old on.new (Request.Change key.now by) nothing_asked whole
         × OnOk result (string_bytes text.new ≡ string_bytes text.old ++ whole) }
 {
-    let answered = on.exporter.update(key, by);
+    if is_beyond(&on.exporter, on.max_series, key, by) {
+        return write_limit(on, watch, text);
+    }
+    let answered = on.exporter.update_described(key, by);
     on.is_changed = answered.is_ok() | on.is_changed;
     write_refusal(on, watch, Call::Update, answered, text)
 }
@@ -99,30 +137,20 @@ fn answer_describe(
     write_refusal(on, watch, Call::Description, answered, text)
 }
 
-/// The page for Prometheus.
-#[derive(Drop)]
-struct Exposition {
-    alloc: Global,
-    naming: Naming,
-}
-
-impl Page for Exposition {
-    ghost shows = { λ page on cells text. IsExposed page.naming on cells text };
-
-    fn text(&self, on: &Exporter) -> Result<String, Error> {
-        exposition_named(on, self.alloc, self.naming)
-    }
-}
-
-/// Puts a text into the file, if there is one. Returns whether that succeeded.
-fn hand_out<S: Surroundings>(around: &mut S, has_file: bool, shown: &str) -> bool
+/// Keeps what is held, and puts a text into the file, if there is one. Returns whether both succeeded; if the first doesn't,
+/// the file stays.
+#[tactic(auto, using(crate::proofs::AskedLemmas::asks_none, crate::proofs::AskedLemmas::asks_later))]
+fn hand_out<S: Surroundings>(around: &mut S, on: &Exporter, has_file: bool, shown: &str) -> bool
     ensures { (files : List (List ℕ)) × HandsOut has_file shown.now result files
         × Asks (S.asked around.old) (S.asked around.new) (record { clock = []; files = files }) }
 {
-    if has_file {
-        return around.publish(shown);
+    if !has_file {
+        return true;
     }
-    true
+    if !around.keep(on) {
+        return false;
+    }
+    around.publish(shown)
 }
 
 /// Hands out what a scrape shows: into the file, or as text with an empty line. Or appends the report of a failure.
@@ -142,7 +170,8 @@ fn hand_out_shown<S: Surroundings>(
         Ok(shown) => {
             on.is_changed = false;
             watch.tell_left_out(around, shown.as_str());
-            if !hand_out(around, on.has_file, shown.as_str()) {
+            note_left_out(on, shown.as_str());
+            if !hand_out(around, &on.exporter, on.has_file, shown.as_str()) {
                 on.has_failed = true;
             }
             write_shown(on.has_file, shown.as_str(), text)
@@ -177,8 +206,7 @@ fn answer_scrape<S: Surroundings>(
 {
     watch.tell_bad(around);
     let now = moment_of(around, moment);
-    let naming = on.naming;
-    let shown = shown_at(&Exposition { alloc, naming }, &mut on.exporter, now);
+    let shown = shown_at(alloc, on, now);
     hand_out_shown(on, around, watch, shown, text)
 }
 
@@ -275,14 +303,12 @@ pub fn answer_end<S: Surroundings>(
     watch: &mut Watch,
     text: &mut String,
 ) -> Result<(), AllocError>
-    ensures shows { (more : Asked) × (whole : List ℕ) × IsEnd on.old on.new more whole
+    ensures { (more : Asked) × (whole : List ℕ) × IsEnd on.old on.new more whole
         × Asks (S.asked around.old) (S.asked around.new) more
         × OnOk result (string_bytes text.new ≡ string_bytes text.old ++ whole) }
-    ensures kept { on.new.has_bad ≡ on.old.has_bad }
 {
     if shows_at_end(on) {
-        let naming = on.naming;
-        let shown = Exposition { alloc, naming }.text(&on.exporter);
+        let shown = text_of(alloc, on);
         hand_out_shown(on, around, watch, shown, text)
     } else {
         Ok(())

@@ -1,21 +1,21 @@
 //! The whole program, for a parsed command line.
 ghost use Rattle.std.specs.Prelude.{◌≡◌, ℕ, List, [], OnSome};
 ghost use Rattle.std.specs.Io.KnownBytes.{Consumes, Appends, IsAtEnd};
-ghost use Rattle.metrics_exporter.specs.Kept.{IsAfter, described};
-ghost use Rattle.metrics_exporter.specs.Describing.{SameLegend, no_legend};
 ghost use Rattle.tool_prometheus.specs.Asked.{Asked, Asks, nothing_asked};
 ghost use Rattle.metrics_names.specs.declared.kind.MetricKind.{MetricKind as Kind};
-ghost use Rattle.tool_prometheus.specs.Making.{setup_for};
-ghost use Rattle.tool_prometheus.specs.Names.{ruled_name, name_by};
-ghost use Rattle.tool_prometheus.specs.Serving.{Ends, IsStatus, IsPrometheusRun};
+ghost use Rattle.tool_requests.specs.Names.{ruled_name};
+ghost use Rattle.tool_prometheus.specs.Names.{name_by};
+ghost use Rattle.tool_prometheus.specs.Serving.{Begins, Ends, new_start, Start, IsStatus, IsPrometheusRun};
 
 use crate::answering::Served;
-use crate::making::{PrefixBounds, parts_for};
+use crate::counts::Counts;
+use crate::making::{PrefixBounds, UnitBounds, exporter_for};
+use crate::names::rules_for;
 use crate::serving::prometheus;
 use crate::surroundings::Surroundings;
 use crate::timing::started;
 use crate::watching::Watch;
-use metrics::{Items, Label, Text};
+use metrics::{Items, Text};
 use metrics_exporter::Exporter;
 use metrics_prometheus::Naming;
 use metrics_rules::Rules;
@@ -23,6 +23,7 @@ use std::alloc::Global;
 use std::io::{BufRead, Write};
 use tool_export::{ExportPlan, flush, status_of};
 use tool_grammar::RunError;
+use tool_requests::{Dialect, front_of};
 
 /// What the command line asks for.
 #[derive(Drop)]
@@ -31,10 +32,12 @@ pub struct Options {
     pub plan: ExportPlan,
     /// Bounds in place of the plan's, by prefixes of names.
     pub prefixes: Items<PrefixBounds>,
+    /// Bounds in place of the plan's, by the units of names, where no prefix has others.
+    pub units: Items<UnitBounds>,
     /// The names and units that series are shown with.
     pub naming: Naming,
-    /// Labels of each series beside its own, which win.
-    pub labels: Items<Label>,
+    /// How lines are read.
+    pub dialect: Dialect,
     /// What each name gets before it, with a dot between.
     pub prefix: Option<Text>,
     /// A name in which one of these occurs is dropped.
@@ -47,8 +50,14 @@ pub struct Options {
     pub at_scrapes_only: bool,
     /// A scrape follows a line that comes so many seconds after the last scrape.
     pub every: Option<u64>,
+    /// The most series that are held.
+    pub max_series: Option<u64>,
+    /// What the text doesn't have as it was given counts as bad.
+    pub is_strict: bool,
     /// A last line without a line feed counts too.
     pub accepts_partial: bool,
+    /// Texts have the series about the program itself.
+    pub tells_self: bool,
 }
 
 /// Reports why a run stopped, and returns the status at its end.
@@ -95,7 +104,7 @@ fn serve<S: Surroundings, I: BufRead, O: Write>(
     }
 }
 
-/// Answers each line of the reader, on a new exporter of the plan.
+/// Answers each line of the reader, on an exporter of the plan.
 fn serve_new<S: Surroundings, I: BufRead, O: Write>(
     alloc: Global,
     options: Options,
@@ -106,22 +115,25 @@ fn serve_new<S: Surroundings, I: BufRead, O: Write>(
     input: &mut I,
     output: &mut O,
 ) -> (u8, S)
-    requires after { IsAfter (setup_for options) [] exporter }
-    requires undescribed { SameLegend (described exporter) no_legend }
     requires named { (kind : Kind) (name : List ℕ) → ruled_name rules kind name ≡ name_by options kind name }
-    ensures { Ends options (OnSome (I.remaining input.old) (IsAtEnd (I.remaining input.new)))
+    ensures { (start : Start) → Begins options start exporter
+        → Ends options start (OnSome (I.remaining input.old) (IsAtEnd (I.remaining input.new)))
         (Consumes (I.remaining input.old) (I.remaining input.new))
         (Appends (O.contents output.old) (O.contents output.new))
         (Asks (S.asked around) (S.asked result.1)) result.0 }
 {
     let Options {
         naming,
-        labels,
+        dialect,
+        prefix,
         skips_bad,
         has_file,
         at_scrapes_only,
         every,
+        max_series,
+        is_strict,
         accepts_partial,
+        tells_self,
         ..
     } = options;
     let mut around = around;
@@ -129,11 +141,17 @@ fn serve_new<S: Surroundings, I: BufRead, O: Write>(
     let served = Served {
         exporter,
         naming,
-        labels,
+        dialect,
+        front: front_of(&prefix),
         rules,
         has_file,
         at_scrapes_only,
         timer,
+        max_series,
+        is_strict,
+        tells_self,
+        counts: Counts::new(),
+        last: None,
         is_changed: false,
         has_bad: false,
         has_failed: false,
@@ -159,11 +177,41 @@ fn serve_new<S: Surroundings, I: BufRead, O: Write>(
     (status, around)
 }
 
-/// How many bytes a name gets before it.
-fn len_before(prefix: &Option<Text>) -> usize {
-    match prefix {
-        Some(prefix) => prefix.as_str().len().saturating_add(1),
-        None => 0,
+/// Reports that memory ran out before the first line.
+fn end_before<S: Surroundings, O: Write>(alloc: Global, around: S, output: &mut O) -> (u8, S)
+    ensures status { result.0 ≡ 1 }
+    ensures output { Appends (O.contents output.old) (O.contents output.new) [] }
+    ensures asked { Asks (S.asked around) (S.asked result.1) nothing_asked }
+{
+    let mut watch = Watch::new(alloc, 0);
+    let answered = flush(output, Err(RunError::Memory(None)));
+    let mut around = around;
+    let status = final_status(&mut around, &mut watch, answered, false, false);
+    (status, around)
+}
+
+/// Answers each line of the reader, from line 1 on, on an exporter of the options that may hold something. Reports why it
+/// stopped, and returns the program's status and the surroundings.
+pub fn command_on<S: Surroundings, I: BufRead, O: Write>(
+    alloc: Global,
+    options: Options,
+    exporter: Exporter,
+    around: S,
+    input: &mut I,
+    output: &mut O,
+) -> (u8, S)
+    ensures { (start : Start) → Begins options start exporter
+        → Ends options start (OnSome (I.remaining input.old) (IsAtEnd (I.remaining input.new)))
+        (Consumes (I.remaining input.old) (I.remaining input.new))
+        (Appends (O.contents output.old) (O.contents output.new))
+        (Asks (S.asked around) (S.asked result.1)) result.0 }
+{
+    let mut watch = Watch::new(alloc, front_of(&options.prefix));
+    match rules_for(alloc, &options) {
+        Ok(rules) => serve_new(
+            alloc, options, exporter, rules, around, &mut watch, input, output,
+        ),
+        Err(_) => end_before(alloc, around, output),
     }
 }
 
@@ -176,21 +224,13 @@ pub fn command<S: Surroundings, I: BufRead, O: Write>(
     input: &mut I,
     output: &mut O,
 ) -> (u8, S)
-    ensures { Ends options (OnSome (I.remaining input.old) (IsAtEnd (I.remaining input.new)))
+    ensures { Ends options new_start (OnSome (I.remaining input.old) (IsAtEnd (I.remaining input.new)))
         (Consumes (I.remaining input.old) (I.remaining input.new))
         (Appends (O.contents output.old) (O.contents output.new))
         (Asks (S.asked around) (S.asked result.1)) result.0 }
 {
-    let mut watch = Watch::new(alloc, len_before(&options.prefix));
-    match parts_for(alloc, &options) {
-        Ok((exporter, rules)) => serve_new(
-            alloc, options, exporter, rules, around, &mut watch, input, output,
-        ),
-        Err(_) => {
-            let answered = flush(output, Err(RunError::Memory(None)));
-            let mut around = around;
-            let status = final_status(&mut around, &mut watch, answered, false, false);
-            (status, around)
-        }
+    match exporter_for(alloc, &options) {
+        Ok(exporter) => command_on(alloc, options, exporter, around, input, output),
+        Err(_) => end_before(alloc, around, output),
     }
 }

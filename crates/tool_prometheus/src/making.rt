@@ -1,18 +1,15 @@
 //! The exporter that the options ask for.
-ghost use Rattle.std.specs.Prelude.{◌≡◌, [], ℕ, List, IfOk};
-ghost use Rattle.metrics_exporter.specs.Choice.{bounds_for};
-ghost use Rattle.metrics_exporter.specs.Describing.{SameLegend, no_legend};
-ghost use Rattle.metrics_exporter.specs.Kept.{IsAfter, described};
+ghost use Rattle.std.specs.Prelude.{◌≡◌, ℕ, List, Option as Maybe, None as Nothing, IfOk};
+ghost use Rattle.metrics_names.specs.declared.common.Unit.{Unit as Measure};
+ghost use Rattle.metrics_storage.specs.Histogram.{no_samples};
+ghost use Rattle.metrics_exporter.specs.Choice.{bounds_in, set_for, exact_for, unit_for};
 ghost use Rattle.metrics_exporter.specs.Prefixes.{at_longest};
-ghost use Rattle.metrics_names.specs.declared.kind.MetricKind.{MetricKind as Kind};
-ghost use Rattle.tool_prometheus.specs.Making.{set_by, setup_for};
-ghost use Rattle.tool_prometheus.specs.Names.{ruled_name, name_by};
+ghost use Rattle.tool_prometheus.specs.Making.{set_by, set_in, or_set_in};
+ghost use Rattle.tool_prometheus.specs.Serving.{Begins, new_start};
 
 use crate::commands::Options;
-use crate::names::rules_for;
-use metrics::{Error, Items, Text};
+use metrics::{Error, Items, Text, Unit};
 use metrics_exporter::{Bounds, Exporter};
-use metrics_rules::Rules;
 use std::alloc::Global;
 
 /// The bounds of the histograms whose names begin with a prefix.
@@ -24,12 +21,39 @@ pub struct PrefixBounds {
     pub bounds: Items<i64>,
 }
 
-/// Returns the bounds of each name: those of its longest prefix, otherwise the default ones.
-fn bounds_from(alloc: Global, default: &[i64], prefixes: &[PrefixBounds]) -> Result<Bounds, Error>
-    ensures { IfOk result (λ b. (name : List ℕ)
-        → bounds_for b name ≡ at_longest default.now (set_by prefixes.now) name) }
+/// The bounds of the histograms that are made while their names have a unit.
+#[derive(Drop)]
+pub struct UnitBounds {
+    pub unit: Unit,
+    /// In the order of the command line.
+    pub bounds: Items<i64>,
+}
+
+/// Returns the bounds of each unit: those that are set for it, otherwise the default ones.
+fn unit_bounds_from(alloc: Global, default: &[i64], units: &[UnitBounds]) -> Result<Bounds, Error>
+    ensures default { IfOk result (λ b. b.default ≡ no_samples default.now) }
+    ensures exact { IfOk result (λ b. (name : List ℕ) → exact_for b name ≡ Nothing) }
+    ensures prefixes { IfOk result (λ b. (prefix : List ℕ) → set_for b prefix ≡ Nothing) }
+    ensures units { IfOk result (λ b. (unit : Measure) → unit_for b unit ≡ set_in units.now unit) }
 {
     let mut bounds = Bounds::new(alloc, default)?;
+    for one in units {
+        bounds.set_unit(alloc, one.unit, one.bounds.as_slice())?;
+    }
+    Ok(bounds)
+}
+
+/// Returns the bounds of each name: those of its longest prefix, otherwise those of its unit, otherwise the default ones.
+fn bounds_from(
+    alloc: Global,
+    default: &[i64],
+    prefixes: &[PrefixBounds],
+    units: &[UnitBounds],
+) -> Result<Bounds, Error>
+    ensures { IfOk result (λ b. (unit : Maybe Measure) (name : List ℕ)
+        → bounds_in b unit name ≡ at_longest (or_set_in units.now default.now unit) (set_by prefixes.now) name) }
+{
+    let mut bounds = unit_bounds_from(alloc, default, units)?;
     for one in prefixes {
         bounds.set(alloc, one.prefix.as_str(), one.bounds.as_slice())?;
     }
@@ -37,26 +61,12 @@ fn bounds_from(alloc: Global, default: &[i64], prefixes: &[PrefixBounds]) -> Res
 }
 
 /// Returns a new exporter as the options describe it.
-fn exporter_for(alloc: Global, options: &Options) -> Result<Exporter, Error>
-    ensures made { IfOk result (IsAfter (setup_for options.now) []) }
-    ensures undescribed { IfOk result (λ e. SameLegend (described e) no_legend) }
+pub fn exporter_for(alloc: Global, options: &Options) -> Result<Exporter, Error>
+    ensures { IfOk result (Begins options.now new_start) }
 {
     let plan = &options.plan;
-    let bounds = bounds_from(alloc, plan.bounds.as_slice(), options.prefixes.as_slice())?;
+    let prefixes = options.prefixes.as_slice();
+    let units = options.units.as_slice();
+    let bounds = bounds_from(alloc, plan.bounds.as_slice(), prefixes, units)?;
     Exporter::with_bounds(alloc, plan.shards, plan.watched, plan.idle_timeout, bounds)
-}
-
-/// Returns a new exporter as the options describe it, and the rules for its names.
-pub(crate) fn parts_for(
-    alloc: Global,
-    options: &Options,
-) -> Result<(Exporter, Option<Rules>), Error>
-    ensures made { IfOk result (λ p. IsAfter (setup_for options.now) [] p.0) }
-    ensures undescribed { IfOk result (λ p. SameLegend (described p.0) no_legend) }
-    ensures named { IfOk result (λ p. (kind : Kind) (name : List ℕ)
-        → ruled_name p.1 kind name ≡ name_by options.now kind name) }
-{
-    let exporter = exporter_for(alloc, options)?;
-    let rules = rules_for(alloc, options)?;
-    Ok((exporter, rules))
 }

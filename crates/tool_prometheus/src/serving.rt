@@ -6,9 +6,7 @@ ghost use Rattle.tool_prometheus.specs.Exposed.{Takes};
 ghost use Rattle.tool_prometheus.specs.Serving.{answers as answers_of, Stops, IsUntaken, EndsLines, IsPrometheusRun, or_left};
 
 use crate::answering::{Served, answer_end, answer_in_time};
-use crate::flaws::Unread;
-use crate::names::named_request_of;
-use crate::requests::Request;
+use crate::strict::note_names;
 use crate::surroundings::Surroundings;
 use crate::watching::Watch;
 use std::alloc::Global;
@@ -16,6 +14,7 @@ use std::io::{BufRead, Write};
 use std::marker::PhantomData;
 use tool_export::{LineMachine, Unanswered, flush, run_lines_leaving, write_text};
 use tool_grammar::RunError;
+use tool_requests::{Request, Unread, named_request_of};
 
 /// Returns what a line asks for, and reports what the text spells otherwise. A bad line is skipped, and asks for nothing; or it
 /// is an error.
@@ -26,25 +25,22 @@ fn take_line<const SKIPS: bool, S: Surroundings>(
     line: &[u8],
 ) -> Result<Request, Unanswered>
     ensures taken { MatchResult result (λ request. Takes SKIPS on.old.0 line.now request on.new.0)
-        (λ e. IsUntaken SKIPS line.now e × (on.new ≡ on.old)) }
+        (λ e. IsUntaken SKIPS on.old.0 line.now e × (on.new ≡ on.old)) }
     ensures asked { Asks (S.asked on.old.1) (S.asked on.new.1) nothing_asked }
 {
     watch.count();
-    match named_request_of(
-        alloc,
-        on.0.labels.as_slice(),
-        &on.0.rules,
-        &mut watch.scratch,
-        line,
-    ) {
+    match named_request_of(alloc, &on.0.dialect, &on.0.rules, &mut watch.room, line) {
         Ok(request) => {
             watch.tell_spelled(&mut on.1, &request);
+            on.0.counts = on.0.counts.with_line();
+            note_names(&mut on.0, &request);
             Ok(request)
         }
         Err(Unread::Memory) => Err(Unanswered::Memory),
         Err(Unread::Bad(cause, word)) => {
             if SKIPS {
                 watch.pass_over(&mut on.1, line, cause, word);
+                on.0.counts = on.0.counts.with_bad_line();
                 on.0.has_bad = true;
                 Ok(Request::Nothing)
             } else {
@@ -67,7 +63,7 @@ impl<const SKIPS: bool, S: Surroundings> LineMachine for PrometheusLines<SKIPS, 
 
     ghost answers = { answers_of S.asked SKIPS };
 
-    ghost is_bad = { Stops SKIPS };
+    ghost is_bad = { λ on. Stops SKIPS on.0 };
 
     #[tactic(auto, using(crate::proofs::AskedLemmas::asks_later))]
     fn answer(
@@ -99,7 +95,7 @@ fn end<S: Surroundings, O: Write>(
 ) -> Result<u64, RunError>
     ensures { (more : Asked) × (last : List ℕ) × Appends (O.contents output.old) (O.contents output.new) last
         × Asks (S.asked on.old.1) (S.asked on.new.1) more
-        × EndsLines on.old.0 on.new.0 more last (Answered count) result × (on.new.0.has_bad ≡ on.old.0.has_bad) }
+        × EndsLines on.old.0 on.new.0 more last (Answered count) result }
 {
     let mut text = String::new(alloc);
     if answer_end(alloc, &mut on.0, &mut on.1, watch, &mut text).is_err() {

@@ -1,10 +1,10 @@
 //! When the clock asks for a scrape.
 ghost use Rattle.std.specs.Prelude.{◌≡◌};
 ghost use Rattle.tool_prometheus.specs.Asked.{Asked, Asks};
-ghost use Rattle.tool_prometheus.specs.Timing.{Starts, is_due as due_after, is_over, is_scrape, at_moment, restarted};
+ghost use Rattle.tool_prometheus.specs.Timing.{Starts, is_due as due_after, is_over, restarted};
 
-use crate::requests::Request;
 use crate::surroundings::Surroundings;
+use tool_requests::Request;
 
 /// Scrapes by the clock.
 #[derive(Clone, Copy, Debug, PartialEq, Eq)]
@@ -47,25 +47,6 @@ impl Timer {
             };
         }
         self
-    }
-}
-
-impl Request {
-    /// Whether a line asks for a scrape.
-    fn is_scrape(&self) -> bool
-        ensures { result ≡ is_scrape self.now }
-    {
-        matches!(self, Request::Scrape(_))
-    }
-
-    /// A scrape without a moment of its own has this one.
-    pub(crate) fn at_moment(self, now: u64) -> Request
-        ensures { result ≡ at_moment now self }
-    {
-        match self {
-            Request::Scrape(None) => Request::Scrape(Some(now)),
-            request => request,
-        }
     }
 }
 

@@ -1,17 +1,14 @@
 //! What is noted while lines are read.
 ghost use Rattle.tool_prometheus.specs.Asked.{Asks, nothing_asked};
 
-use crate::flaws::{Cause, Message};
-use crate::requests::Request;
-use crate::spelled::{Spelled, is_as_given};
 use crate::surroundings::Surroundings;
-use metrics::{Key, Label};
+use metrics::Label;
 use metrics_prometheus::left_out;
-use metrics_rules::Scratch;
 use std::alloc::Global;
 use std::collections::HashSet;
 use std::{fmt, mem};
 use tool_grammar::RunError;
+use tool_requests::{Cause, Message, Request, Room, Spelled, is_as_given};
 
 /// How many bad lines are reported one by one.
 const TOLD: u64 = 10;
@@ -39,7 +36,7 @@ pub struct Watch {
     /// How many bytes of each name are not of its line.
     front: usize,
     /// Memory that naming a request reuses.
-    pub(crate) scratch: Scratch<Key>,
+    pub(crate) room: Room,
     /// How many lines were read.
     lines: u64,
     /// How many of them were bad.
@@ -75,7 +72,7 @@ impl Watch {
         Watch {
             alloc,
             front,
-            scratch: Scratch::new(alloc),
+            room: Room::new(alloc),
             lines: 0,
             bad: 0,
             reported: 0,

@@ -1,22 +1,18 @@
 use Rattle.std.proofs.Common.{[], refl, sym, ◌∙◌, append-nil, string_bytes, inl, inr}
 use Rattle.tool_prometheus.specs.Asked.{nothing_asked}
 use Rattle.tool_prometheus.specs.Exposed.{shown_text}
-use Rattle.tool_prometheus.proofs.AnswerLemmas.{end_shown, shown_keeps}
+use Rattle.tool_prometheus.proofs.AnswerLemmas.{end_shown}
 use Rattle.tool_prometheus.proofs.AskedLemmas.{asks_none}
 use Rattle.tool_prometheus.proofs.answering.answer_end.Goals as goal
 
 pub returns-then-shows_at_end : goal.returns-then-shows_at_end
 returns-then-shows_at_end g c =
-    let r = c.text-shown.result in
+    let r = c.text_of-shown.result in
     let (files, out, asked) = c.hand_out_shown.ensures.done in
-    let done = end_shown c.args.on.now c.hand_out_shown.new.on files string_bytes r c.text-shown.ensures.text c.text-shown.ensures.refused out in
-    record {
-      shows = (record { clock = []; files = files }, shown_text string_bytes c.args.on.now.has_file r, (refl, inl (sym c.shows_at_end.ensures ∙ c.if-shows_at_end.true, done)), asked, c.hand_out_shown.ensures.text);
-      kept = shown_keeps string_bytes c.args.on.now c.hand_out_shown.new.on r files out;
-    }
+    let on = c.args.on.now in
+    let done = end_shown on c.hand_out_shown.new.on files string_bytes r c.text_of-shown.ensures.text c.text_of-shown.ensures.refused out in
+    (record { clock = []; files = files }, shown_text string_bytes on.has_file r, (refl, inl (sym c.shows_at_end.ensures ∙ c.if-shows_at_end.true, done)), asked, c.hand_out_shown.ensures.text)
 
 pub returns-else-shows_at_end : goal.returns-else-shows_at_end
-returns-else-shows_at_end g c = record {
-  shows = (nothing_asked, [], (refl, inr (sym c.shows_at_end.ensures ∙ c.if-shows_at_end.false, refl, refl, refl)), asks_none _, sym (append-nil _));
-  kept = refl;
-}
+returns-else-shows_at_end g c =
+    (nothing_asked, [], (refl, inr (sym c.shows_at_end.ensures ∙ c.if-shows_at_end.false, refl, refl, refl, refl)), asks_none _, sym (append-nil _))

@@ -12,5 +12,5 @@ returns-then-is_unnamed c =
 pub returns-in-Ok : goal.returns-in-Ok
 returns-in-Ok c =
     let m = rules_meaning c.in_ok-below.below in
-    let is = c.in-Ok.ensures.1 ∙ (λ i. filtered (c.in_ok-filter.ensures i).fold_case (c.in_ok-filter.ensures i).listed m) ∙ ap (λ ds. filtered false ds m) c.as_slice.ensures in
+    let is = c.in-Ok.ensures.1 ∙ (λ i. filtered (c.in_ok-filter.ensures i).fold_case (c.in_ok-filter.ensures i).listed m) ∙ ap (λ ds. filtered false ds m) c.as_slice-2.ensures in
     filtered_names c.in-Ok.rules m c.args.options.now is c.in_ok-below.ensures

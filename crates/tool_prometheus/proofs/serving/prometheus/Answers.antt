@@ -1,9 +1,9 @@
-use Rattle.std.proofs.Common.{◌++◌, [], Ok, Err, refl, sym, ap, ◌∙◌, append-nil}
+use Rattle.std.proofs.Common.{◌++◌, [], Ok, Err, refl, sym, ap, subst, ◌∙◌, append-nil}
 use Rattle.std.proofs.KnownBytes.{Appends-trans}
 use Rattle.tool_prometheus.specs.Asked.{nothing_asked, then_asked}
-use Rattle.tool_prometheus.specs.Serving.{or_left}
+use Rattle.tool_prometheus.specs.Serving.{EndsLines, left_noted}
 use Rattle.tool_prometheus.proofs.AskedLemmas.{then-nothing, asks_then, asks_later}
-use Rattle.tool_prometheus.proofs.ServingLemmas.{run-of, ends-noted}
+use Rattle.tool_prometheus.proofs.ServingLemmas.{run-of}
 use Rattle.tool_prometheus.proofs.serving.prometheus.Goals as goal
 
 pub returns-in-Ok : goal.returns-in-Ok
@@ -11,7 +11,7 @@ returns-in-Ok g c =
     let (read, text, left, took, wrote, ran, is_left, is_line) = c.in-Ok.ensures in
     let ran_so = run-of _ g.S.Surroundings.asked _ 1 c.args.on.now c.args.watch.now c.run_lines_leaving.new.on read text (Ok c.in-Ok.count) ran in
     let (asked, asks, run) = ran_so in
-    let (more, last, added, given, ends, kept) = c.end.ensures in
+    let (more, last, added, given, ends) = c.end.ensures in
     let noted = c.note_left.ensures.noted in
     let lines = c.deref.ensures.value ∙ is_line in (
       read ++ left,
@@ -32,10 +32,10 @@ returns-in-Ok g c =
         refl,
         is_left,
         run,
-        ends-noted c.run_lines_leaving.new.on.0 c.note_left.new.on.0 c.end.new.on.0 more last c.in-Ok.count c.end.result c.deref.result.now noted ends,
+        subst (λ on. EndsLines on c.end.new.on.0 more last (Ok c.in-Ok.count) c.end.result)
+            (noted ∙ ap (λ l. left_noted (Ok c.in-Ok.count) l c.run_lines_leaving.new.on.0) lines) ends,
         refl,
         refl,
-        kept ∙ ap (λ s. s.has_bad) noted ∙ ap (λ l. or_left l c.run_lines_leaving.new.on.0.has_bad) lines,
       ),
     )
 
@@ -49,5 +49,5 @@ returns g c =
       took,
       wrote,
       asks,
-      (c.run_lines_leaving.new.on.0, text, [], asked, nothing_asked, Err c.in-Err.e, read, left, refl, is_left, run, (refl, refl, refl, refl), sym (append-nil text), sym (then-nothing asked), tt),
+      (c.run_lines_leaving.new.on.0, text, [], asked, nothing_asked, Err c.in-Err.e, read, left, refl, is_left, run, (refl, refl, refl, refl), sym (append-nil text), sym (then-nothing asked)),
     )

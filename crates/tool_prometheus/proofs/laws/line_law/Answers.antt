@@ -1,5 +1,0 @@
-use Rattle.tool_prometheus.proofs.OneLemmas.{request_same}
-use Rattle.tool_prometheus.proofs.laws.line_law.Goals as goal
-
-pub returns : goal.returns
-returns c = record { one = request_same; apart = λ common line q (s, can, is, asks) none. none s can is }

@@ -1,5 +1,0 @@
-use Rattle.tool_prometheus.proofs.NamesLemmas.{first-found}
-use Rattle.tool_prometheus.proofs.names.key_by_rules.Goals as goal
-
-pub returns-in-Ok : goal.returns-in-Ok
-returns-in-Ok c = first-found c.args.key.now.labels _ _ _ c.in-Ok.ensures.1

@@ -1,7 +1,0 @@
--- The bytes so far.
-use Rattle.std.proofs.Common.{ℕ, ◌<◌, get_or}
-use Rattle.tool_prometheus.specs.Lines.{IsOfName}
-use Rattle.tool_prometheus.proofs.words.are_of_name.Given as goal
-
-abbrev pub invariant-loop-byte : goal.invariant-loop-byte
-invariant-loop-byte l = (k : ℕ) (d : ℕ) → k < l.byte-index → IsOfName (get_or l.text k d)

@@ -1,0 +1,70 @@
+//! What a strict run takes for bad: names, labels and series that the text doesn't have as they were given.
+ghost use Rattle.std.specs.Prelude.{◌≡◌};
+ghost use Rattle.std.specs.List.{list_any};
+ghost use Rattle.tool_prometheus.specs.Strict.{respells as respells_of, respells_label as respells_one, noted};
+ghost use Rattle.tool_prometheus.specs.Strict.{is_left_out as is_one, leaves_out as leaves_some};
+
+use crate::answering::Served;
+use metrics::Label;
+use tool_requests::{Request, is_as_given};
+
+/// Whether the text has another name for a label. It doesn't show one without a value.
+fn respells_label(label: &Label) -> bool
+    ensures { result ≡ respells_one label.now }
+{
+    !is_as_given(label.key(), 0, false) && !label.value().is_empty()
+}
+
+/// Whether the text has another name for one of these labels.
+fn respells_some(labels: &[Label]) -> bool
+    ensures { result ≡ list_any respells_one labels.now }
+{
+    labels.iter().any(|label| respells_label(label))
+}
+
+/// Whether the text has the name or a label of a request otherwise.
+fn respells(front: usize, request: &Request) -> bool
+    ensures { result ≡ respells_of front request.now }
+{
+    match request {
+        Request::Change(key, _) => {
+            !is_as_given(key.name(), front, true) || respells_some(key.labels())
+        }
+        Request::Describe(_, name, _, _) => !is_as_given(name.as_str(), front, true),
+        Request::Scrape(_) | Request::Nothing => false,
+    }
+}
+
+/// Whether a line says that a series is left out.
+pub(crate) fn is_left_out(line: &str) -> bool
+    ensures { result ≡ is_one line.now }
+{
+    line.as_bytes().starts_with(b"# left out: ")
+}
+
+/// Whether a text leaves a series out.
+fn leaves_out(text: &str) -> bool
+    ensures { result ≡ leaves_some text.now }
+{
+    text.split('\n').any(|line| is_left_out(line))
+}
+
+/// Notes as bad, in a strict run, that the text has a name or a label of a request otherwise.
+pub(crate) fn note_names(on: &mut Served, request: &Request)
+    ensures { on.new ≡ record on.old {
+      has_bad = noted on.old.is_strict (respells_of on.old.front request.now) on.old.has_bad;
+    } }
+{
+    if on.is_strict && respells(on.front, request) {
+        on.has_bad = true;
+    }
+}
+
+/// Notes as bad, in a strict run, that a text leaves a series out.
+pub(crate) fn note_left_out(on: &mut Served, text: &str)
+    ensures { on.new ≡ record on.old { has_bad = noted on.old.is_strict (leaves_some text.now) on.old.has_bad } }
+{
+    if on.is_strict && leaves_out(text) {
+        on.has_bad = true;
+    }
+}

@@ -1,0 +1,10 @@
+pub mod CommonLemmas
+pub mod EscapeLemmas
+pub mod LabelLemmas
+pub mod NamesLemmas
+pub mod PlaceLemmas
+pub mod PlacesLemmas
+pub mod SentenceLemmas
+pub mod WordLemmas
+pub mod OneLemmas
+pub mod ReadLemmas

@@ -1,0 +1,35 @@
+-- Names by rules.
+use Rattle.std.proofs.Common.{◌≡◌, ◌∙◌, ℕ, List, [], ◌∷◌, refl, ap, sym}
+use Rattle.std.specs.Prelude.{Option, None, Some}
+use Rattle.std.specs.Option.{option_or}
+use Rattle.std.specs.List.{FoldsTo}
+use Rattle.metrics_names.specs.Names.{KeyParts, LabelParts}
+use Rattle.metrics_rules.specs.Visits.{shown}
+use Rattle.tool_requests.specs.declared.renaming.First.{First}
+use Rattle.tool_requests.specs.declared.requests.Request.{Request}
+use Rattle.tool_requests.specs.declared.requests.Request.TheVariants.{Change, Describe, Scrape, Nothing}
+use Rattle.tool_requests.specs.Names.{first_name, ruled_name, renamed}
+use Rattle.tool_requests.specs.Renaming.{first_found}
+
+or-none : {A : Type 0} (o : Option A) → option_or o None ≡ o
+or-none None = refl
+or-none (Some x) = refl
+
+or-found : {A : Type 0} (o : Option A) (x : A) (later : Option A) → option_or (option_or o (Some x)) later ≡ option_or o (Some x)
+or-found None x later = refl
+or-found (Some y) x later = refl
+
+-- a visitor that copies the first name
+pub first-found : (labels : List LabelParts) (v : First) (ts : List (ℕ × List ℕ)) (w : First)
+    → FoldsTo (shown (λ (v : First) (leaf : ℕ) (key : KeyParts) (w : First). first_found w ≡ option_or (first_found v) (Some key.name)) labels) v ts w
+    → first_found w ≡ option_or (first_found v) (first_name ts)
+first-found labels v [] w h = ap first_found (sym h) ∙ sym (or-none (first_found v))
+first-found labels v (t ∷ ts) w (u, is, rest) =
+    first-found labels u ts w rest ∙ ap (λ o. option_or o (first_name ts)) is ∙ or-found (first_found v) t.1 (first_name ts)
+
+-- without rules each name stays
+pub stays_named : (request : Request) → request ≡ renamed (ruled_name None) request
+stays_named (Change key by) = refl
+stays_named (Describe kind name unit note) = refl
+stays_named (Scrape moment) = refl
+stays_named Nothing = refl

@@ -1,0 +1,7 @@
+-- The bytes so far.
+use Rattle.std.proofs.Common.{ℕ, ◌<◌, get_or}
+use Rattle.tool_requests.specs.Lines.{IsPlain}
+use Rattle.tool_requests.proofs.words.are_plain.Given as goal
+
+abbrev pub invariant-loop-byte : goal.invariant-loop-byte
+invariant-loop-byte l = (k : ℕ) (d : ℕ) → k < l.byte-index → IsPlain (get_or l.text k d)
