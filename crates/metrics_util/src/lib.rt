@@ -47,8 +47,8 @@ pub mod layers {
 pub mod registry {
     pub use metrics_journal::{JournaledRegistry, JournaledShard, ShardCall, Tally};
     pub use metrics_registry::{
-        Cells, Counted, Generation, Kinds, OwnedRecency, OwnedRegistry, PlainStorage, Storage,
-        recency_law,
+        Cells, Counted, Generation, HistogramMaker, Kinds, OwnedRecency, OwnedRegistry,
+        PlainStorage, Storage, recency_law,
     };
     pub use metrics_shared_registry::{
         AtomicStorage, Generational, GenerationalAtomicStorage, GenerationalStorage, Recency,

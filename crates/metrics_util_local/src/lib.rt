@@ -30,8 +30,8 @@ pub mod layers {
 /// Cells by kind and key, and which of them are still in use.
 pub mod registry {
     pub use metrics_registry::{
-        Cells, Counted, Generation, Kinds, OwnedRecency, OwnedRegistry, PlainStorage, Storage,
-        recency_law,
+        Cells, Counted, Generation, HistogramMaker, Kinds, OwnedRecency, OwnedRegistry,
+        PlainStorage, Storage, recency_law,
     };
 }
 

@@ -117,7 +117,18 @@ struct Held<'a> {
     ghost free: { pen.ticket ≡ false },
 }
 
-impl Held<'_> {
+impl<'a> Held<'a> {
+    /// Splits a pen off, and holds it with its bucket.
+    fn split_off<R: Abort>(rt: &R, bucket: &'a RuledBucket<u64>, pen: &mut Pen) -> Held<'a>
+        requires { (pen.old.home ≡ bucket.now) × (pen.old.ticket ≡ false) }
+        ensures { (pen.new.home ≡ bucket.now) × (pen.new.ticket ≡ false) }
+    {
+        Held {
+            bucket,
+            pen: split_off(rt, pen),
+        }
+    }
+
     fn push(&mut self, value: u64) -> bool {
         self.bucket.try_push_as(&mut self.pen, value).is_ok()
     }
@@ -148,11 +159,7 @@ impl Held<'_> {
 #[test]
 fn a_clears_closure_may_push_with_another_pen(rt: HostRuntime) {
     let (bucket, mut pen) = bucket_of(&rt, rt.alloc(), 1);
-    let other = split_off(&rt, &mut pen);
-    let mut other = Held {
-        bucket: &bucket,
-        pen: other,
-    };
+    let mut other = Held::split_off(&rt, &bucket, &mut pen);
     assert!(rt; bucket.try_push_as(&mut pen, 1).is_ok());
     let mut pushed = 0u64;
     let cleared = bucket.clear_with_as(&rt, &mut pen, |_| {
@@ -169,11 +176,7 @@ fn a_clears_closure_may_push_with_another_pen(rt: HostRuntime) {
 #[test]
 fn a_busy_call_shows_nothing(rt: HostRuntime) {
     let (bucket, mut pen) = bucket_of(&rt, rt.alloc(), 1);
-    let other = split_off(&rt, &mut pen);
-    let mut other = Held {
-        bucket: &bucket,
-        pen: other,
-    };
+    let mut other = Held::split_off(&rt, &bucket, &mut pen);
     assert!(rt; bucket.try_push_as(&mut pen, 1).is_ok());
     let read = bucket.data_with_as(&rt, &mut pen, |_| other.expect_unseen(&rt));
     assert!(rt; read == Ok(1));

@@ -1,7 +1,6 @@
 //! `RuledBucket`, used by several threads at once.
 ghost use Rattle.std.specs.Prelude.{◌≡◌, ◌<◌, true, false};
 
-use crate::beside::are_all_once;
 use crate::ruled::{bucket_of, settled, split_off};
 use metrics::Error;
 use metrics_bucket::{Pen, RuledBucket};
@@ -11,6 +10,7 @@ use std::snapshot::Snapshot;
 use std::sync::Wait;
 use std::sync::atomic::{AtomicUsize, Ordering};
 use std::thread::{Promise, Threads, join, scope, scope_env};
+use test_trial::are_all_once;
 
 /// Pushes one value; if it waits, it retries while the bucket is full.
 fn push_waiting<R: Wait>(rt: &R, bucket: &RuledBucket<u64>, pen: &mut Pen, value: u64, waits: bool)
@@ -250,22 +250,19 @@ fn push_and_read<R: Abort + Threads + Wait + Sync>(
     pen
 }
 
-/// Pushers, a reader and a clearer at once. They return one pen, and what the clearer was shown.
+/// Pushers, a reader and a clearer at once, each with a part of the pen. They return it, and what the clearer was shown.
 fn push_read_and_clear<R: Abort + Threads + Wait + Sync>(
     rt: &R,
     alloc: Global,
     bucket: &RuledBucket<u64>,
-    pusher: Pen,
-    reader: Pen,
-    clearer: Pen,
+    mut pusher: Pen,
 ) -> (Pen, Vec<u64>)
-    requires pusher { (pusher.home ≡ bucket.now) × (pusher.ticket ≡ false) }
-    requires reader { (reader.home ≡ bucket.now) × (reader.ticket ≡ false) }
-    requires clearer { (clearer.home ≡ bucket.now) × (clearer.ticket ≡ false) }
+    requires { (pusher.home ≡ bucket.now) × (pusher.ticket ≡ false) }
     ensures { (result.0.home ≡ bucket.now) × (result.0.ticket ≡ false) }
 {
-    let counter = AtomicUsize::new(0);
-    let ended = &counter;
+    let clearer = split_off(rt, &mut pusher);
+    let reader = split_off(rt, &mut pusher);
+    let ended = &AtomicUsize::new(0);
     let (cleared, pen) = beside_a_clearer(
         rt,
         alloc,
@@ -290,10 +287,8 @@ fn push_read_and_clear<R: Abort + Threads + Wait + Sync>(
 
 #[test]
 fn each_value_comes_out_once(rt: HostRuntime) {
-    let (bucket, mut pusher) = bucket_of(&rt, rt.alloc(), 4);
-    let clearer = split_off(&rt, &mut pusher);
-    let reader = split_off(&rt, &mut pusher);
-    let (pen, mut shown) = push_read_and_clear(&rt, rt.alloc(), &bucket, pusher, reader, clearer);
+    let (bucket, pen) = bucket_of(&rt, rt.alloc(), 4);
+    let (pen, mut shown) = push_read_and_clear(&rt, rt.alloc(), &bucket, pen);
     let rest = settled(&rt, rt.alloc(), bucket, pen);
     shown
         .extend_from_slice(rest.as_slice())
@@ -339,13 +334,13 @@ fn clear_beside<R: Abort + Threads + Wait + Sync>(
     ensures joined { (result.0.home ≡ bucket.now) × (result.0.ticket ≡ false) }
     ensures other { (result.1.home ≡ bucket.now) × (result.1.ticket ≡ false) }
 {
-    let once = AtomicUsize::new(1);
+    let once = &AtomicUsize::new(1);
     let (cleared, (mut pen, other)) = beside_a_clearer(
         rt,
         alloc,
         bucket,
         clearer,
-        &once,
+        once,
         || -> (Pen, Pen)
             requires { (slow.home ≡ bucket.now) × (slow.ticket ≡ true) × (other.home ≡ bucket.now)
                 × (other.ticket ≡ false) }

@@ -252,7 +252,18 @@ struct Held<'a> {
     ghost own: { IsOf bucket.now pen },
 }
 
-impl Held<'_> {
+impl<'a> Held<'a> {
+    /// Splits a pen off, and holds it with its bucket.
+    fn split_off<R: Abort>(rt: &R, bucket: &'a GrowingBucket<u64>, pen: &mut GrowPen) -> Held<'a>
+        requires { IsOf bucket.now pen.old }
+        ensures { IsOf bucket.now pen.new }
+    {
+        Held {
+            bucket,
+            pen: split_off(rt, bucket, pen),
+        }
+    }
+
     /// Clears. A clear that fails has not called its closure.
     fn clear<R: Abort + Wait>(&mut self, rt: &R) -> Result<usize, Error> {
         let mut calls = 0u64;
@@ -281,10 +292,7 @@ impl Visitor<u64> for Held<'_> {
 #[test]
 fn a_clears_visitor_may_push(rt: HostRuntime) {
     let (bucket, mut pen) = bucket_of_one(&rt, rt.alloc());
-    let mut visitor = Held {
-        bucket: &bucket,
-        pen: split_off(&rt, &bucket, &mut pen),
-    };
+    let mut visitor = Held::split_off(&rt, &bucket, &mut pen);
     push_below(&rt, &bucket, &mut pen, 65);
     let taken = bucket
         .clear_to(&rt, &mut pen, &mut visitor)
@@ -298,10 +306,7 @@ fn a_clears_visitor_may_push(rt: HostRuntime) {
 #[test]
 fn a_clear_inside_a_clear_is_busy(rt: HostRuntime) {
     let (bucket, mut pen) = bucket_of_one(&rt, rt.alloc());
-    let mut other = Held {
-        bucket: &bucket,
-        pen: split_off(&rt, &bucket, &mut pen),
-    };
+    let mut other = Held::split_off(&rt, &bucket, &mut pen);
     push_below(&rt, &bucket, &mut pen, 65);
     let mut chunks = 0u64;
     let taken = bucket.clear_with(&rt, &mut pen, |_| {

@@ -8,13 +8,21 @@ use std::process::Abort;
 use std::sync::Wait;
 use test_trial::Trial;
 
+/// Returns a trial, a new bucket and its pen.
+fn start<R: AllocGlobal + Abort>(rt: &R) -> (Trial, GrowingBucket<u64>, GrowPen)
+    ensures { IsOf result.1 result.2 }
+{
+    let (bucket, pen) = bucket_of_one(rt, rt.alloc());
+    (Trial::new(rt.alloc()), bucket, pen)
+}
+
 /// Pushes a value. A failed push returns it, and it is pushed again with memory available.
 fn push<R: Abort>(
     rt: &R,
     trial: &mut Trial,
     bucket: &GrowingBucket<u64>,
-    pen: &mut GrowPen,
     value: u64,
+    pen: &mut GrowPen,
 )
     requires { IsOf bucket.now pen.old }
     ensures { IsOf bucket.now pen.new }
@@ -35,7 +43,7 @@ fn push_65<R: Abort>(rt: &R, trial: &mut Trial, bucket: &GrowingBucket<u64>, pen
 {
     let before = trial.refusals;
     for value in 0..65u64 {
-        push(rt, trial, bucket, pen, value);
+        push(rt, trial, bucket, value, pen);
         assert!(rt; value == 64 || trial.refusals == before);
     }
 }
@@ -100,19 +108,17 @@ fn expect_cleared<R: Abort + Wait>(
 
 #[test]
 fn a_refused_settling_leaves_all(rt: HostRuntime) {
-    let mut trial = Trial::new(rt.alloc());
-    let (bucket, mut pen) = bucket_of_one(&rt, rt.alloc());
+    let (mut trial, bucket, mut pen) = start(&rt);
     push_65(&rt, &mut trial, &bucket, &mut pen);
     expect_settled(&rt, &mut trial, &bucket, &mut pen, 0, 65);
 }
 
 #[test]
 fn a_refused_clear_leaves_all(rt: HostRuntime) {
-    let mut trial = Trial::new(rt.alloc());
-    let (bucket, mut pen) = bucket_of_one(&rt, rt.alloc());
+    let (mut trial, bucket, mut pen) = start(&rt);
     push_65(&rt, &mut trial, &bucket, &mut pen);
     expect_cleared(&rt, &mut trial, &bucket, &mut pen);
-    push(&rt, &mut trial, &bucket, &mut pen, 7);
+    push(&rt, &mut trial, &bucket, 7, &mut pen);
     expect_settled(&rt, &mut trial, &bucket, &mut pen, 7, 8);
 }
 
@@ -160,11 +166,19 @@ fn join<R: Abort>(
     }
 }
 
+/// Returns a trial, a new bucket and two pens of it.
+fn start_with_two<R: AllocGlobal + Abort>(rt: &R) -> (Trial, GrowingBucket<u64>, GrowPen, GrowPen)
+    ensures pen { IsOf result.1 result.2 }
+    ensures other { IsOf result.1 result.3 }
+{
+    let (mut trial, bucket, mut pen) = start(rt);
+    let other = half(rt, &mut trial, &bucket, &mut pen);
+    (trial, bucket, pen, other)
+}
+
 #[test]
 fn another_pen_clears_what_it_does_not_know(rt: HostRuntime) {
-    let mut trial = Trial::new(rt.alloc());
-    let (bucket, mut pen) = bucket_of_one(&rt, rt.alloc());
-    let mut other = half(&rt, &mut trial, &bucket, &mut pen);
+    let (mut trial, bucket, mut pen, mut other) = start_with_two(&rt);
     push_65(&rt, &mut trial, &bucket, &mut pen);
     expect_cleared(&rt, &mut trial, &bucket, &mut other);
     join(&rt, &mut trial, &bucket, &mut pen, other);
@@ -174,9 +188,7 @@ fn another_pen_clears_what_it_does_not_know(rt: HostRuntime) {
 /// The pen that pushed nothing takes in what the other knows.
 #[test]
 fn a_pen_learns_what_another_knows(rt: HostRuntime) {
-    let mut trial = Trial::new(rt.alloc());
-    let (bucket, mut pen) = bucket_of_one(&rt, rt.alloc());
-    let mut other = half(&rt, &mut trial, &bucket, &mut pen);
+    let (mut trial, bucket, mut pen, mut other) = start_with_two(&rt);
     push_65(&rt, &mut trial, &bucket, &mut other);
     join(&rt, &mut trial, &bucket, &mut pen, other);
     expect_settled(&rt, &mut trial, &bucket, &mut pen, 0, 65);
@@ -185,9 +197,8 @@ fn a_pen_learns_what_another_knows(rt: HostRuntime) {
 /// With or without memory, a settling without all pens fails, and leaves the value.
 #[test]
 fn settle_wants_all_pens(rt: HostRuntime) {
-    let mut trial = Trial::new(rt.alloc());
-    let (bucket, mut pen) = bucket_of_one(&rt, rt.alloc());
-    push(&rt, &mut trial, &bucket, &mut pen, 1);
+    let (mut trial, bucket, mut pen) = start(&rt);
+    push(&rt, &mut trial, &bucket, 1, &mut pen);
     let other = half(&rt, &mut trial, &bucket, &mut pen);
     trial.begin();
     let settled = bucket.settle(&rt, trial.alloc, &mut pen).err();

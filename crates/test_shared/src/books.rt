@@ -1,9 +1,12 @@
-//! What the tests share: books, and what their first series has.
+//! What the tests share: books, names, and what the first series of a book has.
 
-use metrics::{Address, DebugValue, Key, MetricKind, Recorder, Reset, Row, Update};
+use metrics::{Address, DebugValue, Key, KeyName, MetricKind, Recorder, Reset, Row, Update};
 use metrics_debugging::DebuggingRecorder;
+use metrics_shared::Shared;
 use std::alloc::Global;
+use std::fmt::Debug;
 use std::process::Abort;
+use std::sync::Wait;
 
 /// The first series of the first book.
 pub const AT: Address = Address { book: 0, series: 0 };
@@ -18,11 +21,44 @@ pub fn key(rt: &impl Abort, alloc: Global, name: &str) -> Key {
     Key::from_name(alloc, name).expect(rt, "out of memory")
 }
 
+/// A name, and its key without labels.
+#[derive(Drop)]
+pub struct Named {
+    pub name: KeyName,
+    pub key: Key,
+}
+
+/// Returns a name and its key.
+pub fn name_and_key(rt: &impl Abort, alloc: Global, name: &str) -> Named {
+    Named {
+        name: KeyName::new(alloc, name).expect(rt, "out of memory"),
+        key: key(rt, alloc, name),
+    }
+}
+
 /// Returns the count of the first series, if it is a counter.
 pub fn count_of(rows: &[Row]) -> Option<u64> {
     match rows.first() {
         Some((_, _, _, DebugValue::Counter(n))) => Some(*n),
         _ => None,
+    }
+}
+
+/// Checks that the first series of a shared book is a counter of this count.
+pub fn expect_counted<R: Abort + Wait, B: Recorder>(
+    rt: &R,
+    alloc: Global,
+    on: &Shared<B>,
+    count: u64,
+) {
+    let rows = on.snapshot(rt, alloc, 0).expect(rt, "out of memory");
+    assert_eq!(rt; count_of(rows.as_slice()), Some(count));
+}
+
+/// Checks that each of some threads did what it was to do.
+pub fn expect_all_done<E: Debug>(rt: &impl Abort, done: Result<Vec<bool>, E>) {
+    for is_done in done.expect(rt, "out of memory") {
+        assert!(rt; is_done);
     }
 }
 

@@ -16,19 +16,6 @@ fn expect_count<C: CounterFn>(rt: &impl Abort, cell: &C, word: &AtomicU64) {
     assert_eq!(rt; counter_value(word), 7);
 }
 
-#[test]
-fn a_word_is_a_counter(rt: HostRuntime) {
-    let word = AtomicU64::new(0);
-    expect_count(&rt, &word, &word);
-}
-
-#[test]
-fn a_shared_word_is_a_counter(rt: HostRuntime) -> Result<(), Fail> {
-    let word = Arc::new(rt.alloc(), AtomicU64::new(0))?;
-    expect_count(&rt, &word, &word);
-    Ok(())
-}
-
 fn expect_value(rt: &impl Abort, word: &AtomicU64, want: i64) {
     assert_eq!(rt; gauge_value(word), want);
 }
@@ -44,6 +31,17 @@ fn expect_gauge<R: Abort + Wait, G: GaugeFn>(rt: &R, cell: &G, word: &AtomicU64)
     expect_value(rt, word, i64::MIN);
 }
 
+/// Returns a word that is shared.
+fn shared_word<R: AllocGlobal + Abort>(rt: &R) -> Arc<AtomicU64> {
+    Arc::new(rt.alloc(), AtomicU64::new(0)).expect(rt, "out of memory")
+}
+
+#[test]
+fn a_word_is_a_counter(rt: HostRuntime) {
+    let word = AtomicU64::new(0);
+    expect_count(&rt, &word, &word);
+}
+
 #[test]
 fn a_word_is_a_gauge(rt: HostRuntime) {
     let word = AtomicU64::new(0);
@@ -51,10 +49,15 @@ fn a_word_is_a_gauge(rt: HostRuntime) {
 }
 
 #[test]
-fn a_shared_word_is_a_gauge(rt: HostRuntime) -> Result<(), Fail> {
-    let word = Arc::new(rt.alloc(), AtomicU64::new(0))?;
+fn a_shared_word_is_a_counter(rt: HostRuntime) {
+    let word = shared_word(&rt);
+    expect_count(&rt, &word, &word);
+}
+
+#[test]
+fn a_shared_word_is_a_gauge(rt: HostRuntime) {
+    let word = shared_word(&rt);
     expect_gauge(&rt, &word, &word);
-    Ok(())
 }
 
 /// How often each of two threads changes a cell.
@@ -67,11 +70,10 @@ fn increment_often<C: CounterFn>(cell: &C) {
 }
 
 #[test]
-fn two_threads_increment_a_counter(rt: HostRuntime) -> Result<(), Fail> {
-    let word = Arc::new(rt.alloc(), AtomicU64::new(0))?;
+fn two_threads_increment_a_counter(rt: HostRuntime) {
+    let word = shared_word(&rt);
     join(&rt, || increment_often(&word), || increment_often(&word));
     assert_eq!(&rt; counter_value(&word), 600_000);
-    Ok(())
 }
 
 fn raise_often<W: Wait, G: GaugeFn>(rt: &W, cell: &G) {
@@ -92,10 +94,9 @@ fn expect_sum<R: Abort + Threads + Wait + Sync>(rt: &R, word: &Arc<AtomicU64>) {
 }
 
 #[test]
-fn two_threads_change_a_gauge(rt: HostRuntime) -> Result<(), Fail> {
-    let word = Arc::new(rt.alloc(), AtomicU64::new(0))?;
+fn two_threads_change_a_gauge(rt: HostRuntime) {
+    let word = shared_word(&rt);
     expect_sum(&rt, &word);
-    Ok(())
 }
 
 /// The sum of the samples, none of them below 0.

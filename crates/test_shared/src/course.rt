@@ -1,8 +1,7 @@
 //! A counter that is described and incremented through a lock.
 
-use crate::books::AT;
-use metrics::{DebugValue, Key, KeyName, MetricKind, Recorder, Snapshot, Update};
-use metrics_debugging::DebuggingRecorder;
+use crate::books::{AT, Named, name_and_key, new_book};
+use metrics::{DebugValue, MetricKind, Recorder, Snapshot, Update};
 use metrics_shared::Shared;
 use std::alloc::Global;
 use std::process::Abort;
@@ -22,8 +21,7 @@ fn expect_course<R: Abort + Wait, B: Recorder>(
     rt: &R,
     alloc: Global,
     shared: &Shared<B>,
-    name: &KeyName,
-    key: &Key,
+    Named { name, key }: &Named,
 ) {
     let described = shared.describe(rt, alloc, MetricKind::Counter, name, None, "t");
     assert_eq!(rt; described.expect(rt, "out of memory"), 1);
@@ -41,8 +39,6 @@ fn expect_course<R: Abort + Wait, B: Recorder>(
 #[test]
 fn a_shared_counter_has_its_text_and_its_sum(rt: HostRuntime) {
     let alloc = rt.alloc();
-    let name = KeyName::new(alloc, "foobar").expect(&rt, "out of memory");
-    let key = Key::from_name(alloc, "foobar").expect(&rt, "out of memory");
-    let book = DebuggingRecorder::new(alloc).expect(&rt, "out of memory");
-    expect_course(&rt, alloc, &Shared::new(book), &name, &key);
+    let named = name_and_key(&rt, alloc, "foobar");
+    expect_course(&rt, alloc, &Shared::new(new_book(&rt, alloc)), &named);
 }

@@ -1,6 +1,6 @@
 //! A handle that names what a recorder under a lock doesn't hold.
 
-use crate::books::{count_of, key, new_book};
+use crate::books::{expect_counted, key, new_book};
 use metrics::{Address, Counter, MetricKind, Recorder, Refused};
 use metrics_shared::Shared;
 use std::alloc::Global;
@@ -20,8 +20,7 @@ fn expect_bad<R: Abort + Wait, B: Recorder>(rt: &R, alloc: Global, on: &Shared<B
     let bad = Counter::from(Vec::from_array(alloc, BAD).expect(rt, "out of memory"));
     let answer = on.with(rt, |book| bad.increment(book, 1));
     assert_eq!(rt; answer, Err(Refused::NoSuchAddress));
-    let rows = on.snapshot(rt, alloc, 0).expect(rt, "out of memory");
-    assert_eq!(rt; count_of(rows.as_slice()), Some(0));
+    expect_counted(rt, alloc, on, 0);
 }
 
 #[test]

@@ -26,6 +26,4 @@ mod shared;
 #[cfg(test)]
 mod slots;
 #[cfg(test)]
-mod steps;
-#[cfg(test)]
 mod waits;

@@ -9,6 +9,9 @@ use std::process::Abort;
 use std::sync::Arc;
 use std::sync::atomic::{AtomicU64, Ordering};
 
+/// What a snapshot answers.
+type Shown = Result<Snapshot, Refused>;
+
 /// How many recorders have ended.
 pub type Ends = Arc<AtomicU64, Global>;
 
@@ -104,12 +107,7 @@ impl Recorder for Own {
         }
     }
 
-    fn snapshot_with(
-        &mut self,
-        alloc: Global,
-        book: usize,
-        reset: Reset,
-    ) -> Result<Snapshot, Refused> {
+    fn snapshot_with(&mut self, alloc: Global, book: usize, reset: Reset) -> Shown {
         self.book.snapshot_with(alloc, book, reset)
     }
 }

@@ -1,6 +1,5 @@
 //! A reservoir that threads share, with the values of the Rust crate's tests in whole numbers.
 
-use crate::steps::{is_reached, sleep};
 use metrics_cells::HistogramFn;
 use metrics_shared::reservoir::AtomicSamplingReservoir;
 use rand_core::{Rng, SeedableRng};
@@ -11,6 +10,7 @@ use std::process::Abort;
 use std::sync::Wait;
 use std::sync::atomic::{AtomicU64, Ordering};
 use std::thread::{self, Threads, join};
+use test_trial::{is_reached, sleep};
 
 type Shared = AtomicSamplingReservoir<Xoshiro256PlusPlus>;
 

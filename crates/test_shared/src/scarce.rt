@@ -1,9 +1,9 @@
 //! The state under a lock after its recorder failed a call.
 
-use crate::books::{AT, key};
+use crate::books::{AT, Named, name_and_key};
 use crate::own::{Own, no_ends};
-use metrics::{DebugValue, Key, KeyName, MetricKind, Recorder, Refused, Row, Unit, Update};
-use metrics_shared::{RecoverableRecorder, Shared, SlotRecorder};
+use metrics::{DebugValue, MetricKind, Recorder, Refused, Row, Unit, Update};
+use metrics_shared::{RecoverableRecorder, Shared};
 use std::alloc::Global;
 use std::process::Abort;
 use std::sync::Wait;
@@ -35,51 +35,31 @@ fn expect_updated(rt: &impl Abort, first: Result<(), Refused>, second: Result<()
     assert_eq!(rt; second, Err(Refused::Memory { acted: 0 }));
 }
 
-fn call_shared<R: Abort + Wait, B: Recorder>(
-    rt: &R,
-    alloc: Global,
-    shared: &Shared<B>,
-    name: &KeyName,
-    key: &Key,
-) {
-    let kind = MetricKind::Histogram;
-    let first = shared.describe(rt, alloc, kind, name, Some(Unit::Count), "t");
-    assert_eq!(rt; first.expect(rt, "out of memory"), 1);
-    expect_refusal(rt, shared.describe(rt, alloc, kind, name, None, "u"));
-    expect_refusal(rt, shared.register(rt, alloc, kind, key));
-    let first = shared.update(rt, AT, Update::Record(5));
-    expect_updated(rt, first, shared.update(rt, AT, Update::Record(6)));
+/// Calls what shares a recorder. The recorder fails the second description, the registration and the second update.
+macro_rules! call_each {
+    ($rt:expr, $alloc:expr, $on:expr, $named:expr) => {
+        let kind = MetricKind::Histogram;
+        let first = $on.describe($rt, $alloc, kind, &$named.name, Some(Unit::Count), "t");
+        assert_eq!($rt; first.expect($rt, "out of memory"), 1);
+        expect_refusal($rt, $on.describe($rt, $alloc, kind, &$named.name, None, "u"));
+        expect_refusal($rt, $on.register($rt, $alloc, kind, &$named.key));
+        let first = $on.update($rt, AT, Update::Record(5));
+        expect_updated($rt, first, $on.update($rt, AT, Update::Record(6)));
+    };
+}
+
+fn expect_shared<R: Abort + Wait, B: Recorder>(rt: &R, alloc: Global, book: B, named: &Named) {
+    let shared = Shared::new(book);
+    call_each!(rt, alloc, shared, named);
     let rows = shared.snapshot(rt, alloc, 0).expect(rt, "out of memory");
     assert!(rt; is_five(rows.as_slice()));
 }
 
-fn call_slot<R: Abort + Wait, B: Recorder>(
-    rt: &R,
-    alloc: Global,
-    slot: &SlotRecorder<B>,
-    name: &KeyName,
-    key: &Key,
-) {
-    let kind = MetricKind::Histogram;
-    let first = slot.describe(rt, alloc, kind, name, Some(Unit::Count), "t");
-    assert_eq!(rt; first.expect(rt, "out of memory"), 1);
-    expect_refusal(rt, slot.describe(rt, alloc, kind, name, None, "u"));
-    expect_refusal(rt, slot.register(rt, alloc, kind, key));
-    let first = slot.update(rt, AT, Update::Record(5));
-    expect_updated(rt, first, slot.update(rt, AT, Update::Record(6)));
-}
-
 /// Calls a recorder through a slot, and checks it after it is taken back.
-fn expect_slot<R: Abort + Wait, B: Recorder>(
-    rt: &R,
-    alloc: Global,
-    book: B,
-    name: &KeyName,
-    key: &Key,
-) {
+fn expect_slot<R: Abort + Wait, B: Recorder>(rt: &R, alloc: Global, book: B, named: &Named) {
     let built = RecoverableRecorder::new(book).build(rt, alloc).ok();
     let (slot, handle) = built.expect(rt, "out of memory");
-    call_slot(rt, alloc, &slot, name, key);
+    call_each!(rt, alloc, slot, named);
     let mut book = handle.into_inner(rt).expect(rt, "the slot is empty");
     let rows = book.snapshot(alloc, 0).expect(rt, "out of memory");
     assert!(rt; is_five(rows.as_slice()));
@@ -88,10 +68,8 @@ fn expect_slot<R: Abort + Wait, B: Recorder>(
 #[test]
 fn a_book_stands_after_a_refusal(rt: HostRuntime) {
     let alloc = rt.alloc();
-    let name = KeyName::new(alloc, "h").expect(&rt, "out of memory");
-    let key = key(&rt, alloc, "h");
+    let named = name_and_key(&rt, alloc, "h");
     let ends = no_ends(&rt, alloc);
-    let shared = Shared::new(Own::new(&rt, alloc, &ends));
-    call_shared(&rt, alloc, &shared, &name, &key);
-    expect_slot(&rt, alloc, Own::new(&rt, alloc, &ends), &name, &key);
+    expect_shared(&rt, alloc, Own::new(&rt, alloc, &ends), &named);
+    expect_slot(&rt, alloc, Own::new(&rt, alloc, &ends), &named);
 }

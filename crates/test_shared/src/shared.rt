@@ -1,7 +1,9 @@
 //! A book that threads share.
 
-use crate::books::{AT, count_of, is_gauge, key, new_book};
-use metrics::{KeyName, MetricKind, Recorder, Refused, Reset, Row, Update};
+use crate::books::{
+    AT, Named, count_of, expect_all_done, expect_counted, is_gauge, key, name_and_key, new_book,
+};
+use metrics::{MetricKind, Recorder, Refused, Reset, Row, Update};
 use metrics_shared::Shared;
 use std::alloc::Global;
 use std::process::Abort;
@@ -18,10 +20,10 @@ fn is_described(rows: &[Row]) -> bool {
 
 fn expect_counter<R: Abort + Wait, B: Recorder>(rt: &R, alloc: Global, on: &Shared<B>) {
     let kind = MetricKind::Counter;
-    let name = KeyName::new(alloc, "c").expect(rt, "out of memory");
+    let Named { name, key } = name_and_key(rt, alloc, "c");
     let answer = on.describe(rt, alloc, kind, &name, None, "t");
     assert_eq!(rt; answer.expect(rt, "out of memory"), 1);
-    let found = on.register(rt, alloc, kind, &key(rt, alloc, "c"));
+    let found = on.register(rt, alloc, kind, &key);
     assert_eq!(rt;
         found.expect(rt, "out of memory").as_slice(),
         [AT].as_slice()
@@ -86,11 +88,8 @@ fn expect_sum<R: Abort + Threads + Wait + Sync, B: Recorder + Send>(
     let found = on.register(rt, alloc, MetricKind::Counter, &key(rt, alloc, "c"));
     let _found = found.expect(rt, "out of memory");
     let done = thread::map_indices(rt, alloc, 4, &|_| add_many(rt, on));
-    for is_done in done.expect(rt, "out of memory") {
-        assert!(rt; is_done);
-    }
-    let rows = on.snapshot(rt, alloc, 0).expect(rt, "out of memory");
-    assert_eq!(rt; count_of(rows.as_slice()), Some(4000));
+    expect_all_done(rt, done);
+    expect_counted(rt, alloc, on, 4000);
 }
 
 #[test]

@@ -1,8 +1,7 @@
 //! Calls of a slot that another thread holds.
 ghost use Rattle.std.specs.Thread.{IsSync};
 
-use crate::books::{AT, count_of, key, new_book};
-use crate::steps::is_reached;
+use crate::books::{AT, count_of, expect_all_done, key, new_book};
 use metrics::{KeyName, MetricKind, Recorder, Update};
 use metrics_shared::{RecoverableRecorder, RecoveryHandle, SlotRecorder};
 use std::alloc::Global;
@@ -10,7 +9,7 @@ use std::process::Abort;
 use std::sync::Wait;
 use std::sync::atomic::{AtomicU64, Ordering};
 use std::thread::{self, Threads, join};
-use test_trial::Trial;
+use test_trial::{Trial, is_reached};
 
 /// A slot and the handle of its recorder.
 type Built<B> = (SlotRecorder<B>, RecoveryHandle<B>);
@@ -53,9 +52,7 @@ fn expect_sum<R: Abort + Threads + Wait + Sync, B: Recorder + Send>(rt: &R, allo
 {
     let (slot, handle) = built(rt, alloc, on);
     let done = thread::map_indices(rt, alloc, 4, &|_| add_many(rt, &slot));
-    for is_done in done.expect(rt, "out of memory") {
-        assert!(rt; is_done);
-    }
+    expect_all_done(rt, done);
     expect_count(rt, alloc, handle, 4000);
 }
 

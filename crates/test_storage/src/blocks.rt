@@ -156,18 +156,28 @@ fn texts_come_newest_block_first(rt: HostRuntime) {
     drop(bucket);
 }
 
+/// Returns a bucket of values whose ends are counted.
+fn filled_with_endings<'a, R: Abort>(
+    rt: &R,
+    trial: &mut Trial,
+    ends: &'a Cell<u64>,
+) -> OwnedBucket<Ending<'a>> {
+    let mut bucket = OwnedBucket::new(trial.alloc);
+    fill(
+        rt,
+        trial,
+        &mut bucket,
+        &|number: i64| Ending { number, ends },
+    );
+    bucket
+}
+
 /// Also if a value was returned first.
 #[test]
 fn each_value_ends_once(rt: HostRuntime) {
     let mut trial = Trial::new(rt.alloc());
     let ends = &Cell::new(0u64);
-    let mut bucket = OwnedBucket::new(rt.alloc());
-    fill(
-        &rt,
-        &mut trial,
-        &mut bucket,
-        &|number: i64| Ending { number, ends },
-    );
+    let mut bucket = filled_with_endings(&rt, &mut trial, ends);
     check(&rt, ends.get() == 0);
     clear(&rt, &trial, &mut bucket);
     check(&rt, ends.get() == 130);
@@ -187,13 +197,7 @@ fn each_value_ends_once(rt: HostRuntime) {
 fn the_end_of_a_bucket_ends_its_values(rt: HostRuntime) {
     let mut trial = Trial::new(rt.alloc());
     let ends = &Cell::new(0u64);
-    let mut bucket = OwnedBucket::new(rt.alloc());
-    fill(
-        &rt,
-        &mut trial,
-        &mut bucket,
-        &|number: i64| Ending { number, ends },
-    );
+    let bucket = filled_with_endings(&rt, &mut trial, ends);
     drop(bucket);
     check(&rt, ends.get() == 130);
 }

@@ -1,6 +1,8 @@
 //! Shared by tests that check the state after a failed call: the marks between which memory may run out, and what is
-//! expected then.
+//! expected then. Also by tests of threads: steps in an order, and whether each value came out once.
 #![tactic(auto)]
+
+mod steps;
 
 ghost use Rattle.std.specs.Prelude.{◌≡◌, ◌↔◌, ◌+◌, ◌-◌, ◌^◌, min};
 ghost use Rattle.std.specs.Prelude.{IsTrue, IsOk, IsErr, IfOk, MatchResult};
@@ -9,6 +11,7 @@ ghost use Rattle.metrics_names.specs.declared.refused.Refused.TheVariants.{Memor
 
 use metrics::{Error, Refused};
 use std::alloc::Global;
+pub use steps::{is_reached, sleep};
 
 /// What went wrong.
 pub type Wrong = &'static str;
@@ -105,4 +108,17 @@ pub fn made<T: Drop, F: Fn() -> Result<T, Error>>(trial: &mut Trial, make: &F) -
             done(make())
         }
     }
+}
+
+/// Returns whether these are the numbers from 0 on, below `count`, each once, in any order.
+pub fn are_all_once(mut values: Vec<u64>, count: usize) -> bool {
+    values.sort_unstable();
+    let mut want = 0u64;
+    for value in values.as_slice() {
+        if *value != want {
+            return false;
+        }
+        want = want.wrapping_add(1);
+    }
+    values.len() == count
 }
