@@ -4,7 +4,8 @@ import re
 
 TOP = os.path.dirname(os.path.dirname(os.path.abspath(__file__)))
 CRATES = os.path.join(TOP, "crates")
-USE = re.compile(r"(?m)^\s*(?:ghost )?use ([\w.]+)\.\{([^}]*)\}")
+USE = re.compile(r"(?m)^\s*(?:ghost |pub )?use ([\w.]+)\.\{([^}]*)\}")
+PASSED_ON = re.compile(r"(?m)^pub use ([\w.]+)\.\{([^}]*)\}")
 ALIAS = re.compile(r"(?m)^\s*(?:ghost )?use ([\w.]+) as (\w+)")
 HEADER = re.compile(r"^(\s*)(?:(?:abbrev|unfoldable) (?:pub )?|pub )(?:(record|data) )?(?!mutual\b)([^\s:({]+)")
 PART = re.compile(r"^(\s+)([^\s:({-][^\s:({]*)[^:]* :")
@@ -96,13 +97,15 @@ class Specs:
     """All definitions of all crates, by module and name, those of their cases too."""
 
     def __init__(self):
-        self.found = {}
+        self.found, self.passed_on = {}, {}
         for crate in sorted(os.listdir(CRATES)):
             top = os.path.join(CRATES, crate, "specs")
             for folder, _, files in sorted(os.walk(top)):
                 for file in sorted(files):
                     if file.endswith(".antt") and file != "Lib.antt":
                         self.read(f"Rattle.{crate}.specs.", top, os.path.join(folder, file))
+        for here, there in self.passed_on.items():
+            self.found[here] = self.found[there]
         while any([self.read_proofs(module) for module in sorted({module for it in self.found.values() for module, _ in it.cited})]):
             pass
 
@@ -121,6 +124,8 @@ class Specs:
         with open(path, encoding="utf-8") as it:
             text = it.read()
         imports, made = imports_of(text), []
+        for there, names in PASSED_ON.findall(text):
+            self.passed_on |= {(module, name.strip()): (there, name.strip()) for name in names.split(",")}
         for comment, body in blocks_of(text):
             names, cases = names_of(body)
             if names:

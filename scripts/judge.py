@@ -241,7 +241,7 @@ class Export(model.Exporter):
 
     def copied(self):
         other = copy.copy(self)
-        other.held, other.seen = self.held.copy(), self.seen.copy()
+        other.held, other.seen, other.made_in = self.held.copy(), self.seen.copy(), self.made_in.copy()
         return other
 
     def after(self, line, said):
@@ -282,7 +282,7 @@ class Export(model.Exporter):
                 left.check(series, now)
                 if is_new or series not in left.held:
                     yield before
-        if left.held:
+        if left.held or self.shows_self:
             yield left
 
     def in_order(self):
@@ -313,17 +313,30 @@ class Prometheus(Export):
     end of the input is a scrape without an expiry, unless nothing changed since the last one."""
 
     refusal = b"# refused E1 memory"
+    limit = b"# refused too many series"
     taken = []
 
-    def __init__(self, words):
+    def __init__(self, words, refused):
+        """`refused` says how many updates, descriptions and scrapes were refused."""
+        self.refused = dict(zip(("update", "describe", "scrape"), refused))
         options = model.options_of(words)
         kinds = "".join(kind[0] for kind in options.idle_kinds.split(","))
-        super().__init__(["", kinds, options.idle, options.bounds])
+        super().__init__(["", kinds, options.idle, "0"])
+        self.bounds = options.bounds
         self.is_changed, self.is_recommended = False, options.recommended_names
         self.prefixes = model.prefix_bounds(options)
+        self.places = model.prefix_places(options)
         self.labels = model.common_labels(options)
         self.names = model.names_of(options)
         self.at_scrapes_only = options.at_scrapes_only
+        self.max_series = options.max_series
+        self.shows_self = options.self
+
+    def refusing(self):
+        """Returns a copy with one more refused call."""
+        other = self.copied()
+        other.refused_calls += 1
+        return other
 
     def copied(self):
         other = super().copied()
@@ -332,18 +345,25 @@ class Prometheus(Export):
 
     def after(self, line, said):
         is_refused = said[:1] == [self.refusal]
+        self.lines += 1
         match model.asked(line.decode(errors="surrogateescape"), self):
+            case None:
+                self.bad_lines += 1
+                yield self, 0, False
             case ("scrape", moment):
-                yield from self.after_scrape(moment or 0, said, is_refused)
+                yield from self.after_scrape(moment or 0, said, is_refused and self.refused["scrape"])
+            case ("update", word, _, name, labels) if self.is_beyond(word, name, labels):
+                if said[:1] == [self.limit]:
+                    yield self.refusing(), 1, False
             case ("update", word, amount, name, labels):
-                if is_refused and (model.KIND_OF[word], name, labels) not in self.held:
-                    yield self.copied(), 1, True
+                if is_refused and self.refused["update"] and (model.KIND_OF[word], name, labels) not in self.held:
+                    yield self.refusing(), 1, True
                 self.update(word, amount, name, labels)
                 self.is_changed = True
                 yield self, 0, False
             case ("describe", *description):
-                if is_refused:
-                    yield self.copied(), 1, True
+                if is_refused and self.refused["describe"]:
+                    yield self.refusing(), 1, True
                 self.describe(*description)
                 self.is_changed = True
                 yield self, 0, False
@@ -351,8 +371,9 @@ class Prometheus(Export):
                 yield self, 0, False
 
     def after_scrape(self, now, said, is_refused):
+        self.last = now
         if is_refused:
-            yield from ((other, 1, True) for other in self.begun(now))
+            yield from ((other.refusing(), 1, True) for other in self.begun(now))
             return
         self.expire(now)
         self.is_changed = False
@@ -369,13 +390,14 @@ class Prometheus(Export):
     def after_end(self, said):
         if not self.owes_end():
             yield self, 0, False
-        elif said[:1] == [self.refusal] and self.held:
+        elif said[:1] == [self.refusal] and (self.held or self.shows_self) and self.refused["scrape"]:
             yield self, 1, True
         else:
             yield from self.after_text(said)
 
     def text(self, now):
-        rows = model.rows_of(self)
+        shown = model.with_own(self)
+        rows = model.rows_of(shown)
         histograms = model.histograms_of(rows)
         lines, last = [], None
         for row in rows:
@@ -387,12 +409,13 @@ class Prometheus(Export):
                 lines += model.help_lines(self, row)
                 lines.append("# TYPE %s %s" % (row[0], model.KINDS[row[1]]))
             last = row
-            for end, labels, number in model.samples_of(self, row):
+            for end, labels, number in model.samples_of(shown, row):
                 lines.append("%s%s%s %s" % (row[0], end, model.braces(labels), number))
         return [line.encode() for line in lines] + [b""]
 
     def seen_as(self):
-        return repr((self.held, self.seen, self.helps, self.units, self.is_changed))
+        counts = (self.lines, self.bad_lines, self.refused_calls, self.last)
+        return repr((self.held, self.seen, self.made_in, self.helps, self.units, self.is_changed, counts))
 
 
 # ---- runs
@@ -501,8 +524,12 @@ def judge(program, words, given, bad, code, how, status, out, errors):
         pieces = given.split(b"\n")
         lines = model.without_partial(pieces, model.options_of(words))
         partial = len(pieces) - len(lines) if pieces[-1] else 0
-        errors, refused = without_refusals(status, errors)
-        shown = said.count(Prometheus.refusal)
+        errors, of_kinds = without_refusals(status, errors)
+        refused = sum(of_kinds)
+        shown = said.count(Prometheus.refusal) + said.count(Prometheus.limit)
+        if REFUSED.search(bad):  # also with memory available there are too many series, and that alone gives the status
+            bad = REFUSED.sub(b"", bad)
+            code = 0 if not LEFT_OUT.sub(b"", bad) else 3 if "--skip-bad" in words else 2
         told, bad = without_text(errors, bad), LEFT_OUT.sub(b"", bad)
         if code == 3:
             told, bad = without_passed_over(told, bad), b""
@@ -510,7 +537,7 @@ def judge(program, words, given, bad, code, how, status, out, errors):
             raise Wrong("%d lines for %d refused calls" % (shown, refused))
         if refused and told == bad:
             status = code
-        judge_lines(0, lambda: Prometheus(words), lines, bad, code, most, status, told, said, partial)
+        judge_lines(0, lambda: Prometheus(words, of_kinds), lines, bad, code, most, status, told, said, partial)
 
 
 # The message for calls that were refused.
@@ -518,11 +545,12 @@ REFUSED = re.compile(rb"^refused: (\d+) updates, (\d+) descriptions, (\d+) scrap
 
 
 def without_refusals(status, errors):
-    """Returns the other messages, and how many calls were refused: if some were, the status is 1, and one message counts them."""
-    counts = [sum(map(int, found)) for found in REFUSED.findall(errors)]
-    if len(counts) > 1 or 0 in counts or (counts and status != 1):
+    """Returns the other messages, and how many updates, descriptions and scrapes were refused: if some were, the status is 1, and
+    one message counts them."""
+    counts = [tuple(map(int, found)) for found in REFUSED.findall(errors)]
+    if len(counts) > 1 or (0, 0, 0) in counts or (counts and status != 1):
         raise Wrong("status %d with %r" % (status, errors))
-    return REFUSED.sub(b"", errors), sum(counts)
+    return REFUSED.sub(b"", errors), (counts or [(0, 0, 0)])[0]
 
 
 # The messages for a series that a text leaves out (a failed scrape prints none), and for a name that it spells otherwise (a line

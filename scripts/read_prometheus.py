@@ -6,13 +6,16 @@
     read_prometheus.py access LOG OUTPUT          judges what came of an access log, by counts of its own
 
 Each exposition goes to `promtool check metrics`, and to the text parser of the package prometheus_client. What a scrape is to
-show follows here from the rules in crates/metrics_prometheus/README.md and docs/PROGRAM.md, without the program.
+show follows here from the rules in docs/PROGRAM.md and the READMEs of metrics_exposition and metrics_prometheus, without the
+program.
 """
 
 import argparse
+import copy
 import re
 import subprocess
 import sys
+from fractions import Fraction
 
 KINDS = ("counter", "gauge", "histogram")
 KIND_OF = {"increment": 0, "absolute": 0, "add": 1, "sub": 1, "set": 1, "record": 2}
@@ -38,8 +41,46 @@ def updated(word, amount, value):
     return min(max(level, LEAST), GREATEST)
 
 
-def ascending(bounds):
-    return sorted({int(bound) for bound in bounds.split(",")})
+NUMERAL = re.compile(r"-?(?P<whole>0|[1-9][0-9]*)(?:\.(?P<decimals>[0-9]{1,18}))?(?P<power>e[+-]?[0-9]{1,2})?")
+
+
+def units_of(number, places):
+    """Returns how many units of the last of so many decimal places a number is, or None: no number, or a place too many."""
+    found = NUMERAL.fullmatch(number)
+    if found is None or number == "-0" or int(found["whole"]) >= 2**64:
+        return None
+    if found["power"] is None and len(found["decimals"] or "") > places:
+        return None
+    units = Fraction(number) * 10**places
+    return int(units) if units.denominator == 1 else None
+
+
+def ascending(bounds, places=0):
+    """Returns bounds in units of the last place, in order. They may have a plus and needless zeros."""
+    units = {units_of(re.sub("^([+-]?)0*(?=[0-9])", r"\1", bound).lstrip("+"), places) for bound in bounds.split(",")}
+    return sorted(bound for bound in units if LEAST <= bound <= GREATEST)
+
+
+def longest(prefixes, name, default):
+    """Returns what is set for the longest prefix of a name, or the default."""
+    prefix = max(filter(name.startswith, prefixes), key=len, default=None)
+    return default if prefix is None else prefixes[prefix]
+
+
+# The series about the program itself: the kind and the name of each.
+OWN = "metrics_prometheus_tool_"
+OWN_SERIES = [(0, "lines_total"), (0, "bad_lines_total"), (0, "refused_calls_total")]
+OWN_SERIES += [(1, "series"), (1, "left_out_series"), (1, "scrape_timestamp_seconds")]
+
+# The bounds of names without a unit, and of those of a unit, where no bounds are given.
+PLAIN = "5,10,25,50,100,250,500,1000,2500,5000,10000"
+BY_UNIT = {
+    "percent": "1,5,10,25,50,75,90,95,99,100",
+    "seconds": "1,2,5,10,30,60,120,300,600,1800,3600",
+    "microseconds": "100,250,500,1000,2500,5000,10000,25000,50000,100000,250000,500000,1000000,10000000",
+    "nanoseconds": "1000,2500,5000,10000,25000,50000,100000,250000,500000,1000000,10000000,100000000,1000000000",
+    "bytes": "256,1024,4096,16384,65536,262144,1048576,4194304,16777216,67108864,268435456,1073741824",
+}
 
 
 class Exporter:
@@ -48,8 +89,10 @@ class Exporter:
     def __init__(self, kinds, timeout, bounds):
         self.watched = [KINDS.index(k) for k in KINDS if k[0] in kinds]
         self.timeout = None if timeout == "-" else int(timeout)
-        self.bounds = ascending(bounds)
+        self.bounds = bounds
+        self.made_in = {}
         self.prefixes = {}
+        self.places = {}
         self.held = {}
         self.seen = {}
         self.helps = {}
@@ -57,11 +100,45 @@ class Exporter:
         self.is_recommended = False
         self.labels = {}
         self.names = ("", [])
+        self.max_series = None
+        self.shows_self = False
+        self.lines = self.bad_lines = self.refused_calls = 0
+        self.last = None
 
-    def bounds_for(self, name):
-        """Returns the bounds of the longest prefix of a name, otherwise the default ones."""
-        prefix = max(filter(name.startswith, self.prefixes), key=len, default=None)
-        return self.bounds if prefix is None else self.prefixes[prefix]
+    def own_series(self, left_out):
+        """Returns the series about the program itself, where a text leaves so many series out."""
+        numbers = (self.lines, self.bad_lines, self.refused_calls, len(self.held), left_out, self.last)
+        return {
+            (kind, OWN + name, in_order(self.labels)): (number if kind == 0 else min(number, GREATEST), 0)
+            for (kind, name), number in zip(OWN_SERIES, numbers)
+            if number is not None
+        }
+
+    def is_beyond(self, word, name, labels):
+        """Whether an update would make one series too many."""
+        if self.max_series is None or len(self.held) < self.max_series:
+            return False
+        return (KIND_OF[word], name, labels) not in self.held
+
+    def places_of(self, name):
+        """Returns the decimal places of the name of a line."""
+        return longest(self.places, name, 0)
+
+    def kept_places(self, name):
+        """Returns the decimal places of a kept name, which has the prefix of all names. The program's own names have none."""
+        if self.shows_self and name in [OWN + own for _, own in OWN_SERIES]:
+            return 0
+        return self.places_of(name[len(self.names[0]) :])
+
+    def bounds_for(self, series):
+        """Returns the bounds of a histogram, in units of its name's last place: those of the longest prefix of its kept name,
+        otherwise the given ones, otherwise those of the unit that the name had when the series was made; that plays no part
+        where a name has decimal places by an option."""
+        name = series[1]
+        bounds = PLAIN if self.bounds is None else self.bounds
+        if self.bounds is None and longest(self.places, name[len(self.names[0]) :], None) is None:
+            bounds = BY_UNIT.get(self.made_in.get(series), PLAIN)
+        return ascending(longest(self.prefixes, name, bounds), self.kept_places(name))
 
     def describe(self, kind, name, unit, text):
         self.helps[kind, name] = text
@@ -71,6 +148,8 @@ class Exporter:
     def update(self, word, amount, name, labels):
         series = (KIND_OF[word], name, labels)
         value, updates = self.held.get(series, (None, 0))
+        if updates == 0:
+            self.made_in[series] = self.units.get(series[:2])
         self.held[series] = (updated(word, amount, value), updates + 1)
 
     def expire(self, now):
@@ -84,7 +163,7 @@ class Exporter:
         if updates != self.held[series][1]:
             self.seen[series] = (self.held[series][1], now)
         elif now - moment > self.timeout:
-            del self.held[series], self.seen[series]
+            del self.held[series], self.seen[series], self.made_in[series]
 
 
 # ---- what Prometheus is to be shown
@@ -209,10 +288,10 @@ def braces(labels):
 def samples_of(exporter, row):
     """Returns the samples of a row: the end of each name, the labels, and the number as it is written."""
     _, kind, labels, key = row
-    value, places = exporter.held[key][0], base_of(exporter, kind, key[1])[1]
+    value, places = exporter.held[key][0], base_of(exporter, kind, key[1])[1] + exporter.kept_places(key[1])
     if kind != 2:
         return [("", labels, pointed(value, places))]
-    buckets = [(pointed(bound, places), sum(1 for x in value if x <= bound)) for bound in exporter.bounds_for(key[1])]
+    buckets = [(pointed(bound, places), sum(1 for x in value if x <= bound)) for bound in exporter.bounds_for(key)]
     buckets.append(("+Inf", len(value)))
     parts = [("_bucket", labels + [("le", bound)], str(count)) for bound, count in buckets]
     return parts + [("_sum", labels, pointed(sum(value), places)), ("_count", labels, str(len(value)))]
@@ -224,8 +303,23 @@ def help_lines(exporter, row):
     return [] if text is None else [f"# HELP {row[0]} {one_line(text)}"]
 
 
+def with_own(exporter):
+    """Returns an exporter that holds the series about the program itself too, if they are shown."""
+    if not exporter.shows_self:
+        return exporter
+    other = copy.copy(exporter)
+    for left_out in (lambda: 0, lambda: len(families_of(other)[1])):
+        other.held = exporter.held | exporter.own_series(left_out())
+    return other
+
+
 def expected(exporter):
     """Returns each expected family, the lines of the series that are left out, and those of descriptions."""
+    return families_of(with_own(exporter))
+
+
+def families_of(exporter):
+    """The same of held series alone."""
     rows = rows_of(exporter)
     histograms = histograms_of(rows)
     families, left_out, helps, last = [], [], [], None
@@ -305,11 +399,15 @@ def expositions(output):
     return texts
 
 
-def is_number(word, amount):
-    """Returns whether this is a number of a line."""
-    if word in ("increment", "absolute", "scrape"):
-        return re.fullmatch("0|[1-9][0-9]*", amount) is not None and int(amount) < 2**64
-    return re.fullmatch("0|-?[1-9][0-9]*", amount) is not None and -(2**63) <= int(amount) < 2**63
+def amount_of(word, amount, places):
+    """Returns the units of an update's amount, or None."""
+    units = units_of(amount, places)
+    least, greatest = (0, 2**64 - 1) if word in ("increment", "absolute") else (LEAST, GREATEST)
+    return units if units is not None and least <= units <= greatest else None
+
+
+def is_moment(text):
+    return re.fullmatch("0|[1-9][0-9]*", text) is not None and int(text) < 2**64
 
 
 # ---- lines
@@ -342,12 +440,13 @@ def labels_of(rest):
     return in_order(labels)
 
 
-def update_of(word, rest):
+def update_of(word, rest, places_of):
     found = re.fullmatch("([^ ]*) ([^ ]+)(.*)", rest, re.DOTALL)
-    if word not in KIND_OF or found is None or not is_number(word, found[1]) or UNFIT.search(found[2]):
+    if word not in KIND_OF or found is None or UNFIT.search(found[2]):
         return None
-    labels = labels_of(found[3])
-    return labels if labels is None else ("update", word, int(found[1]), "" if found[2] == "-" else found[2], labels)
+    name = "" if found[2] == "-" else found[2]
+    amount, labels = amount_of(word, found[1], places_of(name)), labels_of(found[3])
+    return None if amount is None or labels is None else ("update", word, amount, name, labels)
 
 
 def describe_of(rest):
@@ -359,8 +458,8 @@ def describe_of(rest):
     return "describe", KINDS.index(kind), "" if name == "-" else name, unit, text[0]
 
 
-def request_of(line):
-    """Returns what a line asks for, or None if it is bad."""
+def request_of(line, places_of):
+    """Returns what a line asks for, or None if it is bad; names have decimal places."""
     line = line.removesuffix("\r")
     word, space, rest = line.partition(" ")
     if line == "" or line[0] == "#":
@@ -368,8 +467,8 @@ def request_of(line):
     if line == "scrape":
         return "scrape", None
     if word == "scrape":
-        return ("scrape", int(rest)) if is_number(word, rest) else None
-    return describe_of(rest) if word == "describe" else update_of(word, rest)
+        return ("scrape", int(rest)) if is_moment(rest) else None
+    return describe_of(rest) if word == "describe" else update_of(word, rest, places_of)
 
 
 def labelled(request, common):
@@ -398,7 +497,7 @@ def names_of(options):
 
 def asked(line, exporter):
     """Returns what a line asks of an exporter, or None if it is bad."""
-    return named(labelled(request_of(line), exporter.labels), exporter.names)
+    return named(labelled(request_of(line, exporter.places_of), exporter.labels), exporter.names)
 
 
 def options_of(words):
@@ -406,17 +505,22 @@ def options_of(words):
     parser = argparse.ArgumentParser()
     parser.add_argument("--idle", default="-")
     parser.add_argument("--idle-kinds", default=",".join(KINDS))
-    parser.add_argument("--bounds", default="5,10,25,50,100,250,500,1000,2500,5000,10000")
+    parser.add_argument("--bounds")
     parser.add_argument("--bounds-of", action="append", default=[])
+    parser.add_argument("--places", action="append", default=[])
     parser.add_argument("--label", action="append", default=[])
     parser.add_argument("--prefix")
     parser.add_argument("--drop", action="append", default=[])
     parser.add_argument("--textfile")
+    parser.add_argument("--state")
     parser.add_argument("--every")
+    parser.add_argument("--max-series", type=int)
     parser.add_argument("--at-scrapes-only", action="store_true")
     parser.add_argument("--accept-partial", action="store_true")
     parser.add_argument("--skip-bad", action="store_true")
+    parser.add_argument("--strict", action="store_true")
     parser.add_argument("--recommended-names", action="store_true")
+    parser.add_argument("--self", action="store_true")
     return parser.parse_args(words)
 
 
@@ -431,7 +535,12 @@ def common_labels(options):
 
 def prefix_bounds(options):
     parts = [value.rpartition("=") for value in options.bounds_of]
-    return {names_of(options)[0] + prefix: ascending(bounds) for prefix, _, bounds in parts}
+    return {names_of(options)[0] + prefix: bounds for prefix, _, bounds in parts}
+
+
+def prefix_places(options):
+    parts = [value.rpartition("=") for value in options.places]
+    return {prefix: int(places) for prefix, _, places in parts}
 
 
 def exporter_of(options, made=Exporter):
@@ -439,10 +548,19 @@ def exporter_of(options, made=Exporter):
     exporter = made(kinds, options.idle, options.bounds)
     exporter.is_recommended = options.recommended_names
     exporter.prefixes = prefix_bounds(options)
+    exporter.places = prefix_places(options)
     exporter.labels = common_labels(options)
     exporter.names = names_of(options)
     exporter.at_scrapes_only = options.at_scrapes_only
+    exporter.max_series = options.max_series
+    exporter.shows_self = options.self
     return exporter
+
+
+def moment_in(text):
+    """Returns the moment that a text has, by the clock of its scrape."""
+    found = re.search(f"^{OWN}scrape_timestamp_seconds.* ([0-9]+)$", text or "", re.MULTILINE)
+    return int(found[1]) if found else 0
 
 
 def check(lines, output, exporter, skips_bad):
@@ -450,16 +568,21 @@ def check(lines, output, exporter, skips_bad):
     texts = iter(expositions(output))
     count, is_changed = 0, False
 
-    def shown():
+    def shown(text):
         wanted = expected(exporter)
-        judge(next(texts, None), *wanted, is_recommended=exporter.is_recommended)
+        judge(text, *wanted, is_recommended=exporter.is_recommended)
         return sum(len(samples) for _, _, samples in wanted[0])
 
     for line in lines:
+        exporter.lines += 1
         match asked(line, exporter):
             case None if not skips_bad:  # a bad line ends the run
                 is_changed = False
                 break
+            case None:
+                exporter.bad_lines += 1
+            case ("update", word, _, name, labels) if exporter.is_beyond(word, name, labels):
+                exporter.refused_calls += 1
             case ("update", *update):
                 exporter.update(*update)
                 is_changed = True
@@ -467,11 +590,13 @@ def check(lines, output, exporter, skips_bad):
                 exporter.describe(*description)
                 is_changed = True
             case ("scrape", moment):
+                text = next(texts, None)
+                exporter.last = moment_in(text) if moment is None else moment
                 exporter.expire(moment or 0)
-                count += shown()
+                count += shown(text)
                 is_changed = False
     if is_changed and not exporter.at_scrapes_only:
-        count += shown()
+        count += shown(next(texts, None))
     if next(texts, None) is not None:
         raise Wrong("more expositions than scrapes")
     return count

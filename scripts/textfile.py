@@ -1,5 +1,6 @@
 #!/usr/bin/env python3
-"""What `metrics_prometheus_tool --textfile PATH` does to files: no reader sees a torn or an empty text, whatever happens.
+"""What `metrics_prometheus_tool --textfile PATH --state PATH` does to files: no reader sees a torn or an empty text, whatever
+happens, and what was held goes on at the next run.
 
     textfile.py PROGRAM
 
@@ -169,6 +170,115 @@ def kills(folder):
     return run(folder, path, series(b"x", 300, 1))[0] == 0 and is_whole(path.read_bytes(), counts)
 
 
+def state_run(folder, given, *options):
+    ended = subprocess.run([PROGRAM, "--textfile", "a.prom", "--state", "a.state", *options], input=given, capture_output=True, cwd=folder, timeout=60)
+    return ended.returncode, ended.stdout, ended.stderr.decode()
+
+
+LINES = (b'describe counter hits count All hits.\nincrement 2 hits path="a \\"b\\""\nset 3 temp\nadd 4 temp\n'
+         b"record 7 lat\nrecord 7000 lat\nrecord -9 lat\nincrement 0 none\n")
+PLACED = b"describe histogram lat seconds Time.\nrecord 0.25 lat\nrecord 1e+01 lat\nset -3.5 temp\nincrement 3e+09 bytes\n"
+
+
+# A histogram that is made before its name has a unit, one after, and one whose name's unit changes; so from run to run.
+UNITS = (b"record 3 early\ndescribe histogram early seconds Time.\nrecord 400 early\n"
+         b"describe histogram size bytes Size.\nrecord 5000000 size\ndescribe histogram size percent Part.\nrecord 70 size a=b\n")
+
+
+def runs_add_up(lines, *options):
+    """Three runs hold together what one run with all their lines holds."""
+    def case(folder):
+        for _ in range(3):
+            if state_run(folder, lines, *options) != (0, b"", ""):
+                return False
+        together = (folder / "a.prom").read_text()
+        ended = subprocess.run([PROGRAM, *options], input=lines * 3, capture_output=True, timeout=60)
+        return together + "\n" == ended.stdout.decode() and not beside(folder, ["a.prom", "a.state"])
+    return case
+
+
+def other_order(folder):
+    """The order of options doesn't matter to a state."""
+    options = ["--bounds-of=a=1,2", "--bounds-of=b=3", "--places=x=1", "--places=y=2"]
+    state_run(folder, b"record 2 a\n", *options)
+    return state_run(folder, b"record 2 a\n", *reversed(options)) == (0, b"", "") and "a_count 2\n" in (folder / "a.prom").read_text()
+
+
+def many_samples(folder):
+    """A state with a histogram of ten million samples is read soon."""
+    (folder / "a.state").write_text(
+        "metrics_prometheus_tool state 1, bounds 5,10 2 lines\n10000000 - record 7 lat\n5 - record 11 lat\n")
+    begun = time.monotonic()
+    ended = state_run(folder, b"record 7 lat\n", "--bounds", "5,10")
+    took = time.monotonic() - begun
+    shown = (folder / "a.prom").read_text()
+    return ended == (0, b"", "") and took < 2 and "lat_sum 70000062\n" in shown and "lat_count 10000006\n" in shown
+
+
+NOT_WHOLE = "a.state: not whole\n"
+FOREIGN = "a.state: not a state of this program with these bounds and decimal places\n"
+
+
+def no_update(folder):
+    """A run without updates keeps the state and the text as they are."""
+    state_run(folder, b"increment 2 hits\n")
+    before = (folder / "a.state").read_bytes(), (folder / "a.prom").read_bytes()
+    return state_run(folder, b"") == (0, b"", "") and before == ((folder / "a.state").read_bytes(), (folder / "a.prom").read_bytes())
+
+
+def bad_state(spoil, message, *options):
+    """A state that a run can't begin with is reported before the first line, and stays."""
+    def case(folder):
+        state_run(folder, b"increment 2 hits\nrecord 7 lat\n")
+        path = folder / "a.state"
+        path.write_bytes(spoil(path.read_bytes()))
+        before = path.read_bytes(), (folder / "a.prom").read_bytes()
+        ended = state_run(folder, b"increment 1 hits\nbad\n", *options)
+        return ended == (2, b"", message) and before == (path.read_bytes(), (folder / "a.prom").read_bytes())
+    return case
+
+
+def other_places(folder):
+    """Names with other decimal places are another state, also where their bounds are the same in units of the last place."""
+    state_run(folder, b"increment 2 hits\n", "--bounds-of", "hits=5")
+    before = (folder / "a.state").read_bytes()
+    ended = state_run(folder, SMALL, "--places", "hits=1", "--bounds-of", "hits=0.5")
+    return ended == (2, b"", FOREIGN) and before == (folder / "a.state").read_bytes()
+
+
+def each_cut_state(folder):
+    """A state that is cut off at any byte is refused."""
+    state_run(folder, b"describe counter hits count All hits.\nincrement 2 hits a=b\nrecord 7 lat\n")
+    path = folder / "a.state"
+    whole = path.read_bytes()
+    for size in range(len(whole)):
+        path.write_bytes(whole[:size])
+        status, out, errors = state_run(folder, SMALL)
+        if (status, out, path.read_bytes()) != (2, b"", whole[:size]) or errors not in (NOT_WHOLE, FOREIGN):
+            return False
+    path.write_bytes(whole)
+    return state_run(folder, SMALL) == (0, b"", "")
+
+
+def one_file(folder):
+    """The state and the text can't be in one file, also behind a link."""
+    (folder / "link").symlink_to("a.prom")
+    for name in ("a.prom", "link"):
+        ended = subprocess.run([PROGRAM, "--textfile", "a.prom", "--state", name], input=SMALL, capture_output=True, cwd=folder, timeout=60)
+        message = "--state and --textfile name one file\n"
+        if (ended.returncode, ended.stdout, ended.stderr.decode()) != (2, b"", message) or (folder / "a.prom").exists():
+            return False
+    return True
+
+
+def state_unwritten(folder):
+    """Where the state can't be written, the text isn't either."""
+    (folder / "none").symlink_to("missing/a")
+    ended = subprocess.run([PROGRAM, "--textfile", "a.prom", "--state", "none"], input=SMALL, capture_output=True, cwd=folder, timeout=60)
+    message = "can't make ./missing/a.0.tmp: No such file or directory (os error 2)\n".replace("./", "")
+    return (ended.returncode, ended.stdout, ended.stderr.decode()) == (1, b"", message) and not (folder / "a.prom").exists()
+
+
 def clock_in_seconds(folder):
     """By the clock a series goes 3 seconds after its last update with --idle 1, and stays with --idle 60."""
     def shown(idle):
@@ -214,6 +324,25 @@ CASES = {
     "little memory": memory_short,
     "two writers": two_writers,
     "kills": kills,
+    "three runs": runs_add_up(LINES, "--prefix", "p", "--label", "host=x y"),
+    "three runs with decimal places": runs_add_up(PLACED, "--prefix", "p", "--places", "lat=2", "--places", "te=1", "--recommended-names"),
+    "another order of options": other_order,
+    "many samples": many_samples,
+    "no update": no_update,
+    "a state without its last line": bad_state(lambda text: text[:text.rindex(b"\n", 0, -1) + 1], NOT_WHOLE),
+    "a state with a line more": bad_state(lambda text: text + b"1 - increment 2 hits\n", NOT_WHOLE),
+    "each cut state": each_cut_state,
+    "an empty state": bad_state(lambda text: b"", FOREIGN),
+    "a foreign state": bad_state(lambda text: b"# TYPE a counter\na 1\n", FOREIGN),
+    "a changed line": bad_state(lambda text: text.replace(b"1 - increment 2 hits", b"1 - increment x hits"), "a.state: a line is not one of a state\n"),
+    "other bounds": bad_state(lambda text: text, FOREIGN, "--bounds", "1,2"),
+    "other bounds of a prefix": bad_state(lambda text: text, FOREIGN, "--bounds-of", "lat=1,2"),
+    "other decimal places": bad_state(lambda text: text, FOREIGN, "--places", "hits=1"),
+    "other decimal places at the same bounds": other_places,
+    "three runs with units": runs_add_up(UNITS, "--prefix", "p"),
+    "other bounds of a unit": bad_state(lambda text: text.replace(b"in seconds 1,2,", b"in seconds 1,3,"), FOREIGN),
+    "one file": one_file,
+    "a state that can't be written": state_unwritten,
     "seconds": clock_in_seconds,
     "a period": clock_by_itself,
 }

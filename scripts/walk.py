@@ -7,7 +7,7 @@
 The cases are those of cases/ and a few storms, on the programs that the gate left in crates/*/out; the tests are those of each
 crate that has some, in crates/NAME/out/NAME_tests. With names it walks these groups of cases (`cases.py list` has them) and
 these crates alone.
-JOBS says how many run beside one another. Each run has ten seconds.
+JOBS says how many run beside one another.
 
 Prints a line for each run that failed and for each folder or crate, and at the end
 'refusals: C cases, T tests, R runs, M requests refused: P passed, F failed', by cases and tests."""
@@ -63,6 +63,11 @@ class Walked(NamedTuple):
     faults: list
 
 
+# In seconds. A test waits two seconds for a thread that a refusal keeps from starting, in 2,000 steps, each of which takes much
+# longer where other processes have the cores.
+HANGS_AFTER = 120
+
+
 def run_once(command, given, room, how, at, counts_all):
     (room / "told").unlink(missing_ok=True)
     # The library is named from the folder of the run: its name may have no space.
@@ -70,7 +75,7 @@ def run_once(command, given, room, how, at, counts_all):
     if counts_all:
         env["REFUSE_ALL"] = "1"
     try:
-        ended = subprocess.run(command, input=given, capture_output=True, cwd=room, env=env, timeout=10)
+        ended = subprocess.run(command, input=given, capture_output=True, cwd=room, env=env, timeout=HANGS_AFTER)
         status, out, errors = ended.returncode, ended.stdout, ended.stderr
     except subprocess.TimeoutExpired:
         status, out, errors = "hang", b"", b""
