@@ -1,6 +1,6 @@
 //! Exporters that tests write and read.
 
-use metrics::{Error, Key, Label, MetricKind, MetricKindMask, Unit, Update};
+use metrics::{Error, Key, MetricKind, MetricKindMask, Unit, Update};
 use metrics_exporter::{Bounds, Exporter};
 use metrics_prometheus::exposition;
 use std::alloc::{AllocError, Global};
@@ -76,16 +76,6 @@ pub fn new_exporter_by_unit(rt: &impl Abort, alloc: Global) -> Exporter {
     Exporter::with_bounds(alloc, 1, MetricKindMask::NONE, None, bounds).expect(rt, MEMORY)
 }
 
-/// A key of this name and these labels.
-pub fn key_of(rt: &impl Abort, alloc: Global, name: &str, labels: &[(&str, &str)]) -> Key {
-    let mut all = Vec::new(alloc);
-    for (key, value) in labels {
-        let label = Label::new(alloc, key, value).expect(rt, MEMORY);
-        all.push(label).expect(rt, MEMORY);
-    }
-    Key::from_parts(alloc, name, all).expect(rt, MEMORY)
-}
-
 /// Makes an update.
 pub fn update<E: States>(
     rt: &impl Abort,
@@ -93,7 +83,7 @@ pub fn update<E: States>(
     on: &mut E,
     (name, labels, by): (&str, &[(&str, &str)], Update),
 ) {
-    let key = key_of(rt, alloc, name, labels);
+    let key = Key::from_labels(alloc, name, labels).expect(rt, MEMORY);
     on.update(&key, by).expect(rt, MEMORY);
 }
 
@@ -104,15 +94,21 @@ pub fn measure<E: States>(
     on: &mut E,
     (name, samples): (&str, &[i64]),
 ) {
-    let key = key_of(rt, alloc, name, &[]);
+    let key = Key::from_name(alloc, name).expect(rt, MEMORY);
     for sample in samples {
         on.measure(&key, Update::Record(*sample)).expect(rt, MEMORY);
     }
 }
 
 /// The state of an exporter.
-pub fn state_of<E: States>(rt: &impl Abort, alloc: Global, on: &E) -> String {
+fn state_of<E: States>(rt: &impl Abort, alloc: Global, on: &E) -> String {
     on.write(alloc, "test 1").expect(rt, MEMORY)
+}
+
+/// Compares the state of an exporter.
+pub fn expect_state<E: States>(rt: &impl Abort, alloc: Global, on: &E, wanted: &str) {
+    let state = state_of(rt, alloc, on);
+    assert!(rt; state.as_str() == wanted, "{state}");
 }
 
 /// Whether an exporter that reads the other one's state shows the same.

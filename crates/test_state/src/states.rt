@@ -1,8 +1,8 @@
 //! States that are written, read and refused.
 
 use crate::given::{
-    MEMORY, States, answer_to, is_read_back, measure, new_exporter, new_exporter_by_unit,
-    refusal_of, state_of, update,
+    MEMORY, States, answer_to, expect_state, is_read_back, measure, new_exporter,
+    new_exporter_by_unit, refusal_of, update,
 };
 use metrics::{Unit, Update};
 use metrics_exporter::Exporter;
@@ -41,16 +41,7 @@ const STATE: &str = "test 1 8 lines
 /// The samples of a histogram are others, with the same counts and the same sum.
 #[test]
 fn a_state_has_a_line_for_each_call(rt: HostRuntime) {
-    let on = filled(&rt, rt.alloc());
-    let state = state_of(&rt, rt.alloc(), &on);
-    assert!(rt; state.as_str() == STATE, "{state}");
-}
-
-#[test]
-fn what_is_read_is_what_was_written(rt: HostRuntime) {
-    let old = filled(&rt, rt.alloc());
-    let mut new = new_exporter(&rt, rt.alloc(), &[10, 25]);
-    assert!(rt; is_read_back(&rt, rt.alloc(), &old, &mut new));
+    expect_state(&rt, rt.alloc(), &filled(&rt, rt.alloc()), STATE);
 }
 
 /// An exporter with four histograms: one that was made before its name was in bytes, one that was made after, one whose name
@@ -89,9 +80,14 @@ const MEASURED: &str = "test 1 11 lines
 
 #[test]
 fn a_state_has_the_unit_that_a_histogram_was_made_in(rt: HostRuntime) {
-    let on = measured(&rt, rt.alloc());
-    let state = state_of(&rt, rt.alloc(), &on);
-    assert!(rt; state.as_str() == MEASURED, "{state}");
+    expect_state(&rt, rt.alloc(), &measured(&rt, rt.alloc()), MEASURED);
+}
+
+#[test]
+fn what_is_read_is_what_was_written(rt: HostRuntime) {
+    let old = filled(&rt, rt.alloc());
+    let mut new = new_exporter(&rt, rt.alloc(), &[10, 25]);
+    assert!(rt; is_read_back(&rt, rt.alloc(), &old, &mut new));
 }
 
 /// What is read is shown the same, and has the same state.
@@ -100,8 +96,7 @@ fn a_histogram_that_is_read_keeps_its_bounds(rt: HostRuntime) {
     let old = measured(&rt, rt.alloc());
     let mut new = new_exporter_by_unit(&rt, rt.alloc());
     assert!(rt; is_read_back(&rt, rt.alloc(), &old, &mut new));
-    let state = state_of(&rt, rt.alloc(), &new);
-    assert!(rt; state.as_str() == MEASURED, "{state}");
+    expect_state(&rt, rt.alloc(), &new, MEASURED);
 }
 
 /// The next of a row of numbers that look random.
