@@ -15,31 +15,6 @@ fn watching(rt: &impl Abort, alloc: Global) -> Exporter {
     Exporter::new(alloc, 2, MetricKindMask::ALL, Some(5), &[10]).expect(rt, MEMORY)
 }
 
-/// Absorbs the book's snapshot, and expires. Returns how many series went.
-fn scrape<R: Recorder, E: Exports>(
-    alloc: Global,
-    book: &mut R,
-    exporter: &mut E,
-    now: u64,
-) -> Result<usize, Error> {
-    let snapshot = book.snapshot_with(alloc, 0, Reset::KeepGauges)?;
-    exporter.absorb(&snapshot)?;
-    exporter.expire(now)
-}
-
-/// Scrapes at a moment, and compares how many series went, and the lines of the others.
-fn expect_scrape<R: Recorder, E: Exports>(
-    rt: &impl Abort,
-    alloc: Global,
-    book: &mut R,
-    exporter: &mut E,
-    (now, removed, wanted): (u64, usize, &str),
-) {
-    let went = scrape(alloc, book, exporter, now).expect(rt, MEMORY);
-    assert!(rt; went == removed);
-    expect_text(rt, exporter, wanted);
-}
-
 const TEMP: &str = "gauge temp value 7\n";
 
 const HITS: &str = "counter hits value 0\n";
@@ -54,53 +29,70 @@ fn hits_of<R: Recorder>(rt: &impl Abort, alloc: Global, book: &mut R) -> Counter
         .expect(rt, MEMORY)
 }
 
-fn scrape_set<R: Recorder, E: Exports>(
-    rt: &impl Abort,
+/// A book, and an exporter that absorbs its snapshots.
+#[derive(Drop)]
+struct Scraped<R, E> {
     alloc: Global,
-    book: &mut R,
-    exporter: &mut E,
-) {
-    let temp = temp_of(rt, alloc, book);
-    for now in [10, 16, 22, 28, 34] {
-        temp.set(book, 7).expect(rt, MEMORY);
-        expect_scrape(rt, alloc, book, exporter, (now, 0, TEMP));
-    }
+    book: R,
+    exporter: E,
 }
 
-fn scrape_idle<R: Recorder, E: Exports>(
-    rt: &impl Abort,
-    alloc: Global,
-    book: &mut R,
-    exporter: &mut E,
-) {
-    let temp = temp_of(rt, alloc, book);
-    temp.set(book, 7).expect(rt, MEMORY);
-    for scraped in [
-        (10, 0, TEMP),
-        (15, 0, TEMP),
-        (16, 1, ""),
-        (17, 0, ""),
-        (40, 0, ""),
-    ] {
-        expect_scrape(rt, alloc, book, exporter, scraped);
+impl<R: Recorder, E: Exports> Scraped<R, E> {
+    /// Absorbs the book's snapshot, and expires. Returns how many series went.
+    fn scrape(&mut self, now: u64) -> Result<usize, Error> {
+        let snapshot = self.book.snapshot_with(self.alloc, 0, Reset::KeepGauges)?;
+        self.exporter.absorb(&snapshot)?;
+        self.exporter.expire(now)
     }
-    temp.increment(book, 0).expect(rt, MEMORY);
-    expect_scrape(rt, alloc, book, exporter, (50, 0, TEMP));
-    expect_scrape(rt, alloc, book, exporter, (56, 1, ""));
-}
 
-fn scrape_registered<R: Recorder, E: Exports>(
-    rt: &impl Abort,
-    alloc: Global,
-    book: &mut R,
-    exporter: &mut E,
-) {
-    let _hits = hits_of(rt, alloc, book);
-    for scraped in [(10, 0, HITS), (16, 1, ""), (17, 0, "")] {
-        expect_scrape(rt, alloc, book, exporter, scraped);
+    /// Scrapes at a moment, and compares how many series went, and the lines of the others.
+    fn expect_scrape(&mut self, rt: &impl Abort, (now, removed, wanted): (u64, usize, &str)) {
+        let went = self.scrape(now).expect(rt, MEMORY);
+        assert!(rt; went == removed);
+        expect_text(rt, &self.exporter, wanted);
     }
-    let _again = hits_of(rt, alloc, book);
-    expect_scrape(rt, alloc, book, exporter, (18, 0, HITS));
+
+    fn scrape_set(&mut self, rt: &impl Abort) {
+        let temp = temp_of(rt, self.alloc, &mut self.book);
+        for now in [10, 16, 22, 28, 34] {
+            temp.set(&mut self.book, 7).expect(rt, MEMORY);
+            self.expect_scrape(rt, (now, 0, TEMP));
+        }
+    }
+
+    fn scrape_idle(&mut self, rt: &impl Abort) {
+        let temp = temp_of(rt, self.alloc, &mut self.book);
+        temp.set(&mut self.book, 7).expect(rt, MEMORY);
+        for scraped in [
+            (10, 0, TEMP),
+            (15, 0, TEMP),
+            (16, 1, ""),
+            (17, 0, ""),
+            (40, 0, ""),
+        ] {
+            self.expect_scrape(rt, scraped);
+        }
+        temp.increment(&mut self.book, 0).expect(rt, MEMORY);
+        self.expect_scrape(rt, (50, 0, TEMP));
+        self.expect_scrape(rt, (56, 1, ""));
+    }
+
+    fn scrape_registered(&mut self, rt: &impl Abort) {
+        let _hits = hits_of(rt, self.alloc, &mut self.book);
+        for scraped in [(10, 0, HITS), (16, 1, ""), (17, 0, "")] {
+            self.expect_scrape(rt, scraped);
+        }
+        let _again = hits_of(rt, self.alloc, &mut self.book);
+        self.expect_scrape(rt, (18, 0, HITS));
+    }
+
+    fn make(&mut self, rt: &impl Abort, which: Scrapes) {
+        match which {
+            Scrapes::Set => self.scrape_set(rt),
+            Scrapes::Idle => self.scrape_idle(rt),
+            Scrapes::Registered => self.scrape_registered(rt),
+        }
+    }
 }
 
 /// Which scrapes to make.
@@ -111,28 +103,25 @@ enum Scrapes {
     Registered,
 }
 
-fn make_scrapes<R: Recorder, E: Exports>(
+/// Makes scrapes of a book by an exporter.
+fn scrape_all<R: Recorder, E: Exports>(
     rt: &impl Abort,
     alloc: Global,
-    mut book: R,
-    mut exporter: E,
+    (book, exporter): (R, E),
     which: Scrapes,
 ) {
-    match which {
-        Scrapes::Set => scrape_set(rt, alloc, &mut book, &mut exporter),
-        Scrapes::Idle => scrape_idle(rt, alloc, &mut book, &mut exporter),
-        Scrapes::Registered => scrape_registered(rt, alloc, &mut book, &mut exporter),
-    }
-}
-
-fn with_book<R: Recorder>(rt: &impl Abort, alloc: Global, book: R, which: Scrapes) {
-    make_scrapes(rt, alloc, book, watching(rt, alloc), which);
+    let mut scraped = Scraped {
+        alloc,
+        book,
+        exporter,
+    };
+    scraped.make(rt, which);
 }
 
 /// Makes a book and an exporter of it.
 fn with_both(rt: &impl Abort, alloc: Global, which: Scrapes) {
     let book = DebuggingRecorder::new(alloc).expect(rt, MEMORY);
-    with_book(rt, alloc, book, which);
+    scrape_all(rt, alloc, (book, watching(rt, alloc)), which);
 }
 
 #[test]

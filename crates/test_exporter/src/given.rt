@@ -1,6 +1,6 @@
 //! Updates that tests make, and what they ask of an exporter.
 
-use metrics::{Error, Key, Label, MetricKind, MetricKindMask, Snapshot, Unit, Update};
+use metrics::{Error, Key, MetricKind, MetricKindMask, Snapshot, Unit, Update};
 use metrics_exporter::{Exporter, PartlyAbsorbed};
 use metrics_prometheus::exposition;
 use std::alloc::Global;
@@ -94,12 +94,7 @@ pub fn exporter_of(rt: &impl Abort, alloc: Global, bounds: &[i64]) -> Exporter {
 
 /// Returns a key of a name and labels.
 pub fn key(rt: &impl Abort, alloc: Global, name: &str, labels: &[(&str, &str)]) -> Key {
-    let mut all = Vec::new(alloc);
-    for (label, value) in labels {
-        let label = Label::new(alloc, label, value).expect(rt, MEMORY);
-        all.push(label).expect(rt, MEMORY);
-    }
-    Key::from_parts(alloc, name, all).expect(rt, MEMORY)
+    Key::from_labels(alloc, name, labels).expect(rt, MEMORY)
 }
 
 /// Makes the updates in order.

@@ -59,69 +59,83 @@ const SERIES: [Given; 11] = [
     ("up_seconds", &[], Update::Set(60)),
 ];
 
-const GIVEN: &str = "# HELP busy_total time at work\n\
-    # TYPE busy_total counter\n\
-    busy_total 1250000\n\
-    # HELP drift of the clock\n\
-    # TYPE drift gauge\n\
-    drift -250\n\
-    # HELP full of the disk\n\
-    # TYPE full gauge\n\
-    full -7\n\
-    full{disk=\"a\"} 105\n\
-    # TYPE hits counter\n\
-    hits 3\n\
-    # HELP jobs at work\n\
-    # TYPE jobs gauge\n\
-    jobs 4\n\
-    # HELP lat time to the answer\n\
-    # TYPE lat histogram\n\
-    lat_bucket{le=\"-250\"} 1\n\
-    lat_bucket{le=\"5\"} 2\n\
-    lat_bucket{le=\"5000\"} 2\n\
-    lat_bucket{le=\"+Inf\"} 2\n\
-    lat_sum -1250\n\
-    lat_count 2\n\
-    # HELP sent_bytes_total what was sent\n\
-    # TYPE sent_bytes_total counter\n\
-    sent_bytes_total 9\n\
-    # TYPE temp gauge\n\
-    temp -3\n\
-    # HELP up_seconds since the start\n\
-    # TYPE up_seconds gauge\n\
-    up_seconds 60\n";
+/// The lines of the text: as they are given, and with recommended names and base units.
+const LINES: [(&str, &str); 31] = [
+    (
+        "# HELP busy_total time at work",
+        "# HELP busy_seconds_total time at work",
+    ),
+    (
+        "# TYPE busy_total counter",
+        "# TYPE busy_seconds_total counter",
+    ),
+    ("busy_total 1250000", "busy_seconds_total 1.25"),
+    (
+        "# HELP drift of the clock",
+        "# HELP drift_seconds of the clock",
+    ),
+    ("# TYPE drift gauge", "# TYPE drift_seconds gauge"),
+    ("drift -250", "drift_seconds -0.00000025"),
+    ("# HELP full of the disk", "# HELP full_ratio of the disk"),
+    ("# TYPE full gauge", "# TYPE full_ratio gauge"),
+    ("full -7", "full_ratio -0.07"),
+    ("full{disk=\"a\"} 105", "full_ratio{disk=\"a\"} 1.05"),
+    ("# TYPE hits counter", "# TYPE hits_total counter"),
+    ("hits 3", "hits_total 3"),
+    ("# HELP jobs at work", "# HELP jobs at work"),
+    ("# TYPE jobs gauge", "# TYPE jobs gauge"),
+    ("jobs 4", "jobs 4"),
+    (
+        "# HELP lat time to the answer",
+        "# HELP lat_seconds time to the answer",
+    ),
+    ("# TYPE lat histogram", "# TYPE lat_seconds histogram"),
+    (
+        "lat_bucket{le=\"-250\"} 1",
+        "lat_seconds_bucket{le=\"-0.25\"} 1",
+    ),
+    (
+        "lat_bucket{le=\"5\"} 2",
+        "lat_seconds_bucket{le=\"0.005\"} 2",
+    ),
+    (
+        "lat_bucket{le=\"5000\"} 2",
+        "lat_seconds_bucket{le=\"5\"} 2",
+    ),
+    (
+        "lat_bucket{le=\"+Inf\"} 2",
+        "lat_seconds_bucket{le=\"+Inf\"} 2",
+    ),
+    ("lat_sum -1250", "lat_seconds_sum -1.25"),
+    ("lat_count 2", "lat_seconds_count 2"),
+    (
+        "# HELP sent_bytes_total what was sent",
+        "# HELP sent_bytes_total what was sent",
+    ),
+    (
+        "# TYPE sent_bytes_total counter",
+        "# TYPE sent_bytes_total counter",
+    ),
+    ("sent_bytes_total 9", "sent_bytes_total 9"),
+    ("# TYPE temp gauge", "# TYPE temp gauge"),
+    ("temp -3", "temp -3"),
+    (
+        "# HELP up_seconds since the start",
+        "# HELP up_seconds since the start",
+    ),
+    ("# TYPE up_seconds gauge", "# TYPE up_seconds gauge"),
+    ("up_seconds 60", "up_seconds 60"),
+];
 
-const RECOMMENDED: &str = "# HELP busy_seconds_total time at work\n\
-    # TYPE busy_seconds_total counter\n\
-    busy_seconds_total 1.25\n\
-    # HELP drift_seconds of the clock\n\
-    # TYPE drift_seconds gauge\n\
-    drift_seconds -0.00000025\n\
-    # HELP full_ratio of the disk\n\
-    # TYPE full_ratio gauge\n\
-    full_ratio -0.07\n\
-    full_ratio{disk=\"a\"} 1.05\n\
-    # TYPE hits_total counter\n\
-    hits_total 3\n\
-    # HELP jobs at work\n\
-    # TYPE jobs gauge\n\
-    jobs 4\n\
-    # HELP lat_seconds time to the answer\n\
-    # TYPE lat_seconds histogram\n\
-    lat_seconds_bucket{le=\"-0.25\"} 1\n\
-    lat_seconds_bucket{le=\"0.005\"} 2\n\
-    lat_seconds_bucket{le=\"5\"} 2\n\
-    lat_seconds_bucket{le=\"+Inf\"} 2\n\
-    lat_seconds_sum -1.25\n\
-    lat_seconds_count 2\n\
-    # HELP sent_bytes_total what was sent\n\
-    # TYPE sent_bytes_total counter\n\
-    sent_bytes_total 9\n\
-    # TYPE temp gauge\n\
-    temp -3\n\
-    # HELP up_seconds since the start\n\
-    # TYPE up_seconds gauge\n\
-    up_seconds 60\n";
+fn text_of(rt: &impl Abort, alloc: Global, is_recommended: bool) -> String {
+    let mut text = String::new(alloc);
+    for (given, recommended) in LINES {
+        let line = if is_recommended { recommended } else { given };
+        text.push_str(line).expect(rt, MEMORY);
+        text.push('\n').expect(rt, MEMORY);
+    }
+    text
+}
 
 fn describe(rt: &impl Abort, exporter: &mut Exporter, about: &[About]) {
     for (kind, name, unit, text) in about {
@@ -145,14 +159,14 @@ fn filled(rt: &impl Abort, alloc: Global, about: &[About], updates: &[Given]) ->
 fn numbers_are_shown_as_they_are_given(rt: HostRuntime) {
     let exporter = filled(&rt, rt.alloc(), &ABOUT, &SERIES);
     let shown = exposition_named(&exporter, rt.alloc(), Naming::default()).expect(&rt, MEMORY);
-    assert_eq!(rt; shown.as_str(), GIVEN);
+    assert_eq!(rt; shown.as_str(), text_of(&rt, rt.alloc(), false).as_str());
 }
 
 #[test]
 fn recommended_names_and_base_units_are_shown(rt: HostRuntime) {
     let exporter = filled(&rt, rt.alloc(), &ABOUT, &SERIES);
     let shown = exposition_named(&exporter, rt.alloc(), Naming::Recommended).expect(&rt, MEMORY);
-    assert_eq!(rt; shown.as_str(), RECOMMENDED);
+    assert_eq!(rt; shown.as_str(), text_of(&rt, rt.alloc(), true).as_str());
 }
 
 /// Names that are shown as one, labels that keep a series from the text, and one that doesn't.
