@@ -3,7 +3,6 @@ ghost use Rattle.std.specs.Thread.{IsSync};
 
 use crate::entries::add;
 use crate::kinds::{KINDS, of_kind};
-use crate::steps::{is_reached, sleep};
 use metrics::{Key, MetricKind, MetricKindMask};
 use metrics_registry::Counted;
 use metrics_shared_registry::{AtomicStorage, Recency, Registry};
@@ -12,7 +11,7 @@ use std::process::Abort;
 use std::sync::Wait;
 use std::sync::atomic::{AtomicU64, Ordering};
 use std::thread::{self, Threads};
-use test_trial::Trial;
+use test_trial::{Trial, is_reached, sleep};
 
 /// The longest time that an entry may be idle.
 const TIMEOUT: u64 = 5;

@@ -51,7 +51,7 @@ fn expect_second<R: Abort + Wait, E: Entries>(
 ) {
     assert!(rt; on.delete(rt, kind, first));
     assert!(rt; !on.delete(rt, kind, first));
-    let handles = on.handles(rt, alloc, (kind, first), false);
+    let handles = on.handles(rt, alloc, (kind, first, false));
     assert!(rt; handles.expect(rt, "out of memory") == (0, None));
     assert!(rt; add(rt, on, kind, second) == 1);
     assert!(rt; ones(rt, on, kind, second) == Some(1));
@@ -152,7 +152,7 @@ fn a_retain_may_keep_none(rt: HostRuntime) {
 fn expect_shared<R: Abort + Wait, E: Entries>(rt: &R, alloc: Global, mut on: E, key: &Key) {
     for kind in KINDS {
         assert!(rt; add(rt, &mut on, kind, key) == 1);
-        let handles = on.handles(rt, alloc, (kind, key), true);
+        let handles = on.handles(rt, alloc, (kind, key, true));
         assert!(rt; handles.expect(rt, "out of memory") == (1, Some(2)));
         assert!(rt; add(rt, &mut on, kind, key) == 3);
     }

@@ -15,34 +15,22 @@ use test_trial::{Trial, Wrong, expect, made};
 /// The longest time that an entry may be idle.
 const TIMEOUT: u64 = 5;
 
+/// A cell by its kind, its key and its generation, and the moment of a look at it.
+type Look<'a> = (MetricKind, &'a Key, Generation, u64);
+
 /// What checks the entries of a registry.
 trait Checks<E>: Drop {
-    /// Whether a cell of this generation is still in use at a moment.
-    fn is_used<W: Wait>(
-        &mut self,
-        rt: &W,
-        on: &mut E,
-        at: (MetricKind, &Key),
-        generation: Generation,
-        now: u64,
-    ) -> Result<bool, Error>;
+    /// Whether a cell is still in use.
+    fn is_used<W: Wait>(&mut self, rt: &W, on: &mut E, look: Look<'_>) -> Result<bool, Error>;
 }
 
-impl<S: Storage<Key> + Drop> Checks<OwnedRegistry<Key, S>> for OwnedRecency<Key>
-where
-    S::Counter: Drop,
-    S::Gauge: Drop,
-    S::Histogram: Drop,
-{
+impl Checks<OwnedRegistry<Key, AtomicStorage>> for OwnedRecency<Key> {
     fn is_used<W: Wait>(
         &mut self,
         _rt: &W,
-        on: &mut OwnedRegistry<Key, S>,
-        at: (MetricKind, &Key),
-        generation: Generation,
-        now: u64,
+        on: &mut OwnedRegistry<Key, AtomicStorage>,
+        (kind, key, generation, now): Look<'_>,
     ) -> Result<bool, Error> {
-        let (kind, key) = at;
         of_kind!(kind, self, should_store_counter should_store_gauge should_store_histogram,
             (key, generation, now, on))
     }
@@ -58,11 +46,8 @@ where
         &mut self,
         rt: &W,
         on: &mut &'a Registry<Key, S>,
-        at: (MetricKind, &Key),
-        generation: Generation,
-        now: u64,
+        (kind, key, generation, now): Look<'_>,
     ) -> Result<bool, Error> {
-        let (kind, key) = at;
         of_kind!(kind, self, should_store_counter should_store_gauge should_store_histogram,
             (rt, key, generation, now, *on))
     }
@@ -107,9 +92,8 @@ impl<E: Entries, C: Checks<E>> Watched<'_, E, C> {
     ) -> Result<Option<u64>, Wrong> {
         let first = Counted::new(0u64).get_generation();
         trial.begin();
-        let answer = self
-            .checks
-            .is_used(rt, self.on, (known.kind, &known.key), first, now);
+        let look = (known.kind, &known.key, first, now);
+        let answer = self.checks.is_used(rt, self.on, look);
         trial.calm();
         match answer {
             Ok(is_used) => {
@@ -166,14 +150,15 @@ impl<E: Entries, C: Checks<E>> Watched<'_, E, C> {
     }
 }
 
-/// Checks a key of a kind, beside an entry of another kind.
+/// Checks a key of a kind, beside an entry of another kind, which the mask lacks.
 fn play<W: Wait + Abort, E: Entries, C: Checks<E>>(
     rt: &W,
     trial: &mut Trial,
     mut on: E,
     checks: C,
-    (kind, other): (MetricKind, MetricKind),
+    kind: MetricKind,
 ) {
+    let (_, other) = mask_of(kind);
     let mut stays = Known::new(trial, other, "a").expect(rt, "wrong");
     let mut known = Known::new(trial, kind, "a").expect(rt, "wrong");
     let mut watched = Watched {
@@ -189,11 +174,10 @@ fn idle_entries_of_one_owner_go(rt: HostRuntime) {
     let alloc = rt.alloc();
     let mut trial = Trial::new(alloc);
     for kind in KINDS {
-        let (mask, other) = mask_of(kind);
         let make = move || OwnedRegistry::new(alloc, AtomicStorage::new(alloc), 2);
         let on = made(&mut trial, &make).expect(&rt, "wrong");
-        let checks = OwnedRecency::new(alloc, mask, Some(TIMEOUT));
-        play(&rt, &mut trial, on, checks, (kind, other));
+        let checks = OwnedRecency::new(alloc, mask_of(kind).0, Some(TIMEOUT));
+        play(&rt, &mut trial, on, checks, kind);
     }
 }
 
@@ -202,10 +186,9 @@ fn idle_entries_under_locks_go(rt: HostRuntime) {
     let alloc = rt.alloc();
     let mut trial = Trial::new(alloc);
     for kind in KINDS {
-        let (mask, other) = mask_of(kind);
         let on = made(&mut trial, &move || Registry::atomic(alloc, 2)).expect(&rt, "wrong");
-        let checks = Recency::new(alloc, mask, Some(TIMEOUT));
-        play(&rt, &mut trial, &on, checks, (kind, other));
+        let checks = Recency::new(alloc, mask_of(kind).0, Some(TIMEOUT));
+        play(&rt, &mut trial, &on, checks, kind);
     }
 }
 
@@ -252,12 +235,12 @@ fn expect_changed_stays<R: Abort + Wait>(
     for (now, sum) in CHANGES {
         assert!(rt; ones(rt, &entries, kind, key) == Some(sum), "at {now}");
         let seen = change(rt, on, at);
-        let is_used = checks.is_used(rt, &mut entries, at, seen, now);
+        let is_used = checks.is_used(rt, &mut entries, (kind, key, seen, now));
         assert!(rt; is_used.expect(rt, "out of memory"), "at {now}");
     }
     let last = change(rt, on, at);
     for (now, is_kept) in [(40, true), (45, true), (46, false)] {
-        let is_used = checks.is_used(rt, &mut entries, at, last, now);
+        let is_used = checks.is_used(rt, &mut entries, (kind, key, last, now));
         assert!(rt; is_used.expect(rt, "out of memory") == is_kept, "at {now}");
     }
     assert!(rt; ones(rt, &entries, kind, key) == None);

@@ -3,7 +3,7 @@
 use metrics::{Error, Key, MetricKind};
 use metrics_bucket::AtomicBucket;
 use metrics_registry::{OwnedRegistry, Storage};
-use metrics_shared_registry::{Generational, Registry};
+use metrics_shared_registry::{AtomicStorage, Generational, Registry};
 use std::alloc::Global;
 use std::collections::HashMap;
 use std::sync::atomic::{AtomicU64, Ordering};
@@ -97,6 +97,9 @@ pub struct Added {
 /// How many handles a list has, and how many ones the cell has that it has for a key.
 pub type Handles = (usize, Option<u64>);
 
+/// A kind and a key whose handles are asked for, and whether a one is added through that of the key.
+pub type Asked<'a> = (MetricKind, &'a Key, bool);
+
 /// A map from kinds and keys to cells.
 pub trait Entries: Drop {
     /// Adds a one to a cell, which is made if the key isn't held.
@@ -106,13 +109,7 @@ pub trait Entries: Drop {
     fn ones<W: Wait>(&self, rt: &W, kind: MetricKind, key: &Key) -> Result<Option<u64>, Error>;
 
     /// Returns the list of handles. A one may be added through that of the key.
-    fn handles<W: Wait>(
-        &self,
-        rt: &W,
-        alloc: Global,
-        at: (MetricKind, &Key),
-        adds: bool,
-    ) -> Result<Handles, Error>;
+    fn handles<W: Wait>(&self, rt: &W, alloc: Global, asked: Asked<'_>) -> Result<Handles, Error>;
 
     /// Keeps the names that begin with a text. Returns how often the closure was called.
     fn retain<W: Wait>(&mut self, rt: &W, kind: MetricKind, prefix: &str) -> usize;
@@ -157,7 +154,7 @@ fn ones_of_clone<W: Wait, C: Cell>(
 }
 
 fn listed<W: Wait, C: Cell>(
-    (rt, key, adds): (&W, &Key, bool),
+    (rt, (_, key, adds)): (&W, Asked<'_>),
     handles: Result<HashMap<Key, C>, Error>,
 ) -> Result<Handles, Error> {
     match handles {
@@ -177,12 +174,7 @@ fn listed<W: Wait, C: Cell>(
     }
 }
 
-impl<S: Storage<Key> + Drop> Entries for OwnedRegistry<Key, S>
-where
-    S::Counter: Cell,
-    S::Gauge: Cell,
-    S::Histogram: Cell,
-{
+impl Entries for OwnedRegistry<Key, AtomicStorage> {
     fn add<W: Wait>(&mut self, rt: &W, kind: MetricKind, key: &Key) -> Added {
         let mut calls = 0u64;
         let ones = of_kind!(kind, self,
@@ -195,14 +187,8 @@ where
         of_kind!(kind, ones_of(rt), self, get_counter get_gauge get_histogram, (key))
     }
 
-    fn handles<W: Wait>(
-        &self,
-        rt: &W,
-        alloc: Global,
-        (kind, key): (MetricKind, &Key),
-        adds: bool,
-    ) -> Result<Handles, Error> {
-        of_kind!(kind, listed((rt, key, adds)), self,
+    fn handles<W: Wait>(&self, rt: &W, alloc: Global, asked: Asked<'_>) -> Result<Handles, Error> {
+        of_kind!(asked.0, listed((rt, asked)), self,
             get_counter_handles get_gauge_handles get_histogram_handles, (alloc))
     }
 
@@ -247,14 +233,8 @@ where
         of_kind!(kind, ones_of_clone(rt), self, get_counter get_gauge get_histogram, (rt, key))
     }
 
-    fn handles<W: Wait>(
-        &self,
-        rt: &W,
-        alloc: Global,
-        (kind, key): (MetricKind, &Key),
-        adds: bool,
-    ) -> Result<Handles, Error> {
-        of_kind!(kind, listed((rt, key, adds)), self,
+    fn handles<W: Wait>(&self, rt: &W, alloc: Global, asked: Asked<'_>) -> Result<Handles, Error> {
+        of_kind!(asked.0, listed((rt, asked)), self,
             get_counter_handles get_gauge_handles get_histogram_handles, (rt, alloc))
     }
 

@@ -20,6 +20,4 @@ mod refused;
 #[cfg(test)]
 mod shards;
 #[cfg(test)]
-mod steps;
-#[cfg(test)]
 mod threads;

@@ -2,7 +2,6 @@
 ghost use Rattle.std.specs.Thread.{IsSync};
 
 use crate::kinds::{KINDS, of_kind};
-use crate::steps::is_reached;
 use crate::threads::{Numbers, add_to_each};
 use metrics::{Error, MetricKind};
 use metrics_registry::DefaultHashable;
@@ -12,7 +11,7 @@ use std::process::Abort;
 use std::sync::Wait;
 use std::sync::atomic::{AtomicU64, Ordering};
 use std::thread::{Threads, join};
-use test_trial::Trial;
+use test_trial::{Trial, is_reached};
 
 /// A call that changes no shard, of a key that is held.
 #[derive(Clone, Copy, Debug)]

@@ -150,13 +150,13 @@ fn expect_handles<W: Wait, E: Entries>(
 ) -> Result<(), Wrong> {
     for known in all {
         trial.begin();
-        let first = on.handles(rt, trial.alloc, (known.kind, &known.key), false);
+        let first = on.handles(rt, trial.alloc, (known.kind, &known.key, false));
         trial.calm();
         let looked = match first {
             Ok(handles) => expect_list(handles, known, all),
             Err(error) => trial.note(error),
         };
-        let again = done(on.handles(rt, trial.alloc, (known.kind, &known.key), false))?;
+        let again = done(on.handles(rt, trial.alloc, (known.kind, &known.key, false)))?;
         looked.and(expect_list(again, known, all))?;
     }
     Ok(())
