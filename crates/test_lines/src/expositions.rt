@@ -78,6 +78,31 @@ impl Write for Pipe {
     }
 }
 
+/// Options that change nothing, of an exporter with these idle kinds and this timeout.
+pub fn options_of(rt: &impl Abort, alloc: Global, (kinds, timeout): (&str, &str)) -> Options {
+    let plan = plan_of(alloc, "1", kinds, timeout, "5").expect(rt, MEMORY);
+    Options {
+        plan: plan.expect(rt, "a plan"),
+        naming: Naming::AsGiven,
+        prefixes: Items::from(Vec::new(alloc)),
+        units: Items::from(Vec::new(alloc)),
+        dialect: Dialect {
+            labels: Items::from(Vec::new(alloc)),
+            places: Items::from(Vec::new(alloc)),
+        },
+        prefix: None,
+        drops: Items::from(Vec::new(alloc)),
+        skips_bad: false,
+        has_file: false,
+        at_scrapes_only: false,
+        every: None,
+        max_series: None,
+        is_strict: false,
+        accepts_partial: false,
+        tells_self: false,
+    }
+}
+
 /// What a run over the lines did: its status, its surroundings, and its output. No request for memory fails.
 fn ran<'a, R: Abort>(
     rt: &'a R,
@@ -99,26 +124,11 @@ fn ran_every<'a, R: Abort>(
     every: Option<u64>,
 ) -> (u8, Stage<'a, R>, Pipe) {
     Trial::new(alloc).calm();
-    let plan = plan_of(alloc, "1", "cgh", "60", "5").expect(rt, MEMORY);
     let options = Options {
-        plan: plan.expect(rt, "a plan"),
-        naming: Naming::AsGiven,
-        prefixes: Items::from(Vec::new(alloc)),
-        units: Items::from(Vec::new(alloc)),
-        dialect: Dialect {
-            labels: Items::from(Vec::new(alloc)),
-            places: Items::from(Vec::new(alloc)),
-        },
-        prefix: None,
-        drops: Items::from(Vec::new(alloc)),
         skips_bad: every.is_some(),
         has_file,
-        at_scrapes_only: false,
         every,
-        max_series: None,
-        is_strict: false,
-        accepts_partial: false,
-        tells_self: false,
+        ..options_of(rt, alloc, ("cgh", "60"))
     };
     let stage = Stage {
         rt,

@@ -1,6 +1,7 @@
 //! Devices that fail, answers that are written in time, and words and numbers that no text case can spell.
 
 use crate::devices::{FaultyReader, MEMORY, end_if_refused, ran_slowly, report, writer};
+use crate::expositions::options_of;
 use metrics_debugging::DebuggingRecorder;
 use metrics_exporter::Exporter;
 use std::alloc::Global;
@@ -10,9 +11,8 @@ use std::io;
 use std::io::{BufRead, BufReader, Read, Write};
 use std::process::Abort;
 use test_trial::Trial;
-use tool_export::plan_of;
 use tool_lines::{RunError, command, run};
-use tool_prometheus::{Dialect, Items, Naming, Options, Surroundings};
+use tool_prometheus::Surroundings;
 
 const GOOD: &[u8] = b"book\nprefix app\nend\ndescribe counter hits count all hits\n\
     register counter hits host=a\nincrement 0 2\nincrement 0 3\nsnapshot 0\nsnapshot 0\n";
@@ -152,27 +152,7 @@ impl Surroundings for Alone {
 
 /// The status of an exporter for Prometheus whose writer accepts so many bytes, and how many it accepted.
 fn shown_to(rt: &impl Abort, alloc: Global, given: &[u8], writes: usize) -> (u8, usize) {
-    let plan = plan_of(alloc, "1", "-", "-", "5").expect(rt, MEMORY);
-    let options = Options {
-        plan: plan.expect(rt, "a plan"),
-        naming: Naming::AsGiven,
-        prefixes: Items::from(Vec::new(alloc)),
-        units: Items::from(Vec::new(alloc)),
-        dialect: Dialect {
-            labels: Items::from(Vec::new(alloc)),
-            places: Items::from(Vec::new(alloc)),
-        },
-        prefix: None,
-        drops: Items::from(Vec::new(alloc)),
-        skips_bad: false,
-        has_file: false,
-        at_scrapes_only: false,
-        every: None,
-        max_series: None,
-        is_strict: false,
-        accepts_partial: false,
-        tells_self: false,
-    };
+    let options = options_of(rt, alloc, ("-", "-"));
     let (mut input, mut output) = (given, writer(rt, alloc, 1, writes));
     let (status, _) = tool_prometheus::command(alloc, options, Alone, &mut input, &mut output);
     (status, output.held.len())
