@@ -28,40 +28,27 @@ pub fn key<R: AllocGlobal + Abort>(rt: &R, name: &str) -> Key {
     Key::from_name(rt.alloc(), name).expect(rt, MEMORY)
 }
 
-/// Adds to a counter, which is looked up.
-fn count<W: Wait, S: SharedRecorder>(
-    rt: &W,
-    local: &mut Local<S>,
-    key: &Key,
-    by: u64,
-) -> Result<(), Error> {
-    let handle = local.counter(rt, key)?;
-    handle.increment(by);
+/// Adds to a counter that was looked up.
+fn count<C: CounterFn>(found: Result<&C, Error>, by: u64) -> Result<(), Error> {
+    found?.increment(by);
     Ok(())
 }
 
-/// Adds to a gauge, which is looked up.
-fn raise<W: Wait, S: SharedRecorder>(
-    rt: &W,
-    local: &mut Local<S>,
-    key: &Key,
-    by: i64,
-) -> Result<(), Error> {
-    let handle = local.gauge(rt, key)?;
-    handle.increment(rt, by);
+/// Adds to a gauge that was looked up.
+fn raise<W: Wait, G: GaugeFn>(rt: &W, found: Result<&G, Error>, by: i64) -> Result<(), Error> {
+    found?.increment(rt, by);
     Ok(())
 }
 
-/// Records a sample into a histogram, which is looked up.
-fn record<W: Wait, S: SharedRecorder>(
-    rt: &W,
-    local: &mut Local<S>,
-    key: &Key,
-    sample: i64,
-) -> Result<(), Error> {
-    let handle = local.histogram(rt, key)?;
-    let _full = handle.record(rt, sample);
-    Ok(())
+/// Records a sample into a histogram that was looked up.
+fn record<W: Wait, H: HistogramFn>(rt: &W, found: Result<&H, Error>, sample: i64) -> Option<Error> {
+    match found {
+        Ok(histogram) => {
+            let _full = histogram.record(rt, sample);
+            None
+        }
+        Err(error) => Some(error),
+    }
 }
 
 /// Adds to a series of a kind, which is looked up. Returns why it wasn't found.
@@ -73,9 +60,9 @@ pub fn try_add<W: Wait, S: SharedRecorder>(
     by: u32,
 ) -> Option<Error> {
     match kind {
-        MetricKind::Counter => count(rt, local, key, by.into()).err(),
-        MetricKind::Gauge => raise(rt, local, key, by.into()).err(),
-        MetricKind::Histogram => record(rt, local, key, by.into()).err(),
+        MetricKind::Counter => count(local.counter(rt, key), by.into()).err(),
+        MetricKind::Gauge => raise(rt, local.gauge(rt, key), by.into()).err(),
+        MetricKind::Histogram => record(rt, local.histogram(rt, key), by.into()),
     }
 }
 

@@ -8,13 +8,35 @@ use metrics_local::Local;
 use std::process::Abort;
 use std::sync::Wait;
 
+/// Adds 2 to the series `a` of a kind, and reads until it is hidden.
+fn hide<R: AllocGlobal + Abort + Wait, S: SharedRecorder>(
+    rt: &R,
+    on: &Collector,
+    local: &mut Local<S>,
+    kind: MetricKind,
+) {
+    add(rt, local, kind, "a", 2);
+    expect_a(rt, on, 10, kind, Some(2));
+    expect_a(rt, on, 16, kind, None);
+}
+
+/// Adds 3 and 4 to it, and compares what is shown of it at a moment.
+fn add_and_read<R: AllocGlobal + Abort + Wait, S: SharedRecorder>(
+    rt: &R,
+    on: &Collector,
+    local: &mut Local<S>,
+    (kind, now, wanted): (MetricKind, u64, i128),
+) {
+    add(rt, local, kind, "a", 3);
+    add(rt, local, kind, "a", 4);
+    expect_a(rt, on, now, kind, Some(wanted));
+}
+
 /// Once the `Local` looked up another series, the next reading removes the idle one. It comes back at 0.
 fn expect_left<R: AllocGlobal + Abort + Wait>(rt: &R, kind: MetricKind, other: MetricKind) {
     let on = collector(rt);
     let mut local = Local::new(rt.alloc(), &on);
-    add(rt, &mut local, kind, "a", 2);
-    expect_a(rt, &on, 10, kind, Some(2));
-    expect_a(rt, &on, 16, kind, None);
+    hide(rt, &on, &mut local, kind);
     add(rt, &mut local, other, "b", 1);
     expect_a(rt, &on, 17, kind, None);
     add(rt, &mut local, kind, "a", 3);
@@ -34,12 +56,8 @@ fn an_idle_series_leaves_once_its_local_was_used(rt: HostRuntime) {
 fn expect_back<R: AllocGlobal + Abort + Wait>(rt: &R, kind: MetricKind) {
     let on = collector(rt);
     let mut local = Local::new(rt.alloc(), &on);
-    add(rt, &mut local, kind, "a", 2);
-    expect_a(rt, &on, 10, kind, Some(2));
-    expect_a(rt, &on, 16, kind, None);
-    add(rt, &mut local, kind, "a", 3);
-    add(rt, &mut local, kind, "a", 4);
-    expect_a(rt, &on, 17, kind, Some(9));
+    hide(rt, &on, &mut local, kind);
+    add_and_read(rt, &on, &mut local, (kind, 17, 9));
 }
 
 #[test]
@@ -86,9 +104,7 @@ fn expect_anew<R: AllocGlobal + Abort + Wait>(rt: &R, kind: MetricKind) {
         assert!(rt; removed == is_there);
         assert!(rt; on.epoch() == epoch.wrapping_add(1));
     }
-    add(rt, &mut local, kind, "a", 3);
-    add(rt, &mut local, kind, "a", 4);
-    expect_a(rt, &on, 10, kind, Some(7));
+    add_and_read(rt, &on, &mut local, (kind, 10, 7));
 }
 
 #[test]
