@@ -87,6 +87,15 @@ impl<'a, P: Abort> Test<'a, P> {
         }
     }
 
+    /// The same of a call that leaves the recorder with the gauge as it is.
+    pub fn note_unchanged<E, R: Recorder>(&self, error: E, on: &mut R)
+    where
+        E: Debug + Drop + PartialEq + From<AllocError>,
+    {
+        self.note(error);
+        self.expect_gauge(on);
+    }
+
     /// Returns the result of a call. The first try may fail.
     pub fn tried<T, E, F: FnMut() -> Result<T, E>>(&self, mut call: F) -> T
     where
@@ -117,17 +126,19 @@ impl<'a, P: Abort> Test<'a, P> {
         match first {
             Ok(made) => made,
             Err((error, mut back)) => {
-                self.note(error);
-                self.expect_gauge(&mut back);
+                self.note_unchanged(error, &mut back);
                 self.made(call(back))
             }
         }
     }
 
     /// Returns the recorder of a call that can't be done, which leaves it unchanged.
-    pub fn given_back<R: Recorder, M, F>(&self, on: R, why: Error, mut call: F) -> R
-    where
-        F: FnMut(R) -> Result<M, (Error, R)>,
+    pub fn given_back<R: Recorder, M, F: FnMut(R) -> Result<M, (Error, R)>>(
+        &self,
+        on: R,
+        why: Error,
+        mut call: F,
+    ) -> R
         requires { F.IsAlwaysCallable call }
     {
         self.begin();

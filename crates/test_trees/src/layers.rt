@@ -41,8 +41,7 @@ fn pushed<P: Abort, R: Recorder, L: Layer<R>>(
     match first {
         Ok(stack) => stack,
         Err((error, mut inner)) => {
-            test.note(error);
-            test.expect_gauge(&mut inner);
+            test.note_unchanged(error, &mut inner);
             test.made(Stack::new(inner).push(test.alloc, equal))
         }
     }
@@ -55,8 +54,7 @@ fn register<P: Abort, R: Recorder>(test: &Test<P>, on: &mut R, name: &str) {
     let first = on.register(test.alloc, Counter, &key);
     test.calm();
     if let Err(refused) = first {
-        test.note(refused);
-        test.expect_gauge(on);
+        test.note_unchanged(refused, on);
     }
 }
 
