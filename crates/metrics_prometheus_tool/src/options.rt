@@ -50,6 +50,16 @@ fn option<'a>(alloc: Global, name: &'a str, value: &'a str, help: &'a str) -> Ar
         .action(ArgAction::Set)
 }
 
+/// An option that may be given several times.
+fn repeated<'a>(alloc: Global, name: &'a str, value: &'a str, help: &'a str) -> Arg<'a> {
+    option(alloc, name, value, help).action(ArgAction::Append)
+}
+
+/// An option with a number. A negative one is taken for its value too, and not for an option.
+fn number<'a>(alloc: Global, name: &'a str, value: &'a str, help: &'a str) -> Arg<'a> {
+    option(alloc, name, value, help).allow_negative_numbers(true)
+}
+
 /// An option without a value.
 fn flag<'a>(alloc: Global, name: &'a str, help: &'a str) -> Arg<'a> {
     Arg::new(alloc, name)
@@ -71,60 +81,54 @@ fn with_plan<'a>(alloc: Global, command: Command<'a>) -> Result<Command<'a>, All
     )
     .value_delimiter(',')
     .allow_negative_numbers(true);
-    let prefixes = option(
+    let prefixes = repeated(
         alloc,
         "bounds-of",
         "PREFIX=N,..",
         "Bounds of histograms whose names begin with PREFIX;\n\
         the longest wins. May be repeated",
-    )
-    .action(ArgAction::Append);
-    let places = option(
+    );
+    let places = repeated(
         alloc,
         "places",
         "NAME=N",
         "Reads numbers of names that begin with NAME with up to N decimal\n\
         places, 18 at most, and shows them so, bounds too.\n\
         The longest wins. May be repeated",
-    )
-    .action(ArgAction::Append);
-    let label = option(
+    );
+    let label = repeated(
         alloc,
         "label",
         "LABEL=VALUE",
         "Adds a label to each series; a series' own label of that name wins.\n\
         May be repeated",
-    )
-    .action(ArgAction::Append);
+    );
     let prefix = option(
         alloc,
         "prefix",
         "PREFIX",
         "Puts PREFIX and an underscore before each name",
     );
-    let drop = option(
+    let drop = repeated(
         alloc,
         "drop",
         "TEXT",
         "Drops the names in which TEXT occurs: nothing is counted of them.\n\
         May be repeated",
-    )
-    .action(ArgAction::Append);
-    let most = option(
+    );
+    let most = number(
         alloc,
         "max-series",
         "N",
         "Refuses updates that would make a series while N are held",
-    )
-    .allow_negative_numbers(true);
-    let idle = option(
+    );
+    let idle = number(
         alloc,
         "idle",
         "N",
         "Removes each series that had no update over scrapes more than N\n\
         apart: seconds, or the unit of each NOW",
-    )
-    .allow_negative_numbers(true);
+    );
     let kinds = option(
         alloc,
         "idle-kinds",
@@ -163,14 +167,13 @@ fn with_output<'a>(alloc: Global, command: Command<'a>) -> Result<Command<'a>, A
         "Puts each scrape into the file PATH, whole or not at all,\n\
         and nothing on standard output",
     );
-    let every = option(
+    let every = number(
         alloc,
         "every",
         "SECONDS",
         "Scrapes by the clock after a line that comes SECONDS or more after\n\
         the last scrape, or the start",
-    )
-    .allow_negative_numbers(true);
+    );
     let state = option(
         alloc,
         "state",

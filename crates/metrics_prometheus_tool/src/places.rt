@@ -2,7 +2,7 @@
 
 use crate::values::Unfit;
 use metrics::{Items, Text, Update};
-use std::alloc::{AllocError, AllocFailed, Global};
+use std::alloc::{AllocError, Global};
 use tool_numbers::{has_place_too_many, is_numeral, update_in};
 use tool_prometheus::{PrefixBounds, PrefixPlaces};
 
@@ -17,38 +17,37 @@ const BOUND: &str = "N is a whole number from -9223372036854775808 to 9223372036
 /// What a bound is where numbers have decimal places.
 const PLACED_BOUND: &str = "N has more decimal places than its names, or is too large with theirs";
 
-/// The names that begin so have numbers with so many decimal places.
+/// What is wrong with a value.
+type Flaw = &'static str;
+
+/// What the names that begin so have.
 #[derive(Clone, Copy, Drop)]
-pub struct NamePlaces<'a> {
+pub struct Named<'a, T> {
     name: &'a str,
-    places: u8,
+    value: T,
 }
+
+/// The names that begin so have numbers with so many decimal places.
+pub type NamePlaces<'a> = Named<'a, u8>;
 
 /// The names that begin so have these bounds.
-#[derive(Clone, Copy, Drop)]
-pub struct NameBounds<'a> {
-    name: &'a str,
-    bounds: &'a str,
-}
+type NameBounds<'a> = Named<'a, &'a str>;
 
 /// The names and the decimal places that a value of the option sets, or what is wrong with it.
-fn name_places<'a>(
-    others: &[NamePlaces<'_>],
-    given: &'a str,
-) -> Result<NamePlaces<'a>, &'static str> {
+fn name_places<'a>(others: &[NamePlaces<'_>], given: &'a str) -> Result<NamePlaces<'a>, Flaw> {
     let Some((name, number)) = given.rsplit_once('=') else {
         return Err("it has no '='");
     };
-    let Ok(places) = number.parse::<u8>() else {
+    let Ok(value) = number.parse::<u8>() else {
         return Err("N is a whole number from 0 to 18");
     };
-    if places > MOST {
+    if value > MOST {
         return Err("N is a whole number from 0 to 18");
     }
     if others.iter().any(|other| other.name == name) {
         return Err("each NAME is given once");
     }
-    Ok(NamePlaces { name, places })
+    Ok(NamePlaces { name, value })
 }
 
 /// The decimal places by beginnings of names, in the order of the command line.
@@ -75,36 +74,27 @@ pub fn prefix_places(
     for one in places {
         prefixes.push(PrefixPlaces {
             prefix: Text::from(String::from_str(alloc, one.name)?),
-            places: one.places,
+            places: one.value,
         })?;
     }
     Ok(Items::from(prefixes))
 }
 
-/// The decimal places of the names that begin so, unless more of a name decides.
-fn places_at(places: &[NamePlaces<'_>], name: &str) -> u8 {
-    let mut best: Option<&NamePlaces<'_>> = None;
-    for one in places {
+/// What the names that begin so have, unless more of a name decides.
+fn longest<T: Copy>(all: &[Named<'_, T>], name: &str) -> Option<T> {
+    let mut best: Option<&Named<'_, T>> = None;
+    for one in all {
         if name.starts_with(one.name)
             && best.is_none_or(|other| other.name.len() < one.name.len())
         {
             best = Some(one);
         }
     }
-    best.map_or(0, |one| one.places)
+    best.map(|one| one.value)
 }
 
-/// The bounds of the names that begin so, if some are set for them.
-fn bounds_at<'a>(bounds: &[NameBounds<'a>], name: &str) -> Option<&'a str> {
-    let mut best: Option<&NameBounds<'a>> = None;
-    for one in bounds {
-        if name.starts_with(one.name)
-            && best.is_none_or(|other| other.name.len() < one.name.len())
-        {
-            best = Some(one);
-        }
-    }
-    best.map(|one| one.bounds)
+fn places_at(places: &[NamePlaces<'_>], name: &str) -> u8 {
+    longest(places, name).unwrap_or(0)
 }
 
 /// A bound in units of the last of so many decimal places. It may have a plus and needless zeros.
@@ -118,66 +108,29 @@ fn units_of(bound: &str, places: u8) -> Option<i64> {
     }
 }
 
-/// Why bounds have no units.
-#[derive(Drop)]
-enum Unscaled<'a> {
-    Memory,
-    /// This one has a place too many, or is too large.
-    Bound(&'a str),
-}
-
-impl From<AllocError> for Unscaled<'_> {
-    fn from(_error: AllocError) -> Self {
-        Unscaled::Memory
-    }
-}
-
-impl<T: Drop> From<AllocFailed<T>> for Unscaled<'_> {
-    fn from(_error: AllocFailed<T>) -> Self {
-        Unscaled::Memory
-    }
-}
-
-/// Bounds in units of the last of so many decimal places.
-fn all_units<'a>(
-    alloc: Global,
-    bounds: &[&'a str],
-    places: u8,
-) -> Result<Items<i64>, Unscaled<'a>> {
-    let mut units = Vec::new(alloc);
-    for bound in bounds {
-        match units_of(bound, places) {
-            Some(one) => units.push(one)?,
-            None => return Err(Unscaled::Bound(bound)),
-        }
-    }
-    Ok(Items::from(units))
-}
-
 /// Whether no number with so many decimal places passes a bound.
 fn is_past(bound: &str, places: u8) -> bool {
     let word = bound.as_bytes();
     bound.parse::<i64>().is_ok() || (is_numeral(word) && !has_place_too_many(word, places))
 }
 
-/// The same of bounds that were set for more names: those that no number passes are left out.
-fn shared_units<'a>(
+/// Bounds in units of the last of so many decimal places, or one that has a place too many or is too large. Of bounds that were
+/// set for more names those are left out that no number passes.
+fn all_units<'a>(
     alloc: Global,
     bounds: &[&'a str],
     places: u8,
-) -> Result<Items<i64>, Unscaled<'a>> {
+    are_shared: bool,
+) -> Result<Result<Items<i64>, &'a str>, AllocError> {
     let mut units = Vec::new(alloc);
     for bound in bounds {
         match units_of(bound, places) {
             Some(one) => units.push(one)?,
-            None => {
-                if !is_past(bound, places) {
-                    return Err(Unscaled::Bound(bound));
-                }
-            }
+            None if are_shared && is_past(bound, places) => {}
+            None => return Ok(Err(bound)),
         }
     }
-    Ok(Items::from(units))
+    Ok(Ok(Items::from(units)))
 }
 
 /// The bounds between commas.
@@ -201,27 +154,21 @@ pub fn bounds_of<'a>(
     bounds: &[&'a str],
 ) -> Result<Items<i64>, Unfit<'a>> {
     let places = places_at(places, "");
-    match all_units(alloc, bounds, places) {
+    match all_units(alloc, bounds, places, false)? {
         Ok(units) => Ok(units),
-        Err(Unscaled::Memory) => Err(Unfit::Memory),
-        Err(Unscaled::Bound(bound)) => {
-            Err(Unfit::Value("--bounds <N,..>", bound, bound_form(places)))
-        }
+        Err(bound) => Err(Unfit::Value("--bounds <N,..>", bound, bound_form(places))),
     }
 }
 
 /// The names and the bounds that a value of the option sets, or what is wrong with it. The prefix may have equals signs.
-fn name_bounds<'a>(
-    others: &[NameBounds<'_>],
-    given: &'a str,
-) -> Result<NameBounds<'a>, &'static str> {
-    let Some((name, bounds)) = given.rsplit_once('=') else {
+fn name_bounds<'a>(others: &[NameBounds<'_>], given: &'a str) -> Result<NameBounds<'a>, Flaw> {
+    let Some((name, value)) = given.rsplit_once('=') else {
         return Err("it has no '='");
     };
     if others.iter().any(|other| other.name == name) {
         return Err("each PREFIX is given once");
     }
-    Ok(NameBounds { name, bounds })
+    Ok(NameBounds { name, value })
 }
 
 /// What is before each name.
@@ -256,15 +203,10 @@ fn add_bounds<'a>(
     one: NameBounds<'a>,
     given: &'a str,
 ) -> Result<(), Unfit<'a>> {
-    let words = words_of(alloc, one.bounds)?;
-    match all_units(alloc, &words, places) {
+    let words = words_of(alloc, one.value)?;
+    match all_units(alloc, &words, places, false)? {
         Ok(units) => Ok(prefixes.add(alloc, one.name, units)?),
-        Err(Unscaled::Memory) => Err(Unfit::Memory),
-        Err(Unscaled::Bound(_)) => Err(Unfit::Value(
-            "--bounds-of <PREFIX=N,..>",
-            given,
-            bound_form(places),
-        )),
+        Err(_) => Err(Unfit::Value("--bounds-of <PREFIX=N,..>", given, bound_form(places))),
     }
 }
 
@@ -276,10 +218,9 @@ fn add_placed<'a>(
     bounds: &[&str],
     given: &'a str,
 ) -> Result<(), Unfit<'a>> {
-    match shared_units(alloc, bounds, one.places) {
+    match all_units(alloc, bounds, one.value, true)? {
         Ok(units) => Ok(prefixes.add(alloc, one.name, units)?),
-        Err(Unscaled::Memory) => Err(Unfit::Memory),
-        Err(Unscaled::Bound(_)) => Err(Unfit::Value(
+        Err(_) => Err(Unfit::Value(
             PLACES,
             given,
             "a bound of these names has more decimal places",
@@ -314,7 +255,7 @@ pub fn prefixes_of<'a>(
         if named.iter().any(|other| other.name == one.name) {
             continue;
         }
-        match bounds_at(&named, one.name) {
+        match longest(&named, one.name) {
             Some(bounds) => {
                 let words = words_of(alloc, bounds)?;
                 add_placed(alloc, &mut prefixes, *one, &words, word)?;

@@ -37,49 +37,38 @@ impl fmt::Display for Unfit<'_> {
     }
 }
 
-/// The timeout of idle series.
-pub fn idle_of(given: Option<&str>) -> Result<Option<u64>, Unfit<'_>> {
+/// The whole number of an option, which is the least one or more, if it is given.
+fn number_of<'a>(
+    given: Option<&'a str>,
+    least: u64,
+    option: &'static str,
+    accepted: &'static str,
+) -> Result<Option<u64>, Unfit<'a>> {
     let Some(given) = given else {
         return Ok(None);
     };
     match given.parse::<u64>() {
-        Ok(timeout) => Ok(Some(timeout)),
-        Err(_) => Err(Unfit::Value(
-            "--idle <N>",
-            given,
-            "N is a whole number from 0 to 18446744073709551615",
-        )),
+        Ok(number) if number >= least => Ok(Some(number)),
+        _ => Err(Unfit::Value(option, given, accepted)),
     }
+}
+
+/// The timeout of idle series.
+pub fn idle_of(given: Option<&str>) -> Result<Option<u64>, Unfit<'_>> {
+    let accepted = "N is a whole number from 0 to 18446744073709551615";
+    number_of(given, 0, "--idle <N>", accepted)
 }
 
 /// How many seconds are between two scrapes by the clock.
 pub fn every_of(given: Option<&str>) -> Result<Option<u64>, Unfit<'_>> {
-    let Some(given) = given else {
-        return Ok(None);
-    };
-    match given.parse::<u64>() {
-        Ok(seconds) if seconds > 0 => Ok(Some(seconds)),
-        _ => Err(Unfit::Value(
-            "--every <SECONDS>",
-            given,
-            "SECONDS is a whole number from 1 to 18446744073709551615",
-        )),
-    }
+    let accepted = "SECONDS is a whole number from 1 to 18446744073709551615";
+    number_of(given, 1, "--every <SECONDS>", accepted)
 }
 
 /// The most series that are held.
 pub fn most_of(given: Option<&str>) -> Result<Option<u64>, Unfit<'_>> {
-    let Some(given) = given else {
-        return Ok(None);
-    };
-    match given.parse::<u64>() {
-        Ok(most) if most > 0 => Ok(Some(most)),
-        _ => Err(Unfit::Value(
-            "--max-series <N>",
-            given,
-            "N is a whole number from 1 to 18446744073709551615",
-        )),
-    }
+    let accepted = "N is a whole number from 1 to 18446744073709551615";
+    number_of(given, 1, "--max-series <N>", accepted)
 }
 
 /// What is wrong with the name of a label that would stand beside others.
