@@ -1,7 +1,7 @@
 //! A thread that asks anew for its handles at each change and drops them, beside one that reads meanwhile.
 ghost use Rattle.std.specs.Thread.{IsSync};
 
-use crate::given::{MEMORY, collector, count, counter, gauge, histogram, record, set};
+use crate::given::{MEMORY, collector, counter, gauge, histogram, update_each};
 use crate::kept::ask_twice;
 use crate::turns::{LOOKS, Limit, Turns};
 use metrics::MetricKindMask;
@@ -46,9 +46,7 @@ pub enum Change {
 
 /// Updates a series of each kind.
 fn update<R: AllocGlobal + Abort + Wait>(rt: &R, on: &Collector, name: &str, number: i64) {
-    count(rt, on, name, 1);
-    set(rt, on, name, number);
-    record(rt, on, name, 5);
+    update_each(rt, on, [name, name, name], (1, number, 5));
 }
 
 /// Makes changes, with at least one whole reading between two. Returns how many there were.

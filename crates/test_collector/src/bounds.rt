@@ -16,6 +16,12 @@ fn bounds<R: AllocGlobal + Abort>(rt: &R) -> Bounds {
     bounds
 }
 
+/// A sample of 3 in histograms at these bounds.
+const TOOK: &str = "# TYPE http_took histogram\n\
+    http_took_bucket{le=\"3\"} 1\nhttp_took_bucket{le=\"+Inf\"} 1\nhttp_took_sum 3\nhttp_took_count 1\n\
+    # TYPE http_took_by histogram\n\
+    http_took_by_bucket{le=\"2\"} 0\nhttp_took_by_bucket{le=\"+Inf\"} 1\nhttp_took_by_sum 3\nhttp_took_by_count 1\n";
+
 /// Compares the lowest bounds of names.
 fn expect_bounds<R: Abort>(rt: &R, bounds: &Bounds, wanted: &[(&str, i64)]) {
     for (name, bound) in wanted {
@@ -44,11 +50,6 @@ fn exact_bounds_win_over_those_of_prefixes(rt: HostRuntime) {
     assert_eq!(&rt; set, Err(Error::NoBounds));
     expect_bounds(&rt, &bounds, &[("http.took", 5)]);
 }
-
-const TOOK: &str = "# TYPE http_took histogram\n\
-    http_took_bucket{le=\"3\"} 1\nhttp_took_bucket{le=\"+Inf\"} 1\nhttp_took_sum 3\nhttp_took_count 1\n\
-    # TYPE http_took_by histogram\n\
-    http_took_by_bucket{le=\"2\"} 0\nhttp_took_by_bucket{le=\"+Inf\"} 1\nhttp_took_by_sum 3\nhttp_took_by_count 1\n";
 
 #[test]
 fn a_collector_counts_at_exact_bounds(rt: HostRuntime) {

@@ -3,14 +3,25 @@
 use metrics::{Key, Label, MetricKindMask};
 use metrics_cells::{CounterFn, GaugeFn, HistogramFn};
 use metrics_collector::{Bounds, Collector, CounterHandle, GaugeHandle, HistogramHandle};
+use std::alloc::Global;
 use std::process::Abort;
 use std::sync::Wait;
+use std::sync::atomic::AtomicUsize;
 
 /// How an end because memory ran out is reported.
 pub const MEMORY: &str = "out of memory";
 
 /// The longest time that a series may be idle.
 pub const TIMEOUT: u64 = 5;
+
+/// What threads share: a collector, how many of them have ended, and how often each does its part.
+#[derive(Clone, Copy)]
+pub struct Shared<'a> {
+    pub alloc: Global,
+    pub collector: &'a Collector,
+    pub ended: &'a AtomicUsize,
+    pub rounds: u64,
+}
 
 /// Returns a collector whose series may be idle for 5, and whose histograms count at 10.
 pub fn collector<R: AllocGlobal + Abort>(rt: &R, mask: MetricKindMask) -> Collector {
@@ -66,6 +77,18 @@ pub fn set<R: AllocGlobal + Abort + Wait>(rt: &R, on: &Collector, name: &str, to
 pub fn record<R: AllocGlobal + Abort + Wait>(rt: &R, on: &Collector, name: &str, sample: i64) {
     let recorded = histogram(rt, on, name).record(rt, sample);
     recorded.expect(rt, "the count fits");
+}
+
+/// Updates a counter, a gauge and a histogram, and keeps no handle.
+pub fn update_each<R: AllocGlobal + Abort + Wait>(
+    rt: &R,
+    on: &Collector,
+    [c, g, h]: [&str; 3],
+    (by, to, sample): (u64, i64, i64),
+) {
+    count(rt, on, c, by);
+    set(rt, on, g, to);
+    record(rt, on, h, sample);
 }
 
 /// Renders, and compares the text.

@@ -1,10 +1,10 @@
 //! Four threads that record into one histogram, beside one that reads the collector and one that reads by a handle.
 ghost use Rattle.std.specs.Thread.{IsSync};
 
-use crate::given::{MEMORY, collector, histogram};
+use crate::given::{MEMORY, Shared, collector, histogram};
 use metrics::MetricKindMask;
 use metrics_cells::HistogramFn;
-use metrics_collector::{Collector, HistogramHandle, Value};
+use metrics_collector::{HistogramHandle, Value};
 use std::alloc::Global;
 use std::process::Abort;
 use std::sync::Wait;
@@ -20,20 +20,8 @@ const LOW: i64 = 7;
 /// A sample above it.
 const HIGH: i64 = 11;
 
-/// How many readings there are at most, for each round.
-const READINGS: u64 = 1000;
-
-/// What the threads share.
-#[derive(Clone, Copy)]
-struct Shared<'a> {
-    alloc: Global,
-    collector: &'a Collector,
-    ended: &'a AtomicUsize,
-    rounds: u64,
-}
-
 /// The numbers of low and of high samples.
-#[derive(Clone, Copy)]
+#[derive(Clone, Copy, Default)]
 struct Counts {
     low: u64,
     high: u64,
@@ -59,7 +47,7 @@ fn counts_of<R: Abort>(rt: &R, buckets: &[(i64, u64)], count: u64, sum: i128) ->
 /// Reads the collector.
 fn gather<R: Abort + Wait>(rt: &R, on: Shared<'_>) -> Counts {
     let gathered = on.collector.gather(rt, on.alloc, 1).expect(rt, MEMORY);
-    let mut counts = Counts { low: 0, high: 0 };
+    let mut counts = Counts::default();
     for series in &gathered.series {
         if let Value::Samples(samples) = &series.value {
             let buckets = samples.buckets().expect(rt, MEMORY);
@@ -76,9 +64,12 @@ fn read_by<R: Abort + Wait>(rt: &R, took: &HistogramHandle) -> Counts {
     counts_of(rt, &buckets, samples.count(), samples.sum())
 }
 
+/// How many readings there are at most, for each round.
+const READINGS: u64 = 1000;
+
 /// Reads until all workers have ended. No count falls.
 fn read<R: Abort + Wait>(rt: &R, on: Shared<'_>, by: Option<&HistogramHandle>) {
-    let mut last = Counts { low: 0, high: 0 };
+    let mut last = Counts::default();
     for _ in 0..on.rounds.saturating_mul(READINGS) {
         let counts = match by {
             Some(took) => read_by(rt, took),

@@ -1,7 +1,7 @@
 //! Series that are idle: hidden while somebody has a handle, and otherwise gone.
 
 use crate::given::{
-    collector, count, counter, expect_text, expect_texts, gauge, histogram, record, set,
+    collector, counter, expect_text, expect_texts, gauge, histogram, set, update_each,
 };
 use metrics::MetricKindMask;
 use metrics_cells::{CounterFn, GaugeFn, HistogramFn};
@@ -111,8 +111,6 @@ const LEVEL: &str = "# TYPE g gauge\ng 2\n# TYPE h histogram\n\
 #[test]
 fn a_kind_outside_of_the_mask_is_never_idle(rt: HostRuntime) {
     let on = collector(&rt, MetricKindMask::COUNTER);
-    count(&rt, &on, "c", 2);
-    set(&rt, &on, "g", 2);
-    record(&rt, &on, "h", 2);
+    update_each(&rt, &on, ["c", "g", "h"], (2, 2, 2));
     expect_texts(&rt, &on, &[(10, ONCE), (16, LEVEL), (1000, LEVEL)]);
 }

@@ -1,6 +1,6 @@
 //! What several collectors gathered, together.
 
-use crate::given::{MEMORY, collector, count, record, set};
+use crate::given::{MEMORY, collector, count, record, update_each};
 use crate::series::sums_of;
 use metrics::MetricKindMask;
 use metrics_collector::{AbsorbError, Bounds, Collector, Gathered};
@@ -15,9 +15,8 @@ fn gather<R: AllocGlobal + Abort + Wait>(rt: &R, on: &Collector) -> Gathered {
 /// A collector with series of each kind, by one number.
 fn filled<R: AllocGlobal + Abort + Wait>(rt: &R, number: u64) -> Collector {
     let on = collector(rt, MetricKindMask::ALL);
-    count(rt, &on, "hits", number);
-    set(rt, &on, "open", number.cast_signed());
-    record(rt, &on, "took", number.cast_signed());
+    let level = number.cast_signed();
+    update_each(rt, &on, ["hits", "open", "took"], (number, level, level));
     on
 }
 
@@ -38,21 +37,25 @@ const BOTH: &str = "# TYPE hits counter\nhits 7\n# TYPE open gauge\nopen 5\n\
     # TYPE own counter\nown 3\n# TYPE took histogram\n\
     took_bucket{le=\"10\"} 2\ntook_bucket{le=\"+Inf\"} 2\ntook_sum 7\ntook_count 2\n";
 
+/// Compares the text of both.
+fn expect_both<R: AllocGlobal + Abort + Wait>(rt: &R, on: &Collector, other: &Collector) {
+    let text = text_of_both(rt, on, other);
+    assert_eq!(rt; text.as_str(), BOTH);
+}
+
 /// Counts are sums, of a gauge the other's value stays, samples are merged, and what one of them has alone is there.
 #[test]
 fn two_collectors_together(rt: HostRuntime) {
     let (on, other) = (filled(&rt, 2), filled(&rt, 5));
     count(&rt, &on, "own", 3);
-    let text = text_of_both(&rt, &on, &other);
-    assert_eq!(&rt; text.as_str(), BOTH);
+    expect_both(&rt, &on, &other);
 }
 
 #[test]
 fn a_series_of_the_other_alone_is_added(rt: HostRuntime) {
     let (on, other) = (filled(&rt, 2), filled(&rt, 5));
     count(&rt, &other, "own", 3);
-    let text = text_of_both(&rt, &on, &other);
-    assert_eq!(&rt; text.as_str(), BOTH);
+    expect_both(&rt, &on, &other);
 }
 
 /// A collector that counts these names, by one number.

@@ -103,9 +103,13 @@ fn expect_readings<R: AllocGlobal + Abort + Threads + Wait + Sync>(
 /// Memory may be refused in a first run of a few readings.
 #[test]
 fn two_readers_at_once_show_each_change_and_nothing_that_is_hidden(rt: HostRuntime) {
-    let on = collector(&rt, MetricKindMask::ALL);
-    expect_readings(&rt, rt.alloc(), &on, 4);
-    Trial::new(rt.alloc()).calm();
-    let on = collector(&rt, MetricKindMask::ALL);
-    expect_readings(&rt, rt.alloc(), &on, 2000);
+    for readings in [4, 2000] {
+        expect_readings(
+            &rt,
+            rt.alloc(),
+            &collector(&rt, MetricKindMask::ALL),
+            readings,
+        );
+        Trial::new(rt.alloc()).calm();
+    }
 }

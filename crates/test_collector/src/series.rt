@@ -1,7 +1,7 @@
 //! Which series there are, and what is shown of them.
 
 use crate::given::{
-    MEMORY, collector, count, counter, expect_text, histogram, labels, record, set,
+    MEMORY, collector, count, counter, expect_text, histogram, labels, record, set, update_each,
 };
 use metrics::{Error, Key, MetricKind, MetricKindMask, Unit};
 use metrics_cells::{CounterFn, GaugeFn, HistogramFn};
@@ -221,9 +221,7 @@ pub fn sums_of(gathered: &Gathered) -> (u64, i64, u64) {
 #[test]
 fn one_key_has_a_series_of_each_kind(rt: HostRuntime) {
     let on = collector(&rt, MetricKindMask::ALL);
-    count(&rt, &on, "a", 2);
-    set(&rt, &on, "a", 7);
-    record(&rt, &on, "a", 9);
+    update_each(&rt, &on, ["a", "a", "a"], (2, 7, 9));
     let gathered = on.gather(&rt, rt.alloc(), 10).expect(&rt, MEMORY);
     assert_eq!(&rt; (gathered.series.len(), sums_of(&gathered)), (3, (2, 7, 1)));
 }

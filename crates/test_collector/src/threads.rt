@@ -1,7 +1,7 @@
 //! Eight threads that update, beside one that reads the texts.
 ghost use Rattle.std.specs.Thread.{IsSync};
 
-use crate::given::{MEMORY, collector, counter, gauge, histogram};
+use crate::given::{MEMORY, Shared, collector, counter, gauge, histogram};
 use metrics::{Error, Key, MetricKindMask};
 use metrics_cells::{CounterFn, GaugeFn, HistogramFn};
 use metrics_collector::{Collector, HistogramHandle};
@@ -14,11 +14,8 @@ use test_trial::Trial;
 
 const WORKERS: usize = 8;
 
-/// How many texts are read at most.
-const TEXTS: u64 = 100_000;
-
 /// What the updates add up to. A text shows each of these on a line.
-#[derive(Clone, Copy)]
+#[derive(Clone, Copy, Default)]
 struct Sums {
     hits: u64,
     low_samples: u64,
@@ -27,30 +24,12 @@ struct Sums {
 }
 
 impl Sums {
-    fn none() -> Sums {
-        Sums {
-            hits: 0,
-            low_samples: 0,
-            sum: 0,
-            samples: 0,
-        }
-    }
-
     fn add(&mut self, more: Sums) {
         self.hits = self.hits.wrapping_add(more.hits);
         self.low_samples = self.low_samples.wrapping_add(more.low_samples);
         self.sum = self.sum.wrapping_add(more.sum);
         self.samples = self.samples.wrapping_add(more.samples);
     }
-}
-
-/// What the threads share.
-#[derive(Clone, Copy)]
-struct Shared<'a> {
-    alloc: Global,
-    collector: &'a Collector,
-    ended: &'a AtomicUsize,
-    rounds: u64,
 }
 
 fn count<R: Wait>(rt: &R, on: Shared<'_>, by: u64) -> Result<(), Error> {
@@ -95,7 +74,7 @@ fn update<R: Wait>(rt: &R, on: Shared<'_>, by: u64) -> Result<Sums, Error> {
 }
 
 fn work<R: Wait>(rt: &R, on: Shared<'_>, thread: usize) -> Result<Sums, Error> {
-    let mut sums = Sums::none();
+    let mut sums = Sums::default();
     for _ in 0..on.rounds {
         sums.add(update(rt, on, thread as u64)?);
     }
@@ -128,9 +107,12 @@ fn shown_after<R: Abort>(rt: &R, last: Sums, text: &str) -> Sums {
     }
 }
 
+/// How many texts are read at most.
+const TEXTS: u64 = 100_000;
+
 /// Reads the texts until all workers have ended. It adds nothing.
 fn read<R: Abort + Wait>(rt: &R, on: Shared<'_>) -> Result<Sums, Error> {
-    let mut shown = Sums::none();
+    let mut shown = Sums::default();
     for now in 1..TEXTS {
         let text = on.collector.render(rt, on.alloc, now)?;
         shown = shown_after(rt, shown, text.as_str());
@@ -138,23 +120,24 @@ fn read<R: Abort + Wait>(rt: &R, on: Shared<'_>) -> Result<Sums, Error> {
             break;
         }
     }
-    Ok(Sums::none())
+    Ok(Sums::default())
 }
 
 fn take_part<R: Abort + Wait>(rt: &R, on: Shared<'_>, thread: usize) -> Result<Sums, Error> {
-    if thread == WORKERS {
-        return read(rt, on);
+    if thread < WORKERS {
+        let sums = work(rt, on, thread);
+        on.ended.fetch_add(1, Ordering::SeqCst);
+        sums
+    } else {
+        read(rt, on)
     }
-    let sums = work(rt, on, thread);
-    on.ended.fetch_add(1, Ordering::SeqCst);
-    sums
 }
 
 /// Runs all threads, and adds up what they did.
 fn sums_of_all<R: Abort + Threads + Wait + Sync>(rt: &R, on: Shared<'_>) -> Sums
     requires { IsSync R.row }
 {
-    let mut sums = Sums::none();
+    let mut sums = Sums::default();
     let part = |thread: usize| take_part(rt, on, thread);
     let worked = thread::map_indices(rt, on.alloc, WORKERS + 1, &part);
     for one in worked.expect(rt, MEMORY) {
@@ -195,11 +178,10 @@ fn expect_all<R: AllocGlobal + Abort + Threads + Wait + Sync>(
     let _hits = counter(rt, collector, "hits");
     let _open = gauge(rt, collector, "open");
     let _took = histogram(rt, collector, "took");
-    let ended = &AtomicUsize::new(0);
     let on = Shared {
         alloc,
         collector,
-        ended,
+        ended: &AtomicUsize::new(0),
         rounds,
     };
     let mut sums = sums_of_all(rt, on);
@@ -210,9 +192,9 @@ fn expect_all<R: AllocGlobal + Abort + Threads + Wait + Sync>(
 /// Memory may run out in a first run of a few rounds.
 #[test]
 fn eight_threads_and_a_reader_count_each_update_once(rt: HostRuntime) {
-    let on = collector(&rt, MetricKindMask::ALL);
-    expect_all(&rt, rt.alloc(), &on, 1);
-    Trial::new(rt.alloc()).calm();
-    let on = collector(&rt, MetricKindMask::ALL);
-    expect_all(&rt, rt.alloc(), &on, 1000);
+    for rounds in [1, 1000] {
+        let on = collector(&rt, MetricKindMask::ALL);
+        expect_all(&rt, rt.alloc(), &on, rounds);
+        Trial::new(rt.alloc()).calm();
+    }
 }
