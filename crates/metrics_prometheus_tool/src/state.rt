@@ -1,11 +1,11 @@
 //! The file that keeps what is held from one run to the next.
 
-use metrics::Unit;
 use metrics_exporter::Exporter;
 use metrics_textfile::write_textfile;
 use std::alloc::{AllocError, Global};
 use std::rt::Files;
 use std::{fs, io};
+use tool_grammar::unit_text;
 use tool_prometheus::{Options, PrefixBounds, PrefixPlaces, UnitBounds};
 use tool_state::{StateError, read_state, write_state};
 
@@ -45,23 +45,10 @@ fn push_bounds(
     Ok(())
 }
 
-/// The word of a unit.
-fn word_of(unit: Unit) -> &'static str {
-    match unit {
-        Unit::Count => "count",
-        Unit::Percent => "percent",
-        Unit::Seconds => "seconds",
-        Unit::Milliseconds => "milliseconds",
-        Unit::Microseconds => "microseconds",
-        Unit::Nanoseconds => "nanoseconds",
-        Unit::Bytes => "bytes",
-    }
-}
-
 /// Appends the bounds by units.
 fn push_units(title: &mut String, given: &[UnitBounds]) -> Result<(), AllocError> {
     for one in given {
-        write!(title, ", in {} ", word_of(one.unit))?;
+        write!(title, ", in {} ", unit_text(Some(one.unit)))?;
         push_numbers(title, one.bounds.as_slice())?;
     }
     Ok(())

@@ -13,4 +13,6 @@ pub use cuts::{place_of, split_at_first, split_before, strip_prefix};
 pub use error::RunError;
 pub use laws::one_call_at_most;
 pub use printing::write_answer;
-pub use words::{kind_of, kinds_of, name_of, number_of, signed_number_of, unit_of, update_of};
+pub use words::{
+    kind_of, kinds_of, name_of, number_of, signed_number_of, unit_of, unit_text, update_of,
+};

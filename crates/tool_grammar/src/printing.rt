@@ -1,27 +1,12 @@
 //! Prints answers.
 ghost use Rattle.std.specs.Prelude.{◌≡◌, ◌++◌, ◌∷◌, [], OnOk, codes, decimal, length, string_bytes};
-ghost use Rattle.tool_grammar.specs.Grammar.{unit_word};
 ghost use Rattle.tool_grammar.specs.Printing.{samples_text, value_text, note_text, row_text, rows_text, text_of, refusal_text_of};
 ghost use Rattle.tool_grammar.specs.Printing.{book_of};
 
+use crate::words::unit_text;
 use itoa::Buffer;
-use metrics::{Answer, Call, DebugValue, Refused, Row, SharedText, Unit};
+use metrics::{Answer, Call, DebugValue, Refused, Row, SharedText};
 use std::alloc::AllocError;
-
-fn unit_text(unit: Option<Unit>) -> &'static str
-    ensures { result.now ≡ unit_word unit }
-{
-    match unit {
-        None => "-",
-        Some(Unit::Count) => "count",
-        Some(Unit::Percent) => "percent",
-        Some(Unit::Seconds) => "seconds",
-        Some(Unit::Milliseconds) => "milliseconds",
-        Some(Unit::Microseconds) => "microseconds",
-        Some(Unit::Nanoseconds) => "nanoseconds",
-        Some(Unit::Bytes) => "bytes",
-    }
-}
 
 fn write_samples(text: &mut String, samples: &[i64]) -> Result<(), AllocError>
     ensures { OnOk result (string_bytes text.new ≡ string_bytes text.old ++ samples_text samples.now) }

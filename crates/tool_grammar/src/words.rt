@@ -113,6 +113,22 @@ fn amount_unit_of(word: &[u8]) -> Option<Unit>
     None
 }
 
+/// Returns the word of a unit; a dash is none.
+pub fn unit_text(unit: Option<Unit>) -> &'static str
+    ensures { result.now ≡ unit_word unit }
+{
+    match unit {
+        None => "-",
+        Some(Unit::Count) => "count",
+        Some(Unit::Percent) => "percent",
+        Some(Unit::Seconds) => "seconds",
+        Some(Unit::Milliseconds) => "milliseconds",
+        Some(Unit::Microseconds) => "microseconds",
+        Some(Unit::Nanoseconds) => "nanoseconds",
+        Some(Unit::Bytes) => "bytes",
+    }
+}
+
 /// The value of a digit.
 fn digit_of(byte: u8) -> Option<u64>
     ensures { IfSome result (λ d. (d < 10) × (byte ≡ 48 + d)) }

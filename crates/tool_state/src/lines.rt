@@ -2,24 +2,11 @@
 
 use metrics::{Key, MetricKind, Unit, Update};
 use std::alloc::{AllocError, Global};
+use tool_grammar::unit_text;
 
 /// The name in one word: a dash is the empty one.
 fn word_of_name(name: &str) -> &str {
     if name.is_empty() { "-" } else { name }
-}
-
-/// The word of a unit: a dash is none.
-fn word_of_unit(unit: Option<Unit>) -> &'static str {
-    match unit {
-        None => "-",
-        Some(Unit::Count) => "count",
-        Some(Unit::Percent) => "percent",
-        Some(Unit::Seconds) => "seconds",
-        Some(Unit::Milliseconds) => "milliseconds",
-        Some(Unit::Microseconds) => "microseconds",
-        Some(Unit::Nanoseconds) => "nanoseconds",
-        Some(Unit::Bytes) => "bytes",
-    }
 }
 
 /// Whether a value needs quotes.
@@ -75,7 +62,7 @@ pub(crate) fn update_line(
     by: Update,
 ) -> Result<String, AllocError> {
     let mut line = String::new(alloc);
-    let unit = word_of_unit(unit);
+    let unit = unit_text(unit);
     write!(line, "{times} {unit} ")?;
     push_update(&mut line, by)?;
     line.push(' ')?;
@@ -93,7 +80,7 @@ pub(crate) fn description_line(
 ) -> Result<String, AllocError> {
     let mut line = String::new(alloc);
     let name = word_of_name(name);
-    let unit = word_of_unit(unit);
+    let unit = unit_text(unit);
     write!(line, "1 - describe {} {name} {unit} {note}", kind.as_str())?;
     Ok(line)
 }
