@@ -1,8 +1,8 @@
 -- What a strict run takes for bad, beside what the text has.
 use Rattle.std.proofs.Common.{◌≡◌, ◌≢◌, ◌∙◌, ◌≤◌, ℕ, suc, Bool, true, false, cond, ◌||◌, nat_eq, nat_lt, List, [], ◌∷◌, ◌++◌, codes, drop, take, length, get_or, map, Option, Some, None, is_some, refl, ap, sym, subst, arith, ◌↔◌, append_assoc, take-append-drop}
-use Rattle.std.specs.Prelude.{flat_map, bytes_eq}
+use Rattle.std.specs.Prelude.{◌==◌, flat_map, bytes_eq}
 use Rattle.std.specs.Borrow.{Bor}
-use Rattle.std.specs.List.{AllByRecursion, list_any, starts_with}
+use Rattle.std.specs.List.{AllByRecursion, list_any, filter, slice_split, starts_with}
 use Rattle.std.proofs.lemmas.List.Elements.{All-from_recursion}
 use Rattle.std.proofs.lemmas.List.Folds.{list_any-append}
 use Rattle.std.proofs.lemmas.List.Splits.{slice_split_at}
@@ -21,7 +21,8 @@ use Rattle.metrics_prometheus.proofs.TextLineLemmas.{lines_of, row_at, name_at, 
 use Rattle.metrics_exposition.specs.Names.{is_name, metric_name, label_name}
 use Rattle.metrics_exposition.proofs.NameLemmas.{metric-name, label-name, name-whole}
 use Rattle.tool_requests.specs.Spelled.{stays}
-use Rattle.tool_prometheus.specs.Strict.{is_left_out, leaves_out}
+use Rattle.tool_prometheus.specs.Own.{left_out_number}
+use Rattle.tool_prometheus.specs.Strict.{is_left_out, leaves_out, noted}
 
 -- ---- one line
 
@@ -64,6 +65,36 @@ text-leaves (l ∷ ls) h =
     ∙ ap (list_any is_left_out) (slice_split_at (λ c. nat_eq c 10) inside 10 rest (λ k d small. no-feed (get_or inside k d) (All-from_recursion (λ c. c ≢ 10) inside h.0.ends.none k d small)) refl)
     ∙ ap (λ b. b || leaves_out rest) (says-so inside l h.0 h.0.ends.is)
     ∙ ap (λ b. is_some (left_out_in l) || b) (text-leaves ls h.1)
+
+-- ---- how many lines say so
+
+any-none : {A : Type 0} (p : A → Bool) (xs : List A) → length (filter p xs) ≡ 0 → list_any p xs ≡ false
+any-none p [] none = refl
+any-none p (x ∷ xs) none = go (p x) none (any-none p xs)
+  where
+    go : (b : Bool) → length (cond b (x ∷ filter p xs) (filter p xs)) ≡ 0 → (length (filter p xs) ≡ 0 → list_any p xs ≡ false) → (b || list_any p xs) ≡ false
+    go true none rest = absurd (omega arith)
+    go false none rest = rest none
+
+any-some : {A : Type 0} (p : A → Bool) (xs : List A) → (length (filter p xs) ≡ 0 → ⊥) → list_any p xs ≡ true
+any-some p [] some = absurd (some refl)
+any-some p (x ∷ xs) some = go (p x) some (any-some p xs)
+  where
+    go : (b : Bool) → (length (cond b (x ∷ filter p xs) (filter p xs)) ≡ 0 → ⊥) → ((length (filter p xs) ≡ 0 → ⊥) → list_any p xs ≡ true) → (b || list_any p xs) ≡ true
+    go true some rest = refl
+    go false some rest = rest some
+
+-- a text that leaves out none isn't noted
+pub none_noted : (text : List ℕ) (strict bad : Bool) → left_out_number text ≡ 0 → noted strict (leaves_out text) bad ≡ bad
+none_noted text strict bad none = ap (λ odd. noted strict odd bad) (any-none is_left_out (slice_split (λ c. c == 10) text) none) ∙ go strict
+  where
+    go : (b : Bool) → noted b false bad ≡ bad
+    go true = refl
+    go false = refl
+
+-- one that leaves some out is noted in a strict run
+pub some_noted : (text : List ℕ) (strict bad : Bool) → (left_out_number text ≡ 0 → ⊥) → strict ≡ true → noted strict (leaves_out text) bad ≡ true
+some_noted text strict bad some is = λ i. noted (is i) (any-some is_left_out (slice_split (λ c. c == 10) text) some i) bad
 
 -- ---- the rows of a text
 

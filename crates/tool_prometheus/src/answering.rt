@@ -169,8 +169,7 @@ fn hand_out_shown<S: Surroundings>(
     match shown {
         Ok(shown) => {
             on.is_changed = false;
-            watch.tell_left_out(around, shown.as_str());
-            note_left_out(on, shown.as_str());
+            note_left_out(on, around, watch, shown.as_str());
             if !hand_out(around, &on.exporter, on.has_file, shown.as_str()) {
                 on.has_failed = true;
             }

@@ -5,10 +5,9 @@ ghost use Rattle.metrics_names.specs.Names.{series_key_eq};
 ghost use Rattle.metrics_exporter.specs.Exporting.{Cells};
 ghost use Rattle.metrics_exporter.specs.Readings.{AreReadings, keyed_reading, keyed_readings};
 ghost use Rattle.tool_prometheus.specs.declared.own.OwnSeries.{OwnSeries as Row};
-ghost use Rattle.tool_prometheus.specs.Own.{own_key, with_series, with_own, own_names, left_out_number as left_out_in};
+ghost use Rattle.tool_prometheus.specs.Own.{own_key, with_series, with_own, own_names};
 ghost use Rattle.tool_prometheus.specs.OwnRows.{keyed_own, all_own};
 
-use crate::strict::is_left_out;
 use metrics::{Error, Key, Label};
 use metrics_prometheus::{ReadingRef, SeriesReading};
 use std::alloc::{AllocError, Global};
@@ -130,11 +129,4 @@ pub(crate) fn set_own<'a>(
         all = set_series(all, one.reading())?;
     }
     Ok(all)
-}
-
-/// How many series a text leaves out.
-pub(crate) fn left_out_number(text: &str) -> usize
-    ensures { result ≡ left_out_in text.now }
-{
-    text.split('\n').filter(|line| is_left_out(line)).count()
 }

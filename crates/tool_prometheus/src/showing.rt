@@ -11,10 +11,11 @@ ghost use Rattle.tool_prometheus.specs.Exposed.{own_of, Shows, ShowsAt, UnlessTo
 
 use crate::answering::Served;
 use crate::own::{
-    BAD_LINES, LEFT_OUT, LINES, OwnReading, OwnSeries, REFUSED_CALLS, SCRAPED, SERIES,
-    left_out_number, push_own, set_own,
+    BAD_LINES, LEFT_OUT, LINES, OwnReading, OwnSeries, REFUSED_CALLS, SCRAPED, SERIES, push_own,
+    set_own,
 };
 use crate::own_places::{OwnPlaces, kept_places_of};
+use crate::strict::left_out_number;
 use metrics::Error;
 use metrics_prometheus::{scaled_exposition, scaled_exposition_of};
 use std::alloc::Global;

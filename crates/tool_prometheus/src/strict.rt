@@ -1,10 +1,14 @@
 //! What a strict run takes for bad: names, labels and series that the text doesn't have as they were given.
 ghost use Rattle.std.specs.Prelude.{◌≡◌};
 ghost use Rattle.std.specs.List.{list_any};
+ghost use Rattle.tool_prometheus.specs.Asked.{Asks, nothing_asked};
+ghost use Rattle.tool_prometheus.specs.Own.{left_out_number as left_out_in};
 ghost use Rattle.tool_prometheus.specs.Strict.{respells as respells_of, respells_label as respells_one, noted};
 ghost use Rattle.tool_prometheus.specs.Strict.{is_left_out as is_one, leaves_out as leaves_some};
 
 use crate::answering::Served;
+use crate::surroundings::Surroundings;
+use crate::watching::Watch;
 use metrics::Label;
 use tool_requests::{Request, is_as_given};
 
@@ -36,17 +40,17 @@ fn respells(front: usize, request: &Request) -> bool
 }
 
 /// Whether a line says that a series is left out.
-pub(crate) fn is_left_out(line: &str) -> bool
+fn is_left_out(line: &str) -> bool
     ensures { result ≡ is_one line.now }
 {
     line.as_bytes().starts_with(b"# left out: ")
 }
 
-/// Whether a text leaves a series out.
-fn leaves_out(text: &str) -> bool
-    ensures { result ≡ leaves_some text.now }
+/// How many series a text leaves out.
+pub(crate) fn left_out_number(text: &str) -> usize
+    ensures { result ≡ left_out_in text.now }
 {
-    text.split('\n').any(|line| is_left_out(line))
+    text.split('\n').filter(|line| is_left_out(line)).count()
 }
 
 /// Notes as bad, in a strict run, that the text has a name or a label of a request otherwise.
@@ -60,11 +64,21 @@ pub(crate) fn note_names(on: &mut Served, request: &Request)
     }
 }
 
-/// Notes as bad, in a strict run, that a text leaves a series out.
-pub(crate) fn note_left_out(on: &mut Served, text: &str)
-    ensures { on.new ≡ record on.old { has_bad = noted on.old.is_strict (leaves_some text.now) on.old.has_bad } }
+/// Reports the series that a text leaves out, and notes in a strict run that it leaves some out.
+pub(crate) fn note_left_out<S: Surroundings>(
+    on: &mut Served,
+    around: &mut S,
+    watch: &mut Watch,
+    text: &str,
+)
+    ensures noted { on.new ≡ record on.old { has_bad = noted on.old.is_strict (leaves_some text.now) on.old.has_bad } }
+    ensures asked { Asks (S.asked around.old) (S.asked around.new) nothing_asked }
 {
-    if on.is_strict && leaves_out(text) {
+    if left_out_number(text) == 0 {
+        return;
+    }
+    watch.tell_left_out(around, text);
+    if on.is_strict {
         on.has_bad = true;
     }
 }

@@ -7,7 +7,7 @@ use Rattle.std.proofs.lemmas.Iterator.{YieldsList}
 use Rattle.std.proofs.lemmas.Iterator.Consumers.{YieldsList-from_filter, count_from_yields_List}
 use Rattle.std.proofs.lemmas.Iterator.Splits.{YieldsList-from_str_split}
 use Rattle.tool_prometheus.specs.Strict.{is_left_out}
-use Rattle.tool_prometheus.proofs.own.left_out_number.Goals as goal
+use Rattle.tool_prometheus.proofs.strict.left_out_number.Goals as goal
 
 pub returns : goal.returns
 returns c =
