@@ -20,8 +20,8 @@ use metrics_textfile::{TextfileError, textfile_place};
 use std::io::BufReader;
 use std::process::ExitCode;
 use std::{env, io};
-use tool_export::exit_of;
 use tool_prometheus::{Options, command_on, exporter_for};
+use tool_stream::exit_of;
 
 /// The status where nobody reads standard output any longer, as of a program that the signal for it ends.
 const READER_GONE: u8 = 141;

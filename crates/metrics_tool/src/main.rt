@@ -7,8 +7,8 @@ use std::process::ExitCode;
 use std::sync::Wait;
 use std::thread::Threads;
 use std::{env, io};
-use tool_export::exit_of;
 use tool_lines::command;
+use tool_stream::exit_of;
 
 /// The words after the program's name.
 fn words_of(host: &HostRuntime) -> io::Result<Vec<String>> {

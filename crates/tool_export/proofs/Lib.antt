@@ -1,8 +1,3 @@
-mod Known
-pub mod LinesLemmas
-pub mod Reading
-mod Handing
-pub mod Loop
 pub mod RequestLemmas
 pub mod SpellingLemmas
 mod PlainLemmas

@@ -3,9 +3,9 @@ use Rattle.std.proofs.Common.{◌≡◌, ℕ, ◌+◌, List, [], ◌∷◌, ◌+
 use Rattle.std.proofs.Common.{length, suc, Result, Ok, Err, Some, None, append_assoc, append-nil}
 use Rattle.tool_grammar.specs.declared.error.RunError.{RunError}
 use Rattle.tool_grammar.specs.declared.error.RunError.TheVariants.{Memory, BadLine, Device}
-use Rattle.tool_export.specs.Lines.{lines_of}
-use Rattle.tool_export.specs.Answering.{Dialogue, lines_in, texts_in as dialogue_text, AreAnswered as FollowEachOther}
-use Rattle.tool_export.specs.Answering.{IsFlushed, capped}
+use Rattle.tool_stream.specs.Lines.{lines_of}
+use Rattle.tool_stream.specs.Answering.{Dialogue, lines_in, texts_in as dialogue_text, AreAnswered as FollowEachOther}
+use Rattle.tool_stream.specs.Answering.{IsFlushed, capped}
 use Rattle.metrics_exporter.specs.declared.exporter.Exporter.{Exporter}
 use Rattle.metrics_exporter.specs.Exporting.{Setup, Log}
 use Rattle.metrics_exporter.specs.Kept.{IsAfter}

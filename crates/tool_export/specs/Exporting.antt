@@ -3,8 +3,8 @@ use Rattle.std.specs.Prelude.{◌≡◌, ℕ, ◌+◌, List, [], ◌∷◌, ◌+
 use Rattle.std.specs.Prelude.{Some, None}
 use Rattle.tool_grammar.specs.declared.error.RunError.{RunError}
 use Rattle.tool_grammar.specs.declared.error.RunError.TheVariants.{Memory, BadLine, Device}
-use Rattle.tool_export.specs.Lines.{lines_of}
-use Rattle.tool_export.specs.Answering.{Answering, IsRun, AreFirst, capped}
+use Rattle.tool_stream.specs.Lines.{lines_of}
+use Rattle.tool_stream.specs.Answering.{Answering, IsRun, AreFirst, capped}
 use Rattle.metrics_exporter.specs.declared.exporter.Exporter.{Exporter}
 use Rattle.metrics_exporter.specs.Exporting.{Setup, Log}
 use Rattle.metrics_exporter.specs.Kept.{IsAfter}

@@ -1,6 +1,3 @@
-pub mod Lines
-pub mod Waiting
-pub mod Answering
 pub mod Requests
 pub mod Exported
 pub mod Exporting

@@ -10,7 +10,6 @@ ghost use Rattle.tool_export.specs.Plans.{setup_of, IsAllowed};
 ghost use Rattle.tool_export.specs.Requests.{IsBad};
 
 use crate::answering::answer_request;
-use crate::machine::{LineMachine, Unanswered, flush, run_lines};
 use crate::plans::ExportPlan;
 use crate::requests::request_of;
 use metrics::Error;
@@ -18,6 +17,7 @@ use metrics_exporter::Exporter;
 use std::alloc::Global;
 use std::io::{BufRead, Write};
 use tool_grammar::RunError;
+use tool_stream::{LineMachine, Unanswered, flush, run_lines};
 
 /// Answers the lines of an exporter.
 pub struct ExportLines;

@@ -12,7 +12,7 @@ use Rattle.metrics.specs.declared.calls.Call.TheVariants as call
 use Rattle.tool_grammar.specs.Grammar.{IsName, IsLabel, CanBeSpelled}
 use Rattle.tool_grammar.proofs.WordsLemmas.{lacks_literal}
 use Rattle.tool_trees.specs.Trees.{Tree, Book, Prefix, meaning_of, BeginsWithTree}
-use Rattle.tool_export.specs.Lines.{lines_of}
+use Rattle.tool_stream.specs.Lines.{lines_of}
 use Rattle.tool_lines.specs.Output.{Input, BeginsWithCalls, answers_text, printed}
 use Rattle.tool_lines.specs.Examples.{first_input, first_output}
 

@@ -11,11 +11,11 @@ use Rattle.tool_grammar.specs.Grammar.{Spells, IsBad}
 use Rattle.tool_grammar.specs.Printing.{text_of, print}
 use Rattle.tool_grammar.specs.declared.error.RunError.{RunError}
 use Rattle.tool_grammar.specs.declared.error.RunError.TheVariants.{Memory, BadLine, Device}
-use Rattle.tool_export.specs.Lines.{lines_of}
-use Rattle.tool_export.specs.Answering.{Answering, Dialogue, lines_in, texts_in, AreAnswered, Leaves, capped}
-use Rattle.tool_export.specs.Answering as stream
-use Rattle.tool_export.specs.declared.machine.Unanswered.{Unanswered}
-use Rattle.tool_export.specs.declared.machine.Unanswered.TheVariants as unanswered
+use Rattle.tool_stream.specs.Lines.{lines_of}
+use Rattle.tool_stream.specs.Answering.{Answering, Dialogue, lines_in, texts_in, AreAnswered, Leaves, capped}
+use Rattle.tool_stream.specs.Answering as stream
+use Rattle.tool_stream.specs.declared.machine.Unanswered.{Unanswered}
+use Rattle.tool_stream.specs.declared.machine.Unanswered.TheVariants as unanswered
 use Rattle.tool_trees.specs.Trees.{Tree, meaning_of, IsAllowed}
 use Rattle.tool_lines.specs.Handles.{Entries, entry_named, entries_by}
 use Rattle.tool_lines.specs.Running.{AreHeld, addresses_in, AreSpelled, AreMade, IsRun, IsAnswered, AnswersLine, PrintsAnswers}

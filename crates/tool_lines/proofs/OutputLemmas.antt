@@ -24,14 +24,14 @@ use Rattle.tool_trees.specs.declared.tree_line.TreeLine.TheVariants as line
 use Rattle.tool_trees.specs.Words.{spelling as tree_spelling}
 use Rattle.tool_trees.specs.Trees.{Tree, Book, tree_lines, meaning_of, IsAllowed, BeginsWithTree, NoTree}
 use Rattle.tool_trees.proofs.OneListAtMost.{one_tree}
-use Rattle.tool_export.specs.Lines.{lines_of, unlines}
-use Rattle.tool_export.specs.Answering.{AreFirst, IsFlushed}
+use Rattle.tool_stream.specs.Lines.{lines_of, unlines}
+use Rattle.tool_stream.specs.Answering.{AreFirst, IsFlushed}
 use Rattle.tool_lines.specs.Running.{AreSpelled, AreMade, PrintsAnswers}
 use Rattle.tool_lines.specs.TreeReading.{AreRead, BuildsTree, RefusesTree}
 use Rattle.tool_lines.specs.Output.{IsStop, BeginsWithCalls, Input, answers_text, printed, LacksWant, IsAnswered, AnswersFront, AnswersCalls, AnswersAll, AnswersFirst, AnswersPart, RunsKnown, Prints}
 use Rattle.tool_lines.specs.Requests.{Begins}
-use Rattle.tool_export.proofs.LinesLemmas.{lines-cut, lines-front}
-use Rattle.tool_export.proofs.Loop.{unlines_push}
+use Rattle.tool_stream.proofs.LinesLemmas.{lines-cut, lines-front}
+use Rattle.tool_stream.proofs.Loop.{unlines_push}
 use Rattle.tool_lines.proofs.LogLemmas.{made_none, are_made}
 use Rattle.tool_lines.proofs.Loop.{Finished}
 use Rattle.tool_lines.proofs.TreesLemmas.{means_new}

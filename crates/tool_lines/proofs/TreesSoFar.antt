@@ -18,15 +18,15 @@ use Rattle.tool_trees.specs.declared.level.LineError.TheVariants as levels
 use Rattle.tool_trees.specs.Levels.{level_meaning}
 use Rattle.tool_trees.specs.Doing.{AreBuilt, DoesLine}
 use Rattle.tool_trees.proofs.Doing.{built_allowed}
-use Rattle.tool_export.specs.Lines.{lines_of, ended, unlines, IsLine}
-use Rattle.tool_export.specs.declared.stream.Fault.{Fault}
-use Rattle.tool_export.specs.declared.stream.Fault.TheVariants as faults
-use Rattle.tool_export.specs.Answering.{fault_at}
+use Rattle.tool_stream.specs.Lines.{lines_of, ended, unlines, IsLine}
+use Rattle.tool_stream.specs.declared.stream.Fault.{Fault}
+use Rattle.tool_stream.specs.declared.stream.Fault.TheVariants as faults
+use Rattle.tool_stream.specs.Answering.{fault_at}
 use Rattle.tool_lines.specs.TreeReading.{AreRead, StopsAfter, BuildsTree, RefusesTree, error_at}
-use Rattle.tool_export.proofs.LinesLemmas.{lines-last, lines-one}
+use Rattle.tool_stream.proofs.LinesLemmas.{lines-last, lines-one}
 use Rattle.std.proofs.lemmas.List.{length_push}
-use Rattle.tool_export.proofs.Loop.{unlines_push, split_push}
-use Rattle.tool_export.proofs.Reading.{at_end_from}
+use Rattle.tool_stream.proofs.Loop.{unlines_push, split_push}
+use Rattle.tool_stream.proofs.Reading.{at_end_from}
 
 -- a line adds itself to the lines of the trees
 step_lines : (bytes : List ℕ) (said : TreeLine) (ts us : List Tree) → Spells bytes said → Steps said ts us → all_lines us ≡ all_lines ts ++ bytes ∷ []

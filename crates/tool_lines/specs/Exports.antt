@@ -3,7 +3,7 @@ use Rattle.std.specs.Prelude.{◌≡◌, ℕ, List, ◌∷◌, codes, Result, Ok
 use Rattle.tool_grammar.specs.declared.error.RunError.{RunError}
 use Rattle.tool_export.specs.declared.plans.ExportPlan.{ExportPlan}
 use Rattle.tool_export.specs.Plans.{IsAllowed, plan_words, setup_of}
-use Rattle.tool_export.specs.Answering.{status_number}
+use Rattle.tool_stream.specs.Answering.{status_number}
 use Rattle.tool_export.specs.Exporting.{IsExport}
 
 -- the words ask for an exporter of this plan

@@ -10,7 +10,7 @@ use Rattle.tool_grammar.specs.Printing.{print}
 use Rattle.tool_grammar.specs.declared.error.RunError.{RunError}
 use Rattle.tool_grammar.specs.declared.error.RunError.TheVariants.{Memory, BadLine, Device}
 use Rattle.tool_trees.specs.Trees.{Tree, meaning_of, BeginsWithTree, NoTree}
-use Rattle.tool_export.specs.Lines.{lines_of}
+use Rattle.tool_stream.specs.Lines.{lines_of}
 
 -- ---- what lines are
 

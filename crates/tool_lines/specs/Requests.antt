@@ -5,7 +5,7 @@ use Rattle.tool_storm.specs.declared.totals.Totals.{Totals}
 use Rattle.tool_storm.specs.Numbers.{sum_below}
 use Rattle.tool_storm.specs.Texts.{totals_text}
 use Rattle.tool_grammar.specs.declared.error.RunError.{RunError}
-use Rattle.tool_export.specs.Answering.{status_number}
+use Rattle.tool_stream.specs.Answering.{status_number}
 use Rattle.tool_lines.specs.Running.{PrintsAnswers}
 use Rattle.tool_lines.specs.declared.requests.StormPlan.{StormPlan}
 use Rattle.tool_lines.specs.declared.requests.Request.{Request}

@@ -9,10 +9,10 @@ use Rattle.metrics.specs.Meaning.{Meaning, KeepsTargets, AreNew}
 use Rattle.metrics.specs.History.{Log, reached, content_after, ArePlain}
 use Rattle.metrics.specs.Answering.{Answers, IsHeld}
 use Rattle.tool_trees.specs.Trees.{Tree, meaning_of, IsAllowed}
-use Rattle.tool_export.specs.Lines.{lines_of}
-use Rattle.tool_export.specs.Answering.{capped, AreFirst}
-use Rattle.tool_export.specs.declared.machine.Unanswered.{Unanswered}
-use Rattle.tool_export.specs.declared.machine.Unanswered.TheVariants as unanswered
+use Rattle.tool_stream.specs.Lines.{lines_of}
+use Rattle.tool_stream.specs.Answering.{capped, AreFirst}
+use Rattle.tool_stream.specs.declared.machine.Unanswered.{Unanswered}
+use Rattle.tool_stream.specs.declared.machine.Unanswered.TheVariants as unanswered
 use Rattle.tool_grammar.specs.Grammar.{Spells, IsBad}
 use Rattle.tool_grammar.specs.Printing.{text_of, print}
 use Rattle.tool_lines.specs.Handles.{Entries, entry_at, entry_named, entries_by}

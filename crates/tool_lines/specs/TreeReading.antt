@@ -8,7 +8,7 @@ use Rattle.tool_trees.specs.Words.{spelling}
 use Rattle.tool_trees.specs.Trees.{Tree, tree_lines, meaning_of, IsAllowed, NoTree, AreOfTrees, IsFirstBad}
 use Rattle.tool_trees.specs.declared.level.LineError.{LineError}
 use Rattle.tool_trees.specs.declared.level.LineError.TheVariants as levels
-use Rattle.tool_export.specs.Lines.{lines_of, unlines}
+use Rattle.tool_stream.specs.Lines.{lines_of, unlines}
 
 -- These lines were read: each with its line feed, so that what is read after them has its own lines; or they are all,
 -- at the reader's end.

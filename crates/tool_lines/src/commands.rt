@@ -8,7 +8,7 @@ ghost use Rattle.tool_grammar.specs.declared.error.RunError.TheVariants.{Device 
 ghost use Rattle.tool_lines.specs.declared.requests.Request.{Request as Asked};
 ghost use Rattle.tool_lines.specs.declared.requests.StormPlan.{StormPlan as Storm};
 ghost use Rattle.tool_lines.specs.declared.requests.Request.TheVariants as ask;
-ghost use Rattle.tool_export.specs.Lines.{lines_of};
+ghost use Rattle.tool_stream.specs.Lines.{lines_of};
 ghost use Rattle.tool_lines.specs.Output.{AnswersAll, AnswersFirst, AnswersPart, RunsKnown};
 ghost use Rattle.tool_lines.specs.Requests.{IsAllowed, Asks, AsksStorm, Prints, Begins};
 ghost use Rattle.tool_lines.specs.Requests.{IsFault};
@@ -22,9 +22,10 @@ use std::alloc::Global;
 use std::io::{BufRead, Write};
 use std::sync::Wait;
 use std::thread::Threads;
-use tool_export::{ExportPlan, export_new, flush, status_of, write_text};
+use tool_export::{ExportPlan, export_new};
 use tool_grammar::RunError;
 use tool_storm::{Gate, Totals, storm, storm_growing, text_of_totals};
+use tool_stream::{flush, status_of, write_text};
 
 const USAGE: &str = "usage: metrics_tool run | storm P V B [grow] | export S M T B";
 

@@ -1,6 +1,6 @@
 //! Laws of the definitions.
 ghost use Rattle.std.specs.Prelude.{◌≡◌, ◌++◌, ℕ, List, []};
-ghost use Rattle.tool_export.specs.Lines.{lines_of};
+ghost use Rattle.tool_stream.specs.Lines.{lines_of};
 ghost use Rattle.tool_lines.specs.Examples.{first_input, first_output};
 ghost use Rattle.tool_trees.specs.Trees.{meaning_of};
 ghost use Rattle.tool_lines.specs.Output.{Input, printed, Prints, IsAnswered, AnswersPart};

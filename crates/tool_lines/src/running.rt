@@ -3,12 +3,12 @@ ghost use Rattle.std.specs.Prelude.{◌≡◌, ◌++◌, ℕ, List, Some, IfSome
 ghost use Rattle.std.specs.Io.KnownBytes.{Consumes, Appends, IsAtEnd};
 ghost use Rattle.metrics.specs.Meaning.{AreNew};
 ghost use Rattle.metrics.specs.History.{Log};
-ghost use Rattle.tool_export.specs.Lines.{lines_of};
+ghost use Rattle.tool_stream.specs.Lines.{lines_of};
 ghost use Rattle.tool_lines.specs.Output.{AnswersCalls};
 ghost use Rattle.tool_grammar.specs.Grammar.{Spells, IsBad};
 ghost use Rattle.tool_grammar.specs.Printing.{print, text_of};
 ghost use Rattle.tool_lines.specs.Handles.{entries};
-ghost use Rattle.tool_export.specs.declared.machine.Unanswered.TheVariants.{Lost};
+ghost use Rattle.tool_stream.specs.declared.machine.Unanswered.TheVariants.{Lost};
 ghost use Rattle.tool_lines.specs.Running.{IsRun, AreSpelled, AreMade, AnswersLine, IsUnread};
 
 use crate::handles::Handles;
@@ -17,8 +17,8 @@ use metrics_replay::answer_of;
 use std::alloc::Global;
 use std::io::{BufRead, Write};
 use std::marker::PhantomData;
-use tool_export::{LineMachine, Unanswered, run_lines};
 use tool_grammar::{RunError, call_of, write_answer};
+use tool_stream::{LineMachine, Unanswered, run_lines};
 
 /// The call of a line.
 fn read_call(alloc: Global, line: &[u8]) -> Result<Call, Unanswered>

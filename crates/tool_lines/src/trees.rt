@@ -12,8 +12,8 @@ use metrics_debugging::DebuggingRecorder;
 use metrics_trees::Child;
 use std::alloc::Global;
 use std::io::BufRead;
-use tool_export::{Found, at_line, next_line};
 use tool_grammar::RunError;
+use tool_stream::{Found, at_line, next_line};
 use tool_trees::{Level, LineError, read_line};
 
 /// The error at a tree line with this number.

@@ -10,9 +10,9 @@ use Rattle.metrics_exporter.specs.Kept.{IsAfter, described}
 use Rattle.metrics_exposition.specs.declared.naming.Naming.{Naming}
 use Rattle.tool_grammar.specs.declared.error.RunError.{RunError}
 use Rattle.tool_grammar.specs.declared.error.RunError.TheVariants.{Memory, BadLine, Device}
-use Rattle.tool_export.specs.Lines.{lines_of, ended_lines, unlines, ended}
-use Rattle.tool_export.specs.Answering.{Dialogue, lines_in as lines_said, texts_in, AreAnswered, AreFirst, IsRun, IsLeft}
-use Rattle.tool_export.proofs.LinesLemmas.{lines-cut, ended-cut, ended-left, cut-none, cut-some}
+use Rattle.tool_stream.specs.Lines.{lines_of, ended_lines, unlines, ended}
+use Rattle.tool_stream.specs.Answering.{Dialogue, lines_in as lines_said, texts_in, AreAnswered, AreFirst, IsRun, IsLeft}
+use Rattle.tool_stream.proofs.LinesLemmas.{lines-cut, ended-cut, ended-left, cut-none, cut-some}
 use Rattle.tool_prometheus.specs.Making.{setup_for}
 use Rattle.tool_prometheus.specs.declared.commands.Options.{Options}
 use Rattle.tool_prometheus.specs.declared.answering.Served.{Served}

@@ -4,7 +4,7 @@ use Rattle.std.proofs.Common.{Option, Result, Ok, Err, Some, None, append-nil}
 use Rattle.std.specs.List.{FoldsTo}
 use Rattle.tool_grammar.specs.declared.error.RunError.{RunError}
 use Rattle.tool_grammar.specs.declared.error.RunError.TheVariants.{Memory, BadLine, Device}
-use Rattle.tool_export.specs.Answering.{Dialogue, Leaves, IsRun, IsFlushed}
+use Rattle.tool_stream.specs.Answering.{Dialogue, Leaves, IsRun, IsFlushed}
 use Rattle.tool_prometheus.specs.declared.answering.Served.{Served}
 use Rattle.tool_prometheus.specs.Asked.{Asked, nothing_asked, then_asked, Asks}
 use Rattle.tool_prometheus.specs.Exposed.{IsEnd}

@@ -6,7 +6,7 @@ use Rattle.metrics_names.specs.Names.{KeyParts}
 use Rattle.metrics_registry.specs.Idleness.{Answered}
 use Rattle.metrics_exporter.specs.Exporting.{Log, updates_in, expires, steps, cells_after, series_of, IsExpiry, IsFull}
 use Rattle.metrics_exporter.specs.Describing.{Legend, legend_described, unit_told}
-use Rattle.tool_export.specs.Lines.{lines_of, ended_lines, is_cut}
+use Rattle.tool_stream.specs.Lines.{lines_of, ended_lines, is_cut}
 use Rattle.tool_prometheus.specs.Making.{setup_for}
 use Rattle.tool_prometheus.specs.declared.commands.Options.{Options}
 use Rattle.tool_requests.specs.declared.requests.Request.{Request}

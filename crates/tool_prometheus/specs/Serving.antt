@@ -2,9 +2,9 @@
 use Rattle.std.specs.Prelude.{if◌then◌else◌, ◌≡◌, ℕ, Bool, true, false, List, [], ◌∷◌, ◌++◌, ◌⊎◌, Result, Ok, Err, Option, None}
 use Rattle.tool_grammar.specs.declared.error.RunError.{RunError}
 use Rattle.tool_grammar.specs.declared.error.RunError.TheVariants.{Memory, BadLine, Device}
-use Rattle.tool_export.specs.declared.machine.Unanswered.{Unanswered}
-use Rattle.tool_export.specs.declared.machine.Unanswered.TheVariants as unanswered
-use Rattle.tool_export.specs.Answering.{Answering, IsRun, IsLeft, status_number}
+use Rattle.tool_stream.specs.declared.machine.Unanswered.{Unanswered}
+use Rattle.tool_stream.specs.declared.machine.Unanswered.TheVariants as unanswered
+use Rattle.tool_stream.specs.Answering.{Answering, IsRun, IsLeft, status_number}
 use Rattle.metrics_names.specs.declared.kind.MetricKind.{MetricKind}
 use Rattle.metrics_exporter.specs.Kept.{IsAfter, described}
 use Rattle.metrics_exporter.specs.declared.exporter.Exporter.{Exporter}

@@ -21,9 +21,10 @@ use metrics_prometheus::Naming;
 use metrics_rules::Rules;
 use std::alloc::Global;
 use std::io::{BufRead, Write};
-use tool_export::{ExportPlan, flush, status_of};
+use tool_export::ExportPlan;
 use tool_grammar::RunError;
 use tool_requests::{Dialect, front_of};
+use tool_stream::{flush, status_of};
 
 /// What the command line asks for.
 #[derive(Drop)]

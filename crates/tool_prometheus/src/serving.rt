@@ -12,9 +12,9 @@ use crate::watching::Watch;
 use std::alloc::Global;
 use std::io::{BufRead, Write};
 use std::marker::PhantomData;
-use tool_export::{LineMachine, Unanswered, flush, run_lines_leaving, write_text};
 use tool_grammar::RunError;
 use tool_requests::{Request, Unread, named_request_of};
+use tool_stream::{LineMachine, Unanswered, flush, run_lines_leaving, write_text};
 
 /// Returns what a line asks for, and reports what the text spells otherwise. A bad line is skipped, and asks for nothing; or it
 /// is an error.

@@ -2,7 +2,7 @@ use Rattle.std.proofs.Common.{◌≡◌, [], ◌∷◌, ◌++◌, None, MatchRes
 use Rattle.metrics.specs.declared.calls.Call.TheVariants as call
 use Rattle.metrics.specs.Answering.{handle_given}
 use Rattle.tool_grammar.specs.Printing.{text_of}
-use Rattle.tool_export.specs.declared.machine.Unanswered.TheVariants.{Lost}
+use Rattle.tool_stream.specs.declared.machine.Unanswered.TheVariants.{Lost}
 use Rattle.tool_lines.specs.Handles.{entries, entry_named, entries_by}
 use Rattle.tool_lines.specs.Running.{addresses_in}
 use Rattle.tool_lines.proofs.LogLemmas.{entries_by-one, neither}

@@ -1,7 +1,0 @@
--- What `rest` lacks was appended.
-use Rattle.std.proofs.Common.{◌≡◌, ℕ, List, ◌++◌}
-use Rattle.std.specs.Io.KnownBytes.{Appends}
-use Rattle.tool_export.proofs.stream.write_text.Given as goal
-
-abbrev pub invariant-loop : goal.invariant-loop
-invariant-loop g l = (done : List ℕ) × (l.initial.rest ≡ done ++ l.rest) × Appends (g.O.Write.contents l.initial.output) (g.O.Write.contents l.output) done
