@@ -14,7 +14,7 @@ ghost use Rattle.tool_lines.specs.Requests.{IsAllowed, Asks, AsksStorm, Prints, 
 ghost use Rattle.tool_lines.specs.Requests.{IsFault};
 ghost use Rattle.tool_storm.specs.Texts.{totals_text};
 
-use crate::exports::export_of;
+use crate::exports::{export_of, is_export};
 use crate::requests::{Request, StormPlan, request_of};
 use crate::running::run;
 use crate::trees::tree;
@@ -106,6 +106,14 @@ fn answer_request<R: Threads + Wait + Sync, I: BufRead, O: Write>(
     }
 }
 
+/// Writes how the program is called, and returns the status of wrong words.
+fn refuse_words<E: Write>(errors: &mut E) -> u8
+    ensures { result ≡ 2 }
+{
+    let _ = writeln!(errors, "{USAGE}");
+    2
+}
+
 /// Does what words other than those of an export ask for, and returns the status.
 fn answer_words<R: Threads + Wait + Sync, I: BufRead, O: Write, E: Write>(
     rt: &R,
@@ -135,8 +143,7 @@ fn answer_words<R: Threads + Wait + Sync, I: BufRead, O: Write, E: Write>(
     ensures storm { (plan : Storm) → AsksStorm (map (λ w. w.now) words.now) plan → result ≤ 1 }
 {
     let Some(request) = request_of(words) else {
-        let _ = writeln!(errors, "{USAGE}");
-        return 2;
+        return refuse_words(errors);
     };
     match answer_request(rt, alloc, request, input, output) {
         Ok(()) => 0,
@@ -174,6 +181,31 @@ fn answer_export<I: BufRead, O: Write, E: Write>(
 {
     let answered = export_new(alloc, plan, input, output);
     report(errors, answered)
+}
+
+/// Does what words that begin as those of an export ask for, and returns the status.
+fn answer_export_words<I: BufRead, O: Write, E: Write>(
+    alloc: Global,
+    words: &[&str],
+    input: &mut I,
+    output: &mut O,
+    errors: &mut E,
+) -> u8
+    ensures done { result ≡ 0 → (plan : Plan) × AsksExport (map (λ w. w.now) words.now) plan }
+    ensures exported { (any : Plan) → AsksExport (map (λ w. w.now) words.now) any
+        → (plan : Plan) × AsksExport (map (λ w. w.now) words.now) plan
+        × EndsExport plan (OnSome (I.remaining input.old) (IsAtEnd (I.remaining input.new)))
+        (Consumes (I.remaining input.old) (I.remaining input.new))
+        (Appends (O.contents output.old) (O.contents output.new)) result }
+    ensures wrong { ((plan : Plan) → AsksExport (map (λ w. w.now) words.now) plan → ⊥) → (result ≡ 2)
+        × (output.new ≡ output.old) }
+    ensures status { result ≤ 2 }
+{
+    match export_of(alloc, words) {
+        Ok(Some(plan)) => answer_export(alloc, &plan, input, output, errors),
+        Ok(None) => refuse_words(errors),
+        Err(_) => report(errors, Err(RunError::Memory(None))),
+    }
 }
 
 /// Runs the program for the words after its name, and returns its status. Writes why it stopped to `errors`, whose
@@ -223,9 +255,8 @@ pub fn command<R: Threads + Wait + Sync, I: BufRead, O: Write, E: Write>(
     ensures status { result ≤ 2 }
     ensures storm { (plan : Storm) → AsksStorm (map (λ w. w.now) words.now) plan → result ≤ 1 }
 {
-    match export_of(alloc, words) {
-        Ok(Some(plan)) => answer_export(alloc, &plan, input, output, errors),
-        Ok(None) => answer_words(rt, alloc, words, input, output, errors),
-        Err(_) => report(errors, Err(RunError::Memory(None))),
+    if is_export(words) {
+        return answer_export_words(alloc, words, input, output, errors);
     }
+    answer_words(rt, alloc, words, input, output, errors)
 }

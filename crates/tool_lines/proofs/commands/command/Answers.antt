@@ -1,8 +1,12 @@
-use Rattle.std.proofs.Common.{[], inr, refl, Err, None}
-use Rattle.std.proofs.KnownBytes.{Consumes-nil, Appends-nil}
-use Rattle.tool_grammar.specs.declared.error.RunError.TheVariants.{Memory}
+use Rattle.std.proofs.Common.{inl, inr}
+use Rattle.tool_lines.specs.declared.requests.Request.TheVariants as ask
 use Rattle.tool_lines.proofs.commands.command.Goals as goal
 
-pub returns-in-Err-clause-exported : goal.returns-in-Err-clause-exported
-returns-in-Err-clause-exported g c = λ any asks.
-    (any, asks, ([], [], Err (Memory None), Consumes-nil _, Appends-nil _, inr (refl, refl, refl), c.report.ensures))
+pub returns-then-is_export-clause-first : goal.returns-then-is_export-clause-first
+returns-then-is_export-clause-first g c = λ two run. absurd (c.is_export.ensures.export c.if-is_export.true ask.Run run)
+
+pub returns-then-is_export-clause-storm : goal.returns-then-is_export-clause-storm
+returns-then-is_export-clause-storm g c = λ plan asks. elim asks [
+  | inl storm ↦ absurd (c.is_export.ensures.export c.if-is_export.true (ask.Storm plan) storm)
+  | inr storm ↦ absurd (c.is_export.ensures.export c.if-is_export.true (ask.GrowingStorm plan) storm)
+]
