@@ -11,13 +11,14 @@ use Rattle.metrics.specs.declared.calls.Call.{Call}
 use Rattle.metrics.specs.declared.calls.Call.TheVariants as call
 use Rattle.tool_grammar.specs.Grammar.{IsName, IsLabel, CanBeSpelled}
 use Rattle.tool_grammar.proofs.WordsLemmas.{lacks_literal}
-use Rattle.tool_trees.specs.Trees.{Tree, Book, Prefix, meaning_of, BeginsWithTree}
+use Rattle.tool_trees.specs.declared.tree_line.TreeLine.TheVariants as line
+use Rattle.tool_trees.specs.Trees.{Tree, Node, none, more, meaning_of, BeginsWithTree}
 use Rattle.tool_stream.specs.Lines.{lines_of}
 use Rattle.tool_lines.specs.Output.{Input, BeginsWithCalls, answers_text, printed}
 use Rattle.tool_lines.specs.Examples.{first_input, first_output}
 
 abbrev tree : Tree
-tree = Prefix (codes "app") Book
+tree = Node (line.Prefix (codes "app")) (more (Node line.Book none) none)
 
 abbrev calls : List Call
 calls =
@@ -51,7 +52,9 @@ is_text : (bs : List ℕ) → are_ascii bs ≡ true → IsUtf8 bs
 is_text bs h = IsUtf8-from_ascii bs (each_ascii bs h)
 
 begins : BeginsWithTree (lines_of first_input) tree after_tree
-begins = ((((is_text (codes "app") refl, lacks_literal 32 (codes "app") refl, λ e. absurd (omega (arith, ap length e))), tt, omega arith), (tt, tt, omega arith)), cut)
+begins =
+    let app : IsName (codes "app") = (is_text (codes "app") refl, lacks_literal 32 (codes "app") refl, λ e. absurd (omega (arith, ap length e))) in
+    ((record { spelled = app; number = refl; fits = tt; low = omega arith }, ((record { spelled = tt; number = refl; fits = tt; low = omega arith }, tt), tt)), cut)
 
 hits : IsName (codes "hits")
 hits = (is_text (codes "hits") refl, lacks_literal 32 (codes "hits") refl, λ e. absurd (omega (arith, ap length e)))

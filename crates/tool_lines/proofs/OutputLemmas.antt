@@ -22,7 +22,7 @@ use Rattle.tool_grammar.proofs.WordsLemmas.{lacks_literal}
 use Rattle.tool_grammar.proofs.CallLemmas.{call_same}
 use Rattle.tool_trees.specs.declared.tree_line.TreeLine.TheVariants as line
 use Rattle.tool_trees.specs.Words.{spelling as tree_spelling}
-use Rattle.tool_trees.specs.Trees.{Tree, Book, tree_lines, meaning_of, IsAllowed, BeginsWithTree, NoTree}
+use Rattle.tool_trees.specs.Trees.{Tree, Node, none, tree_lines, meaning_of, IsAllowed, BeginsWithTree, NoTree}
 use Rattle.tool_trees.proofs.OneListAtMost.{one_tree}
 use Rattle.tool_stream.specs.Lines.{lines_of, unlines}
 use Rattle.tool_stream.specs.Answering.{AreFirst, IsFlushed}
@@ -64,9 +64,9 @@ printed_same ls i j =
 
 pub one_text : (ls : List (List ℕ)) (a b : List ℕ) → Prints ls a → Prints ls b → a ≡ b
 one_text ls a b (inl (i, e)) (inl (j, f)) = e ∙ printed_same ls i j ∙ sym f
-one_text ls a b (inl (i, e)) (inr (none, f)) = absurd (none i.tree i.after_tree i.tree_first)
-one_text ls a b (inr (none, e)) (inl (j, f)) = absurd (none j.tree j.after_tree j.tree_first)
-one_text ls a b (inr (none, e)) (inr (other, f)) = e ∙ sym f
+one_text ls a b (inl (i, e)) (inr (fails, f)) = absurd (fails i.tree i.after_tree i.tree_first)
+one_text ls a b (inr (fails, e)) (inl (j, f)) = absurd (fails j.tree j.after_tree j.tree_first)
+one_text ls a b (inr (fails, e)) (inr (other, f)) = e ∙ sym f
 
 -- ---- texts of answers
 
@@ -280,9 +280,9 @@ runs_over (Some xs) (Some ys) (Some left) (Some held) (Some now) s t first (Err 
 
 no_tree : (xs ys read : List ℕ) (k : ℕ) → xs ≡ read ++ ys → RefusesTree (ys ≡ []) read (BadLine k) → NoTree (lines_of xs)
 no_tree xs ys read k took (inl (ls, bad, are, first, number)) t rest w =
-    first.no_tree t (lines_of ys) rest (subst (λ (l : List (List ℕ)). BeginsWithTree l t rest) (read_lines xs ys read (ls ++ bad ∷ []) took are) w)
-no_tree xs ys read k took (inr (e, trees, none, number)) t rest w =
-    none t rest (subst (λ (l : List ℕ). BeginsWithTree (lines_of l) t rest) (took ∙ ap (λ l. read ++ l) e ∙ append-nil read) w)
+    first.no_tree (lines_of ys) t rest (subst (λ (l : List (List ℕ)). BeginsWithTree l t rest) (read_lines xs ys read (ls ++ bad ∷ []) took are) w)
+no_tree xs ys read k took (inr (e, trees, fails, number)) t rest w =
+    fails t rest (subst (λ (l : List ℕ). BeginsWithTree (lines_of l) t rest) (took ∙ ap (λ l. read ++ l) e ∙ append-nil read) w)
 
 refuses_over : (a b x y : Option (List ℕ)) (e : RunError) (read : List ℕ) → Consumes a b read → RefusesTree (OnSome a (IsAtEnd b)) read e → Keeps x y → RunsKnown {A = ℕ} a x y (Err e)
 refuses_over None b x y e read took h k = tt
@@ -304,17 +304,20 @@ pub refused_over : (a b x y : Option (List ℕ)) (e : RunError) (r : Result ℕ 
 refused_over a b x y e r read took h (inl is) k = rw is (refuses_over a b x y e read took h k)
 refused_over a b x y e r read took h (inr (whole, is)) k = rw is (device_over a x y k)
 
+abbrev book : Tree
+book = Node line.Book none
+
 -- nothing was written, which is what no calls print
 nothing_printed : PrintsAnswers []
 nothing_printed = record {
-  tree = Book;
-  allowed = (tt, tt, omega arith);
-  old = meaning_of Book;
-  new = meaning_of Book;
+  tree = book;
+  allowed = (record { spelled = tt; number = refl; fits = tt; low = omega arith }, tt);
+  old = meaning_of book;
+  new = meaning_of book;
   log = [];
   means = refl;
-  are_new = means_new (meaning_of Book) Book refl;
-  are_made = are_made (meaning_of Book) (meaning_of Book) [] (made_none (meaning_of Book));
+  are_new = means_new (meaning_of book) book refl;
+  are_made = are_made (meaning_of book) (meaning_of book) [] (made_none (meaning_of book));
   text_is = refl;
 }
 

@@ -4,7 +4,7 @@ ghost use Rattle.std.specs.Prelude.{MatchResult};
 ghost use Rattle.std.specs.Io.KnownBytes.{Consumes, IsAtEnd};
 ghost use Rattle.tool_grammar.specs.declared.error.RunError.TheVariants.{Device as NoDevice};
 ghost use Rattle.tool_trees.specs.declared.level.Level.{Level as Stacked};
-ghost use Rattle.tool_trees.specs.Levels.{level_meaning};
+ghost use Rattle.tool_trees.specs.Doing.{level_meaning};
 ghost use Rattle.tool_lines.specs.TreeReading.{BuildsTree, RefusesTree, error_at};
 
 use metrics::Recorder;

@@ -1,9 +1,5 @@
 pub mod Lines
-pub mod Parse
-pub mod LastLines
 pub mod OneListAtMost
 pub mod Orders
 pub mod Doing
 pub mod Joins
-pub mod Routes
-pub mod OneLine

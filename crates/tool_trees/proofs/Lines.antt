@@ -1,5 +1,5 @@
--- Bytes spell at most one line.
-use Rattle.std.proofs.Common.{◌≡◌, ◌≢◌, ℕ, ◌+◌, ◌<◌, ◌^◌, List, [], ◌∷◌, ◌++◌, Bool, true, false, codes, decimal, get_or, refl, sym, ap, ◌∙◌, arith}
+-- Lines and their words: bytes spell at most one line, and how they are read.
+use Rattle.std.proofs.Common.{◌≡◌, ◌≢◌, ℕ, ◌+◌, ◌<◌, ◌^◌, List, [], ◌∷◌, ◌++◌, Bool, true, false, codes, decimal, get_or, refl, sym, ap, ◌∙◌, arith, ◌≤◌, length, eqb, subst, append_assoc, append-nil, IsUtf8}
 use Rattle.std.specs.List.{AllByRecursion}
 use Rattle.std.specs.Str.Parse.{AllDigits}
 use Rattle.std.proofs.lemmas.List.Elements.{recursion_from_All, All-from_recursion, All-append}
@@ -7,31 +7,16 @@ use Rattle.std.proofs.lemmas.Fmt.{decimal_is_IsNumeral, decimal_injective}
 use Rattle.std.proofs.lemmas.Str.Parse.{digit_from_value}
 use Rattle.tool_grammar.specs.Cuts.{Lacks, StartsAt}
 use Rattle.tool_grammar.specs.Grammar.{IsName}
-use Rattle.tool_grammar.specs.Kinds.{kinds_word}
+use Rattle.tool_grammar.specs.Kinds.{kinds_word, HasKind}
 use Rattle.metrics_names.specs.Names.{name_word}
 use Rattle.tool_grammar.proofs.CallLemmas.{name_same}
 use Rattle.tool_grammar.proofs.KindsLemmas.{kinds_same, lacks_kinds}
-use Rattle.tool_grammar.proofs.WordsLemmas.{before_same, first_same, lacks_literal, lacks_name, lacks_decimal}
+use Rattle.tool_grammar.proofs.WordsLemmas.{before_same, first_same, lacks_name, lacks_decimal, not_cut}
 use Rattle.tool_trees.specs.declared.tree_line.RouteWord.{RouteWord}
 use Rattle.tool_trees.specs.declared.tree_line.TreeLine.{TreeLine}
 use Rattle.tool_trees.specs.declared.tree_line.TreeLine.TheVariants as line
-use Rattle.tool_trees.specs.Words.{words, case_word, form_word, route_word, line_word, line_rest, spelling, IsRoute, CanBeSpelled}
-
-pub tail_same : (x : ℕ) (a b : List ℕ) → x ∷ a ≡ x ∷ b → a ≡ b
-tail_same x a b e = cc
-
--- ---- numbers
-
-digits_lack : (ds : List ℕ) → AllDigits 10 ds → AllByRecursion (λ x. x ≢ 47) ds
-digits_lack [] h = tt
-digits_lack (d ∷ ds) h =
-    let range = digit_from_value d h.0 in
-    let differs : d ≢ 47 = λ e. absurd (omega (arith, range.0, range.1, e)) in
-    (differs, digits_lack ds h.1)
-
--- a number has no slash
-pub slashless : (n : ℕ) → n < 2 ^ 64 → Lacks 47 (decimal n)
-slashless n h = All-from_recursion _ (decimal n) (digits_lack (decimal n) (decimal_is_IsNumeral n h).0.1)
+use Rattle.tool_trees.specs.Words.{words, flags_word, route_word, spelling, IsRoute, CanBeSpelled, IsNoLine}
+use Rattle.std.proofs.lemmas.Grind.{flat_map-append}
 
 -- ---- words
 
@@ -45,33 +30,25 @@ words_same Is word lacks same [] [] h g e = refl
 words_same Is word lacks same [] (y ∷ ys) h g e = absurd (cc)
 words_same Is word lacks same (x ∷ xs) [] h g e = absurd (cc)
 words_same Is word lacks same (x ∷ xs) (y ∷ ys) h g e =
-    let tail : word x ++ words word xs ≡ word y ++ words word ys = tail_same 32 _ _ e in
-    let both = before_same 32 (word x) (word y) (words word xs) (words word ys) (lacks x h.0) (lacks y g.0) (starts_words word xs) (starts_words word ys) tail in
-    ap (λ z. z ∷ xs) (same x y h.0 g.0 both.0) ∙ ap (λ zs. y ∷ zs) (words_same Is word lacks same xs ys h.1 g.1 both.1)
+    let both = before_same 32 (word x) (word y) (words word xs) (words word ys) (lacks x h.0) (lacks y g.0) (starts_words word xs) (starts_words word ys) (cc) in
+    cc (same x y h.0 g.0 both.0, words_same Is word lacks same xs ys h.1 g.1 both.1)
 
-pub lacks_case : (b : Bool) → Lacks 32 (case_word b)
-lacks_case false = lacks_literal 32 (case_word false) refl
-lacks_case true = lacks_literal 32 (case_word true) refl
-
-pub lacks_form : (b : Bool) → Lacks 32 (form_word b)
-lacks_form false = lacks_literal 32 (form_word false) refl
-lacks_form true = lacks_literal 32 (form_word true) refl
-
--- the first two bytes, added up: they tell words of one sort apart
-abbrev pub lead : List ℕ → ℕ
-lead xs = get_or xs 0 0 + get_or xs 1 0
-
-case_same : (a b : Bool) → case_word a ≡ case_word b → a ≡ b
-case_same false false e = refl
-case_same true true e = refl
-case_same a b e = absurd (omega (arith, ap lead e))
-
-form_same : (a b : Bool) → form_word a ≡ form_word b → a ≡ b
-form_same false false e = refl
-form_same true true e = refl
-form_same a b e = absurd (omega (arith, ap lead e))
+pub flags_same : (a b c d : Bool) (s t : List ℕ) → flags_word a b ++ s ≡ flags_word c d ++ t → (a ≡ c) × (b ≡ d) × (s ≡ t)
+flags_same false false false false s t e = (refl, refl, cc)
+flags_same false true false true s t e = (refl, refl, cc)
+flags_same true false true false s t e = (refl, refl, cc)
+flags_same true true true true s t e = (refl, refl, cc)
+flags_same a b c d s t e = absurd (omega (arith, ap (λ xs. get_or xs 1 0) e, ap (λ xs. get_or xs 3 0) e))
 
 -- ---- routes
+
+digits_lack : (ds : List ℕ) → AllDigits 10 ds → AllByRecursion (λ x. x ≢ 47) ds
+digits_lack [] h = tt
+digits_lack (d ∷ ds) h = let range = digit_from_value d h.0 in ((λ e. absurd (omega (arith, range.0, range.1, e))), digits_lack ds h.1)
+
+-- a number has no slash
+slashless : (n : ℕ) → n < 2 ^ 64 → Lacks 47 (decimal n)
+slashless n h = All-from_recursion _ (decimal n) (digits_lack (decimal n) (decimal_is_IsNumeral n h).0.1)
 
 pub lacks_route : (r : RouteWord) → IsRoute r → Lacks 32 (route_word r)
 lacks_route r h =
@@ -79,9 +56,7 @@ lacks_route r h =
     (slash_first (decimal r.target ++ 47 ∷ r.pattern) (All-append (λ x. x ≢ 32) (decimal r.target) (47 ∷ r.pattern) (lacks_decimal r.target h.1) (slash_first r.pattern h.3)))
   where
     slash_first : (xs : List ℕ) → Lacks 32 xs → Lacks 32 (47 ∷ xs)
-    slash_first xs g =
-        let slash : (x : ℕ) → x ≡ 47 → x ≢ 32 = λ x p q. absurd (omega (arith, p, q)) in
-        All-from_recursion (λ x. x ≢ 32) (47 ∷ xs) (slash 47 refl, recursion_from_All (λ x. x ≢ 32) xs g)
+    slash_first xs g = All-from_recursion (λ x. x ≢ 32) (47 ∷ xs) ((λ e. absurd (omega (arith, e))), recursion_from_All (λ x. x ≢ 32) xs g)
 
 -- a route is cut in one way
 pub route_parts : (kinds target pattern : List ℕ) (r : RouteWord) → IsRoute r → Lacks 47 kinds → Lacks 47 target → kinds ++ 47 ∷ (target ++ 47 ∷ pattern) ≡ route_word r
@@ -91,51 +66,159 @@ route_parts kinds target pattern r h lk lt e =
     let two = first_same 47 (decimal r.target ++ 47 ∷ r.pattern) target pattern (decimal r.target) r.pattern lt (slashless r.target h.1) (sym one.1) refl in
     (one.0, two.0, two.1)
 
-route_is : (r s : RouteWord) → r.kinds ≡ s.kinds → r.target ≡ s.target → r.pattern ≡ s.pattern → r ≡ s
-route_is r s e f g =
-    ap (λ m. record { kinds = m; target = r.target; pattern = r.pattern }) e ∙ ap (λ t. record { kinds = s.kinds; target = t; pattern = r.pattern }) f ∙ ap (λ p. record { kinds = s.kinds; target = s.target; pattern = p }) g
-
-pub route_same : (r s : RouteWord) → IsRoute r → IsRoute s → route_word r ≡ route_word s → r ≡ s
+route_same : (r s : RouteWord) → IsRoute r → IsRoute s → route_word r ≡ route_word s → r ≡ s
 route_same r s h g e =
     let parts = route_parts (kinds_word r.kinds) (decimal r.target) r.pattern s g (lacks_kinds 47 r.kinds (omega arith)) (slashless r.target h.1) e in
-    route_is r s (kinds_same r.kinds s.kinds h.0 g.0 parts.0) (decimal_injective r.target s.target h.1 g.1 parts.1) parts.2
+    is (kinds_same r.kinds s.kinds h.0 g.0 parts.0) (decimal_injective r.target s.target h.1 g.1 parts.1) parts.2
+  where
+    is : r.kinds ≡ s.kinds → r.target ≡ s.target → r.pattern ≡ s.pattern → r ≡ s
+    is p q t =
+        ap (λ k. record { kinds = k; target = r.target; pattern = r.pattern }) p ∙ ap (λ n. record { kinds = s.kinds; target = n; pattern = r.pattern }) q
+        ∙ ap (λ w. record { kinds = s.kinds; target = s.target; pattern = w }) t
 
 -- ---- lines
 
-pub starts_rest : (l : TreeLine) → StartsAt 32 (line_rest l)
-starts_rest line.Book = tt
-starts_rest line.Noop = tt
-starts_rest line.End = tt
-starts_rest l = refl
-
-pub lacks_word : (l : TreeLine) → Lacks 32 (line_word l)
-lacks_word line.End = lacks_literal 32 (codes "end") refl
-lacks_word l = lacks_literal 32 (line_word l) refl
-
-filter_same : (a b c d : Bool) (ps qs : List (List ℕ)) → AllByRecursion IsName ps → AllByRecursion IsName qs → line_rest (line.Filter a c ps) ≡ line_rest (line.Filter b d qs) → line.Filter a c ps ≡ line.Filter b d qs
-filter_same a b c d ps qs h g e =
-    let one = first_same 32 _ (case_word a) (form_word c ++ words name_word ps) (case_word b) (form_word d ++ words name_word qs) (lacks_case a) (lacks_case b) refl (tail_same 32 _ _ e) in
-    let two = before_same 32 (form_word c) (form_word d) (words name_word ps) (words name_word qs) (lacks_form c) (lacks_form d) (starts_words name_word ps) (starts_words name_word qs) one.1 in
-    ap (λ x. line.Filter x c ps) (case_same a b one.0) ∙ ap (λ x. line.Filter b x ps) (form_same c d two.0) ∙ ap (λ x. line.Filter b d x) (words_same IsName name_word lacks_name name_same ps qs h g two.1)
-
-router_same : (m n : ℕ) (rs ss : List RouteWord) → (m < 2 ^ 64) × AllByRecursion IsRoute rs → (n < 2 ^ 64) × AllByRecursion IsRoute ss → line_rest (line.Router m rs) ≡ line_rest (line.Router n ss) → line.Router m rs ≡ line.Router n ss
-router_same m n rs ss h g e =
-    let two = before_same 32 (decimal m) (decimal n) (words route_word rs) (words route_word ss) (lacks_decimal m h.0) (lacks_decimal n g.0) (starts_words route_word rs) (starts_words route_word ss) (tail_same 32 _ _ e) in
-    ap (λ x. line.Router x rs) (decimal_injective m n h.0 g.0 two.0) ∙ ap (λ x. line.Router n x) (words_same IsRoute route_word lacks_route route_same rs ss h.1 g.1 two.1)
-
-parts_same : (s t : TreeLine) → CanBeSpelled s → CanBeSpelled t → line_word s ≡ line_word t → line_rest s ≡ line_rest t → s ≡ t
-parts_same line.Book line.Book h g w r = refl
-parts_same line.Noop line.Noop h g w r = refl
-parts_same (line.Prefix p) (line.Prefix q) h g w r = ap line.Prefix (name_same p q h g (tail_same _ _ _ r))
-parts_same (line.Filter a c ps) (line.Filter b d qs) h g w r = filter_same a b c d ps qs h g r
-parts_same (line.Fanout m) (line.Fanout n) h g w r = ap line.Fanout (decimal_injective m n (omega arith) (omega arith) (tail_same _ _ _ r))
-parts_same (line.Router m rs) (line.Router n ss) h g w r = router_same m n rs ss h g r
-parts_same line.End line.End h g w r = refl
-parts_same s t h g w r = absurd (omega (arith, ap lead w))
-
--- a line is cut at its first space in one way
-pub cut_line : (word rest : List ℕ) (l : TreeLine) → Lacks 32 word → StartsAt 32 rest → word ++ rest ≡ spelling l → (word ≡ line_word l) × (rest ≡ line_rest l)
-cut_line word rest l lw sr e = before_same 32 word (line_word l) rest (line_rest l) lw (lacks_word l) sr (starts_rest l) e
+-- the first two bytes, added up: they tell lines apart
+abbrev pub lead : List ℕ → ℕ
+lead xs = get_or xs 0 0 + get_or xs 1 0
 
 pub line_same : (s t : TreeLine) → CanBeSpelled s → CanBeSpelled t → spelling s ≡ spelling t → s ≡ t
-line_same s t h g e = let both = cut_line (line_word s) (line_rest s) t (lacks_word s) (starts_rest s) e in parts_same s t h g both.0 both.1
+line_same line.Book line.Book h g e = refl
+line_same line.Noop line.Noop h g e = refl
+line_same (line.Prefix p) (line.Prefix q) h g e = ap line.Prefix (name_same p q h g (cc))
+line_same (line.Filter a b ps) (line.Filter c d qs) h g e =
+    let parts = flags_same a b c d (words name_word ps) (words name_word qs) (cc) in
+    cc (parts.0, parts.1, words_same IsName name_word lacks_name name_same ps qs h g parts.2)
+line_same (line.Fanout m) (line.Fanout n) h g e = ap line.Fanout (decimal_injective m n (omega arith) (omega arith) (cc))
+line_same (line.Router m rs) (line.Router n ss) h g e =
+    let both = before_same 32 (decimal m) (decimal n) (words route_word rs) (words route_word ss) (lacks_decimal m h.0) (lacks_decimal n g.0) (starts_words route_word rs) (starts_words route_word ss) (cc) in
+    cc (decimal_injective m n h.0 g.0 both.0, words_same IsRoute route_word lacks_route route_same rs ss h.1 g.1 both.1)
+line_same line.End line.End h g e = refl
+line_same s t h g e = absurd (omega (arith, ap lead e))
+
+-- ---- words that are read
+
+pub positive : (n : ℕ) (b : Bool) → b ≡ eqb n 0 → b ≡ false → 0 < n
+positive n b e f = grind arith
+
+-- words begin with a space
+pub no_words : {A : Type 0} (word : A → List ℕ) (rest : List ℕ) (xs : List A) → rest ≡ words word xs → 0 < length rest → ((others : List ℕ) → rest ≡ 32 ∷ others → ⊥) → ⊥
+no_words word rest [] e p fails = absurd (omega (arith, ap length e))
+no_words word rest (x ∷ xs) e p fails = fails (word x ++ words word xs) e
+
+all_push : {A : Type 0} (Is : A → Type 0) (xs : List A) (x : A) → AllByRecursion Is xs → Is x → AllByRecursion Is (xs ++ x ∷ [])
+all_push Is [] x h g = (g, tt)
+all_push Is (y ∷ xs) x h g = (h.0, all_push Is xs x h.1 g)
+
+-- how far words are read
+pub record WordsSoFar {A : Type 0} (Is : A → Type 0) (word : A → List ℕ) (bytes rest : List ℕ) (xs : List A) : Type 0 where
+  pub are : AllByRecursion Is xs
+  pub whole : bytes ≡ words word xs ++ rest
+  pub left : (ys : List A) → AllByRecursion Is ys → bytes ≡ words word ys → (zs : List A) × AllByRecursion Is zs × (rest ≡ words word zs)
+
+module _ {A : Type 0} (Is : A → Type 0) (word : A → List ℕ) (lacks : (x : A) → Is x → Lacks 32 (word x)) (rest others here after : List ℕ)
+    (r : rest ≡ 32 ∷ others) (o : others ≡ here ++ after) (lw : Lacks 32 here) (sa : StartsAt 32 after) where
+  -- what is left is the next word, and those after it
+  pub next_of : (xs : List A) → AllByRecursion Is xs → rest ≡ words word xs → (x : A) × (ys : List A) × Is x × AllByRecursion Is ys × (here ≡ word x) × (after ≡ words word ys)
+  next_of [] h e = absurd (cc)
+  next_of (x ∷ xs) h e =
+      let both = before_same 32 here (word x) after (words word xs) lw (lacks x h.0) sa (starts_words word xs) (cc) in
+      (x, xs, h.0, h.1, both.0, both.1)
+
+  pub words_more : (bytes : List ℕ) (xs : List A) (x : A) → WordsSoFar Is word bytes rest xs → Is x → here ≡ word x → WordsSoFar Is word bytes after (xs ++ x ∷ [])
+  words_more bytes xs x so h e = record {
+    are = all_push Is xs x so.are h;
+    whole = rw (so.whole, r, o, e) (simp (flat_map-append, append_assoc, append-nil));
+    left = λ ys g b. let (k, ks, i) = so.left ys g b in let (y, zs, is, are, here_is, after_is) = next_of k ks i in (zs, are, after_is);
+  }
+
+-- ---- routes that are read
+
+module _ (bytes kinds rest : List ℕ) (whole : bytes ≡ kinds ++ 47 ∷ rest) (before : Lacks 47 kinds) where
+  -- the route has no second slash
+  pub no_second : ((front back : List ℕ) → rest ≡ front ++ 47 ∷ back → ⊥) → (r : RouteWord) → IsRoute r → bytes ≡ route_word r → ⊥
+  no_second fails r h e = fails (decimal r.target) r.pattern (first_same 47 bytes kinds rest (kinds_word r.kinds) (decimal r.target ++ 47 ∷ r.pattern) before (lacks_kinds 47 r.kinds (omega arith)) whole e).1
+
+  module _ (target pattern : List ℕ) (parts : rest ≡ target ++ 47 ∷ pattern) (slash : Lacks 47 target) where
+    are_parts : (r : RouteWord) → IsRoute r → bytes ≡ route_word r → (kinds ≡ kinds_word r.kinds) × (target ≡ decimal r.target) × (pattern ≡ r.pattern)
+    are_parts r h e = route_parts kinds target pattern r h before slash (ap (λ z. kinds ++ 47 ∷ z) (sym parts) ∙ sym whole ∙ e)
+
+    pub no_kinds : ((k : ℕ) → HasKind k → kinds ≡ kinds_word k → ⊥) → (r : RouteWord) → IsRoute r → bytes ≡ route_word r → ⊥
+    no_kinds fails r h e = fails r.kinds h.0 (are_parts r h e).0
+
+    pub no_target : ((n : ℕ) → n < 2 ^ 64 → target ≡ decimal n → ⊥) → (r : RouteWord) → IsRoute r → bytes ≡ route_word r → ⊥
+    no_target fails r h e = fails r.target h.1 (are_parts r h e).1
+
+    pub no_pattern : (IsUtf8 pattern → ⊥) → (r : RouteWord) → IsRoute r → bytes ≡ route_word r → ⊥
+    no_pattern fails r h e = fails (subst IsUtf8 (sym (are_parts r h e).2) h.2)
+
+lacks_behind : (c : ℕ) (a b : List ℕ) → AllByRecursion (λ x. x ≢ c) (a ++ b) → AllByRecursion (λ x. x ≢ c) b
+lacks_behind c [] b h = h
+lacks_behind c (x ∷ a) b h = lacks_behind c a b h.1
+
+-- what was read is a route
+pub route_found : (word kinds rest target pattern p : List ℕ) (m n : ℕ) → word ≡ kinds ++ 47 ∷ rest → rest ≡ target ++ 47 ∷ pattern → Lacks 32 word → HasKind m → kinds ≡ kinds_word m → n < 2 ^ 64 → target ≡ decimal n →
+    IsUtf8 pattern → p ≡ pattern → let r : RouteWord = record { kinds = m; target = n; pattern = p } in IsRoute r × (word ≡ route_word r)
+route_found word kinds rest target pattern p m n whole parts lacks some ek lt et utf8 ep =
+    let all : word ≡ kinds ++ 47 ∷ (target ++ 47 ∷ pattern) = whole ∙ ap (λ z. kinds ++ 47 ∷ z) parts in
+    let one : AllByRecursion (λ x. x ≢ 32) (target ++ 47 ∷ pattern) = (lacks_behind 32 kinds (47 ∷ (target ++ 47 ∷ pattern)) (subst (AllByRecursion (λ x. x ≢ 32)) all (recursion_from_All _ word lacks))).1 in
+    let two : Lacks 32 pattern = All-from_recursion (λ x. x ≢ 32) pattern (lacks_behind 32 target (47 ∷ pattern) one).1 in (
+      (some, lt, subst IsUtf8 (sym ep) utf8, subst (Lacks 32) (sym ep) two),
+      all ∙ ap (λ k. k ++ 47 ∷ (target ++ 47 ∷ pattern)) ek ∙ ap (λ t. kinds_word m ++ 47 ∷ (t ++ 47 ∷ pattern)) et ∙ ap (λ q. kinds_word m ++ 47 ∷ (decimal n ++ 47 ∷ q)) (sym ep),
+    )
+
+-- ---- lines that are read
+
+pub no_flags : (bytes : List ℕ) → ((s : List ℕ) → bytes ≡ codes "cs links" ++ s → ⊥) → ((s : List ℕ) → bytes ≡ codes "cs dfa" ++ s → ⊥) → ((s : List ℕ) → bytes ≡ codes "ci links" ++ s → ⊥)
+    → ((s : List ℕ) → bytes ≡ codes "ci dfa" ++ s → ⊥) → (fold table : Bool) (s : List ℕ) → bytes ≡ flags_word fold table ++ s → ⊥
+no_flags bytes f g h k false false = f
+no_flags bytes f g h k false true = g
+no_flags bytes f g h k true false = h
+no_flags bytes f g h k true true = k
+
+pub no_prefix : (bytes : List ℕ) → ((p : List ℕ) → IsName p → bytes ≡ name_word p → ⊥) → IsNoLine (codes "prefix " ++ bytes)
+no_prefix bytes fails (line.Prefix p) h = fails p h.0 (let e = h.1 in cc)
+no_prefix bytes fails l h = absurd (omega (arith, ap lead h.1))
+
+pub no_filter : (bytes : List ℕ) → ((fold table : Bool) (ps : List (List ℕ)) → AllByRecursion IsName ps → bytes ≡ flags_word fold table ++ words name_word ps → ⊥) → IsNoLine (codes "filter " ++ bytes)
+no_filter bytes fails (line.Filter fold table ps) h = fails fold table ps h.0 (let e = h.1 in cc)
+no_filter bytes fails l h = absurd (omega (arith, ap lead h.1))
+
+pub no_fanout : (bytes : List ℕ) → ((n : ℕ) → n ≤ 65536 → bytes ≡ decimal n → ⊥) → IsNoLine (codes "fanout " ++ bytes)
+no_fanout bytes fails (line.Fanout n) h = fails n h.0 (let e = h.1 in cc)
+no_fanout bytes fails l h = absurd (omega (arith, ap lead h.1))
+
+pub too_great : (bytes : List ℕ) (m : ℕ) → m < 2 ^ 64 → 65536 < m → bytes ≡ decimal m → IsNoLine (codes "fanout " ++ bytes)
+too_great bytes m lt gt e = no_fanout bytes (λ n le g. absurd (omega (arith, decimal_injective m n lt (omega arith) (sym e ∙ g), gt, le)))
+
+no_router : (bytes : List ℕ) → ((n : ℕ) (rs : List RouteWord) → n < 2 ^ 64 → AllByRecursion IsRoute rs → bytes ≡ decimal n ++ words route_word rs → ⊥) → IsNoLine (codes "router " ++ bytes)
+no_router bytes fails (line.Router n rs) h = fails n rs h.0.0 h.0.1 (let e = h.1 in cc)
+no_router bytes fails l h = absurd (omega (arith, ap lead h.1))
+
+module _ (bytes word others : List ℕ) (whole : bytes ≡ word ++ others) (lacks : Lacks 32 word) (starts : StartsAt 32 others) where
+  -- a word that something follows is no name
+  pub no_two : (b : Bool) → b ≡ eqb (length others) 0 → b ≡ false → IsNoLine (codes "prefix " ++ bytes)
+  no_two b e f = no_prefix bytes (λ p h g. by others p (sym g ∙ whole) starts (positive (length others) b e f) h)
+    where
+      by : (after : List ℕ) (p : List ℕ) → name_word p ≡ word ++ after → StartsAt 32 after → 0 < length after → IsName p → ⊥
+      by [] p g s lt h = absurd (omega arith)
+      by (x ∷ after) p g s lt h = not_cut 32 (name_word p) word after (lacks_name p h) (g ∙ ap (λ y. word ++ y ∷ after) s)
+
+  parts : (n : ℕ) (rs : List RouteWord) → n < 2 ^ 64 → bytes ≡ decimal n ++ words route_word rs → (word ≡ decimal n) × (others ≡ words route_word rs)
+  parts n rs lt e = before_same 32 word (decimal n) others (words route_word rs) lacks (lacks_decimal n lt) starts (starts_words route_word rs) (sym whole ∙ e)
+
+  pub no_targets : ((n : ℕ) → n < 2 ^ 64 → word ≡ decimal n → ⊥) → IsNoLine (codes "router " ++ bytes)
+  no_targets fails = no_router bytes (λ n rs lt h e. fails n lt (parts n rs lt e).0)
+
+  pub no_routes : ((rs : List RouteWord) → AllByRecursion IsRoute rs → others ≡ words route_word rs → ⊥) → IsNoLine (codes "router " ++ bytes)
+  no_routes fails = no_router bytes (λ n rs lt h e. fails rs h (parts n rs lt e).1)
+
+pub no_line : (bytes : List ℕ) → ((s : List ℕ) → bytes ≡ codes "prefix " ++ s → ⊥) → ((s : List ℕ) → bytes ≡ codes "filter " ++ s → ⊥) → ((s : List ℕ) → bytes ≡ codes "fanout " ++ s → ⊥)
+    → ((s : List ℕ) → bytes ≡ codes "router " ++ s → ⊥) → bytes ≢ codes "book" → bytes ≢ codes "noop" → bytes ≢ codes "end" → IsNoLine bytes
+no_line bytes a b c d e f g line.Book h = e h.1
+no_line bytes a b c d e f g line.Noop h = f h.1
+no_line bytes a b c d e f g line.End h = g h.1
+no_line bytes a b c d e f g (line.Prefix p) h = a (name_word p) h.1
+no_line bytes a b c d e f g (line.Filter fold table ps) h = b (flags_word fold table ++ words name_word ps) h.1
+no_line bytes a b c d e f g (line.Fanout n) h = c (decimal n) h.1
+no_line bytes a b c d e f g (line.Router n rs) h = d (decimal n ++ words route_word rs) h.1

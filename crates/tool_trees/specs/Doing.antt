@@ -1,15 +1,53 @@
--- What a tree line does to the stack.
+-- The recorders of the stack, and what a tree line does to them.
+use Rattle.std.specs.Prelude.{◌≡◌, ℕ, suc, ◌+◌, ◌<◌, ◌≤◌, max, List, [], ◌∷◌, ◌++◌, length, map, reverse, Result, Ok, Err, Bool, true, false}
 use Rattle.metrics.specs.Meaning.{Meaning}
-use Rattle.std.specs.Prelude.{◌≡◌, ℕ, ◌<◌, ◌≤◌, List, [], ◌∷◌, ◌++◌, Result, Ok, Err, Bool, true, false, length}
+use Rattle.metrics_debugging.specs.DebuggingMeaning as book
+use Rattle.metrics_trees.specs.Trees.{tree_meaning}
+use Rattle.metrics_trees.specs.Recorders.{books_in}
+use Rattle.tool_trees.specs.Trees.{NameTargets, Tree, Trees, none, more, meaning_of, levels_of, IsAllowed, Steps, IsStuck}
+use Rattle.tool_trees.specs.declared.tree_line.RouteWord.{RouteWord}
+use Rattle.tool_trees.specs.declared.level.Level.{Level}
 use Rattle.tool_trees.specs.declared.tree_line.TreeLine.{TreeLine}
-use Rattle.tool_trees.specs.Trees.{Tree, meaning_of, levels_of, IsAllowed}
 use Rattle.tool_trees.specs.declared.tree_line.TreeLine.TheVariants as line
 use Rattle.tool_trees.specs.Words.{spelling, Spells}
-use Rattle.tool_trees.specs.Steps.{Steps}
-use Rattle.tool_trees.specs.declared.level.Level.{Level}
 use Rattle.tool_trees.specs.declared.level.LineError.{LineError}
-use Rattle.tool_trees.specs.declared.level.LineError.TheVariants.{Memory, Bad}
-use Rattle.tool_trees.specs.Levels.{level_meaning}
+use Rattle.tool_trees.specs.declared.level.LineError.TheVariants.{Bad}
+
+abbrev pub level_meaning : Level → Meaning
+level_meaning l = tree_meaning book.meaning_of l.child
+
+abbrev pub level_meanings : List Level → List Meaning
+level_meanings ls = map level_meaning ls
+
+-- the greatest number of levels
+abbrev pub most_of : List Level → ℕ
+most_of [] = 0
+most_of (l ∷ ls) = max l.levels (most_of ls)
+
+-- recorders, and then those of a stack from its top
+abbrev pub in_all : List Meaning → List Level → List Meaning
+in_all ms ls = ms ++ level_meanings (reverse ls)
+
+-- A route was added to the recorders so far, of which the first is the default: to a target that was named, or to the
+-- next one, from the top of the stack.
+pub record Adds (target named next : ℕ) (old new : List Meaning) (before after : List Level) : Type 0 where
+  pub low : target ≤ named
+  pub next_is : next ≡ max named (suc target)
+  pub number : length new ≡ suc next
+  pub count : next + length after ≡ named + length before
+  pub whole : in_all new after ≡ in_all old before
+  pub fits : books_in old ≤ 65536 → books_in new ≤ 65536
+
+abbrev pub CantAdd : ℕ → ℕ → List Meaning → List Level → Type 0
+CantAdd target named old before = target ≤ named → target < named + length before → books_in (in_all old before) ≤ 65536 → ⊥
+
+-- All routes were added to the recorders, and all of the stack was named.
+pub record AreRouted (old new : List Meaning) (targets : List Level) (routes : List RouteWord) : Type 0 where
+  pub names : NameTargets (length targets) 0 routes
+  pub recorders : new ≡ in_all old targets
+  pub fits : books_in new ≤ 65536
+
+-- ---- lines
 
 -- a recorder of the stack is what this tree means
 pub record IsBuilt (l : Level) (t : Tree) : Type 0 where
@@ -17,32 +55,25 @@ pub record IsBuilt (l : Level) (t : Tree) : Type 0 where
   pub levels : l.levels ≡ levels_of t
   pub allowed : IsAllowed t
 
-abbrev pub AreBuilt : List Level → List Tree → Type 0
-AreBuilt [] [] = Unit {0}
-AreBuilt (l ∷ ls) (t ∷ ts) = IsBuilt l t × AreBuilt ls ts
+abbrev pub AreBuilt : List Level → Trees → Type 0
+AreBuilt [] none = Unit {0}
+AreBuilt (l ∷ ls) (more t ts) = IsBuilt l t × AreBuilt ls ts
 AreBuilt ls ts = ⊥
 
 -- The line removed its trees and pushed its own; or memory ran out; or the line is bad there.
 abbrev pub Does : TreeLine → List Level → List Level → Result (Unit {0}) LineError → Type 0
-Does line old new (Ok done) = (ts : List Tree) → AreBuilt old ts → (us : List Tree) × Steps line ts us × AreBuilt new us
-Does line old new (Err Memory) = Unit {0}
-Does line old new (Err Bad) = (ts us : List Tree) → AreBuilt old ts → Steps line ts us → ⊥
+Does line old new (Ok done) = (ts : Trees) → AreBuilt old ts → (us : Trees) × Steps line ts us × AreBuilt new us
+Does line old new (Err e) = e ≡ Bad → (ts us : Trees) → AreBuilt old ts → Steps line ts us → ⊥
 
 -- a recorder of so many levels was pushed
 abbrev pub Puts : Meaning → ℕ → List Level → List Level → Result (Unit {0}) LineError → Type 0
 Puts m n old new (Ok done) = (n ≤ 1000) × (l : Level) × (level_meaning l ≡ m) × (l.levels ≡ n) × (new ≡ old ++ l ∷ [])
-Puts m n old new (Err Memory) = Unit {0}
-Puts m n old new (Err Bad) = 1000 < n
-
-abbrev pub is_end : TreeLine → Bool
-is_end line.End = true
-is_end l = false
+Puts m n old new (Err e) = e ≡ Bad → 1000 < n
 
 -- The bytes are `end` over one recorder; or they spell a line that removed its trees and pushed its own. Or memory ran
 -- out, or the bytes are neither `end` over one tree nor a line that is allowed there.
 abbrev pub DoesLine : List ℕ → List Level → List Level → Result Bool LineError → Type 0
 DoesLine bytes old new (Ok true) = (bytes ≡ spelling line.End) × (length old ≡ 1) × (new ≡ old)
-DoesLine bytes old new (Ok false) = (ts : List Tree) → AreBuilt old ts → (said : TreeLine) × (us : List Tree) × Spells bytes said × Steps said ts us × AreBuilt new us
-DoesLine bytes old new (Err Memory) = Unit {0}
-DoesLine bytes old new (Err Bad) = (ts : List Tree) → AreBuilt old ts →
-    ((t : Tree) → bytes ≡ spelling line.End → ts ≡ t ∷ [] → ⊥) × ((said : TreeLine) (us : List Tree) → Spells bytes said → Steps said ts us → ⊥)
+DoesLine bytes old new (Ok false) = (ts : Trees) → AreBuilt old ts → (said : TreeLine) × (us : Trees) × Spells bytes said × Steps said ts us × AreBuilt new us
+DoesLine bytes old new (Err e) = e ≡ Bad → (ts : Trees) → AreBuilt old ts →
+    ((t : Tree) → bytes ≡ spelling line.End → ts ≡ more t none → ⊥) × IsStuck bytes ts

@@ -1,5 +1,5 @@
 -- The trees that tree lines spell: their lines, what is required of them, and what they mean.
-use Rattle.std.specs.Prelude.{if◌then◌else◌, ◌≡◌, ℕ, suc, ◌<◌, ◌≤◌, ◌⊎◌, max, Bool, List, [], ◌∷◌, ◌++◌, codes, length, map}
+use Rattle.std.specs.Prelude.{if◌then◌else◌, ◌≡◌, ℕ, suc, ◌<◌, ◌≤◌, ◌⊎◌, max, List, [], ◌∷◌, ◌++◌, codes, length, map}
 use Rattle.std.specs.List.{sum_by}
 use Rattle.std.specs.Str.{bytes_eq}
 use Rattle.metrics.specs.Book.{new_book}
@@ -9,25 +9,15 @@ use Rattle.metrics_trees.specs.Recorders.{books_in}
 use Rattle.tool_trees.specs.declared.tree_line.RouteWord.{RouteWord}
 use Rattle.tool_trees.specs.declared.tree_line.TreeLine.{TreeLine}
 use Rattle.tool_trees.specs.declared.tree_line.TreeLine.TheVariants as line
-use Rattle.tool_trees.specs.Words.{spelling, CanBeSpelled}
+use Rattle.tool_trees.specs.Words.{spelling, CanBeSpelled, Spells}
 
 -- ---- trees
 
 mutual
-  -- a recorder as tree lines spell it
+  -- a recorder as tree lines spell it: the line that makes it, and the trees that this line uses, in order
   pub data Tree : Type 0 where
-    Book : Tree
-    Noop : Tree
-    -- the prefix, and the tree below it
-    Prefix : List ℕ → Tree → Tree
-    -- whether case is folded, whether it is a table, the patterns, and the tree below
-    Filter : Bool → Bool → List (List ℕ) → Tree → Tree
-    -- the children
-    Fanout : Trees → Tree
-    -- the routes, the default and the targets
-    Router : List RouteWord → Tree → Trees → Tree
+    Node : TreeLine → Trees → Tree
 
-  -- several trees, in order
   pub data Trees : Type 0 where
     none : Trees
     more : Tree → Trees → Trees
@@ -37,26 +27,18 @@ abbrev pub number_of : Trees → ℕ
 number_of none = 0
 number_of (more t ts) = suc (number_of ts)
 
--- ---- lines
+-- the ones, and then the others
+abbrev pub append : Trees → Trees → Trees
+append none us = us
+append (more t ts) us = more t (append ts us)
 
--- the line that makes the tree out of those that it uses
-abbrev pub last_line : Tree → TreeLine
-last_line Book = line.Book
-last_line Noop = line.Noop
-last_line (Prefix p t) = line.Prefix p
-last_line (Filter fold table patterns t) = line.Filter fold table patterns
-last_line (Fanout ts) = line.Fanout (number_of ts)
-last_line (Router routes default ts) = line.Router (number_of ts) routes
+abbrev pub push : Trees → Tree → Trees
+push ts t = append ts (more t none)
 
 -- the lines of a tree: those of the trees that it uses, in order, and then its own
 abbrev mutual
   pub tree_lines : Tree → List (List ℕ)
-  tree_lines Book = spelling line.Book ∷ []
-  tree_lines Noop = spelling line.Noop ∷ []
-  tree_lines (Prefix p t) = tree_lines t ++ spelling (line.Prefix p) ∷ []
-  tree_lines (Filter fold table patterns t) = tree_lines t ++ spelling (line.Filter fold table patterns) ∷ []
-  tree_lines (Fanout ts) = trees_lines ts ++ spelling (line.Fanout (number_of ts)) ∷ []
-  tree_lines (Router routes default ts) = (tree_lines default ++ trees_lines ts) ++ spelling (line.Router (number_of ts) routes) ∷ []
+  tree_lines (Node l ts) = trees_lines ts ++ spelling l ∷ []
 
   pub trees_lines : Trees → List (List ℕ)
   trees_lines none = []
@@ -71,15 +53,19 @@ pattern_of word = if bytes_eq word (codes "-") then [] else word
 abbrev pub route_of : RouteWord → Route
 route_of r = record { mask = r.kinds; pattern = pattern_of r.pattern; target = r.target }
 
+-- what a line makes of recorders
+abbrev pub line_meaning : TreeLine → List Meaning → Meaning
+line_meaning line.Book ms = one_book new_book
+line_meaning (line.Prefix p) (m ∷ ms) = prefixed p m
+line_meaning (line.Filter fold table patterns) (m ∷ ms) = filtered fold patterns m
+line_meaning (line.Fanout n) ms = joined_all ms
+line_meaning (line.Router n routes) ms = routed (map route_of routes) ms
+line_meaning l ms = nothing
+
 -- the recorder that a tree is, its books new
 abbrev mutual
   pub meaning_of : Tree → Meaning
-  meaning_of Book = one_book new_book
-  meaning_of Noop = nothing
-  meaning_of (Prefix p t) = prefixed p (meaning_of t)
-  meaning_of (Filter fold table patterns t) = filtered fold patterns (meaning_of t)
-  meaning_of (Fanout ts) = joined_all (meanings_of ts)
-  meaning_of (Router routes default ts) = routed (map route_of routes) (meaning_of default ∷ meanings_of ts)
+  meaning_of (Node l ts) = line_meaning l (meanings_of ts)
 
   pub meanings_of : Trees → List Meaning
   meanings_of none = []
@@ -89,22 +75,24 @@ abbrev mutual
 
 abbrev mutual
   pub levels_of : Tree → ℕ
-  levels_of Book = 1
-  levels_of Noop = 1
-  levels_of (Prefix p t) = suc (levels_of t)
-  levels_of (Filter fold table patterns t) = suc (levels_of t)
-  levels_of (Fanout ts) = suc (most_levels ts)
-  levels_of (Router routes default ts) = suc (max (levels_of default) (most_levels ts))
+  levels_of (Node l ts) = suc (most_levels ts)
 
   pub most_levels : Trees → ℕ
   most_levels none = 0
   most_levels (more t ts) = max (levels_of t) (most_levels ts)
 
+-- how many recorders a line uses
+abbrev pub arity : TreeLine → ℕ
+arity (line.Prefix p) = 1
+arity (line.Filter fold table patterns) = 1
+arity (line.Fanout n) = n
+arity (line.Router n routes) = suc n
+arity l = 0
+
 -- After so many of n targets were named, the routes name each other one too: each first by the lowest number not yet named.
 abbrev pub NameTargets : ℕ → ℕ → List RouteWord → Type 0
 NameTargets n named [] = named ≡ n
-NameTargets n named (r ∷ routes) =
-    ((r.target < named) × NameTargets n named routes) ⊎ ((r.target ≡ named) × (named < n) × NameTargets n (suc named) routes)
+NameTargets n named (r ∷ routes) = (r.target ≤ named) × NameTargets n (max named (suc r.target)) routes
 
 -- some route has this target
 abbrev pub IsNamed : ℕ → List RouteWord → Type 0
@@ -117,25 +105,25 @@ pub record NameInOrder (n : ℕ) (routes : List RouteWord) : Type 0 where
   pub only : (k : ℕ) → IsNamed k routes → k < n
   pub in_order : (before after : List RouteWord) (r : RouteWord) (k : ℕ) → routes ≡ before ++ r ∷ after → k < r.target → IsNamed k before
 
--- what is required of a tree beside what is required of those that it uses, its line and its levels
-abbrev pub IsMade : Tree → Type 0
-IsMade (Filter fold table patterns t) = sum_by length patterns ≤ 1048576
-IsMade (Fanout ts) = books_in (meanings_of ts) ≤ 65536
-IsMade (Router routes default ts) = NameTargets (number_of ts) 0 routes × (books_in (meaning_of default ∷ meanings_of ts) ≤ 65536)
-IsMade t = Unit {0}
+-- what a line requires of the recorders that it uses, beside their number and levels
+abbrev pub Fits : TreeLine → List Meaning → Type 0
+Fits (line.Filter fold table patterns) ms = sum_by length patterns ≤ 1048576
+Fits (line.Fanout n) ms = books_in ms ≤ 65536
+Fits (line.Router n routes) ms = NameTargets n 0 routes × (books_in ms ≤ 65536)
+Fits line.End ms = ⊥
+Fits l ms = Unit {0}
 
-abbrev pub IsTop : Tree → Type 0
-IsTop t = CanBeSpelled (last_line t) × IsMade t × (levels_of t ≤ 1000)
+-- a line makes a tree of these
+pub record Makes (l : TreeLine) (ts : Trees) : Type 0 where
+  pub spelled : CanBeSpelled l
+  pub number : number_of ts ≡ arity l
+  pub fits : Fits l (meanings_of ts)
+  pub low : most_levels ts < 1000
 
 -- the trees that tree lines make
 abbrev mutual
   pub IsAllowed : Tree → Type 0
-  IsAllowed Book = IsTop Book
-  IsAllowed Noop = IsTop Noop
-  IsAllowed (Prefix p t) = IsTop (Prefix p t) × IsAllowed t
-  IsAllowed (Filter fold table patterns t) = IsTop (Filter fold table patterns t) × IsAllowed t
-  IsAllowed (Fanout ts) = IsTop (Fanout ts) × AreAllowed ts
-  IsAllowed (Router routes default ts) = IsTop (Router routes default ts) × IsAllowed default × AreAllowed ts
+  IsAllowed (Node l ts) = Makes l ts × AreAllowed ts
 
   pub AreAllowed : Trees → Type 0
   AreAllowed none = Unit {0}
@@ -143,13 +131,21 @@ abbrev mutual
 
 -- ---- whole texts
 
+-- the line removes trees from the end, and appends the tree that it makes of them
+pub record Steps (l : TreeLine) (old new : Trees) : Type 0 where
+  pub front : Trees
+  pub used : Trees
+  pub before : old ≡ append front used
+  pub after : new ≡ push front (Node l used)
+  pub makes : Makes l used
+
+-- the bytes spell no line that these trees allow
+abbrev pub IsStuck : List ℕ → Trees → Type 0
+IsStuck bytes ts = (l : TreeLine) (us : Trees) → Spells bytes l → Steps l ts us → ⊥
+
 -- the lines of the tree and `end`, and then these
 abbrev pub BeginsWithTree : List (List ℕ) → Tree → List (List ℕ) → Type 0
 BeginsWithTree ls t rest = IsAllowed t × (ls ≡ tree_lines t ++ spelling line.End ∷ rest)
-
--- no lines that begin so begin with a tree
-abbrev pub NoTreeFrom : List (List ℕ) → Type 0
-NoTreeFrom ls = (t : Tree) (following rest : List (List ℕ)) → BeginsWithTree (ls ++ following) t rest → ⊥
 
 -- these lines don't begin with a tree
 abbrev pub NoTree : List (List ℕ) → Type 0
@@ -164,4 +160,4 @@ AreOfTrees ls = (ts : Trees) × AreAllowed ts × (ls ≡ trees_lines ts)
 pub record IsFirstBad (ls : List (List ℕ)) (bad : List ℕ) : Type 0 where
   pub before : AreOfTrees ls
   pub no_more : AreOfTrees (ls ++ bad ∷ []) → ⊥
-  pub no_tree : NoTreeFrom (ls ++ bad ∷ [])
+  pub no_tree : (following : List (List ℕ)) → NoTree ((ls ++ bad ∷ []) ++ following)

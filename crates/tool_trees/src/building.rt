@@ -7,7 +7,8 @@ ghost use Rattle.metrics.specs.Layers.{joined_all};
 ghost use Rattle.metrics_trees.specs.Recorders.{books_in};
 ghost use Rattle.tool_trees.specs.declared.tree_line.TreeLine.TheVariants as line;
 ghost use Rattle.tool_trees.specs.declared.level.LineError.TheVariants.{Memory as NoMemory, Bad as IsBadLine};
-ghost use Rattle.tool_trees.specs.Levels.{level_meanings, line_meaning, most_of, Fits};
+ghost use Rattle.tool_trees.specs.Trees.{line_meaning};
+ghost use Rattle.tool_trees.specs.Doing.{level_meanings, most_of};
 
 use crate::level::{Level, LineError, refusing};
 use metrics::{Recorder, Text};

@@ -1,5 +1,7 @@
 //! A recorder of the stack, and why a tree line fails.
-ghost use Rattle.std.specs.Prelude.{◌≡◌, ◌≤◌};
+ghost use Rattle.std.specs.Prelude.{◌≡◌, ◌≤◌, ◌↔◌};
+ghost use Rattle.metrics.specs.declared.error.Error.TheVariants.{Memory as IsRefused};
+ghost use Rattle.tool_trees.specs.declared.level.LineError.TheVariants.{Memory as NoMemory};
 
 use metrics::{Error, Refused};
 use metrics_debugging::DebuggingRecorder;
@@ -26,11 +28,7 @@ pub enum LineError {
 
 /// Any failure of the library other than out of memory is the line's fault.
 impl From<Error> for LineError {
-    ghost use Rattle.std.specs.Prelude.{◌↔◌};
-    ghost use Rattle.metrics.specs.declared.error.Error.TheVariants.{Memory as Refused};
-    ghost use Rattle.tool_trees.specs.declared.level.LineError.TheVariants.{Memory};
-
-    ghost from_gives = { λ e l. (e ≡ Refused) ↔ (l ≡ Memory) };
+    ghost from_gives = { λ e l. (e ≡ IsRefused) ↔ (l ≡ NoMemory) };
 
     fn from(error: Error) -> LineError {
         match error {
@@ -42,11 +40,7 @@ impl From<Error> for LineError {
 
 /// The recorder in the error is dropped.
 impl<T: Drop> From<(Error, T)> for LineError {
-    ghost use Rattle.std.specs.Prelude.{◌↔◌};
-    ghost use Rattle.metrics.specs.declared.error.Error.TheVariants.{Memory as Refused};
-    ghost use Rattle.tool_trees.specs.declared.level.LineError.TheVariants.{Memory};
-
-    ghost from_gives = { λ e l. (e.0 ≡ Refused) ↔ (l ≡ Memory) };
+    ghost from_gives = { λ e l. (e.0 ≡ IsRefused) ↔ (l ≡ NoMemory) };
 
     fn from(refused: (Error, T)) -> LineError {
         LineError::from(refused.0)
@@ -54,9 +48,7 @@ impl<T: Drop> From<(Error, T)> for LineError {
 }
 
 impl<T: Drop> From<AllocFailed<T>> for LineError {
-    ghost use Rattle.tool_trees.specs.declared.level.LineError.TheVariants.{Memory};
-
-    ghost from_gives = { λ _ l. l ≡ Memory };
+    ghost from_gives = { λ _ l. l ≡ NoMemory };
 
     fn from(_error: AllocFailed<T>) -> LineError {
         LineError::Memory
@@ -65,9 +57,7 @@ impl<T: Drop> From<AllocFailed<T>> for LineError {
 
 /// A new book fails only when out of memory.
 impl From<Refused> for LineError {
-    ghost use Rattle.tool_trees.specs.declared.level.LineError.TheVariants.{Memory};
-
-    ghost from_gives = { λ _ l. l ≡ Memory };
+    ghost from_gives = { λ _ l. l ≡ NoMemory };
 
     fn from(_refused: Refused) -> LineError {
         LineError::Memory

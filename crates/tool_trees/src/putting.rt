@@ -1,15 +1,15 @@
 //! What each tree line does to the stack.
 ghost use Rattle.std.specs.Prelude.{◌≡◌, ◌≤◌, ◌^◌, length, reverse, MatchOption, MatchResult};
 ghost use Rattle.tool_trees.specs.declared.level.LineError.TheVariants.{Bad as IsBadLine};
-ghost use Rattle.tool_trees.specs.Words.{CanBeSpelled};
-ghost use Rattle.tool_trees.specs.Steps.{arity};
-ghost use Rattle.tool_trees.specs.Levels.{level_meanings, line_meaning, Fits};
-ghost use Rattle.tool_trees.specs.Doing.{Does, Puts};
+ghost use Rattle.tool_trees.specs.Words.{CanBeSpelled, Spells, IsNoLine};
+ghost use Rattle.tool_trees.specs.Trees.{arity, line_meaning, Fits};
+ghost use Rattle.tool_trees.specs.Doing.{level_meanings, Does, DoesLine, Puts};
 
 use crate::building::{below_filter, below_prefix, book, fanout_over, take_top};
 use crate::level::{Level, LineError, refusing};
 use crate::routing::router_over;
 use crate::tree_line::TreeLine;
+use crate::words::tree_line_of;
 use metrics::Recorder;
 use metrics_debugging::DebuggingRecorder;
 use metrics_trees::Child;
@@ -72,7 +72,7 @@ fn made_of(
 }
 
 /// Does what a tree line says: replaces recorders at the top of the stack by one over them. The deepest is the first.
-pub fn put_line(alloc: Global, stack: &mut Vec<Level>, said: &TreeLine) -> Result<(), LineError>
+fn put_line(alloc: Global, stack: &mut Vec<Level>, said: &TreeLine) -> Result<(), LineError>
     requires { CanBeSpelled said.now }
     ensures { Does said.now stack.old.items stack.new.items result }
 {
@@ -82,4 +82,31 @@ pub fn put_line(alloc: Global, stack: &mut Vec<Level>, said: &TreeLine) -> Resul
     let (taken, most) = take_top(alloc, stack, count)?;
     let child = made_of(alloc, said, taken)?;
     put(stack, child, most + 1)
+}
+
+/// What a line says.
+fn said_by(alloc: Global, line: &[u8]) -> Result<TreeLine, LineError>
+    ensures { MatchResult result (Spells line.now) (λ e. e ≡ IsBadLine → IsNoLine line.now) }
+{
+    match tree_line_of(alloc, line) {
+        Ok(Some(said)) => Ok(said),
+        Ok(None) => Err(LineError::Bad),
+        Err(_) => Err(LineError::Memory),
+    }
+}
+
+/// Does what a line says, and returns whether the tree ends here, where the stack must hold just one recorder.
+pub fn read_line(alloc: Global, stack: &mut Vec<Level>, line: &[u8]) -> Result<bool, LineError>
+    ensures { DoesLine line.now stack.old.items stack.new.items result }
+{
+    if line == b"end".as_slice() {
+        return if stack.len() == 1 {
+            Ok(true)
+        } else {
+            Err(LineError::Bad)
+        };
+    }
+    let said = said_by(alloc, line)?;
+    put_line(alloc, stack, &said)?;
+    Ok(false)
 }

@@ -8,7 +8,7 @@ ghost use Rattle.tool_trees.specs.Words.{IsRoute};
 ghost use Rattle.metrics_trees.specs.Recorders.{books_in};
 ghost use Rattle.tool_trees.specs.Trees.{pattern_of, route_of, NameTargets};
 ghost use Rattle.tool_trees.specs.declared.level.LineError.TheVariants.{Bad as IsBadLine};
-ghost use Rattle.tool_trees.specs.Levels.{level_meanings, Adds, CantAdd, AreRouted};
+ghost use Rattle.tool_trees.specs.Doing.{level_meanings, in_all, Adds, CantAdd, AreRouted};
 
 use crate::level::{Level, LineError, refusing};
 use crate::tree_line::RouteWord;
@@ -38,7 +38,7 @@ fn add_one(
     ensures routes { OnOk result ((rs : List Route) → HasRoutes builder.old rs
         → HasRoutes builder.new (rs ++ route_of route.now ∷ [])) }
     ensures step { MatchResult result
-        (Adds route.now.target named (router_recorders builder.old) (router_recorders builder.new)
+        (λ next. Adds route.now.target named next (router_recorders builder.old) (router_recorders builder.new)
         targets.old.items targets.new.items)
         (λ e. e ≡ IsBadLine → CantAdd route.now.target named (router_recorders builder.old) targets.old.items) }
 {
@@ -76,7 +76,7 @@ fn add_routes(
     ensures all { MatchResult result
         (λ done. AreRouted (router_recorders builder.old) (router_recorders builder.new) targets.old.items routes.now)
         (λ e. e ≡ IsBadLine → NameTargets (length targets.old.items) 0 routes.now
-        → books_in (router_recorders builder.old ++ level_meanings (reverse targets.old.items)) ≤ 65536 → ⊥) }
+        → books_in (in_all (router_recorders builder.old) targets.old.items) ≤ 65536 → ⊥) }
 {
     let mut named: u64 = 0;
     for route in routes {

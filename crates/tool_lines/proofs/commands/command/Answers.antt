@@ -2,6 +2,9 @@ use Rattle.std.proofs.Common.{inl, inr}
 use Rattle.tool_lines.specs.declared.requests.Request.TheVariants as ask
 use Rattle.tool_lines.proofs.commands.command.Goals as goal
 
+pub returns-then-is_export-clause-done : goal.returns-then-is_export-clause-done
+returns-then-is_export-clause-done g c = λ ends. inr (c.answer_export_words.ensures.done ends)
+
 pub returns-then-is_export-clause-first : goal.returns-then-is_export-clause-first
 returns-then-is_export-clause-first g c = λ two run. absurd (c.is_export.ensures.export c.if-is_export.true ask.Run run)
 

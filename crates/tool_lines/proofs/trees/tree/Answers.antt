@@ -2,8 +2,11 @@ use Rattle.std.proofs.Common.{[], subst, Err}
 use Rattle.tool_trees.specs.Doing.{DoesLine}
 use Rattle.metrics_debugging.specs.DebuggingMeaning as book
 use Rattle.metrics_trees.specs.Trees.{tree_meaning}
-use Rattle.tool_lines.proofs.TreesSoFar.{trees_more, result_line, result_last, refuse_line, refuse_last, ended_early, none_left, unread_tree, given_up}
+use Rattle.tool_lines.proofs.TreesSoFar.{begun, trees_more, result_line, result_last, refuse_line, refuse_last, ended_early, none_left, unread_tree, given_up}
 use Rattle.tool_lines.proofs.trees.tree.Goals as goal
+
+pub loop-number-init : goal.loop-number-init
+loop-number-init g c = begun _ _ c.new-stack.ensures.items
 
 pub loop-number-preserved : goal.loop-number-preserved
 loop-number-preserved g c =

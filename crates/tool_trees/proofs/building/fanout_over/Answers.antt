@@ -1,6 +1,6 @@
 use Rattle.std.proofs.Common.{◌≡◌, length, ◌∙◌, arith}
 use Rattle.metrics_trees.specs.Builders.{fanout_recorders}
-use Rattle.tool_trees.specs.Levels.{level_meaning}
+use Rattle.tool_trees.specs.Doing.{level_meaning}
 use Rattle.tool_trees.proofs.Joins.{fits_more, added_more, next_within, joined_whole, too_many}
 use Rattle.tool_trees.proofs.building.fanout_over.Goals as goal
 

@@ -1,5 +1,5 @@
 use Rattle.std.proofs.Common.{length, ap, arith, length-append}
-use Rattle.tool_trees.specs.Levels.{most_of}
+use Rattle.tool_trees.specs.Doing.{most_of}
 use Rattle.tool_trees.proofs.Joins.{left_over, taken_more}
 use Rattle.tool_trees.proofs.building.take_top.Goals as goal
 

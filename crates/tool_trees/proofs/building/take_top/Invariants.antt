@@ -1,6 +1,6 @@
 -- What was taken was at the end.
 use Rattle.std.proofs.Common.{◌≡◌, ◌-◌, ◌≤◌, ◌++◌, length, reverse}
-use Rattle.tool_trees.specs.Levels.{most_of}
+use Rattle.tool_trees.specs.Doing.{most_of}
 use Rattle.tool_trees.proofs.building.take_top.Given as goal
 
 abbrev pub invariant-loop-stack : goal.invariant-loop-stack

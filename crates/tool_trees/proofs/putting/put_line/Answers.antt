@@ -1,26 +1,24 @@
 use Rattle.std.proofs.Common.{◌≡◌, ◌+◌, reverse, ◌∙◌, arith, length}
 use Rattle.std.proofs.lemmas.List.{length-reverse}
 use Rattle.std.proofs.lemmas.Result.{err_from_is_err_and}
-use Rattle.tool_trees.specs.Steps.{arity}
-use Rattle.tool_trees.proofs.Doing.{does_put, does_refused, does_short, does_unfit}
+use Rattle.tool_trees.specs.Trees.{arity}
+use Rattle.tool_trees.proofs.Doing.{does_put, does_short, does_unfit}
 use Rattle.tool_trees.proofs.putting.put_line.Goals as goal
 
 pub returns-in_default : goal.returns-in_default
-returns-in_default c = does_short c.args.said.now c.args.stack.now.items (omega (arith, c.in_default.ensures, c.args.stack.now.ok.0))
+returns-in_default c = λ bad. does_short c.args.said.now c.args.stack.now.items (omega (arith, c.in_default.ensures, c.args.stack.now.ok.0))
 
 pub returns-in_err-taken : goal.returns-in_err-taken
 returns-in_err-taken c =
     let p = err_from_is_err_and c.from_residual.result c.from_residual.ensures.1 in
-    rw (p.1, p.2) (does_refused c.args.said.now c.args.stack.now.items c.take_top.new.stack.items c.in_err-taken.field-0.0
-    (λ bad. does_short c.args.said.now c.args.stack.now.items (let lt = c.in_err-taken.ensures bad in omega (arith, lt, c.in-Some.ensures))))
+    rw (p.1, p.2) (λ bad. does_short c.args.said.now c.args.stack.now.items (omega (arith, c.in_err-taken.ensures bad, c.in-Some.ensures)))
 
 pub returns-in_err-child : goal.returns-in_err-child
 returns-in_err-child c =
     let p = err_from_is_err_and c.from_residual-in_err-child.result c.from_residual-in_err-child.ensures.1 in
     let taken = c.in_ok-taken.taken.items in
     let count : length (reverse taken) ≡ arity c.args.said.now = length-reverse taken ∙ c.in_ok-taken.ensures.1 ∙ c.in-Some.ensures in
-    rw (p.1, p.2) (does_refused c.args.said.now c.args.stack.now.items c.take_top.new.stack.items c.in_err-child.field-0.0
-    (λ bad. does_unfit c.args.said.now c.args.stack.now.items c.take_top.new.stack.items (reverse taken) c.in_ok-taken.ensures.0 count (c.in_err-child.ensures bad)))
+    rw (p.1, p.2) (λ bad. does_unfit c.args.said.now c.args.stack.now.items c.take_top.new.stack.items (reverse taken) c.in_ok-taken.ensures.0 count (c.in_err-child.ensures bad))
 
 pub returns : goal.returns
 returns c =

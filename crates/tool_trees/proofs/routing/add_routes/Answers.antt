@@ -2,7 +2,7 @@ use Rattle.std.proofs.lemmas.Result.{err_from_is_err_and}
 use Rattle.std.proofs.Common.{◌≡◌, map, take, length, sym, subst, ◌∙◌, eqb-true, arith}
 use Rattle.metrics_trees.specs.Builders.{router_recorders, HasRoutes}
 use Rattle.tool_trees.specs.Trees.{route_of}
-use Rattle.tool_trees.proofs.Routes.{added_step, step_more, step_bad, step_end}
+use Rattle.tool_trees.proofs.Joins.{added_step, step_more, step_bad, step_end}
 use Rattle.tool_trees.proofs.routing.add_routes.Goals as goal
 
 pub returns-in_err-named-clause-all : goal.returns-in_err-named-clause-all

@@ -2,7 +2,7 @@
 use Rattle.std.proofs.Common.{map, take, drop}
 use Rattle.metrics_trees.specs.Builders.{router_recorders, HasRoutes}
 use Rattle.tool_trees.specs.Trees.{route_of}
-use Rattle.tool_trees.proofs.Routes.{RoutesSoFar}
+use Rattle.tool_trees.proofs.Joins.{RoutesSoFar}
 use Rattle.tool_trees.proofs.routing.add_routes.Given as goal
 
 abbrev pub invariant-loop-route : goal.invariant-loop-route

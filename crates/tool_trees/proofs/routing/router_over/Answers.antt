@@ -3,7 +3,7 @@ use Rattle.metrics_debugging.specs.DebuggingMeaning as book
 use Rattle.metrics_trees.specs.Trees.{tree_meaning}
 use Rattle.metrics_trees.specs.Builders.{router_recorders}
 use Rattle.tool_trees.specs.Trees.{route_of}
-use Rattle.tool_trees.proofs.Routes.{router_bad, router_good}
+use Rattle.tool_trees.proofs.Joins.{router_bad, router_good}
 use Rattle.tool_trees.proofs.routing.router_over.Goals as goal
 
 pub returns-in-Err : goal.returns-in-Err

@@ -1,4 +1,4 @@
-use Rattle.tool_trees.proofs.Parse.{positive, no_words, next_of, words_more}
+use Rattle.tool_trees.proofs.Lines.{positive, no_words, next_of, words_more}
 use Rattle.tool_trees.proofs.words.words_of.Goals as goal
 
 pub returns-in_default : goal.returns-in_default
@@ -9,12 +9,13 @@ returns-in_default g c = λ xs h e.
 pub returns-in-None : goal.returns-in-None
 returns-in-None g c = λ xs h e.
     let (k, ks, i) = c.loop-rest.invariant.left xs h e in
-    let n = next_of g.T.Word.is g.T.Word.spelled c.requires _ _ c.split_before.result.0.now c.split_before.result.1.now k ks i c.in-Some.ensures c.split_before.ensures.whole c.split_before.ensures.before c.split_before.ensures.others in
+    let (x, ys, is, are, here_is, after_is) =
+    next_of g.T.Word.is g.T.Word.spelled c.requires _ _ _ _ c.in-Some.ensures c.split_before.ensures.whole c.split_before.ensures.before c.split_before.ensures.others k ks i in
     let none = rw c.in-None.is at c.in_ok-one.ensures in
-    none n.first n.is n.here_is
+    none x is here_is
 
 pub loop-rest-preserved : goal.loop-rest-preserved
 loop-rest-preserved g c =
     let found = rw c.in-Some-2.is at c.in_ok-one.ensures in
-    rw c.in_ok-push-in-Some-2.ensures.items (words_more g.T.Word.is g.T.Word.spelled c.requires _ _ _ c.split_before.result.0.now c.split_before.result.1.now _ _ c.loop-rest.invariant
-    c.in-Some.ensures c.split_before.ensures.whole c.split_before.ensures.before c.split_before.ensures.others found.0 found.1)
+    rw c.in_ok-push-in-Some-2.ensures.items (words_more g.T.Word.is g.T.Word.spelled c.requires _ _ _ _ c.in-Some.ensures c.split_before.ensures.whole c.split_before.ensures.before c.split_before.ensures.others
+    _ _ _ c.loop-rest.invariant found.0 found.1)

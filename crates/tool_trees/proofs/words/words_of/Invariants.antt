@@ -1,6 +1,6 @@
 -- The words so far, and what is left.
 use Rattle.std.proofs.Common.{length}
-use Rattle.tool_trees.proofs.Parse.{WordsSoFar}
+use Rattle.tool_trees.proofs.Lines.{WordsSoFar}
 use Rattle.tool_trees.proofs.words.words_of.Given as goal
 
 abbrev pub invariant-loop-rest : goal.invariant-loop-rest

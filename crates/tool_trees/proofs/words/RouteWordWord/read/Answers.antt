@@ -1,5 +1,5 @@
 use Rattle.std.proofs.Common.{◌<◌, ◌^◌, ◌∙◌, rules}
-use Rattle.tool_trees.proofs.Parse.{no_second, no_kinds, no_target, no_pattern, route_found}
+use Rattle.tool_trees.proofs.Lines.{no_second, no_kinds, no_target, no_pattern, route_found}
 use Rattle.tool_trees.proofs.words.RouteWordWord.read.Goals as goal
 
 pub returns-in_default-split_at_first : goal.returns-in_default-split_at_first

@@ -1,0 +1,7 @@
+use Rattle.tool_trees.proofs.Lines.{no_two}
+use Rattle.tool_trees.proofs.words.prefix_line.Goals as goal
+
+pub returns : goal.returns
+returns c =
+    let cut = c.split_before.ensures in
+    no_two _ _ _ cut.whole cut.before cut.others _ c.is_empty.ensures c.if-is_empty.false
