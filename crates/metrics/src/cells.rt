@@ -3,6 +3,8 @@ ghost use Rattle.std.specs.Prelude.{◌≡◌, ℕ, ℤ, List, MatchResult};
 ghost use Rattle.metrics.specs.Cells.{IsCountAfter, IsGaugeAfter, AreSamplesAfter};
 ghost use Rattle.metrics.specs.declared.handles.Update.TheVariants.{Increment, Absolute, Add, Subtract, Set, Record};
 
+use crate::handles::Update;
+
 /// The cell of a counter.
 pub trait CounterCell {
     /// The count that it holds.
@@ -57,11 +59,11 @@ impl CounterCell for u64 {
     ghost count = { λ n. n };
 
     fn increment(&mut self, value: u64) {
-        *self = self.wrapping_add(value);
+        *self = Update::Increment(value).count_after(*self);
     }
 
     fn absolute(&mut self, value: u64) {
-        *self = (*self).max(value);
+        *self = Update::Absolute(value).count_after(*self);
     }
 }
 
@@ -69,11 +71,11 @@ impl GaugeCell for i64 {
     ghost gauge = { λ n. n };
 
     fn increment(&mut self, value: i64) {
-        *self = self.saturating_add(value);
+        *self = Update::Add(value).level_after(*self);
     }
 
     fn decrement(&mut self, value: i64) {
-        *self = self.saturating_sub(value);
+        *self = Update::Subtract(value).level_after(*self);
     }
 
     fn set(&mut self, value: i64) {

@@ -2,6 +2,7 @@
 ghost use Rattle.std.specs.Prelude.{◌≡◌, ◌<◌, [], true};
 ghost use Rattle.metrics.specs.declared.handles.Update.TheVariants.{Increment, Absolute, Add, Subtract, Set, Record};
 ghost use Rattle.metrics.specs.Book.{kind_of};
+ghost use Rattle.metrics.specs.Cells.{count_with, level_with};
 ghost use Rattle.metrics.specs.Meaning.{KeepsTargets};
 ghost use Rattle.metrics.specs.Answering.{AllHeld, places, UpdatesAll, UpdatesHandle, holds_all};
 
@@ -37,6 +38,42 @@ pub enum Update {
     Record(i64),
 }
 
+impl Update {
+    /// Returns the kind of series that the update is for.
+    pub fn kind(self) -> MetricKind
+        ensures { result ≡ kind_of self }
+    {
+        match self {
+            Update::Increment(_) | Update::Absolute(_) => MetricKind::Counter,
+            Update::Add(_) | Update::Subtract(_) | Update::Set(_) => MetricKind::Gauge,
+            Update::Record(_) => MetricKind::Histogram,
+        }
+    }
+
+    /// Returns what the update makes of a count. One of another kind leaves it as it is.
+    pub fn count_after(self, count: u64) -> u64
+        ensures { result ≡ count_with self count }
+    {
+        match self {
+            Update::Increment(more) => count.wrapping_add(more),
+            Update::Absolute(least) => count.max(least),
+            _ => count,
+        }
+    }
+
+    /// Returns what the update makes of a gauge's value. One of another kind leaves it as it is.
+    pub fn level_after(self, level: i64) -> i64
+        ensures { result ≡ level_with self level }
+    {
+        match self {
+            Update::Add(more) => level.saturating_add(more),
+            Update::Subtract(less) => level.saturating_sub(less),
+            Update::Set(to) => to,
+            _ => level,
+        }
+    }
+}
+
 /// Updates the series at each address, in order. The addresses are known to be held.
 fn update_held<R: Recorder>(on: &mut R, found: &[Address], by: Update) -> Result<usize, Refused>
     requires { AllHeld (kind_of by) found.now (R.meaning on.old).contents }
@@ -64,17 +101,6 @@ fn are_held<R: Recorder>(on: &R, kind: MetricKind, found: &[Address]) -> bool
     true
 }
 
-/// The kind that an update is for.
-fn kind_of_update(by: Update) -> MetricKind
-    ensures { result ≡ kind_of by }
-{
-    match by {
-        Update::Increment(_) | Update::Absolute(_) => MetricKind::Counter,
-        Update::Add(_) | Update::Subtract(_) | Update::Set(_) => MetricKind::Gauge,
-        Update::Record(_) => MetricKind::Histogram,
-    }
-}
-
 /// Updates the series at each address, in order, if each address has one of the update's kind.
 ///
 /// Returns how many series it updated.
@@ -88,7 +114,7 @@ pub fn update_all<R: Recorder>(on: &mut R, found: &[Address], by: Update) -> Res
         on.update(*only, by)?;
         return Ok(1);
     }
-    if are_held(on, kind_of_update(by), found) {
+    if are_held(on, by.kind(), found) {
         update_held(on, found, by)
     } else {
         Err(Refused::NoSuchAddress)

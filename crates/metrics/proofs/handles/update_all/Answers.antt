@@ -6,5 +6,5 @@ use Rattle.metrics.proofs.handles.update_all.Goals as goal
 pub update_held-requires : goal.update_held-requires
 update_held-requires g c =
     let cs = (g.R.Recorder.meaning c.args.on.now).contents in
-    subst (λ k. AllHeld k c.args.found.now cs) c.kind_of_update.ensures
-    (held-all c.kind_of_update.result c.args.found.now cs (sym c.are_held.ensures ∙ c.if-are_held.true))
+    subst (λ k. AllHeld k c.args.found.now cs) c.kind.ensures
+    (held-all c.kind.result c.args.found.now cs (sym c.are_held.ensures ∙ c.if-are_held.true))
