@@ -1,6 +1,7 @@
 -- Names and keys. A name is a list of bytes.
 use Rattle.std.specs.Prelude.{ℕ, Bool, ◌&&◌, List, [], ◌∷◌, ◌++◌, bytes_eq, nat_eq, codes, flat_map}
 use Rattle.std.specs.Cmp.Lexicographic.{pointwise, slice_cmp}
+use Rattle.std.specs.List.Sorted.{IsPermutation, IsSorted}
 use Rattle.std.specs.declared.cmp.Ordering.{Ordering}
 use Rattle.std.specs.Ordering.{nat_cmp, on, then_cmp}
 use Rattle.metrics_names.specs.declared.kind.MetricKind.{MetricKind}
@@ -63,6 +64,11 @@ series_key_eq a b = kind_eq a.kind b.kind && key_eq a.key b.key
 -- the order of labels: the key's bytes, then the value's
 abbrev pub label_cmp : List ℕ × List ℕ → List ℕ × List ℕ → Ordering
 label_cmp = then_cmp (on (λ l. l.0) (slice_cmp nat_cmp)) (on (λ l. l.1) (slice_cmp nat_cmp))
+
+-- the same labels in order: by name, then by value
+pub record AreOrdered (labels ordered : List LabelParts) : Type 0 where
+  pub same : IsPermutation labels ordered
+  pub sorted : IsSorted label_cmp ordered
 
 -- the order of keys: the name's bytes, then the labels, one after another; a list is less than each longer one that begins with it
 abbrev pub key_cmp : KeyParts → KeyParts → Ordering

@@ -1,6 +1,9 @@
-//! Labels.
-ghost use Rattle.std.specs.Prelude.{◌≡◌, MatchResult};
+//! Labels, and their order.
+ghost use Rattle.std.specs.Prelude.{◌≡◌, MatchResult, IsTrue};
+ghost use Rattle.std.specs.List.Sorted.{IsSorted};
+ghost use Rattle.std.specs.Ordering.{is_lt};
 ghost use Rattle.metrics_names.specs.declared.refused.Refused.TheVariants.{Memory};
+ghost use Rattle.metrics_names.specs.Names.{LabelParts, label_cmp, AreOrdered};
 
 use crate::refused::Refused;
 use crate::text::Text;
@@ -50,4 +53,37 @@ impl Label {
     {
         self.value.as_str()
     }
+}
+
+/// Does nothing. Its contract says what the order of labels is.
+fn label_order()
+    ensures { (a b : LabelParts) → ⟦<Label as Ord>⟧.cmp a b ≡ label_cmp a b }
+{}
+
+/// Returns whether a label comes before another.
+pub fn is_before(label: &Label, other: &Label) -> bool
+    ensures { result ≡ is_lt (label_cmp label.now other.now) }
+{
+    label_order();
+    label.cmp(other).is_lt()
+}
+
+/// Returns whether labels are in order.
+pub fn are_sorted(labels: &[Label]) -> bool
+    ensures { IsTrue result → IsSorted label_cmp labels.now }
+{
+    for i in 1..labels.len() {
+        if is_before(&labels[i], &labels[i - 1]) {
+            return false;
+        }
+    }
+    true
+}
+
+/// Puts labels in order.
+pub fn sort_labels(labels: &mut Vec<Label>)
+    ensures { AreOrdered labels.old.items labels.new.items }
+{
+    label_order();
+    labels.sort_unstable();
 }

@@ -15,7 +15,7 @@ pub use common::Unit;
 pub use items::Items;
 pub use key::{CompositeKey, Key, KeyName};
 pub use kind::MetricKind;
-pub use label::Label;
+pub use label::{Label, are_sorted, is_before, sort_labels};
 pub use refused::Refused;
 pub use shared_text::SharedText;
 pub use text::Text;
