@@ -6,7 +6,7 @@ ghost use Rattle.std.specs.List.{FoldsTo};
 ghost use Rattle.metrics_bucket.specs.Blocks.{valued, newest_first};
 ghost use Rattle.std.specs.Arc.{arc_value};
 
-use crate::bucket::{BLOCK_SIZE, RuledBucket};
+use crate::bucket::{BLOCK_SIZE, RuledBucket, is_block_count};
 use crate::pen::Words;
 use crate::sample::Sample;
 use crate::steps::LookAtControl;
@@ -42,7 +42,7 @@ impl<T: Sample> AtomicBucket<T> {
         ensures good { (0 < blocks) × (blocks ≤ 1024) → IfErr result (λ e. e ≡ Error.Memory) }
         ensures bad { (blocks ≡ 0) ⊎ (1024 < blocks) → result ≡ Err Error.BadBlocks }
     {
-        if blocks == 0 || blocks > 1024 {
+        if !is_block_count(blocks) {
             return Err(Error::BadBlocks);
         }
         let (bucket, door) = RuledBucket::<T>::open_places(alloc, BLOCK_SIZE * blocks)?;

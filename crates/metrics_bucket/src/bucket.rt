@@ -1,7 +1,7 @@
 //! The bucket, and the calls that push.
 ghost use Rattle.std.specs.Prelude.{◌≡◌, ℕ, ◌+◌, ◌*◌, ◌^◌, ◌<◌, ◌≤◌, ◌↔◌, ◌⊎◌, true};
 ghost use Rattle.std.specs.Prelude.{false, IsTrue, IfOk, OnOk, IfErr, MatchResult, length, take, drop, map, [], ◌++◌};
-ghost use Rattle.std.specs.Prelude.{◌-◌, ◌/◌, vec_capacity};
+ghost use Rattle.std.specs.Prelude.{◌-◌, ◌/◌, vec_capacity, MatchBool};
 ghost use Rattle.metrics_bucket.specs.Account.{first_account, with_ticket, looked_at, IsLookedAnew, IsPushed};
 ghost use Rattle.std.specs.Arc.{arc_value};
 ghost use Rattle.metrics_bucket.specs.BucketState.{place_index, first_view, holding_at, having_seen, pushing};
@@ -25,6 +25,13 @@ use std::sync::{Arc, Wait};
 
 /// How many places a block has.
 pub(crate) const BLOCK_SIZE: usize = 64;
+
+/// Returns whether a bucket may have so many blocks on each side: 1 to 1,024.
+pub fn is_block_count(blocks: usize) -> bool
+    ensures { MatchBool result ((0 < blocks) × (blocks ≤ 1024)) ((blocks ≡ 0) ⊎ (1024 < blocks)) }
+{
+    0 < blocks && blocks <= 1024
+}
 
 /// A bucket of two sides, each with 64 places for each block. Any number of threads push into its live side, each with a `Pen` of
 /// its own, while one at a time reads or clears it.
@@ -61,7 +68,7 @@ impl<T: Sample> RuledBucket<T> {
         ensures good { (0 < blocks) × (blocks ≤ 1024) → IfErr result (λ e. e ≡ Error.Memory) }
         ensures bad { (blocks ≡ 0) ⊎ (1024 < blocks) → result ≡ Err Error.BadBlocks }
     {
-        if blocks == 0 || blocks > 1024 {
+        if !is_block_count(blocks) {
             return Err(Error::BadBlocks);
         }
         Self::of_places(alloc, BLOCK_SIZE * blocks)

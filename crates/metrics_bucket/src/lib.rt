@@ -18,7 +18,7 @@ mod walker;
 mod walking;
 
 pub use atomic::AtomicBucket;
-pub use bucket::RuledBucket;
+pub use bucket::{RuledBucket, is_block_count};
 pub use gathered::Gathered;
 pub use law::bucket_law;
 pub use pen::Pen;

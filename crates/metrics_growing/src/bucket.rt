@@ -11,7 +11,7 @@ use crate::known::Known;
 use crate::pen::GrowPen;
 use crate::segment::{BLOCK_SIZE, Segment};
 use metrics::Error;
-use metrics_bucket::{Pen, Sample};
+use metrics_bucket::{Pen, Sample, is_block_count};
 use metrics_cells::Pause;
 use once_cell::race::{Note, OnceBox};
 use std::alloc::Global;
@@ -74,7 +74,7 @@ impl<T: Sample> GrowingBucket<T> {
         ensures good { (0 < blocks) × (blocks ≤ 1024) → IfErr result (λ e. e ≡ Error.Memory) }
         ensures bad { (blocks ≡ 0) ⊎ (1024 < blocks) → result ≡ Err Error.BadBlocks }
     {
-        if blocks == 0 || blocks > 1024 {
+        if !is_block_count(blocks) {
             return Err(Error::BadBlocks);
         }
         let (segment, pen) = Segment::first(alloc, BLOCK_SIZE * blocks)?;

@@ -5,7 +5,7 @@ ghost use Rattle.metrics_bucket.specs.Sides.{side_places};
 
 use crate::generational::Generational;
 use metrics::Error;
-use metrics_bucket::AtomicBucket;
+use metrics_bucket::{AtomicBucket, is_block_count};
 use metrics_registry::Storage;
 use std::alloc::Global;
 use std::sync::Arc;
@@ -43,7 +43,7 @@ impl AtomicStorage {
         ensures { MatchResult result (λ s. (s.blocks ≡ blocks) × (0 < blocks) × (blocks ≤ 1024))
             (λ e. (e ≡ Error.BadBlocks) × ((blocks ≡ 0) ⊎ (1024 < blocks))) }
     {
-        if blocks == 0 || blocks > 1024 {
+        if !is_block_count(blocks) {
             return Err(Error::BadBlocks);
         }
         Ok(AtomicStorage { alloc, blocks })
