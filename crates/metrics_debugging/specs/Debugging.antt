@@ -5,8 +5,8 @@ use Rattle.metrics_names.specs.declared.kind.MetricKind.{MetricKind}
 use Rattle.metrics_names.specs.Names.{SeriesKey}
 use Rattle.metrics.specs.Book.{Content, Series, content_at, is_of, new_book}
 use Rattle.metrics.specs.Meaning.{Meaning}
-use Rattle.metrics_debugging.specs.declared.debugging.descriptions.Descriptions.{Descriptions}
-use Rattle.metrics_debugging.specs.DebuggingDescriptions.{described_by}
+use Rattle.metrics_descriptions.specs.declared.descriptions.Descriptions.{Descriptions}
+use Rattle.metrics_descriptions.specs.Legends.{described_by}
 
 -- one new book, which has each name as it is
 pub record IsNewBook (m : Meaning) : Type 0 where

@@ -1,4 +1,3 @@
-pub mod DebuggingDescriptions
 pub mod DebuggingCells
 pub mod DebuggingSeries
 pub mod DebuggingOrder

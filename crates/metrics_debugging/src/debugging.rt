@@ -7,13 +7,12 @@ ghost use Rattle.metrics_debugging.specs.Debugging.{IsNewBook, one_if_held};
 ghost use Rattle.metrics_debugging.specs.DebuggingSeries.{series_key};
 
 mod cells;
-mod descriptions;
 mod series;
 
-use descriptions::Descriptions;
 use metrics::{
     Address, Key, KeyName, MetricKind, Recorder, Refused, Reset, Snapshot, Unit, Update,
 };
+use metrics_descriptions::Descriptions;
 use series::SeriesList;
 use std::alloc::Global;
 use std::marker::Model;

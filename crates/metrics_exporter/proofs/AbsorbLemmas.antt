@@ -16,7 +16,8 @@ use Rattle.metrics_exporter.specs.Exporting.{Setup, Log, updates, steps, series_
 use Rattle.metrics_exporter.specs.Kept.{IsAfter}
 use Rattle.metrics_exporter.specs.Absorbing.{MarkedRow, marked, updates_of, made, asked_by, with_row, with_rows, Refuses, StopsIn, MakesUpdates, StopsInRow, AbsorbsRow, StopsAt}
 use Rattle.metrics_exporter.specs.Absorbing.{remaining_samples, remaining_row, first_remaining, remaining, AbsorbsRemaining}
-use Rattle.metrics_exporter.specs.Describing.{Legend, SameLegend, legend_by_row, legend_by_rows}
+use Rattle.metrics_descriptions.specs.Legends.{Legend, SameLegend}
+use Rattle.metrics_exporter.specs.Describing.{legend_by_row, legend_by_rows}
 use Rattle.metrics_exporter.proofs.KeptLemmas.{Done, err_inside}
 
 -- ---- one more update

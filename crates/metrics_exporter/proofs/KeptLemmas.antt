@@ -26,7 +26,8 @@ use Rattle.metrics_exporter.specs.Stepping.{cell_has_room, TakesUpdate, RefusesU
 use Rattle.metrics_exporter.specs.Choice.{bounds_in}
 use Rattle.metrics_exporter.specs.Kept.{SeriesRegistry, cells_of, empty_in, HasBounds, Keeps, KeepsBut, IsAfter}
 use Rattle.metrics_exporter.specs.Gathering.{cell_in}
-use Rattle.metrics_exporter.specs.Describing.{Legend, unit_told}
+use Rattle.metrics_descriptions.specs.Legends.{Legend}
+use Rattle.metrics_exporter.specs.Describing.{unit_told}
 use Rattle.metrics_exporter.proofs.StepLemmas.{cells-updated, cells-checked, checks-updated, checks-checked}
 
 -- ---- the calls as steps

@@ -15,5 +15,4 @@ pub mod LawLemmas
 pub mod UnwatchedLemmas
 pub mod ReadingsLemmas
 pub mod SeenLemmas
-pub mod DescriptionsLemmas
 pub mod BoundListsLemmas

@@ -14,7 +14,7 @@ use Rattle.metrics_registry.specs.Idleness.{Answered, run_answers}
 use Rattle.metrics_exporter.specs.declared.cells.CountedCells.{CountedCells}
 use Rattle.metrics_exporter.specs.declared.exporter.Exporter.{Exporter}
 use Rattle.metrics_exporter.specs.Choice.{bounds_in}
-use Rattle.metrics_exporter.specs.Describing.{Legend, described_by}
+use Rattle.metrics_descriptions.specs.Legends.{Legend, described_by}
 use Rattle.metrics_exporter.specs.Exporting.{Setup, Log, Step, steps, count, level, samples, Cell, Cells, cells_after, checks_in}
 use Rattle.metrics_exporter.specs.Gathering.{cell_in}
 use Rattle.metrics_exporter.specs.Stepping.{cells_without, notes_without}

@@ -4,13 +4,11 @@ use Rattle.std.specs.List.{list_any}
 use Rattle.metrics_names.specs.declared.kind.MetricKind.{MetricKind}
 use Rattle.metrics_names.specs.declared.kind.MetricKind.TheVariants.{Counter, Gauge, Histogram}
 use Rattle.metrics_names.specs.Names.{KeyParts, SeriesKey, key_eq, series_key_eq}
-use Rattle.metrics.specs.declared.debugging.DebugValue.{DebugValue}
-use Rattle.metrics.specs.declared.debugging.DebugValue.TheVariants as value
 use Rattle.metrics.specs.declared.handles.Update.{Update}
 use Rattle.metrics.specs.declared.handles.Update.TheVariants.{Increment, Absolute, Add, Subtract, Set, Record}
 use Rattle.metrics.specs.declared.error.Error.{Error}
 use Rattle.metrics.specs.declared.error.Error.TheVariants.{Memory, CountFull}
-use Rattle.metrics.specs.Book.{updated}
+use Rattle.metrics.specs.Cells.{count_with, level_with}
 use Rattle.metrics_storage.specs.Histogram.{Distribution, with_samples}
 use Rattle.metrics_registry.specs.declared.generation.Counted.{Counted}
 use Rattle.metrics_registry.specs.Held.{held, Sets}
@@ -20,23 +18,7 @@ use Rattle.metrics_exporter.specs.Gathering.{series_at}
 
 -- ---- an update
 
-abbrev pub count_in : DebugValue → ℕ
-count_in (value.Counter n) = n
-count_in (value.Gauge n) = 0
-count_in (value.Histogram xs) = 0
-
-abbrev pub level_in : DebugValue → ℤ
-level_in (value.Counter n) = pos 0
-level_in (value.Gauge n) = n
-level_in (value.Histogram xs) = pos 0
-
--- a count, a gauge's value and samples after an update; one of another kind changes nothing
-abbrev pub count_with : Update → ℕ → ℕ
-count_with u n = count_in (updated u (value.Counter n))
-
-abbrev pub level_with : Update → ℤ → ℤ
-level_with u n = level_in (updated u (value.Gauge n))
-
+-- samples after an update; one of another kind changes nothing
 abbrev pub samples_with : Update → Distribution → Distribution
 samples_with (Record n) d = with_samples (n ∷ []) d
 samples_with (Increment n) d = d

@@ -7,7 +7,8 @@ ghost use Rattle.metrics_exporter.specs.Exporting.{Setup, Log};
 ghost use Rattle.metrics_exporter.specs.Kept.{IsAfter};
 ghost use Rattle.metrics_exporter.specs.Absorbing.{marked, updates_of, MakesUpdates, AbsorbsRow, Absorbs};
 ghost use Rattle.metrics_exporter.specs.Absorbing.{remaining_samples, remaining_row, AbsorbsRemaining};
-ghost use Rattle.metrics_exporter.specs.Describing.{SameLegend, legend_with, legend_by_row, legend_by_rows};
+ghost use Rattle.metrics_descriptions.specs.Legends.{SameLegend};
+ghost use Rattle.metrics_exporter.specs.Describing.{legend_with, legend_by_row, legend_by_rows};
 
 use crate::exporter::Exporter;
 use metrics::{CompositeKey, DebugValue, Error, Key, Row, SharedText, Snapshot, Unit, Update};

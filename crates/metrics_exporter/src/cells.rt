@@ -7,8 +7,8 @@ ghost use Rattle.metrics_exporter.specs.Describing.{unit_from};
 ghost use Rattle.metrics_exporter.specs.Stepping.{new_counted};
 
 use crate::bounds::Bounds;
-use crate::descriptions::Descriptions;
 use metrics::{Error, Key, MetricKind, Unit};
+use metrics_descriptions::Descriptions;
 use metrics_registry::{Counted, HistogramMaker, Storage};
 use metrics_storage::Histogram;
 
@@ -87,7 +87,10 @@ impl<'a> UnitSource<'a> {
         match self {
             UnitSource::Given(unit) => *unit,
             UnitSource::Described(descriptions) => {
-                descriptions.unit(MetricKind::Histogram, key.name())
+                match descriptions.get(MetricKind::Histogram, key.name()) {
+                    Some(described) => described.unit(),
+                    None => None,
+                }
             }
         }
     }

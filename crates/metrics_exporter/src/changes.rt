@@ -11,8 +11,8 @@ ghost use Rattle.metrics_exporter.specs.Exporting.{series_of};
 ghost use Rattle.metrics_exporter.specs.Gathering.{series_at, series_shown, cell_shown};
 ghost use Rattle.metrics_exporter.specs.Kept.{cells_of, empty_in, KeepsSetting};
 ghost use Rattle.metrics_exporter.specs.Describing.{unit_from};
-ghost use Rattle.metrics_exporter.specs.Stepping.{count_with, level_with, counted_with, has_room, UpdatesEntry, UpdatesCells};
-ghost use Rattle.metrics_exporter.specs.Stepping.{TakesSample};
+ghost use Rattle.metrics.specs.Cells.{count_with, level_with};
+ghost use Rattle.metrics_exporter.specs.Stepping.{counted_with, has_room, TakesSample, UpdatesEntry, UpdatesCells};
 ghost use Rattle.metrics_exporter.specs.Stepping.{TakesUpdate, RefusesUpdate, NotesOrAdds};
 
 use crate::cells::{CountedCells, UnitSource};
@@ -20,27 +20,6 @@ use crate::keys::SeriesRef;
 use metrics::{CompositeKey, Error, Key, MetricKind, Update};
 use metrics_registry::{Counted, OwnedRecency, OwnedRegistry};
 use metrics_storage::Histogram;
-
-fn count_with(count: u64, by: Update) -> u64
-    ensures { result ≡ count_with by count }
-{
-    match by {
-        Update::Increment(more) => count.wrapping_add(more),
-        Update::Absolute(least) => count.max(least),
-        _ => count,
-    }
-}
-
-fn level_with(level: i64, by: Update) -> i64
-    ensures { result ≡ level_with by level }
-{
-    match by {
-        Update::Add(more) => level.saturating_add(more),
-        Update::Subtract(less) => level.saturating_sub(less),
-        Update::Set(to) => to,
-        _ => level,
-    }
-}
 
 fn update_counter(
     registry: &mut OwnedRegistry<Key, CountedCells>,
@@ -60,7 +39,7 @@ fn update_counter(
             cell.with_increment(
                 |count: &mut u64|
                     ensures { count.new ≡ count_with by count.old }
-                { *count = count_with(*count, by) },
+                { *count = by.count_after(*count) },
             )
         },
     )
@@ -84,7 +63,7 @@ fn update_gauge(
             cell.with_increment(
                 |level: &mut i64|
                     ensures { level.new ≡ level_with by level.old }
-                { *level = level_with(*level, by) },
+                { *level = by.level_after(*level) },
             )
         },
     )

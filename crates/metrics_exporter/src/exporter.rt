@@ -13,19 +13,20 @@ ghost use Rattle.metrics_exporter.specs.Exporting.{Setup, Log, Step, updates, ex
 ghost use Rattle.metrics_exporter.specs.Exporting.{updates_in, cells_after, series_of, HoldsSome};
 ghost use Rattle.metrics_exporter.specs.Gathering.{series_at};
 ghost use Rattle.metrics.specs.Book.{no_description};
-ghost use Rattle.metrics_exporter.specs.Describing.{DescribesName, described_by, unit_told};
+ghost use Rattle.metrics_descriptions.specs.Legends.{DescribesName, described_by};
+ghost use Rattle.metrics_exporter.specs.Describing.{unit_told};
 ghost use Rattle.metrics_exporter.specs.ExporterText.{IsText};
 ghost use Rattle.metrics_exporter.specs.Readings.{AreReadings, keyed_readings};
 
 use crate::bounds::Bounds;
 use crate::cells::{CountedCells, UnitSource};
 use crate::changes::{remove_series, update_cells};
-use crate::descriptions::Descriptions;
 use crate::expiring::check_all;
 use crate::keys::{held_number, is_held, sorted_series};
 use crate::lines::write_series;
 use crate::readings::{SeriesReading, readings_of};
 use metrics::{CompositeKey, Error, Key, MetricKind, MetricKindMask, Unit, Update};
+use metrics_descriptions::Descriptions;
 use metrics_registry::{OwnedRecency, OwnedRegistry, is_shard_count, recency_law};
 use std::alloc::Global;
 
@@ -209,7 +210,8 @@ impl Exporter {
         ensures shards { self.new.registry.count ≡ self.old.registry.count }
     {
         self.descriptions
-            .describe(self.alloc, kind, name, unit, text)
+            .describe(self.alloc, kind, name, unit, text)?;
+        Ok(())
     }
 
     /// Returns the descriptions of names.

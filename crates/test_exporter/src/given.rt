@@ -75,7 +75,10 @@ impl Exports for Exporter {
     }
 
     fn unit(&self, kind: MetricKind, name: &str) -> Option<Unit> {
-        self.descriptions().unit(kind, name)
+        match self.descriptions().get(kind, name) {
+            Some(described) => described.unit(),
+            None => None,
+        }
     }
 
     fn text(&self) -> Result<String, Error> {

@@ -4,9 +4,7 @@ ghost use Rattle.metrics_names.specs.declared.refused.Refused.TheVariants.{Memor
 ghost use Rattle.metrics.specs.Book.{new_value, resets, snapshot_value};
 ghost use Rattle.metrics_debugging.specs.DebuggingCells.{value_of, kind_of_value, UpdatesValue};
 
-use metrics::{
-    CounterCell, DebugValue, GaugeCell, HistogramCell, Items, MetricKind, Refused, Reset, Update,
-};
+use metrics::{DebugValue, HistogramCell, Items, MetricKind, Refused, Reset, Update};
 use metrics_storage::OwnedBucket;
 use std::alloc::Global;
 
@@ -47,11 +45,12 @@ impl Cell {
         ensures kind { kind_of_value (value_of self.new) ≡ kind_of_value (value_of self.old) }
     {
         match (self, by) {
-            (Cell::Counter(count), Update::Increment(more)) => count.increment(more),
-            (Cell::Counter(count), Update::Absolute(least)) => count.absolute(least),
-            (Cell::Gauge(gauge), Update::Add(more)) => gauge.increment(more),
-            (Cell::Gauge(gauge), Update::Subtract(less)) => gauge.decrement(less),
-            (Cell::Gauge(gauge), Update::Set(to)) => gauge.set(to),
+            (Cell::Counter(count), Update::Increment(_) | Update::Absolute(_)) => {
+                *count = by.count_after(*count);
+            }
+            (Cell::Gauge(gauge), Update::Add(_) | Update::Subtract(_) | Update::Set(_)) => {
+                *gauge = by.level_after(*gauge);
+            }
             (Cell::Histogram(samples), Update::Record(sample)) => {
                 if samples.record(sample).is_err() {
                     return Err(Refused::Memory { acted: 0 });

@@ -4,16 +4,19 @@ ghost use Rattle.std.specs.Prelude.{MatchResult, if◌then◌else◌};
 ghost use Rattle.std.specs.Prelude.{None, true, false, length, map, option_map, slice_get, position};
 ghost use Rattle.metrics_names.specs.declared.refused.Refused.TheVariants.{Memory};
 ghost use Rattle.metrics.specs.Book.{is_of, new_series, new_value, resets, after_reset, row_of, active_at, idle};
+ghost use Rattle.metrics_descriptions.specs.Legends.{described_by};
 ghost use Rattle.metrics_debugging.specs.Debugging.{content_of};
 ghost use Rattle.metrics_debugging.specs.DebuggingCells.{value_of, kind_of_value, UpdatesValue};
 ghost use Rattle.metrics_debugging.specs.DebuggingSeries.{Agrees, IsWithin, series_at, series_key, spot};
 ghost use Rattle.metrics_debugging.specs.DebuggingUpdates.{UpdatesAt};
 
 use crate::debugging::cells::Cell;
-use crate::debugging::descriptions::Descriptions;
-use metrics::{CompositeKey, Key, MetricKind, PerKind, Refused, Reset, Row, Update};
+use metrics::{
+    CompositeKey, Key, MetricKind, PerKind, Refused, Reset, Row, SharedText, Unit, Update,
+};
+use metrics_descriptions::Descriptions;
 use metrics_registry::Cells;
-use std::alloc::Global;
+use std::alloc::{AllocError, Global};
 
 /// A series: its cell, which is of its kind, the place of its key among those of the kind, where to look first for the
 /// description of its name, and whether it was registered or updated since the last successful snapshot.
@@ -50,6 +53,21 @@ impl Stored {
     {
         self.cell.reset(reset);
         self.active = false;
+    }
+}
+
+/// Returns the unit and the text that a name is described with, if any. It shares the text, and tries the place first.
+fn told_of(
+    descriptions: &Descriptions,
+    kind: MetricKind,
+    name: &str,
+    place: u32,
+) -> Result<(Option<Unit>, Option<SharedText>), AllocError>
+    ensures { IfOk result (λ d. record { unit = d.0; text = d.1 } ≡ described_by descriptions.now kind name.now) }
+{
+    match descriptions.get_from(kind, name, place) {
+        Some(described) => Ok((described.unit(), Some(described.shared_text()?))),
+        None => Ok((None, None)),
     }
 }
 
@@ -163,7 +181,7 @@ impl SeriesList {
             unreachable!()
         };
         let value = stored.cell.value()?;
-        let (unit, text) = descriptions.get(kind, key.name(), stored.description)?;
+        let (unit, text) = told_of(descriptions, kind, key.name(), stored.description)?;
         let key = CompositeKey::new(kind, key.clone()?);
         Ok((key, unit, text, value))
     }

@@ -2,7 +2,8 @@ use Rattle.std.proofs.Common.{ℕ, ◌+◌, ◌<◌, List, Bool, length, drop, R
 use Rattle.metrics.specs.declared.error.Error.{Error}
 use Rattle.metrics.specs.Book.{RowParts}
 use Rattle.metrics_exporter.specs.declared.absorb.PartlyAbsorbed.{PartlyAbsorbed}
-use Rattle.metrics_exporter.specs.Describing.{SameLegend, legend_by_rows}
+use Rattle.metrics_descriptions.specs.Legends.{SameLegend}
+use Rattle.metrics_exporter.specs.Describing.{legend_by_rows}
 use Rattle.metrics_exporter.specs.Kept.{IsAfter, described}
 use Rattle.metrics_exporter.specs.Absorbing.{MarkedRow, marked, remaining_row, with_row, with_rows, Absorbs, AbsorbsRow}
 use Rattle.metrics_exporter.proofs.AbsorbLemmas.{nothing-remaining, remaining-absorbed, stopped-first, stopped-remaining, length-marked, keyed-remaining}

@@ -1,5 +1,6 @@
 use Rattle.std.proofs.Common.{inr, refl, ap, ◌∙◌}
-use Rattle.metrics_exporter.specs.Describing.{Legend, SameLegend, legend_by_row}
+use Rattle.metrics_descriptions.specs.Legends.{Legend, SameLegend}
+use Rattle.metrics_exporter.specs.Describing.{legend_by_row}
 use Rattle.metrics_exporter.specs.Kept.{described}
 use Rattle.metrics_exporter.specs.Absorbing.{remaining_row}
 use Rattle.metrics_exporter.proofs.AbsorbLemmas.{row-made, on-ok}

@@ -1,7 +1,8 @@
 -- The rows so far.
 use Rattle.std.proofs.Common.{◌≡◌, take}
 use Rattle.metrics_exporter.specs.Exporting.{Setup, Log}
-use Rattle.metrics_exporter.specs.Describing.{SameLegend, legend_by_rows}
+use Rattle.metrics_descriptions.specs.Legends.{SameLegend}
+use Rattle.metrics_exporter.specs.Describing.{legend_by_rows}
 use Rattle.metrics_exporter.specs.Kept.{IsAfter, described}
 use Rattle.metrics_exporter.specs.Absorbing.{marked, with_rows}
 use Rattle.metrics_exporter.proofs.absorb.absorb_rows.Given as goal

@@ -1,6 +1,6 @@
 use Rattle.std.proofs.Common.{ap, refl, ◌∷◌, []}
 use Rattle.metrics.specs.Book.{no_description, Content}
-use Rattle.metrics_debugging.specs.DebuggingDescriptions.{described_by}
+use Rattle.metrics_descriptions.specs.Legends.{described_by}
 use Rattle.metrics_debugging.specs.DebuggingOrder.{series_of, activity_of}
 use Rattle.metrics_debugging.proofs.SeriesLemmas.{content_same}
 use Rattle.metrics_debugging.proofs.debugging.DebuggingRecorder.new.Goals as goal

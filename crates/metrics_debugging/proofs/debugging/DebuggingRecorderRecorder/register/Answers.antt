@@ -6,7 +6,7 @@ use Rattle.metrics_names.specs.declared.refused.Refused.TheVariants.{Memory}
 use Rattle.metrics.specs.declared.handles.Address.{Address}
 use Rattle.metrics.specs.Book.{Content}
 use Rattle.metrics_debugging.specs.declared.debugging.series.SeriesList.{SeriesList}
-use Rattle.metrics_debugging.specs.DebuggingDescriptions.{described_by}
+use Rattle.metrics_descriptions.specs.Legends.{described_by}
 use Rattle.metrics_debugging.specs.DebuggingSeries.{series_key, series_at, is_active}
 use Rattle.metrics_debugging.specs.DebuggingOrder.{series_of, activity_of}
 use Rattle.metrics_debugging.proofs.SeriesLemmas.{register_there, register_new, held-some, held-none}

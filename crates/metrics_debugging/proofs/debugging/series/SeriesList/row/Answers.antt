@@ -7,7 +7,7 @@ use Rattle.metrics.specs.Book.{Description, row_of}
 use Rattle.metrics.specs.Kinds.{of_kind}
 use Rattle.metrics_registry.specs.contracts.keys.KeyEqualClone.TheImpl.Laws.{clones-law}
 use Rattle.metrics_debugging.specs.Debugging.{content_of}
-use Rattle.metrics_debugging.specs.DebuggingDescriptions.{described_by}
+use Rattle.metrics_descriptions.specs.Legends.{described_by}
 use Rattle.metrics_debugging.specs.DebuggingCells.{value_of, kind_of_value}
 use Rattle.metrics_debugging.specs.DebuggingSeries.{no_key, series_key}
 use Rattle.metrics_debugging.proofs.debugging.series.SeriesList.row.Goals as goal

@@ -4,8 +4,8 @@ use Rattle.std.specs.Option.{option_or}
 use Rattle.std.specs.Cmp.Lexicographic.{bytes_decides}
 use Rattle.metrics_names.specs.declared.common.Unit.{Unit as Measure}
 use Rattle.metrics.specs.Book.{Description, described_again}
-use Rattle.metrics_exporter.specs.declared.descriptions.Described.{Described}
-use Rattle.metrics_exporter.specs.Describing.{description_of}
+use Rattle.metrics_descriptions.specs.declared.descriptions.Described.{Described}
+use Rattle.metrics_descriptions.specs.Legends.{description_of}
 
 -- a unit, if there was none before
 pub or-none : (unit : Option Measure) → unit ≡ option_or unit None

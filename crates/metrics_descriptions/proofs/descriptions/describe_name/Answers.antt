@@ -2,10 +2,13 @@ use Rattle.std.proofs.Common.{◌≡◌, ap, sym, refl, ◌∙◌, string_bytes,
 use Rattle.std.specs.Option.{option_or, option_copied_mut}
 use Rattle.std.proofs.lemmas.Map.Text.{hash_map_updates_text}
 use Rattle.indexmap.specs.IndexMap.{get_by_text}
-use Rattle.metrics_debugging.specs.declared.debugging.descriptions.Described.{Described}
-use Rattle.metrics_debugging.specs.DebuggingDescriptions.{description_of}
-use Rattle.metrics_debugging.proofs.DescriptionsLemmas.{noted, or-none}
-use Rattle.metrics_debugging.proofs.debugging.descriptions.describe_name.Goals as goal
+use Rattle.metrics_descriptions.specs.declared.descriptions.Described.{Described}
+use Rattle.metrics_descriptions.specs.Legends.{description_of}
+use Rattle.metrics_descriptions.proofs.DescriptionsLemmas.{noted, or-none, keyed-again}
+use Rattle.metrics_descriptions.proofs.descriptions.describe_name.Goals as goal
+
+pub returns-then-is_described_so-clause-ok : goal.returns-then-is_described_so-clause-ok
+returns-then-is_described_so-clause-ok c = λ n. keyed-again (λ m. description_of (get_by_text c.args.names.now m)) c.args.name.now c.args.unit c.args.text.now n (c.is_described_so.ensures (search rules))
 
 pub returns-in-Some-clause-ok : goal.returns-in-Some-clause-ok
 returns-in-Some-clause-ok c = λ n.
