@@ -5,7 +5,7 @@ use Rattle.metrics_names.specs.declared.common.Unit.{Unit as Measure}
 use Rattle.metrics_names.specs.declared.common.Unit.TheVariants.{Count, Percent, Seconds, Milliseconds, Microseconds, Nanoseconds, Bytes}
 use Rattle.metrics_names.specs.declared.kind.MetricKind.{MetricKind}
 use Rattle.metrics_names.specs.declared.kind.MetricKind.TheVariants.{Counter, Gauge, Histogram}
-use Rattle.metrics_exporter.specs.Describing.{Legend}
+use Rattle.metrics_descriptions.specs.Legends.{Legend}
 use Rattle.metrics_exposition.specs.declared.naming.Naming.{Naming}
 use Rattle.metrics_exposition.specs.declared.naming.Naming.TheVariants.{AsGiven, Recommended}
 use Rattle.metrics_exposition.specs.Names.{metric_name}

@@ -2,22 +2,17 @@
 ghost use Rattle.std.specs.Prelude.{◌≡◌, ◌≤◌, length, insert, MatchResult, IfOk, OnOk, All, is_some, option_map, true, IsTrue};
 ghost use Rattle.std.specs.List.Sorted.{IsSorted};
 ghost use Rattle.std.specs.Cmp.Lexicographic.{pointwise};
-ghost use Rattle.std.specs.Ordering.{is_lt};
 ghost use Rattle.std.specs.Str.{IsUtf8};
 ghost use Rattle.metrics.specs.declared.error.Error.TheVariants.{Memory as OutOfMemory};
-ghost use Rattle.metrics_names.specs.Names.{LabelParts, label_eq, label_cmp};
+ghost use Rattle.metrics_names.specs.Names.{label_eq, label_cmp};
 ghost use Rattle.metrics_exposition.specs.Labels.{placed, added, shown_labels, is_whole};
 ghost use Rattle.metrics_exposition.specs.Labels.{first_value, repeats, is_last, is_reserved, reserved_of, are_fit};
 
 use crate::names::{is_name, label_name};
 use crate::shown::ShownItems;
 use metrics::{Error, Label, MetricKind};
+use metrics_names::{are_sorted, is_before};
 use std::alloc::Global;
-
-/// Does nothing. Its contract says what the order of labels is.
-fn label_order()
-    ensures { (a b : LabelParts) → ⟦<Label as Ord>⟧.cmp a b ≡ label_cmp a b }
-{}
 
 /// Returns the value of the first label, and an empty text if there is none.
 pub fn first_value(labels: &[Label]) -> &str
@@ -37,14 +32,6 @@ pub fn are_equal(labels: &[Label], other: &[Label]) -> bool
         return false;
     }
     labels == other
-}
-
-/// Returns whether a label comes before another.
-fn is_before(label: &Label, other: &Label) -> bool
-    ensures { result ≡ is_lt (label_cmp label.now other.now) }
-{
-    label_order();
-    label.cmp(other).is_lt()
 }
 
 /// The place of a label among others in order.
@@ -85,18 +72,6 @@ fn made_labels(alloc: Global, labels: &[Label]) -> Result<Vec<Label>, Error>
         add_label(alloc, &mut shown, label)?;
     }
     Ok(shown)
-}
-
-/// Whether labels are in order.
-fn are_sorted(labels: &[Label]) -> bool
-    ensures { IsTrue result → IsSorted label_cmp labels.now }
-{
-    for at in 1..labels.len() {
-        if is_before(&labels[at], &labels[at - 1]) {
-            return false;
-        }
-    }
-    true
 }
 
 /// Whether a label is shown as it is.

@@ -8,7 +8,7 @@ use Rattle.metrics_names.specs.Names.{label_eq}
 use Rattle.metrics_exporter.specs.Exporting.{Cells}
 use Rattle.metrics_exposition.specs.Samples.{Sample, series_text}
 use Rattle.metrics_exposition.specs.declared.naming.Naming.{Naming}
-use Rattle.metrics_exporter.specs.Describing.{Legend}
+use Rattle.metrics_descriptions.specs.Legends.{Legend}
 use Rattle.metrics_prometheus.specs.Exposition.{Row, row_cmp, is_taken, samples_of, reading_at, IsScaled}
 use Rattle.metrics_prometheus.specs.Written.{written, samples_written, is_same_series}
 use Rattle.metrics_exposition.specs.Reading.{CanBeRead, is_same_text, ReadsAs}

@@ -11,7 +11,7 @@ use Rattle.metrics_exporter.specs.Exporting.{Cells, IsHeld, HoldsSome}
 use Rattle.metrics_exporter.specs.Readings.{KeyedReading, keyed_reading, keyed_readings, AreReadings, AreOnce}
 use Rattle.metrics_exporter.specs.declared.readings.SeriesReading.{SeriesReading}
 use Rattle.metrics_exposition.specs.declared.naming.Naming.{Naming}
-use Rattle.metrics_exporter.specs.Describing.{Legend}
+use Rattle.metrics_descriptions.specs.Legends.{Legend}
 use Rattle.metrics_exposition.specs.Naming.{Display}
 use Rattle.metrics_prometheus.specs.Exposition.{Row, row_of, AreRows, HoldsTexts, IsScaled}
 use Rattle.metrics_prometheus.specs.Rows.{HasTexts}

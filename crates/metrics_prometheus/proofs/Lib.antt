@@ -18,3 +18,4 @@ pub mod OneTextLemmas
 pub mod TypeLemmas
 pub mod HelpLemmas
 pub mod PlaceLemmas
+pub mod CountLemmas

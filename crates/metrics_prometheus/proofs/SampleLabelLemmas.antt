@@ -14,7 +14,7 @@ use Rattle.metrics_storage.specs.Histogram.{ascending}
 use Rattle.metrics_exposition.specs.Numbers.{number}
 use Rattle.metrics_exposition.specs.Samples.{Sample, bucket_sample}
 use Rattle.metrics_exposition.specs.declared.naming.Naming.{Naming}
-use Rattle.metrics_exporter.specs.Describing.{Legend}
+use Rattle.metrics_descriptions.specs.Legends.{Legend}
 use Rattle.metrics_exposition.specs.Naming.{Display}
 use Rattle.metrics_prometheus.specs.Exposition.{Row, samples_of, reading_at, AreRows, IsScaled}
 use Rattle.metrics_prometheus.specs.Written.{written, samples_written}

@@ -1,33 +1,23 @@
 -- The text of rows, one row after another.
-use Rattle.std.proofs.Common.{◌≡◌, ◌∙◌, ◌+◌, ◌-◌, ◌<◌, ◌++◌, ℕ, Bool, true, false, not, List, [], Option, Some, None, Result, Ok, Err, MatchResult, IfOk, length, get_or, take, drop, codes, nat_eq, option_map, refl, cond, ap, sym, append_assoc}
+use Rattle.std.proofs.Common.{◌≡◌, ◌∙◌, ◌+◌, ◌-◌, ◌<◌, ◌++◌, ℕ, Bool, true, false, not, List, [], ◌∷◌, Option, Some, None, Result, Ok, Err, MatchResult, IfOk, length, get_or, take, drop, codes, nat_eq, option_map, refl, cond, ap, sym, subst, arith, append_assoc}
 use Rattle.std.specs.Prelude.{IfErr, bytes_eq}
 use Rattle.std.specs.Option.{option_or}
 use Rattle.std.specs.List.{ends_with}
 use Rattle.std.proofs.lemmas.List.{at_drop_more}
 use Rattle.metrics_exporter.specs.Exporting.{Cells}
-use Rattle.metrics_exporter.specs.Describing.{Legend}
-use Rattle.metrics_exposition.specs.declared.naming.Naming.{Naming}
-use Rattle.metrics_exposition.specs.Naming.{display_by}
-use Rattle.metrics_prometheus.specs.Exposition.{Row, histogram_names, found_in, part_of, part, labels_reason, name_reason, same_name_reason, last_reason, reason_of, name_lines, name_text, is_left_out, row_text, last_after, rows_text, AreRows, HoldsTexts, IsScaled}
+use Rattle.metrics_prometheus.specs.Exposition.{Row, histogram_names, found_in, part_of, part, labels_reason, name_reason, same_name_reason, last_reason, reason_of, name_lines, name_text, is_left_out, row_text, last_after, rows_text}
+use Rattle.metrics_prometheus.specs.Written.{written}
 use Rattle.metrics_prometheus.specs.declared.rows.Place.{Place}
 use Rattle.metrics_prometheus.specs.Places.{rows_placed}
 use Rattle.metrics_prometheus.specs.Rows.{row_shown, rows_shown, named}
 
-if-true : {A : Type 0} (b written : Bool) (x y : A) → written ≡ not b → written ≡ true → y ≡ cond b x y
+pub if-true : {A : Type 0} (b written : Bool) (x y : A) → written ≡ not b → written ≡ true → y ≡ cond b x y
 if-true true written x y is was = absurd (let e : true ≡ false = sym was ∙ is in cc)
 if-true false written x y is was = refl
 
-if-false : {A : Type 0} (b written : Bool) (x y : A) → written ≡ not b → written ≡ false → x ≡ cond b x y
+pub if-false : {A : Type 0} (b written : Bool) (x y : A) → written ≡ not b → written ≡ false → x ≡ cond b x y
 if-false true written x y is was = refl
 if-false false written x y is was = absurd (let e : true ≡ false = sym is ∙ was in cc)
-
--- the row that was written last, if this one was
-pub last-written : (all : List Row) (last : Option Row) (r : Row) (written : Bool) → written ≡ not (is_left_out all last r) → written ≡ true → Some r ≡ last_after all last r
-last-written all last r written is was = if-true (is_left_out all last r) written last (Some r) is was
-
--- and if it wasn't
-pub last-kept : (all : List Row) (last : Option Row) (r : Row) (written : Bool) → written ≡ not (is_left_out all last r) → written ≡ false → last ≡ last_after all last r
-last-kept all last r written is was = if-false (is_left_out all last r) written last (Some r) is was
 
 -- no name is one of no histogram's samples
 none-part : (name end : List ℕ) → part_of [] name end ≡ None
@@ -74,11 +64,25 @@ text-more cells all last after xs i x before now whole small at is then was =
     ∙ ap (λ t. before ++ t) (sym (at_drop_more (λ ys. rows_text cells all last (rows_shown (rows_placed ys))) xs i x small ∙ ap (λ y. row_text cells all last (row_shown y.row.now) ++ text (last_after all last (row_shown y.row.now))) (sym at)))
     ∙ was
 
--- the text of the rows of the held series
-pub text-of-rows : {T E : Type 0} (bytes : T → List ℕ) (naming : Naming) (legend : Legend) (places : List ℕ → ℕ) (cells : Cells) (rows : List Row) → AreRows (display_by naming legend places) cells rows → HoldsTexts cells → (r : Result T E) → IfOk r (λ t. bytes t ≡ rows_text cells rows None rows)
-    → IfOk r (λ t. IsScaled naming legend places cells (bytes t))
-text-of-rows bytes naming legend places cells rows all texts (Ok t) is = record { rows = rows; all = all; texts = texts; is = is }
-text-of-rows bytes naming legend places cells rows all texts (Err e) is = tt
+-- so many rows were left out before these
+abbrev pub LeftSo : List Row → Option Row → ℕ → List Row → Type 0
+LeftSo all last n rest = n + length rest + length (written all None all) ≡ length all + length (written all last rest)
+
+-- and before those after one more row
+pub left-more : (all : List Row) (last after : Option Row) (xs : List Place) (i : ℕ) (x : Place) (n now : ℕ)
+    → i < length xs → x ≡ get_or xs i x → now ≡ cond (is_left_out all last (row_shown x.row.now)) (n + 1) n → after ≡ last_after all last (row_shown x.row.now)
+    → LeftSo all last n (rows_shown (rows_placed (drop i xs))) → LeftSo all after now (rows_shown (rows_placed (drop (i + 1) xs)))
+left-more all last after xs i x n now small at is then before =
+    let row = row_shown x.row.now in
+    let rest = rows_shown (rows_placed (drop (i + 1) xs)) in
+    let these = at_drop_more (λ ys. rows_shown (rows_placed ys)) xs i x small ∙ ap (λ y. row_shown y.row.now ∷ rest) (sym at) in
+    subst (λ o. LeftSo all o now rest) (sym then) (subst (λ k. LeftSo all (last_after all last row) k rest) (sym is)
+    (by row rest (is_left_out all last row) (subst (λ rs. LeftSo all last n rs) these before)))
+  where
+    by : (row : Row) (rest : List Row) (b : Bool) → n + length (row ∷ rest) + length (written all None all) ≡ length all + length (cond b (written all last rest) (row ∷ written all (Some row) rest))
+        → cond b (n + 1) n + length rest + length (written all None all) ≡ length all + length (written all (cond b last (Some row)) rest)
+    by row rest true e = omega (arith, e)
+    by row rest false e = omega (arith, e)
 
 -- a result that is both
 pub either-way : {T E : Type 0} (P : T → Type 0) (Q : E → Type 0) (r : Result T E) → IfOk r P → IfErr r Q → MatchResult r P Q

@@ -13,7 +13,7 @@ use Rattle.metrics_storage.specs.Histogram.{ascending}
 use Rattle.metrics_exposition.specs.Numbers.{number}
 use Rattle.metrics_exposition.specs.Samples.{Sample, labels_text, sample_line, lines, bucket_sample}
 use Rattle.metrics_exposition.specs.declared.naming.Naming.{Naming}
-use Rattle.metrics_exporter.specs.Describing.{Legend}
+use Rattle.metrics_descriptions.specs.Legends.{Legend}
 use Rattle.metrics_prometheus.specs.Exposition.{Row, Reason, label_twice, label_reserved, part, name_taken, labels_taken, reason_of, reason_text, series_named, row_lines_as, left_out_words, help_line, type_line, name_lines, name_text, samples_of, reading_at, left_out_line, last_after, rows_text, IsScaled}
 use Rattle.metrics_prometheus.specs.Written.{written, samples_written, Line, has, describes, tells_kind, leaves_out, line_text, sample_in, IsLine, IsReadable, HasSamples}
 use Rattle.metrics_exposition.proofs.PairLemmas.{each-append}
@@ -64,14 +64,14 @@ reason-plain (part n) = join (codes "name of a part of histogram ") (help_escape
 reason-plain (name_taken k) = join (codes "name taken by a ") (kind_word k) (plain (codes "name taken by a ") refl) (kind-plain k)
 reason-plain (labels_taken n) = join (codes "labels equal those of ") (help_escaped n) (plain (codes "labels equal those of ") refl) (help-plain n)
 
-series-plain : (r : Row) → IsNamedRow r → HasNoFeed (series_named r)
-series-plain r h = join (kind_word r.kind) _ (kind-plain r.kind) (join (32 ∷ []) _ (plain (32 ∷ []) refl) (join (help_escaped r.key.name) (labels_text r.labels) (help-plain r.key.name) (labels-plain r.labels h.1)))
+series-plain : (r : Row) → AreKeyed r.labels → HasNoFeed (series_named r)
+series-plain r keyed = join (kind_word r.kind) _ (kind-plain r.kind) (join (32 ∷ []) _ (plain (32 ∷ []) refl) (join (help_escaped r.key.name) (labels_text r.labels) (help-plain r.key.name) (labels-plain r.labels keyed)))
 
-left-line : (r : Row) (why : Reason) → IsNamedRow r → IsLine (left_out_line r why)
-left-line r why h = record {
+pub left-line : (r : Row) (why : Reason) → AreKeyed r.labels → IsLine (left_out_line r why)
+left-line r why keyed = record {
   inside = codes "# left out: " ++ left_out_words r why;
   is = refl;
-  none = join (codes "# left out: ") _ (plain (codes "# left out: ") refl) (join (series_named r) _ (series-plain r h) (join (codes ": ") (reason_text why) (plain (codes ": ") refl) (reason-plain why)));
+  none = join (codes "# left out: ") _ (plain (codes "# left out: ") refl) (join (series_named r) _ (series-plain r keyed) (join (codes ": ") (reason_text why) (plain (codes ": ") refl) (reason-plain why)));
 }
 
 -- a sample with names that Prometheus allows, and a value without a line feed
@@ -113,7 +113,7 @@ of-begin : (r : Row) → IsNamedRow r → AreLines (begin_at r) (name_lines r) [
 of-begin r h = joined (help_at r.name r.help) (tells_kind r ∷ []) (help_line r.name r.help) (type_line r) [] [] (of-help r.name r.help h.0) (of-type r h)
 
 of-left : (r : Row) (why : Reason) → IsNamedRow r → AreLines (leaves_out r why ∷ []) (left_out_line r why) []
-of-left r why h = record { text_is = sym (append-nil (left_out_line r why)); readable = (record { ends = left-line r why h; comment = refl }, tt); samples_are = refl }
+of-left r why h = record { text_is = sym (append-nil (left_out_line r why)); readable = (record { ends = left-line r why h.1; comment = refl }, tt); samples_are = refl }
 
 of-samples : (ss : List Sample) → AllByRecursion IsPlain ss → AreLines (map has ss) (lines ss) ss
 of-samples [] h = nothing

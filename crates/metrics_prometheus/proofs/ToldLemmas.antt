@@ -13,7 +13,7 @@ use Rattle.metrics_exporter.specs.Exporting.{Cells, IsHeld}
 use Rattle.metrics_exporter.specs.Gathering.{series_at}
 use Rattle.metrics_exposition.specs.Samples.{lines}
 use Rattle.metrics_exposition.specs.Labels.{are_fit}
-use Rattle.metrics_exporter.specs.Describing.{Legend}
+use Rattle.metrics_descriptions.specs.Legends.{Legend}
 use Rattle.metrics_exposition.specs.declared.naming.Naming.{Naming}
 use Rattle.metrics_exposition.specs.Naming.{Display, display_by}
 use Rattle.metrics_prometheus.specs.Exposition.{Row, row_of, row_cmp, is_taken, Reason, reason_of, is_left_out, row_lines_as, name_text, samples_of, reading_at, left_out_line, row_text, last_after, rows_text, AreRows, IsScaled}

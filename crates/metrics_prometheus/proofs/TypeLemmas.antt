@@ -11,7 +11,7 @@ use Rattle.std.proofs.lemmas.Map.Lookups.{exact_bytes}
 use Rattle.metrics_exporter.specs.Exporting.{Cells}
 use Rattle.metrics_exposition.specs.Samples.{Sample}
 use Rattle.metrics_exposition.specs.declared.naming.Naming.{Naming}
-use Rattle.metrics_exporter.specs.Describing.{Legend}
+use Rattle.metrics_descriptions.specs.Legends.{Legend}
 use Rattle.metrics_prometheus.specs.Exposition.{Row, Reason, reason_of, last_after, IsScaled}
 use Rattle.metrics_prometheus.specs.Written.{written, Line, has, tells_kind, leaves_out, sample_in, is_type_of, TellsKindOnce, TellsKinds}
 use Rattle.metrics_exposition.specs.Reading.{AreOfKinds}

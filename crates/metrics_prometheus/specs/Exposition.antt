@@ -10,7 +10,7 @@ use Rattle.metrics_names.specs.declared.kind.MetricKind.TheVariants.{Histogram}
 use Rattle.metrics_names.specs.Names.{KeyParts, LabelParts, SeriesKey, kind_number, kind_eq, label_eq, label_cmp, key_cmp, series_key_eq, kind_word}
 use Rattle.metrics_exporter.specs.Exporting.{Reading, count, level, samples, Cells, IsHeld}
 use Rattle.metrics_exporter.specs.Gathering.{series_at}
-use Rattle.metrics_exporter.specs.Describing.{Legend, no_legend}
+use Rattle.metrics_descriptions.specs.Legends.{Legend, no_legend}
 use Rattle.metrics_exposition.specs.declared.naming.Naming.{Naming}
 use Rattle.metrics_exposition.specs.declared.naming.Naming.TheVariants.{AsGiven}
 use Rattle.metrics_exposition.specs.Naming.{Display, display_by, no_places}

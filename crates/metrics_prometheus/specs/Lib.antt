@@ -4,3 +4,5 @@ pub mod Rows
 pub mod Places
 pub mod Heads
 pub mod Written
+pub mod LeftOut
+pub mod Counted

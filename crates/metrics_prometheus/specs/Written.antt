@@ -1,5 +1,5 @@
 -- The samples that a text of rows has.
-use Rattle.std.specs.Prelude.{if◌then◌else◌, ◌≡◌, ◌≢◌, ◌⊎◌, ℕ, Bool, true, false, not, ◌&&◌, bytes_eq, nat_eq, List, [], ◌∷◌, ◌++◌, Option, None, Some, is_some, Contains}
+use Rattle.std.specs.Prelude.{if◌then◌else◌, ◌≡◌, ◌≢◌, ◌⊎◌, ◌+◌, ℕ, Bool, true, false, not, ◌&&◌, bytes_eq, nat_eq, List, [], ◌∷◌, ◌++◌, length, Option, None, Some, is_some, Contains}
 use Rattle.std.specs.List.{flat_map, filter_map, AllByRecursion}
 use Rattle.std.specs.Cmp.Lexicographic.{pointwise}
 use Rattle.metrics_names.specs.declared.kind.MetricKind.TheVariants.{Histogram}
@@ -14,7 +14,11 @@ abbrev pub written : List Row → Option Row → List Row → List Row
 written rows last [] = []
 written rows last (r ∷ rs) = if is_left_out rows last r then written rows last rs else r ∷ written rows (Some r) rs
 
--- their samples, in order
+-- so many rows are left out
+abbrev pub AreLeftOut : List Row → ℕ → Type 0
+AreLeftOut rows n = n + length (written rows None rows) ≡ length rows
+
+-- the samples of those that are written, in order
 abbrev pub samples_written : Cells → List Row → List Sample
 samples_written cells rows = flat_map (λ r. samples_of r (reading_at cells r)) (written rows None rows)
 

@@ -7,7 +7,7 @@ ghost use Rattle.std.specs.List.{IsDistinct};
 ghost use Rattle.metrics_names.specs.Names.{SeriesKey};
 ghost use Rattle.metrics_storage.specs.Histogram.{Distribution};
 ghost use Rattle.metrics_exporter.specs.Exporting.{samples, Cells, Setup, Step, IsHeld, cells_after};
-ghost use Rattle.metrics_exporter.specs.Describing.{Legend};
+ghost use Rattle.metrics_descriptions.specs.Legends.{Legend};
 ghost use Rattle.metrics_exposition.specs.declared.naming.Naming.{Naming};
 ghost use Rattle.metrics_exposition.specs.Naming.{display_by, unit_end, total_end, recommended_name, HasEndsOnce};
 ghost use Rattle.metrics_names.specs.declared.common.Unit.{Unit as Measure};

@@ -1,6 +1,7 @@
 //! Prometheus's text exposition format of the series that an exporter holds.
 #![tactic(auto)]
 
+mod counted;
 mod laws;
 mod listing;
 mod reasons;
@@ -9,14 +10,16 @@ mod rows;
 mod taken;
 mod text;
 
+pub use counted::CountedText;
 pub use laws::{exposition_law, exposition_text_law};
 pub use listing::left_out;
 pub use metrics::Error;
-pub use metrics_exporter::{Descriptions, Exporter, ReadingRef, SeriesReading};
+pub use metrics_exporter::{Described, Descriptions, Exporter, ReadingRef, SeriesReading};
 pub use metrics_exposition::{
     BadLabel, DecimalPlaces, Naming, ReadSeries, WholeNumbers, bad_label, first_bad_label,
 };
 pub use repeated::write_repeated;
 pub use text::{
-    exposition, exposition_named, exposition_of, scaled_exposition, scaled_exposition_of,
+    counted_exposition, counted_exposition_of, exposition, exposition_named, exposition_of,
+    scaled_exposition, scaled_exposition_of,
 };

@@ -50,7 +50,7 @@ struct Known<'a> {
 }
 
 ghost use Rattle.std.specs.Prelude.{IfSome};
-ghost use Rattle.metrics_exporter.specs.Describing.{described_by};
+ghost use Rattle.metrics_descriptions.specs.Legends.{described_by};
 ghost use Rattle.metrics_exposition.specs.Naming.{Display, display_by};
 ghost use Rattle.metrics_prometheus.specs.Rows.{row_shown, pair_shown, pair_of, AreRowsOf};
 ghost use Rattle.metrics_prometheus.specs.Heads.{head_shown, IsKnown};
@@ -69,8 +69,9 @@ fn found_head<'a, P: DecimalPlaces>(
         (λ head. head_shown head ≡ display_by naming (described_by descriptions.now) (P.places scale.now) kind key.now.name)
         (λ e. e ≡ OutOfMemory) }
 {
-    let help = descriptions.text(kind, key.name());
-    let unit = descriptions.unit(kind, key.name());
+    let described = descriptions.get(kind, key.name());
+    let unit = described.and_then(|found| found.unit());
+    let help = described.map(|found| found.text());
     let shown = shown_name(alloc, naming, kind, unit, key)?;
     Ok(Head {
         name: shown,

@@ -10,17 +10,19 @@ ghost use Rattle.metrics_exposition.specs.declared.naming.Naming.TheVariants.{As
 ghost use Rattle.metrics_exporter.specs.Exporting.{Cells, Setup, Log, steps, cells_after, HoldsSome};
 ghost use Rattle.metrics_names.specs.Names.{label_cmp};
 ghost use Rattle.metrics_exporter.specs.Kept.{IsAfter, described};
-ghost use Rattle.metrics_exporter.specs.Describing.{SameLegend, no_legend, described_by};
+ghost use Rattle.metrics_descriptions.specs.Legends.{SameLegend, no_legend, described_by};
 ghost use Rattle.metrics_exporter.specs.Readings.{AreReadings, AreOnce, KeyedReading, reading_shown, cells_of_readings};
 ghost use Rattle.metrics_prometheus.specs.Exposition.{Row, row_cmp, histogram_names, is_left_out};
 ghost use Rattle.metrics_prometheus.specs.Exposition.{help_line, type_line, name_lines, name_text};
 ghost use Rattle.metrics_prometheus.specs.Exposition.{samples_of, row_lines, rows_text};
 ghost use Rattle.metrics_prometheus.specs.Exposition.{IsExposition, IsDescribed, IsScaled};
 ghost use Rattle.metrics_prometheus.specs.Places.{rows_placed};
+ghost use Rattle.metrics_prometheus.specs.Written.{AreLeftOut};
 ghost use Rattle.metrics_exposition.specs.Reading.{AreOfKinds};
 ghost use Rattle.metrics_prometheus.specs.Rows.{row_shown, rows_shown, Shows, names_shown, named};
 ghost use Rattle.metrics_exposition.specs.Samples.{lines};
 
+use crate::counted::CountedText;
 use crate::reasons::{reason_of, write_left_out};
 use crate::rows::{Place, ShownRow, rows_of, sorted_rows};
 use crate::taken::histogram_names;
@@ -151,31 +153,67 @@ fn write_row(
 /// About how many bytes a row's text has, at least.
 const ROW_BYTES: usize = 48;
 
-/// The text of rows.
-fn rows_text(alloc: Global, places: &[Place<'_, '_>]) -> Result<String, Error>
+/// The text of rows, and how many of them it leaves out.
+fn rows_text(alloc: Global, places: &[Place<'_, '_>]) -> Result<(String, usize), Error>
     requires sorted { IsSorted row_cmp (rows_shown (rows_placed places.now)) }
     requires labels { AllByRecursion (λ p. IsSorted label_cmp p.row.now.labels) places.now }
-    ensures ok { (cells : Cells) → AllByRecursion (λ p. Shows cells p.row.now) places.now → IfOk result (λ text. string_bytes text
+    ensures ok { (cells : Cells) → AllByRecursion (λ p. Shows cells p.row.now) places.now → IfOk result
+        (λ t. string_bytes t.0
         ≡ rows_text cells (rows_shown (rows_placed places.now)) None (rows_shown (rows_placed places.now))) }
+    ensures number { IfOk result (λ t. AreLeftOut (rows_shown (rows_placed places.now)) t.1) }
     ensures err { IfErr result (λ e. e ≡ OutOfMemory) }
 {
     let histograms = histogram_names(alloc, places)?;
     let mut text = String::with_capacity(alloc, places.len().saturating_mul(ROW_BYTES))?;
+    let mut left_out = 0;
     let mut last = None;
     for place in places {
         if write_row(alloc, &mut text, &histograms, last, place.row)? {
             last = Some(place.row);
+        } else {
+            left_out += 1;
         }
     }
-    Ok(text)
+    Ok((text, left_out))
 }
 
 /// Writes these series in Prometheus's text format, version 0.0.4, each name after its description. That is the description of
 /// the first series that is written under it, by that series' kind and own name. The naming decides names and units; units are
 /// those of the descriptions. Numbers are whole numbers of the last of their name's decimal places, bounds and sums too.
 ///
-/// The whole text is in memory, with a row for each series. Fails with `Error::Memory` when out of memory, and never for an
-/// empty list. A repeated series is written once.
+/// Returns the text with the number of series that it leaves out. The whole text is in memory, with a row for each series. Fails
+/// with `Error::Memory` when out of memory, and never for an empty list. A repeated series is written once.
+pub fn counted_exposition_of<P: DecimalPlaces, S: ReadSeries>(
+    alloc: Global,
+    naming: Naming,
+    scale: &P,
+    descriptions: &Descriptions,
+    series: &[S],
+) -> Result<CountedText, Error>
+    // For the cells that the series report.
+    ensures ok { (cells : Cells) → AreReadings cells (map S.keyed series.now) → IfOk result
+        (λ counted. IsScaled naming (described_by descriptions.now) (P.places scale.now) cells (string_bytes counted.text)) }
+    // For any list: each series once.
+    ensures each { IfOk result (λ counted. (kept : List KeyedReading) × AreOnce (map S.keyed series.now) kept
+        × AreOfKinds (cells_of_readings kept)
+        × IsScaled naming (described_by descriptions.now) (P.places scale.now) (cells_of_readings kept)
+        (string_bytes counted.text)) }
+    ensures err { IfErr result (λ e. e ≡ OutOfMemory) }
+    ensures refused { OnErr result (0 < length series.now) }
+{
+    if series.is_empty() {
+        return Ok(CountedText {
+            text: String::new(alloc),
+            left_out: 0,
+        });
+    }
+    let rows = rows_of(alloc, naming, scale, descriptions, series)?;
+    let places = sorted_rows(alloc, &rows)?;
+    let (text, left_out) = rows_text(alloc, &places)?;
+    Ok(CountedText { text, left_out })
+}
+
+/// Writes these series as `counted_exposition_of` does, and returns the text alone.
 pub fn scaled_exposition_of<P: DecimalPlaces, S: ReadSeries>(
     alloc: Global,
     naming: Naming,
@@ -193,12 +231,8 @@ pub fn scaled_exposition_of<P: DecimalPlaces, S: ReadSeries>(
     ensures err { IfErr result (λ e. e ≡ OutOfMemory) }
     ensures refused { OnErr result (0 < length series.now) }
 {
-    if series.is_empty() {
-        return Ok(String::new(alloc));
-    }
-    let rows = rows_of(alloc, naming, scale, descriptions, series)?;
-    let places = sorted_rows(alloc, &rows)?;
-    rows_text(alloc, &places)
+    let counted = counted_exposition_of(alloc, naming, scale, descriptions, series)?;
+    Ok(counted.text)
 }
 
 /// Writes these series as `scaled_exposition_of` does, with whole numbers, save for the decimal places of units.
@@ -224,8 +258,26 @@ pub fn exposition_of<S: ReadSeries>(
 /// Writes the held series in Prometheus's text format, version 0.0.4, each name after its description in the exporter. The
 /// naming decides names and units. Numbers are whole numbers of the last of their name's decimal places.
 ///
-/// The whole text is in memory, with a row for each series. Fails with `Error::Memory` when out of memory, and never if no
-/// series is held.
+/// Returns the text with the number of series that it leaves out. The whole text is in memory, with a row for each series. Fails
+/// with `Error::Memory` when out of memory, and never if no series is held.
+pub fn counted_exposition<P: DecimalPlaces>(
+    exporter: &Exporter,
+    alloc: Global,
+    naming: Naming,
+    scale: &P,
+) -> Result<CountedText, Error>
+    ensures text { (setup : Setup) (log : Log) → IsAfter setup log exporter.now → MatchResult result
+        (λ counted. IsScaled naming (described exporter.now) (P.places scale.now)
+        (cells_after setup (steps log)) (string_bytes counted.text))
+        (λ e. e ≡ OutOfMemory) }
+    ensures refused { (setup : Setup) (log : Log) → IsAfter setup log exporter.now →
+        OnErr result (HoldsSome (cells_after setup (steps log))) }
+{
+    let series = exporter.readings()?;
+    counted_exposition_of(alloc, naming, scale, exporter.descriptions(), &series)
+}
+
+/// Writes the held series as `counted_exposition` does, and returns the text alone.
 pub fn scaled_exposition<P: DecimalPlaces>(
     exporter: &Exporter,
     alloc: Global,
@@ -239,8 +291,10 @@ pub fn scaled_exposition<P: DecimalPlaces>(
     ensures refused { (setup : Setup) (log : Log) → IsAfter setup log exporter.now →
         OnErr result (HoldsSome (cells_after setup (steps log))) }
 {
-    let series = exporter.readings()?;
-    scaled_exposition_of(alloc, naming, scale, exporter.descriptions(), &series)
+    match counted_exposition(exporter, alloc, naming, scale) {
+        Ok(counted) => Ok(counted.text),
+        Err(e) => Err(e),
+    }
 }
 
 /// Writes the held series as `scaled_exposition` does, with whole numbers, save for the decimal places of units.

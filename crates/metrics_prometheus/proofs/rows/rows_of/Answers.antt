@@ -2,7 +2,7 @@ use Rattle.std.proofs.Common.{◌∙◌, ap, subst}
 use Rattle.std.specs.Prelude.{All}
 use Rattle.std.proofs.lemmas.List.{take_all}
 use Rattle.std.proofs.lemmas.List.Elements.{All-map, All-more}
-use Rattle.metrics_exporter.specs.Describing.{described_by}
+use Rattle.metrics_descriptions.specs.Legends.{described_by}
 use Rattle.metrics_exposition.specs.Naming.{display_by}
 use Rattle.metrics_exposition.specs.Reading.{IsOfKind}
 use Rattle.metrics_prometheus.specs.Rows.{pair_of, HasTexts}

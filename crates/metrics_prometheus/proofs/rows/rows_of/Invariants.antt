@@ -1,7 +1,7 @@
 -- The rows so far, and what the last one is shown with; their series have texts as values of labels, and are of their kinds.
 use Rattle.std.proofs.Common.{◌≡◌, take, map}
 use Rattle.std.specs.Prelude.{All, IfSome}
-use Rattle.metrics_exporter.specs.Describing.{described_by}
+use Rattle.metrics_descriptions.specs.Legends.{described_by}
 use Rattle.metrics_exposition.specs.Naming.{display_by}
 use Rattle.metrics_prometheus.specs.Heads.{IsKnown}
 use Rattle.metrics_exposition.specs.Reading.{IsOfKind}

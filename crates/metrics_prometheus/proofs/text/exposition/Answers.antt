@@ -1,5 +1,5 @@
 use Rattle.std.proofs.Common.{◌≡◌, IfOk, string_bytes, subst}
-use Rattle.metrics_exporter.specs.Describing.{Legend, no_legend}
+use Rattle.metrics_descriptions.specs.Legends.{Legend, no_legend}
 use Rattle.metrics_exporter.specs.Exporting.{steps, cells_after}
 use Rattle.metrics_exporter.specs.Kept.{described}
 use Rattle.metrics_exposition.specs.declared.naming.Naming.TheVariants.{AsGiven}
