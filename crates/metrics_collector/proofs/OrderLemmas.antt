@@ -7,7 +7,7 @@ use Rattle.std.specs.Map.{lookup}
 use Rattle.metrics_names.specs.Names.{SeriesKey, series_key_eq}
 use Rattle.metrics_names.specs.Equality.{key_exact, key_same}
 use Rattle.metrics_exporter.specs.Exporting.{Reading, Cell, Cells}
-use Rattle.metrics_exporter.specs.Describing.{Legend}
+use Rattle.metrics_descriptions.specs.Legends.{Legend}
 use Rattle.metrics_exporter.specs.Readings.{KeyedReading, AreReadings, AreOnce, reading_in, cells_of_readings}
 use Rattle.metrics_exposition.specs.declared.naming.Naming.{Naming}
 use Rattle.metrics_prometheus.specs.Exposition.{IsDescribed}

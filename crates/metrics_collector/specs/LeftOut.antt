@@ -1,23 +1,21 @@
 -- A gauge with the number of series that a text leaves out.
-use Rattle.std.specs.Prelude.{◌≡◌, ℕ, ℤ, pos, min, Bool, true, false, List, [], ◌∷◌, ◌++◌, codes, length}
-use Rattle.std.specs.List.{AllByRecursion, filter_map, flat_map}
+use Rattle.std.specs.Prelude.{◌≡◌, ℕ, ℤ, pos, min, Bool, true, false, List, [], ◌∷◌, ◌++◌, codes}
 use Rattle.metrics_names.specs.Names.{LabelParts}
 use Rattle.metrics_names.specs.declared.kind.MetricKind.TheVariants.{Gauge}
-use Rattle.metrics_exporter.specs.Describing.{Legend}
+use Rattle.metrics_descriptions.specs.Legends.{Legend}
 use Rattle.metrics_exporter.specs.Exporting.{Cells, level}
 use Rattle.metrics_exporter.specs.Gathering.{series_at}
 use Rattle.metrics_exporter.specs.Readings.{KeyedReading, AreOnce, cells_of_readings}
 use Rattle.metrics_prometheus.specs.Exposition.{IsDescribed}
-use Rattle.metrics_prometheus.specs.Written.{Line, line_text, left_out_in, IsReadable}
+use Rattle.metrics_prometheus.specs.LeftOut.{left_out_number}
 use Rattle.metrics_exposition.specs.declared.naming.Naming.{Naming}
 use Rattle.metrics_collector.specs.declared.gathered.GatheredSeries.{GatheredSeries}
 use Rattle.metrics_collector.specs.Repeats.{repeated_lines}
 use Rattle.metrics_exposition.specs.declared.naming.Naming.TheVariants.{AsGiven}
 
--- how many series a text of such lines leaves out; the greatest number of a gauge, if there are more
+-- how many series a text leaves out; the greatest number of a gauge, if there are more
 abbrev pub IsLeftOutNumber : List ℕ → ℤ → Type 0
-IsLeftOutNumber text n = (all : List Line) → text ≡ flat_map line_text all → AllByRecursion IsReadable all
-    → n ≡ pos (min (length (filter_map left_out_in all)) 9223372036854775807)
+IsLeftOutNumber text n = n ≡ pos (min (left_out_number text) 9223372036854775807)
 
 -- the gauge of that number with the collector's labels
 abbrev pub left_out_gauge : List LabelParts → ℤ → KeyedReading

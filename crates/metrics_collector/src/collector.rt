@@ -5,7 +5,7 @@ ghost use Rattle.std.specs.Fn.{FnOnceReturnsAt};
 ghost use Rattle.metrics.specs.declared.error.Error.TheVariants.{Memory as OutOfMemory, BadShards as NotShards};
 ghost use Rattle.metrics_registry.specs.Held.{is_shard_count as is_count};
 ghost use Rattle.metrics_exporter.specs.Readings.{KeyedReading, AreOnce, cells_of_readings};
-ghost use Rattle.metrics_exporter.specs.Describing.{Legend};
+ghost use Rattle.metrics_descriptions.specs.Legends.{Legend};
 ghost use Rattle.metrics_exposition.specs.declared.naming.Naming.TheVariants.{AsGiven as NamesAsGiven};
 ghost use Rattle.metrics_exposition.specs.Common.{first_bad_label};
 ghost use Rattle.metrics_prometheus.specs.Exposition.{IsDescribed};
@@ -23,7 +23,10 @@ use crate::repeats::with_repeated;
 use metrics::{Error, Key, Label, MetricKind, MetricKindMask, Unit};
 use metrics_cells::CounterFn;
 use metrics_exporter::Bounds;
-use metrics_prometheus::{BadLabel, Descriptions, Naming, first_bad_label};
+use metrics_prometheus::{
+    BadLabel, CountedText, Descriptions, Naming, WholeNumbers, counted_exposition_of,
+    first_bad_label,
+};
 use std::alloc::{AllocError, Global};
 use std::mem;
 use std::sync::{Mutex, RwLock, Wait};
@@ -146,9 +149,11 @@ impl Collector {
     ) -> Result<(), Error>
         ensures { IfErr result (λ e. e ≡ OutOfMemory) }
     {
-        self.descriptions
+        let described = self
+            .descriptions
             .write(rt)
-            .describe(alloc, kind, name, unit, text)
+            .describe(alloc, kind, name, unit, text);
+        Ok(described?)
     }
 
     /// Calls `op` once on the cell of the counter that a key names.
@@ -292,15 +297,15 @@ impl Collector {
     }
 
     /// Adds the gauge of what a text leaves out, if there is to be one.
-    fn ended(&self, alloc: Global, text: String) -> Result<String, Error>
-        ensures ok { IfOk result (λ all. IsEnded self.now.has_left_out_gauge self.now.labels.items (string_bytes text)
-            (string_bytes all)) }
+    fn ended(&self, alloc: Global, counted: CountedText) -> Result<String, Error>
+        ensures ok { IfOk result (λ all. IsEnded self.now.has_left_out_gauge self.now.labels.items
+            (string_bytes counted.text) (string_bytes all)) }
         ensures err { IfErr result (λ e. e ≡ OutOfMemory) }
     {
         if self.has_left_out_gauge {
-            return with_number(alloc, text, &self.labels);
+            return with_number(alloc, counted, &self.labels);
         }
-        Ok(text)
+        Ok(counted.text)
     }
 
     /// Writes series with this collector's descriptions and naming.
@@ -309,13 +314,20 @@ impl Collector {
         rt: &W,
         alloc: Global,
         gathered: &Gathered,
-    ) -> Result<String, Error>
-        ensures text { IfOk result (λ text. (legend : Legend) × (kept : List KeyedReading)
+    ) -> Result<CountedText, Error>
+        ensures text { IfOk result (λ counted. (legend : Legend) × (kept : List KeyedReading)
             × AreOnce (all_gathered gathered.now) kept × AreOfKinds (cells_of_readings kept)
-            × IsDescribed self.now.naming legend (cells_of_readings kept) (string_bytes text)) }
+            × IsDescribed self.now.naming legend (cells_of_readings kept) (string_bytes counted.text)) }
         ensures err { IfErr result (λ e. e ≡ OutOfMemory) }
     {
-        gathered.text(alloc, self.naming, &self.descriptions.read(rt))
+        let descriptions = self.descriptions.read(rt);
+        counted_exposition_of(
+            alloc,
+            self.naming,
+            &WholeNumbers,
+            &descriptions,
+            &gathered.series,
+        )
     }
 
     /// Writes what a reading gathered.
@@ -331,8 +343,8 @@ impl Collector {
             (string_bytes text)) }
         ensures err { IfErr result (λ e. e ≡ OutOfMemory) }
     {
-        let text = self.described(rt, alloc, gathered)?;
-        self.ended(alloc, text)
+        let counted = self.described(rt, alloc, gathered)?;
+        self.ended(alloc, counted)
     }
 
     /// Writes series that were gathered, of this collector or of several, or a part of them: with this collector's descriptions,
@@ -352,8 +364,8 @@ impl Collector {
             gathered.now.series.items (string_bytes text)) }
         ensures err { IfErr result (λ e. e ≡ OutOfMemory) }
     {
-        let text = self.described(rt, alloc, gathered)?;
-        let all = with_repeated(alloc, text, &gathered.series)?;
+        let counted = self.described(rt, alloc, gathered)?;
+        let all = with_repeated(alloc, counted, &gathered.series)?;
         self.ended(alloc, all)
     }
 

@@ -10,19 +10,17 @@ ghost use Rattle.metrics_collector.specs.LeftOut.{IsLeftOutNumber, IsLeftOutGaug
 use crate::gathered::{GatheredSeries, Value};
 use crate::keys::copies;
 use metrics::{Error, Key, Label};
-use metrics_prometheus::{Descriptions, Naming, exposition_of, left_out};
+use metrics_prometheus::{CountedText, Descriptions, Naming, exposition_of};
 use std::alloc::Global;
 
 /// The name of the gauge with the number of series that a text leaves out.
 pub const LEFT_OUT_NAME: &str = "metrics_left_out_series";
 
-/// Returns the number of series that a text leaves out.
-fn left_out_number(alloc: Global, text: &str) -> Result<i64, Error>
-    ensures ok { IfOk result (λ n. IsLeftOutNumber text.now n) }
-    ensures err { IfErr result (λ e. e ≡ OutOfMemory) }
+/// Returns the number of series that a text leaves out, as that of a gauge.
+fn gauge_number(counted: &CountedText) -> i64
+    ensures { IsLeftOutNumber (string_bytes counted.now.text) result }
 {
-    let lines = left_out(alloc, text)?;
-    Ok(i64::try_from(lines.len()).unwrap_or(i64::MAX))
+    i64::try_from(counted.left_out).unwrap_or(i64::MAX)
 }
 
 /// Returns the row of the gauge.
@@ -46,13 +44,16 @@ fn gauge_text(alloc: Global, labels: &[Label], number: i64) -> Result<String, Er
 }
 
 /// Adds the gauge to a text.
-pub(crate) fn with_number(alloc: Global, text: String, labels: &[Label]) -> Result<String, Error>
-    ensures ok { IfOk result (λ all. IsCounted labels.now (string_bytes text) (string_bytes all)) }
+pub(crate) fn with_number(
+    alloc: Global,
+    counted: CountedText,
+    labels: &[Label],
+) -> Result<String, Error>
+    ensures ok { IfOk result (λ all. IsCounted labels.now (string_bytes counted.text) (string_bytes all)) }
     ensures err { IfErr result (λ e. e ≡ OutOfMemory) }
 {
-    let number = left_out_number(alloc, &text)?;
-    let gauge = gauge_text(alloc, labels, number)?;
-    let mut all = text;
+    let gauge = gauge_text(alloc, labels, gauge_number(&counted))?;
+    let mut all = counted.text;
     all.push_str(&gauge)?;
     Ok(all)
 }

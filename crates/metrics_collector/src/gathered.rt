@@ -3,7 +3,7 @@ ghost use Rattle.std.specs.Prelude.{◌≡◌, List, IfOk, IfErr, string_bytes};
 ghost use Rattle.metrics.specs.declared.error.Error.TheVariants.{Memory as OutOfMemory};
 ghost use Rattle.metrics_exporter.specs.Readings.{KeyedReading, AreReadings, AreOnce, cells_of_readings};
 ghost use Rattle.metrics_exporter.specs.Exporting.{Cells};
-ghost use Rattle.metrics_exporter.specs.Describing.{described_by};
+ghost use Rattle.metrics_descriptions.specs.Legends.{described_by};
 ghost use Rattle.metrics_prometheus.specs.Exposition.{IsDescribed};
 ghost use Rattle.metrics_exposition.specs.Reading.{AreOfKinds};
 

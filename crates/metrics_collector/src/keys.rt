@@ -1,13 +1,11 @@
 //! The keys under which series are kept: with the labels that all series have, in order.
 ghost use Rattle.std.specs.Prelude.{◌≡◌, ◌++◌, ◌∷◌, [], bytes_eq, IfErr, IfOk, OnOk, IsTrue};
 ghost use Rattle.std.specs.List.{list_any};
-ghost use Rattle.std.specs.List.Sorted.{IsSorted};
-ghost use Rattle.std.specs.Ordering.{is_lt};
 ghost use Rattle.metrics.specs.declared.error.Error.TheVariants.{Memory as OutOfMemory};
-ghost use Rattle.metrics_names.specs.Names.{LabelParts, label_cmp};
-ghost use Rattle.metrics_collector.specs.Labelling.{new_among, AreOrdered, IsKept};
+ghost use Rattle.metrics_collector.specs.Labelling.{new_among, IsKept};
 
 use metrics::{Error, Key, Label};
+use metrics_names::{are_sorted, sort_labels};
 use std::alloc::Global;
 
 /// Returns whether a label has this name.
@@ -61,39 +59,6 @@ pub(crate) fn copies(alloc: Global, labels: &[Label]) -> Result<Vec<Label>, Erro
         all.push(Label::new(alloc, label.key(), label.value())?)?;
     }
     Ok(all)
-}
-
-/// Does nothing: its contract says what the order of labels is.
-fn label_order()
-    ensures { (a b : LabelParts) → ⟦<Label as Ord>⟧.cmp a b ≡ label_cmp a b }
-{}
-
-/// Returns whether a label comes before another.
-fn is_before(label: &Label, other: &Label) -> bool
-    ensures { result ≡ is_lt (label_cmp label.now other.now) }
-{
-    label_order();
-    label.cmp(other).is_lt()
-}
-
-/// Returns whether labels are in order.
-fn are_sorted(labels: &[Label]) -> bool
-    ensures { IsTrue result → IsSorted label_cmp labels.now }
-{
-    for i in 1..labels.len() {
-        if is_before(&labels[i], &labels[i - 1]) {
-            return false;
-        }
-    }
-    true
-}
-
-/// Sorts labels.
-fn sort_labels(labels: &mut Vec<Label>)
-    ensures { AreOrdered labels.old.items labels.new.items }
-{
-    label_order();
-    labels.sort_unstable();
 }
 
 /// Returns whether a collector with these labels keeps the series under the key itself.

@@ -1,7 +1,7 @@
 //! Laws of the definitions.
 ghost use Rattle.std.specs.Prelude.{◌≡◌, ℕ, List};
 ghost use Rattle.metrics_names.specs.Names.{SeriesKey};
-ghost use Rattle.metrics_exporter.specs.Describing.{Legend};
+ghost use Rattle.metrics_descriptions.specs.Legends.{Legend};
 ghost use Rattle.metrics_exporter.specs.Readings.{KeyedReading, AreOnce, cells_of_readings};
 ghost use Rattle.metrics_exposition.specs.declared.naming.Naming.{Naming};
 ghost use Rattle.metrics_prometheus.specs.Exposition.{IsDescribed};

@@ -27,6 +27,6 @@ pub use lists::LabelList;
 pub use merging::AbsorbError;
 pub use metrics::Error;
 pub use metrics_exporter::{Bounds, BoundsError};
-pub use metrics_prometheus::{BadLabel, Descriptions, Naming, left_out};
+pub use metrics_prometheus::{BadLabel, Described, Descriptions, Naming, left_out};
 pub use metrics_registry::Quantile;
 pub use quantiles::quantile_bound;

@@ -8,7 +8,7 @@ ghost use Rattle.metrics_collector.specs.Repeats.{repeated_lines};
 use crate::gathered::GatheredSeries;
 use crate::merging::are_same;
 use metrics::Error;
-use metrics_prometheus::write_repeated;
+use metrics_prometheus::{CountedText, write_repeated};
 use std::alloc::Global;
 
 /// Returns whether one of these rows is of a row's series.
@@ -26,17 +26,18 @@ fn has_series(rows: &[GatheredSeries], row: &GatheredSeries) -> bool
 /// Adds a line for each row whose series comes before it.
 pub(crate) fn with_repeated(
     alloc: Global,
-    text: String,
+    counted: CountedText,
     rows: &[GatheredSeries],
-) -> Result<String, Error>
-    ensures ok { IfOk result (λ all. string_bytes all ≡ string_bytes text ++ repeated_lines [] rows.now) }
+) -> Result<CountedText, Error>
+    ensures ok { IfOk result (λ all. string_bytes all.text
+        ≡ string_bytes counted.text ++ repeated_lines [] rows.now) }
     ensures err { IfErr result (λ e. e ≡ OutOfMemory) }
 {
-    let mut all = text;
+    let mut all = counted;
     for at in 0..rows.len() {
         let row = &rows[at];
         if has_series(&rows[..at], row) {
-            write_repeated(alloc, &mut all, row.kind(), &row.key)?;
+            all = write_repeated(alloc, all, row.kind(), &row.key)?;
         }
     }
     Ok(all)

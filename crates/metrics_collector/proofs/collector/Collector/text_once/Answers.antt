@@ -3,5 +3,5 @@ use Rattle.metrics_collector.proofs.collector.Collector.text_once.Goals as goal
 
 pub returns-clause-text : goal.returns-clause-text
 returns-clause-text g c =
-    let d = c.in_ok-text.ensures.text in
+    let d = c.in_ok-counted.ensures.text in
     with-first c.ended.result _ _ (λ all e. (d.0, d.1, d.2, d.3, (_, d.4, e))) c.ended.ensures.ok
