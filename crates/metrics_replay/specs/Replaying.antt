@@ -1,5 +1,5 @@
 -- The calls of a replay.
-use Rattle.std.specs.Prelude.{◌≡◌, ℕ, suc, Bool, true, MatchBool, List, [], ◌∷◌, Option, None, Some}
+use Rattle.std.specs.Prelude.{◌≡◌, ℕ, suc, Bool, true, MatchBool, List, [], ◌∷◌, map, Option, None, Some, option_and_then, slice_get}
 use Rattle.std.specs.Borrow.{Bor}
 use Rattle.metrics_names.specs.declared.kind.MetricKind.{MetricKind}
 use Rattle.metrics.specs.declared.handles.Address.{Address}
@@ -11,7 +11,7 @@ use Rattle.metrics.specs.declared.calls.Answer.{Answer}
 use Rattle.metrics.specs.Book.{Content, kind_of}
 use Rattle.metrics.specs.Meaning.{Meaning}
 use Rattle.metrics.specs.History.{Log}
-use Rattle.metrics.specs.Answering.{Handle, holds_all, IsBadHandle, Answers}
+use Rattle.metrics.specs.Answering.{Handle, handle_given, holds_all, IsBadHandle, Answers}
 
 -- a handle that lends its addresses
 abbrev pub handle_seen : MetricKind × Bor (List Address) → Handle
@@ -42,18 +42,38 @@ log_of [] as' = []
 log_of (c ∷ cs) [] = []
 log_of (c ∷ cs) (a ∷ as') = (c, a) ∷ log_of cs as'
 
-abbrev pub register_kind : Call → Option MetricKind
-register_kind (Call.Register kind key) = Some kind
-register_kind (Call.Describe kind name unit text) = None
-register_kind (Call.Update n u) = None
-register_kind (Call.Snapshot b) = None
-register_kind (Call.SnapshotWith b reset) = None
+-- the calls of a log, and their answers
+abbrev pub calls_of : Log → List Call
+calls_of log = map (λ e. e.0) log
 
-abbrev pub place_in_front : Option MetricKind → ℕ → List ℕ → List ℕ
-place_in_front None i is = is
-place_in_front (Some kind) i is = i ∷ is
+abbrev pub answers_of : Log → List Answer
+answers_of log = map (λ e. e.1) log
 
--- the places of the register calls in a list of calls that begins at a place
-abbrev pub register_places : ℕ → List Call → List ℕ
-register_places i [] = []
-register_places i (c ∷ cs) = place_in_front (register_kind c) i (register_places (suc i) cs)
+-- a register call: its kind, and its place among the calls
+abbrev pub Place : Type 0
+Place = MetricKind × ℕ
+
+-- a call at a place comes before those register calls
+abbrev pub with_register : Call → ℕ → List Place → List Place
+with_register (Call.Register kind key) i rs = (kind, i) ∷ rs
+with_register (Call.Describe kind name unit text) i rs = rs
+with_register (Call.Update n u) i rs = rs
+with_register (Call.Snapshot b) i rs = rs
+with_register (Call.SnapshotWith b reset) i rs = rs
+
+-- the register calls of a list of calls that begins at a place
+abbrev pub registers_from : ℕ → List Call → List Place
+registers_from i [] = []
+registers_from i (c ∷ cs) = with_register c i (registers_from (suc i) cs)
+
+-- the register call of the number that a call names
+abbrev pub register_named : Call → List Place → Option Place
+register_named (Call.Update n u) rs = slice_get rs n
+register_named (Call.Describe kind name unit text) rs = None
+register_named (Call.Register kind key) rs = None
+register_named (Call.Snapshot b) rs = None
+register_named (Call.SnapshotWith b reset) rs = None
+
+-- what a register call returned, by the answers of all calls
+abbrev pub handle_at : List Answer → Option Place → Option Handle
+handle_at as' r = option_and_then (λ r. option_and_then (handle_given r.0) (slice_get as' r.1)) r

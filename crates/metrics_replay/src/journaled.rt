@@ -1,11 +1,8 @@
 //! A recorder that keeps a journal of its calls.
-ghost use Rattle.std.specs.Prelude.{◌≡◌, option_map};
-ghost use Rattle.metrics.specs.Answering.{handle, handle_named};
-ghost use Rattle.metrics_replay.specs.Replaying.{register_places, handle_seen};
-ghost use Rattle.metrics_replay.specs.Journaled.{calls_of};
 
-use crate::replaying::{answer_of, given, note_register, registered_kind};
-use metrics::{Address, Answer, Call, MetricKind, Recorder, Refused};
+use crate::registers::{named_handle, note_register};
+use crate::replaying::answer_of;
+use metrics::{Answer, Call, MetricKind, Recorder, Refused};
 use std::alloc::Global;
 use std::marker::Model;
 
@@ -18,7 +15,7 @@ pub struct Journaled<R: Recorder> {
     alloc: Global,
     on: R,
     journal: Vec<(Call, Answer)>,
-    registers: Vec<usize>,
+    registers: Vec<(MetricKind, usize)>,
 }
 
 impl<R: Recorder> Model for Journaled<R> {
@@ -111,40 +108,5 @@ impl<R: Recorder> Journaled<R> {
     {
         let _ = &self.journal;
         &self.on
-    }
-}
-
-/// The handle of a number. `registers` has the places of the register calls.
-fn handle_of<'a>(
-    journal: &'a [(Call, Answer)],
-    registers: &[usize],
-    number: usize,
-) -> Option<(MetricKind, &'a [Address])>
-    requires { registers.now ≡ register_places 0 (calls_of journal.now) }
-    ensures { option_map handle_seen result ≡ handle number journal.now }
-{
-    if number >= registers.len() {
-        return None;
-    }
-    let (call, answer) = &journal[registers[number]];
-    match registered_kind(call) {
-        None => None,
-        Some(kind) => given(kind, answer),
-    }
-}
-
-/// The handle that a call names.
-fn named_handle<'a>(
-    call: &Call,
-    journal: &'a [(Call, Answer)],
-    registers: &[usize],
-) -> Option<(MetricKind, &'a [Address])>
-    requires { registers.now ≡ register_places 0 (calls_of journal.now) }
-    ensures { option_map handle_seen result ≡ handle_named call.now journal.now }
-{
-    match call {
-        Call::Update(number, _) => handle_of(journal, registers, *number),
-        Call::Describe(..) | Call::Register(..) => None,
-        Call::Snapshot(_) | Call::SnapshotWith(..) => None,
     }
 }

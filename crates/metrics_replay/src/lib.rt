@@ -2,6 +2,7 @@
 #![tactic(auto)]
 
 mod journaled;
+mod registers;
 mod replaying;
 
 pub use journaled::Journaled;

@@ -1,16 +1,14 @@
 //! Lists of calls, made one after another.
-ghost use Rattle.std.specs.Prelude.{◌≡◌, ◌≤◌, ◌<◌, ◌+◌, ◌++◌, [], ℕ, length, vec_len};
-ghost use Rattle.std.specs.Prelude.{vec_capacity, IfOk, IfErr, OnErr, Option, None, Some, option_map, false};
+ghost use Rattle.std.specs.Prelude.{◌≡◌, ◌<◌, ℕ, length, IfOk, IfErr, OnErr, option_map, false};
 ghost use Rattle.metrics_names.specs.declared.refused.Refused.TheVariants.{Memory};
 ghost use Rattle.metrics_names.specs.Names.{kind_eq};
 ghost use Rattle.metrics.specs.Book.{kind_of, content_at};
 ghost use Rattle.metrics.specs.Meaning.{KeepsTargets, AreNew};
 ghost use Rattle.metrics.specs.History.{reached, content_after, ArePlain};
-ghost use Rattle.metrics.specs.Answering.{handle_given, handle_named, handle, UpdatesCall, IsHeld, places};
-ghost use Rattle.metrics.specs.Answering.{Answers};
-ghost use Rattle.metrics_replay.specs.Replaying.{log_of, register_places, place_in_front, handle_seen, register_kind};
-ghost use Rattle.metrics_replay.specs.Replaying.{holds_handle, UpdatesUnheld, AnswersUnheld};
+ghost use Rattle.metrics.specs.Answering.{UpdatesCall, IsHeld, Answers};
+ghost use Rattle.metrics_replay.specs.Replaying.{log_of, handle_seen, holds_handle, UpdatesUnheld, AnswersUnheld};
 
+use crate::registers::{named_handle, note_register};
 use metrics::{Address, Answer, Call, Items, MetricKind, Recorder, Refused, Update, update_all};
 use std::alloc::Global;
 
@@ -18,11 +16,7 @@ use std::alloc::Global;
 fn takes(kind: MetricKind, by: Update) -> bool
     ensures { result ≡ kind_eq (kind_of by) kind }
 {
-    match by {
-        Update::Increment(_) | Update::Absolute(_) => matches!(kind, MetricKind::Counter),
-        Update::Add(_) | Update::Subtract(_) | Update::Set(_) => matches!(kind, MetricKind::Gauge),
-        Update::Record(_) => matches!(kind, MetricKind::Histogram),
-    }
+    by.kind() == kind
 }
 
 /// Makes one call on a recorder.
@@ -96,84 +90,6 @@ fn update_of<R: Recorder>(
     }
 }
 
-/// What a register call returned, if it succeeded.
-pub(crate) fn given(kind: MetricKind, answer: &Answer) -> Option<(MetricKind, &[Address])>
-    ensures { option_map handle_seen result ≡ handle_given kind answer.now }
-{
-    match answer {
-        Answer::Registered(found) => Some((kind, found.as_slice())),
-        Answer::Described(_) => None,
-        Answer::Updated(_) => None,
-        Answer::Snapshot(_) => None,
-        Answer::Refused(_) => None,
-    }
-}
-
-/// The kind of a register call.
-pub(crate) fn registered_kind(call: &Call) -> Option<MetricKind>
-    ensures { result ≡ register_kind call.now }
-{
-    match call {
-        Call::Register(kind, _) => Some(*kind),
-        Call::Describe(..) => None,
-        Call::Update(..) => None,
-        Call::Snapshot(_) | Call::SnapshotWith(..) => None,
-    }
-}
-
-/// The handle of a number. `registers` has the places of the register calls.
-fn handle_of<'a>(
-    calls: &'a [Call],
-    answers: &'a [Answer],
-    registers: &[usize],
-    number: usize,
-) -> Option<(MetricKind, &'a [Address])>
-    requires same { length calls.now ≡ length answers.now }
-    requires places { registers.now ≡ register_places 0 calls.now }
-    ensures { option_map handle_seen result ≡ handle number (log_of calls.now answers.now) }
-{
-    if number >= registers.len() {
-        return None;
-    }
-    let place = registers[number];
-    match registered_kind(&calls[place]) {
-        None => None,
-        Some(kind) => given(kind, &answers[place]),
-    }
-}
-
-/// The handle that a call names.
-fn named_handle<'a>(
-    call: &Call,
-    calls: &'a [Call],
-    answers: &'a [Answer],
-    registers: &[usize],
-) -> Option<(MetricKind, &'a [Address])>
-    requires same { length calls.now ≡ length answers.now }
-    requires places { registers.now ≡ register_places 0 calls.now }
-    ensures { option_map handle_seen result ≡ handle_named call.now (log_of calls.now answers.now) }
-{
-    match call {
-        Call::Update(number, _) => handle_of(calls, answers, registers, *number),
-        Call::Describe(..) => None,
-        Call::Register(..) => None,
-        Call::Snapshot(_) | Call::SnapshotWith(..) => None,
-    }
-}
-
-/// Keeps the place of a register call.
-pub(crate) fn note_register(registers: &mut Vec<usize>, call: &Call, place: usize)
-    requires { vec_len registers.old < vec_capacity registers.old }
-    ensures items { registers.new.items ≡ registers.old.items ++ place_in_front (register_kind call.now) place [] }
-    ensures len { vec_len registers.new ≤ vec_len registers.old + 1 }
-    ensures capacity { vec_capacity registers.new ≡ vec_capacity registers.old }
-{
-    match registered_kind(call) {
-        None => {}
-        Some(_) => registers.push_reserved(place),
-    }
-}
-
 /// Makes the calls in order, and returns the result of each of them.
 ///
 /// It makes room first: for a result of each call, and for a list of where the register calls are. `Err` comes only if that
@@ -206,7 +122,7 @@ pub fn replay<R: Recorder>(
     registers.reserve(calls.len())?;
     for i in 0..calls.len() {
         let call = &calls[i];
-        let handle = named_handle(call, &calls[..i], answers.as_slice(), registers.as_slice());
+        let handle = named_handle(call, answers.as_slice(), registers.as_slice());
         let answer = answer_of(alloc, on, call, handle);
         note_register(&mut registers, call, i);
         answers.push_reserved(answer);

@@ -1,5 +1,5 @@
 use Rattle.std.proofs.Common.{◌≡◌, take, vec_len, vec_capacity, length, ◌≤◌}
-use Rattle.metrics_replay.specs.Replaying.{register_places}
+use Rattle.metrics_replay.specs.Replaying.{registers_from}
 use Rattle.metrics_replay.proofs.ReplayLemmas.{Replayed}
 use Rattle.metrics_replay.proofs.replaying.replay.Given as goal
 
@@ -9,6 +9,6 @@ invariant-loop-i g l = record {
   len : vec_len l.answers ≡ l.i;
   register_room : length l.calls ≤ vec_capacity l.registers;
   register_len : vec_len l.registers ≤ l.i;
-  places : l.registers.items ≡ register_places 0 (take l.i l.calls);
+  places : l.registers.items ≡ registers_from 0 (take l.i l.calls);
   replayed : Replayed (g.R.Recorder.meaning l.initial.on) (g.R.Recorder.meaning l.on) (take l.i l.calls) l.answers.items;
 }
