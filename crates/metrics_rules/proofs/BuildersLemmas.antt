@@ -1,7 +1,6 @@
 -- The builders, as branches are added.
 use Rattle.std.proofs.Common.{◌≡◌, ℕ, zero, suc, ◌-◌, ◌<◌, true, false, List, [], ◌∷◌, ◌++◌, length, Option, None, Some, refl, ap, sym, ◌∙◌, subst, arith, append-nil, length-append}
-use Rattle.metrics_rules.specs.Nodes.{node_meaning}
-use Rattle.metrics_rules.specs.Reaches.{group_meaning, IsWithin}
+use Rattle.metrics_rules.specs.Nodes.{node_meaning, group_meaning, IsWithin}
 use Rattle.std.proofs.lemmas.List.{length-map}
 use Rattle.metrics.specs.Meaning.{Meaning}
 use Rattle.metrics_rules.specs.Branches.{meanings}
@@ -17,7 +16,6 @@ use Rattle.metrics.specs.Book.{Content}
 use Rattle.metrics.specs.Layers.{Route, winner, chosen, choosing, routed, targets_of}
 use Rattle.metrics_rules.specs.Routing.{RouteTables, AreTablesOf, TargetsBelow, AddsRoute, target_of, branch_of}
 use Rattle.metrics_rules.specs.Branches.{all_meanings}
-use Rattle.metrics_rules.specs.declared.reach.Reach.TheVariants.{ByRoute}
 use Rattle.metrics_rules.proofs.RoutingLemmas.{winner-target, target-below, below-more}
 
 -- ---- one meaning
@@ -65,7 +63,7 @@ module _ (s : RouteTables) (rs : List Route) (h : AreTablesOf s rs) where
   same_choice kind name = ap branch_of (winner-target s rs h kind name) ∙ of_target (winner rs kind name)
 
   -- what is stored chooses as the list of routes does
-  pub winner-routed : (all : List Meaning) → group_meaning (ByRoute s) all ≡ routed rs all
+  pub winner-routed : (all : List Meaning) → group_meaning (Some s) all ≡ routed rs all
   winner-routed all =
       ap (λ (f : MetricKind → List ℕ → ℕ). choosing f all) (fun_ext (λ kind. fun_ext (λ name. same_choice kind name)))
 
@@ -82,7 +80,7 @@ module _ (s : RouteTables) (rs : List Route) (h : AreTablesOf s rs) where
       no_target (Some t) h = absurd (let l = h t refl in omega (arith, l))
 
 -- the default is one of the branches, and so is each target
-pub choice-within : (s : RouteTables) (n : ℕ) → TargetsBelow s (n - 1) → 0 < n → IsWithin (ByRoute s) n
+pub choice-within : (s : RouteTables) (n : ℕ) → TargetsBelow s (n - 1) → 0 < n → IsWithin (Some s) n
 choice-within s n b p = λ kind name. within (target_of s kind name) (λ t e. target-below s (n - 1) kind name t b e)
   where
     within : (o : Option ℕ) → ((t : ℕ) → o ≡ Some t → t < n - 1) → branch_of o < n

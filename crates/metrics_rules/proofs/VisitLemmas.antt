@@ -1,26 +1,23 @@
 -- Visits, one after another, and the visit that goes from child to child.
-use Rattle.std.proofs.Common.{◌≡◌, ℕ, zero, suc, ◌+◌, ◌-◌, ◌<◌, ◌≤◌, List, [], ◌∷◌, ◌++◌, length, take, map, get_or, Some, Vec, Global, refl, ap, sym, ◌∙◌, subst, arith, length-append, append-nil, append_assoc, slice_get, inl, inr}
+use Rattle.std.proofs.Common.{◌≡◌, ℕ, zero, suc, ◌+◌, ◌<◌, ◌≤◌, ◌^◌, List, [], ◌∷◌, ◌++◌, length, take, drop, map, get_or, Result, Ok, Err, Some, None, Vec, Global, refl, ap, sym, ◌∙◌, subst, arith, length-append, append-nil, append_assoc, slice_get, inl, inr}
 use Rattle.std.specs.List.{FoldsTo}
-use Rattle.std.specs.Vec.{vec_len}
 use Rattle.std.proofs.Math.Seq.{take-append-add}
-use Rattle.std.proofs.lemmas.List.{take-append-le, length-map}
+use Rattle.std.proofs.lemmas.List.{take-append-le, take-append-drop, take_all, length-map}
 use Rattle.metrics_names.specs.declared.kind.MetricKind.{MetricKind}
 use Rattle.metrics_names.specs.declared.refused.Refused.{Refused}
 use Rattle.metrics_names.specs.Names.{KeyParts}
 use Rattle.metrics.specs.Targets.{raise}
-use Rattle.metrics.specs.TargetsLaws.{raise-append, raise-raise, length-raise}
-use Rattle.metrics.specs.Layers.{joined_all, targets_of}
+use Rattle.metrics.specs.TargetsLaws.{raise-append, raise-raise, length-raise, few}
 use Rattle.metrics.specs.Meaning.{Meaning}
-use Rattle.metrics_rules.specs.Ends.{total, ends_from}
-use Rattle.metrics_rules.specs.Nodes.{node_meaning, leaves_of, most_leaves, IsTree}
-use Rattle.metrics_rules.specs.Reaches.{range_of, IsWithin}
-use Rattle.metrics_rules.specs.Visits.{key_at, listed, shown, StopsAt, EndsEarly, after_more}
+use Rattle.metrics.specs.Layers.{joined_all, targets_of}
+use Rattle.metrics_rules.specs.Routing.{RouteTables, target_of, branch_of}
+use Rattle.metrics_rules.specs.Nodes.{node_meaning, leaves_of, leaves_in, most_leaves}
+use Rattle.metrics_rules.specs.Visits.{key_at, listed, shown, StopsAt, EndsEarly, Visits, FitsMore, after_more}
 use Rattle.metrics_rules.specs.declared.visitor.Stopped.{Stopped}
-use Rattle.metrics_rules.specs.declared.reach.Reach.{Reach}
-use Rattle.metrics_rules.specs.declared.node.Node.{Node, Group}
-use Rattle.metrics_rules.proofs.BetweenLemmas.{targets_between, between-split, between-group, range-within, fits_in}
-use Rattle.metrics_rules.proofs.NodesLemmas.{IsGroup, Visit, visit, row-is, meaning-is, contents-are, ends-within}
-use Rattle.metrics_rules.proofs.OneChildLemmas.{before-is, targets-one, child-most}
+use Rattle.metrics_rules.specs.declared.node.Node.{Node}
+use Rattle.metrics_rules.proofs.JoinedLemmas.{targets-append}
+use Rattle.metrics_rules.proofs.NodesLemmas.{IsGroup, meaning-is, start-of}
+use Rattle.metrics_rules.proofs.OneChildLemmas.{front, before, front-more, targets-one}
 
 get-past : {X : Type 0} (ts us : List X) (n : ℕ) → slice_get (ts ++ us) (length ts + n) ≡ slice_get us n
 get-past [] us n = let z : 0 + n ≡ n = omega arith in ap (slice_get us) z
@@ -37,19 +34,25 @@ module _ {V : Type 0} (accepts : V → ℕ → KeyParts → V → Type 0) (refus
   folds-append a [] b us c p q = subst (λ (v : V). FoldsTo (shown accepts labels) v us c) (sym p) q
   folds-append a (t ∷ ts) b us c p q = (p.0, p.1, folds-append p.0 ts b us c p.2 q)
 
-  -- a visit that ended early, after all of those
-  pub ends-after : (a : V) (ts : List (ℕ × List ℕ)) (b : V) (us : List (ℕ × List ℕ)) (c : V) (s : Stopped) →
-      FoldsTo (shown accepts labels) a ts b → EndsEarly accepts refuses labels b us c s → EndsEarly accepts refuses labels a (ts ++ us) c (after_more (length ts) s)
-  ends-after a ts b us c s p q = record {
-    last = q.last;
-    most = (let m = q.most in let l = length-append ts us in omega (arith, m, l));
-    accepted = subst (λ vs. FoldsTo (shown accepts labels) a vs q.last) (sym (take-append-add ts us s.accepted)) (folds-append a ts b (take s.accepted us) q.last p q.accepted);
-    stops = later q.stops;
-  }
+  -- a visit, after all of those
+  pub visits-after : (a : V) (ts : List (ℕ × List ℕ)) (b : V) (us : List (ℕ × List ℕ)) (c : V) (n : ℕ) (r : Result ℕ Stopped) → n ≡ length ts →
+      FoldsTo (shown accepts labels) a ts b → Visits accepts refuses labels b us c r → Visits accepts refuses labels a (ts ++ us) c (after_more n r)
+  visits-after a ts b us c n (Ok k) e p q = (omega (arith, e, q.0, length-append ts us), folds-append a ts b us c p q.1)
+  visits-after a ts b us c n (Err s) e p q =
+      subst (λ i. EndsEarly accepts refuses labels a (ts ++ us) c (record { accepted = i + s.accepted; refused = s.refused })) (sym e) (record {
+        last = q.last;
+        most = (let m = q.most in let l = length-append ts us in omega (arith, m, l));
+        accepted = subst (λ vs. FoldsTo (shown accepts labels) a vs q.last) (sym (take-append-add ts us s.accepted)) (folds-append a ts b (take s.accepted us) q.last p q.accepted);
+        stops = later q.stops;
+      })
     where
       later : StopsAt refuses labels us s.accepted q.last s.refused c → StopsAt refuses labels (ts ++ us) (length ts + s.accepted) q.last s.refused c
       later (inl s) = inl (s.0, get-past ts us _ ∙ s.1, s.2)
       later (inr s) = inr s
+
+  pub fits-more : (a c : V) (us : List (ℕ × List ℕ)) (n : ℕ) (r : Result ℕ Stopped) → n + length us < 2 ^ 64 → Visits accepts refuses labels a us c r → FitsMore n r
+  fits-more a c us n (Ok k) l q = omega (arith, l, q.0)
+  fits-more a c us n (Err s) l q = let m = q.most in omega (arith, l, m)
 
   -- a visit that ended early does so if there are more
   pub ends-before : (a : V) (ts us : List (ℕ × List ℕ)) (c : V) (s : Stopped) → EndsEarly accepts refuses labels a ts c s → EndsEarly accepts refuses labels a (ts ++ us) c s
@@ -82,150 +85,73 @@ copies-are items labels v [] w h = ap items (sym h) ∙ sym (append-nil (items v
 copies-are items labels v (t ∷ ts) w h =
     copies-are items labels h.0 ts w h.2 ∙ ap (λ xs. xs ++ map (listed labels) ts) h.1 ∙ append_assoc (items v) (listed labels t ∷ []) (map (listed labels) ts)
 
--- ---- the visit of a group goes from child to child
+-- ---- a visit of a group
 
-pub record Loop (v : Vec Node Global) (ends : Vec ℕ Global) (reach : Reach) (old : Node) (kind : MetricKind) (name : List ℕ) (range : ℕ × ℕ) : Type 0 where
-  pub group : IsGroup v ends reach old
-  pub range_is : range ≡ range_of reach kind name (length v.items)
+-- the targets of the first of several nodes, whose leaves are numbered from some number on
+abbrev pub got : MetricKind → List ℕ → ℕ → List Node → ℕ → List (ℕ × List ℕ)
+got kind name from nodes i = raise from ((joined_all (take i (map node_meaning nodes))).targets kind name)
 
-module _ (v : Vec Node Global) (ends : Vec ℕ Global) (reach : Reach) (old : Node) (is : old ≡ Group v ends reach) (tree : IsTree old) (len : ℕ) (l : len ≡ vec_len v) where
-  group_is : IsGroup v ends reach old
-  group_is = record { is = is; tree = tree }
+module _ {v : Vec Node Global} {starts : Vec ℕ Global} {leaves : ℕ} {old : Node} (kind : MetricKind) (name : List ℕ) (from : ℕ) where
+  -- a name goes to one of several by routes
+  pub only-targets : {tables : RouteTables} (group : IsGroup v starts leaves (Some tables) old) (k : ℕ) (x : Node) (lt : k < length v.items) → x ≡ get_or v.items k x → (start : ℕ) → start ≡ get_or starts.items k start →
+      k ≡ branch_of (target_of tables kind name) → raise (from + start) ((node_meaning x).targets kind name) ≡ raise from ((node_meaning old).targets kind name)
+  only-targets group k x lt at start begins e =
+      let ts = (node_meaning x).targets kind name in
+      ap (λ i. raise (from + i) ts) (sym (start-of group k x lt at start begins)) ∙ sym (raise-raise from (before node_meaning v.items k x lt at) ts)
+      ∙ ap (raise from) (sym (targets-one node_meaning v.items k x lt at kind name)) ∙ ap (λ i. raise from (targets_of i (map node_meaning v.items) kind name)) e
+      ∙ ap (λ (a : Meaning). raise from (a.targets kind name)) (sym (meaning-is group))
 
-  same_length : len ≡ length v.items
-  same_length = omega (arith, l, v.ok.0)
-
-  pub reach-within : IsWithin reach len
-  reach-within = subst (IsWithin reach) (sym same_length) (row-is group_is).within
-
-  pub loop-of : (kind : MetricKind) (name text : List ℕ) → text ≡ name → (range : ℕ × ℕ) → range ≡ range_of reach kind text len → Loop v ends reach old kind name range
-  loop-of kind name text same range e =
-      record { group = group_is; range_is = e ∙ ap (λ q. range_of reach kind q len) same ∙ ap (range_of reach kind name) same_length }
-
--- the targets of the children from the first to before the i-th
-abbrev pub got : List Node → MetricKind → List ℕ → ℕ → ℕ → List (ℕ × List ℕ)
-got nodes kind name first i = targets_between kind name (map node_meaning nodes) first (i - first)
-
-pub got-none : (nodes : List Node) (kind : MetricKind) (name : List ℕ) (i : ℕ) → got nodes kind name i i ≡ []
-got-none nodes kind name i = let z : i - i ≡ 0 = omega arith in ap (targets_between kind name (map node_meaning nodes) i) z
-
-module _ {v : Vec Node Global} {ends : Vec ℕ Global} {reach : Reach} {old : Node} {kind : MetricKind} {name : List ℕ} {range : ℕ × ℕ} (loop : Loop v ends reach old kind name range) where
-  bounds : (range.0 ≤ range.1) × (range.1 ≤ length v.items)
-  bounds = range-within reach kind name (length v.items) range loop.range_is (row-is loop.group).within
-
-  pub next-within : (i : ℕ) → i < range.1 → i < vec_len v
-  next-within i lt = let b = bounds.1 in omega (arith, lt, b, v.ok.0)
-
-  pub start-within : (i : ℕ) → i < range.1 → (es : List ℕ) → es ≡ ends.items → i ≤ length es
-  start-within i lt es e =
-      let l = ends-within loop.group es e in
-      let b = bounds.1 in
-      omega (arith, lt, b, l)
-
-  pub loop-end : (i : ℕ) → (range.0 ≤ range.1 → i ≤ range.1) → range.1 ≤ i → i ≡ range.1
-  loop-end i most least = let le = most bounds.0 in omega (arith, le, least)
-
-  range_is-map : range ≡ range_of reach kind name (length (map node_meaning v.items))
-  range_is-map = loop.range_is ∙ ap (range_of reach kind name) (sym (length-map v.items node_meaning))
-
-  pub all-got : (node_meaning old).targets kind name ≡ got v.items kind name range.0 range.1
-  all-got = ap (λ (a : Meaning). a.targets kind name) (meaning-is loop.group) ∙ between-group kind name reach (map node_meaning v.items) range range_is-map
-
-  module _ (i : ℕ) (x : Node) (past : range.0 ≤ i) (lt : i < range.1) (at : x ≡ get_or v.items i x) where
-    here : i < length v.items
-    here = let b = bounds.1 in omega (arith, lt, b)
-
-    pub next-visit : Visit loop.group i x
-    next-visit = visit loop.group i x here at
-
-    abbrev before : ℕ
-    before = leaves_of (joined_all (map node_meaning (take i v.items)))
-
-    abbrev targets : List (ℕ × List ℕ)
-    targets = (node_meaning x).targets kind name
-
-    more : got v.items kind name range.0 (i + 1) ≡ got v.items kind name range.0 i ++ raise before targets
-    more =
+  module _ (group : IsGroup v starts leaves None old) where
+    -- those of the others follow
+    split : (i : ℕ) → raise from ((node_meaning old).targets kind name) ≡ got kind name from v.items i ++ raise from (raise (leaves_in (take i (map node_meaning v.items))) ((joined_all (drop i (map node_meaning v.items))).targets kind name))
+    split i =
         let all = map node_meaning v.items in
-        let n : i + 1 - range.0 ≡ (i - range.0) + 1 = omega (arith, past) in
-        let j : range.0 + (i - range.0) ≡ i = omega (arith, past) in
-        ap (targets_between kind name all range.0) n ∙ between-split kind name all range.0 (i - range.0) 1
-        ∙ ap (λ k. got v.items kind name range.0 i ++ targets_between kind name all k 1) j
-        ∙ ap (λ ts. got v.items kind name range.0 i ++ ts) (append-nil (targets_of i (map node_meaning v.items) kind name) ∙ targets-one node_meaning v.items i x here at kind name)
+        ap (λ (a : Meaning). raise from (a.targets kind name)) (meaning-is group) ∙ ap (λ bs. raise from ((joined_all bs).targets kind name)) (sym (take-append-drop i all))
+        ∙ ap (raise from) (targets-append kind name (take i all) (drop i all))
+        ∙ raise-append from ((joined_all (take i all)).targets kind name) (raise (leaves_in (take i all)) ((joined_all (drop i all)).targets kind name))
 
-    abbrev rest : List (ℕ × List ℕ)
-    rest = targets_between kind name (map node_meaning v.items) (i + 1) (range.1 - (i + 1))
+    few-got : (i : ℕ) → length (got kind name from v.items i) ≤ most_leaves
+    few-got i =
+        let a = node_meaning old in
+        let l = ap length (split i) ∙ length-append (got kind name from v.items i) _ in
+        omega (arith, l, length-raise from (a.targets kind name), few (leaves_of a) (a.targets kind name) (a.below kind name) (a.distinct kind name), group.tree.1)
 
-    whole : (node_meaning old).targets kind name ≡ got v.items kind name range.0 (i + 1) ++ rest
-    whole =
-        let all = map node_meaning v.items in
-        let n : range.1 - range.0 ≡ (i + 1 - range.0) + (range.1 - (i + 1)) = omega (arith, past, lt) in
-        let j : range.0 + (i + 1 - range.0) ≡ i + 1 = omega (arith, past) in
-        all-got ∙ ap (targets_between kind name all range.0) n ∙ between-split kind name all range.0 (i + 1 - range.0) (range.1 - (i + 1))
-        ∙ ap (λ k. got v.items kind name range.0 (i + 1) ++ targets_between kind name all k (range.1 - (i + 1))) j
+    pub got-all : (i : ℕ) → length v.items ≤ i → got kind name from v.items i ≡ raise from ((node_meaning old).targets kind name)
+    got-all i le =
+        let l = length-map v.items node_meaning in
+        ap (λ all. raise from ((joined_all all).targets kind name)) (take_all i (map node_meaning v.items) (omega (arith, l, le)))
+        ∙ ap (λ (a : Meaning). raise from (a.targets kind name)) (sym (meaning-is group))
 
-    -- with leaves that are numbered from some number on
-    raised-more : (front : ℕ) → raise front (got v.items kind name range.0 (i + 1)) ≡ raise front (got v.items kind name range.0 i) ++ raise (front + before) targets
-    raised-more front =
-        ap (raise front) more ∙ raise-append front (got v.items kind name range.0 i) (raise before targets)
-        ∙ ap (λ ts. raise front (got v.items kind name range.0 i) ++ ts) (raise-raise front before targets)
+    -- a child is visited after those before it
+    module _ (i : ℕ) (x : Node) (lt : i < length v.items) (at : x ≡ get_or v.items i x) (start : ℕ) (begins : start ≡ get_or starts.items i start)
+        {V : Type 0} (accepts : V → ℕ → KeyParts → V → Type 0) (refuses : V → ℕ → KeyParts → Refused → V → Type 0) (labels : List (List ℕ × List ℕ))
+        (b c : V) (n : ℕ) (r : Result ℕ Stopped) (e : n ≡ length (got kind name from v.items i)) (h : Visits accepts refuses labels b (raise (from + start) ((node_meaning x).targets kind name)) c r) where
+      abbrev here : List (ℕ × List ℕ)
+      here = raise (from + start) ((node_meaning x).targets kind name)
 
-    raised-whole : (front : ℕ) → raise front ((node_meaning old).targets kind name) ≡ (raise front (got v.items kind name range.0 i) ++ raise (front + before) targets) ++ raise front rest
-    raised-whole front =
-        ap (raise front) whole ∙ raise-append front (got v.items kind name range.0 (i + 1)) rest
-        ∙ ap (λ ts. ts ++ raise front rest) (raised-more front)
+      more : got kind name from v.items (i + 1) ≡ got kind name from v.items i ++ here
+      more =
+          let fs = front node_meaning v.items i x lt at in
+          let ts = (node_meaning x).targets kind name in
+          ap (λ all. raise from ((joined_all all).targets kind name)) (front-more node_meaning v.items i x lt at)
+          ∙ ap (raise from) (targets-append kind name fs (node_meaning x ∷ []) ∙ ap (λ us. (joined_all fs).targets kind name ++ raise (leaves_in fs) us) (append-nil ts))
+          ∙ raise-append from ((joined_all fs).targets kind name) (raise (leaves_in fs) ts)
+          ∙ ap (λ us. got kind name from v.items i ++ us) (raise-raise from (leaves_in fs) ts ∙ ap (λ k. raise (from + k) ts) (start-of group i x lt at start begins))
 
-    length-more : (from : ℕ) → length (got v.items kind name range.0 (i + 1)) ≡ length (got v.items kind name range.0 i) + length (raise from targets)
-    length-more from =
-        let m = ap length more ∙ length-append (got v.items kind name range.0 i) (raise before targets) in
-        omega (arith, m, length-raise before targets, length-raise from targets)
-
-    -- the number of targets fits
-    pub next-count : (n k from : ℕ) → n ≡ length (got v.items kind name range.0 i) → k ≤ length (raise from targets) → n + k ≤ most_leaves
-    next-count n k from count most =
-        let w = ap length whole ∙ length-append (got v.items kind name range.0 (i + 1)) rest in
-        omega (arith, length-more from, w, fits_in (node_meaning old) kind name, loop.group.tree.1, count, most)
-
-    -- the child's leaves are numbered from `front + there`
-    module _ (es : List ℕ) (e : es ≡ ends.items) (there : ℕ) (f : (sizes : List ℕ) → es ≡ ends_from 0 sizes → there ≡ total (take i sizes)) where
-      front-is : before ≡ there
-      front-is = before-is node_meaning v.items i x here at ∙ sym (f (map leaves_of (map node_meaning v.items)) (e ∙ (row-is loop.group).ends_are))
-
-      -- they are among those of the node
-      pub next-fits : there + leaves_of (node_meaning x) ≤ leaves_of (node_meaning old)
+      pub next-fits : FitsMore n r
       next-fits =
-          let all = ap length (contents-are loop.group) in
-          let most = child-most node_meaning v.items i x here at (leaves_of (node_meaning old)) (omega (arith, all)) in
-          omega (arith, most, front-is)
+          let l = ap length more ∙ length-append (got kind name from v.items i) here in
+          fits-more accepts refuses labels b c here n r (omega (arith, l, e, few-got (i + 1))) h
 
-      -- a child that is the only one that the name goes to
-      pub only-child : (front : ℕ) → i ≡ range.0 → range.1 - range.0 ≡ 1 → raise front ((node_meaning old).targets kind name) ≡ raise (front + there) targets
-      only-child front first one =
-          let last : range.1 ≡ i + 1 = omega (arith, first, one) in
-          let none = ap (λ k. got v.items kind name k i) (sym first) ∙ got-none v.items kind name i in
-          ap (raise front) (all-got ∙ ap (got v.items kind name range.0) last) ∙ raised-more front
-          ∙ ap (λ ts. raise front ts ++ raise (front + before) targets) none ∙ ap (λ k. raise (front + k) targets) front-is
+      pub next-visits : (a : V) (q : Result ℕ Stopped) → FoldsTo (shown accepts labels) a (got kind name from v.items i) b → q ≡ after_more n r →
+          Visits accepts refuses labels a (got kind name from v.items (i + 1)) c q
+      next-visits a q p is =
+          subst (λ ts. Visits accepts refuses labels a ts c q) (sym more)
+          (subst (Visits accepts refuses labels a (got kind name from v.items i ++ here) c) (sym is) (visits-after accepts refuses labels a (got kind name from v.items i) b here c n r e p h))
 
-      module _ {V : Type 0} (accepts : V → ℕ → KeyParts → V → Type 0) (refuses : V → ℕ → KeyParts → Refused → V → Type 0) (labels : List (List ℕ × List ℕ))
-          (front : ℕ) (a b c : V) (h : FoldsTo (shown accepts labels) a (raise front (got v.items kind name range.0 i)) b) where
-        -- the child was visited
-        pub visited-next : FoldsTo (shown accepts labels) b (raise (front + there) targets) c →
-            FoldsTo (shown accepts labels) a (raise front (got v.items kind name range.0 (i + 1))) c
-        visited-next q =
-            subst (λ ts. FoldsTo (shown accepts labels) a ts c) (sym (raised-more front))
-            (folds-append accepts refuses labels a (raise front (got v.items kind name range.0 i)) b (raise (front + before) targets) c h
-            (subst (λ k. FoldsTo (shown accepts labels) b (raise (front + k) targets) c) (sym front-is) q))
-
-        -- the visit ended there
-        pub stopped-next : (s : Stopped) (n : ℕ) → n ≡ length (got v.items kind name range.0 i) → EndsEarly accepts refuses labels b (raise (front + there) targets) c s →
-            EndsEarly accepts refuses labels a (raise front ((node_meaning old).targets kind name)) c (after_more n s)
-        stopped-next s n count q =
-            subst (λ k. EndsEarly accepts refuses labels a (raise front ((node_meaning old).targets kind name)) c (after_more k s)) (length-raise front (got v.items kind name range.0 i) ∙ sym count)
-            (subst (λ ts. EndsEarly accepts refuses labels a ts c (after_more (length (raise front (got v.items kind name range.0 i))) s)) (sym (raised-whole front))
-            (ends-before accepts refuses labels a (raise front (got v.items kind name range.0 i) ++ raise (front + before) targets) (raise front rest) c _
-            (ends-after accepts refuses labels a (raise front (got v.items kind name range.0 i)) b (raise (front + before) targets) c s h
-            (subst (λ k. EndsEarly accepts refuses labels b (raise (front + k) targets) c s) (sym front-is) q))))
-
-    -- one child more was counted
-    pub counted-next : (n k from : ℕ) → n ≡ length (got v.items kind name range.0 i) → k ≡ length (raise from targets) → n + k ≡ length (got v.items kind name range.0 (i + 1))
-    counted-next n k from count here = let m = length-more from in omega (arith, m, count, here)
+      -- if it ended early, so does the visit of all
+      pub next-ends : (a : V) (s : Stopped) → FoldsTo (shown accepts labels) a (got kind name from v.items i) b → Err s ≡ after_more n r →
+          EndsEarly accepts refuses labels a (raise from ((node_meaning old).targets kind name)) c s
+      next-ends a s p is =
+          subst (λ ts. EndsEarly accepts refuses labels a ts c s) (sym (split (i + 1)))
+          (ends-before accepts refuses labels a (got kind name from v.items (i + 1)) _ c s (next-visits a (Err s) p is))

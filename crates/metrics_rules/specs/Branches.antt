@@ -4,8 +4,7 @@ use Rattle.std.specs.Global.{Global}
 use Rattle.std.specs.List.{All}
 use Rattle.std.specs.Vec.{vec_len, vec_capacity}
 use Rattle.metrics.specs.Meaning.{Meaning}
-use Rattle.metrics.specs.Layers.{joined_all}
-use Rattle.metrics_rules.specs.Nodes.{node_meaning, leaves_of, most_leaves, IsSound, IsSound-prop}
+use Rattle.metrics_rules.specs.Nodes.{node_meaning, leaves_of, leaves_in, most_leaves, IsSound, IsSound-prop}
 use Rattle.metrics.specs.declared.error.Error.{Error}
 use Rattle.metrics.specs.declared.error.Error.TheVariants.{Memory, EmptyMask, NoSuchTarget, TooManyBooks}
 use Rattle.metrics_rules.specs.declared.node.Node.{Node}
@@ -21,10 +20,6 @@ AreSound nodes = All IsSound nodes
 pub AreSound-prop : (nodes : List Node) → IsProp (AreSound nodes)
 AreSound-prop nodes = λ x y i k d lt. IsSound-prop (slice_index_or nodes k d) (x k d lt) (y k d lt) i
 
--- the number of leaves of several branches
-abbrev pub leaves_in : List Meaning → ℕ
-leaves_in all = leaves_of (joined_all all)
-
 -- with one branch more there are few enough books
 abbrev pub LeavesFit : List Meaning → Meaning → Type 0
 LeavesFit all a = leaves_in all + leaves_of a ≤ most_leaves
@@ -35,8 +30,8 @@ refusal all a = if nat_lt most_leaves (leaves_in all + leaves_of a) then TooMany
 
 -- room for so many branches more
 abbrev pub HasSpare : {T : Type 0} → ℕ → Vec T Global → Vec ℕ Global → Type 0
-HasSpare n children ends =
-    (vec_len children + n ≤ vec_capacity children) × (vec_len ends + n ≤ vec_capacity ends)
+HasSpare n children starts =
+    (vec_len children + n ≤ vec_capacity children) × (vec_len starts + n ≤ vec_capacity starts)
 
 -- ---- routes
 

@@ -1,6 +1,4 @@
 pub mod Routing
-pub mod Reaches
-pub mod Ends
 pub mod Nodes
 pub mod Branches
 pub mod Builders

@@ -1,5 +1,5 @@
 -- A visit: which targets a visitor was shown, in which order, and where it ended.
-use Rattle.std.specs.Prelude.{◌≡◌, ◌⊎◌, ℕ, ◌+◌, ◌≤◌, List, length, take, Some, slice_get, Result, Ok, Err}
+use Rattle.std.specs.Prelude.{◌≡◌, ◌⊎◌, ℕ, ◌+◌, ◌<◌, ◌≤◌, ◌^◌, List, length, take, Some, slice_get, Result, Ok, Err}
 use Rattle.std.specs.List.{FoldsTo}
 use Rattle.metrics_names.specs.Names.{KeyParts}
 use Rattle.metrics_names.specs.declared.refused.Refused.{Refused}
@@ -28,9 +28,15 @@ pub record EndsEarly {V : Type 0} (accepts : V → ℕ → KeyParts → V → Ty
   pub accepted : FoldsTo (shown accepts labels) was (take s.accepted ts) last
   pub stops : StopsAt refuses labels ts s.accepted last s.refused now
 
--- the same, after so many targets more had accepted
-abbrev pub after_more : ℕ → Stopped → Stopped
-after_more more s = record { accepted = more + s.accepted; refused = s.refused }
+-- the result of a visit, where so many targets had accepted before
+abbrev pub after_more : ℕ → Result ℕ Stopped → Result ℕ Stopped
+after_more more (Ok n) = Ok (more + n)
+after_more more (Err s) = Err (record { accepted = more + s.accepted; refused = s.refused })
+
+-- the sum fits
+abbrev pub FitsMore : ℕ → Result ℕ Stopped → Type 0
+FitsMore more (Ok n) = more + n < 2 ^ 64
+FitsMore more (Err s) = more + s.accepted < 2 ^ 64
 
 -- all targets were shown, in order, and accepted; or some from the first on were, and then no more
 abbrev pub Visits : {V : Type 0} → (V → ℕ → KeyParts → V → Type 0) → (V → ℕ → KeyParts → Refused → V → Type 0) → List (List ℕ × List ℕ) → V → List (ℕ × List ℕ) → V → Result ℕ Stopped → Type 0

@@ -1,12 +1,10 @@
 //! Trees side by side, for builders.
 ghost use Rattle.std.specs.Prelude.{◌≡◌, ◌≤◌, ◌++◌, ◌∷◌, [], suc, ℕ, length, OnOk};
-ghost use Rattle.metrics_rules.specs.Nodes.{node_meaning, most_leaves, AreEnds};
-ghost use Rattle.metrics_rules.specs.Reaches.{group_meaning, IsWithin};
-ghost use Rattle.metrics_rules.specs.Branches.{meanings, leaves_in, AreSound, AreSound-prop, LeavesFit, HasSpare};
+ghost use Rattle.metrics_rules.specs.Nodes.{node_meaning, group_meaning, leaves_in, most_leaves, AreStarts, IsWithin};
+ghost use Rattle.metrics_rules.specs.Branches.{meanings, AreSound, AreSound-prop, LeavesFit, HasSpare};
 
-use crate::ends::end_of_all;
 use crate::node::Node;
-use crate::reach::Reach;
+use crate::routes::Routes;
 use crate::rules::Rules;
 use std::alloc::{AllocError, Global};
 
@@ -17,10 +15,14 @@ pub(crate) const MOST_LEAVES: usize = 65_536;
 #[derive(Drop)]
 pub struct Branches {
     children: Vec<Node>,
-    ends: Vec<usize>,
-    ghost ends_are: { AreEnds ends.items (meanings children.items) },
+    /// The number of leaves before each.
+    starts: Vec<usize>,
+    /// The number of leaves of all.
+    leaves: usize,
+    ghost starts_are: { AreStarts starts.items (meanings children.items) },
+    ghost count: { leaves ≡ leaves_in (meanings children.items) },
     ghost sound: { AreSound children.items } by { AreSound-prop children.items },
-    ghost most: { leaves_in (meanings children.items) ≤ most_leaves },
+    ghost most: { leaves ≤ most_leaves },
 }
 
 impl Branches {
@@ -30,7 +32,8 @@ impl Branches {
     {
         Branches {
             children: Vec::new(alloc),
-            ends: Vec::new(alloc),
+            starts: Vec::new(alloc),
+            leaves: 0,
         }
     }
 
@@ -45,40 +48,41 @@ impl Branches {
     pub(crate) fn leaves(&self) -> usize
         ensures { result ≡ leaves_in (meanings self.now.children.items) }
     {
-        end_of_all(&self.ends)
+        self.leaves
     }
 
     /// Makes room for so many branches more. The branches stay, whatever the result.
     pub(crate) fn reserve(&mut self, additional: usize) -> Result<(), AllocError>
         ensures items { self.new.children.items ≡ self.old.children.items }
-        ensures spare { OnOk result (HasSpare additional self.new.children self.new.ends) }
+        ensures spare { OnOk result (HasSpare additional self.new.children self.new.starts) }
     {
         self.children.reserve(additional)?;
-        self.ends.reserve(additional)
+        self.starts.reserve(additional)
     }
 
     /// Adds a branch at the end, which has room for it.
     pub(crate) fn push_reserved(&mut self, child: Rules)
-        requires spare { HasSpare 1 self.old.children self.old.ends }
+        requires spare { HasSpare 1 self.old.children self.old.starts }
         requires few { LeavesFit (meanings self.old.children.items)
             (node_meaning child.node) }
         ensures items { self.new.children.items ≡ self.old.children.items ++ child.node ∷ [] }
-        ensures spare { (n : ℕ) → HasSpare (suc n) self.old.children self.old.ends →
-            HasSpare n self.new.children self.new.ends }
+        ensures spare { (n : ℕ) → HasSpare (suc n) self.old.children self.old.starts →
+            HasSpare n self.new.children self.new.starts }
     {
-        let end = end_of_all(&self.ends) + child.leaves();
+        let end = self.leaves + child.leaves();
         self.children.push_reserved(child.node);
-        self.ends.push_reserved(end);
+        self.starts.push_reserved(self.leaves);
+        self.leaves = end;
     }
 
-    /// All of them as one tree, by to which of them a name goes.
-    pub(crate) fn into_rules(self, reach: Reach) -> Rules
-        requires { IsWithin reach (length self.children.items) }
+    /// All of them as one tree, with routes if each name goes to one of them.
+    pub(crate) fn into_rules(self, routes: Option<Routes>) -> Rules
+        requires { IsWithin routes (length self.children.items) }
         ensures { node_meaning result.node
-            ≡ group_meaning reach (meanings self.children.items) }
+            ≡ group_meaning routes (meanings self.children.items) }
     {
         Rules {
-            node: Node::Group(self.children, self.ends, reach),
+            node: Node::Group(self.children, self.starts, self.leaves, routes),
         }
     }
 }

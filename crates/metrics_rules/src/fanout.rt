@@ -6,7 +6,6 @@ ghost use Rattle.metrics_rules.specs.Builders.{fanout_branches};
 ghost use Rattle.metrics_rules.specs.Meanings.{rules_meaning};
 
 use crate::branches::{Branches, MOST_LEAVES};
-use crate::reach::Reach;
 use crate::rules::Rules;
 use metrics::Error;
 use std::alloc::Global;
@@ -55,6 +54,6 @@ impl FanoutBuilder {
     pub fn build(self) -> Rules
         ensures { rules_meaning result ≡ joined_all (fanout_branches self) }
     {
-        self.branches.into_rules(Reach::Every)
+        self.branches.into_rules(None)
     }
 }

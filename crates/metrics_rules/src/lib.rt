@@ -2,18 +2,15 @@
 #![tactic(auto)]
 
 mod branches;
-mod ends;
 mod fanout;
 mod named;
 mod node;
-mod reach;
 mod router;
 mod routes;
 mod rules;
 mod scratch;
 mod visitor;
 
-pub use ends::{end_of_all, start_of};
 pub use fanout::FanoutBuilder;
 pub use named::Named;
 pub use router::RouterBuilder;

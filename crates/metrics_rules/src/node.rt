@@ -4,11 +4,10 @@ ghost use Rattle.metrics.specs.Targets.{raise};
 ghost use Rattle.metrics_rules.specs.Nodes.{node_meaning, leaves_of, most_leaves, IsTree};
 ghost use Rattle.metrics_rules.specs.Visits.{Visits};
 
-use crate::ends::{end_of_all, start_of};
 use crate::named::Named;
-use crate::reach::Reach;
+use crate::routes::Routes;
 use crate::scratch::Scratch;
-use crate::visitor::{Stopped, Visitor, show};
+use crate::visitor::{Stopped, Visitor, show, with_more};
 use metrics::{MetricKind, Text};
 use metrics_layers::is_refused;
 use prefix_match::SubstringSet;
@@ -20,8 +19,8 @@ pub enum Node {
     Noop,
     Prefixed(Text, Box<Node>),
     Filtered(SubstringSet, Box<Node>),
-    /// Trees side by side, the number of leaves up to the end of each, and to which of them a name goes.
-    Group(Vec<Node>, Vec<usize>, Reach),
+    /// Trees side by side, the number of leaves before each, that of all, and the routes if a name goes to one of them.
+    Group(Vec<Node>, Vec<usize>, usize, Option<Routes>),
 }
 
 impl Node {
@@ -34,23 +33,23 @@ impl Node {
             Node::Noop => 0,
             Node::Prefixed(_, inner) => inner.leaves(),
             Node::Filtered(_, inner) => inner.leaves(),
-            Node::Group(_children, ends, _reach) => end_of_all(ends),
+            Node::Group(_children, _starts, leaves, _routes) => *leaves,
         }
     }
 
-    /// The branch that gets a name, if there is only one, and the number of leaves before it; or else the tree itself.
+    /// The branch that a name goes to by routes, and the number of leaves before it; or else the tree itself.
     #[inline(always)]
-    fn only_branch(&self, kind: MetricKind, name: &str) -> (&Node, usize)
+    fn branch(&self, kind: MetricKind, name: &str) -> (&Node, usize)
         requires { IsTree self.now }
         ensures tree { IsTree result.0.now }
         ensures fits { result.1 + leaves_of (node_meaning result.0.now) ≤ leaves_of (node_meaning self.now) }
         ensures targets { raise result.1 ((node_meaning result.0.now).targets kind name.now)
             ≡ (node_meaning self.now).targets kind name.now }
     {
-        if let Node::Group(children, ends, reach) = self {
-            let (first, end) = reach.range(kind, name, children.len());
-            if end - first == 1 {
-                return (&children[first], start_of(ends, first));
+        if let Node::Group(children, starts, _leaves, routes) = self {
+            if let Some(routes) = routes {
+                let number = routes.branch(kind, name);
+                return (&children[number], starts[number]);
             }
         }
         (self, 0)
@@ -69,7 +68,7 @@ impl Node {
         ensures { Visits V.accepts V.refuses (K.parts key.now).labels visitor.old
             ((node_meaning self.now).targets kind (K.parts key.now).name) visitor.new result }
     {
-        let (branch, front) = self.only_branch(kind, key.name());
+        let (branch, front) = self.branch(kind, key.name());
         match branch {
             Node::Leaf => show(visitor, front, key),
             branch => branch.visit(kind, key, front, scratch, visitor),
@@ -120,23 +119,30 @@ impl Node {
                     inner.visit(kind, key, front, scratch, visitor)
                 }
             }
-            Node::Group(children, ends, reach) => {
-                let (first, end) = reach.range(kind, key.name(), children.len());
-                let mut accepted: usize = 0;
-                for i in first..end {
-                    let child = &children[i];
-                    let there = front + start_of(ends, i);
-                    let visited = match child {
-                        Node::Leaf => show(visitor, there, key),
-                        child => child.visit(kind, key, there, scratch, visitor),
-                    };
-                    match visited {
-                        Ok(count) => accepted += count,
-                        Err(stopped) => return Err(stopped.after(accepted)),
-                    }
+            Node::Group(children, starts, _leaves, routes) => match routes {
+                Some(routes) => {
+                    let number = routes.branch(kind, key.name());
+                    let there = front + starts[number];
+                    children[number].visit(kind, key, there, scratch, visitor)
                 }
-                Ok(accepted)
-            }
+                None => {
+                    let mut accepted: usize = 0;
+                    let count = children.len();
+                    for i in 0..count {
+                        let child = &children[i];
+                        let there = front + starts[i];
+                        let visited = match child {
+                            Node::Leaf => show(visitor, there, key),
+                            child => child.visit(kind, key, there, scratch, visitor),
+                        };
+                        match with_more(accepted, visited) {
+                            Ok(more) => accepted = more,
+                            Err(stopped) => return Err(stopped),
+                        }
+                    }
+                    Ok(accepted)
+                }
+            },
         }
     }
 }

@@ -3,13 +3,12 @@ ghost use Rattle.std.specs.Prelude.{◌≡◌, ◌≤◌, ◌<◌, ◌-◌, ◌+
 ghost use Rattle.std.specs.Prelude.{is_some, nat_eq, length, MatchResult};
 ghost use Rattle.std.specs.Option.{option_map};
 ghost use Rattle.metrics.specs.Layers.{Route, routed, joined_all};
-ghost use Rattle.metrics_rules.specs.Nodes.{node_meaning, most_leaves};
+ghost use Rattle.metrics_rules.specs.Nodes.{node_meaning, leaves_in, most_leaves};
 ghost use Rattle.metrics_rules.specs.Routing.{TargetsBelow};
-ghost use Rattle.metrics_rules.specs.Branches.{meanings, all_meanings, leaves_in, LeavesFit, HasSpare, route_refusal};
+ghost use Rattle.metrics_rules.specs.Branches.{meanings, all_meanings, LeavesFit, HasSpare, route_refusal};
 ghost use Rattle.metrics_rules.specs.Branches.{target_refusal};
 
 use crate::branches::{Branches, MOST_LEAVES};
-use crate::reach::Reach;
 use crate::routes::Routes;
 use crate::rules::Rules;
 use metrics::{Error, MetricKindMask};
@@ -126,7 +125,7 @@ impl RouterBuilder {
         } = self;
         match default {
             Some(default) => default,
-            None => branches.into_rules(Reach::ByRoute(routes)),
+            None => branches.into_rules(Some(routes)),
         }
     }
 
@@ -156,7 +155,7 @@ impl RouterBuilder {
 /// Adds a target at the end. A default that was alone moves before it.
 fn push_target(default: &mut Option<Rules>, branches: &mut Branches, target: Rules)
     requires alone { is_some default.old ≡ nat_eq (length branches.old.children.items) 0 }
-    requires spare { HasSpare 2 branches.old.children branches.old.ends }
+    requires spare { HasSpare 2 branches.old.children branches.old.starts }
     requires few { let alone = option_map (λ c. c.node) default.old in
         let all = all_meanings alone branches.old.children.items in
         LeavesFit all (node_meaning target.node) }

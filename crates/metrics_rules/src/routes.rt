@@ -1,9 +1,9 @@
 //! The routes of a router.
-ghost use Rattle.std.specs.Prelude.{◌≡◌, ℕ, true, cond, ◌&&◌, List, length, Some, OnOk, OnErr, IfErr};
+ghost use Rattle.std.specs.Prelude.{◌≡◌, ◌<◌, ◌^◌, ℕ, true, cond, ◌&&◌, List, length, Some, OnOk, OnErr, IfErr};
 ghost use Rattle.std.specs.Str.{bytes_eq};
 ghost use Rattle.prefix_match.specs.TriePatterns.{stored, HasRoom};
 ghost use Rattle.prefix_match.specs.declared.error.MatchError.TheVariants.{Memory};
-ghost use Rattle.metrics_rules.specs.Routing.{no_routes, AddsRoute, longest_within, target_of};
+ghost use Rattle.metrics_rules.specs.Routing.{no_routes, AddsRoute, longest_within, target_of, branch_of};
 
 use metrics::{MetricKind, MetricKindMask, PerKind};
 use prefix_match::{MatchError, PrefixTrie};
@@ -75,6 +75,17 @@ impl Routes {
         ensures { result ≡ target_of self.now kind name.now }
     {
         target_within(self.tables.of(kind), name)
+    }
+
+    /// The number of the branch that a name goes to: the default is number 0, the targets follow it.
+    pub(crate) fn branch(&self, kind: MetricKind, name: &str) -> usize
+        requires { branch_of (target_of self.now kind name.now) < 2 ^ 64 }
+        ensures { result ≡ branch_of (target_of self.now kind name.now) }
+    {
+        match self.target(kind, name) {
+            None => 0,
+            Some(target) => target + 1,
+        }
     }
 }
 

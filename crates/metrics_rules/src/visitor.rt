@@ -1,9 +1,9 @@
 //! What a visit shows its targets to.
-ghost use Rattle.std.specs.Prelude.{ℕ, ◌≡◌, ◌<◌, ◌+◌, ◌^◌, ◌∷◌, [], MatchResult};
+ghost use Rattle.std.specs.Prelude.{ℕ, ◌≡◌, ◌∷◌, [], MatchResult};
 ghost use Rattle.metrics.specs.Targets.{raise};
 ghost use Rattle.metrics_names.specs.Names.{KeyParts};
 ghost use Rattle.metrics_names.specs.declared.refused.Refused.{Refused as Refusal};
-ghost use Rattle.metrics_rules.specs.Visits.{Visits};
+ghost use Rattle.metrics_rules.specs.Visits.{Visits, FitsMore, after_more};
 
 use crate::named::Named;
 use metrics::Refused;
@@ -33,18 +33,18 @@ pub struct Stopped {
     pub refused: Refused,
 }
 
-impl Stopped {
-    ghost use Rattle.metrics_rules.specs.Visits.{after_more};
-
-    /// The same, after so many targets more had accepted.
-    pub(crate) fn after(self, more: usize) -> Stopped
-        requires { more + self.accepted < 2 ^ 64 }
-        ensures { result ≡ after_more more self }
-    {
-        Stopped {
-            accepted: more + self.accepted,
-            refused: self.refused,
-        }
+/// The result of a visit, where so many targets had accepted before.
+#[inline(always)]
+pub(crate) fn with_more(accepted: usize, visited: Result<usize, Stopped>) -> Result<usize, Stopped>
+    requires { FitsMore accepted visited }
+    ensures { result ≡ after_more accepted visited }
+{
+    match visited {
+        Ok(more) => Ok(accepted + more),
+        Err(stopped) => Err(Stopped {
+            accepted: accepted + stopped.accepted,
+            refused: stopped.refused,
+        }),
     }
 }
 

@@ -1,110 +1,140 @@
-use Rattle.std.proofs.Common.{rules, arith, ◌+◌, length, refl, ap, sym, ◌∙◌, subst}
-use Rattle.std.specs.List.{FoldsTo}
+use Rattle.std.proofs.Common.{rules, arith, Ok, get_or, ◌+◌, ◌<◌, length, subst}
+use Rattle.std.proofs.lemmas.List.{get_or_default}
 use Rattle.metrics.specs.Targets.{raise}
-use Rattle.metrics.specs.TargetsLaws.{length-raise}
 use Rattle.metrics_rules.specs.Nodes.{node_meaning}
-use Rattle.metrics_rules.specs.Visits.{Visits, EndsEarly, shown}
+use Rattle.metrics_rules.specs.Visits.{Visits}
 use Rattle.metrics_rules.specs.declared.node.Node.{the_lemmas}
-use Rattle.metrics_rules.proofs.VisitLemmas.{reach-within, loop-of, next-within, start-within, next-visit, next-fits, next-count, loop-end, got-none, all-got, counted-next, visited-next, stopped-next}
+use Rattle.metrics_rules.proofs.NodesLemmas.{group-of, row-is, indexes, chosen, subtree, fits-in}
+use Rattle.metrics_rules.proofs.VisitLemmas.{only-targets, got-all, next-fits, next-visits, next-ends}
 use Rattle.metrics_rules.proofs.node.Node.+visit.Goals.{in-Leaf-child, in_default-child}
 use Rattle.metrics_rules.proofs.node.Node.+visit.Goals as goal
 
-pub range-first-requires : goal.range-first-requires
-range-first-requires g t c = reach-within c.in-Group.children c.in-Group.ends c.in-Group.reach c.args.self.now c.in-Group.is c.requires.tree _ c.len.ensures
+-- ---- the branch that the routes choose
 
-pub loop-i-init : goal.loop-i-init
-loop-i-init g t c =
-    let none = got-none c.in-Group.children.items c.args.kind (g.K.Named.parts c.args.key.now).name c.range-first.result.0 in (
-      sym (ap length none),
-      subst (λ ts. FoldsTo (shown g.V.Visitor.accepts (g.K.Named.parts c.args.key.now).labels) c.args.visitor.now (raise c.args.front ts) c.args.visitor.now) (sym none) refl,
-    )
+pub branch-number-requires : goal.branch-number-requires
+branch-number-requires g t c =
+    let p = c.in-Group in
+    let group = group-of p.children p.starts p._leaves p.is c.in-Some.is c.requires.tree in
+    let w = (row-is group).within c.args.kind c.name-in-Some.result.now in
+    omega (arith, w, p.children.ok.0, p.children.small)
 
-pub index-child-requires : goal.index-child-requires
-index-child-requires g t c =
-    let loop = loop-of c.in-Group.children c.in-Group.ends c.in-Group.reach c.args.self.now c.in-Group.is c.requires.tree _ c.len.ensures c.args.kind (g.K.Named.parts c.args.key.now).name _ c.name-in-Group.ensures _ c.range-first.ensures in
-    next-within loop c.loop-i.i c.loop-i-test.true
-
-pub start_of-requires : goal.start_of-requires
-start_of-requires g t c =
-    let loop = loop-of c.in-Group.children c.in-Group.ends c.in-Group.reach c.args.self.now c.in-Group.is c.requires.tree _ c.len.ensures c.args.kind (g.K.Named.parts c.args.key.now).name _ c.name-in-Group.ensures _ c.range-first.ensures in
-    record { within = start-within loop c.loop-i.i c.loop-i-test.true _ c.deref-in-loop-i.ensures.value }
+pub index-requires : goal.index-requires
+index-requires g t c =
+    let p = c.in-Group in
+    let group = group-of p.children p.starts p._leaves p.is c.in-Some.is c.requires.tree in
+    (indexes group (chosen group c.args.kind _ _ _ c.branch-number.ensures c.name-in-Some.ensures).0).1
 
 pub overflow_add-there : goal.overflow_add-there
 overflow_add-there g t c =
-    let loop = loop-of c.in-Group.children c.in-Group.ends c.in-Group.reach c.args.self.now c.in-Group.is c.requires.tree _ c.len.ensures c.args.kind (g.K.Named.parts c.args.key.now).name _ c.name-in-Group.ensures _ c.range-first.ensures in
-    omega (arith, next-fits loop c.loop-i.i c.index-child.result.now c.loop-i.auto.i c.loop-i-test.true c.index-child.ensures _ c.deref-in-loop-i.ensures.value _ c.start_of.ensures, c.requires.few)
+    let p = c.in-Group in
+    let group = group-of p.children p.starts p._leaves p.is c.in-Some.is c.requires.tree in
+    let (lt, is) = chosen group c.args.kind _ _ _ c.branch-number.ensures c.name-in-Some.ensures in
+    let x = get_or p.children.items c.branch-number.result c.args.self.now in
+    let fits = fits-in group _ x lt (get_or_default p.children.items c.branch-number.result c.args.self.now x lt) c.index.result.now c.index.ensures in
+    omega (arith, fits, c.requires.few)
+
+pub index-requires-in-Some : goal.index-requires-in-Some
+index-requires-in-Some g t c =
+    let p = c.in-Group in
+    let group = group-of p.children p.starts p._leaves p.is c.in-Some.is c.requires.tree in
+    (indexes group (chosen group c.args.kind _ _ _ c.branch-number.ensures c.name-in-Some.ensures).0).0
+
+pub visit-requires-in-Some : goal.visit-requires-in-Some
+visit-requires-in-Some g t c κs inside =
+    let p = c.in-Group in
+    let group = group-of p.children p.starts p._leaves p.is c.in-Some.is c.requires.tree in
+    let (lt, is) = chosen group c.args.kind _ _ _ c.branch-number.ensures c.name-in-Some.ensures in
+    let x = c.index-in-Some.result.now in
+    let fits = fits-in group _ x lt c.index-in-Some.ensures c.index.result.now c.index.ensures in
+    let within = (indexes group lt).0 in
+    (search (rules, the_lemmas, within, c.index-in-Some.ensures), (search rules, (search rules, (subtree group _ x lt c.index-in-Some.ensures, omega (arith, fits, c.requires.few)))))
+
+pub returns-in-Some : goal.returns-in-Some
+returns-in-Some g t c =
+    let p = c.in-Group in
+    let group = group-of p.children p.starts p._leaves p.is c.in-Some.is c.requires.tree in
+    let (lt, is) = chosen group c.args.kind _ _ _ c.branch-number.ensures c.name-in-Some.ensures in
+    let key = g.K.Named.parts c.args.key.now in
+    subst (λ ts. Visits g.V.Visitor.accepts g.V.Visitor.refuses key.labels c.args.visitor.now ts c.visit-in-Some.new.visitor c.visit-in-Some.result)
+    (only-targets c.args.kind key.name c.args.front group _ c.index-in-Some.result.now lt c.index-in-Some.ensures c.index.result.now c.index.ensures is) c.visit-in-Some.ensures
+
+-- ---- one branch after another
+
+pub index-requires-in-loop-i : goal.index-requires-in-loop-i
+index-requires-in-loop-i g t c =
+    let p = c.in-Group in
+    let group = group-of p.children p.starts p._leaves p.is c.in-None.is c.requires.tree in
+    let lt : c.loop-i.i < length p.children.items = (let l = c.loop-i-test.true in omega (arith, l, c.len-count.ensures, p.children.ok.0)) in
+    (indexes group lt).1
+
+pub overflow_add-there-in-loop-i : goal.overflow_add-there-in-loop-i
+overflow_add-there-in-loop-i g t c =
+    let p = c.in-Group in
+    let group = group-of p.children p.starts p._leaves p.is c.in-None.is c.requires.tree in
+    let lt : c.loop-i.i < length p.children.items = (let l = c.loop-i-test.true in omega (arith, l, c.len-count.ensures, p.children.ok.0)) in
+    let fits = fits-in group _ c.index-child.result.now lt c.index-child.ensures _ c.index-in-loop-i.ensures in
+    omega (arith, fits, c.requires.few)
 
 pub visit-visited-requires-in_default-child : goal.visit-visited-requires-in_default-child
 visit-visited-requires-in_default-child g t c κs inside =
-    let loop = loop-of c.in-Group.children c.in-Group.ends c.in-Group.reach c.args.self.now c.in-Group.is c.requires.tree _ c.len.ensures c.args.kind (g.K.Named.parts c.args.key.now).name _ c.name-in-Group.ensures _ c.range-first.ensures in
-    let fits = next-fits loop c.loop-i.i c.index-child.result.now c.loop-i.auto.i c.loop-i-test.true c.index-child.ensures _ c.deref-in-loop-i.ensures.value _ c.start_of.ensures in
-    let within = next-within loop c.loop-i.i c.loop-i-test.true in
-    (search (rules, the_lemmas, within, c.index-child.ensures), (search rules, (search rules, ((next-visit loop c.loop-i.i c.index-child.result.now c.loop-i.auto.i c.loop-i-test.true c.index-child.ensures).subtree, omega (arith, fits, c.requires.few)))))
+    let p = c.in-Group in
+    let group = group-of p.children p.starts p._leaves p.is c.in-None.is c.requires.tree in
+    let lt : c.loop-i.i < length p.children.items = (let l = c.loop-i-test.true in omega (arith, l, c.len-count.ensures, p.children.ok.0)) in
+    let x = c.index-child.result.now in
+    let fits = fits-in group _ x lt c.index-child.ensures _ c.index-in-loop-i.ensures in
+    let within = (indexes group lt).0 in
+    (search (rules, the_lemmas, within, c.index-child.ensures), (search rules, (search rules, (subtree group _ x lt c.index-child.ensures, omega (arith, fits, c.requires.few)))))
 
-pub overflow_add-accepted : goal.overflow_add-accepted
-overflow_add-accepted g t c =
-    let loop = loop-of c.in-Group.children c.in-Group.ends c.in-Group.reach c.args.self.now c.in-Group.is c.requires.tree _ c.len.ensures c.args.kind (g.K.Named.parts c.args.key.now).name _ c.name-in-Group.ensures _ c.range-first.ensures in
-    let targets = (node_meaning c.index-child.result.now).targets c.args.kind (g.K.Named.parts c.args.key.now).name in
-    let Met = Visits g.V.Visitor.accepts g.V.Visitor.refuses (g.K.Named.parts c.args.key.now).labels c.loop-i.visitor (raise (c.args.front + c.start_of.result) targets) c.match-child.visitor in
-    let here : Met c.match-child.visited =
+pub with_more-requires : goal.with_more-requires
+with_more-requires g t c =
+    let p = c.in-Group in
+    let key = g.K.Named.parts c.args.key.now in
+    let group = group-of p.children p.starts p._leaves p.is c.in-None.is c.requires.tree in
+    let lt : c.loop-i.i < length p.children.items = (let l = c.loop-i-test.true in omega (arith, l, c.len-count.ensures, p.children.ok.0)) in
+    let x = c.index-child.result.now in
+    let start = c.index-in-loop-i.result.now in
+    let met : Visits g.V.Visitor.accepts g.V.Visitor.refuses key.labels c.loop-i.visitor (raise (c.args.front + start) ((node_meaning x).targets c.args.kind key.name)) c.match-child.visitor c.match-child.visited =
     elim c.match-child.branch [
       | in-Leaf-child w ↦ rw (w.visited-is, w.visitor-is, w.in-Leaf-child.is) w.show-visited.ensures
       | in_default-child w ↦ rw (w.visited-is, w.visitor-is) w.visit-visited-in_default-child.ensures
     ] in
-    let met = subst Met c.in-Ok.is here in
-    let fits = next-count loop c.loop-i.i c.index-child.result.now c.loop-i.auto.i c.loop-i-test.true c.index-child.ensures c.loop-i.accepted c.in-Ok.count (c.args.front + c.start_of.result) c.loop-i.invariant.0 (let e = met.0 in omega (arith, e)) in
-    omega (arith, fits)
+    next-fits c.args.kind key.name c.args.front group _ x lt c.index-child.ensures start c.index-in-loop-i.ensures g.V.Visitor.accepts g.V.Visitor.refuses key.labels _ _ _ _ c.loop-i.invariant.0 met
 
-pub after-requires : goal.after-requires
-after-requires g t c =
-    let loop = loop-of c.in-Group.children c.in-Group.ends c.in-Group.reach c.args.self.now c.in-Group.is c.requires.tree _ c.len.ensures c.args.kind (g.K.Named.parts c.args.key.now).name _ c.name-in-Group.ensures _ c.range-first.ensures in
-    let targets = (node_meaning c.index-child.result.now).targets c.args.kind (g.K.Named.parts c.args.key.now).name in
-    let Met = Visits g.V.Visitor.accepts g.V.Visitor.refuses (g.K.Named.parts c.args.key.now).labels c.loop-i.visitor (raise (c.args.front + c.start_of.result) targets) c.match-child.visitor in
-    let here : Met c.match-child.visited =
+pub returns-in-Err-with_more : goal.returns-in-Err-with_more
+returns-in-Err-with_more g t c =
+    let p = c.in-Group in
+    let key = g.K.Named.parts c.args.key.now in
+    let group = group-of p.children p.starts p._leaves p.is c.in-None.is c.requires.tree in
+    let lt : c.loop-i.i < length p.children.items = (let l = c.loop-i-test.true in omega (arith, l, c.len-count.ensures, p.children.ok.0)) in
+    let x = c.index-child.result.now in
+    let start = c.index-in-loop-i.result.now in
+    let met : Visits g.V.Visitor.accepts g.V.Visitor.refuses key.labels c.loop-i.visitor (raise (c.args.front + start) ((node_meaning x).targets c.args.kind key.name)) c.match-child.visitor c.match-child.visited =
     elim c.match-child.branch [
       | in-Leaf-child w ↦ rw (w.visited-is, w.visitor-is, w.in-Leaf-child.is) w.show-visited.ensures
       | in_default-child w ↦ rw (w.visited-is, w.visitor-is) w.visit-visited-in_default-child.ensures
     ] in
-    let met = subst Met c.in-Err-visited.is here in
-    let fits = next-count loop c.loop-i.i c.index-child.result.now c.loop-i.auto.i c.loop-i-test.true c.index-child.ensures c.loop-i.accepted c.in-Err-visited.stopped.accepted (c.args.front + c.start_of.result) c.loop-i.invariant.0 met.most in
-    omega (arith, fits)
-
-pub returns-in-Err-visited : goal.returns-in-Err-visited
-returns-in-Err-visited g t c =
-    let loop = loop-of c.in-Group.children c.in-Group.ends c.in-Group.reach c.args.self.now c.in-Group.is c.requires.tree _ c.len.ensures c.args.kind (g.K.Named.parts c.args.key.now).name _ c.name-in-Group.ensures _ c.range-first.ensures in
-    let targets = (node_meaning c.index-child.result.now).targets c.args.kind (g.K.Named.parts c.args.key.now).name in
-    let Met = Visits g.V.Visitor.accepts g.V.Visitor.refuses (g.K.Named.parts c.args.key.now).labels c.loop-i.visitor (raise (c.args.front + c.start_of.result) targets) c.match-child.visitor in
-    let here : Met c.match-child.visited =
-    elim c.match-child.branch [
-      | in-Leaf-child w ↦ rw (w.visited-is, w.visitor-is, w.in-Leaf-child.is) w.show-visited.ensures
-      | in_default-child w ↦ rw (w.visited-is, w.visitor-is) w.visit-visited-in_default-child.ensures
-    ] in
-    let met = subst Met c.in-Err-visited.is here in
-    subst (λ s. EndsEarly g.V.Visitor.accepts g.V.Visitor.refuses (g.K.Named.parts c.args.key.now).labels c.args.visitor.now (raise c.args.front ((node_meaning c.args.self.now).targets c.args.kind (g.K.Named.parts c.args.key.now).name)) c.match-child.visitor s) (sym c.after.ensures)
-    (stopped-next loop c.loop-i.i c.index-child.result.now c.loop-i.auto.i c.loop-i-test.true c.index-child.ensures _ c.deref-in-loop-i.ensures.value _ c.start_of.ensures g.V.Visitor.accepts g.V.Visitor.refuses (g.K.Named.parts c.args.key.now).labels
-    c.args.front c.args.visitor.now c.loop-i.visitor c.match-child.visitor c.loop-i.invariant.1 c.in-Err-visited.stopped c.loop-i.accepted c.loop-i.invariant.0 met)
+    next-ends c.args.kind key.name c.args.front group _ x lt c.index-child.ensures start c.index-in-loop-i.ensures g.V.Visitor.accepts g.V.Visitor.refuses key.labels _ _ _ _ c.loop-i.invariant.0 met _ c.in-Err-with_more.stopped c.loop-i.invariant.1 (c.in-Err-with_more.ensures {u = tt})
 
 pub loop-i-preserved : goal.loop-i-preserved
 loop-i-preserved g t c =
-    let loop = loop-of c.in-Group.children c.in-Group.ends c.in-Group.reach c.args.self.now c.in-Group.is c.requires.tree _ c.len.ensures c.args.kind (g.K.Named.parts c.args.key.now).name _ c.name-in-Group.ensures _ c.range-first.ensures in
-    let targets = (node_meaning c.index-child.result.now).targets c.args.kind (g.K.Named.parts c.args.key.now).name in
-    let Met = Visits g.V.Visitor.accepts g.V.Visitor.refuses (g.K.Named.parts c.args.key.now).labels c.loop-i.visitor (raise (c.args.front + c.start_of.result) targets) c.match-child.visitor in
-    let here : Met c.match-child.visited =
+    let p = c.in-Group in
+    let key = g.K.Named.parts c.args.key.now in
+    let group = group-of p.children p.starts p._leaves p.is c.in-None.is c.requires.tree in
+    let lt : c.loop-i.i < length p.children.items = (let l = c.loop-i-test.true in omega (arith, l, c.len-count.ensures, p.children.ok.0)) in
+    let x = c.index-child.result.now in
+    let start = c.index-in-loop-i.result.now in
+    let met : Visits g.V.Visitor.accepts g.V.Visitor.refuses key.labels c.loop-i.visitor (raise (c.args.front + start) ((node_meaning x).targets c.args.kind key.name)) c.match-child.visitor c.match-child.visited =
     elim c.match-child.branch [
       | in-Leaf-child w ↦ rw (w.visited-is, w.visitor-is, w.in-Leaf-child.is) w.show-visited.ensures
       | in_default-child w ↦ rw (w.visited-is, w.visitor-is) w.visit-visited-in_default-child.ensures
     ] in
-    let met = subst Met c.in-Ok.is here in (
-      counted-next loop c.loop-i.i c.index-child.result.now c.loop-i.auto.i c.loop-i-test.true c.index-child.ensures c.loop-i.accepted c.in-Ok.count (c.args.front + c.start_of.result) c.loop-i.invariant.0 met.0,
-      visited-next loop c.loop-i.i c.index-child.result.now c.loop-i.auto.i c.loop-i-test.true c.index-child.ensures _ c.deref-in-loop-i.ensures.value _ c.start_of.ensures g.V.Visitor.accepts g.V.Visitor.refuses (g.K.Named.parts c.args.key.now).labels
-          c.args.front c.args.visitor.now c.loop-i.visitor c.match-child.visitor c.loop-i.invariant.1 met.1,
-    )
+    next-visits c.args.kind key.name c.args.front group _ x lt c.index-child.ensures start c.index-in-loop-i.ensures g.V.Visitor.accepts g.V.Visitor.refuses key.labels _ _ _ _ c.loop-i.invariant.0 met _ (Ok c.in-Ok.more) c.loop-i.invariant.1 (c.in-Ok.ensures {u = tt})
 
 pub returns-after-loop-i : goal.returns-after-loop-i
 returns-after-loop-i g t c =
-    let loop = loop-of c.in-Group.children c.in-Group.ends c.in-Group.reach c.args.self.now c.in-Group.is c.requires.tree _ c.len.ensures c.args.kind (g.K.Named.parts c.args.key.now).name _ c.name-in-Group.ensures _ c.range-first.ensures in
-    let end = loop-end loop c.loop-i.i c.loop-i.auto.i-end c.loop-i-test.false in
-    let whole = all-got loop in
-    let raised = length-raise c.args.front ((node_meaning c.args.self.now).targets c.args.kind (g.K.Named.parts c.args.key.now).name) in
-    let n = rw end at c.loop-i.invariant.0 in
-    (n ∙ sym (raised ∙ ap length whole), rw whole (rw end at c.loop-i.invariant.1))
+    let p = c.in-Group in
+    let key = g.K.Named.parts c.args.key.now in
+    let group = group-of p.children p.starts p._leaves p.is c.in-None.is c.requires.tree in
+    let end = c.loop-i-test.false in
+    let all = got-all c.args.kind key.name c.args.front group c.loop-i.i (omega (arith, end, c.len-count.ensures, p.children.ok.0)) in
+    rw all at c.loop-i.invariant
