@@ -6,7 +6,8 @@ use Rattle.metrics.specs.declared.recorder.Recorder as recorder
 use Rattle.metrics.specs.Meaning.{Meaning}
 use Rattle.metrics.specs.declared.error.Error.{Error}
 use Rattle.metrics.specs.declared.error.Error.TheVariants.{Memory, EmptyMask, TooManyBooks}
-use Rattle.metrics_rules.specs.Branches.{leaves_in, refusal}
+use Rattle.metrics_rules.specs.Nodes.{leaves_in}
+use Rattle.metrics_rules.specs.Branches.{refusal}
 use Rattle.metrics_rules.specs.Meanings.{rules_meaning}
 use Rattle.metrics_trees.specs.Leaves.{recorders_of}
 use Rattle.metrics_trees.specs.declared.leaves.Leaves.{Leaves}
@@ -28,7 +29,7 @@ module _ {B : Type 0} {r : recorder.Ghosts B} (rs : List Meaning) (leaves : Leav
   bs = map r.meaning (recorders_of leaves)
 
   abbrev cs : List Meaning
-  cs = map r.meaning (recorders_of given.registrar.leaves)
+  cs = map r.meaning (recorders_of given.below.registrar.leaves)
 
   abbrev one : Meaning
   one = over (rules_meaning given.rules) cs
@@ -50,20 +51,20 @@ module _ {B : Type 0} {r : recorder.Ghosts B} (rs : List Meaning) (leaves : Leav
     pub fit : BooksFit (overs rs bs) one
     pub gained : overs now (map r.meaning after) ≡ overs rs bs ++ one ∷ []
 
-  pub gains : books_in bs + books_in cs ≤ most_books → (now : List Meaning) (mid after : List B) → now ≡ rs ++ rules_meaning given.rules ∷ [] → mid ≡ recorders_of leaves → after ≡ mid ++ recorders_of given.registrar.leaves → Gains now after
+  pub gains : books_in bs + books_in cs ≤ most_books → (now : List Meaning) (mid after : List B) → now ≡ rs ++ rules_meaning given.rules ∷ [] → mid ≡ recorders_of leaves → after ≡ mid ++ recorders_of given.below.registrar.leaves → Gains now after
   gains few now mid after g room moved =
-      let to = moved ∙ ap (λ xs. xs ++ recorders_of given.registrar.leaves) room in
-      let ms = ap (map r.meaning) to ∙ map-append r.meaning (recorders_of leaves) (recorders_of given.registrar.leaves) in
+      let to = moved ∙ ap (λ xs. xs ++ recorders_of given.below.registrar.leaves) room in
+      let ms = ap (map r.meaning) to ∙ map-append r.meaning (recorders_of leaves) (recorders_of given.below.registrar.leaves) in
       let b = ap books_in ms ∙ leaves-append bs cs in
       let l = ap leaves_in g ∙ leaves-one rs (rules_meaning given.rules) in
-      let n = ap length to ∙ length-append (recorders_of leaves) (recorders_of given.registrar.leaves) in
+      let n = ap length to ∙ length-append (recorders_of leaves) (recorders_of given.below.registrar.leaves) in
       record {
         as_many = omega (arith, l, n, many, given.as_many);
         few = omega (arith, b, few);
         fit = subst (λ k. k + books_in cs ≤ most_books) (sym (books-over rs bs as-many)) few;
         gained =
             ap (λ qs. overs qs (map r.meaning after)) g ∙ ap (overs (rs ++ rules_meaning given.rules ∷ [])) ms
-            ∙ overs-more rs (rules_meaning given.rules) bs cs as-many (length-map (recorders_of given.registrar.leaves) r.meaning ∙ sym given.as_many);
+            ∙ overs-more rs (rules_meaning given.rules) bs cs as-many (length-map (recorders_of given.below.registrar.leaves) r.meaning ∙ sym given.as_many);
       }
 
 -- a mask with a kind is no reason

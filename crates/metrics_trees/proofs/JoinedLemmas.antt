@@ -1,5 +1,5 @@
 -- Recorders side by side: what one of them does, seen among all.
-use Rattle.std.proofs.Common.{◌≡◌, ℕ, zero, suc, ◌+◌, ◌<◌, ◌≤◌, Bool, true, false, ◌&&◌, List, [], ◌∷◌, ◌++◌, length, Result, Ok, Err, refl, ap, sym, ◌∙◌, subst, arith, length-append, zero-add, nat_lt}
+use Rattle.std.proofs.Common.{◌≡◌, ℕ, zero, suc, ◌+◌, ◌<◌, ◌≤◌, Bool, true, false, ◌&&◌, List, [], ◌∷◌, ◌++◌, length, Result, Ok, Err, refl, ap, sym, ◌∙◌, arith, length-append, zero-add, nat_lt}
 use Rattle.std.specs.List.{All}
 use Rattle.std.proofs.lemmas.List.Elements.{All-nil, All-cons}
 use Rattle.std.proofs.lemmas.Bool.Decides.{nat_tests}
@@ -10,13 +10,13 @@ use Rattle.metrics.specs.declared.handles.Update.{Update}
 use Rattle.metrics_names.specs.declared.refused.Refused.{Refused}
 use Rattle.metrics_names.specs.declared.refused.Refused.TheVariants.{Memory, NoSuchAddress, NoSuchBook, BadHandle}
 use Rattle.metrics.specs.Targets.{raise, after_targets, change_at, AllBelow}
-use Rattle.metrics.specs.TargetsLaws.{after_targets-front, after_targets-past, change_at-front, change_at-past}
+use Rattle.metrics.specs.TargetsLaws.{after_targets-front, after_targets-past}
 use Rattle.metrics.specs.Book.{Content, SnapshotParts, content_at, kind_at, kind_of, place, snapshot_of, update_in, reset_in}
 use Rattle.metrics.specs.Meaning.{Meaning, KeepsTargets, Updates, Snapshots, holds_at, is_kind, addresses, address_in, key_in_book}
 use Rattle.metrics.specs.Layers.{joined_all, targets_of}
 use Rattle.metrics_rules.proofs.JoinedLemmas.{contents-append}
 pub use Rattle.metrics_rules.proofs.JoinedLemmas.{leaves-append, leaves-one}
-use Rattle.metrics_trees.specs.BookEnds.{raised}
+use Rattle.metrics_trees.specs.Places.{raised}
 use Rattle.metrics_trees.specs.Recorders.{books_of, spread}
 use Rattle.metrics_trees.specs.Over.{over}
 
@@ -84,16 +84,12 @@ module _ (front rest : List Meaning) (x : Meaning) (b : ℕ) (lt : b < books_of 
   pub within-there : there < length (all_with x)
   within-there = let l = leaves-append front (x ∷ rest) in let m = length-append x.contents (joined_all rest).contents in omega (arith, l, m, lt)
 
+  -- a change of one's book is one of all
   pub change_at-there : (f : Content → Content) (y : Meaning) → y.contents ≡ change_at b f x.contents → all_with y ≡ change_at there f (all_with x)
-  change_at-there f y h =
-      let fs = (joined_all front).contents in
-      let rs = (joined_all rest).contents in
-      contents-append front (y ∷ rest) ∙ ap (λ cs. fs ++ (cs ++ rs)) h ∙ ap (λ cs. fs ++ cs) (sym (change_at-front b f x.contents rs lt))
-      ∙ sym (change_at-past b f fs (x.contents ++ rs)) ∙ ap (change_at there f) (sym (contents-append front (x ∷ rest)))
+  change_at-there f y h = acts_within (λ (n : List ℕ). f) front rest x y ((b, []) ∷ []) (lt, tt) h
 
   pub same-there : (y : Meaning) → y.contents ≡ x.contents → all_with y ≡ all_with x
-  same-there y h =
-      contents-append front (y ∷ rest) ∙ ap (λ cs. (joined_all front).contents ++ (cs ++ (joined_all rest).contents)) h ∙ sym (contents-append front (x ∷ rest))
+  same-there y h = acts_within {X = List ℕ} (λ n c. c) front rest x y [] tt h
 
   is_less : (a b : ℕ) → a < b → nat_lt a b ≡ true
   is_less a b l = grind (arith, nat_tests)
@@ -104,32 +100,22 @@ module _ (front rest : List Meaning) (x : Meaning) (b : ℕ) (lt : b < books_of 
       ∙ ap (λ q. is_kind kind (kind_at s (content_at b x.contents)) && q) (is_less there (length (all_with x)) within-there ∙ sym (is_less b (books_of x) lt))
 
   -- an update of one's book is one of all
-  pub updates-one : {A : Type 0} (y old new : Meaning) (s : ℕ) (by : Update) → old.contents ≡ all_with x → new.contents ≡ all_with y → (r : Result A Refused) →
-      Updates x y (record { book = b; series = s }) by r → Updates old new (record { book = there; series = s }) by r
-  updates-one y old new s by o n (Ok done) h = (
-    ap (holds_at (kind_of by) (record { book = there; series = s })) o ∙ holds-there (kind_of by) s ∙ h.0,
-    n ∙ change_at-there (update_in by s) y h.1 ∙ ap (change_at there (update_in by s)) (sym o),
-  )
-  updates-one y old new s by o n (Err (Memory a)) h =
-      (ap (holds_at (kind_of by) (record { book = there; series = s })) o ∙ holds-there (kind_of by) s ∙ h.0, h.1, h.2, n ∙ same-there y h.3 ∙ sym o)
-  updates-one y old new s by o n (Err NoSuchAddress) h =
-      (ap (holds_at (kind_of by) (record { book = there; series = s })) o ∙ holds-there (kind_of by) s ∙ h.0, n ∙ same-there y h.1 ∙ sym o)
-  updates-one y old new s by o n (Err NoSuchBook) h = absurd h
-  updates-one y old new s by o n (Err BadHandle) h = absurd h
+  pub updates-one : {A : Type 0} (y : Meaning) (s : ℕ) (by : Update) (r : Result A Refused) →
+      Updates x y (record { book = b; series = s }) by r → Updates (joined_all (front ++ x ∷ rest)) (joined_all (front ++ y ∷ rest)) (record { book = there; series = s }) by r
+  updates-one y s by (Ok done) h = (holds-there (kind_of by) s ∙ h.0, change_at-there (update_in by s) y h.1)
+  updates-one y s by (Err (Memory a)) h = (holds-there (kind_of by) s ∙ h.0, h.1, h.2, same-there y h.3)
+  updates-one y s by (Err NoSuchAddress) h = (holds-there (kind_of by) s ∙ h.0, same-there y h.1)
+  updates-one y s by (Err NoSuchBook) h = absurd h
+  updates-one y s by (Err BadHandle) h = absurd h
 
   -- and so is a snapshot
-  pub snapshots-one : (y old new : Meaning) → old.contents ≡ all_with x → new.contents ≡ all_with y → (reset : Reset) (r : Result SnapshotParts Refused) →
-      Snapshots x y b reset r → Snapshots old new there reset r
-  snapshots-one y old new o n reset (Ok found) h = (
-    subst (λ k. there < k) (sym (ap length o)) within-there,
-    h.1 ∙ ap snapshot_of (sym content-there ∙ ap (content_at there) (sym o)),
-    n ∙ change_at-there (reset_in reset) y h.2 ∙ ap (change_at there (reset_in reset)) (sym o),
-  )
-  snapshots-one y old new o n reset (Err (Memory a)) h =
-      (subst (λ k. there < k) (sym (ap length o)) within-there, h.1, n ∙ same-there y h.2 ∙ sym o)
-  snapshots-one y old new o n reset (Err NoSuchBook) h = absurd (omega (arith, h.0, lt))
-  snapshots-one y old new o n reset (Err NoSuchAddress) h = absurd h
-  snapshots-one y old new o n reset (Err BadHandle) h = absurd h
+  pub snapshots-one : (y : Meaning) (reset : Reset) (r : Result SnapshotParts Refused) →
+      Snapshots x y b reset r → Snapshots (joined_all (front ++ x ∷ rest)) (joined_all (front ++ y ∷ rest)) there reset r
+  snapshots-one y reset (Ok found) h = (within-there, h.1 ∙ ap snapshot_of (sym content-there), change_at-there (reset_in reset) y h.2)
+  snapshots-one y reset (Err (Memory a)) h = (within-there, h.1, same-there y h.2)
+  snapshots-one y reset (Err NoSuchBook) h = absurd (omega (arith, h.0, lt))
+  snapshots-one y reset (Err NoSuchAddress) h = absurd h
+  snapshots-one y reset (Err BadHandle) h = absurd h
 
 -- no series is at a number that no book has
 pub holds-past : (kind : MetricKind) (b s : ℕ) (cs : List Content) → length cs ≤ b → holds_at kind (record { book = b; series = s }) cs ≡ false

@@ -1,7 +1,6 @@
-pub mod BookEndsLemmas
+pub mod PlacesLemmas
 pub mod JoinedLemmas
 pub mod OneChildLemmas
-pub mod RowLemmas
 pub mod ActingLemmas
 pub mod RegisterLemmas
 pub mod OverLemmas

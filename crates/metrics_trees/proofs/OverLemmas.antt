@@ -1,6 +1,6 @@
 -- Recorders under rules, by what the rules were made of.
-use Rattle.std.proofs.Common.{if◌then◌else◌, ◌≡◌, ℕ, zero, suc, ◌<◌, ◌≤◌, Bool, true, false, List, [], ◌∷◌, ◌++◌, length, take, drop, refl, ap, sym, ◌∙◌, subst, arith, append-nil, append_assoc, length-append}
-use Rattle.std.proofs.lemmas.List.{take-append-drop, take-append-le, drop-append-le, length-take-le}
+use Rattle.std.proofs.Common.{if◌then◌else◌, ◌≡◌, ℕ, zero, suc, ◌<◌, ◌≤◌, Bool, true, false, List, [], ◌∷◌, ◌++◌, length, map, take, drop, refl, ap, sym, ◌∙◌, subst, arith, append-nil, append_assoc, length-append}
+use Rattle.std.proofs.lemmas.List.{take-append-drop, take-append-le, drop-append-le, length-take-le, length-map}
 use Rattle.std.proofs.Math.Seq.{take-length}
 use mathlib.Core.Path.{fun_ext}
 use Rattle.metrics_names.specs.declared.kind.MetricKind.{MetricKind}
@@ -8,9 +8,8 @@ use Rattle.metrics.specs.Targets.{raise, AllBelow}
 use Rattle.metrics.specs.TargetsLaws.{raise-append}
 use Rattle.metrics.specs.Book.{new_book}
 use Rattle.metrics.specs.Meaning.{Meaning, nothing, one_book}
-use Rattle.metrics.specs.Layers.{joined, joined_all, choosing, targets_of, filtered, matches}
-use Rattle.metrics_rules.specs.Nodes.{leaves_of}
-use Rattle.metrics_rules.specs.Branches.{leaves_in}
+use Rattle.metrics.specs.Layers.{joined, joined_all, choosing, targets_of, filtered, matches, Route, routed, winner, chosen}
+use Rattle.metrics_rules.specs.Nodes.{leaves_of, leaves_in}
 use Rattle.metrics_rules.proofs.BuildersLemmas.{same_meaning}
 use Rattle.metrics_trees.specs.Recorders.{books_in, spread}
 use Rattle.metrics_trees.specs.Over.{over, overs}
@@ -22,8 +21,8 @@ spread-append all kind (t ∷ ts) us =
     ap (λ vs. targets_of t.0 all kind t.1 ++ vs) (spread-append all kind ts us) ∙ sym (append_assoc (targets_of t.0 all kind t.1) (spread all kind ts) (spread all kind us))
 
 -- one leaf means its recorder
-pub over-leaf : (a : Meaning) → over (one_book new_book) (a ∷ []) ≡ a
-over-leaf a =
+pub over_leaf : (a : Meaning) → over (one_book new_book) (a ∷ []) ≡ a
+over_leaf a =
     let o = over (one_book new_book) (a ∷ []) in
     sym (same_meaning a o.contents o.targets (sym (append-nil a.contents)) (fun_ext (λ kind. fun_ext (λ name. sym (append-nil (a.targets kind name))))) o.below o.distinct)
 
@@ -31,8 +30,8 @@ spread-unless : (all : List Meaning) (kind : MetricKind) (b : Bool) (ts : List (
 spread-unless all kind true ts = refl
 spread-unless all kind false ts = refl
 
-pub over-filtered : (fold : Bool) (patterns : List (List ℕ)) (rules : Meaning) (all : List Meaning) → over (filtered fold patterns rules) all ≡ filtered fold patterns (over rules all)
-over-filtered fold patterns rules all =
+pub over_filtered : (fold : Bool) (patterns : List (List ℕ)) (rules : Meaning) (all : List Meaning) → over (filtered fold patterns rules) all ≡ filtered fold patterns (over rules all)
+over_filtered fold patterns rules all =
     let f = filtered fold patterns (over rules all) in
     same_meaning (over (filtered fold patterns rules) all) f.contents f.targets refl
     (fun_ext (λ kind. fun_ext (λ name. spread-unless all kind (matches fold patterns name) (rules.targets kind name)))) f.below f.distinct
@@ -52,7 +51,7 @@ spread-front xs ys kind (t ∷ ts) b =
 spread-past : (xs ys : List Meaning) (kind : MetricKind) (ts : List (ℕ × List ℕ)) → spread (xs ++ ys) kind (raise (length xs) ts) ≡ raise (books_in xs) (spread ys kind ts)
 spread-past xs ys kind [] = refl
 spread-past xs ys kind (t ∷ ts) =
-    ap (λ us. us ++ spread (xs ++ ys) kind (raise (length xs) ts)) (targets_of-past xs ys kind t.0 t.1)
+    ap (λ us. us ++ spread (xs ++ ys) kind (raise (length xs) ts)) (targets_of-past kind t.1 xs ys t.0)
     ∙ ap (λ us. raise (books_in xs) (targets_of t.0 ys kind t.1) ++ us) (spread-past xs ys kind ts) ∙ sym (raise-append (books_in xs) (targets_of t.0 ys kind t.1) (spread ys kind ts))
 
 over-joined : (a b : Meaning) (xs ys : List Meaning) → length xs ≡ leaves_of a → over (joined a b) (xs ++ ys) ≡ joined (over a xs) (over b ys)
@@ -73,11 +72,11 @@ leaves-first r rs ms l =
     let d = ap length (sym (take-append-drop (leaves_of r) ms)) ∙ length-append (take (leaves_of r) ms) (drop (leaves_of r) ms) in
     (le, t, omega (arith, l, s, t, d))
 
-pub over-nothing : over nothing [] ≡ nothing
-over-nothing = same_meaning (over nothing []) [] (λ kind name. []) refl refl (λ kind name. tt) (λ kind name. tt)
+pub over_nothing : over nothing [] ≡ nothing
+over_nothing = same_meaning (over nothing []) [] (λ kind name. []) refl refl (λ kind name. tt) (λ kind name. tt)
 
 none-left : (ms : List Meaning) → length ms ≡ 0 → over nothing ms ≡ nothing
-none-left [] l = over-nothing
+none-left [] l = over_nothing
 none-left (m ∷ ms) l = absurd (omega (arith, l))
 
 pub over-all : (rs ms : List Meaning) → length ms ≡ leaves_in rs → over (joined_all rs) ms ≡ joined_all (overs rs ms)
@@ -125,3 +124,12 @@ overs-more (q ∷ rs) r ms ns l k =
     ap (λ xs. over q xs ∷ overs (rs ++ r ∷ []) (drop n (ms ++ ns))) (take-append-le n ms ns f.0)
     ∙ ap (λ xs. over q (take n ms) ∷ overs (rs ++ r ∷ []) xs) (drop-append-le n ms ns f.0)
     ∙ ap (λ xs. over q (take n ms) ∷ xs) (overs-more rs r (drop n ms) ns f.2 k)
+
+-- ---- recorders that are as many as the leaves
+
+module _ {B : Type 0} (m : B → Meaning) (rs : List Meaning) (bs : List B) (many : leaves_in rs ≡ length bs) where
+  pub over_branches : over (joined_all rs) (map m bs) ≡ joined_all (overs rs (map m bs))
+  over_branches = over-all rs (map m bs) (length-map bs m ∙ sym many)
+
+  pub over_routed : (routes : List Route) → over (routed routes rs) (map m bs) ≡ routed routes (overs rs (map m bs))
+  over_routed routes = over-chosen (λ kind name. chosen (winner routes kind name)) rs (map m bs) (length-map bs m ∙ sym many)

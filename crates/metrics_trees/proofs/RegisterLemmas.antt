@@ -7,32 +7,30 @@ use Rattle.metrics_names.specs.declared.kind.MetricKind.{MetricKind}
 use Rattle.metrics_names.specs.declared.refused.Refused.{Refused}
 use Rattle.metrics_names.specs.Names.{KeyParts}
 use Rattle.metrics.specs.declared.handles.Address.{Address}
-use Rattle.metrics.specs.Targets.{after_targets, change_at, AreDistinct, IsNot}
+use Rattle.metrics.specs.Targets.{raise, after_targets, change_at, AreDistinct, IsNot}
 use Rattle.metrics.specs.Book.{Content, register_in, content_at, place}
 use Rattle.metrics.specs.Meaning.{Meaning, Acts, KeepsTargets, Registers, addresses, address_in, key_in_book}
-use Rattle.metrics.specs.Layers.{targets_of}
+use Rattle.metrics.specs.Layers.{joined_all, targets_of}
 use Rattle.metrics_rules.specs.declared.visitor.Stopped.{Stopped}
 use Rattle.metrics_rules.specs.Visits.{key_at, shown, Visits}
-use Rattle.metrics_trees.specs.BookEnds.{raised, raised_one, IsAppended, CanAppend}
+use Rattle.metrics_trees.specs.Places.{raised, raised_one, IsAppended, CanAppend}
 use Rattle.metrics_trees.specs.Recorders.{books_of, books_in, most_books, spread, start}
 use Rattle.metrics_trees.specs.Over.{over}
 use Rattle.metrics_trees.specs.OverLaws.{distinct_spread}
 use Rattle.metrics_trees.specs.Calls.{Calls}
 use Rattle.metrics_trees.specs.Visiting.{Acting, IsEnd, Acted, Accepts, Rejects, IsAdded, kind_of, found_by, registering, addresses_at}
 use Rattle.metrics_trees.specs.declared.visits.Call.{Call}
-use Rattle.metrics_trees.proofs.JoinedLemmas.{addresses-below}
-use Rattle.metrics_rules.proofs.OneChildLemmas.{before-is, child-most, targets-one}
-use Rattle.metrics_trees.proofs.OneChildLemmas.{addresses-child}
+use Rattle.metrics_trees.proofs.JoinedLemmas.{addresses-below, addresses-one}
+use Rattle.metrics_rules.proofs.OneChildLemmas.{front as first, rest as others, all_is, child-most, targets-one}
 use Rattle.metrics_trees.proofs.ActingLemmas.{contents_in, IsAt, went-one, counted, answered}
 
 -- the addresses of one recorder can be raised
 pub can-append : {Y : Type 0} (M : Y → Meaning) (ys : List Y) (n : ℕ) (x : Y) → n < length ys → x ≡ get_or ys n x → (front : ℕ) → front ≡ start n (map M ys) → books_in (map M ys) ≤ most_books →
     (y : Y) (kind : MetricKind) (key : KeyParts) (r : Result (List Address) Refused) → Registers (M x) (M y) kind key r → CanAppend front r
 can-append M ys n x lt at front f m y kind key (Ok there) g =
-    let p = child-most M ys n x lt at most_books m in
-    let s = before-is M ys n x lt at in
+    let p = child-most M ys n x lt at in
     let b = addresses-below kind key.labels ((M x).targets kind key.name) (M x).contents (books_of (M x)) ((M x).below kind key.name) in
-    record { front_fits = omega (arith, p, s, f); books_fit = subst (All (λ a. a.book < 65536)) (sym g.0) (λ j d l. (let z = b j d l in omega (arith, z, p))) }
+    record { front_fits = omega (arith, p, m, f); books_fit = subst (All (λ a. a.book < 65536)) (sym g.0) (λ j d l. (let z = b j d l in omega (arith, z, p, m))) }
 can-append M ys n x lt at front f m y kind key (Err e) g = tt
 
 abbrev registers : MetricKind → List (List ℕ × List ℕ) → List ℕ → Content → Content
@@ -61,9 +59,10 @@ module _ {B : Type 0} (m : B → Meaning) (leaf : ℕ) (key : KeyParts) (was now
   found_there (Ok there) c a =
       let ts = (m c.before).targets (kind_of call) key.name in
       a ∙ ap (λ xs. found_by call ++ raised front xs) c.called.0
-      ∙ ap (λ k. found_by call ++ raised k (addresses (kind_of call) key.labels ts (m c.before).contents)) (at ∙ sym (before-is m was leaf c.before c.within c.at))
+      ∙ ap (λ k. found_by call ++ raised k (addresses (kind_of call) key.labels ts (m c.before).contents)) at
       ∙ ap (λ xs. found_by call ++ xs)
-      (addresses-child m was leaf c.before c.within c.at (kind_of call) key.labels key.name
+      (addresses-one (kind_of call) key.labels (first m was leaf c.before c.within c.at) (others m was leaf c.before c.within c.at) (m c.before) key.name
+      ∙ ap (λ all. addresses (kind_of call) key.labels (raise (start leaf (map m was)) ts) (joined_all all).contents) (sym (all_is m was leaf c.before c.within c.at))
       ∙ ap (λ us. addresses (kind_of call) key.labels us (contents_in m was)) (sym (targets-one m was leaf c.before c.within c.at (kind_of call) key.name)))
 
   pub asked : (kind : MetricKind) → kind_of call ≡ kind → (answer : Result (List Address) Refused) → Calls m leaf was now (λ a c. Registers a c kind key answer) → (r : Result (Unit {0}) Refused) →
@@ -132,8 +131,8 @@ module _ {B : Type 0} (m : B → Meaning) (labels : List (List ℕ × List ℕ))
       let at = λ (us : List (ℕ × List ℕ)) (cs : List Content). addresses kind labels us cs in
       let found = (gains v t.0 (key_at labels t) p.0 p.1).1 ∙ ap (λ q. fd v ++ addresses_at m bs t.0 q (key_at labels t)) k.0 in
       found-all p.0 ts w one.0 d.1 p.2
-      ∙ ap (λ us. fd p.0 ++ at us (contents_in m (st p.0).recorders)) (one.1.did.same kind ts)
-      ∙ ap (λ cs. fd p.0 ++ at Z cs) one.1.did.contents
+      ∙ ap (λ us. fd p.0 ++ at us (contents_in m (st p.0).recorders)) (one.1.0.same kind ts)
+      ∙ ap (λ cs. fd p.0 ++ at Z cs) one.1.0.contents
       ∙ ap (λ xs. fd p.0 ++ xs) (addresses-stay kind labels (step labels) Y Z (contents_in m bs) (distinct_spread (map m bs) kind (t ∷ ts) d))
       ∙ ap (λ xs. xs ++ at Z (contents_in m bs)) found
       ∙ append_assoc (fd v) (at Y (contents_in m bs)) (at Z (contents_in m bs))

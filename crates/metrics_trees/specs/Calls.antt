@@ -1,7 +1,6 @@
 -- A call of one of several recorders.
-use Rattle.std.specs.Prelude.{◌≡◌, ℕ, ◌<◌, List, length, map, get_or, slice_set}
+use Rattle.std.specs.Prelude.{◌≡◌, ℕ, ◌<◌, List, length, get_or, slice_set}
 use Rattle.metrics.specs.Meaning.{Meaning, KeepsTargets}
-use Rattle.metrics_trees.specs.Over.{over}
 
 -- the recorder at a leaf was called, which did this, and the others stayed
 pub record Calls {B : Type 0} (m : B → Meaning) (leaf : ℕ) (was now : List B) (R : Meaning → Meaning → Type 0) : Type 0 where
@@ -12,9 +11,3 @@ pub record Calls {B : Type 0} (m : B → Meaning) (leaf : ℕ) (was now : List B
   pub is : now ≡ slice_set was leaf after
   pub keeps : KeepsTargets (m before) (m after)
   pub called : R (m before) (m after)
-
--- a call on a book of all recorders, which did this under any rules
-pub record CallsBook {B : Type 0} (m : B → Meaning) (was now : List B) (R : Meaning → Meaning → Type 0) : Type 0 where
-  pub count : length now ≡ length was
-  pub keeps : (rules : Meaning) → KeepsTargets (over rules (map m was)) (over rules (map m now))
-  pub called : (rules : Meaning) → R (over rules (map m was)) (over rules (map m now))

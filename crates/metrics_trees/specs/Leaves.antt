@@ -14,4 +14,4 @@ recorders_of (Several row) = row.recorders.items
 abbrev pub HasRoom : {B : Type 0} {r : recorder.Ghosts B} → ℕ → Leaves B r → Type 0
 HasRoom n Empty = Unit {0}
 HasRoom n (One b) = ⊥
-HasRoom n (Several row) = HasSpare n row.recorders row.ends
+HasRoom n (Several row) = HasSpare n row.recorders row.starts

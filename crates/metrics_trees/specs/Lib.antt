@@ -1,5 +1,5 @@
-pub mod BookEnds
 pub mod Recorders
+pub mod Places
 pub mod OverLaws
 pub mod Over
 pub mod Calls

@@ -1,10 +1,10 @@
 -- The targets of recorders under rules are in their books, and no book has two.
-use Rattle.std.proofs.Common.{◌≡◌, ◌⊎◌, ℕ, zero, suc, ◌+◌, ◌<◌, ◌≤◌, List, [], ◌∷◌, ◌++◌, length, map, subst, arith, inl, inr}
+use Rattle.std.proofs.Common.{◌≡◌, ◌⊎◌, ℕ, zero, suc, ◌+◌, ◌<◌, ◌≤◌, List, [], ◌∷◌, ◌++◌, length, take, ap, sym, subst, arith, inl, inr, append-nil, length-append}
 use Rattle.metrics_names.specs.declared.kind.MetricKind.{MetricKind}
 use Rattle.metrics.specs.Targets.{raise, AllBelow, AreDistinct, IsNot}
 use Rattle.metrics.specs.Meaning.{Meaning}
 use Rattle.metrics.specs.Layers.{joined_all, targets_of, below_of, distinct_of}
-use Rattle.metrics_rules.proofs.EndsLemmas.{rises-to}
+use Rattle.metrics_rules.proofs.JoinedLemmas.{leaves-rise}
 use Rattle.std.proofs.lemmas.Bool.{cases_lt}
 use Rattle.metrics_trees.specs.Recorders.{books_of, spread, start}
 
@@ -30,10 +30,12 @@ within_below hi (t ∷ ts) h = (omega arith, h.0, within_below hi ts h.1)
 
 within_of : (w : ℕ) (all : List Meaning) (kind : MetricKind) (name : List ℕ) → Within (start w all) (start (suc w) all) (targets_of w all kind name)
 within_of w [] kind name = tt
-within_of zero (a ∷ rest) kind name =
-    let e : books_of a ≡ books_of a + 0 = omega arith in
-    subst (λ hi. Within 0 hi (a.targets kind name)) e (within_below (books_of a) (a.targets kind name) (a.below kind name))
-within_of (suc w) (a ∷ rest) kind name = within_raise (books_of a) (start w rest) (start (suc w) rest) (targets_of w rest kind name) (within_of w rest kind name)
+within_of zero (a ∷ rest) kind name = subst (λ hi. Within 0 hi (a.targets kind name)) (ap length (sym (append-nil a.contents))) (within_below (books_of a) (a.targets kind name) (a.below kind name))
+within_of (suc w) (a ∷ rest) kind name =
+    let from : (v : ℕ) → books_of a + start v rest ≡ start (suc v) (a ∷ rest) = λ v. sym (length-append a.contents (joined_all (take v rest)).contents) in
+    let us = targets_of (suc w) (a ∷ rest) kind name in
+    subst (λ lo. Within lo (start (suc (suc w)) (a ∷ rest)) us) (from w)
+    (subst (λ hi. Within (books_of a + start w rest) hi us) (from (suc w)) (within_raise (books_of a) (start w rest) (start (suc w) rest) (targets_of w rest kind name) (within_of w rest kind name)))
 
 is_not_append : {X : Type 0} (b : ℕ) (ts us : List (ℕ × X)) → IsNot b ts → IsNot b us → IsNot b (ts ++ us)
 is_not_append b [] us h g = g
@@ -50,8 +52,8 @@ is_not_of all w v b kind name ne lo hi =
     is_not_outside b (start v all) (start (suc v) all) (targets_of v all kind name) (within_of v all kind name) (side (cases_lt v w))
   where
     side : (v < w) ⊎ (w ≤ v) → (b < start v all) ⊎ (start (suc v) all ≤ b)
-    side (inl l) = let r = rises-to (map books_of all) (suc v) w l in inr (omega (arith, r, lo))
-    side (inr l) = let r = rises-to (map books_of all) (suc w) v (omega (arith, l, ne)) in inl (omega (arith, r, hi))
+    side (inl l) = let r = leaves-rise all (suc v) w l in inr (omega (arith, r, lo))
+    side (inr l) = let r = leaves-rise all (suc w) v (omega (arith, l, ne)) in inl (omega (arith, r, hi))
 
 is_not_spread : (all : List Meaning) (w b : ℕ) (kind : MetricKind) (ts : List (ℕ × List ℕ)) → IsNot w ts → start w all ≤ b → b < start (suc w) all → IsNot b (spread all kind ts)
 is_not_spread all w b kind [] ne lo hi = tt

@@ -1,9 +1,8 @@
 -- Recorders by number: their books, their targets, and when adding one fails.
-use Rattle.std.specs.Prelude.{if◌then◌else◌, ℕ, ◌+◌, ◌≤◌, nat_eq, nat_le, List, [], ◌∷◌, ◌++◌, length, map, take}
+use Rattle.std.specs.Prelude.{if◌then◌else◌, ℕ, ◌+◌, ◌≤◌, nat_eq, nat_le, List, [], ◌∷◌, ◌++◌, length, take}
 use Rattle.metrics_names.specs.declared.kind.MetricKind.{MetricKind}
 use Rattle.metrics.specs.Meaning.{Meaning}
 use Rattle.metrics.specs.Layers.{joined_all, targets_of}
-use Rattle.metrics_rules.specs.Ends.{total}
 use Rattle.metrics_trees.specs.declared.over_error.OverError.{OverError}
 use Rattle.metrics_trees.specs.declared.over_error.OverError.TheVariants.{NotOneEach, TooManyBooks as TooMany, Memory as OutOfMemory}
 -- why one recorder more, or a route, is rejected: as of leaves, since a meaning's books are its leaves
@@ -21,9 +20,9 @@ most_books = 65536
 abbrev pub books_in : List Meaning → ℕ
 books_in all = books_of (joined_all all)
 
--- the books of a recorder are those from the end of the recorders before it to its own
+-- the number of books before a recorder
 abbrev pub start : ℕ → List Meaning → ℕ
-start w all = total (take w (map books_of all))
+start w all = books_in (take w all)
 
 -- the targets in the recorders at these leaves, each at its name there
 abbrev pub spread : List Meaning → MetricKind → List (ℕ × List ℕ) → List (ℕ × List ℕ)

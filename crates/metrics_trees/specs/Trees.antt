@@ -14,4 +14,4 @@ rules_of c = c.rules
 
 -- a tree means its recorders under its rules
 abbrev pub tree_meaning : {B : Type 0} {r : recorder.Ghosts B} → (B → Meaning) → Child B r → Meaning
-tree_meaning m c = over (rules_meaning c.rules) (map m (recorders_of c.registrar.leaves))
+tree_meaning m c = over (rules_meaning c.rules) (map m (recorders_of c.below.registrar.leaves))

@@ -13,7 +13,7 @@ ghost use Rattle.metrics.specs.declared.error.Error.TheVariants.{Memory};
 use crate::leaves::Leaves;
 use crate::over_error::OverError;
 use crate::row::Row;
-use crate::visits::{Call, Describing, Registrar, ended};
+use crate::visits::{Below, Call, Describing, ended};
 use metrics::{
     Address, Error, Key, KeyName, MetricKind, Recorder, Refused, Reset, Snapshot, Unit, Update,
 };
@@ -44,10 +44,8 @@ use std::mem;
 #[derive(Drop)]
 pub struct Child<B: Recorder> {
     pub(crate) rules: Rules,
-    /// The names below prefixes in register calls, the first of which makes it.
-    pub(crate) scratch: Option<Scratch<Key>>,
-    pub(crate) registrar: Registrar<B>,
-    ghost as_many: { leaves_of (rules_meaning rules) ≡ length (recorders_of registrar.leaves) },
+    pub(crate) below: Below<B>,
+    ghost as_many: { leaves_of (rules_meaning rules) ≡ length (recorders_of below.registrar.leaves) },
 }
 
 /// Several recorders, each of which gets each name. Made by a `FanoutBuilder`.
@@ -78,8 +76,7 @@ impl<B: Recorder> Child<B> {
         match Row::new(leaves) {
             Ok(row) => Ok(Child {
                 rules,
-                scratch: None,
-                registrar: Registrar::new(Leaves::Several(row)),
+                below: Below::new(Leaves::Several(row)),
             }),
             Err((error, leaves)) => Err((error, rules, leaves)),
         }
@@ -93,6 +90,7 @@ impl<B: Recorder> Child<B> {
     }
 
     /// Makes a tree of one recorder.
+    #[tactic(auto, using(crate::proofs::OverLemmas::over_leaf))]
     pub fn leaf(recorder: B) -> Child<B>
         ensures { ⟦<Child<B> as Recorder>⟧.meaning result ≡ B.meaning recorder }
     {
@@ -100,19 +98,18 @@ impl<B: Recorder> Child<B> {
         let _books = recorder.books();
         Child {
             rules: Rules::leaf(),
-            scratch: None,
-            registrar: Registrar::new(Leaves::One(recorder)),
+            below: Below::new(Leaves::One(recorder)),
         }
     }
 
     /// Makes a tree without books, which rejects each name.
+    #[tactic(auto, using(crate::proofs::OverLemmas::over_nothing))]
     pub fn noop() -> Child<B>
         ensures { ⟦<Child<B> as Recorder>⟧.meaning result ≡ nothing }
     {
         Child {
             rules: Rules::noop(),
-            scratch: None,
-            registrar: Registrar::new(Leaves::Empty),
+            below: Below::new(Leaves::Empty),
         }
     }
 
@@ -141,20 +138,10 @@ impl<B: Recorder> Child<B> {
             prefixed layer.now (⟦<Child<B> as Recorder>⟧.meaning self))
             (λ e. (e.0 ≡ Memory) × (e.1 ≡ self)) }
     {
-        match self.rules.prefix(alloc, layer) {
-            Ok(rules) => Ok(Child {
-                rules,
-                scratch: self.scratch,
-                registrar: self.registrar,
-            }),
-            Err((error, rules)) => Err((
-                error,
-                Child {
-                    rules,
-                    scratch: self.scratch,
-                    registrar: self.registrar,
-                },
-            )),
+        let Child { rules, below } = self;
+        match rules.prefix(alloc, layer) {
+            Ok(rules) => Ok(Child { rules, below }),
+            Err((error, rules)) => Err((error, Child { rules, below })),
         }
     }
 
@@ -171,29 +158,19 @@ impl<B: Recorder> Child<B> {
             (⟦<Child<B> as Recorder>⟧.meaning self)))
             (λ e. (e.0 ≡ unwrap_or (fault_of layer.now) Memory) × (e.1 ≡ self)) }
     {
-        match self.rules.filter(alloc, layer) {
-            Ok(rules) => Ok(Child {
-                rules,
-                scratch: self.scratch,
-                registrar: self.registrar,
-            }),
-            Err((error, rules)) => Err((
-                error,
-                Child {
-                    rules,
-                    scratch: self.scratch,
-                    registrar: self.registrar,
-                },
-            )),
+        let Child { rules, below } = self;
+        match rules.filter(alloc, layer) {
+            Ok(rules) => Ok(Child { rules, below }),
+            Err((error, rules)) => Err((error, Child { rules, below })),
         }
     }
 }
 
 impl<B: Recorder> Recorder for Child<B> {
-    ghost meaning = { λ c. over (rules_meaning c.rules) (map B.meaning (recorders_of c.registrar.leaves)) };
+    ghost meaning = { λ c. over (rules_meaning c.rules) (map B.meaning (recorders_of c.below.registrar.leaves)) };
 
     fn books(&self) -> usize {
-        self.registrar.leaves.books()
+        self.below.registrar.leaves.books()
     }
 
     fn describe(
@@ -204,7 +181,7 @@ impl<B: Recorder> Recorder for Child<B> {
         unit: Option<Unit>,
         text: &str,
     ) -> Result<usize, Refused> {
-        let leaves = mem::replace(&mut self.registrar.leaves, Leaves::Empty);
+        let leaves = mem::replace(&mut self.below.registrar.leaves, Leaves::Empty);
         let mut visitor = Describing {
             alloc,
             kind,
@@ -216,7 +193,7 @@ impl<B: Recorder> Recorder for Child<B> {
         let mut scratch = Scratch::new(alloc);
         let visited = self.rules.visit(kind, name, &mut scratch, &mut visitor);
         let Describing { leaves, acted, .. } = visitor;
-        self.registrar.leaves = leaves;
+        self.below.registrar.leaves = leaves;
         ended(visited, acted, acted)
     }
 
@@ -226,24 +203,29 @@ impl<B: Recorder> Recorder for Child<B> {
         kind: MetricKind,
         key: &Key,
     ) -> Result<Vec<Address>, Refused> {
-        self.registrar.call = Some(Call {
+        self.below.registrar.call = Some(Call {
             alloc,
             kind,
             found: Vec::new(alloc),
         });
-        let scratch = self.scratch.get_or_insert_with(|| Scratch::new(alloc));
-        let visited = self.rules.visit(kind, key, scratch, &mut self.registrar);
-        let found = self.registrar.finish(alloc);
+        let scratch = self
+            .below
+            .scratch
+            .get_or_insert_with(|| Scratch::new(alloc));
+        let visited = self
+            .rules
+            .visit(kind, key, scratch, &mut self.below.registrar);
+        let found = self.below.registrar.finish(alloc);
         let acted = found.len();
         ended(visited, found, acted)
     }
 
     fn holds(&self, kind: MetricKind, at: Address) -> bool {
-        self.registrar.leaves.holds(kind, at)
+        self.below.registrar.leaves.holds(kind, at)
     }
 
     fn update(&mut self, at: Address, by: Update) -> Result<(), Refused> {
-        self.registrar.leaves.update(at, by)
+        self.below.registrar.leaves.update(at, by)
     }
 
     fn snapshot_with(
@@ -252,6 +234,9 @@ impl<B: Recorder> Recorder for Child<B> {
         book: usize,
         reset: Reset,
     ) -> Result<Snapshot, Refused> {
-        self.registrar.leaves.snapshot_with(alloc, book, reset)
+        self.below
+            .registrar
+            .leaves
+            .snapshot_with(alloc, book, reset)
     }
 }

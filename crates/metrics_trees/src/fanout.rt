@@ -1,14 +1,14 @@
 //! Recorders that each get each name.
 ghost use Rattle.std.specs.Prelude.{◌≡◌, ◌≤◌, ◌++◌, ◌∷◌, [], length, map, MatchResult};
 ghost use Rattle.metrics.specs.Layers.{joined_all};
-ghost use Rattle.metrics_rules.specs.Branches.{leaves_in};
+ghost use Rattle.metrics_rules.specs.Nodes.{leaves_in};
 ghost use Rattle.metrics_rules.specs.Builders.{fanout_branches};
 ghost use Rattle.metrics_trees.specs.Leaves.{recorders_of};
 ghost use Rattle.metrics_trees.specs.Recorders.{BooksFit, books_in, most_books, refusal};
 
 use crate::child::{Child, Fanout};
 use crate::leaves::Leaves;
-use crate::visits::Registrar;
+use crate::visits::Below;
 use metrics::{Error, Recorder};
 use metrics_rules::FanoutBuilder as RulesBuilder;
 use std::alloc::Global;
@@ -50,40 +50,29 @@ impl<B: Recorder> FanoutBuilder<B> {
             (λ e. (e.0 ≡ refusal (fanout_recorders self.old) one) × (e.1 ≡ child)
             × (fanout_recorders self.new ≡ fanout_recorders self.old)) }
     {
-        if let Err(error) = self.leaves.make_room(self.alloc, &child.registrar.leaves) {
+        let others = &child.below.registrar.leaves;
+        if let Err(error) = self.leaves.make_room(self.alloc, others) {
             return Err((error, child));
         }
-        let Child {
-            rules,
-            scratch,
-            registrar,
-        } = child;
+        let Child { rules, below } = child;
         match self.rules.add_child(rules) {
             Ok(()) => {
+                let registrar = below.registrar;
                 self.leaves.append_reserved(registrar.leaves);
                 Ok(())
             }
-            Err((_error, rules)) => {
-                Err((
-                    Error::Memory,
-                    Child {
-                        rules,
-                        scratch,
-                        registrar,
-                    },
-                ))
-            }
+            Err((_error, rules)) => Err((Error::Memory, Child { rules, below })),
         }
     }
 
     /// Returns all that were added, as one recorder.
+    #[tactic(auto, using(crate::proofs::OverLemmas::over_branches))]
     pub fn build(self) -> Fanout<B>
         ensures { ⟦<Fanout<B> as Recorder>⟧.meaning result ≡ joined_all (fanout_recorders self) }
     {
         Child {
             rules: self.rules.build(),
-            scratch: None,
-            registrar: Registrar::new(self.leaves),
+            below: Below::new(self.leaves),
         }
     }
 }

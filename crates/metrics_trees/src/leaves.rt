@@ -1,20 +1,19 @@
 //! The recorders at the leaves of a tree.
 ghost use Rattle.std.specs.Prelude.{◌≡◌, ◌+◌, ◌<◌, ◌≤◌, ◌++◌, length, map, nat_lt, cond, MatchResult, OnOk};
 ghost use Rattle.std.specs.Result.{result_map_both};
-ghost use Rattle.metrics.specs.Meaning.{Meaning, Describes, Registers, Updates, Snapshots, holds_at};
-ghost use Rattle.metrics_trees.specs.Calls.{Calls, CallsBook};
+ghost use Rattle.metrics.specs.Meaning.{Meaning, KeepsTargets, Describes, Registers, Updates, Snapshots, holds_at};
+ghost use Rattle.metrics.specs.Layers.{joined_all};
+ghost use Rattle.metrics_trees.specs.Calls.{Calls};
 ghost use Rattle.metrics_trees.specs.Leaves.{recorders_of, HasRoom};
 ghost use Rattle.metrics_trees.specs.Over.{over};
 ghost use Rattle.metrics_trees.specs.Recorders.{books_in, most_books, start};
 ghost use Rattle.metrics_rules.specs.Nodes.{most_leaves};
 ghost use Rattle.metrics.specs.declared.error.Error.TheVariants.{Memory, TooManyBooks};
 
-use crate::book_ends::place_of;
 use crate::row::{MOST_BOOKS, Row};
 use metrics::{
     Address, Error, Key, KeyName, MetricKind, Recorder, Refused, Reset, Snapshot, Unit, Update,
 };
-use metrics_rules::{end_of_all, start_of};
 use std::alloc::{AllocError, Global};
 use std::mem;
 
@@ -86,7 +85,7 @@ impl<B: Recorder> Leaves<B> {
             Leaves::Several(row) => match others {
                 Leaves::Empty => {}
                 Leaves::One(recorder) => row.push_reserved(recorder),
-                Leaves::Several(other) => row.append_reserved(other),
+                Leaves::Several(other) => row.append_reserved(other.recorders),
             },
         }
     }
@@ -109,7 +108,7 @@ impl<B: Recorder> Leaves<B> {
         match self {
             Leaves::Empty => 0,
             Leaves::One(recorder) => recorder.books(),
-            Leaves::Several(row) => end_of_all(&row.ends),
+            Leaves::Several(row) => row.books,
         }
     }
 
@@ -121,7 +120,7 @@ impl<B: Recorder> Leaves<B> {
         match self {
             Leaves::Empty => 0,
             Leaves::One(_) => 0,
-            Leaves::Several(row) => start_of(&row.ends, leaf),
+            Leaves::Several(row) => row.starts[leaf],
         }
     }
 
@@ -165,14 +164,14 @@ impl<B: Recorder> Leaves<B> {
         }
     }
 
+    #[tactic(auto, using(crate::proofs::OneChildLemmas::holds_none))]
     pub(crate) fn holds(&self, kind: MetricKind, at: Address) -> bool
-        ensures { (rules : Meaning) → result
-            ≡ holds_at kind at (over rules (map B.meaning (recorders_of self.now))).contents }
+        ensures { result ≡ holds_at kind at (joined_all (map B.meaning (recorders_of self.now))).contents }
     {
         match self {
             Leaves::Empty => false,
             Leaves::One(recorder) => recorder.holds(kind, at),
-            Leaves::Several(row) => match place_of(&row.ends, at.book) {
+            Leaves::Several(row) => match row.place_of(at.book) {
                 None => false,
                 Some((number, book)) => {
                     let series = at.series;
@@ -183,13 +182,17 @@ impl<B: Recorder> Leaves<B> {
     }
 
     pub(crate) fn update(&mut self, at: Address, by: Update) -> Result<(), Refused>
-        ensures { CallsBook B.meaning (recorders_of self.old) (recorders_of self.new)
-            (λ a c. Updates a c at by result) }
+        ensures count { length (recorders_of self.new) ≡ length (recorders_of self.old) }
+        ensures books { books_in (map B.meaning (recorders_of self.new)) ≡ books_in (map B.meaning (recorders_of self.old)) }
+        ensures keeps { (rules : Meaning) → KeepsTargets (over rules (map B.meaning (recorders_of self.old)))
+            (over rules (map B.meaning (recorders_of self.new))) }
+        ensures updates { Updates (joined_all (map B.meaning (recorders_of self.old)))
+            (joined_all (map B.meaning (recorders_of self.new))) at by result }
     {
         match self {
             Leaves::Empty => Err(Refused::NoSuchAddress),
             Leaves::One(recorder) => recorder.update(at, by),
-            Leaves::Several(row) => match place_of(&row.ends, at.book) {
+            Leaves::Several(row) => match row.place_of(at.book) {
                 None => Err(Refused::NoSuchAddress),
                 Some((number, book)) => {
                     let series = at.series;
@@ -205,13 +208,17 @@ impl<B: Recorder> Leaves<B> {
         book: usize,
         reset: Reset,
     ) -> Result<Snapshot, Refused>
-        ensures { CallsBook B.meaning (recorders_of self.old) (recorders_of self.new)
-            (λ a c. Snapshots a c book reset result) }
+        ensures count { length (recorders_of self.new) ≡ length (recorders_of self.old) }
+        ensures books { books_in (map B.meaning (recorders_of self.new)) ≡ books_in (map B.meaning (recorders_of self.old)) }
+        ensures keeps { (rules : Meaning) → KeepsTargets (over rules (map B.meaning (recorders_of self.old)))
+            (over rules (map B.meaning (recorders_of self.new))) }
+        ensures snapshots { Snapshots (joined_all (map B.meaning (recorders_of self.old)))
+            (joined_all (map B.meaning (recorders_of self.new))) book reset result }
     {
         match self {
             Leaves::Empty => Err(Refused::NoSuchBook),
             Leaves::One(recorder) => recorder.snapshot_with(alloc, book, reset),
-            Leaves::Several(row) => match place_of(&row.ends, book) {
+            Leaves::Several(row) => match row.place_of(book) {
                 None => Err(Refused::NoSuchBook),
                 Some((number, there)) => row.recorders[number].snapshot_with(alloc, there, reset),
             },

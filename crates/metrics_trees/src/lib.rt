@@ -1,11 +1,11 @@
 //! Trees of layers over leaves of one type: prefix, filter, fanout and router at any depth.
 #![tactic(auto)]
 
-mod book_ends;
 mod child;
 mod fanout;
 mod leaves;
 mod over_error;
+mod places;
 mod router;
 mod row;
 mod visits;

@@ -2,14 +2,14 @@
 ghost use Rattle.std.specs.Prelude.{◌≡◌, ◌≤◌, ◌<◌, ◌-◌, ◌++◌, ◌∷◌, [], List, suc, false};
 ghost use Rattle.std.specs.Prelude.{nat_eq, length, map, MatchResult};
 ghost use Rattle.metrics.specs.Layers.{Route, routed, joined_all};
-ghost use Rattle.metrics_rules.specs.Branches.{leaves_in};
+ghost use Rattle.metrics_rules.specs.Nodes.{leaves_in};
 ghost use Rattle.metrics_rules.specs.Builders.{router_branches};
 ghost use Rattle.metrics_trees.specs.Leaves.{recorders_of};
 ghost use Rattle.metrics_trees.specs.Recorders.{BooksFit, books_in, most_books, route_refusal, target_refusal};
 
 use crate::child::{Child, Router};
 use crate::leaves::Leaves;
-use crate::visits::Registrar;
+use crate::visits::Below;
 use metrics::{Error, MetricKindMask, Recorder};
 use metrics_rules::RouterBuilder as RulesBuilder;
 use std::alloc::Global;
@@ -33,11 +33,8 @@ impl<B: Recorder> RouterBuilder<B> {
         ensures recorders { router_recorders result ≡ ⟦<Child<B> as Recorder>⟧.meaning default ∷ [] }
         ensures routes { HasRoutes result [] }
     {
-        let Child {
-            rules,
-            registrar,
-            ..
-        } = default;
+        let Child { rules, below } = default;
+        let registrar = below.registrar;
         RouterBuilder {
             alloc,
             rules: RulesBuilder::new(alloc, rules),
@@ -70,29 +67,18 @@ impl<B: Recorder> RouterBuilder<B> {
         if mask.is_empty() {
             return Err((Error::EmptyMask, target));
         }
-        if let Err(error) = self.leaves.make_room(self.alloc, &target.registrar.leaves) {
+        let others = &target.below.registrar.leaves;
+        if let Err(error) = self.leaves.make_room(self.alloc, others) {
             return Err((error, target));
         }
-        let Child {
-            rules,
-            scratch,
-            registrar,
-        } = target;
+        let Child { rules, below } = target;
         match self.rules.add_route(mask, pattern, rules) {
             Ok(number) => {
+                let registrar = below.registrar;
                 self.leaves.append_reserved(registrar.leaves);
                 Ok(number)
             }
-            Err((_error, rules)) => {
-                Err((
-                    Error::Memory,
-                    Child {
-                        rules,
-                        scratch,
-                        registrar,
-                    },
-                ))
-            }
+            Err((_error, rules)) => Err((Error::Memory, Child { rules, below })),
         }
     }
 
@@ -118,6 +104,7 @@ impl<B: Recorder> RouterBuilder<B> {
     }
 
     /// Returns the default, the targets and the routes as one recorder.
+    #[tactic(auto, using(crate::proofs::OverLemmas::over_branches))]
     pub fn build(self) -> Router<B>
         ensures routed { (rs : List Route) → HasRoutes self rs →
             ⟦<Router<B> as Recorder>⟧.meaning result ≡ routed rs (router_recorders self) }
@@ -126,8 +113,7 @@ impl<B: Recorder> RouterBuilder<B> {
     {
         Child {
             rules: self.rules.build(),
-            scratch: None,
-            registrar: Registrar::new(self.leaves),
+            below: Below::new(self.leaves),
         }
     }
 }

@@ -1,26 +1,30 @@
 //! Recorders by number.
 ghost use Rattle.std.specs.Prelude.{◌≡◌, ◌+◌, ◌≤◌, ◌++◌, ◌∷◌, [], ℕ, suc, length};
-ghost use Rattle.std.specs.Prelude.{map, nat_le, IfOk, OnOk, MatchResult};
+ghost use Rattle.std.specs.Prelude.{map, nat_le, IfOk, OnOk, MatchOption, MatchResult};
 ghost use Rattle.metrics_rules.specs.Branches.{HasSpare};
-ghost use Rattle.metrics_rules.specs.Nodes.{AreEnds};
+ghost use Rattle.metrics_rules.specs.Nodes.{AreStarts};
+ghost use Rattle.metrics_trees.specs.Places.{IsPlace};
 ghost use Rattle.metrics_trees.specs.Recorders.{BooksFit, books_in, most_books, row_refusal};
 
-use crate::book_ends::push_ends;
 use crate::over_error::OverError;
+use crate::places::last_start;
 use metrics::Recorder;
-use metrics_rules::end_of_all;
 use std::alloc::{AllocError, Global};
 
 /// How many books there may be in all.
 pub(crate) const MOST_BOOKS: usize = 65_536;
 
-/// Recorders by number, and the number of books up to the end of each.
+/// Recorders by number, with at most 65,536 books in all.
 #[derive(Drop)]
 pub struct Row<B: Recorder> {
     pub(crate) recorders: Vec<B>,
-    pub(crate) ends: Vec<usize>,
-    ghost ends_are: { AreEnds ends.items (map B.meaning recorders.items) },
-    ghost most: { books_in (map B.meaning recorders.items) ≤ most_books },
+    /// The number of books before each.
+    pub(crate) starts: Vec<usize>,
+    /// The number of books of all.
+    pub(crate) books: usize,
+    ghost starts_are: { AreStarts starts.items (map B.meaning recorders.items) },
+    ghost count: { books ≡ books_in (map B.meaning recorders.items) },
+    ghost most: { books ≤ most_books },
 }
 
 impl<B: Recorder> Row<B> {
@@ -31,14 +35,17 @@ impl<B: Recorder> Row<B> {
     /// `TooManyBooks` if they have more, and else `Memory`.
     pub(crate) fn new(recorders: Vec<B>) -> Result<Row<B>, (OverError, Vec<B>)>
         ensures { MatchResult result
-            (λ row. row.recorders ≡ recorders)
+            (λ row. row.recorders.items ≡ recorders.items)
             (λ e. (e.0 ≡ row_refusal (map B.meaning recorders.items)) × (e.1 ≡ recorders)) }
     {
         if !are_few(&recorders) {
             return Err((OverError::TooManyBooks, recorders));
         }
-        match ends_of(*recorders.allocator(), &recorders) {
-            Ok(ends) => Ok(Row { recorders, ends }),
+        match Row::with_room(*recorders.allocator(), recorders.len()) {
+            Ok(mut row) => {
+                row.append_reserved(recorders);
+                Ok(row)
+            }
             Err(_) => Err((OverError::Memory, recorders)),
         }
     }
@@ -46,49 +53,61 @@ impl<B: Recorder> Row<B> {
     /// No recorders, with room for so many.
     pub(crate) fn with_room(alloc: Global, room: usize) -> Result<Row<B>, AllocError>
         ensures { IfOk result (λ row. (row.recorders.items ≡ [])
-            × HasSpare room row.recorders row.ends) }
+            × HasSpare room row.recorders row.starts) }
     {
         Ok(Row {
             recorders: Vec::with_capacity(alloc, room)?,
-            ends: Vec::with_capacity(alloc, room)?,
+            starts: Vec::with_capacity(alloc, room)?,
+            books: 0,
         })
     }
 
     /// Makes room for so many recorders more. The recorders stay, whatever the result.
     pub(crate) fn reserve(&mut self, additional: usize) -> Result<(), AllocError>
         ensures recorders { self.new.recorders.items ≡ self.old.recorders.items }
-        ensures spare { OnOk result (HasSpare additional self.new.recorders self.new.ends) }
+        ensures spare { OnOk result (HasSpare additional self.new.recorders self.new.starts) }
     {
         self.recorders.reserve(additional)?;
-        self.ends.reserve(additional)
+        self.starts.reserve(additional)
     }
 
     /// Adds a recorder at the end, which has room for it.
     pub(crate) fn push_reserved(&mut self, recorder: B)
-        requires spare { HasSpare 1 self.old.recorders self.old.ends }
+        requires spare { HasSpare 1 self.old.recorders self.old.starts }
         requires few { BooksFit (map B.meaning self.old.recorders.items) (B.meaning recorder) }
         ensures items { self.new.recorders.items ≡ self.old.recorders.items ++ recorder ∷ [] }
-        ensures spare { (n : ℕ) → HasSpare (suc n) self.old.recorders self.old.ends →
-            HasSpare n self.new.recorders self.new.ends }
+        ensures spare { (n : ℕ) → HasSpare (suc n) self.old.recorders self.old.starts →
+            HasSpare n self.new.recorders self.new.starts }
     {
-        let end = end_of_all(&self.ends) + recorder.books();
+        let end = self.books + recorder.books();
         self.recorders.push_reserved(recorder);
-        self.ends.push_reserved(end);
+        self.starts.push_reserved(self.books);
+        self.books = end;
     }
 
-    /// Moves the recorders of another row to the end, which has room for them.
-    pub(crate) fn append_reserved(&mut self, other: Row<B>)
-        requires spare { HasSpare (length other.recorders.items) self.old.recorders self.old.ends }
+    /// Moves recorders to the end, which has room for them.
+    pub(crate) fn append_reserved(&mut self, recorders: Vec<B>)
+        requires spare { HasSpare (length recorders.items) self.old.recorders self.old.starts }
         requires few { books_in (map B.meaning self.old.recorders.items)
-            + books_in (map B.meaning other.recorders.items) ≤ most_books }
-        ensures { self.new.recorders.items ≡ self.old.recorders.items ++ other.recorders.items }
+            + books_in (map B.meaning recorders.items) ≤ most_books }
+        ensures { self.new.recorders.items ≡ self.old.recorders.items ++ recorders.items }
     {
-        let front = end_of_all(&self.ends);
-        push_ends(&mut self.ends, front, &other.ends);
-        let mut recorders = other.recorders;
-        let Ok(()) = self.recorders.append(&mut recorders) else {
-            unreachable!()
-        };
+        for recorder in recorders {
+            self.push_reserved(recorder);
+        }
+    }
+
+    /// The recorder that has a book, and the book's number there.
+    #[tactic(auto, using(crate::proofs::PlacesLemmas::ascends))]
+    pub(crate) fn place_of(&self, book: usize) -> Option<(usize, usize)>
+        ensures { let all = map B.meaning self.now.recorders.items in
+            MatchOption result (books_in all ≤ book) (IsPlace all book) }
+    {
+        if book >= self.books {
+            return None;
+        }
+        let number = last_start(&self.starts, book);
+        Some((number, book - self.starts[number]))
     }
 }
 
@@ -105,18 +124,4 @@ fn are_few<B: Recorder>(recorders: &[B]) -> bool
         end += books;
     }
     true
-}
-
-/// The number of books up to the end of each recorder.
-fn ends_of<B: Recorder>(alloc: Global, recorders: &[B]) -> Result<Vec<usize>, AllocError>
-    requires { books_in (map B.meaning recorders.now) ≤ most_books }
-    ensures { IfOk result (λ ends. AreEnds ends.items (map B.meaning recorders.now)) }
-{
-    let mut ends = Vec::new(alloc);
-    let mut end: usize = 0;
-    for recorder in recorders {
-        end += recorder.books();
-        ends.push(end)?;
-    }
-    Ok(ends)
 }

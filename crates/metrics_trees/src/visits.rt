@@ -1,15 +1,15 @@
 //! What the recorders do at each target.
 ghost use Rattle.std.specs.Prelude.{◌≡◌, ◌≤◌, None, map, IsSome};
 ghost use Rattle.std.specs.Result.{result_map_both};
-ghost use Rattle.metrics_trees.specs.BookEnds.{IsAppended, CanAppend};
+ghost use Rattle.metrics_trees.specs.Places.{IsAppended, CanAppend};
 ghost use Rattle.metrics_trees.specs.Leaves.{recorders_of};
 ghost use Rattle.metrics_trees.specs.Recorders.{books_in, most_books};
 ghost use Rattle.metrics_trees.specs.Visiting.{kind_of, found_by, IsEnd};
 
-use crate::book_ends::append_answer;
 use crate::leaves::Leaves;
+use crate::places::append_answer;
 use metrics::{Address, Key, KeyName, MetricKind, Recorder, Refused, Unit};
-use metrics_rules::{Stopped, Visitor};
+use metrics_rules::{Scratch, Stopped, Visitor};
 use std::alloc::Global;
 
 /// A register call: its kind, and the addresses so far.
@@ -30,13 +30,6 @@ pub struct Registrar<B: Recorder> {
 }
 
 impl<B: Recorder> Registrar<B> {
-    pub(crate) fn new(leaves: Leaves<B>) -> Registrar<B>
-        requires { books_in (map B.meaning (recorders_of leaves)) ≤ most_books }
-        ensures { result.leaves ≡ leaves }
-    {
-        Registrar { leaves, call: None }
-    }
-
     /// Ends the call, and returns the addresses.
     pub(crate) fn finish(&mut self, alloc: Global) -> Vec<Address>
         ensures found { result.items ≡ found_by self.old.call }
@@ -45,6 +38,26 @@ impl<B: Recorder> Registrar<B> {
         match self.call.take() {
             Some(call) => call.found,
             None => Vec::new(alloc),
+        }
+    }
+}
+
+/// What is below the rules of a tree.
+#[derive(Drop)]
+pub struct Below<B: Recorder> {
+    /// The names below prefixes in register calls, the first of which makes it.
+    pub(crate) scratch: Option<Scratch<Key>>,
+    pub(crate) registrar: Registrar<B>,
+}
+
+impl<B: Recorder> Below<B> {
+    pub(crate) fn new(leaves: Leaves<B>) -> Below<B>
+        requires { books_in (map B.meaning (recorders_of leaves)) ≤ most_books }
+        ensures { recorders_of result.registrar.leaves ≡ recorders_of leaves }
+    {
+        Below {
+            scratch: None,
+            registrar: Registrar { leaves, call: None },
         }
     }
 }

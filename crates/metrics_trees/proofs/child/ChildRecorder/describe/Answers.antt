@@ -13,7 +13,7 @@ invariant_of-self-3 g c =
     let s = c.args.self.now in
     let was = c.replace-leaves.ensures.value in
     let many = s.as_many ∙ ap (λ l. length (recorders_of l)) (sym was) in
-    let few = subst (λ l. books_in (map g.B.Recorder.meaning (recorders_of l)) ≤ most_books) (sym was) s.registrar.few in
+    let few = subst (λ l. books_in (map g.B.Recorder.meaning (recorders_of l)) ≤ most_books) (sym was) s.below.registrar.few in
     let count =
     counted g.B.Recorder.meaning [] c.args.kind _ (λ v. describing v.kind v.unit v.text.now (recorders_of v.leaves) v.acted) _ _ (λ v leaf key w p. p) (λ v leaf key e w p. p)
     (rules_meaning s.rules) _ _ c.visit-visited.new.visitor (refl, refl) refl few many c.visit-visited.result c.visit-visited.ensures in
@@ -27,7 +27,7 @@ returns g c =
     let now = c.visit-visited.new.visitor in
     let was = c.replace-leaves.ensures.value in
     let many = s.as_many ∙ ap (λ l. length (recorders_of l)) (sym was) in
-    let few = subst (λ l. books_in (map m (recorders_of l)) ≤ most_books) (sym was) s.registrar.few in
+    let few = subst (λ l. books_in (map m (recorders_of l)) ≤ most_books) (sym was) s.below.registrar.few in
     let d =
     answered m [] c.args.kind _ (λ v. describing v.kind v.unit v.text.now (recorders_of v.leaves) v.acted) _ _ (λ v leaf key w p. p) (λ v leaf key e w p. p)
     rules _ _ now (refl, refl) refl few many (λ n. n ≡ _) now.acted (λ p n. n) c.visit-visited.result c.ended.result c.visit-visited.ensures c.ended.ensures in

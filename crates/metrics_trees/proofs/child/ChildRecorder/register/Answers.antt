@@ -18,7 +18,7 @@ invariant_of-self-2 g c =
     let s = c.args.self.now in
     let count =
     registered-count g.B.Recorder.meaning c.args.key.now.labels c.args.kind _ (λ v. registering v.call (recorders_of v.leaves)) (λ v. found_by v.call) _ _ (λ v leaf key w p. p) (λ v leaf key e w p. p)
-    (rules_meaning s.rules) c.args.key.now.name _ c.visit-visited.new.visitor (refl, refl) (ap length c.new.ensures.items) s.registrar.few s.as_many c.visit-visited.result c.visit-visited.ensures in
+    (rules_meaning s.rules) c.args.key.now.name _ c.visit-visited.new.visitor (refl, refl) (ap length c.new.ensures.items) s.below.registrar.few s.as_many c.visit-visited.result c.visit-visited.ensures in
     record { as_many = s.as_many ∙ sym count ∙ ap (λ l. length (recorders_of l)) (sym c.finish-found.ensures.leaves) }
 
 pub returns : goal.returns
@@ -32,9 +32,9 @@ returns g c =
     let end = ends-mapped (λ (v : Vec Address Global). v.items) c.visit-visited.result c.finish-found.result c.len-acted.result c.ended.result c.ended.ensures in
     let d =
     registered m c.args.key.now.labels c.args.kind _ (λ v. registering v.call (recorders_of v.leaves)) (λ v. found_by v.call) _ _ (λ v leaf key w p. p) (λ v leaf key e w p. p)
-    rules c.args.key.now.name _ c.visit-visited.new.visitor (refl, refl) (ap length c.new.ensures.items) s.registrar.few s.as_many c.visit-visited.result c.visit-visited.ensures result c.finish-found.result.items found c.new.ensures.items
+    rules c.args.key.now.name _ c.visit-visited.new.visitor (refl, refl) (ap length c.new.ensures.items) s.below.registrar.few s.as_many c.visit-visited.result c.visit-visited.ensures result c.finish-found.result.items found c.new.ensures.items
     (subst (λ n. IsEnd c.visit-visited.result c.finish-found.result.items n result) (count ∙ ap length found) end) in
-    let old = over rules (map m (recorders_of s.registrar.leaves)) in
+    let old = over rules (map m (recorders_of s.below.registrar.leaves)) in
     record {
       keeps = subst (λ l. KeepsTargets old (over rules (map m (recorders_of l)))) (sym c.finish-found.ensures.leaves) d.1;
       registers = subst (λ l. Registers old (over rules (map m (recorders_of l))) c.args.kind c.args.key.now result) (sym c.finish-found.ensures.leaves) d.0;

@@ -2,7 +2,7 @@ use Rattle.std.proofs.Common.{map, refl, ap, ◌∙◌}
 use Rattle.metrics_rules.specs.Builders.{fanout_branches}
 use Rattle.metrics_trees.specs.Leaves.{recorders_of}
 use Rattle.metrics_trees.specs.Over.{overs}
-use Rattle.metrics_trees.proofs.ChildLemmas.{same-child}
+use Rattle.metrics_trees.proofs.ChildLemmas.{same_child}
 use Rattle.metrics_trees.proofs.BuildersLemmas.{refusal-is, out-of-memory, gains}
 use Rattle.metrics_trees.proofs.fanout.FanoutBuilder.add_recorder.Goals as goal
 
@@ -33,4 +33,4 @@ returns-in-Err-add_child g c =
     let given = c.args.child in
     let e = c.in-Err-add_child.ensures {u = tt} in
     let same = ap (λ qs. overs qs (map m (recorders_of c.make_room.new.self))) e.2 ∙ ap (λ xs. overs (fanout_branches s.rules) (map m xs)) c.make_room.ensures.recorders in
-    (out-of-memory (fanout_branches s.rules) s.leaves given s.as_many (c.in_default.ensures {u = tt}).room.0, same-child e.1 given.scratch given.registrar _ given.as_many, same)
+    (out-of-memory (fanout_branches s.rules) s.leaves given s.as_many (c.in_default.ensures {u = tt}).room.0, same_child _ given e.1 refl, same)

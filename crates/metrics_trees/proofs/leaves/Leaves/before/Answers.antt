@@ -1,16 +1,19 @@
-use Rattle.std.proofs.Common.{◌∙◌, map, arith}
-use Rattle.metrics_rules.proofs.OneChildLemmas.{length-ends-of}
-use Rattle.metrics_trees.specs.Recorders.{books_of}
+use Rattle.std.proofs.Common.{◌<◌, length, map, arith}
+use Rattle.std.proofs.lemmas.List.{length-map}
+use Rattle.metrics_trees.proofs.PlacesLemmas.{begins, count}
 use Rattle.metrics_trees.proofs.leaves.Leaves.before.Goals as goal
 
-pub start_of-requires : goal.start_of-requires
-start_of-requires g c =
+pub index-requires : goal.index-requires
+index-requires g c =
     let row = c.in-Several.row in
-    let l = length-ends-of g.B.Recorder.meaning row.recorders.items _ (c.deref.ensures.value ∙ row.ends_are) in
+    let m = g.B.Recorder.meaning in
     let lt = rw c.in-Several.is at c.requires in
-    record { within = omega (arith, l, lt) }
+    omega (arith, lt, count row.starts.items (map m row.recorders.items) row.starts_are, length-map row.recorders.items m, row.starts.ok.0)
 
 pub returns-in-Several : goal.returns-in-Several
 returns-in-Several g c =
     let row = c.in-Several.row in
-    rw c.in-Several.is (c.start_of.ensures (map books_of (map g.B.Recorder.meaning row.recorders.items)) (c.deref.ensures.value ∙ row.ends_are))
+    let all = map g.B.Recorder.meaning row.recorders.items in
+    let lt = rw c.in-Several.is at c.requires in
+    let inside : c.args.leaf < length all = (let l = length-map row.recorders.items g.B.Recorder.meaning in omega (arith, lt, l)) in
+    rw c.in-Several.is (begins row.starts.items all row.starts_are c.args.leaf inside c.index.result.now c.index.ensures)

@@ -1,5 +1,5 @@
 use Rattle.metrics.proofs.MeaningLemmas.{length-describes}
-use Rattle.metrics_trees.proofs.RowLemmas.{put-back}
+use Rattle.metrics_trees.proofs.OneChildLemmas.{put-back}
 use Rattle.metrics_trees.proofs.leaves.Leaves.describe.Goals as goal
 
 pub invariant_of-row : goal.invariant_of-row
@@ -10,5 +10,5 @@ invariant_of-row g c =
     let y = c.describe-in-Several.new.self in
     let h = c.describe-in-Several.ensures in
     let lt = rw c.in-Several.is at c.requires in
-    let p = put-back m row.recorders.items row.ends.items row.ends_are row.most c.args.leaf x y c.index_mut.ensures.value h.keeps (λ a c. Unit {0}) lt (length-describes (m x) (m y) c.args.kind c.args.name.now c.args.unit c.args.text.now _ h.describes) (λ R. tt) in
-    record { ends_are = p.ends_are; most = p.most }
+    let p = put-back m row.recorders.items c.args.leaf x lt c.index_mut.ensures.value y h.keeps (length-describes (m x) (m y) c.args.kind c.args.name.now c.args.unit c.args.text.now _ h.describes) row.starts.items row.books row.starts_are row.count (λ a c. Unit {0}) tt in
+    record { starts_are = p.starts_are; count = p.all; most = row.most }

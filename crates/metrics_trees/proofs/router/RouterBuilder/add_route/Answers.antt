@@ -2,7 +2,7 @@ use Rattle.std.proofs.Common.{rules, map, refl, ap, sym, ◌∙◌}
 use Rattle.metrics_rules.specs.Builders.{router_branches}
 use Rattle.metrics_trees.specs.Leaves.{recorders_of}
 use Rattle.metrics_trees.specs.Over.{overs}
-use Rattle.metrics_trees.proofs.ChildLemmas.{same-child}
+use Rattle.metrics_trees.proofs.ChildLemmas.{same_child}
 use Rattle.metrics_trees.proofs.BuildersLemmas.{refusal-is, out-of-memory, gains, length-overs, if-any-kind}
 use Rattle.metrics_trees.proofs.router.RouterBuilder.add_route.Goals as goal
 
@@ -35,4 +35,4 @@ returns-in-Err-add_route g c =
     let e = c.in-Err-add_route.ensures {u = tt} in
     let same = ap (λ qs. overs qs (map m (recorders_of c.make_room.new.self))) e.2.0 ∙ ap (λ xs. overs (router_branches s.rules) (map m xs)) c.make_room.ensures.recorders in
     let memory = out-of-memory (router_branches s.rules) s.leaves given s.as_many (c.in_default.ensures {u = tt}).room.0 in
-    (if-any-kind c.args.mask _ (search rules) memory, same-child e.1 given.scratch given.registrar _ given.as_many, (same, e.2.1))
+    (if-any-kind c.args.mask _ (search rules) memory, same_child _ given e.1 refl, (same, e.2.1))

@@ -1,5 +1,5 @@
 use Rattle.metrics.proofs.MeaningLemmas.{length-describes}
-use Rattle.metrics_trees.proofs.RowLemmas.{few-after}
+use Rattle.metrics_trees.proofs.OneChildLemmas.{few-after}
 use Rattle.metrics_trees.proofs.visits.DescribingVisitorKeyName.visit.Goals as goal
 
 pub invariant_of-self : goal.invariant_of-self

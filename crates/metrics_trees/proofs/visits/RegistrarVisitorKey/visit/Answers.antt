@@ -2,7 +2,7 @@ use Rattle.std.proofs.Common.{refl, ap, inl, inr}
 use Rattle.metrics.proofs.MeaningLemmas.{length-registers}
 use Rattle.metrics_trees.specs.Leaves.{recorders_of}
 use Rattle.metrics_trees.specs.Visiting.{kind_of}
-use Rattle.metrics_trees.proofs.RowLemmas.{few-after}
+use Rattle.metrics_trees.proofs.OneChildLemmas.{few-after}
 use Rattle.metrics_trees.proofs.RegisterLemmas.{can-append, asked}
 use Rattle.metrics_trees.proofs.visits.RegistrarVisitorKey.visit.Goals as goal
 

@@ -1,16 +1,29 @@
 -- Where the books of several recorders are, each recorder's after those before it.
-use Rattle.std.specs.Prelude.{◌≡◌, ℕ, ◌+◌, ◌<◌, ◌≤◌, List, ◌++◌, length, map, take, get_or, Result, Ok, Err}
+use Rattle.std.specs.Prelude.{◌≡◌, ℕ, ◌+◌, ◌<◌, ◌≤◌, List, ◌++◌, length, map, get_or, Result, Ok, Err}
 use Rattle.std.specs.List.{All}
-use Rattle.metrics_rules.specs.Ends.{total}
+use Rattle.metrics.specs.Meaning.{Meaning}
 use Rattle.metrics.specs.declared.handles.Address.{Address}
 use Rattle.metrics_names.specs.declared.refused.Refused.{Refused}
 use Rattle.metrics_names.specs.declared.refused.Refused.TheVariants.{Memory}
+use Rattle.metrics_trees.specs.Recorders.{start}
 
--- a recorder's number, and a book's number there; the recorders have so many books
-pub record IsPlace (sizes : List ℕ) (book : ℕ) (place : ℕ × ℕ) : Type 0 where
-  pub recorder : place.0 < length sizes
-  pub number : total (take place.0 sizes) + place.1 ≡ book
-  pub below : place.1 < get_or sizes place.0 0
+-- numbers that ascend from 0
+pub record Ascends (starts : List ℕ) : Type 0 where
+  pub some : 0 < length starts
+  pub first : get_or starts 0 0 ≡ 0
+  pub rise : (i j : ℕ) → i ≤ j → j < length starts → get_or starts i 0 ≤ get_or starts j 0
+
+-- the last of them that is at most a number, by place
+pub record IsLast (starts : List ℕ) (book n : ℕ) : Type 0 where
+  pub within : n < length starts
+  pub most : get_or starts n 0 ≤ book
+  pub next : n + 1 < length starts → book < get_or starts (n + 1) 0
+
+-- a recorder's number, and a book's number there
+pub record IsPlace (all : List Meaning) (book : ℕ) (place : ℕ × ℕ) : Type 0 where
+  pub recorder : place.0 < length all
+  pub number : start place.0 all + place.1 ≡ book
+  pub below : book < start (place.0 + 1) all
 
 -- an address of a recorder that comes after so many books
 abbrev pub raised_one : ℕ → Address → Address

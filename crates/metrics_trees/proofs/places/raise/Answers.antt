@@ -1,7 +1,7 @@
 use Rattle.std.proofs.Common.{refl, ap, ◌∙◌, arith}
 use Rattle.metrics.specs.declared.handles.Address.{Address}
-use Rattle.metrics_trees.proofs.BookEndsLemmas.{raised-more, raised-all, next-is}
-use Rattle.metrics_trees.proofs.book_ends.raise.Goals as goal
+use Rattle.metrics_trees.proofs.PlacesLemmas.{raised-more, raised-all, next-is}
+use Rattle.metrics_trees.proofs.places.raise.Goals as goal
 
 pub loop-at-init : goal.loop-at-init
 loop-at-init c = refl
