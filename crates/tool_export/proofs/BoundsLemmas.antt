@@ -2,7 +2,7 @@
 use Rattle.std.proofs.Common.{◌≡◌, ◌≢◌, ℕ, suc, ℤ, pos, negsuc, ◌<◌, ◌≤◌, ◌^◌, ◌⊎◌, inl}
 use Rattle.std.proofs.Common.{inr, List, [], ◌∷◌, ◌++◌, refl, sym, ◌∙◌, ap, arith, decimal, length, FitsSigned}
 use Rattle.std.proofs.Common.{w64, true≢false, append_assoc, append-nil, flat_map}
-use Rattle.std.specs.Prelude.{Bool, true, false, ◌&&◌, nat_le}
+use Rattle.std.specs.Prelude.{Bool, true, false, ◌&&◌, nat_le, Result, Ok, Err, IfOk, MatchResult}
 use Rattle.std.specs.Fmt.{signed_decimal}
 use Rattle.std.specs.List.{AllByRecursion}
 use Rattle.std.specs.Str.Parse.{AllDigits}
@@ -154,3 +154,10 @@ pub bounds_end : (word rest : List ℕ) (ns : List ℤ) (n : ℤ) → BoundsSoFa
     → rest ≡ signed_decimal n → AreSamples (ns ++ n ∷ []) × (word ≡ samples_text (ns ++ n ∷ []))
 bounds_end word rest ns n so fits is =
     ((pushed_length ns n, fit_push ns n so.fit fits), so.whole ∙ ap (λ k. ended_numbers ns ++ k) is ∙ last_number ns n)
+
+-- the numbers so far with one more, unless one found no memory
+pub bounds_pushed : {V E : Type 0} (few more : Result V E) (items : V → List ℤ) (ns : List ℤ) (n m : ℤ) → IfOk few (λ v. items v ≡ ns)
+    → IfOk more (λ v. MatchResult few (λ w. items v ≡ items w ++ m ∷ []) (λ e. ⊥)) → m ≡ n → IfOk more (λ v. items v ≡ ns ++ n ∷ [])
+bounds_pushed few (Err e) items ns n m so pushed same = tt
+bounds_pushed (Err d) (Ok v) items ns n m so pushed same = absurd pushed
+bounds_pushed (Ok w) (Ok v) items ns n m so pushed same = pushed ∙ ap (λ xs. xs ++ m ∷ []) so ∙ ap (λ k. ns ++ k ∷ []) same

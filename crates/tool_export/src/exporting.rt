@@ -4,7 +4,7 @@ ghost use Rattle.std.specs.Io.KnownBytes.{Consumes, Appends, IsAtEnd};
 ghost use Rattle.metrics.specs.declared.error.Error.TheVariants.{Memory as OutOfMemory};
 ghost use Rattle.metrics_exporter.specs.Exporting.{Setup};
 ghost use Rattle.metrics_exporter.specs.Kept.{IsAfter, described};
-ghost use Rattle.metrics_exporter.specs.Describing.{SameLegend, no_legend};
+ghost use Rattle.metrics_descriptions.specs.Legends.{SameLegend, no_legend};
 ghost use Rattle.tool_export.specs.Exporting.{answers as answers_of, Exports, IsExport, IsExportRun};
 ghost use Rattle.tool_export.specs.Plans.{setup_of, IsAllowed};
 ghost use Rattle.tool_export.specs.Requests.{IsBad};

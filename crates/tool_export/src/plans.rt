@@ -1,6 +1,6 @@
 //! The plan that the words after `export` describe.
 ghost use Rattle.std.specs.Prelude.{◌≡◌, ℕ, ℤ, List, [], ◌∷◌, ◌<◌, ◌^◌, Option as Maybe, IfSome};
-ghost use Rattle.std.specs.Prelude.{◌≤◌, true, false, MatchResult, MatchOption, decimal};
+ghost use Rattle.std.specs.Prelude.{◌≤◌, ◌++◌, true, IfOk, MatchResult, MatchOption, decimal};
 ghost use Rattle.metrics_registry.specs.Held.{is_shard_count as is_count};
 ghost use Rattle.tool_grammar.specs.Printing.{samples_text};
 ghost use Rattle.tool_export.specs.declared.plans.ExportPlan.{ExportPlan as Plan};
@@ -48,43 +48,34 @@ fn timeout_of(word: &[u8]) -> Option<Option<u64>>
     Some(Some(timeout))
 }
 
-/// At least one number, with a comma between two.
+/// The bounds with one more. Without memory for it, and after that, there are none.
+fn with_bound(bounds: Result<Vec<i64>, AllocError>, bound: i64) -> Result<Vec<i64>, AllocError>
+    ensures { IfOk result (λ more. MatchResult bounds (λ few. more.items ≡ few.items ++ bound ∷ []) (λ _. ⊥)) }
+{
+    let mut bounds = bounds?;
+    bounds.push(bound)?;
+    Ok(bounds)
+}
+
+/// At least one number, with a comma between two. Fails without memory for them, and only if the word has such numbers.
 fn bounds_of(alloc: Global, word: &[u8]) -> Result<Option<Vec<i64>>, AllocError>
     ensures { MatchResult result (λ found. MatchOption found
         ((ns : List ℤ) → AreSamples ns → word.now ≡ samples_text ns → ⊥)
-        (λ ns. AreSamples ns.items × (word.now ≡ samples_text ns.items))) (λ _. Unit {0}) }
+        (λ ns. AreSamples ns.items × (word.now ≡ samples_text ns.items)))
+        (λ _. (ns : List ℤ) × AreSamples ns × (word.now ≡ samples_text ns)) }
 {
-    let mut bounds = Vec::new(alloc);
+    let mut bounds = Ok(Vec::new(alloc));
     let mut rest = word;
     while let Some((digits, later)) = split_at_first(rest, b',') {
         let Some(bound) = signed_number_of(digits) else {
             return Ok(None);
         };
-        bounds.push(bound)?;
-        rest = later;
-    }
-    let Some(last) = signed_number_of(rest) else {
-        return Ok(None);
-    };
-    bounds.push(last)?;
-    Ok(Some(bounds))
-}
-
-/// Whether a word is at least one number, with a comma between two.
-fn are_bounds(word: &[u8]) -> bool
-    ensures are { result ≡ true → (ns : List ℤ) × AreSamples ns × (word.now ≡ samples_text ns) }
-    ensures not_are { result ≡ false → (ns : List ℤ) → AreSamples ns → word.now ≡ samples_text ns → ⊥ }
-{
-    let mut rest = word;
-    while let Some((digits, later)) = split_at_first(rest, b',') {
-        let Some(_bound) = signed_number_of(digits) else {
-            return false;
-        };
+        bounds = with_bound(bounds, bound);
         rest = later;
     }
     match signed_number_of(rest) {
-        Some(_last) => true,
-        None => false,
+        Some(last) => Ok(Some(with_bound(bounds, last)?)),
+        None => Ok(None),
     }
 }
 
@@ -125,9 +116,6 @@ pub fn plan_of(
     let Some(idle_timeout) = timeout_of(timeout.as_bytes()) else {
         return Ok(None);
     };
-    if !are_bounds(bounds.as_bytes()) {
-        return Ok(None);
-    }
     match bounds_of(alloc, bounds.as_bytes()) {
         Ok(Some(found)) => Ok(Some(ExportPlan {
             shards,

@@ -11,7 +11,8 @@ ghost use Rattle.tool_grammar.specs.Grammar.{unit_word, update_word, amount_word
 ghost use Rattle.tool_grammar.specs.Grammar.{IsName, IsLabel, AreLabels, IsInRange, Spells, IsBad};
 
 use crate::cuts::{split_at_first, split_before, strip_prefix};
-use crate::words::{kind_of, name_of, number_of, unit_of, update_of};
+use crate::numbers::number_of;
+use crate::words::{kind_of, name_of, unit_of, update_of};
 use metrics::{Call, Key, KeyName, Label, MetricKind, Refused, Reset, Text, Unit};
 use std::alloc::Global;
 

@@ -5,6 +5,7 @@ mod calls;
 mod cuts;
 mod error;
 mod laws;
+mod numbers;
 mod printing;
 mod words;
 
@@ -12,7 +13,6 @@ pub use calls::{call_of, key_of};
 pub use cuts::{place_of, split_at_first, split_before, strip_prefix};
 pub use error::RunError;
 pub use laws::one_call_at_most;
+pub use numbers::{digit_of, number_of, signed_number_of};
 pub use printing::write_answer;
-pub use words::{
-    kind_of, kinds_of, name_of, number_of, signed_number_of, unit_of, unit_text, update_of,
-};
+pub use words::{kind_of, kinds_of, name_of, unit_of, unit_text, update_of};

@@ -1,8 +1,5 @@
-//! The words of a line: names, numbers, kinds, units and updates.
-ghost use Rattle.std.specs.Prelude.{◌≡◌, ◌≢◌, ℕ, List, ◌∷◌, ◌<◌, ◌+◌, ◌^◌, ℤ};
-ghost use Rattle.std.specs.Prelude.{FitsSigned, IfSome, MatchOption, Option, Some, codes, decimal};
-ghost use Rattle.std.specs.Int.{w64};
-ghost use Rattle.std.specs.Fmt.{signed_decimal};
+//! The words of a line: names, kinds, units and updates.
+ghost use Rattle.std.specs.Prelude.{◌≡◌, ◌≢◌, ℕ, List, MatchOption, Option, Some, codes};
 ghost use Rattle.metrics_names.specs.declared.kind.MetricKind.{MetricKind};
 ghost use Rattle.metrics_names.specs.declared.common.Unit.{Unit as Measure};
 ghost use Rattle.metrics.specs.declared.handles.Update.{Update as Change};
@@ -11,7 +8,7 @@ ghost use Rattle.tool_grammar.specs.Grammar.{unit_word, update_word, amount_word
 ghost use Rattle.tool_grammar.specs.Kinds.{HasKind, kinds_word};
 ghost use Rattle.metrics_names.specs.Names.{name_word, kind_word};
 
-use itoa::Buffer;
+use crate::numbers::{number_of, signed_number_of};
 use metrics::{MetricKind, MetricKindMask, Unit, Update};
 
 /// Returns the text of a word, where a dash is the empty text.
@@ -126,114 +123,6 @@ pub fn unit_text(unit: Option<Unit>) -> &'static str
         Some(Unit::Microseconds) => "microseconds",
         Some(Unit::Nanoseconds) => "nanoseconds",
         Some(Unit::Bytes) => "bytes",
-    }
-}
-
-/// The value of a digit.
-fn digit_of(byte: u8) -> Option<u64>
-    ensures { IfSome result (λ d. (d < 10) × (byte ≡ 48 + d)) }
-{
-    if b'0' <= byte && byte <= b'9' {
-        Some((byte - b'0') as u64)
-    } else {
-        None
-    }
-}
-
-/// The number that digits print, read one digit after another: the fast path for most words. It accepts no sign, no
-/// leading zero, and nothing past 2^64 - 1.
-fn plain_number_of(digits: &[u8]) -> Option<u64>
-    ensures { IfSome result (λ n. digits.now ≡ decimal n) }
-{
-    let (first, others) = digits.split_first()?;
-    let mut n = digit_of(*first)?;
-    for byte in others {
-        if n == 0 {
-            return None;
-        }
-        n = n.checked_mul(10)?.checked_add(digit_of(*byte)?)?;
-    }
-    Some(n)
-}
-
-/// The number from 0 to 2^63 - 1 that the digits of `n` print.
-fn signed(n: u64) -> Option<i64>
-    ensures { IfSome result (λ m. signed_decimal m ≡ decimal n) }
-{
-    if n <= i64::MAX as u64 {
-        Some(n as i64)
-    } else {
-        None
-    }
-}
-
-/// The number from -(2^63 - 1) to -1 that the digits of `n` print after a minus.
-fn negated(n: u64) -> Option<i64>
-    ensures { IfSome result (λ m. signed_decimal m ≡ 45 ∷ decimal n) }
-{
-    if n == 0 || n > i64::MAX as u64 {
-        return None;
-    }
-    Some(-(n as i64))
-}
-
-/// The number from -(2^63 - 1) to 2^63 - 1 that a word prints, likewise.
-fn plain_signed_number_of(word: &[u8]) -> Option<i64>
-    ensures { IfSome result (λ n. word.now ≡ signed_decimal n) }
-{
-    match word.strip_prefix(b"-") {
-        None => signed(plain_number_of(word)?),
-        Some(digits) => negated(plain_number_of(digits)?),
-    }
-}
-
-/// Returns the number below 2^64 that the digits print, in its printed form alone.
-pub fn number_of(digits: &[u8]) -> Option<u64>
-    ensures { MatchOption result ((n : ℕ) → n < 2 ^ 64 → digits.now ≡ decimal n → ⊥)
-        (λ n. digits.now ≡ decimal n) }
-{
-    match plain_number_of(digits) {
-        Some(n) => Some(n),
-        None => parsed_number_of(digits),
-    }
-}
-
-/// The same by std's parser, printed once more: it decides what the fast path left.
-fn parsed_number_of(digits: &[u8]) -> Option<u64>
-    ensures { MatchOption result ((n : ℕ) → n < 2 ^ 64 → digits.now ≡ decimal n → ⊥)
-        (λ n. digits.now ≡ decimal n) }
-{
-    let text = str::from_utf8(digits).ok()?;
-    let n = text.parse::<u64>().ok()?;
-    if Buffer::new().format(n) == text {
-        Some(n)
-    } else {
-        None
-    }
-}
-
-/// Returns the number from -2^63 to 2^63 - 1 that the word prints, in its printed form alone.
-pub fn signed_number_of(word: &[u8]) -> Option<i64>
-    ensures { MatchOption result ((n : ℤ) → FitsSigned w64 n → word.now ≡ signed_decimal n → ⊥)
-        (λ n. word.now ≡ signed_decimal n) }
-{
-    match plain_signed_number_of(word) {
-        Some(n) => Some(n),
-        None => parsed_signed_number_of(word),
-    }
-}
-
-/// The same by std's parser, printed once more.
-fn parsed_signed_number_of(word: &[u8]) -> Option<i64>
-    ensures { MatchOption result ((n : ℤ) → FitsSigned w64 n → word.now ≡ signed_decimal n → ⊥)
-        (λ n. word.now ≡ signed_decimal n) }
-{
-    let text = str::from_utf8(word).ok()?;
-    let amount = text.parse::<i64>().ok()?;
-    if Buffer::new().format(amount) == text {
-        Some(amount)
-    } else {
-        None
     }
 }
 

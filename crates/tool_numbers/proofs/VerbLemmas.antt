@@ -90,3 +90,5 @@ no_verb places word amount a b c d e f (Add n) h is = c is
 no_verb places word amount a b c d e f (Subtract n) h is = d is
 no_verb places word amount a b c d e f (Set n) h is = e is
 no_verb places word amount a b c d e f (Record n) h is = f is
+
+pub ruleset verbs = (no_increment, no_absolute, no_add, no_sub, no_set, no_record, no_verb)

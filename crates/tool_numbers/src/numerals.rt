@@ -1,24 +1,11 @@
 //! The parts of a number in decimal notation.
 ghost use Rattle.std.specs.Prelude.{◌≡◌, ◌<◌, ◌≤◌, ◌+◌, ◌*◌, ◌^◌, ℕ, List, ◌++◌, length, MatchOption, IfSome, codes};
 ghost use Rattle.std.specs.Str.Parse.{AllDigits, digits_value};
-ghost use Rattle.std.specs.Char.{digit_value};
-ghost use Rattle.std.specs.Int.{IsInRange};
 ghost use Rattle.tool_numbers.specs.Numerals.{whole_word, point_word, power_word, numeral_word, Power, Numeral};
 ghost use Rattle.tool_numbers.specs.Numerals.{IsExponent, IsPower, IsFraction, IsNumeral, up, down};
 ghost use Rattle.tool_numbers.specs.Parts.{HasParts};
 
-use tool_grammar::{number_of, split_before, strip_prefix};
-
-/// The value of a digit.
-fn digit_of(byte: u8) -> Option<u64>
-    ensures { MatchOption result (IsInRange 48 57 byte → ⊥) (λ d. IsInRange 48 57 byte × (d ≡ digit_value byte) × (d < 10)) }
-{
-    if b'0' <= byte && byte <= b'9' {
-        Some((byte - b'0') as u64)
-    } else {
-        None
-    }
-}
+use tool_grammar::{digit_of, number_of, split_before, strip_prefix};
 
 /// The number that at most 18 digits write.
 fn value_of(digits: &[u8]) -> Option<u64>

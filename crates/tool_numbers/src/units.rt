@@ -135,7 +135,7 @@ fn is_word(word: &[u8], other: &[u8]) -> bool
 
 /// Returns the update that a line's first word names, by the amount in the last one: in units of the last of so many decimal
 /// places.
-#[tactic(auto, using(crate::proofs::VerbLemmas::no_increment, crate::proofs::VerbLemmas::no_absolute, crate::proofs::VerbLemmas::no_add, crate::proofs::VerbLemmas::no_sub, crate::proofs::VerbLemmas::no_set, crate::proofs::VerbLemmas::no_record, crate::proofs::VerbLemmas::no_verb))]
+#[tactic(auto, using(crate::proofs::VerbLemmas::verbs))]
 pub fn update_in(word: &[u8], amount: &[u8], places: u8) -> Option<Update>
     ensures { MatchOption result
         ((by : Change) → IsAmount places by amount.now → word.now ≡ update_word by → ⊥)

@@ -1,4 +1,4 @@
-use Rattle.std.proofs.Common.{rules, ◌≡◌, [], ◌∷◌, sym, ◌∙◌, true, decimal}
+use Rattle.std.proofs.Common.{◌≡◌, [], ◌∷◌, sym, ◌∙◌, decimal}
 use Rattle.tool_grammar.specs.Printing.{samples_text}
 use Rattle.tool_export.specs.declared.plans.ExportPlan.{ExportPlan as Plan}
 use Rattle.tool_export.specs.Plans.{timeout_word, watched_word}
@@ -6,8 +6,7 @@ use Rattle.tool_export.proofs.plans.plan_of.Goals as goal
 
 pub returns-in-Err : goal.returns-in-Err
 returns-in-Err c =
-    let yes : c.are_bounds.result ≡ true = search rules in
-    let (ns, are, is) = c.are_bounds.ensures.are yes in
+    let (ns, are, is) = c.in-Err.ensures in
     let plan : Plan = record { shards = c.in-Some.shards; watched = c.in-Some-watched_of.watched; idle_timeout = c.in-Some-timeout_of.idle_timeout; bounds = ns } in
     let shards : c.args.shards.now ≡ decimal c.in-Some.shards = sym c.as_bytes.ensures.value ∙ c.in-Some.ensures.1 in
     let kinds : c.args.kinds.now ≡ watched_word c.in-Some-watched_of.watched = sym c.as_bytes-2.ensures.value ∙ c.in-Some-watched_of.ensures.1 in
