@@ -9,7 +9,8 @@ use Rattle.metrics_names.specs.declared.kind.MetricKind.{MetricKind}
 use Rattle.metrics_names.specs.declared.common.Unit.{Unit as Measure}
 use Rattle.metrics_exporter.specs.declared.exporter.Exporter.{Exporter}
 use Rattle.metrics_exporter.specs.Exporting.{Setup, Log, updates_in, expires, steps, cells_after, series_of, IsExpiry, HoldsSome}
-use Rattle.metrics_exporter.specs.Describing.{DescribesName, SameLegend, unit_told}
+use Rattle.metrics_descriptions.specs.Legends.{DescribesName, SameLegend}
+use Rattle.metrics_exporter.specs.Describing.{unit_told}
 use Rattle.metrics_exporter.specs.Kept.{IsAfter, described}
 use Rattle.tool_export.proofs.AnswerLemmas.{Full, Absent, Expired, IsUpdateAnswer, by_answer, none_shown, not_full}
 use Rattle.tool_prometheus.specs.declared.answering.Served.{Served}

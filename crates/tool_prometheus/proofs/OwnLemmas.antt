@@ -15,13 +15,14 @@ use Rattle.metrics_names.specs.Names.{SeriesKey, series_key_eq}
 use Rattle.metrics_names.specs.Equality.{series_key_eq-Decides, key_exact, key_same}
 use Rattle.metrics_exporter.specs.Exporting.{Reading, Cell, Cells, IsHeld, IsHeldNumber, level}
 use Rattle.metrics_exporter.specs.Gathering.{series_at}
-use Rattle.metrics_exporter.specs.Describing.{Legend}
+use Rattle.metrics_descriptions.specs.Legends.{Legend}
 use Rattle.metrics_exporter.specs.Readings.{KeyedReading, AreReadings, reading_in, keyed_reading, keyed_readings}
 use Rattle.metrics_exporter.specs.declared.readings.SeriesReading.{SeriesReading}
 use Rattle.metrics_exporter.proofs.SortedLemmas.{flips}
 use Rattle.metrics_exposition.specs.declared.naming.Naming.{Naming}
 use Rattle.metrics_prometheus.specs.Exposition.{IsScaled}
-use Rattle.tool_prometheus.specs.Own.{Own, own_key, own_counter, own_gauge, own_moment, own_series, own_places, with_series, with_own, left_out_number, IsExposedOwn, IsShown}
+use Rattle.metrics_prometheus.specs.LeftOut.{left_out_number}
+use Rattle.tool_prometheus.specs.Own.{Own, own_key, own_counter, own_gauge, own_moment, own_series, own_places, with_series, with_own, IsExposedOwn, IsShown}
 
 -- ---- keys
 

@@ -5,7 +5,8 @@ use Rattle.std.proofs.lemmas.List.{append_cancel_right}
 use Rattle.std.proofs.lemmas.List.Concat.{flat_map-append}
 use Rattle.metrics_exporter.specs.Exporting.{Setup, Log, updates_in, expires, steps, cells_after, series_of, HoldsSome}
 use Rattle.metrics.specs.declared.error.Error.TheVariants as error
-use Rattle.metrics_exporter.specs.Describing.{SameLegend, unit_told}
+use Rattle.metrics_descriptions.specs.Legends.{SameLegend}
+use Rattle.metrics_exporter.specs.Describing.{unit_told}
 use Rattle.metrics_exporter.specs.Kept.{IsAfter, described}
 use Rattle.metrics_exposition.specs.declared.naming.Naming.{Naming}
 use Rattle.tool_grammar.specs.declared.error.RunError.{RunError}

@@ -6,7 +6,8 @@ use Rattle.metrics_registry.specs.Idleness.{Answered}
 use Rattle.metrics_names.specs.Names.{KeyParts}
 use Rattle.metrics_exporter.specs.Exporting.{Setup, updates_in, expires, Log, steps, Cells, cells_after, series_of}
 use Rattle.metrics_exporter.specs.Exporting.{IsExpiry, IsFull, HoldsSome}
-use Rattle.metrics_exporter.specs.Describing.{SameLegend, DescribesName, unit_told}
+use Rattle.metrics_descriptions.specs.Legends.{SameLegend, DescribesName}
+use Rattle.metrics_exporter.specs.Describing.{unit_told}
 use Rattle.metrics_exporter.specs.Kept.{IsAfter, described}
 use Rattle.tool_export.specs.Exported.{HoldsAtRefusal, report_text}
 use Rattle.tool_prometheus.specs.declared.answering.Served.{Served}

@@ -5,7 +5,8 @@ use Rattle.std.specs.Io.KnownBytes.{Consumes, Appends, IsAtEnd}
 use Rattle.metrics_names.specs.Names.{KeyParts}
 use Rattle.metrics_registry.specs.Idleness.{Answered}
 use Rattle.metrics_exporter.specs.Exporting.{Log, updates_in, expires, steps, cells_after, series_of, IsExpiry, IsFull}
-use Rattle.metrics_exporter.specs.Describing.{Legend, legend_described, unit_told}
+use Rattle.metrics_descriptions.specs.Legends.{Legend, legend_described}
+use Rattle.metrics_exporter.specs.Describing.{unit_told}
 use Rattle.tool_stream.specs.Lines.{lines_of, ended_lines, is_cut}
 use Rattle.tool_prometheus.specs.Making.{setup_for}
 use Rattle.tool_prometheus.specs.declared.commands.Options.{Options}
@@ -27,16 +28,21 @@ use Rattle.tool_prometheus.specs.Serving.{Start, Ends}
 
 -- ---- one request
 
--- what was done so far: the calls in order, the descriptions of names, whether something changed since the last scrape, whether
--- a bad line was skipped, or the last one is not counted, or something else was bad in a strict run, the timer for scrapes, what
--- was counted, and the moment of the last scrape
+-- what was done so far
 pub record Done : Type 0 where
+  -- the calls, in order
   pub calls : Log
+  -- the descriptions of names
   pub legend : Legend
+  -- something changed since the last scrape
   pub is_changed : Bool
+  -- a bad line was skipped, the last line isn't counted, or something else was bad in a strict run
   pub has_bad : Bool
+  -- the timer for scrapes
   pub timer : Option Timer
+  -- what was counted
   pub counts : Counts
+  -- the moment of the last scrape
   pub last : Option ℕ
 
 -- the decimal places of the names that are kept

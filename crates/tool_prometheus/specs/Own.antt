@@ -1,17 +1,17 @@
 -- The series about the program itself.
-use Rattle.std.specs.Prelude.{if◌then◌else◌, ◌≡◌, ℕ, ◌+◌, ◌-◌, ◌^◌, pos, min, Bool, true, false, List, [], ◌∷◌, ◌++◌, ◌==◌, codes, length, bytes_eq, Option, None, Some}
-use Rattle.std.specs.List.{list_any, filter, slice_split}
+use Rattle.std.specs.Prelude.{if◌then◌else◌, ◌≡◌, ℕ, ◌+◌, ◌-◌, ◌^◌, pos, min, Bool, true, false, List, [], ◌∷◌, ◌++◌, codes, bytes_eq, Option, None, Some}
+use Rattle.std.specs.List.{list_any}
 use Rattle.metrics_names.specs.Names.{LabelParts, KeyParts, series_key_eq}
 use Rattle.metrics_names.specs.declared.kind.MetricKind.TheVariants.{Counter, Gauge}
 use Rattle.metrics_exporter.specs.Exporting.{Cells, count, level, IsHeldNumber}
 use Rattle.metrics_exporter.specs.Gathering.{series_at}
 use Rattle.metrics_exporter.specs.Readings.{KeyedReading}
-use Rattle.metrics_exporter.specs.Describing.{Legend}
+use Rattle.metrics_descriptions.specs.Legends.{Legend}
 use Rattle.metrics_exposition.specs.declared.naming.Naming.{Naming}
 use Rattle.metrics_prometheus.specs.Exposition.{IsScaled}
+use Rattle.metrics_prometheus.specs.LeftOut.{left_out_number}
 use Rattle.tool_prometheus.specs.declared.counts.Counts.{Counts}
 use Rattle.tool_requests.specs.Lines.{with_labels}
-use Rattle.tool_prometheus.specs.Strict.{is_left_out}
 
 -- ---- what is counted
 
@@ -34,10 +34,6 @@ with_bad_line counts = record (with_line counts) { bad = one_more counts.bad }
 -- and one more call that was refused
 abbrev pub with_refusal : Counts → Counts
 with_refusal counts = record counts { refused = one_more counts.refused }
-
--- how many series a text leaves out
-abbrev pub left_out_number : List ℕ → ℕ
-left_out_number text = length (filter is_left_out (slice_split (λ c. c == 10) text))
 
 -- ---- the series
 

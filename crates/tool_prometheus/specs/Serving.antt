@@ -9,7 +9,7 @@ use Rattle.metrics_names.specs.declared.kind.MetricKind.{MetricKind}
 use Rattle.metrics_exporter.specs.Kept.{IsAfter, described}
 use Rattle.metrics_exporter.specs.declared.exporter.Exporter.{Exporter}
 use Rattle.metrics_exporter.specs.Exporting.{Log}
-use Rattle.metrics_exporter.specs.Describing.{Legend, SameLegend, no_legend}
+use Rattle.metrics_descriptions.specs.Legends.{Legend, SameLegend, no_legend}
 use Rattle.tool_prometheus.specs.Making.{setup_for}
 use Rattle.tool_prometheus.specs.declared.answering.Served.{Served}
 use Rattle.tool_prometheus.specs.declared.commands.Options.{Options}

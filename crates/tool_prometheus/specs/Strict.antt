@@ -1,7 +1,8 @@
 -- What a strict run takes for bad: names, labels and series that the text doesn't have as they were given.
-use Rattle.std.specs.Prelude.{ℕ, Bool, true, false, not, ◌&&◌, ◌||◌, ◌==◌, List, [], nat_eq, bytes_eq, codes}
-use Rattle.std.specs.List.{list_any, slice_split, starts_with}
+use Rattle.std.specs.Prelude.{ℕ, Bool, true, false, not, ◌&&◌, ◌||◌, ◌==◌, List, [], bytes_eq}
+use Rattle.std.specs.List.{list_any, slice_split}
 use Rattle.metrics_names.specs.Names.{LabelParts}
+use Rattle.metrics_prometheus.specs.LeftOut.{says_left_out}
 use Rattle.tool_requests.specs.declared.requests.Request.{Request}
 use Rattle.tool_requests.specs.declared.requests.Request.TheVariants.{Change, Describe, Scrape, Nothing}
 use Rattle.tool_requests.specs.Spelled.{stays}
@@ -17,13 +18,9 @@ respells front (Describe kind name unit note) = not (stays true front name)
 respells front (Scrape moment) = false
 respells front Nothing = false
 
--- the line says that a series is left out
-abbrev pub is_left_out : List ℕ → Bool
-is_left_out line = starts_with nat_eq line (codes "# left out: ")
-
--- a line of the text says so
+-- a line of the text says that a series is left out
 abbrev pub leaves_out : List ℕ → Bool
-leaves_out text = list_any is_left_out (slice_split (λ c. c == 10) text)
+leaves_out text = list_any says_left_out (slice_split (λ c. c == 10) text)
 
 -- in a strict run this counts as bad, and what was bad before stays so
 abbrev pub noted : Bool → Bool → Bool → Bool

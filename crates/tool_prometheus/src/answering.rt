@@ -3,6 +3,7 @@ ghost use Rattle.std.specs.Prelude.{◌≡◌, ◌++◌, ℕ, [], List, OnOk};
 ghost use Rattle.std.specs.Prelude.{string_bytes, is_ok, true, if◌then◌else◌};
 ghost use Rattle.tool_prometheus.specs.Asked.{Asked, Asks, nothing_asked};
 ghost use Rattle.tool_prometheus.specs.Exposed.{Answers, AnswersInTime, HasMoment, IsEnd, HandsOut, HandsOutShown};
+ghost use Rattle.metrics_prometheus.specs.Counted.{counted_bytes};
 ghost use Rattle.tool_prometheus.specs.Own.{with_refusal};
 ghost use Rattle.tool_prometheus.specs.Exposed.{limit_text, refusal_text, scrape_text, shown_text, shows_at_end as shows_then};
 
@@ -15,7 +16,7 @@ use crate::timing::Timer;
 use crate::watching::{Call, Watch};
 use metrics::{Error, Key, MetricKind, Unit, Update};
 use metrics_exporter::Exporter;
-use metrics_prometheus::Naming;
+use metrics_prometheus::{CountedText, Naming};
 use metrics_rules::Rules;
 use std::alloc::{AllocError, Global};
 use tool_export::report_text;
@@ -158,22 +159,23 @@ fn hand_out_shown<S: Surroundings>(
     on: &mut Served,
     around: &mut S,
     watch: &mut Watch,
-    shown: Result<String, Error>,
+    shown: Result<CountedText, Error>,
     text: &mut String,
 ) -> Result<(), AllocError>
-    ensures done { (files : List (List ℕ)) × HandsOutShown string_bytes on.old shown on.new files
+    ensures done { (files : List (List ℕ)) × HandsOutShown counted_bytes on.old shown on.new files
         × Asks (S.asked around.old) (S.asked around.new) (record { clock = []; files = files }) }
     ensures text { OnOk result (string_bytes text.new ≡ string_bytes text.old
-        ++ shown_text string_bytes on.old.has_file shown) }
+        ++ shown_text counted_bytes on.old.has_file shown) }
 {
     match shown {
         Ok(shown) => {
             on.is_changed = false;
-            note_left_out(on, around, watch, shown.as_str());
-            if !hand_out(around, &on.exporter, on.has_file, shown.as_str()) {
+            note_left_out(on, around, watch, &shown);
+            let shown = shown.text.as_str();
+            if !hand_out(around, &on.exporter, on.has_file, shown) {
                 on.has_failed = true;
             }
-            write_shown(on.has_file, shown.as_str(), text)
+            write_shown(on.has_file, shown, text)
         }
         Err(e) => write_refusal(on, watch, Call::Scrape, Err(e), text),
     }

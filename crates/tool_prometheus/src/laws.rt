@@ -7,15 +7,16 @@ ghost use Rattle.tool_prometheus.specs.Asked.{Asked as Deeds};
 ghost use Rattle.tool_prometheus.specs.Serving.{Start};
 ghost use Rattle.tool_prometheus.specs.Output.{IsOutput, Runs, NamesMoments, with_shards};
 ghost use Rattle.metrics_exporter.specs.Exporting.{Cells};
-ghost use Rattle.metrics_exporter.specs.Describing.{Legend};
+ghost use Rattle.metrics_descriptions.specs.Legends.{Legend};
 ghost use Rattle.metrics_exposition.specs.declared.naming.Naming.{Naming};
 ghost use Rattle.metrics_prometheus.specs.Exposition.{IsScaled};
 ghost use Rattle.metrics_exposition.specs.Names.{metric_name, label_name};
+ghost use Rattle.metrics_prometheus.specs.LeftOut.{left_out_number};
 ghost use Rattle.metrics_prometheus.specs.Written.{written};
 ghost use Rattle.tool_requests.specs.Spelled.{stays};
 ghost use Rattle.tool_prometheus.specs.Strict.{leaves_out};
 ghost use Rattle.metrics_exposition.specs.Reading.{AreOfKinds};
-ghost use Rattle.tool_prometheus.specs.Own.{Own, own_series, with_own, left_out_number, IsExposedOwn};
+ghost use Rattle.tool_prometheus.specs.Own.{Own, own_series, with_own, IsExposedOwn};
 
 use metrics_exporter::exporter_law;
 use metrics_prometheus::exposition_law;

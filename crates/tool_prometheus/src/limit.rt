@@ -6,7 +6,6 @@ ghost use Rattle.tool_prometheus.specs.Limit.{IsBeyond, IsWithin};
 
 use metrics::{Key, Update};
 use metrics_exporter::Exporter;
-use tool_requests::kind_of_update;
 
 /// Whether an update would make one series too many.
 pub(crate) fn is_beyond(exporter: &Exporter, most: Option<u64>, key: &Key, by: Update) -> bool
@@ -20,5 +19,5 @@ pub(crate) fn is_beyond(exporter: &Exporter, most: Option<u64>, key: &Key, by: U
     if (exporter.len() as u64) < most {
         return false;
     }
-    !exporter.holds(kind_of_update(by), key)
+    !exporter.holds(by.kind(), key)
 }

@@ -1,8 +1,9 @@
 //! What a text shows: what is held, and the series about the program itself, if those are shown.
-ghost use Rattle.std.specs.Prelude.{◌≡◌, ◌++◌, Some as Just, string_bytes, IfOk, IfErr, OnOk, OnErr, MatchResult, true};
+ghost use Rattle.std.specs.Prelude.{◌≡◌, ◌++◌, Some as Just, IfOk, IfErr, OnOk, OnErr, MatchResult, true};
 ghost use Rattle.metrics.specs.declared.error.Error.TheVariants.{Memory as OutOfMemory};
 ghost use Rattle.metrics_exporter.specs.Exporting.{Setup, Log, steps, cells_after, HoldsSome};
 ghost use Rattle.metrics_exporter.specs.Kept.{IsAfter, described};
+ghost use Rattle.metrics_prometheus.specs.Counted.{counted_bytes};
 ghost use Rattle.metrics_prometheus.specs.Exposition.{IsScaled};
 ghost use Rattle.tool_requests.specs.Places.{kept_places};
 ghost use Rattle.tool_prometheus.specs.Own.{own_moment, own_series, own_places, with_own, IsExposedOwn, IsShown};
@@ -15,9 +16,8 @@ use crate::own::{
     set_own,
 };
 use crate::own_places::{OwnPlaces, kept_places_of};
-use crate::strict::left_out_number;
 use metrics::Error;
-use metrics_prometheus::{scaled_exposition, scaled_exposition_of};
+use metrics_prometheus::{CountedText, counted_exposition, counted_exposition_of};
 use std::alloc::Global;
 
 /// Adds the moment of the last scrape, if there was one.
@@ -68,11 +68,11 @@ fn push_all(
 }
 
 /// The text of what is held, and of these series about the program.
-fn text_with(alloc: Global, on: &Served, rows: &[OwnSeries]) -> Result<String, Error>
+fn text_with(alloc: Global, on: &Served, rows: &[OwnSeries]) -> Result<CountedText, Error>
     ensures ok { (setup : Setup) (log : Log) → IsAfter setup log on.now.exporter → IfOk result
-        (λ text. IsScaled on.now.naming (described on.now.exporter)
+        (λ shown. IsScaled on.now.naming (described on.now.exporter)
         (own_places (kept_places on.now.dialect.places on.now.front))
-        (with_own (all_own rows.now) (cells_after setup (steps log))) (string_bytes text)) }
+        (with_own (all_own rows.now) (cells_after setup (steps log))) (counted_bytes shown)) }
     ensures err { IfErr result (λ e. e ≡ OutOfMemory) }
 {
     let held = on.exporter.readings()?;
@@ -80,15 +80,15 @@ fn text_with(alloc: Global, on: &Served, rows: &[OwnSeries]) -> Result<String, E
     let places = OwnPlaces {
         kept: kept_places_of(&on.dialect, on.front),
     };
-    scaled_exposition_of(alloc, on.naming, &places, on.exporter.descriptions(), &all)
+    counted_exposition_of(alloc, on.naming, &places, on.exporter.descriptions(), &all)
 }
 
 /// The text of what is held, and of the series about the program itself, where so many series are held and a text leaves so
 /// many out.
-fn text_leaving(alloc: Global, on: &Served, held: u64, left_out: u64) -> Result<String, Error>
+fn text_leaving(alloc: Global, on: &Served, held: u64, left_out: u64) -> Result<CountedText, Error>
     ensures ok { (setup : Setup) (log : Log) → IsAfter setup log on.now.exporter → IfOk result
-        (λ text. IsExposedOwn (own_of on.now) held left_out on.now.naming (described on.now.exporter)
-        (kept_places on.now.dialect.places on.now.front) (cells_after setup (steps log)) (string_bytes text)) }
+        (λ shown. IsExposedOwn (own_of on.now) held left_out on.now.naming (described on.now.exporter)
+        (kept_places on.now.dialect.places on.now.front) (cells_after setup (steps log)) (counted_bytes shown)) }
     ensures err { IfErr result (λ e. e ≡ OutOfMemory) }
 {
     let mut rows = Vec::new(alloc);
@@ -97,40 +97,40 @@ fn text_leaving(alloc: Global, on: &Served, held: u64, left_out: u64) -> Result<
 }
 
 /// The text of what is held, and of the series about the program itself.
-fn own_text(alloc: Global, on: &Served) -> Result<String, Error>
+fn own_text(alloc: Global, on: &Served) -> Result<CountedText, Error>
     ensures ok { (setup : Setup) (log : Log) → IsAfter setup log on.now.exporter → IfOk result
-        (λ text. IsShown true (own_of on.now) on.now.naming (described on.now.exporter)
-        (kept_places on.now.dialect.places on.now.front) (cells_after setup (steps log)) (string_bytes text)) }
+        (λ shown. IsShown true (own_of on.now) on.now.naming (described on.now.exporter)
+        (kept_places on.now.dialect.places on.now.front) (cells_after setup (steps log)) (counted_bytes shown)) }
     ensures err { IfErr result (λ e. e ≡ OutOfMemory) }
 {
     let held = on.exporter.len() as u64;
-    let text = text_leaving(alloc, on, held, 0)?;
-    let left_out = left_out_number(text.as_str());
+    let shown = text_leaving(alloc, on, held, 0)?;
+    let left_out = shown.left_out;
     if left_out == 0 {
-        return Ok(text);
+        return Ok(shown);
     }
-    drop(text);
+    drop(shown);
     text_leaving(alloc, on, held, left_out as u64)
 }
 
 /// The text of what is held.
-fn plain_text(alloc: Global, on: &Served) -> Result<String, Error>
+fn plain_text(alloc: Global, on: &Served) -> Result<CountedText, Error>
     ensures text { (setup : Setup) (log : Log) → IsAfter setup log on.now.exporter → MatchResult result
-        (λ text. IsScaled on.now.naming (described on.now.exporter)
-        (kept_places on.now.dialect.places on.now.front) (cells_after setup (steps log)) (string_bytes text))
+        (λ shown. IsScaled on.now.naming (described on.now.exporter)
+        (kept_places on.now.dialect.places on.now.front) (cells_after setup (steps log)) (counted_bytes shown))
         (λ e. e ≡ OutOfMemory) }
     ensures refused { (setup : Setup) (log : Log) → IsAfter setup log on.now.exporter →
         OnErr result (HoldsSome (cells_after setup (steps log))) }
 {
     let places = kept_places_of(&on.dialect, on.front);
-    scaled_exposition(&on.exporter, alloc, on.naming, &places)
+    counted_exposition(&on.exporter, alloc, on.naming, &places)
 }
 
 /// The text of what is held, and of the series about the program itself, if those are shown. Fails only when out of memory,
 /// and without those never if no series is held.
-pub(crate) fn text_of(alloc: Global, on: &Served) -> Result<String, Error>
+pub(crate) fn text_of(alloc: Global, on: &Served) -> Result<CountedText, Error>
     ensures text { (setup : Setup) (log : Log) → IsAfter setup log on.now.exporter → MatchResult result
-        (λ text. Shows setup log on.now (string_bytes text)) (λ e. e ≡ OutOfMemory) }
+        (λ shown. Shows setup log on.now (counted_bytes shown)) (λ e. e ≡ OutOfMemory) }
     ensures refused { (setup : Setup) (log : Log) → IsAfter setup log on.now.exporter →
         OnErr result (UnlessTold on.now.tells_self (HoldsSome (cells_after setup (steps log)))) }
 {
@@ -142,8 +142,8 @@ pub(crate) fn text_of(alloc: Global, on: &Served) -> Result<String, Error>
 }
 
 /// Notes the moment, removes the series that are idle then, and returns the text of the rest.
-pub(crate) fn shown_at(alloc: Global, on: &mut Served, now: u64) -> Result<String, Error>
-    ensures shown { ShowsAt string_bytes on.old on.new now result }
+pub(crate) fn shown_at(alloc: Global, on: &mut Served, now: u64) -> Result<CountedText, Error>
+    ensures shown { ShowsAt counted_bytes on.old on.new now result }
     ensures others { on.new ≡ record on.old { exporter = on.new.exporter; last = Just now } }
     ensures legend { described on.new.exporter ≡ described on.old.exporter }
 {

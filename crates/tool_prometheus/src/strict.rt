@@ -1,15 +1,15 @@
 //! What a strict run takes for bad: names, labels and series that the text doesn't have as they were given.
-ghost use Rattle.std.specs.Prelude.{◌≡◌};
+ghost use Rattle.std.specs.Prelude.{◌≡◌, string_bytes};
 ghost use Rattle.std.specs.List.{list_any};
 ghost use Rattle.tool_prometheus.specs.Asked.{Asks, nothing_asked};
-ghost use Rattle.tool_prometheus.specs.Own.{left_out_number as left_out_in};
 ghost use Rattle.tool_prometheus.specs.Strict.{respells as respells_of, respells_label as respells_one, noted};
-ghost use Rattle.tool_prometheus.specs.Strict.{is_left_out as is_one, leaves_out as leaves_some};
+ghost use Rattle.tool_prometheus.specs.Strict.{leaves_out as leaves_some};
 
 use crate::answering::Served;
 use crate::surroundings::Surroundings;
 use crate::watching::Watch;
 use metrics::Label;
+use metrics_prometheus::CountedText;
 use tool_requests::{Request, is_as_given};
 
 /// Whether the text has another name for a label. It doesn't show one without a value.
@@ -39,20 +39,6 @@ fn respells(front: usize, request: &Request) -> bool
     }
 }
 
-/// Whether a line says that a series is left out.
-fn is_left_out(line: &str) -> bool
-    ensures { result ≡ is_one line.now }
-{
-    line.as_bytes().starts_with(b"# left out: ")
-}
-
-/// How many series a text leaves out.
-pub(crate) fn left_out_number(text: &str) -> usize
-    ensures { result ≡ left_out_in text.now }
-{
-    text.split('\n').filter(|line| is_left_out(line)).count()
-}
-
 /// Notes as bad, in a strict run, that the text has a name or a label of a request otherwise.
 pub(crate) fn note_names(on: &mut Served, request: &Request)
     ensures { on.new ≡ record on.old {
@@ -69,15 +55,17 @@ pub(crate) fn note_left_out<S: Surroundings>(
     on: &mut Served,
     around: &mut S,
     watch: &mut Watch,
-    text: &str,
+    shown: &CountedText,
 )
-    ensures noted { on.new ≡ record on.old { has_bad = noted on.old.is_strict (leaves_some text.now) on.old.has_bad } }
+    ensures noted { on.new ≡ record on.old {
+      has_bad = noted on.old.is_strict (leaves_some (string_bytes shown.now.text)) on.old.has_bad;
+    } }
     ensures asked { Asks (S.asked around.old) (S.asked around.new) nothing_asked }
 {
-    if left_out_number(text) == 0 {
+    if shown.left_out == 0 {
         return;
     }
-    watch.tell_left_out(around, text);
+    watch.tell_left_out(around, shown.text.as_str());
     if on.is_strict {
         on.has_bad = true;
     }

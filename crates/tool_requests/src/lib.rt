@@ -18,7 +18,7 @@ pub use flaws::{Cause, Message, Unread};
 pub use labels::common_labels;
 pub use laws::{label_law, line_law};
 pub use metrics::{Items, Label, Text};
-pub use names::{kind_of_update, named_request_of};
+pub use names::named_request_of;
 pub use places::{KeptPlaces, PrefixPlaces, front_of};
 pub use renaming::Room;
 pub use requests::{Request, request_of};

@@ -13,17 +13,6 @@ use metrics::{Label, MetricKind, Refused, Unit, Update};
 use metrics_rules::Rules;
 use std::alloc::Global;
 
-/// Returns the kind that an update is for.
-pub fn kind_of_update(by: Update) -> MetricKind
-    ensures { result ≡ kind_of by }
-{
-    match by {
-        Update::Increment(_) | Update::Absolute(_) => MetricKind::Counter,
-        Update::Add(_) | Update::Subtract(_) | Update::Set(_) => MetricKind::Gauge,
-        Update::Record(_) => MetricKind::Histogram,
-    }
-}
-
 /// An update by the name that the rules have for it, or nothing if they drop it.
 fn change_by_rules(
     alloc: Global,
@@ -36,7 +25,7 @@ fn change_by_rules(
     ensures { IfOk result (λ r. r ≡ renamed (ruled_name (There rules.now))
         (Request.Change (record { name = name.now; labels = labels.items }) by)) }
 {
-    match room.name_by(rules, kind_of_update(by), name)? {
+    match room.name_by(rules, by.kind(), name)? {
         Some(name) => change(alloc, name, labels, by),
         None => Ok(Request::Nothing),
     }

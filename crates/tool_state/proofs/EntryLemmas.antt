@@ -11,7 +11,7 @@ use Rattle.metrics_names.specs.Names.{KeyParts}
 use Rattle.metrics.specs.declared.handles.Update.{Update}
 use Rattle.metrics_exporter.specs.declared.exporter.Exporter.{Exporter}
 use Rattle.metrics_exporter.specs.Exporting.{Setup, Log, updates_in}
-use Rattle.metrics_exporter.specs.Describing.{Legend, DescribesName}
+use Rattle.metrics_descriptions.specs.Legends.{Legend, DescribesName}
 use Rattle.metrics_exporter.specs.Kept.{IsAfter, described}
 use Rattle.tool_requests.specs.declared.requests.Request.TheVariants.{Change, Describe}
 use Rattle.tool_state.specs.State.{Entry, made_in, StateLine, IsLine, IsLineOf, lines_text, entries_of, calls_by, calls_of, legend_by, legend_of, DoesAll, ReadsState}

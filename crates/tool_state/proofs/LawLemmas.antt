@@ -11,7 +11,7 @@ use Rattle.metrics_names.specs.declared.common.Unit.{Unit as Measure}
 use Rattle.metrics_names.specs.Names.{KeyParts, SeriesKey, series_key_eq}
 use Rattle.metrics_names.specs.Equality.{key_exact, key_same}
 use Rattle.metrics_exporter.specs.Exporting.{steps, since_in, Reading, count, level, samples, Cell, Cells, cells_after}
-use Rattle.metrics_exporter.specs.Describing.{Legend, no_legend}
+use Rattle.metrics_descriptions.specs.Legends.{Legend, no_legend}
 use Rattle.metrics_exporter.specs.Kept.{held_cells, described}
 use Rattle.metrics_exporter.specs.Readings.{KeyedReading, AreReadings, reading_in}
 use Rattle.metrics_prometheus.proofs.OneTextLemmas.{one-text}

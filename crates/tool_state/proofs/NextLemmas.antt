@@ -4,7 +4,7 @@ use Rattle.std.specs.Prelude.{option_map, IsPermutation}
 use Rattle.std.proofs.lemmas.Bool.{false≢true}
 use Rattle.metrics_names.specs.Names.{SeriesKey}
 use Rattle.metrics_exporter.specs.Exporting.{Cell, Cells, IsHeld}
-use Rattle.metrics_exporter.specs.Describing.{Legend}
+use Rattle.metrics_descriptions.specs.Legends.{Legend}
 use Rattle.metrics_exporter.specs.Gathering.{series_at}
 use Rattle.metrics_exposition.specs.declared.naming.Naming.{Naming}
 use Rattle.metrics_exposition.specs.Naming.{display_by, shown_name, shown_places}

@@ -10,12 +10,12 @@ use Rattle.metrics_names.specs.declared.kind.MetricKind.{MetricKind}
 use Rattle.metrics_names.specs.Names.{KeyParts, kind_eq}
 use Rattle.metrics_names.specs.Equality.{kind_eq-Decides}
 use Rattle.metrics.specs.Book.{no_description, described_again}
-use Rattle.metrics_exporter.specs.declared.descriptions.Described.{Described}
-use Rattle.metrics_exporter.specs.declared.descriptions.Descriptions.{Descriptions}
+use Rattle.metrics_descriptions.specs.declared.descriptions.Described.{Described}
+use Rattle.metrics_descriptions.specs.declared.descriptions.Descriptions.{Descriptions}
 use Rattle.metrics_exporter.specs.declared.exporter.Exporter.{Exporter}
 use Rattle.metrics_exporter.specs.declared.readings.ReadingRef.{ReadingRef}
 use Rattle.metrics_exporter.specs.declared.readings.SeriesReading.{SeriesReading}
-use Rattle.metrics_exporter.specs.Describing.{Legend, no_legend, description_of, described_by, legend_described}
+use Rattle.metrics_descriptions.specs.Legends.{Legend, no_legend, description_of, described_by, legend_described}
 use Rattle.metrics_exporter.specs.Kept.{held_cells, described}
 use Rattle.metrics_exporter.specs.Readings.{KeyedReading, keyed_reading, keyed_readings, kind_shown, reading_shown, AreReadings}
 use Rattle.metrics_exporter.specs.Gathering.{series_at}

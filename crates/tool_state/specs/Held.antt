@@ -8,7 +8,7 @@ use Rattle.metrics.specs.declared.handles.Update.TheVariants.{Increment, Set, Re
 use Rattle.metrics_storage.specs.Histogram.{bounds_of}
 use Rattle.metrics_exporter.specs.declared.exporter.Exporter.{Exporter}
 use Rattle.metrics_exporter.specs.Exporting.{Setup, Log, count, level, samples, Cells, IsHeld}
-use Rattle.metrics_exporter.specs.Describing.{SameLegend, no_legend}
+use Rattle.metrics_descriptions.specs.Legends.{SameLegend, no_legend}
 use Rattle.metrics_exporter.specs.Kept.{IsAfter, held_cells, described}
 use Rattle.metrics_exporter.specs.Readings.{KeyedReading, AreReadings, reading_in}
 use Rattle.metrics_exposition.specs.declared.naming.Naming.{Naming}

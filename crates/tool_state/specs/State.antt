@@ -6,7 +6,7 @@ use Rattle.metrics_names.specs.Names.{KeyParts}
 use Rattle.metrics.specs.declared.handles.Update.{Update}
 use Rattle.metrics_exporter.specs.declared.exporter.Exporter.{Exporter}
 use Rattle.metrics_exporter.specs.Exporting.{Setup, Log, updates_in}
-use Rattle.metrics_exporter.specs.Describing.{Legend, SameLegend, no_legend, legend_described}
+use Rattle.metrics_descriptions.specs.Legends.{Legend, SameLegend, no_legend, legend_described}
 use Rattle.metrics_exporter.specs.Kept.{IsAfter, described}
 use Rattle.tool_grammar.specs.Cuts.{Lacks}
 use Rattle.tool_grammar.specs.Grammar.{unit_word}

@@ -3,8 +3,8 @@ use Rattle.std.specs.Prelude.{◌≡◌, ℕ, ◌+◌, List, [], ◌++◌, ◌�
 use Rattle.std.specs.List.{AllByRecursion}
 use Rattle.metrics_names.specs.declared.kind.MetricKind.{MetricKind}
 use Rattle.metrics_names.specs.declared.common.Unit.{Unit as Measure}
-use Rattle.metrics_exporter.specs.declared.descriptions.Descriptions.{Descriptions}
-use Rattle.metrics_exporter.specs.Describing.{SameLegend, described_by}
+use Rattle.metrics_descriptions.specs.declared.descriptions.Descriptions.{Descriptions}
+use Rattle.metrics_descriptions.specs.Legends.{SameLegend, described_by}
 use Rattle.metrics_exporter.specs.Readings.{KeyedReading}
 use Rattle.tool_state.specs.declared.body.Body.{Body}
 use Rattle.tool_state.specs.State.{Entry, StateLine, IsLineOf, lines_text, entries_of, calls_of, legend_of}

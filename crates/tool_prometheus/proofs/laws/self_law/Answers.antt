@@ -1,4 +1,5 @@
-use Rattle.tool_prometheus.proofs.OwnLawLemmas.{number-left, same-number, kinds-own}
+use Rattle.metrics_prometheus.proofs.CountLemmas.{number-left}
+use Rattle.tool_prometheus.proofs.OwnLawLemmas.{same-number, kinds-own}
 use Rattle.tool_prometheus.proofs.laws.self_law.Goals as goal
 
 pub returns-clause-number : goal.returns-clause-number

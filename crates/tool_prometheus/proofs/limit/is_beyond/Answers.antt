@@ -12,4 +12,4 @@ pub returns : goal.returns
 returns c = λ setup log after.
     let cells = cells_after setup (steps log) in
     enough c.args.most c.in-Some.most c.len.result _ cells _ c.holds.result c.in-Some.is (c.len.ensures setup log after) (λ low. omega (arith, low))
-    (c.holds.ensures setup log after ∙ ap (λ kind. is_some (cells (series_at kind c.args.key.now))) c.kind_of_update.ensures)
+    (c.holds.ensures setup log after ∙ ap (λ kind. is_some (cells (series_at kind c.args.key.now))) c.kind.ensures)

@@ -1,8 +1,8 @@
-use Rattle.std.proofs.Common.{◌∙◌, ap, sym, string_bytes}
+use Rattle.std.proofs.Common.{◌∙◌, sym}
 use Rattle.metrics_exporter.specs.Exporting.{steps, cells_after}
 use Rattle.metrics_exporter.specs.Kept.{described}
+use Rattle.metrics_prometheus.specs.Counted.{counted_bytes}
 use Rattle.tool_requests.specs.Places.{kept_places}
-use Rattle.tool_prometheus.specs.Own.{left_out_number}
 use Rattle.tool_prometheus.specs.Exposed.{own_of}
 use Rattle.tool_prometheus.proofs.OwnLemmas.{counted, if-ok}
 use Rattle.tool_prometheus.proofs.showing.own_text.Goals as goal
@@ -10,20 +10,18 @@ use Rattle.tool_prometheus.proofs.showing.own_text.Goals as goal
 pub returns-then-left_out-eq0-clause-ok : goal.returns-then-left_out-eq0-clause-ok
 returns-then-left_out-eq0-clause-ok c = λ setup log after.
     let on = c.args.on.now in
-    let first = string_bytes c.in_ok-text.text in
+    let first = c.in_ok-shown.shown in
     let (held, number, is) = c.len-held.ensures setup log after in
-    let before = c.in_ok-text.ensures.ok setup log after in
-    counted (own_of on) on.naming (described on.exporter) (kept_places on.dialect.places on.front) (cells_after setup (steps log)) first first
-    c.len-held.result held 0 number is before
-    (sym c.if-left_out-eq0.true ∙ c.left_out_number-left_out.ensures ∙ ap left_out_number c.as_str.ensures.value) before
+    let before = c.in_ok-shown.ensures.ok setup log after in
+    counted (own_of on) on.naming (described on.exporter) (kept_places on.dialect.places on.front) (cells_after setup (steps log)) (counted_bytes first) (counted_bytes first)
+    c.len-held.result held 0 number is before (sym c.if-left_out-eq0.true ∙ first.number) before
 
 pub returns-clause-ok : goal.returns-clause-ok
 returns-clause-ok c = λ setup log after.
     let on = c.args.on.now in
-    let first = string_bytes c.in_ok-text.text in
+    let first = c.in_ok-shown.shown in
     let (held, number, is) = c.len-held.ensures setup log after in
     if-ok c.text_leaving-2.result
-    (λ text shows. counted (own_of on) on.naming (described on.exporter) (kept_places on.dialect.places on.front) (cells_after setup (steps log)) first
-    (string_bytes text) c.len-held.result held c.left_out_number-left_out.result number is (c.in_ok-text.ensures.ok setup log after)
-    (c.left_out_number-left_out.ensures ∙ ap left_out_number c.as_str.ensures.value) shows)
+    (λ shown shows. counted (own_of on) on.naming (described on.exporter) (kept_places on.dialect.places on.front) (cells_after setup (steps log)) (counted_bytes first)
+    (counted_bytes shown) c.len-held.result held first.left_out number is (c.in_ok-shown.ensures.ok setup log after) first.number shows)
     (c.text_leaving-2.ensures.ok setup log after)
