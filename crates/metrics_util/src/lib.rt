@@ -4,9 +4,9 @@
 /// Metrics that the threads of a program share, and their text for Prometheus.
 pub mod collector {
     pub use metrics_collector::{
-        AbsorbError, BadLabel, Bounds, BoundsError, Collector, CounterHandle, Descriptions,
-        Gathered, GatheredSeries, GaugeHandle, HistogramHandle, LEFT_OUT_NAME, LabelList, Naming,
-        Value, left_out, quantile_bound,
+        AbsorbError, BadLabel, Bounds, BoundsError, Collector, CounterHandle, Described,
+        Descriptions, Gathered, GatheredSeries, GaugeHandle, HistogramHandle, LEFT_OUT_NAME,
+        LabelList, Naming, Value, left_out, quantile_bound,
     };
 }
 
@@ -19,8 +19,8 @@ pub mod debugging {
 /// Series over a registry, as text.
 pub mod exporter {
     pub use metrics_exporter::{
-        Bounds, BoundsError, Descriptions, Exporter, PartlyAbsorbed, ReadingRef, SeriesReading,
-        exporter_law,
+        Bounds, BoundsError, Described, Descriptions, Exporter, PartlyAbsorbed, ReadingRef,
+        SeriesReading, exporter_law,
     };
     pub use metrics_prometheus::{
         Naming, ReadSeries, exposition, exposition_law, exposition_named, exposition_of,

@@ -11,8 +11,8 @@ pub mod debugging {
 /// Series over a registry, as text.
 pub mod exporter {
     pub use metrics_exporter::{
-        Bounds, BoundsError, Descriptions, Exporter, PartlyAbsorbed, ReadingRef, SeriesReading,
-        exporter_law,
+        Bounds, BoundsError, Described, Descriptions, Exporter, PartlyAbsorbed, ReadingRef,
+        SeriesReading, exporter_law,
     };
     pub use metrics_prometheus::{
         Naming, ReadSeries, exposition, exposition_law, exposition_named, exposition_of,
