@@ -1,10 +1,10 @@
 //! What READMEs of crates show under *Use*, and no example shows.
 #![tactic(auto)]
 
-use metrics::{Error, Key, KeyName, MetricKind, Recorder, Refused};
+use metrics::{Error, Key, KeyName, MetricKind, Recorder, Refused, Unit};
 use metrics_counts::{CountCell, Watch};
 use metrics_util::collector::Collector;
-use metrics_util::exporter::{TextfileError, write_textfile};
+use metrics_util::exporter::{Descriptions, TextfileError, write_textfile};
 use metrics_util::layered::Local;
 use metrics_util::layers::{Layer, Prefix, PrefixLayer};
 use metrics_util::registry::{GenerationalAtomicStorage, OwnedRegistry, PlainStorage, Registry};
@@ -30,6 +30,16 @@ pub fn watch_counter(alloc: Global, key: &Key) -> Result<u64, Error> {
     let mut watch = Watch::new(Arc::try_clone(&cell)?);
     cell.increment(5);
     Ok(watch.read())
+}
+
+/// `metrics_descriptions`: describes a name, and looks up its unit.
+pub fn unit_of_hits(alloc: Global, descriptions: &mut Descriptions) -> Result<Option<Unit>, Error> {
+    descriptions.describe(alloc, MetricKind::Counter, "hits", None, "all hits")?;
+    let unit = match descriptions.get(MetricKind::Counter, "hits") {
+        Some(described) => described.unit(),
+        None => None,
+    };
+    Ok(unit)
 }
 
 /// `metrics_layers`: a recorder below a prefix.
