@@ -20,7 +20,7 @@ use Rattle.metrics_registry.specs.Recency.{Rules, Check, Table, is_late, is_watc
 use Rattle.metrics_registry.specs.RecencyEntries.{rules_of, table_of, check_of}
 use Rattle.metrics_registry.specs.Idleness.{Answered, run_answer, run_answers}
 use Rattle.metrics_exporter.specs.declared.exporter.Exporter.{Exporter}
-use Rattle.metrics_exporter.specs.declared.keys.SeriesRef.{SeriesRef}
+use Rattle.metrics_exporter.specs.declared.series.SeriesRef.{SeriesRef}
 use Rattle.metrics_exporter.specs.Exporting.{Setup, expires, Log, Step, checked, steps, check_in, checks_in, Cells, cells_after, AreSeries, HaveFirst, generation_in, check_of_held, checks_of, answers_of, removed_by, IsExpiry}
 use Rattle.metrics_exporter.specs.ExporterText.{series_line, series_text, IsText}
 use Rattle.metrics_exporter.specs.Gathering.{series_at, series_shown, cell_shown, all_shown, AreSeen}

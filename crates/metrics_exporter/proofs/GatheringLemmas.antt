@@ -7,7 +7,7 @@ use Rattle.metrics_names.specs.Names.{SeriesKey, series_key_cmp}
 use Rattle.metrics_registry.proofs.ShardLemmas.{map-length, map-get}
 use Rattle.std.proofs.lemmas.List.Elements.{Contains-get_or}
 use Rattle.metrics_exporter.specs.Exporting.{Cells, AreSeries}
-use Rattle.metrics_exporter.specs.declared.keys.SeriesRef.{SeriesRef}
+use Rattle.metrics_exporter.specs.declared.series.SeriesRef.{SeriesRef}
 use Rattle.metrics_exporter.specs.Gathering.{series_shown, cell_shown, all_shown, AreSeen}
 
 shown-length : (rows : List SeriesRef) → length (all_shown rows) ≡ length rows

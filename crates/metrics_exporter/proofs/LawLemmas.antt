@@ -10,11 +10,11 @@ use Rattle.std.specs.declared.cmp.Ordering.TheVariants.{Less, Equal, Greater}
 use Rattle.std.proofs.lemmas.Map.Keys.{sorted_head, sorted_tail}
 use Rattle.metrics_names.specs.Names.{SeriesKey, series_key_eq, series_key_cmp}
 use Rattle.metrics_names.specs.Equality.{key_exact}
-use Rattle.metrics_exporter.specs.Exporting.{Cells, AreSeries, HaveFirst, HoldsSome, IsHeld, IsHeldNumber, Setup, Step, IsExpiry, checks_of, answers_of, removed_by, cells_after, check_of_held, checks_in}
+use Rattle.metrics_exporter.specs.Exporting.{Cells, AreSeries, HaveFirst, HoldsSome, IsHeldNumber, Setup, Step, IsExpiry, checks_of, answers_of, removed_by, cells_after, check_of_held, checks_in}
 use Rattle.metrics_registry.specs.Idleness.{Answered, run_answers}
 use Rattle.metrics_names.specs.Names.{KeyParts, key_eq}
 use Rattle.std.proofs.Common.{Result, Ok, Err, map, reverse}
-use Rattle.std.specs.Prelude.{MatchResult}
+use Rattle.std.specs.Prelude.{MatchResult, OnErr}
 use Rattle.metrics_exporter.specs.ExporterText.{series_text, IsText}
 
 module _ {K : Type 0} (R : K → K → Ordering) (total : IsTotalOrder R) where
@@ -169,19 +169,14 @@ have-first total ties cells n held some = let order = some-order total ties cell
     from [] series = absurd (none held.keys (omega (arith, some, held.number)) (λ s c. (series.held s).1 ((held.held s).0 c)))
     from (k ∷ ks) series = (k, ks, series)
 
--- no series is held
-pub none-held : (cells : Cells) (n : ℕ) → IsHeldNumber cells n → n ≡ 0 → AreSeries cells []
-unfolding IsStrictlySortedBy
-none-held cells n held none = from held.keys (sym held.number ∙ none) held.held
-  where
-    from : (ks : List SeriesKey) → length ks ≡ 0 → ((s : SeriesKey) → Contains ks s ↔ IsHeld cells s) → AreSeries cells []
-    from [] e h = record { ascending = tt; held = h }
-    from (k ∷ ks) e h = absurd (omega (arith, e))
+-- what follows of a result, or of its error
+pub ok-as : {A E : Type 0} (P Q : A → Type 0) (F : E → Type 0) (r : Result A E) → ((a : A) → P a → Q a) → MatchResult r P F → MatchResult r Q F
+ok-as P Q F (Ok a) to h = to a h
+ok-as P Q F (Err e) to h = h
 
--- an error, and one more fact about it
-pub refused-with : {A E : Type 0} (r : Result A E) (P : A → Type 0) (Q : E → Type 0) (F : Type 0) → F → MatchResult r P Q → MatchResult r P (λ e. Q e × F)
-refused-with (Ok a) P Q F f h = h
-refused-with (Err e) P Q F f h = (h, f)
+pub refused-as : {A E : Type 0} (F G : Type 0) (r : Result A E) → (F → G) → OnErr r F → OnErr r G
+refused-as F G (Ok a) to h = tt
+refused-as F G (Err e) to h = to h
 
 -- some series is held
 pub holds-some : (cells : Cells) → HaveFirst cells → HoldsSome cells

@@ -13,6 +13,5 @@ pub mod AbsorbLemmas
 pub mod ExpiryLemmas
 pub mod LawLemmas
 pub mod UnwatchedLemmas
-pub mod ReadingsLemmas
 pub mod SeenLemmas
 pub mod BoundListsLemmas

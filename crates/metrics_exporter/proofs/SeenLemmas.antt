@@ -1,27 +1,49 @@
--- The held series in composite key order, with their cells.
-use Rattle.std.proofs.Common.{◌≡◌, ℕ, zero, suc, ◌<◌, List, [], ◌∷◌, ◌++◌, map, length, get_or, Contains, Some, refl, ap, sym, ◌∙◌, subst, arith, inl, inr}
-use Rattle.std.specs.Prelude.{option_map}
+-- The held series with their cells: gathered of all shards, in order, and read.
+use Rattle.std.proofs.Common.{◌≡◌, ℕ, zero, suc, ◌<◌, Bool, true, false, cond, List, [], ◌∷◌, ◌++◌, map, length, get_or, Contains, Some, refl, ap, sym, ◌∙◌, subst, arith, inl, inr}
+use Rattle.std.specs.Prelude.{◌↔◌, option_map}
 use Rattle.std.specs.List.{IsDistinct, AllByRecursion}
 use Rattle.std.specs.List.Sorted.{IsPermutation, IsSorted}
 use Rattle.std.specs.Map.{keys_of}
 use Rattle.std.specs.Cmp.{IsTotalOrder}
 use Rattle.std.specs.Ordering.{eq_by_cmp}
-use Rattle.std.specs.declared.cmp.Ordering.{Ordering}
+use Rattle.std.proofs.lemmas.Bool.{false≢true}
 use Rattle.std.proofs.lemmas.List.{map-append}
 use Rattle.std.proofs.lemmas.List.Elements.{Contains-append_cases}
-use Rattle.std.proofs.lemmas.List.Sorted.{Contains-permutation, IsPermutation-sym, IsPermutation-trans, IsPermutation-map}
+use Rattle.std.proofs.lemmas.List.Sorted.{Contains-permutation, IsPermutation-sym, IsPermutation-map}
+use Rattle.std.proofs.lemmas.Map.Keys.{IsDistinct-head, IsDistinct-tail, IsDistinct-IsPermutation}
 use Rattle.metrics_names.specs.declared.kind.MetricKind.{MetricKind}
 use Rattle.metrics_names.specs.declared.kind.MetricKind.TheVariants.{Counter, Gauge, Histogram}
 use Rattle.metrics_names.specs.Names.{KeyParts, SeriesKey, key_eq, series_key_eq, series_key_cmp}
+use Rattle.metrics_names.specs.Equality.{key_eq-Decides}
 use Rattle.metrics_registry.specs.declared.generation.Counted.{Counted}
 use Rattle.metrics_registry.specs.Held.{held}
 use Rattle.metrics_registry.proofs.ShardLemmas.{map-length, map-get}
-use Rattle.metrics_exporter.specs.Exporting.{Reading, count, level, samples}
+use Rattle.metrics_exporter.specs.Exporting.{Reading, count, level, samples, Cell, Cells, IsHeld, IsHeldNumber, HoldsSome}
 use Rattle.metrics_exporter.specs.Kept.{SeriesRegistry, cells_of}
-use Rattle.metrics_exporter.specs.declared.keys.SeriesRef.{SeriesRef}
-use Rattle.metrics_exporter.specs.Gathering.{series_at, series_shown, all_shown, Seen, seen_by, all_seen, series_in, seen_in, AreSeen, cell_in}
-use Rattle.metrics_exporter.proofs.SortedLemmas.{sorted-series}
-use Rattle.metrics_exporter.proofs.ReadingsLemmas.{held-each}
+use Rattle.metrics_exporter.specs.declared.series.SeriesRef.{SeriesRef}
+use Rattle.metrics_exporter.specs.Gathering.{series_at, series_shown, cell_shown, all_shown, Seen, seen_by, all_seen, series_in, seen_in, AreGathered, AreSeen, cell_in}
+use Rattle.metrics_exporter.specs.Readings.{KeyedReading, reading_in, all_read, AreReadings}
+use Rattle.metrics_exporter.proofs.SortedLemmas.{flips, strictly_sorted, none-distinct, distinct-all, from-all, in-all}
+
+turned : (a b : KeyParts) → key_eq a b ≡ false → key_eq b a ≡ false
+turned a b h = go (key_eq b a) refl
+  where
+    go : (t : Bool) → key_eq b a ≡ t → key_eq b a ≡ false
+    go false e = e
+    go true e = absurd (false≢true (sym h ∙ (key_eq-Decides a b).1 (sym ((key_eq-Decides b a).0 e))))
+
+held-later : {C : Type 0} (x : KeyParts × C) (all es : List (KeyParts × C)) → AllByRecursion (λ q. key_eq x.0 q ≡ false) (keys_of es) → AllByRecursion (λ e. held key_eq all e.0 ≡ Some e.1) es
+    → AllByRecursion (λ e. held key_eq (x ∷ all) e.0 ≡ Some e.1) es
+held-later x all [] h g = tt
+held-later x all (e ∷ es) h g = (ap (λ b. cond b (Some x.1) (held key_eq all e.0)) (turned x.0 e.0 h.0) ∙ g.0, held-later x all es h.1 g.1)
+
+-- if no key is there twice, the cell of each entry's key is the entry's
+held-each : {C : Type 0} (es : List (KeyParts × C)) → IsDistinct key_eq (keys_of es) → AllByRecursion (λ e. held key_eq es e.0 ≡ Some e.1) es
+held-each [] once = tt
+held-each (x ∷ es) once = (
+  ap (λ b. cond b (Some x.1) (held key_eq es x.0)) ((key_eq-Decides x.0 x.0).1 refl),
+  held-later x es es (IsDistinct-head key_eq x.0 (keys_of es) once) (held-each es (IsDistinct-tail key_eq x.0 (keys_of es) once)),
+)
 
 contains-map : {A B : Type 0} (f : A → B) (xs : List A) (x : A) → Contains xs x → Contains (map f xs) (f x)
 contains-map f xs x (k, small, is) = (k, omega (arith, small, map-length f xs), sym (map-get f xs k x) ∙ ap f is)
@@ -63,23 +85,22 @@ module _ (r : SeriesRegistry) where
       map-append f (cs ++ gs) hs ∙ ap (λ l. l ++ firsts hs) (map-append f cs gs)
       ∙ (λ i. (firsts-in Counter count r.counters i ++ firsts-in Gauge level r.gauges i) ++ firsts-in Histogram samples r.histograms i)
 
-  -- rows that were gathered of all shards, and sorted
-  pub seen-sorted : (C : SeriesKey → SeriesKey → Ordering) → ((a b : SeriesKey) → C a b ≡ series_key_cmp a b) → IsTotalOrder C → ((a b : SeriesKey) → series_key_eq a b ≡ eq_by_cmp C a b)
-      → (rows sorted : List SeriesRef) → IsPermutation (all_seen rows) (cs ++ gs ++ hs) → IsPermutation rows sorted → IsSorted C (all_shown sorted)
-      → IsDistinct key_eq (keys_of r.counters) → IsDistinct key_eq (keys_of r.gauges) → IsDistinct key_eq (keys_of r.histograms) → AreSeen (cells_of r) sorted
-  seen-sorted C order total ties rows sorted walked moved up c g h =
+  -- rows that were gathered of all shards
+  pub seen-gathered : (rows : List SeriesRef) → IsPermutation (all_seen rows) (cs ++ gs ++ hs)
+      → IsDistinct key_eq (keys_of r.counters) → IsDistinct key_eq (keys_of r.gauges) → IsDistinct key_eq (keys_of r.histograms) → AreGathered (cells_of r) rows
+  seen-gathered rows walked c g h =
       let f : Seen → SeriesKey = λ s. s.0 in
       let P : List SeriesKey → List SeriesKey → Type 0 = λ l m. IsPermutation l m in
-      let shown : IsPermutation (all_shown rows) (series_in Counter r.counters ++ series_in Gauge r.gauges ++ series_in Histogram r.histograms) =
+      let there : IsPermutation (all_shown rows) (series_in Counter r.counters ++ series_in Gauge r.gauges ++ series_in Histogram r.histograms) =
       subst (P (all_shown rows)) firsts-all (subst (λ l. P l (firsts (cs ++ gs ++ hs))) (firsts-shown rows) (IsPermutation-map f _ _ walked)) in
-      let both = sorted-series r C order total ties _ (all_shown sorted) refl (IsPermutation-trans _ _ _ (IsPermutation-sym _ _ shown) (IsPermutation-map series_shown _ _ moved)) up c g h in
+      let back = IsPermutation-sym _ _ there in
       record {
-        series = both.0;
-        once = both.1;
-        own = λ x there.
-            let s : Seen = seen_by x in
-            let before = Contains-permutation sorted rows x (IsPermutation-sym _ _ moved) there in
-            among s (Contains-permutation (all_seen rows) (cs ++ gs ++ hs) s walked (contains-map seen_by rows x before));
+        once = IsDistinct-IsPermutation series_key_eq flips _ (all_shown rows) back (distinct-all r c g h);
+        held = λ s. (
+          (λ is. from-all r s (Contains-permutation (all_shown rows) _ s there is)),
+          (λ some. Contains-permutation _ (all_shown rows) s back (in-all r s.kind s.key some)),
+        );
+        own = λ x is. among (seen_by x) (Contains-permutation (all_seen rows) (cs ++ gs ++ hs) (seen_by x) walked (contains-map seen_by rows x is));
       }
     where
       among : (s : Seen) → Contains (cs ++ gs ++ hs) s → IsRight s
@@ -90,3 +111,66 @@ module _ (r : SeriesRegistry) where
         ]
         | inr j ↦ right Histogram samples r.histograms (λ q. refl) r.histograms (held-each r.histograms h) s j.0 j.1 j.2
       ]
+
+-- the same rows in order
+pub gathered-sorted : IsTotalOrder series_key_cmp → ((a b : SeriesKey) → series_key_eq a b ≡ eq_by_cmp series_key_cmp a b)
+    → (cells : Cells) (rows sorted : List SeriesRef) → AreGathered cells rows → IsPermutation rows sorted → IsSorted series_key_cmp (all_shown sorted) → AreSeen cells sorted
+gathered-sorted total ties cells rows sorted all moved up =
+    let shown : IsPermutation (all_shown rows) (all_shown sorted) = IsPermutation-map series_shown _ _ moved in
+    let once : IsDistinct series_key_eq (all_shown sorted) = IsDistinct-IsPermutation series_key_eq flips (all_shown rows) (all_shown sorted) shown all.once in
+    record {
+      series = record {
+        ascending = strictly_sorted total ties (all_shown sorted) up once;
+        held = λ s. (
+          (λ there. (all.held s).0 (Contains-permutation (all_shown sorted) (all_shown rows) s (IsPermutation-sym _ _ shown) there)),
+          (λ some. Contains-permutation (all_shown rows) (all_shown sorted) s shown ((all.held s).1 some)),
+        );
+      };
+      once = once;
+      own = λ x there. all.own x (Contains-permutation sorted rows x (IsPermutation-sym _ _ moved) there);
+    }
+
+-- what they have
+pub gathered-read : (cells : Cells) (rows : List SeriesRef) → AreGathered cells rows → AreReadings cells (all_read rows)
+gathered-read cells rows all =
+    let same = sym (firsts-read rows) in
+    record {
+      once = subst (IsDistinct series_key_eq) same all.once;
+      held = λ s. subst (λ ks. Contains ks s ↔ IsHeld cells s) same (all.held s);
+      readings = each rows (λ x there. ap (option_map (λ (c : Cell). c.reading)) (all.own x there));
+    }
+  where
+    firsts-read : (xs : List SeriesRef) → map (λ (t : KeyedReading). t.0) (all_read xs) ≡ all_shown xs
+    firsts-read [] = refl
+    firsts-read (x ∷ xs) = ap (λ l. series_shown x ∷ l) (firsts-read xs)
+
+    each : (xs : List SeriesRef) → ((x : SeriesRef) → Contains xs x → reading_in cells (series_shown x) ≡ Some (cell_shown x.cell).reading)
+        → AllByRecursion (λ t. reading_in cells t.0 ≡ Some t.1) (all_read xs)
+    each [] h = tt
+    each (x ∷ xs) h = (h x (0, omega arith, refl), each xs (λ y there. h y (suc there.0, omega (arith, there.1), there.2)))
+
+-- if no series is held there is none to gather
+pub none-gathered : (cells : Cells) (n : ℕ) → IsHeldNumber cells n → n ≡ 0 → AreGathered cells []
+none-gathered cells n number none = record {
+  once = none-distinct;
+  held = λ s. (
+    (λ there. absurd (no-place s there)),
+    (λ some. absurd (no-place s (subst (λ ks. Contains ks s) (empty number.keys (sym number.number ∙ none)) ((number.held s).1 some)))),
+  );
+  own = λ x there. absurd (omega (arith, there.1));
+}
+  where
+    no-place : (s : SeriesKey) → Contains [] s → ⊥
+    no-place s (k, small, is) = omega (arith, small)
+
+    empty : (ks : List SeriesKey) → length ks ≡ 0 → ks ≡ []
+    empty [] e = refl
+    empty (k ∷ ks) e = absurd (omega (arith, e))
+
+-- if there are some, one is held
+pub some-held : (cells : Cells) (n : ℕ) → IsHeldNumber cells n → 0 < n → HoldsSome cells
+some-held cells n number some = first number.keys (λ s. (number.held s).0) (omega (arith, some, number.number))
+  where
+    first : (ks : List SeriesKey) → ((s : SeriesKey) → Contains ks s → IsHeld cells s) → 0 < length ks → HoldsSome cells
+    first [] f small = absurd (omega (arith, small))
+    first (k ∷ ks) f small = (k, f k (0, omega arith, refl))

@@ -2,7 +2,7 @@
 use Rattle.std.proofs.Common.{◌≡◌, ℕ, zero, suc, ◌+◌, ◌<◌, Bool, true, false, cond, List, [], ◌∷◌, ◌++◌, map, length, get_or, Option, None, Some, IsSome, refl, ap, sym, ◌∙◌, subst, arith, Contains, inl, inr, append_assoc, append-nil}
 use Rattle.std.specs.Prelude.{option_map, ◌&&◌}
 use Rattle.std.specs.List.{IsDistinct, AllByRecursion}
-use Rattle.std.specs.List.Sorted.{IsPermutation, IsSorted, IsStrictlySortedBy}
+use Rattle.std.specs.List.Sorted.{IsSorted, IsStrictlySortedBy}
 use Rattle.std.specs.Map.{keys_of}
 use Rattle.std.specs.Cmp.{IsTotalOrder}
 use Rattle.std.specs.Ordering.{is_lt, is_eq, ordering_reverse, eq_by_cmp}
@@ -10,14 +10,13 @@ use Rattle.std.specs.declared.cmp.Ordering.{Ordering}
 use Rattle.std.specs.declared.cmp.Ordering.TheVariants.{Less, Equal, Greater}
 use Rattle.std.proofs.lemmas.Bool.{false≢true}
 use Rattle.std.proofs.lemmas.List.Elements.{Contains-append_left, Contains-append_right, Contains-append_cases}
-use Rattle.std.proofs.lemmas.List.Sorted.{Contains-permutation, IsPermutation-sym}
-use Rattle.std.proofs.lemmas.Map.Keys.{IsDistinct-head, IsDistinct-tail, IsDistinct-cons, apart_from_distinct, IsDistinct-IsPermutation, sorted_from_all_adjacent}
+use Rattle.std.proofs.lemmas.Map.Keys.{IsDistinct-head, IsDistinct-tail, IsDistinct-cons, apart_from_distinct, sorted_from_all_adjacent}
 use Rattle.metrics_names.specs.declared.kind.MetricKind.{MetricKind}
 use Rattle.metrics_names.specs.declared.kind.MetricKind.TheVariants.{Counter, Gauge, Histogram}
 use Rattle.metrics_names.specs.Names.{KeyParts, SeriesKey, kind_eq, key_eq, series_key_eq, series_key_cmp}
 use Rattle.metrics_names.specs.Equality.{key_exact, key_same, key_eq-Decides}
 use Rattle.metrics_registry.specs.Held.{held}
-use Rattle.metrics_exporter.specs.Exporting.{count, level, samples, AreSeries, IsHeldNumber}
+use Rattle.metrics_exporter.specs.Exporting.{count, level, samples, IsHeldNumber}
 use Rattle.metrics_exporter.specs.Kept.{SeriesRegistry, cells_of}
 use Rattle.metrics_exporter.specs.Gathering.{cell_in}
 
@@ -36,7 +35,7 @@ module _ (total : IsTotalOrder series_key_cmp) (ties : (a b : SeriesKey) → ser
       go Equal h e = absurd (false≢true (sym differ ∙ (ties a b ∙ ap is_eq e)))
       go Greater h e = e
 
-  strictly_sorted : (ks : List SeriesKey) → IsSorted series_key_cmp ks → IsDistinct series_key_eq ks → IsStrictlySortedBy series_key_cmp ks
+  pub strictly_sorted : (ks : List SeriesKey) → IsSorted series_key_cmp ks → IsDistinct series_key_eq ks → IsStrictlySortedBy series_key_cmp ks
   strictly_sorted ks up apart =
       let d : SeriesKey = series Counter (record { name = []; labels = [] }) in
       sorted_from_all_adjacent total ks d (λ k small. before (get_or ks k d) (get_or ks (k + 1) d) (up k d (omega arith) small) (apart_from_distinct series_key_eq ks k (k + 1) d apart (omega arith) small))
@@ -176,21 +175,3 @@ module _ (r : SeriesRegistry) where
     held = λ s. (from-all s, in-all s.kind s.key);
     number = refl;
   }
-
-  -- the keys of all entries, sorted
-  pub sorted-series : (C : SeriesKey → SeriesKey → Ordering) → ((a b : SeriesKey) → C a b ≡ series_key_cmp a b) → IsTotalOrder C → ((a b : SeriesKey) → series_key_eq a b ≡ eq_by_cmp C a b)
-      → (gathered sorted : List SeriesKey) → gathered ≡ cs ++ gs ++ hs → IsPermutation gathered sorted → IsSorted C sorted
-      → IsDistinct key_eq (keys_of r.counters) → IsDistinct key_eq (keys_of r.gauges) → IsDistinct key_eq (keys_of r.histograms) → AreSeries (cells_of r) sorted × IsDistinct series_key_eq sorted
-  sorted-series C order total ties gathered sorted all moved up c g h =
-      let same : C ≡ series_key_cmp = λ i a b. order a b i in
-      let moves : IsPermutation (cs ++ gs ++ hs) sorted = subst (λ ks. IsPermutation ks sorted) all moved in
-      let apart : IsDistinct series_key_eq sorted = IsDistinct-IsPermutation series_key_eq flips (cs ++ gs ++ hs) sorted moves (distinct-all c g h) in (
-        record {
-          ascending = strictly_sorted (subst IsTotalOrder same total) (λ a b. ties a b ∙ ap is_eq (order a b)) sorted (subst (λ D. IsSorted D sorted) same up) apart;
-          held = λ s. (
-            λ there. from-all s (Contains-permutation sorted (cs ++ gs ++ hs) s (IsPermutation-sym (cs ++ gs ++ hs) sorted moves) there),
-            λ some. Contains-permutation (cs ++ gs ++ hs) sorted s moves (in-all s.kind s.key some),
-          );
-        },
-        apart,
-      )

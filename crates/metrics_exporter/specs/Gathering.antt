@@ -1,13 +1,13 @@
 -- Series by reference, each with its cell.
-use Rattle.std.specs.Prelude.{◌≡◌, List, map, Some, Contains}
+use Rattle.std.specs.Prelude.{◌≡◌, ◌↔◌, List, map, Some, Contains}
 use Rattle.std.specs.List.{IsDistinct}
 use Rattle.metrics_names.specs.declared.kind.MetricKind.{MetricKind}
 use Rattle.metrics_names.specs.Names.{KeyParts, SeriesKey, series_key_eq}
 use Rattle.metrics_registry.specs.declared.generation.Counted.{Counted}
-use Rattle.metrics_exporter.specs.declared.keys.CellRef.{CellRef}
-use Rattle.metrics_exporter.specs.declared.keys.CellRef.TheVariants as shown
-use Rattle.metrics_exporter.specs.declared.keys.SeriesRef.{SeriesRef}
-use Rattle.metrics_exporter.specs.Exporting.{Reading, count, level, samples, Cell, Cells, AreSeries}
+use Rattle.metrics_exporter.specs.declared.series.CellRef.{CellRef}
+use Rattle.metrics_exporter.specs.declared.series.CellRef.TheVariants as shown
+use Rattle.metrics_exporter.specs.declared.series.SeriesRef.{SeriesRef}
+use Rattle.metrics_exporter.specs.Exporting.{Reading, count, level, samples, Cell, Cells, AreSeries, IsHeld}
 
 abbrev pub series_at : MetricKind → KeyParts → SeriesKey
 series_at kind key = record { kind = kind; key = key }
@@ -46,7 +46,13 @@ series_in kind es = map (λ e. series_at kind e.0) es
 abbrev pub seen_in : {C : Type 0} → MetricKind → (C → Reading) → List (KeyParts × Counted C) → List Seen
 seen_in kind read es = map (λ e. (series_at kind e.0, cell_in read e.1)) es
 
--- each held series once, in composite key order, with its cell
+-- each held series once, in some order, with its cell
+pub record AreGathered (cells : Cells) (rows : List SeriesRef) : Type 0 where
+  pub once : IsDistinct series_key_eq (all_shown rows)
+  pub held : (s : SeriesKey) → Contains (all_shown rows) s ↔ IsHeld cells s
+  pub own : (r : SeriesRef) → Contains rows r → cells (series_shown r) ≡ Some (cell_shown r.cell)
+
+-- the same in composite key order
 pub record AreSeen (cells : Cells) (rows : List SeriesRef) : Type 0 where
   pub series : AreSeries cells (all_shown rows)
   pub once : IsDistinct series_key_eq (all_shown rows)

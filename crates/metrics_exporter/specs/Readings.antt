@@ -4,13 +4,13 @@ use Rattle.std.specs.List.{AllByRecursion, IsDistinct}
 use Rattle.std.specs.Map.{lookup}
 use Rattle.metrics_names.specs.declared.kind.MetricKind.{MetricKind}
 use Rattle.metrics_names.specs.declared.kind.MetricKind.TheVariants.{Counter, Gauge, Histogram}
-use Rattle.metrics_names.specs.Names.{KeyParts, SeriesKey, series_key_eq}
-use Rattle.metrics_registry.specs.declared.generation.Counted.{Counted}
+use Rattle.metrics_names.specs.Names.{SeriesKey, series_key_eq}
+use Rattle.metrics_exporter.specs.declared.series.SeriesRef.{SeriesRef}
 use Rattle.metrics_exporter.specs.declared.readings.ReadingRef.{ReadingRef}
 use Rattle.metrics_exporter.specs.declared.readings.ReadingRef.TheVariants as shown
 use Rattle.metrics_exporter.specs.declared.readings.SeriesReading.{SeriesReading}
 use Rattle.metrics_exporter.specs.Exporting.{Reading, count, level, samples, Cells, IsHeld}
-use Rattle.metrics_exporter.specs.Gathering.{series_at}
+use Rattle.metrics_exporter.specs.Gathering.{series_at, series_shown, cell_shown}
 
 -- a series and what it has
 abbrev pub KeyedReading : Type 0
@@ -34,9 +34,12 @@ keyed_reading r = (series_at (kind_shown r.reading) r.key.now, reading_shown r.r
 abbrev pub keyed_readings : List SeriesReading → List KeyedReading
 keyed_readings rs = map keyed_reading rs
 
--- the series of one kind's entries, with what they have
-abbrev pub keyed_in : {C : Type 0} → MetricKind → (C → Reading) → List (KeyParts × Counted C) → List KeyedReading
-keyed_in kind read es = map (λ e. (series_at kind e.0, read e.1.inner)) es
+-- what a reference to a held series shows
+abbrev pub series_read : SeriesRef → KeyedReading
+series_read s = (series_shown s, (cell_shown s.cell).reading)
+
+abbrev pub all_read : List SeriesRef → List KeyedReading
+all_read rows = map series_read rows
 
 abbrev pub reading_in : Cells → SeriesKey → Option Reading
 reading_in cells s = option_map (λ c. c.reading) (cells s)

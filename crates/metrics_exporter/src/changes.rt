@@ -16,7 +16,7 @@ ghost use Rattle.metrics_exporter.specs.Stepping.{counted_with, has_room, TakesS
 ghost use Rattle.metrics_exporter.specs.Stepping.{TakesUpdate, RefusesUpdate, NotesOrAdds};
 
 use crate::cells::{CountedCells, UnitSource};
-use crate::keys::SeriesRef;
+use crate::series::SeriesRef;
 use metrics::{CompositeKey, Error, Key, MetricKind, Update};
 use metrics_registry::{Counted, OwnedRecency, OwnedRegistry};
 use metrics_storage::Histogram;

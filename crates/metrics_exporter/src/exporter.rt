@@ -16,15 +16,15 @@ ghost use Rattle.metrics.specs.Book.{no_description};
 ghost use Rattle.metrics_descriptions.specs.Legends.{DescribesName, described_by};
 ghost use Rattle.metrics_exporter.specs.Describing.{unit_told};
 ghost use Rattle.metrics_exporter.specs.ExporterText.{IsText};
-ghost use Rattle.metrics_exporter.specs.Readings.{AreReadings, keyed_readings};
+ghost use Rattle.metrics_exporter.specs.Readings.{AreReadings, all_read};
 
 use crate::bounds::Bounds;
 use crate::cells::{CountedCells, UnitSource};
 use crate::changes::{remove_series, update_cells};
 use crate::expiring::check_all;
-use crate::keys::{held_number, is_held, sorted_series};
+use crate::keys::{held_number, held_series, is_held, sorted_series};
 use crate::lines::write_series;
-use crate::readings::{SeriesReading, readings_of};
+use crate::series::SeriesRef;
 use metrics::{CompositeKey, Error, Key, MetricKind, MetricKindMask, Unit, Update};
 use metrics_descriptions::Descriptions;
 use metrics_registry::{OwnedRecency, OwnedRegistry, is_shard_count, recency_law};
@@ -221,13 +221,13 @@ impl Exporter {
         &self.descriptions
     }
 
-    /// Returns each held series once, by reference, with what it has, in no order of its own. It never fails if none is held.
-    pub fn readings(&self) -> Result<Vec<SeriesReading<'_>>, Error>
-        ensures readings { MatchResult result (λ all. AreReadings (held_cells self.now) (keyed_readings all.items))
+    /// Returns each held series once, by reference, in no order of its own. It never fails if none is held.
+    pub fn readings(&self) -> Result<Vec<SeriesRef<'_>>, Error>
+        ensures readings { MatchResult result (λ all. AreReadings (held_cells self.now) (all_read all.items))
             (λ e. e ≡ OutOfMemory) }
         ensures refused { OnErr result (HoldsSome (held_cells self.now)) }
     {
-        readings_of(self.alloc, &self.registry)
+        held_series(self.alloc, &self.registry)
     }
 
     /// Writes a line for each series that is held, in composite key order. It never fails if none is held.

@@ -1,51 +1,18 @@
 //! The series that are held, by reference.
-ghost use Rattle.std.specs.Prelude.{◌≡◌, ◌++◌, ℕ, min, is_some, IfOk, MatchResult, IsPermutation};
+ghost use Rattle.std.specs.Prelude.{◌≡◌, ◌<◌, ◌++◌, ℕ, min, is_some, IfOk, OnErr, MatchResult};
 ghost use Rattle.metrics_names.specs.Names.{SeriesKey, series_key_eq, series_key_cmp};
-ghost use Rattle.metrics_names.specs.declared.kind.MetricKind.TheVariants.{Counter as CounterKind, Gauge as GaugeKind};
-ghost use Rattle.metrics_names.specs.declared.kind.MetricKind.TheVariants.{Histogram as HistogramKind};
 ghost use Rattle.metrics.specs.declared.error.Error.TheVariants.{Memory as OutOfMemory};
-ghost use Rattle.metrics_exporter.specs.declared.keys.SeriesRef.{SeriesRef as Shown};
-ghost use Rattle.metrics_exporter.specs.Gathering.{all_seen, seen_in, series_shown, series_at, cell_shown, AreSeen};
-ghost use Rattle.metrics_exporter.specs.Exporting.{count, level, samples, HaveFirst, IsHeldNumber};
+ghost use Rattle.metrics_exporter.specs.declared.series.SeriesRef.{SeriesRef as Shown};
+ghost use Rattle.metrics_exporter.specs.Gathering.{all_seen, seen_in, series_shown, series_at, AreGathered, AreSeen};
+ghost use Rattle.metrics_exporter.specs.Exporting.{HaveFirst, IsHeldNumber};
 ghost use Rattle.metrics_exporter.specs.Kept.{cells_of};
 
 use crate::cells::CountedCells;
 use crate::kind_cells::KindCell;
+use crate::series::SeriesRef;
 use metrics::{CompositeKey, Error, Key, MetricKind};
-use metrics_registry::{Cells, Counted, Generation, OwnedRegistry};
-use metrics_storage::Histogram;
+use metrics_registry::{Cells, Counted, OwnedRegistry};
 use std::alloc::{AllocError, Global};
-
-/// The cell of a series, by reference.
-#[derive(Clone, Copy)]
-pub(crate) enum CellRef<'a> {
-    Counter(&'a Counted<u64>),
-    Gauge(&'a Counted<i64>),
-    Histogram(&'a Counted<Histogram>),
-}
-
-impl<'a> CellRef<'a> {
-    /// Returns the generation of the cell.
-    pub fn generation(&self) -> Generation
-        ensures { result ≡ (cell_shown self.now).generation }
-    {
-        match self {
-            CellRef::Counter(cell) => cell.get_generation(),
-            CellRef::Gauge(cell) => cell.get_generation(),
-            CellRef::Histogram(cell) => cell.get_generation(),
-        }
-    }
-}
-
-/// A series by reference, with its cell. It compares as its composite key does.
-#[derive(Clone, Copy)]
-#[derive_where(PartialEq, Eq, PartialOrd, Ord)]
-pub(crate) struct SeriesRef<'a> {
-    pub kind: MetricKind,
-    pub key: &'a Key,
-    #[derive_where(skip)]
-    pub cell: CellRef<'a>,
-}
 
 /// Adds the series of one kind at the end.
 fn gather<'a, C: KindCell>(
@@ -70,8 +37,7 @@ fn gathered_series<'a>(
     registry: &'a OwnedRegistry<Key, CountedCells>,
     number: usize,
 ) -> Result<Vec<SeriesRef<'a>>, AllocError>
-    ensures { IfOk result (λ all. IsPermutation (all_seen all.items) (seen_in CounterKind count registry.now.counters
-        ++ seen_in GaugeKind level registry.now.gauges ++ seen_in HistogramKind samples registry.now.histograms)) }
+    ensures { IfOk result (λ all. AreGathered (cells_of registry.now) all.items) }
 {
     let mut series = Vec::with_capacity(alloc, number)?;
     for shard in registry.shards() {
@@ -79,6 +45,22 @@ fn gathered_series<'a>(
         series = gather(&shard.gauges, series)?;
         series = gather(&shard.histograms, series)?;
     }
+    Ok(series)
+}
+
+/// Returns each held series once, in the order of a walk over the shards. If none is held it allocates nothing.
+pub(crate) fn held_series<'a>(
+    alloc: Global,
+    registry: &'a OwnedRegistry<Key, CountedCells>,
+) -> Result<Vec<SeriesRef<'a>>, Error>
+    ensures gathered { MatchResult result (λ all. AreGathered (cells_of registry.now) all.items) (λ e. e ≡ OutOfMemory) }
+    ensures refused { OnErr result ((held : ℕ) × IsHeldNumber (cells_of registry.now) held × (0 < held)) }
+{
+    let number = held_number(registry);
+    if number == 0 {
+        return Ok(Vec::new(alloc));
+    }
+    let series = gathered_series(alloc, registry, number)?;
     Ok(series)
 }
 
@@ -98,12 +80,7 @@ pub(crate) fn sorted_series<'a>(
         (λ e. (e ≡ OutOfMemory) × HaveFirst (cells_of registry.now)) }
 {
     key_order();
-    let number = held_number(registry);
-    if number == 0 {
-        return Ok(Vec::new(alloc));
-    }
-    let mut series = gathered_series(alloc, registry, number)?;
-    let _shards = registry.shards();
+    let mut series = held_series(alloc, registry)?;
     series.sort_unstable();
     Ok(series)
 }

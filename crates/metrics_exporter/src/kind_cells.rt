@@ -4,11 +4,10 @@ ghost use Rattle.metrics_names.specs.declared.kind.MetricKind.{MetricKind as Any
 ghost use Rattle.metrics_names.specs.declared.kind.MetricKind.TheVariants.{Counter as CounterKind, Gauge as GaugeKind};
 ghost use Rattle.metrics_names.specs.declared.kind.MetricKind.TheVariants.{Histogram as HistogramKind};
 ghost use Rattle.metrics_exporter.specs.Exporting.{Reading, count, level, samples};
+ghost use Rattle.metrics_exporter.specs.CellKinds.{cell_kind};
 ghost use Rattle.metrics_exporter.specs.Gathering.{cell_in, cell_shown};
-ghost use Rattle.metrics_exporter.specs.Readings.{kind_shown, reading_shown};
 
-use crate::keys::CellRef;
-use crate::readings::ReadingRef;
+use crate::series::CellRef;
 use metrics::MetricKind;
 use metrics_registry::Counted;
 use metrics_storage::Histogram;
@@ -25,12 +24,8 @@ pub(crate) trait KindCell: Drop {
 
     /// Returns a cell of the kind by reference.
     fn cell_ref(cell: &Counted<Self>) -> CellRef<'_>
-        ensures { cell_shown result ≡ cell_in shows cell.now };
-
-    /// Returns what a series has whose cell holds this.
-    fn reading(&self) -> ReadingRef<'_>
-        ensures kind { kind_shown result ≡ kind_held }
-        ensures shown { reading_shown result ≡ shows self.now };
+        ensures kind { cell_kind result ≡ kind_held }
+        ensures shown { cell_shown result ≡ cell_in shows cell.now };
 }
 
 impl KindCell for u64 {
@@ -44,10 +39,6 @@ impl KindCell for u64 {
 
     fn cell_ref(cell: &Counted<u64>) -> CellRef<'_> {
         CellRef::Counter(cell)
-    }
-
-    fn reading(&self) -> ReadingRef<'_> {
-        ReadingRef::Count(*self)
     }
 }
 
@@ -63,10 +54,6 @@ impl KindCell for i64 {
     fn cell_ref(cell: &Counted<i64>) -> CellRef<'_> {
         CellRef::Gauge(cell)
     }
-
-    fn reading(&self) -> ReadingRef<'_> {
-        ReadingRef::Level(*self)
-    }
 }
 
 impl KindCell for Histogram {
@@ -80,9 +67,5 @@ impl KindCell for Histogram {
 
     fn cell_ref(cell: &Counted<Histogram>) -> CellRef<'_> {
         CellRef::Histogram(cell)
-    }
-
-    fn reading(&self) -> ReadingRef<'_> {
-        ReadingRef::Samples(self)
     }
 }

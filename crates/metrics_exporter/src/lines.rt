@@ -6,7 +6,7 @@ ghost use Rattle.metrics_exporter.specs.ExporterText.{bucket_words, reading_word
 ghost use Rattle.metrics_exporter.specs.ExporterText.{series_line};
 ghost use Rattle.metrics_exporter.specs.Gathering.{series_shown, cell_shown};
 
-use crate::keys::{CellRef, SeriesRef};
+use crate::series::{CellRef, SeriesRef};
 use metrics::Error;
 use metrics_storage::Histogram;
 use std::alloc::AllocError;

@@ -1,10 +1,10 @@
 //! Series of which texts are written.
 ghost use Rattle.std.specs.Prelude.{◌≡◌, Some};
 ghost use Rattle.std.specs.List.{AllByRecursion};
-ghost use Rattle.metrics_exporter.specs.Readings.{KeyedReading, keyed_reading, kind_shown, reading_shown};
+ghost use Rattle.metrics_exporter.specs.Readings.{KeyedReading, keyed_reading, kind_shown, reading_shown, series_read};
 ghost use Rattle.metrics_exposition.specs.Reading.{IsSmall, ReadsAs};
 
-use metrics_exporter::{ReadingRef, SeriesReading};
+use metrics_exporter::{ReadingRef, SeriesReading, SeriesRef};
 use metrics_storage::Histogram;
 
 /// A series with what it has.
@@ -21,6 +21,14 @@ impl ReadSeries for SeriesReading<'_> {
 
     fn reading(&self) -> SeriesReading<'_> {
         *self
+    }
+}
+
+impl ReadSeries for SeriesRef<'_> {
+    ghost keyed = { series_read };
+
+    fn reading(&self) -> SeriesReading<'_> {
+        self.reading()
     }
 }
 

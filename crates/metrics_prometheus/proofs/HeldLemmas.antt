@@ -8,8 +8,8 @@ use Rattle.std.proofs.lemmas.List.Elements.{All-map, All-contains, recursion_fro
 use Rattle.std.proofs.lemmas.List.Sorted.{All-permutation, IsPermutation-refl}
 use Rattle.metrics_names.specs.Names.{LabelParts, SeriesKey}
 use Rattle.metrics_exporter.specs.Exporting.{Cells, IsHeld, HoldsSome}
-use Rattle.metrics_exporter.specs.Readings.{KeyedReading, keyed_reading, keyed_readings, AreReadings, AreOnce}
-use Rattle.metrics_exporter.specs.declared.readings.SeriesReading.{SeriesReading}
+use Rattle.metrics_exporter.specs.Readings.{KeyedReading, series_read, all_read, AreReadings, AreOnce}
+use Rattle.metrics_exporter.specs.declared.series.SeriesRef.{SeriesRef}
 use Rattle.metrics_exposition.specs.declared.naming.Naming.{Naming}
 use Rattle.metrics_descriptions.specs.Legends.{Legend}
 use Rattle.metrics_exposition.specs.Naming.{Display}
@@ -36,14 +36,14 @@ kept-texts cells kept keyed are once texts s held =
     let r = unmapped (λ (t : KeyedReading). t.0) kept s ((are.held s).1 held) in
     recursion_from_All Q s.key.labels (subst (λ (k : SeriesKey). All Q k.key.labels) r.2 (All-contains HasTexts keyed r.0 texts (once.among r.0 r.1)))
 
--- one of these readings is of a series that is held
-pub some-read : {T E : Type 0} (cells : Cells) (series given : List SeriesReading) (r : Result T E) → given ≡ series → AreReadings cells (keyed_readings series) → OnErr r (0 < length given) → OnErr r (HoldsSome cells)
+-- one of these series is held
+pub some-read : {T E : Type 0} (cells : Cells) (series given : List SeriesRef) (r : Result T E) → given ≡ series → AreReadings cells (all_read series) → OnErr r (0 < length given) → OnErr r (HoldsSome cells)
 some-read cells series given (Ok t) same are h = tt
 some-read cells series given (Err e) same are h = first series are (subst (λ l. 0 < length l) same h)
   where
-    first : (series : List SeriesReading) → AreReadings cells (keyed_readings series) → 0 < length series → HoldsSome cells
+    first : (series : List SeriesRef) → AreReadings cells (all_read series) → 0 < length series → HoldsSome cells
     first [] are small = absurd (omega (arith, small))
-    first (s ∷ series) are small = ((keyed_reading s).0, (are.held (keyed_reading s).0).0 (0, omega arith, refl))
+    first (s ∷ series) are small = ((series_read s).0, (are.held (series_read s).0).0 (0, omega arith, refl))
 
 -- if there are no readings nothing is held, and that is its exposition
 pub none-given : {naming : Naming} {legend : Legend} {places : List ℕ → ℕ} (cells : Cells) → AreReadings cells [] → IsScaled naming legend places cells []

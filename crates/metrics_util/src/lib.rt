@@ -20,7 +20,7 @@ pub mod debugging {
 pub mod exporter {
     pub use metrics_exporter::{
         Bounds, BoundsError, Described, Descriptions, Exporter, PartlyAbsorbed, ReadingRef,
-        SeriesReading, exporter_law,
+        SeriesReading, SeriesRef, exporter_law,
     };
     pub use metrics_prometheus::{
         Naming, ReadSeries, exposition, exposition_law, exposition_named, exposition_of,

@@ -3,13 +3,13 @@ ghost use Rattle.std.specs.Prelude.{◌≡◌, ◌++◌, ◌∷◌, [], pos, min
 ghost use Rattle.metrics.specs.declared.error.Error.TheVariants.{Memory as OutOfMemory};
 ghost use Rattle.metrics_names.specs.Names.{series_key_eq};
 ghost use Rattle.metrics_exporter.specs.Exporting.{Cells};
-ghost use Rattle.metrics_exporter.specs.Readings.{AreReadings, keyed_reading, keyed_readings};
+ghost use Rattle.metrics_exporter.specs.Readings.{AreReadings, all_read, keyed_reading, keyed_readings};
 ghost use Rattle.tool_prometheus.specs.declared.own.OwnSeries.{OwnSeries as Row};
 ghost use Rattle.tool_prometheus.specs.Own.{own_key, with_series, with_own, own_names};
 ghost use Rattle.tool_prometheus.specs.OwnRows.{keyed_own, all_own};
 
 use metrics::{Error, Key, Label};
-use metrics_prometheus::{ReadingRef, SeriesReading};
+use metrics_prometheus::{ReadingRef, SeriesReading, SeriesRef};
 use std::alloc::{AllocError, Global};
 use tool_requests::common_labels;
 
@@ -93,6 +93,21 @@ pub(crate) fn push_own(
     let key = own_key(alloc, labels, name)?;
     rows.push(OwnSeries { key, reading })?;
     Ok(())
+}
+
+/// The readings of what is held, with room for so many more.
+pub(crate) fn read_all<'a>(
+    alloc: Global,
+    held: &[SeriesRef<'a>],
+    more: usize,
+) -> Result<Vec<SeriesReading<'a>>, AllocError>
+    ensures { IfOk result (λ all. keyed_readings all.items ≡ all_read held.now) }
+{
+    let mut all = Vec::with_capacity(alloc, held.len().saturating_add(more))?;
+    for one in held {
+        all.push(one.reading())?;
+    }
+    Ok(all)
 }
 
 /// Whether two rows are of one series.

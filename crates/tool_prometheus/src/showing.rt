@@ -13,7 +13,7 @@ ghost use Rattle.tool_prometheus.specs.Exposed.{own_of, Shows, ShowsAt, UnlessTo
 use crate::answering::Served;
 use crate::own::{
     BAD_LINES, LEFT_OUT, LINES, OwnReading, OwnSeries, REFUSED_CALLS, SCRAPED, SERIES, push_own,
-    set_own,
+    read_all, set_own,
 };
 use crate::own_places::{OwnPlaces, kept_places_of};
 use metrics::Error;
@@ -76,7 +76,8 @@ fn text_with(alloc: Global, on: &Served, rows: &[OwnSeries]) -> Result<CountedTe
     ensures err { IfErr result (λ e. e ≡ OutOfMemory) }
 {
     let held = on.exporter.readings()?;
-    let all = set_own(held, rows)?;
+    let all = read_all(alloc, &held, rows.len())?;
+    let all = set_own(all, rows)?;
     let places = OwnPlaces {
         kept: kept_places_of(&on.dialect, on.front),
     };

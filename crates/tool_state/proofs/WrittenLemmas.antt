@@ -15,9 +15,10 @@ use Rattle.metrics_descriptions.specs.declared.descriptions.Descriptions.{Descri
 use Rattle.metrics_exporter.specs.declared.exporter.Exporter.{Exporter}
 use Rattle.metrics_exporter.specs.declared.readings.ReadingRef.{ReadingRef}
 use Rattle.metrics_exporter.specs.declared.readings.SeriesReading.{SeriesReading}
+use Rattle.metrics_exporter.specs.declared.series.SeriesRef.{SeriesRef}
 use Rattle.metrics_descriptions.specs.Legends.{Legend, no_legend, description_of, described_by, legend_described}
 use Rattle.metrics_exporter.specs.Kept.{held_cells, described}
-use Rattle.metrics_exporter.specs.Readings.{KeyedReading, keyed_reading, keyed_readings, kind_shown, reading_shown, AreReadings}
+use Rattle.metrics_exporter.specs.Readings.{KeyedReading, all_read, keyed_reading, series_read, kind_shown, reading_shown, AreReadings}
 use Rattle.metrics_exporter.specs.Gathering.{series_at}
 use Rattle.tool_requests.specs.declared.requests.Request.TheVariants.{Describe}
 use Rattle.tool_state.specs.declared.body.Body.{Body}
@@ -74,11 +75,11 @@ make-more bounds (q ∷ keyed) k es own (first, others, makes, make-others, are)
 pub readings-none : (bounds : BoundsBy) (body : Body) → AddsReadings bounds [] body body
 readings-none bounds body = ([], adds-none body, refl)
 
-pub readings-more : (bounds : BoundsBy) (series : List SeriesReading) (i : ℕ) (r : SeriesReading) (a b c : Body) → i < length series → r ≡ get_or series i r → AddsReadings bounds (keyed_readings (take i series)) a b
-    → (own : List Entry) × Adds own b c × MakeReading bounds (keyed_reading r) own → AddsReadings bounds (keyed_readings (take (i + 1) series)) a c
+pub readings-more : (bounds : BoundsBy) (series : List SeriesRef) (i : ℕ) (r : SeriesRef) (a b c : Body) → i < length series → r ≡ get_or series i r → AddsReadings bounds (all_read (take i series)) a b
+    → (own : List Entry) × Adds own b c × MakeReading bounds (series_read r) own → AddsReadings bounds (all_read (take (i + 1) series)) a c
 readings-more bounds series i r a b c small at (es, before, make) (own, more, makes) =
     let P : List KeyedReading → Type 0 = λ l. MakeReadings bounds l (es ++ own) in
-    (es ++ own, adds-both es own a b c before more, subst P (sym (map-more keyed_reading series i r small ∙ ap (λ q. keyed_readings (take i series) ++ keyed_reading q ∷ []) (sym at))) (make-more bounds (keyed_readings (take i series)) (keyed_reading r) es own make makes))
+    (es ++ own, adds-both es own a b c before more, subst P (sym (map-more series_read series i r small ∙ ap (λ q. all_read (take i series) ++ series_read q ∷ []) (sym at))) (make-more bounds (all_read (take i series)) (series_read r) es own make makes))
 
 -- lines were added that make a reading of this kind, by what an answer has
 pub reading-made : {T E : Type 0} (bounds : BoundsBy) (one : SeriesReading) (q : ReadingRef) (r : Result T E) (a b : Body) (P : Type 0) → one.reading ≡ q → OnOk r P
@@ -154,10 +155,10 @@ all-push : (t on : Descriptions) (keyed : List KeyedReading) (k : KeyedReading) 
 all-push t on [] k h g = (g, tt)
 all-push t on (q ∷ keyed) k h g = (h.0, all-push t on keyed k h.1 g)
 
-pub all-more : (s t on : Descriptions) (series : List SeriesReading) (i : ℕ) (r : SeriesReading) → i < length series → r ≡ get_or series i r → AllSame s on (keyed_readings (take i series))
-    → KeepsSame s t on → TellsSame t on (keyed_reading r).0.kind (keyed_reading r).0.key.name → AllSame t on (keyed_readings (take (i + 1) series))
+pub all-more : (s t on : Descriptions) (series : List SeriesRef) (i : ℕ) (r : SeriesRef) → i < length series → r ≡ get_or series i r → AllSame s on (all_read (take i series))
+    → KeepsSame s t on → TellsSame t on (series_read r).0.kind (series_read r).0.key.name → AllSame t on (all_read (take (i + 1) series))
 all-more s t on series i r small at all keeps same =
-    subst (AllSame t on) (sym (map-more keyed_reading series i r small ∙ ap (λ q. keyed_readings (take i series) ++ keyed_reading q ∷ []) (sym at))) (all-push t on (keyed_readings (take i series)) (keyed_reading r) (all-kept s t on (keyed_readings (take i series)) keeps all) same)
+    subst (AllSame t on) (sym (map-more series_read series i r small ∙ ap (λ q. all_read (take i series) ++ series_read q ∷ []) (sym at))) (all-push t on (all_read (take i series)) (series_read r) (all-kept s t on (all_read (take i series)) keeps all) same)
 
 -- ---- all
 
@@ -168,12 +169,12 @@ told-each told ds legend on (k ∷ keyed) tells same h =
     (sym (tells k.0.kind k.0.key.name) ∙ h.0 ∙ same k.0.kind k.0.key.name, told-each told ds legend on keyed tells same h.1)
 
 -- a text of what was added to nothing is a state of what is held
-pub state-made : (title text : List ℕ) (on : Exporter) (bounds : BoundsBy) (series xs ys : List SeriesReading) (start told ds : Descriptions) (a b c : Body) → MakesAt on bounds → xs ≡ series → ys ≡ series
-    → AreReadings (held_cells on) (keyed_readings series) → ((k : MetricKind) (n : List ℕ) → described_by start k n ≡ no_description) → string_bytes a.text ≡ [] → a.number ≡ 0
-    → ((k : MetricKind) (n : List ℕ) → described_by ds k n ≡ described on k n) → AddsNotes start told a b → AllSame told ds (keyed_readings xs) → AddsReadings bounds (keyed_readings ys) b c
+pub state-made : (title text : List ℕ) (on : Exporter) (bounds : BoundsBy) (series xs ys : List SeriesRef) (start told ds : Descriptions) (a b c : Body) → MakesAt on bounds → xs ≡ series → ys ≡ series
+    → AreReadings (held_cells on) (all_read series) → ((k : MetricKind) (n : List ℕ) → described_by start k n ≡ no_description) → string_bytes a.text ≡ [] → a.number ≡ 0
+    → ((k : MetricKind) (n : List ℕ) → described_by ds k n ≡ described on k n) → AddsNotes start told a b → AllSame told ds (all_read xs) → AddsReadings bounds (all_read ys) b c
     → (c.number < 2 ^ 64) × (text ≡ title ++ 32 ∷ (decimal c.number ++ 32 ∷ (codes "lines\n" ++ string_bytes c.text))) → IsStateOf title on text
 state-made title text on bounds series xs ys start told ds a b c at is-x is-y readings untold empty zero same (notes, first, silent, tells) all-same (own, later, make) (small, is) =
-    (notes ++ own, (lines, are, omega (arith, small, count), whole, sym says), (bounds, keyed_readings series, notes, own, at, readings, (silent, legend), made, refl))
+    (notes ++ own, (lines, are, omega (arith, small, count), whole, sym says), (bounds, all_read series, notes, own, at, readings, (silent, legend), made, refl))
   where
     both : Adds (notes ++ own) a c
     both = adds-both notes own a b c first later
@@ -197,11 +198,11 @@ state-made title text on bounds series xs ys start told ds a b c at is-x is-y re
     whole = is ∙ ap (λ n. title ++ 32 ∷ (decimal n ++ 32 ∷ (codes "lines\n" ++ string_bytes c.text))) count
         ∙ ap (λ z. title ++ 32 ∷ (decimal (length lines) ++ 32 ∷ (codes "lines\n" ++ z))) body
 
-    made : MakeReadings bounds (keyed_readings series) own
-    made = let P : List SeriesReading → Type 0 = λ l. MakeReadings bounds (keyed_readings l) own in subst P is-y make
+    made : MakeReadings bounds (all_read series) own
+    made = let P : List SeriesRef → Type 0 = λ l. MakeReadings bounds (all_read l) own in subst P is-y make
 
-    legend : AllByRecursion (λ k. legend_of notes no_legend k.0.kind k.0.key.name ≡ described on k.0.kind k.0.key.name) (keyed_readings series)
+    legend : AllByRecursion (λ k. legend_of notes no_legend k.0.kind k.0.key.name ≡ described on k.0.kind k.0.key.name) (all_read series)
     legend =
         let plain : described_by start ≡ no_legend = λ i k n. untold k n i in
-        told-each told ds (legend_of notes no_legend) (described on) (keyed_readings series) (λ k n. tells k n ∙ ap (λ l. legend_of notes l k n) plain) same
-        (let P : List SeriesReading → Type 0 = λ l. AllSame told ds (keyed_readings l) in subst P is-x all-same)
+        told-each told ds (legend_of notes no_legend) (described on) (all_read series) (λ k n. tells k n ∙ ap (λ l. legend_of notes l k n) plain) same
+        (let P : List SeriesRef → Type 0 = λ l. AllSame told ds (all_read l) in subst P is-x all-same)

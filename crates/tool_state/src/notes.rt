@@ -2,13 +2,13 @@
 ghost use Rattle.std.specs.Prelude.{◌≡◌, true, Some, OnOk};
 ghost use Rattle.std.specs.List.{AllByRecursion};
 ghost use Rattle.metrics_descriptions.specs.Legends.{description_of};
-ghost use Rattle.metrics_exporter.specs.Readings.{keyed_readings};
+ghost use Rattle.metrics_exporter.specs.Readings.{all_read};
 ghost use Rattle.tool_state.specs.Written.{TellsSame, TellsSo, AddsNotes, KeepsSo, KeepsSame};
 
 use crate::body::{Body, add_description};
 use crate::error::StateError;
 use metrics::{MetricKind, Unit};
-use metrics_exporter::{Described, Descriptions, SeriesReading};
+use metrics_exporter::{Described, Descriptions, SeriesRef};
 use std::alloc::Global;
 
 /// Whether this is a description of this text and unit, or of no unit if that is none.
@@ -81,14 +81,14 @@ pub(crate) fn add_notes(
     body: &mut Body,
     told: &mut Descriptions,
     on: &Descriptions,
-    series: &[SeriesReading<'_>],
+    series: &[SeriesRef<'_>],
 ) -> Result<(), StateError>
     ensures adds { OnOk result (AddsNotes told.old told.new body.old body.new) }
     ensures same { OnOk result (AllByRecursion (λ k. TellsSame told.new on.now k.0.kind k.0.key.name)
-        (keyed_readings series.now)) }
+        (all_read series.now)) }
 {
     for one in series {
-        add_note(alloc, body, told, on, one.reading.kind(), one.key.name())?;
+        add_note(alloc, body, told, on, one.kind(), one.key().name())?;
     }
     Ok(())
 }

@@ -4,7 +4,7 @@ ghost use Rattle.std.specs.Prelude.{List, Option, None as Nothing};
 ghost use Rattle.metrics_names.specs.declared.common.Unit.{Unit as Measure};
 ghost use Rattle.metrics_storage.specs.Histogram.{bounds_of};
 ghost use Rattle.metrics_exporter.specs.Choice.{bounds_in};
-ghost use Rattle.metrics_exporter.specs.Readings.{keyed_reading, keyed_readings};
+ghost use Rattle.metrics_exporter.specs.Readings.{all_read, keyed_reading};
 ghost use Rattle.metrics.specs.declared.handles.Update.TheVariants.{Increment, Set};
 ghost use Rattle.tool_requests.specs.declared.requests.Request.TheVariants.{Change};
 ghost use Rattle.tool_state.specs.State.{Entry};
@@ -18,7 +18,7 @@ use crate::notes::add_notes;
 use crate::runs::runs_of;
 use crate::units::unit_at;
 use metrics::{Key, Unit, Update};
-use metrics_exporter::{Bounds, Descriptions, Exporter, ReadingRef, SeriesReading};
+use metrics_exporter::{Bounds, Descriptions, Exporter, ReadingRef, SeriesReading, SeriesRef};
 use metrics_storage::Histogram;
 use std::alloc::{AllocError, Global};
 
@@ -77,10 +77,10 @@ fn add_reading(
     alloc: Global,
     body: &mut Body,
     bounds: &Bounds,
-    one: &SeriesReading<'_>,
+    one: SeriesReading<'_>,
 ) -> Result<(), StateError>
     ensures { OnOk result ((entries : List Entry) × Adds entries body.old body.new
-        × MakeReading (bounds_in bounds.now) (keyed_reading one.now) entries) }
+        × MakeReading (bounds_in bounds.now) (keyed_reading one.entry) entries) }
 {
     match one.reading {
         ReadingRef::Count(n) => add_count(alloc, body, one.key, n),
@@ -94,12 +94,12 @@ fn add_readings(
     alloc: Global,
     body: &mut Body,
     bounds: &Bounds,
-    series: &[SeriesReading<'_>],
+    series: &[SeriesRef<'_>],
 ) -> Result<(), StateError>
-    ensures { OnOk result (AddsReadings (bounds_in bounds.now) (keyed_readings series.now) body.old body.new) }
+    ensures { OnOk result (AddsReadings (bounds_in bounds.now) (all_read series.now) body.old body.new) }
 {
     for one in series {
-        add_reading(alloc, body, bounds, one)?;
+        add_reading(alloc, body, bounds, one.reading())?;
     }
     Ok(())
 }

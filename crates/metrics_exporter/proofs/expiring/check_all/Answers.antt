@@ -3,7 +3,7 @@ use Rattle.std.specs.Cmp.{IsTotalOrder}
 use Rattle.std.specs.Ordering.{is_eq}
 use Rattle.metrics_names.specs.contracts.key.CompositeKeyOrd.TheImpl.Laws.{total-law, matches_eq-law}
 use Rattle.metrics.specs.declared.error.Error.{Error}
-use Rattle.metrics_exporter.specs.declared.keys.SeriesRef.{SeriesRef}
+use Rattle.metrics_exporter.specs.declared.series.SeriesRef.{SeriesRef}
 use Rattle.metrics_exporter.specs.Gathering.{AreSeen}
 use Rattle.metrics_exporter.specs.Kept.{cells_of}
 use Rattle.metrics_exporter.proofs.ExpiryLemmas.{Checked, front-none, front-more, checked-all, checked-front, checked-none, err-result}

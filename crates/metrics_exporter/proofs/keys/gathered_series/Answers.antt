@@ -1,6 +1,7 @@
 use Rattle.metrics_names.specs.declared.kind.MetricKind.TheVariants.{Counter, Gauge, Histogram}
 use Rattle.metrics_exporter.specs.Exporting.{count, level, samples}
 use Rattle.metrics_exporter.specs.Gathering.{all_seen, series_at, cell_in}
+use Rattle.metrics_exporter.proofs.SeenLemmas.{seen-gathered}
 use Rattle.metrics_exporter.proofs.WalkLemmas.{walk-more, walk-all}
 use Rattle.metrics_exporter.proofs.keys.gathered_series.Goals as goal
 
@@ -13,6 +14,9 @@ loop-shard-preserved c =
 pub returns : goal.returns
 returns c =
     let s = c.shards-shard-items.ensures in
-    walk-all (λ s. s.counters) (λ s. s.gauges) (λ s. s.histograms) (λ e. (series_at Counter e.0, cell_in count e.1)) (λ e. (series_at Gauge e.0, cell_in level e.1)) (λ e. (series_at Histogram e.0, cell_in samples e.1))
+    let once = c.shards-shard-items.ensures.once in
+    seen-gathered c.args.registry.now c.loop-shard.series.items
+    (walk-all (λ s. s.counters) (λ s. s.gauges) (λ s. s.histograms) (λ e. (series_at Counter e.0, cell_in count e.1)) (λ e. (series_at Gauge e.0, cell_in level e.1)) (λ e. (series_at Histogram e.0, cell_in samples e.1))
     c.shards-shard-items.result.now c.loop-shard.shard-index (all_seen c.loop-shard.series.items) c.args.registry.now.counters c.args.registry.now.gauges c.args.registry.now.histograms
-    c.loop-shard-test.false s.counters s.gauges s.histograms c.loop-shard.invariant
+    c.loop-shard-test.false s.counters s.gauges s.histograms c.loop-shard.invariant)
+    once.0 once.1 once.2

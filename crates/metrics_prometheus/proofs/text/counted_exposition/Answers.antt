@@ -3,8 +3,8 @@ use Rattle.metrics.specs.declared.error.Error.TheVariants.{Memory}
 use Rattle.metrics_descriptions.specs.Legends.{Legend, described_by}
 use Rattle.metrics_exporter.specs.Exporting.{Cells, HoldsSome, steps, cells_after}
 use Rattle.metrics_exporter.specs.Kept.{held_cells, described}
-use Rattle.metrics_exporter.specs.Readings.{keyed_readings, AreReadings}
-use Rattle.metrics_exporter.specs.declared.readings.SeriesReading.{SeriesReading}
+use Rattle.metrics_exporter.specs.Readings.{all_read, AreReadings}
+use Rattle.metrics_exporter.specs.declared.series.SeriesRef.{SeriesRef}
 use Rattle.metrics_prometheus.specs.Exposition.{IsScaled}
 use Rattle.metrics_prometheus.proofs.TextLemmas.{either-way}
 use Rattle.metrics_prometheus.proofs.HeldLemmas.{some-read}
@@ -14,7 +14,7 @@ pub returns-clause-text : goal.returns-clause-text
 returns-clause-text g c = λ setup log keeps.
     let cells = held_cells c.args.exporter.now in
     let r = c.counted_exposition_of.result in
-    let Q : List SeriesReading → Type 0 = λ series. AreReadings cells (keyed_readings series) in
+    let Q : List SeriesRef → Type 0 = λ series. AreReadings cells (all_read series) in
     let P : Cells → Legend → Type 0 = λ after legend. MatchResult r (λ counted. IsScaled c.args.naming legend (g.P.DecimalPlaces.places c.args.scale.now) after (string_bytes counted.text)) (λ e. e ≡ Memory) in
     let same : cells ≡ cells_after setup (steps log) = λ i s. keeps.cells s i in
     let keyed : described_by c.descriptions.result.now ≡ described c.args.exporter.now = λ i k n. c.descriptions.ensures k n i in
@@ -25,7 +25,7 @@ pub returns-clause-refused : goal.returns-clause-refused
 returns-clause-refused g c = λ setup log keeps.
     let cells = held_cells c.args.exporter.now in
     let same : cells ≡ cells_after setup (steps log) = λ i s. keeps.cells s i in
-    some-read (cells_after setup (steps log)) c.in_ok-series.series.items c.deref.result.now c.counted_exposition_of.result c.deref.ensures.value (subst (λ after. AreReadings after (keyed_readings c.in_ok-series.series.items)) same c.in_ok-series.ensures.readings) c.counted_exposition_of.ensures.refused
+    some-read (cells_after setup (steps log)) c.in_ok-series.series.items c.deref.result.now c.counted_exposition_of.result c.deref.ensures.value (subst (λ after. AreReadings after (all_read c.in_ok-series.series.items)) same c.in_ok-series.ensures.readings) c.counted_exposition_of.ensures.refused
 
 pub returns-in_err-series-clause-refused : goal.returns-in_err-series-clause-refused
 returns-in_err-series-clause-refused g c = λ setup log keeps.

@@ -1,8 +1,8 @@
-use Rattle.std.proofs.Common.{◌≡◌, ℕ, List, IfOk, sym, subst}
+use Rattle.std.proofs.Common.{◌≡◌, ◌∙◌, ℕ, List, IfOk, ap, sym, subst}
 use Rattle.metrics_descriptions.specs.Legends.{Legend, described_by}
 use Rattle.metrics_exporter.specs.Exporting.{Cells, steps, cells_after}
 use Rattle.metrics_exporter.specs.Kept.{held_cells, described}
-use Rattle.metrics_exporter.specs.Readings.{keyed_readings, AreReadings}
+use Rattle.metrics_exporter.specs.Readings.{all_read, keyed_readings, AreReadings}
 use Rattle.metrics_exporter.specs.declared.readings.SeriesReading.{SeriesReading}
 use Rattle.metrics_prometheus.specs.Counted.{counted_bytes}
 use Rattle.metrics_prometheus.specs.Exposition.{IsScaled}
@@ -23,6 +23,8 @@ returns-clause-ok c = λ setup log after.
     λ at legend places. IfOk r (λ shown. IsScaled on.naming legend (own_places places) (with_own own at) (counted_bytes shown)) in
     let same : cells ≡ cells_after setup (steps log) = λ i s. after.cells s i in
     let legend : described_by c.descriptions.result.now ≡ described on.exporter = λ i k n. c.descriptions.ensures k n i in
-    let is = c.counted_exposition_of.ensures.ok (with_own own cells) (subst Q (sym c.deref.ensures.value) (c.in_ok-all.ensures cells c.in_ok-held.ensures.readings)) in
+    let held : AreReadings cells (keyed_readings c.in_ok-all.all.items) =
+    subst (AreReadings cells) (sym (c.in_ok-all.ensures ∙ ap all_read c.deref.ensures.value)) c.in_ok-held.ensures.readings in
+    let is = c.counted_exposition_of.ensures.ok (with_own own cells) (subst Q (sym c.deref-2.ensures.value) (c.in_ok-all-2.ensures cells held)) in
     subst (λ at. P at (described on.exporter) kept) same (subst (λ l. P cells l kept) legend
     (subst (λ places. P cells (described_by c.descriptions.result.now) places) c.kept_places_of.ensures is))
