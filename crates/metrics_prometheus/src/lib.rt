@@ -14,7 +14,9 @@ pub use counted::CountedText;
 pub use laws::{exposition_law, exposition_text_law};
 pub use listing::left_out;
 pub use metrics::Error;
-pub use metrics_exporter::{Described, Descriptions, Exporter, ReadingRef, SeriesReading, SeriesRef};
+pub use metrics_exporter::{
+    Described, Descriptions, Exporter, ReadingRef, SeriesReading, SeriesRef,
+};
 pub use metrics_exposition::{
     BadLabel, DecimalPlaces, Naming, ReadSeries, WholeNumbers, bad_label, first_bad_label,
 };
