@@ -14,9 +14,9 @@ use Rattle.metrics_names.specs.declared.kind.MetricKind.{MetricKind}
 use Rattle.metrics.specs.Targets.{AllBelow, AreDistinct, IsNot}
 use Rattle.metrics.specs.Book.{Content}
 use Rattle.metrics.specs.Layers.{Route, winner, chosen, choosing, routed, targets_of}
-use Rattle.metrics_rules.specs.Routing.{RouteTables, AreTablesOf, TargetsBelow, AddsRoute, target_of, branch_of}
+use Rattle.metrics_rules.specs.Routing.{RouteTables, AreTablesOf, target_of, branch_of}
 use Rattle.metrics_rules.specs.Branches.{all_meanings}
-use Rattle.metrics_rules.proofs.RoutingLemmas.{winner-target, target-below, below-more}
+use Rattle.metrics_rules.proofs.RoutingLemmas.{winner-target, target-within}
 
 -- ---- one meaning
 
@@ -63,70 +63,23 @@ module _ (s : RouteTables) (rs : List Route) (h : AreTablesOf s rs) where
   same_choice kind name = ap branch_of (winner-target s rs h kind name) ∙ of_target (winner rs kind name)
 
   -- what is stored chooses as the list of routes does
-  pub winner-routed : (all : List Meaning) → group_meaning (Some s) all ≡ routed rs all
-  winner-routed all =
+  chosen-routed : (all : List Meaning) → group_meaning (Some s) all ≡ routed rs all
+  chosen-routed all =
       ap (λ (f : MetricKind → List ℕ → ℕ). choosing f all) (fun_ext (λ kind. fun_ext (λ name. same_choice kind name)))
 
+  pub winner-routed : (d : Node) (children : List Node) → (length children ≡ 0 → ⊥) → group_meaning (Some s) (meanings children) ≡ routed rs (all_meanings d children)
+  winner-routed d [] some = absurd (some refl)
+  winner-routed d (c ∷ rest) some = chosen-routed (meanings (c ∷ rest))
+
   -- if there is no target no route wins, and the default has all names
-  pub alone-routed : TargetsBelow s 0 → (d : Meaning) → d ≡ routed rs (d ∷ [])
-  alone-routed b d =
-      let all = routed rs (d ∷ []) in
-      same_meaning d all.contents all.targets (sym (append-nil d.contents))
-      (fun_ext (λ kind. fun_ext (λ name. ap (λ k. targets_of k (d ∷ []) kind name) (sym (no_target (target_of s kind name) (λ t e. target-below s 0 kind name t b e)) ∙ same_choice kind name))))
+  pub alone-routed : (d : Node) (children : List Node) → length children ≡ 0 → IsWithin (Some s) (length (all_meanings d children)) → node_meaning d ≡ routed rs (all_meanings d children)
+  alone-routed d [] none b =
+      let a = node_meaning d in
+      let all = routed rs (a ∷ []) in
+      same_meaning a all.contents all.targets (sym (append-nil a.contents))
+      (fun_ext (λ kind. fun_ext (λ name. ap (λ k. targets_of k (a ∷ []) kind name) (zero_is _ (target-within s 1 b kind name) ∙ same_choice kind name))))
       all.below all.distinct
     where
-      no_target : (o : Option ℕ) → ((t : ℕ) → o ≡ Some t → t < 0) → branch_of o ≡ 0
-      no_target None h = refl
-      no_target (Some t) h = absurd (let l = h t refl in omega (arith, l))
-
--- the default is one of the branches, and so is each target
-pub choice-within : (s : RouteTables) (n : ℕ) → TargetsBelow s (n - 1) → 0 < n → IsWithin (Some s) n
-choice-within s n b p = λ kind name. within (target_of s kind name) (λ t e. target-below s (n - 1) kind name t b e)
-  where
-    within : (o : Option ℕ) → ((t : ℕ) → o ≡ Some t → t < n - 1) → branch_of o < n
-    within None h = p
-    within (Some t) h = let l = h t refl in omega (arith, l)
-
-is_zero : (n : ℕ) → true ≡ nat_eq n 0 → n ≡ 0
-is_zero n h = grind (arith, nat_tests)
-
--- the targets are all branches but the default
-pub count-all : {C : Type 0} (node : C → Node) (d : Option C) (children : List Node) → is_some d ≡ nat_eq (length children) 0 →
-    suc (length children - 1) ≡ length (all_meanings (option_map node d) children)
-count-all node (Some c) children h = some (length children) h
-  where
-    some : (n : ℕ) → true ≡ nat_eq n 0 → suc (n - 1) ≡ 1
-    some n h = let e = is_zero n h in omega (arith, e)
-count-all node None children h = none (length children) h ∙ sym (length-map children node_meaning)
-  where
-    none : (n : ℕ) → false ≡ nat_eq n 0 → suc (n - 1) ≡ n
-    none zero h = absurd (cc)
-    none (suc n) h = omega arith
-
-pub no-children : (n : ℕ) → true ≡ nat_eq n 0 → n - 1 ≡ 0
-no-children n h = let e = is_zero n h in omega (arith, e)
-
-pub some-children : (n : ℕ) → false ≡ nat_eq n 0 → 0 < n
-some-children zero h = absurd (cc)
-some-children (suc n) h = omega arith
-
-module _ {C : Type 0} (node : C → Node) (d : Option C) (children now : List Node) (a : Meaning) (h : is_some d ≡ nat_eq (length children) 0)
-    (e : meanings now ≡ all_meanings (option_map node d) children ++ a ∷ []) where
-  -- one target more
-  pub count-more : length now ≡ suc (suc (length children - 1))
-  count-more =
-      let l = sym (length-map now node_meaning) ∙ ap length e ∙ length-append (all_meanings (option_map node d) children) (a ∷ []) in
-      let c = count-all node d children h in
-      omega (arith, l, c)
-
-  pub none-alone : false ≡ nat_eq (length now) 0
-  none-alone = some (length now) count-more
-    where
-      some : (n : ℕ) → n ≡ suc (suc (length children - 1)) → false ≡ nat_eq n 0
-      some n e = grind (arith, nat_tests)
-
-  pub targets-more : (was is : RouteTables) (mask : ℕ) (pattern : List ℕ) (target : ℕ) → TargetsBelow was (length children - 1) → AddsRoute was is mask pattern target → target ≡ length children - 1 →
-      TargetsBelow is (length now - 1)
-  targets-more was is mask pattern target b adds t =
-      let l = count-more in
-      below-more was is mask pattern target (length children - 1) (length now - 1) b adds (omega (arith, l, t)) (omega (arith, l))
+      zero_is : (n : ℕ) → n < 1 → 0 ≡ n
+      zero_is n l = omega (arith, l)
+  alone-routed d (c ∷ rest) none b = absurd (omega (arith, none))

@@ -9,6 +9,7 @@ use Rattle.metrics_rules.specs.Routing.{RouteTables, target_of, branch_of}
 use Rattle.metrics_rules.specs.Nodes.{node_meaning, row_meanings, group_meaning, leaves_of, leaves_in, AreStarts, IsWithin, IsSound, IsRowSound, IsTree}
 use Rattle.metrics_rules.specs.declared.node.Node.{Node, Group, Group', Row_of-Node, end_of-Node, more_of-Node, items-the_row-Node, items_hidden-the_row-Node-0}
 use Rattle.metrics_rules.proofs.JoinedLemmas.{contents-group, length-starts, start-is}
+use Rattle.metrics_rules.proofs.RoutingLemmas.{target-within}
 use Rattle.metrics_rules.proofs.OneChildLemmas.{before, inside, child-most}
 
 abbrev row_of : Node → (n : Count) × Row_of-Node n
@@ -109,4 +110,4 @@ pub chosen : {v : Vec Node Global} {starts : Vec ℕ Global} {leaves : ℕ} {tab
     (k < length v.items) × (k ≡ branch_of (target_of tables kind name))
 chosen {v} {tables = tables} group kind q name k e same =
     let is = e ∙ ap (λ z. branch_of (target_of tables kind z)) same in
-    (subst (λ i. i < length v.items) (sym is) ((row-is group).within kind name), is)
+    (subst (λ i. i < length v.items) (sym is) (target-within tables (length v.items) (row-is group).within kind name), is)

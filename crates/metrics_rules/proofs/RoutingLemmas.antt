@@ -16,7 +16,8 @@ use Rattle.prefix_match.proofs.TrieFronts.{front_begins, begins_fits, begins_tak
 use Rattle.metrics.specs.Kinds.{of_kind}
 use Rattle.metrics.specs.declared.kind.PerKind.{PerKind}
 use Rattle.prefix_match.specs.declared.trie.PrefixTrie.{PrefixTrie}
-use Rattle.metrics_rules.specs.Routing.{RouteTables, longest_within, target_of, AddsRoute, last_target, AreTablesOf, TargetsBelow}
+use Rattle.metrics_rules.specs.Nodes.{IsWithin}
+use Rattle.metrics_rules.specs.Routing.{RouteTables, longest_within, target_of, branch_of, AddsRoute, last_target, AreTablesOf}
 
 -- ---- the longest stored prefix
 
@@ -161,27 +162,27 @@ winner-target s routes h kind name = at_best (winner routes kind name) (winner-I
     at_best None b = sym (longest_answers (of_kind kind s) name None tt (no_front s routes kind name h b))
     at_best (Some r) b = sym (longest_answers (of_kind kind s) name (Some r.target) (is_longest s routes kind name r h b) tt)
 
--- ---- targets below a number
+-- ---- routes to one of so many branches
 
-pub below-more : (old new : RouteTables) (mask : ℕ) (pattern : List ℕ) (target n k : ℕ) → TargetsBelow old n → AddsRoute old new mask pattern target → target < k → n ≤ k → TargetsBelow new k
-below-more old new mask pattern target n k h a l m = λ kind p t e.
-    at (mask_has kind mask && bytes_eq p pattern) (stored (of_kind kind old) p) t (h kind p t) (sym (a kind p) ∙ e)
+pub within-more : (old new : RouteTables) (mask : ℕ) (pattern : List ℕ) (target n k : ℕ) → IsWithin (Some old) n → AddsRoute old new mask pattern target → suc target < k → n ≤ k → IsWithin (Some new) k
+within-more old new mask pattern target n k h a l m kind p =
+    subst (λ o. branch_of o < k) (sym (a kind p)) (at (mask_has kind mask && bytes_eq p pattern) (stored (of_kind kind old) p) (h kind p))
   where
-    at : (b : Bool) (o : Option ℕ) (t : ℕ) → (o ≡ Some t → t < n) → cond b (Some target) o ≡ Some t → t < k
-    at true o t h e = let same : target ≡ t = cc in omega (arith, same)
-    at false o t h e = let l = h e in omega arith
+    at : (b : Bool) (o : Option ℕ) → branch_of o < n → branch_of (cond b (Some target) o) < k
+    at true o h = l
+    at false o h = omega (arith, h)
 
-within_below : (pairs : List (List ℕ × ℕ)) (name : List ℕ) (m n t : ℕ) → ((p : List ℕ) (u : ℕ) → stored pairs p ≡ Some u → u < n) → longest_within pairs name m ≡ Some t → t < n
-within_below pairs name zero n t h e = h [] t e
-within_below pairs name (suc m) n t h e =
-    either (stored pairs (take (suc m) name)) (longest_within pairs name m) (h (take (suc m) name) t) (within_below pairs name m n t h) e
+-- each name goes to one of them
+pub target-within : (s : RouteTables) (n : ℕ) → IsWithin (Some s) n → (kind : MetricKind) (name : List ℕ) → branch_of (target_of s kind name) < n
+target-within s n h kind name = at (length name)
   where
-    either : (o rest : Option ℕ) → (o ≡ Some t → t < n) → (rest ≡ Some t → t < n) → option_or o rest ≡ Some t → t < n
-    either None rest g f e = f e
-    either (Some u) rest g f e = g e
+    either : (o rest : Option ℕ) → branch_of o < n → branch_of rest < n → branch_of (option_or o rest) < n
+    either None rest p q = q
+    either (Some t) rest p q = p
 
-pub target-below : (s : RouteTables) (n : ℕ) (kind : MetricKind) (name : List ℕ) (t : ℕ) → TargetsBelow s n → target_of s kind name ≡ Some t → t < n
-target-below s n kind name t h e = within_below (of_kind kind s) name (length name) n t (h kind) e
+    at : (m : ℕ) → branch_of (longest_within (of_kind kind s) name m) < n
+    at zero = h kind []
+    at (suc m) = either (stored (of_kind kind s) (take (suc m) name)) (longest_within (of_kind kind s) name m) (h kind (take (suc m) name)) (at m)
 
 -- the pairs of a kind's trie are those of the kind
 pub pairs-of : (kind : MetricKind) (tables : PerKind PrefixTrie) →

@@ -1,5 +1,5 @@
 -- Branches side by side, and when adding one fails.
-use Rattle.std.specs.Prelude.{if◌then◌else◌, ℕ, ◌+◌, ◌≤◌, nat_eq, nat_lt, List, [], ◌∷◌, map, Option, None, Some, Vec, slice_index_or}
+use Rattle.std.specs.Prelude.{if◌then◌else◌, ℕ, ◌+◌, ◌≤◌, nat_eq, nat_lt, List, [], ◌∷◌, map, Vec, slice_index_or}
 use Rattle.std.specs.Global.{Global}
 use Rattle.std.specs.List.{All}
 use Rattle.std.specs.Vec.{vec_len, vec_capacity}
@@ -35,10 +35,10 @@ HasSpare n children starts =
 
 -- ---- routes
 
--- the branches of a router: the default alone, or else the default and then the targets
-abbrev pub all_meanings : Option Node → List Node → List Meaning
-all_meanings (Some default) children = node_meaning default ∷ []
-all_meanings None children = meanings children
+-- the branches of a router: the default alone while there are no children; else these, the default and then the targets
+abbrev pub all_meanings : Node → List Node → List Meaning
+all_meanings default [] = node_meaning default ∷ []
+all_meanings default (c ∷ rest) = meanings (c ∷ rest)
 
 -- why a route to one branch more is rejected: for a mask without kinds, else as the branch is
 abbrev pub route_refusal : ℕ → List Meaning → Meaning → Error

@@ -1,6 +1,5 @@
 -- What the builders have.
 use Rattle.std.specs.Prelude.{◌≡◌, ℕ, List, [], ◌∷◌, ◌++◌}
-use Rattle.std.specs.Option.{option_map}
 use Rattle.metrics.specs.Meaning.{Meaning}
 use Rattle.metrics.specs.Layers.{Route}
 use Rattle.metrics_rules.specs.Branches.{meanings, all_meanings}
@@ -14,7 +13,7 @@ fanout_branches b = meanings b.branches.children.items
 
 -- the branches of a router's builder: the default, and then the targets by number
 abbrev pub router_branches : RouterBuilder → List Meaning
-router_branches b = all_meanings (option_map (λ c. c.node) b.default) b.branches.children.items
+router_branches b = all_meanings b.default.node b.branches.children.items
 
 -- the routes of a router's builder are these, in the order in which they were added
 abbrev pub HasRoutes : RouterBuilder → List Route → Type 0

@@ -5,6 +5,8 @@ use Rattle.metrics_names.specs.declared.kind.MetricKind.{MetricKind}
 use Rattle.metrics.specs.Book.{new_book}
 use Rattle.metrics.specs.Meaning.{Meaning, nothing, one_book}
 use Rattle.metrics.specs.Layers.{prefixed, filtered, joined_all, choosing}
+use Rattle.metrics.specs.Kinds.{of_kind}
+use Rattle.prefix_match.specs.TriePatterns.{stored}
 use Rattle.metrics_rules.specs.Routing.{RouteTables, target_of, branch_of}
 use Rattle.metrics_rules.specs.declared.node.Node.{Node, Leaf, Noop, Prefixed', Filtered', Group', Row_of-Node, end_of-Node, more_of-Node}
 
@@ -44,10 +46,10 @@ starts_from start (a ∷ all) = start ∷ starts_from (start + leaves_of a) all
 abbrev pub AreStarts : List ℕ → List Meaning → Type 0
 AreStarts starts all = starts ≡ starts_from 0 all
 
--- routes choose none but so many branches
+-- each stored pattern is that of one of so many branches
 abbrev pub IsWithin : Option RouteTables → ℕ → Type 0
 IsWithin None n = Unit {0}
-IsWithin (Some tables) n = (kind : MetricKind) (name : List ℕ) → branch_of (target_of tables kind name) < n
+IsWithin (Some tables) n = (kind : MetricKind) (p : List ℕ) → branch_of (stored (of_kind kind tables) p) < n
 
 -- what each node keeps of its children is true
 abbrev mutual
@@ -71,7 +73,7 @@ IsTree n = IsSound n × (leaves_of (node_meaning n) ≤ most_leaves)
 
 IsWithin-prop : (routes : Option RouteTables) (n : ℕ) → IsProp (IsWithin routes n)
 IsWithin-prop None n = Unit-prop
-IsWithin-prop (Some tables) n = Π_prop (λ kind. Π_prop (λ name. le_prop))
+IsWithin-prop (Some tables) n = Π_prop (λ kind. Π_prop (λ p. le_prop))
 
 mutual
   pub IsSound-prop : (n : Node) → IsProp (IsSound n)

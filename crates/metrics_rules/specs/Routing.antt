@@ -48,8 +48,3 @@ last_target (r ∷ routes) kind p =
 abbrev pub AreTablesOf : RouteTables → List Route → Type 0
 AreTablesOf tables routes =
     (kind : MetricKind) (p : List ℕ) → stored (of_kind kind tables) p ≡ last_target routes kind p
-
--- each stored target is below a number
-abbrev pub TargetsBelow : RouteTables → ℕ → Type 0
-TargetsBelow tables n =
-    (kind : MetricKind) (p : List ℕ) (t : ℕ) → stored (of_kind kind tables) p ≡ Some t → t < n

@@ -1,11 +1,8 @@
 //! Trees. Each name goes to one of them.
-ghost use Rattle.std.specs.Prelude.{◌≡◌, ◌≤◌, ◌<◌, ◌-◌, ◌++◌, ◌∷◌, [], List, suc, false, None};
-ghost use Rattle.std.specs.Prelude.{is_some, nat_eq, length, MatchResult};
-ghost use Rattle.std.specs.Option.{option_map};
+ghost use Rattle.std.specs.Prelude.{◌≡◌, ◌≤◌, ◌<◌, ◌-◌, ◌++◌, ◌∷◌, [], List, suc, false, Some, nat_eq, length, MatchResult};
 ghost use Rattle.metrics.specs.Layers.{Route, routed, joined_all};
-ghost use Rattle.metrics_rules.specs.Nodes.{node_meaning, leaves_in, most_leaves};
-ghost use Rattle.metrics_rules.specs.Routing.{TargetsBelow};
-ghost use Rattle.metrics_rules.specs.Branches.{meanings, all_meanings, LeavesFit, HasSpare, route_refusal};
+ghost use Rattle.metrics_rules.specs.Nodes.{node_meaning, leaves_in, most_leaves, IsWithin};
+ghost use Rattle.metrics_rules.specs.Branches.{all_meanings, LeavesFit, HasSpare, route_refusal};
 ghost use Rattle.metrics_rules.specs.Branches.{target_refusal};
 
 use crate::branches::{Branches, MOST_LEAVES};
@@ -13,18 +10,18 @@ use crate::routes::Routes;
 use crate::rules::Rules;
 use metrics::{Error, MetricKindMask};
 use std::alloc::Global;
+use std::mem;
 
 /// Combines a default, targets and the routes to them into a router: each name goes to the target of the route that wins, or else
 /// to the default. The default's leaves come first, then those of the targets.
 #[derive(Drop)]
 pub struct RouterBuilder {
     /// The default, while there is no target.
-    default: Option<Rules>,
+    default: Rules,
     /// The default and then the targets, once there is one.
     branches: Branches,
     routes: Routes,
-    ghost alone: { is_some default ≡ nat_eq (length branches.children.items) 0 },
-    ghost below: { TargetsBelow routes (length branches.children.items - 1) },
+    ghost within: { IsWithin (Some routes) (length (all_meanings default.node branches.children.items)) },
 }
 
 impl RouterBuilder {
@@ -37,7 +34,7 @@ impl RouterBuilder {
         ensures routes { HasRoutes result [] }
     {
         RouterBuilder {
-            default: Some(default),
+            default,
             branches: Branches::new(alloc),
             routes: Routes::new(alloc),
         }
@@ -118,15 +115,10 @@ impl RouterBuilder {
         ensures contents { (rules_meaning result).contents
             ≡ (joined_all (router_branches self)).contents }
     {
-        let RouterBuilder {
-            default,
-            branches,
-            routes,
-        } = self;
-        match default {
-            Some(default) => default,
-            None => branches.into_rules(Some(routes)),
+        if self.branches.len() == 0 {
+            return self.default;
         }
+        self.branches.into_rules(Some(self.routes))
     }
 
     /// The number of leaves of all, at most 65,536.
@@ -134,39 +126,30 @@ impl RouterBuilder {
         ensures all { result ≡ leaves_in (router_branches self.now) }
         ensures most { result ≤ most_leaves }
     {
-        match &self.default {
-            Some(default) => default.leaves(),
-            None => self.branches.leaves(),
+        if self.branches.len() == 0 {
+            return self.default.leaves();
         }
+        self.branches.leaves()
     }
 
     /// The number of targets.
     fn targets(&self) -> usize
-        ensures { result ≡ length self.now.branches.children.items - 1 }
+        ensures { suc result ≡ length (router_branches self.now) }
     {
-        let branches = self.branches.len();
-        if branches == 0 {
-            return 0;
-        }
-        branches - 1
+        self.branches.len().saturating_sub(1)
     }
 }
 
 /// Adds a target at the end. A default that was alone moves before it.
-fn push_target(default: &mut Option<Rules>, branches: &mut Branches, target: Rules)
-    requires alone { is_some default.old ≡ nat_eq (length branches.old.children.items) 0 }
+fn push_target(default: &mut Rules, branches: &mut Branches, target: Rules)
     requires spare { HasSpare 2 branches.old.children branches.old.starts }
-    requires few { let alone = option_map (λ c. c.node) default.old in
-        let all = all_meanings alone branches.old.children.items in
-        LeavesFit all (node_meaning target.node) }
-    ensures default { default.new ≡ None }
-    ensures branches { let alone = option_map (λ c. c.node) default.old in
-        let all = all_meanings alone branches.old.children.items in
-        meanings branches.new.children.items
-        ≡ all ++ node_meaning target.node ∷ [] }
+    requires few { LeavesFit (all_meanings default.old.node branches.old.children.items)
+        (node_meaning target.node) }
+    ensures { all_meanings default.new.node branches.new.children.items
+        ≡ all_meanings default.old.node branches.old.children.items ++ node_meaning target.node ∷ [] }
 {
-    if let Some(default) = default.take() {
-        branches.push_reserved(default);
+    if branches.len() == 0 {
+        branches.push_reserved(mem::replace(default, Rules::noop()));
     }
     branches.push_reserved(target);
 }
