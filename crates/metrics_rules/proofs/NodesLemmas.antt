@@ -106,8 +106,9 @@ module _ {v : Vec Node Global} {starts : Vec ℕ Global} {leaves : ℕ} {routes 
       fits-in = let p = child-most node_meaning v.items k x lt at in omega (arith, p, count-is, start-of)
 
 -- the routes choose one of the children
-pub chosen : {v : Vec Node Global} {starts : Vec ℕ Global} {leaves : ℕ} {tables : RouteTables} {old : Node} → IsGroup v starts leaves (Some tables) old → (kind : MetricKind) (q name : List ℕ) (k : ℕ) → k ≡ branch_of (target_of tables kind q) → q ≡ name →
-    (k < length v.items) × (k ≡ branch_of (target_of tables kind name))
-chosen {v} {tables = tables} group kind q name k e same =
-    let is = e ∙ ap (λ z. branch_of (target_of tables kind z)) same in
-    (subst (λ i. i < length v.items) (sym is) (target-within tables (length v.items) (row-is group).within kind name), is)
+module _ {v : Vec Node Global} {starts : Vec ℕ Global} {leaves : ℕ} {tables : RouteTables} {old : Node} (group : IsGroup v starts leaves (Some tables) old) (kind : MetricKind) where
+  pub choice-is : (name : List ℕ) → branch_of (target_of tables kind name) < length v.items
+  choice-is name = target-within tables (length v.items) (row-is group).within kind name
+
+  pub chosen : (q name : List ℕ) (k : ℕ) → k ≡ branch_of (target_of tables kind q) → q ≡ name → (k < length v.items) × (k ≡ branch_of (target_of tables kind name))
+  chosen q name k e same = let is = e ∙ ap (λ z. branch_of (target_of tables kind z)) same in (subst (λ i. i < length v.items) (sym is) (choice-is name), is)

@@ -1,8 +1,8 @@
 -- Visits, one after another, and the visit that goes from child to child.
 use Rattle.std.proofs.Common.{◌≡◌, ℕ, zero, suc, ◌+◌, ◌<◌, ◌≤◌, ◌^◌, List, [], ◌∷◌, ◌++◌, length, take, drop, map, get_or, Result, Ok, Err, Some, None, Vec, Global, refl, ap, sym, ◌∙◌, subst, arith, length-append, append-nil, append_assoc, slice_get, inl, inr}
 use Rattle.std.specs.List.{FoldsTo}
-use Rattle.std.proofs.Math.Seq.{take-append-add}
-use Rattle.std.proofs.lemmas.List.{take-append-le, take-append-drop, take_all, length-map}
+use Rattle.std.proofs.Math.Seq.{take-append-add, drop-append-add}
+use Rattle.std.proofs.lemmas.List.{take-append-le, drop-append-le, take-append-drop, take_all, length-map}
 use Rattle.metrics_names.specs.declared.kind.MetricKind.{MetricKind}
 use Rattle.metrics_names.specs.declared.refused.Refused.{Refused}
 use Rattle.metrics_names.specs.Names.{KeyParts}
@@ -19,15 +19,6 @@ use Rattle.metrics_rules.proofs.JoinedLemmas.{targets-append}
 use Rattle.metrics_rules.proofs.NodesLemmas.{IsGroup, meaning-is, start-of}
 use Rattle.metrics_rules.proofs.OneChildLemmas.{front, before, front-more, targets-one}
 
-get-past : {X : Type 0} (ts us : List X) (n : ℕ) → slice_get (ts ++ us) (length ts + n) ≡ slice_get us n
-get-past [] us n = let z : 0 + n ≡ n = omega arith in ap (slice_get us) z
-get-past (t ∷ ts) us n = let s : suc (length ts) + n ≡ suc (length ts + n) = omega arith in ap (slice_get (t ∷ (ts ++ us))) s ∙ get-past ts us n
-
-get-front : {X : Type 0} (ts us : List X) (n : ℕ) (t : X) → slice_get ts n ≡ Some t → slice_get (ts ++ us) n ≡ Some t
-get-front [] us n t h = absurd (cc)
-get-front (x ∷ ts) us zero t h = h
-get-front (x ∷ ts) us (suc n) t h = get-front ts us n t h
-
 module _ {V : Type 0} (accepts : V → ℕ → KeyParts → V → Type 0) (refuses : V → ℕ → KeyParts → Refused → V → Type 0) (labels : List (List ℕ × List ℕ)) where
   pub folds-append : (a : V) (ts : List (ℕ × List ℕ)) (b : V) (us : List (ℕ × List ℕ)) (c : V) →
       FoldsTo (shown accepts labels) a ts b → FoldsTo (shown accepts labels) b us c → FoldsTo (shown accepts labels) a (ts ++ us) c
@@ -43,12 +34,8 @@ module _ {V : Type 0} (accepts : V → ℕ → KeyParts → V → Type 0) (refus
         last = q.last;
         most = (let m = q.most in let l = length-append ts us in omega (arith, m, l));
         accepted = subst (λ vs. FoldsTo (shown accepts labels) a vs q.last) (sym (take-append-add ts us s.accepted)) (folds-append a ts b (take s.accepted us) q.last p q.accepted);
-        stops = later q.stops;
+        stops = subst (λ vs. StopsAt refuses labels vs q.last s.refused c) (sym (drop-append-add ts us s.accepted)) q.stops;
       })
-    where
-      later : StopsAt refuses labels us s.accepted q.last s.refused c → StopsAt refuses labels (ts ++ us) (length ts + s.accepted) q.last s.refused c
-      later (inl s) = inl (s.0, get-past ts us _ ∙ s.1, s.2)
-      later (inr s) = inr s
 
   pub fits-more : (a c : V) (us : List (ℕ × List ℕ)) (n : ℕ) (r : Result ℕ Stopped) → n + length us < 2 ^ 64 → Visits accepts refuses labels a us c r → FitsMore n r
   fits-more a c us n (Ok k) l q = omega (arith, l, q.0)
@@ -63,8 +50,8 @@ module _ {V : Type 0} (accepts : V → ℕ → KeyParts → V → Type 0) (refus
     stops = as_before q.stops;
   }
     where
-      as_before : StopsAt refuses labels ts s.accepted q.last s.refused c → StopsAt refuses labels (ts ++ us) s.accepted q.last s.refused c
-      as_before (inl s) = inl (s.0, get-front ts us _ s.0 s.1, s.2)
+      as_before : StopsAt refuses labels (drop s.accepted ts) q.last s.refused c → StopsAt refuses labels (drop s.accepted (ts ++ us)) q.last s.refused c
+      as_before (inl (t, more, is, h)) = inl (t, more ++ us, drop-append-le s.accepted ts us q.most ∙ ap (λ vs. vs ++ us) is, h)
       as_before (inr s) = inr s
 
   -- a visit of one target, which refused
@@ -75,7 +62,7 @@ module _ {V : Type 0} (accepts : V → ℕ → KeyParts → V → Type 0) (refus
         last = a;
         most = omega arith;
         accepted = refl;
-        stops = inl ((leaf + 0, key.name), refl, subst (λ k. refuses a k (key_at labels (0, key.name)) e b) n (subst (λ ls. refuses a leaf (record { name = key.name; labels = ls }) e b) l h));
+        stops = inl ((leaf + 0, key.name), [], refl, subst (λ k. refuses a k (key_at labels (0, key.name)) e b) n (subst (λ ls. refuses a leaf (record { name = key.name; labels = ls }) e b) l h));
       }
 
 -- a visitor that adds each target to a list has them all, in order

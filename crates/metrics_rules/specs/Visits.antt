@@ -1,5 +1,5 @@
 -- A visit: which targets a visitor was shown, in which order, and where it ended.
-use Rattle.std.specs.Prelude.{◌≡◌, ◌⊎◌, ℕ, ◌+◌, ◌<◌, ◌≤◌, ◌^◌, List, length, take, Some, slice_get, Result, Ok, Err}
+use Rattle.std.specs.Prelude.{◌≡◌, ◌⊎◌, ℕ, ◌+◌, ◌<◌, ◌≤◌, ◌^◌, List, ◌∷◌, length, take, drop, Result, Ok, Err}
 use Rattle.std.specs.List.{FoldsTo}
 use Rattle.metrics_names.specs.Names.{KeyParts}
 use Rattle.metrics_names.specs.declared.refused.Refused.{Refused}
@@ -14,10 +14,11 @@ key_at labels t = record { name = t.1; labels = labels }
 abbrev pub shown : {V : Type 0} → (V → ℕ → KeyParts → V → Type 0) → List (List ℕ × List ℕ) → V → ℕ × List ℕ → V → Type 0
 shown accepts labels v t w = accepts v t.0 (key_at labels t) w
 
--- the visitor refused the target at a place, or a prefix found no memory for the names below it, which nobody was shown
-abbrev pub StopsAt : {V : Type 0} → (V → ℕ → KeyParts → Refused → V → Type 0) → List (List ℕ × List ℕ) → List (ℕ × List ℕ) → ℕ → V → Refused → V → Type 0
-StopsAt refuses labels ts n w e v =
-    ((t : ℕ × List ℕ) × (slice_get ts n ≡ Some t) × refuses w t.0 (key_at labels t) e v)
+-- the visitor refused the first of the targets that were left, or a prefix found no memory for the names below it, which nobody
+-- was shown
+abbrev pub StopsAt : {V : Type 0} → (V → ℕ → KeyParts → Refused → V → Type 0) → List (List ℕ × List ℕ) → List (ℕ × List ℕ) → V → Refused → V → Type 0
+StopsAt refuses labels left w e v =
+    ((t : ℕ × List ℕ) × (more : List (ℕ × List ℕ)) × (left ≡ t ∷ more) × refuses w t.0 (key_at labels t) e v)
     ⊎ ((v ≡ w) × (e ≡ Memory 0))
 
 -- the first targets were shown and accepted, and then the visit ended
@@ -26,7 +27,7 @@ pub record EndsEarly {V : Type 0} (accepts : V → ℕ → KeyParts → V → Ty
   pub last : V
   pub most : s.accepted ≤ length ts
   pub accepted : FoldsTo (shown accepts labels) was (take s.accepted ts) last
-  pub stops : StopsAt refuses labels ts s.accepted last s.refused now
+  pub stops : StopsAt refuses labels (drop s.accepted ts) last s.refused now
 
 -- the result of a visit, where so many targets had accepted before
 abbrev pub after_more : ℕ → Result ℕ Stopped → Result ℕ Stopped

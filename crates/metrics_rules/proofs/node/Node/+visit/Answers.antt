@@ -4,7 +4,7 @@ use Rattle.metrics.specs.Targets.{raise}
 use Rattle.metrics_rules.specs.Nodes.{node_meaning}
 use Rattle.metrics_rules.specs.Visits.{Visits}
 use Rattle.metrics_rules.specs.declared.node.Node.{the_lemmas}
-use Rattle.metrics_rules.proofs.NodesLemmas.{group-of, row-is, indexes, chosen, subtree, fits-in}
+use Rattle.metrics_rules.proofs.NodesLemmas.{group-of, choice-is, indexes, chosen, subtree, fits-in}
 use Rattle.metrics_rules.proofs.VisitLemmas.{only-targets, got-all, next-fits, next-visits, next-ends}
 use Rattle.metrics_rules.proofs.node.Node.+visit.Goals.{in-Leaf-child, in_default-child}
 use Rattle.metrics_rules.proofs.node.Node.+visit.Goals as goal
@@ -15,7 +15,7 @@ pub branch-number-requires : goal.branch-number-requires
 branch-number-requires g t c =
     let p = c.in-Group in
     let group = group-of p.children p.starts p._leaves p.is c.in-Some.is c.requires.tree in
-    let w = (row-is group).within c.args.kind c.name-in-Some.result.now in
+    let w = choice-is group c.args.kind c.name-in-Some.result.now in
     omega (arith, w, p.children.ok.0, p.children.small)
 
 pub index-requires : goal.index-requires

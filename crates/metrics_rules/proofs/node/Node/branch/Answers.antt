@@ -2,7 +2,7 @@ use Rattle.std.proofs.Common.{arith, ◌≡◌, ◌+◌, refl, ap, ◌∙◌}
 use Rattle.metrics.specs.Targets.{raise}
 use Rattle.metrics.specs.TargetsLaws.{raise-zero}
 use Rattle.metrics_rules.specs.Nodes.{node_meaning}
-use Rattle.metrics_rules.proofs.NodesLemmas.{group-of, row-is, indexes, chosen, subtree, fits-in}
+use Rattle.metrics_rules.proofs.NodesLemmas.{group-of, choice-is, indexes, chosen, subtree, fits-in}
 use Rattle.metrics_rules.proofs.VisitLemmas.{only-targets}
 use Rattle.metrics_rules.proofs.node.Node.branch.Goals as goal
 
@@ -10,7 +10,7 @@ pub branch-number-requires : goal.branch-number-requires
 branch-number-requires c =
     let p = c.in-Group in
     let group = group-of p.children p.starts p._leaves p.is c.in-Some.is c.requires in
-    let w = (row-is group).within c.args.kind c.args.name.now in
+    let w = choice-is group c.args.kind c.args.name.now in
     omega (arith, w, p.children.ok.0, p.children.small)
 
 pub index-requires : goal.index-requires
