@@ -57,17 +57,24 @@ module _ (kind : MetricKind) (name : List ℕ) where
 
 -- ---- where the leaves of each begin
 
-pub length-starts : (k : ℕ) (all : List Meaning) → length (starts_from k all) ≡ length all
+length-starts : (k : ℕ) (all : List Meaning) → length (starts_from k all) ≡ length all
 length-starts k [] = refl
 length-starts k (a ∷ all) = ap suc (length-starts (k + leaves_of a) all)
 
-pub start-is : (k : ℕ) (all : List Meaning) (i d : ℕ) → i < length all → get_or (starts_from k all) i d ≡ k + leaves_in (take i all)
+start-is : (k : ℕ) (all : List Meaning) (i d : ℕ) → i < length all → get_or (starts_from k all) i d ≡ k + leaves_in (take i all)
 start-is k [] i d lt = absurd (omega arith)
 start-is k (a ∷ all) zero d lt = omega arith
 start-is k (a ∷ all) (suc i) d lt =
     let e = start-is (k + leaves_of a) all i d (omega arith) in
     let l = length-append a.contents (joined_all (take i all)).contents in
     omega (arith, e, l)
+
+module _ (starts : List ℕ) (all : List Meaning) (are : AreStarts starts all) where
+  pub starts-count : length starts ≡ length all
+  starts-count = ap length are ∙ length-starts 0 all
+
+  pub begins : (i : ℕ) → i < length all → (d : ℕ) → get_or starts i d ≡ leaves_in (take i all)
+  begins i lt d = let s = ap (λ ns. get_or ns i d) are ∙ start-is 0 all i d lt in omega (arith, s)
 
 -- one branch more begins after all
 starts-one : (k : ℕ) (xs : List Meaning) (a : Meaning) → starts_from k (xs ++ a ∷ []) ≡ starts_from k xs ++ (k + leaves_in xs) ∷ []

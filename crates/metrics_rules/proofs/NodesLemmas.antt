@@ -8,7 +8,7 @@ use Rattle.metrics_names.specs.declared.kind.MetricKind.{MetricKind}
 use Rattle.metrics_rules.specs.Routing.{RouteTables, target_of, branch_of}
 use Rattle.metrics_rules.specs.Nodes.{node_meaning, row_meanings, group_meaning, leaves_of, leaves_in, AreStarts, IsWithin, IsSound, IsRowSound, IsTree}
 use Rattle.metrics_rules.specs.declared.node.Node.{Node, Group, Group', Row_of-Node, end_of-Node, more_of-Node, items-the_row-Node, items_hidden-the_row-Node-0}
-use Rattle.metrics_rules.proofs.JoinedLemmas.{contents-group, length-starts, start-is}
+use Rattle.metrics_rules.proofs.JoinedLemmas.{contents-group, starts-count, begins}
 use Rattle.metrics_rules.proofs.RoutingLemmas.{target-within}
 use Rattle.metrics_rules.proofs.OneChildLemmas.{before, inside, child-most}
 
@@ -87,7 +87,7 @@ module _ {v : Vec Node Global} {starts : Vec ℕ Global} {leaves : ℕ} {routes 
   count-is = ap leaves_of meaning-is ∙ ap length (contents-group routes (map node_meaning v.items))
 
   pub starts-within : length starts.items ≡ length v.items
-  starts-within = ap length row-is.starts_are ∙ length-starts 0 (map node_meaning v.items) ∙ length-map v.items node_meaning
+  starts-within = starts-count starts.items (map node_meaning v.items) row-is.starts_are ∙ length-map v.items node_meaning
 
   pub indexes : {k : ℕ} → k < length v.items → (k < vec_len v) × (k < vec_len starts)
   indexes lt = (omega (arith, lt, v.ok.0), omega (arith, lt, starts-within, starts.ok.0))
@@ -96,11 +96,9 @@ module _ {v : Vec Node Global} {starts : Vec ℕ Global} {leaves : ℕ} {routes 
     pub subtree : IsTree x
     subtree = (subst IsSound (sym at) (row-is.sound k x lt), (let p = child-most node_meaning v.items k x lt at in let m = group.tree.1 in omega (arith, p, count-is, m)))
 
-    module _ (start : ℕ) (begins : start ≡ get_or starts.items k start) where
+    module _ (start : ℕ) (start-at : start ≡ get_or starts.items k start) where
       pub start-of : before node_meaning v.items k x lt at ≡ start
-      start-of =
-          let s = begins ∙ ap (λ ns. get_or ns k start) row-is.starts_are ∙ start-is 0 (map node_meaning v.items) k start (inside node_meaning v.items k x lt at) in
-          omega (arith, s)
+      start-of = sym (start-at ∙ begins starts.items (map node_meaning v.items) row-is.starts_are k (inside node_meaning v.items k x lt at) start)
 
       pub fits-in : start + leaves_of (node_meaning x) ≤ leaves_of (node_meaning old)
       fits-in = let p = child-most node_meaning v.items k x lt at in omega (arith, p, count-is, start-of)

@@ -1,5 +1,5 @@
 -- Visits, one after another, and the visit that goes from child to child.
-use Rattle.std.proofs.Common.{◌≡◌, ℕ, zero, suc, ◌+◌, ◌<◌, ◌≤◌, ◌^◌, List, [], ◌∷◌, ◌++◌, length, take, drop, map, get_or, Result, Ok, Err, Some, None, Vec, Global, refl, ap, sym, ◌∙◌, subst, arith, length-append, append-nil, append_assoc, slice_get, inl, inr}
+use Rattle.std.proofs.Common.{◌≡◌, ℕ, ◌+◌, ◌<◌, ◌≤◌, ◌^◌, List, [], ◌∷◌, ◌++◌, length, take, drop, map, get_or, Result, Ok, Err, Some, None, Vec, Global, refl, ap, sym, ◌∙◌, subst, arith, length-append, append-nil, append_assoc, inl, inr}
 use Rattle.std.specs.List.{FoldsTo}
 use Rattle.std.proofs.Math.Seq.{take-append-add, drop-append-add}
 use Rattle.std.proofs.lemmas.List.{take-append-le, drop-append-le, take-append-drop, take_all, length-map}

@@ -46,7 +46,7 @@ starts_from start (a ∷ all) = start ∷ starts_from (start + leaves_of a) all
 abbrev pub AreStarts : List ℕ → List Meaning → Type 0
 AreStarts starts all = starts ≡ starts_from 0 all
 
--- each stored pattern is that of one of so many branches
+-- each stored route goes to one of so many branches
 abbrev pub IsWithin : Option RouteTables → ℕ → Type 0
 IsWithin None n = Unit {0}
 IsWithin (Some tables) n = (kind : MetricKind) (p : List ℕ) → branch_of (stored (of_kind kind tables) p) < n

@@ -1,5 +1,5 @@
 -- The routes of a router, as they are stored.
-use Rattle.std.specs.Prelude.{if◌then◌else◌, ◌≡◌, ℕ, zero, suc, ◌<◌, ◌&&◌, List, [], ◌∷◌, length, take, Option, None, Some}
+use Rattle.std.specs.Prelude.{if◌then◌else◌, ◌≡◌, ℕ, zero, suc, ◌&&◌, List, [], ◌∷◌, length, take, Option, None, Some}
 use Rattle.std.specs.Option.{option_or}
 use Rattle.std.specs.Str.{bytes_eq}
 use Rattle.metrics_names.specs.declared.kind.MetricKind.{MetricKind}

@@ -14,11 +14,11 @@ pub(crate) const MOST_LEAVES: usize = 65_536;
 /// Trees side by side, the branches of a fanout or a router, with at most 65,536 leaves in all.
 #[derive(Drop)]
 pub struct Branches {
-    children: Vec<Node>,
+    pub(crate) children: Vec<Node>,
     /// The number of leaves before each.
     starts: Vec<usize>,
     /// The number of leaves of all.
-    leaves: usize,
+    pub(crate) leaves: usize,
     ghost starts_are: { AreStarts starts.items (meanings children.items) },
     ghost count: { leaves ≡ leaves_in (meanings children.items) },
     ghost sound: { AreSound children.items } by { AreSound-prop children.items },
@@ -35,20 +35,6 @@ impl Branches {
             starts: Vec::new(alloc),
             leaves: 0,
         }
-    }
-
-    /// The number of branches.
-    pub(crate) fn len(&self) -> usize
-        ensures { result ≡ length self.now.children.items }
-    {
-        self.children.len()
-    }
-
-    /// The number of leaves of all, at most 65,536.
-    pub(crate) fn leaves(&self) -> usize
-        ensures { result ≡ leaves_in (meanings self.now.children.items) }
-    {
-        self.leaves
     }
 
     /// Makes room for so many branches more. The branches stay, whatever the result.

@@ -40,7 +40,7 @@ impl FanoutBuilder {
             (λ e. (e.0 ≡ refusal (fanout_branches self.old) one) × (e.1 ≡ child)
             × (fanout_branches self.new ≡ fanout_branches self.old)) }
     {
-        if child.leaves() > MOST_LEAVES - self.branches.leaves() {
+        if child.leaves() > MOST_LEAVES - self.branches.leaves {
             return Err((Error::TooManyBooks, child));
         }
         if self.branches.reserve(1).is_err() {

@@ -39,7 +39,7 @@ impl Node {
 
     /// The branch that a name goes to by routes, and the number of leaves before it; or else the tree itself.
     #[inline(always)]
-    fn branch(&self, kind: MetricKind, name: &str) -> (&Node, usize)
+    pub(crate) fn branch(&self, kind: MetricKind, name: &str) -> (&Node, usize)
         requires { IsTree self.now }
         ensures tree { IsTree result.0.now }
         ensures fits { result.1 + leaves_of (node_meaning result.0.now) ≤ leaves_of (node_meaning self.now) }
@@ -53,26 +53,6 @@ impl Node {
             }
         }
         (self, 0)
-    }
-
-    /// Visits the targets of a key or a name. The way to a leaf alone, or to one of a router, is short.
-    #[inline(always)]
-    pub(crate) fn visit_all<K: Named, V: Visitor<K>>(
-        &self,
-        kind: MetricKind,
-        key: &K,
-        scratch: &mut Scratch<K>,
-        visitor: &mut V,
-    ) -> Result<usize, Stopped>
-        requires { IsTree self.now }
-        ensures { Visits V.accepts V.refuses (K.parts key.now).labels visitor.old
-            ((node_meaning self.now).targets kind (K.parts key.now).name) visitor.new result }
-    {
-        let (branch, front) = self.branch(kind, key.name());
-        match branch {
-            Node::Leaf => show(visitor, front, key),
-            branch => branch.visit(kind, key, front, scratch, visitor),
-        }
     }
 
     /// Visits the targets of a key or a name, whose leaves are numbered from `front`.

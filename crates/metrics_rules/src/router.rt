@@ -1,5 +1,6 @@
 //! Trees. Each name goes to one of them.
-ghost use Rattle.std.specs.Prelude.{◌≡◌, ◌≤◌, ◌<◌, ◌-◌, ◌++◌, ◌∷◌, [], List, suc, false, Some, nat_eq, length, MatchResult};
+ghost use Rattle.std.specs.Prelude.{◌≡◌, ◌≤◌, ◌<◌, ◌-◌, ◌++◌, ◌∷◌, [], List, suc, false, Some};
+ghost use Rattle.std.specs.Prelude.{nat_eq, length, MatchResult};
 ghost use Rattle.metrics.specs.Layers.{Route, routed, joined_all};
 ghost use Rattle.metrics_rules.specs.Nodes.{node_meaning, leaves_in, most_leaves, IsWithin};
 ghost use Rattle.metrics_rules.specs.Branches.{all_meanings, LeavesFit, HasSpare, route_refusal};
@@ -115,7 +116,7 @@ impl RouterBuilder {
         ensures contents { (rules_meaning result).contents
             ≡ (joined_all (router_branches self)).contents }
     {
-        if self.branches.len() == 0 {
+        if self.branches.children.is_empty() {
             return self.default;
         }
         self.branches.into_rules(Some(self.routes))
@@ -126,17 +127,17 @@ impl RouterBuilder {
         ensures all { result ≡ leaves_in (router_branches self.now) }
         ensures most { result ≤ most_leaves }
     {
-        if self.branches.len() == 0 {
+        if self.branches.children.is_empty() {
             return self.default.leaves();
         }
-        self.branches.leaves()
+        self.branches.leaves
     }
 
     /// The number of targets.
     fn targets(&self) -> usize
         ensures { suc result ≡ length (router_branches self.now) }
     {
-        self.branches.len().saturating_sub(1)
+        self.branches.children.len().saturating_sub(1)
     }
 }
 
@@ -148,7 +149,7 @@ fn push_target(default: &mut Rules, branches: &mut Branches, target: Rules)
     ensures { all_meanings default.new.node branches.new.children.items
         ≡ all_meanings default.old.node branches.old.children.items ++ node_meaning target.node ∷ [] }
 {
-    if branches.len() == 0 {
+    if branches.children.is_empty() {
         branches.push_reserved(mem::replace(default, Rules::noop()));
     }
     branches.push_reserved(target);

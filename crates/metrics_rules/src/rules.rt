@@ -4,14 +4,14 @@ ghost use Rattle.metrics.specs.Book.{new_book};
 ghost use Rattle.metrics.specs.Layers.{prefixed, filtered};
 ghost use Rattle.metrics.specs.Meaning.{nothing, one_book};
 ghost use Rattle.metrics_layers.specs.Filters.{fault_of};
-ghost use Rattle.metrics_rules.specs.Nodes.{node_meaning, leaves_of, most_leaves, IsTree, IsTree-prop};
+ghost use Rattle.metrics_rules.specs.Nodes.{leaves_of, most_leaves, IsTree, IsTree-prop};
 ghost use Rattle.metrics_rules.specs.Visits.{Visits, listed};
 ghost use Rattle.metrics.specs.declared.error.Error.TheVariants.{Memory};
 
 use crate::named::Named;
 use crate::node::Node;
 use crate::scratch::Scratch;
-use crate::visitor::{Stopped, Visitor};
+use crate::visitor::{Stopped, Visitor, show};
 use metrics::{Error, Key, MetricKind, Refused};
 use metrics_layers::{FilterLayer, PrefixLayer};
 use std::alloc::Global;
@@ -122,7 +122,12 @@ impl Rules {
         ensures { Visits V.accepts V.refuses (K.parts key.now).labels visitor.old
             ((rules_meaning self.now).targets kind (K.parts key.now).name) visitor.new result }
     {
-        self.node.visit_all(kind, key, scratch, visitor)
+        // The way to a leaf alone, or to one of a router, is short.
+        let (branch, front) = self.node.branch(kind, key.name());
+        match branch {
+            Node::Leaf => show(visitor, front, key),
+            branch => branch.visit(kind, key, front, scratch, visitor),
+        }
     }
 
     /// Returns the targets of a key, in order: for each the number of the leaf, and the key as it is there.
